@@ -1,0 +1,7 @@
+pub mod Tree
+pub mod View
+pub mod Bytes
+pub mod Comes
+pub mod Words
+pub mod Commands
+pub mod Lines

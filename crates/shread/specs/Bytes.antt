@@ -1,0 +1,132 @@
+-- Which bytes stand where in a text, and what begins at a place (XCU 2.3, 2.10.1).
+use Rattle.std.specs.Prelude.{ℕ, ◌+◌, Bool, true, false, ◌==◌, ◌≤◌, ◌&&◌, ◌||◌, not, nat_le, List, [], ◌∷◌, Option, Some, None, slice_get, drop, codes, zero, suc, if◌then◌else◌}
+use Rattle.shread.specs.declared.token.Token.{Token}
+use Rattle.shread.specs.declared.token.Token.TheVariants as tokens
+use Rattle.shread.specs.declared.token.Class.{Class}
+use Rattle.shread.specs.declared.token.Class.TheVariants as classes
+
+-- ---- one byte
+
+-- space and tab
+abbrev pub is_blank : ℕ → Bool
+is_blank b = b == 32 || b == 9
+
+abbrev pub is_newline : ℕ → Bool
+is_newline b = b == 10
+
+-- the bytes with which operators begin: & | ; < > ( )
+abbrev pub is_operator : ℕ → Bool
+is_operator b = b == 38 || b == 124 || b == 59 || b == 60 || b == 62 || b == 40 || b == 41
+
+abbrev pub is_digit : ℕ → Bool
+is_digit b = nat_le 48 b && nat_le b 57
+
+-- a letter of ASCII or an underscore
+abbrev pub is_letter : ℕ → Bool
+is_letter b = (nat_le 97 b && nat_le b 122) || (nat_le 65 b && nat_le b 90) || b == 95
+
+abbrev pub in_class : Class → ℕ → Bool
+in_class classes.Blank b = is_blank b
+in_class classes.Digit b = is_digit b
+in_class classes.Name b = is_letter b || is_digit b
+
+-- ---- a place
+
+abbrev pub is_byte : Option ℕ → ℕ → Bool
+is_byte None c = false
+is_byte (Some b) c = b == c
+
+-- the byte c stands at p
+unfoldable pub stands : List ℕ → ℕ → ℕ → Bool
+stands T p c = is_byte (slice_get T p) c
+
+abbrev pub is_none : Option ℕ → Bool
+is_none None = true
+is_none (Some b) = false
+
+-- p is at or past the end
+unfoldable pub at_end : List ℕ → ℕ → Bool
+at_end T p = is_none (slice_get T p)
+
+abbrev pub ends : Option ℕ → Bool
+ends None = true
+ends (Some b) = is_blank b || is_newline b || is_operator b
+
+-- a word ends at p: a blank, a newline, an operator or the end stands there
+unfoldable pub ends_word : List ℕ → ℕ → Bool
+ends_word T p = ends (slice_get T p)
+
+abbrev pub passes : (ℕ → Bool) → Option ℕ → Bool
+passes test None = false
+passes test (Some b) = test b
+
+-- a byte that passes the test stands at p
+unfoldable pub stands_in : (ℕ → Bool) → List ℕ → ℕ → Bool
+stands_in test T p = passes test (slice_get T p)
+
+-- ---- stretches
+
+-- how many bytes at the front pass the test
+pub count_front : (ℕ → Bool) → List ℕ → ℕ
+count_front test [] = 0
+count_front test (b ∷ bs) = if test b then 1 + count_front test bs else 0
+
+-- the place behind the bytes from p on that pass the test
+unfoldable pub past : (ℕ → Bool) → List ℕ → ℕ → ℕ
+past test T p = p + count_front test (drop p T)
+
+-- where a token begins (XCU 2.3, rule 7)
+abbrev pub past_blanks : List ℕ → ℕ → ℕ
+past_blanks T p = past (in_class classes.Blank) T p
+
+-- the newline, or the end, behind p
+abbrev pub line_end : List ℕ → ℕ → ℕ
+line_end T p = past (λ b. not (is_newline b)) T p
+
+-- the place behind the last byte before q that is no blank
+pub before_blanks : List ℕ → ℕ → ℕ
+before_blanks T zero = 0
+before_blanks T (suc q) = if stands_in (in_class classes.Blank) T q then before_blanks T q else suc q
+
+-- ---- words
+
+-- the word that is spelled so stands at p
+pub is_word_at : List ℕ → ℕ → List ℕ → Bool
+is_word_at T p [] = ends_word T p
+is_word_at T p (c ∷ cs) = stands T p c && is_word_at T (p + 1) cs
+
+-- a reserved word that opens a compound command (XCU 2.4)
+unfoldable pub is_opening_word : List ℕ → ℕ → Bool
+is_opening_word T p = is_word_at T p (codes "{") || is_word_at T p (codes "case") || is_word_at T p (codes "for") || is_word_at T p (codes "if") || is_word_at T p (codes "until") || is_word_at T p (codes "while")
+
+-- a reserved word that ends a list (XCU 2.4)
+unfoldable pub is_closing_word : List ℕ → ℕ → Bool
+is_closing_word T p = is_word_at T p (codes "do") || is_word_at T p (codes "done") || is_word_at T p (codes "elif") || is_word_at T p (codes "else") || is_word_at T p (codes "esac") || is_word_at T p (codes "fi") || is_word_at T p (codes "then") || is_word_at T p (codes "}")
+
+-- a reserved word stands at p (XCU 2.4)
+unfoldable pub is_reserved : List ℕ → ℕ → Bool
+is_reserved T p = is_opening_word T p || is_closing_word T p || is_word_at T p (codes "!") || is_word_at T p (codes "in")
+
+-- a NAME and `=` stand at p (XCU 2.10.2, rule 7)
+unfoldable pub begins_assignment : List ℕ → ℕ → Bool
+begins_assignment T p = stands_in is_letter T p && stands T (past (in_class classes.Name) T p) 61
+
+-- digits that `<` or `>` follows stand at p (XCU 2.10.1, rule 2)
+unfoldable pub is_number : List ℕ → ℕ → Bool
+is_number T p = stands_in is_digit T p && (stands T (past (in_class classes.Digit) T p) 60 || stands T (past (in_class classes.Digit) T p) 62)
+
+-- ---- tokens
+
+-- by the byte at p, or none; of two operators the longer one
+abbrev pub token_of : List ℕ → ℕ → Option ℕ → Token
+token_of T p None = tokens.End
+token_of T p (Some b) = if is_newline b then tokens.Newline
+    else (if b == 59 then (if stands T (p + 1) 59 then tokens.Operator else tokens.Semicolon)
+    else (if b == 38 then (if stands T (p + 1) 38 then tokens.Operator else tokens.Ampersand)
+    else (if is_operator b then tokens.Operator
+    else (if b == 35 then tokens.Comment
+    else (if is_number T p then tokens.Number else tokens.Word)))))
+
+-- what begins at p, where no blank stands (XCU 2.3, 2.10.1)
+unfoldable pub token_at : List ℕ → ℕ → Token
+token_at T p = token_of T p (slice_get T p)

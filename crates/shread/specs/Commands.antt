@@ -1,0 +1,85 @@
+-- Simple commands, and the lists of one line (XCU 2.9.1, 2.9.3, 2.10.2).
+use Rattle.std.specs.Prelude.{ℕ, ◌+◌, Bool, true, false, ◌&&◌, not, List, [], ◌∷◌, ◌++◌, List as Row, Option, None, Some, if◌then◌else◌}
+use Rattle.shread.specs.declared.token.Token.{Token}
+use Rattle.shread.specs.declared.token.Token.TheVariants as tokens
+use Rattle.shread.specs.declared.tree.Comment.{Comment}
+use Rattle.shread.specs.Tree.{ASubst, AWord, AnItem, AnEntry, ACommand, APipeline, AnAndOr, item, assign, argument, items_of, simple, pipeline, no_pipe, and_or, no_and_or, entry, command, remark}
+use Rattle.shread.specs.Bytes.{stands, past_blanks, line_end, before_blanks, token_at, is_reserved, begins_assignment}
+use Rattle.shread.specs.Comes.{Comes, give, when, Then, ◌>>=◌, Many, Step, again, done}
+use Rattle.shread.specs.Words.{span, a_word}
+
+-- ---- simple commands (XCU 2.9.1)
+
+abbrev pub is_word : Token → Bool
+is_word tokens.Word = true
+is_word tokens.End = false
+is_word tokens.Newline = false
+is_word tokens.Semicolon = false
+is_word tokens.Ampersand = false
+is_word tokens.Operator = false
+is_word tokens.Comment = false
+is_word tokens.Number = false
+
+-- an assignment, or that no more follows
+abbrev pub an_assignment : List ℕ → ℕ → Row AnItem → ℕ → Comes (Step (Row AnItem))
+an_assignment T o is p =
+    when (begins_assignment T (past_blanks T p)) (a_word T o (past_blanks T p) >>= λ w. give (again (is ++ item false (assign w.0) ∷ []) w.1))
+    (give (done is p))
+
+-- the command's name or an argument, or that no more follows; here no word is reserved
+abbrev pub an_argument : List ℕ → ℕ → Row AnItem → ℕ → Comes (Step (Row AnItem))
+an_argument T o is p =
+    when (is_word (token_at T (past_blanks T p))) (a_word T o (past_blanks T p) >>= λ w. give (again (is ++ item false (argument w.0) ∷ []) w.1))
+    (give (done is p))
+
+-- assignments, and then words
+abbrev pub a_simple : List ℕ → ℕ → ℕ → Comes (ACommand × ℕ)
+a_simple T o p =
+    Many (an_assignment T o) [] p >>= λ a.
+    Many (an_argument T o) a.0 a.1 >>= λ w.
+    give (simple (items_of w.0), w.1)
+
+-- ---- pipelines and and-or lists, of one command yet (XCU 2.9.2, 2.9.3)
+
+abbrev pub a_pipeline : List ℕ → ℕ → ℕ → Comes (APipeline × ℕ)
+a_pipeline T o p = a_simple T o p >>= λ c. give (pipeline None c.0 no_pipe, c.1)
+
+abbrev pub an_and_or : List ℕ → ℕ → ℕ → Comes (AnAndOr × ℕ)
+an_and_or T o p = a_pipeline T o p >>= λ l. give (and_or l.0 no_and_or, l.1)
+
+-- ---- comments (XCU 2.3, rule 9)
+
+-- the comment at p, where one stands
+unfoldable pub comment_at : List ℕ → ℕ → ℕ → Option Comment
+comment_at T o p = if stands T p 35 then Some (record { span = span o p (before_blanks T (line_end T p)) }) else None
+
+-- the place behind the comment at p, where one stands
+unfoldable pub past_comment : List ℕ → ℕ → ℕ
+past_comment T p = if stands T p 35 then line_end T p else p
+
+-- ---- entries of a list (XCU 2.9.3)
+
+-- what stands behind an and-or list: in the background or not, whether another may follow, and the place behind
+pub record Parting : Type 0 where
+  pub background : Bool
+  pub parted : Bool
+  pub behind : ℕ
+
+abbrev pub parting_by : Token → ℕ → ℕ → Parting
+parting_by tokens.Semicolon p b = record { background = false; parted = true; behind = b + 1 }
+parting_by tokens.Ampersand p b = record { background = true; parted = true; behind = b + 1 }
+parting_by _ p b = record { background = false; parted = false; behind = p }
+
+-- `;`, `&` or neither behind p
+unfoldable pub parting_at : List ℕ → ℕ → Parting
+parting_at T p = parting_by (token_at T (past_blanks T p)) p (past_blanks T p)
+
+-- where the comment of an entry would stand
+abbrev pub remark_place : List ℕ → ℕ → ℕ
+remark_place T p = past_blanks T (parting_at T p).behind
+
+-- a command with what parts it from the next one, and the comment behind it on its line
+abbrev pub an_entry : List ℕ → ℕ → Bool → ℕ → Comes ((AnEntry × Bool) × ℕ)
+an_entry T o blank p =
+    an_and_or T o p >>= λ a.
+    give ((entry (command a.0) (parting_at T a.1).background blank (comment_at T o (remark_place T a.1)), (parting_at T a.1).parted), past_comment T (remark_place T a.1))

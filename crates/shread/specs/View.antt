@@ -1,0 +1,86 @@
+-- What the reader's tree is in the tree of the definitions: a vector is the row of its items.
+use Rattle.std.specs.Prelude.{Option}
+use Rattle.shread.specs.declared.tree.Join as the_join
+use Rattle.shread.specs.declared.tree.List as the_list
+use Rattle.shread.specs.declared.tree.Entry as the_entry
+use Rattle.shread.specs.declared.tree.AndOr as the_and_or
+use Rattle.shread.specs.declared.tree.Pipeline as the_pipeline
+use Rattle.shread.specs.declared.tree.Command as the_command
+use Rattle.shread.specs.declared.tree.Item as the_item
+use Rattle.shread.specs.declared.tree.Word as the_word
+use Rattle.shread.specs.declared.tree.Subst as the_subst
+use Rattle.shread.specs.declared.tree.Command.TheOpen.{Command-F, Content-F, ItemContent-F, AndOr-F, AndOrPart-F, Entry-F, Item-F, List-F, Pipeline-F, PipelinePart-F, Subst-F, Word-F}
+use Rattle.shread.specs.declared.tree.Command.TheFolds.{fold-List, fold-Entry, fold-AndOr, fold-Pipeline, fold-Command, fold-Item, fold-Word, fold-Subst}
+use Rattle.shread.specs.Tree.{AJoin, Entries, AnEntry, AContent, AnAndOr, AnAndOrPart, APipeline, APipelinePart, ACommand, AnItem, AnItemContent, AWord, ASubst, entry, command, remark, and_or, pipeline, simple, item, assign, argument, word, subst, entries_of, and_or_parts_of, pipeline_parts_of, items_of, substs_of}
+
+abbrev pub view_join : the_join.Join → AJoin
+view_join j = record { broken = j.broken; comments = j.comments.items }
+
+-- ---- one level of each type, with what is below it seen already
+
+abbrev pub Seen : (Type 0 → Type 0 → Type 0 → Type 0 → Type 0 → Type 0 → Type 0 → Type 0 → Type 0 → Type 0 → Type 0 → Type 0 → Type 0) → Type 0
+Seen F = F ACommand AContent AnItemContent AnAndOr AnAndOrPart AnEntry AnItem Entries APipeline APipelinePart ASubst AWord
+
+abbrev pub command_step : Seen Command-F → ACommand
+command_step (Command-F.Simple items) = simple (items_of items.items)
+
+abbrev pub content_step : Seen Content-F → AContent
+content_step (Content-F.AndOr a) = command a
+content_step (Content-F.Comment c) = remark c
+
+abbrev pub item_content_step : Seen ItemContent-F → AnItemContent
+item_content_step (ItemContent-F.Assign w) = assign w
+item_content_step (ItemContent-F.Word w) = argument w
+
+abbrev pub and_or_step : Seen AndOr-F → AnAndOr
+and_or_step a = and_or a.first (and_or_parts_of a.rest.items)
+
+abbrev pub and_or_part_step : Seen AndOrPart-F → AnAndOrPart
+and_or_part_step p = record { operator = p.operator; join = view_join p.join; pipeline = p.pipeline }
+
+abbrev pub entry_step : Seen Entry-F → AnEntry
+entry_step e = entry e.what e.background e.blank e.comment
+
+abbrev pub item_step : Seen Item-F → AnItem
+item_step i = item i.broken i.what
+
+abbrev pub list_step : Seen List-F → Entries
+list_step l = entries_of l.entries.items
+
+abbrev pub pipeline_step : Seen Pipeline-F → APipeline
+pipeline_step p = pipeline p.bang p.first (pipeline_parts_of p.rest.items)
+
+abbrev pub pipeline_part_step : Seen PipelinePart-F → APipelinePart
+pipeline_part_step p = record { join = view_join p.join; command = p.command }
+
+abbrev pub subst_step : Seen Subst-F → ASubst
+subst_step s = subst s.list s.span
+
+abbrev pub word_step : Seen Word-F → AWord
+word_step w = word w.span (substs_of w.substs.items)
+
+-- ---- a whole tree, and each of its parts
+
+abbrev pub view_list : the_list.List → Entries
+view_list = fold-List ACommand AContent AnItemContent AnAndOr AnAndOrPart AnEntry AnItem Entries APipeline APipelinePart ASubst AWord command_step content_step item_content_step and_or_step and_or_part_step entry_step item_step list_step pipeline_step pipeline_part_step subst_step word_step
+
+abbrev pub view_entry : the_entry.Entry → AnEntry
+view_entry = fold-Entry ACommand AContent AnItemContent AnAndOr AnAndOrPart AnEntry AnItem Entries APipeline APipelinePart ASubst AWord command_step content_step item_content_step and_or_step and_or_part_step entry_step item_step list_step pipeline_step pipeline_part_step subst_step word_step
+
+abbrev pub view_and_or : the_and_or.AndOr → AnAndOr
+view_and_or = fold-AndOr ACommand AContent AnItemContent AnAndOr AnAndOrPart AnEntry AnItem Entries APipeline APipelinePart ASubst AWord command_step content_step item_content_step and_or_step and_or_part_step entry_step item_step list_step pipeline_step pipeline_part_step subst_step word_step
+
+abbrev pub view_pipeline : the_pipeline.Pipeline → APipeline
+view_pipeline = fold-Pipeline ACommand AContent AnItemContent AnAndOr AnAndOrPart AnEntry AnItem Entries APipeline APipelinePart ASubst AWord command_step content_step item_content_step and_or_step and_or_part_step entry_step item_step list_step pipeline_step pipeline_part_step subst_step word_step
+
+abbrev pub view_command : the_command.Command → ACommand
+view_command = fold-Command ACommand AContent AnItemContent AnAndOr AnAndOrPart AnEntry AnItem Entries APipeline APipelinePart ASubst AWord command_step content_step item_content_step and_or_step and_or_part_step entry_step item_step list_step pipeline_step pipeline_part_step subst_step word_step
+
+abbrev pub view_item : the_item.Item → AnItem
+view_item = fold-Item ACommand AContent AnItemContent AnAndOr AnAndOrPart AnEntry AnItem Entries APipeline APipelinePart ASubst AWord command_step content_step item_content_step and_or_step and_or_part_step entry_step item_step list_step pipeline_step pipeline_part_step subst_step word_step
+
+abbrev pub view_word : the_word.Word → AWord
+view_word = fold-Word ACommand AContent AnItemContent AnAndOr AnAndOrPart AnEntry AnItem Entries APipeline APipelinePart ASubst AWord command_step content_step item_content_step and_or_step and_or_part_step entry_step item_step list_step pipeline_step pipeline_part_step subst_step word_step
+
+abbrev pub view_subst : the_subst.Subst → ASubst
+view_subst = fold-Subst ACommand AContent AnItemContent AnAndOr AnAndOrPart AnEntry AnItem Entries APipeline APipelinePart ASubst AWord command_step content_step item_content_step and_or_step and_or_part_step entry_step item_step list_step pipeline_step pipeline_part_step subst_step word_step

@@ -1,0 +1,30 @@
+//! What may begin where a token begins.
+
+/// What begins at a place that no blank stands at (XCU 2.3, 2.10.1).
+#[derive(Clone, Copy, Debug, PartialEq, Eq)]
+pub(crate) enum Token {
+    /// The end of the text.
+    End,
+    Newline,
+    /// `;`
+    Semicolon,
+    /// `&`
+    Ampersand,
+    /// Any other operator. No row of the grammar takes one yet.
+    Operator,
+    /// A `#` and what follows it on its line; it belongs to the newline, or the end, behind it.
+    Comment,
+    /// Digits before `<` or `>`: the number of a redirection.
+    Number,
+    /// Any other word.
+    Word,
+}
+
+/// A set of bytes.
+#[derive(Clone, Copy, Debug, PartialEq, Eq)]
+pub(crate) enum Class {
+    Blank,
+    Digit,
+    /// A letter, a digit or an underscore, all ASCII.
+    Name,
+}
