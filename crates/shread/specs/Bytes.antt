@@ -1,5 +1,6 @@
 -- Which bytes stand where in a text, and what begins at a place (XCU 2.3, 2.10.1).
 use Rattle.std.specs.Prelude.{ℕ, ◌+◌, Bool, true, false, ◌==◌, ◌≤◌, ◌&&◌, ◌||◌, not, nat_le, List, [], ◌∷◌, Option, Some, None, slice_get, drop, codes, zero, suc, if◌then◌else◌}
+use Rattle.shread.specs.Text.{is_newline}
 use Rattle.shread.specs.declared.token.Token.{Token}
 use Rattle.shread.specs.declared.token.Token.TheVariants as tokens
 use Rattle.shread.specs.declared.token.Class.{Class}
@@ -10,9 +11,6 @@ use Rattle.shread.specs.declared.token.Class.TheVariants as classes
 -- space and tab
 abbrev pub is_blank : ℕ → Bool
 is_blank b = b == 32 || b == 9
-
-abbrev pub is_newline : ℕ → Bool
-is_newline b = b == 10
 
 -- the bytes with which operators begin: & | ; < > ( )
 abbrev pub is_operator : ℕ → Bool

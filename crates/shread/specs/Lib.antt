@@ -1,3 +1,4 @@
+pub mod Text
 pub mod Tree
 pub mod View
 pub mod Bytes

@@ -1,13 +1,24 @@
-//! The reader of shform.
+//! The reader of shform: scripts of the Shell Command Language of POSIX, read line by line into a tree.
+//!
+//! Start with [`Reader`], whose `read_line` reads one top-level line of a [`Source`] and whose `read_script` reads all of
+//! them. [`List`] and the types below it are the tree; [`Fault`] is what is wrong with a script. The definitions that the
+//! contracts cite are in `specs/`: `Bytes`, `Words`, `Commands` and `Lines` are the grammar.
 #![tactic(auto)]
 
 mod fault;
 mod make;
+mod place;
+mod source;
 mod token;
 mod tree;
 
 pub use fault::{Fault, FaultKind, ReadError};
+pub use place::line_col_of;
+pub use source::{Flat, Source};
 pub use tree::{
     AndOr, AndOrOperator, AndOrPart, Command, Comment, Content, Entry, Item, ItemContent, Join, List, Pipeline,
     PipelinePart, Span, Subst, Word,
 };
+
+#[cfg(test)]
+mod tests;
