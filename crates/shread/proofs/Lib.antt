@@ -1,2 +1,3 @@
 pub mod Newlines
 pub mod Runs
+pub mod Turns

@@ -6,3 +6,4 @@ pub mod Comes
 pub mod Words
 pub mod Commands
 pub mod Lines
+pub mod Reading

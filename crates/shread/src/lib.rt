@@ -16,8 +16,8 @@ pub use fault::{Fault, FaultKind, ReadError};
 pub use place::line_col_of;
 pub use source::{Flat, Source};
 pub use tree::{
-    AndOr, AndOrOperator, AndOrPart, Command, Comment, Content, Entry, Item, ItemContent, Join, List, Pipeline,
-    PipelinePart, Span, Subst, Word,
+    AndOr, AndOrOperator, AndOrPart, Command, Comment, Content, Entry, Item, ItemContent, Join,
+    List, Pipeline, PipelinePart, Span, Subst, Word,
 };
 
 #[cfg(test)]

@@ -3,7 +3,9 @@ ghost use Rattle.std.specs.Prelude.{◌≡◌, [], map, true, false, None};
 ghost use Rattle.shread.specs.Tree.{and_or, argument, assign, command, entries_of, entry, item, items_of, no_and_or, no_pipe, pipeline, remark, simple, substs_of, word};
 ghost use Rattle.shread.specs.View.{view_and_or, view_command, view_entry, view_item, view_list, view_pipeline, view_subst, view_word};
 
-use crate::tree::{AndOr, Command, Comment, Content, Entry, Item, ItemContent, List, Pipeline, Span, Subst, Word};
+use crate::tree::{
+    AndOr, Command, Comment, Content, Entry, Item, ItemContent, List, Pipeline, Span, Subst, Word,
+};
 use std::alloc::Global;
 
 pub(crate) fn list_of(entries: Vec<Entry>) -> List
@@ -13,7 +15,12 @@ pub(crate) fn list_of(entries: Vec<Entry>) -> List
 }
 
 /// A command as an entry.
-pub(crate) fn command_entry(and_or: AndOr, background: bool, blank: bool, comment: Option<Comment>) -> Entry
+pub(crate) fn command_entry(
+    and_or: AndOr,
+    background: bool,
+    blank: bool,
+    comment: Option<Comment>,
+) -> Entry
     ensures { view_entry result ≡ entry (command (view_and_or and_or)) background blank comment }
 {
     Entry {

@@ -1,0 +1,139 @@
+-- The same grammar as functions that compute: each part of it has one outcome, and this is the one (`proofs/` shows it).
+-- Contracts of private functions alone cite this file.
+use Rattle.std.specs.Prelude.{◌≡◌, ℕ, zero, suc, ◌+◌, ◌-◌, ◌<◌, ◌≤◌, Bool, true, false, ◌&&◌, not, List, [], ◌∷◌, ◌++◌, List as Row, drop, length, nat_lt, Option, None, Some, Result, Ok, Err, if◌then◌else◌}
+use Rattle.shread.specs.declared.fault.Fault.{Fault}
+use Rattle.shread.specs.declared.fault.FaultKind.TheVariants.{Unexpected, UnexpectedEnd}
+use Rattle.shread.specs.declared.fault.Stop.{Stop}
+use Rattle.shread.specs.declared.fault.Stop.TheVariants.{Memory, Wrong}
+use Rattle.shread.specs.declared.token.Token.{Token}
+use Rattle.shread.specs.declared.token.Token.TheVariants as tokens
+use Rattle.shread.specs.Tree.{ASubst, AWord, AnItem, AnEntry, ACommand, APipeline, AnAndOr, word, substs_of, item, assign, argument, items_of, simple, pipeline, no_pipe, and_or, no_and_or, entry, command, entries_of}
+use Rattle.shread.specs.Bytes.{stands, ends_word, past_blanks, token_at, begins_assignment}
+use Rattle.shread.specs.Comes.{Read, fault, Step, again, done, step_if}
+use Rattle.shread.specs.Words.{span, is_pid, begins_piece}
+use Rattle.shread.specs.Commands.{is_word, comment_at, past_comment, parting_at, remark_place}
+use Rattle.shread.specs.Lines.{is_empty, begins_command, with_remark, AScript, ALine, kind_of, faulty_line}
+
+-- ---- reading on, and what a function of the code answers
+
+infixl 10 ◌>>=◌
+abbrev pub ◌>>=◌ : {X Y : Type 0} → Result X Fault → (X → Result Y Fault) → Result Y Fault
+(Ok x) >>= f = f x
+(Err e) >>= f = Err e
+
+-- what a stop says of the reading: a fault is its outcome, want of memory says nothing
+abbrev pub Fails : {Y : Type 0} → Stop → Result Y Fault → Type 0
+Fails Memory read = Unit {0}
+Fails (Wrong f) read = read ≡ Err f
+
+-- What a function returned, seen by view, is what the reading gives, unless memory ran out.
+abbrev pub Gives : {X Y : Type 0} → (X → Y) → Result X Stop → Result Y Fault → Type 0
+Gives view (Ok x) read = read ≡ Ok (view x)
+Gives view (Err e) read = Fails e read
+
+-- a turn that goes on moves to the right
+abbrev pub Onward : ℕ → ℕ → Bool → Type 0
+Onward p q true = p < q
+Onward p q false = p ≤ q
+
+-- ---- turns until one is done; each has to move to the right
+
+abbrev pub next : {A : Type 0} → ℕ → ℕ → (A → ℕ → Read A) → Step A → Read A
+next len p more (done a q) = Ok (a, q)
+next len p more (again a q) = if nat_lt (len - q) (len - p) then more a q else fault UnexpectedEnd 0 q
+
+unfoldable pub turns_below : {A : Type 0} → ℕ → (A → ℕ → Result (Step A) Fault) → ℕ → A → ℕ → Read A
+turns_below len f zero a p = fault UnexpectedEnd 0 p
+turns_below len f (suc n) a p = f a p >>= next len p (turns_below len f n)
+
+unfoldable pub turns : {A : Type 0} → ℕ → (A → ℕ → Result (Step A) Fault) → A → ℕ → Read A
+turns len f a p = turns_below len f (suc (len - p)) a p
+
+-- ---- words
+
+unfoldable pub piece_step : List ℕ → ℕ → Row ASubst → ℕ → Result (Step (Row ASubst)) Fault
+piece_step T o ss p = if ends_word T p then Ok (done ss p)
+    else (if begins_piece T p then fault Unexpected o p
+    else (if is_pid T p then Ok (again ss (p + 2))
+    else Ok (again ss (p + 1))))
+
+unfoldable pub word_at : List ℕ → ℕ → ℕ → Read AWord
+word_at T o p = turns (length T) (piece_step T o) [] p >>= λ w. Ok (word (span o p w.1) (substs_of w.0), w.1)
+
+-- ---- commands
+
+unfoldable pub assignment_step : List ℕ → ℕ → Row AnItem → ℕ → Result (Step (Row AnItem)) Fault
+assignment_step T o is p = if begins_assignment T (past_blanks T p) then (word_at T o (past_blanks T p) >>= λ w. Ok (again (is ++ item false (assign w.0) ∷ []) w.1))
+    else Ok (done is p)
+
+unfoldable pub argument_step : List ℕ → ℕ → Row AnItem → ℕ → Result (Step (Row AnItem)) Fault
+argument_step T o is p = if is_word (token_at T (past_blanks T p)) then (word_at T o (past_blanks T p) >>= λ w. Ok (again (is ++ item false (argument w.0) ∷ []) w.1))
+    else Ok (done is p)
+
+unfoldable pub simple_at : List ℕ → ℕ → ℕ → Read ACommand
+simple_at T o p = turns (length T) (assignment_step T o) [] p >>= λ a. turns (length T) (argument_step T o) a.0 a.1 >>= λ w. Ok (simple (items_of w.0), w.1)
+
+unfoldable pub pipeline_at : List ℕ → ℕ → ℕ → Read APipeline
+pipeline_at T o p = simple_at T o p >>= λ c. Ok (pipeline None c.0 no_pipe, c.1)
+
+unfoldable pub and_or_at : List ℕ → ℕ → ℕ → Read AnAndOr
+and_or_at T o p = pipeline_at T o p >>= λ l. Ok (and_or l.0 no_and_or, l.1)
+
+unfoldable pub entry_at : List ℕ → ℕ → Bool → ℕ → Read (AnEntry × Bool)
+entry_at T o blank p = and_or_at T o p >>= λ a.
+    Ok ((entry (command a.0) (parting_at T a.1).background blank (comment_at T o (remark_place T a.1)), (parting_at T a.1).parted), past_comment T (remark_place T a.1))
+
+-- ---- lines
+
+unfoldable pub entry_step : List ℕ → ℕ → Bool → Row AnEntry → ℕ → Result (Step (Row AnEntry)) Fault
+entry_step T o blank es p = if begins_command T (past_blanks T p) then (entry_at T o (blank && is_empty es) (past_blanks T p) >>= λ e. Ok (step_if e.0.1 (es ++ e.0.0 ∷ []) e.1))
+    else Ok (done es (past_blanks T p))
+
+abbrev pub line_end_of : ℕ → Row AnEntry → ℕ → Token → Read (Row AnEntry × Bool)
+line_end_of o es p tokens.Newline = Ok ((es, true), p + 1)
+line_end_of o es p tokens.End = Ok ((es, false), p)
+line_end_of o es p _ = fault Unexpected o p
+
+unfoldable pub end_of_line_at : List ℕ → ℕ → Bool → Row AnEntry → ℕ → Read (Row AnEntry × Bool)
+end_of_line_at T o blank es p = line_end_of o (with_remark blank es (comment_at T o p)) (past_comment T p) (token_at T (past_comment T p))
+
+unfoldable pub line_at : List ℕ → ℕ → Bool → ℕ → Read (Row AnEntry × Bool)
+line_at T o blank p = turns (length T) (entry_step T o blank) [] p >>= λ es. end_of_line_at T o blank es.0 es.1
+
+-- ---- scripts
+
+-- what the lines so far gave: their entries, whether a line without entries was the last, and the first fault
+pub record SoFar : Type 0 where
+  pub entries : Row AnEntry
+  pub gap : Bool
+  pub wrong : Option Fault
+
+abbrev pub script_next : SoFar → ℕ → Read (Row AnEntry × Bool) → Result (Step SoFar) Fault
+script_next s p (Err f) = Ok (done (record { entries = s.entries; gap = s.gap; wrong = Some f }) p)
+script_next s p (Ok ((ls, true), q)) = Ok (again (record { entries = s.entries ++ ls; gap = is_empty ls; wrong = s.wrong }) (p + q))
+script_next s p (Ok ((ls, false), q)) = Ok (done (record { entries = s.entries ++ ls; gap = is_empty ls; wrong = s.wrong }) (p + q))
+
+unfoldable pub script_step : List ℕ → SoFar → ℕ → Result (Step SoFar) Fault
+script_step B s p = script_next s p (line_at (drop p B) p (s.gap && not (is_empty s.entries)) 0)
+
+abbrev pub nothing_yet : SoFar
+nothing_yet = record { entries = []; gap = false; wrong = None }
+
+abbrev pub script_of : Read SoFar → AScript
+script_of (Ok (s, q)) = record { entries = entries_of s.entries; wrong = s.wrong }
+script_of (Err f) = record { entries = entries_of []; wrong = Some f }
+
+unfoldable pub script_at : List ℕ → AScript
+script_at B = script_of (turns (length B) (script_step B) nothing_yet 0)
+
+-- ---- one line read as a script of its own, and the first fault from a place on
+
+abbrev pub line_read_of : List ℕ → Read (Row AnEntry × Bool) → ALine
+line_read_of T (Ok ((es, newline), q)) = record { kind = kind_of es newline; next = q; ended = newline && stands T (q - 1) 10 }
+line_read_of T (Err f) = record { kind = faulty_line f; next = length T; ended = false }
+
+unfoldable pub line_of_text : List ℕ → ALine
+line_of_text T = line_read_of T (line_at T 0 false 0)
+
+unfoldable pub first_fault_from : List ℕ → ℕ → Option Fault
+first_fault_from B p = (script_of (turns (length B) (script_step B) nothing_yet p)).wrong
