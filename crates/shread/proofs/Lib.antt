@@ -1,3 +1,4 @@
 pub mod Newlines
 pub mod Runs
 pub mod Turns
+pub mod Stretches

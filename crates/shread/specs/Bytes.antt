@@ -65,7 +65,7 @@ stands_in test T p = passes test (slice_get T p)
 -- ---- stretches
 
 -- how many bytes at the front pass the test
-pub count_front : (ℕ → Bool) → List ℕ → ℕ
+unfoldable pub count_front : (ℕ → Bool) → List ℕ → ℕ
 count_front test [] = 0
 count_front test (b ∷ bs) = if test b then 1 + count_front test bs else 0
 
@@ -82,14 +82,14 @@ abbrev pub line_end : List ℕ → ℕ → ℕ
 line_end T p = past (λ b. not (is_newline b)) T p
 
 -- the place behind the last byte before q that is no blank
-pub before_blanks : List ℕ → ℕ → ℕ
+unfoldable pub before_blanks : List ℕ → ℕ → ℕ
 before_blanks T zero = 0
 before_blanks T (suc q) = if stands_in (in_class classes.Blank) T q then before_blanks T q else suc q
 
 -- ---- words
 
 -- the word that is spelled so stands at p
-pub is_word_at : List ℕ → ℕ → List ℕ → Bool
+unfoldable pub is_word_at : List ℕ → ℕ → List ℕ → Bool
 is_word_at T p [] = ends_word T p
 is_word_at T p (c ∷ cs) = stands T p c && is_word_at T (p + 1) cs
 

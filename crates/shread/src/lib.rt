@@ -5,12 +5,14 @@
 //! contracts cite are in `specs/`: `Bytes`, `Words`, `Commands` and `Lines` are the grammar.
 #![tactic(auto)]
 
+mod cursor;
 mod fault;
 mod make;
 mod place;
 mod source;
 mod token;
 mod tree;
+mod word;
 
 pub use fault::{Fault, FaultKind, ReadError};
 pub use place::line_col_of;

@@ -1,4 +1,6 @@
 //! What may begin where a token begins.
+ghost use Rattle.std.specs.Prelude.{◌≡◌};
+ghost use Rattle.shread.specs.Bytes.{in_class};
 
 /// What begins at a place that no blank stands at (XCU 2.3, 2.10.1).
 #[derive(Clone, Copy, Debug, PartialEq, Eq)]
@@ -27,4 +29,16 @@ pub(crate) enum Class {
     Digit,
     /// A letter, a digit or an underscore, all ASCII.
     Name,
+}
+
+impl Class {
+    pub(crate) fn has(self, byte: u8) -> bool
+        ensures { result ≡ in_class self byte }
+    {
+        match self {
+            Class::Blank => byte == b' ' || byte == b'\t',
+            Class::Digit => byte.is_ascii_digit(),
+            Class::Name => byte.is_ascii_alphanumeric() || byte == b'_',
+        }
+    }
 }

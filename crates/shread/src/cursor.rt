@@ -1,0 +1,272 @@
+//! A place in a text, and what stands there.
+ghost use Rattle.std.specs.Prelude.{◌≡◌, ◌≢◌, ◌+◌, ◌^◌, ◌<◌, ◌≤◌, drop, length, slice_get, true, false, IfSome};
+ghost use Rattle.shread.specs.Bytes.{at_end, begins_assignment, ends_word, in_class, is_closing_word, is_letter, is_number, is_opening_word, is_reserved, is_word_at, past, stands, stands_in, token_at};
+ghost use Rattle.shread.specs.Words.{begins_piece, is_pid};
+
+use crate::source::Source;
+use crate::token::{Class, Token};
+
+/// A place in the text that a source holds from `base` on.
+///
+/// Places count from `base`. The offsets that it tells, in spans and faults, are its places behind `origin`.
+#[derive(Drop)]
+pub(crate) struct Cursor<'a, S: Source> {
+    pub(crate) source: &'a S,
+    pub(crate) base: usize,
+    pub(crate) origin: usize,
+    pub(crate) at: usize,
+    ghost fits: { base + length (drop base (S.bytes source.now)) < 2 ^ 64 },
+    ghost tells: { origin + length (drop base (S.bytes source.now)) < 2 ^ 64 },
+    ghost inside: { at ≤ length (drop base (S.bytes source.now)) },
+}
+
+impl<'a, S: Source> Cursor<'a, S> {
+    /// One byte on.
+    pub(crate) fn bump(&mut self)
+        requires { self.old.at < length (drop self.old.base (S.bytes self.old.source.now)) }
+        ensures value { self.new.at ≡ self.old.at + 1 }
+        ensures same { (self.new.source ≡ self.old.source) × (self.new.base ≡ self.old.base) × (self.new.origin ≡ self.old.origin) }
+    {
+        self.at += 1;
+    }
+
+    /// The byte at a place, or `None` at the end.
+    #[tactic(auto, using(crate::proofs::Stretches::get_drop))]
+    fn byte_at(&self, at: usize) -> Option<u8>
+        requires { at ≤ length (drop self.now.base (S.bytes self.now.source.now)) }
+        ensures value { result ≡ slice_get (drop self.now.base (S.bytes self.now.source.now)) at }
+        ensures inside { IfSome result (λ b. at < length (drop self.now.base (S.bytes self.now.source.now))) }
+    {
+        self.source.byte(self.base + at)
+    }
+
+    /// The byte here, or `None` at the end.
+    pub(crate) fn byte(&self) -> Option<u8>
+        ensures value { result ≡ slice_get (drop self.now.base (S.bytes self.now.source.now)) self.now.at }
+        ensures inside { IfSome result (λ b. self.now.at < length (drop self.now.base (S.bytes self.now.source.now))) }
+    {
+        self.byte_at(self.at)
+    }
+
+    /// Whether this byte stands at a place.
+    #[tactic(auto, unfolding(crate::specs::Bytes::stands))]
+    fn stands(&self, at: usize, byte: u8) -> bool
+        requires { at ≤ length (drop self.now.base (S.bytes self.now.source.now)) }
+        ensures value { result ≡ stands (drop self.now.base (S.bytes self.now.source.now)) at byte }
+        ensures inside { result ≡ true → at < length (drop self.now.base (S.bytes self.now.source.now)) }
+    {
+        match self.byte_at(at) {
+            Some(found) => found == byte,
+            None => false,
+        }
+    }
+
+    /// Whether this byte stands here.
+    pub(crate) fn is_at(&self, byte: u8) -> bool
+        ensures value { result ≡ stands (drop self.now.base (S.bytes self.now.source.now)) self.now.at byte }
+        ensures inside { result ≡ true → self.now.at < length (drop self.now.base (S.bytes self.now.source.now)) }
+    {
+        self.stands(self.at, byte)
+    }
+
+    /// Whether this byte stands behind the one here.
+    fn is_next(&self, byte: u8) -> bool
+        requires { self.now.at < length (drop self.now.base (S.bytes self.now.source.now)) }
+        ensures value { result ≡ stands (drop self.now.base (S.bytes self.now.source.now)) (self.now.at + 1) byte }
+        ensures inside { result ≡ true → self.now.at + 1 < length (drop self.now.base (S.bytes self.now.source.now)) }
+    {
+        self.stands(self.at + 1, byte)
+    }
+
+    /// Whether a byte of this class stands at a place.
+    #[tactic(auto, unfolding(crate::specs::Bytes::stands_in))]
+    fn stands_in(&self, at: usize, class: Class) -> bool
+        requires { at ≤ length (drop self.now.base (S.bytes self.now.source.now)) }
+        ensures value { result ≡ stands_in (in_class class) (drop self.now.base (S.bytes self.now.source.now)) at }
+        ensures inside { result ≡ true → at < length (drop self.now.base (S.bytes self.now.source.now)) }
+    {
+        match self.byte_at(at) {
+            Some(byte) => class.has(byte),
+            None => false,
+        }
+    }
+
+    /// The place behind the bytes of this class from a place on.
+    #[tactic(auto, using(crate::proofs::Stretches::past_more, crate::proofs::Stretches::past_none))]
+    fn past(&self, from: usize, class: Class) -> usize
+        requires { from ≤ length (drop self.now.base (S.bytes self.now.source.now)) }
+        ensures value { result ≡ past (in_class class) (drop self.now.base (S.bytes self.now.source.now)) from }
+        ensures inside { (from ≤ result) × (result ≤ length (drop self.now.base (S.bytes self.now.source.now))) }
+    {
+        let mut at = from;
+        'bytes: while self.stands_in(at, class) {
+            at += 1;
+        }
+        at
+    }
+
+    /// To where a token begins.
+    pub(crate) fn skip_blanks(&mut self)
+        ensures value { self.new.at ≡ past (in_class Class.Blank) (drop self.old.base (S.bytes self.old.source.now)) self.old.at }
+        ensures inside { self.old.at ≤ self.new.at }
+        ensures same { (self.new.source ≡ self.old.source) × (self.new.base ≡ self.old.base) × (self.new.origin ≡ self.old.origin) }
+    {
+        self.at = self.past(self.at, Class::Blank);
+    }
+
+    /// Whether a word ends at a place.
+    #[tactic(auto, unfolding(crate::specs::Bytes::ends_word))]
+    fn ends_at(&self, at: usize) -> bool
+        requires { at ≤ length (drop self.now.base (S.bytes self.now.source.now)) }
+        ensures value { result ≡ ends_word (drop self.now.base (S.bytes self.now.source.now)) at }
+        ensures inside { result ≡ false → at < length (drop self.now.base (S.bytes self.now.source.now)) }
+    {
+        match self.byte_at(at) {
+            Some(byte) => matches!(
+                byte,
+                b' ' | b'\t' | b'\n' | b'&' | b'|' | b';' | b'<' | b'>' | b'(' | b')'
+            ),
+            None => true,
+        }
+    }
+
+    /// Whether a word ends here.
+    pub(crate) fn ends_word(&self) -> bool
+        ensures value { result ≡ ends_word (drop self.now.base (S.bytes self.now.source.now)) self.now.at }
+        ensures inside { result ≡ false → self.now.at < length (drop self.now.base (S.bytes self.now.source.now)) }
+    {
+        self.ends_at(self.at)
+    }
+
+    /// Whether the word that is spelled so stands here.
+    #[tactic(auto, using(crate::proofs::Stretches::word_more, crate::proofs::Stretches::word_other, crate::proofs::Stretches::word_whole))]
+    fn is_word(&self, word: &[u8]) -> bool
+        ensures { result ≡ is_word_at (drop self.now.base (S.bytes self.now.source.now)) self.now.at word.now }
+    {
+        let mut at = self.at;
+        'letters: for byte in word {
+            if !self.stands(at, *byte) {
+                return false;
+            }
+            at += 1;
+        }
+        self.ends_at(at)
+    }
+
+    #[tactic(auto, unfolding(crate::specs::Bytes::is_opening_word))]
+    fn is_opening_word(&self) -> bool
+        ensures { result ≡ is_opening_word (drop self.now.base (S.bytes self.now.source.now)) self.now.at }
+    {
+        self.is_word(b"{")
+            || self.is_word(b"case")
+            || self.is_word(b"for")
+            || self.is_word(b"if")
+            || self.is_word(b"until")
+            || self.is_word(b"while")
+    }
+
+    #[tactic(auto, unfolding(crate::specs::Bytes::is_closing_word))]
+    fn is_closing_word(&self) -> bool
+        ensures { result ≡ is_closing_word (drop self.now.base (S.bytes self.now.source.now)) self.now.at }
+    {
+        self.is_word(b"do")
+            || self.is_word(b"done")
+            || self.is_word(b"elif")
+            || self.is_word(b"else")
+            || self.is_word(b"esac")
+            || self.is_word(b"fi")
+            || self.is_word(b"then")
+            || self.is_word(b"}")
+    }
+
+    /// Whether a reserved word stands here.
+    #[tactic(auto, unfolding(crate::specs::Bytes::is_reserved))]
+    pub(crate) fn is_reserved(&self) -> bool
+        ensures { result ≡ is_reserved (drop self.now.base (S.bytes self.now.source.now)) self.now.at }
+    {
+        self.is_opening_word()
+            || self.is_closing_word()
+            || self.is_word(b"!")
+            || self.is_word(b"in")
+    }
+
+    /// Whether a NAME and `=` stand here.
+    #[tactic(auto, unfolding(crate::specs::Bytes::begins_assignment, crate::specs::Bytes::stands_in))]
+    pub(crate) fn begins_assignment(&self) -> bool
+        ensures value { result ≡ begins_assignment (drop self.now.base (S.bytes self.now.source.now)) self.now.at }
+        ensures inside { result ≡ true → self.now.at < length (drop self.now.base (S.bytes self.now.source.now)) }
+    {
+        match self.byte() {
+            Some(b'a'..=b'z' | b'A'..=b'Z' | b'_') => self.stands(self.past(self.at, Class::Name), b'='),
+            _ => false,
+        }
+    }
+
+    /// Whether digits that `<` or `>` follows stand here.
+    #[tactic(auto, unfolding(crate::specs::Bytes::is_number))]
+    fn is_number(&self) -> bool
+        ensures { result ≡ is_number (drop self.now.base (S.bytes self.now.source.now)) self.now.at }
+    {
+        if !self.stands_in(self.at, Class::Digit) {
+            return false;
+        }
+        let end = self.past(self.at, Class::Digit);
+        self.stands(end, b'<') || self.stands(end, b'>')
+    }
+
+    /// What begins here, where no blank stands.
+    #[tactic(auto, unfolding(crate::specs::Bytes::token_at))]
+    pub(crate) fn token(&self) -> Token
+        ensures value { result ≡ token_at (drop self.now.base (S.bytes self.now.source.now)) self.now.at }
+        ensures inside { result ≢ Token.End → self.now.at < length (drop self.now.base (S.bytes self.now.source.now)) }
+    {
+        match self.byte() {
+            None => Token::End,
+            Some(b'\n') => Token::Newline,
+            Some(b';') => {
+                if self.is_next(b';') {
+                    Token::Operator
+                } else {
+                    Token::Semicolon
+                }
+            }
+            Some(b'&') => {
+                if self.is_next(b'&') {
+                    Token::Operator
+                } else {
+                    Token::Ampersand
+                }
+            }
+            Some(b'|' | b'<' | b'>' | b'(' | b')') => Token::Operator,
+            Some(b'#') => Token::Comment,
+            Some(_) => {
+                if self.is_number() {
+                    Token::Number
+                } else {
+                    Token::Word
+                }
+            }
+        }
+    }
+
+    /// Whether the special parameter `$$` stands here.
+    #[tactic(auto, unfolding(crate::specs::Words::is_pid))]
+    pub(crate) fn is_pid(&self) -> bool
+        ensures value { result ≡ is_pid (drop self.now.base (S.bytes self.now.source.now)) self.now.at }
+        ensures inside { result ≡ true → self.now.at + 2 ≤ length (drop self.now.base (S.bytes self.now.source.now)) }
+    {
+        self.is_at(b'$') && self.is_next(b'$')
+    }
+
+    /// Whether a quote, an escape or an expansion begins here.
+    #[tactic(auto, unfolding(crate::specs::Words::begins_piece, crate::specs::Bytes::stands))]
+    pub(crate) fn begins_piece(&self) -> bool
+        ensures { result ≡ begins_piece (drop self.now.base (S.bytes self.now.source.now)) self.now.at }
+    {
+        match self.byte() {
+            Some(b'\\' | b'\'' | b'"' | b'`') => true,
+            Some(b'$') => self.is_next(b'(') || self.is_next(b'{'),
+            _ => false,
+        }
+    }
+}
