@@ -97,6 +97,7 @@ impl<'a, S: Source> Cursor<'a, S> {
         requires { from ≤ length (drop self.now.base (S.bytes self.now.source.now)) }
         ensures value { result ≡ past (in_class class) (drop self.now.base (S.bytes self.now.source.now)) from }
         ensures inside { (from ≤ result) × (result ≤ length (drop self.now.base (S.bytes self.now.source.now))) }
+        ensures other { stands_in (in_class class) (drop self.now.base (S.bytes self.now.source.now)) result ≡ false }
     {
         let mut at = from;
         'bytes: while self.stands_in(at, class) {
@@ -109,6 +110,7 @@ impl<'a, S: Source> Cursor<'a, S> {
     pub(crate) fn skip_blanks(&mut self)
         ensures value { self.new.at ≡ past (in_class Class.Blank) (drop self.old.base (S.bytes self.old.source.now)) self.old.at }
         ensures inside { self.old.at ≤ self.new.at }
+        ensures other { stands_in (in_class Class.Blank) (drop self.old.base (S.bytes self.old.source.now)) self.new.at ≡ false }
         ensures same { (self.new.source ≡ self.old.source) × (self.new.base ≡ self.old.base) × (self.new.origin ≡ self.old.origin) }
     {
         self.at = self.past(self.at, Class::Blank);
@@ -191,10 +193,10 @@ impl<'a, S: Source> Cursor<'a, S> {
     }
 
     /// Whether a NAME and `=` stand here.
-    #[tactic(auto, unfolding(crate::specs::Bytes::begins_assignment, crate::specs::Bytes::stands_in))]
+    #[tactic(auto, unfolding(crate::specs::Bytes::begins_assignment, crate::specs::Bytes::stands_in, crate::specs::Bytes::ends_word))]
     pub(crate) fn begins_assignment(&self) -> bool
         ensures value { result ≡ begins_assignment (drop self.now.base (S.bytes self.now.source.now)) self.now.at }
-        ensures inside { result ≡ true → self.now.at < length (drop self.now.base (S.bytes self.now.source.now)) }
+        ensures word { result ≡ true → ends_word (drop self.now.base (S.bytes self.now.source.now)) self.now.at ≡ false }
     {
         match self.byte() {
             Some(b'a'..=b'z' | b'A'..=b'Z' | b'_') => self.stands(self.past(self.at, Class::Name), b'='),
@@ -215,10 +217,12 @@ impl<'a, S: Source> Cursor<'a, S> {
     }
 
     /// What begins here, where no blank stands.
-    #[tactic(auto, unfolding(crate::specs::Bytes::token_at))]
+    #[tactic(auto, unfolding(crate::specs::Bytes::token_at, crate::specs::Bytes::stands_in, crate::specs::Bytes::ends_word))]
     pub(crate) fn token(&self) -> Token
         ensures value { result ≡ token_at (drop self.now.base (S.bytes self.now.source.now)) self.now.at }
         ensures inside { result ≢ Token.End → self.now.at < length (drop self.now.base (S.bytes self.now.source.now)) }
+        ensures word { let text = drop self.now.base (S.bytes self.now.source.now) in
+            stands_in (in_class Class.Blank) text self.now.at ≡ false → result ≡ Token.Word → ends_word text self.now.at ≡ false }
     {
         match self.byte() {
             None => Token::End,

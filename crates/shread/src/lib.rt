@@ -5,6 +5,7 @@
 //! contracts cite are in `specs/`: `Bytes`, `Words`, `Commands` and `Lines` are the grammar.
 #![tactic(auto)]
 
+mod command;
 mod cursor;
 mod fault;
 mod make;

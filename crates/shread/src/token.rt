@@ -1,6 +1,7 @@
 //! What may begin where a token begins.
-ghost use Rattle.std.specs.Prelude.{◌≡◌};
+ghost use Rattle.std.specs.Prelude.{◌≡◌, true};
 ghost use Rattle.shread.specs.Bytes.{in_class};
+ghost use Rattle.shread.specs.Commands.{is_word};
 
 /// What begins at a place that no blank stands at (XCU 2.3, 2.10.1).
 #[derive(Clone, Copy, Debug, PartialEq, Eq)]
@@ -29,6 +30,15 @@ pub(crate) enum Class {
     Digit,
     /// A letter, a digit or an underscore, all ASCII.
     Name,
+}
+
+impl Token {
+    pub(crate) fn is_word(self) -> bool
+        ensures value { result ≡ is_word self }
+        ensures word { result ≡ true → self ≡ Token.Word }
+    {
+        matches!(self, Token::Word)
+    }
 }
 
 impl Class {
