@@ -65,3 +65,14 @@ word_other T p word i lt e = rw (drop-cons word i 0, e) refl
 pub word_whole : (T : List ℕ) (p : ℕ) (word : List ℕ) (i : ℕ) → i ≡ length word → is_word_at T p (drop i word) ≡ ends_word T p
 unfolding is_word_at
 word_whole T p word i e = rw (e, drop-length word) refl
+
+-- ---- a stretch from what stands in it and behind it
+
+pub past_is : (test : ℕ → Bool) (T : List ℕ) (p n : ℕ) → ((k : ℕ) → p ≤ k → k < p + n → stands_in test T k ≡ true) → stands_in test T (p + n) ≡ false → past test T p ≡ p + n
+past_is test T p zero in_it behind =
+    let same : p + zero ≡ p = omega arith in
+    rw same (past_none test T p (rw same at behind))
+past_is test T p (suc n) in_it behind =
+    let next : p + 1 + n ≡ p + suc n = omega arith in
+    past_more test T p (in_it p (omega arith) (omega arith))
+    ∙ past_is test T (p + 1) n (λ k low high. in_it k (omega arith) (omega arith)) (rw next behind) ∙ next

@@ -2,6 +2,8 @@
 use Rattle.std.specs.Prelude.{ℕ, ◌+◌, Bool, true, false, ◌&&◌, not, List, [], ◌∷◌, ◌++◌, List as Row, Option, None, Some, if◌then◌else◌}
 use Rattle.shread.specs.declared.token.Token.{Token}
 use Rattle.shread.specs.declared.token.Token.TheVariants as tokens
+use Rattle.shread.specs.declared.token.Separator.{Separator}
+use Rattle.shread.specs.declared.token.Separator.TheVariants.{Semicolon, Ampersand}
 use Rattle.shread.specs.declared.tree.Comment.{Comment}
 use Rattle.shread.specs.Tree.{ASubst, AWord, AnItem, AnEntry, ACommand, APipeline, AnAndOr, item, assign, argument, items_of, simple, pipeline, no_pipe, and_or, no_and_or, entry, command, remark}
 use Rattle.shread.specs.Bytes.{stands, past_blanks, line_end, before_blanks, token_at, is_reserved, begins_assignment}
@@ -59,27 +61,36 @@ past_comment T p = if stands T p 35 then line_end T p else p
 
 -- ---- entries of a list (XCU 2.9.3)
 
--- what stands behind an and-or list: in the background or not, whether another may follow, and the place behind
-pub record Parting : Type 0 where
-  pub background : Bool
-  pub parted : Bool
-  pub behind : ℕ
+abbrev pub separator_by : Token → Option Separator
+separator_by tokens.Semicolon = Some Semicolon
+separator_by tokens.Ampersand = Some Ampersand
+separator_by _ = None
 
-abbrev pub parting_by : Token → ℕ → ℕ → Parting
-parting_by tokens.Semicolon p b = record { background = false; parted = true; behind = b + 1 }
-parting_by tokens.Ampersand p b = record { background = true; parted = true; behind = b + 1 }
-parting_by _ p b = record { background = false; parted = false; behind = p }
+-- `;` or `&` behind p
+unfoldable pub separator_at : List ℕ → ℕ → Option Separator
+separator_at T p = separator_by (token_at T (past_blanks T p))
 
--- `;`, `&` or neither behind p
-unfoldable pub parting_at : List ℕ → ℕ → Parting
-parting_at T p = parting_by (token_at T (past_blanks T p)) p (past_blanks T p)
+-- `&` puts an and-or list in the background (XCU 2.9.3.1)
+abbrev pub is_background : Option Separator → Bool
+is_background None = false
+is_background (Some Semicolon) = false
+is_background (Some Ampersand) = true
+
+-- another entry may follow on the line
+abbrev pub is_parted : Option Separator → Bool
+is_parted None = false
+is_parted (Some s) = true
+
+-- the place behind the separator, where one stands
+unfoldable pub past_separator : List ℕ → ℕ → ℕ
+past_separator T p = if is_parted (separator_at T p) then past_blanks T p + 1 else p
 
 -- where the comment of an entry would stand
 abbrev pub remark_place : List ℕ → ℕ → ℕ
-remark_place T p = past_blanks T (parting_at T p).behind
+remark_place T p = past_blanks T (past_separator T p)
 
 -- a command with what parts it from the next one, and the comment behind it on its line
 abbrev pub an_entry : List ℕ → ℕ → Bool → ℕ → Comes ((AnEntry × Bool) × ℕ)
 an_entry T o blank p =
     an_and_or T o p >>= λ a.
-    give ((entry (command a.0) (parting_at T a.1).background blank (comment_at T o (remark_place T a.1)), (parting_at T a.1).parted), past_comment T (remark_place T a.1))
+    give ((entry (command a.0) (is_background (separator_at T a.1)) blank (comment_at T o (remark_place T a.1)), is_parted (separator_at T a.1)), past_comment T (remark_place T a.1))

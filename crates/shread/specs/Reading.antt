@@ -11,7 +11,7 @@ use Rattle.shread.specs.Tree.{ASubst, AWord, AnItem, AnEntry, ACommand, APipelin
 use Rattle.shread.specs.Bytes.{stands, ends_word, past_blanks, token_at, begins_assignment}
 use Rattle.shread.specs.Comes.{Read, fault, Step, again, done, step_if}
 use Rattle.shread.specs.Words.{span, is_pid, begins_piece}
-use Rattle.shread.specs.Commands.{is_word, comment_at, past_comment, parting_at, remark_place}
+use Rattle.shread.specs.Commands.{is_word, comment_at, past_comment, separator_at, is_background, is_parted, remark_place}
 use Rattle.shread.specs.Lines.{is_empty, begins_command, with_remark, AScript, ALine, kind_of, faulty_line}
 
 -- ---- reading on, and what a function of the code answers
@@ -81,7 +81,7 @@ and_or_at T o p = pipeline_at T o p >>= λ l. Ok (and_or l.0 no_and_or, l.1)
 
 unfoldable pub entry_at : List ℕ → ℕ → Bool → ℕ → Read (AnEntry × Bool)
 entry_at T o blank p = and_or_at T o p >>= λ a.
-    Ok ((entry (command a.0) (parting_at T a.1).background blank (comment_at T o (remark_place T a.1)), (parting_at T a.1).parted), past_comment T (remark_place T a.1))
+    Ok ((entry (command a.0) (is_background (separator_at T a.1)) blank (comment_at T o (remark_place T a.1)), is_parted (separator_at T a.1)), past_comment T (remark_place T a.1))
 
 -- ---- lines
 

@@ -23,6 +23,13 @@ pub(crate) enum Token {
     Word,
 }
 
+/// What parts two and-or lists of a line (XCU 2.9.3).
+#[derive(Clone, Copy, Debug, PartialEq, Eq)]
+pub(crate) enum Separator {
+    Semicolon,
+    Ampersand,
+}
+
 /// A set of bytes.
 #[derive(Clone, Copy, Debug, PartialEq, Eq)]
 pub(crate) enum Class {
