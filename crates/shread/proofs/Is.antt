@@ -1,5 +1,5 @@
 -- A part of the grammar has one outcome: the laws of the combinators.
-use Rattle.std.proofs.Common.{◌≡◌, ℕ, Bool, true, false, cond, Result, Ok, Err, refl, subst}
+use Rattle.std.proofs.Common.{◌≡◌, Bool, true, false, cond, Result, Ok, Err, refl, subst}
 use Rattle.shread.specs.declared.fault.Fault.{Fault}
 use Rattle.shread.specs.Comes.{Comes, give, given, stop, stopped, Then, and_then, or_stops, when, holds, fails}
 use Rattle.shread.specs.Reading.{◌>>=◌}

@@ -1,5 +1,5 @@
 -- What holds through all turns of a repetition, and that a repetition of the grammar has one outcome.
-use Rattle.std.proofs.Common.{◌≡◌, ℕ, zero, suc, ◌+◌, ◌-◌, ◌≤◌, ◌<◌, Result, Ok, Err, refl, sym, subst, ◌∙◌, arith}
+use Rattle.std.proofs.Common.{◌≡◌, ℕ, zero, suc, ◌-◌, ◌≤◌, ◌<◌, Result, Ok, Err, refl, sym, subst, ◌∙◌, arith}
 use Rattle.shread.specs.declared.fault.Fault.{Fault}
 use Rattle.shread.specs.declared.fault.Stop.TheVariants.{Wrong}
 use Rattle.shread.specs.Comes.{Comes, Read, Step, again, done, Many, last, halts, more}
