@@ -4,3 +4,4 @@ pub mod Turns
 pub mod Stretches
 pub mod Is
 pub mod Loops
+pub mod Places
