@@ -9,7 +9,7 @@ use Rattle.shread.specs.declared.token.Token.{Token}
 use Rattle.shread.specs.declared.token.Token.TheVariants as tokens
 use Rattle.shread.specs.declared.token.Class.TheVariants as classes
 use Rattle.shread.specs.Bytes.{is_blank, is_operator, is_letter, in_class, is_byte, stands, ends, ends_word, passes, stands_in, count_front, past, past_blanks, line_end, before_blanks, begins_assignment, is_number, token_of, token_at}
-use Rattle.shread.specs.Commands.{is_word, past_comment, Parting, parting_by, parting_at}
+use Rattle.shread.specs.Commands.{is_word, past_comment, is_parted, separator_by, separator_at, past_separator}
 use Rattle.shread.proofs.Stretches.{get_drop}
 
 -- ---- one byte
@@ -150,20 +150,28 @@ pub assignment_begins : (T : List ℕ) (p : ℕ) → begins_assignment T p ≡ t
 unfolding begins_assignment stands_in ends_word
 assignment_begins T p e = letter_by (slice_get T p) (and_parts _ _ e).0
 
--- ---- what parts two entries
+-- ---- separators
 
--- behind an and-or list: not before its end, nor past the end of the text, and behind its end where something parts it from the next one
-pub record Behind (T : List ℕ) (p : ℕ) (a : Parting) : Type 0 where
-  pub low : p ≤ a.behind
-  pub high : a.behind ≤ length T
-  pub parted : a.parted ≡ true → p < a.behind
+parted_by : (t : Token) → is_parted (separator_by t) ≡ true → t ≡ tokens.End → ⊥
+parted_by tokens.Semicolon parted e = cc
+parted_by tokens.Ampersand parted e = cc
+parted_by _ parted e = cc
 
-behind_by : (T : List ℕ) (p q : ℕ) → p ≤ q → p ≤ length T → (t : Token) → ((t ≡ tokens.End → ⊥) → q < length T) → Behind T p (parting_by t p q)
-behind_by T p q low within tokens.Semicolon byte = let high = byte (λ e. cc) in record { low = omega arith; high = omega arith; parted = λ e. omega arith }
-behind_by T p q low within tokens.Ampersand byte = let high = byte (λ e. cc) in record { low = omega arith; high = omega arith; parted = λ e. omega arith }
-behind_by T p q low within _ byte = record { low = omega arith; high = within; parted = λ e. absurd cc }
+-- a separator is a byte
+pub separator_byte : (T : List ℕ) (p : ℕ) → is_parted (separator_at T p) ≡ true → past_blanks T p < length T
+unfolding separator_at
+separator_byte T p parted = token_low T (past_blanks T p) (parted_by (token_at T (past_blanks T p)) parted)
 
--- behind an and-or list that ends at p
-pub parting_behind : (T : List ℕ) (p : ℕ) → p ≤ length T → Behind T p (parting_at T p)
-unfolding parting_at
-parting_behind T p within = behind_by T p (past_blanks T p) (blanks_low T p) within (token_at T (past_blanks T p)) (λ other. token_low T (past_blanks T p) other)
+-- behind a separator, where one stands
+pub separator_low : (T : List ℕ) (p : ℕ) → p ≤ past_separator T p
+unfolding past_separator
+separator_low T p = cond_both (is_parted (separator_at T p)) _ _ (λ n. p ≤ n) (λ parted. omega (arith, blanks_low T p)) (λ none. omega arith)
+
+pub separator_high : (T : List ℕ) (p : ℕ) → p ≤ length T → past_separator T p ≤ length T
+unfolding past_separator
+separator_high T p within = cond_both (is_parted (separator_at T p)) _ _ (λ n. n ≤ length T) (λ parted. omega (arith, separator_byte T p parted)) (λ none. within)
+
+-- a separator leads on
+pub separator_onward : (T : List ℕ) (p : ℕ) → is_parted (separator_at T p) ≡ true → p < past_separator T p
+unfolding past_separator
+separator_onward T p parted = rw parted (omega (arith, blanks_low T p))
