@@ -5,3 +5,5 @@ pub mod Stretches
 pub mod Is
 pub mod Loops
 pub mod Places
+pub mod NormalForm
+pub mod Progress

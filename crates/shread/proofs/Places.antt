@@ -1,6 +1,6 @@
 -- Where something stands there is a byte, and how far the stretches of a text reach.
-use Rattle.std.proofs.Common.{◌≡◌, ℕ, zero, suc, ◌+◌, ◌≤◌, ◌<◌, ◌==◌, Bool, true, false, not, List, [], ◌∷◌, length, drop, Option, Some, None, slice_get, refl, sym, ap, ◌∙◌, arith}
-use Rattle.std.proofs.lemmas.Bool.{and_parts, or_from, cond_both}
+use Rattle.std.proofs.Common.{◌≡◌, ℕ, zero, suc, ◌+◌, ◌≤◌, ◌<◌, ◌==◌, Bool, true, false, not, List, [], ◌∷◌, length, drop, Option, Some, None, slice_get, refl, sym, ap, ◌∙◌, arith, ⊎_elim}
+use Rattle.std.proofs.lemmas.Bool.{and_parts, or_from, cond_both, both_ways, cases_lt}
 use Rattle.std.proofs.lemmas.Bool.Decides.{nat_tests}
 use Rattle.std.proofs.lemmas.List.{length-drop}
 use Rattle.std.proofs.lemmas.Option.{slice_get_within}
@@ -9,6 +9,7 @@ use Rattle.shread.specs.declared.token.Token.{Token}
 use Rattle.shread.specs.declared.token.Token.TheVariants as tokens
 use Rattle.shread.specs.declared.token.Class.TheVariants as classes
 use Rattle.shread.specs.Bytes.{is_blank, is_operator, is_letter, in_class, is_byte, stands, ends, ends_word, passes, stands_in, count_front, past, past_blanks, line_end, before_blanks, begins_assignment, is_number, token_of, token_at}
+use Rattle.shread.specs.Words.{is_pid}
 use Rattle.shread.specs.Commands.{is_word, past_comment, is_parted, separator_by, separator_at, past_separator}
 use Rattle.shread.proofs.Stretches.{get_drop}
 
@@ -149,6 +150,15 @@ letter_by (Some b) e = letter_goes_on b e
 pub assignment_begins : (T : List ℕ) (p : ℕ) → begins_assignment T p ≡ true → ends_word T p ≡ false
 unfolding begins_assignment stands_in ends_word
 assignment_begins T p e = letter_by (slice_get T p) (and_parts _ _ e).0
+
+-- two words do not end where only one does
+pub word_longer : (T : List ℕ) (p q : ℕ) → p ≤ q → ends_word T p ≡ false → ends_word T q ≡ true → p < q
+word_longer T p q low here there = ⊎_elim (λ lt. lt) (λ ge. let same : q ≡ p = omega (arith, ge) in absurd (both_ways (ends_word T p) here (rw same at there))) (cases_lt p q)
+
+-- `$$` is two bytes
+pub pid_low : (T : List ℕ) (p : ℕ) → is_pid T p ≡ true → p + 1 < length T
+unfolding is_pid
+pid_low T p e = stands_low T (p + 1) 36 (and_parts _ _ e).1
 
 -- ---- separators
 
