@@ -7,3 +7,4 @@ pub mod Loops
 pub mod Places
 pub mod NormalForm
 pub mod Progress
+pub mod Rows
