@@ -8,3 +8,4 @@ pub mod Places
 pub mod NormalForm
 pub mod Progress
 pub mod Rows
+pub mod Scripts

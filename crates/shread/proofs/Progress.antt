@@ -187,7 +187,7 @@ module _ (B : List ℕ) where
   ScriptEnd (Ok (s, q)) = IsGood (entries_of s.entries) s.wrong
   ScriptEnd (Err f) = ⊥
 
-  next_keeps : (s : SoFar) (p : ℕ) (x : Read (Row AnEntry × Bool)) → p ≤ length B → ScriptSo s p → Within (LineEnd (drop p B) p (s.gap && not (is_empty s.entries)) 0) p (length (drop p B)) 0 x → Keeps (length B) ScriptSo ScriptEnd p (script_next s p x)
+  pub next_keeps : (s : SoFar) (p : ℕ) (x : Read (Row AnEntry × Bool)) → p ≤ length B → ScriptSo s p → Within (LineEnd (drop p B) p (s.gap && not (is_empty s.entries)) 0) p (length (drop p B)) 0 x → Keeps (length B) ScriptSo ScriptEnd p (script_next s p x)
   next_keeps s p (Err f) within so high = (so.0, λ g is. let same : f ≡ g = cc in rw (← same) (omega (arith, length-drop p B)))
   next_keeps s p (Ok ((ls, true), q)) within so line =
       let last = (line.2.1 refl).0 in

@@ -63,7 +63,8 @@ module _ (T : List ℕ) (o : ℕ) where
   unfolding end_of_line_at
   is_end_of_line blank es p = is_line_end_by (with_remark blank es (comment_at T o p)) (past_comment T p) (token_at T (past_comment T p))
 
-  is_line : (blank : Bool) (p : ℕ) → p ≤ length T → Is (a_line T o blank p) (line_at T o blank p)
+  -- a line has one outcome
+  pub is_line : (blank : Bool) (p : ℕ) → p ≤ length T → Is (a_line T o blank p) (line_at T o blank p)
   unfolding line_at
   is_line blank p within =
       is_then (is_many (length T) (next_entry T o blank) (entry_step T o blank) (EntriesSo T o blank p) (EntriesEnd T o blank p) (entry_keeps T o blank p) (is_next_entry blank) [] p within (omega arith, record { first = λ e. tt; all = tt })) (λ es e. is_end_of_line blank es.0 es.1)
