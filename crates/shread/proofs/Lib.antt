@@ -2,3 +2,4 @@ pub mod Newlines
 pub mod Runs
 pub mod Turns
 pub mod Stretches
+pub mod LineEnds

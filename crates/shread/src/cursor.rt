@@ -15,6 +15,7 @@ pub(crate) struct Cursor<'a, S: Source> {
     pub(crate) base: usize,
     pub(crate) origin: usize,
     pub(crate) at: usize,
+    ghost begins: { base ≤ length (S.bytes source.now) },
     ghost fits: { base + length (drop base (S.bytes source.now)) < 2 ^ 64 },
     ghost tells: { origin + length (drop base (S.bytes source.now)) < 2 ^ 64 },
     ghost inside: { at ≤ length (drop base (S.bytes source.now)) },
@@ -80,7 +81,7 @@ impl<'a, S: Source> Cursor<'a, S> {
 
     /// Whether a byte of this class stands at a place.
     #[tactic(auto, unfolding(crate::specs::Bytes::stands_in))]
-    fn stands_in(&self, at: usize, class: Class) -> bool
+    pub(crate) fn stands_in(&self, at: usize, class: Class) -> bool
         requires { at ≤ length (drop self.now.base (S.bytes self.now.source.now)) }
         ensures value { result ≡ stands_in (in_class class) (drop self.now.base (S.bytes self.now.source.now)) at }
         ensures inside { result ≡ true → at < length (drop self.now.base (S.bytes self.now.source.now)) }

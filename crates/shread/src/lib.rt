@@ -8,8 +8,10 @@
 mod command;
 mod cursor;
 mod fault;
+mod line;
 mod make;
 mod place;
+mod remark;
 mod source;
 mod token;
 mod tree;
