@@ -3,3 +3,4 @@ pub mod Runs
 pub mod Turns
 pub mod Stretches
 pub mod LineEnds
+pub mod LineKinds

@@ -7,3 +7,5 @@ pub mod Words
 pub mod Commands
 pub mod Lines
 pub mod Reading
+pub mod Answers
+pub mod SoFar

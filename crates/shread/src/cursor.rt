@@ -218,12 +218,13 @@ impl<'a, S: Source> Cursor<'a, S> {
     }
 
     /// What begins here, where no blank stands.
-    #[tactic(auto, unfolding(crate::specs::Bytes::token_at, crate::specs::Bytes::stands_in, crate::specs::Bytes::ends_word))]
+    #[tactic(auto, unfolding(crate::specs::Bytes::token_at, crate::specs::Bytes::stands, crate::specs::Bytes::stands_in, crate::specs::Bytes::ends_word))]
     pub(crate) fn token(&self) -> Token
         ensures value { result ≡ token_at (drop self.now.base (S.bytes self.now.source.now)) self.now.at }
         ensures inside { result ≢ Token.End → self.now.at < length (drop self.now.base (S.bytes self.now.source.now)) }
         ensures word { let text = drop self.now.base (S.bytes self.now.source.now) in
             stands_in (in_class Class.Blank) text self.now.at ≡ false → result ≡ Token.Word → ends_word text self.now.at ≡ false }
+        ensures newline { result ≡ Token.Newline → stands (drop self.now.base (S.bytes self.now.source.now)) self.now.at 10 ≡ true }
     {
         match self.byte() {
             None => Token::End,

@@ -1,6 +1,6 @@
 //! The entries of a line, and the line's end (XCU 2.9.3, 2.10.2).
-ghost use Rattle.std.specs.Prelude.{◌≡◌, ◌<◌, ◌≤◌, ◌&&◌, [], drop, length, map, IfOk, true, false};
-ghost use Rattle.shread.specs.Bytes.{ends_word, in_class, stands_in};
+ghost use Rattle.std.specs.Prelude.{◌≡◌, ◌-◌, ◌<◌, ◌≤◌, ◌&&◌, [], drop, length, map, IfOk, true, false};
+ghost use Rattle.shread.specs.Bytes.{ends_word, in_class, stands, stands_in};
 ghost use Rattle.shread.specs.Comes.{step_if};
 ghost use Rattle.shread.specs.Commands.{is_background, is_parted, past_separator, separator_at};
 ghost use Rattle.shread.specs.Lines.{begins_command, is_empty, with_remark};
@@ -100,7 +100,8 @@ impl<'a, S: Source> Cursor<'a, S> {
     fn end_of_line(&mut self, blank: bool, entries: &mut Vec<Entry>) -> Result<bool, Stop>
         ensures value { let text = drop self.old.base (S.bytes self.old.source.now) in
             Gives (λ newline. ((map view_entry entries.new.items, newline), self.new.at)) result (end_of_line_at text self.old.origin blank (map view_entry entries.old.items) self.old.at) }
-        ensures onward { IfOk result (λ newline. self.old.at ≤ self.new.at) }
+        ensures onward { IfOk result (Onward self.old.at self.new.at) }
+        ensures newline { IfOk result (λ newline. newline ≡ true → stands (drop self.old.base (S.bytes self.old.source.now)) (self.new.at - 1) 10 ≡ true) }
         ensures same { (self.new.source ≡ self.old.source) × (self.new.base ≡ self.old.base) × (self.new.origin ≡ self.old.origin) }
     {
         if let Some(comment) = self.comment() {
@@ -122,7 +123,8 @@ impl<'a, S: Source> Cursor<'a, S> {
     pub(crate) fn line(&mut self, alloc: Global, blank: bool) -> Result<(Vec<Entry>, bool), Stop>
         ensures value { let text = drop self.old.base (S.bytes self.old.source.now) in
             Gives (λ x. ((map view_entry x.0.items, x.1), self.new.at)) result (line_at text self.old.origin blank self.old.at) }
-        ensures onward { IfOk result (λ x. self.old.at ≤ self.new.at) }
+        ensures onward { IfOk result (λ x. Onward self.old.at self.new.at x.1) }
+        ensures newline { IfOk result (λ x. x.1 ≡ true → stands (drop self.old.base (S.bytes self.old.source.now)) (self.new.at - 1) 10 ≡ true) }
         ensures same { (self.new.source ≡ self.old.source) × (self.new.base ≡ self.old.base) × (self.new.origin ≡ self.old.origin) }
     {
         let mut entries = self.entries(alloc, blank)?;
