@@ -34,8 +34,8 @@ line_end_found B base p q found =
     let within : q < length B = found.within in
     let there : base + (p + (q - base - p)) ≡ q = omega arith in
     past_is (λ b. not (is_newline b)) (drop base B) p (q - base - p)
-      (λ k k_low k_high. other_inside B base k (omega arith) (found.before (base + k) (omega arith) (omega arith)))
-      (newline_inside B base (p + (q - base - p)) (omega arith) (ap (λ i. get_or B i 0) there ∙ found.here))
+    (λ k k_low k_high. other_inside B base k (omega arith) (found.before (base + k) (omega arith) (omega arith)))
+    (newline_inside B base (p + (q - base - p)) (omega arith) (ap (λ i. get_or B i 0) there ∙ found.here))
     ∙ omega arith
 
 -- the line ends with the text
@@ -43,6 +43,6 @@ pub line_end_none : (B : List ℕ) (base p : ℕ) → base + p ≤ length B → 
 line_end_none B base p le none =
     let there : base + (p + (length B - base - p)) ≡ length B = omega arith in
     past_is (λ b. not (is_newline b)) (drop base B) p (length B - base - p)
-      (λ k k_low k_high. other_inside B base k (omega arith) (none (base + k) (omega arith) (omega arith)))
-      (none_past B base (p + (length B - base - p)) (omega arith))
+    (λ k k_low k_high. other_inside B base k (omega arith) (none (base + k) (omega arith) (omega arith)))
+    (none_past B base (p + (length B - base - p)) (omega arith))
     ∙ omega arith

@@ -200,7 +200,10 @@ impl<'a, S: Source> Cursor<'a, S> {
         ensures word { result ≡ true → ends_word (drop self.now.base (S.bytes self.now.source.now)) self.now.at ≡ false }
     {
         match self.byte() {
-            Some(b'a'..=b'z' | b'A'..=b'Z' | b'_') => self.stands(self.past(self.at, Class::Name), b'='),
+            Some(b'a'..=b'z' | b'A'..=b'Z' | b'_') => self.stands(
+                self.past(self.at, Class::Name),
+                b'=',
+            ),
             _ => false,
         }
     }

@@ -52,7 +52,10 @@ impl<'a, S: Source> Cursor<'a, S> {
         self.skip_blanks();
         let comment = self.comment();
         let background = matches!(separator, Some(Separator::Ampersand));
-        Ok((command_entry(and_or, background, blank, comment), separator.is_some()))
+        Ok((
+            command_entry(and_or, background, blank, comment),
+            separator.is_some(),
+        ))
     }
 
     /// Whether a command begins here, where no blank stands.
@@ -67,7 +70,12 @@ impl<'a, S: Source> Cursor<'a, S> {
 
     /// One more entry of a line. Answers whether another may follow; `blank` tells of the line's first entry.
     #[tactic(auto, unfolding(crate::specs::Reading::entry_step))]
-    fn next_entry(&mut self, alloc: Global, blank: bool, entries: &mut Vec<Entry>) -> Result<bool, Stop>
+    fn next_entry(
+        &mut self,
+        alloc: Global,
+        blank: bool,
+        entries: &mut Vec<Entry>,
+    ) -> Result<bool, Stop>
         ensures value { let text = drop self.old.base (S.bytes self.old.source.now) in
             Gives (λ more. step_if more (map view_entry entries.new.items) self.new.at) result (entry_step text self.old.origin blank (map view_entry entries.old.items) self.old.at) }
         ensures onward { IfOk result (Onward self.old.at self.new.at) }

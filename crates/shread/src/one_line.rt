@@ -21,7 +21,11 @@ fn line_kind(entries: Vec<Entry>, newline: bool) -> LineKind
     if entries.len() > 0 {
         return LineKind::Entries(list_of(entries));
     }
-    if newline { LineKind::Blank } else { LineKind::End }
+    if newline {
+        LineKind::Blank
+    } else {
+        LineKind::End
+    }
 }
 
 /// The line that begins at an offset. At the length no memory is wanted.

@@ -3,9 +3,9 @@ ghost use Rattle.std.specs.Prelude.{◌≡◌, ◌+◌, ◌-◌, ◌≤◌, drop
 ghost use Rattle.shread.specs.Answers.{meter_of, raised, view_line, view_script};
 ghost use Rattle.shread.specs.Lines.{ALine, AScript, IsLine, IsOutcome};
 
+use crate::all_lines::script_from;
 use crate::fault::{Fault, ReadError};
 use crate::one_line::line_from;
-use crate::all_lines::script_from;
 use crate::source::Source;
 use crate::tree::List;
 use std::alloc::Global;
