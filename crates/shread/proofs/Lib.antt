@@ -9,3 +9,5 @@ pub mod NormalForm
 pub mod Progress
 pub mod Rows
 pub mod Scripts
+pub mod LineEnds
+pub mod LineKinds

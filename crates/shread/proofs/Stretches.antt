@@ -76,3 +76,7 @@ past_is test T p (suc n) in_it behind =
     let next : p + 1 + n ≡ p + suc n = omega arith in
     past_more test T p (in_it p (omega arith) (omega arith))
     ∙ past_is test T (p + 1) n (λ k low high. in_it k (omega arith) (omega arith)) (rw next behind) ∙ next
+
+pub nothing_before : (T : List ℕ) (q : ℕ) → q ≡ 0 → before_blanks T q ≡ q
+unfolding before_blanks
+nothing_before T q e = rw e refl

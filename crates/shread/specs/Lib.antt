@@ -7,4 +7,6 @@ pub mod Words
 pub mod Commands
 pub mod Lines
 pub mod Reading
+pub mod Answers
+pub mod SoFar
 pub mod Normal

@@ -15,6 +15,7 @@ pub(crate) struct Cursor<'a, S: Source> {
     pub(crate) base: usize,
     pub(crate) origin: usize,
     pub(crate) at: usize,
+    ghost begins: { base ≤ length (S.bytes source.now) },
     ghost fits: { base + length (drop base (S.bytes source.now)) < 2 ^ 64 },
     ghost tells: { origin + length (drop base (S.bytes source.now)) < 2 ^ 64 },
     ghost inside: { at ≤ length (drop base (S.bytes source.now)) },
@@ -80,7 +81,7 @@ impl<'a, S: Source> Cursor<'a, S> {
 
     /// Whether a byte of this class stands at a place.
     #[tactic(auto, unfolding(crate::specs::Bytes::stands_in))]
-    fn stands_in(&self, at: usize, class: Class) -> bool
+    pub(crate) fn stands_in(&self, at: usize, class: Class) -> bool
         requires { at ≤ length (drop self.now.base (S.bytes self.now.source.now)) }
         ensures value { result ≡ stands_in (in_class class) (drop self.now.base (S.bytes self.now.source.now)) at }
         ensures inside { result ≡ true → at < length (drop self.now.base (S.bytes self.now.source.now)) }
@@ -199,7 +200,10 @@ impl<'a, S: Source> Cursor<'a, S> {
         ensures word { result ≡ true → ends_word (drop self.now.base (S.bytes self.now.source.now)) self.now.at ≡ false }
     {
         match self.byte() {
-            Some(b'a'..=b'z' | b'A'..=b'Z' | b'_') => self.stands(self.past(self.at, Class::Name), b'='),
+            Some(b'a'..=b'z' | b'A'..=b'Z' | b'_') => self.stands(
+                self.past(self.at, Class::Name),
+                b'=',
+            ),
             _ => false,
         }
     }
@@ -217,12 +221,13 @@ impl<'a, S: Source> Cursor<'a, S> {
     }
 
     /// What begins here, where no blank stands.
-    #[tactic(auto, unfolding(crate::specs::Bytes::token_at, crate::specs::Bytes::stands_in, crate::specs::Bytes::ends_word))]
+    #[tactic(auto, unfolding(crate::specs::Bytes::token_at, crate::specs::Bytes::stands, crate::specs::Bytes::stands_in, crate::specs::Bytes::ends_word))]
     pub(crate) fn token(&self) -> Token
         ensures value { result ≡ token_at (drop self.now.base (S.bytes self.now.source.now)) self.now.at }
         ensures inside { result ≢ Token.End → self.now.at < length (drop self.now.base (S.bytes self.now.source.now)) }
         ensures word { let text = drop self.now.base (S.bytes self.now.source.now) in
             stands_in (in_class Class.Blank) text self.now.at ≡ false → result ≡ Token.Word → ends_word text self.now.at ≡ false }
+        ensures newline { result ≡ Token.Newline → stands (drop self.now.base (S.bytes self.now.source.now)) self.now.at 10 ≡ true }
     {
         match self.byte() {
             None => Token::End,

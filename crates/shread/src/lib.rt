@@ -5,11 +5,16 @@
 //! contracts cite are in `specs/`: `Bytes`, `Words`, `Commands` and `Lines` are the grammar.
 #![tactic(auto)]
 
+mod all_lines;
 mod command;
 mod cursor;
 mod fault;
+mod line;
 mod make;
+mod one_line;
 mod place;
+mod reader;
+mod remark;
 mod source;
 mod token;
 mod tree;
@@ -17,6 +22,7 @@ mod word;
 
 pub use fault::{Fault, FaultKind, ReadError};
 pub use place::line_col_of;
+pub use reader::{Line, LineKind, Reader, Script};
 pub use source::{Flat, Source};
 pub use tree::{
     AndOr, AndOrOperator, AndOrPart, Command, Comment, Content, Entry, Item, ItemContent, Join,

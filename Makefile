@@ -1,0 +1,5 @@
+# shform: `make test` proves every crate from nothing and runs all tests.
+.PHONY: test
+
+test:
+	rt ci

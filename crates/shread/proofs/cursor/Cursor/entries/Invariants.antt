@@ -1,0 +1,13 @@
+use Rattle.std.proofs.Common.{◌≡◌, ◌≤◌, ◌-◌, [], length, drop, map}
+use Rattle.shread.specs.Reading.{turns, entry_step}
+use Rattle.shread.specs.View.{view_entry}
+use Rattle.shread.proofs.cursor.Cursor.entries.Given as goal
+
+abbrev pub invariant-turns : goal.invariant-turns
+invariant-turns g l =
+    let text = drop l.fn.self.base (g.S.Source.bytes l.fn.self.source.now) in
+    (turns (length text) (entry_step text l.fn.self.origin l.blank) (map view_entry l.entries.items) l.self.at ≡ turns (length text) (entry_step text l.fn.self.origin l.blank) [] l.fn.self.at)
+    × (l.fn.self.at ≤ l.self.at) × (l.self.source ≡ l.fn.self.source) × (l.self.base ≡ l.fn.self.base) × (l.self.origin ≡ l.fn.self.origin)
+
+abbrev pub decreases-turns : goal.decreases-turns
+decreases-turns g l = length (drop l.self.base (g.S.Source.bytes l.self.source.now)) - l.self.at

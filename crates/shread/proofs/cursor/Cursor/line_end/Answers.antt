@@ -1,0 +1,13 @@
+use Rattle.std.proofs.Common.{◌≡◌, ◌≤◌, ◌+◌, ◌-◌, drop, length, length-drop, subst, sym, ap, ◌∙◌, arith}
+use Rattle.shread.specs.Text.{IsNextPlace}
+use Rattle.shread.proofs.LineEnds.{line_end_none}
+use Rattle.shread.proofs.cursor.Cursor.line_end.Goals as goal
+
+pub returns-in-None-clause-value : goal.returns-in-None-clause-value
+returns-in-None-clause-value g c =
+    let bytes = g.S.Source.bytes c.args.self.now.source.now in
+    let base = c.args.self.now.base in
+    let at = c.args.self.now.at in
+    let within : base + at ≤ length bytes = omega (arith, length-drop base bytes) in
+    ap (λ n. n - base) c.len.ensures
+    ∙ sym (line_end_none bytes base at within (subst (IsNextPlace 10 bytes (base + at)) c.in-None.is c.find_byte.ensures))

@@ -1,0 +1,103 @@
+//! The reader: one line, or a whole script.
+ghost use Rattle.std.specs.Prelude.{◌≡◌, ◌+◌, ◌-◌, ◌≤◌, drop, length, IfOk, IfErr, IsOk};
+ghost use Rattle.shread.specs.Answers.{meter_of, raised, view_line, view_script};
+ghost use Rattle.shread.specs.Lines.{ALine, AScript, IsLine, IsOutcome};
+
+use crate::all_lines::script_from;
+use crate::fault::{Fault, ReadError};
+use crate::one_line::line_from;
+use crate::source::Source;
+use crate::tree::List;
+use std::alloc::Global;
+
+/// What a top-level line is.
+#[derive(Debug, Drop)]
+pub enum LineKind {
+    /// No entry, and a newline token that ends the line.
+    Blank,
+    /// Commands, or a comment.
+    Entries(List),
+    /// The rest of the input: no entry and no newline token.
+    End,
+    /// The first fault. Its offset counts from where the line begins.
+    Faulty(Fault),
+}
+
+/// A top-level line, read as if a script began there (XCU 2.10.2).
+#[derive(Debug, Drop)]
+pub struct Line {
+    /// Its entries have spans that count from where the line begins.
+    pub kind: LineKind,
+    /// The offset in the source behind the line; of `End` and `Faulty` the length of the source.
+    pub next: usize,
+    /// A newline token ended the line, and its last byte is a newline. Another line may begin at `next`.
+    pub ended: bool,
+}
+
+/// A whole script.
+#[derive(Debug, Drop)]
+pub struct Script {
+    /// The entries of all lines; with a fault, of those that ended before the faulty one. Spans count from the
+    /// script's first byte.
+    pub list: List,
+    /// The first fault from left to right.
+    pub fault: Option<Fault>,
+}
+
+/// Reads scripts, and counts the bytes that it has read.
+#[derive(Drop)]
+pub struct Reader {
+    alloc: Global,
+    meter: u64,
+}
+
+impl Reader {
+    /// A reader that has read nothing.
+    pub fn new(alloc: Global) -> Reader
+        ensures { meter_of result ≡ 0 }
+    {
+        Reader { alloc, meter: 0 }
+    }
+
+    /// Reads the top-level line that begins at an offset, as if a script began there.
+    ///
+    /// A fault is part of the answer. Want of memory is the only error: the meter is then as before, and the reader can
+    /// be used again. At the length of the source no memory is wanted.
+    pub fn read_line<S: Source>(&mut self, source: &S, at: usize) -> Result<Line, ReadError>
+        requires { at ≤ length (S.bytes source.now) }
+        // The answer is the line that the grammar has for the bytes from `at` on, and it has no other.
+        ensures line { IfOk result (λ line. IsLine (drop at (S.bytes source.now)) (view_line at line)) }
+        ensures only { IfOk result (λ line. (a : ALine) → IsLine (drop at (S.bytes source.now)) a → a ≡ view_line at line) }
+        ensures next { IfOk result (λ line. (at ≤ line.next) × (line.next ≤ length (S.bytes source.now))) }
+        ensures meter { IfOk result (λ line. meter_of self.new ≡ raised (meter_of self.old) (line.next - at)) }
+        ensures err { IfErr result (λ e. meter_of self.new ≡ meter_of self.old) }
+        ensures end { at ≡ length (S.bytes source.now) → IsOk result }
+    {
+        let line = line_from(self.alloc, source, at)?;
+        self.meter = self.meter.saturating_add((line.next - at) as u64);
+        Ok(line)
+    }
+
+    /// Reads a whole script.
+    ///
+    /// A fault is part of the answer. Want of memory is the only error: the meter is then as before, and the reader can
+    /// be used again.
+    pub fn read_script<S: Source>(&mut self, source: &S) -> Result<Script, ReadError>
+        // The answer is what the grammar has for the bytes, and it has nothing else.
+        ensures outcome { IfOk result (λ script. IsOutcome (S.bytes source.now) (view_script script)) }
+        ensures only { IfOk result (λ script. (a : AScript) → IsOutcome (S.bytes source.now) a → a ≡ view_script script) }
+        ensures meter { IfOk result (λ script. meter_of self.new ≡ raised (meter_of self.old) (length (S.bytes source.now))) }
+        ensures err { IfErr result (λ e. meter_of self.new ≡ meter_of self.old) }
+    {
+        let script = script_from(self.alloc, source)?;
+        self.meter = self.meter.saturating_add(source.len() as u64);
+        Ok(script)
+    }
+
+    /// How many bytes were read so far; it stays at its greatest number.
+    pub fn meter(&self) -> u64
+        ensures { result ≡ meter_of self.now }
+    {
+        self.meter
+    }
+}

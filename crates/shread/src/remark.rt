@@ -1,0 +1,58 @@
+//! Comments (XCU 2.3, rule 9).
+ghost use Rattle.std.specs.Prelude.{◌≡◌, ◌≤◌, drop, length};
+ghost use Rattle.shread.specs.Bytes.{before_blanks, line_end};
+ghost use Rattle.shread.specs.Commands.{comment_at, past_comment};
+
+use crate::cursor::Cursor;
+use crate::place::find_byte;
+use crate::source::Source;
+use crate::token::Class;
+use crate::tree::{Comment, Span};
+
+impl<'a, S: Source> Cursor<'a, S> {
+    /// The place of the next newline, or the end.
+    #[tactic(auto, using(crate::proofs::LineEnds::line_end_found, crate::proofs::LineEnds::line_end_none))]
+    fn line_end(&self) -> usize
+        ensures value { result ≡ line_end (drop self.now.base (S.bytes self.now.source.now)) self.now.at }
+        ensures inside { (self.now.at ≤ result) × (result ≤ length (drop self.now.base (S.bytes self.now.source.now))) }
+    {
+        match find_byte(self.source, self.base + self.at, b'\n') {
+            Some(newline) => newline - self.base,
+            None => self.source.len() - self.base,
+        }
+    }
+
+    /// The place behind the last byte before `end` that is no blank.
+    #[tactic(auto, using(crate::proofs::Stretches::blanks_before, crate::proofs::Stretches::no_blanks_before, crate::proofs::Stretches::nothing_before))]
+    fn before_blanks(&self, end: usize) -> usize
+        requires { end ≤ length (drop self.now.base (S.bytes self.now.source.now)) }
+        ensures value { result ≡ before_blanks (drop self.now.base (S.bytes self.now.source.now)) end }
+        ensures inside { result ≤ end }
+    {
+        let mut at = end;
+        'blanks: while at > 0 && self.stands_in(at - 1, Class::Blank) {
+            at -= 1;
+        }
+        at
+    }
+
+    /// Passes the comment that begins here, if one does.
+    #[tactic(auto, unfolding(crate::specs::Commands::comment_at, crate::specs::Commands::past_comment))]
+    pub(crate) fn comment(&mut self) -> Option<Comment>
+        ensures value { result ≡ comment_at (drop self.old.base (S.bytes self.old.source.now)) self.old.origin self.old.at }
+        ensures place { self.new.at ≡ past_comment (drop self.old.base (S.bytes self.old.source.now)) self.old.at }
+        ensures onward { self.old.at ≤ self.new.at }
+        ensures same { (self.new.source ≡ self.old.source) × (self.new.base ≡ self.old.base) × (self.new.origin ≡ self.old.origin) }
+    {
+        if !self.is_at(b'#') {
+            return None;
+        }
+        let line_end = self.line_end();
+        let span = Span {
+            start: self.origin + self.at,
+            end: self.origin + self.before_blanks(line_end),
+        };
+        self.at = line_end;
+        Some(Comment { span })
+    }
+}
