@@ -11,3 +11,4 @@ pub mod Rows
 pub mod Scripts
 pub mod LineEnds
 pub mod LineKinds
+pub mod Verdict

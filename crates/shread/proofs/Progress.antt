@@ -202,6 +202,6 @@ module _ (B : List ℕ) where
   pub script_within : (p : ℕ) → p ≤ length B → ScriptEnd (turns (length B) (script_step B) nothing_yet p)
   script_within p within = turns_keep (length B) (script_step B) ScriptSo ScriptEnd script_keeps nothing_yet p within ((tt, tt), refl)
 
-  script_good : (x : Read SoFar) → ScriptEnd x → IsGood (script_of x).entries (script_of x).wrong
+  pub script_good : (x : Read SoFar) → ScriptEnd x → IsGood (script_of x).entries (script_of x).wrong
   script_good (Ok (s, q)) good = good
   script_good (Err f) good = absurd good
