@@ -11,4 +11,5 @@ pub mod Rows
 pub mod Scripts
 pub mod LineEnds
 pub mod LineKinds
+pub mod Alike
 pub mod Verdict
