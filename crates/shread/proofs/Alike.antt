@@ -1,5 +1,5 @@
 -- The reading of a line goes the same way whatever was read before, and wherever its text begins: then its fault moves.
-use Rattle.std.proofs.Common.{◌≡◌, ℕ, ◌+◌, ◌≤◌, ◌<◌, Bool, true, false, cond, ◌&&◌, List, List as Row, [], ◌∷◌, ◌++◌, length, Result, Ok, Err, refl, sym, subst, ◌∙◌, arith, zero-add}
+use Rattle.std.proofs.Common.{◌≡◌, ℕ, ◌+◌, ◌≤◌, ◌<◌, Bool, true, false, cond, ◌&&◌, List, List as Row, [], ◌∷◌, ◌++◌, length, Result, Ok, Err, refl, sym, ap, subst, ◌∙◌, arith}
 use Rattle.shread.specs.declared.fault.Fault.{Fault}
 use Rattle.shread.specs.declared.fault.FaultKind.{FaultKind}
 use Rattle.shread.specs.declared.fault.Stop.TheVariants.{Wrong}
@@ -55,10 +55,6 @@ alike_end (same_end same) more = both_give (same_end (more same))
 pub alike_again : {X Y V W : Type 0} {S : X → Y → Type 0} {R : V → W → Type 0} {d : ℕ} {x : X × ℕ} {y : Y × ℕ} {v : V} {w : W} → SameEnd S x y → (S x.0 y.0 → R v w) → Alike (SameStep R) d (Ok (again v x.1)) (Ok (again w y.1))
 alike_again (same_end same) more = both_give (both_again (more same))
 
--- the same fault in texts that begin d bytes apart
-pub fault_moved : (d : ℕ) (kind : FaultKind) (p : ℕ) → record { kind = kind; at = d + p } ≡ moved d (record { kind = kind; at = 0 + p })
-fault_moved d kind p = rw (zero-add p) refl
-
 module _ {A : Type 0} (len : ℕ) (f g : A → ℕ → Result (Step A) Fault) (S : A → A → Type 0) (d : ℕ) (Q : A → ℕ → Type 0) (R : Read A → Type 0) (keeps : (a : A) (p : ℕ) → p ≤ len → Q a p → Keeps len Q R p (f a p)) (steps : (a b : A) (p : ℕ) → p ≤ len → S a b → Alike (SameStep S) d (f a p) (g b p)) where
   -- the second loop has come to the same place
   record Along (c : A) (s : ℕ) (a : A) (p : ℕ) : Type 0 where
@@ -89,86 +85,90 @@ module _ {A : Type 0} (len : ℕ) (f g : A → ℕ → Result (Step A) Fault) (S
 abbrev pub Any : {X Y : Type 0} → X → Y → Type 0
 Any x y = Unit {0}
 
-module _ (T : List ℕ) (o : ℕ) where
-  piece_alike : (ss us : Row ASubst) (p : ℕ) → Alike (SameStep Any) o (piece_step T o ss p) (piece_step T 0 us p)
+-- what goes on the same way
+abbrev pub SameFlag : {X Y : Type 0} → X × Bool → Y × Bool → Type 0
+SameFlag x y = x.1 ≡ y.1
+
+module _ (T : List ℕ) (o u d : ℕ) (far : o ≡ d + u) where
+  -- the same fault in texts that begin d bytes apart
+  fault_moved : (kind : FaultKind) (p : ℕ) → record { kind = kind; at = o + p } ≡ moved d (record { kind = kind; at = u + p })
+  fault_moved kind p = let same : o + p ≡ d + (u + p) = omega (arith, far) in ap (λ n. record { kind = kind; at = n }) same
+
+  piece_alike : (ss us : Row ASubst) (p : ℕ) → Alike (SameStep Any) d (piece_step T o ss p) (piece_step T u us p)
   unfolding piece_step
   piece_alike ss us p =
       alike_test (ends_word T p) (both_give (both_done tt))
-      (alike_test (begins_piece T p) (both_stop (fault_moved o _ p))
+      (alike_test (begins_piece T p) (both_stop (fault_moved _ p))
       (alike_test (is_pid T p) (both_give (both_again tt)) (both_give (both_again tt))))
 
-  word_alike : (p : ℕ) → p ≤ length T → Alike (SameEnd Any) o (word_at T o p) (word_at T 0 p)
+  word_alike : (p : ℕ) → p ≤ length T → Alike (SameEnd Any) d (word_at T o p) (word_at T u p)
   unfolding word_at
   word_alike p within =
-      alike_then (turns_alike (length T) (piece_step T o) (piece_step T 0) Any o (PiecesSo T o p) (PiecesEnd T o p) (piece_keeps T o p) (λ ss us q high any. piece_alike ss us q) [] [] p within (omega arith, tt) tt)
+      alike_then (turns_alike (length T) (piece_step T o) (piece_step T u) Any d (PiecesSo T o p) (PiecesEnd T o p) (piece_keeps T o p) (λ ss us q high any. piece_alike ss us q) [] [] p within (omega arith, tt) tt)
       (λ x y e same. alike_end same (λ any. tt))
 
-  assignment_alike : (is js : Row AnItem) (p : ℕ) → p ≤ length T → Alike (SameStep Any) o (assignment_step T o is p) (assignment_step T 0 js p)
+  assignment_alike : (is js : Row AnItem) (p : ℕ) → p ≤ length T → Alike (SameStep Any) d (assignment_step T o is p) (assignment_step T u js p)
   unfolding assignment_step
   assignment_alike is js p within = alike_test (begins_assignment T (past_blanks T p)) (alike_then (word_alike (past_blanks T p) (blanks_high T p within)) (λ x y e same. alike_again same (λ any. tt))) (both_give (both_done tt))
 
-  argument_alike : (is js : Row AnItem) (p : ℕ) → p ≤ length T → Alike (SameStep Any) o (argument_step T o is p) (argument_step T 0 js p)
+  argument_alike : (is js : Row AnItem) (p : ℕ) → p ≤ length T → Alike (SameStep Any) d (argument_step T o is p) (argument_step T u js p)
   unfolding argument_step
   argument_alike is js p within = alike_test (is_word (token_at T (past_blanks T p))) (alike_then (word_alike (past_blanks T p) (blanks_high T p within)) (λ x y e same. alike_again same (λ any. tt))) (both_give (both_done tt))
 
-  arguments_alike : (s : ℕ) (x y : Row AnItem × ℕ) → ItemsEnd T o s (Ok x) → SameEnd Any x y → Alike (SameEnd Any) o (turns (length T) (argument_step T o) x.0 x.1) (turns (length T) (argument_step T 0) y.0 y.1)
-  arguments_alike s _ _ so (same_end {x = is} {y = js} {p = p} any) = turns_alike (length T) (argument_step T o) (argument_step T 0) Any o (ItemsSo T o s) (ItemsEnd T o s) (argument_keeps T o s) (λ is js q high any. argument_alike is js q high) is js p so.1 (so.0, so.2) tt
+  arguments_alike : (s : ℕ) (x y : Row AnItem × ℕ) → ItemsEnd T o s (Ok x) → SameEnd Any x y → Alike (SameEnd Any) d (turns (length T) (argument_step T o) x.0 x.1) (turns (length T) (argument_step T u) y.0 y.1)
+  arguments_alike s _ _ so (same_end {x = is} {y = js} {p = p} any) = turns_alike (length T) (argument_step T o) (argument_step T u) Any d (ItemsSo T o s) (ItemsEnd T o s) (argument_keeps T o s) (λ is js q high any. argument_alike is js q high) is js p so.1 (so.0, so.2) tt
 
-  simple_alike : (p : ℕ) → p ≤ length T → Alike (SameEnd Any) o (simple_at T o p) (simple_at T 0 p)
+  simple_alike : (p : ℕ) → p ≤ length T → Alike (SameEnd Any) d (simple_at T o p) (simple_at T u p)
   unfolding simple_at
   simple_alike p within =
-      alike_then (turns_alike (length T) (assignment_step T o) (assignment_step T 0) Any o (ItemsSo T o p) (ItemsEnd T o p) (assignment_keeps T o p) (λ is js q high any. assignment_alike is js q high) [] [] p within (omega arith, record { first = tt; all = tt }) tt)
+      alike_then (turns_alike (length T) (assignment_step T o) (assignment_step T u) Any d (ItemsSo T o p) (ItemsEnd T o p) (assignment_keeps T o p) (λ is js q high any. assignment_alike is js q high) [] [] p within (omega arith, record { first = tt; all = tt }) tt)
       (λ x y e same. alike_then (arguments_alike p x y (subst (ItemsEnd T o p) e (assignments_within T o p p (omega arith) within)) same) (λ v w f more. alike_end more (λ any. tt)))
 
-  pipeline_alike : (p : ℕ) → p ≤ length T → Alike (SameEnd Any) o (pipeline_at T o p) (pipeline_at T 0 p)
+  pipeline_alike : (p : ℕ) → p ≤ length T → Alike (SameEnd Any) d (pipeline_at T o p) (pipeline_at T u p)
   unfolding pipeline_at
   pipeline_alike p within = alike_then (simple_alike p within) (λ x y e same. alike_end same (λ any. tt))
 
-  and_or_alike : (p : ℕ) → p ≤ length T → Alike (SameEnd Any) o (and_or_at T o p) (and_or_at T 0 p)
+  and_or_alike : (p : ℕ) → p ≤ length T → Alike (SameEnd Any) d (and_or_at T o p) (and_or_at T u p)
   unfolding and_or_at
   and_or_alike p within = alike_then (pipeline_alike p within) (λ x y e same. alike_end same (λ any. tt))
 
   -- ---- entries and lines
 
-  -- what goes on the same way
-  abbrev pub SameFlag : {X Y : Type 0} → X × Bool → Y × Bool → Type 0
-  SameFlag x y = x.1 ≡ y.1
-
-  entry_so : (blank white : Bool) (x y : AnAndOr × ℕ) → SameEnd Any x y → Alike (SameEnd SameFlag) o
+  entry_so : (blank white : Bool) (x y : AnAndOr × ℕ) → SameEnd Any x y → Alike (SameEnd SameFlag) d
       (Ok ((entry (command x.0) (is_background (separator_at T x.1)) blank (comment_at T o (remark_place T x.1)), is_parted (separator_at T x.1)), past_comment T (remark_place T x.1)))
-      (Ok ((entry (command y.0) (is_background (separator_at T y.1)) white (comment_at T 0 (remark_place T y.1)), is_parted (separator_at T y.1)), past_comment T (remark_place T y.1)))
+      (Ok ((entry (command y.0) (is_background (separator_at T y.1)) white (comment_at T u (remark_place T y.1)), is_parted (separator_at T y.1)), past_comment T (remark_place T y.1)))
   entry_so blank white _ _ (same_end same) = both_give (same_end refl)
 
-  entry_alike : (blank white : Bool) (p : ℕ) → p ≤ length T → Alike (SameEnd SameFlag) o (entry_at T o blank p) (entry_at T 0 white p)
+  entry_alike : (blank white : Bool) (p : ℕ) → p ≤ length T → Alike (SameEnd SameFlag) d (entry_at T o blank p) (entry_at T u white p)
   unfolding entry_at
   entry_alike blank white p within = alike_then (and_or_alike p within) (λ x y e same. entry_so blank white x y same)
 
-  step_if_alike : (es fs : Row AnEntry) (a b : Bool) (p : ℕ) → a ≡ b → Alike (SameStep Any) o (Ok (step_if a es p)) (Ok (step_if b fs p))
+  step_if_alike : (es fs : Row AnEntry) (a b : Bool) (p : ℕ) → a ≡ b → Alike (SameStep Any) d (Ok (step_if a es p)) (Ok (step_if b fs p))
   step_if_alike es fs true true p same = both_give (both_again tt)
   step_if_alike es fs false false p same = both_give (both_done tt)
   step_if_alike es fs true false p same = absurd cc
   step_if_alike es fs false true p same = absurd cc
 
-  next_so : (es fs : Row AnEntry) (x y : (AnEntry × Bool) × ℕ) → SameEnd SameFlag x y → Alike (SameStep Any) o (Ok (step_if x.0.1 (es ++ x.0.0 ∷ []) x.1)) (Ok (step_if y.0.1 (fs ++ y.0.0 ∷ []) y.1))
+  next_so : (es fs : Row AnEntry) (x y : (AnEntry × Bool) × ℕ) → SameEnd SameFlag x y → Alike (SameStep Any) d (Ok (step_if x.0.1 (es ++ x.0.0 ∷ []) x.1)) (Ok (step_if y.0.1 (fs ++ y.0.0 ∷ []) y.1))
   next_so es fs _ _ (same_end {x = x} {y = y} {p = p} same) = step_if_alike (es ++ x.0 ∷ []) (fs ++ y.0 ∷ []) x.1 y.1 p same
 
-  next_alike : (blank white : Bool) (es fs : Row AnEntry) (p : ℕ) → p ≤ length T → Alike (SameStep Any) o (entry_step T o blank es p) (entry_step T 0 white fs p)
+  next_alike : (blank white : Bool) (es fs : Row AnEntry) (p : ℕ) → p ≤ length T → Alike (SameStep Any) d (entry_step T o blank es p) (entry_step T u white fs p)
   unfolding entry_step
   next_alike blank white es fs p within =
       alike_test (begins_command T (past_blanks T p)) (alike_then (entry_alike (blank && is_empty es) (white && is_empty fs) (past_blanks T p) (blanks_high T p within)) (λ x y e same. next_so es fs x y same)) (both_give (both_done tt))
 
-  line_end_alike : (es fs : Row AnEntry) (p : ℕ) (t : Token) → Alike (SameEnd SameFlag) o (line_end_of o es p t) (line_end_of 0 fs p t)
+  line_end_alike : (es fs : Row AnEntry) (p : ℕ) (t : Token) → Alike (SameEnd SameFlag) d (line_end_of o es p t) (line_end_of u fs p t)
   line_end_alike es fs p tokens.Newline = both_give (same_end refl)
   line_end_alike es fs p tokens.End = both_give (same_end refl)
-  line_end_alike es fs p _ = both_stop (fault_moved o _ p)
+  line_end_alike es fs p _ = both_stop (fault_moved _ p)
 
-  end_so : (blank white : Bool) (x y : Row AnEntry × ℕ) → SameEnd Any x y → Alike (SameEnd SameFlag) o (end_of_line_at T o blank x.0 x.1) (end_of_line_at T 0 white y.0 y.1)
+  end_so : (blank white : Bool) (x y : Row AnEntry × ℕ) → SameEnd Any x y → Alike (SameEnd SameFlag) d (end_of_line_at T o blank x.0 x.1) (end_of_line_at T u white y.0 y.1)
   unfolding end_of_line_at
-  end_so blank white _ _ (same_end {x = es} {y = fs} {p = p} same) = line_end_alike (with_remark blank es (comment_at T o p)) (with_remark white fs (comment_at T 0 p)) (past_comment T p) (token_at T (past_comment T p))
+  end_so blank white _ _ (same_end {x = es} {y = fs} {p = p} same) = line_end_alike (with_remark blank es (comment_at T o p)) (with_remark white fs (comment_at T u p)) (past_comment T p) (token_at T (past_comment T p))
 
   -- a line goes the same way in each script
-  pub line_alike : (blank white : Bool) (p : ℕ) → p ≤ length T → Alike (SameEnd SameFlag) o (line_at T o blank p) (line_at T 0 white p)
+  pub line_alike : (blank white : Bool) (p : ℕ) → p ≤ length T → Alike (SameEnd SameFlag) d (line_at T o blank p) (line_at T u white p)
   unfolding line_at
   line_alike blank white p within =
-      alike_then (turns_alike (length T) (entry_step T o blank) (entry_step T 0 white) Any o (EntriesSo T o blank p) (EntriesEnd T o blank p) (entry_keeps T o blank p) (λ es fs q high any. next_alike blank white es fs q high) [] [] p within (omega arith, record { first = λ e. tt; all = tt }) tt)
+      alike_then (turns_alike (length T) (entry_step T o blank) (entry_step T u white) Any d (EntriesSo T o blank p) (EntriesEnd T o blank p) (entry_keeps T o blank p) (λ es fs q high any. next_alike blank white es fs q high) [] [] p within (omega arith, record { first = λ e. tt; all = tt }) tt)
       (λ x y e same. end_so blank white x y same)
