@@ -12,3 +12,4 @@ pub mod Scripts
 pub mod LineEnds
 pub mod LineKinds
 pub mod Verdict
+pub mod Answered
