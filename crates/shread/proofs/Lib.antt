@@ -13,3 +13,4 @@ pub mod LineEnds
 pub mod LineKinds
 pub mod Alike
 pub mod Verdict
+pub mod Answered

@@ -2,6 +2,7 @@
 ghost use Rattle.std.specs.Prelude.{◌≡◌, ◌+◌, ◌-◌, ◌≤◌, drop, length, IfOk, IfErr, IsOk};
 ghost use Rattle.shread.specs.Answers.{meter_of, raised, view_line, view_script};
 ghost use Rattle.shread.specs.Lines.{ALine, AScript, IsLine, IsOutcome};
+ghost use Rattle.shread.specs.Normal.{IsNormal};
 
 use crate::all_lines::script_from;
 use crate::fault::{Fault, ReadError};
@@ -63,6 +64,7 @@ impl Reader {
     ///
     /// A fault is part of the answer. Want of memory is the only error: the meter is then as before, and the reader can
     /// be used again. At the length of the source no memory is wanted.
+    #[tactic(auto, using(crate::proofs::Answered::line_answered))]
     pub fn read_line<S: Source>(&mut self, source: &S, at: usize) -> Result<Line, ReadError>
         requires { at ≤ length (S.bytes source.now) }
         // The answer is the line that the grammar has for the bytes from `at` on, and it has no other.
@@ -82,10 +84,12 @@ impl Reader {
     ///
     /// A fault is part of the answer. Want of memory is the only error: the meter is then as before, and the reader can
     /// be used again.
+    #[tactic(auto, using(crate::proofs::Answered::script_answered))]
     pub fn read_script<S: Source>(&mut self, source: &S) -> Result<Script, ReadError>
         // The answer is what the grammar has for the bytes, and it has nothing else.
         ensures outcome { IfOk result (λ script. IsOutcome (S.bytes source.now) (view_script script)) }
         ensures only { IfOk result (λ script. (a : AScript) → IsOutcome (S.bytes source.now) a → a ≡ view_script script) }
+        ensures normal { IfOk result (λ script. IsNormal (view_script script).entries) }
         ensures meter { IfOk result (λ script. meter_of self.new ≡ raised (meter_of self.old) (length (S.bytes source.now))) }
         ensures err { IfErr result (λ e. meter_of self.new ≡ meter_of self.old) }
     {

@@ -1,0 +1,8 @@
+use Rattle.shread.proofs.Answered.{script_alone, script_in_normal_form}
+use Rattle.shread.proofs.reader.Reader.read_script.Goals as goal
+
+pub returns-clause-only : goal.returns-clause-only
+returns-clause-only g c = script_alone (g.S.Source.bytes c.args.source.now) _ c.in_ok-script.ensures
+
+pub returns-clause-normal : goal.returns-clause-normal
+returns-clause-normal g c = script_in_normal_form (g.S.Source.bytes c.args.source.now) _ c.in_ok-script.ensures
