@@ -1,5 +1,5 @@
 -- The reading of a line goes the same way whatever was read before, and wherever its text begins: then its fault moves.
-use Rattle.std.proofs.Common.{◌≡◌, ℕ, ◌+◌, ◌≤◌, ◌<◌, Bool, true, false, cond, ◌&&◌, List, List as Row, [], ◌∷◌, ◌++◌, length, Result, Ok, Err, refl, sym, ap, subst, ◌∙◌, arith}
+use Rattle.std.proofs.Common.{◌≡◌, ℕ, ◌+◌, ◌≤◌, Bool, true, false, cond, ◌&&◌, List, List as Row, [], ◌∷◌, ◌++◌, length, Result, Ok, Err, refl, sym, ap, subst, ◌∙◌, arith}
 use Rattle.shread.specs.declared.fault.Fault.{Fault}
 use Rattle.shread.specs.declared.fault.FaultKind.{FaultKind}
 use Rattle.shread.specs.declared.fault.Stop.TheVariants.{Wrong}
@@ -9,7 +9,7 @@ use Rattle.shread.specs.Tree.{ASubst, AnItem, AnEntry, AnAndOr, entry, command}
 use Rattle.shread.specs.Bytes.{ends_word, past_blanks, token_at, begins_assignment}
 use Rattle.shread.specs.Words.{begins_piece, is_pid}
 use Rattle.shread.specs.Commands.{is_word, is_background, is_parted, separator_at, remark_place, comment_at, past_comment}
-use Rattle.shread.specs.Comes.{Read, fault, Step, again, done, step_if}
+use Rattle.shread.specs.Comes.{Read, Step, again, done, step_if}
 use Rattle.shread.specs.Lines.{is_empty, begins_command, with_remark}
 use Rattle.shread.specs.Reading.{◌>>=◌, turns, piece_step, word_at, assignment_step, argument_step, simple_at, pipeline_at, and_or_at, entry_at, entry_step, line_end_of, end_of_line_at, line_at}
 use Rattle.shread.proofs.Loops.{Keeps, turns_keep}

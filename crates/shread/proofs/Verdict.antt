@@ -1,15 +1,15 @@
 -- What a script and its lines say of its tree and of its first fault.
-use Rattle.std.proofs.Common.{◌≡◌, ℕ, ◌+◌, ◌-◌, ◌≤◌, ◌<◌, Bool, true, false, not, ◌&&◌, List, List as Row, [], ◌∷◌, ◌++◌, length, drop, Option, None, Some, Result, Ok, Err, refl, sym, ap, subst, ◌∙◌, arith}
+use Rattle.std.proofs.Common.{◌≡◌, ℕ, ◌+◌, ◌≤◌, ◌<◌, Bool, true, false, not, ◌&&◌, List, List as Row, [], ◌∷◌, length, drop, None, Some, Ok, Err, refl, sym, ap, subst, ◌∙◌, arith}
 use Rattle.std.proofs.lemmas.Bool.{and_parts}
 use Rattle.std.proofs.lemmas.List.{length-drop}
 use Rattle.shread.specs.declared.fault.Fault.{Fault}
-use Rattle.shread.specs.Tree.{Entries, AnEntry, entries_of}
-use Rattle.shread.specs.Comes.{Read, Step, again, done}
-use Rattle.shread.specs.Lines.{is_empty, ALine, AScript, AKind, IsLine, IsOutcome, FirstFault, blank_line, end_line, entries_line, faulty_line, kind_of}
+use Rattle.shread.specs.Tree.{Entries, AnEntry}
+use Rattle.shread.specs.Comes.{Read}
+use Rattle.shread.specs.Lines.{is_empty, ALine, AScript, IsLine, IsOutcome, FirstFault, end_line, entries_line, faulty_line, kind_of}
 use Rattle.shread.specs.Normal.{IsNormal}
 use Rattle.shread.specs.Reading.{turns, line_at, SoFar, script_next, script_step, nothing_yet, script_of, script_at, line_read_of, line_of_text, first_fault_from}
 use Rattle.shread.proofs.Alike.{moved, Alike, both_give, both_stop, SameEnd, same_end, SameStep, both_again, both_done, turns_alike, SameFlag, line_alike}
-use Rattle.shread.proofs.Progress.{ScriptSo, script_keeps, Within, LineEnd, line_within, IsGood, ScriptEnd, script_within, script_good}
+use Rattle.shread.proofs.Progress.{ScriptSo, script_keeps, Within, LineEnd, line_within, ScriptEnd, script_within, script_good}
 use Rattle.shread.proofs.Loops.{Keeps}
 use Rattle.shread.proofs.Turns.{turns_again, turns_done}
 use Rattle.shread.proofs.Scripts.{line_only, script_is, script_only}
