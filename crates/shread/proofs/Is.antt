@@ -32,7 +32,8 @@ module _ {X Y : Type 0} (r : Comes X) (k : X → Comes Y) (f : X → Result Y Fa
   then_some (Ok a) first rest = and_then first (rest a refl).some
   then_some (Err e) first rest = or_stops first
 
-  then_only : (x : Result X Fault) → ((y : Result X Fault) → r y → y ≡ x) → ((a : X) → x ≡ Ok a → Is (k a) (f a)) → (y : Result Y Fault) → Then r k y → y ≡ (x >>= f)
+  then_only : (x : Result X Fault) → ((y : Result X Fault) → r y → y ≡ x) → ((a : X) → x ≡ Ok a → Is (k a) (f a)) → (y : Result Y Fault) → Then r k y
+      → y ≡ (x >>= f)
   then_only (Ok a) one rest y (and_then {x = b} first second) =
       let is = one (Ok b) first in
       let same : b ≡ a = cc in
@@ -42,7 +43,8 @@ module _ {X Y : Type 0} (r : Comes X) (k : X → Comes Y) (f : X → Result Y Fa
   then_only (Err d) one rest y (or_stops {f = e} first) = let is = one (Err e) first in cc
 
 -- one part and then another
-pub is_then : {X Y : Type 0} {r : Comes X} {k : X → Comes Y} {f : X → Result Y Fault} {x : Result X Fault} → Is r x → ((a : X) → x ≡ Ok a → Is (k a) (f a)) → Is (Then r k) (x >>= f)
+pub is_then : {X Y : Type 0} {r : Comes X} {k : X → Comes Y} {f : X → Result Y Fault} {x : Result X Fault} → Is r x
+    → ((a : X) → x ≡ Ok a → Is (k a) (f a)) → Is (Then r k) (x >>= f)
 is_then {r = r} {k = k} {f = f} {x = x} first rest = record { some = then_some r k f x first.some rest; only = then_only r k f x first.only rest }
 
 -- ---- a test
@@ -59,5 +61,6 @@ module _ {X : Type 0} (r s : Comes X) (x y : Result X Fault) where
   when_only false if_true if_false z (fails is part) = (if_false refl).only z part
 
 -- one part where a test holds, and another where it does not
-pub is_when : {X : Type 0} {test : Bool} {r s : Comes X} {x y : Result X Fault} → (test ≡ true → Is r x) → (test ≡ false → Is s y) → Is (when test r s) (cond test x y)
+pub is_when : {X : Type 0} {test : Bool} {r s : Comes X} {x y : Result X Fault} → (test ≡ true → Is r x) → (test ≡ false → Is s y)
+    → Is (when test r s) (cond test x y)
 is_when {test = test} {r = r} {s = s} {x = x} {y = y} if_true if_false = record { some = when_some r s x y test if_true if_false; only = when_only r s x y test if_true if_false }

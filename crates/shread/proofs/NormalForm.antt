@@ -9,6 +9,9 @@ pub record NormalRow (is : Row AnItem) : Type 0 where
   pub first : FirstNotBroken (items_of is)
   pub all : NormalItems (items_of is)
 
+pub no_items : NormalRow []
+no_items = record { first = tt; all = tt }
+
 items_more : (is : Row AnItem) (i : AnItem) → NormalItems (items_of is) → NormalItem i → NormalItems (items_of (is ++ i ∷ []))
 items_more [] i all one = (one, tt)
 items_more (j ∷ is) i all one = (all.0, items_more is i all.1 one)
@@ -26,17 +29,22 @@ pub record NormalLine (blank : Bool) (es : Row AnEntry) : Type 0 where
   pub first : blank ≡ false → FirstNotBlank (entries_of es)
   pub all : NormalEntries (entries_of es)
 
+pub no_entries : (blank : Bool) → NormalLine blank []
+no_entries blank = record { first = λ e. tt; all = tt }
+
 -- two rows, one behind the other
 pub entries_join : (es ls : Row AnEntry) → NormalEntries (entries_of es) → NormalEntries (entries_of ls) → NormalEntries (entries_of (es ++ ls))
 entries_join [] ls all more = more
 entries_join (e ∷ es) ls all more = (all.0, entries_join es ls all.1 more)
 
-first_entry : (blank : Bool) (es : Row AnEntry) (e : AnEntry) → (blank ≡ false → FirstNotBlank (entries_of es)) → is_blank_entry e ≡ (blank && is_empty es) → blank ≡ false → FirstNotBlank (entries_of (es ++ e ∷ []))
+first_entry : (blank : Bool) (es : Row AnEntry) (e : AnEntry) → (blank ≡ false → FirstNotBlank (entries_of es))
+    → is_blank_entry e ≡ (blank && is_empty es) → blank ≡ false → FirstNotBlank (entries_of (es ++ e ∷ []))
 first_entry blank [] e first is none = is ∙ rw none refl
 first_entry blank (x ∷ es) e first is none = first none
 
 -- one more entry of a line
-pub line_more : (blank : Bool) (es : Row AnEntry) (e : AnEntry) → NormalLine blank es → NormalEntry e → is_blank_entry e ≡ (blank && is_empty es) → NormalLine blank (es ++ e ∷ [])
+pub line_more : (blank : Bool) (es : Row AnEntry) (e : AnEntry) → NormalLine blank es → NormalEntry e → is_blank_entry e ≡ (blank && is_empty es)
+    → NormalLine blank (es ++ e ∷ [])
 line_more blank es e line one is = record { first = first_entry blank es e line.first is; all = entries_join es (e ∷ []) line.all (one, tt) }
 
 and_false : (b : Bool) → (b && false) ≡ false
@@ -44,6 +52,7 @@ and_false true = refl
 and_false false = refl
 
 -- one more line of a script, whose first entry may be blank only where one stands before it
-pub script_more : (gap : Bool) (es ls : Row AnEntry) → IsNormal (entries_of es) → NormalLine (gap && not (is_empty es)) ls → IsNormal (entries_of (es ++ ls))
+pub script_more : (gap : Bool) (es ls : Row AnEntry) → IsNormal (entries_of es) → NormalLine (gap && not (is_empty es)) ls
+    → IsNormal (entries_of (es ++ ls))
 script_more gap [] ls list line = (line.first (and_false gap), line.all)
 script_more gap (e ∷ es) ls list line = (list.0, entries_join (e ∷ es) ls list.1 line.all)

@@ -89,7 +89,8 @@ line_end_high T p within = past_high (λ b. not (is_newline b)) T p within
 pub before_blanks_high : (T : List ℕ) (q : ℕ) → before_blanks T q ≤ q
 unfolding before_blanks
 before_blanks_high T zero = omega arith
-before_blanks_high T (suc q) = cond_both (stands_in (in_class classes.Blank) T q) _ _ (λ n. n ≤ suc q) (λ e. omega (arith, before_blanks_high T q)) (λ e. omega arith)
+before_blanks_high T (suc q) =
+    cond_both (stands_in (in_class classes.Blank) T q) _ _ (λ n. n ≤ suc q) (λ e. omega (arith, before_blanks_high T q)) (λ e. omega arith)
 
 -- a comment
 pub comment_low : (T : List ℕ) (p : ℕ) → p ≤ past_comment T p
@@ -112,7 +113,9 @@ unfolding token_at
 token_low T p other = token_low_by T p (slice_get T p) refl other
 
 -- the tokens that a byte may begin, and what it is not where it begins a number or a word
-token_by : (P : Token → Type 0) (T : List ℕ) (p b : ℕ) → (is_newline b ≡ true → P tokens.Newline) → P tokens.Semicolon → P tokens.Ampersand → P tokens.Operator → P tokens.Comment → (is_newline b ≡ false → is_operator b ≡ false → P tokens.Number × P tokens.Word) → P (token_of T p (Some b))
+token_by : (P : Token → Type 0) (T : List ℕ) (p b : ℕ) → (is_newline b ≡ true → P tokens.Newline) → P tokens.Semicolon → P tokens.Ampersand
+    → P tokens.Operator → P tokens.Comment → (is_newline b ≡ false → is_operator b ≡ false → P tokens.Number × P tokens.Word)
+    → P (token_of T p (Some b))
 token_by P T p b newline semicolon ampersand operator comment other = cond_both (is_newline b) _ _ P newline
     (λ n. cond_both (b == 59) _ _ P (λ e. cond_both (stands T (p + 1) 59) _ _ P (λ f. operator) (λ f. semicolon))
     (λ e. cond_both (b == 38) _ _ P (λ f. cond_both (stands T (p + 1) 38) _ _ P (λ g. operator) (λ g. ampersand))
@@ -122,7 +125,9 @@ token_by P T p b newline semicolon ampersand operator comment other = cond_both 
 
 newline_by : (T : List ℕ) (p : ℕ) (b : Option ℕ) → token_of T p b ≡ tokens.Newline → is_byte b 10 ≡ true
 newline_by T p None e = absurd cc
-newline_by T p (Some b) e = token_by (λ t. t ≡ tokens.Newline → is_newline b ≡ true) T p b (λ is f. is) (λ f. absurd cc) (λ f. absurd cc) (λ f. absurd cc) (λ f. absurd cc) (λ n o. (λ f. absurd cc, λ f. absurd cc)) e
+newline_by T p (Some b) e =
+    token_by (λ t. t ≡ tokens.Newline → is_newline b ≡ true) T p b (λ is f. is) (λ f. absurd cc) (λ f. absurd cc) (λ f. absurd cc) (λ f. absurd cc)
+    (λ n o. (λ f. absurd cc, λ f. absurd cc)) e
 
 -- a newline token is a newline
 pub newline_stands : (T : List ℕ) (p : ℕ) → token_at T p ≡ tokens.Newline → stands T p 10 ≡ true
@@ -131,7 +136,9 @@ newline_stands T p e = newline_by T p (slice_get T p) e
 
 word_by : (T : List ℕ) (p : ℕ) (b : Option ℕ) → passes is_blank b ≡ false → is_word (token_of T p b) ≡ true → ends b ≡ false
 word_by T p None blank e = absurd cc
-word_by T p (Some b) blank e = token_by (λ t. is_word t ≡ true → ends (Some b) ≡ false) T p b (λ is f. absurd cc) (λ f. absurd cc) (λ f. absurd cc) (λ f. absurd cc) (λ f. absurd cc) (λ n o. (λ f. absurd cc, λ f. or_from _ _ (or_from _ _ blank n) o)) e
+word_by T p (Some b) blank e =
+    token_by (λ t. is_word t ≡ true → ends (Some b) ≡ false) T p b (λ is f. absurd cc) (λ f. absurd cc) (λ f. absurd cc) (λ f. absurd cc)
+    (λ f. absurd cc) (λ n o. (λ f. absurd cc, λ f. or_from _ _ (or_from _ _ blank n) o)) e
 
 -- where a word begins none ends
 pub word_begins : (T : List ℕ) (p : ℕ) → stands_in (in_class classes.Blank) T p ≡ false → is_word (token_at T p) ≡ true → ends_word T p ≡ false
@@ -153,7 +160,8 @@ assignment_begins T p e = letter_by (slice_get T p) (and_parts _ _ e).0
 
 -- two words do not end where only one does
 pub word_longer : (T : List ℕ) (p q : ℕ) → p ≤ q → ends_word T p ≡ false → ends_word T q ≡ true → p < q
-word_longer T p q low here there = ⊎_elim (λ lt. lt) (λ ge. let same : q ≡ p = omega (arith, ge) in absurd (both_ways (ends_word T p) here (rw same at there))) (cases_lt p q)
+word_longer T p q low here there =
+    ⊎_elim (λ lt. lt) (λ ge. let same : q ≡ p = omega (arith, ge) in absurd (both_ways (ends_word T p) here (rw same at there))) (cases_lt p q)
 
 -- `$$` is two bytes
 pub pid_low : (T : List ℕ) (p : ℕ) → is_pid T p ≡ true → p + 1 < length T
@@ -179,7 +187,8 @@ separator_low T p = cond_both (is_parted (separator_at T p)) _ _ (λ n. p ≤ n)
 
 pub separator_high : (T : List ℕ) (p : ℕ) → p ≤ length T → past_separator T p ≤ length T
 unfolding past_separator
-separator_high T p within = cond_both (is_parted (separator_at T p)) _ _ (λ n. n ≤ length T) (λ parted. omega (arith, separator_byte T p parted)) (λ none. within)
+separator_high T p within =
+    cond_both (is_parted (separator_at T p)) _ _ (λ n. n ≤ length T) (λ parted. omega (arith, separator_byte T p parted)) (λ none. within)
 
 -- a separator leads on
 pub separator_onward : (T : List ℕ) (p : ℕ) → is_parted (separator_at T p) ≡ true → p < past_separator T p

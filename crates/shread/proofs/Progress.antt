@@ -15,7 +15,7 @@ use Rattle.shread.specs.Lines.{is_empty, begins_command, with_remark}
 use Rattle.shread.specs.Normal.{is_blank_entry, IsNormal, NormalAndOr, NormalCommand, NormalEntry, NormalPipeline, NormalSubsts, NormalWord}
 use Rattle.shread.specs.Reading.{◌>>=◌, turns, piece_step, word_at, assignment_step, argument_step, simple_at, pipeline_at, and_or_at, entry_at, entry_step, line_end_of, end_of_line_at, line_at, SoFar, script_next, script_step, nothing_yet, script_of}
 use Rattle.shread.proofs.Loops.{Keeps, turns_keep}
-use Rattle.shread.proofs.NormalForm.{NormalRow, row_more, NormalLine, line_more, script_more}
+use Rattle.shread.proofs.NormalForm.{NormalRow, no_items, row_more, NormalLine, no_entries, line_more, script_more}
 use Rattle.shread.proofs.Places.{word_low, word_longer, pid_low, blanks_low, blanks_high, past_stops, word_begins, assignment_begins, newline_stands, stands_low, separator_low, separator_high, separator_onward, comment_low, comment_high}
 
 -- What is read from p on ends not before p, nor past the end of the text, and P holds of it and of the place behind it.
@@ -25,7 +25,8 @@ Within P o len p (Ok (a, q)) = (p ≤ q) × (q ≤ len) × P a q
 Within P o len p (Err f) = f.at ≤ o + len
 
 -- one part and then another, or a fault
-pub within_then : {X Y : Type 0} (P : X → ℕ → Type 0) (o len p : ℕ) (x : Read X) (g : X × ℕ → Result Y Fault) (S : Result Y Fault → Type 0) → Within P o len p x → ((f : Fault) → f.at ≤ o + len → S (Err f)) → ((a : X) (q : ℕ) → p ≤ q → q ≤ len → P a q → S (g (a, q))) → S (x >>= g)
+pub within_then : {X Y : Type 0} (P : X → ℕ → Type 0) (o len p : ℕ) (x : Read X) (g : X × ℕ → Result Y Fault) (S : Result Y Fault → Type 0)
+    → Within P o len p x → ((f : Fault) → f.at ≤ o + len → S (Err f)) → ((a : X) (q : ℕ) → p ≤ q → q ≤ len → P a q → S (g (a, q))) → S (x >>= g)
 within_then P o len p (Ok (a, q)) g S first stops rest = rest a q first.0 first.1 first.2
 within_then P o len p (Err f) g S first stops rest = stops f first
 
@@ -39,7 +40,8 @@ module _ (T : List ℕ) (o : ℕ) where
   abbrev pub PiecesEnd : ℕ → Read (Row ASubst) → Type 0
   PiecesEnd s = Within (λ ss q. NormalSubsts (substs_of ss) × (ends_word T q ≡ true)) o (length T) s
 
-  pub piece_keeps : (s : ℕ) (ss : Row ASubst) (p : ℕ) → p ≤ length T → PiecesSo s ss p → Keeps (length T) (PiecesSo s) (PiecesEnd s) p (piece_step T o ss p)
+  pub piece_keeps : (s : ℕ) (ss : Row ASubst) (p : ℕ) → p ≤ length T → PiecesSo s ss p
+      → Keeps (length T) (PiecesSo s) (PiecesEnd s) p (piece_step T o ss p)
   unfolding piece_step
   piece_keeps s ss p within so =
       let P = Keeps (length T) (PiecesSo s) (PiecesEnd s) p in
@@ -48,11 +50,14 @@ module _ (T : List ℕ) (o : ℕ) where
       (λ f. cond_both (is_pid T p) _ _ P (λ g. (omega arith, omega (arith, pid_low T p g), (omega (arith, so.0), so.1)))
       (λ g. (omega arith, omega (arith, word_low T p e), (omega (arith, so.0), so.1)))))
 
+  pieces_within : (p : ℕ) → p ≤ length T → PiecesEnd p (turns (length T) (piece_step T o) [] p)
+  pieces_within p within = turns_keep (length T) (piece_step T o) (PiecesSo p) (PiecesEnd p) (piece_keeps p) [] p within (omega arith, tt)
+
   -- a word moves to the right where none ends
   pub word_within : (p : ℕ) → p ≤ length T → Within (λ w q. NormalWord w × (ends_word T p ≡ false → p < q)) o (length T) p (word_at T o p)
   unfolding word_at
   word_within p within =
-      within_then _ o (length T) p _ _ (Within _ o (length T) p) (turns_keep (length T) (piece_step T o) (PiecesSo p) (PiecesEnd p) (piece_keeps p) [] p within (omega arith, tt)) (λ f high. high)
+      within_then _ o (length T) p _ _ (Within _ o (length T) p) (pieces_within p within) (λ f high. high)
       (λ ss q low high all. (low, high, (all.0, λ e. word_longer T p q low e all.1)))
 
   -- ---- simple commands
@@ -64,7 +69,8 @@ module _ (T : List ℕ) (o : ℕ) where
   abbrev pub ItemsEnd : ℕ → Read (Row AnItem) → Type 0
   ItemsEnd s = Within (λ is q. NormalRow is) o (length T) s
 
-  pub assignment_keeps : (s : ℕ) (is : Row AnItem) (p : ℕ) → p ≤ length T → ItemsSo s is p → Keeps (length T) (ItemsSo s) (ItemsEnd s) p (assignment_step T o is p)
+  pub assignment_keeps : (s : ℕ) (is : Row AnItem) (p : ℕ) → p ≤ length T → ItemsSo s is p
+      → Keeps (length T) (ItemsSo s) (ItemsEnd s) p (assignment_step T o is p)
   unfolding assignment_step
   assignment_keeps s is p within so =
       let P = Keeps (length T) (ItemsSo s) (ItemsEnd s) p in
@@ -72,10 +78,12 @@ module _ (T : List ℕ) (o : ℕ) where
       let low = blanks_low T p in
       cond_both (begins_assignment T b) _ _ P
       (λ e. within_then _ o (length T) b _ _ P (word_within b (blanks_high T p within)) (λ f high. high)
-      (λ w q onward high good. let lt : b < q = good.1 (assignment_begins T b e) in (omega arith, high, (omega (arith, so.0), row_more is (item false (assign w)) so.1 good.0 refl))))
+      (λ w q onward high good. let lt : b < q = good.1 (assignment_begins T b e) in
+      (omega arith, high, (omega (arith, so.0), row_more is (item false (assign w)) so.1 good.0 refl))))
       (λ e. (so.0, within, so.1))
 
-  pub argument_keeps : (s : ℕ) (is : Row AnItem) (p : ℕ) → p ≤ length T → ItemsSo s is p → Keeps (length T) (ItemsSo s) (ItemsEnd s) p (argument_step T o is p)
+  pub argument_keeps : (s : ℕ) (is : Row AnItem) (p : ℕ) → p ≤ length T → ItemsSo s is p
+      → Keeps (length T) (ItemsSo s) (ItemsEnd s) p (argument_step T o is p)
   unfolding argument_step
   argument_keeps s is p within so =
       let P = Keeps (length T) (ItemsSo s) (ItemsEnd s) p in
@@ -83,27 +91,36 @@ module _ (T : List ℕ) (o : ℕ) where
       let low = blanks_low T p in
       cond_both (is_word (token_at T b)) _ _ P
       (λ e. within_then _ o (length T) b _ _ P (word_within b (blanks_high T p within)) (λ f high. high)
-      (λ w q onward high good. let lt : b < q = good.1 (word_begins T b (past_stops _ T p) e) in (omega arith, high, (omega (arith, so.0), row_more is (item false (argument w)) so.1 good.0 refl))))
+      (λ w q onward high good. let lt : b < q = good.1 (word_begins T b (past_stops _ T p) e) in
+      (omega arith, high, (omega (arith, so.0), row_more is (item false (argument w)) so.1 good.0 refl))))
       (λ e. (so.0, within, so.1))
 
   pub assignments_within : (s p : ℕ) → s ≤ p → p ≤ length T → ItemsEnd s (turns (length T) (assignment_step T o) [] p)
-  assignments_within s p low within = turns_keep (length T) (assignment_step T o) (ItemsSo s) (ItemsEnd s) (assignment_keeps s) [] p within (low, record { first = tt; all = tt })
+  assignments_within s p low within =
+      turns_keep (length T) (assignment_step T o) (ItemsSo s) (ItemsEnd s) (assignment_keeps s) [] p within (low, no_items)
+
+  arguments_within : (s : ℕ) (is : Row AnItem) (p : ℕ) → p ≤ length T → ItemsSo s is p → ItemsEnd s (turns (length T) (argument_step T o) is p)
+  arguments_within s = turns_keep (length T) (argument_step T o) (ItemsSo s) (ItemsEnd s) (argument_keeps s)
 
   pub simple_within : (p : ℕ) → p ≤ length T → Within (λ c q. NormalCommand c) o (length T) p (simple_at T o p)
   unfolding simple_at
   simple_within p within =
       let S = Within (λ c q. NormalCommand c) o (length T) p in
       within_then _ o (length T) p _ _ S (assignments_within p p (omega arith) within) (λ f high. high)
-      (λ is q low high row. within_then _ o (length T) p _ _ S (turns_keep (length T) (argument_step T o) (ItemsSo p) (ItemsEnd p) (argument_keeps p) is q high (low, row)) (λ f high. high)
+      (λ is q low high row. within_then _ o (length T) p _ _ S (arguments_within p is q high (low, row)) (λ f high. high)
       (λ js r onward inside all. (onward, inside, (all.first, all.all))))
 
   pub pipeline_within : (p : ℕ) → p ≤ length T → Within (λ l q. NormalPipeline l) o (length T) p (pipeline_at T o p)
   unfolding pipeline_at
-  pipeline_within p within = within_then _ o (length T) p _ _ (Within (λ l q. NormalPipeline l) o (length T) p) (simple_within p within) (λ f high. high) (λ c q low high good. (low, high, (good, tt)))
+  pipeline_within p within =
+      within_then _ o (length T) p _ _ (Within (λ l q. NormalPipeline l) o (length T) p) (simple_within p within) (λ f high. high)
+      (λ c q low high good. (low, high, (good, tt)))
 
   pub and_or_within : (p : ℕ) → p ≤ length T → Within (λ a q. NormalAndOr a) o (length T) p (and_or_at T o p)
   unfolding and_or_at
-  and_or_within p within = within_then _ o (length T) p _ _ (Within (λ a q. NormalAndOr a) o (length T) p) (pipeline_within p within) (λ f high. high) (λ l q low high good. (low, high, (good, tt)))
+  and_or_within p within =
+      within_then _ o (length T) p _ _ (Within (λ a q. NormalAndOr a) o (length T) p) (pipeline_within p within) (λ f high. high)
+      (λ l q low high good. (low, high, (good, tt)))
 
   -- ---- entries and lines
 
@@ -116,7 +133,8 @@ module _ (T : List ℕ) (o : ℕ) where
       (omega (arith, comment_low T (past_blanks T b)), comment_high T (past_blanks T b) high)
 
   -- an entry that a separator follows moves to the right
-  pub entry_within : (blank : Bool) (p : ℕ) → p ≤ length T → Within (λ e q. NormalEntry e.0 × (is_blank_entry e.0 ≡ blank) × (e.1 ≡ true → p < q)) o (length T) p (entry_at T o blank p)
+  pub entry_within : (blank : Bool) (p : ℕ) → p ≤ length T
+      → Within (λ e q. NormalEntry e.0 × (is_blank_entry e.0 ≡ blank) × (e.1 ≡ true → p < q)) o (length T) p (entry_at T o blank p)
   unfolding entry_at
   entry_within blank p within = within_then _ o (length T) p _ _ (Within _ o (length T) p) (and_or_within p within) (λ f high. high)
       (λ a q low high good.
@@ -131,11 +149,13 @@ module _ (T : List ℕ) (o : ℕ) where
   abbrev pub EntriesEnd : Bool → ℕ → Read (Row AnEntry) → Type 0
   EntriesEnd blank s = Within (λ es q. NormalLine blank es) o (length T) s
 
-  entry_goes_on : (blank : Bool) (s : ℕ) (es : Row AnEntry) (p q : ℕ) (parted : Bool) → s ≤ q → q ≤ length T → (parted ≡ true → p < q) → NormalLine blank es → Keeps (length T) (EntriesSo blank s) (EntriesEnd blank s) p (Ok (step_if parted es q))
+  entry_goes_on : (blank : Bool) (s : ℕ) (es : Row AnEntry) (p q : ℕ) (parted : Bool) → s ≤ q → q ≤ length T → (parted ≡ true → p < q)
+      → NormalLine blank es → Keeps (length T) (EntriesSo blank s) (EntriesEnd blank s) p (Ok (step_if parted es q))
   entry_goes_on blank s es p q true low high onward line = (onward refl, high, (low, line))
   entry_goes_on blank s es p q false low high onward line = (low, high, line)
 
-  pub entry_keeps : (blank : Bool) (s : ℕ) (es : Row AnEntry) (p : ℕ) → p ≤ length T → EntriesSo blank s es p → Keeps (length T) (EntriesSo blank s) (EntriesEnd blank s) p (entry_step T o blank es p)
+  pub entry_keeps : (blank : Bool) (s : ℕ) (es : Row AnEntry) (p : ℕ) → p ≤ length T → EntriesSo blank s es p
+      → Keeps (length T) (EntriesSo blank s) (EntriesEnd blank s) p (entry_step T o blank es p)
   unfolding entry_step
   entry_keeps blank s es p within so =
       let P = Keeps (length T) (EntriesSo blank s) (EntriesEnd blank s) p in
@@ -144,7 +164,8 @@ module _ (T : List ℕ) (o : ℕ) where
       let high = blanks_high T p within in
       cond_both (begins_command T b) _ _ P
       (λ e. within_then _ o (length T) b _ _ P (entry_within (blank && is_empty es) b high) (λ f high. high)
-      (λ x q onward inside good. entry_goes_on blank s (es ++ x.0 ∷ []) p q x.1 (omega (arith, so.0)) inside (λ parted. let lt = good.2 parted in omega arith) (line_more blank es x.0 so.1 good.0 good.1)))
+      (λ x q onward inside good. entry_goes_on blank s (es ++ x.0 ∷ []) p q x.1 (omega (arith, so.0)) inside
+      (λ parted. let lt = good.2 parted in omega arith) (line_more blank es x.0 so.1 good.0 good.1)))
       (λ e. (omega (arith, so.0), high, so.1))
 
   remark_keeps : (blank : Bool) (es : Row AnEntry) (c : Option Comment) → NormalLine blank es → NormalLine blank (with_remark blank es c)
@@ -155,7 +176,8 @@ module _ (T : List ℕ) (o : ℕ) where
   abbrev pub LineEnd : Bool → ℕ → Row AnEntry × Bool → ℕ → Type 0
   LineEnd blank s x q = NormalLine blank x.0 × (x.1 ≡ true → (s < q) × (stands T (q - 1) 10 ≡ true))
 
-  line_end_by : (blank : Bool) (s : ℕ) (es : Row AnEntry) (p : ℕ) (t : Token) → token_at T p ≡ t → s ≤ p → p ≤ length T → NormalLine blank es → Within (LineEnd blank s) o (length T) s (line_end_of o es p t)
+  line_end_by : (blank : Bool) (s : ℕ) (es : Row AnEntry) (p : ℕ) (t : Token) → token_at T p ≡ t → s ≤ p → p ≤ length T → NormalLine blank es
+      → Within (LineEnd blank s) o (length T) s (line_end_of o es p t)
   line_end_by blank s es p tokens.Newline is low within line =
       let stands_here = newline_stands T p is in
       let lt = stands_low T p 10 stands_here in
@@ -164,13 +186,23 @@ module _ (T : List ℕ) (o : ℕ) where
   line_end_by blank s es p tokens.End is low within line = (low, within, (line, λ e. absurd cc))
   line_end_by blank s es p _ is low within line = omega (arith, within)
 
-  end_within : (blank : Bool) (s : ℕ) (es : Row AnEntry) (p : ℕ) → s ≤ p → p ≤ length T → NormalLine blank es → Within (LineEnd blank s) o (length T) s (end_of_line_at T o blank es p)
+  end_within : (blank : Bool) (s : ℕ) (es : Row AnEntry) (p : ℕ) → s ≤ p → p ≤ length T → NormalLine blank es
+      → Within (LineEnd blank s) o (length T) s (end_of_line_at T o blank es p)
   unfolding end_of_line_at
-  end_within blank s es p low within line = line_end_by blank s _ (past_comment T p) _ refl (omega (arith, comment_low T p)) (comment_high T p within) (remark_keeps blank es (comment_at T o p) line)
+  end_within blank s es p low within line =
+      line_end_by blank s _ (past_comment T p) _ refl (omega (arith, comment_low T p)) (comment_high T p within)
+      (remark_keeps blank es (comment_at T o p) line)
 
+  entries_within : (blank : Bool) (p : ℕ) → p ≤ length T → EntriesEnd blank p (turns (length T) (entry_step T o blank) [] p)
+  entries_within blank p within =
+      turns_keep (length T) (entry_step T o blank) (EntriesSo blank p) (EntriesEnd blank p) (entry_keeps blank p) [] p within
+      (omega arith, no_entries blank)
+
+  -- a line
   pub line_within : (blank : Bool) (p : ℕ) → p ≤ length T → Within (LineEnd blank p) o (length T) p (line_at T o blank p)
   unfolding line_at
-  line_within blank p within = within_then _ o (length T) p _ _ (Within (LineEnd blank p) o (length T) p) (turns_keep (length T) (entry_step T o blank) (EntriesSo blank p) (EntriesEnd blank p) (entry_keeps blank p) [] p within (omega arith, record { first = λ e. tt; all = tt })) (λ f high. high)
+  line_within blank p within =
+      within_then _ o (length T) p _ _ (Within (LineEnd blank p) o (length T) p) (entries_within blank p within) (λ f high. high)
       (λ es q low high line. end_within blank p es q low high line)
 
 -- ---- scripts
@@ -187,7 +219,9 @@ module _ (B : List ℕ) where
   ScriptEnd (Ok (s, q)) = IsGood (entries_of s.entries) s.wrong
   ScriptEnd (Err f) = ⊥
 
-  pub next_keeps : (s : SoFar) (p : ℕ) (x : Read (Row AnEntry × Bool)) → p ≤ length B → ScriptSo s p → Within (LineEnd (drop p B) p (s.gap && not (is_empty s.entries)) 0) p (length (drop p B)) 0 x → Keeps (length B) ScriptSo ScriptEnd p (script_next s p x)
+  pub next_keeps : (s : SoFar) (p : ℕ) (x : Read (Row AnEntry × Bool)) → p ≤ length B → ScriptSo s p
+      → Within (LineEnd (drop p B) p (s.gap && not (is_empty s.entries)) 0) p (length (drop p B)) 0 x
+      → Keeps (length B) ScriptSo ScriptEnd p (script_next s p x)
   next_keeps s p (Err f) within so high = (so.0, λ g is. let same : f ≡ g = cc in rw (← same) (omega (arith, length-drop p B)))
   next_keeps s p (Ok ((ls, true), q)) within so line =
       let last = (line.2.1 refl).0 in

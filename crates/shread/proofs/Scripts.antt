@@ -45,14 +45,18 @@ module _ (B : List ℕ) where
   abbrev Ends : Read SoFar → Type 0
   Ends x = IsOutcome B (script_of x)
 
-  next_leads : (s : SoFar) (p : ℕ) (x : Read (Row AnEntry × Bool)) → Keeps (length B) (ScriptSo B) (ScriptEnd B) p (script_next s p x) → s.wrong ≡ None → a_line (drop p B) p (s.gap && not (is_empty s.entries)) 0 x → ((y : AScript) → Lines B s.entries s.gap p y → IsOutcome B y) → Keeps (length B) Leads Ends p (script_next s p x)
+  next_leads : (s : SoFar) (p : ℕ) (x : Read (Row AnEntry × Bool)) → Keeps (length B) (ScriptSo B) (ScriptEnd B) p (script_next s p x)
+      → s.wrong ≡ None → a_line (drop p B) p (s.gap && not (is_empty s.entries)) 0 x → ((y : AScript) → Lines B s.entries s.gap p y → IsOutcome B y)
+      → Keeps (length B) Leads Ends p (script_next s p x)
   next_leads s p (Err f) kept none part before = before _ (faulty part)
   next_leads s p (Ok ((ls, true), q)) kept none part before = (kept.0, kept.1, (kept.2, λ y rest. before y (line_ended part rest)))
   next_leads s p (Ok ((ls, false), q)) kept none part before = rw none (before _ (last_line part))
 
   step_leads : (s : SoFar) (p : ℕ) → p ≤ length B → Leads s p → Keeps (length B) Leads Ends p (script_step B s p)
   unfolding script_step
-  step_leads s p within so = next_leads s p _ (next_keeps B s p _ within so.0 (line_within (drop p B) p (s.gap && not (is_empty s.entries)) 0 (omega arith))) so.0.1 (is_line_after s.entries s.gap p).some so.1
+  step_leads s p within so =
+      next_leads s p _ (next_keeps B s p _ within so.0 (line_within (drop p B) p (s.gap && not (is_empty s.entries)) 0 (omega arith))) so.0.1
+      (is_line_after s.entries s.gap p).some so.1
 
   -- the script that is computed is an outcome
   pub script_is : IsOutcome B (script_at B)
@@ -62,23 +66,30 @@ module _ (B : List ℕ) where
   abbrev so_far : Row AnEntry → Bool → SoFar
   so_far es gap = record { entries = es; gap = gap; wrong = None }
 
-  step_is : (es : Row AnEntry) (gap : Bool) (p : ℕ) (x : Read (Row AnEntry × Bool)) → a_line (drop p B) p (gap && not (is_empty es)) 0 x → script_step B (so_far es gap) p ≡ script_next (so_far es gap) p x
+  step_is : (es : Row AnEntry) (gap : Bool) (p : ℕ) (x : Read (Row AnEntry × Bool)) → a_line (drop p B) p (gap && not (is_empty es)) 0 x
+      → script_step B (so_far es gap) p ≡ script_next (so_far es gap) p x
   unfolding script_step
   step_is es gap p x part = ap (script_next (so_far es gap) p) (sym ((is_line_after es gap p).only x part))
 
-  onward : (p q : ℕ) (es ls : Row AnEntry) (gap : Bool) → p ≤ length B → a_line (drop p B) p (gap && not (is_empty es)) 0 (Ok ((ls, true), q)) → (p < p + q) × (p + q ≤ length B)
+  onward : (p q : ℕ) (es ls : Row AnEntry) (gap : Bool) → p ≤ length B → a_line (drop p B) p (gap && not (is_empty es)) 0 (Ok ((ls, true), q))
+      → (p < p + q) × (p + q ≤ length B)
   onward p q es ls gap within part =
-      let line = subst (Within (LineEnd (drop p B) p (gap && not (is_empty es)) 0) p (length (drop p B)) 0) (sym ((is_line_after es gap p).only _ part)) (line_within (drop p B) p (gap && not (is_empty es)) 0 (omega arith)) in
+      let blank = gap && not (is_empty es) in
+      let P = Within (LineEnd (drop p B) p blank 0) p (length (drop p B)) 0 in
+      let line = subst P (sym ((is_line_after es gap p).only _ part)) (line_within (drop p B) p blank 0 (omega arith)) in
       let last = (line.2.1 refl).0 in
       (omega arith, omega (arith, within, line.1, length-drop p B))
 
-  lines_only : (es : Row AnEntry) (gap : Bool) (p : ℕ) (y : AScript) → Lines B es gap p y → p ≤ length B → y ≡ script_of (turns (length B) (script_step B) (so_far es gap) p)
+  lines_only : (es : Row AnEntry) (gap : Bool) (p : ℕ) (y : AScript) → Lines B es gap p y → p ≤ length B
+      → y ≡ script_of (turns (length B) (script_step B) (so_far es gap) p)
   lines_only es gap p y (line_ended {ls = ls} {q = q} part rest) within =
       let on = onward p q es ls gap within part in
       lines_only (es ++ ls) (is_empty ls) (p + q) y rest on.1
-      ∙ ap script_of (sym (turns_again (length B) (script_step B) (so_far es gap) (so_far (es ++ ls) (is_empty ls)) p (p + q) (step_is es gap p _ part) on.0 on.1))
-  lines_only es gap p y (last_line {ls = ls} {q = q} part) within = ap script_of (sym (turns_done (length B) (script_step B) (so_far es gap) _ p _ (step_is es gap p _ part)))
-  lines_only es gap p y (faulty part) within = ap script_of (sym (turns_done (length B) (script_step B) (so_far es gap) _ p _ (step_is es gap p _ part)))
+      ∙ ap script_of (sym (turns_again (length B) (script_step B) (so_far es gap) _ p (p + q) (step_is es gap p _ part) on.0 on.1))
+  lines_only es gap p y (last_line {ls = ls} {q = q} part) within =
+      ap script_of (sym (turns_done (length B) (script_step B) (so_far es gap) _ p _ (step_is es gap p _ part)))
+  lines_only es gap p y (faulty part) within =
+      ap script_of (sym (turns_done (length B) (script_step B) (so_far es gap) _ p _ (step_is es gap p _ part)))
 
   -- and there is no other
   pub script_only : (y : AScript) → IsOutcome B y → y ≡ script_at B

@@ -24,21 +24,24 @@ script_normal B = (script_good B _ (script_within B 0 (omega arith))).0
 -- a fault of a script is not past its end
 pub fault_within : (B : List ℕ) (s : AScript) (f : Fault) → IsOutcome B s → s.wrong ≡ Some f → f.at ≤ length B
 unfolding script_at
-fault_within B s f is wrong = (script_good B _ (script_within B 0 (omega arith))).1 f (sym (ap (λ (y : AScript). y.wrong) (script_only B s is)) ∙ wrong)
+fault_within B s f is wrong =
+    (script_good B _ (script_within B 0 (omega arith))).1 f (sym (ap (λ (y : AScript). y.wrong) (script_only B s is)) ∙ wrong)
 
 not_faulty : (es : Row AnEntry) (newline : Bool) (f : Fault) → kind_of es newline ≡ faulty_line f → ⊥
 not_faulty [] true f is = cc
 not_faulty [] false f is = cc
 not_faulty (e ∷ es) newline f is = cc
 
-line_fault_by : (T : List ℕ) (x : Read (Row AnEntry × Bool)) (f : Fault) → Within (LineEnd T 0 false 0) 0 (length T) 0 x → (line_read_of T x).kind ≡ faulty_line f → f.at ≤ length T
+line_fault_by : (T : List ℕ) (x : Read (Row AnEntry × Bool)) (f : Fault) → Within (LineEnd T 0 false 0) 0 (length T) 0 x
+    → (line_read_of T x).kind ≡ faulty_line f → f.at ≤ length T
 line_fault_by T (Ok ((es, newline), q)) f within is = absurd (not_faulty es newline f is)
 line_fault_by T (Err e) f within is = let same : e ≡ f = cc in rw (← same) (omega (arith, within))
 
 -- a fault of a line is not past the end of its text
 pub line_fault_within : (T : List ℕ) (l : ALine) (f : Fault) → IsLine T l → l.kind ≡ faulty_line f → f.at ≤ length T
 unfolding line_of_text
-line_fault_within T l f is kind = line_fault_by T _ f (line_within T 0 false 0 (omega arith)) (sym (ap (λ (m : ALine). m.kind) (line_only T l is)) ∙ kind)
+line_fault_within T l f is kind =
+    line_fault_by T _ f (line_within T 0 false 0 (omega arith)) (sym (ap (λ (m : ALine). m.kind) (line_only T l is)) ∙ kind)
 
 not_moved : (f : Fault) → moved 0 f ≡ f
 not_moved f = let same : 0 + f.at ≡ f.at = omega arith in ap (λ n. record { kind = f.kind; at = n }) same
@@ -50,16 +53,19 @@ line_next_by T (Err f) within = omega arith
 -- a line is not longer than its text
 pub line_next : (T : List ℕ) (l : ALine) → IsLine T l → l.next ≤ length T
 unfolding line_of_text
-line_next T l is = let P : ALine → Type 0 = λ m. m.next ≤ length T in subst P (sym (line_only T l is)) (line_next_by T _ (line_within T 0 false 0 (omega arith)))
+line_next T l is =
+    let P : ALine → Type 0 = λ m. m.next ≤ length T in subst P (sym (line_only T l is)) (line_next_by T _ (line_within T 0 false 0 (omega arith)))
 
-line_onward_by : (T : List ℕ) (x : Read (Row AnEntry × Bool)) → Within (LineEnd T 0 false 0) 0 (length T) 0 x → (line_read_of T x).ended ≡ true → 0 < (line_read_of T x).next
+line_onward_by : (T : List ℕ) (x : Read (Row AnEntry × Bool)) → Within (LineEnd T 0 false 0) 0 (length T) 0 x → (line_read_of T x).ended ≡ true
+    → 0 < (line_read_of T x).next
 line_onward_by T (Ok ((es, newline), q)) within ended = (within.2.1 (and_parts _ _ ended).0).0
 line_onward_by T (Err f) within ended = absurd cc
 
 -- a line that a newline token ended has a byte
 pub line_onward : (T : List ℕ) (l : ALine) → IsLine T l → l.ended ≡ true → 0 < l.next
 unfolding line_of_text
-line_onward T l is = let P : ALine → Type 0 = λ m. m.ended ≡ true → 0 < m.next in subst P (sym (line_only T l is)) (line_onward_by T _ (line_within T 0 false 0 (omega arith)))
+line_onward T l is =
+    let P : ALine → Type 0 = λ m. m.ended ≡ true → 0 < m.next in subst P (sym (line_only T l is)) (line_onward_by T _ (line_within T 0 false 0 (omega arith)))
 
 -- in a text from p on: the place behind a line
 pub next_within : (B : List ℕ) (p : ℕ) (l : ALine) → p ≤ length B → IsLine (drop p B) l → p + l.next ≤ length B
@@ -75,20 +81,24 @@ not_ended false c ended newline = refl
 abbrev SameWrong : SoFar → SoFar → Type 0
 SameWrong s u = s.wrong ≡ u.wrong
 
-read_alike : (s u : SoFar) (ls ms : Row AnEntry) (a b : Bool) (p q : ℕ) → a ≡ b → SameWrong s u → Alike (SameStep SameWrong) 0 (script_next s p (Ok ((ls, a), q))) (script_next u p (Ok ((ms, b), q)))
+read_alike : (s u : SoFar) (ls ms : Row AnEntry) (a b : Bool) (p q : ℕ) → a ≡ b → SameWrong s u
+    → Alike (SameStep SameWrong) 0 (script_next s p (Ok ((ls, a), q))) (script_next u p (Ok ((ms, b), q)))
 read_alike s u ls ms true true p q flag same = both_give (both_again same)
 read_alike s u ls ms false false p q flag same = both_give (both_done same)
 read_alike s u ls ms true false p q flag same = absurd cc
 read_alike s u ls ms false true p q flag same = absurd cc
 
-next_alike : (s u : SoFar) (p : ℕ) (x y : Read (Row AnEntry × Bool)) → Alike (SameEnd SameFlag) 0 x y → SameWrong s u → Alike (SameStep SameWrong) 0 (script_next s p x) (script_next u p y)
+next_alike : (s u : SoFar) (p : ℕ) (x y : Read (Row AnEntry × Bool)) → Alike (SameEnd SameFlag) 0 x y → SameWrong s u
+    → Alike (SameStep SameWrong) 0 (script_next s p x) (script_next u p y)
 next_alike s u p _ _ (both_give (same_end {x = x} {y = y} {p = q} flag)) same = read_alike s u x.0 y.0 x.1 y.1 p q flag same
 next_alike s u p _ _ (both_stop {g = g} moves) same = both_give (both_done (ap Some (moves ∙ not_moved g)))
 
 module _ (B : List ℕ) where
   step_alike : (s u : SoFar) (p : ℕ) → SameWrong s u → Alike (SameStep SameWrong) 0 (script_step B s p) (script_step B u p)
   unfolding script_step
-  step_alike s u p same = next_alike s u p _ _ (line_alike (drop p B) p p 0 (omega arith) (s.gap && not (is_empty s.entries)) (u.gap && not (is_empty u.entries)) 0 (omega arith)) same
+  step_alike s u p same =
+      next_alike s u p _ _
+      (line_alike (drop p B) p p 0 (omega arith) (s.gap && not (is_empty s.entries)) (u.gap && not (is_empty u.entries)) 0 (omega arith)) same
 
   wrong_of : (x y : Read SoFar) → Alike (SameEnd SameWrong) 0 x y → (script_of x).wrong ≡ (script_of y).wrong
   wrong_of _ _ (both_give (same_end same)) = same
@@ -97,7 +107,10 @@ module _ (B : List ℕ) where
   -- the first fault of the lines from p on does not depend on those before
   fault_after : (s : SoFar) (p : ℕ) → p ≤ length B → ScriptSo B s p → (script_of (turns (length B) (script_step B) s p)).wrong ≡ first_fault_from B p
   unfolding first_fault_from
-  fault_after s p within so = wrong_of _ _ (turns_alike (length B) (script_step B) (script_step B) SameWrong 0 (ScriptSo B) (ScriptEnd B) (script_keeps B) (λ s u q high same. step_alike s u q same) s nothing_yet p within so so.1)
+  fault_after s p within so =
+      wrong_of _ _
+      (turns_alike (length B) (script_step B) (script_step B) SameWrong 0 (ScriptSo B) (ScriptEnd B) (script_keeps B)
+      (λ s u q high same. step_alike s u q same) s nothing_yet p within so so.1)
 
   -- ---- a line, and the lines behind it
 
@@ -128,46 +141,55 @@ module _ (B : List ℕ) where
     alike_alone : Alike (SameEnd SameFlag) p (line_at (drop p B) p false 0) (line_at (drop p B) 0 false 0)
     alike_alone = line_alike (drop p B) p 0 p (omega arith) false false 0 (omega arith)
 
-    goes_on_by : (x z : Read (Row AnEntry × Bool)) → line_at (drop p B) p false 0 ≡ x → Alike (SameEnd SameFlag) p x z → (line_read_of (drop p B) z).ended ≡ true → first_fault_from B p ≡ first_fault_from B (p + (line_read_of (drop p B) z).next)
+    goes_on_by : (x z : Read (Row AnEntry × Bool)) → line_at (drop p B) p false 0 ≡ x → Alike (SameEnd SameFlag) p x z
+        → (line_read_of (drop p B) z).ended ≡ true → first_fault_from B p ≡ first_fault_from B (p + (line_read_of (drop p B) z).next)
     goes_on_by _ _ is (both_give (same_end {x = x} {y = y} {p = q} flag)) ended =
         let newline : x.1 ≡ true = flag ∙ (and_parts _ _ ended).0 in
         goes_on_here x.0 q (is ∙ ap (λ (b : Bool). Ok ((x.0, b), q)) newline)
     goes_on_by _ _ is (both_stop moves) ended = absurd cc
 
-    ends_by : (x z : Read (Row AnEntry × Bool)) → line_at (drop p B) p false 0 ≡ x → Alike (SameEnd SameFlag) p x z → Within (LineEnd (drop p B) 0 false 0) 0 (length (drop p B)) 0 z → (line_read_of (drop p B) z).ended ≡ false → ((f : Fault) → (line_read_of (drop p B) z).kind ≡ faulty_line f → ⊥) → first_fault_from B p ≡ None
+    ends_by : (x z : Read (Row AnEntry × Bool)) → line_at (drop p B) p false 0 ≡ x → Alike (SameEnd SameFlag) p x z
+        → Within (LineEnd (drop p B) 0 false 0) 0 (length (drop p B)) 0 z → (line_read_of (drop p B) z).ended ≡ false
+        → ((f : Fault) → (line_read_of (drop p B) z).kind ≡ faulty_line f → ⊥) → first_fault_from B p ≡ None
     ends_by _ _ is (both_give (same_end {x = x} {y = y} {p = q} flag)) line ended sound =
         let newline : x.1 ≡ false = flag ∙ not_ended y.1 _ ended (λ e. (line.2.1 e).1) in
         ends_here x.0 q (is ∙ ap (λ (b : Bool). Ok ((x.0, b), q)) newline)
     ends_by _ _ is (both_stop {g = g} moves) line ended sound = absurd (sound g refl)
 
-    stops_by : (x z : Read (Row AnEntry × Bool)) (f : Fault) → line_at (drop p B) p false 0 ≡ x → Alike (SameEnd SameFlag) p x z → (line_read_of (drop p B) z).kind ≡ faulty_line f → first_fault_from B p ≡ Some (moved p f)
+    stops_by : (x z : Read (Row AnEntry × Bool)) (f : Fault) → line_at (drop p B) p false 0 ≡ x → Alike (SameEnd SameFlag) p x z
+        → (line_read_of (drop p B) z).kind ≡ faulty_line f → first_fault_from B p ≡ Some (moved p f)
     stops_by _ _ f is (both_give (same_end {y = y} flag)) kind = absurd (not_faulty y.0 y.1 f kind)
     stops_by _ _ f is (both_stop {f = e} {g = g} moves) kind = let same : g ≡ f = cc in stops_here e is ∙ ap Some (moves ∙ ap (moved p) same)
 
 -- behind a line that a newline token ended stand those that decide
-pub fault_goes_on : (B : List ℕ) (p : ℕ) (l : ALine) → p ≤ length B → IsLine (drop p B) l → l.ended ≡ true → first_fault_from B p ≡ first_fault_from B (p + l.next)
+pub fault_goes_on : (B : List ℕ) (p : ℕ) (l : ALine) → p ≤ length B → IsLine (drop p B) l → l.ended ≡ true
+    → first_fault_from B p ≡ first_fault_from B (p + l.next)
 unfolding line_of_text
 fault_goes_on B p l within is =
     let P : ALine → Type 0 = λ m. m.ended ≡ true → first_fault_from B p ≡ first_fault_from B (p + m.next) in
     subst P (sym (line_only (drop p B) l is)) (goes_on_by B p within _ _ refl (alike_alone B p within))
 
 -- a line that the end of the text ended is the last one
-pub fault_is_none : (B : List ℕ) (p : ℕ) (l : ALine) → p ≤ length B → IsLine (drop p B) l → l.ended ≡ false → ((f : Fault) → l.kind ≡ faulty_line f → ⊥) → first_fault_from B p ≡ None
+pub fault_is_none : (B : List ℕ) (p : ℕ) (l : ALine) → p ≤ length B → IsLine (drop p B) l → l.ended ≡ false
+    → ((f : Fault) → l.kind ≡ faulty_line f → ⊥) → first_fault_from B p ≡ None
 unfolding line_of_text
 fault_is_none B p l within is =
     let P : ALine → Type 0 = λ m. m.ended ≡ false → ((f : Fault) → m.kind ≡ faulty_line f → ⊥) → first_fault_from B p ≡ None in
     subst P (sym (line_only (drop p B) l is)) (ends_by B p within _ _ refl (alike_alone B p within) (line_within (drop p B) 0 false 0 (omega arith)))
 
 -- so it is where nothing is left
-pub fault_is_none_at_end : (B : List ℕ) (p : ℕ) (l : ALine) → p ≤ length B → IsLine (drop p B) l → l.ended ≡ false → l.kind ≡ end_line → first_fault_from B p ≡ None
+pub fault_is_none_at_end : (B : List ℕ) (p : ℕ) (l : ALine) → p ≤ length B → IsLine (drop p B) l → l.ended ≡ false → l.kind ≡ end_line
+    → first_fault_from B p ≡ None
 fault_is_none_at_end B p l within is ended kind = fault_is_none B p l within is ended (λ f faulty. cc)
 
 -- and behind the last entries
-pub fault_is_none_behind : (B : List ℕ) (p : ℕ) (l : ALine) (es : Entries) → p ≤ length B → IsLine (drop p B) l → l.ended ≡ false → l.kind ≡ entries_line es → first_fault_from B p ≡ None
+pub fault_is_none_behind : (B : List ℕ) (p : ℕ) (l : ALine) (es : Entries) → p ≤ length B → IsLine (drop p B) l → l.ended ≡ false
+    → l.kind ≡ entries_line es → first_fault_from B p ≡ None
 fault_is_none_behind B p l es within is ended kind = fault_is_none B p l within is ended (λ f faulty. cc)
 
 -- a fault of a line is the first one of those from there on
-pub fault_is_here : (B : List ℕ) (p : ℕ) (f : Fault) (l : ALine) → p ≤ length B → IsLine (drop p B) l → l.kind ≡ faulty_line f → first_fault_from B p ≡ Some (record { kind = f.kind; at = p + f.at })
+pub fault_is_here : (B : List ℕ) (p : ℕ) (f : Fault) (l : ALine) → p ≤ length B → IsLine (drop p B) l → l.kind ≡ faulty_line f
+    → first_fault_from B p ≡ Some (record { kind = f.kind; at = p + f.at })
 unfolding line_of_text
 fault_is_here B p f l within is =
     let P : ALine → Type 0 = λ m. m.kind ≡ faulty_line f → first_fault_from B p ≡ Some (moved p f) in
