@@ -1,7 +1,8 @@
 -- A line read by itself, and a script, are what the reading computes, and nothing else.
-use Rattle.std.proofs.Common.{◌≡◌, ℕ, ◌+◌, ◌≤◌, ◌<◌, Bool, true, false, not, ◌&&◌, List, List as Row, [], ◌++◌, length, drop, None, Ok, Err, refl, sym, ap, subst, ◌∙◌, arith}
+use Rattle.std.proofs.Common.{◌≡◌, ℕ, ◌+◌, ◌-◌, ◌≤◌, ◌<◌, Bool, true, false, not, ◌&&◌, List, List as Row, [], ◌++◌, length, drop, None, Ok, Err, refl, sym, ap, subst, ◌∙◌, arith}
 use Rattle.std.proofs.lemmas.List.{length-drop}
 use Rattle.shread.specs.Tree.{AnEntry}
+use Rattle.shread.specs.Bytes.{stands}
 use Rattle.shread.specs.Comes.{Read}
 use Rattle.shread.specs.Lines.{is_empty, a_line, ALine, IsLine, line_read, line_stops, AScript, Lines, line_ended, last_line, faulty, IsOutcome}
 use Rattle.shread.specs.Reading.{turns, line_at, SoFar, script_next, script_step, nothing_yet, script_of, script_at, line_read_of, line_of_text}
@@ -12,6 +13,17 @@ use Rattle.shread.proofs.Rows.{is_line}
 use Rattle.shread.proofs.Turns.{turns_again, turns_done}
 
 -- ---- a line
+
+-- what the reading gives of a line holds of each of its outcomes
+line_facts : (T : List ℕ) (o : ℕ) (blank : Bool) (p : ℕ) (x : Read (Row AnEntry × Bool)) → p ≤ length T → a_line T o blank p x
+    → Within (LineEnd T o blank p) o (length T) p x
+line_facts T o blank p x within part =
+    let P = Within (LineEnd T o blank p) o (length T) p in subst P (sym ((is_line T o blank p within).only x part)) (line_within T o blank p within)
+
+-- a line that a newline token ends has a newline as its last byte
+pub newline_last : (T : List ℕ) (o : ℕ) (blank : Bool) (p : ℕ) (es : Row AnEntry) (q : ℕ) → p ≤ length T → a_line T o blank p (Ok ((es, true), q))
+    → stands T (q - 1) 10 ≡ true
+newline_last T o blank p es q within part = ((line_facts T o blank p _ within part).2.1 refl).1
 
 line_by : (T : List ℕ) (x : Read (Row AnEntry × Bool)) → a_line T 0 false 0 x → IsLine T (line_read_of T x)
 line_by T (Ok ((es, newline), q)) part = line_read part
@@ -74,9 +86,7 @@ module _ (B : List ℕ) where
   onward : (p q : ℕ) (es ls : Row AnEntry) (gap : Bool) → p ≤ length B → a_line (drop p B) p (gap && not (is_empty es)) 0 (Ok ((ls, true), q))
       → (p < p + q) × (p + q ≤ length B)
   onward p q es ls gap within part =
-      let blank = gap && not (is_empty es) in
-      let P = Within (LineEnd (drop p B) p blank 0) p (length (drop p B)) 0 in
-      let line = subst P (sym ((is_line_after es gap p).only _ part)) (line_within (drop p B) p blank 0 (omega arith)) in
+      let line = line_facts (drop p B) p (gap && not (is_empty es)) 0 _ (omega arith) part in
       let last = (line.2.1 refl).0 in
       (omega arith, omega (arith, within, line.1, length-drop p B))
 

@@ -27,6 +27,11 @@ unfolding script_at
 fault_within B s f is wrong =
     (script_good B _ (script_within B 0 (omega arith))).1 f (sym (ap (λ (y : AScript). y.wrong) (script_only B s is)) ∙ wrong)
 
+-- nor is the first one from a place on
+pub first_fault_within : (B : List ℕ) (p : ℕ) (f : Fault) → p ≤ length B → first_fault_from B p ≡ Some f → f.at ≤ length B
+unfolding first_fault_from
+first_fault_within B p f within is = (script_good B _ (script_within B p within)).1 f is
+
 not_faulty : (es : Row AnEntry) (newline : Bool) (f : Fault) → kind_of es newline ≡ faulty_line f → ⊥
 not_faulty [] true f is = cc
 not_faulty [] false f is = cc
