@@ -11,6 +11,7 @@ pub record Is {X : Type 0} (r : Comes X) (x : Result X Fault) : Type 0 where
 
 -- ---- give and stop
 
+-- nothing else is read
 give_only : {X : Type 0} (x : X) (y : Result X Fault) → give x y → y ≡ Ok x
 give_only x y given = refl
 
@@ -18,6 +19,7 @@ give_only x y given = refl
 pub is_give : {X : Type 0} (x : X) → Is (give x) (Ok x)
 is_give x = record { some = given; only = give_only x }
 
+-- nothing else stops it
 stop_only : {X : Type 0} (e y : Result X Fault) → stop e y → y ≡ e
 stop_only e y stopped = refl
 
@@ -32,6 +34,7 @@ module _ {X Y : Type 0} (r : Comes X) (k : X → Comes Y) (f : X → Result Y Fa
   then_some (Ok a) first rest = and_then first (rest a refl).some
   then_some (Err e) first rest = or_stops first
 
+  -- each outcome of the first part fixes that of the second
   then_only : (x : Result X Fault) → ((y : Result X Fault) → r y → y ≡ x) → ((a : X) → x ≡ Ok a → Is (k a) (f a)) → (y : Result Y Fault) → Then r k y
       → y ≡ (x >>= f)
   then_only (Ok a) one rest y (and_then {x = b} first second) =
@@ -54,6 +57,7 @@ module _ {X : Type 0} (r s : Comes X) (x y : Result X Fault) where
   when_some true if_true if_false = holds refl (if_true refl).some
   when_some false if_true if_false = fails refl (if_false refl).some
 
+  -- the test fixes the part
   when_only : (test : Bool) → (test ≡ true → Is r x) → (test ≡ false → Is s y) → (z : Result X Fault) → when test r s z → z ≡ cond test x y
   when_only true if_true if_false z (holds is part) = (if_true refl).only z part
   when_only true if_true if_false z (fails is part) = absurd cc

@@ -32,11 +32,13 @@ pub first_fault_within : (B : List ℕ) (p : ℕ) (f : Fault) → p ≤ length B
 unfolding first_fault_from
 first_fault_within B p f within is = (script_good B _ (script_within B p within)).1 f is
 
+-- a line that was read has no fault
 not_faulty : (es : Row AnEntry) (newline : Bool) (f : Fault) → kind_of es newline ≡ faulty_line f → ⊥
 not_faulty [] true f is = cc
 not_faulty [] false f is = cc
 not_faulty (e ∷ es) newline f is = cc
 
+-- by its outcome
 line_fault_by : (T : List ℕ) (x : Read (Row AnEntry × Bool)) (f : Fault) → Within (LineEnd T 0 false 0) 0 (length T) 0 x
     → (line_read_of T x).kind ≡ faulty_line f → f.at ≤ length T
 line_fault_by T (Ok ((es, newline), q)) f within is = absurd (not_faulty es newline f is)
@@ -48,9 +50,11 @@ unfolding line_of_text
 line_fault_within T l f is kind =
     line_fault_by T _ f (line_within T 0 false 0 (omega arith)) (sym (ap (λ (m : ALine). m.kind) (line_only T l is)) ∙ kind)
 
+-- a fault that does not move
 not_moved : (f : Fault) → moved 0 f ≡ f
 not_moved f = let same : 0 + f.at ≡ f.at = omega arith in ap (λ n. record { kind = f.kind; at = n }) same
 
+-- by its outcome
 line_next_by : (T : List ℕ) (x : Read (Row AnEntry × Bool)) → Within (LineEnd T 0 false 0) 0 (length T) 0 x → (line_read_of T x).next ≤ length T
 line_next_by T (Ok ((es, newline), q)) within = within.1
 line_next_by T (Err f) within = omega arith
@@ -61,6 +65,7 @@ unfolding line_of_text
 line_next T l is =
     let P : ALine → Type 0 = λ m. m.next ≤ length T in subst P (sym (line_only T l is)) (line_next_by T _ (line_within T 0 false 0 (omega arith)))
 
+-- by its outcome
 line_onward_by : (T : List ℕ) (x : Read (Row AnEntry × Bool)) → Within (LineEnd T 0 false 0) 0 (length T) 0 x → (line_read_of T x).ended ≡ true
     → 0 < (line_read_of T x).next
 line_onward_by T (Ok ((es, newline), q)) within ended = (within.2.1 (and_parts _ _ ended).0).0
@@ -76,6 +81,7 @@ line_onward T l is =
 pub next_within : (B : List ℕ) (p : ℕ) (l : ALine) → p ≤ length B → IsLine (drop p B) l → p + l.next ≤ length B
 next_within B p l within is = omega (arith, line_next (drop p B) l is, length-drop p B)
 
+-- in this grammar a newline token is always the last byte
 not_ended : (b c : Bool) → (b && c) ≡ false → (b ≡ true → c ≡ true) → b ≡ false
 not_ended true c ended newline = let last = newline refl in absurd cc
 not_ended false c ended newline = refl
@@ -86,6 +92,7 @@ not_ended false c ended newline = refl
 abbrev SameWrong : SoFar → SoFar → Type 0
 SameWrong s u = s.wrong ≡ u.wrong
 
+-- two lines that were read
 read_alike : (s u : SoFar) (ls ms : Row AnEntry) (a b : Bool) (p q : ℕ) → a ≡ b → SameWrong s u
     → Alike (SameStep SameWrong) 0 (script_next s p (Ok ((ls, a), q))) (script_next u p (Ok ((ms, b), q)))
 read_alike s u ls ms true true p q flag same = both_give (both_again same)
@@ -93,6 +100,7 @@ read_alike s u ls ms false false p q flag same = both_give (both_done same)
 read_alike s u ls ms true false p q flag same = absurd cc
 read_alike s u ls ms false true p q flag same = absurd cc
 
+-- by the outcomes of two lines
 next_alike : (s u : SoFar) (p : ℕ) (x y : Read (Row AnEntry × Bool)) → Alike (SameEnd SameFlag) 0 x y → SameWrong s u
     → Alike (SameStep SameWrong) 0 (script_next s p x) (script_next u p y)
 next_alike s u p _ _ (both_give (same_end {x = x} {y = y} {p = q} flag)) same = read_alike s u x.0 y.0 x.1 y.1 p q flag same
@@ -105,6 +113,7 @@ module _ (B : List ℕ) where
       next_alike s u p _ _
       (line_alike (drop p B) p p 0 (omega arith) (s.gap && not (is_empty s.entries)) (u.gap && not (is_empty u.entries)) 0 (omega arith)) same
 
+  -- what is made of both
   wrong_of : (x y : Read SoFar) → Alike (SameEnd SameWrong) 0 x y → (script_of x).wrong ≡ (script_of y).wrong
   wrong_of _ _ (both_give (same_end same)) = same
   wrong_of _ _ (both_stop {g = g} moves) = ap Some (moves ∙ not_moved g)
@@ -129,10 +138,12 @@ module _ (B : List ℕ) where
     unfolding first_fault_from
     stops_here f is = ap (λ (x : Read SoFar). (script_of x).wrong) (turns_done (length B) (script_step B) nothing_yet _ p p (first_step _ is))
 
+    -- no newline token: nothing is left
     ends_here : (ls : Row AnEntry) (q : ℕ) → line_at (drop p B) p false 0 ≡ Ok ((ls, false), q) → first_fault_from B p ≡ None
     unfolding first_fault_from
     ends_here ls q is = ap (λ (x : Read SoFar). (script_of x).wrong) (turns_done (length B) (script_step B) nothing_yet _ p (p + q) (first_step _ is))
 
+    -- a newline token: the lines behind it decide
     goes_on_here : (ls : Row AnEntry) (q : ℕ) → line_at (drop p B) p false 0 ≡ Ok ((ls, true), q) → first_fault_from B p ≡ first_fault_from B (p + q)
     unfolding first_fault_from
     goes_on_here ls q is =
@@ -146,6 +157,7 @@ module _ (B : List ℕ) where
     alike_alone : Alike (SameEnd SameFlag) p (line_at (drop p B) p false 0) (line_at (drop p B) 0 false 0)
     alike_alone = line_alike (drop p B) p 0 p (omega arith) false false 0 (omega arith)
 
+    -- by the outcome of the line
     goes_on_by : (x z : Read (Row AnEntry × Bool)) → line_at (drop p B) p false 0 ≡ x → Alike (SameEnd SameFlag) p x z
         → (line_read_of (drop p B) z).ended ≡ true → first_fault_from B p ≡ first_fault_from B (p + (line_read_of (drop p B) z).next)
     goes_on_by _ _ is (both_give (same_end {x = x} {y = y} {p = q} flag)) ended =
@@ -153,6 +165,7 @@ module _ (B : List ℕ) where
         goes_on_here x.0 q (is ∙ ap (λ (b : Bool). Ok ((x.0, b), q)) newline)
     goes_on_by _ _ is (both_stop moves) ended = absurd cc
 
+    -- by the outcome of the line
     ends_by : (x z : Read (Row AnEntry × Bool)) → line_at (drop p B) p false 0 ≡ x → Alike (SameEnd SameFlag) p x z
         → Within (LineEnd (drop p B) 0 false 0) 0 (length (drop p B)) 0 z → (line_read_of (drop p B) z).ended ≡ false
         → ((f : Fault) → (line_read_of (drop p B) z).kind ≡ faulty_line f → ⊥) → first_fault_from B p ≡ None
@@ -161,6 +174,7 @@ module _ (B : List ℕ) where
         ends_here x.0 q (is ∙ ap (λ (b : Bool). Ok ((x.0, b), q)) newline)
     ends_by _ _ is (both_stop {g = g} moves) line ended sound = absurd (sound g refl)
 
+    -- by the outcome of the line
     stops_by : (x z : Read (Row AnEntry × Bool)) (f : Fault) → line_at (drop p B) p false 0 ≡ x → Alike (SameEnd SameFlag) p x z
         → (line_read_of (drop p B) z).kind ≡ faulty_line f → first_fault_from B p ≡ Some (moved p f)
     stops_by _ _ f is (both_give (same_end {y = y} flag)) kind = absurd (not_faulty y.0 y.1 f kind)
