@@ -1,0 +1,4 @@
+pub mod Device
+pub mod Message
+pub mod Report
+pub mod Words
