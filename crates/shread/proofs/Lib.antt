@@ -11,5 +11,6 @@ pub mod Rows
 pub mod Scripts
 pub mod LineEnds
 pub mod LineKinds
+pub mod Alike
 pub mod Verdict
 pub mod Answered

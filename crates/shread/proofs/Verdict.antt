@@ -1,13 +1,17 @@
 -- What a script and its lines say of its tree and of its first fault.
-use Rattle.std.proofs.Common.{◌≡◌, ℕ, ◌+◌, ◌-◌, ◌≤◌, ◌<◌, Bool, true, false, not, ◌&&◌, List, List as Row, [], ◌∷◌, ◌++◌, length, drop, Option, None, Some, Result, Ok, Err, refl, sym, ap, subst, ◌∙◌, arith}
+use Rattle.std.proofs.Common.{◌≡◌, ℕ, ◌+◌, ◌≤◌, ◌<◌, Bool, true, false, not, ◌&&◌, List, List as Row, [], ◌∷◌, length, drop, None, Some, Ok, Err, refl, sym, ap, subst, ◌∙◌, arith}
+use Rattle.std.proofs.lemmas.Bool.{and_parts}
 use Rattle.std.proofs.lemmas.List.{length-drop}
 use Rattle.shread.specs.declared.fault.Fault.{Fault}
-use Rattle.shread.specs.Tree.{AnEntry, entries_of}
-use Rattle.shread.specs.Comes.{Read, Step, again, done}
-use Rattle.shread.specs.Lines.{ALine, AScript, AKind, IsLine, IsOutcome, FirstFault, blank_line, end_line, entries_line, faulty_line, kind_of}
+use Rattle.shread.specs.Tree.{Entries, AnEntry}
+use Rattle.shread.specs.Comes.{Read}
+use Rattle.shread.specs.Lines.{is_empty, ALine, AScript, IsLine, IsOutcome, FirstFault, end_line, entries_line, faulty_line, kind_of}
 use Rattle.shread.specs.Normal.{IsNormal}
 use Rattle.shread.specs.Reading.{turns, line_at, SoFar, script_next, script_step, nothing_yet, script_of, script_at, line_read_of, line_of_text, first_fault_from}
-use Rattle.shread.proofs.Progress.{Within, LineEnd, line_within, IsGood, ScriptEnd, script_within, script_good}
+use Rattle.shread.proofs.Alike.{moved, Alike, both_give, both_stop, SameEnd, same_end, SameStep, both_again, both_done, turns_alike, SameFlag, line_alike}
+use Rattle.shread.proofs.Progress.{ScriptSo, script_keeps, Within, LineEnd, line_within, ScriptEnd, script_within, script_good}
+use Rattle.shread.proofs.Loops.{Keeps}
+use Rattle.shread.proofs.Turns.{turns_again, turns_done}
 use Rattle.shread.proofs.Scripts.{line_only, script_is, script_only}
 
 -- ---- the tree, and where a fault may be
@@ -35,3 +39,141 @@ line_fault_by T (Err e) f within is = let same : e ≡ f = cc in rw (← same) (
 pub line_fault_within : (T : List ℕ) (l : ALine) (f : Fault) → IsLine T l → l.kind ≡ faulty_line f → f.at ≤ length T
 unfolding line_of_text
 line_fault_within T l f is kind = line_fault_by T _ f (line_within T 0 false 0 (omega arith)) (sym (ap (λ (m : ALine). m.kind) (line_only T l is)) ∙ kind)
+
+not_moved : (f : Fault) → moved 0 f ≡ f
+not_moved f = let same : 0 + f.at ≡ f.at = omega arith in ap (λ n. record { kind = f.kind; at = n }) same
+
+line_next_by : (T : List ℕ) (x : Read (Row AnEntry × Bool)) → Within (LineEnd T 0 false 0) 0 (length T) 0 x → (line_read_of T x).next ≤ length T
+line_next_by T (Ok ((es, newline), q)) within = within.1
+line_next_by T (Err f) within = omega arith
+
+-- a line is not longer than its text
+pub line_next : (T : List ℕ) (l : ALine) → IsLine T l → l.next ≤ length T
+unfolding line_of_text
+line_next T l is = let P : ALine → Type 0 = λ m. m.next ≤ length T in subst P (sym (line_only T l is)) (line_next_by T _ (line_within T 0 false 0 (omega arith)))
+
+line_onward_by : (T : List ℕ) (x : Read (Row AnEntry × Bool)) → Within (LineEnd T 0 false 0) 0 (length T) 0 x → (line_read_of T x).ended ≡ true → 0 < (line_read_of T x).next
+line_onward_by T (Ok ((es, newline), q)) within ended = (within.2.1 (and_parts _ _ ended).0).0
+line_onward_by T (Err f) within ended = absurd cc
+
+-- a line that a newline token ended has a byte
+pub line_onward : (T : List ℕ) (l : ALine) → IsLine T l → l.ended ≡ true → 0 < l.next
+unfolding line_of_text
+line_onward T l is = let P : ALine → Type 0 = λ m. m.ended ≡ true → 0 < m.next in subst P (sym (line_only T l is)) (line_onward_by T _ (line_within T 0 false 0 (omega arith)))
+
+-- in a text from p on: the place behind a line
+pub next_within : (B : List ℕ) (p : ℕ) (l : ALine) → p ≤ length B → IsLine (drop p B) l → p + l.next ≤ length B
+next_within B p l within is = omega (arith, line_next (drop p B) l is, length-drop p B)
+
+not_ended : (b c : Bool) → (b && c) ≡ false → (b ≡ true → c ≡ true) → b ≡ false
+not_ended true c ended newline = let last = newline refl in absurd cc
+not_ended false c ended newline = refl
+
+-- ---- the lines from a place on, whatever stands before it
+
+-- the same fault, or none
+abbrev SameWrong : SoFar → SoFar → Type 0
+SameWrong s u = s.wrong ≡ u.wrong
+
+read_alike : (s u : SoFar) (ls ms : Row AnEntry) (a b : Bool) (p q : ℕ) → a ≡ b → SameWrong s u → Alike (SameStep SameWrong) 0 (script_next s p (Ok ((ls, a), q))) (script_next u p (Ok ((ms, b), q)))
+read_alike s u ls ms true true p q flag same = both_give (both_again same)
+read_alike s u ls ms false false p q flag same = both_give (both_done same)
+read_alike s u ls ms true false p q flag same = absurd cc
+read_alike s u ls ms false true p q flag same = absurd cc
+
+next_alike : (s u : SoFar) (p : ℕ) (x y : Read (Row AnEntry × Bool)) → Alike (SameEnd SameFlag) 0 x y → SameWrong s u → Alike (SameStep SameWrong) 0 (script_next s p x) (script_next u p y)
+next_alike s u p _ _ (both_give (same_end {x = x} {y = y} {p = q} flag)) same = read_alike s u x.0 y.0 x.1 y.1 p q flag same
+next_alike s u p _ _ (both_stop {g = g} moves) same = both_give (both_done (ap Some (moves ∙ not_moved g)))
+
+module _ (B : List ℕ) where
+  step_alike : (s u : SoFar) (p : ℕ) → SameWrong s u → Alike (SameStep SameWrong) 0 (script_step B s p) (script_step B u p)
+  unfolding script_step
+  step_alike s u p same = next_alike s u p _ _ (line_alike (drop p B) p p 0 (omega arith) (s.gap && not (is_empty s.entries)) (u.gap && not (is_empty u.entries)) 0 (omega arith)) same
+
+  wrong_of : (x y : Read SoFar) → Alike (SameEnd SameWrong) 0 x y → (script_of x).wrong ≡ (script_of y).wrong
+  wrong_of _ _ (both_give (same_end same)) = same
+  wrong_of _ _ (both_stop {g = g} moves) = ap Some (moves ∙ not_moved g)
+
+  -- the first fault of the lines from p on does not depend on those before
+  fault_after : (s : SoFar) (p : ℕ) → p ≤ length B → ScriptSo B s p → (script_of (turns (length B) (script_step B) s p)).wrong ≡ first_fault_from B p
+  unfolding first_fault_from
+  fault_after s p within so = wrong_of _ _ (turns_alike (length B) (script_step B) (script_step B) SameWrong 0 (ScriptSo B) (ScriptEnd B) (script_keeps B) (λ s u q high same. step_alike s u q same) s nothing_yet p within so so.1)
+
+  -- ---- a line, and the lines behind it
+
+  module _ (p : ℕ) (within : p ≤ length B) where
+    first_step : (x : Read (Row AnEntry × Bool)) → line_at (drop p B) p false 0 ≡ x → script_step B nothing_yet p ≡ script_next nothing_yet p x
+    unfolding script_step
+    first_step x is = ap (script_next nothing_yet p) is
+
+    -- the line at p says this of its first fault
+    stops_here : (f : Fault) → line_at (drop p B) p false 0 ≡ Err f → first_fault_from B p ≡ Some f
+    unfolding first_fault_from
+    stops_here f is = ap (λ (x : Read SoFar). (script_of x).wrong) (turns_done (length B) (script_step B) nothing_yet _ p p (first_step _ is))
+
+    ends_here : (ls : Row AnEntry) (q : ℕ) → line_at (drop p B) p false 0 ≡ Ok ((ls, false), q) → first_fault_from B p ≡ None
+    unfolding first_fault_from
+    ends_here ls q is = ap (λ (x : Read SoFar). (script_of x).wrong) (turns_done (length B) (script_step B) nothing_yet _ p (p + q) (first_step _ is))
+
+    goes_on_here : (ls : Row AnEntry) (q : ℕ) → line_at (drop p B) p false 0 ≡ Ok ((ls, true), q) → first_fault_from B p ≡ first_fault_from B (p + q)
+    unfolding first_fault_from
+    goes_on_here ls q is =
+        let next : SoFar = record { entries = ls; gap = is_empty ls; wrong = None } in
+        let step = first_step _ is in
+        let kept = subst (Keeps (length B) (ScriptSo B) (ScriptEnd B) p) step (script_keeps B nothing_yet p within ((tt, tt), refl)) in
+        ap (λ (x : Read SoFar). (script_of x).wrong) (turns_again (length B) (script_step B) nothing_yet next p (p + q) step kept.0 kept.1)
+        ∙ unfold first_fault_from in fault_after next (p + q) kept.1 kept.2
+
+    -- the line at p read as a script of its own
+    alike_alone : Alike (SameEnd SameFlag) p (line_at (drop p B) p false 0) (line_at (drop p B) 0 false 0)
+    alike_alone = line_alike (drop p B) p 0 p (omega arith) false false 0 (omega arith)
+
+    goes_on_by : (x z : Read (Row AnEntry × Bool)) → line_at (drop p B) p false 0 ≡ x → Alike (SameEnd SameFlag) p x z → (line_read_of (drop p B) z).ended ≡ true → first_fault_from B p ≡ first_fault_from B (p + (line_read_of (drop p B) z).next)
+    goes_on_by _ _ is (both_give (same_end {x = x} {y = y} {p = q} flag)) ended =
+        let newline : x.1 ≡ true = flag ∙ (and_parts _ _ ended).0 in
+        goes_on_here x.0 q (is ∙ ap (λ (b : Bool). Ok ((x.0, b), q)) newline)
+    goes_on_by _ _ is (both_stop moves) ended = absurd cc
+
+    ends_by : (x z : Read (Row AnEntry × Bool)) → line_at (drop p B) p false 0 ≡ x → Alike (SameEnd SameFlag) p x z → Within (LineEnd (drop p B) 0 false 0) 0 (length (drop p B)) 0 z → (line_read_of (drop p B) z).ended ≡ false → ((f : Fault) → (line_read_of (drop p B) z).kind ≡ faulty_line f → ⊥) → first_fault_from B p ≡ None
+    ends_by _ _ is (both_give (same_end {x = x} {y = y} {p = q} flag)) line ended sound =
+        let newline : x.1 ≡ false = flag ∙ not_ended y.1 _ ended (λ e. (line.2.1 e).1) in
+        ends_here x.0 q (is ∙ ap (λ (b : Bool). Ok ((x.0, b), q)) newline)
+    ends_by _ _ is (both_stop {g = g} moves) line ended sound = absurd (sound g refl)
+
+    stops_by : (x z : Read (Row AnEntry × Bool)) (f : Fault) → line_at (drop p B) p false 0 ≡ x → Alike (SameEnd SameFlag) p x z → (line_read_of (drop p B) z).kind ≡ faulty_line f → first_fault_from B p ≡ Some (moved p f)
+    stops_by _ _ f is (both_give (same_end {y = y} flag)) kind = absurd (not_faulty y.0 y.1 f kind)
+    stops_by _ _ f is (both_stop {f = e} {g = g} moves) kind = let same : g ≡ f = cc in stops_here e is ∙ ap Some (moves ∙ ap (moved p) same)
+
+-- behind a line that a newline token ended stand those that decide
+pub fault_goes_on : (B : List ℕ) (p : ℕ) (l : ALine) → p ≤ length B → IsLine (drop p B) l → l.ended ≡ true → first_fault_from B p ≡ first_fault_from B (p + l.next)
+unfolding line_of_text
+fault_goes_on B p l within is =
+    let P : ALine → Type 0 = λ m. m.ended ≡ true → first_fault_from B p ≡ first_fault_from B (p + m.next) in
+    subst P (sym (line_only (drop p B) l is)) (goes_on_by B p within _ _ refl (alike_alone B p within))
+
+-- a line that the end of the text ended is the last one
+pub fault_is_none : (B : List ℕ) (p : ℕ) (l : ALine) → p ≤ length B → IsLine (drop p B) l → l.ended ≡ false → ((f : Fault) → l.kind ≡ faulty_line f → ⊥) → first_fault_from B p ≡ None
+unfolding line_of_text
+fault_is_none B p l within is =
+    let P : ALine → Type 0 = λ m. m.ended ≡ false → ((f : Fault) → m.kind ≡ faulty_line f → ⊥) → first_fault_from B p ≡ None in
+    subst P (sym (line_only (drop p B) l is)) (ends_by B p within _ _ refl (alike_alone B p within) (line_within (drop p B) 0 false 0 (omega arith)))
+
+-- so it is where nothing is left
+pub fault_is_none_at_end : (B : List ℕ) (p : ℕ) (l : ALine) → p ≤ length B → IsLine (drop p B) l → l.ended ≡ false → l.kind ≡ end_line → first_fault_from B p ≡ None
+fault_is_none_at_end B p l within is ended kind = fault_is_none B p l within is ended (λ f faulty. cc)
+
+-- and behind the last entries
+pub fault_is_none_behind : (B : List ℕ) (p : ℕ) (l : ALine) (es : Entries) → p ≤ length B → IsLine (drop p B) l → l.ended ≡ false → l.kind ≡ entries_line es → first_fault_from B p ≡ None
+fault_is_none_behind B p l es within is ended kind = fault_is_none B p l within is ended (λ f faulty. cc)
+
+-- a fault of a line is the first one of those from there on
+pub fault_is_here : (B : List ℕ) (p : ℕ) (f : Fault) (l : ALine) → p ≤ length B → IsLine (drop p B) l → l.kind ≡ faulty_line f → first_fault_from B p ≡ Some (record { kind = f.kind; at = p + f.at })
+unfolding line_of_text
+fault_is_here B p f l within is =
+    let P : ALine → Type 0 = λ m. m.kind ≡ faulty_line f → first_fault_from B p ≡ Some (moved p f) in
+    subst P (sym (line_only (drop p B) l is)) (stops_by B p within _ _ f refl (alike_alone B p within))
+
+-- from the first byte on it is that of the script
+pub first_fault_is : (B : List ℕ) → FirstFault B (first_fault_from B 0)
+unfolding first_fault_from script_at
+first_fault_is B = ((script_at B).entries, script_is B)
