@@ -2,3 +2,4 @@ pub mod Device
 pub mod Message
 pub mod Report
 pub mod Words
+pub mod Search

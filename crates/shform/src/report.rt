@@ -1,5 +1,5 @@
 //! What the program says of an input, and the status that it answers.
-ghost use Rattle.std.specs.Prelude.{◌≡◌, ◌||◌, ◌++◌, ◌<◌, ℕ, List, Err, false, is_ok, length, not};
+ghost use Rattle.std.specs.Prelude.{◌≡◌, ◌||◌, ◌++◌, ◌<◌, ◌≤◌, ℕ, List, Err, false, is_ok, length, not};
 ghost use Rattle.shform.specs.Device.{Writes, held_of, output_failed};
 ghost use Rattle.shform.specs.Report.{IsTold, TellsFault};
 
@@ -68,12 +68,12 @@ pub fn tell<S: Source, E: Write>(
     errors: &mut Output<E>,
 ) -> u8
     requires sound { output_failed errors.old ≡ false }
+    requires within { fault.at ≤ length (S.bytes script.now) }
     requires room { length (S.bytes script.now) < usize.MAX }
     ensures told { TellsFault name.now (S.bytes script.now) fault
         (held_of E.contents errors.old) (held_of E.contents errors.new) (output_failed errors.new) result }
 {
-    // No clause of the reader bounds the offset; past the end the place is that of the end.
-    let (line, col) = line_col_of(script, fault.at.min(script.len()));
+    let (line, col) = line_col_of(script, fault.at);
     let Ok(text) = message(alloc, name.as_bytes(), line, col, fault) else {
         return give_up(name, Stop::Memory, errors);
     };
