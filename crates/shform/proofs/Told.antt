@@ -1,0 +1,17 @@
+-- What was told of an input.
+use Rattle.std.proofs.Common.{◌≡◌, ℕ, ◌||◌, Bool, true, false, List, Option, Err, cond, refl}
+use Rattle.shform.specs.Device.{Writes}
+use Rattle.shform.specs.Report.{IsTold, text_of_stop}
+use Rattle.shform.specs.declared.report.Stop.{Stop}
+use Rattle.shform.proofs.Known.{Writes-marked}
+
+-- the answer is 2, whether the device failed or not
+two : (broken : Bool) (status : ℕ) → status ≡ 2 → status ≡ cond broken 2 2
+two true status e = e
+two false status e = e
+
+-- why the input was given up
+pub given-up : (name read text : List ℕ) (stop : Stop) (a b : Option (List ℕ)) (before after wrote : Bool)
+    → before ≡ false → after ≡ (before || wrote) → text ≡ text_of_stop name stop → Writes a b wrote text → IsTold name read (Err stop) a b after 2
+given-up name read text stop a b before after wrote sound told same p =
+    record { written = Writes-marked a b before after wrote text (text_of_stop name stop) sound told same p; answer = two after 2 refl }

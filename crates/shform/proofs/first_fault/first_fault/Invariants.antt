@@ -1,0 +1,11 @@
+use Rattle.std.proofs.Common.{◌≡◌, ◌≤◌, ◌-◌, length}
+use Rattle.shread.specs.Reading.{first_fault_from}
+use Rattle.shform.proofs.first_fault.first_fault.Given as goal
+
+abbrev pub invariant-lines : goal.invariant-lines
+invariant-lines g l =
+    let bytes = g.S.Source.bytes l.source in
+    (first_fault_from bytes l.at ≡ first_fault_from bytes 0) × (l.at ≤ length bytes)
+
+abbrev pub decreases-lines : goal.decreases-lines
+decreases-lines g l = length (g.S.Source.bytes l.source) - l.at

@@ -1,0 +1,5 @@
+pub mod Device
+pub mod Message
+pub mod Report
+pub mod Words
+pub mod Search

@@ -1,0 +1,63 @@
+-- What is said of an input, and the status that is answered.
+use Rattle.std.specs.Prelude.{◌≡◌, ◌⊎◌, ℕ, ◌+◌, ◌≤◌, ◌++◌, [], Bool, true, false, List, Option, None, Some, Result, Ok, Err, length, codes, if◌then◌else◌}
+use Rattle.std.specs.Io.KnownBytes.{Consumes}
+use Rattle.shread.specs.Lines.{FirstFault}
+use Rattle.shread.specs.Text.{line_of, column_of}
+use Rattle.shread.specs.declared.fault.Fault.{Fault}
+use Rattle.shform.specs.Device.{Writes}
+use Rattle.shform.specs.Message.{message_text}
+use Rattle.shform.specs.declared.report.Stop.{Stop}
+use Rattle.shform.specs.declared.report.Stop.TheVariants.{Unreadable, TooLarge, Memory}
+
+-- the most bytes that a script has
+abbrev pub limit : ℕ
+limit = 16777216
+
+-- what is said where the input is given up
+abbrev pub text_of_stop : List ℕ → Stop → List ℕ
+text_of_stop name Unreadable = codes "shform: cannot read " ++ name ++ codes "\n"
+text_of_stop name TooLarge = codes "shform: " ++ name ++ codes ": too large\n"
+text_of_stop name Memory = codes "shform: out of memory\n"
+
+-- A verdict is the first fault of a script, None where it has none, or why there is no answer.
+-- Here, what is said for a verdict on the bytes that were read.
+abbrev pub text_of : List ℕ → List ℕ → Result (Option Fault) Stop → List ℕ
+text_of name read (Ok None) = []
+text_of name read (Ok (Some fault)) = message_text name (line_of read fault.at) (column_of read fault.at) fault
+text_of name read (Err stop) = text_of_stop name stop
+
+-- the status of a verdict
+abbrev pub status_of : Result (Option Fault) Stop → ℕ
+status_of (Ok None) = 0
+status_of (Ok (Some fault)) = 1
+status_of (Err stop) = 2
+
+-- The verdict on the bytes that were read was told: standard error held and holds bytes, whether a write there failed; and the status.
+pub record IsTold (name read : List ℕ) (verdict : Result (Option Fault) Stop) (held holds : Option (List ℕ)) (broken : Bool) (status : ℕ) : Type 0 where
+  pub written : Writes held holds broken (text_of name read verdict)
+  pub answer : status ≡ (if broken then 2 else status_of verdict)
+
+-- the fault was told, or that memory ran out
+abbrev pub TellsFault : List ℕ → List ℕ → Fault → Option (List ℕ) → Option (List ℕ) → Bool → ℕ → Type 0
+TellsFault name read fault held holds broken status =
+    IsTold name read (Ok (Some fault)) held holds broken status ⊎ IsTold name read (Err Memory) held holds broken status
+
+-- what was read and which ends were met where an input is given up: memory may run out at any time, before the end and after it
+abbrev pub StopsFor : List ℕ → Bool → Bool → Stop → Type 0
+StopsFor read failed ended Unreadable = (failed ≡ true) × (ended ≡ false) × (length read ≤ limit)
+StopsFor read failed ended TooLarge = (failed ≡ false) × (ended ≡ false) × (length read ≡ limit + 1)
+StopsFor read failed ended Memory = (failed ≡ false) × (length read ≤ limit)
+
+-- what was read and which ends were met where a verdict stands
+abbrev pub JudgedFor : List ℕ → Bool → Bool → Result (Option Fault) Stop → Type 0
+JudgedFor read failed ended (Ok fault) = (failed ≡ false) × (ended ≡ true) × (length read ≤ limit) × FirstFault read fault
+JudgedFor read failed ended (Err stop) = StopsFor read failed ended stop
+
+-- The report on an input. The bytes that the reader had and has left, whether a read failed or met the end; the bytes that
+-- standard error held and holds, whether a write there failed; and the status.
+pub record IsReport (name : List ℕ) (had has : Option (List ℕ)) (failed ended : Bool) (held holds : Option (List ℕ)) (broken : Bool) (status : ℕ) : Type 0 where
+  pub read : List ℕ
+  pub verdict : Result (Option Fault) Stop
+  pub consumed : Consumes had has read
+  pub judged : JudgedFor read failed ended verdict
+  pub told : IsTold name read verdict held holds broken status

@@ -1,0 +1,78 @@
+//! Reading an input whole, under the limit, and reporting on it.
+ghost use Rattle.std.specs.Prelude.{◌≡◌, ◌≢◌, ◌≤◌, ℕ, List, IfErr, IfOk, false, length, true};
+ghost use Rattle.std.specs.Io.KnownBytes.{Consumes, IsAtEnd};
+ghost use Rattle.shform.specs.Device.{held_of, input_ended, input_failed, left_of, output_failed};
+ghost use Rattle.shform.specs.Report.{IsReport, StopsFor, limit};
+
+use crate::device::{Failed, Input, Output};
+use crate::first_fault::first_fault;
+use crate::report::{Stop, give_up, tell};
+use shread::Flat;
+use std::alloc::{AllocError, Global};
+use std::io::{Read, Write};
+
+/// The most bytes that a script has.
+pub const LIMIT: usize = 16_777_216;
+
+/// The most bytes that are read at once.
+const PIECE: usize = 8192;
+
+/// The whole input. It reads to the end, but never past the first byte beyond the limit, and memory grows with what was read.
+fn read_whole<R: Read>(alloc: Global, input: &mut Input<R>) -> Result<Vec<u8>, Stop>
+    requires sound { input_failed input.old ≡ false }
+    requires open { input_ended input.old ≡ false }
+    ensures ok { IfOk result (λ text. Consumes (left_of R.remaining input.old) (left_of R.remaining input.new) text.items
+        × (IsAtEnd (left_of R.remaining input.new)) × (length text.items ≤ limit)
+        × (input_failed input.new ≡ false) × (input_ended input.new ≡ true)) }
+    ensures err { IfErr result (λ stop. (read : List ℕ) × (Consumes (left_of R.remaining input.old) (left_of R.remaining input.new) read)
+        × StopsFor read (input_failed input.new) (input_ended input.new) stop) }
+{
+    let mut text = Vec::new(alloc);
+    let mut piece = [0; PIECE];
+    loop {
+        let room = (LIMIT - text.len() + 1).min(PIECE);
+        let count = match input.read(&mut piece[..room]) {
+            Ok(count) => count,
+            Err(Failed) => return Err(Stop::Unreadable),
+        };
+        if count == 0 {
+            return Ok(text);
+        }
+        if count > LIMIT - text.len() {
+            return Err(Stop::TooLarge);
+        }
+        if text.extend_from_slice(&piece[..count]).is_err() {
+            return Err(Stop::Memory);
+        }
+    }
+}
+
+/// Reads the input whole, and tells the first fault of the script on `errors`, or why there is no verdict. The answer is 0 for a
+/// faultless script, 1 for a faulty one, and 2 where an end or memory failed, or the script is too large.
+pub fn check_engine<R: Read, O: Write, E: Write>(
+    alloc: Global,
+    name: &str,
+    input: &mut Input<R>,
+    output: &mut Output<O>,
+    errors: &mut Output<E>,
+) -> u8
+    requires sound { input_failed input.old ≡ false }
+    requires open { input_ended input.old ≡ false }
+    requires unbroken { output_failed errors.old ≡ false }
+    ensures report { IsReport name.now (left_of R.remaining input.old) (left_of R.remaining input.new) (input_failed input.new) (input_ended input.new)
+        (held_of E.contents errors.old) (held_of E.contents errors.new) (output_failed errors.new) result }
+    ensures whole { result ≢ 2 → (input_ended input.new ≡ true) × IsAtEnd (left_of R.remaining input.new) }
+    ensures silent { output.new ≡ output.old }
+{
+    let _ = &*output;
+    let text = match read_whole(alloc, input) {
+        Ok(text) => text,
+        Err(stop) => return give_up(name, stop, errors),
+    };
+    let script = Flat::new(&text);
+    match first_fault(alloc, &script) {
+        Ok(None) => 0,
+        Ok(Some(fault)) => tell(alloc, name, &script, fault, errors),
+        Err(AllocError) => give_up(name, Stop::Memory, errors),
+    }
+}

@@ -1,0 +1,84 @@
+//! What the program says of an input, and the status that it answers.
+ghost use Rattle.std.specs.Prelude.{◌≡◌, ◌||◌, ◌++◌, ◌<◌, ◌≤◌, ℕ, List, Err, false, is_ok, length, not};
+ghost use Rattle.shform.specs.Device.{Writes, held_of, output_failed};
+ghost use Rattle.shform.specs.Report.{IsTold, TellsFault};
+
+use crate::device::{Failed, Output};
+use crate::messages::message;
+use shread::{Fault, Source, line_col_of};
+use std::alloc::Global;
+use std::io::Write;
+
+/// Why an input was given up.
+#[derive(Clone, Copy, Debug, PartialEq, Eq)]
+pub enum Stop {
+    /// The input cannot be read.
+    Unreadable,
+    /// It has more bytes than the limit.
+    TooLarge,
+    /// Memory ran out.
+    Memory,
+}
+
+/// Writes a text and flushes it.
+fn write_flushed<E: Write>(errors: &mut Output<E>, text: &[u8]) -> Result<(), Failed>
+    ensures bytes { Writes (held_of E.contents errors.old) (held_of E.contents errors.new) (not (is_ok result)) text.now }
+    ensures failed { output_failed errors.new ≡ (output_failed errors.old || not (is_ok result)) }
+{
+    errors.write_whole(text)?;
+    errors.flush()
+}
+
+/// Writes a text of three parts and flushes it. It takes no memory.
+fn write_parts<E: Write>(
+    errors: &mut Output<E>,
+    before: &[u8],
+    name: &[u8],
+    after: &[u8],
+) -> Result<(), Failed>
+    ensures bytes { Writes (held_of E.contents errors.old) (held_of E.contents errors.new) (not (is_ok result)) (before.now ++ name.now ++ after.now) }
+    ensures failed { output_failed errors.new ≡ (output_failed errors.old || not (is_ok result)) }
+{
+    errors.write_whole(before)?;
+    errors.write_whole(name)?;
+    write_flushed(errors, after)
+}
+
+/// Says why the input was given up, and answers 2. It takes no memory.
+pub fn give_up<E: Write>(name: &str, stop: Stop, errors: &mut Output<E>) -> u8
+    requires sound { output_failed errors.old ≡ false }
+    ensures answer { result ≡ 2 }
+    ensures told { (read : List ℕ) → IsTold name.now read (Err stop)
+        (held_of E.contents errors.old) (held_of E.contents errors.new) (output_failed errors.new) result }
+{
+    let _ = match stop {
+        Stop::Unreadable => write_parts(errors, b"shform: cannot read ", name.as_bytes(), b"\n"),
+        Stop::TooLarge => write_parts(errors, b"shform: ", name.as_bytes(), b": too large\n"),
+        Stop::Memory => write_flushed(errors, b"shform: out of memory\n"),
+    };
+    2
+}
+
+/// Tells a fault of the script, and answers 1; where that fails, or finds no memory, 2.
+pub fn tell<S: Source, E: Write>(
+    alloc: Global,
+    name: &str,
+    script: &S,
+    fault: Fault,
+    errors: &mut Output<E>,
+) -> u8
+    requires sound { output_failed errors.old ≡ false }
+    requires within { fault.at ≤ length (S.bytes script.now) }
+    requires room { length (S.bytes script.now) < usize.MAX }
+    ensures told { TellsFault name.now (S.bytes script.now) fault
+        (held_of E.contents errors.old) (held_of E.contents errors.new) (output_failed errors.new) result }
+{
+    let (line, col) = line_col_of(script, fault.at);
+    let Ok(text) = message(alloc, name.as_bytes(), line, col, fault) else {
+        return give_up(name, Stop::Memory, errors);
+    };
+    match write_flushed(errors, &text) {
+        Ok(()) => 1,
+        Err(Failed) => 2,
+    }
+}
