@@ -11,7 +11,7 @@ use Rattle.shread.specs.Words.{begins_piece, is_pid}
 use Rattle.shread.specs.Commands.{is_word, is_parted, separator_at, remark_place, comment_at, past_comment}
 use Rattle.shread.specs.Comes.{Read, Step, again, done, step_if}
 use Rattle.shread.specs.Lines.{is_empty, begins_command, with_remark}
-use Rattle.shread.specs.Reading.{◌>>=◌, turns, piece_step, word_at, assignment_step, argument_step, simple_at, pipeline_at, and_or_at, entry_at, entry_step, line_end_of, end_of_line_at, line_at}
+use Rattle.shread.specs.Reading.{◌>>=◌, turns, piece_step, word_at, assignment_step, argument_step, simple_at, pipeline_at, and_or_at, entry_at, entry_step, end_of_line_of, end_of_line_at, line_at}
 use Rattle.shread.proofs.Loops.{Keeps, turns_keep}
 use Rattle.shread.proofs.NormalForm.{no_items, no_entries}
 use Rattle.shread.proofs.Places.{blanks_high}
@@ -213,17 +213,17 @@ module _ (T : List ℕ) (o u d : ℕ) (far : o ≡ d + u) where
       (λ es fs q high any. next_alike blank white es fs q high) [] [] p within (omega arith, no_entries blank) tt
 
   -- the token behind them
-  line_end_alike : (es fs : Row AnEntry) (p : ℕ) (t : Token) → Alike (SameEnd SameFlag) d (line_end_of o es p t) (line_end_of u fs p t)
-  line_end_alike es fs p tokens.Newline = both_give (same_end refl)
-  line_end_alike es fs p tokens.End = both_give (same_end refl)
-  line_end_alike es fs p _ = both_stop (fault_moved _ p)
+  end_of_line_alike : (es fs : Row AnEntry) (p : ℕ) (t : Token) → Alike (SameEnd SameFlag) d (end_of_line_of o es p t) (end_of_line_of u fs p t)
+  end_of_line_alike es fs p tokens.Newline = both_give (same_end refl)
+  end_of_line_alike es fs p tokens.End = both_give (same_end refl)
+  end_of_line_alike es fs p _ = both_stop (fault_moved _ p)
 
   -- the end of a line
   end_so : (blank white : Bool) (x y : Row AnEntry × ℕ) → SameEnd Any x y
       → Alike (SameEnd SameFlag) d (end_of_line_at T o blank x.0 x.1) (end_of_line_at T u white y.0 y.1)
   unfolding end_of_line_at
   end_so blank white _ _ (same_end {x = es} {y = fs} {p = p} same) =
-      line_end_alike (with_remark blank es (comment_at T o p)) (with_remark white fs (comment_at T u p)) (past_comment T p)
+      end_of_line_alike (with_remark blank es (comment_at T o p)) (with_remark white fs (comment_at T u p)) (past_comment T p)
       (token_at T (past_comment T p))
 
   -- a line goes the same way in each script

@@ -1,6 +1,6 @@
 -- An answer of the reference reader is the outcome, and the only one.
 use Rattle.std.proofs.Common.{◌≡◌, ℕ, List, sym, subst, ◌∙◌}
-use Rattle.shread.specs.Lines.{ALine, AScript, IsLine, IsOutcome}
+use Rattle.shread.specs.Lines.{ALine, AScript, IsLine, Outcome}
 use Rattle.shread.specs.Normal.{IsNormal}
 use Rattle.shread.specs.Reading.{line_of_text, script_at}
 use Rattle.shread.proofs.Scripts.{line_is, line_only, script_is, script_only}
@@ -12,10 +12,10 @@ line_answered T l e = subst (IsLine T) (sym e) (line_is T)
 pub line_alone : (T : List ℕ) (l : ALine) → l ≡ line_of_text T → (a : ALine) → IsLine T a → a ≡ l
 line_alone T l e a h = line_only T a h ∙ sym e
 
-pub script_answered : (B : List ℕ) (s : AScript) → s ≡ script_at B → IsOutcome B s
-script_answered B s e = subst (IsOutcome B) (sym e) (script_is B)
+pub script_answered : (B : List ℕ) (s : AScript) → s ≡ script_at B → Outcome B s
+script_answered B s e = subst (Outcome B) (sym e) (script_is B)
 
-pub script_alone : (B : List ℕ) (s : AScript) → s ≡ script_at B → (a : AScript) → IsOutcome B a → a ≡ s
+pub script_alone : (B : List ℕ) (s : AScript) → s ≡ script_at B → (a : AScript) → Outcome B a → a ≡ s
 script_alone B s e a h = script_only B a h ∙ sym e
 
 pub script_in_normal_form : (B : List ℕ) (s : AScript) → s ≡ script_at B → IsNormal s.entries

@@ -3,7 +3,7 @@ use Rattle.std.proofs.Common.{◌≡◌, ◌≢◌, ℕ, ◌+◌, ◌-◌, ◌<�
 use Rattle.std.proofs.lemmas.Bool.{ne_eqb, eq-eqb}
 use Rattle.std.proofs.lemmas.Option.{slice_get-get_or, slice_get_past}
 use Rattle.shread.specs.Text.{IsNextPlace, IsLeastPlace, NowhereFrom, is_newline}
-use Rattle.shread.specs.Bytes.{past, stands_in, passes, line_end}
+use Rattle.shread.specs.Bytes.{past, stands_in, passes, next_newline}
 use Rattle.shread.proofs.Stretches.{get_drop, past_is}
 
 -- a byte that is no newline
@@ -28,8 +28,8 @@ none_past B base k le =
     rw at refl
 
 -- the line ends at the newline that was found
-pub line_end_found : (B : List ℕ) (base p q : ℕ) → IsNextPlace 10 B (base + p) (Some q) → line_end (drop base B) p ≡ q - base
-line_end_found B base p q found =
+pub next_newline_found : (B : List ℕ) (base p q : ℕ) → IsNextPlace 10 B (base + p) (Some q) → next_newline (drop base B) p ≡ q - base
+next_newline_found B base p q found =
     let low : base + p ≤ q = found.low in
     let within : q < length B = found.within in
     let there : base + (p + (q - base - p)) ≡ q = omega arith in
@@ -39,8 +39,8 @@ line_end_found B base p q found =
     ∙ omega arith
 
 -- the line ends with the text
-pub line_end_none : (B : List ℕ) (base p : ℕ) → base + p ≤ length B → IsNextPlace 10 B (base + p) None → line_end (drop base B) p ≡ length B - base
-line_end_none B base p le none =
+pub next_newline_none : (B : List ℕ) (base p : ℕ) → base + p ≤ length B → IsNextPlace 10 B (base + p) None → next_newline (drop base B) p ≡ length B - base
+next_newline_none B base p le none =
     let there : base + (p + (length B - base - p)) ≡ length B = omega arith in
     past_is (λ b. not (is_newline b)) (drop base B) p (length B - base - p)
     (λ k k_low k_high. other_inside B base k (omega arith) (none (base + k) (omega arith) (omega arith)))

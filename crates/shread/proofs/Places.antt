@@ -8,7 +8,7 @@ use Rattle.shread.specs.Text.{is_newline}
 use Rattle.shread.specs.declared.token.Token.{Token}
 use Rattle.shread.specs.declared.token.Token.TheVariants as tokens
 use Rattle.shread.specs.declared.token.Class.TheVariants as classes
-use Rattle.shread.specs.Bytes.{is_blank, is_operator, is_letter, in_class, is_byte, stands, ends, ends_word, passes, stands_in, count_front, past, past_blanks, line_end, before_blanks, begins_assignment, is_number, token_of, token_at}
+use Rattle.shread.specs.Bytes.{is_blank, is_operator, is_letter, in_class, is_byte, stands, ends, ends_word, passes, stands_in, count_front, past, past_blanks, next_newline, before_blanks, begins_assignment, is_number, token_of, token_at}
 use Rattle.shread.specs.Words.{is_pid}
 use Rattle.shread.specs.Commands.{is_word, past_comment, is_parted, separator_by, separator_at, past_separator}
 use Rattle.shread.proofs.Stretches.{get_drop}
@@ -85,12 +85,12 @@ pub blanks_high : (T : List ℕ) (p : ℕ) → p ≤ length T → past_blanks T 
 blanks_high T p within = past_high (in_class classes.Blank) T p within
 
 -- the end of a line
-pub line_end_low : (T : List ℕ) (p : ℕ) → p ≤ line_end T p
-line_end_low T p = past_low (λ b. not (is_newline b)) T p
+pub next_newline_low : (T : List ℕ) (p : ℕ) → p ≤ next_newline T p
+next_newline_low T p = past_low (λ b. not (is_newline b)) T p
 
 -- it is not past the end of the text
-pub line_end_high : (T : List ℕ) (p : ℕ) → p ≤ length T → line_end T p ≤ length T
-line_end_high T p within = past_high (λ b. not (is_newline b)) T p within
+pub next_newline_high : (T : List ℕ) (p : ℕ) → p ≤ length T → next_newline T p ≤ length T
+next_newline_high T p within = past_high (λ b. not (is_newline b)) T p within
 
 -- without the blanks before it a stretch is not longer
 pub before_blanks_high : (T : List ℕ) (q : ℕ) → before_blanks T q ≤ q
@@ -102,12 +102,12 @@ before_blanks_high T (suc q) =
 -- a comment
 pub comment_low : (T : List ℕ) (p : ℕ) → p ≤ past_comment T p
 unfolding past_comment
-comment_low T p = cond_both (stands T p 35) _ _ (λ n. p ≤ n) (λ e. line_end_low T p) (λ e. omega arith)
+comment_low T p = cond_both (stands T p 35) _ _ (λ n. p ≤ n) (λ e. next_newline_low T p) (λ e. omega arith)
 
 -- it is not past the end of the text
 pub comment_high : (T : List ℕ) (p : ℕ) → p ≤ length T → past_comment T p ≤ length T
 unfolding past_comment
-comment_high T p within = cond_both (stands T p 35) _ _ (λ n. n ≤ length T) (λ e. line_end_high T p within) (λ e. within)
+comment_high T p within = cond_both (stands T p 35) _ _ (λ n. n ≤ length T) (λ e. next_newline_high T p within) (λ e. within)
 
 -- ---- tokens
 

@@ -13,7 +13,7 @@ use Rattle.shread.specs.Commands.{is_word, comment_at, past_comment, past_separa
 use Rattle.shread.specs.Comes.{Read, step_if}
 use Rattle.shread.specs.Lines.{is_empty, begins_command, with_remark}
 use Rattle.shread.specs.Normal.{is_blank_entry, IsNormal, NormalAndOr, NormalCommand, NormalEntry, NormalPipeline, NormalSubsts, NormalWord}
-use Rattle.shread.specs.Reading.{◌>>=◌, turns, piece_step, word_at, assignment_step, argument_step, simple_at, pipeline_at, and_or_at, entry_at, entry_step, line_end_of, end_of_line_at, line_at, SoFar, script_next, script_step, nothing_yet, script_of}
+use Rattle.shread.specs.Reading.{◌>>=◌, turns, piece_step, word_at, assignment_step, argument_step, simple_at, pipeline_at, and_or_at, entry_at, entry_step, end_of_line_of, end_of_line_at, line_at, SoFar, script_next, script_step, nothing_yet, script_of}
 use Rattle.shread.proofs.Loops.{Keeps, turns_keep}
 use Rattle.shread.proofs.NormalForm.{NormalRow, no_items, row_more, NormalLine, no_entries, line_more, script_more}
 use Rattle.shread.proofs.Places.{word_low, word_longer, pid_low, blanks_low, blanks_high, past_stops, word_begins, assignment_begins, newline_stands, stands_low, separator_low, separator_high, separator_onward, comment_low, comment_high}
@@ -192,22 +192,22 @@ module _ (T : List ℕ) (o : ℕ) where
   LineEnd blank s x q = NormalLine blank x.0 × (x.1 ≡ true → (s < q) × (stands T (q - 1) 10 ≡ true))
 
   -- by the token there
-  line_end_by : (blank : Bool) (s : ℕ) (es : Row AnEntry) (p : ℕ) (t : Token) → token_at T p ≡ t → s ≤ p → p ≤ length T → NormalLine blank es
-      → Within (LineEnd blank s) o (length T) s (line_end_of o es p t)
-  line_end_by blank s es p tokens.Newline is low within line =
+  end_of_line_by : (blank : Bool) (s : ℕ) (es : Row AnEntry) (p : ℕ) (t : Token) → token_at T p ≡ t → s ≤ p → p ≤ length T → NormalLine blank es
+      → Within (LineEnd blank s) o (length T) s (end_of_line_of o es p t)
+  end_of_line_by blank s es p tokens.Newline is low within line =
       let stands_here = newline_stands T p is in
       let lt = stands_low T p 10 stands_here in
       let back : p + 1 - 1 ≡ p = omega arith in
       (omega arith, omega arith, (line, λ e. (omega arith, rw back stands_here)))
-  line_end_by blank s es p tokens.End is low within line = (low, within, (line, λ e. absurd cc))
-  line_end_by blank s es p _ is low within line = omega (arith, within)
+  end_of_line_by blank s es p tokens.End is low within line = (low, within, (line, λ e. absurd cc))
+  end_of_line_by blank s es p _ is low within line = omega (arith, within)
 
   -- the end of a line
   end_within : (blank : Bool) (s : ℕ) (es : Row AnEntry) (p : ℕ) → s ≤ p → p ≤ length T → NormalLine blank es
       → Within (LineEnd blank s) o (length T) s (end_of_line_at T o blank es p)
   unfolding end_of_line_at
   end_within blank s es p low within line =
-      line_end_by blank s _ (past_comment T p) _ refl (omega (arith, comment_low T p)) (comment_high T p within)
+      end_of_line_by blank s _ (past_comment T p) _ refl (omega (arith, comment_low T p)) (comment_high T p within)
       (remark_keeps blank es (comment_at T o p) line)
 
   -- all entries

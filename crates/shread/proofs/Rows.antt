@@ -7,8 +7,8 @@ use Rattle.shread.specs.Bytes.{past_blanks, token_at}
 use Rattle.shread.specs.Words.{piece, a_word}
 use Rattle.shread.specs.Commands.{an_assignment, an_argument, a_simple, a_pipeline, an_and_or, an_entry, comment_at, past_comment}
 use Rattle.shread.specs.Comes.{Many}
-use Rattle.shread.specs.Lines.{is_empty, next_entry, with_remark, line_end_by, end_of_line, a_line}
-use Rattle.shread.specs.Reading.{turns, piece_step, word_at, assignment_step, argument_step, simple_at, pipeline_at, and_or_at, entry_at, entry_step, line_end_of, end_of_line_at, line_at}
+use Rattle.shread.specs.Lines.{is_empty, next_entry, with_remark, end_of_line_by, end_of_line, a_line}
+use Rattle.shread.specs.Reading.{turns, piece_step, word_at, assignment_step, argument_step, simple_at, pipeline_at, and_or_at, entry_at, entry_step, end_of_line_of, end_of_line_at, line_at}
 use Rattle.shread.proofs.Is.{Is, is_give, is_stop, is_then, is_when}
 use Rattle.shread.proofs.Loops.{is_many}
 use Rattle.shread.proofs.NormalForm.{no_items, no_entries}
@@ -18,7 +18,7 @@ use Rattle.shread.proofs.Progress.{PiecesSo, PiecesEnd, piece_keeps, ItemsSo, It
 module _ (T : List ℕ) (o : ℕ) where
   is_piece : (ss : Row ASubst) (p : ℕ) → Is (piece T o ss p) (piece_step T o ss p)
   unfolding piece_step
-  is_piece ss p = is_when (λ e. is_give _) (λ e. is_when (λ f. is_stop _) (λ f. is_when (λ g. is_give _) (λ g. is_give _)))
+  is_piece ss p = is_when (λ e. is_give _) (λ e. is_when (λ f. is_stop _ _ _) (λ f. is_when (λ g. is_give _) (λ g. is_give _)))
 
   -- the pieces of a word
   is_pieces : (p : ℕ) → p ≤ length T → Is (Many (piece T o) [] p) (turns (length T) (piece_step T o) [] p)
@@ -88,15 +88,15 @@ module _ (T : List ℕ) (o : ℕ) where
       (is_next_entry blank) [] p within (omega arith, no_entries blank)
 
   -- the token behind them
-  is_line_end_by : (es : Row AnEntry) (p : ℕ) (t : Token) → Is (line_end_by o es p t) (line_end_of o es p t)
-  is_line_end_by es p tokens.Newline = is_give _
-  is_line_end_by es p tokens.End = is_give _
-  is_line_end_by es p _ = is_stop _
+  is_end_of_line_by : (es : Row AnEntry) (p : ℕ) (t : Token) → Is (end_of_line_by o es p t) (end_of_line_of o es p t)
+  is_end_of_line_by es p tokens.Newline = is_give _
+  is_end_of_line_by es p tokens.End = is_give _
+  is_end_of_line_by es p _ = is_stop _ _ _
 
   -- the end of a line
   is_end_of_line : (blank : Bool) (es : Row AnEntry) (p : ℕ) → Is (end_of_line T o blank es p) (end_of_line_at T o blank es p)
   unfolding end_of_line_at
-  is_end_of_line blank es p = is_line_end_by (with_remark blank es (comment_at T o p)) (past_comment T p) (token_at T (past_comment T p))
+  is_end_of_line blank es p = is_end_of_line_by (with_remark blank es (comment_at T o p)) (past_comment T p) (token_at T (past_comment T p))
 
   -- a line has one outcome
   pub is_line : (blank : Bool) (p : ℕ) → p ≤ length T → Is (a_line T o blank p) (line_at T o blank p)

@@ -4,7 +4,7 @@ use Rattle.std.proofs.lemmas.List.{length-drop}
 use Rattle.shread.specs.Tree.{AnEntry}
 use Rattle.shread.specs.Bytes.{stands}
 use Rattle.shread.specs.Comes.{Read}
-use Rattle.shread.specs.Lines.{is_empty, a_line, ALine, IsLine, line_read, line_stops, AScript, Lines, line_ended, last_line, faulty, IsOutcome}
+use Rattle.shread.specs.Lines.{is_empty, a_line, ALine, IsLine, line_read, line_stops, AScript, Lines, line_ended, last_line, faulty, Outcome}
 use Rattle.shread.specs.Reading.{turns, line_at, SoFar, script_next, script_step, nothing_yet, script_of, script_at, line_read_of, line_of_text}
 use Rattle.shread.proofs.Is.{Is}
 use Rattle.shread.proofs.Loops.{Keeps, turns_keep}
@@ -54,15 +54,15 @@ module _ (B : List ℕ) where
 
   -- the lines before p, and then the rest
   abbrev Leads : SoFar → ℕ → Type 0
-  Leads s p = ScriptSo B s p × ((y : AScript) → Lines B s.entries s.gap p y → IsOutcome B y)
+  Leads s p = ScriptSo B s p × ((y : AScript) → Lines B s.entries s.gap p y → Outcome B y)
 
   -- what is made of all lines
   abbrev Ends : Read SoFar → Type 0
-  Ends x = IsOutcome B (script_of x)
+  Ends x = Outcome B (script_of x)
 
   -- by the outcome of one line
   next_leads : (s : SoFar) (p : ℕ) (x : Read (Row AnEntry × Bool)) → Keeps (length B) (ScriptSo B) (ScriptEnd B) p (script_next s p x)
-      → s.wrong ≡ None → a_line (drop p B) p (s.gap && not (is_empty s.entries)) 0 x → ((y : AScript) → Lines B s.entries s.gap p y → IsOutcome B y)
+      → s.wrong ≡ None → a_line (drop p B) p (s.gap && not (is_empty s.entries)) 0 x → ((y : AScript) → Lines B s.entries s.gap p y → Outcome B y)
       → Keeps (length B) Leads Ends p (script_next s p x)
   next_leads s p (Err f) kept none part before = before _ (faulty part)
   next_leads s p (Ok ((ls, true), q)) kept none part before = (kept.0, kept.1, (kept.2, λ y rest. before y (line_ended part rest)))
@@ -76,7 +76,7 @@ module _ (B : List ℕ) where
       (is_line_after s.entries s.gap p).some so.1
 
   -- the script that is computed is an outcome
-  pub script_is : IsOutcome B (script_at B)
+  pub script_is : Outcome B (script_at B)
   unfolding script_at
   script_is = turns_keep (length B) (script_step B) Leads Ends step_leads nothing_yet 0 (omega arith) (((tt, tt), refl), λ y rest. rest)
 
@@ -111,6 +111,6 @@ module _ (B : List ℕ) where
       ap script_of (sym (turns_done (length B) (script_step B) (so_far es gap) _ p _ (step_is es gap p _ part)))
 
   -- and there is no other
-  pub script_only : (y : AScript) → IsOutcome B y → y ≡ script_at B
+  pub script_only : (y : AScript) → Outcome B y → y ≡ script_at B
   unfolding script_at
   script_only y is = lines_only [] false 0 y is (omega arith)

@@ -5,7 +5,7 @@ use Rattle.std.proofs.lemmas.List.{length-drop}
 use Rattle.shread.specs.declared.fault.Fault.{Fault}
 use Rattle.shread.specs.Tree.{Entries, AnEntry}
 use Rattle.shread.specs.Comes.{Read}
-use Rattle.shread.specs.Lines.{is_empty, ALine, AScript, IsLine, IsOutcome, FirstFault, end_line, entries_line, faulty_line, kind_of}
+use Rattle.shread.specs.Lines.{is_empty, ALine, AScript, IsLine, Outcome, FirstFault, end_line, entries_line, faulty_line, kind_of}
 use Rattle.shread.specs.Normal.{IsNormal}
 use Rattle.shread.specs.Reading.{turns, line_at, SoFar, script_next, script_step, nothing_yet, script_of, script_at, line_read_of, line_of_text, first_fault_from}
 use Rattle.shread.proofs.Alike.{moved, Alike, both_give, both_stop, SameEnd, same_end, SameStep, both_again, both_done, turns_alike, SameFlag, line_alike}
@@ -22,7 +22,7 @@ unfolding script_at
 script_normal B = (script_good B _ (script_within B 0 (omega arith))).0
 
 -- a fault of a script is not past its end
-pub fault_within : (B : List ℕ) (s : AScript) (f : Fault) → IsOutcome B s → s.wrong ≡ Some f → f.at ≤ length B
+pub fault_within : (B : List ℕ) (s : AScript) (f : Fault) → Outcome B s → s.wrong ≡ Some f → f.at ≤ length B
 unfolding script_at
 fault_within B s f is wrong =
     (script_good B _ (script_within B 0 (omega arith))).1 f (sym (ap (λ (y : AScript). y.wrong) (script_only B s is)) ∙ wrong)

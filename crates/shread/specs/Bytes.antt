@@ -78,8 +78,8 @@ abbrev pub past_blanks : List ℕ → ℕ → ℕ
 past_blanks T p = past (in_class classes.Blank) T p
 
 -- the newline, or the end, behind p
-abbrev pub line_end : List ℕ → ℕ → ℕ
-line_end T p = past (λ b. not (is_newline b)) T p
+abbrev pub next_newline : List ℕ → ℕ → ℕ
+next_newline T p = past (λ b. not (is_newline b)) T p
 
 -- the place behind the last byte before q that is no blank
 unfoldable pub before_blanks : List ℕ → ℕ → ℕ

@@ -6,7 +6,7 @@ use Rattle.shread.specs.declared.token.Separator.{Separator}
 use Rattle.shread.specs.declared.token.Separator.TheVariants.{Semicolon, Ampersand}
 use Rattle.shread.specs.declared.tree.Comment.{Comment}
 use Rattle.shread.specs.Tree.{ASubst, AWord, AnItem, AnEntry, ACommand, APipeline, AnAndOr, item, assign, argument, items_of, simple, pipeline, no_pipe, and_or, no_and_or, entry, command, remark}
-use Rattle.shread.specs.Bytes.{stands, past_blanks, line_end, before_blanks, token_at, is_reserved, begins_assignment}
+use Rattle.shread.specs.Bytes.{stands, past_blanks, next_newline, before_blanks, token_at, is_reserved, begins_assignment}
 use Rattle.shread.specs.Comes.{Comes, give, when, Then, ◌>>=◌, Many, Step, again, done}
 use Rattle.shread.specs.Words.{span, a_word}
 
@@ -34,7 +34,7 @@ an_argument T o is p =
     when (is_word (token_at T (past_blanks T p))) (a_word T o (past_blanks T p) >>= λ w. give (again (is ++ item false (argument w.0) ∷ []) w.1))
     (give (done is p))
 
--- assignments, and then words
+-- assignments, and then words; not empty, since a command begins with a word
 abbrev pub a_simple : List ℕ → ℕ → ℕ → Comes (ACommand × ℕ)
 a_simple T o p =
     Many (an_assignment T o) [] p >>= λ a.
@@ -53,11 +53,11 @@ an_and_or T o p = a_pipeline T o p >>= λ l. give (and_or l.0 no_and_or, l.1)
 
 -- the comment at p, where one stands
 unfoldable pub comment_at : List ℕ → ℕ → ℕ → Option Comment
-comment_at T o p = if stands T p 35 then Some (record { span = span o p (before_blanks T (line_end T p)) }) else None
+comment_at T o p = if stands T p 35 then Some (record { span = span o p (before_blanks T (next_newline T p)) }) else None
 
 -- the place behind the comment at p, where one stands
 unfoldable pub past_comment : List ℕ → ℕ → ℕ
-past_comment T p = if stands T p 35 then line_end T p else p
+past_comment T p = if stands T p 35 then next_newline T p else p
 
 -- ---- entries of a list (XCU 2.9.3)
 
@@ -70,7 +70,7 @@ separator_by _ = None
 unfoldable pub separator_at : List ℕ → ℕ → Option Separator
 separator_at T p = separator_by (token_at T (past_blanks T p))
 
--- `&` puts an and-or list in the background (XCU 2.9.3.1)
+-- `&` puts an and-or list in the background (XCU 2.9.3)
 abbrev pub is_background : Option Separator → Bool
 is_background None = false
 is_background (Some Semicolon) = false

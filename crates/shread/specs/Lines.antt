@@ -24,19 +24,20 @@ next_entry T o blank es p =
     when (begins_command T (past_blanks T p)) (an_entry T o (blank && is_empty es) (past_blanks T p) >>= λ e. give (step_if e.0.1 (es ++ e.0.0 ∷ []) e.1))
     (give (done es (past_blanks T p)))
 
--- the comment on a line of its own, as an entry
+-- the comment on a line of its own, as an entry; a command before it has taken it already
 abbrev pub with_remark : Bool → Row AnEntry → Option Comment → Row AnEntry
 with_remark blank es None = es
 with_remark blank es (Some c) = es ++ entry (remark c) false (blank && is_empty es) None ∷ []
 
--- the newline token or the end behind the entries; the answer tells whether it was a newline
-abbrev pub line_end_by : ℕ → Row AnEntry → ℕ → Token → Comes ((Row AnEntry × Bool) × ℕ)
-line_end_by o es p tokens.Newline = give ((es, true), p + 1)
-line_end_by o es p tokens.End = give ((es, false), p)
-line_end_by o es p _ = stop (fault Unexpected o p)
+-- The newline token or the end behind the entries; the answer tells whether it was a newline. What else stands there is
+-- unexpected: of words only a reserved one or a number can, which no fault is inside.
+abbrev pub end_of_line_by : ℕ → Row AnEntry → ℕ → Token → Comes ((Row AnEntry × Bool) × ℕ)
+end_of_line_by o es p tokens.Newline = give ((es, true), p + 1)
+end_of_line_by o es p tokens.End = give ((es, false), p)
+end_of_line_by o es p _ = stop Unexpected o p
 
 abbrev pub end_of_line : List ℕ → ℕ → Bool → Row AnEntry → ℕ → Comes ((Row AnEntry × Bool) × ℕ)
-end_of_line T o blank es p = line_end_by o (with_remark blank es (comment_at T o p)) (past_comment T p) (token_at T (past_comment T p))
+end_of_line T o blank es p = end_of_line_by o (with_remark blank es (comment_at T o p)) (past_comment T p) (token_at T (past_comment T p))
 
 -- a line from p on: entries, and a newline or the end
 abbrev pub a_line : List ℕ → ℕ → Bool → ℕ → Comes ((Row AnEntry × Bool) × ℕ)
@@ -52,7 +53,7 @@ pub data AKind : Type 0 where
   end_line : AKind
   faulty_line : Fault → AKind
 
--- what a line is, how long it is, and whether a newline ended it
+-- what a line is, the place behind it, and whether a newline token ended it and is its last byte
 pub record ALine : Type 0 where
   pub kind : AKind
   pub next : ℕ
@@ -83,9 +84,9 @@ pub data Lines (B : List ℕ) : Row AnEntry → Bool → ℕ → AScript → Typ
   faulty : {es : Row AnEntry} {gap : Bool} {p : ℕ} {f : Fault} → a_line (drop p B) p (gap && not (is_empty es)) 0 (Err f) → Lines B es gap p (record { entries = entries_of es; wrong = Some f })
 
 -- what is read of the bytes of a script
-abbrev pub IsOutcome : List ℕ → AScript → Type 0
-IsOutcome B s = Lines B [] false 0 s
+abbrev pub Outcome : List ℕ → AScript → Type 0
+Outcome B s = Lines B [] false 0 s
 
 -- the first fault of a script, or that it has none
 abbrev pub FirstFault : List ℕ → Option Fault → Type 0
-FirstFault B f = (es : Entries) × IsOutcome B (record { entries = es; wrong = f })
+FirstFault B f = (es : Entries) × Outcome B (record { entries = es; wrong = f })

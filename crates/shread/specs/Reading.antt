@@ -89,13 +89,13 @@ unfoldable pub entry_step : List ℕ → ℕ → Bool → Row AnEntry → ℕ �
 entry_step T o blank es p = if begins_command T (past_blanks T p) then (entry_at T o (blank && is_empty es) (past_blanks T p) >>= λ e. Ok (step_if e.0.1 (es ++ e.0.0 ∷ []) e.1))
     else Ok (done es (past_blanks T p))
 
-abbrev pub line_end_of : ℕ → Row AnEntry → ℕ → Token → Read (Row AnEntry × Bool)
-line_end_of o es p tokens.Newline = Ok ((es, true), p + 1)
-line_end_of o es p tokens.End = Ok ((es, false), p)
-line_end_of o es p _ = fault Unexpected o p
+abbrev pub end_of_line_of : ℕ → Row AnEntry → ℕ → Token → Read (Row AnEntry × Bool)
+end_of_line_of o es p tokens.Newline = Ok ((es, true), p + 1)
+end_of_line_of o es p tokens.End = Ok ((es, false), p)
+end_of_line_of o es p _ = fault Unexpected o p
 
 unfoldable pub end_of_line_at : List ℕ → ℕ → Bool → Row AnEntry → ℕ → Read (Row AnEntry × Bool)
-end_of_line_at T o blank es p = line_end_of o (with_remark blank es (comment_at T o p)) (past_comment T p) (token_at T (past_comment T p))
+end_of_line_at T o blank es p = end_of_line_of o (with_remark blank es (comment_at T o p)) (past_comment T p) (token_at T (past_comment T p))
 
 unfoldable pub line_at : List ℕ → ℕ → Bool → ℕ → Read (Row AnEntry × Bool)
 line_at T o blank p = turns (length T) (entry_step T o blank) [] p >>= λ es. end_of_line_at T o blank es.0 es.1

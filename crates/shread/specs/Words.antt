@@ -22,7 +22,7 @@ begins_piece T p = stands T p 92 || stands T p 39 || stands T p 34 || stands T p
 abbrev pub piece : List ℕ → ℕ → Row ASubst → ℕ → Comes (Step (Row ASubst))
 piece T o ss p =
     when (ends_word T p) (give (done ss p))
-    (when (begins_piece T p) (stop (fault Unexpected o p))
+    (when (begins_piece T p) (stop Unexpected o p)
     (when (is_pid T p) (give (again ss (p + 2)))
     (give (again ss (p + 1)))))
 

@@ -32,11 +32,11 @@ pub enum FaultKind {
     Unexpected = 11,
     /// The grammar cannot end here (XCU 2.10); at the length of the input.
     UnexpectedEnd = 12,
-    /// The word after `for` is no NAME (XCU 2.9.4.2); at the word.
+    /// The word after `for` is no NAME (XCU 2.9.4); at the word.
     BadForName = 13,
     /// The word of a function definition is no NAME (XCU 2.9.5); at the word.
     BadFunctionName = 14,
-    /// More than 100 constructs are open; at the first byte of the last opener.
+    /// More than 100 constructs are open; at the first byte of the last opener, for a function at its name.
     TooDeep = 15,
 }
 

@@ -1,7 +1,7 @@
 //! The reader: one line, or a whole script.
 ghost use Rattle.std.specs.Prelude.{◌≡◌, ◌+◌, ◌-◌, ◌≤◌, drop, length, IfOk, IfErr, IsOk};
 ghost use Rattle.shread.specs.Answers.{meter_of, raised, view_line, view_script};
-ghost use Rattle.shread.specs.Lines.{ALine, AScript, IsLine, IsOutcome};
+ghost use Rattle.shread.specs.Lines.{ALine, AScript, IsLine, Outcome};
 ghost use Rattle.shread.specs.Normal.{IsNormal};
 
 use crate::all_lines::script_from;
@@ -87,8 +87,8 @@ impl Reader {
     #[tactic(auto, using(crate::proofs::Answered::script_answered))]
     pub fn read_script<S: Source>(&mut self, source: &S) -> Result<Script, ReadError>
         // The answer is what the grammar has for the bytes, and it has nothing else.
-        ensures outcome { IfOk result (λ script. IsOutcome (S.bytes source.now) (view_script script)) }
-        ensures only { IfOk result (λ script. (a : AScript) → IsOutcome (S.bytes source.now) a → a ≡ view_script script) }
+        ensures outcome { IfOk result (λ script. Outcome (S.bytes source.now) (view_script script)) }
+        ensures only { IfOk result (λ script. (a : AScript) → Outcome (S.bytes source.now) a → a ≡ view_script script) }
         ensures normal { IfOk result (λ script. IsNormal (view_script script).entries) }
         ensures meter { IfOk result (λ script. meter_of self.new ≡ raised (meter_of self.old) (length (S.bytes source.now))) }
         ensures err { IfErr result (λ e. meter_of self.new ≡ meter_of self.old) }

@@ -1,6 +1,6 @@
 //! Comments (XCU 2.3, rule 9).
 ghost use Rattle.std.specs.Prelude.{◌≡◌, ◌≤◌, drop, length};
-ghost use Rattle.shread.specs.Bytes.{before_blanks, line_end};
+ghost use Rattle.shread.specs.Bytes.{before_blanks, next_newline};
 ghost use Rattle.shread.specs.Commands.{comment_at, past_comment};
 
 use crate::cursor::Cursor;
@@ -11,9 +11,9 @@ use crate::tree::{Comment, Span};
 
 impl<'a, S: Source> Cursor<'a, S> {
     /// The place of the next newline, or the end.
-    #[tactic(auto, using(crate::proofs::LineEnds::line_end_found, crate::proofs::LineEnds::line_end_none))]
-    fn line_end(&self) -> usize
-        ensures value { result ≡ line_end (drop self.now.base (S.bytes self.now.source.now)) self.now.at }
+    #[tactic(auto, using(crate::proofs::LineEnds::next_newline_found, crate::proofs::LineEnds::next_newline_none))]
+    fn next_newline(&self) -> usize
+        ensures value { result ≡ next_newline (drop self.now.base (S.bytes self.now.source.now)) self.now.at }
         ensures inside { (self.now.at ≤ result) × (result ≤ length (drop self.now.base (S.bytes self.now.source.now))) }
     {
         match find_byte(self.source, self.base + self.at, b'\n') {
@@ -47,12 +47,12 @@ impl<'a, S: Source> Cursor<'a, S> {
         if !self.is_at(b'#') {
             return None;
         }
-        let line_end = self.line_end();
+        let next_newline = self.next_newline();
         let span = Span {
             start: self.origin + self.at,
-            end: self.origin + self.before_blanks(line_end),
+            end: self.origin + self.before_blanks(next_newline),
         };
-        self.at = line_end;
+        self.at = next_newline;
         Some(Comment { span })
     }
 }

@@ -28,9 +28,9 @@ pub struct List {
 #[derive(Debug, Drop)]
 pub struct Entry {
     pub what: Content,
-    /// It is ended by `&` (XCU 2.9.3.1).
+    /// It is ended by `&` (XCU 2.9.3).
     pub background: bool,
-    /// An empty line stands before it. The first entry of a list is never blank.
+    /// At least two newline tokens stand between it and the entry before it: an empty line. The first entry of a list is never blank.
     pub blank: bool,
     /// The comment behind it on its line.
     pub comment: Option<Comment>,

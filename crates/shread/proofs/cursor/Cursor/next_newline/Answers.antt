@@ -1,7 +1,7 @@
 use Rattle.std.proofs.Common.{◌≡◌, ◌≤◌, ◌+◌, ◌-◌, drop, length, length-drop, subst, sym, ap, ◌∙◌, arith}
 use Rattle.shread.specs.Text.{IsNextPlace}
-use Rattle.shread.proofs.LineEnds.{line_end_none}
-use Rattle.shread.proofs.cursor.Cursor.line_end.Goals as goal
+use Rattle.shread.proofs.LineEnds.{next_newline_none}
+use Rattle.shread.proofs.cursor.Cursor.next_newline.Goals as goal
 
 pub returns-in-None-clause-value : goal.returns-in-None-clause-value
 returns-in-None-clause-value g c =
@@ -10,4 +10,4 @@ returns-in-None-clause-value g c =
     let at = c.args.self.now.at in
     let within : base + at ≤ length bytes = omega (arith, length-drop base bytes) in
     ap (λ n. n - base) c.len.ensures
-    ∙ sym (line_end_none bytes base at within (subst (IsNextPlace 10 bytes (base + at)) c.in-None.is c.find_byte.ensures))
+    ∙ sym (next_newline_none bytes base at within (subst (IsNextPlace 10 bytes (base + at)) c.in-None.is c.find_byte.ensures))
