@@ -1,13 +1,13 @@
 -- What a line that was read tells of the first fault.
-use Rattle.std.proofs.Common.{◌≡◌, ℕ, ◌+◌, ◌-◌, ◌<◌, ◌≤◌, List, true, false, None, Some, length, drop, length-drop, ap, refl, sym, ◌∙◌, subst, arith}
+use Rattle.std.proofs.Common.{◌≡◌, ℕ, ◌+◌, ◌-◌, ◌<◌, ◌≤◌, List, true, false, length, drop, length-drop, ap, refl, ◌∙◌, arith}
 use Rattle.shread.specs.declared.fault.Fault.{Fault}
 use Rattle.shread.specs.declared.reader.Line.{Line}
 use Rattle.shread.specs.declared.reader.LineKind.{LineKind}
 use Rattle.shread.specs.declared.reader.LineKind.TheVariants.{Blank, Entries, End, Faulty}
-use Rattle.shread.specs.Lines.{IsLine, FirstFault, faulty_line}
+use Rattle.shread.specs.Lines.{IsLine, faulty_line}
 use Rattle.shread.specs.Answers.{view_kind, view_line}
 use Rattle.shread.specs.Reading.{first_fault_from}
-use Rattle.shread.proofs.Verdict.{fault_is_here, fault_goes_on, fault_is_none, line_fault_within, line_onward, first_fault_is}
+use Rattle.shread.proofs.Verdict.{fault_is_here, fault_goes_on, fault_is_none, line_fault_within, line_onward}
 use Rattle.shform.specs.Search.{Tells}
 use Rattle.shform.specs.declared.first_fault.Found.TheVariants.{Here, Beyond, Nowhere}
 

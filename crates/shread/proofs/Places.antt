@@ -7,8 +7,7 @@ use Rattle.std.proofs.lemmas.Option.{slice_get_within}
 use Rattle.shread.specs.Text.{is_newline}
 use Rattle.shread.specs.declared.token.Token.{Token}
 use Rattle.shread.specs.declared.token.Token.TheVariants as tokens
-use Rattle.shread.specs.declared.token.Class.TheVariants as classes
-use Rattle.shread.specs.Bytes.{is_blank, is_operator, is_letter, in_class, is_byte, stands, ends, ends_word, passes, stands_in, count_front, past, past_blanks, next_newline, before_blanks, begins_assignment, is_number, token_of, token_at}
+use Rattle.shread.specs.Bytes.{is_blank, is_operator, is_letter, is_byte, stands, ends, ends_word, passes, stands_in, count_front, past, past_blanks, next_newline, before_blanks, begins_assignment, is_number, token_of, token_at}
 use Rattle.shread.specs.Words.{is_pid}
 use Rattle.shread.specs.Commands.{is_word, past_comment, is_parted, separator_by, separator_at, past_separator}
 use Rattle.shread.proofs.Stretches.{get_drop}
@@ -78,11 +77,11 @@ past_stops test T p = ap (passes test) (sym (get_drop p T (count_front test (dro
 
 -- where a token begins
 pub blanks_low : (T : List ℕ) (p : ℕ) → p ≤ past_blanks T p
-blanks_low T p = past_low (in_class classes.Blank) T p
+blanks_low T p = past_low is_blank T p
 
 -- it is not past the end of the text
 pub blanks_high : (T : List ℕ) (p : ℕ) → p ≤ length T → past_blanks T p ≤ length T
-blanks_high T p within = past_high (in_class classes.Blank) T p within
+blanks_high T p within = past_high is_blank T p within
 
 -- the end of a line
 pub next_newline_low : (T : List ℕ) (p : ℕ) → p ≤ next_newline T p
@@ -97,7 +96,7 @@ pub before_blanks_high : (T : List ℕ) (q : ℕ) → before_blanks T q ≤ q
 unfolding before_blanks
 before_blanks_high T zero = omega arith
 before_blanks_high T (suc q) =
-    cond_both (stands_in (in_class classes.Blank) T q) _ _ (λ n. n ≤ suc q) (λ e. omega (arith, before_blanks_high T q)) (λ e. omega arith)
+    cond_both (stands_in is_blank T q) _ _ (λ n. n ≤ suc q) (λ e. omega (arith, before_blanks_high T q)) (λ e. omega arith)
 
 -- a comment
 pub comment_low : (T : List ℕ) (p : ℕ) → p ≤ past_comment T p
@@ -152,7 +151,7 @@ word_by T p (Some b) blank e =
     (λ f. absurd cc) (λ n o. (λ f. absurd cc, λ f. or_from _ _ (or_from _ _ blank n) o)) e
 
 -- where a word begins none ends
-pub word_begins : (T : List ℕ) (p : ℕ) → stands_in (in_class classes.Blank) T p ≡ false → is_word (token_at T p) ≡ true → ends_word T p ≡ false
+pub word_begins : (T : List ℕ) (p : ℕ) → stands_in is_blank T p ≡ false → is_word (token_at T p) ≡ true → ends_word T p ≡ false
 unfolding token_at stands_in ends_word
 word_begins T p blank e = word_by T p (slice_get T p) blank e
 

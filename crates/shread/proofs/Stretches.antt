@@ -1,8 +1,7 @@
 -- Stretches of bytes of one kind, words spelled out, and texts from a place on.
 use Rattle.std.proofs.Common.{◌≡◌, ℕ, zero, suc, ◌+◌, ◌-◌, ◌<◌, ◌≤◌, Bool, true, false, ◌&&◌, cond, Option, Some, None, slice_get, get_or, List, [], ◌∷◌, length, drop, refl, sym, ap, ◌∙◌, arith, zero-add, add-one, drop-cons}
 use Rattle.std.proofs.Math.Seq.{drop-length}
-use Rattle.shread.specs.Bytes.{stands, stands_in, passes, is_byte, count_front, past, before_blanks, in_class, is_word_at, ends_word}
-use Rattle.shread.specs.declared.token.Class.TheVariants as classes
+use Rattle.shread.specs.Bytes.{stands, stands_in, passes, is_byte, count_front, past, before_blanks, is_blank, is_word_at, ends_word}
 
 -- ---- a text from a place on
 
@@ -38,14 +37,14 @@ past_none test T p e =
 
 -- ---- the end of a comment
 
-pub blanks_before : (T : List ℕ) (q : ℕ) → 0 < q → stands_in (in_class classes.Blank) T (q - 1) ≡ true → before_blanks T q ≡ before_blanks T (q - 1)
+pub blanks_before : (T : List ℕ) (q : ℕ) → 0 < q → stands_in is_blank T (q - 1) ≡ true → before_blanks T q ≡ before_blanks T (q - 1)
 unfolding before_blanks
 blanks_before T zero lt e = absurd (omega arith)
 blanks_before T (suc q) lt e =
     let back : suc q - 1 ≡ q = omega arith in
     rw (back, rw back at e) refl
 
-pub no_blanks_before : (T : List ℕ) (q : ℕ) → 0 < q → stands_in (in_class classes.Blank) T (q - 1) ≡ false → before_blanks T q ≡ q
+pub no_blanks_before : (T : List ℕ) (q : ℕ) → 0 < q → stands_in is_blank T (q - 1) ≡ false → before_blanks T q ≡ q
 unfolding before_blanks
 no_blanks_before T zero lt e = absurd (omega arith)
 no_blanks_before T (suc q) lt e =

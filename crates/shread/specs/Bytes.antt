@@ -3,8 +3,6 @@ use Rattle.std.specs.Prelude.{ℕ, ◌+◌, Bool, true, false, ◌==◌, ◌≤�
 use Rattle.shread.specs.Text.{is_newline}
 use Rattle.shread.specs.declared.token.Token.{Token}
 use Rattle.shread.specs.declared.token.Token.TheVariants as tokens
-use Rattle.shread.specs.declared.token.Class.{Class}
-use Rattle.shread.specs.declared.token.Class.TheVariants as classes
 
 -- ---- one byte
 
@@ -23,10 +21,9 @@ is_digit b = nat_le 48 b && nat_le b 57
 abbrev pub is_letter : ℕ → Bool
 is_letter b = (nat_le 97 b && nat_le b 122) || (nat_le 65 b && nat_le b 90) || b == 95
 
-abbrev pub in_class : Class → ℕ → Bool
-in_class classes.Blank b = is_blank b
-in_class classes.Digit b = is_digit b
-in_class classes.Name b = is_letter b || is_digit b
+-- a letter, a digit or an underscore, as in a NAME (XBD 3.235)
+abbrev pub is_name : ℕ → Bool
+is_name b = is_letter b || is_digit b
 
 -- ---- a place
 
@@ -75,7 +72,7 @@ past test T p = p + count_front test (drop p T)
 
 -- where a token begins (XCU 2.3, rule 7)
 abbrev pub past_blanks : List ℕ → ℕ → ℕ
-past_blanks T p = past (in_class classes.Blank) T p
+past_blanks T p = past is_blank T p
 
 -- the newline, or the end, behind p
 abbrev pub next_newline : List ℕ → ℕ → ℕ
@@ -84,7 +81,7 @@ next_newline T p = past (λ b. not (is_newline b)) T p
 -- the place behind the last byte before q that is no blank
 unfoldable pub before_blanks : List ℕ → ℕ → ℕ
 before_blanks T zero = 0
-before_blanks T (suc q) = if stands_in (in_class classes.Blank) T q then before_blanks T q else suc q
+before_blanks T (suc q) = if stands_in is_blank T q then before_blanks T q else suc q
 
 -- ---- words
 
@@ -107,11 +104,11 @@ is_reserved T p = is_opening_word T p || is_closing_word T p || is_word_at T p (
 
 -- a NAME and `=` stand at p (XCU 2.10.2, rule 7)
 unfoldable pub begins_assignment : List ℕ → ℕ → Bool
-begins_assignment T p = stands_in is_letter T p && stands T (past (in_class classes.Name) T p) 61
+begins_assignment T p = stands_in is_letter T p && stands T (past is_name T p) 61
 
 -- digits that `<` or `>` follows stand at p (XCU 2.10.1, rule 2)
 unfoldable pub is_number : List ℕ → ℕ → Bool
-is_number T p = stands_in is_digit T p && (stands T (past (in_class classes.Digit) T p) 60 || stands T (past (in_class classes.Digit) T p) 62)
+is_number T p = stands_in is_digit T p && (stands T (past is_digit T p) 60 || stands T (past is_digit T p) 62)
 
 -- ---- tokens
 

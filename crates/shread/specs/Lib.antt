@@ -10,3 +10,4 @@ pub mod Reading
 pub mod Answers
 pub mod SoFar
 pub mod Normal
+pub mod Classes

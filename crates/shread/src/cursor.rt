@@ -1,6 +1,7 @@
 //! A place in a text, and what stands there.
 ghost use Rattle.std.specs.Prelude.{◌≡◌, ◌≢◌, ◌+◌, ◌^◌, ◌<◌, ◌≤◌, drop, length, slice_get, true, false, IfSome};
-ghost use Rattle.shread.specs.Bytes.{at_end, begins_assignment, ends_word, in_class, is_closing_word, is_letter, is_number, is_opening_word, is_reserved, is_word_at, past, stands, stands_in, token_at};
+ghost use Rattle.shread.specs.Bytes.{is_blank, at_end, begins_assignment, ends_word, is_closing_word, is_letter, is_number, is_opening_word, is_reserved, is_word_at, past, stands, stands_in, token_at};
+ghost use Rattle.shread.specs.Classes.{in_class};
 ghost use Rattle.shread.specs.Words.{begins_piece, is_pid};
 
 use crate::source::Source;
@@ -109,9 +110,9 @@ impl<'a, S: Source> Cursor<'a, S> {
 
     /// To where a token begins.
     pub(crate) fn skip_blanks(&mut self)
-        ensures value { self.new.at ≡ past (in_class Class.Blank) (drop self.old.base (S.bytes self.old.source.now)) self.old.at }
+        ensures value { self.new.at ≡ past is_blank (drop self.old.base (S.bytes self.old.source.now)) self.old.at }
         ensures inside { self.old.at ≤ self.new.at }
-        ensures other { stands_in (in_class Class.Blank) (drop self.old.base (S.bytes self.old.source.now)) self.new.at ≡ false }
+        ensures other { stands_in is_blank (drop self.old.base (S.bytes self.old.source.now)) self.new.at ≡ false }
         ensures same { (self.new.source ≡ self.old.source) × (self.new.base ≡ self.old.base) × (self.new.origin ≡ self.old.origin) }
     {
         self.at = self.past(self.at, Class::Blank);
@@ -226,7 +227,7 @@ impl<'a, S: Source> Cursor<'a, S> {
         ensures value { result ≡ token_at (drop self.now.base (S.bytes self.now.source.now)) self.now.at }
         ensures inside { result ≢ Token.End → self.now.at < length (drop self.now.base (S.bytes self.now.source.now)) }
         ensures word { let text = drop self.now.base (S.bytes self.now.source.now) in
-            stands_in (in_class Class.Blank) text self.now.at ≡ false → result ≡ Token.Word → ends_word text self.now.at ≡ false }
+            stands_in is_blank text self.now.at ≡ false → result ≡ Token.Word → ends_word text self.now.at ≡ false }
         ensures newline { result ≡ Token.Newline → stands (drop self.now.base (S.bytes self.now.source.now)) self.now.at 10 ≡ true }
     {
         match self.byte() {

@@ -8,5 +8,4 @@ pub fn one_outcome()
     ensures some_script { (bytes : List ℕ) → (a : AScript) × Outcome bytes a }
     ensures line { (bytes : List ℕ) (a b : ALine) → IsLine bytes a → IsLine bytes b → a ≡ b }
     ensures some_line { (bytes : List ℕ) → (a : ALine) × IsLine bytes a }
-{
-}
+{}

@@ -1,6 +1,6 @@
 //! The entries of a line, and the line's end (XCU 2.9.3, 2.10.2).
 ghost use Rattle.std.specs.Prelude.{◌≡◌, ◌-◌, ◌<◌, ◌≤◌, ◌&&◌, [], drop, length, map, IfOk, true, false};
-ghost use Rattle.shread.specs.Bytes.{ends_word, in_class, stands, stands_in};
+ghost use Rattle.shread.specs.Bytes.{is_blank, ends_word, stands, stands_in};
 ghost use Rattle.shread.specs.Comes.{step_if};
 ghost use Rattle.shread.specs.Commands.{is_background, is_parted, past_separator, separator_at};
 ghost use Rattle.shread.specs.Lines.{begins_command, is_empty, with_remark};
@@ -61,7 +61,7 @@ impl<'a, S: Source> Cursor<'a, S> {
     /// Whether a command begins here, where no blank stands.
     #[tactic(auto, unfolding(crate::specs::Lines::begins_command))]
     fn begins_command(&self) -> bool
-        requires { stands_in (in_class Class.Blank) (drop self.now.base (S.bytes self.now.source.now)) self.now.at ≡ false }
+        requires { stands_in is_blank (drop self.now.base (S.bytes self.now.source.now)) self.now.at ≡ false }
         ensures value { result ≡ begins_command (drop self.now.base (S.bytes self.now.source.now)) self.now.at }
         ensures word { result ≡ true → ends_word (drop self.now.base (S.bytes self.now.source.now)) self.now.at ≡ false }
     {

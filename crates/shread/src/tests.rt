@@ -1,7 +1,7 @@
 // Each public function on its happy path, with answers worked out by hand from the grammar.
 use crate::place::find_byte;
 use crate::{
-    Command, Comment, Content, Entry, FaultKind, Flat, Item, ItemContent, LineKind, List, Reader,
+    Command, Comment, Content, Entry, FaultKind, Flat, Item, ItemContent, Line, LineKind, List, Reader,
     Source, Span, line_col_of,
 };
 use std::alloc::Global;
@@ -130,8 +130,8 @@ fn scripts(rt: HostRuntime) -> Result<(), Fail> {
         let read = reader.read_script(&Flat::new(script))?;
         assert_eq!(rt; shown(rt.alloc(), &read.list)?.as_str(), tree);
         assert_eq!(rt; read.fault.map(|f| (f.kind, f.at)), fault);
-        meter += script.len() as u64;
-        assert_eq!(rt; reader.meter(), meter);
+        meter = script.len().wrapping_add(meter);
+        assert_eq!(rt; reader.meter(), meter as u64);
     }
     Ok(())
 }
@@ -181,12 +181,12 @@ fn lines(rt: HostRuntime) -> Result<(), Fail> {
     let line = reader.read_line(&text, 2)?;
     assert!(rt; matches!(line.kind, LineKind::Blank));
     assert_eq!(rt; (line.next, line.ended, reader.meter()), (4, true, 4));
-    let line = reader.read_line(&text, 4)?;
-    let LineKind::Entries(list) = line.kind else {
+    let Line { kind, next, ended } = reader.read_line(&text, 4)?;
+    let LineKind::Entries(list) = kind else {
         return Err(Fail::from("no entry"));
     };
     assert_eq!(rt; shown(rt.alloc(), &list)?.as_str(), ". #0-3\n");
-    assert_eq!(rt; (line.next, line.ended, reader.meter()), (8, true, 8));
+    assert_eq!(rt; (next, ended, reader.meter()), (8, true, 8));
     let line = reader.read_line(&text, 8)?;
     assert!(rt; matches!(line.kind, LineKind::Faulty(_)));
     assert_eq!(rt; (line.next, line.ended, reader.meter()), (10, false, 10));

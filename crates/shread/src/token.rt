@@ -1,6 +1,6 @@
 //! What may begin where a token begins.
 ghost use Rattle.std.specs.Prelude.{◌≡◌, true};
-ghost use Rattle.shread.specs.Bytes.{in_class};
+ghost use Rattle.shread.specs.Classes.{in_class};
 ghost use Rattle.shread.specs.Commands.{is_word};
 
 /// What begins at a place that no blank stands at (XCU 2.3, 2.10.1).

@@ -1,4 +1,4 @@
-use Rattle.std.proofs.Common.{◌+◌, arith}
+use Rattle.std.proofs.Common.{arith}
 use Rattle.shform.proofs.LineSearch.{within, tells_here, tells_beyond, tells_nowhere}
 use Rattle.shform.proofs.first_fault.look.Goals as goal
 

@@ -1,5 +1,6 @@
 use Rattle.std.proofs.Common.{◌≡◌, ◌≤◌, ◌-◌, length, drop}
-use Rattle.shread.specs.Bytes.{past, in_class}
+use Rattle.shread.specs.Bytes.{past}
+use Rattle.shread.specs.Classes.{in_class}
 use Rattle.shread.proofs.cursor.Cursor.past.Given as goal
 
 abbrev pub invariant-bytes : goal.invariant-bytes
