@@ -1,9 +1,9 @@
 -- The end of a line, found by a search for its newline.
-use Rattle.std.proofs.Common.{◌≡◌, ◌≢◌, ℕ, ◌+◌, ◌-◌, ◌<◌, ◌≤◌, Bool, true, false, not, ◌==◌, Option, Some, None, slice_get, get_or, List, length, drop, refl, sym, ap, ◌∙◌, arith, length-drop}
+use Rattle.std.proofs.Common.{◌≡◌, ◌≢◌, ℕ, ◌+◌, ◌-◌, ◌<◌, ◌≤◌, true, false, not, ◌==◌, Some, None, slice_get, get_or, List, length, drop, refl, ap, ◌∙◌, arith}
 use Rattle.std.proofs.lemmas.Bool.{ne_eqb, eq-eqb}
 use Rattle.std.proofs.lemmas.Option.{slice_get-get_or, slice_get_past}
-use Rattle.shread.specs.Text.{IsNextPlace, IsLeastPlace, NowhereFrom, is_newline}
-use Rattle.shread.specs.Bytes.{past, stands_in, passes, next_newline}
+use Rattle.shread.specs.Text.{IsNextPlace, is_newline}
+use Rattle.shread.specs.Bytes.{stands_in, next_newline}
 use Rattle.shread.proofs.Stretches.{get_drop, past_is}
 
 -- a byte that is no newline

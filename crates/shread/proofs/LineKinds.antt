@@ -1,10 +1,10 @@
 -- What a line is, by its entries; and the line at the end of a text.
-use Rattle.std.proofs.Common.{◌≡◌, ℕ, ◌<◌, ◌≤◌, Bool, true, false, List, [], ◌∷◌, length, map, drop, cond, refl, arith, ap}
+use Rattle.std.proofs.Common.{◌≡◌, ℕ, ◌<◌, Bool, true, false, List, [], ◌∷◌, length, map, drop, cond, refl, arith}
 use Rattle.std.proofs.Math.Seq.{drop-length}
 use Rattle.shread.specs.Tree.{AnEntry, entries_of}
 use Rattle.shread.specs.Bytes.{stands, token_at, past, count_front}
 use Rattle.shread.specs.Commands.{comment_at, past_comment}
-use Rattle.shread.specs.Lines.{ALine, AKind, blank_line, end_line, entries_line, kind_of, begins_command}
+use Rattle.shread.specs.Lines.{blank_line, end_line, entries_line, kind_of, begins_command}
 use Rattle.shread.specs.Reading.{line_of_text, line_at, turns, turns_below, entry_step, end_of_line_at}
 
 pub kind_of_none : {X : Type 0} (view : X → AnEntry) (xs : List X) (newline : Bool) → length xs ≡ 0 → kind_of (map view xs) newline ≡ cond newline blank_line end_line

@@ -1,7 +1,7 @@
 -- Stretches of bytes of one kind, words spelled out, and texts from a place on.
-use Rattle.std.proofs.Common.{◌≡◌, ℕ, zero, suc, ◌+◌, ◌-◌, ◌<◌, ◌≤◌, Bool, true, false, ◌&&◌, cond, Option, Some, None, slice_get, get_or, List, [], ◌∷◌, length, drop, refl, sym, ap, ◌∙◌, arith, zero-add, add-one, drop-cons}
+use Rattle.std.proofs.Common.{◌≡◌, ℕ, zero, suc, ◌+◌, ◌-◌, ◌<◌, ◌≤◌, Bool, true, false, cond, slice_get, get_or, List, [], ◌∷◌, length, drop, refl, ◌∙◌, arith, zero-add, add-one, drop-cons}
 use Rattle.std.proofs.Math.Seq.{drop-length}
-use Rattle.shread.specs.Bytes.{stands, stands_in, passes, is_byte, count_front, past, before_blanks, is_blank, is_word_at, ends_word}
+use Rattle.shread.specs.Bytes.{stands, stands_in, passes, count_front, past, before_blanks, is_blank, is_word_at, ends_word}
 
 -- ---- a text from a place on
 

@@ -33,11 +33,13 @@ unfolding first_fault_from
 first_fault_within B p f within is = (script_good B _ (script_within B p within)).1 f is
 
 -- a line that was read has no fault
+-- a line that was read has no fault
 not_faulty : (es : Row AnEntry) (newline : Bool) (f : Fault) → kind_of es newline ≡ faulty_line f → ⊥
 not_faulty [] true f is = cc
 not_faulty [] false f is = cc
 not_faulty (e ∷ es) newline f is = cc
 
+-- by its outcome
 -- by its outcome
 line_fault_by : (T : List ℕ) (x : Read (Row AnEntry × Bool)) (f : Fault) → Within (LineEnd T 0 false 0) 0 (length T) 0 x
     → (line_read_of T x).kind ≡ faulty_line f → f.at ≤ length T
@@ -51,9 +53,11 @@ line_fault_within T l f is kind =
     line_fault_by T _ f (line_within T 0 false 0 (omega arith)) (sym (ap (λ (m : ALine). m.kind) (line_only T l is)) ∙ kind)
 
 -- a fault that does not move
+-- a fault that does not move
 not_moved : (f : Fault) → moved 0 f ≡ f
 not_moved f = let same : 0 + f.at ≡ f.at = omega arith in ap (λ n. record { kind = f.kind; at = n }) same
 
+-- by its outcome
 -- by its outcome
 line_next_by : (T : List ℕ) (x : Read (Row AnEntry × Bool)) → Within (LineEnd T 0 false 0) 0 (length T) 0 x → (line_read_of T x).next ≤ length T
 line_next_by T (Ok ((es, newline), q)) within = within.1
@@ -65,6 +69,7 @@ unfolding line_of_text
 line_next T l is =
     let P : ALine → Type 0 = λ m. m.next ≤ length T in subst P (sym (line_only T l is)) (line_next_by T _ (line_within T 0 false 0 (omega arith)))
 
+-- by its outcome
 -- by its outcome
 line_onward_by : (T : List ℕ) (x : Read (Row AnEntry × Bool)) → Within (LineEnd T 0 false 0) 0 (length T) 0 x → (line_read_of T x).ended ≡ true
     → 0 < (line_read_of T x).next
@@ -82,6 +87,7 @@ pub next_within : (B : List ℕ) (p : ℕ) (l : ALine) → p ≤ length B → Is
 next_within B p l within is = omega (arith, line_next (drop p B) l is, length-drop p B)
 
 -- in this grammar a newline token is always the last byte
+-- in this grammar a newline token is always the last byte
 not_ended : (b c : Bool) → (b && c) ≡ false → (b ≡ true → c ≡ true) → b ≡ false
 not_ended true c ended newline = let last = newline refl in absurd cc
 not_ended false c ended newline = refl
@@ -93,6 +99,7 @@ abbrev SameWrong : SoFar → SoFar → Type 0
 SameWrong s u = s.wrong ≡ u.wrong
 
 -- two lines that were read
+-- two lines that were read
 read_alike : (s u : SoFar) (ls ms : Row AnEntry) (a b : Bool) (p q : ℕ) → a ≡ b → SameWrong s u
     → Alike (SameStep SameWrong) 0 (script_next s p (Ok ((ls, a), q))) (script_next u p (Ok ((ms, b), q)))
 read_alike s u ls ms true true p q flag same = both_give (both_again same)
@@ -100,6 +107,7 @@ read_alike s u ls ms false false p q flag same = both_give (both_done same)
 read_alike s u ls ms true false p q flag same = absurd cc
 read_alike s u ls ms false true p q flag same = absurd cc
 
+-- by the outcomes of two lines
 -- by the outcomes of two lines
 next_alike : (s u : SoFar) (p : ℕ) (x y : Read (Row AnEntry × Bool)) → Alike (SameEnd SameFlag) 0 x y → SameWrong s u
     → Alike (SameStep SameWrong) 0 (script_next s p x) (script_next u p y)
@@ -113,6 +121,7 @@ module _ (B : List ℕ) where
       next_alike s u p _ _
       (line_alike (drop p B) p p 0 (omega arith) (s.gap && not (is_empty s.entries)) (u.gap && not (is_empty u.entries)) 0 (omega arith)) same
 
+  -- what is made of both
   -- what is made of both
   wrong_of : (x y : Read SoFar) → Alike (SameEnd SameWrong) 0 x y → (script_of x).wrong ≡ (script_of y).wrong
   wrong_of _ _ (both_give (same_end same)) = same
@@ -139,10 +148,12 @@ module _ (B : List ℕ) where
     stops_here f is = ap (λ (x : Read SoFar). (script_of x).wrong) (turns_done (length B) (script_step B) nothing_yet _ p p (first_step _ is))
 
     -- no newline token: nothing is left
+    -- no newline token: nothing is left
     ends_here : (ls : Row AnEntry) (q : ℕ) → line_at (drop p B) p false 0 ≡ Ok ((ls, false), q) → first_fault_from B p ≡ None
     unfolding first_fault_from
     ends_here ls q is = ap (λ (x : Read SoFar). (script_of x).wrong) (turns_done (length B) (script_step B) nothing_yet _ p (p + q) (first_step _ is))
 
+    -- a newline token: the lines behind it decide
     -- a newline token: the lines behind it decide
     goes_on_here : (ls : Row AnEntry) (q : ℕ) → line_at (drop p B) p false 0 ≡ Ok ((ls, true), q) → first_fault_from B p ≡ first_fault_from B (p + q)
     unfolding first_fault_from
@@ -158,6 +169,7 @@ module _ (B : List ℕ) where
     alike_alone = line_alike (drop p B) p 0 p (omega arith) false false 0 (omega arith)
 
     -- by the outcome of the line
+    -- by the outcome of the line
     goes_on_by : (x z : Read (Row AnEntry × Bool)) → line_at (drop p B) p false 0 ≡ x → Alike (SameEnd SameFlag) p x z
         → (line_read_of (drop p B) z).ended ≡ true → first_fault_from B p ≡ first_fault_from B (p + (line_read_of (drop p B) z).next)
     goes_on_by _ _ is (both_give (same_end {x = x} {y = y} {p = q} flag)) ended =
@@ -165,6 +177,7 @@ module _ (B : List ℕ) where
         goes_on_here x.0 q (is ∙ ap (λ (b : Bool). Ok ((x.0, b), q)) newline)
     goes_on_by _ _ is (both_stop moves) ended = absurd cc
 
+    -- by the outcome of the line
     -- by the outcome of the line
     ends_by : (x z : Read (Row AnEntry × Bool)) → line_at (drop p B) p false 0 ≡ x → Alike (SameEnd SameFlag) p x z
         → Within (LineEnd (drop p B) 0 false 0) 0 (length (drop p B)) 0 z → (line_read_of (drop p B) z).ended ≡ false
@@ -174,6 +187,7 @@ module _ (B : List ℕ) where
         ends_here x.0 q (is ∙ ap (λ (b : Bool). Ok ((x.0, b), q)) newline)
     ends_by _ _ is (both_stop {g = g} moves) line ended sound = absurd (sound g refl)
 
+    -- by the outcome of the line
     -- by the outcome of the line
     stops_by : (x z : Read (Row AnEntry × Bool)) (f : Fault) → line_at (drop p B) p false 0 ≡ x → Alike (SameEnd SameFlag) p x z
         → (line_read_of (drop p B) z).kind ≡ faulty_line f → first_fault_from B p ≡ Some (moved p f)

@@ -1,5 +1,5 @@
 -- What the answers of a reader are in the definitions, and its meter.
-use Rattle.std.specs.Prelude.{ℕ, ◌+◌, ◌-◌, ◌^◌, min, map, List as Row}
+use Rattle.std.specs.Prelude.{ℕ, ◌+◌, ◌-◌, ◌^◌, min}
 use Rattle.shread.specs.declared.reader.Reader.{Reader}
 use Rattle.shread.specs.declared.reader.Line as the_line
 use Rattle.shread.specs.declared.reader.LineKind as the_kind

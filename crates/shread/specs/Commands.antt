@@ -1,13 +1,13 @@
 -- Simple commands, and the lists of one line (XCU 2.9.1, 2.9.3, 2.10.2).
-use Rattle.std.specs.Prelude.{ℕ, ◌+◌, Bool, true, false, ◌&&◌, not, List, [], ◌∷◌, ◌++◌, List as Row, Option, None, Some, if◌then◌else◌}
+use Rattle.std.specs.Prelude.{ℕ, ◌+◌, Bool, true, false, List, [], ◌∷◌, ◌++◌, List as Row, Option, None, Some, if◌then◌else◌}
 use Rattle.shread.specs.declared.token.Token.{Token}
 use Rattle.shread.specs.declared.token.Token.TheVariants as tokens
 use Rattle.shread.specs.declared.token.Separator.{Separator}
 use Rattle.shread.specs.declared.token.Separator.TheVariants.{Semicolon, Ampersand}
 use Rattle.shread.specs.declared.tree.Comment.{Comment}
-use Rattle.shread.specs.Tree.{ASubst, AWord, AnItem, AnEntry, ACommand, APipeline, AnAndOr, item, assign, argument, items_of, simple, pipeline, no_pipe, and_or, no_and_or, entry, command, remark}
-use Rattle.shread.specs.Bytes.{stands, past_blanks, next_newline, before_blanks, token_at, is_reserved, begins_assignment}
-use Rattle.shread.specs.Comes.{Comes, give, when, Then, ◌>>=◌, Many, Step, again, done}
+use Rattle.shread.specs.Tree.{AnItem, AnEntry, ACommand, APipeline, AnAndOr, item, assign, argument, items_of, simple, pipeline, no_pipe, and_or, no_and_or, entry, command}
+use Rattle.shread.specs.Bytes.{stands, past_blanks, next_newline, before_blanks, token_at, begins_assignment}
+use Rattle.shread.specs.Comes.{Comes, give, when, ◌>>=◌, Many, Step, again, done}
 use Rattle.shread.specs.Words.{span, a_word}
 
 -- ---- simple commands (XCU 2.9.1)

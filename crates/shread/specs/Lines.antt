@@ -1,5 +1,5 @@
 -- The lines of a script (XCU 2.10.2), and what is read of a script as a whole.
-use Rattle.std.specs.Prelude.{◌≡◌, ℕ, ◌+◌, ◌-◌, Bool, true, false, ◌&&◌, not, List, [], ◌∷◌, ◌++◌, List as Row, drop, length, Option, None, Some, Result, Ok, Err}
+use Rattle.std.specs.Prelude.{ℕ, ◌+◌, ◌-◌, Bool, true, false, ◌&&◌, not, List, [], ◌∷◌, ◌++◌, List as Row, drop, length, Option, None, Some, Ok, Err}
 use Rattle.shread.specs.declared.token.Token.{Token}
 use Rattle.shread.specs.declared.token.Token.TheVariants as tokens
 use Rattle.shread.specs.declared.fault.Fault.{Fault}
@@ -7,7 +7,7 @@ use Rattle.shread.specs.declared.fault.FaultKind.TheVariants.{Unexpected}
 use Rattle.shread.specs.declared.tree.Comment.{Comment}
 use Rattle.shread.specs.Tree.{AnEntry, Entries, entry, remark, entries_of}
 use Rattle.shread.specs.Bytes.{stands, past_blanks, token_at, is_reserved}
-use Rattle.shread.specs.Comes.{Comes, fault, give, stop, when, Then, ◌>>=◌, Many, Step, again, done, step_if}
+use Rattle.shread.specs.Comes.{Comes, give, stop, when, ◌>>=◌, Many, Step, done, step_if}
 use Rattle.shread.specs.Commands.{is_word, an_entry, comment_at, past_comment}
 
 abbrev pub is_empty : {A : Type 0} → Row A → Bool

@@ -1,5 +1,4 @@
 -- What the reader's tree is in the tree of the definitions: a vector is the row of its items.
-use Rattle.std.specs.Prelude.{Option}
 use Rattle.shread.specs.declared.tree.Join as the_join
 use Rattle.shread.specs.declared.tree.List as the_list
 use Rattle.shread.specs.declared.tree.Entry as the_entry

@@ -4,7 +4,7 @@ use Rattle.shread.specs.declared.tree.Span.{Span}
 use Rattle.shread.specs.declared.fault.FaultKind.TheVariants.{Unexpected}
 use Rattle.shread.specs.Tree.{ASubst, AWord, word, substs_of}
 use Rattle.shread.specs.Bytes.{stands, ends_word}
-use Rattle.shread.specs.Comes.{Comes, fault, give, stop, when, Then, ◌>>=◌, Many, Step, again, done}
+use Rattle.shread.specs.Comes.{Comes, give, stop, when, ◌>>=◌, Many, Step, again, done}
 
 -- the span from the place p up to the place q
 abbrev pub span : ℕ → ℕ → ℕ → Span

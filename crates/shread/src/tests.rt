@@ -1,8 +1,8 @@
 // Each public function on its happy path, with answers worked out by hand from the grammar.
 use crate::place::find_byte;
 use crate::{
-    Command, Comment, Content, Entry, FaultKind, Flat, Item, ItemContent, Line, LineKind, List, Reader,
-    Source, Span, line_col_of,
+    Command, Comment, Content, Entry, FaultKind, Flat, Item, ItemContent, Line, LineKind, List,
+    Reader, Source, Span, line_col_of,
 };
 use std::alloc::Global;
 use std::test::Fail;

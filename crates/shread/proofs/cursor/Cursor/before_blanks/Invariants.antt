@@ -1,4 +1,4 @@
-use Rattle.std.proofs.Common.{◌≡◌, ◌≤◌, length, drop}
+use Rattle.std.proofs.Common.{◌≡◌, ◌≤◌, drop}
 use Rattle.shread.specs.Bytes.{before_blanks}
 use Rattle.shread.proofs.cursor.Cursor.before_blanks.Given as goal
 

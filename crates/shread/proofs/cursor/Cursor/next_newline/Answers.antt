@@ -1,4 +1,4 @@
-use Rattle.std.proofs.Common.{◌≡◌, ◌≤◌, ◌+◌, ◌-◌, drop, length, length-drop, subst, sym, ap, ◌∙◌, arith}
+use Rattle.std.proofs.Common.{◌≤◌, ◌+◌, ◌-◌, length, length-drop, subst, sym, ap, ◌∙◌, arith}
 use Rattle.shread.specs.Text.{IsNextPlace}
 use Rattle.shread.proofs.LineEnds.{next_newline_none}
 use Rattle.shread.proofs.cursor.Cursor.next_newline.Goals as goal

@@ -1,5 +1,4 @@
-use Rattle.std.proofs.Common.{◌≡◌, ◌≤◌, ◌-◌, ◌<◌, ◌⊎◌, [], Bool, true, false, length, drop}
-use Rattle.shread.specs.Bytes.{ends_word}
+use Rattle.std.proofs.Common.{◌≡◌, ◌≤◌, ◌-◌, [], length, drop}
 use Rattle.shread.specs.Reading.{turns, piece_step}
 use Rattle.shread.proofs.cursor.Cursor.pieces.Given as goal
 
