@@ -2,4 +2,3 @@ pub mod Device
 pub mod Message
 pub mod Report
 pub mod Words
-pub mod Search

@@ -5,10 +5,9 @@ ghost use Rattle.shform.specs.Device.{held_of, input_ended, input_failed, left_o
 ghost use Rattle.shform.specs.Report.{IsReport, StopsFor, limit};
 
 use crate::device::{Failed, Input, Output};
-use crate::first_fault::first_fault;
 use crate::report::{Stop, give_up, tell};
-use shread::Flat;
-use std::alloc::{AllocError, Global};
+use shread::{Flat, ReadError, Reader};
+use std::alloc::Global;
 use std::io::{Read, Write};
 
 /// The most bytes that a script has.
@@ -70,9 +69,10 @@ pub fn check_engine<R: Read, O: Write, E: Write>(
         Err(stop) => return give_up(name, stop, errors),
     };
     let script = Flat::new(&text);
-    match first_fault(alloc, &script) {
+    let mut reader = Reader::new(alloc);
+    match reader.first_fault(&script) {
         Ok(None) => 0,
         Ok(Some(fault)) => tell(alloc, name, &script, fault, errors),
-        Err(AllocError) => give_up(name, Stop::Memory, errors),
+        Err(ReadError::Memory) => give_up(name, Stop::Memory, errors),
     }
 }

@@ -11,7 +11,7 @@ use Rattle.shread.specs.Words.{begins_piece, is_pid}
 use Rattle.shread.specs.Commands.{is_word, is_parted, separator_at, remark_place, comment_at, past_comment}
 use Rattle.shread.specs.Comes.{Read, Step, again, done, step_if}
 use Rattle.shread.specs.Lines.{is_empty, begins_command, with_remark}
-use Rattle.shread.specs.Reading.{◌>>=◌, turns, piece_step, word_at, assignment_step, argument_step, simple_at, pipeline_at, and_or_at, entry_at, entry_step, end_of_line_of, end_of_line_at, line_at}
+use Rattle.shread.specs.Reading.{◌>>=◌, turns, piece_step, word_at, assignment_step, argument_step, simple_at, pipeline_at, and_or_at, entry_at, entry_step, end_of_line_of, end_of_line_at, line_at, pushed, remarked}
 use Rattle.shread.proofs.Loops.{Keeps, turns_keep}
 use Rattle.shread.proofs.NormalForm.{no_items, no_entries}
 use Rattle.shread.proofs.Places.{blanks_high}
@@ -71,11 +71,9 @@ module _ {A : Type 0} (len : ℕ) (f g : A → ℕ → Result (Step A) Fault) (S
     same : turns len g other p ≡ turns len g c s
 
   -- the first loop does the same from here on
-  -- the first loop does the same from here on
   Reach : A → ℕ → Read A → Type 0
   Reach c s x = Alike (SameEnd S) d x (turns len g c s)
 
-  -- by what both turns are
   -- by what both turns are
   one_step : (c : A) (s : ℕ) (b : A) (p : ℕ) (x y : Result (Step A) Fault) → g b p ≡ y → turns len g b p ≡ turns len g c s → Keeps len Q R p x
       → Alike (SameStep S) d x y → Keeps len (Along c s) (Reach c s) p x
@@ -103,12 +101,11 @@ Any x y = Unit {0}
 abbrev pub SameFlag : {X Y : Type 0} → X × Bool → Y × Bool → Type 0
 SameFlag x y = x.1 ≡ y.1
 
-module _ (T : List ℕ) (o u d : ℕ) (far : o ≡ d + u) where
+module _ (k : Bool) (T : List ℕ) (o u d : ℕ) (far : o ≡ d + u) where
   -- the same fault in texts that begin d bytes apart
   fault_moved : (kind : FaultKind) (p : ℕ) → record { kind = kind; at = o + p } ≡ moved d (record { kind = kind; at = u + p })
   fault_moved kind p = let same : o + p ≡ d + (u + p) = omega (arith, far) in ap (λ n. record { kind = kind; at = n }) same
 
-  -- one piece
   -- one piece
   piece_alike : (ss us : Row ASubst) (p : ℕ) → Alike (SameStep Any) d (piece_step T o ss p) (piece_step T u us p)
   unfolding piece_step
@@ -118,53 +115,46 @@ module _ (T : List ℕ) (o u d : ℕ) (far : o ≡ d + u) where
       (alike_test (is_pid T p) (both_give (both_again tt)) (both_give (both_again tt))))
 
   -- all pieces
-  -- all pieces
   pieces_alike : (p : ℕ) → p ≤ length T → Alike (SameEnd Any) d (turns (length T) (piece_step T o) [] p) (turns (length T) (piece_step T u) [] p)
   pieces_alike p within =
       turns_alike (length T) (piece_step T o) (piece_step T u) Any d (PiecesSo T o p) (PiecesEnd T o p) (piece_keeps T o p)
       (λ ss us q high any. piece_alike ss us q) [] [] p within (omega arith, tt) tt
 
   -- a word
-  -- a word
   word_alike : (p : ℕ) → p ≤ length T → Alike (SameEnd Any) d (word_at T o p) (word_at T u p)
   unfolding word_at
   word_alike p within = alike_then (pieces_alike p within) (λ x y e same. alike_end same (λ any. tt))
 
   -- one assignment
-  -- one assignment
-  assignment_alike : (is js : Row AnItem) (p : ℕ) → p ≤ length T → Alike (SameStep Any) d (assignment_step T o is p) (assignment_step T u js p)
+  assignment_alike : (is js : Row AnItem) (p : ℕ) → p ≤ length T → Alike (SameStep Any) d (assignment_step true T o is p) (assignment_step k T u js p)
   unfolding assignment_step
   assignment_alike is js p within =
       alike_test (begins_assignment T (past_blanks T p))
       (alike_then (word_alike (past_blanks T p) (blanks_high T p within)) (λ x y e same. alike_again same (λ any. tt))) (both_give (both_done tt))
 
   -- one argument
-  -- one argument
-  argument_alike : (is js : Row AnItem) (p : ℕ) → p ≤ length T → Alike (SameStep Any) d (argument_step T o is p) (argument_step T u js p)
+  argument_alike : (is js : Row AnItem) (p : ℕ) → p ≤ length T → Alike (SameStep Any) d (argument_step true T o is p) (argument_step k T u js p)
   unfolding argument_step
   argument_alike is js p within =
       alike_test (is_word (token_at T (past_blanks T p)))
       (alike_then (word_alike (past_blanks T p) (blanks_high T p within)) (λ x y e same. alike_again same (λ any. tt))) (both_give (both_done tt))
 
   -- all assignments
-  -- all assignments
   assignments_alike : (p : ℕ) → p ≤ length T
-      → Alike (SameEnd Any) d (turns (length T) (assignment_step T o) [] p) (turns (length T) (assignment_step T u) [] p)
+      → Alike (SameEnd Any) d (turns (length T) (assignment_step true T o) [] p) (turns (length T) (assignment_step k T u) [] p)
   assignments_alike p within =
-      turns_alike (length T) (assignment_step T o) (assignment_step T u) Any d (ItemsSo T o p) (ItemsEnd T o p) (assignment_keeps T o p)
+      turns_alike (length T) (assignment_step true T o) (assignment_step k T u) Any d (ItemsSo T o p) (ItemsEnd T o p) (assignment_keeps T o p)
       (λ is js q high any. assignment_alike is js q high) [] [] p within (omega arith, no_items) tt
 
   -- all arguments
-  -- all arguments
   arguments_alike : (s : ℕ) (x y : Row AnItem × ℕ) → ItemsEnd T o s (Ok x) → SameEnd Any x y
-      → Alike (SameEnd Any) d (turns (length T) (argument_step T o) x.0 x.1) (turns (length T) (argument_step T u) y.0 y.1)
+      → Alike (SameEnd Any) d (turns (length T) (argument_step true T o) x.0 x.1) (turns (length T) (argument_step k T u) y.0 y.1)
   arguments_alike s _ _ so (same_end {x = is} {y = js} {p = p} any) =
-      turns_alike (length T) (argument_step T o) (argument_step T u) Any d (ItemsSo T o s) (ItemsEnd T o s) (argument_keeps T o s)
+      turns_alike (length T) (argument_step true T o) (argument_step k T u) Any d (ItemsSo T o s) (ItemsEnd T o s) (argument_keeps T o s)
       (λ is js q high any. argument_alike is js q high) is js p so.1 (so.0, so.2) tt
 
   -- a simple command
-  -- a simple command
-  simple_alike : (p : ℕ) → p ≤ length T → Alike (SameEnd Any) d (simple_at T o p) (simple_at T u p)
+  simple_alike : (p : ℕ) → p ≤ length T → Alike (SameEnd Any) d (simple_at true T o p) (simple_at k T u p)
   unfolding simple_at
   simple_alike p within =
       alike_then (assignments_alike p within)
@@ -172,20 +162,17 @@ module _ (T : List ℕ) (o u d : ℕ) (far : o ≡ d + u) where
       alike_then (arguments_alike p x y so same) (λ v w f more. alike_end more (λ any. tt)))
 
   -- a pipeline
-  -- a pipeline
-  pipeline_alike : (p : ℕ) → p ≤ length T → Alike (SameEnd Any) d (pipeline_at T o p) (pipeline_at T u p)
+  pipeline_alike : (p : ℕ) → p ≤ length T → Alike (SameEnd Any) d (pipeline_at true T o p) (pipeline_at k T u p)
   unfolding pipeline_at
   pipeline_alike p within = alike_then (simple_alike p within) (λ x y e same. alike_end same (λ any. tt))
 
   -- an and-or list
-  -- an and-or list
-  and_or_alike : (p : ℕ) → p ≤ length T → Alike (SameEnd Any) d (and_or_at T o p) (and_or_at T u p)
+  and_or_alike : (p : ℕ) → p ≤ length T → Alike (SameEnd Any) d (and_or_at true T o p) (and_or_at k T u p)
   unfolding and_or_at
   and_or_alike p within = alike_then (pipeline_alike p within) (λ x y e same. alike_end same (λ any. tt))
 
   -- ---- entries and lines
 
-  -- what stands behind an and-or list depends on its place alone
   -- what stands behind an and-or list depends on its place alone
   entry_so : (x y : AnAndOr × ℕ) (e f : AnEntry) → SameEnd Any x y
       → Alike (SameEnd SameFlag) d (Ok ((e, is_parted (separator_at T x.1)), past_comment T (remark_place T x.1)))
@@ -193,12 +180,10 @@ module _ (T : List ℕ) (o u d : ℕ) (far : o ≡ d + u) where
   entry_so _ _ e f (same_end same) = both_give (same_end refl)
 
   -- an entry
-  -- an entry
-  entry_alike : (blank white : Bool) (p : ℕ) → p ≤ length T → Alike (SameEnd SameFlag) d (entry_at T o blank p) (entry_at T u white p)
+  entry_alike : (blank white : Bool) (p : ℕ) → p ≤ length T → Alike (SameEnd SameFlag) d (entry_at true T o blank p) (entry_at k T u white p)
   unfolding entry_at
   entry_alike blank white p within = alike_then (and_or_alike p within) (λ x y e same. entry_so x y _ _ same)
 
-  -- by whether a separator stood there
   -- by whether a separator stood there
   step_if_alike : (es fs : Row AnEntry) (a b : Bool) (p : ℕ) → a ≡ b → Alike (SameStep Any) d (Ok (step_if a es p)) (Ok (step_if b fs p))
   step_if_alike es fs true true p same = both_give (both_again tt)
@@ -207,15 +192,13 @@ module _ (T : List ℕ) (o u d : ℕ) (far : o ≡ d + u) where
   step_if_alike es fs false true p same = absurd cc
 
   -- and then the next turn
-  -- and then the next turn
   next_so : (es fs : Row AnEntry) (x y : (AnEntry × Bool) × ℕ) → SameEnd SameFlag x y
-      → Alike (SameStep Any) d (Ok (step_if x.0.1 (es ++ x.0.0 ∷ []) x.1)) (Ok (step_if y.0.1 (fs ++ y.0.0 ∷ []) y.1))
-  next_so es fs _ _ (same_end {x = x} {y = y} {p = p} same) = step_if_alike (es ++ x.0 ∷ []) (fs ++ y.0 ∷ []) x.1 y.1 p same
+      → Alike (SameStep Any) d (Ok (step_if x.0.1 (es ++ x.0.0 ∷ []) x.1)) (Ok (step_if y.0.1 (pushed k fs y.0.0) y.1))
+  next_so es fs _ _ (same_end {x = x} {y = y} {p = p} same) = step_if_alike (es ++ x.0 ∷ []) (pushed k fs y.0) x.1 y.1 p same
 
   -- one more entry, or none
-  -- one more entry, or none
   next_alike : (blank white : Bool) (es fs : Row AnEntry) (p : ℕ) → p ≤ length T
-      → Alike (SameStep Any) d (entry_step T o blank es p) (entry_step T u white fs p)
+      → Alike (SameStep Any) d (entry_step true T o blank es p) (entry_step k T u white fs p)
   unfolding entry_step
   next_alike blank white es fs p within =
       alike_test (begins_command T (past_blanks T p))
@@ -223,14 +206,12 @@ module _ (T : List ℕ) (o u d : ℕ) (far : o ≡ d + u) where
       (both_give (both_done tt))
 
   -- all entries
-  -- all entries
   entries_alike : (blank white : Bool) (p : ℕ) → p ≤ length T
-      → Alike (SameEnd Any) d (turns (length T) (entry_step T o blank) [] p) (turns (length T) (entry_step T u white) [] p)
+      → Alike (SameEnd Any) d (turns (length T) (entry_step true T o blank) [] p) (turns (length T) (entry_step k T u white) [] p)
   entries_alike blank white p within =
-      turns_alike (length T) (entry_step T o blank) (entry_step T u white) Any d (EntriesSo T o blank p) (EntriesEnd T o blank p) (entry_keeps T o blank p)
+      turns_alike (length T) (entry_step true T o blank) (entry_step k T u white) Any d (EntriesSo T o blank p) (EntriesEnd T o blank p) (entry_keeps T o blank p)
       (λ es fs q high any. next_alike blank white es fs q high) [] [] p within (omega arith, no_entries blank) tt
 
-  -- the token behind them
   -- the token behind them
   end_of_line_alike : (es fs : Row AnEntry) (p : ℕ) (t : Token) → Alike (SameEnd SameFlag) d (end_of_line_of o es p t) (end_of_line_of u fs p t)
   end_of_line_alike es fs p tokens.Newline = both_give (same_end refl)
@@ -238,15 +219,14 @@ module _ (T : List ℕ) (o u d : ℕ) (far : o ≡ d + u) where
   end_of_line_alike es fs p _ = both_stop (fault_moved _ p)
 
   -- the end of a line
-  -- the end of a line
   end_so : (blank white : Bool) (x y : Row AnEntry × ℕ) → SameEnd Any x y
-      → Alike (SameEnd SameFlag) d (end_of_line_at T o blank x.0 x.1) (end_of_line_at T u white y.0 y.1)
+      → Alike (SameEnd SameFlag) d (end_of_line_at true T o blank x.0 x.1) (end_of_line_at k T u white y.0 y.1)
   unfolding end_of_line_at
   end_so blank white _ _ (same_end {x = es} {y = fs} {p = p} same) =
-      end_of_line_alike (with_remark blank es (comment_at T o p)) (with_remark white fs (comment_at T u p)) (past_comment T p)
+      end_of_line_alike (with_remark blank es (comment_at T o p)) (remarked k white fs (comment_at T u p)) (past_comment T p)
       (token_at T (past_comment T p))
 
   -- a line goes the same way in each script
-  pub line_alike : (blank white : Bool) (p : ℕ) → p ≤ length T → Alike (SameEnd SameFlag) d (line_at T o blank p) (line_at T u white p)
+  pub line_alike : (blank white : Bool) (p : ℕ) → p ≤ length T → Alike (SameEnd SameFlag) d (line_at true T o blank p) (line_at k T u white p)
   unfolding line_at
   line_alike blank white p within = alike_then (entries_alike blank white p within) (λ x y e same. end_so blank white x y same)

@@ -14,3 +14,4 @@ pub mod LineKinds
 pub mod Alike
 pub mod Verdict
 pub mod Answered
+pub mod Skim

@@ -10,17 +10,14 @@ pub record NormalRow (is : Row AnItem) : Type 0 where
   pub all : NormalItems (items_of is)
 
 -- no item yet
--- no item yet
 pub no_items : NormalRow []
 no_items = record { first = tt; all = tt }
 
--- all items, with one more at the end
 -- all items, with one more at the end
 items_more : (is : Row AnItem) (i : AnItem) → NormalItems (items_of is) → NormalItem i → NormalItems (items_of (is ++ i ∷ []))
 items_more [] i all one = (one, tt)
 items_more (j ∷ is) i all one = (all.0, items_more is i all.1 one)
 
--- the first item, with one more at the end
 -- the first item, with one more at the end
 first_item : (is : Row AnItem) (i : AnItem) → FirstNotBroken (items_of is) → is_broken i ≡ false → FirstNotBroken (items_of (is ++ i ∷ []))
 first_item [] i first e = e
@@ -36,7 +33,6 @@ pub record NormalLine (blank : Bool) (es : Row AnEntry) : Type 0 where
   pub all : NormalEntries (entries_of es)
 
 -- no entry yet
--- no entry yet
 pub no_entries : (blank : Bool) → NormalLine blank []
 no_entries blank = record { first = λ e. tt; all = tt }
 
@@ -45,7 +41,6 @@ pub entries_join : (es ls : Row AnEntry) → NormalEntries (entries_of es) → N
 entries_join [] ls all more = more
 entries_join (e ∷ es) ls all more = (all.0, entries_join es ls all.1 more)
 
--- the first entry, with one more at the end
 -- the first entry, with one more at the end
 first_entry : (blank : Bool) (es : Row AnEntry) (e : AnEntry) → (blank ≡ false → FirstNotBlank (entries_of es))
     → is_blank_entry e ≡ (blank && is_empty es) → blank ≡ false → FirstNotBlank (entries_of (es ++ e ∷ []))
@@ -57,7 +52,6 @@ pub line_more : (blank : Bool) (es : Row AnEntry) (e : AnEntry) → NormalLine b
     → NormalLine blank (es ++ e ∷ [])
 line_more blank es e line one is = record { first = first_entry blank es e line.first is; all = entries_join es (e ∷ []) line.all (one, tt) }
 
--- what is not blank in an empty script
 -- what is not blank in an empty script
 and_false : (b : Bool) → (b && false) ≡ false
 and_false true = refl

@@ -15,7 +15,6 @@ use Rattle.shread.proofs.Stretches.{get_drop}
 -- ---- one byte
 
 -- where a byte is got there is one
--- where a byte is got there is one
 byte_low : (T : List ℕ) (p c : ℕ) (b : Option ℕ) → slice_get T p ≡ b → is_byte b c ≡ true → p < length T
 byte_low T p c None is e = absurd cc
 byte_low T p c (Some b) is e = slice_get_within T p b is
@@ -26,7 +25,6 @@ unfolding stands
 stands_low T p c e = byte_low T p c (slice_get T p) refl e
 
 -- a byte that passes a test is one
--- a byte that passes a test is one
 passes_low : (test : ℕ → Bool) (T : List ℕ) (p : ℕ) (b : Option ℕ) → slice_get T p ≡ b → passes test b ≡ true → p < length T
 passes_low test T p None is e = absurd cc
 passes_low test T p (Some b) is e = slice_get_within T p b is
@@ -36,7 +34,6 @@ pub stands_in_low : (test : ℕ → Bool) (T : List ℕ) (p : ℕ) → stands_in
 unfolding stands_in
 stands_in_low test T p e = passes_low test T p (slice_get T p) refl e
 
--- a byte that ends no word is one
 -- a byte that ends no word is one
 not_ends_low : (T : List ℕ) (p : ℕ) (b : Option ℕ) → slice_get T p ≡ b → ends b ≡ false → p < length T
 not_ends_low T p None is e = absurd cc
@@ -50,13 +47,11 @@ word_low T p e = not_ends_low T p (slice_get T p) refl e
 -- ---- stretches
 
 -- no more bytes pass than there are
--- no more bytes pass than there are
 count_short : (test : ℕ → Bool) (xs : List ℕ) → count_front test xs ≤ length xs
 unfolding count_front
 count_short test [] = omega arith
 count_short test (b ∷ bs) = cond_both (test b) _ _ (λ n. n ≤ length (b ∷ bs)) (λ e. omega (arith, count_short test bs)) (λ e. omega arith)
 
--- the first byte that is not counted fails the test
 -- the first byte that is not counted fails the test
 count_stops : (test : ℕ → Bool) (xs : List ℕ) → passes test (slice_get xs (count_front test xs)) ≡ false
 unfolding count_front
@@ -85,7 +80,6 @@ pub blanks_low : (T : List ℕ) (p : ℕ) → p ≤ past_blanks T p
 blanks_low T p = past_low is_blank T p
 
 -- it is not past the end of the text
--- it is not past the end of the text
 pub blanks_high : (T : List ℕ) (p : ℕ) → p ≤ length T → past_blanks T p ≤ length T
 blanks_high T p within = past_high is_blank T p within
 
@@ -93,7 +87,6 @@ blanks_high T p within = past_high is_blank T p within
 pub next_newline_low : (T : List ℕ) (p : ℕ) → p ≤ next_newline T p
 next_newline_low T p = past_low (λ b. not (is_newline b)) T p
 
--- it is not past the end of the text
 -- it is not past the end of the text
 pub next_newline_high : (T : List ℕ) (p : ℕ) → p ≤ length T → next_newline T p ≤ length T
 next_newline_high T p within = past_high (λ b. not (is_newline b)) T p within
@@ -111,14 +104,12 @@ unfolding past_comment
 comment_low T p = cond_both (stands T p 35) _ _ (λ n. p ≤ n) (λ e. next_newline_low T p) (λ e. omega arith)
 
 -- it is not past the end of the text
--- it is not past the end of the text
 pub comment_high : (T : List ℕ) (p : ℕ) → p ≤ length T → past_comment T p ≤ length T
 unfolding past_comment
 comment_high T p within = cond_both (stands T p 35) _ _ (λ n. n ≤ length T) (λ e. next_newline_high T p within) (λ e. within)
 
 -- ---- tokens
 
--- by the byte at p
 -- by the byte at p
 token_low_by : (T : List ℕ) (p : ℕ) (b : Option ℕ) → slice_get T p ≡ b → (token_of T p b ≡ tokens.End → ⊥) → p < length T
 token_low_by T p None is other = absurd (other refl)
@@ -141,7 +132,6 @@ token_by P T p b newline semicolon ampersand operator comment other = cond_both 
     (λ g. cond_both (is_number T p) _ _ P (λ h. (other n o).0) (λ h. (other n o).1))))))
 
 -- by the byte at p
--- by the byte at p
 newline_by : (T : List ℕ) (p : ℕ) (b : Option ℕ) → token_of T p b ≡ tokens.Newline → is_byte b 10 ≡ true
 newline_by T p None e = absurd cc
 newline_by T p (Some b) e =
@@ -153,7 +143,6 @@ pub newline_stands : (T : List ℕ) (p : ℕ) → token_at T p ≡ tokens.Newlin
 unfolding token_at stands
 newline_stands T p e = newline_by T p (slice_get T p) e
 
--- by the byte at p
 -- by the byte at p
 word_by : (T : List ℕ) (p : ℕ) (b : Option ℕ) → passes is_blank b ≡ false → is_word (token_of T p b) ≡ true → ends b ≡ false
 word_by T p None blank e = absurd cc
@@ -192,7 +181,6 @@ pid_low T p e = stands_low T (p + 1) 36 (and_parts _ _ e).1
 -- ---- separators
 
 -- the end is no separator
--- the end is no separator
 parted_by : (t : Token) → is_parted (separator_by t) ≡ true → t ≡ tokens.End → ⊥
 parted_by tokens.Semicolon parted e = cc
 parted_by tokens.Ampersand parted e = cc
@@ -208,7 +196,6 @@ pub separator_low : (T : List ℕ) (p : ℕ) → p ≤ past_separator T p
 unfolding past_separator
 separator_low T p = cond_both (is_parted (separator_at T p)) _ _ (λ n. p ≤ n) (λ parted. omega (arith, blanks_low T p)) (λ none. omega arith)
 
--- it is not past the end of the text
 -- it is not past the end of the text
 pub separator_high : (T : List ℕ) (p : ℕ) → p ≤ length T → past_separator T p ≤ length T
 unfolding past_separator

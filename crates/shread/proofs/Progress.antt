@@ -38,11 +38,9 @@ module _ (T : List ℕ) (o : ℕ) where
   PiecesSo s ss p = (s ≤ p) × NormalSubsts (substs_of ss)
 
   -- what the pieces of a word give
-  -- what the pieces of a word give
   abbrev pub PiecesEnd : ℕ → Read (Row ASubst) → Type 0
   PiecesEnd s = Within (λ ss q. NormalSubsts (substs_of ss) × (ends_word T q ≡ true)) o (length T) s
 
-  -- one piece
   -- one piece
   pub piece_keeps : (s : ℕ) (ss : Row ASubst) (p : ℕ) → p ≤ length T → PiecesSo s ss p
       → Keeps (length T) (PiecesSo s) (PiecesEnd s) p (piece_step T o ss p)
@@ -54,7 +52,6 @@ module _ (T : List ℕ) (o : ℕ) where
       (λ f. cond_both (is_pid T p) _ _ P (λ g. (omega arith, omega (arith, pid_low T p g), (omega (arith, so.0), so.1)))
       (λ g. (omega arith, omega (arith, word_low T p e), (omega (arith, so.0), so.1)))))
 
-  -- all pieces
   -- all pieces
   pieces_within : (p : ℕ) → p ≤ length T → PiecesEnd p (turns (length T) (piece_step T o) [] p)
   pieces_within p within = turns_keep (length T) (piece_step T o) (PiecesSo p) (PiecesEnd p) (piece_keeps p) [] p within (omega arith, tt)
@@ -73,14 +70,12 @@ module _ (T : List ℕ) (o : ℕ) where
   ItemsSo s is p = (s ≤ p) × NormalRow is
 
   -- what the items of a simple command give
-  -- what the items of a simple command give
   abbrev pub ItemsEnd : ℕ → Read (Row AnItem) → Type 0
   ItemsEnd s = Within (λ is q. NormalRow is) o (length T) s
 
   -- one assignment
-  -- one assignment
   pub assignment_keeps : (s : ℕ) (is : Row AnItem) (p : ℕ) → p ≤ length T → ItemsSo s is p
-      → Keeps (length T) (ItemsSo s) (ItemsEnd s) p (assignment_step T o is p)
+      → Keeps (length T) (ItemsSo s) (ItemsEnd s) p (assignment_step true T o is p)
   unfolding assignment_step
   assignment_keeps s is p within so =
       let P = Keeps (length T) (ItemsSo s) (ItemsEnd s) p in
@@ -93,9 +88,8 @@ module _ (T : List ℕ) (o : ℕ) where
       (λ e. (so.0, within, so.1))
 
   -- one argument
-  -- one argument
   pub argument_keeps : (s : ℕ) (is : Row AnItem) (p : ℕ) → p ≤ length T → ItemsSo s is p
-      → Keeps (length T) (ItemsSo s) (ItemsEnd s) p (argument_step T o is p)
+      → Keeps (length T) (ItemsSo s) (ItemsEnd s) p (argument_step true T o is p)
   unfolding argument_step
   argument_keeps s is p within so =
       let P = Keeps (length T) (ItemsSo s) (ItemsEnd s) p in
@@ -108,19 +102,16 @@ module _ (T : List ℕ) (o : ℕ) where
       (λ e. (so.0, within, so.1))
 
   -- all assignments
-  -- all assignments
-  pub assignments_within : (s p : ℕ) → s ≤ p → p ≤ length T → ItemsEnd s (turns (length T) (assignment_step T o) [] p)
+  pub assignments_within : (s p : ℕ) → s ≤ p → p ≤ length T → ItemsEnd s (turns (length T) (assignment_step true T o) [] p)
   assignments_within s p low within =
-      turns_keep (length T) (assignment_step T o) (ItemsSo s) (ItemsEnd s) (assignment_keeps s) [] p within (low, no_items)
+      turns_keep (length T) (assignment_step true T o) (ItemsSo s) (ItemsEnd s) (assignment_keeps s) [] p within (low, no_items)
 
   -- all arguments
-  -- all arguments
-  arguments_within : (s : ℕ) (is : Row AnItem) (p : ℕ) → p ≤ length T → ItemsSo s is p → ItemsEnd s (turns (length T) (argument_step T o) is p)
-  arguments_within s = turns_keep (length T) (argument_step T o) (ItemsSo s) (ItemsEnd s) (argument_keeps s)
+  arguments_within : (s : ℕ) (is : Row AnItem) (p : ℕ) → p ≤ length T → ItemsSo s is p → ItemsEnd s (turns (length T) (argument_step true T o) is p)
+  arguments_within s = turns_keep (length T) (argument_step true T o) (ItemsSo s) (ItemsEnd s) (argument_keeps s)
 
   -- a simple command
-  -- a simple command
-  pub simple_within : (p : ℕ) → p ≤ length T → Within (λ c q. NormalCommand c) o (length T) p (simple_at T o p)
+  pub simple_within : (p : ℕ) → p ≤ length T → Within (λ c q. NormalCommand c) o (length T) p (simple_at true T o p)
   unfolding simple_at
   simple_within p within =
       let S = Within (λ c q. NormalCommand c) o (length T) p in
@@ -129,16 +120,14 @@ module _ (T : List ℕ) (o : ℕ) where
       (λ js r onward inside all. (onward, inside, (all.first, all.all))))
 
   -- a pipeline
-  -- a pipeline
-  pub pipeline_within : (p : ℕ) → p ≤ length T → Within (λ l q. NormalPipeline l) o (length T) p (pipeline_at T o p)
+  pub pipeline_within : (p : ℕ) → p ≤ length T → Within (λ l q. NormalPipeline l) o (length T) p (pipeline_at true T o p)
   unfolding pipeline_at
   pipeline_within p within =
       within_then _ o (length T) p _ _ (Within (λ l q. NormalPipeline l) o (length T) p) (simple_within p within) (λ f high. high)
       (λ c q low high good. (low, high, (good, tt)))
 
   -- an and-or list
-  -- an and-or list
-  pub and_or_within : (p : ℕ) → p ≤ length T → Within (λ a q. NormalAndOr a) o (length T) p (and_or_at T o p)
+  pub and_or_within : (p : ℕ) → p ≤ length T → Within (λ a q. NormalAndOr a) o (length T) p (and_or_at true T o p)
   unfolding and_or_at
   and_or_within p within =
       within_then _ o (length T) p _ _ (Within (λ a q. NormalAndOr a) o (length T) p) (pipeline_within p within) (λ f high. high)
@@ -156,7 +145,7 @@ module _ (T : List ℕ) (o : ℕ) where
 
   -- an entry that a separator follows moves to the right
   pub entry_within : (blank : Bool) (p : ℕ) → p ≤ length T
-      → Within (λ e q. NormalEntry e.0 × (is_blank_entry e.0 ≡ blank) × (e.1 ≡ true → p < q)) o (length T) p (entry_at T o blank p)
+      → Within (λ e q. NormalEntry e.0 × (is_blank_entry e.0 ≡ blank) × (e.1 ≡ true → p < q)) o (length T) p (entry_at true T o blank p)
   unfolding entry_at
   entry_within blank p within = within_then _ o (length T) p _ _ (Within _ o (length T) p) (and_or_within p within) (λ f high. high)
       (λ a q low high good.
@@ -169,11 +158,9 @@ module _ (T : List ℕ) (o : ℕ) where
   EntriesSo blank s es p = (s ≤ p) × NormalLine blank es
 
   -- what the entries of a line give
-  -- what the entries of a line give
   abbrev pub EntriesEnd : Bool → ℕ → Read (Row AnEntry) → Type 0
   EntriesEnd blank s = Within (λ es q. NormalLine blank es) o (length T) s
 
-  -- a turn goes on only behind a separator
   -- a turn goes on only behind a separator
   entry_goes_on : (blank : Bool) (s : ℕ) (es : Row AnEntry) (p q : ℕ) (parted : Bool) → s ≤ q → q ≤ length T → (parted ≡ true → p < q)
       → NormalLine blank es → Keeps (length T) (EntriesSo blank s) (EntriesEnd blank s) p (Ok (step_if parted es q))
@@ -181,9 +168,8 @@ module _ (T : List ℕ) (o : ℕ) where
   entry_goes_on blank s es p q false low high onward line = (low, high, line)
 
   -- one entry
-  -- one entry
   pub entry_keeps : (blank : Bool) (s : ℕ) (es : Row AnEntry) (p : ℕ) → p ≤ length T → EntriesSo blank s es p
-      → Keeps (length T) (EntriesSo blank s) (EntriesEnd blank s) p (entry_step T o blank es p)
+      → Keeps (length T) (EntriesSo blank s) (EntriesEnd blank s) p (entry_step true T o blank es p)
   unfolding entry_step
   entry_keeps blank s es p within so =
       let P = Keeps (length T) (EntriesSo blank s) (EntriesEnd blank s) p in
@@ -197,7 +183,6 @@ module _ (T : List ℕ) (o : ℕ) where
       (λ e. (omega (arith, so.0), high, so.1))
 
   -- a comment on a line of its own
-  -- a comment on a line of its own
   remark_keeps : (blank : Bool) (es : Row AnEntry) (c : Option Comment) → NormalLine blank es → NormalLine blank (with_remark blank es c)
   remark_keeps blank es None line = line
   remark_keeps blank es (Some c) line = line_more blank es _ line (refl, refl) refl
@@ -206,7 +191,6 @@ module _ (T : List ℕ) (o : ℕ) where
   abbrev pub LineEnd : Bool → ℕ → Row AnEntry × Bool → ℕ → Type 0
   LineEnd blank s x q = NormalLine blank x.0 × (x.1 ≡ true → (s < q) × (stands T (q - 1) 10 ≡ true))
 
-  -- by the token there
   -- by the token there
   end_of_line_by : (blank : Bool) (s : ℕ) (es : Row AnEntry) (p : ℕ) (t : Token) → token_at T p ≡ t → s ≤ p → p ≤ length T → NormalLine blank es
       → Within (LineEnd blank s) o (length T) s (end_of_line_of o es p t)
@@ -219,23 +203,21 @@ module _ (T : List ℕ) (o : ℕ) where
   end_of_line_by blank s es p _ is low within line = omega (arith, within)
 
   -- the end of a line
-  -- the end of a line
   end_within : (blank : Bool) (s : ℕ) (es : Row AnEntry) (p : ℕ) → s ≤ p → p ≤ length T → NormalLine blank es
-      → Within (LineEnd blank s) o (length T) s (end_of_line_at T o blank es p)
+      → Within (LineEnd blank s) o (length T) s (end_of_line_at true T o blank es p)
   unfolding end_of_line_at
   end_within blank s es p low within line =
       end_of_line_by blank s _ (past_comment T p) _ refl (omega (arith, comment_low T p)) (comment_high T p within)
       (remark_keeps blank es (comment_at T o p) line)
 
   -- all entries
-  -- all entries
-  entries_within : (blank : Bool) (p : ℕ) → p ≤ length T → EntriesEnd blank p (turns (length T) (entry_step T o blank) [] p)
+  entries_within : (blank : Bool) (p : ℕ) → p ≤ length T → EntriesEnd blank p (turns (length T) (entry_step true T o blank) [] p)
   entries_within blank p within =
-      turns_keep (length T) (entry_step T o blank) (EntriesSo blank p) (EntriesEnd blank p) (entry_keeps blank p) [] p within
+      turns_keep (length T) (entry_step true T o blank) (EntriesSo blank p) (EntriesEnd blank p) (entry_keeps blank p) [] p within
       (omega arith, no_entries blank)
 
   -- a line
-  pub line_within : (blank : Bool) (p : ℕ) → p ≤ length T → Within (LineEnd blank p) o (length T) p (line_at T o blank p)
+  pub line_within : (blank : Bool) (p : ℕ) → p ≤ length T → Within (LineEnd blank p) o (length T) p (line_at true T o blank p)
   unfolding line_at
   line_within blank p within =
       within_then _ o (length T) p _ _ (Within (LineEnd blank p) o (length T) p) (entries_within blank p within) (λ f high. high)
@@ -249,17 +231,14 @@ module _ (B : List ℕ) where
   ScriptSo s p = IsNormal (entries_of s.entries) × (s.wrong ≡ None)
 
   -- a list in normal form, and no fault past the end
-  -- a list in normal form, and no fault past the end
   abbrev pub IsGood : Entries → Option Fault → Type 0
   IsGood es wrong = IsNormal es × ((f : Fault) → wrong ≡ Some f → f.at ≤ length B)
 
-  -- what the lines of a script give
   -- what the lines of a script give
   abbrev pub ScriptEnd : Read SoFar → Type 0
   ScriptEnd (Ok (s, q)) = IsGood (entries_of s.entries) s.wrong
   ScriptEnd (Err f) = ⊥
 
-  -- by the outcome of one line
   -- by the outcome of one line
   pub next_keeps : (s : SoFar) (p : ℕ) (x : Read (Row AnEntry × Bool)) → p ≤ length B → ScriptSo s p
       → Within (LineEnd (drop p B) p (s.gap && not (is_empty s.entries)) 0) p (length (drop p B)) 0 x
@@ -271,7 +250,6 @@ module _ (B : List ℕ) where
   next_keeps s p (Ok ((ls, false), q)) within so line = (script_more s.gap s.entries ls so.0 line.2.0, λ g is. let none = so.1 in absurd cc)
 
   -- one line
-  -- one line
   pub script_keeps : (s : SoFar) (p : ℕ) → p ≤ length B → ScriptSo s p → Keeps (length B) ScriptSo ScriptEnd p (script_step B s p)
   unfolding script_step
   script_keeps s p within so = next_keeps s p _ within so (line_within (drop p B) p (s.gap && not (is_empty s.entries)) 0 (omega arith))
@@ -280,7 +258,6 @@ module _ (B : List ℕ) where
   pub script_within : (p : ℕ) → p ≤ length B → ScriptEnd (turns (length B) (script_step B) nothing_yet p)
   script_within p within = turns_keep (length B) (script_step B) ScriptSo ScriptEnd script_keeps nothing_yet p within ((tt, tt), refl)
 
-  -- what is made of it
   -- what is made of it
   pub script_good : (x : Read SoFar) → ScriptEnd x → IsGood (script_of x).entries (script_of x).wrong
   script_good (Ok (s, q)) good = good

@@ -26,7 +26,6 @@ pub newline_last : (T : List ℕ) (o : ℕ) (blank : Bool) (p : ℕ) (es : Row A
 newline_last T o blank p es q within part = ((line_facts T o blank p _ within part).2.1 refl).1
 
 -- by its outcome
--- by its outcome
 line_by : (T : List ℕ) (x : Read (Row AnEntry × Bool)) → a_line T 0 false 0 x → IsLine T (line_read_of T x)
 line_by T (Ok ((es, newline), q)) part = line_read part
 line_by T (Err f) part = line_stops part
@@ -34,7 +33,7 @@ line_by T (Err f) part = line_stops part
 -- the line that is computed is one
 pub line_is : (T : List ℕ) → IsLine T (line_of_text T)
 unfolding line_of_text
-line_is T = line_by T (line_at T 0 false 0) (is_line T 0 false 0 (omega arith)).some
+line_is T = line_by T (line_at true T 0 false 0) (is_line T 0 false 0 (omega arith)).some
 
 -- and there is no other
 pub line_only : (T : List ℕ) (l : ALine) → IsLine T l → l ≡ line_of_text T
@@ -47,9 +46,8 @@ line_only T l (line_stops part) = ap (line_read_of T) ((is_line T 0 false 0 (ome
 module _ (B : List ℕ) where
   -- the entries of the line at p, where a line without entries may stand before it
   abbrev line_after : Row AnEntry → Bool → ℕ → Read (Row AnEntry × Bool)
-  line_after es gap p = line_at (drop p B) p (gap && not (is_empty es)) 0
+  line_after es gap p = line_at true (drop p B) p (gap && not (is_empty es)) 0
 
-  -- it has one outcome
   -- it has one outcome
   is_line_after : (es : Row AnEntry) (gap : Bool) (p : ℕ) → Is (a_line (drop p B) p (gap && not (is_empty es)) 0) (line_after es gap p)
   is_line_after es gap p = is_line (drop p B) p (gap && not (is_empty es)) 0 (omega arith)
@@ -59,11 +57,9 @@ module _ (B : List ℕ) where
   Leads s p = ScriptSo B s p × ((y : AScript) → Lines B s.entries s.gap p y → Outcome B y)
 
   -- what is made of all lines
-  -- what is made of all lines
   abbrev Ends : Read SoFar → Type 0
   Ends x = Outcome B (script_of x)
 
-  -- by the outcome of one line
   -- by the outcome of one line
   next_leads : (s : SoFar) (p : ℕ) (x : Read (Row AnEntry × Bool)) → Keeps (length B) (ScriptSo B) (ScriptEnd B) p (script_next s p x)
       → s.wrong ≡ None → a_line (drop p B) p (s.gap && not (is_empty s.entries)) 0 x → ((y : AScript) → Lines B s.entries s.gap p y → Outcome B y)
@@ -72,7 +68,6 @@ module _ (B : List ℕ) where
   next_leads s p (Ok ((ls, true), q)) kept none part before = (kept.0, kept.1, (kept.2, λ y rest. before y (line_ended part rest)))
   next_leads s p (Ok ((ls, false), q)) kept none part before = rw none (before _ (last_line part))
 
-  -- one line
   -- one line
   step_leads : (s : SoFar) (p : ℕ) → p ≤ length B → Leads s p → Keeps (length B) Leads Ends p (script_step B s p)
   unfolding script_step
@@ -86,18 +81,15 @@ module _ (B : List ℕ) where
   script_is = turns_keep (length B) (script_step B) Leads Ends step_leads nothing_yet 0 (omega arith) (((tt, tt), refl), λ y rest. rest)
 
   -- no fault yet
-  -- no fault yet
   abbrev so_far : Row AnEntry → Bool → SoFar
   so_far es gap = record { entries = es; gap = gap; wrong = None }
 
-  -- a line of the grammar is the step
   -- a line of the grammar is the step
   step_is : (es : Row AnEntry) (gap : Bool) (p : ℕ) (x : Read (Row AnEntry × Bool)) → a_line (drop p B) p (gap && not (is_empty es)) 0 x
       → script_step B (so_far es gap) p ≡ script_next (so_far es gap) p x
   unfolding script_step
   step_is es gap p x part = ap (script_next (so_far es gap) p) (sym ((is_line_after es gap p).only x part))
 
-  -- a line that a newline token ends leads on
   -- a line that a newline token ends leads on
   onward : (p q : ℕ) (es ls : Row AnEntry) (gap : Bool) → p ≤ length B → a_line (drop p B) p (gap && not (is_empty es)) 0 (Ok ((ls, true), q))
       → (p < p + q) × (p + q ≤ length B)
@@ -106,7 +98,6 @@ module _ (B : List ℕ) where
       let last = (line.2.1 refl).0 in
       (omega arith, omega (arith, within, line.1, length-drop p B))
 
-  -- the lines from p on are those that are computed
   -- the lines from p on are those that are computed
   lines_only : (es : Row AnEntry) (gap : Bool) (p : ℕ) (y : AScript) → Lines B es gap p y → p ≤ length B
       → y ≡ script_of (turns (length B) (script_step B) (so_far es gap) p)

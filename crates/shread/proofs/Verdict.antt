@@ -3,11 +3,11 @@ use Rattle.std.proofs.Common.{◌≡◌, ℕ, ◌+◌, ◌≤◌, ◌<◌, Bool,
 use Rattle.std.proofs.lemmas.Bool.{and_parts}
 use Rattle.std.proofs.lemmas.List.{length-drop}
 use Rattle.shread.specs.declared.fault.Fault.{Fault}
-use Rattle.shread.specs.Tree.{Entries, AnEntry}
+use Rattle.shread.specs.Tree.{AnEntry}
 use Rattle.shread.specs.Comes.{Read}
-use Rattle.shread.specs.Lines.{is_empty, ALine, AScript, IsLine, Outcome, FirstFault, end_line, entries_line, faulty_line, kind_of}
+use Rattle.shread.specs.Lines.{is_empty, ALine, AScript, IsLine, Outcome, FirstFault, faulty_line, kind_of}
 use Rattle.shread.specs.Normal.{IsNormal}
-use Rattle.shread.specs.Reading.{turns, line_at, SoFar, script_next, script_step, nothing_yet, script_of, script_at, line_read_of, line_of_text, first_fault_from}
+use Rattle.shread.specs.Reading.{turns, line_at, SoFar, script_next, script_step, nothing_yet, script_of, script_at, line_read_of, line_of_text, first_fault_from, TellsFirst}
 use Rattle.shread.proofs.Alike.{moved, Alike, both_give, both_stop, SameEnd, same_end, SameStep, both_again, both_done, turns_alike, SameFlag, line_alike}
 use Rattle.shread.proofs.Progress.{ScriptSo, script_keeps, Within, LineEnd, line_within, ScriptEnd, script_within, script_good}
 use Rattle.shread.proofs.Loops.{Keeps}
@@ -33,13 +33,11 @@ unfolding first_fault_from
 first_fault_within B p f within is = (script_good B _ (script_within B p within)).1 f is
 
 -- a line that was read has no fault
--- a line that was read has no fault
 not_faulty : (es : Row AnEntry) (newline : Bool) (f : Fault) → kind_of es newline ≡ faulty_line f → ⊥
 not_faulty [] true f is = cc
 not_faulty [] false f is = cc
 not_faulty (e ∷ es) newline f is = cc
 
--- by its outcome
 -- by its outcome
 line_fault_by : (T : List ℕ) (x : Read (Row AnEntry × Bool)) (f : Fault) → Within (LineEnd T 0 false 0) 0 (length T) 0 x
     → (line_read_of T x).kind ≡ faulty_line f → f.at ≤ length T
@@ -53,11 +51,9 @@ line_fault_within T l f is kind =
     line_fault_by T _ f (line_within T 0 false 0 (omega arith)) (sym (ap (λ (m : ALine). m.kind) (line_only T l is)) ∙ kind)
 
 -- a fault that does not move
--- a fault that does not move
 not_moved : (f : Fault) → moved 0 f ≡ f
 not_moved f = let same : 0 + f.at ≡ f.at = omega arith in ap (λ n. record { kind = f.kind; at = n }) same
 
--- by its outcome
 -- by its outcome
 line_next_by : (T : List ℕ) (x : Read (Row AnEntry × Bool)) → Within (LineEnd T 0 false 0) 0 (length T) 0 x → (line_read_of T x).next ≤ length T
 line_next_by T (Ok ((es, newline), q)) within = within.1
@@ -69,7 +65,6 @@ unfolding line_of_text
 line_next T l is =
     let P : ALine → Type 0 = λ m. m.next ≤ length T in subst P (sym (line_only T l is)) (line_next_by T _ (line_within T 0 false 0 (omega arith)))
 
--- by its outcome
 -- by its outcome
 line_onward_by : (T : List ℕ) (x : Read (Row AnEntry × Bool)) → Within (LineEnd T 0 false 0) 0 (length T) 0 x → (line_read_of T x).ended ≡ true
     → 0 < (line_read_of T x).next
@@ -87,7 +82,6 @@ pub next_within : (B : List ℕ) (p : ℕ) (l : ALine) → p ≤ length B → Is
 next_within B p l within is = omega (arith, line_next (drop p B) l is, length-drop p B)
 
 -- in this grammar a newline token is always the last byte
--- in this grammar a newline token is always the last byte
 not_ended : (b c : Bool) → (b && c) ≡ false → (b ≡ true → c ≡ true) → b ≡ false
 not_ended true c ended newline = let last = newline refl in absurd cc
 not_ended false c ended newline = refl
@@ -99,7 +93,6 @@ abbrev SameWrong : SoFar → SoFar → Type 0
 SameWrong s u = s.wrong ≡ u.wrong
 
 -- two lines that were read
--- two lines that were read
 read_alike : (s u : SoFar) (ls ms : Row AnEntry) (a b : Bool) (p q : ℕ) → a ≡ b → SameWrong s u
     → Alike (SameStep SameWrong) 0 (script_next s p (Ok ((ls, a), q))) (script_next u p (Ok ((ms, b), q)))
 read_alike s u ls ms true true p q flag same = both_give (both_again same)
@@ -107,7 +100,6 @@ read_alike s u ls ms false false p q flag same = both_give (both_done same)
 read_alike s u ls ms true false p q flag same = absurd cc
 read_alike s u ls ms false true p q flag same = absurd cc
 
--- by the outcomes of two lines
 -- by the outcomes of two lines
 next_alike : (s u : SoFar) (p : ℕ) (x y : Read (Row AnEntry × Bool)) → Alike (SameEnd SameFlag) 0 x y → SameWrong s u
     → Alike (SameStep SameWrong) 0 (script_next s p x) (script_next u p y)
@@ -119,9 +111,8 @@ module _ (B : List ℕ) where
   unfolding script_step
   step_alike s u p same =
       next_alike s u p _ _
-      (line_alike (drop p B) p p 0 (omega arith) (s.gap && not (is_empty s.entries)) (u.gap && not (is_empty u.entries)) 0 (omega arith)) same
+      (line_alike true (drop p B) p p 0 (omega arith) (s.gap && not (is_empty s.entries)) (u.gap && not (is_empty u.entries)) 0 (omega arith)) same
 
-  -- what is made of both
   -- what is made of both
   wrong_of : (x y : Read SoFar) → Alike (SameEnd SameWrong) 0 x y → (script_of x).wrong ≡ (script_of y).wrong
   wrong_of _ _ (both_give (same_end same)) = same
@@ -138,24 +129,22 @@ module _ (B : List ℕ) where
   -- ---- a line, and the lines behind it
 
   module _ (p : ℕ) (within : p ≤ length B) where
-    first_step : (x : Read (Row AnEntry × Bool)) → line_at (drop p B) p false 0 ≡ x → script_step B nothing_yet p ≡ script_next nothing_yet p x
+    first_step : (x : Read (Row AnEntry × Bool)) → line_at true (drop p B) p false 0 ≡ x → script_step B nothing_yet p ≡ script_next nothing_yet p x
     unfolding script_step
     first_step x is = ap (script_next nothing_yet p) is
 
     -- the line at p says this of its first fault
-    stops_here : (f : Fault) → line_at (drop p B) p false 0 ≡ Err f → first_fault_from B p ≡ Some f
+    stops_here : (f : Fault) → line_at true (drop p B) p false 0 ≡ Err f → first_fault_from B p ≡ Some f
     unfolding first_fault_from
     stops_here f is = ap (λ (x : Read SoFar). (script_of x).wrong) (turns_done (length B) (script_step B) nothing_yet _ p p (first_step _ is))
 
     -- no newline token: nothing is left
-    -- no newline token: nothing is left
-    ends_here : (ls : Row AnEntry) (q : ℕ) → line_at (drop p B) p false 0 ≡ Ok ((ls, false), q) → first_fault_from B p ≡ None
+    ends_here : (ls : Row AnEntry) (q : ℕ) → line_at true (drop p B) p false 0 ≡ Ok ((ls, false), q) → first_fault_from B p ≡ None
     unfolding first_fault_from
     ends_here ls q is = ap (λ (x : Read SoFar). (script_of x).wrong) (turns_done (length B) (script_step B) nothing_yet _ p (p + q) (first_step _ is))
 
     -- a newline token: the lines behind it decide
-    -- a newline token: the lines behind it decide
-    goes_on_here : (ls : Row AnEntry) (q : ℕ) → line_at (drop p B) p false 0 ≡ Ok ((ls, true), q) → first_fault_from B p ≡ first_fault_from B (p + q)
+    goes_on_here : (ls : Row AnEntry) (q : ℕ) → line_at true (drop p B) p false 0 ≡ Ok ((ls, true), q) → first_fault_from B p ≡ first_fault_from B (p + q)
     unfolding first_fault_from
     goes_on_here ls q is =
         let next : SoFar = record { entries = ls; gap = is_empty ls; wrong = None } in
@@ -164,69 +153,24 @@ module _ (B : List ℕ) where
         ap (λ (x : Read SoFar). (script_of x).wrong) (turns_again (length B) (script_step B) nothing_yet next p (p + q) step kept.0 kept.1)
         ∙ unfold first_fault_from in fault_after next (p + q) kept.1 kept.2
 
-    -- the line at p read as a script of its own
-    alike_alone : Alike (SameEnd SameFlag) p (line_at (drop p B) p false 0) (line_at (drop p B) 0 false 0)
-    alike_alone = line_alike (drop p B) p 0 p (omega arith) false false 0 (omega arith)
+    -- a line that was read without its tree, by whether a newline token ended it
+    read_tells : (ls ms : Row AnEntry) (a b : Bool) (q : ℕ) → a ≡ b → line_at true (drop p B) p false 0 ≡ Ok ((ls, a), q) → TellsFirst B p (Ok ((ms, b), q))
+    read_tells ls ms true true q flag is = goes_on_here ls q is
+    read_tells ls ms false false q flag is = ends_here ls q is
+    read_tells ls ms true false q flag is = absurd cc
+    read_tells ls ms false true q flag is = absurd cc
 
-    -- by the outcome of the line
-    -- by the outcome of the line
-    goes_on_by : (x z : Read (Row AnEntry × Bool)) → line_at (drop p B) p false 0 ≡ x → Alike (SameEnd SameFlag) p x z
-        → (line_read_of (drop p B) z).ended ≡ true → first_fault_from B p ≡ first_fault_from B (p + (line_read_of (drop p B) z).next)
-    goes_on_by _ _ is (both_give (same_end {x = x} {y = y} {p = q} flag)) ended =
-        let newline : x.1 ≡ true = flag ∙ (and_parts _ _ ended).0 in
-        goes_on_here x.0 q (is ∙ ap (λ (b : Bool). Ok ((x.0, b), q)) newline)
-    goes_on_by _ _ is (both_stop moves) ended = absurd cc
+    -- by the outcomes with the tree and without
+    alike_tells : (x z : Read (Row AnEntry × Bool)) → line_at true (drop p B) p false 0 ≡ x → Alike (SameEnd SameFlag) 0 x z → TellsFirst B p z
+    alike_tells _ _ is (both_give (same_end {x = x} {y = y} {p = q} flag)) = read_tells x.0 y.0 x.1 y.1 q flag is
+    alike_tells _ _ is (both_stop {f = f} {g = g} moves) =
+        let here : first_fault_from B p ≡ Some g = stops_here f is ∙ ap Some (moves ∙ not_moved g) in
+        (here, first_fault_within B p g within here)
 
-    -- by the outcome of the line
-    -- by the outcome of the line
-    ends_by : (x z : Read (Row AnEntry × Bool)) → line_at (drop p B) p false 0 ≡ x → Alike (SameEnd SameFlag) p x z
-        → Within (LineEnd (drop p B) 0 false 0) 0 (length (drop p B)) 0 z → (line_read_of (drop p B) z).ended ≡ false
-        → ((f : Fault) → (line_read_of (drop p B) z).kind ≡ faulty_line f → ⊥) → first_fault_from B p ≡ None
-    ends_by _ _ is (both_give (same_end {x = x} {y = y} {p = q} flag)) line ended sound =
-        let newline : x.1 ≡ false = flag ∙ not_ended y.1 _ ended (λ e. (line.2.1 e).1) in
-        ends_here x.0 q (is ∙ ap (λ (b : Bool). Ok ((x.0, b), q)) newline)
-    ends_by _ _ is (both_stop {g = g} moves) line ended sound = absurd (sound g refl)
-
-    -- by the outcome of the line
-    -- by the outcome of the line
-    stops_by : (x z : Read (Row AnEntry × Bool)) (f : Fault) → line_at (drop p B) p false 0 ≡ x → Alike (SameEnd SameFlag) p x z
-        → (line_read_of (drop p B) z).kind ≡ faulty_line f → first_fault_from B p ≡ Some (moved p f)
-    stops_by _ _ f is (both_give (same_end {y = y} flag)) kind = absurd (not_faulty y.0 y.1 f kind)
-    stops_by _ _ f is (both_stop {f = e} {g = g} moves) kind = let same : g ≡ f = cc in stops_here e is ∙ ap Some (moves ∙ ap (moved p) same)
-
--- behind a line that a newline token ended stand those that decide
-pub fault_goes_on : (B : List ℕ) (p : ℕ) (l : ALine) → p ≤ length B → IsLine (drop p B) l → l.ended ≡ true
-    → first_fault_from B p ≡ first_fault_from B (p + l.next)
-unfolding line_of_text
-fault_goes_on B p l within is =
-    let P : ALine → Type 0 = λ m. m.ended ≡ true → first_fault_from B p ≡ first_fault_from B (p + m.next) in
-    subst P (sym (line_only (drop p B) l is)) (goes_on_by B p within _ _ refl (alike_alone B p within))
-
--- a line that the end of the text ended is the last one
-pub fault_is_none : (B : List ℕ) (p : ℕ) (l : ALine) → p ≤ length B → IsLine (drop p B) l → l.ended ≡ false
-    → ((f : Fault) → l.kind ≡ faulty_line f → ⊥) → first_fault_from B p ≡ None
-unfolding line_of_text
-fault_is_none B p l within is =
-    let P : ALine → Type 0 = λ m. m.ended ≡ false → ((f : Fault) → m.kind ≡ faulty_line f → ⊥) → first_fault_from B p ≡ None in
-    subst P (sym (line_only (drop p B) l is)) (ends_by B p within _ _ refl (alike_alone B p within) (line_within (drop p B) 0 false 0 (omega arith)))
-
--- so it is where nothing is left
-pub fault_is_none_at_end : (B : List ℕ) (p : ℕ) (l : ALine) → p ≤ length B → IsLine (drop p B) l → l.ended ≡ false → l.kind ≡ end_line
-    → first_fault_from B p ≡ None
-fault_is_none_at_end B p l within is ended kind = fault_is_none B p l within is ended (λ f faulty. cc)
-
--- and behind the last entries
-pub fault_is_none_behind : (B : List ℕ) (p : ℕ) (l : ALine) (es : Entries) → p ≤ length B → IsLine (drop p B) l → l.ended ≡ false
-    → l.kind ≡ entries_line es → first_fault_from B p ≡ None
-fault_is_none_behind B p l es within is ended kind = fault_is_none B p l within is ended (λ f faulty. cc)
-
--- a fault of a line is the first one of those from there on
-pub fault_is_here : (B : List ℕ) (p : ℕ) (f : Fault) (l : ALine) → p ≤ length B → IsLine (drop p B) l → l.kind ≡ faulty_line f
-    → first_fault_from B p ≡ Some (record { kind = f.kind; at = p + f.at })
-unfolding line_of_text
-fault_is_here B p f l within is =
-    let P : ALine → Type 0 = λ m. m.kind ≡ faulty_line f → first_fault_from B p ≡ Some (moved p f) in
-    subst P (sym (line_only (drop p B) l is)) (stops_by B p within _ _ f refl (alike_alone B p within))
+-- a line that is read without its tree tells where the first fault is
+pub skim_tells : (B : List ℕ) (p : ℕ) → p ≤ length B → (keep blank : Bool) → TellsFirst B p (line_at keep (drop p B) p blank 0)
+skim_tells B p within keep blank =
+    alike_tells B p within _ _ refl (line_alike keep (drop p B) p p 0 (omega arith) false blank 0 (omega arith))
 
 -- from the first byte on it is that of the script
 pub first_fault_is : (B : List ℕ) → FirstFault B (first_fault_from B 0)

@@ -11,3 +11,4 @@ pub mod Answers
 pub mod SoFar
 pub mod Normal
 pub mod Classes
+pub mod Search

@@ -6,6 +6,7 @@ use Rattle.shread.specs.declared.fault.FaultKind.TheVariants.{Unexpected, Unexpe
 use Rattle.shread.specs.declared.fault.Stop.{Stop}
 use Rattle.shread.specs.declared.fault.Stop.TheVariants.{Memory, Wrong}
 use Rattle.shread.specs.declared.token.Token.{Token}
+use Rattle.shread.specs.declared.tree.Comment.{Comment}
 use Rattle.shread.specs.declared.token.Token.TheVariants as tokens
 use Rattle.shread.specs.Tree.{ASubst, AWord, AnItem, AnEntry, ACommand, APipeline, AnAndOr, word, substs_of, item, assign, argument, items_of, simple, pipeline, no_pipe, and_or, no_and_or, entry, command, entries_of}
 use Rattle.shread.specs.Bytes.{stands, ends_word, past_blanks, token_at, begins_assignment}
@@ -60,33 +61,37 @@ piece_step T o ss p = if ends_word T p then Ok (done ss p)
 unfoldable pub word_at : List ℕ → ℕ → ℕ → Read AWord
 word_at T o p = turns (length T) (piece_step T o) [] p >>= λ w. Ok (word (span o p w.1) (substs_of w.0), w.1)
 
--- ---- commands
+-- ---- commands; without `keep` the rows grow no tree, and what is read is only how far it goes
 
-unfoldable pub assignment_step : List ℕ → ℕ → Row AnItem → ℕ → Result (Step (Row AnItem)) Fault
-assignment_step T o is p = if begins_assignment T (past_blanks T p) then (word_at T o (past_blanks T p) >>= λ w. Ok (again (is ++ item false (assign w.0) ∷ []) w.1))
+abbrev pub pushed : {A : Type 0} → Bool → Row A → A → Row A
+pushed true xs x = xs ++ x ∷ []
+pushed false xs x = xs
+
+unfoldable pub assignment_step : Bool → List ℕ → ℕ → Row AnItem → ℕ → Result (Step (Row AnItem)) Fault
+assignment_step keep T o is p = if begins_assignment T (past_blanks T p) then (word_at T o (past_blanks T p) >>= λ w. Ok (again (pushed keep is (item false (assign w.0))) w.1))
     else Ok (done is p)
 
-unfoldable pub argument_step : List ℕ → ℕ → Row AnItem → ℕ → Result (Step (Row AnItem)) Fault
-argument_step T o is p = if is_word (token_at T (past_blanks T p)) then (word_at T o (past_blanks T p) >>= λ w. Ok (again (is ++ item false (argument w.0) ∷ []) w.1))
+unfoldable pub argument_step : Bool → List ℕ → ℕ → Row AnItem → ℕ → Result (Step (Row AnItem)) Fault
+argument_step keep T o is p = if is_word (token_at T (past_blanks T p)) then (word_at T o (past_blanks T p) >>= λ w. Ok (again (pushed keep is (item false (argument w.0))) w.1))
     else Ok (done is p)
 
-unfoldable pub simple_at : List ℕ → ℕ → ℕ → Read ACommand
-simple_at T o p = turns (length T) (assignment_step T o) [] p >>= λ a. turns (length T) (argument_step T o) a.0 a.1 >>= λ w. Ok (simple (items_of w.0), w.1)
+unfoldable pub simple_at : Bool → List ℕ → ℕ → ℕ → Read ACommand
+simple_at keep T o p = turns (length T) (assignment_step keep T o) [] p >>= λ a. turns (length T) (argument_step keep T o) a.0 a.1 >>= λ w. Ok (simple (items_of w.0), w.1)
 
-unfoldable pub pipeline_at : List ℕ → ℕ → ℕ → Read APipeline
-pipeline_at T o p = simple_at T o p >>= λ c. Ok (pipeline None c.0 no_pipe, c.1)
+unfoldable pub pipeline_at : Bool → List ℕ → ℕ → ℕ → Read APipeline
+pipeline_at keep T o p = simple_at keep T o p >>= λ c. Ok (pipeline None c.0 no_pipe, c.1)
 
-unfoldable pub and_or_at : List ℕ → ℕ → ℕ → Read AnAndOr
-and_or_at T o p = pipeline_at T o p >>= λ l. Ok (and_or l.0 no_and_or, l.1)
+unfoldable pub and_or_at : Bool → List ℕ → ℕ → ℕ → Read AnAndOr
+and_or_at keep T o p = pipeline_at keep T o p >>= λ l. Ok (and_or l.0 no_and_or, l.1)
 
-unfoldable pub entry_at : List ℕ → ℕ → Bool → ℕ → Read (AnEntry × Bool)
-entry_at T o blank p = and_or_at T o p >>= λ a.
+unfoldable pub entry_at : Bool → List ℕ → ℕ → Bool → ℕ → Read (AnEntry × Bool)
+entry_at keep T o blank p = and_or_at keep T o p >>= λ a.
     Ok ((entry (command a.0) (is_background (separator_at T a.1)) blank (comment_at T o (remark_place T a.1)), is_parted (separator_at T a.1)), past_comment T (remark_place T a.1))
 
 -- ---- lines
 
-unfoldable pub entry_step : List ℕ → ℕ → Bool → Row AnEntry → ℕ → Result (Step (Row AnEntry)) Fault
-entry_step T o blank es p = if begins_command T (past_blanks T p) then (entry_at T o (blank && is_empty es) (past_blanks T p) >>= λ e. Ok (step_if e.0.1 (es ++ e.0.0 ∷ []) e.1))
+unfoldable pub entry_step : Bool → List ℕ → ℕ → Bool → Row AnEntry → ℕ → Result (Step (Row AnEntry)) Fault
+entry_step keep T o blank es p = if begins_command T (past_blanks T p) then (entry_at keep T o (blank && is_empty es) (past_blanks T p) >>= λ e. Ok (step_if e.0.1 (pushed keep es e.0.0) e.1))
     else Ok (done es (past_blanks T p))
 
 abbrev pub end_of_line_of : ℕ → Row AnEntry → ℕ → Token → Read (Row AnEntry × Bool)
@@ -94,11 +99,15 @@ end_of_line_of o es p tokens.Newline = Ok ((es, true), p + 1)
 end_of_line_of o es p tokens.End = Ok ((es, false), p)
 end_of_line_of o es p _ = fault Unexpected o p
 
-unfoldable pub end_of_line_at : List ℕ → ℕ → Bool → Row AnEntry → ℕ → Read (Row AnEntry × Bool)
-end_of_line_at T o blank es p = end_of_line_of o (with_remark blank es (comment_at T o p)) (past_comment T p) (token_at T (past_comment T p))
+abbrev pub remarked : Bool → Bool → Row AnEntry → Option Comment → Row AnEntry
+remarked true blank es c = with_remark blank es c
+remarked false blank es c = es
 
-unfoldable pub line_at : List ℕ → ℕ → Bool → ℕ → Read (Row AnEntry × Bool)
-line_at T o blank p = turns (length T) (entry_step T o blank) [] p >>= λ es. end_of_line_at T o blank es.0 es.1
+unfoldable pub end_of_line_at : Bool → List ℕ → ℕ → Bool → Row AnEntry → ℕ → Read (Row AnEntry × Bool)
+end_of_line_at keep T o blank es p = end_of_line_of o (remarked keep blank es (comment_at T o p)) (past_comment T p) (token_at T (past_comment T p))
+
+unfoldable pub line_at : Bool → List ℕ → ℕ → Bool → ℕ → Read (Row AnEntry × Bool)
+line_at keep T o blank p = turns (length T) (entry_step keep T o blank) [] p >>= λ es. end_of_line_at keep T o blank es.0 es.1
 
 -- ---- scripts
 
@@ -114,7 +123,7 @@ script_next s p (Ok ((ls, true), q)) = Ok (again (record { entries = s.entries +
 script_next s p (Ok ((ls, false), q)) = Ok (done (record { entries = s.entries ++ ls; gap = is_empty ls; wrong = s.wrong }) (p + q))
 
 unfoldable pub script_step : List ℕ → SoFar → ℕ → Result (Step SoFar) Fault
-script_step B s p = script_next s p (line_at (drop p B) p (s.gap && not (is_empty s.entries)) 0)
+script_step B s p = script_next s p (line_at true (drop p B) p (s.gap && not (is_empty s.entries)) 0)
 
 abbrev pub nothing_yet : SoFar
 nothing_yet = record { entries = []; gap = false; wrong = None }
@@ -133,7 +142,13 @@ line_read_of T (Ok ((es, newline), q)) = record { kind = kind_of es newline; nex
 line_read_of T (Err f) = record { kind = faulty_line f; next = length T; ended = false }
 
 unfoldable pub line_of_text : List ℕ → ALine
-line_of_text T = line_read_of T (line_at T 0 false 0)
+line_of_text T = line_read_of T (line_at true T 0 false 0)
 
 unfoldable pub first_fault_from : List ℕ → ℕ → Option Fault
 first_fault_from B p = (script_of (turns (length B) (script_step B) nothing_yet p)).wrong
+
+-- what a line at p, read with or without its tree, says of the first fault from p on
+abbrev pub TellsFirst : List ℕ → ℕ → Read (Row AnEntry × Bool) → Type 0
+TellsFirst B p (Ok ((es, true), q)) = first_fault_from B p ≡ first_fault_from B (p + q)
+TellsFirst B p (Ok ((es, false), q)) = first_fault_from B p ≡ None
+TellsFirst B p (Err f) = (first_fault_from B p ≡ Some f) × (f.at ≤ length B)

@@ -36,6 +36,7 @@ fn next_line<S: Source>(alloc: Global, source: &S, so_far: &mut SoFar) -> Result
         source,
         base: so_far.at,
         origin: so_far.at,
+        keep: true,
         at: 0,
     };
     let blank = so_far.gap && !so_far.entries.is_empty();

@@ -18,9 +18,9 @@ impl<'a, S: Source> Cursor<'a, S> {
     #[tactic(auto, unfolding(crate::specs::Reading::assignment_step))]
     fn assignment(&mut self, alloc: Global, items: &mut Vec<Item>) -> Result<bool, Stop>
         ensures value { let text = drop self.old.base (S.bytes self.old.source.now) in
-            Gives (λ more. step_if more (map view_item items.new.items) self.new.at) result (assignment_step text self.old.origin (map view_item items.old.items) self.old.at) }
+            Gives (λ more. step_if more (map view_item items.new.items) self.new.at) result (assignment_step self.old.keep text self.old.origin (map view_item items.old.items) self.old.at) }
         ensures onward { IfOk result (Onward self.old.at self.new.at) }
-        ensures same { (self.new.source ≡ self.old.source) × (self.new.base ≡ self.old.base) × (self.new.origin ≡ self.old.origin) }
+        ensures same { (self.new.source ≡ self.old.source) × (self.new.base ≡ self.old.base) × (self.new.origin ≡ self.old.origin) × (self.new.keep ≡ self.old.keep) }
     {
         let before = self.at;
         self.skip_blanks();
@@ -29,16 +29,18 @@ impl<'a, S: Source> Cursor<'a, S> {
             return Ok(false);
         }
         let word = self.word(alloc)?;
-        items.push(assign_of(word, false))?;
+        if self.keep {
+            items.push(assign_of(word, false))?;
+        }
         Ok(true)
     }
 
     #[tactic(auto, using(crate::proofs::Turns::turns_again, crate::proofs::Turns::turns_done, crate::proofs::Turns::turns_stop))]
     fn assignments(&mut self, alloc: Global, items: &mut Vec<Item>) -> Result<(), Stop>
         ensures value { let text = drop self.old.base (S.bytes self.old.source.now) in
-            Gives (λ all. (map view_item items.new.items, self.new.at)) result (turns (length text) (assignment_step text self.old.origin) (map view_item items.old.items) self.old.at) }
+            Gives (λ all. (map view_item items.new.items, self.new.at)) result (turns (length text) (assignment_step self.old.keep text self.old.origin) (map view_item items.old.items) self.old.at) }
         ensures onward { IfOk result (λ all. self.old.at ≤ self.new.at) }
-        ensures same { (self.new.source ≡ self.old.source) × (self.new.base ≡ self.old.base) × (self.new.origin ≡ self.old.origin) }
+        ensures same { (self.new.source ≡ self.old.source) × (self.new.base ≡ self.old.base) × (self.new.origin ≡ self.old.origin) × (self.new.keep ≡ self.old.keep) }
     {
         'turns: while self.assignment(alloc, items)? {}
         Ok(())
@@ -48,9 +50,9 @@ impl<'a, S: Source> Cursor<'a, S> {
     #[tactic(auto, unfolding(crate::specs::Reading::argument_step))]
     fn argument(&mut self, alloc: Global, items: &mut Vec<Item>) -> Result<bool, Stop>
         ensures value { let text = drop self.old.base (S.bytes self.old.source.now) in
-            Gives (λ more. step_if more (map view_item items.new.items) self.new.at) result (argument_step text self.old.origin (map view_item items.old.items) self.old.at) }
+            Gives (λ more. step_if more (map view_item items.new.items) self.new.at) result (argument_step self.old.keep text self.old.origin (map view_item items.old.items) self.old.at) }
         ensures onward { IfOk result (Onward self.old.at self.new.at) }
-        ensures same { (self.new.source ≡ self.old.source) × (self.new.base ≡ self.old.base) × (self.new.origin ≡ self.old.origin) }
+        ensures same { (self.new.source ≡ self.old.source) × (self.new.base ≡ self.old.base) × (self.new.origin ≡ self.old.origin) × (self.new.keep ≡ self.old.keep) }
     {
         let before = self.at;
         self.skip_blanks();
@@ -59,16 +61,18 @@ impl<'a, S: Source> Cursor<'a, S> {
             return Ok(false);
         }
         let word = self.word(alloc)?;
-        items.push(argument_of(word, false))?;
+        if self.keep {
+            items.push(argument_of(word, false))?;
+        }
         Ok(true)
     }
 
     #[tactic(auto, using(crate::proofs::Turns::turns_again, crate::proofs::Turns::turns_done, crate::proofs::Turns::turns_stop))]
     fn arguments(&mut self, alloc: Global, items: &mut Vec<Item>) -> Result<(), Stop>
         ensures value { let text = drop self.old.base (S.bytes self.old.source.now) in
-            Gives (λ all. (map view_item items.new.items, self.new.at)) result (turns (length text) (argument_step text self.old.origin) (map view_item items.old.items) self.old.at) }
+            Gives (λ all. (map view_item items.new.items, self.new.at)) result (turns (length text) (argument_step self.old.keep text self.old.origin) (map view_item items.old.items) self.old.at) }
         ensures onward { IfOk result (λ all. self.old.at ≤ self.new.at) }
-        ensures same { (self.new.source ≡ self.old.source) × (self.new.base ≡ self.old.base) × (self.new.origin ≡ self.old.origin) }
+        ensures same { (self.new.source ≡ self.old.source) × (self.new.base ≡ self.old.base) × (self.new.origin ≡ self.old.origin) × (self.new.keep ≡ self.old.keep) }
     {
         'turns: while self.argument(alloc, items)? {}
         Ok(())
@@ -78,9 +82,9 @@ impl<'a, S: Source> Cursor<'a, S> {
     #[tactic(auto, unfolding(crate::specs::Reading::simple_at))]
     fn simple(&mut self, alloc: Global) -> Result<Command, Stop>
         ensures value { let text = drop self.old.base (S.bytes self.old.source.now) in
-            Gives (λ command. (view_command command, self.new.at)) result (simple_at text self.old.origin self.old.at) }
+            Gives (λ command. (view_command command, self.new.at)) result (simple_at self.old.keep text self.old.origin self.old.at) }
         ensures onward { IfOk result (λ command. self.old.at ≤ self.new.at) }
-        ensures same { (self.new.source ≡ self.old.source) × (self.new.base ≡ self.old.base) × (self.new.origin ≡ self.old.origin) }
+        ensures same { (self.new.source ≡ self.old.source) × (self.new.base ≡ self.old.base) × (self.new.origin ≡ self.old.origin) × (self.new.keep ≡ self.old.keep) }
     {
         let mut items = Vec::new(alloc);
         self.assignments(alloc, &mut items)?;
@@ -91,9 +95,9 @@ impl<'a, S: Source> Cursor<'a, S> {
     #[tactic(auto, unfolding(crate::specs::Reading::pipeline_at))]
     fn pipeline(&mut self, alloc: Global) -> Result<Pipeline, Stop>
         ensures value { let text = drop self.old.base (S.bytes self.old.source.now) in
-            Gives (λ pipeline. (view_pipeline pipeline, self.new.at)) result (pipeline_at text self.old.origin self.old.at) }
+            Gives (λ pipeline. (view_pipeline pipeline, self.new.at)) result (pipeline_at self.old.keep text self.old.origin self.old.at) }
         ensures onward { IfOk result (λ pipeline. self.old.at ≤ self.new.at) }
-        ensures same { (self.new.source ≡ self.old.source) × (self.new.base ≡ self.old.base) × (self.new.origin ≡ self.old.origin) }
+        ensures same { (self.new.source ≡ self.old.source) × (self.new.base ≡ self.old.base) × (self.new.origin ≡ self.old.origin) × (self.new.keep ≡ self.old.keep) }
     {
         let first = self.simple(alloc)?;
         Ok(pipeline_of(alloc, first))
@@ -102,9 +106,9 @@ impl<'a, S: Source> Cursor<'a, S> {
     #[tactic(auto, unfolding(crate::specs::Reading::and_or_at))]
     pub(crate) fn and_or(&mut self, alloc: Global) -> Result<AndOr, Stop>
         ensures value { let text = drop self.old.base (S.bytes self.old.source.now) in
-            Gives (λ and_or. (view_and_or and_or, self.new.at)) result (and_or_at text self.old.origin self.old.at) }
+            Gives (λ and_or. (view_and_or and_or, self.new.at)) result (and_or_at self.old.keep text self.old.origin self.old.at) }
         ensures onward { IfOk result (λ and_or. self.old.at ≤ self.new.at) }
-        ensures same { (self.new.source ≡ self.old.source) × (self.new.base ≡ self.old.base) × (self.new.origin ≡ self.old.origin) }
+        ensures same { (self.new.source ≡ self.old.source) × (self.new.base ≡ self.old.base) × (self.new.origin ≡ self.old.origin) × (self.new.keep ≡ self.old.keep) }
     {
         let first = self.pipeline(alloc)?;
         Ok(and_or_of(alloc, first))

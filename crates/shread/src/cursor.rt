@@ -15,6 +15,8 @@ pub(crate) struct Cursor<'a, S: Source> {
     pub(crate) source: &'a S,
     pub(crate) base: usize,
     pub(crate) origin: usize,
+    /// It grows the tree of what it reads. If not, it only sees how far the reading goes, and grows nothing.
+    pub(crate) keep: bool,
     pub(crate) at: usize,
     ghost begins: { base ≤ length (S.bytes source.now) },
     ghost fits: { base + length (drop base (S.bytes source.now)) < 2 ^ 64 },
@@ -27,7 +29,7 @@ impl<'a, S: Source> Cursor<'a, S> {
     pub(crate) fn bump(&mut self)
         requires { self.old.at < length (drop self.old.base (S.bytes self.old.source.now)) }
         ensures value { self.new.at ≡ self.old.at + 1 }
-        ensures same { (self.new.source ≡ self.old.source) × (self.new.base ≡ self.old.base) × (self.new.origin ≡ self.old.origin) }
+        ensures same { (self.new.source ≡ self.old.source) × (self.new.base ≡ self.old.base) × (self.new.origin ≡ self.old.origin) × (self.new.keep ≡ self.old.keep) }
     {
         self.at += 1;
     }
@@ -113,7 +115,7 @@ impl<'a, S: Source> Cursor<'a, S> {
         ensures value { self.new.at ≡ past is_blank (drop self.old.base (S.bytes self.old.source.now)) self.old.at }
         ensures inside { self.old.at ≤ self.new.at }
         ensures other { stands_in is_blank (drop self.old.base (S.bytes self.old.source.now)) self.new.at ≡ false }
-        ensures same { (self.new.source ≡ self.old.source) × (self.new.base ≡ self.old.base) × (self.new.origin ≡ self.old.origin) }
+        ensures same { (self.new.source ≡ self.old.source) × (self.new.base ≡ self.old.base) × (self.new.origin ≡ self.old.origin) × (self.new.keep ≡ self.old.keep) }
     {
         self.at = self.past(self.at, Class::Blank);
     }

@@ -9,6 +9,7 @@ mod all_lines;
 mod command;
 mod cursor;
 mod fault;
+mod first_fault;
 pub mod laws;
 mod line;
 mod make;

@@ -22,7 +22,7 @@ impl<'a, S: Source> Cursor<'a, S> {
         ensures value { result ≡ separator_at (drop self.old.base (S.bytes self.old.source.now)) self.old.at }
         ensures place { self.new.at ≡ past_separator (drop self.old.base (S.bytes self.old.source.now)) self.old.at }
         ensures onward { Onward self.old.at self.new.at (is_parted result) }
-        ensures same { (self.new.source ≡ self.old.source) × (self.new.base ≡ self.old.base) × (self.new.origin ≡ self.old.origin) }
+        ensures same { (self.new.source ≡ self.old.source) × (self.new.base ≡ self.old.base) × (self.new.origin ≡ self.old.origin) × (self.new.keep ≡ self.old.keep) }
     {
         let before = self.at;
         self.skip_blanks();
@@ -43,9 +43,9 @@ impl<'a, S: Source> Cursor<'a, S> {
     #[tactic(auto, unfolding(crate::specs::Reading::entry_at))]
     fn entry(&mut self, alloc: Global, blank: bool) -> Result<(Entry, bool), Stop>
         ensures value { let text = drop self.old.base (S.bytes self.old.source.now) in
-            Gives (λ x. ((view_entry x.0, x.1), self.new.at)) result (entry_at text self.old.origin blank self.old.at) }
+            Gives (λ x. ((view_entry x.0, x.1), self.new.at)) result (entry_at self.old.keep text self.old.origin blank self.old.at) }
         ensures onward { IfOk result (λ x. Onward self.old.at self.new.at x.1) }
-        ensures same { (self.new.source ≡ self.old.source) × (self.new.base ≡ self.old.base) × (self.new.origin ≡ self.old.origin) }
+        ensures same { (self.new.source ≡ self.old.source) × (self.new.base ≡ self.old.base) × (self.new.origin ≡ self.old.origin) × (self.new.keep ≡ self.old.keep) }
     {
         let and_or = self.and_or(alloc)?;
         let separator = self.separator();
@@ -77,25 +77,27 @@ impl<'a, S: Source> Cursor<'a, S> {
         entries: &mut Vec<Entry>,
     ) -> Result<bool, Stop>
         ensures value { let text = drop self.old.base (S.bytes self.old.source.now) in
-            Gives (λ more. step_if more (map view_entry entries.new.items) self.new.at) result (entry_step text self.old.origin blank (map view_entry entries.old.items) self.old.at) }
+            Gives (λ more. step_if more (map view_entry entries.new.items) self.new.at) result (entry_step self.old.keep text self.old.origin blank (map view_entry entries.old.items) self.old.at) }
         ensures onward { IfOk result (Onward self.old.at self.new.at) }
-        ensures same { (self.new.source ≡ self.old.source) × (self.new.base ≡ self.old.base) × (self.new.origin ≡ self.old.origin) }
+        ensures same { (self.new.source ≡ self.old.source) × (self.new.base ≡ self.old.base) × (self.new.origin ≡ self.old.origin) × (self.new.keep ≡ self.old.keep) }
     {
         self.skip_blanks();
         if !self.begins_command() {
             return Ok(false);
         }
         let (entry, parted) = self.entry(alloc, blank && entries.is_empty())?;
-        entries.push(entry)?;
+        if self.keep {
+            entries.push(entry)?;
+        }
         Ok(parted)
     }
 
     #[tactic(auto, using(crate::proofs::Turns::turns_again, crate::proofs::Turns::turns_done, crate::proofs::Turns::turns_stop))]
     fn entries(&mut self, alloc: Global, blank: bool) -> Result<Vec<Entry>, Stop>
         ensures value { let text = drop self.old.base (S.bytes self.old.source.now) in
-            Gives (λ entries. (map view_entry entries.items, self.new.at)) result (turns (length text) (entry_step text self.old.origin blank) [] self.old.at) }
+            Gives (λ entries. (map view_entry entries.items, self.new.at)) result (turns (length text) (entry_step self.old.keep text self.old.origin blank) [] self.old.at) }
         ensures onward { IfOk result (λ entries. self.old.at ≤ self.new.at) }
-        ensures same { (self.new.source ≡ self.old.source) × (self.new.base ≡ self.old.base) × (self.new.origin ≡ self.old.origin) }
+        ensures same { (self.new.source ≡ self.old.source) × (self.new.base ≡ self.old.base) × (self.new.origin ≡ self.old.origin) × (self.new.keep ≡ self.old.keep) }
     {
         let mut entries = Vec::new(alloc);
         'turns: while self.next_entry(alloc, blank, &mut entries)? {}
@@ -107,14 +109,16 @@ impl<'a, S: Source> Cursor<'a, S> {
     #[tactic(auto, unfolding(crate::specs::Reading::end_of_line_at))]
     fn end_of_line(&mut self, blank: bool, entries: &mut Vec<Entry>) -> Result<bool, Stop>
         ensures value { let text = drop self.old.base (S.bytes self.old.source.now) in
-            Gives (λ newline. ((map view_entry entries.new.items, newline), self.new.at)) result (end_of_line_at text self.old.origin blank (map view_entry entries.old.items) self.old.at) }
+            Gives (λ newline. ((map view_entry entries.new.items, newline), self.new.at)) result (end_of_line_at self.old.keep text self.old.origin blank (map view_entry entries.old.items) self.old.at) }
         ensures onward { IfOk result (Onward self.old.at self.new.at) }
         ensures newline { IfOk result (λ newline. newline ≡ true → stands (drop self.old.base (S.bytes self.old.source.now)) (self.new.at - 1) 10 ≡ true) }
-        ensures same { (self.new.source ≡ self.old.source) × (self.new.base ≡ self.old.base) × (self.new.origin ≡ self.old.origin) }
+        ensures same { (self.new.source ≡ self.old.source) × (self.new.base ≡ self.old.base) × (self.new.origin ≡ self.old.origin) × (self.new.keep ≡ self.old.keep) }
     {
         if let Some(comment) = self.comment() {
             let blank = blank && entries.is_empty();
-            entries.push(comment_entry(comment, blank))?;
+            if self.keep {
+                entries.push(comment_entry(comment, blank))?;
+            }
         }
         match self.token() {
             Token::Newline => {
@@ -130,10 +134,10 @@ impl<'a, S: Source> Cursor<'a, S> {
     #[tactic(auto, unfolding(crate::specs::Reading::line_at))]
     pub(crate) fn line(&mut self, alloc: Global, blank: bool) -> Result<(Vec<Entry>, bool), Stop>
         ensures value { let text = drop self.old.base (S.bytes self.old.source.now) in
-            Gives (λ x. ((map view_entry x.0.items, x.1), self.new.at)) result (line_at text self.old.origin blank self.old.at) }
+            Gives (λ x. ((map view_entry x.0.items, x.1), self.new.at)) result (line_at self.old.keep text self.old.origin blank self.old.at) }
         ensures onward { IfOk result (λ x. Onward self.old.at self.new.at x.1) }
         ensures newline { IfOk result (λ x. x.1 ≡ true → stands (drop self.old.base (S.bytes self.old.source.now)) (self.new.at - 1) 10 ≡ true) }
-        ensures same { (self.new.source ≡ self.old.source) × (self.new.base ≡ self.old.base) × (self.new.origin ≡ self.old.origin) }
+        ensures same { (self.new.source ≡ self.old.source) × (self.new.base ≡ self.old.base) × (self.new.origin ≡ self.old.origin) × (self.new.keep ≡ self.old.keep) }
     {
         let mut entries = self.entries(alloc, blank)?;
         let newline = self.end_of_line(blank, &mut entries)?;

@@ -48,6 +48,7 @@ pub(crate) fn line_from<S: Source>(alloc: Global, source: &S, at: usize) -> Resu
         source,
         base: at,
         origin: 0,
+        keep: true,
         at: 0,
     };
     match cursor.line(alloc, false) {

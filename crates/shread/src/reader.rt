@@ -1,11 +1,12 @@
 //! The reader: one line, or a whole script.
-ghost use Rattle.std.specs.Prelude.{◌≡◌, ◌+◌, ◌-◌, ◌≤◌, drop, length, IfOk, IfErr, IsOk};
+ghost use Rattle.std.specs.Prelude.{◌≡◌, ◌+◌, ◌-◌, ◌≤◌, drop, length, IfOk, IfErr, IfSome, IsOk};
 ghost use Rattle.shread.specs.Answers.{meter_of, raised, view_line, view_script};
-ghost use Rattle.shread.specs.Lines.{ALine, AScript, IsLine, Outcome};
+ghost use Rattle.shread.specs.Lines.{ALine, AScript, FirstFault, IsLine, Outcome};
 ghost use Rattle.shread.specs.Normal.{IsNormal};
 
 use crate::all_lines::script_from;
 use crate::fault::{Fault, ReadError};
+use crate::first_fault::first_fault_of;
 use crate::one_line::line_from;
 use crate::source::Source;
 use crate::tree::List;
@@ -76,7 +77,7 @@ impl Reader {
         ensures end { at ≡ length (S.bytes source.now) → IsOk result }
     {
         let line = line_from(self.alloc, source, at)?;
-        self.meter = self.meter.saturating_add((line.next - at) as u64);
+        self.count(line.next - at);
         Ok(line)
     }
 
@@ -94,8 +95,33 @@ impl Reader {
         ensures err { IfErr result (λ e. meter_of self.new ≡ meter_of self.old) }
     {
         let script = script_from(self.alloc, source)?;
-        self.meter = self.meter.saturating_add(source.len() as u64);
+        self.count(source.len());
         Ok(script)
+    }
+
+    /// Finds the first fault of a whole script, a line at a time and without its tree.
+    ///
+    /// So the memory that it takes does not grow with the script. Want of memory is the only error: the meter is then as
+    /// before, and the reader can be used again.
+    #[tactic(auto, using(crate::proofs::Answered::fault_answered))]
+    pub fn first_fault<S: Source>(&mut self, source: &S) -> Result<Option<Fault>, ReadError>
+        // The answer is the first fault in what the grammar gives for the bytes, and it gives no other.
+        ensures fault { IfOk result (λ fault. FirstFault (S.bytes source.now) fault) }
+        ensures only { IfOk result (λ fault. (a : AScript) → Outcome (S.bytes source.now) a → a.wrong ≡ fault) }
+        ensures within { IfOk result (λ fault. IfSome fault (λ f. f.at ≤ length (S.bytes source.now))) }
+        ensures meter { IfOk result (λ fault. meter_of self.new ≡ raised (meter_of self.old) (length (S.bytes source.now))) }
+        ensures err { IfErr result (λ e. meter_of self.new ≡ meter_of self.old) }
+    {
+        let fault = first_fault_of(self.alloc, source)?;
+        self.count(source.len());
+        Ok(fault)
+    }
+
+    /// Counts bytes that were read.
+    fn count(&mut self, bytes: usize)
+        ensures { meter_of self.new ≡ raised (meter_of self.old) bytes }
+    {
+        self.meter = self.meter.saturating_add(bytes as u64);
     }
 
     /// How many bytes were read so far; it stays at its greatest number.

@@ -42,7 +42,7 @@ impl<'a, S: Source> Cursor<'a, S> {
         ensures value { result ≡ comment_at (drop self.old.base (S.bytes self.old.source.now)) self.old.origin self.old.at }
         ensures place { self.new.at ≡ past_comment (drop self.old.base (S.bytes self.old.source.now)) self.old.at }
         ensures onward { self.old.at ≤ self.new.at }
-        ensures same { (self.new.source ≡ self.old.source) × (self.new.base ≡ self.old.base) × (self.new.origin ≡ self.old.origin) }
+        ensures same { (self.new.source ≡ self.old.source) × (self.new.base ≡ self.old.base) × (self.new.origin ≡ self.old.origin) × (self.new.keep ≡ self.old.keep) }
     {
         if !self.is_at(b'#') {
             return None;

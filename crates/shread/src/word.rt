@@ -42,7 +42,7 @@ impl<'a, S: Source> Cursor<'a, S> {
             Gives (λ more. step_if more [] self.new.at) result (piece_step text self.old.origin [] self.old.at) }
         ensures onward { IfOk result (Onward self.old.at self.new.at) }
         ensures some { ends_word (drop self.old.base (S.bytes self.old.source.now)) self.old.at ≡ false → IfOk result (λ more. self.old.at < self.new.at) }
-        ensures same { (self.new.source ≡ self.old.source) × (self.new.base ≡ self.old.base) × (self.new.origin ≡ self.old.origin) }
+        ensures same { (self.new.source ≡ self.old.source) × (self.new.base ≡ self.old.base) × (self.new.origin ≡ self.old.origin) × (self.new.keep ≡ self.old.keep) }
     {
         if self.ends_word() {
             return Ok(false);
@@ -64,7 +64,7 @@ impl<'a, S: Source> Cursor<'a, S> {
         ensures value { let text = drop self.old.base (S.bytes self.old.source.now) in
             Gives (λ all. ([], self.new.at)) result (turns (length text) (piece_step text self.old.origin) [] self.old.at) }
         ensures onward { IfOk result (λ all. self.old.at < self.new.at) }
-        ensures same { (self.new.source ≡ self.old.source) × (self.new.base ≡ self.old.base) × (self.new.origin ≡ self.old.origin) }
+        ensures same { (self.new.source ≡ self.old.source) × (self.new.base ≡ self.old.base) × (self.new.origin ≡ self.old.origin) × (self.new.keep ≡ self.old.keep) }
     {
         'pieces: while self.piece()? {}
         Ok(())
@@ -77,7 +77,7 @@ impl<'a, S: Source> Cursor<'a, S> {
         ensures value { let text = drop self.old.base (S.bytes self.old.source.now) in
             Gives (λ word. (view_word word, self.new.at)) result (word_at text self.old.origin self.old.at) }
         ensures onward { IfOk result (λ word. self.old.at < self.new.at) }
-        ensures same { (self.new.source ≡ self.old.source) × (self.new.base ≡ self.old.base) × (self.new.origin ≡ self.old.origin) }
+        ensures same { (self.new.source ≡ self.old.source) × (self.new.base ≡ self.old.base) × (self.new.origin ≡ self.old.origin) × (self.new.keep ≡ self.old.keep) }
     {
         let start = self.at;
         self.pieces()?;

@@ -33,5 +33,5 @@ returns-clause-report g c =
       verdict = Err Memory;
       consumed = p.0;
       judged = (p.3, p.2);
-      told = c.give_up-in-Err-first_fault.ensures.told c.in-Ok.text.items;
+      told = c.give_up-in-Err-Memory.ensures.told c.in-Ok.text.items;
     }

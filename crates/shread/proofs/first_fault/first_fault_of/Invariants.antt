@@ -1,6 +1,6 @@
 use Rattle.std.proofs.Common.{◌≡◌, ◌≤◌, ◌-◌, length}
 use Rattle.shread.specs.Reading.{first_fault_from}
-use Rattle.shform.proofs.first_fault.first_fault.Given as goal
+use Rattle.shread.proofs.first_fault.first_fault_of.Given as goal
 
 abbrev pub invariant-lines : goal.invariant-lines
 invariant-lines g l =

@@ -1,8 +1,8 @@
 -- A search for the first fault, a line at a time.
 use Rattle.std.specs.Prelude.{◌≡◌, ℕ, ◌<◌, ◌≤◌, List, None, Some, length}
 use Rattle.shread.specs.Reading.{first_fault_from}
-use Rattle.shform.specs.declared.first_fault.Found.{Found}
-use Rattle.shform.specs.declared.first_fault.Found.TheVariants.{Here, Beyond, Nowhere}
+use Rattle.shread.specs.declared.first_fault.Found.{Found}
+use Rattle.shread.specs.declared.first_fault.Found.TheVariants.{Here, Beyond, Nowhere}
 
 -- what was found in the line at an offset is true of the first fault from there on
 abbrev pub Tells : List ℕ → ℕ → Found → Type 0
