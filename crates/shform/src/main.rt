@@ -10,6 +10,8 @@ mod device;
 mod engine;
 mod first_fault;
 mod messages;
+#[cfg(test)]
+mod refused;
 mod report;
 #[cfg(test)]
 mod tests;

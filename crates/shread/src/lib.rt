@@ -31,4 +31,6 @@ pub use tree::{
 };
 
 #[cfg(test)]
+mod refused;
+#[cfg(test)]
 mod tests;
