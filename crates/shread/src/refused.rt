@@ -90,19 +90,18 @@ fn read_script(rt: HostRuntime) -> Result<(), Fail> {
     Ok(())
 }
 
-/// At the length no growth is asked for, so that none can be refused.
+/// At the length no growth is asked for: the refusal that was due is still due.
 #[test]
 fn read_line_at_the_length(rt: HostRuntime) -> Result<(), Fail> {
+    let refuses = refuses(rt.alloc());
     let text = Flat::new(TEXT);
     let mut reader = Reader::new(rt.alloc());
     refuse(rt.alloc(), 1);
     let read = reader.read_line(&text, TEXT.len());
-    let _ = was_refused(rt.alloc(), 1);
+    let has_grown = was_refused(rt.alloc(), 1);
     let line = read?;
+    assert!(rt; !refuses || !has_grown);
     assert!(rt; matches!(line.kind, LineKind::End));
-    assert_eq!(rt;
-        (line.next, line.ended, reader.meter()),
-        (TEXT.len(), false, 0)
-    );
+    assert_eq!(rt; (line.next, line.ended, reader.meter()), (TEXT.len(), false, 0));
     Ok(())
 }
