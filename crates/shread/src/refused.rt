@@ -102,6 +102,9 @@ fn read_line_at_the_length(rt: HostRuntime) -> Result<(), Fail> {
     let line = read?;
     assert!(rt; !refuses || !has_grown);
     assert!(rt; matches!(line.kind, LineKind::End));
-    assert_eq!(rt; (line.next, line.ended, reader.meter()), (TEXT.len(), false, 0));
+    assert_eq!(rt;
+        (line.next, line.ended, reader.meter()),
+        (TEXT.len(), false, 0)
+    );
     Ok(())
 }
