@@ -1,5 +1,32 @@
-# shform: `make test` proves every crate from nothing and runs all tests.
-.PHONY: test
+# make             proves and builds the program, if it is older than its sources
+# make test        the gate: proves every crate from nothing, runs every test; then the scripts over what the gate has built
+# make scripts     those scripts alone, over what the last gate has built
+# make bench       times the program beside dash and cat, and prints a table
+# make install     installs the program and its manual page below PREFIX, itself below DESTDIR where that is given
+
+PREFIX = /usr/local
+PROGRAM = crates/shform/out/shform
+
+.PHONY: all test scripts bench install
+
+all:
+	@./shform --version
 
 test:
 	rt ci
+	$(MAKE) scripts
+
+scripts:
+	tests/run
+	tests/refused-growths
+	tests/launcher
+	tests/install
+
+bench:
+	@./shform --version >/dev/null
+	@tests/bench
+
+install: all
+	install -d "$(DESTDIR)$(PREFIX)/bin" "$(DESTDIR)$(PREFIX)/share/man/man1"
+	install -m 755 $(PROGRAM) "$(DESTDIR)$(PREFIX)/bin/shform"
+	install -m 644 shform.1 "$(DESTDIR)$(PREFIX)/share/man/man1/shform.1"

@@ -9,6 +9,8 @@ mod asked;
 mod device;
 mod engine;
 mod messages;
+#[cfg(test)]
+mod refused;
 mod report;
 #[cfg(test)]
 mod tests;

@@ -32,4 +32,6 @@ pub use tree::{
 };
 
 #[cfg(test)]
+mod refused;
+#[cfg(test)]
 mod tests;

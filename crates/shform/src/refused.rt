@@ -1,0 +1,120 @@
+// Each growth refused in turn, as in the tests of the reader: by the library that `tests/refused-growths` loads. Without it, as in
+// the gate, each test runs once. They catch the wrong body `always_out_of_memory`, which no contract can.
+use crate::device::{Input, Output};
+use crate::engine::check_engine;
+use crate::messages::message;
+use shread::{Fault, FaultKind};
+use std::alloc::{AllocError, Global};
+use std::io;
+use std::io::{Read, Write};
+use std::test::Fail;
+
+/// A writer that takes no memory.
+#[derive(Drop)]
+struct Page {
+    bytes: [u8; 64],
+    len: usize,
+}
+
+impl Page {
+    fn new() -> Page {
+        Page {
+            bytes: [0; 64],
+            len: 0,
+        }
+    }
+
+    fn text(&self) -> &[u8] {
+        &self.bytes[..self.len.min(64)]
+    }
+}
+
+impl Write for Page {
+    fn write(&mut self, buf: &[u8]) -> io::Result<usize> {
+        let start = self.len.min(64);
+        let count = buf.len().min(64 - start);
+        self.bytes[start..start + count].copy_from_slice(&buf[..count]);
+        self.len = start + count;
+        Ok(count)
+    }
+
+    fn flush(&mut self) -> io::Result<()> {
+        Ok(())
+    }
+}
+
+/// Asks for the refusal of the nth growth from here on, by a request that no allocator grants.
+fn refuse(alloc: Global, nth: usize) {
+    let _ = Vec::<u8>::with_capacity(alloc, (usize::MAX / 2).saturating_sub(nth));
+}
+
+/// Whether the refusal was met since it was asked for. None is due from then on.
+fn was_refused(alloc: Global, nth: usize) -> bool {
+    for _ in 0..nth {
+        if Vec::<u8>::with_capacity(alloc, 1).is_err() {
+            return false;
+        }
+    }
+    true
+}
+
+/// Whether growths are refused on request at all.
+fn refuses(alloc: Global) -> bool {
+    refuse(alloc, 1);
+    Vec::<u8>::with_capacity(alloc, 1).is_err()
+}
+
+#[test]
+fn told_fault(rt: HostRuntime) -> Result<(), Fail> {
+    let refuses = refuses(rt.alloc());
+    let name = b"a script with a long name.sh";
+    let fault = Fault {
+        kind: FaultKind::Unexpected,
+        at: 0,
+    };
+    let mut met = 0;
+    for nth in 1..100 {
+        refuse(rt.alloc(), nth);
+        let text = message(rt.alloc(), name, 12, 345, fault);
+        if !refuses || !was_refused(rt.alloc(), nth) {
+            assert_eq!(rt;
+                text?.as_slice(),
+                b"a script with a long name.sh:12:345: unexpected token\n".as_slice()
+            );
+            break;
+        }
+        assert_eq!(rt; text.err(), Some(AllocError));
+        met = nth;
+    }
+    assert!(rt; !refuses || 0 < met && met < 99, "{met}");
+    Ok(())
+}
+
+/// The input is read in several growths, and its fault is told in some more.
+#[test]
+fn check(rt: HostRuntime) -> Result<(), Fail> {
+    let refuses = refuses(rt.alloc());
+    let script = [b'\n'; 20_000];
+    let mut met = 0;
+    for nth in 1..100 {
+        let mut input = Input::new(script.as_slice().chain(b"a b &;\n".as_slice()));
+        let mut written = Page::new();
+        let mut told = Page::new();
+        let mut output = Output::new(&mut written);
+        let mut errors = Output::new(&mut told);
+        refuse(rt.alloc(), nth);
+        let status = check_engine(rt.alloc(), "-", &mut input, &mut output, &mut errors);
+        let is_last = !refuses || !was_refused(rt.alloc(), nth);
+        assert_eq!(rt; written.text(), b"".as_slice());
+        if is_last {
+            assert_eq!(rt; told.text(), b"-:20001:6: unexpected token\n".as_slice());
+            assert_eq!(rt; status, 1);
+            break;
+        }
+        assert_eq!(rt; told.text(), b"shform: out of memory\n".as_slice());
+        assert_eq!(rt; status, 2);
+        met = nth;
+    }
+    assert!(rt; !refuses || 0 < met && met < 99, "{met}");
+    Ok(())
+}
