@@ -8,9 +8,9 @@ use Rattle.shread.specs.declared.token.Token.TheVariants as tokens
 use Rattle.shread.specs.Tree.{ASubst, AnItem, AnEntry, AnAndOr}
 use Rattle.shread.specs.Bytes.{ends_word, past_blanks, token_at, begins_assignment}
 use Rattle.shread.specs.Words.{begins_piece, is_pid}
-use Rattle.shread.specs.Commands.{is_word, is_parted, separator_at, remark_place, comment_at, past_comment}
+use Rattle.shread.specs.Commands.{is_empty, is_word, is_parted, separator_at, remark_place, comment_at, past_comment}
 use Rattle.shread.specs.Comes.{Read, Step, again, done, step_if}
-use Rattle.shread.specs.Lines.{is_empty, begins_command, with_remark}
+use Rattle.shread.specs.Lines.{begins_command, with_remark}
 use Rattle.shread.specs.Reading.{◌>>=◌, turns, piece_step, word_at, assignment_step, argument_step, simple_at, pipeline_at, and_or_at, entry_at, entry_step, end_of_line_of, end_of_line_at, line_at, pushed, remarked}
 use Rattle.shread.proofs.Loops.{Keeps, turns_keep}
 use Rattle.shread.proofs.NormalForm.{no_items, no_entries}

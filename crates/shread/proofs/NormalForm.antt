@@ -1,7 +1,7 @@
 -- Rows keep the normal form as they grow at their end.
 use Rattle.std.proofs.Common.{◌≡◌, ◌∙◌, refl, Bool, true, false, ◌&&◌, not, List as Row, [], ◌∷◌, ◌++◌}
 use Rattle.shread.specs.Tree.{AnEntry, AnItem, entries_of, items_of}
-use Rattle.shread.specs.Lines.{is_empty}
+use Rattle.shread.specs.Commands.{is_empty}
 use Rattle.shread.specs.Normal.{is_blank_entry, is_broken, FirstNotBlank, FirstNotBroken, NormalEntries, NormalEntry, NormalItems, NormalItem, IsNormal}
 
 -- what holds of the items of a simple command so far

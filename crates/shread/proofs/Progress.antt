@@ -9,9 +9,9 @@ use Rattle.shread.specs.declared.tree.Comment.{Comment}
 use Rattle.shread.specs.Tree.{Entries, ASubst, AnItem, AnEntry, item, assign, argument, entries_of, substs_of}
 use Rattle.shread.specs.Bytes.{stands, ends_word, past_blanks, token_at, begins_assignment}
 use Rattle.shread.specs.Words.{begins_piece, is_pid}
-use Rattle.shread.specs.Commands.{is_word, comment_at, past_comment, past_separator, remark_place}
+use Rattle.shread.specs.Commands.{is_empty, is_word, comment_at, past_comment, past_separator, remark_place}
 use Rattle.shread.specs.Comes.{Read, step_if}
-use Rattle.shread.specs.Lines.{is_empty, begins_command, with_remark}
+use Rattle.shread.specs.Lines.{begins_command, with_remark}
 use Rattle.shread.specs.Normal.{is_blank_entry, IsNormal, NormalAndOr, NormalCommand, NormalEntry, NormalPipeline, NormalSubsts, NormalWord}
 use Rattle.shread.specs.Reading.{◌>>=◌, turns, piece_step, word_at, assignment_step, argument_step, simple_at, pipeline_at, and_or_at, entry_at, entry_step, end_of_line_of, end_of_line_at, line_at, SoFar, script_next, script_step, nothing_yet, script_of}
 use Rattle.shread.proofs.Loops.{Keeps, turns_keep}

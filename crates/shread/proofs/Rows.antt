@@ -5,9 +5,9 @@ use Rattle.shread.specs.declared.token.Token.TheVariants as tokens
 use Rattle.shread.specs.Tree.{ASubst, AnItem, AnEntry}
 use Rattle.shread.specs.Bytes.{past_blanks, token_at}
 use Rattle.shread.specs.Words.{piece, a_word}
-use Rattle.shread.specs.Commands.{an_assignment, an_argument, a_simple, a_pipeline, an_and_or, an_entry, comment_at, past_comment}
+use Rattle.shread.specs.Commands.{is_empty, an_assignment, an_argument, a_simple, a_pipeline, an_and_or, an_entry, comment_at, past_comment}
 use Rattle.shread.specs.Comes.{Many}
-use Rattle.shread.specs.Lines.{is_empty, next_entry, with_remark, end_of_line_by, end_of_line, a_line}
+use Rattle.shread.specs.Lines.{next_entry, with_remark, end_of_line_by, end_of_line, a_line}
 use Rattle.shread.specs.Reading.{turns, piece_step, word_at, assignment_step, argument_step, simple_at, pipeline_at, and_or_at, entry_at, entry_step, end_of_line_of, end_of_line_at, line_at}
 use Rattle.shread.proofs.Is.{Is, is_give, is_stop, is_then, is_when}
 use Rattle.shread.proofs.Loops.{is_many}

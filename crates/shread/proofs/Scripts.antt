@@ -4,7 +4,8 @@ use Rattle.std.proofs.lemmas.List.{length-drop}
 use Rattle.shread.specs.Tree.{AnEntry}
 use Rattle.shread.specs.Bytes.{stands}
 use Rattle.shread.specs.Comes.{Read}
-use Rattle.shread.specs.Lines.{is_empty, a_line, ALine, IsLine, line_read, line_stops, AScript, Lines, line_ended, last_line, faulty, Outcome}
+use Rattle.shread.specs.Commands.{is_empty}
+use Rattle.shread.specs.Lines.{a_line, ALine, IsLine, line_read, line_stops, AScript, Lines, line_ended, last_line, faulty, Outcome}
 use Rattle.shread.specs.Reading.{turns, line_at, SoFar, script_next, script_step, nothing_yet, script_of, script_at, line_read_of, line_of_text}
 use Rattle.shread.proofs.Is.{Is}
 use Rattle.shread.proofs.Loops.{Keeps, turns_keep}

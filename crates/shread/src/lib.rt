@@ -13,6 +13,7 @@ mod first_fault;
 pub mod laws;
 mod line;
 mod make;
+mod mode;
 mod one_line;
 mod place;
 mod reader;

@@ -1,0 +1,51 @@
+//! How the bytes of a word are read: the modes, and the pieces that they take.
+
+/// Where in a word a place is (XCU 2.2, 2.6).
+#[derive(Clone, Copy, Debug, PartialEq, Eq)]
+pub(crate) enum Mode {
+    /// Outside all quotes and expansions.
+    Plain,
+    /// In a double-quoted string.
+    Double,
+    /// In `${`, outside double quotes, or behind `#` or `%`.
+    Brace,
+    /// In `${`, in double quotes or arithmetic.
+    DoubleBrace,
+    /// In `$((`.
+    Arith,
+}
+
+/// A piece of a word, by what it begins with.
+#[derive(Clone, Copy, Debug, PartialEq, Eq)]
+pub(crate) enum Piece {
+    /// No piece: the word, the string or the expansion ends.
+    Closer,
+    /// No piece: the text ends inside.
+    Missing,
+    /// A backslash that is the last byte.
+    LoneBackslash,
+    /// A backslash and the byte behind it.
+    Escape,
+    /// Text in single quotes.
+    Single,
+    /// A string in double quotes.
+    Double,
+    /// Text in backquotes.
+    Backquote,
+    /// The special parameter `$$`: the second `$` begins nothing.
+    Pid,
+    /// A command substitution `$(`. It is not read yet.
+    Subst,
+    /// An arithmetic expansion `$((`.
+    Arith,
+    /// A parameter expansion `${`.
+    Param,
+    /// A round bracket in arithmetic.
+    Open,
+    /// The round bracket that closes it.
+    Close,
+    /// A round bracket that closes nothing in arithmetic, and that no second one follows.
+    BadClose,
+    /// Any other byte.
+    Ordinary,
+}
