@@ -124,8 +124,8 @@ fn scripts(rt: HostRuntime) -> Result<(), Fail> {
             Some((FaultKind::Unexpected, 9)),
         ),
         (b"a\nb $$${c", ". 0-1\n", Some((FaultKind::UnclosedParam, 6))),
-        (b"a \\\n b\\\nc=\\ \\\n#d", ". 0-1 \\5-12 #15-17\n", None),
-        (b"i\\\nf=1 x\\\n\\\n=2 \\\n'a\n\\\nb'c\\\n\n", ". =0-6 =7-13 \\16-25\n", None),
+        (b"a \\\n b\\\nc=\\ \\\n#d", ". 0-1 \\5-16\n", None),
+        (b"i\\\nf=1 x\\\n\\\n=2 \\\n'a\n\\\nb'c\\\n\n", ". =0-6 =7-14 \\17-25\n", None),
         (b"\\\n", "", None),
         (b"a\\\n;\\\n\\\nb &\\\n& c", "", Some((FaultKind::Unexpected, 12))),
     ] {
