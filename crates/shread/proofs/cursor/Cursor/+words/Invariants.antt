@@ -24,7 +24,7 @@ abbrev pub invariant-contents-pieces : goal.invariant-contents-pieces
 invariant-contents-pieces g l =
     let text = drop l.fn.self.base (g.S.Source.bytes l.fn.self.source.now) in
     (turns (length text) (piece_step (level_at text l.fn.self.origin l.room) text l.fn.self.origin l.mode l.opener) l.nested l.self.at
-        ≡ turns (length text) (piece_step (level_at text l.fn.self.origin l.room) text l.fn.self.origin l.mode l.opener) 0 l.fn.self.at)
+    ≡ turns (length text) (piece_step (level_at text l.fn.self.origin l.room) text l.fn.self.origin l.mode l.opener) 0 l.fn.self.at)
     × (l.fn.self.at ≤ l.self.at) × (l.nested ≤ l.self.at) × (l.opener ≤ l.self.at)
     × (l.self.source ≡ l.fn.self.source) × (l.self.base ≡ l.fn.self.base) × (l.self.origin ≡ l.fn.self.origin) × (l.self.keep ≡ l.fn.self.keep)
 
