@@ -1,5 +1,5 @@
 -- Where something is read there is a byte, and how far the stretches of a text reach.
-use Rattle.std.proofs.Common.{◌≡◌, ℕ, zero, suc, ◌+◌, ◌-◌, ◌≤◌, ◌<◌, ◌==◌, Bool, true, false, not, ◌&&◌, List, [], ◌∷◌, length, drop, Option, Some, None, slice_get, refl, sym, ap, ◌∙◌, arith, ⊎_elim}
+use Rattle.std.proofs.Common.{◌≡◌, ℕ, zero, suc, ◌+◌, ◌-◌, ◌≤◌, ◌<◌, ◌==◌, Bool, true, false, not, ◌&&◌, ◌||◌, List, [], ◌∷◌, length, drop, Option, Some, None, slice_get, refl, sym, ap, ◌∙◌, arith, ⊎_elim}
 use Rattle.std.proofs.lemmas.Bool.{and_parts, or_from, cond_both, both_ways, cases_lt}
 use Rattle.std.proofs.lemmas.Bool.Decides.{nat_tests}
 use Rattle.std.proofs.lemmas.List.{length-drop, drop-drop}
@@ -8,7 +8,7 @@ use Rattle.shread.specs.Text.{is_newline}
 use Rattle.shread.specs.declared.token.Token.{Token}
 use Rattle.shread.specs.declared.token.Token.TheVariants as tokens
 use Rattle.shread.specs.Bytes.{is_blank, is_digit, is_name, is_operator, is_letter, is_byte, is_none, raw_stands, raw_in, at_end, raw_past, next_of, stands, ends, ends_word, passes, stands_in, count_front, past, past_below, past_blanks, count_joined, past_continuations, byte_at, behind, next_newline, before_blanks, begins_assignment, is_number, token_of, token_at}
-use Rattle.shread.specs.Words.{is_special, past_parameter}
+use Rattle.shread.specs.Words.{next_in_backquotes, is_special, past_parameter}
 use Rattle.shread.specs.Commands.{is_word, past_comment, is_parted, separator_by, separator_at, past_separator}
 use Rattle.shread.proofs.Stretches.{get_drop, place_low, stands_in_low, past_more, past_none}
 
@@ -167,6 +167,10 @@ next_newline_low T p = next_of_low 10 T p
 -- it is not past the end of the text
 pub next_newline_high : (T : List ℕ) (p : ℕ) → p ≤ length T → next_newline T p ≤ length T
 next_newline_high T p within = next_of_high 10 T p within
+
+-- the next backquote or backslash
+pub next_in_backquotes_low : (T : List ℕ) (p : ℕ) → p ≤ next_in_backquotes T p
+next_in_backquotes_low T p = raw_past_low (λ c. not (c == 96 || c == 92)) T p
 
 -- without the blanks before it a stretch is not longer
 pub before_blanks_high : (T : List ℕ) (q : ℕ) → before_blanks T q ≤ q
