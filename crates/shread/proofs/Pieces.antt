@@ -8,7 +8,7 @@ use Rattle.shread.specs.declared.mode.Piece.{Piece}
 use Rattle.shread.specs.declared.mode.Piece.TheVariants as pieces
 use Rattle.shread.specs.Bytes.{at_end, past_continuations, byte_at, behind, stands, ends, ends_word}
 use Rattle.shread.specs.Words.{dollar_by, dollar_at, bracket_by, byte_by, end_by, piece_by, piece_at, past_closer}
-use Rattle.shread.proofs.Places.{not_end_low, stands_low, behind_low, behind_high}
+use Rattle.shread.proofs.Places.{not_end_low, stands_low, behind_low, behind_place, behind_high}
 
 -- a word ends where nothing else closes
 abbrev pub EndsAt : List ℕ → Mode → ℕ → Type 0
@@ -144,3 +144,16 @@ some_shows T p mode n (Some b) within is word =
 pub piece_shows : (T : List ℕ) (mode : Mode) (n p : ℕ) → p ≤ length T → Shows T mode p (piece_at T mode n p)
 unfolding piece_at ends_word
 piece_shows T mode n p within = some_shows T p mode n (byte_at T p) within refl (λ e. e)
+
+-- what opens a construct with two bytes is within the text
+pub opener_second : (T : List ℕ) (p : ℕ) → behind T (behind T p) ≤ length T → past_continuations T p ≤ length T
+opener_second T p high =
+    let here : past_continuations T p < behind T p = behind_place T p in
+    let next : behind T p < behind T (behind T p) = behind_low T (behind T p) in
+    omega arith
+
+-- so is what opens one with three
+pub opener_third : (T : List ℕ) (p : ℕ) → behind T (behind T (behind T p)) ≤ length T → past_continuations T p ≤ length T
+opener_third T p high =
+    let last : behind T (behind T p) < behind T (behind T (behind T p)) = behind_low T (behind T (behind T p)) in
+    opener_second T p (omega arith)
