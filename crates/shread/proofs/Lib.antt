@@ -16,3 +16,4 @@ pub mod Alike
 pub mod Verdict
 pub mod Answered
 pub mod Skim
+pub mod Levels

@@ -1,8 +1,9 @@
 -- Continuations, stretches of bytes of one kind, words spelled out, and texts from a place on.
-use Rattle.std.proofs.Common.{◌≡◌, ℕ, zero, suc, ◌+◌, ◌-◌, ◌<◌, ◌≤◌, ◌==◌, Bool, true, false, not, ◌&&◌, cond, Option, Some, None, slice_get, get_or, List, [], ◌∷◌, length, drop, refl, sym, ap, ◌∙◌, arith, zero-add, add-one, drop-cons}
+use Rattle.std.proofs.Common.{◌≡◌, ℕ, zero, suc, ◌+◌, ◌-◌, ◌<◌, ◌≤◌, ◌==◌, Bool, true, false, not, ◌&&◌, ◌||◌, cond, Option, Some, None, slice_get, get_or, List, [], ◌∷◌, length, drop, refl, sym, ap, ◌∙◌, arith, zero-add, add-one, drop-cons}
 use Rattle.std.proofs.Math.Seq.{drop-length}
 use Rattle.std.proofs.lemmas.Option.{slice_get_within, slice_get_past}
-use Rattle.shread.specs.Bytes.{raw_stands, raw_in, stands, stands_in, passes, is_byte, count_front, raw_past, past, past_below, past_blanks, before_blanks, is_blank, is_word_at, ends_word, continues, count_joined, past_continuations, byte_at, behind}
+use Rattle.shread.specs.Bytes.{at_end, is_none, raw_stands, raw_in, stands, stands_in, passes, is_byte, count_front, raw_past, past, past_below, past_blanks, before_blanks, is_blank, is_word_at, ends_word, continues, count_joined, past_continuations, byte_at, behind}
+use Rattle.shread.specs.Words.{next_in_backquotes}
 
 -- ---- a text from a place on
 
@@ -163,3 +164,48 @@ word_other T p word i lt e = rw (drop-cons word i 0, e) refl
 pub word_whole : (T : List ℕ) (p : ℕ) (word : List ℕ) (i : ℕ) → i ≡ length word → is_word_at T p (drop i word) ≡ ends_word T p
 unfolding is_word_at
 word_whole T p word i e = rw (e, drop-length word) refl
+
+-- ---- the next backquote or backslash
+
+-- neither test holds
+neither : (x y : Bool) → x ≡ false → y ≡ false → not (x || y) ≡ true
+neither x y e f = rw (e, f) refl
+
+first_holds : (x y : Bool) → x ≡ true → not (x || y) ≡ false
+first_holds x y e = rw e refl
+
+second_holds : (x y : Bool) → y ≡ true → not (x || y) ≡ false
+second_holds true y e = refl
+second_holds false y e = rw e refl
+
+plain_byte : (b : Option ℕ) → is_none b ≡ false → is_byte b 96 ≡ false → is_byte b 92 ≡ false → passes (λ c. not (c == 96 || c == 92)) b ≡ true
+plain_byte None some e f = absurd cc
+plain_byte (Some c) some e f = neither (c == 96) (c == 92) e f
+
+no_byte : (b : Option ℕ) → is_none b ≡ true → passes (λ c. not (c == 96 || c == 92)) b ≡ false
+no_byte None none = refl
+no_byte (Some c) none = absurd cc
+
+backquote_byte : (b : Option ℕ) → is_byte b 96 ≡ true → passes (λ c. not (c == 96 || c == 92)) b ≡ false
+backquote_byte None e = absurd cc
+backquote_byte (Some c) e = first_holds (c == 96) (c == 92) e
+
+backslash_byte : (b : Option ℕ) → is_byte b 92 ≡ true → passes (λ c. not (c == 96 || c == 92)) b ≡ false
+backslash_byte None e = absurd cc
+backslash_byte (Some c) e = second_holds (c == 96) (c == 92) e
+
+pub in_backquotes_more : (T : List ℕ) (q : ℕ) → at_end T q ≡ false → raw_stands T q 96 ≡ false → raw_stands T q 92 ≡ false → next_in_backquotes T q ≡ next_in_backquotes T (q + 1)
+unfolding at_end raw_stands raw_in
+in_backquotes_more T q some e f = raw_more (λ c. not (c == 96 || c == 92)) T q (plain_byte (slice_get T q) some e f)
+
+pub in_backquotes_end : (T : List ℕ) (q : ℕ) → at_end T q ≡ true → next_in_backquotes T q ≡ q
+unfolding at_end raw_in
+in_backquotes_end T q e = raw_none (λ c. not (c == 96 || c == 92)) T q (no_byte (slice_get T q) e)
+
+pub in_backquotes_closer : (T : List ℕ) (q : ℕ) → raw_stands T q 96 ≡ true → next_in_backquotes T q ≡ q
+unfolding raw_stands raw_in
+in_backquotes_closer T q e = raw_none (λ c. not (c == 96 || c == 92)) T q (backquote_byte (slice_get T q) e)
+
+pub in_backquotes_escape : (T : List ℕ) (q : ℕ) → raw_stands T q 92 ≡ true → next_in_backquotes T q ≡ q
+unfolding raw_stands raw_in
+in_backquotes_escape T q e = raw_none (λ c. not (c == 96 || c == 92)) T q (backslash_byte (slice_get T q) e)

@@ -28,9 +28,10 @@ impl<'a, S: Source> Cursor<'a, S> {
             self.at = before;
             return Ok(false);
         }
+        let broken = !items.is_empty() && self.is_broken_at(before);
         let word = self.word(alloc)?;
         if self.keep {
-            items.push(assign_of(word, false))?;
+            items.push(assign_of(word, broken))?;
         }
         Ok(true)
     }
@@ -60,9 +61,10 @@ impl<'a, S: Source> Cursor<'a, S> {
             self.at = before;
             return Ok(false);
         }
+        let broken = !items.is_empty() && self.is_broken_at(before);
         let word = self.word(alloc)?;
         if self.keep {
-            items.push(argument_of(word, false))?;
+            items.push(argument_of(word, broken))?;
         }
         Ok(true)
     }

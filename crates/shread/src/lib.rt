@@ -15,6 +15,7 @@ mod line;
 mod make;
 mod mode;
 mod one_line;
+mod piece;
 mod place;
 mod reader;
 mod remark;

@@ -1,4 +1,8 @@
 //! How the bytes of a word are read: the modes, and the pieces that they take.
+ghost use Rattle.std.specs.Prelude.{◌≡◌};
+ghost use Rattle.shread.specs.Words.{braces_in, unclosed};
+
+use crate::fault::FaultKind;
 
 /// Where in a word a place is (XCU 2.2, 2.6).
 #[derive(Clone, Copy, Debug, PartialEq, Eq)]
@@ -48,4 +52,28 @@ pub(crate) enum Piece {
     BadClose,
     /// Any other byte.
     Ordinary,
+}
+
+impl Mode {
+    /// The fault of text that ends inside.
+    pub(crate) fn unclosed(self) -> FaultKind
+        ensures { result ≡ unclosed self }
+    {
+        match self {
+            Mode::Plain => FaultKind::UnexpectedEnd,
+            Mode::Double => FaultKind::UnclosedDouble,
+            Mode::Brace | Mode::DoubleBrace => FaultKind::UnclosedParam,
+            Mode::Arith => FaultKind::UnclosedArith,
+        }
+    }
+
+    /// How an expansion is read that opened in this mode.
+    pub(crate) fn braces(self) -> Mode
+        ensures { result ≡ braces_in self }
+    {
+        match self {
+            Mode::Plain | Mode::Brace => Mode::Brace,
+            Mode::Double | Mode::DoubleBrace | Mode::Arith => Mode::DoubleBrace,
+        }
+    }
 }
