@@ -35,6 +35,7 @@ impl<'a, S: Source> Cursor<'a, S> {
     pub(crate) fn skip_plain(&mut self)
         ensures plain { ArePlain (drop self.old.base (S.bytes self.old.source.now)) self.old.at self.new.at }
         ensures onward { self.old.at ≤ self.new.at }
+        ensures within { self.new.at ≤ length (drop self.old.base (S.bytes self.old.source.now)) }
         ensures same { (self.new.source ≡ self.old.source) × (self.new.base ≡ self.old.base) × (self.new.origin ≡ self.old.origin) × (self.new.keep ≡ self.old.keep) }
     {
         let run = self.source.run(self.base + self.at);
