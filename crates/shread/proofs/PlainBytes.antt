@@ -6,12 +6,15 @@ use Rattle.shread.specs.Text.{IsRun, is_newline}
 use Rattle.shread.specs.declared.mode.Mode.{Mode}
 use Rattle.shread.specs.declared.mode.Mode.TheVariants.{Plain, Double, Brace, DoubleBrace, Arith}
 use Rattle.shread.specs.declared.mode.Piece.TheVariants as pieces
-use Rattle.shread.specs.Bytes.{raw_stands, raw_in, passes, is_byte, is_blank, is_operator, ends, continues, past_continuations, byte_at, behind}
-use Rattle.shread.specs.Words.{piece_by, byte_by, piece_at}
+use Rattle.shread.specs.Bytes.{raw_stands, raw_in, passes, is_byte, is_blank, is_operator, ends, ends_word, continues, past_continuations, byte_at, behind}
+use Rattle.shread.specs.Words.{span, piece_by, byte_by, piece_at}
 use Rattle.shread.specs.Comes.{Read, again}
-use Rattle.shread.specs.Reading.{Opened, piece_step, turns}
+use Rattle.shread.specs.Reading.{Opened, piece_of, piece_step, contents_at, level_at, word_at, turns}
 use Rattle.shread.specs.Plain.{is_plain, ArePlain}
-use Rattle.shread.proofs.Turns.{turns_again}
+use Rattle.shread.specs.Tree.{word, no_subst}
+use Rattle.std.proofs.lemmas.Bool.Decides.{nat_tests}
+use Rattle.shread.proofs.Turns.{turns_again, turns_done}
+use Rattle.shread.proofs.Places.{word_longer}
 use Rattle.shread.proofs.Stretches.{get_drop, joined_none}
 
 -- ---- a stretch of a source
@@ -124,3 +127,30 @@ pub piece_and_plain : (c : Opened) (T : List ℕ) (o : ℕ) (mode : Mode) (b n m
     → turns (length T) (piece_step c T o mode b) m r ≡ x
 piece_and_plain c T o mode b n m p q r x before piece onward within plain low high =
     sym (plain_turns c T o mode b m q r plain low high) ∙ sym (turns_again (length T) (piece_step c T o mode b) n m p q piece onward within) ∙ before
+
+-- what ends a word begins no piece
+closer_by : (T : List ℕ) (p n b : ℕ) → ends (Some b) ≡ true → piece_by T p Plain n (Some b) ≡ pieces.Closer
+closer_by T p n b end =
+    let other : (b == 92) ≡ false = grind (arith, nat_tests) in
+    let tick : (b == 96) ≡ false = grind (arith, nat_tests) in
+    let dollar : (b == 36) ≡ false = grind (arith, nat_tests) in
+    rw (other, tick, dollar, end) refl
+
+closer_at : (T : List ℕ) (p n : ℕ) (a : Option ℕ) → ends a ≡ true → piece_by T p Plain n a ≡ pieces.Closer
+closer_at T p n None end = refl
+closer_at T p n (Some b) end = closer_by T p n b end
+
+plain_end : (c : Opened) (T : List ℕ) (o b p q : ℕ) → ArePlain T p q → p ≤ q → q ≤ length T → ends_word T q ≡ true → contents_at c T o Plain b p ≡ Ok (0, q)
+unfolding contents_at
+plain_end c T o b p q plain low high end =
+    plain_turns c T o Plain b 0 p q plain low high
+    ∙ turns_done (length T) (piece_step c T o Plain b) 0 0 q q (unfold piece_step piece_at in ap (piece_of c T o Plain b 0 q) (unfold ends_word in closer_at T q 0 (byte_at T q) end))
+
+-- a word of plain bytes
+pub plain_word : (T : List ℕ) (o p q : ℕ) → ArePlain T p q → p ≤ q → q ≤ length T → ends_word T q ≡ true → word_at T o p ≡ Ok (word (span o p q) no_subst, q)
+unfolding word_at
+plain_word T o p q plain low high end = rw (plain_end (level_at T o 100) T o p p q plain low high end) refl
+
+-- where a word begins and another place ends it, some bytes stand between
+pub some_plain : (T : List ℕ) (p q : ℕ) → p ≤ q → ends_word T p ≡ false → ends_word T q ≡ true → p < q
+some_plain T p q low here there = word_longer T p q low here there

@@ -1,6 +1,6 @@
 //! A place in a text, and what stands there.
 ghost use Rattle.std.specs.Prelude.{◌≡◌, ◌≢◌, ◌+◌, ◌-◌, ◌^◌, ◌<◌, ◌≤◌, drop, length, slice_get, true, false, IfSome};
-ghost use Rattle.shread.specs.Bytes.{is_blank, is_broken_at, raw_past, at_end, behind, byte_at, continues, past_blanks, past_continuations, raw_in, raw_stands, begins_assignment, ends_word, is_closing_word, is_letter, is_number, is_opening_word, is_reserved, is_word_at, past, stands, stands_in, token_at};
+ghost use Rattle.shread.specs.Bytes.{is_blank, is_broken_at, raw_past, at_end, behind, byte_at, continues, past_blanks, past_continuations, raw_in, raw_stands, begins_assignment, ends_word, is_letter, is_number, is_reserved, is_word_at, past, stands, stands_in, token_at};
 ghost use Rattle.shread.specs.Classes.{in_class};
 
 use crate::source::Source;
@@ -25,6 +25,7 @@ pub(crate) struct Cursor<'a, S: Source> {
 
 impl<'a, S: Source> Cursor<'a, S> {
     /// The byte at a place as it stands, or `None` at the end.
+    #[inline(always)]
     #[tactic(auto, using(crate::proofs::Stretches::get_drop))]
     fn raw_byte(&self, at: usize) -> Option<u8>
         requires { at ≤ length (drop self.now.base (S.bytes self.now.source.now)) }
@@ -35,6 +36,7 @@ impl<'a, S: Source> Cursor<'a, S> {
     }
 
     /// Whether this byte is the one at a place.
+    #[inline(always)]
     #[tactic(auto, unfolding(crate::specs::Bytes::raw_stands))]
     pub(crate) fn raw_stands(&self, at: usize, byte: u8) -> bool
         requires { at ≤ length (drop self.now.base (S.bytes self.now.source.now)) }
@@ -48,6 +50,7 @@ impl<'a, S: Source> Cursor<'a, S> {
     }
 
     /// Whether the byte at a place is of this class.
+    #[inline(always)]
     #[tactic(auto, unfolding(crate::specs::Bytes::raw_in))]
     pub(crate) fn raw_in(&self, at: usize, class: Class) -> bool
         requires { at ≤ length (drop self.now.base (S.bytes self.now.source.now)) }
@@ -61,6 +64,7 @@ impl<'a, S: Source> Cursor<'a, S> {
     }
 
     /// Whether the text ends at a place.
+    #[inline(always)]
     #[tactic(auto, unfolding(crate::specs::Bytes::at_end))]
     pub(crate) fn at_end(&self, at: usize) -> bool
         requires { at ≤ length (drop self.now.base (S.bytes self.now.source.now)) }
@@ -71,6 +75,7 @@ impl<'a, S: Source> Cursor<'a, S> {
     }
 
     /// Whether a continuation stands at a place.
+    #[inline(always)]
     #[tactic(auto, unfolding(crate::specs::Bytes::continues))]
     fn continues(&self, at: usize) -> bool
         requires { at ≤ length (drop self.now.base (S.bytes self.now.source.now)) }
@@ -80,9 +85,25 @@ impl<'a, S: Source> Cursor<'a, S> {
         self.raw_stands(at, b'\\') && self.raw_stands(at + 1, b'\n')
     }
 
-    /// The place past the continuations at a place.
-    #[tactic(auto, using(crate::proofs::Stretches::joined_more, crate::proofs::Stretches::joined_none))]
+    /// The place past the continuations at a place. Most often none stands there.
+    #[inline(always)]
+    #[tactic(auto, using(crate::proofs::Stretches::joined_none))]
     pub(crate) fn place(&self, from: usize) -> usize
+        requires { from ≤ length (drop self.now.base (S.bytes self.now.source.now)) }
+        ensures value { result ≡ past_continuations (drop self.now.base (S.bytes self.now.source.now)) from }
+        ensures inside { (from ≤ result) × (result ≤ length (drop self.now.base (S.bytes self.now.source.now))) }
+        ensures still { past_continuations (drop self.now.base (S.bytes self.now.source.now)) result ≡ result }
+    {
+        if self.continues(from) {
+            return self.past_continuations(from);
+        }
+        from
+    }
+
+    /// The place past the continuations at a place.
+    #[cold]
+    #[tactic(auto, using(crate::proofs::Stretches::joined_more, crate::proofs::Stretches::joined_none))]
+    fn past_continuations(&self, from: usize) -> usize
         requires { from ≤ length (drop self.now.base (S.bytes self.now.source.now)) }
         ensures value { result ≡ past_continuations (drop self.now.base (S.bytes self.now.source.now)) from }
         ensures inside { (from ≤ result) × (result ≤ length (drop self.now.base (S.bytes self.now.source.now))) }
@@ -96,6 +117,7 @@ impl<'a, S: Source> Cursor<'a, S> {
     }
 
     /// The byte that is read at a place, or `None` at the end.
+    #[inline(always)]
     fn byte_at(&self, at: usize) -> Option<u8>
         requires { at ≤ length (drop self.now.base (S.bytes self.now.source.now)) }
         ensures value { result ≡ byte_at (drop self.now.base (S.bytes self.now.source.now)) at }
@@ -105,6 +127,7 @@ impl<'a, S: Source> Cursor<'a, S> {
     }
 
     /// The byte that is read here, or `None` at the end.
+    #[inline(always)]
     pub(crate) fn byte(&self) -> Option<u8>
         ensures value { result ≡ byte_at (drop self.now.base (S.bytes self.now.source.now)) self.now.at }
         ensures inside { IfSome result (λ b. past_continuations (drop self.now.base (S.bytes self.now.source.now)) self.now.at < length (drop self.now.base (S.bytes self.now.source.now))) }
@@ -113,6 +136,7 @@ impl<'a, S: Source> Cursor<'a, S> {
     }
 
     /// The place behind the byte that is read at a place.
+    #[inline(always)]
     #[tactic(auto, unfolding(crate::specs::Bytes::behind))]
     pub(crate) fn behind(&self, at: usize) -> usize
         requires within { at ≤ length (drop self.now.base (S.bytes self.now.source.now)) }
@@ -125,6 +149,7 @@ impl<'a, S: Source> Cursor<'a, S> {
     }
 
     /// One byte on.
+    #[inline(always)]
     pub(crate) fn bump(&mut self)
         requires { past_continuations (drop self.old.base (S.bytes self.old.source.now)) self.old.at < length (drop self.old.base (S.bytes self.old.source.now)) }
         ensures value { self.new.at ≡ behind (drop self.old.base (S.bytes self.old.source.now)) self.old.at }
@@ -136,6 +161,7 @@ impl<'a, S: Source> Cursor<'a, S> {
     }
 
     /// Whether this byte is read at a place.
+    #[inline(always)]
     #[tactic(auto, unfolding(crate::specs::Bytes::stands))]
     pub(crate) fn stands(&self, at: usize, byte: u8) -> bool
         requires { at ≤ length (drop self.now.base (S.bytes self.now.source.now)) }
@@ -149,6 +175,7 @@ impl<'a, S: Source> Cursor<'a, S> {
     }
 
     /// Whether this byte is read here.
+    #[inline(always)]
     pub(crate) fn is_at(&self, byte: u8) -> bool
         ensures value { result ≡ stands (drop self.now.base (S.bytes self.now.source.now)) self.now.at byte }
         ensures inside { result ≡ true → past_continuations (drop self.now.base (S.bytes self.now.source.now)) self.now.at < length (drop self.now.base (S.bytes self.now.source.now)) }
@@ -157,6 +184,7 @@ impl<'a, S: Source> Cursor<'a, S> {
     }
 
     /// Whether this byte is read behind the one here.
+    #[inline(always)]
     pub(crate) fn is_next(&self, byte: u8) -> bool
         requires { past_continuations (drop self.now.base (S.bytes self.now.source.now)) self.now.at < length (drop self.now.base (S.bytes self.now.source.now)) }
         ensures value { result ≡ stands (drop self.now.base (S.bytes self.now.source.now)) (behind (drop self.now.base (S.bytes self.now.source.now)) self.now.at) byte }
@@ -166,6 +194,7 @@ impl<'a, S: Source> Cursor<'a, S> {
     }
 
     /// Whether a byte of this class is read at a place.
+    #[inline(always)]
     #[tactic(auto, unfolding(crate::specs::Bytes::stands_in))]
     pub(crate) fn stands_in(&self, at: usize, class: Class) -> bool
         requires { at ≤ length (drop self.now.base (S.bytes self.now.source.now)) }
@@ -179,6 +208,7 @@ impl<'a, S: Source> Cursor<'a, S> {
     }
 
     /// The place behind the bytes of this class from a place on.
+    #[inline(always)]
     #[tactic(auto, using(crate::proofs::Stretches::past_more, crate::proofs::Stretches::past_none))]
     pub(crate) fn past(&self, from: usize, class: Class) -> usize
         requires { from ≤ length (drop self.now.base (S.bytes self.now.source.now)) }
@@ -217,6 +247,7 @@ impl<'a, S: Source> Cursor<'a, S> {
     }
 
     /// To where a token begins.
+    #[inline(always)]
     #[tactic(auto, unfolding(crate::specs::Bytes::past_blanks, crate::specs::Bytes::stands_in))]
     pub(crate) fn skip_blanks(&mut self)
         ensures value { self.new.at ≡ past_blanks (drop self.old.base (S.bytes self.old.source.now)) self.old.at }
@@ -228,6 +259,7 @@ impl<'a, S: Source> Cursor<'a, S> {
     }
 
     /// Whether a word ends at a place.
+    #[inline(always)]
     #[tactic(auto, unfolding(crate::specs::Bytes::ends_word))]
     fn ends_at(&self, at: usize) -> bool
         requires { at ≤ length (drop self.now.base (S.bytes self.now.source.now)) }
@@ -244,6 +276,7 @@ impl<'a, S: Source> Cursor<'a, S> {
     }
 
     /// Whether a word ends here.
+    #[inline(always)]
     pub(crate) fn ends_word(&self) -> bool
         ensures value { result ≡ ends_word (drop self.now.base (S.bytes self.now.source.now)) self.now.at }
         ensures inside { result ≡ false → past_continuations (drop self.now.base (S.bytes self.now.source.now)) self.now.at < length (drop self.now.base (S.bytes self.now.source.now)) }
@@ -266,44 +299,29 @@ impl<'a, S: Source> Cursor<'a, S> {
         self.ends_at(at)
     }
 
-    #[tactic(auto, unfolding(crate::specs::Bytes::is_opening_word))]
-    fn is_opening_word(&self) -> bool
-        ensures { result ≡ is_opening_word (drop self.now.base (S.bytes self.now.source.now)) self.now.at }
-    {
-        self.is_word(b"{")
-            || self.is_word(b"case")
-            || self.is_word(b"for")
-            || self.is_word(b"if")
-            || self.is_word(b"until")
-            || self.is_word(b"while")
-    }
-
-    #[tactic(auto, unfolding(crate::specs::Bytes::is_closing_word))]
-    fn is_closing_word(&self) -> bool
-        ensures { result ≡ is_closing_word (drop self.now.base (S.bytes self.now.source.now)) self.now.at }
-    {
-        self.is_word(b"do")
-            || self.is_word(b"done")
-            || self.is_word(b"elif")
-            || self.is_word(b"else")
-            || self.is_word(b"esac")
-            || self.is_word(b"fi")
-            || self.is_word(b"then")
-            || self.is_word(b"}")
-    }
-
-    /// Whether a reserved word stands here.
-    #[tactic(auto, unfolding(crate::specs::Bytes::is_reserved))]
+    /// Whether a reserved word stands here. Its first byte tells which it may be.
+    #[tactic(auto, unfolding(crate::specs::Bytes::is_reserved, crate::specs::Bytes::is_opening_word, crate::specs::Bytes::is_closing_word, crate::specs::Bytes::is_word_at, crate::specs::Bytes::stands))]
     pub(crate) fn is_reserved(&self) -> bool
         ensures { result ≡ is_reserved (drop self.now.base (S.bytes self.now.source.now)) self.now.at }
     {
-        self.is_opening_word()
-            || self.is_closing_word()
-            || self.is_word(b"!")
-            || self.is_word(b"in")
+        match self.byte() {
+            Some(b'!') => self.is_word(b"!"),
+            Some(b'{') => self.is_word(b"{"),
+            Some(b'}') => self.is_word(b"}"),
+            Some(b'c') => self.is_word(b"case"),
+            Some(b'd') => self.is_word(b"do") || self.is_word(b"done"),
+            Some(b'e') => self.is_word(b"elif") || self.is_word(b"else") || self.is_word(b"esac"),
+            Some(b'f') => self.is_word(b"fi") || self.is_word(b"for"),
+            Some(b'i') => self.is_word(b"if") || self.is_word(b"in"),
+            Some(b't') => self.is_word(b"then"),
+            Some(b'u') => self.is_word(b"until"),
+            Some(b'w') => self.is_word(b"while"),
+            _ => false,
+        }
     }
 
     /// Whether a NAME and `=` stand here.
+    #[inline(always)]
     #[tactic(auto, unfolding(crate::specs::Bytes::begins_assignment, crate::specs::Bytes::stands_in, crate::specs::Bytes::ends_word))]
     pub(crate) fn begins_assignment(&self) -> bool
         ensures value { result ≡ begins_assignment (drop self.now.base (S.bytes self.now.source.now)) self.now.at }
@@ -319,6 +337,7 @@ impl<'a, S: Source> Cursor<'a, S> {
     }
 
     /// Whether digits that `<` or `>` follows stand here.
+    #[inline(always)]
     #[tactic(auto, unfolding(crate::specs::Bytes::is_number))]
     fn is_number(&self) -> bool
         ensures { result ≡ is_number (drop self.now.base (S.bytes self.now.source.now)) self.now.at }

@@ -6,7 +6,7 @@ use crate::cursor::Cursor;
 use crate::source::Source;
 
 /// Whether a byte is ordinary in every mode.
-#[inline]
+#[inline(always)]
 fn is_plain(byte: u8) -> bool
     ensures { result ≡ is_plain byte }
 {
@@ -17,6 +17,7 @@ fn is_plain(byte: u8) -> bool
 }
 
 /// How many bytes at the front are ordinary in every mode.
+#[inline(always)]
 fn plain_front(run: &[u8]) -> usize
     ensures within { result ≤ length run.now }
     ensures plain { (k : ℕ) → k < result → is_plain (slice_index run.now k) ≡ true }

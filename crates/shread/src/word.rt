@@ -218,7 +218,7 @@ impl<'a, S: Source> Cursor<'a, S> {
     }
 
     /// The word that begins here.
-    #[tactic(auto, unfolding(crate::specs::Reading::word_at))]
+    #[tactic(auto, unfolding(crate::specs::Reading::word_at), using(crate::proofs::PlainBytes::plain_word, crate::proofs::PlainBytes::some_plain))]
     pub(crate) fn word(&mut self, alloc: Global) -> Result<Word, Stop>
         requires { ends_word (drop self.old.base (S.bytes self.old.source.now)) self.old.at ≡ false }
         ensures value { let text = (drop self.old.base (S.bytes self.old.source.now)) in
@@ -227,7 +227,11 @@ impl<'a, S: Source> Cursor<'a, S> {
         ensures same { (self.new.source ≡ self.old.source) × (self.new.base ≡ self.old.base) × (self.new.origin ≡ self.old.origin) × (self.new.keep ≡ self.old.keep) }
     {
         let start = self.at;
-        let _ = self.contents(Mode::Plain, start, MOST_OPEN)?;
+        self.skip_plain();
+        if !self.ends_word() {
+            self.at = start;
+            let _ = self.contents(Mode::Plain, start, MOST_OPEN)?;
+        }
         Ok(word_of(self.span_from(start), Vec::new(alloc)))
     }
 }

@@ -1,6 +1,6 @@
 use Rattle.std.proofs.Common.{◌≡◌, ◌≤◌, ◌-◌, length, drop}
 use Rattle.shread.specs.Bytes.{past_continuations}
-use Rattle.shread.proofs.cursor.Cursor.place.Given as goal
+use Rattle.shread.proofs.cursor.Cursor.past_continuations.Given as goal
 
 abbrev pub invariant-continuations : goal.invariant-continuations
 invariant-continuations g l =
