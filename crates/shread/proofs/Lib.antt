@@ -17,3 +17,4 @@ pub mod Verdict
 pub mod Answered
 pub mod Skim
 pub mod Levels
+pub mod PlainBytes

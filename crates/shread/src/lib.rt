@@ -17,6 +17,7 @@ mod mode;
 mod one_line;
 mod piece;
 mod place;
+mod plain;
 mod reader;
 mod remark;
 mod source;

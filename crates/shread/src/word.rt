@@ -200,7 +200,7 @@ impl<'a, S: Source> Cursor<'a, S> {
 
     /// What a construct holds, up to its end. Answers how many brackets of arithmetic are open there.
     #[cycle(words)]
-    #[tactic(auto, unfolding(crate::specs::Reading::contents_at), using(crate::proofs::Turns::turns_again, crate::proofs::Turns::turns_done, crate::proofs::Turns::turns_stop))]
+    #[tactic(auto, unfolding(crate::specs::Reading::contents_at), using(crate::proofs::Turns::turns_done, crate::proofs::Turns::turns_stop, crate::proofs::PlainBytes::plain_turns, crate::proofs::PlainBytes::piece_and_plain))]
     fn contents(&mut self, mode: Mode, opener: usize, room: usize) -> Result<usize, Stop>
         requires { opener ≤ self.old.at }
         ensures value { let text = (drop self.old.base (S.bytes self.old.source.now)) in
@@ -210,7 +210,10 @@ impl<'a, S: Source> Cursor<'a, S> {
         ensures same { (self.new.source ≡ self.old.source) × (self.new.base ≡ self.old.base) × (self.new.origin ≡ self.old.origin) × (self.new.keep ≡ self.old.keep) }
     {
         let mut nested = 0;
-        'pieces: while self.take_piece(mode, opener, &mut nested, room)? {}
+        self.skip_plain();
+        'pieces: while self.take_piece(mode, opener, &mut nested, room)? {
+            self.skip_plain();
+        }
         Ok(nested)
     }
 
