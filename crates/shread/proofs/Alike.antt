@@ -3,14 +3,14 @@ use Rattle.std.proofs.Common.{◌≡◌, ℕ, zero, suc, ◌+◌, ◌≤◌, ◌
 use Rattle.shread.specs.declared.fault.Fault.{Fault}
 use Rattle.shread.specs.declared.fault.FaultKind.{FaultKind}
 use Rattle.shread.specs.declared.fault.Stop.TheVariants.{Wrong}
-use Rattle.shread.specs.declared.token.Token.{Token}
-use Rattle.shread.specs.declared.token.Token.TheVariants as tokens
-use Rattle.shread.specs.Tree.{AnItem, AnEntry, AnAndOr}
-use Rattle.shread.specs.Bytes.{raw_stands, at_end, next_of, past_continuations, behind, past_blanks, token_at, begins_assignment}
 use Rattle.shread.specs.declared.mode.Mode.{Mode}
 use Rattle.shread.specs.declared.mode.Mode.TheVariants.{Plain, Double, Arith}
 use Rattle.shread.specs.declared.mode.Piece.{Piece}
 use Rattle.shread.specs.declared.mode.Piece.TheVariants as pieces
+use Rattle.shread.specs.declared.token.Token.{Token}
+use Rattle.shread.specs.declared.token.Token.TheVariants as tokens
+use Rattle.shread.specs.Tree.{AnItem, AnEntry, AnAndOr}
+use Rattle.shread.specs.Bytes.{raw_stands, at_end, next_of, past_continuations, behind, past_blanks, token_at, begins_assignment}
 use Rattle.shread.specs.Words.{next_in_backquotes, past_parameter, rest_mode, piece_at}
 use Rattle.shread.specs.Commands.{is_empty, is_word, is_parted, separator_at, remark_place, comment_at, past_comment}
 use Rattle.shread.specs.Comes.{Read, Step, again, done, step_if}
@@ -181,7 +181,8 @@ module _ (k : Bool) (T : List ℕ) (o u d : ℕ) (far : o ≡ d + u) where
     piece_alike_by n p pieces.Ordinary shows = both_give (both_again refl)
 
     -- one piece
-    piece_alike : (n m p : ℕ) → p ≤ length T → Same n m → Alike (SameStep Same) d (piece_step c T o mode b n p) (piece_step e T u mode b m p)
+    piece_alike : (n m p : ℕ) → p ≤ length T → Same n m
+        → Alike (SameStep Same) d (piece_step c T o mode b n p) (piece_step e T u mode b m p)
     unfolding piece_step
     piece_alike n m p within same =
         subst (λ x. Alike (SameStep Same) d (piece_of c T o mode b n p (piece_at T mode n p)) (piece_of e T u mode b x p (piece_at T mode x p))) same

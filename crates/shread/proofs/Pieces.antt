@@ -48,15 +48,19 @@ Shows T mode p pieces.Ordinary = past_continuations T p < length T
 one_closes : (T : List ℕ) (p : ℕ) → past_continuations T p < length T → (p ≤ behind T p) × (behind T p ≤ length T)
 one_closes T p lt = (omega (arith, behind_low T p), behind_high T p lt)
 
+-- what ends a word
 plain_closes : (T : List ℕ) (p : ℕ) → p ≤ length T → ends_word T p ≡ true → Closes T Plain p
 plain_closes T p within e = record { low = omega arith; high = within; here = e }
 
+-- a double quote
 double_closes : (T : List ℕ) (p : ℕ) → past_continuations T p < length T → Closes T Double p
 double_closes T p lt = record { low = (one_closes T p lt).0; high = (one_closes T p lt).1; here = tt }
 
+-- a brace
 brace_closes : (T : List ℕ) (p : ℕ) → past_continuations T p < length T → Closes T Brace p
 brace_closes T p lt = record { low = (one_closes T p lt).0; high = (one_closes T p lt).1; here = tt }
 
+-- a brace in double quotes
 double_brace_closes : (T : List ℕ) (p : ℕ) → past_continuations T p < length T → Closes T DoubleBrace p
 double_brace_closes T p lt = record { low = (one_closes T p lt).0; high = (one_closes T p lt).1; here = tt }
 
@@ -97,8 +101,8 @@ bracket_shows T p zero false lt closes = lt
 bracket_shows T p (suc n) two lt closes = lt
 
 -- any other byte
-byte_shows : (T : List ℕ) (p : ℕ) (mode : Mode) (n b : ℕ) → p ≤ length T → past_continuations T p < length T → (ends (Some b) ≡ true → ends_word T p ≡ true)
-    → Shows T mode p (byte_by T p mode n b)
+byte_shows : (T : List ℕ) (p : ℕ) (mode : Mode) (n b : ℕ) → p ≤ length T → past_continuations T p < length T
+    → (ends (Some b) ≡ true → ends_word T p ≡ true) → Shows T mode p (byte_by T p mode n b)
 byte_shows T p Plain n b within lt word =
     let P = Shows T Plain p in
     cond_both (ends (Some b)) _ _ P (λ e. plain_closes T p within (word e))

@@ -10,7 +10,7 @@ use Rattle.shread.specs.declared.token.Token.TheVariants as tokens
 use Rattle.shread.specs.Bytes.{is_blank, is_digit, is_name, is_operator, is_letter, is_byte, is_none, raw_stands, raw_in, at_end, raw_past, next_of, stands, ends, ends_word, passes, stands_in, count_front, past, past_below, past_blanks, count_joined, past_continuations, byte_at, behind, next_newline, before_blanks, begins_assignment, is_number, token_of, token_at}
 use Rattle.shread.specs.Words.{next_in_backquotes, is_special, past_parameter}
 use Rattle.shread.specs.Commands.{is_word, past_comment, is_parted, separator_by, separator_at, past_separator}
-use Rattle.shread.proofs.Stretches.{get_drop, place_low, stands_in_low, past_more, past_none}
+use Rattle.shread.proofs.Stretches.{get_drop, place_low, stands_in_low}
 
 -- a test that cannot hold fails
 must_fail : (b : Bool) → (b ≡ true → ⊥) → b ≡ false
@@ -181,18 +181,19 @@ before_blanks_high T (suc q) =
 
 -- ---- stretches of what is read
 
--- a stretch does not end before it begins
+-- by how many bytes may be read
 below_low : (n : ℕ) (test : ℕ → Bool) (T : List ℕ) (p : ℕ) → p ≤ past_below n test T p
 unfolding past_below
 below_low zero test T p = omega arith
 below_low (suc n) test T p =
     cond_both (stands_in test T p) _ _ (λ q. p ≤ q) (λ e. omega (arith, below_low n test T (behind T p), behind_low T p)) (λ e. omega arith)
 
+-- a stretch does not end before it begins
 pub past_low : (test : ℕ → Bool) (T : List ℕ) (p : ℕ) → p ≤ past test T p
 unfolding past
 past_low test T p = below_low (length T - p) test T p
 
--- nor past the end of the text
+-- by how many bytes may be read
 below_high : (n : ℕ) (test : ℕ → Bool) (T : List ℕ) (p : ℕ) → p ≤ length T → past_below n test T p ≤ length T
 unfolding past_below
 below_high zero test T p within = within
@@ -200,11 +201,12 @@ below_high (suc n) test T p within =
     cond_both (stands_in test T p) _ _ (λ q. q ≤ length T)
     (λ e. below_high n test T (behind T p) (behind_high T p (stands_in_low test T p e))) (λ e. within)
 
+-- nor past the end of the text
 pub past_high : (test : ℕ → Bool) (T : List ℕ) (p : ℕ) → p ≤ length T → past test T p ≤ length T
 unfolding past
 past_high test T p within = below_high (length T - p) test T p within
 
--- behind a stretch no byte of its kind is read
+-- by how many bytes may be read
 below_stops : (n : ℕ) (test : ℕ → Bool) (T : List ℕ) (p : ℕ) → length T - p ≤ n → stands_in test T (past_below n test T p) ≡ false
 unfolding past_below
 below_stops zero test T p low =
@@ -213,6 +215,7 @@ below_stops (suc n) test T p low =
     cond_both (stands_in test T p) _ _ (λ q. stands_in test T q ≡ false)
     (λ e. below_stops n test T (behind T p) (omega (arith, behind_low T p))) (λ e. e)
 
+-- behind a stretch no byte of its kind is read
 pub past_stops : (test : ℕ → Bool) (T : List ℕ) (p : ℕ) → stands_in test T (past test T p) ≡ false
 unfolding past
 past_stops test T p = below_stops (length T - p) test T p (omega arith)
@@ -355,7 +358,8 @@ separator_byte T p parted = token_low T (past_blanks T p) (parted_by (token_at T
 pub separator_low : (T : List ℕ) (p : ℕ) → p ≤ past_separator T p
 unfolding past_separator
 separator_low T p =
-    cond_both (is_parted (separator_at T p)) _ _ (λ n. p ≤ n) (λ parted. omega (arith, blanks_low T p, behind_low T (past_blanks T p))) (λ none. omega arith)
+    cond_both (is_parted (separator_at T p)) _ _ (λ n. p ≤ n)
+    (λ parted. omega (arith, blanks_low T p, behind_low T (past_blanks T p))) (λ none. omega arith)
 
 -- it is not past the end of the text
 pub separator_high : (T : List ℕ) (p : ℕ) → p ≤ length T → past_separator T p ≤ length T

@@ -3,15 +3,15 @@ use Rattle.std.proofs.Common.{◌≡◌, ℕ, zero, suc, ◌+◌, ◌-◌, ◌�
 use Rattle.std.proofs.lemmas.Bool.{cond_both}
 use Rattle.std.proofs.lemmas.List.{length-drop}
 use Rattle.shread.specs.declared.fault.Fault.{Fault}
+use Rattle.shread.specs.declared.mode.Mode.{Mode}
+use Rattle.shread.specs.declared.mode.Mode.TheVariants.{Plain, Double, Arith}
+use Rattle.shread.specs.declared.mode.Piece.{Piece}
+use Rattle.shread.specs.declared.mode.Piece.TheVariants as pieces
 use Rattle.shread.specs.declared.token.Token.{Token}
 use Rattle.shread.specs.declared.token.Token.TheVariants as tokens
 use Rattle.shread.specs.declared.tree.Comment.{Comment}
 use Rattle.shread.specs.Tree.{Entries, AnItem, AnEntry, item, assign, argument, entries_of}
 use Rattle.shread.specs.Bytes.{raw_stands, at_end, next_of, past_continuations, behind, ends_word, past_blanks, is_broken_at, token_at, begins_assignment}
-use Rattle.shread.specs.declared.mode.Mode.{Mode}
-use Rattle.shread.specs.declared.mode.Mode.TheVariants.{Plain, Double, Arith}
-use Rattle.shread.specs.declared.mode.Piece.{Piece}
-use Rattle.shread.specs.declared.mode.Piece.TheVariants as pieces
 use Rattle.shread.specs.Words.{next_in_backquotes, past_parameter, rest_mode, piece_at}
 use Rattle.shread.specs.Commands.{is_empty, is_word, comment_at, past_comment, past_separator, remark_place}
 use Rattle.shread.specs.Comes.{Read, again, step_if}
@@ -195,7 +195,8 @@ module _ (T : List ℕ) (o : ℕ) where
       cond_both (begins_assignment T b) _ _ P
       (λ e. within_then _ o (length T) b _ _ P (word_within b (blanks_high T p within)) (λ f high. high)
       (λ w q onward high good. let lt : b < q = good.1 (assignment_begins T b e) in
-      (omega arith, high, (omega (arith, so.0), row_more is (item (not (is_empty is) && is_broken_at T p) (assign w)) (is_broken_at T p) so.1 good.0 refl))))
+      (omega arith, high,
+      (omega (arith, so.0), row_more is (item (not (is_empty is) && is_broken_at T p) (assign w)) (is_broken_at T p) so.1 good.0 refl))))
       (λ e. (so.0, within, so.1))
 
   -- one argument
@@ -209,7 +210,8 @@ module _ (T : List ℕ) (o : ℕ) where
       cond_both (is_word (token_at T b)) _ _ P
       (λ e. within_then _ o (length T) b _ _ P (word_within b (blanks_high T p within)) (λ f high. high)
       (λ w q onward high good. let lt : b < q = good.1 (word_begins T b (blanks_stop T p) e) in
-      (omega arith, high, (omega (arith, so.0), row_more is (item (not (is_empty is) && is_broken_at T p) (argument w)) (is_broken_at T p) so.1 good.0 refl))))
+      (omega arith, high,
+      (omega (arith, so.0), row_more is (item (not (is_empty is) && is_broken_at T p) (argument w)) (is_broken_at T p) so.1 good.0 refl))))
       (λ e. (so.0, within, so.1))
 
   -- all assignments

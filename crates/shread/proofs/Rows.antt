@@ -1,13 +1,13 @@
 -- Each part of the grammar of a line has one outcome, and it is the one that the reading computes.
 use Rattle.std.proofs.Common.{ℕ, zero, suc, ◌+◌, ◌≤◌, ◌<◌, Bool, true, ◌&&◌, List, List as Row, [], length, subst, arith}
-use Rattle.shread.specs.declared.token.Token.{Token}
-use Rattle.shread.specs.declared.token.Token.TheVariants as tokens
-use Rattle.shread.specs.Tree.{AnItem, AnEntry}
-use Rattle.shread.specs.Bytes.{past_continuations, behind, past_blanks, token_at}
 use Rattle.shread.specs.declared.mode.Mode.{Mode}
 use Rattle.shread.specs.declared.mode.Mode.TheVariants.{Plain, Double, Arith}
 use Rattle.shread.specs.declared.mode.Piece.{Piece}
 use Rattle.shread.specs.declared.mode.Piece.TheVariants as pieces
+use Rattle.shread.specs.declared.token.Token.{Token}
+use Rattle.shread.specs.declared.token.Token.TheVariants as tokens
+use Rattle.shread.specs.Tree.{AnItem, AnEntry}
+use Rattle.shread.specs.Bytes.{past_continuations, behind, past_blanks, token_at}
 use Rattle.shread.specs.Words.{single, backquote_turn, backquoted, past_parameter, rest_mode, Constructs, piece_at, piece_row, a_piece, contents, level, a_word}
 use Rattle.shread.specs.Commands.{is_empty, an_assignment, an_argument, a_simple, a_pipeline, an_and_or, an_entry, comment_at, past_comment}
 use Rattle.shread.specs.Comes.{Many}
