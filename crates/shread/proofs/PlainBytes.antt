@@ -8,7 +8,7 @@ use Rattle.shread.specs.declared.mode.Mode.TheVariants.{Plain, Double, Brace, Do
 use Rattle.shread.specs.declared.mode.Piece.TheVariants as pieces
 use Rattle.shread.specs.Bytes.{raw_stands, raw_in, passes, is_byte, is_blank, is_operator, ends, ends_word, continues, past_continuations, byte_at, behind}
 use Rattle.shread.specs.Words.{span, piece_by, byte_by, piece_at}
-use Rattle.shread.specs.Comes.{Read, again}
+use Rattle.shread.specs.Comes.{Read, again, done}
 use Rattle.shread.specs.Reading.{Opened, piece_of, piece_step, contents_at, level_at, word_at, turns}
 use Rattle.shread.specs.Plain.{is_plain, ArePlain}
 use Rattle.shread.specs.Tree.{word, no_subst}
@@ -140,11 +140,14 @@ closer_at : (T : List ℕ) (p n : ℕ) (a : Option ℕ) → ends a ≡ true → 
 closer_at T p n None end = refl
 closer_at T p n (Some b) end = closer_by T p n b end
 
+word_closes : (c : Opened) (T : List ℕ) (o b q : ℕ) → ends_word T q ≡ true → piece_step c T o Plain b 0 q ≡ Ok (done 0 q)
+unfolding piece_step piece_at ends_word
+word_closes c T o b q end = ap (piece_of c T o Plain b 0 q) (closer_at T q 0 (byte_at T q) end)
+
 plain_end : (c : Opened) (T : List ℕ) (o b p q : ℕ) → ArePlain T p q → p ≤ q → q ≤ length T → ends_word T q ≡ true → contents_at c T o Plain b p ≡ Ok (0, q)
 unfolding contents_at
 plain_end c T o b p q plain low high end =
-    plain_turns c T o Plain b 0 p q plain low high
-    ∙ turns_done (length T) (piece_step c T o Plain b) 0 0 q q (unfold piece_step piece_at in ap (piece_of c T o Plain b 0 q) (unfold ends_word in closer_at T q 0 (byte_at T q) end))
+    plain_turns c T o Plain b 0 p q plain low high ∙ turns_done (length T) (piece_step c T o Plain b) 0 0 q q (word_closes c T o b q end)
 
 -- a word of plain bytes
 pub plain_word : (T : List ℕ) (o p q : ℕ) → ArePlain T p q → p ≤ q → q ≤ length T → ends_word T q ≡ true → word_at T o p ≡ Ok (word (span o p q) no_subst, q)

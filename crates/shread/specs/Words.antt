@@ -18,14 +18,6 @@ span o p q = record { start = o + p; «end» = o + q }
 
 -- ---- what a byte is in a mode
 
--- a single quote quotes outside double quotes and arithmetic (XCU 2.2.2)
-abbrev pub takes_single : Mode → Bool
-takes_single Plain = true
-takes_single Double = false
-takes_single Brace = true
-takes_single DoubleBrace = false
-takes_single Arith = false
-
 -- by the byte behind a `$` (XCU 2.6)
 abbrev pub dollar_by : Bool → Bool → Bool → Bool → Piece
 dollar_by true bracket two brace = pieces.Pid
