@@ -46,7 +46,7 @@ pub place_same : (T : List ℕ) (p : ℕ) → past_continuations T (past_continu
 unfolding past_continuations
 place_same T p =
     let none : count_joined (drop (p + count_joined (drop p T)) T) ≡ 0 =
-        ap count_joined (sym (drop-drop (count_joined (drop p T)) p T)) ∙ joined_rest (drop p T) in
+    ap count_joined (sym (drop-drop (count_joined (drop p T)) p T)) ∙ joined_rest (drop p T) in
     omega (arith, none)
 
 -- what is read past continuations is what is read before them

@@ -100,7 +100,7 @@ unfolding piece_step piece_at behind
 plain_piece c T o mode b n p plain =
     let same = stays T p plain in
     let ordinary : piece_by T p mode n (byte_at T p) ≡ pieces.Ordinary =
-        ap (λ q. piece_by T p mode n (slice_get T q)) same ∙ ordinary_at T p mode n (slice_get T p) (unfold raw_in in plain) in
+    ap (λ q. piece_by T p mode n (slice_get T q)) same ∙ ordinary_at T p mode n (slice_get T p) (unfold raw_in in plain) in
     rw (ordinary, same) refl
 
 plain_run : (c : Opened) (T : List ℕ) (o : ℕ) (mode : Mode) (b n p m : ℕ) → ArePlain T p (p + m) → p + m ≤ length T

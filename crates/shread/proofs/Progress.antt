@@ -194,9 +194,11 @@ module _ (T : List ℕ) (o : ℕ) where
       let low = blanks_low T p in
       cond_both (begins_assignment T b) _ _ P
       (λ e. within_then _ o (length T) b _ _ P (word_within b (blanks_high T p within)) (λ f high. high)
-      (λ w q onward high good. let lt : b < q = good.1 (assignment_begins T b e) in
-      (omega arith, high,
-      (omega (arith, so.0), row_more is (item (not (is_empty is) && is_broken_at T p) (assign w)) (is_broken_at T p) so.1 good.0 refl))))
+      (λ w q onward high good. let lt : b < q = good.1 (assignment_begins T b e) in (
+        omega arith,
+        high,
+        (omega (arith, so.0), row_more is (item (not (is_empty is) && is_broken_at T p) (assign w)) (is_broken_at T p) so.1 good.0 refl),
+      )))
       (λ e. (so.0, within, so.1))
 
   -- one argument
@@ -209,9 +211,11 @@ module _ (T : List ℕ) (o : ℕ) where
       let low = blanks_low T p in
       cond_both (is_word (token_at T b)) _ _ P
       (λ e. within_then _ o (length T) b _ _ P (word_within b (blanks_high T p within)) (λ f high. high)
-      (λ w q onward high good. let lt : b < q = good.1 (word_begins T b (blanks_stop T p) e) in
-      (omega arith, high,
-      (omega (arith, so.0), row_more is (item (not (is_empty is) && is_broken_at T p) (argument w)) (is_broken_at T p) so.1 good.0 refl))))
+      (λ w q onward high good. let lt : b < q = good.1 (word_begins T b (blanks_stop T p) e) in (
+        omega arith,
+        high,
+        (omega (arith, so.0), row_more is (item (not (is_empty is) && is_broken_at T p) (argument w)) (is_broken_at T p) so.1 good.0 refl),
+      )))
       (λ e. (so.0, within, so.1))
 
   -- all assignments

@@ -57,7 +57,7 @@ impl<'a, S: Source> Cursor<'a, S> {
     {
         let before = self.at;
         self.skip_blanks();
-        if !self.token().is_word() {
+        if !self.begins_word() {
             self.at = before;
             return Ok(false);
         }

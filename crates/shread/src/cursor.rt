@@ -2,6 +2,7 @@
 ghost use Rattle.std.specs.Prelude.{◌≡◌, ◌≢◌, ◌+◌, ◌-◌, ◌^◌, ◌<◌, ◌≤◌, drop, length, slice_get, true, false, IfSome};
 ghost use Rattle.shread.specs.Bytes.{is_blank, is_broken_at, raw_past, at_end, behind, byte_at, continues, past_blanks, past_continuations, raw_in, raw_stands, begins_assignment, ends_word, is_letter, is_number, is_reserved, is_word_at, past, stands, stands_in, token_at};
 ghost use Rattle.shread.specs.Classes.{in_class};
+ghost use Rattle.shread.specs.Commands.{is_word};
 
 use crate::source::Source;
 use crate::token::{Class, Token};
@@ -384,6 +385,20 @@ impl<'a, S: Source> Cursor<'a, S> {
                     Token::Word
                 }
             }
+        }
+    }
+
+    /// Whether a word begins here, where no blank stands: most often by a letter.
+    #[inline(always)]
+    #[tactic(auto, unfolding(crate::specs::Bytes::token_at, crate::specs::Bytes::is_number, crate::specs::Bytes::stands_in, crate::specs::Bytes::ends_word))]
+    pub(crate) fn begins_word(&self) -> bool
+        requires { stands_in is_blank (drop self.now.base (S.bytes self.now.source.now)) self.now.at ≡ false }
+        ensures value { result ≡ is_word (token_at (drop self.now.base (S.bytes self.now.source.now)) self.now.at) }
+        ensures word { result ≡ true → ends_word (drop self.now.base (S.bytes self.now.source.now)) self.now.at ≡ false }
+    {
+        match self.byte() {
+            Some(b'a'..=b'z' | b'A'..=b'Z') => true,
+            _ => self.token().is_word(),
         }
     }
 }

@@ -65,7 +65,7 @@ impl<'a, S: Source> Cursor<'a, S> {
         ensures value { result ≡ begins_command (drop self.now.base (S.bytes self.now.source.now)) self.now.at }
         ensures word { result ≡ true → ends_word (drop self.now.base (S.bytes self.now.source.now)) self.now.at ≡ false }
     {
-        self.token().is_word() && !self.is_reserved()
+        self.begins_word() && !self.is_reserved()
     }
 
     /// One more entry of a line. Answers whether another may follow; `blank` tells of the line's first entry.

@@ -10,10 +10,26 @@ use crate::source::Source;
 fn is_plain(byte: u8) -> bool
     ensures { result ≡ is_plain byte }
 {
-    !matches!(
-        byte,
-        b' ' | b'\t' | b'\n' | b'&' | b'|' | b';' | b'<' | b'>' | b'(' | b')' | b'\\' | b'\'' | b'"' | b'`' | b'$' | b'}'
-    )
+    // Most bytes are letters and digits: one test passes them.
+    byte.is_ascii_alphanumeric()
+        || !matches!(
+            byte,
+            b' ' | b'\t'
+                | b'\n'
+                | b'&'
+                | b'|'
+                | b';'
+                | b'<'
+                | b'>'
+                | b'('
+                | b')'
+                | b'\\'
+                | b'\''
+                | b'"'
+                | b'`'
+                | b'$'
+                | b'}'
+        )
 }
 
 /// How many bytes at the front are ordinary in every mode.

@@ -38,6 +38,7 @@ impl<'a, S: Source> Cursor<'a, S> {
     }
 
     /// Passes the comment that begins here, if one does.
+    #[inline]
     #[tactic(auto, unfolding(crate::specs::Commands::comment_at, crate::specs::Commands::past_comment))]
     pub(crate) fn comment(&mut self) -> Option<Comment>
         ensures value { result ≡ comment_at (drop self.old.base (S.bytes self.old.source.now)) self.old.origin self.old.at }
