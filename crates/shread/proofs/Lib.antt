@@ -18,3 +18,4 @@ pub mod Answered
 pub mod Skim
 pub mod Levels
 pub mod PlainBytes
+pub mod PlainTable

@@ -29,9 +29,10 @@ impl<'a, S: Source> Cursor<'a, S> {
             return Ok(false);
         }
         let broken = !items.is_empty() && self.is_broken_at(before);
-        let word = self.word(alloc)?;
+        let start = self.at;
+        self.pass_word()?;
         if self.keep {
-            items.push(assign_of(word, broken))?;
+            items.push(assign_of(self.word_from(alloc, start), broken))?;
         }
         Ok(true)
     }
@@ -62,9 +63,10 @@ impl<'a, S: Source> Cursor<'a, S> {
             return Ok(false);
         }
         let broken = !items.is_empty() && self.is_broken_at(before);
-        let word = self.word(alloc)?;
+        let start = self.at;
+        self.pass_word()?;
         if self.keep {
-            items.push(argument_of(word, broken))?;
+            items.push(argument_of(self.word_from(alloc, start), broken))?;
         }
         Ok(true)
     }

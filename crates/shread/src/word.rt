@@ -3,6 +3,7 @@ ghost use Rattle.std.specs.Prelude.{◌≡◌, ◌≢◌, ◌+◌, ◌<◌, ◌�
 ghost use Rattle.shread.specs.Bytes.{at_end, behind, ends_word, past_continuations};
 ghost use Rattle.shread.specs.Comes.{step_if};
 ghost use Rattle.shread.specs.Reading.{Gives, Onward, contents_at, level_at, piece_step, word_at};
+ghost use Rattle.shread.specs.Tree.{no_subst, word};
 ghost use Rattle.shread.specs.View.{view_word};
 ghost use Rattle.shread.specs.Words.{past_closer, past_parameter, rest_mode, span, unclosed};
 
@@ -217,13 +218,13 @@ impl<'a, S: Source> Cursor<'a, S> {
         Ok(nested)
     }
 
-    /// The word that begins here.
+    /// Passes the word that begins here. Most words are plain bytes alone.
     #[tactic(auto, unfolding(crate::specs::Reading::word_at), using(crate::proofs::PlainBytes::plain_word, crate::proofs::PlainBytes::some_plain))]
-    pub(crate) fn word(&mut self, alloc: Global) -> Result<Word, Stop>
+    pub(crate) fn pass_word(&mut self) -> Result<(), Stop>
         requires { ends_word (drop self.old.base (S.bytes self.old.source.now)) self.old.at ≡ false }
         ensures value { let text = (drop self.old.base (S.bytes self.old.source.now)) in
-            Gives (λ word. (view_word word, self.new.at)) result (word_at text self.old.origin self.old.at) }
-        ensures onward { IfOk result (λ word. self.old.at < self.new.at) }
+            Gives (λ done. (word (span self.old.origin self.old.at self.new.at) no_subst, self.new.at)) result (word_at text self.old.origin self.old.at) }
+        ensures onward { IfOk result (λ done. self.old.at < self.new.at) }
         ensures same { (self.new.source ≡ self.old.source) × (self.new.base ≡ self.old.base) × (self.new.origin ≡ self.old.origin) × (self.new.keep ≡ self.old.keep) }
     {
         let start = self.at;
@@ -232,6 +233,14 @@ impl<'a, S: Source> Cursor<'a, S> {
             self.at = start;
             let _ = self.contents(Mode::Plain, start, MOST_OPEN)?;
         }
-        Ok(word_of(self.span_from(start), Vec::new(alloc)))
+        Ok(())
+    }
+
+    /// The word from a place to this one.
+    pub(crate) fn word_from(&self, alloc: Global, start: usize) -> Word
+        requires { start ≤ self.now.at }
+        ensures { view_word result ≡ word (span self.now.origin start self.now.at) no_subst }
+    {
+        word_of(self.span_from(start), Vec::new(alloc))
     }
 }
