@@ -14,7 +14,7 @@ use std::io::{Read, Write};
 pub const LIMIT: usize = 16_777_216;
 
 /// The most bytes that are read at once.
-const PIECE: usize = 8192;
+const PIECE: usize = 65_536;
 
 /// The whole input. It reads to the end, but never past the first byte beyond the limit, and memory grows with what was read.
 fn read_whole<R: Read>(alloc: Global, input: &mut Input<R>) -> Result<Vec<u8>, Stop>

@@ -1,21 +1,26 @@
 -- The reading of a line goes the same way whatever was read before, and wherever its text begins: then its fault moves.
-use Rattle.std.proofs.Common.{◌≡◌, ℕ, ◌+◌, ◌≤◌, Bool, true, false, cond, ◌&&◌, List, List as Row, [], ◌∷◌, ◌++◌, length, Result, Ok, Err, refl, sym, ap, subst, ◌∙◌, arith}
+use Rattle.std.proofs.Common.{◌≡◌, ℕ, zero, suc, ◌+◌, ◌≤◌, ◌<◌, Bool, true, false, cond, ◌&&◌, List, List as Row, [], ◌∷◌, ◌++◌, length, Result, Ok, Err, refl, sym, ap, subst, ◌∙◌, arith}
 use Rattle.shread.specs.declared.fault.Fault.{Fault}
 use Rattle.shread.specs.declared.fault.FaultKind.{FaultKind}
 use Rattle.shread.specs.declared.fault.Stop.TheVariants.{Wrong}
+use Rattle.shread.specs.declared.mode.Mode.{Mode}
+use Rattle.shread.specs.declared.mode.Mode.TheVariants.{Plain, Double, Arith}
+use Rattle.shread.specs.declared.mode.Piece.{Piece}
+use Rattle.shread.specs.declared.mode.Piece.TheVariants as pieces
 use Rattle.shread.specs.declared.token.Token.{Token}
 use Rattle.shread.specs.declared.token.Token.TheVariants as tokens
-use Rattle.shread.specs.Tree.{ASubst, AnItem, AnEntry, AnAndOr}
-use Rattle.shread.specs.Bytes.{ends_word, past_blanks, token_at, begins_assignment}
-use Rattle.shread.specs.Words.{begins_piece, is_pid}
-use Rattle.shread.specs.Commands.{is_word, is_parted, separator_at, remark_place, comment_at, past_comment}
+use Rattle.shread.specs.Tree.{AnItem, AnEntry, AnAndOr}
+use Rattle.shread.specs.Bytes.{raw_stands, at_end, next_of, past_continuations, behind, past_blanks, token_at, begins_assignment}
+use Rattle.shread.specs.Words.{next_in_backquotes, past_parameter, rest_mode, piece_at}
+use Rattle.shread.specs.Commands.{is_empty, is_word, is_parted, separator_at, remark_place, comment_at, past_comment}
 use Rattle.shread.specs.Comes.{Read, Step, again, done, step_if}
-use Rattle.shread.specs.Lines.{is_empty, begins_command, with_remark}
-use Rattle.shread.specs.Reading.{◌>>=◌, turns, piece_step, word_at, assignment_step, argument_step, simple_at, pipeline_at, and_or_at, entry_at, entry_step, end_of_line_of, end_of_line_at, line_at, pushed, remarked}
+use Rattle.shread.specs.Lines.{begins_command, with_remark}
+use Rattle.shread.specs.Reading.{◌>>=◌, turns, Opened, single_at, backquote_step, backquoted_at, piece_of, piece_step, contents_at, level_at, word_at, assignment_step, argument_step, simple_at, pipeline_at, and_or_at, entry_at, entry_step, end_of_line_of, end_of_line_at, line_at, pushed, remarked}
 use Rattle.shread.proofs.Loops.{Keeps, turns_keep}
 use Rattle.shread.proofs.NormalForm.{no_items, no_entries}
-use Rattle.shread.proofs.Places.{blanks_high}
-use Rattle.shread.proofs.Progress.{PiecesSo, PiecesEnd, piece_keeps, ItemsSo, ItemsEnd, assignment_keeps, argument_keeps, assignments_within, EntriesSo, EntriesEnd, entry_keeps}
+use Rattle.shread.proofs.Places.{behind_high, parameter_high, blanks_high}
+use Rattle.shread.proofs.Pieces.{Shows, piece_shows, opener_second, opener_third}
+use Rattle.shread.proofs.Progress.{QuotedSo, QuotedEnd, backquote_keeps, Stays, level_within, PiecesSo, PiecesEnd, piece_keeps, ItemsSo, ItemsEnd, assignment_keeps, argument_keeps, assignments_within, EntriesSo, EntriesEnd, entry_keeps}
 use Rattle.shread.proofs.Turns.{turns_again, turns_done, turns_stop}
 
 -- a fault d bytes further on
@@ -106,24 +111,103 @@ module _ (k : Bool) (T : List ℕ) (o u d : ℕ) (far : o ≡ d + u) where
   fault_moved : (kind : FaultKind) (p : ℕ) → record { kind = kind; at = o + p } ≡ moved d (record { kind = kind; at = u + p })
   fault_moved kind p = let same : o + p ≡ d + (u + p) = omega (arith, far) in ap (λ n. record { kind = kind; at = n }) same
 
-  -- one piece
-  piece_alike : (ss us : Row ASubst) (p : ℕ) → Alike (SameStep Any) d (piece_step T o ss p) (piece_step T u us p)
-  unfolding piece_step
-  piece_alike ss us p =
-      alike_test (ends_word T p) (both_give (both_done tt))
-      (alike_test (begins_piece T p) (both_stop (fault_moved _ p))
-      (alike_test (is_pid T p) (both_give (both_again tt)) (both_give (both_again tt))))
+  -- ---- text that is not read
 
-  -- all pieces
-  pieces_alike : (p : ℕ) → p ≤ length T → Alike (SameEnd Any) d (turns (length T) (piece_step T o) [] p) (turns (length T) (piece_step T u) [] p)
-  pieces_alike p within =
-      turns_alike (length T) (piece_step T o) (piece_step T u) Any d (PiecesSo T o p) (PiecesEnd T o p) (piece_keeps T o p)
-      (λ ss us q high any. piece_alike ss us q) [] [] p within (omega arith, tt) tt
+  -- the same number
+  abbrev Same : ℕ → ℕ → Type 0
+  Same n m = n ≡ m
+
+  -- text in single quotes
+  single_alike : (b : ℕ) → Alike Same d (single_at T o b) (single_at T u b)
+  unfolding single_at
+  single_alike b = alike_test (at_end T (next_of 39 T (b + 1))) (both_stop (fault_moved _ b)) (both_give refl)
+
+  -- one turn of text in backquotes
+  backquote_alike : (b : ℕ) (x y : Unit {0}) (q : ℕ) → Alike (SameStep Any) d (backquote_step T o b x q) (backquote_step T u b y q)
+  unfolding backquote_step
+  backquote_alike b x y q =
+      alike_test (at_end T (next_in_backquotes T q)) (both_stop (fault_moved _ b))
+      (alike_test (raw_stands T (next_in_backquotes T q) 96) (both_give (both_done tt))
+      (alike_test (at_end T (next_in_backquotes T q + 1)) (both_stop (fault_moved _ b)) (both_give (both_again tt))))
+
+  -- all of it
+  backquoted_alike : (b : ℕ) → b < length T → Alike (SameEnd Any) d (backquoted_at T o b) (backquoted_at T u b)
+  unfolding backquoted_at
+  backquoted_alike b lt =
+      turns_alike (length T) (backquote_step T o b) (backquote_step T u b) Any d (QuotedSo T o b) (QuotedEnd T o b) (backquote_keeps T o b lt)
+      (λ x y q high any. backquote_alike b x y q) tt tt (b + 1) (omega arith) (omega arith) tt
+
+  -- ---- words
+
+  -- constructs that go the same way
+  abbrev AllAlike : Opened → Opened → Type 0
+  AllAlike c e = (mode : Mode) (b p : ℕ) → b ≤ length T → p ≤ length T → Alike (SameEnd Any) d (c mode b p) (e mode b p)
+
+  -- and then the same piece
+  again_same : (n q r : ℕ) → q ≡ r → Alike (SameStep Same) d (Ok (again n q)) (Ok (again n r))
+  again_same n q r same = subst (λ x. Alike (SameStep Same) d (Ok (again n q)) (Ok (again n x))) same (both_give (both_again refl))
+
+  -- whatever brackets were open
+  any_alike : {x y : Read ℕ} → Alike (SameEnd Same) d x y → Alike (SameEnd Any) d x y
+  any_alike (both_give (same_end same)) = both_give (same_end tt)
+  any_alike (both_stop moves) = both_stop moves
+
+  module _ (c e : Opened) (one : AllAlike c e) (stays : Stays T o c) (mode : Mode) (b : ℕ) (opened : b ≤ length T) where
+    -- by what it begins with
+    piece_alike_by : (n p : ℕ) (piece : Piece) → Shows T mode p piece
+        → Alike (SameStep Same) d (piece_of c T o mode b n p piece) (piece_of e T u mode b n p piece)
+    piece_alike_by n p pieces.Closer shows = both_give (both_done refl)
+    piece_alike_by n p pieces.Missing shows = both_stop (fault_moved _ b)
+    piece_alike_by n p pieces.LoneBackslash shows = both_stop (fault_moved _ (past_continuations T p))
+    piece_alike_by n p pieces.Escape shows = both_give (both_again refl)
+    piece_alike_by n p pieces.Single shows = alike_then (single_alike (past_continuations T p)) (λ q r f same. again_same n q r same)
+    piece_alike_by n p pieces.Double shows =
+        alike_then (one Double (past_continuations T p) (behind T p) (omega (arith, shows)) (behind_high T p shows))
+        (λ x y f same. alike_again same (λ any. refl))
+    piece_alike_by n p pieces.Backquote shows =
+        alike_then (backquoted_alike (past_continuations T p) shows) (λ x y f same. alike_again same (λ any. refl))
+    piece_alike_by n p pieces.Pid shows = both_give (both_again refl)
+    piece_alike_by n p pieces.Subst shows = both_stop (fault_moved _ (past_continuations T p))
+    piece_alike_by n p pieces.Arith shows =
+        alike_then (one Arith (past_continuations T p) (behind T (behind T (behind T p))) (opener_third T p shows) shows)
+        (λ x y f same. alike_again same (λ any. refl))
+    piece_alike_by n p pieces.Param shows =
+        alike_then
+        (one (rest_mode T mode (past_parameter T (behind T (behind T p)))) (past_continuations T p) (past_parameter T (behind T (behind T p)))
+        (opener_second T p shows) (parameter_high T (behind T (behind T p)) shows)) (λ x y f same. alike_again same (λ any. refl))
+    piece_alike_by n p pieces.Open shows = both_give (both_again refl)
+    piece_alike_by n p pieces.Close shows = both_give (both_again refl)
+    piece_alike_by n p pieces.BadClose shows = both_stop (fault_moved _ (past_continuations T p))
+    piece_alike_by n p pieces.Ordinary shows = both_give (both_again refl)
+
+    -- one piece
+    piece_alike : (n m p : ℕ) → p ≤ length T → Same n m
+        → Alike (SameStep Same) d (piece_step c T o mode b n p) (piece_step e T u mode b m p)
+    unfolding piece_step
+    piece_alike n m p within same =
+        subst (λ x. Alike (SameStep Same) d (piece_of c T o mode b n p (piece_at T mode n p)) (piece_of e T u mode b x p (piece_at T mode x p))) same
+        (piece_alike_by n p (piece_at T mode n p) (piece_shows T mode n p within))
+
+    -- all pieces
+    contents_alike : (p : ℕ) → p ≤ length T → Alike (SameEnd Same) d (contents_at c T o mode b p) (contents_at e T u mode b p)
+    unfolding contents_at
+    contents_alike p within =
+        turns_alike (length T) (piece_step c T o mode b) (piece_step e T u mode b) Same d (PiecesSo T o p) (PiecesEnd T o mode p)
+        (piece_keeps T o c stays mode b opened p) (λ n m q high same. piece_alike n m q high same) 0 0 p within (omega arith) refl
+
+  -- constructs within constructs
+  level_alike : (room : ℕ) → AllAlike (level_at T o room) (level_at T u room)
+  unfolding level_at
+  level_alike zero mode b p opened within = both_stop (fault_moved _ b)
+  level_alike (suc room) mode b p opened within =
+      any_alike (contents_alike (level_at T o room) (level_at T u room) (level_alike room) (level_within T o room) mode b opened p within)
 
   -- a word
   word_alike : (p : ℕ) → p ≤ length T → Alike (SameEnd Any) d (word_at T o p) (word_at T u p)
   unfolding word_at
-  word_alike p within = alike_then (pieces_alike p within) (λ x y e same. alike_end same (λ any. tt))
+  word_alike p within =
+      alike_then (contents_alike (level_at T o 100) (level_at T u 100) (level_alike 100) (level_within T o 100) Plain p within p within)
+      (λ x y e same. alike_end same (λ any. tt))
 
   -- one assignment
   assignment_alike : (is js : Row AnItem) (p : ℕ) → p ≤ length T → Alike (SameStep Any) d (assignment_step true T o is p) (assignment_step k T u js p)
@@ -213,7 +297,7 @@ module _ (k : Bool) (T : List ℕ) (o u d : ℕ) (far : o ≡ d + u) where
       (λ es fs q high any. next_alike blank white es fs q high) [] [] p within (omega arith, no_entries blank) tt
 
   -- the token behind them
-  end_of_line_alike : (es fs : Row AnEntry) (p : ℕ) (t : Token) → Alike (SameEnd SameFlag) d (end_of_line_of o es p t) (end_of_line_of u fs p t)
+  end_of_line_alike : (es fs : Row AnEntry) (p : ℕ) (t : Token) → Alike (SameEnd SameFlag) d (end_of_line_of T o es p t) (end_of_line_of T u fs p t)
   end_of_line_alike es fs p tokens.Newline = both_give (same_end refl)
   end_of_line_alike es fs p tokens.End = both_give (same_end refl)
   end_of_line_alike es fs p _ = both_stop (fault_moved _ p)

@@ -5,6 +5,7 @@ pub mod Stretches
 pub mod Is
 pub mod Loops
 pub mod Places
+pub mod Pieces
 pub mod NormalForm
 pub mod Progress
 pub mod Rows
@@ -15,3 +16,6 @@ pub mod Alike
 pub mod Verdict
 pub mod Answered
 pub mod Skim
+pub mod Levels
+pub mod PlainBytes
+pub mod PlainTable

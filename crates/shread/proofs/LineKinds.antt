@@ -2,7 +2,7 @@
 use Rattle.std.proofs.Common.{◌≡◌, ℕ, ◌<◌, Bool, true, false, List, [], ◌∷◌, length, map, drop, cond, refl, arith}
 use Rattle.std.proofs.Math.Seq.{drop-length}
 use Rattle.shread.specs.Tree.{AnEntry, entries_of}
-use Rattle.shread.specs.Bytes.{stands, token_at, past, count_front}
+use Rattle.shread.specs.Bytes.{stands, token_at, past, past_below, past_blanks, past_continuations, count_joined, count_front}
 use Rattle.shread.specs.Commands.{comment_at, past_comment}
 use Rattle.shread.specs.Lines.{blank_line, end_line, entries_line, kind_of, begins_command}
 use Rattle.shread.specs.Reading.{line_of_text, line_at, turns, turns_below, entry_step, end_of_line_at}
@@ -17,7 +17,7 @@ kind_of_some view [] newline lt = absurd (omega arith)
 kind_of_some view (x ∷ xs) newline lt = refl
 
 nothing : line_of_text [] ≡ record { kind = end_line; next = 0; ended = false }
-unfolding line_of_text line_at turns turns_below entry_step end_of_line_at begins_command token_at comment_at past_comment stands past count_front
+unfolding line_of_text line_at turns turns_below entry_step end_of_line_at begins_command token_at comment_at past_comment stands past count_front past_blanks past_continuations count_joined past_below
 nothing = refl
 
 -- at the length nothing is left to read

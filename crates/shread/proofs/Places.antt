@@ -1,16 +1,68 @@
--- Where something stands there is a byte, and how far the stretches of a text reach.
-use Rattle.std.proofs.Common.{◌≡◌, ℕ, zero, suc, ◌+◌, ◌≤◌, ◌<◌, ◌==◌, Bool, true, false, not, List, [], ◌∷◌, length, drop, Option, Some, None, slice_get, refl, sym, ap, ◌∙◌, arith, ⊎_elim}
+-- Where something is read there is a byte, and how far the stretches of a text reach.
+use Rattle.std.proofs.Common.{◌≡◌, ℕ, zero, suc, ◌+◌, ◌-◌, ◌≤◌, ◌<◌, ◌==◌, Bool, true, false, not, ◌&&◌, ◌||◌, List, [], ◌∷◌, length, drop, Option, Some, None, slice_get, refl, sym, ap, ◌∙◌, arith, ⊎_elim}
 use Rattle.std.proofs.lemmas.Bool.{and_parts, or_from, cond_both, both_ways, cases_lt}
 use Rattle.std.proofs.lemmas.Bool.Decides.{nat_tests}
-use Rattle.std.proofs.lemmas.List.{length-drop}
+use Rattle.std.proofs.lemmas.List.{length-drop, drop-drop}
 use Rattle.std.proofs.lemmas.Option.{slice_get_within}
 use Rattle.shread.specs.Text.{is_newline}
 use Rattle.shread.specs.declared.token.Token.{Token}
 use Rattle.shread.specs.declared.token.Token.TheVariants as tokens
-use Rattle.shread.specs.Bytes.{is_blank, is_operator, is_letter, is_byte, stands, ends, ends_word, passes, stands_in, count_front, past, past_blanks, next_newline, before_blanks, begins_assignment, is_number, token_of, token_at}
-use Rattle.shread.specs.Words.{is_pid}
+use Rattle.shread.specs.Bytes.{is_blank, is_digit, is_name, is_operator, is_letter, is_byte, is_none, raw_stands, raw_in, at_end, raw_past, next_of, stands, ends, ends_word, passes, stands_in, count_front, past, past_below, past_blanks, count_joined, past_continuations, byte_at, behind, next_newline, before_blanks, begins_assignment, is_number, token_of, token_at}
+use Rattle.shread.specs.Words.{next_in_backquotes, is_special, past_parameter}
 use Rattle.shread.specs.Commands.{is_word, past_comment, is_parted, separator_by, separator_at, past_separator}
-use Rattle.shread.proofs.Stretches.{get_drop}
+use Rattle.shread.proofs.Stretches.{get_drop, place_low, stands_in_low}
+
+-- a test that cannot hold fails
+must_fail : (b : Bool) → (b ≡ true → ⊥) → b ≡ false
+must_fail true never = absurd (never refl)
+must_fail false never = refl
+
+-- ---- continuations
+
+-- no more bytes are continuations than there are
+joined_short : (xs : List ℕ) → count_joined xs ≤ length xs
+unfolding count_joined
+joined_short [] = omega arith
+joined_short (b ∷ []) = omega arith
+joined_short (b ∷ c ∷ bs) =
+    cond_both (b == 92 && c == 10) _ _ (λ n. n ≤ length (b ∷ c ∷ bs)) (λ e. omega (arith, joined_short bs)) (λ e. omega arith)
+
+-- and no more follow them
+joined_rest : (xs : List ℕ) → count_joined (drop (count_joined xs) xs) ≡ 0
+unfolding count_joined
+joined_rest [] = refl
+joined_rest (b ∷ []) = refl
+joined_rest (b ∷ c ∷ bs) =
+    let next : 2 + count_joined bs ≡ suc (suc (count_joined bs)) = omega arith in
+    cond_both (b == 92 && c == 10) _ _ (λ n. count_joined (drop n (b ∷ c ∷ bs)) ≡ 0) (λ e. rw next (joined_rest bs)) (λ e. rw e refl)
+
+-- past continuations is not past the end of the text
+pub place_high : (T : List ℕ) (p : ℕ) → p ≤ length T → past_continuations T p ≤ length T
+unfolding past_continuations
+place_high T p within = omega (arith, joined_short (drop p T), length-drop p T)
+
+-- and no continuation is there
+pub place_same : (T : List ℕ) (p : ℕ) → past_continuations T (past_continuations T p) ≡ past_continuations T p
+unfolding past_continuations
+place_same T p =
+    let none : count_joined (drop (p + count_joined (drop p T)) T) ≡ 0 =
+    ap count_joined (sym (drop-drop (count_joined (drop p T)) p T)) ∙ joined_rest (drop p T) in
+    omega (arith, none)
+
+-- what is read past continuations is what is read before them
+pub stands_past : (T : List ℕ) (p c : ℕ) → stands T (past_continuations T p) c ≡ stands T p c
+unfolding stands
+stands_past T p c = ap (λ q. is_byte (slice_get T q) c) (place_same T p)
+
+-- the same of a byte of a class
+pub stands_in_past : (test : ℕ → Bool) (T : List ℕ) (p : ℕ) → stands_in test T (past_continuations T p) ≡ stands_in test T p
+unfolding stands_in
+stands_in_past test T p = ap (λ q. passes test (slice_get T q)) (place_same T p)
+
+-- what is read is the byte past continuations
+pub stands_raw : (T : List ℕ) (p c : ℕ) → stands T p c ≡ raw_stands T (past_continuations T p) c
+unfolding stands raw_stands
+stands_raw T p c = refl
 
 -- ---- one byte
 
@@ -19,32 +71,57 @@ byte_low : (T : List ℕ) (p c : ℕ) (b : Option ℕ) → slice_get T p ≡ b �
 byte_low T p c None is e = absurd cc
 byte_low T p c (Some b) is e = slice_get_within T p b is
 
--- where a byte stands there is one
-pub stands_low : (T : List ℕ) (p c : ℕ) → stands T p c ≡ true → p < length T
+-- where a byte is there is one
+pub raw_stands_low : (T : List ℕ) (p c : ℕ) → raw_stands T p c ≡ true → p < length T
+unfolding raw_stands
+raw_stands_low T p c e = byte_low T p c (slice_get T p) refl e
+
+-- where a byte is read there is one
+pub stands_low : (T : List ℕ) (p c : ℕ) → stands T p c ≡ true → past_continuations T p < length T
 unfolding stands
-stands_low T p c e = byte_low T p c (slice_get T p) refl e
+stands_low T p c e = byte_low T (past_continuations T p) c (byte_at T p) refl e
 
--- a byte that passes a test is one
-passes_low : (test : ℕ → Bool) (T : List ℕ) (p : ℕ) (b : Option ℕ) → slice_get T p ≡ b → passes test b ≡ true → p < length T
-passes_low test T p None is e = absurd cc
-passes_low test T p (Some b) is e = slice_get_within T p b is
+-- what is not the end is a byte
+some_low : (T : List ℕ) (p : ℕ) (b : Option ℕ) → slice_get T p ≡ b → is_none b ≡ false → p < length T
+some_low T p None is e = absurd cc
+some_low T p (Some b) is e = slice_get_within T p b is
 
--- where a byte of a class stands there is one
-pub stands_in_low : (test : ℕ → Bool) (T : List ℕ) (p : ℕ) → stands_in test T p ≡ true → p < length T
-unfolding stands_in
-stands_in_low test T p e = passes_low test T p (slice_get T p) refl e
+-- where the text does not end there is a byte
+pub not_end_low : (T : List ℕ) (p : ℕ) → at_end T p ≡ false → p < length T
+unfolding at_end
+not_end_low T p e = some_low T p (slice_get T p) refl e
 
 -- a byte that ends no word is one
 not_ends_low : (T : List ℕ) (p : ℕ) (b : Option ℕ) → slice_get T p ≡ b → ends b ≡ false → p < length T
 not_ends_low T p None is e = absurd cc
 not_ends_low T p (Some b) is e = slice_get_within T p b is
 
--- where no word ends there is a byte
-pub word_low : (T : List ℕ) (p : ℕ) → ends_word T p ≡ false → p < length T
+-- where no word ends a byte is read
+pub word_low : (T : List ℕ) (p : ℕ) → ends_word T p ≡ false → past_continuations T p < length T
 unfolding ends_word
-word_low T p e = not_ends_low T p (slice_get T p) refl e
+word_low T p e = not_ends_low T (past_continuations T p) (byte_at T p) refl e
 
--- ---- stretches
+-- behind a byte is to the right of it
+pub behind_low : (T : List ℕ) (p : ℕ) → p < behind T p
+unfolding behind
+behind_low T p = omega (arith, place_low T p)
+
+-- past continuations is before the place behind the byte
+pub behind_place : (T : List ℕ) (p : ℕ) → past_continuations T p < behind T p
+unfolding behind
+behind_place T p = omega arith
+
+-- where a byte is read, the place behind it is within the text
+pub behind_high : (T : List ℕ) (p : ℕ) → past_continuations T p < length T → behind T p ≤ length T
+unfolding behind
+behind_high T p lt = omega arith
+
+-- the byte that was read is the last one
+pub behind_back : (T : List ℕ) (p : ℕ) → behind T p - 1 ≡ past_continuations T p
+unfolding behind
+behind_back T p = omega arith
+
+-- ---- stretches of the text as it stands
 
 -- no more bytes pass than there are
 count_short : (test : ℕ → Bool) (xs : List ℕ) → count_front test xs ≤ length xs
@@ -61,42 +138,129 @@ count_stops test (b ∷ bs) =
     cond_both (test b) _ _ (λ n. passes test (slice_get (b ∷ bs) n) ≡ false) (λ e. rw next (count_stops test bs)) (λ e. e)
 
 -- a stretch does not end before it begins
-pub past_low : (test : ℕ → Bool) (T : List ℕ) (p : ℕ) → p ≤ past test T p
-unfolding past
-past_low test T p = omega arith
+pub raw_past_low : (test : ℕ → Bool) (T : List ℕ) (p : ℕ) → p ≤ raw_past test T p
+unfolding raw_past
+raw_past_low test T p = omega arith
 
 -- nor past the end of the text
-pub past_high : (test : ℕ → Bool) (T : List ℕ) (p : ℕ) → p ≤ length T → past test T p ≤ length T
-unfolding past
-past_high test T p within = omega (arith, count_short test (drop p T), length-drop p T)
+pub raw_past_high : (test : ℕ → Bool) (T : List ℕ) (p : ℕ) → p ≤ length T → raw_past test T p ≤ length T
+unfolding raw_past
+raw_past_high test T p within = omega (arith, count_short test (drop p T), length-drop p T)
 
--- behind a stretch stands no byte of its kind
-pub past_stops : (test : ℕ → Bool) (T : List ℕ) (p : ℕ) → stands_in test T (past test T p) ≡ false
-unfolding past stands_in
-past_stops test T p = ap (passes test) (sym (get_drop p T (count_front test (drop p T)))) ∙ count_stops test (drop p T)
+-- behind a stretch there is no byte of its kind
+pub raw_past_stops : (test : ℕ → Bool) (T : List ℕ) (p : ℕ) → raw_in test T (raw_past test T p) ≡ false
+unfolding raw_past raw_in
+raw_past_stops test T p = ap (passes test) (sym (get_drop p T (count_front test (drop p T)))) ∙ count_stops test (drop p T)
 
--- where a token begins
-pub blanks_low : (T : List ℕ) (p : ℕ) → p ≤ past_blanks T p
-blanks_low T p = past_low is_blank T p
+-- the next place of a byte
+pub next_of_low : (c : ℕ) (T : List ℕ) (p : ℕ) → p ≤ next_of c T p
+next_of_low c T p = raw_past_low (λ b. not (b == c)) T p
 
 -- it is not past the end of the text
-pub blanks_high : (T : List ℕ) (p : ℕ) → p ≤ length T → past_blanks T p ≤ length T
-blanks_high T p within = past_high is_blank T p within
+pub next_of_high : (c : ℕ) (T : List ℕ) (p : ℕ) → p ≤ length T → next_of c T p ≤ length T
+next_of_high c T p within = raw_past_high (λ b. not (b == c)) T p within
 
 -- the end of a line
 pub next_newline_low : (T : List ℕ) (p : ℕ) → p ≤ next_newline T p
-next_newline_low T p = past_low (λ b. not (is_newline b)) T p
+next_newline_low T p = next_of_low 10 T p
 
 -- it is not past the end of the text
 pub next_newline_high : (T : List ℕ) (p : ℕ) → p ≤ length T → next_newline T p ≤ length T
-next_newline_high T p within = past_high (λ b. not (is_newline b)) T p within
+next_newline_high T p within = next_of_high 10 T p within
+
+-- the next backquote or backslash
+pub next_in_backquotes_low : (T : List ℕ) (p : ℕ) → p ≤ next_in_backquotes T p
+next_in_backquotes_low T p = raw_past_low (λ c. not (c == 96 || c == 92)) T p
 
 -- without the blanks before it a stretch is not longer
 pub before_blanks_high : (T : List ℕ) (q : ℕ) → before_blanks T q ≤ q
 unfolding before_blanks
 before_blanks_high T zero = omega arith
 before_blanks_high T (suc q) =
-    cond_both (stands_in is_blank T q) _ _ (λ n. n ≤ suc q) (λ e. omega (arith, before_blanks_high T q)) (λ e. omega arith)
+    cond_both (raw_in is_blank T q) _ _ (λ n. n ≤ suc q) (λ e. omega (arith, before_blanks_high T q)) (λ e. omega arith)
+
+-- ---- stretches of what is read
+
+-- by how many bytes may be read
+below_low : (n : ℕ) (test : ℕ → Bool) (T : List ℕ) (p : ℕ) → p ≤ past_below n test T p
+unfolding past_below
+below_low zero test T p = omega arith
+below_low (suc n) test T p =
+    cond_both (stands_in test T p) _ _ (λ q. p ≤ q) (λ e. omega (arith, below_low n test T (behind T p), behind_low T p)) (λ e. omega arith)
+
+-- a stretch does not end before it begins
+pub past_low : (test : ℕ → Bool) (T : List ℕ) (p : ℕ) → p ≤ past test T p
+unfolding past
+past_low test T p = below_low (length T - p) test T p
+
+-- by how many bytes may be read
+below_high : (n : ℕ) (test : ℕ → Bool) (T : List ℕ) (p : ℕ) → p ≤ length T → past_below n test T p ≤ length T
+unfolding past_below
+below_high zero test T p within = within
+below_high (suc n) test T p within =
+    cond_both (stands_in test T p) _ _ (λ q. q ≤ length T)
+    (λ e. below_high n test T (behind T p) (behind_high T p (stands_in_low test T p e))) (λ e. within)
+
+-- nor past the end of the text
+pub past_high : (test : ℕ → Bool) (T : List ℕ) (p : ℕ) → p ≤ length T → past test T p ≤ length T
+unfolding past
+past_high test T p within = below_high (length T - p) test T p within
+
+-- by how many bytes may be read
+below_stops : (n : ℕ) (test : ℕ → Bool) (T : List ℕ) (p : ℕ) → length T - p ≤ n → stands_in test T (past_below n test T p) ≡ false
+unfolding past_below
+below_stops zero test T p low =
+    must_fail (stands_in test T p) (λ e. let lt = stands_in_low test T p e in let at = place_low T p in absurd (omega arith))
+below_stops (suc n) test T p low =
+    cond_both (stands_in test T p) _ _ (λ q. stands_in test T q ≡ false)
+    (λ e. below_stops n test T (behind T p) (omega (arith, behind_low T p))) (λ e. e)
+
+-- behind a stretch no byte of its kind is read
+pub past_stops : (test : ℕ → Bool) (T : List ℕ) (p : ℕ) → stands_in test T (past test T p) ≡ false
+unfolding past
+past_stops test T p = below_stops (length T - p) test T p (omega arith)
+
+-- where a token begins
+pub blanks_low : (T : List ℕ) (p : ℕ) → p ≤ past_blanks T p
+unfolding past_blanks
+blanks_low T p = omega (arith, past_low is_blank T p, place_low T (past is_blank T p))
+
+-- it is not past the end of the text
+pub blanks_high : (T : List ℕ) (p : ℕ) → p ≤ length T → past_blanks T p ≤ length T
+unfolding past_blanks
+blanks_high T p within = place_high T (past is_blank T p) (past_high is_blank T p within)
+
+-- no continuation is there
+pub blanks_same : (T : List ℕ) (p : ℕ) → past_continuations T (past_blanks T p) ≡ past_blanks T p
+unfolding past_blanks
+blanks_same T p = place_same T (past is_blank T p)
+
+-- nor a blank
+pub blanks_stop : (T : List ℕ) (p : ℕ) → stands_in is_blank T (past_blanks T p) ≡ false
+unfolding past_blanks
+blanks_stop T p = stands_in_past is_blank T (past is_blank T p) ∙ past_stops is_blank T p
+
+-- so what is read there is the byte there
+pub blanks_raw : (T : List ℕ) (p c : ℕ) → stands T (past_blanks T p) c ≡ raw_stands T (past_blanks T p) c
+blanks_raw T p c = stands_raw T (past_blanks T p) c ∙ ap (λ q. raw_stands T q c) (blanks_same T p)
+
+-- behind a parameter
+pub parameter_low : (T : List ℕ) (p : ℕ) → p ≤ past_parameter T p
+unfolding past_parameter
+parameter_low T p =
+    let P : ℕ → Type 0 = λ q. p ≤ q in
+    cond_both (stands_in is_letter T p) _ _ P (λ e. past_low is_name T p)
+    (λ e. cond_both (stands_in is_digit T p) _ _ P (λ f. past_low is_digit T p)
+    (λ f. cond_both (stands_in is_special T p) _ _ P (λ g. omega (arith, behind_low T p)) (λ g. omega arith)))
+
+-- it is not past the end of the text
+pub parameter_high : (T : List ℕ) (p : ℕ) → p ≤ length T → past_parameter T p ≤ length T
+unfolding past_parameter
+parameter_high T p within =
+    let P : ℕ → Type 0 = λ q. q ≤ length T in
+    cond_both (stands_in is_letter T p) _ _ P (λ e. past_high is_name T p within)
+    (λ e. cond_both (stands_in is_digit T p) _ _ P (λ f. past_high is_digit T p within)
+    (λ f. cond_both (stands_in is_special T p) _ _ P (λ g. behind_high T p (stands_in_low is_special T p g)) (λ g. within)))
 
 -- a comment
 pub comment_low : (T : List ℕ) (p : ℕ) → p ≤ past_comment T p
@@ -111,22 +275,22 @@ comment_high T p within = cond_both (stands T p 35) _ _ (λ n. n ≤ length T) (
 -- ---- tokens
 
 -- by the byte at p
-token_low_by : (T : List ℕ) (p : ℕ) (b : Option ℕ) → slice_get T p ≡ b → (token_of T p b ≡ tokens.End → ⊥) → p < length T
-token_low_by T p None is other = absurd (other refl)
-token_low_by T p (Some b) is other = slice_get_within T p b is
+token_low_by : (T : List ℕ) (p q : ℕ) (b : Option ℕ) → slice_get T q ≡ b → (token_of T p b ≡ tokens.End → ⊥) → q < length T
+token_low_by T p q None is other = absurd (other refl)
+token_low_by T p q (Some b) is other = slice_get_within T q b is
 
--- where a token other than the end begins there is a byte
-pub token_low : (T : List ℕ) (p : ℕ) → (token_at T p ≡ tokens.End → ⊥) → p < length T
+-- where a token other than the end begins a byte is read
+pub token_low : (T : List ℕ) (p : ℕ) → (token_at T p ≡ tokens.End → ⊥) → past_continuations T p < length T
 unfolding token_at
-token_low T p other = token_low_by T p (slice_get T p) refl other
+token_low T p other = token_low_by T p (past_continuations T p) (byte_at T p) refl other
 
 -- the tokens that a byte may begin, and what it is not where it begins a number or a word
 token_by : (P : Token → Type 0) (T : List ℕ) (p b : ℕ) → (is_newline b ≡ true → P tokens.Newline) → P tokens.Semicolon → P tokens.Ampersand
     → P tokens.Operator → P tokens.Comment → (is_newline b ≡ false → is_operator b ≡ false → P tokens.Number × P tokens.Word)
     → P (token_of T p (Some b))
 token_by P T p b newline semicolon ampersand operator comment other = cond_both (is_newline b) _ _ P newline
-    (λ n. cond_both (b == 59) _ _ P (λ e. cond_both (stands T (p + 1) 59) _ _ P (λ f. operator) (λ f. semicolon))
-    (λ e. cond_both (b == 38) _ _ P (λ f. cond_both (stands T (p + 1) 38) _ _ P (λ g. operator) (λ g. ampersand))
+    (λ n. cond_both (b == 59) _ _ P (λ e. cond_both (stands T (behind T p) 59) _ _ P (λ f. operator) (λ f. semicolon))
+    (λ e. cond_both (b == 38) _ _ P (λ f. cond_both (stands T (behind T p) 38) _ _ P (λ g. operator) (λ g. ampersand))
     (λ f. cond_both (is_operator b) _ _ P (λ g. operator)
     (λ o. cond_both (b == 35) _ _ P (λ g. comment)
     (λ g. cond_both (is_number T p) _ _ P (λ h. (other n o).0) (λ h. (other n o).1))))))
@@ -138,10 +302,14 @@ newline_by T p (Some b) e =
     token_by (λ t. t ≡ tokens.Newline → is_newline b ≡ true) T p b (λ is f. is) (λ f. absurd cc) (λ f. absurd cc) (λ f. absurd cc) (λ f. absurd cc)
     (λ n o. (λ f. absurd cc, λ f. absurd cc)) e
 
--- a newline token is a newline
-pub newline_stands : (T : List ℕ) (p : ℕ) → token_at T p ≡ tokens.Newline → stands T p 10 ≡ true
+-- a newline token is a newline that is read
+pub newline_read : (T : List ℕ) (p : ℕ) → token_at T p ≡ tokens.Newline → stands T p 10 ≡ true
 unfolding token_at stands
-newline_stands T p e = newline_by T p (slice_get T p) e
+newline_read T p e = newline_by T p (byte_at T p) e
+
+-- its last byte is a newline
+pub newline_stands : (T : List ℕ) (p : ℕ) → token_at T p ≡ tokens.Newline → raw_stands T (behind T p - 1) 10 ≡ true
+newline_stands T p e = ap (λ q. raw_stands T q 10) (behind_back T p) ∙ sym (stands_raw T p 10) ∙ newline_read T p e
 
 -- by the byte at p
 word_by : (T : List ℕ) (p : ℕ) (b : Option ℕ) → passes is_blank b ≡ false → is_word (token_of T p b) ≡ true → ends b ≡ false
@@ -153,7 +321,7 @@ word_by T p (Some b) blank e =
 -- where a word begins none ends
 pub word_begins : (T : List ℕ) (p : ℕ) → stands_in is_blank T p ≡ false → is_word (token_at T p) ≡ true → ends_word T p ≡ false
 unfolding token_at stands_in ends_word
-word_begins T p blank e = word_by T p (slice_get T p) blank e
+word_begins T p blank e = word_by T p (byte_at T p) blank e
 
 -- a letter ends no word
 letter_goes_on : (b : ℕ) → is_letter b ≡ true → ends (Some b) ≡ false
@@ -166,17 +334,12 @@ letter_by (Some b) e = letter_goes_on b e
 -- where an assignment begins no word ends
 pub assignment_begins : (T : List ℕ) (p : ℕ) → begins_assignment T p ≡ true → ends_word T p ≡ false
 unfolding begins_assignment stands_in ends_word
-assignment_begins T p e = letter_by (slice_get T p) (and_parts _ _ e).0
+assignment_begins T p e = letter_by (byte_at T p) (and_parts _ _ e).0
 
 -- two words do not end where only one does
 pub word_longer : (T : List ℕ) (p q : ℕ) → p ≤ q → ends_word T p ≡ false → ends_word T q ≡ true → p < q
 word_longer T p q low here there =
     ⊎_elim (λ lt. lt) (λ ge. let same : q ≡ p = omega (arith, ge) in absurd (both_ways (ends_word T p) here (rw same at there))) (cases_lt p q)
-
--- `$$` is two bytes
-pub pid_low : (T : List ℕ) (p : ℕ) → is_pid T p ≡ true → p + 1 < length T
-unfolding is_pid
-pid_low T p e = stands_low T (p + 1) 36 (and_parts _ _ e).1
 
 -- ---- separators
 
@@ -187,22 +350,25 @@ parted_by tokens.Ampersand parted e = cc
 parted_by _ parted e = cc
 
 -- a separator is a byte
-pub separator_byte : (T : List ℕ) (p : ℕ) → is_parted (separator_at T p) ≡ true → past_blanks T p < length T
+pub separator_byte : (T : List ℕ) (p : ℕ) → is_parted (separator_at T p) ≡ true → past_continuations T (past_blanks T p) < length T
 unfolding separator_at
 separator_byte T p parted = token_low T (past_blanks T p) (parted_by (token_at T (past_blanks T p)) parted)
 
 -- behind a separator, where one stands
 pub separator_low : (T : List ℕ) (p : ℕ) → p ≤ past_separator T p
 unfolding past_separator
-separator_low T p = cond_both (is_parted (separator_at T p)) _ _ (λ n. p ≤ n) (λ parted. omega (arith, blanks_low T p)) (λ none. omega arith)
+separator_low T p =
+    cond_both (is_parted (separator_at T p)) _ _ (λ n. p ≤ n)
+    (λ parted. omega (arith, blanks_low T p, behind_low T (past_blanks T p))) (λ none. omega arith)
 
 -- it is not past the end of the text
 pub separator_high : (T : List ℕ) (p : ℕ) → p ≤ length T → past_separator T p ≤ length T
 unfolding past_separator
 separator_high T p within =
-    cond_both (is_parted (separator_at T p)) _ _ (λ n. n ≤ length T) (λ parted. omega (arith, separator_byte T p parted)) (λ none. within)
+    cond_both (is_parted (separator_at T p)) _ _ (λ n. n ≤ length T)
+    (λ parted. behind_high T (past_blanks T p) (separator_byte T p parted)) (λ none. within)
 
 -- a separator leads on
 pub separator_onward : (T : List ℕ) (p : ℕ) → is_parted (separator_at T p) ≡ true → p < past_separator T p
 unfolding past_separator
-separator_onward T p parted = rw parted (omega (arith, blanks_low T p))
+separator_onward T p parted = rw parted (omega (arith, blanks_low T p, behind_low T (past_blanks T p)))

@@ -2,9 +2,10 @@
 use Rattle.std.proofs.Common.{◌≡◌, ℕ, ◌+◌, ◌-◌, ◌≤◌, ◌<◌, Bool, true, false, not, ◌&&◌, List, List as Row, [], ◌++◌, length, drop, None, Ok, Err, refl, sym, ap, subst, ◌∙◌, arith}
 use Rattle.std.proofs.lemmas.List.{length-drop}
 use Rattle.shread.specs.Tree.{AnEntry}
-use Rattle.shread.specs.Bytes.{stands}
+use Rattle.shread.specs.Bytes.{raw_stands}
 use Rattle.shread.specs.Comes.{Read}
-use Rattle.shread.specs.Lines.{is_empty, a_line, ALine, IsLine, line_read, line_stops, AScript, Lines, line_ended, last_line, faulty, Outcome}
+use Rattle.shread.specs.Commands.{is_empty}
+use Rattle.shread.specs.Lines.{a_line, ALine, IsLine, line_read, line_stops, AScript, Lines, line_ended, last_line, faulty, Outcome}
 use Rattle.shread.specs.Reading.{turns, line_at, SoFar, script_next, script_step, nothing_yet, script_of, script_at, line_read_of, line_of_text}
 use Rattle.shread.proofs.Is.{Is}
 use Rattle.shread.proofs.Loops.{Keeps, turns_keep}
@@ -22,7 +23,7 @@ line_facts T o blank p x within part =
 
 -- a line that a newline token ends has a newline as its last byte
 pub newline_last : (T : List ℕ) (o : ℕ) (blank : Bool) (p : ℕ) (es : Row AnEntry) (q : ℕ) → p ≤ length T → a_line T o blank p (Ok ((es, true), q))
-    → stands T (q - 1) 10 ≡ true
+    → raw_stands T (q - 1) 10 ≡ true
 newline_last T o blank p es q within part = ((line_facts T o blank p _ within part).2.1 refl).1
 
 -- by its outcome

@@ -1,7 +1,9 @@
--- Stretches of bytes of one kind, words spelled out, and texts from a place on.
-use Rattle.std.proofs.Common.{◌≡◌, ℕ, zero, suc, ◌+◌, ◌-◌, ◌<◌, ◌≤◌, Bool, true, false, cond, slice_get, get_or, List, [], ◌∷◌, length, drop, refl, ◌∙◌, arith, zero-add, add-one, drop-cons}
+-- Continuations, stretches of bytes of one kind, words spelled out, and texts from a place on.
+use Rattle.std.proofs.Common.{◌≡◌, ℕ, zero, suc, ◌+◌, ◌-◌, ◌<◌, ◌≤◌, ◌==◌, Bool, true, false, not, ◌&&◌, ◌||◌, cond, Option, Some, None, slice_get, get_or, List, [], ◌∷◌, length, drop, refl, sym, ap, ◌∙◌, arith, zero-add, add-one, drop-cons}
 use Rattle.std.proofs.Math.Seq.{drop-length}
-use Rattle.shread.specs.Bytes.{stands, stands_in, passes, count_front, past, before_blanks, is_blank, is_word_at, ends_word}
+use Rattle.std.proofs.lemmas.Option.{slice_get_within, slice_get_past}
+use Rattle.shread.specs.Bytes.{at_end, is_none, raw_stands, raw_in, stands, stands_in, passes, is_byte, count_front, raw_past, past, past_below, past_blanks, before_blanks, is_blank, is_word_at, ends_word, continues, count_joined, past_continuations, byte_at, behind}
+use Rattle.shread.specs.Words.{next_in_backquotes}
 
 -- ---- a text from a place on
 
@@ -12,7 +14,7 @@ get_drop (suc n) (b ∷ B) i =
     let next : suc n + i ≡ suc (n + i) = omega arith in
     rw next (get_drop n B i)
 
--- ---- stretches
+-- ---- stretches of the text as it stands
 
 count_at : (test : ℕ → Bool) (T : List ℕ) (p : ℕ) → count_front test (drop p T) ≡ cond (passes test (slice_get T p)) (1 + count_front test (drop (p + 1) T)) 0
 unfolding count_front
@@ -23,37 +25,135 @@ count_at test (b ∷ T) (suc p) =
     let next : suc p + 1 ≡ suc (p + 1) = omega arith in
     rw next (count_at test T p)
 
-pub past_more : (test : ℕ → Bool) (T : List ℕ) (p : ℕ) → stands_in test T p ≡ true → past test T p ≡ past test T (p + 1)
-unfolding past stands_in
-past_more test T p e =
+pub raw_more : (test : ℕ → Bool) (T : List ℕ) (p : ℕ) → raw_in test T p ≡ true → raw_past test T p ≡ raw_past test T (p + 1)
+unfolding raw_past raw_in
+raw_more test T p e =
     let count : count_front test (drop p T) ≡ 1 + count_front test (drop (p + 1) T) = count_at test T p ∙ rw e refl in
     omega (arith, count)
 
-pub past_none : (test : ℕ → Bool) (T : List ℕ) (p : ℕ) → stands_in test T p ≡ false → past test T p ≡ p
-unfolding past stands_in
-past_none test T p e =
+pub raw_none : (test : ℕ → Bool) (T : List ℕ) (p : ℕ) → raw_in test T p ≡ false → raw_past test T p ≡ p
+unfolding raw_past raw_in
+raw_none test T p e =
     let count : count_front test (drop p T) ≡ 0 = count_at test T p ∙ rw e refl in
     omega (arith, count)
 
+-- a stretch from what stands in it and behind it
+pub raw_is : (test : ℕ → Bool) (T : List ℕ) (p n : ℕ) → ((k : ℕ) → p ≤ k → k < p + n → raw_in test T k ≡ true) → raw_in test T (p + n) ≡ false → raw_past test T p ≡ p + n
+raw_is test T p zero in_it after =
+    let same : p + zero ≡ p = omega arith in
+    rw same (raw_none test T p (rw same at after))
+raw_is test T p (suc n) in_it after =
+    let next : p + 1 + n ≡ p + suc n = omega arith in
+    raw_more test T p (in_it p (omega arith) (omega arith))
+    ∙ raw_is test T (p + 1) n (λ k low high. in_it k (omega arith) (omega arith)) (rw next after) ∙ next
+
+-- ---- continuations
+
+-- the last byte begins no continuation
+alone : (x : Bool) (n : ℕ) → 0 ≡ cond (x && false) n 0
+alone true n = refl
+alone false n = refl
+
+joined_at : (T : List ℕ) (p : ℕ) → count_joined (drop p T) ≡ cond (is_byte (slice_get T p) 92 && is_byte (slice_get T (p + 1)) 10) (2 + count_joined (drop (p + 2) T)) 0
+unfolding count_joined
+joined_at [] zero = refl
+joined_at [] (suc p) = refl
+joined_at (b ∷ []) zero = alone (b == 92) 2
+joined_at (b ∷ c ∷ T) zero = refl
+joined_at (b ∷ T) (suc p) =
+    let one : suc p + 1 ≡ suc (p + 1) = omega arith in
+    let two : suc p + 2 ≡ suc (p + 2) = omega arith in
+    rw (one, two) (joined_at T p)
+
+pub joined_more : (T : List ℕ) (p : ℕ) → continues T p ≡ true → past_continuations T p ≡ past_continuations T (p + 2)
+unfolding continues raw_stands past_continuations
+joined_more T p e =
+    let count : count_joined (drop p T) ≡ 2 + count_joined (drop (p + 2) T) = joined_at T p ∙ rw e refl in
+    omega (arith, count)
+
+pub joined_none : (T : List ℕ) (p : ℕ) → continues T p ≡ false → past_continuations T p ≡ p
+unfolding continues raw_stands past_continuations
+joined_none T p e =
+    let count : count_joined (drop p T) ≡ 0 = joined_at T p ∙ rw e refl in
+    omega (arith, count)
+
+-- ---- stretches of what is read
+
+pub place_low : (T : List ℕ) (p : ℕ) → p ≤ past_continuations T p
+unfolding past_continuations
+place_low T p = omega arith
+
+-- a byte that passes a test is one
+passes_low : (test : ℕ → Bool) (T : List ℕ) (q : ℕ) (b : Option ℕ) → slice_get T q ≡ b → passes test b ≡ true → q < length T
+passes_low test T q None is e = absurd cc
+passes_low test T q (Some b) is e = slice_get_within T q b is
+
+-- where a byte of a class is read there is one
+pub stands_in_low : (test : ℕ → Bool) (T : List ℕ) (p : ℕ) → stands_in test T p ≡ true → past_continuations T p < length T
+unfolding stands_in
+stands_in_low test T p e = passes_low test T (past_continuations T p) (byte_at T p) refl e
+
+-- at the end none is read
+none_left : (test : ℕ → Bool) (T : List ℕ) (p : ℕ) → length T ≤ p → stands_in test T p ≡ false
+unfolding stands_in
+none_left test T p end =
+    let none : slice_get T (past_continuations T p) ≡ None = slice_get_past T (past_continuations T p) (omega (arith, place_low T p)) in
+    rw none refl
+
+-- one more byte of the stretch, or its end
+turn : (test : ℕ → Bool) (T : List ℕ) (p : ℕ) (b : Bool) (x y : ℕ) → (b ≡ true → x ≡ y) → cond b x p ≡ cond b y p
+turn test T p true x y same = same refl
+turn test T p false x y same = refl
+
+-- with enough turns, how many they are does not matter
+enough : (test : ℕ → Bool) (T : List ℕ) (n m p : ℕ) → length T - p ≤ n → length T - p ≤ m → past_below n test T p ≡ past_below m test T p
+unfolding past_below behind
+enough test T zero zero p low_n low_m = refl
+enough test T zero (suc m) p low_n low_m = rw (none_left test T p (omega arith)) refl
+enough test T (suc n) zero p low_n low_m = rw (none_left test T p (omega arith)) refl
+enough test T (suc n) (suc m) p low_n low_m =
+    turn test T p (stands_in test T p) _ _
+    (λ some. enough test T n m (past_continuations T p + 1) (omega (arith, place_low T p)) (omega (arith, place_low T p)))
+
+pub past_more : (test : ℕ → Bool) (T : List ℕ) (p : ℕ) → stands_in test T p ≡ true → past test T p ≡ past test T (behind T p)
+unfolding past past_below behind
+past_more test T p e =
+    let inside : past_continuations T p < length T = stands_in_low test T p e in
+    let one : length T - p ≡ suc (length T - p - 1) = omega (arith, inside, place_low T p) in
+    rw (one, e) (enough test T (length T - p - 1) (length T - (past_continuations T p + 1)) (past_continuations T p + 1) (omega (arith, place_low T p)) (omega arith))
+
+none_more : (n : ℕ) (test : ℕ → Bool) (T : List ℕ) (p : ℕ) → stands_in test T p ≡ false → past_below n test T p ≡ p
+unfolding past_below
+none_more zero test T p e = refl
+none_more (suc n) test T p e = rw e refl
+
+pub past_none : (test : ℕ → Bool) (T : List ℕ) (p : ℕ) → stands_in test T p ≡ false → past test T p ≡ p
+unfolding past
+past_none test T p e = none_more (length T - p) test T p e
+
 -- ---- the end of a comment
 
-pub blanks_before : (T : List ℕ) (q : ℕ) → 0 < q → stands_in is_blank T (q - 1) ≡ true → before_blanks T q ≡ before_blanks T (q - 1)
+pub blanks_before : (T : List ℕ) (q : ℕ) → 0 < q → raw_in is_blank T (q - 1) ≡ true → before_blanks T q ≡ before_blanks T (q - 1)
 unfolding before_blanks
 blanks_before T zero lt e = absurd (omega arith)
 blanks_before T (suc q) lt e =
     let back : suc q - 1 ≡ q = omega arith in
     rw (back, rw back at e) refl
 
-pub no_blanks_before : (T : List ℕ) (q : ℕ) → 0 < q → stands_in is_blank T (q - 1) ≡ false → before_blanks T q ≡ q
+pub no_blanks_before : (T : List ℕ) (q : ℕ) → 0 < q → raw_in is_blank T (q - 1) ≡ false → before_blanks T q ≡ q
 unfolding before_blanks
 no_blanks_before T zero lt e = absurd (omega arith)
 no_blanks_before T (suc q) lt e =
     let back : suc q - 1 ≡ q = omega arith in
     rw (rw back at e) refl
 
+pub nothing_before : (T : List ℕ) (q : ℕ) → q ≡ 0 → before_blanks T q ≡ q
+unfolding before_blanks
+nothing_before T q e = rw e refl
+
 -- ---- words spelled out
 
-pub word_more : (T : List ℕ) (p : ℕ) (word : List ℕ) (i : ℕ) → i < length word → stands T p (get_or word i 0) ≡ true → is_word_at T p (drop i word) ≡ is_word_at T (p + 1) (drop (i + 1) word)
+pub word_more : (T : List ℕ) (p : ℕ) (word : List ℕ) (i : ℕ) → i < length word → stands T p (get_or word i 0) ≡ true → is_word_at T p (drop i word) ≡ is_word_at T (behind T p) (drop (i + 1) word)
 unfolding is_word_at
 word_more T p word i lt e = rw (drop-cons word i 0, add-one i, e) refl
 
@@ -65,17 +165,47 @@ pub word_whole : (T : List ℕ) (p : ℕ) (word : List ℕ) (i : ℕ) → i ≡ 
 unfolding is_word_at
 word_whole T p word i e = rw (e, drop-length word) refl
 
--- ---- a stretch from what stands in it and behind it
+-- ---- the next backquote or backslash
 
-pub past_is : (test : ℕ → Bool) (T : List ℕ) (p n : ℕ) → ((k : ℕ) → p ≤ k → k < p + n → stands_in test T k ≡ true) → stands_in test T (p + n) ≡ false → past test T p ≡ p + n
-past_is test T p zero in_it behind =
-    let same : p + zero ≡ p = omega arith in
-    rw same (past_none test T p (rw same at behind))
-past_is test T p (suc n) in_it behind =
-    let next : p + 1 + n ≡ p + suc n = omega arith in
-    past_more test T p (in_it p (omega arith) (omega arith))
-    ∙ past_is test T (p + 1) n (λ k low high. in_it k (omega arith) (omega arith)) (rw next behind) ∙ next
+-- neither test holds
+neither : (x y : Bool) → x ≡ false → y ≡ false → not (x || y) ≡ true
+neither x y e f = rw (e, f) refl
 
-pub nothing_before : (T : List ℕ) (q : ℕ) → q ≡ 0 → before_blanks T q ≡ q
-unfolding before_blanks
-nothing_before T q e = rw e refl
+first_holds : (x y : Bool) → x ≡ true → not (x || y) ≡ false
+first_holds x y e = rw e refl
+
+second_holds : (x y : Bool) → y ≡ true → not (x || y) ≡ false
+second_holds true y e = refl
+second_holds false y e = rw e refl
+
+plain_byte : (b : Option ℕ) → is_none b ≡ false → is_byte b 96 ≡ false → is_byte b 92 ≡ false → passes (λ c. not (c == 96 || c == 92)) b ≡ true
+plain_byte None some e f = absurd cc
+plain_byte (Some c) some e f = neither (c == 96) (c == 92) e f
+
+no_byte : (b : Option ℕ) → is_none b ≡ true → passes (λ c. not (c == 96 || c == 92)) b ≡ false
+no_byte None none = refl
+no_byte (Some c) none = absurd cc
+
+backquote_byte : (b : Option ℕ) → is_byte b 96 ≡ true → passes (λ c. not (c == 96 || c == 92)) b ≡ false
+backquote_byte None e = absurd cc
+backquote_byte (Some c) e = first_holds (c == 96) (c == 92) e
+
+backslash_byte : (b : Option ℕ) → is_byte b 92 ≡ true → passes (λ c. not (c == 96 || c == 92)) b ≡ false
+backslash_byte None e = absurd cc
+backslash_byte (Some c) e = second_holds (c == 96) (c == 92) e
+
+pub in_backquotes_more : (T : List ℕ) (q : ℕ) → at_end T q ≡ false → raw_stands T q 96 ≡ false → raw_stands T q 92 ≡ false → next_in_backquotes T q ≡ next_in_backquotes T (q + 1)
+unfolding at_end raw_stands raw_in
+in_backquotes_more T q some e f = raw_more (λ c. not (c == 96 || c == 92)) T q (plain_byte (slice_get T q) some e f)
+
+pub in_backquotes_end : (T : List ℕ) (q : ℕ) → at_end T q ≡ true → next_in_backquotes T q ≡ q
+unfolding at_end raw_in
+in_backquotes_end T q e = raw_none (λ c. not (c == 96 || c == 92)) T q (no_byte (slice_get T q) e)
+
+pub in_backquotes_closer : (T : List ℕ) (q : ℕ) → raw_stands T q 96 ≡ true → next_in_backquotes T q ≡ q
+unfolding raw_stands raw_in
+in_backquotes_closer T q e = raw_none (λ c. not (c == 96 || c == 92)) T q (backquote_byte (slice_get T q) e)
+
+pub in_backquotes_escape : (T : List ℕ) (q : ℕ) → raw_stands T q 92 ≡ true → next_in_backquotes T q ≡ q
+unfolding raw_stands raw_in
+in_backquotes_escape T q e = raw_none (λ c. not (c == 96 || c == 92)) T q (backslash_byte (slice_get T q) e)

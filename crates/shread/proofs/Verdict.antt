@@ -5,7 +5,8 @@ use Rattle.std.proofs.lemmas.List.{length-drop}
 use Rattle.shread.specs.declared.fault.Fault.{Fault}
 use Rattle.shread.specs.Tree.{AnEntry}
 use Rattle.shread.specs.Comes.{Read}
-use Rattle.shread.specs.Lines.{is_empty, ALine, AScript, IsLine, Outcome, FirstFault, faulty_line, kind_of}
+use Rattle.shread.specs.Commands.{is_empty}
+use Rattle.shread.specs.Lines.{ALine, AScript, IsLine, Outcome, FirstFault, faulty_line, kind_of}
 use Rattle.shread.specs.Normal.{IsNormal}
 use Rattle.shread.specs.Reading.{turns, line_at, SoFar, script_next, script_step, nothing_yet, script_of, script_at, line_read_of, line_of_text, first_fault_from, TellsFirst}
 use Rattle.shread.proofs.Alike.{moved, Alike, both_give, both_stop, SameEnd, same_end, SameStep, both_again, both_done, turns_alike, SameFlag, line_alike}

@@ -1,16 +1,20 @@
 -- Simple commands, and the lists of one line (XCU 2.9.1, 2.9.3, 2.10.2).
-use Rattle.std.specs.Prelude.{ℕ, ◌+◌, Bool, true, false, List, [], ◌∷◌, ◌++◌, List as Row, Option, None, Some, if◌then◌else◌}
+use Rattle.std.specs.Prelude.{ℕ, ◌+◌, ◌&&◌, not, Bool, true, false, List, [], ◌∷◌, ◌++◌, List as Row, Option, None, Some, if◌then◌else◌}
 use Rattle.shread.specs.declared.token.Token.{Token}
 use Rattle.shread.specs.declared.token.Token.TheVariants as tokens
 use Rattle.shread.specs.declared.token.Separator.{Separator}
 use Rattle.shread.specs.declared.token.Separator.TheVariants.{Semicolon, Ampersand}
 use Rattle.shread.specs.declared.tree.Comment.{Comment}
 use Rattle.shread.specs.Tree.{AnItem, AnEntry, ACommand, APipeline, AnAndOr, item, assign, argument, items_of, simple, pipeline, no_pipe, and_or, no_and_or, entry, command}
-use Rattle.shread.specs.Bytes.{stands, past_blanks, next_newline, before_blanks, token_at, begins_assignment}
+use Rattle.shread.specs.Bytes.{stands, behind, past_blanks, is_broken_at, next_newline, before_blanks, token_at, begins_assignment}
 use Rattle.shread.specs.Comes.{Comes, give, when, ◌>>=◌, Many, Step, again, done}
 use Rattle.shread.specs.Words.{span, a_word}
 
 -- ---- simple commands (XCU 2.9.1)
+
+abbrev pub is_empty : {A : Type 0} → Row A → Bool
+is_empty [] = true
+is_empty (x ∷ xs) = false
 
 abbrev pub is_word : Token → Bool
 is_word tokens.Word = true
@@ -25,13 +29,13 @@ is_word tokens.Number = false
 -- an assignment, or that no more follows
 abbrev pub an_assignment : List ℕ → ℕ → Row AnItem → ℕ → Comes (Step (Row AnItem))
 an_assignment T o is p =
-    when (begins_assignment T (past_blanks T p)) (a_word T o (past_blanks T p) >>= λ w. give (again (is ++ item false (assign w.0) ∷ []) w.1))
+    when (begins_assignment T (past_blanks T p)) (a_word T o (past_blanks T p) >>= λ w. give (again (is ++ item (not (is_empty is) && is_broken_at T p) (assign w.0) ∷ []) w.1))
     (give (done is p))
 
 -- the command's name or an argument, or that no more follows; here no word is reserved
 abbrev pub an_argument : List ℕ → ℕ → Row AnItem → ℕ → Comes (Step (Row AnItem))
 an_argument T o is p =
-    when (is_word (token_at T (past_blanks T p))) (a_word T o (past_blanks T p) >>= λ w. give (again (is ++ item false (argument w.0) ∷ []) w.1))
+    when (is_word (token_at T (past_blanks T p))) (a_word T o (past_blanks T p) >>= λ w. give (again (is ++ item (not (is_empty is) && is_broken_at T p) (argument w.0) ∷ []) w.1))
     (give (done is p))
 
 -- assignments, and then words; not empty, since a command begins with a word
@@ -83,7 +87,7 @@ is_parted (Some s) = true
 
 -- the place behind the separator, where one stands
 unfoldable pub past_separator : List ℕ → ℕ → ℕ
-past_separator T p = if is_parted (separator_at T p) then past_blanks T p + 1 else p
+past_separator T p = if is_parted (separator_at T p) then behind T (past_blanks T p) else p
 
 -- where the comment of an entry would stand
 abbrev pub remark_place : List ℕ → ℕ → ℕ

@@ -12,3 +12,4 @@ pub mod SoFar
 pub mod Normal
 pub mod Classes
 pub mod Search
+pub mod Plain

@@ -28,9 +28,11 @@ impl<'a, S: Source> Cursor<'a, S> {
             self.at = before;
             return Ok(false);
         }
-        let word = self.word(alloc)?;
+        let broken = !items.is_empty() && self.is_broken_at(before);
+        let start = self.at;
+        self.pass_word()?;
         if self.keep {
-            items.push(assign_of(word, false))?;
+            items.push(assign_of(self.word_from(alloc, start), broken))?;
         }
         Ok(true)
     }
@@ -56,13 +58,15 @@ impl<'a, S: Source> Cursor<'a, S> {
     {
         let before = self.at;
         self.skip_blanks();
-        if !self.token().is_word() {
+        if !self.begins_word() {
             self.at = before;
             return Ok(false);
         }
-        let word = self.word(alloc)?;
+        let broken = !items.is_empty() && self.is_broken_at(before);
+        let start = self.at;
+        self.pass_word()?;
         if self.keep {
-            items.push(argument_of(word, false))?;
+            items.push(argument_of(self.word_from(alloc, start), broken))?;
         }
         Ok(true)
     }

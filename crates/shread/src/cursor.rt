@@ -1,8 +1,8 @@
 //! A place in a text, and what stands there.
-ghost use Rattle.std.specs.Prelude.{◌≡◌, ◌≢◌, ◌+◌, ◌^◌, ◌<◌, ◌≤◌, drop, length, slice_get, true, false, IfSome};
-ghost use Rattle.shread.specs.Bytes.{is_blank, at_end, begins_assignment, ends_word, is_closing_word, is_letter, is_number, is_opening_word, is_reserved, is_word_at, past, stands, stands_in, token_at};
+ghost use Rattle.std.specs.Prelude.{◌≡◌, ◌≢◌, ◌+◌, ◌-◌, ◌^◌, ◌<◌, ◌≤◌, drop, length, slice_get, true, false, IfSome};
+ghost use Rattle.shread.specs.Bytes.{is_blank, is_broken_at, raw_past, at_end, behind, byte_at, continues, past_blanks, past_continuations, raw_in, raw_stands, begins_assignment, ends_word, is_letter, is_number, is_reserved, is_word_at, past, stands, stands_in, token_at};
 ghost use Rattle.shread.specs.Classes.{in_class};
-ghost use Rattle.shread.specs.Words.{begins_piece, is_pid};
+ghost use Rattle.shread.specs.Commands.{is_word};
 
 use crate::source::Source;
 use crate::token::{Class, Token};
@@ -25,18 +25,10 @@ pub(crate) struct Cursor<'a, S: Source> {
 }
 
 impl<'a, S: Source> Cursor<'a, S> {
-    /// One byte on.
-    pub(crate) fn bump(&mut self)
-        requires { self.old.at < length (drop self.old.base (S.bytes self.old.source.now)) }
-        ensures value { self.new.at ≡ self.old.at + 1 }
-        ensures same { (self.new.source ≡ self.old.source) × (self.new.base ≡ self.old.base) × (self.new.origin ≡ self.old.origin) × (self.new.keep ≡ self.old.keep) }
-    {
-        self.at += 1;
-    }
-
-    /// The byte at a place, or `None` at the end.
+    /// The byte at a place as it stands, or `None` at the end.
+    #[inline(always)]
     #[tactic(auto, using(crate::proofs::Stretches::get_drop))]
-    fn byte_at(&self, at: usize) -> Option<u8>
+    fn raw_byte(&self, at: usize) -> Option<u8>
         requires { at ≤ length (drop self.now.base (S.bytes self.now.source.now)) }
         ensures value { result ≡ slice_get (drop self.now.base (S.bytes self.now.source.now)) at }
         ensures inside { IfSome result (λ b. at < length (drop self.now.base (S.bytes self.now.source.now))) }
@@ -44,20 +36,138 @@ impl<'a, S: Source> Cursor<'a, S> {
         self.source.byte(self.base + at)
     }
 
-    /// The byte here, or `None` at the end.
+    /// Whether this byte is the one at a place.
+    #[inline(always)]
+    #[tactic(auto, unfolding(crate::specs::Bytes::raw_stands))]
+    pub(crate) fn raw_stands(&self, at: usize, byte: u8) -> bool
+        requires { at ≤ length (drop self.now.base (S.bytes self.now.source.now)) }
+        ensures value { result ≡ raw_stands (drop self.now.base (S.bytes self.now.source.now)) at byte }
+        ensures inside { result ≡ true → at < length (drop self.now.base (S.bytes self.now.source.now)) }
+    {
+        match self.raw_byte(at) {
+            Some(found) => found == byte,
+            None => false,
+        }
+    }
+
+    /// Whether the byte at a place is of this class.
+    #[inline(always)]
+    #[tactic(auto, unfolding(crate::specs::Bytes::raw_in))]
+    pub(crate) fn raw_in(&self, at: usize, class: Class) -> bool
+        requires { at ≤ length (drop self.now.base (S.bytes self.now.source.now)) }
+        ensures value { result ≡ raw_in (in_class class) (drop self.now.base (S.bytes self.now.source.now)) at }
+        ensures inside { result ≡ true → at < length (drop self.now.base (S.bytes self.now.source.now)) }
+    {
+        match self.raw_byte(at) {
+            Some(byte) => class.has(byte),
+            None => false,
+        }
+    }
+
+    /// Whether the text ends at a place.
+    #[inline(always)]
+    #[tactic(auto, unfolding(crate::specs::Bytes::at_end))]
+    pub(crate) fn at_end(&self, at: usize) -> bool
+        requires { at ≤ length (drop self.now.base (S.bytes self.now.source.now)) }
+        ensures value { result ≡ at_end (drop self.now.base (S.bytes self.now.source.now)) at }
+        ensures inside { result ≡ false → at < length (drop self.now.base (S.bytes self.now.source.now)) }
+    {
+        self.raw_byte(at).is_none()
+    }
+
+    /// Whether a continuation stands at a place.
+    #[inline(always)]
+    #[tactic(auto, unfolding(crate::specs::Bytes::continues))]
+    fn continues(&self, at: usize) -> bool
+        requires { at ≤ length (drop self.now.base (S.bytes self.now.source.now)) }
+        ensures value { result ≡ continues (drop self.now.base (S.bytes self.now.source.now)) at }
+        ensures inside { result ≡ true → at + 2 ≤ length (drop self.now.base (S.bytes self.now.source.now)) }
+    {
+        self.raw_stands(at, b'\\') && self.raw_stands(at + 1, b'\n')
+    }
+
+    /// The place past the continuations at a place. Most often none stands there.
+    #[inline(always)]
+    #[tactic(auto, using(crate::proofs::Stretches::joined_none))]
+    pub(crate) fn place(&self, from: usize) -> usize
+        requires { from ≤ length (drop self.now.base (S.bytes self.now.source.now)) }
+        ensures value { result ≡ past_continuations (drop self.now.base (S.bytes self.now.source.now)) from }
+        ensures inside { (from ≤ result) × (result ≤ length (drop self.now.base (S.bytes self.now.source.now))) }
+        ensures still { past_continuations (drop self.now.base (S.bytes self.now.source.now)) result ≡ result }
+    {
+        if self.continues(from) {
+            return self.past_continuations(from);
+        }
+        from
+    }
+
+    /// The place past the continuations at a place.
+    #[cold]
+    #[tactic(auto, using(crate::proofs::Stretches::joined_more, crate::proofs::Stretches::joined_none))]
+    fn past_continuations(&self, from: usize) -> usize
+        requires { from ≤ length (drop self.now.base (S.bytes self.now.source.now)) }
+        ensures value { result ≡ past_continuations (drop self.now.base (S.bytes self.now.source.now)) from }
+        ensures inside { (from ≤ result) × (result ≤ length (drop self.now.base (S.bytes self.now.source.now))) }
+        ensures still { past_continuations (drop self.now.base (S.bytes self.now.source.now)) result ≡ result }
+    {
+        let mut at = from;
+        'continuations: while self.continues(at) {
+            at += 2;
+        }
+        at
+    }
+
+    /// The byte that is read at a place, or `None` at the end.
+    #[inline(always)]
+    fn byte_at(&self, at: usize) -> Option<u8>
+        requires { at ≤ length (drop self.now.base (S.bytes self.now.source.now)) }
+        ensures value { result ≡ byte_at (drop self.now.base (S.bytes self.now.source.now)) at }
+        ensures inside { IfSome result (λ b. past_continuations (drop self.now.base (S.bytes self.now.source.now)) at < length (drop self.now.base (S.bytes self.now.source.now))) }
+    {
+        self.raw_byte(self.place(at))
+    }
+
+    /// The byte that is read here, or `None` at the end.
+    #[inline(always)]
     pub(crate) fn byte(&self) -> Option<u8>
-        ensures value { result ≡ slice_get (drop self.now.base (S.bytes self.now.source.now)) self.now.at }
-        ensures inside { IfSome result (λ b. self.now.at < length (drop self.now.base (S.bytes self.now.source.now))) }
+        ensures value { result ≡ byte_at (drop self.now.base (S.bytes self.now.source.now)) self.now.at }
+        ensures inside { IfSome result (λ b. past_continuations (drop self.now.base (S.bytes self.now.source.now)) self.now.at < length (drop self.now.base (S.bytes self.now.source.now))) }
     {
         self.byte_at(self.at)
     }
 
-    /// Whether this byte stands at a place.
+    /// The place behind the byte that is read at a place.
+    #[inline(always)]
+    #[tactic(auto, unfolding(crate::specs::Bytes::behind))]
+    pub(crate) fn behind(&self, at: usize) -> usize
+        requires within { at ≤ length (drop self.now.base (S.bytes self.now.source.now)) }
+        requires some { past_continuations (drop self.now.base (S.bytes self.now.source.now)) at < length (drop self.now.base (S.bytes self.now.source.now)) }
+        ensures value { result ≡ behind (drop self.now.base (S.bytes self.now.source.now)) at }
+        ensures past { past_continuations (drop self.now.base (S.bytes self.now.source.now)) at < result }
+        ensures inside { (at < result) × (result ≤ length (drop self.now.base (S.bytes self.now.source.now))) }
+    {
+        self.place(at) + 1
+    }
+
+    /// One byte on.
+    #[inline(always)]
+    pub(crate) fn bump(&mut self)
+        requires { past_continuations (drop self.old.base (S.bytes self.old.source.now)) self.old.at < length (drop self.old.base (S.bytes self.old.source.now)) }
+        ensures value { self.new.at ≡ behind (drop self.old.base (S.bytes self.old.source.now)) self.old.at }
+        ensures onward { self.old.at < self.new.at }
+        ensures past { past_continuations (drop self.old.base (S.bytes self.old.source.now)) self.old.at < self.new.at }
+        ensures same { (self.new.source ≡ self.old.source) × (self.new.base ≡ self.old.base) × (self.new.origin ≡ self.old.origin) × (self.new.keep ≡ self.old.keep) }
+    {
+        self.at = self.behind(self.at);
+    }
+
+    /// Whether this byte is read at a place.
+    #[inline(always)]
     #[tactic(auto, unfolding(crate::specs::Bytes::stands))]
-    fn stands(&self, at: usize, byte: u8) -> bool
+    pub(crate) fn stands(&self, at: usize, byte: u8) -> bool
         requires { at ≤ length (drop self.now.base (S.bytes self.now.source.now)) }
         ensures value { result ≡ stands (drop self.now.base (S.bytes self.now.source.now)) at byte }
-        ensures inside { result ≡ true → at < length (drop self.now.base (S.bytes self.now.source.now)) }
+        ensures inside { result ≡ true → past_continuations (drop self.now.base (S.bytes self.now.source.now)) at < length (drop self.now.base (S.bytes self.now.source.now)) }
     {
         match self.byte_at(at) {
             Some(found) => found == byte,
@@ -65,29 +175,32 @@ impl<'a, S: Source> Cursor<'a, S> {
         }
     }
 
-    /// Whether this byte stands here.
+    /// Whether this byte is read here.
+    #[inline(always)]
     pub(crate) fn is_at(&self, byte: u8) -> bool
         ensures value { result ≡ stands (drop self.now.base (S.bytes self.now.source.now)) self.now.at byte }
-        ensures inside { result ≡ true → self.now.at < length (drop self.now.base (S.bytes self.now.source.now)) }
+        ensures inside { result ≡ true → past_continuations (drop self.now.base (S.bytes self.now.source.now)) self.now.at < length (drop self.now.base (S.bytes self.now.source.now)) }
     {
         self.stands(self.at, byte)
     }
 
-    /// Whether this byte stands behind the one here.
-    fn is_next(&self, byte: u8) -> bool
-        requires { self.now.at < length (drop self.now.base (S.bytes self.now.source.now)) }
-        ensures value { result ≡ stands (drop self.now.base (S.bytes self.now.source.now)) (self.now.at + 1) byte }
-        ensures inside { result ≡ true → self.now.at + 1 < length (drop self.now.base (S.bytes self.now.source.now)) }
+    /// Whether this byte is read behind the one here.
+    #[inline(always)]
+    pub(crate) fn is_next(&self, byte: u8) -> bool
+        requires { past_continuations (drop self.now.base (S.bytes self.now.source.now)) self.now.at < length (drop self.now.base (S.bytes self.now.source.now)) }
+        ensures value { result ≡ stands (drop self.now.base (S.bytes self.now.source.now)) (behind (drop self.now.base (S.bytes self.now.source.now)) self.now.at) byte }
+        ensures inside { result ≡ true → past_continuations (drop self.now.base (S.bytes self.now.source.now)) (behind (drop self.now.base (S.bytes self.now.source.now)) self.now.at) < length (drop self.now.base (S.bytes self.now.source.now)) }
     {
-        self.stands(self.at + 1, byte)
+        self.stands(self.behind(self.at), byte)
     }
 
-    /// Whether a byte of this class stands at a place.
+    /// Whether a byte of this class is read at a place.
+    #[inline(always)]
     #[tactic(auto, unfolding(crate::specs::Bytes::stands_in))]
     pub(crate) fn stands_in(&self, at: usize, class: Class) -> bool
         requires { at ≤ length (drop self.now.base (S.bytes self.now.source.now)) }
         ensures value { result ≡ stands_in (in_class class) (drop self.now.base (S.bytes self.now.source.now)) at }
-        ensures inside { result ≡ true → at < length (drop self.now.base (S.bytes self.now.source.now)) }
+        ensures inside { result ≡ true → past_continuations (drop self.now.base (S.bytes self.now.source.now)) at < length (drop self.now.base (S.bytes self.now.source.now)) }
     {
         match self.byte_at(at) {
             Some(byte) => class.has(byte),
@@ -96,8 +209,9 @@ impl<'a, S: Source> Cursor<'a, S> {
     }
 
     /// The place behind the bytes of this class from a place on.
+    #[inline(always)]
     #[tactic(auto, using(crate::proofs::Stretches::past_more, crate::proofs::Stretches::past_none))]
-    fn past(&self, from: usize, class: Class) -> usize
+    pub(crate) fn past(&self, from: usize, class: Class) -> usize
         requires { from ≤ length (drop self.now.base (S.bytes self.now.source.now)) }
         ensures value { result ≡ past (in_class class) (drop self.now.base (S.bytes self.now.source.now)) from }
         ensures inside { (from ≤ result) × (result ≤ length (drop self.now.base (S.bytes self.now.source.now))) }
@@ -105,27 +219,53 @@ impl<'a, S: Source> Cursor<'a, S> {
     {
         let mut at = from;
         'bytes: while self.stands_in(at, class) {
+            at = self.behind(at);
+        }
+        at
+    }
+
+    /// Whether a continuation stands among the blanks from a place on.
+    #[tactic(auto, unfolding(crate::specs::Bytes::is_broken_at))]
+    pub(crate) fn is_broken_at(&self, at: usize) -> bool
+        requires { at ≤ length (drop self.now.base (S.bytes self.now.source.now)) }
+        ensures { result ≡ is_broken_at (drop self.now.base (S.bytes self.now.source.now)) at }
+    {
+        self.continues(self.raw_past(at, Class::Blank))
+    }
+
+    /// The place behind the bytes of this class that stand from a place on.
+    #[tactic(auto, using(crate::proofs::Stretches::raw_more, crate::proofs::Stretches::raw_none))]
+    fn raw_past(&self, from: usize, class: Class) -> usize
+        requires { from ≤ length (drop self.now.base (S.bytes self.now.source.now)) }
+        ensures value { result ≡ raw_past (in_class class) (drop self.now.base (S.bytes self.now.source.now)) from }
+        ensures inside { (from ≤ result) × (result ≤ length (drop self.now.base (S.bytes self.now.source.now))) }
+    {
+        let mut at = from;
+        'bytes: while self.raw_in(at, class) {
             at += 1;
         }
         at
     }
 
     /// To where a token begins.
+    #[inline(always)]
+    #[tactic(auto, unfolding(crate::specs::Bytes::past_blanks, crate::specs::Bytes::stands_in))]
     pub(crate) fn skip_blanks(&mut self)
-        ensures value { self.new.at ≡ past is_blank (drop self.old.base (S.bytes self.old.source.now)) self.old.at }
+        ensures value { self.new.at ≡ past_blanks (drop self.old.base (S.bytes self.old.source.now)) self.old.at }
         ensures inside { self.old.at ≤ self.new.at }
         ensures other { stands_in is_blank (drop self.old.base (S.bytes self.old.source.now)) self.new.at ≡ false }
         ensures same { (self.new.source ≡ self.old.source) × (self.new.base ≡ self.old.base) × (self.new.origin ≡ self.old.origin) × (self.new.keep ≡ self.old.keep) }
     {
-        self.at = self.past(self.at, Class::Blank);
+        self.at = self.place(self.past(self.at, Class::Blank));
     }
 
     /// Whether a word ends at a place.
+    #[inline(always)]
     #[tactic(auto, unfolding(crate::specs::Bytes::ends_word))]
     fn ends_at(&self, at: usize) -> bool
         requires { at ≤ length (drop self.now.base (S.bytes self.now.source.now)) }
         ensures value { result ≡ ends_word (drop self.now.base (S.bytes self.now.source.now)) at }
-        ensures inside { result ≡ false → at < length (drop self.now.base (S.bytes self.now.source.now)) }
+        ensures inside { result ≡ false → past_continuations (drop self.now.base (S.bytes self.now.source.now)) at < length (drop self.now.base (S.bytes self.now.source.now)) }
     {
         match self.byte_at(at) {
             Some(byte) => matches!(
@@ -137,9 +277,10 @@ impl<'a, S: Source> Cursor<'a, S> {
     }
 
     /// Whether a word ends here.
+    #[inline(always)]
     pub(crate) fn ends_word(&self) -> bool
         ensures value { result ≡ ends_word (drop self.now.base (S.bytes self.now.source.now)) self.now.at }
-        ensures inside { result ≡ false → self.now.at < length (drop self.now.base (S.bytes self.now.source.now)) }
+        ensures inside { result ≡ false → past_continuations (drop self.now.base (S.bytes self.now.source.now)) self.now.at < length (drop self.now.base (S.bytes self.now.source.now)) }
     {
         self.ends_at(self.at)
     }
@@ -154,49 +295,34 @@ impl<'a, S: Source> Cursor<'a, S> {
             if !self.stands(at, *byte) {
                 return false;
             }
-            at += 1;
+            at = self.behind(at);
         }
         self.ends_at(at)
     }
 
-    #[tactic(auto, unfolding(crate::specs::Bytes::is_opening_word))]
-    fn is_opening_word(&self) -> bool
-        ensures { result ≡ is_opening_word (drop self.now.base (S.bytes self.now.source.now)) self.now.at }
-    {
-        self.is_word(b"{")
-            || self.is_word(b"case")
-            || self.is_word(b"for")
-            || self.is_word(b"if")
-            || self.is_word(b"until")
-            || self.is_word(b"while")
-    }
-
-    #[tactic(auto, unfolding(crate::specs::Bytes::is_closing_word))]
-    fn is_closing_word(&self) -> bool
-        ensures { result ≡ is_closing_word (drop self.now.base (S.bytes self.now.source.now)) self.now.at }
-    {
-        self.is_word(b"do")
-            || self.is_word(b"done")
-            || self.is_word(b"elif")
-            || self.is_word(b"else")
-            || self.is_word(b"esac")
-            || self.is_word(b"fi")
-            || self.is_word(b"then")
-            || self.is_word(b"}")
-    }
-
-    /// Whether a reserved word stands here.
-    #[tactic(auto, unfolding(crate::specs::Bytes::is_reserved))]
+    /// Whether a reserved word stands here. Its first byte tells which it may be.
+    #[tactic(auto, unfolding(crate::specs::Bytes::is_reserved, crate::specs::Bytes::is_opening_word, crate::specs::Bytes::is_closing_word, crate::specs::Bytes::is_word_at, crate::specs::Bytes::stands))]
     pub(crate) fn is_reserved(&self) -> bool
         ensures { result ≡ is_reserved (drop self.now.base (S.bytes self.now.source.now)) self.now.at }
     {
-        self.is_opening_word()
-            || self.is_closing_word()
-            || self.is_word(b"!")
-            || self.is_word(b"in")
+        match self.byte() {
+            Some(b'!') => self.is_word(b"!"),
+            Some(b'{') => self.is_word(b"{"),
+            Some(b'}') => self.is_word(b"}"),
+            Some(b'c') => self.is_word(b"case"),
+            Some(b'd') => self.is_word(b"do") || self.is_word(b"done"),
+            Some(b'e') => self.is_word(b"elif") || self.is_word(b"else") || self.is_word(b"esac"),
+            Some(b'f') => self.is_word(b"fi") || self.is_word(b"for"),
+            Some(b'i') => self.is_word(b"if") || self.is_word(b"in"),
+            Some(b't') => self.is_word(b"then"),
+            Some(b'u') => self.is_word(b"until"),
+            Some(b'w') => self.is_word(b"while"),
+            _ => false,
+        }
     }
 
     /// Whether a NAME and `=` stand here.
+    #[inline(always)]
     #[tactic(auto, unfolding(crate::specs::Bytes::begins_assignment, crate::specs::Bytes::stands_in, crate::specs::Bytes::ends_word))]
     pub(crate) fn begins_assignment(&self) -> bool
         ensures value { result ≡ begins_assignment (drop self.now.base (S.bytes self.now.source.now)) self.now.at }
@@ -212,6 +338,7 @@ impl<'a, S: Source> Cursor<'a, S> {
     }
 
     /// Whether digits that `<` or `>` follows stand here.
+    #[inline(always)]
     #[tactic(auto, unfolding(crate::specs::Bytes::is_number))]
     fn is_number(&self) -> bool
         ensures { result ≡ is_number (drop self.now.base (S.bytes self.now.source.now)) self.now.at }
@@ -224,13 +351,13 @@ impl<'a, S: Source> Cursor<'a, S> {
     }
 
     /// What begins here, where no blank stands.
-    #[tactic(auto, unfolding(crate::specs::Bytes::token_at, crate::specs::Bytes::stands, crate::specs::Bytes::stands_in, crate::specs::Bytes::ends_word))]
+    #[tactic(auto, unfolding(crate::specs::Bytes::token_at, crate::specs::Bytes::behind, crate::specs::Bytes::raw_stands, crate::specs::Bytes::stands, crate::specs::Bytes::stands_in, crate::specs::Bytes::ends_word))]
     pub(crate) fn token(&self) -> Token
         ensures value { result ≡ token_at (drop self.now.base (S.bytes self.now.source.now)) self.now.at }
-        ensures inside { result ≢ Token.End → self.now.at < length (drop self.now.base (S.bytes self.now.source.now)) }
+        ensures inside { result ≢ Token.End → past_continuations (drop self.now.base (S.bytes self.now.source.now)) self.now.at < length (drop self.now.base (S.bytes self.now.source.now)) }
         ensures word { let text = drop self.now.base (S.bytes self.now.source.now) in
             stands_in is_blank text self.now.at ≡ false → result ≡ Token.Word → ends_word text self.now.at ≡ false }
-        ensures newline { result ≡ Token.Newline → stands (drop self.now.base (S.bytes self.now.source.now)) self.now.at 10 ≡ true }
+        ensures newline { result ≡ Token.Newline → raw_stands (drop self.now.base (S.bytes self.now.source.now)) (behind (drop self.now.base (S.bytes self.now.source.now)) self.now.at - 1) 10 ≡ true }
     {
         match self.byte() {
             None => Token::End,
@@ -261,24 +388,17 @@ impl<'a, S: Source> Cursor<'a, S> {
         }
     }
 
-    /// Whether the special parameter `$$` stands here.
-    #[tactic(auto, unfolding(crate::specs::Words::is_pid))]
-    pub(crate) fn is_pid(&self) -> bool
-        ensures value { result ≡ is_pid (drop self.now.base (S.bytes self.now.source.now)) self.now.at }
-        ensures inside { result ≡ true → self.now.at + 2 ≤ length (drop self.now.base (S.bytes self.now.source.now)) }
-    {
-        self.is_at(b'$') && self.is_next(b'$')
-    }
-
-    /// Whether a quote, an escape or an expansion begins here.
-    #[tactic(auto, unfolding(crate::specs::Words::begins_piece, crate::specs::Bytes::stands))]
-    pub(crate) fn begins_piece(&self) -> bool
-        ensures { result ≡ begins_piece (drop self.now.base (S.bytes self.now.source.now)) self.now.at }
+    /// Whether a word begins here, where no blank stands: most often by a letter.
+    #[inline(always)]
+    #[tactic(auto, unfolding(crate::specs::Bytes::token_at, crate::specs::Bytes::is_number, crate::specs::Bytes::stands_in, crate::specs::Bytes::ends_word))]
+    pub(crate) fn begins_word(&self) -> bool
+        requires { stands_in is_blank (drop self.now.base (S.bytes self.now.source.now)) self.now.at ≡ false }
+        ensures value { result ≡ is_word (token_at (drop self.now.base (S.bytes self.now.source.now)) self.now.at) }
+        ensures word { result ≡ true → ends_word (drop self.now.base (S.bytes self.now.source.now)) self.now.at ≡ false }
     {
         match self.byte() {
-            Some(b'\\' | b'\'' | b'"' | b'`') => true,
-            Some(b'$') => self.is_next(b'(') || self.is_next(b'{'),
-            _ => false,
+            Some(b'a'..=b'z' | b'A'..=b'Z') => true,
+            _ => self.token().is_word(),
         }
     }
 }

@@ -1,9 +1,9 @@
 //! The entries of a line, and the line's end (XCU 2.9.3, 2.10.2).
 ghost use Rattle.std.specs.Prelude.{◌≡◌, ◌-◌, ◌<◌, ◌≤◌, ◌&&◌, [], drop, length, map, IfOk, true, false};
-ghost use Rattle.shread.specs.Bytes.{is_blank, ends_word, stands, stands_in};
+ghost use Rattle.shread.specs.Bytes.{is_blank, ends_word, raw_stands, stands_in};
 ghost use Rattle.shread.specs.Comes.{step_if};
-ghost use Rattle.shread.specs.Commands.{is_background, is_parted, past_separator, separator_at};
-ghost use Rattle.shread.specs.Lines.{begins_command, is_empty, with_remark};
+ghost use Rattle.shread.specs.Commands.{is_empty, is_background, is_parted, past_separator, separator_at};
+ghost use Rattle.shread.specs.Lines.{begins_command, with_remark};
 ghost use Rattle.shread.specs.Reading.{Gives, Onward, end_of_line_at, entry_at, entry_step, line_at, turns};
 ghost use Rattle.shread.specs.View.{view_entry};
 
@@ -65,7 +65,7 @@ impl<'a, S: Source> Cursor<'a, S> {
         ensures value { result ≡ begins_command (drop self.now.base (S.bytes self.now.source.now)) self.now.at }
         ensures word { result ≡ true → ends_word (drop self.now.base (S.bytes self.now.source.now)) self.now.at ≡ false }
     {
-        self.token().is_word() && !self.is_reserved()
+        self.begins_word() && !self.is_reserved()
     }
 
     /// One more entry of a line. Answers whether another may follow; `blank` tells of the line's first entry.
@@ -111,7 +111,7 @@ impl<'a, S: Source> Cursor<'a, S> {
         ensures value { let text = drop self.old.base (S.bytes self.old.source.now) in
             Gives (λ newline. ((map view_entry entries.new.items, newline), self.new.at)) result (end_of_line_at self.old.keep text self.old.origin blank (map view_entry entries.old.items) self.old.at) }
         ensures onward { IfOk result (Onward self.old.at self.new.at) }
-        ensures newline { IfOk result (λ newline. newline ≡ true → stands (drop self.old.base (S.bytes self.old.source.now)) (self.new.at - 1) 10 ≡ true) }
+        ensures newline { IfOk result (λ newline. newline ≡ true → raw_stands (drop self.old.base (S.bytes self.old.source.now)) (self.new.at - 1) 10 ≡ true) }
         ensures same { (self.new.source ≡ self.old.source) × (self.new.base ≡ self.old.base) × (self.new.origin ≡ self.old.origin) × (self.new.keep ≡ self.old.keep) }
     {
         if let Some(comment) = self.comment() {
@@ -126,7 +126,7 @@ impl<'a, S: Source> Cursor<'a, S> {
                 Ok(true)
             }
             Token::End => Ok(false),
-            _ => Err(self.wrong(FaultKind::Unexpected)),
+            _ => Err(self.wrong_at(FaultKind::Unexpected, self.at)),
         }
     }
 
@@ -136,7 +136,7 @@ impl<'a, S: Source> Cursor<'a, S> {
         ensures value { let text = drop self.old.base (S.bytes self.old.source.now) in
             Gives (λ x. ((map view_entry x.0.items, x.1), self.new.at)) result (line_at self.old.keep text self.old.origin blank self.old.at) }
         ensures onward { IfOk result (λ x. Onward self.old.at self.new.at x.1) }
-        ensures newline { IfOk result (λ x. x.1 ≡ true → stands (drop self.old.base (S.bytes self.old.source.now)) (self.new.at - 1) 10 ≡ true) }
+        ensures newline { IfOk result (λ x. x.1 ≡ true → raw_stands (drop self.old.base (S.bytes self.old.source.now)) (self.new.at - 1) 10 ≡ true) }
         ensures same { (self.new.source ≡ self.old.source) × (self.new.base ≡ self.old.base) × (self.new.origin ≡ self.old.origin) × (self.new.keep ≡ self.old.keep) }
     {
         let mut entries = self.entries(alloc, blank)?;

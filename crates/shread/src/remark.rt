@@ -1,6 +1,6 @@
 //! Comments (XCU 2.3, rule 9).
 ghost use Rattle.std.specs.Prelude.{◌≡◌, ◌≤◌, drop, length};
-ghost use Rattle.shread.specs.Bytes.{before_blanks, next_newline};
+ghost use Rattle.shread.specs.Bytes.{before_blanks, next_of};
 ghost use Rattle.shread.specs.Commands.{comment_at, past_comment};
 
 use crate::cursor::Cursor;
@@ -10,14 +10,15 @@ use crate::token::Class;
 use crate::tree::{Comment, Span};
 
 impl<'a, S: Source> Cursor<'a, S> {
-    /// The place of the next newline, or the end.
-    #[tactic(auto, using(crate::proofs::LineEnds::next_newline_found, crate::proofs::LineEnds::next_newline_none))]
-    fn next_newline(&self) -> usize
-        ensures value { result ≡ next_newline (drop self.now.base (S.bytes self.now.source.now)) self.now.at }
-        ensures inside { (self.now.at ≤ result) × (result ≤ length (drop self.now.base (S.bytes self.now.source.now))) }
+    /// The next place of a byte from a place on, or the end.
+    #[tactic(auto, using(crate::proofs::LineEnds::next_of_found, crate::proofs::LineEnds::next_of_none))]
+    pub(crate) fn next_of(&self, byte: u8, from: usize) -> usize
+        requires { from ≤ length (drop self.now.base (S.bytes self.now.source.now)) }
+        ensures value { result ≡ next_of byte (drop self.now.base (S.bytes self.now.source.now)) from }
+        ensures inside { (from ≤ result) × (result ≤ length (drop self.now.base (S.bytes self.now.source.now))) }
     {
-        match find_byte(self.source, self.base + self.at, b'\n') {
-            Some(newline) => newline - self.base,
+        match find_byte(self.source, self.base + from, byte) {
+            Some(place) => place - self.base,
             None => self.source.len() - self.base,
         }
     }
@@ -30,13 +31,14 @@ impl<'a, S: Source> Cursor<'a, S> {
         ensures inside { result ≤ end }
     {
         let mut at = end;
-        'blanks: while at > 0 && self.stands_in(at - 1, Class::Blank) {
+        'blanks: while at > 0 && self.raw_in(at - 1, Class::Blank) {
             at -= 1;
         }
         at
     }
 
     /// Passes the comment that begins here, if one does.
+    #[inline]
     #[tactic(auto, unfolding(crate::specs::Commands::comment_at, crate::specs::Commands::past_comment))]
     pub(crate) fn comment(&mut self) -> Option<Comment>
         ensures value { result ≡ comment_at (drop self.old.base (S.bytes self.old.source.now)) self.old.origin self.old.at }
@@ -47,7 +49,7 @@ impl<'a, S: Source> Cursor<'a, S> {
         if !self.is_at(b'#') {
             return None;
         }
-        let next_newline = self.next_newline();
+        let next_newline = self.next_of(b'\n', self.at);
         let span = Span {
             start: self.origin + self.at,
             end: self.origin + self.before_blanks(next_newline),

@@ -1,8 +1,8 @@
 // Each public function on its happy path, with answers worked out by hand from the grammar.
 use crate::place::find_byte;
 use crate::{
-    Command, Comment, Content, Entry, FaultKind, Flat, Item, ItemContent, Line, LineKind, List,
-    Reader, Source, Span, line_col_of,
+    Command, Comment, Content, Entry, Fault, FaultKind, Flat, Item, ItemContent, Line, LineKind,
+    List, Reader, Source, Span, line_col_of,
 };
 use std::alloc::Global;
 use std::test::Fail;
@@ -50,18 +50,16 @@ fn show_comment(text: &mut String, comment: &Option<Comment>) -> Result<(), Fail
     Ok(())
 }
 
-/// An assignment has `=` before its span.
+/// An assignment has `=` before its span, a broken item `\`.
 fn show_items(text: &mut String, items: &[Item]) -> Result<(), Fail> {
     for item in items {
+        text.push_str(if item.broken { " \\" } else { " " })?;
         match &item.what {
             ItemContent::Assign(word) => {
-                text.push_str(" =")?;
+                text.push_str("=")?;
                 show_span(text, word.span)?;
             }
-            ItemContent::Word(word) => {
-                text.push_str(" ")?;
-                show_span(text, word.span)?;
-            }
+            ItemContent::Word(word) => show_span(text, word.span)?,
         }
     }
     Ok(())
@@ -118,14 +116,30 @@ fn scripts(rt: HostRuntime) -> Result<(), Fail> {
         (
             b"a;b&\nin'",
             ". 0-1\n. 2-3 &\n",
-            Some((FaultKind::Unexpected, 7)),
+            Some((FaultKind::UnclosedSingle, 7)),
         ),
         (
             b"a\n\n\n\n\n b\n2>c\n",
             ". 0-1\n~ 7-8\n",
             Some((FaultKind::Unexpected, 9)),
         ),
-        (b"a\nb $$${c", ". 0-1\n", Some((FaultKind::Unexpected, 6))),
+        (
+            b"a\nb $$${c",
+            ". 0-1\n",
+            Some((FaultKind::UnclosedParam, 6)),
+        ),
+        (b"a \\\n b\\\nc=\\ \\\n#d", ". 0-1 \\5-16\n", None),
+        (
+            b"i\\\nf=1 x\\\n\\\n=2 \\\n'a\n\\\nb'c\\\n\n",
+            ". =0-6 =7-14 \\17-25\n",
+            None,
+        ),
+        (b"\\\n", "", None),
+        (
+            b"a\\\n;\\\n\\\nb &\\\n& c",
+            "",
+            Some((FaultKind::Unexpected, 10)),
+        ),
     ] {
         let read = reader.read_script(&Flat::new(script))?;
         assert_eq!(rt; shown(rt.alloc(), &read.list)?.as_str(), tree);
@@ -136,37 +150,145 @@ fn scripts(rt: HostRuntime) -> Result<(), Fail> {
     Ok(())
 }
 
-/// Scripts of one line with a fault in it, and its offset.
+/// Scripts of one line with a fault in it, its kind and its offset.
 #[test]
 fn faults(rt: HostRuntime) -> Result<(), Fail> {
     let mut reader = Reader::new(rt.alloc());
-    for (script, at) in [
-        (b"in\n".as_slice(), 0),
-        (b"! a\n", 0),
-        (b"\t}\n", 1),
-        (b";a\n", 0),
-        (b"a & ; b\n", 4),
-        (b"a ;; b\n", 2),
-        (b"a;;", 1),
-        (b"a;&b", 2),
-        (b"a && b", 2),
-        (b"a|b", 1),
-        (b"f()", 1),
-        (b"a'\n", 1),
-        (b"a b\\c", 3),
-        (b"a \"", 2),
-        (b"`", 0),
-        (b"a 12<b", 2),
-        (b"a12>b", 3),
-        (b"$$$(", 2),
+    for (script, kind, at) in [
+        (b"in\n".as_slice(), FaultKind::Unexpected, 0),
+        (b"! a\n", FaultKind::Unexpected, 0),
+        (b"\t}\n", FaultKind::Unexpected, 1),
+        (b";a\n", FaultKind::Unexpected, 0),
+        (b"a & ; b\n", FaultKind::Unexpected, 4),
+        (b"a ;; b\n", FaultKind::Unexpected, 2),
+        (b"a;;", FaultKind::Unexpected, 1),
+        (b"a;&b", FaultKind::Unexpected, 2),
+        (b"a && b", FaultKind::Unexpected, 2),
+        (b"a|b", FaultKind::Unexpected, 1),
+        (b"f()", FaultKind::Unexpected, 1),
+        (b"a 12<b", FaultKind::Unexpected, 2),
+        (b"a12>b", FaultKind::Unexpected, 3),
+        (b"a'\n", FaultKind::UnclosedSingle, 1),
+        (b"echo 'a", FaultKind::UnclosedSingle, 5),
+        (b"echo $((1+(2))\n", FaultKind::BadArithClose, 13),
+        (b"a\\", FaultKind::LoneBackslash, 1),
+        (b"\"\\", FaultKind::LoneBackslash, 1),
+        (b"`\\", FaultKind::UnclosedBackquote, 0),
+        (b"a `b\\`", FaultKind::UnclosedBackquote, 2),
+        (b"'\\", FaultKind::UnclosedSingle, 0),
+        (b"$((1)", FaultKind::BadArithClose, 4),
+        (b"$((1)\\", FaultKind::BadArithClose, 4),
+        (b"$((1", FaultKind::UnclosedArith, 0),
+        (b"\"${x", FaultKind::UnclosedParam, 1),
+        (b"a \"b", FaultKind::UnclosedDouble, 2),
+        (b"echo \"${x#'}\"\n", FaultKind::UnclosedSingle, 10),
+        (b"echo $$(a)\n", FaultKind::Unexpected, 7),
+        (b"echo \"${x:-$(a)}\"\n", FaultKind::Unexpected, 11),
+        (b"echo ${$$(", FaultKind::Unexpected, 8),
+        (b"$$$(", FaultKind::Unexpected, 2),
+        (b"$\\\n(a)", FaultKind::Unexpected, 0),
     ] {
         let line = reader.read_line(&Flat::new(script), 0)?;
         let LineKind::Faulty(fault) = line.kind else {
             return Err(Fail::from("no fault"));
         };
-        assert_eq!(rt; (fault.kind, fault.at), (FaultKind::Unexpected, at));
+        assert_eq!(rt; (fault.kind, fault.at), (kind, at));
         assert_eq!(rt; (line.next, line.ended), (script.len(), false));
+        assert_eq!(rt; reader.first_fault(&Flat::new(script))?, Some(fault));
     }
+    Ok(())
+}
+
+/// Scripts of one word behind `x `, each without fault: every mode in every other, with each byte that quotes.
+#[test]
+fn words(rt: HostRuntime) -> Result<(), Fail> {
+    let mut reader = Reader::new(rt.alloc());
+    for word in [
+        b"'\"`$(\\'".as_slice(),
+        b"\"'\\\"`'`$$(\"",
+        b"`'\"\\`${$((`",
+        b"\"${x:-it's}\"",
+        b"${y%'}'}",
+        b"\"${x:-'}\"",
+        b"\"${x%'}'}\"",
+        b"${x:-\"}\"}",
+        b"${x-`}`}",
+        b"${x-\\}}",
+        b"${#%'}'}",
+        b"${##'}'}",
+        b"${x#\"${y-'}\"}",
+        b"${}",
+        b"${-}${?}${!}${@}${*}${#}${$}${10}${a_1}",
+        b"${\\\nx\\\n%'}'}",
+        b"$((1+(2*(3))))",
+        b"$\\\n(\\\n(1)\\\n)",
+        b"$(('+\"+${x-'}\"}\"}+`)`))",
+        b"\"$((\"))\"",
+        b"$$\"$${\"$",
+        b"$\\\n$\"{\"",
+        b"a\\ b\\;c\\#\\'",
+        b"\"a\nb;c&d#e\"",
+        b"${x-a b;c\nd}",
+        b"`a b\n\\``",
+    ] {
+        let mut script = Vec::from_slice(rt.alloc(), b"x ")?;
+        script.extend_from_slice(word)?;
+        let text = Flat::new(&script);
+        assert_eq!(rt; reader.first_fault(&text)?, None);
+        let read = reader.read_script(&text)?;
+        let mut wanted = String::from_str(rt.alloc(), ". 0-1 2-")?;
+        write!(wanted, "{}\n", script.len())?;
+        assert_eq!(rt; shown(rt.alloc(), &read.list)?.as_str(), wanted.as_str());
+    }
+    Ok(())
+}
+
+/// A script of so many openers, something between, and as many closers; the first fault in it.
+fn nested(
+    alloc: Global,
+    count: usize,
+    opener: &[u8],
+    middle: &[u8],
+    closer: &[u8],
+) -> Result<Option<Fault>, Fail> {
+    let mut script = Vec::new(alloc);
+    for _ in 0..count {
+        script.extend_from_slice(opener)?;
+    }
+    script.extend_from_slice(middle)?;
+    for _ in 0..count {
+        script.extend_from_slice(closer)?;
+    }
+    Ok(Reader::new(alloc).first_fault(&Flat::new(&script))?)
+}
+
+/// 100 constructs may be open, and not one more; brackets in arithmetic are none.
+#[test]
+fn depth(rt: HostRuntime) -> Result<(), Fail> {
+    let alloc = rt.alloc();
+    for (opener, middle, closer, at) in [
+        (b"${x:-".as_slice(), b"".as_slice(), b"}".as_slice(), 500),
+        (b"$((", b"1", b"))", 300),
+        (b"\"${x-", b"", b"}\"", 250),
+    ] {
+        let open = if at == 250 { 50 } else { 100 };
+        assert_eq!(rt; nested(alloc, open, opener, middle, closer)?, None);
+        assert_eq!(rt;
+            nested(alloc, open + 1, opener, middle, closer)?,
+            Some(Fault {
+                kind: FaultKind::TooDeep,
+                at
+            })
+        );
+    }
+    let mut script = Vec::from_slice(alloc, b"$((")?;
+    for byte in [b'(', b'1', b')'] {
+        for _ in 0..if byte == b'1' { 1 } else { 200 } {
+            script.push(byte)?;
+        }
+    }
+    script.extend_from_slice(b"))")?;
+    assert_eq!(rt; Reader::new(alloc).first_fault(&Flat::new(&script))?, None);
     Ok(())
 }
 

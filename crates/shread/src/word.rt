@@ -1,27 +1,40 @@
-//! Words (XCU 2.3).
-ghost use Rattle.std.specs.Prelude.{◌≡◌, ◌+◌, ◌<◌, ◌≤◌, [], drop, length, IfOk, false};
-ghost use Rattle.shread.specs.Bytes.{ends_word};
+//! Words (XCU 2.3), and how far they go: their pieces in the five modes (XCU 2.2, 2.6).
+ghost use Rattle.std.specs.Prelude.{◌≡◌, ◌≢◌, ◌+◌, ◌<◌, ◌≤◌, drop, length, IfOk, false, true};
+ghost use Rattle.shread.specs.Bytes.{at_end, behind, ends_word, past_continuations};
 ghost use Rattle.shread.specs.Comes.{step_if};
-ghost use Rattle.shread.specs.Reading.{Gives, Onward, piece_step, turns, word_at};
+ghost use Rattle.shread.specs.Reading.{Gives, Onward, contents_at, level_at, piece_step, word_at};
+ghost use Rattle.shread.specs.Tree.{no_subst, word};
 ghost use Rattle.shread.specs.View.{view_word};
-ghost use Rattle.shread.specs.Words.{span};
+ghost use Rattle.shread.specs.Words.{past_closer, past_parameter, rest_mode, span, unclosed};
 
 use crate::cursor::Cursor;
 use crate::fault::{Fault, FaultKind, Stop};
 use crate::make::word_of;
+use crate::mode::{Mode, Piece};
 use crate::source::Source;
 use crate::tree::{Span, Word};
 use std::alloc::Global;
 
+/// How many constructs may be open.
+const MOST_OPEN: usize = 100;
+
 impl<'a, S: Source> Cursor<'a, S> {
-    /// What stops the reading at this place.
-    pub(crate) fn wrong(&self, kind: FaultKind) -> Stop
-        ensures { result ≡ Stop.Wrong (record { kind = kind; at = self.now.origin + self.now.at }) }
+    /// What stops the reading at a place.
+    pub(crate) fn wrong_at(&self, kind: FaultKind, place: usize) -> Stop
+        requires { place ≤ length (drop self.now.base (S.bytes self.now.source.now)) }
+        ensures { result ≡ Stop.Wrong (record { kind = kind; at = self.now.origin + place }) }
     {
         Stop::Wrong(Fault {
             kind,
-            at: self.origin + self.at,
+            at: self.origin + place,
         })
+    }
+
+    /// What stops the reading at the byte that is read here.
+    fn wrong(&self, kind: FaultKind) -> Stop
+        ensures { result ≡ Stop.Wrong (record { kind = kind; at = self.now.origin + past_continuations (drop self.now.base (S.bytes self.now.source.now)) self.now.at }) }
+    {
+        self.wrong_at(kind, self.place(self.at))
     }
 
     /// The span from a place to this one.
@@ -35,52 +48,199 @@ impl<'a, S: Source> Cursor<'a, S> {
         }
     }
 
-    /// One piece of a word. Answers whether there was one: if not, the word ends here.
-    #[tactic(auto, unfolding(crate::specs::Reading::piece_step))]
-    fn piece(&mut self) -> Result<bool, Stop>
-        ensures value { let text = drop self.old.base (S.bytes self.old.source.now) in
-            Gives (λ more. step_if more [] self.new.at) result (piece_step text self.old.origin [] self.old.at) }
-        ensures onward { IfOk result (Onward self.old.at self.new.at) }
-        ensures some { ends_word (drop self.old.base (S.bytes self.old.source.now)) self.old.at ≡ false → IfOk result (λ more. self.old.at < self.new.at) }
+    /// A backslash and the byte behind it.
+    fn escape(&mut self)
+        requires { past_continuations (drop self.old.base (S.bytes self.old.source.now)) self.old.at + 2 ≤ length (drop self.old.base (S.bytes self.old.source.now)) }
+        ensures value { self.new.at ≡ past_continuations (drop self.old.base (S.bytes self.old.source.now)) self.old.at + 2 }
         ensures same { (self.new.source ≡ self.old.source) × (self.new.base ≡ self.old.base) × (self.new.origin ≡ self.old.origin) × (self.new.keep ≡ self.old.keep) }
     {
-        if self.ends_word() {
-            return Ok(false);
+        self.at = self.place(self.at) + 2;
+    }
+
+    /// What closes a construct of this mode; nothing closes a word.
+    fn close(&mut self, mode: Mode)
+        requires one { mode ≢ Mode.Plain → past_continuations (drop self.old.base (S.bytes self.old.source.now)) self.old.at < length (drop self.old.base (S.bytes self.old.source.now)) }
+        requires two { mode ≡ Mode.Arith → past_continuations (drop self.old.base (S.bytes self.old.source.now)) (behind (drop self.old.base (S.bytes self.old.source.now)) self.old.at) < length (drop self.old.base (S.bytes self.old.source.now)) }
+        ensures value { self.new.at ≡ past_closer (drop self.old.base (S.bytes self.old.source.now)) mode self.old.at }
+        ensures onward { self.old.at ≤ self.new.at }
+        ensures same { (self.new.source ≡ self.old.source) × (self.new.base ≡ self.old.base) × (self.new.origin ≡ self.old.origin) × (self.new.keep ≡ self.old.keep) }
+    {
+        match mode {
+            Mode::Plain => {}
+            Mode::Double | Mode::Brace | Mode::DoubleBrace => self.bump(),
+            Mode::Arith => {
+                self.bump();
+                self.bump();
+            }
         }
-        if self.begins_piece() {
-            return Err(self.wrong(FaultKind::Unexpected));
+    }
+
+    /// A construct, from behind its opener to behind its closer.
+    #[cycle(words)]
+    #[tactic(auto, using(crate::proofs::Levels::level_below, crate::proofs::Levels::level_closed))]
+    fn construct(&mut self, mode: Mode, opener: usize, room: usize) -> Result<usize, Stop>
+        requires { opener ≤ self.old.at }
+        ensures value { let text = (drop self.old.base (S.bytes self.old.source.now)) in
+            Gives (λ nested. (nested, self.new.at)) result (level_at text self.old.origin room mode opener self.old.at) }
+        ensures onward { IfOk result (λ nested. self.old.at ≤ self.new.at) }
+        ensures same { (self.new.source ≡ self.old.source) × (self.new.base ≡ self.old.base) × (self.new.origin ≡ self.old.origin) × (self.new.keep ≡ self.old.keep) }
+    {
+        if room == 0 {
+            return Err(self.wrong_at(FaultKind::TooDeep, opener));
         }
-        if self.is_pid() {
-            self.bump();
-        }
+        self.contents(mode, opener, room - 1)
+    }
+
+    /// A string in double quotes, from its opener on.
+    #[cycle(words)]
+    fn string(&mut self, room: usize) -> Result<usize, Stop>
+        requires { past_continuations (drop self.old.base (S.bytes self.old.source.now)) self.old.at < length (drop self.old.base (S.bytes self.old.source.now)) }
+        ensures value { let text = (drop self.old.base (S.bytes self.old.source.now)) in
+            Gives (λ nested. (nested, self.new.at)) result (level_at text self.old.origin room Mode.Double (past_continuations text self.old.at) (behind text self.old.at)) }
+        ensures onward { IfOk result (λ nested. self.old.at < self.new.at) }
+        ensures same { (self.new.source ≡ self.old.source) × (self.new.base ≡ self.old.base) × (self.new.origin ≡ self.old.origin) × (self.new.keep ≡ self.old.keep) }
+    {
+        let opener = self.place(self.at);
         self.bump();
+        self.construct(Mode::Double, opener, room)
+    }
+
+    /// An arithmetic expansion, from its opener on.
+    #[cycle(words)]
+    fn arithmetic(&mut self, room: usize) -> Result<usize, Stop>
+        requires one { past_continuations (drop self.old.base (S.bytes self.old.source.now)) self.old.at < length (drop self.old.base (S.bytes self.old.source.now)) }
+        requires two { past_continuations (drop self.old.base (S.bytes self.old.source.now)) (behind (drop self.old.base (S.bytes self.old.source.now)) self.old.at) < length (drop self.old.base (S.bytes self.old.source.now)) }
+        requires three { past_continuations (drop self.old.base (S.bytes self.old.source.now)) (behind (drop self.old.base (S.bytes self.old.source.now)) (behind (drop self.old.base (S.bytes self.old.source.now)) self.old.at)) < length (drop self.old.base (S.bytes self.old.source.now)) }
+        ensures value { let text = (drop self.old.base (S.bytes self.old.source.now)) in
+            Gives (λ nested. (nested, self.new.at)) result (level_at text self.old.origin room Mode.Arith (past_continuations text self.old.at) (behind text (behind text (behind text self.old.at)))) }
+        ensures onward { IfOk result (λ nested. self.old.at < self.new.at) }
+        ensures same { (self.new.source ≡ self.old.source) × (self.new.base ≡ self.old.base) × (self.new.origin ≡ self.old.origin) × (self.new.keep ≡ self.old.keep) }
+    {
+        let opener = self.place(self.at);
+        self.bump();
+        self.bump();
+        self.bump();
+        self.construct(Mode::Arith, opener, room)
+    }
+
+    /// A parameter expansion, from its opener on, inside this mode.
+    #[cycle(words)]
+    fn expansion(&mut self, mode: Mode, room: usize) -> Result<usize, Stop>
+        requires one { past_continuations (drop self.old.base (S.bytes self.old.source.now)) self.old.at < length (drop self.old.base (S.bytes self.old.source.now)) }
+        requires two { past_continuations (drop self.old.base (S.bytes self.old.source.now)) (behind (drop self.old.base (S.bytes self.old.source.now)) self.old.at) < length (drop self.old.base (S.bytes self.old.source.now)) }
+        ensures value { let text = (drop self.old.base (S.bytes self.old.source.now)) in
+            Gives (λ nested. (nested, self.new.at)) result
+            (level_at text self.old.origin room (rest_mode text mode (past_parameter text (behind text (behind text self.old.at)))) (past_continuations text self.old.at) (past_parameter text (behind text (behind text self.old.at)))) }
+        ensures onward { IfOk result (λ nested. self.old.at < self.new.at) }
+        ensures same { (self.new.source ≡ self.old.source) × (self.new.base ≡ self.old.base) × (self.new.origin ≡ self.old.origin) × (self.new.keep ≡ self.old.keep) }
+    {
+        let opener = self.place(self.at);
+        self.bump();
+        self.bump();
+        self.parameter();
+        let rest = self.rest_mode(mode);
+        self.construct(rest, opener, room)
+    }
+
+    /// One piece, with so many brackets open in arithmetic. Answers whether there was one: if not, the construct ends here.
+    #[cycle(words)]
+    #[tactic(auto, unfolding(crate::specs::Reading::piece_step), using(crate::proofs::Stretches::place_low))]
+    fn take_piece(
+        &mut self,
+        mode: Mode,
+        opener: usize,
+        nested: &mut usize,
+        room: usize,
+    ) -> Result<bool, Stop>
+        requires opener { opener ≤ self.old.at }
+        requires nested { nested.old ≤ self.old.at }
+        ensures value { let text = (drop self.old.base (S.bytes self.old.source.now)) in
+            Gives (λ more. step_if more nested.new self.new.at) result (piece_step (level_at text self.old.origin room) text self.old.origin mode opener nested.old self.old.at) }
+        ensures onward { IfOk result (Onward self.old.at self.new.at) }
+        ensures nested { IfOk result (λ more. nested.new ≤ self.new.at) }
+        ensures some { mode ≡ Mode.Plain → ends_word (drop self.old.base (S.bytes self.old.source.now)) self.old.at ≡ false → IfOk result (λ more. self.old.at < self.new.at) }
+        ensures same { (self.new.source ≡ self.old.source) × (self.new.base ≡ self.old.base) × (self.new.origin ≡ self.old.origin) × (self.new.keep ≡ self.old.keep) }
+    {
+        match self.piece(mode, *nested) {
+            Piece::Closer => {
+                self.close(mode);
+                return Ok(false);
+            }
+            Piece::Missing => return Err(self.wrong_at(mode.unclosed(), opener)),
+            Piece::LoneBackslash => return Err(self.wrong(FaultKind::LoneBackslash)),
+            Piece::Subst => return Err(self.wrong(FaultKind::Unexpected)),
+            Piece::BadClose => return Err(self.wrong(FaultKind::BadArithClose)),
+            Piece::Escape => self.escape(),
+            Piece::Single => self.single()?,
+            Piece::Backquote => self.backquoted()?,
+            Piece::Double => {
+                let _ = self.string(room)?;
+            }
+            Piece::Arith => {
+                let _ = self.arithmetic(room)?;
+            }
+            Piece::Param => {
+                let _ = self.expansion(mode, room)?;
+            }
+            Piece::Open => {
+                *nested += 1;
+                self.bump();
+            }
+            Piece::Close => {
+                *nested -= 1;
+                self.bump();
+            }
+            Piece::Pid => {
+                self.bump();
+                self.bump();
+            }
+            Piece::Ordinary => self.bump(),
+        }
         Ok(true)
     }
 
-    /// The pieces of the word that begins here.
-    #[tactic(auto, using(crate::proofs::Turns::turns_again, crate::proofs::Turns::turns_done, crate::proofs::Turns::turns_stop))]
-    fn pieces(&mut self) -> Result<(), Stop>
-        requires { ends_word (drop self.old.base (S.bytes self.old.source.now)) self.old.at ≡ false }
-        ensures value { let text = drop self.old.base (S.bytes self.old.source.now) in
-            Gives (λ all. ([], self.new.at)) result (turns (length text) (piece_step text self.old.origin) [] self.old.at) }
-        ensures onward { IfOk result (λ all. self.old.at < self.new.at) }
+    /// What a construct holds, up to its end. Answers how many brackets of arithmetic are open there.
+    #[cycle(words)]
+    #[tactic(auto, unfolding(crate::specs::Reading::contents_at), using(crate::proofs::Turns::turns_done, crate::proofs::Turns::turns_stop, crate::proofs::PlainBytes::plain_turns, crate::proofs::PlainBytes::piece_and_plain))]
+    fn contents(&mut self, mode: Mode, opener: usize, room: usize) -> Result<usize, Stop>
+        requires { opener ≤ self.old.at }
+        ensures value { let text = (drop self.old.base (S.bytes self.old.source.now)) in
+            Gives (λ nested. (nested, self.new.at)) result (contents_at (level_at text self.old.origin room) text self.old.origin mode opener self.old.at) }
+        ensures onward { IfOk result (λ nested. self.old.at ≤ self.new.at) }
+        ensures some { mode ≡ Mode.Plain → ends_word (drop self.old.base (S.bytes self.old.source.now)) self.old.at ≡ false → IfOk result (λ nested. self.old.at < self.new.at) }
         ensures same { (self.new.source ≡ self.old.source) × (self.new.base ≡ self.old.base) × (self.new.origin ≡ self.old.origin) × (self.new.keep ≡ self.old.keep) }
     {
-        'pieces: while self.piece()? {}
-        Ok(())
+        let mut nested = 0;
+        self.skip_plain();
+        'pieces: while self.take_piece(mode, opener, &mut nested, room)? {
+            self.skip_plain();
+        }
+        Ok(nested)
     }
 
-    /// The word that begins here.
-    #[tactic(auto, unfolding(crate::specs::Reading::word_at))]
-    pub(crate) fn word(&mut self, alloc: Global) -> Result<Word, Stop>
+    /// Passes the word that begins here. Most words are plain bytes alone.
+    #[tactic(auto, unfolding(crate::specs::Reading::word_at), using(crate::proofs::PlainBytes::plain_word, crate::proofs::PlainBytes::some_plain))]
+    pub(crate) fn pass_word(&mut self) -> Result<(), Stop>
         requires { ends_word (drop self.old.base (S.bytes self.old.source.now)) self.old.at ≡ false }
-        ensures value { let text = drop self.old.base (S.bytes self.old.source.now) in
-            Gives (λ word. (view_word word, self.new.at)) result (word_at text self.old.origin self.old.at) }
-        ensures onward { IfOk result (λ word. self.old.at < self.new.at) }
+        ensures value { let text = (drop self.old.base (S.bytes self.old.source.now)) in
+            Gives (λ done. (word (span self.old.origin self.old.at self.new.at) no_subst, self.new.at)) result (word_at text self.old.origin self.old.at) }
+        ensures onward { IfOk result (λ done. self.old.at < self.new.at) }
         ensures same { (self.new.source ≡ self.old.source) × (self.new.base ≡ self.old.base) × (self.new.origin ≡ self.old.origin) × (self.new.keep ≡ self.old.keep) }
     {
         let start = self.at;
-        self.pieces()?;
-        Ok(word_of(self.span_from(start), Vec::new(alloc)))
+        self.skip_plain();
+        if !self.ends_word() {
+            self.at = start;
+            let _ = self.contents(Mode::Plain, start, MOST_OPEN)?;
+        }
+        Ok(())
+    }
+
+    /// The word from a place to this one.
+    pub(crate) fn word_from(&self, alloc: Global, start: usize) -> Word
+        requires { start ≤ self.now.at }
+        ensures { view_word result ≡ word (span self.now.origin start self.now.at) no_subst }
+    {
+        word_of(self.span_from(start), Vec::new(alloc))
     }
 }

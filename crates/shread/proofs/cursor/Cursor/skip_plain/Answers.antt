@@ -1,0 +1,11 @@
+use Rattle.std.proofs.Common.{◌≤◌, length, drop, arith}
+use Rattle.shread.proofs.PlainBytes.{run_plain}
+use Rattle.shread.proofs.cursor.Cursor.skip_plain.Goals as goal
+
+pub returns-clause-plain : goal.returns-clause-plain
+returns-clause-plain g c =
+    let bytes = g.S.Source.bytes c.args.self.now.source.now in
+    let low : c.args.self.now.base ≤ length bytes = omega arith in
+    let within : c.args.self.now.at ≤ length (drop c.args.self.now.base bytes) = omega arith in
+    run_plain bytes c.args.self.now.base c.args.self.now.at c.plain_front.result c.run-run.result.now c.run-run.ensures low within
+    c.plain_front.ensures.within c.plain_front.ensures.plain

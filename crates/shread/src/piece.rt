@@ -1,0 +1,213 @@
+//! Which piece of a word begins at a place, and the pieces that hold no others (XCU 2.2, 2.6).
+ghost use Rattle.std.specs.Prelude.{◌≡◌, ◌≢◌, ◌⊎◌, ◌+◌, ◌<◌, ◌≤◌, drop, length, IfOk, Some, false, true};
+ghost use Rattle.shread.specs.Bytes.{behind, byte_at, ends, ends_word, next_of, past_continuations, stands};
+ghost use Rattle.shread.specs.Reading.{Gives, Onward, backquote_step, backquoted_at, single_at, turns};
+ghost use Rattle.shread.specs.Comes.{step_if};
+ghost use Rattle.shread.specs.Words.{bracket_by, byte_by, dollar_at, next_in_backquotes, past_parameter, piece_at, rest_mode, unclosed};
+
+use crate::cursor::Cursor;
+use crate::fault::{FaultKind, Stop};
+use crate::mode::{Mode, Piece};
+use crate::source::Source;
+use crate::token::Class;
+
+impl<'a, S: Source> Cursor<'a, S> {
+    /// What the `$` that is read here begins.
+    #[tactic(auto, unfolding(crate::specs::Words::dollar_at))]
+    fn dollar(&self) -> Piece
+        requires { past_continuations (drop self.now.base (S.bytes self.now.source.now)) self.now.at < length (drop self.now.base (S.bytes self.now.source.now)) }
+        ensures value { result ≡ dollar_at (drop self.now.base (S.bytes self.now.source.now)) self.now.at }
+        ensures two { (result ≡ Piece.Pid) ⊎ (result ≡ Piece.Arith) ⊎ (result ≡ Piece.Param) → past_continuations (drop self.now.base (S.bytes self.now.source.now)) (behind (drop self.now.base (S.bytes self.now.source.now)) self.now.at) < length (drop self.now.base (S.bytes self.now.source.now)) }
+        ensures three { result ≡ Piece.Arith → past_continuations (drop self.now.base (S.bytes self.now.source.now)) (behind (drop self.now.base (S.bytes self.now.source.now)) (behind (drop self.now.base (S.bytes self.now.source.now)) self.now.at)) < length (drop self.now.base (S.bytes self.now.source.now)) }
+        ensures kinds { (result ≢ Piece.Closer) × (result ≢ Piece.Missing) × (result ≢ Piece.Escape) × (result ≢ Piece.Close) }
+    {
+        let next = self.behind(self.at);
+        if self.stands(next, b'$') {
+            return Piece::Pid;
+        }
+        if self.stands(next, b'(') {
+            if self.stands(self.behind(next), b'(') {
+                return Piece::Arith;
+            }
+            return Piece::Subst;
+        }
+        if self.stands(next, b'{') {
+            return Piece::Param;
+        }
+        Piece::Ordinary
+    }
+
+    /// What the `)` that is read here is in arithmetic with so many brackets open.
+    fn bracket(&self, nested: usize) -> Piece
+        requires { past_continuations (drop self.now.base (S.bytes self.now.source.now)) self.now.at < length (drop self.now.base (S.bytes self.now.source.now)) }
+        ensures value { result ≡ bracket_by nested (stands (drop self.now.base (S.bytes self.now.source.now)) (behind (drop self.now.base (S.bytes self.now.source.now)) self.now.at) 41) }
+        ensures closer { result ≡ Piece.Closer → past_continuations (drop self.now.base (S.bytes self.now.source.now)) (behind (drop self.now.base (S.bytes self.now.source.now)) self.now.at) < length (drop self.now.base (S.bytes self.now.source.now)) }
+        ensures close { result ≡ Piece.Close → 0 < nested }
+        ensures kinds { (result ≡ Piece.Closer) ⊎ (result ≡ Piece.Close) ⊎ (result ≡ Piece.BadClose) }
+    {
+        if nested > 0 {
+            return Piece::Close;
+        }
+        if self.is_next(b')') {
+            Piece::Closer
+        } else {
+            Piece::BadClose
+        }
+    }
+
+    /// The piece that a byte begins which is no backslash, no backquote and no `$`.
+    fn byte_piece(&self, mode: Mode, nested: usize, byte: u8) -> Piece
+        requires { past_continuations (drop self.now.base (S.bytes self.now.source.now)) self.now.at < length (drop self.now.base (S.bytes self.now.source.now)) }
+        ensures value { result ≡ byte_by (drop self.now.base (S.bytes self.now.source.now)) self.now.at mode nested byte }
+        ensures closer { mode ≡ Mode.Arith → result ≡ Piece.Closer → past_continuations (drop self.now.base (S.bytes self.now.source.now)) (behind (drop self.now.base (S.bytes self.now.source.now)) self.now.at) < length (drop self.now.base (S.bytes self.now.source.now)) }
+        ensures close { result ≡ Piece.Close → 0 < nested }
+        ensures word { mode ≡ Mode.Plain → ends (Some byte) ≡ false → result ≢ Piece.Closer }
+        ensures kinds { (result ≢ Piece.Missing) × (result ≢ Piece.Escape) × (result ≢ Piece.Pid) × (result ≢ Piece.Arith) × (result ≢ Piece.Param) }
+    {
+        match (mode, byte) {
+            (Mode::Plain, b' ' | b'\t' | b'\n' | b'&' | b'|' | b';' | b'<' | b'>' | b'(' | b')') =>
+                Piece::Closer,
+            (Mode::Double, b'"') => Piece::Closer,
+            (Mode::Brace | Mode::DoubleBrace, b'}') => Piece::Closer,
+            (Mode::Plain | Mode::Brace, b'\'') => Piece::Single,
+            (Mode::Plain | Mode::Brace | Mode::DoubleBrace, b'"') => Piece::Double,
+            (Mode::Arith, b'(') => Piece::Open,
+            (Mode::Arith, b')') => self.bracket(nested),
+            _ => Piece::Ordinary,
+        }
+    }
+
+    /// The piece that begins here, with so many brackets open in arithmetic.
+    #[tactic(auto, unfolding(crate::specs::Words::piece_at, crate::specs::Bytes::ends_word, crate::specs::Bytes::behind))]
+    pub(crate) fn piece(&self, mode: Mode, nested: usize) -> Piece
+        ensures value { result ≡ piece_at (drop self.now.base (S.bytes self.now.source.now)) mode nested self.now.at }
+        ensures some { (result ≢ Piece.Missing) × ((mode ≢ Mode.Plain) ⊎ (result ≢ Piece.Closer)) → past_continuations (drop self.now.base (S.bytes self.now.source.now)) self.now.at < length (drop self.now.base (S.bytes self.now.source.now)) }
+        ensures escape { result ≡ Piece.Escape → past_continuations (drop self.now.base (S.bytes self.now.source.now)) self.now.at + 2 ≤ length (drop self.now.base (S.bytes self.now.source.now)) }
+        ensures two { (result ≡ Piece.Pid) ⊎ (result ≡ Piece.Arith) ⊎ (result ≡ Piece.Param) → past_continuations (drop self.now.base (S.bytes self.now.source.now)) (behind (drop self.now.base (S.bytes self.now.source.now)) self.now.at) < length (drop self.now.base (S.bytes self.now.source.now)) }
+        ensures three { result ≡ Piece.Arith → past_continuations (drop self.now.base (S.bytes self.now.source.now)) (behind (drop self.now.base (S.bytes self.now.source.now)) (behind (drop self.now.base (S.bytes self.now.source.now)) self.now.at)) < length (drop self.now.base (S.bytes self.now.source.now)) }
+        ensures closer { mode ≡ Mode.Arith → result ≡ Piece.Closer → past_continuations (drop self.now.base (S.bytes self.now.source.now)) (behind (drop self.now.base (S.bytes self.now.source.now)) self.now.at) < length (drop self.now.base (S.bytes self.now.source.now)) }
+        ensures close { result ≡ Piece.Close → 0 < nested }
+        ensures word { mode ≡ Mode.Plain → ends_word (drop self.now.base (S.bytes self.now.source.now)) self.now.at ≡ false → result ≢ Piece.Closer }
+    {
+        match self.byte() {
+            None => {
+                if mode == Mode::Plain {
+                    Piece::Closer
+                } else {
+                    Piece::Missing
+                }
+            }
+            Some(b'\\') => {
+                if self.at_end(self.behind(self.at)) {
+                    Piece::LoneBackslash
+                } else {
+                    Piece::Escape
+                }
+            }
+            Some(b'`') => Piece::Backquote,
+            Some(b'$') => self.dollar(),
+            Some(byte) => self.byte_piece(mode, nested, byte),
+        }
+    }
+
+    /// Passes the parameter of an expansion: a name, digits, a special parameter or nothing.
+    #[tactic(auto, unfolding(crate::specs::Words::past_parameter))]
+    pub(crate) fn parameter(&mut self)
+        ensures value { self.new.at ≡ past_parameter (drop self.old.base (S.bytes self.old.source.now)) self.old.at }
+        ensures onward { self.old.at ≤ self.new.at }
+        ensures same { (self.new.source ≡ self.old.source) × (self.new.base ≡ self.old.base) × (self.new.origin ≡ self.old.origin) × (self.new.keep ≡ self.old.keep) }
+    {
+        if self.stands_in(self.at, Class::Letter) {
+            self.at = self.past(self.at, Class::Name);
+        } else if self.stands_in(self.at, Class::Digit) {
+            self.at = self.past(self.at, Class::Digit);
+        } else if self.stands_in(self.at, Class::Special) {
+            self.bump();
+        }
+    }
+
+    /// How the rest of an expansion is read that opened in this mode.
+    #[tactic(auto, unfolding(crate::specs::Words::rest_mode))]
+    pub(crate) fn rest_mode(&self, mode: Mode) -> Mode
+        ensures { result ≡ rest_mode (drop self.now.base (S.bytes self.now.source.now)) mode self.now.at }
+    {
+        if self.is_at(b'#') || self.is_at(b'%') {
+            return Mode::Brace;
+        }
+        mode.braces()
+    }
+
+    /// Text in single quotes, from its opener on.
+    #[tactic(auto, unfolding(crate::specs::Reading::single_at))]
+    pub(crate) fn single(&mut self) -> Result<(), Stop>
+        requires { past_continuations (drop self.old.base (S.bytes self.old.source.now)) self.old.at < length (drop self.old.base (S.bytes self.old.source.now)) }
+        ensures value { let text = (drop self.old.base (S.bytes self.old.source.now)) in
+            Gives (λ done. self.new.at) result (single_at text self.old.origin (past_continuations text self.old.at)) }
+        ensures onward { IfOk result (λ done. self.old.at < self.new.at) }
+        ensures same { (self.new.source ≡ self.old.source) × (self.new.base ≡ self.old.base) × (self.new.origin ≡ self.old.origin) × (self.new.keep ≡ self.old.keep) }
+    {
+        let opener = self.place(self.at);
+        let closer = self.next_of(b'\'', opener + 1);
+        if self.at_end(closer) {
+            return Err(self.wrong_at(FaultKind::UnclosedSingle, opener));
+        }
+        self.at = closer + 1;
+        Ok(())
+    }
+
+    /// The next backquote or backslash from a place on, or the end.
+    #[tactic(auto, using(crate::proofs::Stretches::in_backquotes_more, crate::proofs::Stretches::in_backquotes_end, crate::proofs::Stretches::in_backquotes_closer, crate::proofs::Stretches::in_backquotes_escape))]
+    fn next_in_backquotes(&self, from: usize) -> usize
+        requires { from ≤ length (drop self.now.base (S.bytes self.now.source.now)) }
+        ensures value { result ≡ next_in_backquotes (drop self.now.base (S.bytes self.now.source.now)) from }
+        ensures inside { (from ≤ result) × (result ≤ length (drop self.now.base (S.bytes self.now.source.now))) }
+    {
+        let mut at = from;
+        'bytes: while !self.at_end(at)
+            && !self.raw_stands(at, b'`')
+            && !self.raw_stands(at, b'\\')
+        {
+            at += 1;
+        }
+        at
+    }
+
+    /// What stands up to the next backquote or backslash. Answers whether more follows: if not, the text is closed.
+    #[tactic(auto, unfolding(crate::specs::Reading::backquote_step))]
+    fn backquote_turn(&mut self, opener: usize) -> Result<bool, Stop>
+        requires { opener ≤ self.old.at }
+        ensures value { let text = (drop self.old.base (S.bytes self.old.source.now)) in
+            Gives (λ more. step_if more tt self.new.at) result (backquote_step text self.old.origin opener tt self.old.at) }
+        ensures onward { IfOk result (λ more. self.old.at < self.new.at) }
+        ensures same { (self.new.source ≡ self.old.source) × (self.new.base ≡ self.old.base) × (self.new.origin ≡ self.old.origin) × (self.new.keep ≡ self.old.keep) }
+    {
+        let next = self.next_in_backquotes(self.at);
+        if self.at_end(next) {
+            return Err(self.wrong_at(FaultKind::UnclosedBackquote, opener));
+        }
+        if self.raw_stands(next, b'`') {
+            self.at = next + 1;
+            return Ok(false);
+        }
+        if self.at_end(next + 1) {
+            return Err(self.wrong_at(FaultKind::UnclosedBackquote, opener));
+        }
+        self.at = next + 2;
+        Ok(true)
+    }
+
+    /// Text in backquotes, from its opener on.
+    #[tactic(auto, unfolding(crate::specs::Reading::backquoted_at), using(crate::proofs::Turns::turns_again, crate::proofs::Turns::turns_done, crate::proofs::Turns::turns_stop))]
+    pub(crate) fn backquoted(&mut self) -> Result<(), Stop>
+        requires { past_continuations (drop self.old.base (S.bytes self.old.source.now)) self.old.at < length (drop self.old.base (S.bytes self.old.source.now)) }
+        ensures value { let text = (drop self.old.base (S.bytes self.old.source.now)) in
+            Gives (λ done. (tt, self.new.at)) result (backquoted_at text self.old.origin (past_continuations text self.old.at)) }
+        ensures onward { IfOk result (λ done. self.old.at < self.new.at) }
+        ensures same { (self.new.source ≡ self.old.source) × (self.new.base ≡ self.old.base) × (self.new.origin ≡ self.old.origin) × (self.new.keep ≡ self.old.keep) }
+    {
+        let opener = self.place(self.at);
+        self.at = opener + 1;
+        'turns: while self.backquote_turn(opener)? {}
+        Ok(())
+    }
+}
