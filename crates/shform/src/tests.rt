@@ -133,7 +133,13 @@ fn verdicts(rt: HostRuntime) -> Result<(), Fail> {
         (b";a\n", 1, b"-:1:1: unexpected token\n"),
         (b"a & ; b\n", 1, b"-:1:5: unexpected token\n"),
         (b"a ;; b\n", 1, b"-:1:3: unexpected token\n"),
-        (b"a'\n", 1, b"-:1:2: unexpected token\n"),
+        (b"a'\n", 1, b"-:1:2: unclosed single quote\n"),
+        (b"a 'b\n' \\\n\"${c#'}'}\" $((1 + (2)))\n", 0, b""),
+        (
+            b"a \"${b:-`c`\n",
+            1,
+            b"-:1:4: unclosed parameter expansion\n",
+        ),
         (b"a\n\nb # c |\n \t d|\n|", 1, b"-:4:5: unexpected token\n"),
     ] {
         for step in [1, 2, 99] {
