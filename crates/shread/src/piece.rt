@@ -10,6 +10,7 @@ use crate::fault::{FaultKind, Stop};
 use crate::mode::{Mode, Piece};
 use crate::source::Source;
 use crate::token::Class;
+use memchr::memchr2;
 
 impl<'a, S: Source> Cursor<'a, S> {
     /// What the `$` that is read here begins.
@@ -156,18 +157,19 @@ impl<'a, S: Source> Cursor<'a, S> {
     }
 
     /// The next backquote or backslash from a place on, or the end.
-    #[tactic(auto, using(crate::proofs::Stretches::in_backquotes_more, crate::proofs::Stretches::in_backquotes_end, crate::proofs::Stretches::in_backquotes_closer, crate::proofs::Stretches::in_backquotes_escape))]
+    #[tactic(auto, using(crate::proofs::Stretches::in_backquotes_end))]
     fn next_in_backquotes(&self, from: usize) -> usize
         requires { from ≤ length (drop self.now.base (S.bytes self.now.source.now)) }
         ensures value { result ≡ next_in_backquotes (drop self.now.base (S.bytes self.now.source.now)) from }
         ensures inside { (from ≤ result) × (result ≤ length (drop self.now.base (S.bytes self.now.source.now))) }
     {
         let mut at = from;
-        'bytes: while !self.at_end(at)
-            && !self.raw_stands(at, b'`')
-            && !self.raw_stands(at, b'\\')
-        {
-            at += 1;
+        'runs: while !self.at_end(at) {
+            let run = self.source.run(self.base + at);
+            if let Some(index) = memchr2(b'`', b'\\', run) {
+                return at + index;
+            }
+            at += run.len();
         }
         at
     }
