@@ -119,7 +119,7 @@ impl<'a, S: Source> Cursor<'a, S> {
 
     /// The byte that is read at a place, or `None` at the end.
     #[inline(always)]
-    fn byte_at(&self, at: usize) -> Option<u8>
+    pub(crate) fn byte_at(&self, at: usize) -> Option<u8>
         requires { at ≤ length (drop self.now.base (S.bytes self.now.source.now)) }
         ensures value { result ≡ byte_at (drop self.now.base (S.bytes self.now.source.now)) at }
         ensures inside { IfSome result (λ b. past_continuations (drop self.now.base (S.bytes self.now.source.now)) at < length (drop self.now.base (S.bytes self.now.source.now))) }
