@@ -47,6 +47,16 @@ raw_is test T p (suc n) in_it after =
     raw_more test T p (in_it p (omega arith) (omega arith))
     ∙ raw_is test T (p + 1) n (λ k low high. in_it k (omega arith) (omega arith)) (rw next after) ∙ next
 
+-- a stretch goes on behind what stands in it
+pub raw_on : (test : ℕ → Bool) (T : List ℕ) (p n : ℕ) → ((k : ℕ) → p ≤ k → k < p + n → raw_in test T k ≡ true) → raw_past test T p ≡ raw_past test T (p + n)
+raw_on test T p zero in_it =
+    let same : p + zero ≡ p = omega arith in
+    rw same refl
+raw_on test T p (suc n) in_it =
+    let next : p + 1 + n ≡ p + suc n = omega arith in
+    raw_more test T p (in_it p (omega arith) (omega arith))
+    ∙ raw_on test T (p + 1) n (λ k low high. in_it k (omega arith) (omega arith)) ∙ ap (raw_past test T) next
+
 -- ---- continuations
 
 -- the last byte begins no continuation
@@ -167,45 +177,10 @@ word_whole T p word i e = rw (e, drop-length word) refl
 
 -- ---- the next backquote or backslash
 
--- neither test holds
-neither : (x y : Bool) → x ≡ false → y ≡ false → not (x || y) ≡ true
-neither x y e f = rw (e, f) refl
-
-first_holds : (x y : Bool) → x ≡ true → not (x || y) ≡ false
-first_holds x y e = rw e refl
-
-second_holds : (x y : Bool) → y ≡ true → not (x || y) ≡ false
-second_holds true y e = refl
-second_holds false y e = rw e refl
-
-plain_byte : (b : Option ℕ) → is_none b ≡ false → is_byte b 96 ≡ false → is_byte b 92 ≡ false → passes (λ c. not (c == 96 || c == 92)) b ≡ true
-plain_byte None some e f = absurd cc
-plain_byte (Some c) some e f = neither (c == 96) (c == 92) e f
-
 no_byte : (b : Option ℕ) → is_none b ≡ true → passes (λ c. not (c == 96 || c == 92)) b ≡ false
 no_byte None none = refl
 no_byte (Some c) none = absurd cc
 
-backquote_byte : (b : Option ℕ) → is_byte b 96 ≡ true → passes (λ c. not (c == 96 || c == 92)) b ≡ false
-backquote_byte None e = absurd cc
-backquote_byte (Some c) e = first_holds (c == 96) (c == 92) e
-
-backslash_byte : (b : Option ℕ) → is_byte b 92 ≡ true → passes (λ c. not (c == 96 || c == 92)) b ≡ false
-backslash_byte None e = absurd cc
-backslash_byte (Some c) e = second_holds (c == 96) (c == 92) e
-
-pub in_backquotes_more : (T : List ℕ) (q : ℕ) → at_end T q ≡ false → raw_stands T q 96 ≡ false → raw_stands T q 92 ≡ false → next_in_backquotes T q ≡ next_in_backquotes T (q + 1)
-unfolding at_end raw_stands raw_in
-in_backquotes_more T q some e f = raw_more (λ c. not (c == 96 || c == 92)) T q (plain_byte (slice_get T q) some e f)
-
 pub in_backquotes_end : (T : List ℕ) (q : ℕ) → at_end T q ≡ true → next_in_backquotes T q ≡ q
 unfolding at_end raw_in
 in_backquotes_end T q e = raw_none (λ c. not (c == 96 || c == 92)) T q (no_byte (slice_get T q) e)
-
-pub in_backquotes_closer : (T : List ℕ) (q : ℕ) → raw_stands T q 96 ≡ true → next_in_backquotes T q ≡ q
-unfolding raw_stands raw_in
-in_backquotes_closer T q e = raw_none (λ c. not (c == 96 || c == 92)) T q (backquote_byte (slice_get T q) e)
-
-pub in_backquotes_escape : (T : List ℕ) (q : ℕ) → raw_stands T q 92 ≡ true → next_in_backquotes T q ≡ q
-unfolding raw_stands raw_in
-in_backquotes_escape T q e = raw_none (λ c. not (c == 96 || c == 92)) T q (backslash_byte (slice_get T q) e)

@@ -119,7 +119,7 @@ impl<'a, S: Source> Cursor<'a, S> {
 
     /// The byte that is read at a place, or `None` at the end.
     #[inline(always)]
-    fn byte_at(&self, at: usize) -> Option<u8>
+    pub(crate) fn byte_at(&self, at: usize) -> Option<u8>
         requires { at ≤ length (drop self.now.base (S.bytes self.now.source.now)) }
         ensures value { result ≡ byte_at (drop self.now.base (S.bytes self.now.source.now)) at }
         ensures inside { IfSome result (λ b. past_continuations (drop self.now.base (S.bytes self.now.source.now)) at < length (drop self.now.base (S.bytes self.now.source.now))) }
@@ -388,7 +388,7 @@ impl<'a, S: Source> Cursor<'a, S> {
         }
     }
 
-    /// Whether a word begins here, where no blank stands: most often by a letter.
+    /// Whether a word begins here, where no blank stands. Most often a letter or the line's end tells.
     #[inline(always)]
     #[tactic(auto, unfolding(crate::specs::Bytes::token_at, crate::specs::Bytes::is_number, crate::specs::Bytes::stands_in, crate::specs::Bytes::ends_word))]
     pub(crate) fn begins_word(&self) -> bool
@@ -398,6 +398,7 @@ impl<'a, S: Source> Cursor<'a, S> {
     {
         match self.byte() {
             Some(b'a'..=b'z' | b'A'..=b'Z') => true,
+            Some(b'\n') | None => false,
             _ => self.token().is_word(),
         }
     }

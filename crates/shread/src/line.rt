@@ -106,7 +106,7 @@ impl<'a, S: Source> Cursor<'a, S> {
 
     /// The newline or the end behind the entries of a line, and the comment of a line without entries.
     /// Answers whether it was a newline.
-    #[tactic(auto, unfolding(crate::specs::Reading::end_of_line_at))]
+    #[tactic(auto, unfolding(crate::specs::Reading::end_of_line_at, crate::specs::Bytes::token_at, crate::specs::Bytes::behind, crate::specs::Bytes::raw_stands))]
     fn end_of_line(&mut self, blank: bool, entries: &mut Vec<Entry>) -> Result<bool, Stop>
         ensures value { let text = drop self.old.base (S.bytes self.old.source.now) in
             Gives (λ newline. ((map view_entry entries.new.items, newline), self.new.at)) result (end_of_line_at self.old.keep text self.old.origin blank (map view_entry entries.old.items) self.old.at) }
@@ -120,12 +120,12 @@ impl<'a, S: Source> Cursor<'a, S> {
                 entries.push(comment_entry(comment, blank))?;
             }
         }
-        match self.token() {
-            Token::Newline => {
+        match self.byte() {
+            Some(b'\n') => {
                 self.bump();
                 Ok(true)
             }
-            Token::End => Ok(false),
+            None => Ok(false),
             _ => Err(self.wrong_at(FaultKind::Unexpected, self.at)),
         }
     }

@@ -10,10 +10,11 @@ use crate::fault::{FaultKind, Stop};
 use crate::mode::{Mode, Piece};
 use crate::source::Source;
 use crate::token::Class;
+use memchr::memchr2;
 
 impl<'a, S: Source> Cursor<'a, S> {
     /// What the `$` that is read here begins.
-    #[tactic(auto, unfolding(crate::specs::Words::dollar_at))]
+    #[tactic(auto, unfolding(crate::specs::Words::dollar_at, crate::specs::Bytes::stands))]
     fn dollar(&self) -> Piece
         requires { past_continuations (drop self.now.base (S.bytes self.now.source.now)) self.now.at < length (drop self.now.base (S.bytes self.now.source.now)) }
         ensures value { result ≡ dollar_at (drop self.now.base (S.bytes self.now.source.now)) self.now.at }
@@ -22,19 +23,18 @@ impl<'a, S: Source> Cursor<'a, S> {
         ensures kinds { (result ≢ Piece.Closer) × (result ≢ Piece.Missing) × (result ≢ Piece.Escape) × (result ≢ Piece.Close) }
     {
         let next = self.behind(self.at);
-        if self.stands(next, b'$') {
-            return Piece::Pid;
-        }
-        if self.stands(next, b'(') {
-            if self.stands(self.behind(next), b'(') {
-                return Piece::Arith;
+        match self.byte_at(next) {
+            Some(b'$') => Piece::Pid,
+            Some(b'(') => {
+                if self.stands(self.behind(next), b'(') {
+                    Piece::Arith
+                } else {
+                    Piece::Subst
+                }
             }
-            return Piece::Subst;
+            Some(b'{') => Piece::Param,
+            _ => Piece::Ordinary,
         }
-        if self.stands(next, b'{') {
-            return Piece::Param;
-        }
-        Piece::Ordinary
     }
 
     /// What the `)` that is read here is in arithmetic with so many brackets open.
@@ -111,30 +111,29 @@ impl<'a, S: Source> Cursor<'a, S> {
     }
 
     /// Passes the parameter of an expansion: a name, digits, a special parameter or nothing.
-    #[tactic(auto, unfolding(crate::specs::Words::past_parameter))]
+    #[tactic(auto, unfolding(crate::specs::Words::past_parameter, crate::specs::Bytes::stands_in))]
     pub(crate) fn parameter(&mut self)
         ensures value { self.new.at ≡ past_parameter (drop self.old.base (S.bytes self.old.source.now)) self.old.at }
         ensures onward { self.old.at ≤ self.new.at }
         ensures same { (self.new.source ≡ self.old.source) × (self.new.base ≡ self.old.base) × (self.new.origin ≡ self.old.origin) × (self.new.keep ≡ self.old.keep) }
     {
-        if self.stands_in(self.at, Class::Letter) {
-            self.at = self.past(self.at, Class::Name);
-        } else if self.stands_in(self.at, Class::Digit) {
-            self.at = self.past(self.at, Class::Digit);
-        } else if self.stands_in(self.at, Class::Special) {
-            self.bump();
+        match self.byte() {
+            Some(b'a'..=b'z' | b'A'..=b'Z' | b'_') => self.at = self.past(self.at, Class::Name),
+            Some(b'0'..=b'9') => self.at = self.past(self.at, Class::Digit),
+            Some(b'@' | b'*' | b'#' | b'?' | b'-' | b'$' | b'!') => self.bump(),
+            _ => {}
         }
     }
 
     /// How the rest of an expansion is read that opened in this mode.
-    #[tactic(auto, unfolding(crate::specs::Words::rest_mode))]
+    #[tactic(auto, unfolding(crate::specs::Words::rest_mode, crate::specs::Bytes::stands))]
     pub(crate) fn rest_mode(&self, mode: Mode) -> Mode
         ensures { result ≡ rest_mode (drop self.now.base (S.bytes self.now.source.now)) mode self.now.at }
     {
-        if self.is_at(b'#') || self.is_at(b'%') {
-            return Mode::Brace;
+        match self.byte() {
+            Some(b'#' | b'%') => Mode::Brace,
+            _ => mode.braces(),
         }
-        mode.braces()
     }
 
     /// Text in single quotes, from its opener on.
@@ -156,18 +155,19 @@ impl<'a, S: Source> Cursor<'a, S> {
     }
 
     /// The next backquote or backslash from a place on, or the end.
-    #[tactic(auto, using(crate::proofs::Stretches::in_backquotes_more, crate::proofs::Stretches::in_backquotes_end, crate::proofs::Stretches::in_backquotes_closer, crate::proofs::Stretches::in_backquotes_escape))]
+    #[tactic(auto, using(crate::proofs::Stretches::in_backquotes_end))]
     fn next_in_backquotes(&self, from: usize) -> usize
         requires { from ≤ length (drop self.now.base (S.bytes self.now.source.now)) }
         ensures value { result ≡ next_in_backquotes (drop self.now.base (S.bytes self.now.source.now)) from }
         ensures inside { (from ≤ result) × (result ≤ length (drop self.now.base (S.bytes self.now.source.now))) }
     {
         let mut at = from;
-        'bytes: while !self.at_end(at)
-            && !self.raw_stands(at, b'`')
-            && !self.raw_stands(at, b'\\')
-        {
-            at += 1;
+        'runs: while !self.at_end(at) {
+            let run = self.source.run(self.base + at);
+            if let Some(index) = memchr2(b'`', b'\\', run) {
+                return at + index;
+            }
+            at += run.len();
         }
         at
     }

@@ -93,6 +93,7 @@ impl<'a, S: Source> Cursor<'a, S> {
 
     /// A string in double quotes, from its opener on.
     #[cycle(words)]
+    #[tactic(auto, unfolding(crate::specs::Bytes::behind))]
     fn string(&mut self, room: usize) -> Result<usize, Stop>
         requires { past_continuations (drop self.old.base (S.bytes self.old.source.now)) self.old.at < length (drop self.old.base (S.bytes self.old.source.now)) }
         ensures value { let text = (drop self.old.base (S.bytes self.old.source.now)) in
@@ -101,12 +102,13 @@ impl<'a, S: Source> Cursor<'a, S> {
         ensures same { (self.new.source ≡ self.old.source) × (self.new.base ≡ self.old.base) × (self.new.origin ≡ self.old.origin) × (self.new.keep ≡ self.old.keep) }
     {
         let opener = self.place(self.at);
-        self.bump();
+        self.at = opener + 1;
         self.construct(Mode::Double, opener, room)
     }
 
     /// An arithmetic expansion, from its opener on.
     #[cycle(words)]
+    #[tactic(auto, unfolding(crate::specs::Bytes::behind))]
     fn arithmetic(&mut self, room: usize) -> Result<usize, Stop>
         requires one { past_continuations (drop self.old.base (S.bytes self.old.source.now)) self.old.at < length (drop self.old.base (S.bytes self.old.source.now)) }
         requires two { past_continuations (drop self.old.base (S.bytes self.old.source.now)) (behind (drop self.old.base (S.bytes self.old.source.now)) self.old.at) < length (drop self.old.base (S.bytes self.old.source.now)) }
@@ -117,7 +119,7 @@ impl<'a, S: Source> Cursor<'a, S> {
         ensures same { (self.new.source ≡ self.old.source) × (self.new.base ≡ self.old.base) × (self.new.origin ≡ self.old.origin) × (self.new.keep ≡ self.old.keep) }
     {
         let opener = self.place(self.at);
-        self.bump();
+        self.at = opener + 1;
         self.bump();
         self.bump();
         self.construct(Mode::Arith, opener, room)
@@ -125,6 +127,7 @@ impl<'a, S: Source> Cursor<'a, S> {
 
     /// A parameter expansion, from its opener on, inside this mode.
     #[cycle(words)]
+    #[tactic(auto, unfolding(crate::specs::Bytes::behind))]
     fn expansion(&mut self, mode: Mode, room: usize) -> Result<usize, Stop>
         requires one { past_continuations (drop self.old.base (S.bytes self.old.source.now)) self.old.at < length (drop self.old.base (S.bytes self.old.source.now)) }
         requires two { past_continuations (drop self.old.base (S.bytes self.old.source.now)) (behind (drop self.old.base (S.bytes self.old.source.now)) self.old.at) < length (drop self.old.base (S.bytes self.old.source.now)) }
@@ -135,7 +138,7 @@ impl<'a, S: Source> Cursor<'a, S> {
         ensures same { (self.new.source ≡ self.old.source) × (self.new.base ≡ self.old.base) × (self.new.origin ≡ self.old.origin) × (self.new.keep ≡ self.old.keep) }
     {
         let opener = self.place(self.at);
-        self.bump();
+        self.at = opener + 1;
         self.bump();
         self.parameter();
         let rest = self.rest_mode(mode);
