@@ -35,12 +35,8 @@ pub(crate) enum Separator {
 pub(crate) enum Class {
     Blank,
     Digit,
-    /// A letter of ASCII or an underscore.
-    Letter,
     /// A letter, a digit or an underscore, all ASCII.
     Name,
-    /// A special parameter of one byte (XCU 2.5.2).
-    Special,
 }
 
 impl Token {
@@ -59,9 +55,7 @@ impl Class {
         match self {
             Class::Blank => byte == b' ' || byte == b'\t',
             Class::Digit => byte.is_ascii_digit(),
-            Class::Letter => byte.is_ascii_alphabetic() || byte == b'_',
             Class::Name => byte.is_ascii_alphanumeric() || byte == b'_',
-            Class::Special => matches!(byte, b'@' | b'*' | b'#' | b'?' | b'-' | b'$' | b'!'),
         }
     }
 }
