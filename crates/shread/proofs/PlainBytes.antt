@@ -1,13 +1,12 @@
 -- Bytes that are ordinary in every mode: each is a piece of its own.
 use Rattle.std.proofs.Common.{◌≡◌, ℕ, zero, suc, ◌+◌, ◌-◌, ◌<◌, ◌≤◌, ◌==◌, Bool, true, false, ◌||◌, ◌&&◌, not, Option, Some, None, Ok, slice_get, slice_index, get_or, List, length, drop, refl, sym, ap, ◌∙◌, arith, length-drop}
 use Rattle.std.proofs.lemmas.Option.{slice_get-get_or}
-use Rattle.std.proofs.lemmas.Bool.{cond_both}
 use Rattle.shread.specs.Text.{IsRun, is_newline}
 use Rattle.shread.specs.declared.mode.Mode.{Mode}
 use Rattle.shread.specs.declared.mode.Mode.TheVariants.{Plain, Double, Brace, DoubleBrace, Arith}
 use Rattle.shread.specs.declared.mode.Piece.TheVariants as pieces
 use Rattle.shread.specs.Bytes.{raw_stands, raw_in, passes, is_byte, is_blank, is_operator, ends, ends_word, continues, past_continuations, byte_at, behind}
-use Rattle.shread.specs.Words.{span, piece_by, byte_by, piece_at}
+use Rattle.shread.specs.Words.{span, piece_by, piece_at}
 use Rattle.shread.specs.Comes.{Read, again, done}
 use Rattle.shread.specs.Reading.{Opened, piece_of, piece_step, contents_at, level_at, word_at, turns}
 use Rattle.shread.specs.Plain.{is_plain, ArePlain}

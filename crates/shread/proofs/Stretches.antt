@@ -1,8 +1,8 @@
 -- Continuations, stretches of bytes of one kind, words spelled out, and texts from a place on.
-use Rattle.std.proofs.Common.{◌≡◌, ℕ, zero, suc, ◌+◌, ◌-◌, ◌<◌, ◌≤◌, ◌==◌, Bool, true, false, not, ◌&&◌, ◌||◌, cond, Option, Some, None, slice_get, get_or, List, [], ◌∷◌, length, drop, refl, sym, ap, ◌∙◌, arith, zero-add, add-one, drop-cons}
+use Rattle.std.proofs.Common.{◌≡◌, ℕ, zero, suc, ◌+◌, ◌-◌, ◌<◌, ◌≤◌, ◌==◌, Bool, true, false, not, ◌&&◌, ◌||◌, cond, Option, Some, None, slice_get, get_or, List, [], ◌∷◌, length, drop, refl, ap, ◌∙◌, arith, zero-add, add-one, drop-cons}
 use Rattle.std.proofs.Math.Seq.{drop-length}
 use Rattle.std.proofs.lemmas.Option.{slice_get_within, slice_get_past}
-use Rattle.shread.specs.Bytes.{at_end, is_none, raw_stands, raw_in, stands, stands_in, passes, is_byte, count_front, raw_past, past, past_below, past_blanks, before_blanks, is_blank, is_word_at, ends_word, continues, count_joined, past_continuations, byte_at, behind}
+use Rattle.shread.specs.Bytes.{at_end, is_none, raw_stands, raw_in, stands, stands_in, passes, is_byte, count_front, raw_past, past, past_below, before_blanks, is_blank, is_word_at, ends_word, continues, count_joined, past_continuations, byte_at, behind}
 use Rattle.shread.specs.Words.{next_in_backquotes}
 
 -- ---- a text from a place on

@@ -1,5 +1,5 @@
 -- The bytes that are ordinary in every mode. The code passes many of them at once.
-use Rattle.std.specs.Prelude.{◌≡◌, ℕ, ◌+◌, ◌<◌, ◌≤◌, ◌==◌, Bool, true, ◌||◌, not, List}
+use Rattle.std.specs.Prelude.{◌≡◌, ℕ, ◌<◌, ◌≤◌, ◌==◌, Bool, true, ◌||◌, not, List}
 use Rattle.shread.specs.Text.{is_newline}
 use Rattle.shread.specs.Bytes.{is_blank, is_operator, raw_in}
 

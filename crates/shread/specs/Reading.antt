@@ -12,7 +12,7 @@ use Rattle.shread.specs.declared.fault.Stop.TheVariants.{Memory, Wrong}
 use Rattle.shread.specs.declared.token.Token.{Token}
 use Rattle.shread.specs.declared.tree.Comment.{Comment}
 use Rattle.shread.specs.declared.token.Token.TheVariants as tokens
-use Rattle.shread.specs.Tree.{ASubst, AWord, AnItem, AnEntry, ACommand, APipeline, AnAndOr, word, no_subst, item, assign, argument, items_of, simple, pipeline, no_pipe, and_or, no_and_or, entry, command, entries_of}
+use Rattle.shread.specs.Tree.{AWord, AnItem, AnEntry, ACommand, APipeline, AnAndOr, word, no_subst, item, assign, argument, items_of, simple, pipeline, no_pipe, and_or, no_and_or, entry, command, entries_of}
 use Rattle.shread.specs.Bytes.{raw_stands, at_end, next_of, past_continuations, behind, past_blanks, is_broken_at, token_at, begins_assignment}
 use Rattle.shread.specs.Comes.{Read, fault, Step, again, done, step_if}
 use Rattle.shread.specs.Words.{span, next_in_backquotes, past_parameter, rest_mode, unclosed, past_closer, piece_at}

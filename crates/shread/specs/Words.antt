@@ -1,5 +1,5 @@
 -- Words and their pieces (XCU 2.2, 2.3, 2.6). T is the text from where the line begins, and o the offset of its first byte.
-use Rattle.std.specs.Prelude.{ℕ, zero, suc, ◌+◌, ◌-◌, ◌==◌, Bool, true, false, ◌&&◌, ◌||◌, not, Option, None, Some, if◌then◌else◌}
+use Rattle.std.specs.Prelude.{ℕ, zero, suc, ◌+◌, ◌-◌, ◌==◌, Bool, true, false, ◌||◌, not, Option, None, Some, if◌then◌else◌}
 use Rattle.std.specs.Prelude.{List}
 use Rattle.shread.specs.declared.tree.Span.{Span}
 use Rattle.shread.specs.declared.fault.FaultKind.{FaultKind}
@@ -10,7 +10,7 @@ use Rattle.shread.specs.declared.mode.Piece.{Piece}
 use Rattle.shread.specs.declared.mode.Piece.TheVariants as pieces
 use Rattle.shread.specs.Tree.{AWord, word, no_subst}
 use Rattle.shread.specs.Bytes.{is_letter, is_digit, is_name, raw_stands, at_end, raw_past, next_of, past_continuations, byte_at, behind, stands, stands_in, ends, past}
-use Rattle.shread.specs.Comes.{Comes, fault, give, stop, when, Then, ◌>>=◌, Many, Step, again, done}
+use Rattle.shread.specs.Comes.{Comes, give, stop, when, ◌>>=◌, Many, Step, again, done}
 
 -- the span from the place p up to the place q
 abbrev pub span : ℕ → ℕ → ℕ → Span

@@ -1,5 +1,5 @@
-use Rattle.std.proofs.Common.{◌≡◌, ◌≤◌, ◌<◌, length, drop, ◌∙◌, arith}
-use Rattle.shread.specs.Reading.{turns, piece_step, level_at}
+use Rattle.std.proofs.Common.{◌<◌, drop, ◌∙◌, arith}
+use Rattle.shread.specs.Reading.{level_at}
 use Rattle.shread.proofs.PlainBytes.{piece_and_plain}
 use Rattle.shread.proofs.cursor.Cursor.+words.Goals as goal
 

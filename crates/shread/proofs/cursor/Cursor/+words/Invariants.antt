@@ -1,4 +1,4 @@
-use Rattle.std.proofs.Common.{◌≡◌, ◌≤◌, ◌<◌, ◌+◌, ◌*◌, ◌-◌, length, drop}
+use Rattle.std.proofs.Common.{◌≡◌, ◌≤◌, ◌+◌, ◌*◌, ◌-◌, length, drop}
 use Rattle.shread.specs.Reading.{turns, piece_step, level_at}
 use Rattle.shread.proofs.cursor.Cursor.+words.Given as goal
 
