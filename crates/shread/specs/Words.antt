@@ -122,7 +122,8 @@ past_closer T Brace p = behind T p
 past_closer T DoubleBrace p = behind T p
 past_closer T Arith p = behind T (behind T p)
 
--- what may be read in a construct, by its mode, its opener's place and the place behind that
+-- What may be read in a construct, by its mode, its opener's place and the place behind that: how many brackets of arithmetic
+-- are open at its end, which is none there and no row asks for, and the place behind it.
 abbrev pub Constructs : Type 1
 Constructs = Mode → ℕ → ℕ → Comes (ℕ × ℕ)
 

@@ -1,6 +1,6 @@
 //! Simple commands, pipelines and and-or lists (XCU 2.9.1 to 2.9.3).
 ghost use Rattle.std.specs.Prelude.{◌≡◌, ◌<◌, ◌≤◌, [], drop, length, map, IfOk};
-ghost use Rattle.shread.specs.Bytes.{begins_assignment, past_blanks, token_at};
+ghost use Rattle.shread.specs.Bytes.{begins_assignment};
 ghost use Rattle.shread.specs.Comes.{step_if};
 ghost use Rattle.shread.specs.Reading.{Gives, Onward, and_or_at, argument_step, assignment_step, pipeline_at, simple_at, turns};
 ghost use Rattle.shread.specs.View.{view_and_or, view_command, view_item, view_pipeline};

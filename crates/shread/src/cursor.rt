@@ -1,6 +1,6 @@
 //! A place in a text, and what stands there.
 ghost use Rattle.std.specs.Prelude.{◌≡◌, ◌≢◌, ◌+◌, ◌-◌, ◌^◌, ◌<◌, ◌≤◌, drop, length, slice_get, true, false, IfSome};
-ghost use Rattle.shread.specs.Bytes.{is_blank, is_broken_at, raw_past, at_end, behind, byte_at, continues, past_blanks, past_continuations, raw_in, raw_stands, begins_assignment, ends_word, is_letter, is_number, is_reserved, is_word_at, past, stands, stands_in, token_at};
+ghost use Rattle.shread.specs.Bytes.{is_blank, is_broken_at, raw_past, at_end, behind, byte_at, continues, past_blanks, past_continuations, raw_in, raw_stands, begins_assignment, ends_word, is_number, is_reserved, is_word_at, past, stands, stands_in, token_at};
 ghost use Rattle.shread.specs.Classes.{in_class};
 ghost use Rattle.shread.specs.Commands.{is_word};
 

@@ -2,8 +2,8 @@
 ghost use Rattle.std.specs.Prelude.{◌≡◌, ◌-◌, ◌<◌, ◌≤◌, ◌&&◌, [], drop, length, map, IfOk, true, false};
 ghost use Rattle.shread.specs.Bytes.{is_blank, ends_word, raw_stands, stands_in};
 ghost use Rattle.shread.specs.Comes.{step_if};
-ghost use Rattle.shread.specs.Commands.{is_empty, is_background, is_parted, past_separator, separator_at};
-ghost use Rattle.shread.specs.Lines.{begins_command, with_remark};
+ghost use Rattle.shread.specs.Commands.{is_empty, is_parted, past_separator, separator_at};
+ghost use Rattle.shread.specs.Lines.{begins_command};
 ghost use Rattle.shread.specs.Reading.{Gives, Onward, end_of_line_at, entry_at, entry_step, line_at, turns};
 ghost use Rattle.shread.specs.View.{view_entry};
 
@@ -11,7 +11,7 @@ use crate::cursor::Cursor;
 use crate::fault::{FaultKind, Stop};
 use crate::make::{command_entry, comment_entry};
 use crate::source::Source;
-use crate::token::{Class, Separator, Token};
+use crate::token::{Separator, Token};
 use crate::tree::Entry;
 use std::alloc::Global;
 

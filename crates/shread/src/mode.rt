@@ -55,7 +55,7 @@ pub(crate) enum Piece {
 }
 
 impl Mode {
-    /// The fault of text that ends inside.
+    /// The fault of text that ends inside. Nobody asks it of `Plain`: there the end ends the word.
     pub(crate) fn unclosed(self) -> FaultKind
         ensures { result ≡ unclosed self }
     {

@@ -1,9 +1,9 @@
 //! Which piece of a word begins at a place, and the pieces that hold no others (XCU 2.2, 2.6).
 ghost use Rattle.std.specs.Prelude.{◌≡◌, ◌≢◌, ◌⊎◌, ◌+◌, ◌<◌, ◌≤◌, drop, length, IfOk, Some, false, true};
 ghost use Rattle.shread.specs.Bytes.{behind, byte_at, ends, ends_word, next_of, past_continuations, stands};
-ghost use Rattle.shread.specs.Reading.{Gives, Onward, backquote_step, backquoted_at, single_at, turns};
+ghost use Rattle.shread.specs.Reading.{Gives, backquote_step, backquoted_at, single_at, turns};
 ghost use Rattle.shread.specs.Comes.{step_if};
-ghost use Rattle.shread.specs.Words.{bracket_by, byte_by, dollar_at, next_in_backquotes, past_parameter, piece_at, rest_mode, unclosed};
+ghost use Rattle.shread.specs.Words.{bracket_by, byte_by, dollar_at, next_in_backquotes, past_parameter, piece_at, rest_mode};
 
 use crate::cursor::Cursor;
 use crate::fault::{FaultKind, Stop};

@@ -6,7 +6,7 @@ use std::alloc::Global;
 use std::test::Fail;
 
 /// A line that the reader grows for in several places: its second command and its comment come late.
-const TEXT: &[u8] = b"\na=1 b c d e f; g & # h\ni\n";
+const TEXT: &[u8] = b"\na=1 'b' $c \"\" d e; g & # h\ni\n";
 
 /// Asks for the refusal of the nth growth from here on, by a request that no allocator grants.
 fn refuse(alloc: Global, nth: usize) {
@@ -49,14 +49,14 @@ fn read_line(rt: HostRuntime) -> Result<(), Fail> {
         refuse(rt.alloc(), nth);
         let read = reader.read_line(&text, 1);
         if !refuses || !was_refused(rt.alloc(), nth) {
-            assert_eq!(rt; told(&read?), (2, 24, true));
-            assert_eq!(rt; reader.meter(), 24);
+            assert_eq!(rt; told(&read?), (2, 28, true));
+            assert_eq!(rt; reader.meter(), 28);
             break;
         }
         assert_eq!(rt; read.err(), Some(ReadError::Memory));
         assert_eq!(rt; reader.meter(), 1);
-        assert_eq!(rt; told(&reader.read_line(&text, 1)?), (2, 24, true));
-        assert_eq!(rt; reader.meter(), 24);
+        assert_eq!(rt; told(&reader.read_line(&text, 1)?), (2, 28, true));
+        assert_eq!(rt; reader.meter(), 28);
         met = nth;
     }
     assert!(rt; !refuses || 0 < met && met < 99, "{met}");
@@ -76,14 +76,14 @@ fn read_script(rt: HostRuntime) -> Result<(), Fail> {
         if !refuses || !was_refused(rt.alloc(), nth) {
             let script = read?;
             assert_eq!(rt; (script.list.entries.len(), script.fault), (3, None));
-            assert_eq!(rt; reader.meter(), 27);
+            assert_eq!(rt; reader.meter(), 31);
             break;
         }
         assert_eq!(rt; read.err(), Some(ReadError::Memory));
         assert_eq!(rt; reader.meter(), 1);
         let script = reader.read_script(&text)?;
         assert_eq!(rt; (script.list.entries.len(), script.fault), (3, None));
-        assert_eq!(rt; reader.meter(), 27);
+        assert_eq!(rt; reader.meter(), 31);
         met = nth;
     }
     assert!(rt; !refuses || 0 < met && met < 99, "{met}");

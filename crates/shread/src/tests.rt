@@ -199,38 +199,48 @@ fn faults(rt: HostRuntime) -> Result<(), Fail> {
     Ok(())
 }
 
-/// Scripts of one word behind `x `, each without fault: every mode in every other, with each byte that quotes.
+/// Words without fault: every mode in every other, with each byte that quotes.
+const WORDS: [&[u8]; 33] = [
+    b"'\"`$(\\'",
+    b"\"'\\\"`'`$$(\"",
+    b"`'\"\\`${$((`",
+    b"\"${x:-it's}\"",
+    b"${y%'}'}",
+    b"\"${x:-'}\"",
+    b"\"${x%'}'}\"",
+    b"${x:-\"}\"}",
+    b"${x-`}`}",
+    b"${x-\\}}",
+    b"${#%'}'}",
+    b"${##'}'}",
+    b"${x#\"${y-'}\"}",
+    b"${x-${y-'}'\"}\"`}`}}",
+    b"${x-$((1+'\"}))}",
+    b"\"${x-${y-'\"}\"}}\"",
+    b"\"${x-${y#'}'}}\"",
+    b"\"${x-$((1'\"}))}\"",
+    b"$((1+$((2'\"))))",
+    b"$((${x#'))'}))",
+    b"${}",
+    b"${-}${?}${!}${@}${*}${#}${$}${10}${a_1}",
+    b"${\\\nx\\\n%'}'}",
+    b"$((1+(2*(3))))",
+    b"$\\\n(\\\n(1)\\\n)",
+    b"$(('+\"+${x-'}\"}\"}+`)`))",
+    b"\"$((\"))\"",
+    b"$$\"$${\"$",
+    b"$\\\n$\"{\"",
+    b"a\\ b\\;c\\#\\'",
+    b"\"a\nb;c&d#e\"",
+    b"${x-a b;c\nd}",
+    b"`a b\n\\``",
+];
+
+/// Each word behind `x ` is the second of a script's one command.
 #[test]
 fn words(rt: HostRuntime) -> Result<(), Fail> {
     let mut reader = Reader::new(rt.alloc());
-    for word in [
-        b"'\"`$(\\'".as_slice(),
-        b"\"'\\\"`'`$$(\"",
-        b"`'\"\\`${$((`",
-        b"\"${x:-it's}\"",
-        b"${y%'}'}",
-        b"\"${x:-'}\"",
-        b"\"${x%'}'}\"",
-        b"${x:-\"}\"}",
-        b"${x-`}`}",
-        b"${x-\\}}",
-        b"${#%'}'}",
-        b"${##'}'}",
-        b"${x#\"${y-'}\"}",
-        b"${}",
-        b"${-}${?}${!}${@}${*}${#}${$}${10}${a_1}",
-        b"${\\\nx\\\n%'}'}",
-        b"$((1+(2*(3))))",
-        b"$\\\n(\\\n(1)\\\n)",
-        b"$(('+\"+${x-'}\"}\"}+`)`))",
-        b"\"$((\"))\"",
-        b"$$\"$${\"$",
-        b"$\\\n$\"{\"",
-        b"a\\ b\\;c\\#\\'",
-        b"\"a\nb;c&d#e\"",
-        b"${x-a b;c\nd}",
-        b"`a b\n\\``",
-    ] {
+    for word in WORDS {
         let mut script = Vec::from_slice(rt.alloc(), b"x ")?;
         script.extend_from_slice(word)?;
         let text = Flat::new(&script);
@@ -289,6 +299,21 @@ fn depth(rt: HostRuntime) -> Result<(), Fail> {
     }
     script.extend_from_slice(b"))")?;
     assert_eq!(rt; Reader::new(alloc).first_fault(&Flat::new(&script))?, None);
+    Ok(())
+}
+
+/// 8 MiB in one pair of quotes, and a word of a million pieces.
+#[test]
+fn long_words(rt: HostRuntime) -> Result<(), Fail> {
+    let alloc = rt.alloc();
+    let mut long = Vec::new(alloc);
+    for _ in 0..1_048_576 {
+        long.extend_from_slice(b"a ;\n\\&}x")?;
+    }
+    for quote in [b"'".as_slice(), b"`", b"\""] {
+        assert_eq!(rt; nested(alloc, 1, quote, &long, quote)?, None);
+    }
+    assert_eq!(rt; nested(alloc, 500_000, b"'a'", b"", b"\"b\"")?, None);
     Ok(())
 }
 

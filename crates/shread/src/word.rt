@@ -1,6 +1,6 @@
 //! Words (XCU 2.3), and how far they go: their pieces in the five modes (XCU 2.2, 2.6).
 ghost use Rattle.std.specs.Prelude.{◌≡◌, ◌≢◌, ◌+◌, ◌<◌, ◌≤◌, drop, length, IfOk, false, true};
-ghost use Rattle.shread.specs.Bytes.{at_end, behind, ends_word, past_continuations};
+ghost use Rattle.shread.specs.Bytes.{behind, ends_word, past_continuations};
 ghost use Rattle.shread.specs.Comes.{step_if};
 ghost use Rattle.shread.specs.Reading.{Gives, Onward, contents_at, level_at, piece_step, word_at};
 ghost use Rattle.shread.specs.Tree.{no_subst, word};
