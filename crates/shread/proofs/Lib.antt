@@ -5,6 +5,7 @@ pub mod Stretches
 pub mod Is
 pub mod Loops
 pub mod Places
+pub mod Unbroken
 pub mod Pieces
 pub mod NormalForm
 pub mod Progress

@@ -5,8 +5,8 @@ use Rattle.shread.specs.Text.{IsRun, is_newline}
 use Rattle.shread.specs.declared.mode.Mode.{Mode}
 use Rattle.shread.specs.declared.mode.Mode.TheVariants.{Plain, Double, Brace, DoubleBrace, Arith}
 use Rattle.shread.specs.declared.mode.Piece.TheVariants as pieces
-use Rattle.shread.specs.Bytes.{raw_stands, raw_in, passes, is_byte, is_blank, is_operator, ends, ends_word, continues, past_continuations, byte_at, behind}
-use Rattle.shread.specs.Words.{span, piece_by, piece_at}
+use Rattle.shread.specs.Bytes.{raw_in, passes, is_blank, is_operator, ends, ends_word, byte_at, behind}
+use Rattle.shread.specs.Words.{span, piece_by, piece_at, past_closer}
 use Rattle.shread.specs.Comes.{Read, again, done}
 use Rattle.shread.specs.Reading.{Opened, piece_of, piece_step, contents_at, level_at, word_at, turns}
 use Rattle.shread.specs.Plain.{is_plain, ArePlain}
@@ -14,7 +14,8 @@ use Rattle.shread.specs.Tree.{word, no_subst}
 use Rattle.std.proofs.lemmas.Bool.Decides.{nat_tests}
 use Rattle.shread.proofs.Turns.{turns_again, turns_done}
 use Rattle.shread.proofs.Places.{word_longer}
-use Rattle.shread.proofs.Stretches.{get_drop, joined_none}
+use Rattle.shread.proofs.Stretches.{get_drop}
+use Rattle.shread.proofs.Unbroken.{stays}
 
 -- ---- a stretch of a source
 
@@ -79,17 +80,6 @@ ordinary_by T p Arith n b plain =
     let opening = or_parts (b == 38 || b == 124 || b == 59 || b == 60 || b == 62) (b == 40) close.0 in
     rw (q.3, q.6, q.7, close.1, opening.1) refl
 
--- no continuation stands where a plain byte does
-no_continuation : (a : Option ℕ) (next : Bool) → passes is_plain a ≡ true → (is_byte a 92 && next) ≡ false
-no_continuation None next plain = absurd cc
-no_continuation (Some b) next plain =
-    let q = none_of (is_blank b) (is_newline b) (is_operator b) (b == 92) (b == 39) (b == 34) (b == 96) (b == 36) (b == 125) plain in
-    rw q.3 refl
-
-stays : (T : List ℕ) (p : ℕ) → raw_in is_plain T p ≡ true → past_continuations T p ≡ p
-unfolding raw_in
-stays T p plain = joined_none T p (unfold continues raw_stands in no_continuation (slice_get T p) (is_byte (slice_get T (p + 1)) 10) plain)
-
 ordinary_at : (T : List ℕ) (p : ℕ) (mode : Mode) (n : ℕ) (a : Option ℕ) → passes is_plain a ≡ true → piece_by T p mode n a ≡ pieces.Ordinary
 ordinary_at T p mode n None plain = absurd cc
 ordinary_at T p mode n (Some b) plain = ordinary_by T p mode n b plain
@@ -97,7 +87,7 @@ ordinary_at T p mode n (Some b) plain = ordinary_by T p mode n b plain
 pub plain_piece : (c : Opened) (T : List ℕ) (o : ℕ) (mode : Mode) (b n p : ℕ) → raw_in is_plain T p ≡ true → piece_step c T o mode b n p ≡ Ok (again n (p + 1))
 unfolding piece_step piece_at behind
 plain_piece c T o mode b n p plain =
-    let same = stays T p plain in
+    let same = stays is_plain T p refl plain in
     let ordinary : piece_by T p mode n (byte_at T p) ≡ pieces.Ordinary =
     ap (λ q. piece_by T p mode n (slice_get T q)) same ∙ ordinary_at T p mode n (slice_get T p) (unfold raw_in in plain) in
     rw (ordinary, same) refl
@@ -142,6 +132,19 @@ closer_at T p n (Some b) end = closer_by T p n b end
 word_closes : (c : Opened) (T : List ℕ) (o b q : ℕ) → ends_word T q ≡ true → piece_step c T o Plain b 0 q ≡ Ok (done 0 q)
 unfolding piece_step piece_at ends_word
 word_closes c T o b q end = ap (piece_of c T o Plain b 0 q) (closer_at T q 0 (byte_at T q) end)
+
+-- plain bytes, and what closes behind them
+pub plain_closed : (c : Opened) (T : List ℕ) (o : ℕ) (mode : Mode) (b p q : ℕ) → ArePlain T p q → p ≤ q → q ≤ length T → piece_at T mode 0 q ≡ pieces.Closer
+    → contents_at c T o mode b p ≡ Ok (0, past_closer T mode q)
+unfolding contents_at piece_step
+plain_closed c T o mode b p q plain low high end =
+    plain_turns c T o mode b 0 p q plain low high ∙ turns_done (length T) (piece_step c T o mode b) 0 0 q (past_closer T mode q) (ap (piece_of c T o mode b 0 q) end)
+
+-- plain bytes, and what stands behind them
+pub plain_contents : (c : Opened) (T : List ℕ) (o : ℕ) (mode : Mode) (b p q : ℕ) → ArePlain T p q → p ≤ q → q ≤ length T
+    → contents_at c T o mode b p ≡ contents_at c T o mode b q
+unfolding contents_at
+plain_contents c T o mode b p q plain low high = plain_turns c T o mode b 0 p q plain low high
 
 plain_end : (c : Opened) (T : List ℕ) (o b p q : ℕ) → ArePlain T p q → p ≤ q → q ≤ length T → ends_word T q ≡ true → contents_at c T o Plain b p ≡ Ok (0, q)
 unfolding contents_at

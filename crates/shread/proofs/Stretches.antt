@@ -94,7 +94,7 @@ unfolding past_continuations
 place_low T p = omega arith
 
 -- a byte that passes a test is one
-passes_low : (test : ℕ → Bool) (T : List ℕ) (q : ℕ) (b : Option ℕ) → slice_get T q ≡ b → passes test b ≡ true → q < length T
+pub passes_low : (test : ℕ → Bool) (T : List ℕ) (q : ℕ) (b : Option ℕ) → slice_get T q ≡ b → passes test b ≡ true → q < length T
 passes_low test T q None is e = absurd cc
 passes_low test T q (Some b) is e = slice_get_within T q b is
 

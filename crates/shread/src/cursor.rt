@@ -28,7 +28,7 @@ impl<'a, S: Source> Cursor<'a, S> {
     /// The byte at a place as it stands, or `None` at the end.
     #[inline(always)]
     #[tactic(auto, using(crate::proofs::Stretches::get_drop))]
-    fn raw_byte(&self, at: usize) -> Option<u8>
+    pub(crate) fn raw_byte(&self, at: usize) -> Option<u8>
         requires { at ≤ length (drop self.now.base (S.bytes self.now.source.now)) }
         ensures value { result ≡ slice_get (drop self.now.base (S.bytes self.now.source.now)) at }
         ensures inside { IfSome result (λ b. at < length (drop self.now.base (S.bytes self.now.source.now))) }
@@ -208,10 +208,26 @@ impl<'a, S: Source> Cursor<'a, S> {
         }
     }
 
-    /// The place behind the bytes of this class from a place on.
+    /// The place behind the bytes of this class from a place on. Most often no continuation stands among them.
     #[inline(always)]
-    #[tactic(auto, using(crate::proofs::Stretches::past_more, crate::proofs::Stretches::past_none))]
+    #[tactic(auto, using(crate::proofs::Unbroken::past_raw, crate::proofs::Unbroken::past_whole, crate::proofs::Unbroken::raw_end))]
     pub(crate) fn past(&self, from: usize, class: Class) -> usize
+        requires { from ≤ length (drop self.now.base (S.bytes self.now.source.now)) }
+        ensures value { result ≡ past (in_class class) (drop self.now.base (S.bytes self.now.source.now)) from }
+        ensures inside { (from ≤ result) × (result ≤ length (drop self.now.base (S.bytes self.now.source.now))) }
+        ensures other { stands_in (in_class class) (drop self.now.base (S.bytes self.now.source.now)) result ≡ false }
+    {
+        let end = self.raw_past(from, class);
+        if self.continues(end) {
+            return self.past_joined(end, class);
+        }
+        end
+    }
+
+    /// The place behind the bytes of this class from a place on, where continuations stand among them.
+    #[cold]
+    #[tactic(auto, using(crate::proofs::Stretches::past_more, crate::proofs::Stretches::past_none))]
+    fn past_joined(&self, from: usize, class: Class) -> usize
         requires { from ≤ length (drop self.now.base (S.bytes self.now.source.now)) }
         ensures value { result ≡ past (in_class class) (drop self.now.base (S.bytes self.now.source.now)) from }
         ensures inside { (from ≤ result) × (result ≤ length (drop self.now.base (S.bytes self.now.source.now))) }

@@ -13,16 +13,17 @@ use crate::token::Class;
 use memchr::memchr2;
 
 impl<'a, S: Source> Cursor<'a, S> {
-    /// What the `$` that is read here begins.
-    #[tactic(auto, unfolding(crate::specs::Words::dollar_at, crate::specs::Bytes::stands))]
-    fn dollar(&self) -> Piece
-        requires { past_continuations (drop self.now.base (S.bytes self.now.source.now)) self.now.at < length (drop self.now.base (S.bytes self.now.source.now)) }
+    /// What the `$` at a place begins.
+    #[tactic(auto, unfolding(crate::specs::Words::dollar_at, crate::specs::Bytes::behind, crate::specs::Bytes::stands))]
+    fn dollar(&self, here: usize) -> Piece
+        requires here { here ≡ past_continuations (drop self.now.base (S.bytes self.now.source.now)) self.now.at }
+        requires some { here < length (drop self.now.base (S.bytes self.now.source.now)) }
         ensures value { result ≡ dollar_at (drop self.now.base (S.bytes self.now.source.now)) self.now.at }
-        ensures two { (result ≡ Piece.Pid) ⊎ (result ≡ Piece.Arith) ⊎ (result ≡ Piece.Param) → past_continuations (drop self.now.base (S.bytes self.now.source.now)) (behind (drop self.now.base (S.bytes self.now.source.now)) self.now.at) < length (drop self.now.base (S.bytes self.now.source.now)) }
-        ensures three { result ≡ Piece.Arith → past_continuations (drop self.now.base (S.bytes self.now.source.now)) (behind (drop self.now.base (S.bytes self.now.source.now)) (behind (drop self.now.base (S.bytes self.now.source.now)) self.now.at)) < length (drop self.now.base (S.bytes self.now.source.now)) }
+        ensures two { (result ≡ Piece.Pid) ⊎ (result ≡ Piece.Arith) ⊎ (result ≡ Piece.Param) → past_continuations (drop self.now.base (S.bytes self.now.source.now)) (here + 1) < length (drop self.now.base (S.bytes self.now.source.now)) }
+        ensures three { result ≡ Piece.Arith → past_continuations (drop self.now.base (S.bytes self.now.source.now)) (behind (drop self.now.base (S.bytes self.now.source.now)) (here + 1)) < length (drop self.now.base (S.bytes self.now.source.now)) }
         ensures kinds { (result ≢ Piece.Closer) × (result ≢ Piece.Missing) × (result ≢ Piece.Escape) × (result ≢ Piece.Close) }
     {
-        let next = self.behind(self.at);
+        let next = here + 1;
         match self.byte_at(next) {
             Some(b'$') => Piece::Pid,
             Some(b'(') => {
@@ -37,18 +38,20 @@ impl<'a, S: Source> Cursor<'a, S> {
         }
     }
 
-    /// What the `)` that is read here is in arithmetic with so many brackets open.
-    fn bracket(&self, nested: usize) -> Piece
-        requires { past_continuations (drop self.now.base (S.bytes self.now.source.now)) self.now.at < length (drop self.now.base (S.bytes self.now.source.now)) }
+    /// What the `)` at a place is in arithmetic with so many brackets open.
+    #[tactic(auto, unfolding(crate::specs::Bytes::behind))]
+    fn bracket(&self, nested: usize, here: usize) -> Piece
+        requires here { here ≡ past_continuations (drop self.now.base (S.bytes self.now.source.now)) self.now.at }
+        requires some { here < length (drop self.now.base (S.bytes self.now.source.now)) }
         ensures value { result ≡ bracket_by nested (stands (drop self.now.base (S.bytes self.now.source.now)) (behind (drop self.now.base (S.bytes self.now.source.now)) self.now.at) 41) }
-        ensures closer { result ≡ Piece.Closer → past_continuations (drop self.now.base (S.bytes self.now.source.now)) (behind (drop self.now.base (S.bytes self.now.source.now)) self.now.at) < length (drop self.now.base (S.bytes self.now.source.now)) }
+        ensures closer { result ≡ Piece.Closer → past_continuations (drop self.now.base (S.bytes self.now.source.now)) (here + 1) < length (drop self.now.base (S.bytes self.now.source.now)) }
         ensures close { result ≡ Piece.Close → 0 < nested }
         ensures kinds { (result ≡ Piece.Closer) ⊎ (result ≡ Piece.Close) ⊎ (result ≡ Piece.BadClose) }
     {
         if nested > 0 {
             return Piece::Close;
         }
-        if self.is_next(b')') {
+        if self.stands(here + 1, b')') {
             Piece::Closer
         } else {
             Piece::BadClose
@@ -56,10 +59,12 @@ impl<'a, S: Source> Cursor<'a, S> {
     }
 
     /// The piece that a byte begins which is no backslash, no backquote and no `$`.
-    fn byte_piece(&self, mode: Mode, nested: usize, byte: u8) -> Piece
-        requires { past_continuations (drop self.now.base (S.bytes self.now.source.now)) self.now.at < length (drop self.now.base (S.bytes self.now.source.now)) }
+    #[inline(always)]
+    fn byte_piece(&self, mode: Mode, nested: usize, byte: u8, here: usize) -> Piece
+        requires here { here ≡ past_continuations (drop self.now.base (S.bytes self.now.source.now)) self.now.at }
+        requires some { here < length (drop self.now.base (S.bytes self.now.source.now)) }
         ensures value { result ≡ byte_by (drop self.now.base (S.bytes self.now.source.now)) self.now.at mode nested byte }
-        ensures closer { mode ≡ Mode.Arith → result ≡ Piece.Closer → past_continuations (drop self.now.base (S.bytes self.now.source.now)) (behind (drop self.now.base (S.bytes self.now.source.now)) self.now.at) < length (drop self.now.base (S.bytes self.now.source.now)) }
+        ensures closer { mode ≡ Mode.Arith → result ≡ Piece.Closer → past_continuations (drop self.now.base (S.bytes self.now.source.now)) (here + 1) < length (drop self.now.base (S.bytes self.now.source.now)) }
         ensures close { result ≡ Piece.Close → 0 < nested }
         ensures word { mode ≡ Mode.Plain → ends (Some byte) ≡ false → result ≢ Piece.Closer }
         ensures kinds { (result ≢ Piece.Missing) × (result ≢ Piece.Escape) × (result ≢ Piece.Pid) × (result ≢ Piece.Arith) × (result ≢ Piece.Param) }
@@ -72,24 +77,27 @@ impl<'a, S: Source> Cursor<'a, S> {
             (Mode::Plain | Mode::Brace, b'\'') => Piece::Single,
             (Mode::Plain | Mode::Brace | Mode::DoubleBrace, b'"') => Piece::Double,
             (Mode::Arith, b'(') => Piece::Open,
-            (Mode::Arith, b')') => self.bracket(nested),
+            (Mode::Arith, b')') => self.bracket(nested, here),
             _ => Piece::Ordinary,
         }
     }
 
-    /// The piece that begins here, with so many brackets open in arithmetic.
+    /// The piece that begins here, with so many brackets open in arithmetic; its first byte is read at the place `here`.
+    #[inline(always)]
     #[tactic(auto, unfolding(crate::specs::Words::piece_at, crate::specs::Bytes::ends_word, crate::specs::Bytes::behind))]
-    pub(crate) fn piece(&self, mode: Mode, nested: usize) -> Piece
+    pub(crate) fn piece(&self, mode: Mode, nested: usize, here: usize) -> Piece
+        requires here { here ≡ past_continuations (drop self.now.base (S.bytes self.now.source.now)) self.now.at }
+        requires within { here ≤ length (drop self.now.base (S.bytes self.now.source.now)) }
         ensures value { result ≡ piece_at (drop self.now.base (S.bytes self.now.source.now)) mode nested self.now.at }
-        ensures some { (result ≢ Piece.Missing) × ((mode ≢ Mode.Plain) ⊎ (result ≢ Piece.Closer)) → past_continuations (drop self.now.base (S.bytes self.now.source.now)) self.now.at < length (drop self.now.base (S.bytes self.now.source.now)) }
-        ensures escape { result ≡ Piece.Escape → past_continuations (drop self.now.base (S.bytes self.now.source.now)) self.now.at + 2 ≤ length (drop self.now.base (S.bytes self.now.source.now)) }
-        ensures two { (result ≡ Piece.Pid) ⊎ (result ≡ Piece.Arith) ⊎ (result ≡ Piece.Param) → past_continuations (drop self.now.base (S.bytes self.now.source.now)) (behind (drop self.now.base (S.bytes self.now.source.now)) self.now.at) < length (drop self.now.base (S.bytes self.now.source.now)) }
-        ensures three { result ≡ Piece.Arith → past_continuations (drop self.now.base (S.bytes self.now.source.now)) (behind (drop self.now.base (S.bytes self.now.source.now)) (behind (drop self.now.base (S.bytes self.now.source.now)) self.now.at)) < length (drop self.now.base (S.bytes self.now.source.now)) }
-        ensures closer { mode ≡ Mode.Arith → result ≡ Piece.Closer → past_continuations (drop self.now.base (S.bytes self.now.source.now)) (behind (drop self.now.base (S.bytes self.now.source.now)) self.now.at) < length (drop self.now.base (S.bytes self.now.source.now)) }
+        ensures some { (result ≢ Piece.Missing) × ((mode ≢ Mode.Plain) ⊎ (result ≢ Piece.Closer)) → here < length (drop self.now.base (S.bytes self.now.source.now)) }
+        ensures escape { result ≡ Piece.Escape → here + 2 ≤ length (drop self.now.base (S.bytes self.now.source.now)) }
+        ensures two { (result ≡ Piece.Pid) ⊎ (result ≡ Piece.Arith) ⊎ (result ≡ Piece.Param) → past_continuations (drop self.now.base (S.bytes self.now.source.now)) (here + 1) < length (drop self.now.base (S.bytes self.now.source.now)) }
+        ensures three { result ≡ Piece.Arith → past_continuations (drop self.now.base (S.bytes self.now.source.now)) (behind (drop self.now.base (S.bytes self.now.source.now)) (here + 1)) < length (drop self.now.base (S.bytes self.now.source.now)) }
+        ensures closer { mode ≡ Mode.Arith → result ≡ Piece.Closer → past_continuations (drop self.now.base (S.bytes self.now.source.now)) (here + 1) < length (drop self.now.base (S.bytes self.now.source.now)) }
         ensures close { result ≡ Piece.Close → 0 < nested }
         ensures word { mode ≡ Mode.Plain → ends_word (drop self.now.base (S.bytes self.now.source.now)) self.now.at ≡ false → result ≢ Piece.Closer }
     {
-        match self.byte() {
+        match self.raw_byte(here) {
             None => {
                 if mode == Mode::Plain {
                     Piece::Closer
@@ -98,15 +106,15 @@ impl<'a, S: Source> Cursor<'a, S> {
                 }
             }
             Some(b'\\') => {
-                if self.at_end(self.behind(self.at)) {
+                if self.at_end(here + 1) {
                     Piece::LoneBackslash
                 } else {
                     Piece::Escape
                 }
             }
             Some(b'`') => Piece::Backquote,
-            Some(b'$') => self.dollar(),
-            Some(byte) => self.byte_piece(mode, nested, byte),
+            Some(b'$') => self.dollar(here),
+            Some(byte) => self.byte_piece(mode, nested, byte, here),
         }
     }
 
@@ -138,14 +146,13 @@ impl<'a, S: Source> Cursor<'a, S> {
 
     /// Text in single quotes, from its opener on.
     #[tactic(auto, unfolding(crate::specs::Reading::single_at))]
-    pub(crate) fn single(&mut self) -> Result<(), Stop>
-        requires { past_continuations (drop self.old.base (S.bytes self.old.source.now)) self.old.at < length (drop self.old.base (S.bytes self.old.source.now)) }
+    pub(crate) fn single(&mut self, opener: usize) -> Result<(), Stop>
+        requires { opener < length (drop self.old.base (S.bytes self.old.source.now)) }
         ensures value { let text = (drop self.old.base (S.bytes self.old.source.now)) in
-            Gives (λ done. self.new.at) result (single_at text self.old.origin (past_continuations text self.old.at)) }
-        ensures onward { IfOk result (λ done. self.old.at < self.new.at) }
+            Gives (λ done. self.new.at) result (single_at text self.old.origin opener) }
+        ensures onward { IfOk result (λ done. opener < self.new.at) }
         ensures same { (self.new.source ≡ self.old.source) × (self.new.base ≡ self.old.base) × (self.new.origin ≡ self.old.origin) × (self.new.keep ≡ self.old.keep) }
     {
-        let opener = self.place(self.at);
         let closer = self.next_of(b'\'', opener + 1);
         if self.at_end(closer) {
             return Err(self.wrong_at(FaultKind::UnclosedSingle, opener));
@@ -198,14 +205,13 @@ impl<'a, S: Source> Cursor<'a, S> {
 
     /// Text in backquotes, from its opener on.
     #[tactic(auto, unfolding(crate::specs::Reading::backquoted_at), using(crate::proofs::Turns::turns_again, crate::proofs::Turns::turns_done, crate::proofs::Turns::turns_stop))]
-    pub(crate) fn backquoted(&mut self) -> Result<(), Stop>
-        requires { past_continuations (drop self.old.base (S.bytes self.old.source.now)) self.old.at < length (drop self.old.base (S.bytes self.old.source.now)) }
+    pub(crate) fn backquoted(&mut self, opener: usize) -> Result<(), Stop>
+        requires { opener < length (drop self.old.base (S.bytes self.old.source.now)) }
         ensures value { let text = (drop self.old.base (S.bytes self.old.source.now)) in
-            Gives (λ done. (tt, self.new.at)) result (backquoted_at text self.old.origin (past_continuations text self.old.at)) }
-        ensures onward { IfOk result (λ done. self.old.at < self.new.at) }
+            Gives (λ done. (tt, self.new.at)) result (backquoted_at text self.old.origin opener) }
+        ensures onward { IfOk result (λ done. opener < self.new.at) }
         ensures same { (self.new.source ≡ self.old.source) × (self.new.base ≡ self.old.base) × (self.new.origin ≡ self.old.origin) × (self.new.keep ≡ self.old.keep) }
     {
-        let opener = self.place(self.at);
         self.at = opener + 1;
         'turns: while self.backquote_turn(opener)? {}
         Ok(())

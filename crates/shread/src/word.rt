@@ -30,13 +30,6 @@ impl<'a, S: Source> Cursor<'a, S> {
         })
     }
 
-    /// What stops the reading at the byte that is read here.
-    fn wrong(&self, kind: FaultKind) -> Stop
-        ensures { result ≡ Stop.Wrong (record { kind = kind; at = self.now.origin + past_continuations (drop self.now.base (S.bytes self.now.source.now)) self.now.at }) }
-    {
-        self.wrong_at(kind, self.place(self.at))
-    }
-
     /// The span from a place to this one.
     pub(crate) fn span_from(&self, start: usize) -> Span
         requires { start ≤ self.now.at }
@@ -48,36 +41,27 @@ impl<'a, S: Source> Cursor<'a, S> {
         }
     }
 
-    /// A backslash and the byte behind it.
-    fn escape(&mut self)
-        requires { past_continuations (drop self.old.base (S.bytes self.old.source.now)) self.old.at + 2 ≤ length (drop self.old.base (S.bytes self.old.source.now)) }
-        ensures value { self.new.at ≡ past_continuations (drop self.old.base (S.bytes self.old.source.now)) self.old.at + 2 }
-        ensures same { (self.new.source ≡ self.old.source) × (self.new.base ≡ self.old.base) × (self.new.origin ≡ self.old.origin) × (self.new.keep ≡ self.old.keep) }
-    {
-        self.at = self.place(self.at) + 2;
-    }
-
-    /// What closes a construct of this mode; nothing closes a word.
-    fn close(&mut self, mode: Mode)
-        requires one { mode ≢ Mode.Plain → past_continuations (drop self.old.base (S.bytes self.old.source.now)) self.old.at < length (drop self.old.base (S.bytes self.old.source.now)) }
-        requires two { mode ≡ Mode.Arith → past_continuations (drop self.old.base (S.bytes self.old.source.now)) (behind (drop self.old.base (S.bytes self.old.source.now)) self.old.at) < length (drop self.old.base (S.bytes self.old.source.now)) }
+    /// What closes a construct of this mode, from its place on; nothing closes a word.
+    #[tactic(auto, unfolding(crate::specs::Bytes::behind), using(crate::proofs::Stretches::place_low))]
+    fn close(&mut self, mode: Mode, here: usize)
+        requires here { here ≡ past_continuations (drop self.old.base (S.bytes self.old.source.now)) self.old.at }
+        requires one { mode ≢ Mode.Plain → here < length (drop self.old.base (S.bytes self.old.source.now)) }
+        requires two { mode ≡ Mode.Arith → past_continuations (drop self.old.base (S.bytes self.old.source.now)) (here + 1) < length (drop self.old.base (S.bytes self.old.source.now)) }
         ensures value { self.new.at ≡ past_closer (drop self.old.base (S.bytes self.old.source.now)) mode self.old.at }
         ensures onward { self.old.at ≤ self.new.at }
         ensures same { (self.new.source ≡ self.old.source) × (self.new.base ≡ self.old.base) × (self.new.origin ≡ self.old.origin) × (self.new.keep ≡ self.old.keep) }
     {
         match mode {
             Mode::Plain => {}
-            Mode::Double | Mode::Brace | Mode::DoubleBrace => self.bump(),
-            Mode::Arith => {
-                self.bump();
-                self.bump();
-            }
+            Mode::Double | Mode::Brace | Mode::DoubleBrace => self.at = here + 1,
+            Mode::Arith => self.at = self.behind(here + 1),
         }
     }
 
-    /// A construct, from behind its opener to behind its closer.
+    /// A construct, from behind its opener to behind its closer. Most often it holds plain bytes alone.
     #[cycle(words)]
-    #[tactic(auto, using(crate::proofs::Levels::level_below, crate::proofs::Levels::level_closed))]
+    #[inline(always)]
+    #[tactic(auto, using(crate::proofs::Levels::level_below, crate::proofs::Levels::level_closed, crate::proofs::PlainBytes::plain_closed, crate::proofs::PlainBytes::plain_contents))]
     fn construct(&mut self, mode: Mode, opener: usize, room: usize) -> Result<usize, Stop>
         requires { opener ≤ self.old.at }
         ensures value { let text = (drop self.old.base (S.bytes self.old.source.now)) in
@@ -88,58 +72,55 @@ impl<'a, S: Source> Cursor<'a, S> {
         if room == 0 {
             return Err(self.wrong_at(FaultKind::TooDeep, opener));
         }
+        self.skip_plain();
+        let here = self.place(self.at);
+        if self.piece(mode, 0, here) == Piece::Closer {
+            self.close(mode, here);
+            return Ok(0);
+        }
         self.contents(mode, opener, room - 1)
     }
 
     /// A string in double quotes, from its opener on.
     #[cycle(words)]
-    #[tactic(auto, unfolding(crate::specs::Bytes::behind))]
-    fn string(&mut self, room: usize) -> Result<usize, Stop>
-        requires { past_continuations (drop self.old.base (S.bytes self.old.source.now)) self.old.at < length (drop self.old.base (S.bytes self.old.source.now)) }
+    fn string(&mut self, opener: usize, room: usize) -> Result<usize, Stop>
+        requires { opener < length (drop self.old.base (S.bytes self.old.source.now)) }
         ensures value { let text = (drop self.old.base (S.bytes self.old.source.now)) in
-            Gives (λ nested. (nested, self.new.at)) result (level_at text self.old.origin room Mode.Double (past_continuations text self.old.at) (behind text self.old.at)) }
-        ensures onward { IfOk result (λ nested. self.old.at < self.new.at) }
+            Gives (λ nested. (nested, self.new.at)) result (level_at text self.old.origin room Mode.Double opener (opener + 1)) }
+        ensures onward { IfOk result (λ nested. opener < self.new.at) }
         ensures same { (self.new.source ≡ self.old.source) × (self.new.base ≡ self.old.base) × (self.new.origin ≡ self.old.origin) × (self.new.keep ≡ self.old.keep) }
     {
-        let opener = self.place(self.at);
         self.at = opener + 1;
         self.construct(Mode::Double, opener, room)
     }
 
     /// An arithmetic expansion, from its opener on.
     #[cycle(words)]
-    #[tactic(auto, unfolding(crate::specs::Bytes::behind))]
-    fn arithmetic(&mut self, room: usize) -> Result<usize, Stop>
-        requires one { past_continuations (drop self.old.base (S.bytes self.old.source.now)) self.old.at < length (drop self.old.base (S.bytes self.old.source.now)) }
-        requires two { past_continuations (drop self.old.base (S.bytes self.old.source.now)) (behind (drop self.old.base (S.bytes self.old.source.now)) self.old.at) < length (drop self.old.base (S.bytes self.old.source.now)) }
-        requires three { past_continuations (drop self.old.base (S.bytes self.old.source.now)) (behind (drop self.old.base (S.bytes self.old.source.now)) (behind (drop self.old.base (S.bytes self.old.source.now)) self.old.at)) < length (drop self.old.base (S.bytes self.old.source.now)) }
+    fn arithmetic(&mut self, opener: usize, room: usize) -> Result<usize, Stop>
+        requires one { opener < length (drop self.old.base (S.bytes self.old.source.now)) }
+        requires two { past_continuations (drop self.old.base (S.bytes self.old.source.now)) (opener + 1) < length (drop self.old.base (S.bytes self.old.source.now)) }
+        requires three { past_continuations (drop self.old.base (S.bytes self.old.source.now)) (behind (drop self.old.base (S.bytes self.old.source.now)) (opener + 1)) < length (drop self.old.base (S.bytes self.old.source.now)) }
         ensures value { let text = (drop self.old.base (S.bytes self.old.source.now)) in
-            Gives (λ nested. (nested, self.new.at)) result (level_at text self.old.origin room Mode.Arith (past_continuations text self.old.at) (behind text (behind text (behind text self.old.at)))) }
-        ensures onward { IfOk result (λ nested. self.old.at < self.new.at) }
+            Gives (λ nested. (nested, self.new.at)) result (level_at text self.old.origin room Mode.Arith opener (behind text (behind text (opener + 1)))) }
+        ensures onward { IfOk result (λ nested. opener < self.new.at) }
         ensures same { (self.new.source ≡ self.old.source) × (self.new.base ≡ self.old.base) × (self.new.origin ≡ self.old.origin) × (self.new.keep ≡ self.old.keep) }
     {
-        let opener = self.place(self.at);
-        self.at = opener + 1;
-        self.bump();
-        self.bump();
+        self.at = self.behind(self.behind(opener + 1));
         self.construct(Mode::Arith, opener, room)
     }
 
     /// A parameter expansion, from its opener on, inside this mode.
     #[cycle(words)]
-    #[tactic(auto, unfolding(crate::specs::Bytes::behind))]
-    fn expansion(&mut self, mode: Mode, room: usize) -> Result<usize, Stop>
-        requires one { past_continuations (drop self.old.base (S.bytes self.old.source.now)) self.old.at < length (drop self.old.base (S.bytes self.old.source.now)) }
-        requires two { past_continuations (drop self.old.base (S.bytes self.old.source.now)) (behind (drop self.old.base (S.bytes self.old.source.now)) self.old.at) < length (drop self.old.base (S.bytes self.old.source.now)) }
+    fn expansion(&mut self, mode: Mode, opener: usize, room: usize) -> Result<usize, Stop>
+        requires one { opener < length (drop self.old.base (S.bytes self.old.source.now)) }
+        requires two { past_continuations (drop self.old.base (S.bytes self.old.source.now)) (opener + 1) < length (drop self.old.base (S.bytes self.old.source.now)) }
         ensures value { let text = (drop self.old.base (S.bytes self.old.source.now)) in
             Gives (λ nested. (nested, self.new.at)) result
-            (level_at text self.old.origin room (rest_mode text mode (past_parameter text (behind text (behind text self.old.at)))) (past_continuations text self.old.at) (past_parameter text (behind text (behind text self.old.at)))) }
-        ensures onward { IfOk result (λ nested. self.old.at < self.new.at) }
+            (level_at text self.old.origin room (rest_mode text mode (past_parameter text (behind text (opener + 1)))) opener (past_parameter text (behind text (opener + 1)))) }
+        ensures onward { IfOk result (λ nested. opener < self.new.at) }
         ensures same { (self.new.source ≡ self.old.source) × (self.new.base ≡ self.old.base) × (self.new.origin ≡ self.old.origin) × (self.new.keep ≡ self.old.keep) }
     {
-        let opener = self.place(self.at);
-        self.at = opener + 1;
-        self.bump();
+        self.at = self.behind(opener + 1);
         self.parameter();
         let rest = self.rest_mode(mode);
         self.construct(rest, opener, room)
@@ -147,7 +128,7 @@ impl<'a, S: Source> Cursor<'a, S> {
 
     /// One piece, with so many brackets open in arithmetic. Answers whether there was one: if not, the construct ends here.
     #[cycle(words)]
-    #[tactic(auto, unfolding(crate::specs::Reading::piece_step), using(crate::proofs::Stretches::place_low))]
+    #[tactic(auto, unfolding(crate::specs::Reading::piece_step, crate::specs::Bytes::behind), using(crate::proofs::Stretches::place_low))]
     fn take_piece(
         &mut self,
         mode: Mode,
@@ -164,47 +145,45 @@ impl<'a, S: Source> Cursor<'a, S> {
         ensures some { mode ≡ Mode.Plain → ends_word (drop self.old.base (S.bytes self.old.source.now)) self.old.at ≡ false → IfOk result (λ more. self.old.at < self.new.at) }
         ensures same { (self.new.source ≡ self.old.source) × (self.new.base ≡ self.old.base) × (self.new.origin ≡ self.old.origin) × (self.new.keep ≡ self.old.keep) }
     {
-        match self.piece(mode, *nested) {
+        let here = self.place(self.at);
+        match self.piece(mode, *nested, here) {
             Piece::Closer => {
-                self.close(mode);
+                self.close(mode, here);
                 return Ok(false);
             }
             Piece::Missing => return Err(self.wrong_at(mode.unclosed(), opener)),
-            Piece::LoneBackslash => return Err(self.wrong(FaultKind::LoneBackslash)),
-            Piece::Subst => return Err(self.wrong(FaultKind::Unexpected)),
-            Piece::BadClose => return Err(self.wrong(FaultKind::BadArithClose)),
-            Piece::Escape => self.escape(),
-            Piece::Single => self.single()?,
-            Piece::Backquote => self.backquoted()?,
+            Piece::LoneBackslash => return Err(self.wrong_at(FaultKind::LoneBackslash, here)),
+            Piece::Subst => return Err(self.wrong_at(FaultKind::Unexpected, here)),
+            Piece::BadClose => return Err(self.wrong_at(FaultKind::BadArithClose, here)),
+            Piece::Escape => self.at = here + 2,
+            Piece::Single => self.single(here)?,
+            Piece::Backquote => self.backquoted(here)?,
             Piece::Double => {
-                let _ = self.string(room)?;
+                let _ = self.string(here, room)?;
             }
             Piece::Arith => {
-                let _ = self.arithmetic(room)?;
+                let _ = self.arithmetic(here, room)?;
             }
             Piece::Param => {
-                let _ = self.expansion(mode, room)?;
+                let _ = self.expansion(mode, here, room)?;
             }
             Piece::Open => {
                 *nested += 1;
-                self.bump();
+                self.at = here + 1;
             }
             Piece::Close => {
                 *nested -= 1;
-                self.bump();
+                self.at = here + 1;
             }
-            Piece::Pid => {
-                self.bump();
-                self.bump();
-            }
-            Piece::Ordinary => self.bump(),
+            Piece::Pid => self.at = self.behind(here + 1),
+            Piece::Ordinary => self.at = here + 1,
         }
         Ok(true)
     }
 
     /// What a construct holds, up to its end. Answers how many brackets of arithmetic are open there.
     #[cycle(words)]
-    #[tactic(auto, unfolding(crate::specs::Reading::contents_at), using(crate::proofs::Turns::turns_done, crate::proofs::Turns::turns_stop, crate::proofs::PlainBytes::plain_turns, crate::proofs::PlainBytes::piece_and_plain))]
+    #[tactic(auto, unfolding(crate::specs::Reading::contents_at), using(crate::proofs::Turns::turns_done, crate::proofs::Turns::turns_stop, crate::proofs::PlainBytes::piece_and_plain))]
     fn contents(&mut self, mode: Mode, opener: usize, room: usize) -> Result<usize, Stop>
         requires { opener ≤ self.old.at }
         ensures value { let text = (drop self.old.base (S.bytes self.old.source.now)) in
@@ -214,7 +193,6 @@ impl<'a, S: Source> Cursor<'a, S> {
         ensures same { (self.new.source ≡ self.old.source) × (self.new.base ≡ self.old.base) × (self.new.origin ≡ self.old.origin) × (self.new.keep ≡ self.old.keep) }
     {
         let mut nested = 0;
-        self.skip_plain();
         'pieces: while self.take_piece(mode, opener, &mut nested, room)? {
             self.skip_plain();
         }
@@ -222,7 +200,7 @@ impl<'a, S: Source> Cursor<'a, S> {
     }
 
     /// Passes the word that begins here. Most words are plain bytes alone.
-    #[tactic(auto, unfolding(crate::specs::Reading::word_at), using(crate::proofs::PlainBytes::plain_word, crate::proofs::PlainBytes::some_plain))]
+    #[tactic(auto, unfolding(crate::specs::Reading::word_at), using(crate::proofs::PlainBytes::plain_word, crate::proofs::PlainBytes::plain_contents, crate::proofs::PlainBytes::some_plain))]
     pub(crate) fn pass_word(&mut self) -> Result<(), Stop>
         requires { ends_word (drop self.old.base (S.bytes self.old.source.now)) self.old.at ≡ false }
         ensures value { let text = (drop self.old.base (S.bytes self.old.source.now)) in
@@ -233,7 +211,6 @@ impl<'a, S: Source> Cursor<'a, S> {
         let start = self.at;
         self.skip_plain();
         if !self.ends_word() {
-            self.at = start;
             let _ = self.contents(Mode::Plain, start, MOST_OPEN)?;
         }
         Ok(())

@@ -1,7 +1,7 @@
 use Rattle.std.proofs.Common.{◌≡◌, ◌≤◌, ◌-◌, length, drop}
 use Rattle.shread.specs.Bytes.{past}
 use Rattle.shread.specs.Classes.{in_class}
-use Rattle.shread.proofs.cursor.Cursor.past.Given as goal
+use Rattle.shread.proofs.cursor.Cursor.past_joined.Given as goal
 
 abbrev pub invariant-bytes : goal.invariant-bytes
 invariant-bytes g l =

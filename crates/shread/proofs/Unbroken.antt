@@ -1,0 +1,65 @@
+-- A stretch of bytes of a class where no continuation stands: what is read there is what stands there.
+use Rattle.std.proofs.Common.{◌≡◌, ℕ, zero, suc, ◌+◌, ◌-◌, ◌<◌, ◌≤◌, ◌==◌, Bool, true, false, ◌&&◌, Option, None, Some, slice_get, List, length, refl, sym, ap, ◌∙◌, arith}
+use Rattle.std.proofs.lemmas.Bool.{eqb-true}
+use Rattle.shread.specs.declared.token.Class.{Class}
+use Rattle.shread.specs.declared.token.Class.TheVariants.{Blank, Digit, Name}
+use Rattle.shread.specs.Bytes.{passes, is_byte, raw_stands, raw_in, raw_past, stands_in, past, continues, past_continuations, behind}
+use Rattle.shread.specs.Classes.{in_class}
+use Rattle.shread.proofs.Stretches.{raw_more, raw_none, joined_none, passes_low, past_more, past_none}
+use Rattle.shread.proofs.Places.{raw_past_stops}
+
+-- a byte of a set without the backslash is none
+no_backslash : (test : ℕ → Bool) (b : ℕ) (x : Bool) → (b == 92) ≡ x → test 92 ≡ false → test b ≡ true → x ≡ false
+no_backslash test b true same other passed =
+    let contrary : true ≡ false = sym passed ∙ ap test (eqb-true b 92 same) ∙ other in
+    absurd cc
+no_backslash test b false same other passed = refl
+
+no_continuation : (test : ℕ → Bool) (a : Option ℕ) (next : Bool) → test 92 ≡ false → passes test a ≡ true → (is_byte a 92 && next) ≡ false
+no_continuation test None next other passed = absurd cc
+no_continuation test (Some b) next other passed = rw (no_backslash test b (b == 92) refl other passed) refl
+
+-- no continuation stands where such a byte does
+pub stays : (test : ℕ → Bool) (T : List ℕ) (p : ℕ) → test 92 ≡ false → raw_in test T p ≡ true → past_continuations T p ≡ p
+unfolding raw_in
+stays test T p other passed = joined_none T p (unfold continues raw_stands in no_continuation test (slice_get T p) (is_byte (slice_get T (p + 1)) 10) other passed)
+
+raw_in_low : (test : ℕ → Bool) (T : List ℕ) (p : ℕ) → raw_in test T p ≡ true → p < length T
+raw_in_low test T p passed = passes_low test T p (slice_get T p) refl (unfold raw_in in passed)
+
+-- one more byte of the stretch, or its end
+turn : (test : ℕ → Bool) (T : List ℕ) (p : ℕ) (x : Bool) → raw_in test T p ≡ x → test 92 ≡ false
+    → (raw_in test T p ≡ true → past test T (p + 1) ≡ past test T (raw_past test T (p + 1))) → past test T p ≡ past test T (raw_past test T p)
+unfolding stands_in behind raw_in
+turn test T p true is other rest =
+    let here : past_continuations T p ≡ p = stays test T p other is in
+    past_more test T p (rw here is) ∙ rw here (rest is) ∙ ap (past test T) (sym (raw_more test T p is))
+turn test T p false is other rest = ap (past test T) (sym (raw_none test T p is))
+
+on_from : (test : ℕ → Bool) (T : List ℕ) (n p : ℕ) → length T - p ≤ n → test 92 ≡ false → past test T p ≡ past test T (raw_past test T p)
+on_from test T zero p low other = turn test T p (raw_in test T p) refl other (λ passed. absurd (omega (arith, low, raw_in_low test T p passed)))
+on_from test T (suc n) p low other = turn test T p (raw_in test T p) refl other (λ passed. on_from test T n (p + 1) (omega (arith, low, raw_in_low test T p passed)) other)
+
+-- the stretch goes on where its bytes as they stand end
+pub past_on : (test : ℕ → Bool) (T : List ℕ) (p : ℕ) → test 92 ≡ false → past test T p ≡ past test T (raw_past test T p)
+past_on test T p other = on_from test T (length T - p) p (omega arith) other
+
+ends_there : (test : ℕ → Bool) (T : List ℕ) (p : ℕ) → continues T (raw_past test T p) ≡ false → stands_in test T (raw_past test T p) ≡ false
+unfolding stands_in
+ends_there test T p none =
+    rw (joined_none T (raw_past test T p) none) (unfold raw_in in raw_past_stops test T p)
+
+no_class : (class : Class) → in_class class 92 ≡ false
+no_class Blank = refl
+no_class Digit = refl
+no_class Name = refl
+
+pub past_raw : (class : Class) (T : List ℕ) (p : ℕ) → past (in_class class) T p ≡ past (in_class class) T (raw_past (in_class class) T p)
+past_raw class T p = past_on (in_class class) T p (no_class class)
+
+-- and it ends there, unless a continuation stands there
+pub raw_end : (class : Class) (T : List ℕ) (p : ℕ) → continues T (raw_past (in_class class) T p) ≡ false → stands_in (in_class class) T (raw_past (in_class class) T p) ≡ false
+raw_end class T p none = ends_there (in_class class) T p none
+
+pub past_whole : (class : Class) (T : List ℕ) (p : ℕ) → continues T (raw_past (in_class class) T p) ≡ false → past (in_class class) T p ≡ raw_past (in_class class) T p
+past_whole class T p none = past_raw class T p ∙ past_none (in_class class) T (raw_past (in_class class) T p) (raw_end class T p none)
