@@ -1,5 +1,4 @@
 pub mod Newlines
-pub mod Runs
 pub mod Turns
 pub mod Stretches
 pub mod Is
@@ -11,7 +10,7 @@ pub mod NormalForm
 pub mod Progress
 pub mod Rows
 pub mod Scripts
-pub mod LineEnds
+pub mod Searches
 pub mod LineKinds
 pub mod Alike
 pub mod Verdict

@@ -1,5 +1,5 @@
 -- Where something is read there is a byte, and how far the stretches of a text reach.
-use Rattle.std.proofs.Common.{◌≡◌, ℕ, zero, suc, ◌+◌, ◌-◌, ◌≤◌, ◌<◌, ◌==◌, Bool, true, false, not, ◌&&◌, ◌||◌, List, [], ◌∷◌, length, drop, Option, Some, None, slice_get, refl, sym, ap, ◌∙◌, arith, ⊎_elim}
+use Rattle.std.proofs.Common.{◌≡◌, ℕ, zero, suc, ◌+◌, ◌-◌, ◌≤◌, ◌<◌, ◌==◌, Bool, true, false, not, cond, ◌&&◌, ◌||◌, List, [], ◌∷◌, length, drop, Option, Some, None, slice_get, refl, sym, ap, ◌∙◌, arith, ⊎_elim}
 use Rattle.std.proofs.lemmas.Bool.{and_parts, or_from, cond_both, both_ways, cases_lt}
 use Rattle.std.proofs.lemmas.Bool.Decides.{nat_tests}
 use Rattle.std.proofs.lemmas.List.{length-drop, drop-drop}
@@ -137,6 +137,18 @@ count_stops test (b ∷ bs) =
     let next : 1 + count_front test bs ≡ suc (count_front test bs) = omega arith in
     cond_both (test b) _ _ (λ n. passes test (slice_get (b ∷ bs) n) ≡ false) (λ e. rw next (count_stops test bs)) (λ e. e)
 
+-- each byte that is counted passes
+counted : (test : ℕ → Bool) (b : ℕ) (bs : List ℕ) (n : ℕ) (x : Bool) → test b ≡ x → n < cond x (1 + count_front test bs) 0
+    → ((m : ℕ) → m < count_front test bs → passes test (slice_get bs m) ≡ true) → passes test (slice_get (b ∷ bs) n) ≡ true
+counted test b bs zero true e lt rest = e
+counted test b bs (suc n) true e lt rest = rest n (omega arith)
+counted test b bs n false e lt rest = absurd (omega arith)
+
+count_all : (test : ℕ → Bool) (xs : List ℕ) (n : ℕ) → n < count_front test xs → passes test (slice_get xs n) ≡ true
+unfolding count_front
+count_all test [] n lt = absurd (omega arith)
+count_all test (b ∷ bs) n lt = counted test b bs n (test b) refl lt (λ m m_lt. count_all test bs m m_lt)
+
 -- a stretch does not end before it begins
 pub raw_past_low : (test : ℕ → Bool) (T : List ℕ) (p : ℕ) → p ≤ raw_past test T p
 unfolding raw_past
@@ -151,6 +163,13 @@ raw_past_high test T p within = omega (arith, count_short test (drop p T), lengt
 pub raw_past_stops : (test : ℕ → Bool) (T : List ℕ) (p : ℕ) → raw_in test T (raw_past test T p) ≡ false
 unfolding raw_past raw_in
 raw_past_stops test T p = ap (passes test) (sym (get_drop p T (count_front test (drop p T)))) ∙ count_stops test (drop p T)
+
+-- each byte of a stretch is of its kind
+pub raw_past_all : (test : ℕ → Bool) (T : List ℕ) (p k : ℕ) → p ≤ k → k < raw_past test T p → raw_in test T k ≡ true
+unfolding raw_past raw_in
+raw_past_all test T p k low high =
+    let there : p + (k - p) ≡ k = omega (arith, low) in
+    ap (λ i. passes test (slice_get T i)) (sym there) ∙ ap (passes test) (sym (get_drop p T (k - p))) ∙ count_all test (drop p T) (k - p) (omega (arith, low, high))
 
 -- the next place of a byte
 pub next_of_low : (c : ℕ) (T : List ℕ) (p : ℕ) → p ≤ next_of c T p

@@ -3,7 +3,6 @@ use Rattle.std.proofs.Common.{◌≡◌, ℕ, zero, suc, ◌+◌, ◌-◌, ◌<�
 use Rattle.std.proofs.Math.Seq.{drop-length}
 use Rattle.std.proofs.lemmas.Option.{slice_get_within, slice_get_past}
 use Rattle.shread.specs.Bytes.{at_end, is_none, raw_stands, raw_in, stands, stands_in, passes, is_byte, count_front, raw_past, past, past_below, before_blanks, is_blank, is_word_at, ends_word, continues, count_joined, past_continuations, byte_at, behind}
-use Rattle.shread.specs.Words.{next_in_backquotes}
 
 -- ---- a text from a place on
 
@@ -174,13 +173,3 @@ word_other T p word i lt e = rw (drop-cons word i 0, e) refl
 pub word_whole : (T : List ℕ) (p : ℕ) (word : List ℕ) (i : ℕ) → i ≡ length word → is_word_at T p (drop i word) ≡ ends_word T p
 unfolding is_word_at
 word_whole T p word i e = rw (e, drop-length word) refl
-
--- ---- the next backquote or backslash
-
-no_byte : (b : Option ℕ) → is_none b ≡ true → passes (λ c. not (c == 96 || c == 92)) b ≡ false
-no_byte None none = refl
-no_byte (Some c) none = absurd cc
-
-pub in_backquotes_end : (T : List ℕ) (q : ℕ) → at_end T q ≡ true → next_in_backquotes T q ≡ q
-unfolding at_end raw_in
-in_backquotes_end T q e = raw_none (λ c. not (c == 96 || c == 92)) T q (no_byte (slice_get T q) e)

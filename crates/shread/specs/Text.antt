@@ -1,5 +1,5 @@
 -- Where a byte stands in a list of bytes, and the line and the column of an offset.
-use Rattle.std.specs.Prelude.{◌≡◌, ◌≢◌, ℕ, ◌+◌, ◌<◌, ◌≤◌, ◌==◌, Bool, List, Option, MatchOption, length, take, slice_index, count_by, fold, if◌then◌else◌}
+use Rattle.std.specs.Prelude.{◌≡◌, ℕ, ◌+◌, ◌<◌, ◌≤◌, ◌==◌, Bool, List, length, take, slice_index, count_by, fold, if◌then◌else◌}
 use Rattle.shread.specs.declared.source.Flat.{Flat}
 
 -- the bytes of a text that lies in one slice
@@ -16,21 +16,6 @@ pub record IsRun (bytes : List ℕ) (at : ℕ) (front : List ℕ) : Type 0 where
   pub some : at < length bytes → 0 < length front
   -- at or past the end it has none
   pub none : length bytes ≤ at → length front ≡ 0
-
--- the byte b stands at no offset from `from` up to `to`
-abbrev pub NowhereFrom : ℕ → List ℕ → ℕ → ℕ → Type 0
-NowhereFrom b bytes from to = (k : ℕ) → from ≤ k → k < to → slice_index bytes k ≢ b
-
--- `at` is the least offset at or past `from` where the byte b stands
-pub record IsLeastPlace (b : ℕ) (bytes : List ℕ) (from at : ℕ) : Type 0 where
-  pub low : from ≤ at
-  pub within : at < length bytes
-  pub here : slice_index bytes at ≡ b
-  pub before : NowhereFrom b bytes from at
-
--- the least offset at or past `from` where the byte b stands, or None where it stands nowhere there
-abbrev pub IsNextPlace : ℕ → List ℕ → ℕ → Option ℕ → Type 0
-IsNextPlace b bytes from found = MatchOption found (NowhereFrom b bytes from (length bytes)) (λ at. IsLeastPlace b bytes from at)
 
 -- a newline, which ends a line
 abbrev pub is_newline : ℕ → Bool

@@ -9,7 +9,7 @@ use Rattle.shread.specs.declared.mode.Mode.TheVariants.{Plain, Double, Brace, Do
 use Rattle.shread.specs.declared.mode.Piece.{Piece}
 use Rattle.shread.specs.declared.mode.Piece.TheVariants as pieces
 use Rattle.shread.specs.Tree.{AWord, word, no_subst}
-use Rattle.shread.specs.Bytes.{is_letter, is_digit, is_name, raw_stands, at_end, raw_past, next_of, past_continuations, byte_at, behind, stands, stands_in, ends, past}
+use Rattle.shread.specs.Bytes.{is_letter, is_digit, is_name, raw_stands, at_end, next_such, next_of, past_continuations, byte_at, behind, stands, stands_in, ends, past}
 use Rattle.shread.specs.Comes.{Comes, give, stop, when, ◌>>=◌, Many, Step, again, done}
 
 -- the span from the place p up to the place q
@@ -67,7 +67,7 @@ single T o b = when (at_end T (next_of 39 T (b + 1))) (stop UnclosedSingle o b) 
 
 -- the next backquote or backslash, or the end
 abbrev pub next_in_backquotes : List ℕ → ℕ → ℕ
-next_in_backquotes T q = raw_past (λ c. not (c == 96 || c == 92)) T q
+next_in_backquotes T q = next_such (λ b. b == 96 || b == 92) T q
 
 -- text in backquotes up to the closing one, from a place in it on; a backslash takes one byte (XCU 2.6.3)
 abbrev pub backquote_turn : List ℕ → ℕ → ℕ → Unit {0} → ℕ → Comes (Step (Unit {0}))

@@ -1,11 +1,22 @@
 //! A place in a text, and what stands there.
-ghost use Rattle.std.specs.Prelude.{◌≡◌, ◌≢◌, ◌+◌, ◌-◌, ◌^◌, ◌<◌, ◌≤◌, drop, length, slice_get, true, false, IfSome};
-ghost use Rattle.shread.specs.Bytes.{is_blank, is_broken_at, raw_past, at_end, behind, byte_at, continues, past_blanks, past_continuations, raw_in, raw_stands, begins_assignment, ends_word, is_number, is_reserved, is_word_at, past, stands, stands_in, token_at};
+ghost use Rattle.std.specs.Prelude.{◌≡◌, ◌≢◌, ◌+◌, ◌-◌, ◌^◌, ◌<◌, ◌≤◌, drop, length, slice_get, true, false, IfSome, Some};
+ghost use Rattle.shread.specs.Bytes.{is_blank, is_broken_at, raw_past, at_end, behind, byte_at, continues, past_blanks, past_continuations, ends, raw_in, raw_stands, begins_assignment, ends_word, is_number, is_reserved, is_word_at, past, stands, stands_in, token_at};
 ghost use Rattle.shread.specs.Classes.{in_class};
 ghost use Rattle.shread.specs.Commands.{is_word};
 
 use crate::source::Source;
 use crate::token::{Class, Token};
+
+/// Whether a word ends before this byte: a blank, a newline, or what an operator begins with.
+#[inline(always)]
+pub(crate) fn ends_words(byte: u8) -> bool
+    ensures { result ≡ ends (Some byte) }
+{
+    matches!(
+        byte,
+        b' ' | b'\t' | b'\n' | b'&' | b'|' | b';' | b'<' | b'>' | b'(' | b')'
+    )
+}
 
 /// A place in the text that a source holds from `base` on.
 ///
@@ -284,10 +295,7 @@ impl<'a, S: Source> Cursor<'a, S> {
         ensures inside { result ≡ false → past_continuations (drop self.now.base (S.bytes self.now.source.now)) at < length (drop self.now.base (S.bytes self.now.source.now)) }
     {
         match self.byte_at(at) {
-            Some(byte) => matches!(
-                byte,
-                b' ' | b'\t' | b'\n' | b'&' | b'|' | b';' | b'<' | b'>' | b'(' | b')'
-            ),
+            Some(byte) => ends_words(byte),
             None => true,
         }
     }

@@ -20,6 +20,7 @@ mod place;
 mod plain;
 mod reader;
 mod remark;
+mod search;
 mod source;
 mod token;
 mod tree;

@@ -3,17 +3,21 @@ ghost use Rattle.std.specs.Prelude.{◌≡◌, ◌≢◌, ◌⊎◌, ◌+◌, �
 ghost use Rattle.shread.specs.Bytes.{behind, byte_at, ends, ends_word, next_of, past_continuations, stands};
 ghost use Rattle.shread.specs.Reading.{Gives, backquote_step, backquoted_at, single_at, turns};
 ghost use Rattle.shread.specs.Comes.{step_if};
-ghost use Rattle.shread.specs.Words.{bracket_by, byte_by, dollar_at, next_in_backquotes, past_parameter, piece_at, rest_mode};
+ghost use Rattle.shread.specs.Words.{bracket_by, byte_by, dollar_at, past_parameter, piece_at, rest_mode};
 
-use crate::cursor::Cursor;
+use crate::cursor::{Cursor, ends_words};
 use crate::fault::{FaultKind, Stop};
 use crate::mode::{Mode, Piece};
+use crate::search::Sought;
 use crate::source::Source;
 use crate::token::Class;
-use memchr::memchr2;
+
+/// How many bytes of quoted text are looked at before it is searched.
+const NEAR: usize = 8;
 
 impl<'a, S: Source> Cursor<'a, S> {
     /// What the `$` at a place begins.
+    #[inline(always)]
     #[tactic(auto, unfolding(crate::specs::Words::dollar_at, crate::specs::Bytes::behind, crate::specs::Bytes::stands))]
     fn dollar(&self, here: usize) -> Piece
         requires here { here ≡ past_continuations (drop self.now.base (S.bytes self.now.source.now)) self.now.at }
@@ -70,8 +74,7 @@ impl<'a, S: Source> Cursor<'a, S> {
         ensures kinds { (result ≢ Piece.Missing) × (result ≢ Piece.Escape) × (result ≢ Piece.Pid) × (result ≢ Piece.Arith) × (result ≢ Piece.Param) }
     {
         match (mode, byte) {
-            (Mode::Plain, b' ' | b'\t' | b'\n' | b'&' | b'|' | b';' | b'<' | b'>' | b'(' | b')') =>
-                Piece::Closer,
+            (Mode::Plain, _) if ends_words(byte) => Piece::Closer,
             (Mode::Double, b'"') => Piece::Closer,
             (Mode::Brace | Mode::DoubleBrace, b'}') => Piece::Closer,
             (Mode::Plain | Mode::Brace, b'\'') => Piece::Single,
@@ -144,6 +147,25 @@ impl<'a, S: Source> Cursor<'a, S> {
         }
     }
 
+    /// The next single quote from a place on, or the end. The nearest bytes are looked at one by one, since a search
+    /// costs more to begin than most quoted text is long.
+    #[inline(always)]
+    #[tactic(auto, using(crate::proofs::Searches::byte_passed, crate::proofs::Searches::byte_here, crate::proofs::Searches::byte_end))]
+    fn next_quote(&self, from: usize) -> usize
+        requires { from ≤ length (drop self.now.base (S.bytes self.now.source.now)) }
+        ensures value { result ≡ next_of 39 (drop self.now.base (S.bytes self.now.source.now)) from }
+        ensures inside { (from ≤ result) × (result ≤ length (drop self.now.base (S.bytes self.now.source.now))) }
+    {
+        let mut at = from;
+        'near: for _ in 0..NEAR {
+            if self.at_end(at) || self.raw_stands(at, b'\'') {
+                return at;
+            }
+            at += 1;
+        }
+        self.next(Sought::Byte(b'\''), at)
+    }
+
     /// Text in single quotes, from its opener on.
     #[tactic(auto, unfolding(crate::specs::Reading::single_at))]
     pub(crate) fn single(&mut self, opener: usize) -> Result<(), Stop>
@@ -153,30 +175,12 @@ impl<'a, S: Source> Cursor<'a, S> {
         ensures onward { IfOk result (λ done. opener < self.new.at) }
         ensures same { (self.new.source ≡ self.old.source) × (self.new.base ≡ self.old.base) × (self.new.origin ≡ self.old.origin) × (self.new.keep ≡ self.old.keep) }
     {
-        let closer = self.next_of(b'\'', opener + 1);
+        let closer = self.next_quote(opener + 1);
         if self.at_end(closer) {
             return Err(self.wrong_at(FaultKind::UnclosedSingle, opener));
         }
         self.at = closer + 1;
         Ok(())
-    }
-
-    /// The next backquote or backslash from a place on, or the end.
-    #[tactic(auto, using(crate::proofs::Stretches::in_backquotes_end))]
-    fn next_in_backquotes(&self, from: usize) -> usize
-        requires { from ≤ length (drop self.now.base (S.bytes self.now.source.now)) }
-        ensures value { result ≡ next_in_backquotes (drop self.now.base (S.bytes self.now.source.now)) from }
-        ensures inside { (from ≤ result) × (result ≤ length (drop self.now.base (S.bytes self.now.source.now))) }
-    {
-        let mut at = from;
-        'runs: while !self.at_end(at) {
-            let run = self.source.run(self.base + at);
-            if let Some(index) = memchr2(b'`', b'\\', run) {
-                return at + index;
-            }
-            at += run.len();
-        }
-        at
     }
 
     /// What stands up to the next backquote or backslash. Answers whether more follows: if not, the text is closed.
@@ -188,7 +192,7 @@ impl<'a, S: Source> Cursor<'a, S> {
         ensures onward { IfOk result (λ more. self.old.at < self.new.at) }
         ensures same { (self.new.source ≡ self.old.source) × (self.new.base ≡ self.old.base) × (self.new.origin ≡ self.old.origin) × (self.new.keep ≡ self.old.keep) }
     {
-        let next = self.next_in_backquotes(self.at);
+        let next = self.next(Sought::Either(b'`', b'\\'), self.at);
         if self.at_end(next) {
             return Err(self.wrong_at(FaultKind::UnclosedBackquote, opener));
         }

@@ -1,5 +1,5 @@
 // Each public function on its happy path, with answers worked out by hand from the grammar.
-use crate::place::find_byte;
+use crate::search::{Sought, next_in};
 use crate::{
     Command, Comment, Content, Entry, Fault, FaultKind, Flat, Item, ItemContent, Line, LineKind,
     List, Reader, Source, Span, line_col_of,
@@ -15,8 +15,8 @@ fn runs(rt: HostRuntime) -> Result<(), Fail> {
     assert_eq!(rt; text.byte(4), None);
     assert_eq!(rt; text.run(2), b"\nc".as_slice());
     assert_eq!(rt; text.run(4), b"".as_slice());
-    assert_eq!(rt; find_byte(&text, 1, b'c'), Some(3));
-    assert_eq!(rt; find_byte(&text, 3, b'\n'), None);
+    assert_eq!(rt; next_in(&text, 1, Sought::Byte(b'c')), 3);
+    assert_eq!(rt; next_in(&text, 3, Sought::Byte(b'\n')), text.len());
     Ok(())
 }
 

@@ -1,43 +1,28 @@
-use Rattle.std.proofs.Common.{ℕ, ◌≤◌, ◌+◌, arith, refl, ◌∙◌, ap}
-use Rattle.std.proofs.Common.{List}
-use Rattle.shread.specs.Text.{NowhereFrom, IsLeastPlace}
-use Rattle.shread.proofs.Newlines.{since-start, next-line, in-line}
-use Rattle.shread.proofs.place.line_col_of.Goals.{in-Some+then-newline-at, in_default}
+use Rattle.std.proofs.Common.{◌≡◌, ◌+◌, ◌≤◌, arith, refl, ◌∙◌, ap}
+use Rattle.shread.specs.Bytes.{next_newline}
+use Rattle.shread.proofs.Newlines.{since_start, next_line, in_line}
 use Rattle.shread.proofs.place.line_col_of.Goals as goal
 
-pub loop-newline-init : goal.loop-newline-init
-loop-newline-init g c = (omega arith, refl, since-start (g.S.Source.bytes c.args.source.now), omega arith)
+pub lines-init : goal.lines-init
+lines-init g c = (omega arith, refl, since_start (g.S.Source.bytes c.args.source.now), omega arith)
 
-pub loop-newline-preserved : goal.loop-newline-preserved
-loop-newline-preserved g c =
-    let inv = c.loop-newline.invariant in
-    let next = next-line (g.S.Source.bytes c.args.source.now) c.loop-newline.start c.in-Some.newline inv.2 c.in-Some.ensures in (
+pub lines-preserved : goal.lines-preserved
+lines-preserved g c =
+    let inv = c.lines.invariant in
+    let bytes = g.S.Source.bytes c.args.source.now in
+    let found : c.next_in-newline.result ≡ next_newline bytes c.lines.start = c.next_in-newline.ensures.value in
+    let next = next_line bytes c.lines.start inv.2 (omega (arith, found, c.if-newline-at.false, c.requires.within)) in (
       omega (arith, c.if-newline-at.false),
-      ap (λ m. m + 1) inv.1 ∙ omega (arith, next.0),
-      next.1,
-      omega (arith, inv.3, c.in-Some.ensures.low),
+      rw found (ap (λ m. m + 1) inv.1 ∙ omega (arith, next.0)),
+      rw found next.1,
+      omega (arith, inv.3, c.next_in-newline.ensures.inside),
     )
 
--- no newline stands from the start of the line up to the place
-quiet-to : (bytes : List ℕ) (start at newline : ℕ) → at ≤ newline → IsLeastPlace 10 bytes start newline → NowhereFrom 10 bytes start at
-quiet-to bytes start at newline le found k low high = found.before k low (omega (arith, le, high))
-
-pub returns-clause-line : goal.returns-clause-line
-returns-clause-line g c =
-    let inv = c.loop-newline.invariant in
+pub returns-then-newline-at : goal.returns-then-newline-at
+returns-then-newline-at g c =
+    let inv = c.lines.invariant in
     let bytes = g.S.Source.bytes c.args.source.now in
-    let none : NowhereFrom 10 bytes c.loop-newline.start c.args.at = elim c.match-find_byte.branch [
-      | in-Some+then-newline-at w ↦ quiet-to bytes c.loop-newline.start c.args.at w.in-Some.newline w.if-newline-at.true w.in-Some.ensures
-      | in_default w ↦ λ k low high. w.in_default.ensures k low (omega (arith, high, c.requires.within))
-    ] in
-    inv.1 ∙ (in-line bytes c.loop-newline.start c.args.at inv.2 inv.0 c.requires.within none).0
-
-pub returns-clause-column : goal.returns-clause-column
-returns-clause-column g c =
-    let inv = c.loop-newline.invariant in
-    let bytes = g.S.Source.bytes c.args.source.now in
-    let none : NowhereFrom 10 bytes c.loop-newline.start c.args.at = elim c.match-find_byte.branch [
-      | in-Some+then-newline-at w ↦ quiet-to bytes c.loop-newline.start c.args.at w.in-Some.newline w.if-newline-at.true w.in-Some.ensures
-      | in_default w ↦ λ k low high. w.in_default.ensures k low (omega (arith, high, c.requires.within))
-    ] in
-    (in-line bytes c.loop-newline.start c.args.at inv.2 inv.0 c.requires.within none).1
+    let found : c.next_in-newline.result ≡ next_newline bytes c.lines.start = c.next_in-newline.ensures.value in
+    let none : c.args.at ≤ next_newline bytes c.lines.start = omega (arith, found, c.if-newline-at.true) in
+    let here = in_line bytes c.lines.start c.args.at inv.2 inv.0 c.requires.within none in
+    record { line = inv.1 ∙ here.0; column = here.1 }

@@ -2,8 +2,8 @@ use Rattle.std.proofs.Common.{◌≡◌, ◌≤◌, ◌+◌, ◌-◌, take}
 use Rattle.shread.specs.Text.{line_of, since_newline}
 use Rattle.shread.proofs.place.line_col_of.Given as goal
 
-abbrev pub invariant-loop-newline : goal.invariant-loop-newline
-invariant-loop-newline g l = (l.start ≤ l.at) × (l.line ≡ line_of (g.S.Source.bytes l.source) l.start) × (since_newline (take l.start (g.S.Source.bytes l.source)) ≡ 0) × (l.line ≤ l.start + 1)
+abbrev pub invariant-lines : goal.invariant-lines
+invariant-lines g l = (l.start ≤ l.at) × (l.line ≡ line_of (g.S.Source.bytes l.source) l.start) × (since_newline (take l.start (g.S.Source.bytes l.source)) ≡ 0) × (l.line ≤ l.start + 1)
 
-abbrev pub decreases-loop-newline : goal.decreases-loop-newline
-decreases-loop-newline g l = l.at - l.start
+abbrev pub decreases-lines : goal.decreases-lines
+decreases-lines g l = l.at - l.start

@@ -1,0 +1,62 @@
+//! Searches: the next place in a text where a byte stands, or one of two.
+ghost use Rattle.std.specs.Prelude.{◌≡◌, ◌≤◌, drop, length};
+ghost use Rattle.memchr.specs.Find.{IsFirstByte};
+ghost use Rattle.shread.specs.Bytes.{next_such};
+ghost use Rattle.shread.specs.Classes.{is_sought};
+
+use crate::cursor::Cursor;
+use crate::source::Source;
+use memchr::{memchr, memchr2};
+
+/// What a search looks for.
+#[derive(Clone, Copy, Debug, PartialEq, Eq)]
+pub(crate) enum Sought {
+    Byte(u8),
+    /// The one or the other.
+    Either(u8, u8),
+}
+
+impl Sought {
+    /// The first place in a run.
+    #[inline(always)]
+    fn first_in(self, run: &[u8]) -> Option<usize>
+        ensures { IsFirstByte (is_sought self) run.now result }
+    {
+        match self {
+            Sought::Byte(byte) => memchr(byte, run),
+            Sought::Either(one, other) => memchr2(one, other, run),
+        }
+    }
+}
+
+/// The next offset from an offset on where a byte that is sought stands, or the length.
+#[inline(always)]
+#[tactic(auto, using(crate::proofs::Searches::such_found, crate::proofs::Searches::such_passed, crate::proofs::Searches::such_end))]
+pub(crate) fn next_in<S: Source>(source: &S, from: usize, sought: Sought) -> usize
+    requires { from ≤ length (S.bytes source.now) }
+    ensures value { result ≡ next_such (is_sought sought) (S.bytes source.now) from }
+    ensures inside { (from ≤ result) × (result ≤ length (S.bytes source.now)) }
+{
+    let end = source.len();
+    let mut at = from;
+    'runs: while at < end {
+        let run = source.run(at);
+        if let Some(index) = sought.first_in(run) {
+            return at + index;
+        }
+        at += run.len();
+    }
+    at
+}
+
+impl<'a, S: Source> Cursor<'a, S> {
+    /// The next place from a place on where a byte that is sought stands, or the end.
+    #[tactic(auto, using(crate::proofs::Searches::such_behind))]
+    pub(crate) fn next(&self, sought: Sought, from: usize) -> usize
+        requires { from ≤ length (drop self.now.base (S.bytes self.now.source.now)) }
+        ensures value { result ≡ next_such (is_sought sought) (drop self.now.base (S.bytes self.now.source.now)) from }
+        ensures inside { (from ≤ result) × (result ≤ length (drop self.now.base (S.bytes self.now.source.now))) }
+    {
+        next_in(self.source, self.base + from, sought) - self.base
+    }
+}
