@@ -6,7 +6,7 @@ use Rattle.shread.specs.declared.token.Class.TheVariants.{Blank, Digit, Name}
 use Rattle.shread.specs.Bytes.{passes, is_byte, raw_stands, raw_in, raw_past, stands_in, past, continues, past_continuations, behind}
 use Rattle.shread.specs.Classes.{in_class}
 use Rattle.shread.proofs.Stretches.{raw_more, raw_none, joined_none, passes_low, past_more, past_none}
-use Rattle.shread.proofs.Places.{raw_past_stops}
+use Rattle.shread.proofs.Places.{place_same, stands_in_past, raw_past_stops}
 
 -- a byte of a set without the backslash is none
 no_backslash : (test : ℕ → Bool) (b : ℕ) (x : Bool) → (b == 92) ≡ x → test 92 ≡ false → test b ≡ true → x ≡ false
@@ -44,11 +44,6 @@ on_from test T (suc n) p low other = turn test T p (raw_in test T p) refl other 
 pub past_on : (test : ℕ → Bool) (T : List ℕ) (p : ℕ) → test 92 ≡ false → past test T p ≡ past test T (raw_past test T p)
 past_on test T p other = on_from test T (length T - p) p (omega arith) other
 
-ends_there : (test : ℕ → Bool) (T : List ℕ) (p : ℕ) → continues T (raw_past test T p) ≡ false → stands_in test T (raw_past test T p) ≡ false
-unfolding stands_in
-ends_there test T p none =
-    rw (joined_none T (raw_past test T p) none) (unfold raw_in in raw_past_stops test T p)
-
 no_class : (class : Class) → in_class class 92 ≡ false
 no_class Blank = refl
 no_class Digit = refl
@@ -57,9 +52,30 @@ no_class Name = refl
 pub past_raw : (class : Class) (T : List ℕ) (p : ℕ) → past (in_class class) T p ≡ past (in_class class) T (raw_past (in_class class) T p)
 past_raw class T p = past_on (in_class class) T p (no_class class)
 
--- and it ends there, unless a continuation stands there
-pub raw_end : (class : Class) (T : List ℕ) (p : ℕ) → continues T (raw_past (in_class class) T p) ≡ false → stands_in (in_class class) T (raw_past (in_class class) T p) ≡ false
-raw_end class T p none = ends_there (in_class class) T p none
+pub raw_stops : (class : Class) (T : List ℕ) (p : ℕ) → raw_in (in_class class) T (raw_past (in_class class) T p) ≡ false
+raw_stops class T p = raw_past_stops (in_class class) T p
+
+-- without a continuation, what does not stand at a place is not read there
+pub none_here : (class : Class) (T : List ℕ) (p : ℕ) → continues T p ≡ false → raw_in (in_class class) T p ≡ false → stands_in (in_class class) T p ≡ false
+unfolding stands_in raw_in
+none_here class T p none other = rw (joined_none T p none) other
 
 pub past_whole : (class : Class) (T : List ℕ) (p : ℕ) → continues T (raw_past (in_class class) T p) ≡ false → past (in_class class) T p ≡ raw_past (in_class class) T p
-past_whole class T p none = past_raw class T p ∙ past_none (in_class class) T (raw_past (in_class class) T p) (raw_end class T p none)
+past_whole class T p none =
+    past_raw class T p ∙ past_none (in_class class) T (raw_past (in_class class) T p) (none_here class T _ none (raw_stops class T p))
+
+-- what stands past continuations is read
+pub joined_here : (class : Class) (T : List ℕ) (p : ℕ) (x : Bool) → raw_in (in_class class) T (past_continuations T p) ≡ x → stands_in (in_class class) T p ≡ x
+unfolding stands_in raw_in
+joined_here class T p x is = is
+
+-- a stretch goes on past continuations, where a byte of it stands there
+pub joined_on : (class : Class) (T : List ℕ) (p : ℕ) → raw_in (in_class class) T (past_continuations T p) ≡ true
+    → past (in_class class) T p ≡ past (in_class class) T (raw_past (in_class class) T (past_continuations T p))
+unfolding behind
+joined_on class T p some =
+    let here : stands_in (in_class class) T p ≡ true = joined_here class T p true some in
+    past_more (in_class class) T p here
+    ∙ ap (λ q. past (in_class class) T (q + 1)) (sym (place_same T p))
+    ∙ sym (past_more (in_class class) T (past_continuations T p) (stands_in_past (in_class class) T p ∙ here))
+    ∙ past_raw class T (past_continuations T p)

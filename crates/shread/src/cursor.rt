@@ -221,7 +221,7 @@ impl<'a, S: Source> Cursor<'a, S> {
 
     /// The place behind the bytes of this class from a place on. Most often no continuation stands among them.
     #[inline(always)]
-    #[tactic(auto, using(crate::proofs::Unbroken::past_raw, crate::proofs::Unbroken::past_whole, crate::proofs::Unbroken::raw_end))]
+    #[tactic(auto, using(crate::proofs::Unbroken::past_raw, crate::proofs::Unbroken::past_whole, crate::proofs::Unbroken::raw_stops, crate::proofs::Unbroken::none_here))]
     pub(crate) fn past(&self, from: usize, class: Class) -> usize
         requires { from ≤ length (drop self.now.base (S.bytes self.now.source.now)) }
         ensures value { result ≡ past (in_class class) (drop self.now.base (S.bytes self.now.source.now)) from }
@@ -235,18 +235,23 @@ impl<'a, S: Source> Cursor<'a, S> {
         end
     }
 
-    /// The place behind the bytes of this class from a place on, where continuations stand among them.
+    /// The place behind the bytes of this class from a place on where none stands, unless past continuations.
     #[cold]
-    #[tactic(auto, using(crate::proofs::Stretches::past_more, crate::proofs::Stretches::past_none))]
+    #[tactic(auto, using(crate::proofs::Unbroken::joined_on, crate::proofs::Unbroken::joined_here, crate::proofs::Unbroken::raw_stops, crate::proofs::Unbroken::none_here, crate::proofs::Stretches::past_none))]
     fn past_joined(&self, from: usize, class: Class) -> usize
-        requires { from ≤ length (drop self.now.base (S.bytes self.now.source.now)) }
+        requires within { from ≤ length (drop self.now.base (S.bytes self.now.source.now)) }
+        requires none { raw_in (in_class class) (drop self.now.base (S.bytes self.now.source.now)) from ≡ false }
         ensures value { result ≡ past (in_class class) (drop self.now.base (S.bytes self.now.source.now)) from }
         ensures inside { (from ≤ result) × (result ≤ length (drop self.now.base (S.bytes self.now.source.now))) }
         ensures other { stands_in (in_class class) (drop self.now.base (S.bytes self.now.source.now)) result ≡ false }
     {
         let mut at = from;
-        'bytes: while self.stands_in(at, class) {
-            at = self.behind(at);
+        'joined: while self.continues(at) {
+            let next = self.past_continuations(at);
+            if !self.raw_in(next, class) {
+                return at;
+            }
+            at = self.raw_past(next, class);
         }
         at
     }

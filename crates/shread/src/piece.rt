@@ -43,6 +43,7 @@ impl<'a, S: Source> Cursor<'a, S> {
     }
 
     /// What the `)` at a place is in arithmetic with so many brackets open.
+    #[inline(always)]
     #[tactic(auto, unfolding(crate::specs::Bytes::behind))]
     fn bracket(&self, nested: usize, here: usize) -> Piece
         requires here { here ≡ past_continuations (drop self.now.base (S.bytes self.now.source.now)) self.now.at }
@@ -74,13 +75,13 @@ impl<'a, S: Source> Cursor<'a, S> {
         ensures kinds { (result ≢ Piece.Missing) × (result ≢ Piece.Escape) × (result ≢ Piece.Pid) × (result ≢ Piece.Arith) × (result ≢ Piece.Param) }
     {
         match (mode, byte) {
-            (Mode::Plain, _) if ends_words(byte) => Piece::Closer,
             (Mode::Double, b'"') => Piece::Closer,
             (Mode::Brace | Mode::DoubleBrace, b'}') => Piece::Closer,
             (Mode::Plain | Mode::Brace, b'\'') => Piece::Single,
             (Mode::Plain | Mode::Brace | Mode::DoubleBrace, b'"') => Piece::Double,
             (Mode::Arith, b'(') => Piece::Open,
             (Mode::Arith, b')') => self.bracket(nested, here),
+            (Mode::Plain, _) if ends_words(byte) => Piece::Closer,
             _ => Piece::Ordinary,
         }
     }

@@ -1,12 +1,12 @@
-use Rattle.std.proofs.Common.{◌≡◌, ◌≤◌, ◌-◌, length, drop}
-use Rattle.shread.specs.Bytes.{past}
+use Rattle.std.proofs.Common.{◌≡◌, ◌≤◌, ◌-◌, length, drop, false}
+use Rattle.shread.specs.Bytes.{past, raw_in}
 use Rattle.shread.specs.Classes.{in_class}
 use Rattle.shread.proofs.cursor.Cursor.past_joined.Given as goal
 
-abbrev pub invariant-bytes : goal.invariant-bytes
-invariant-bytes g l =
+abbrev pub invariant-joined : goal.invariant-joined
+invariant-joined g l =
     let text = drop l.self.base (g.S.Source.bytes l.self.source.now) in
-    (past (in_class l.class) text l.at ≡ past (in_class l.class) text l.from) × (l.from ≤ l.at) × (l.at ≤ length text)
+    (past (in_class l.class) text l.at ≡ past (in_class l.class) text l.from) × (l.from ≤ l.at) × (l.at ≤ length text) × (raw_in (in_class l.class) text l.at ≡ false)
 
-abbrev pub decreases-bytes : goal.decreases-bytes
-decreases-bytes g l = length (drop l.self.base (g.S.Source.bytes l.self.source.now)) - l.at
+abbrev pub decreases-joined : goal.decreases-joined
+decreases-joined g l = length (drop l.self.base (g.S.Source.bytes l.self.source.now)) - l.at
