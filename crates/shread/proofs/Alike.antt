@@ -147,11 +147,6 @@ module _ (k : Bool) (T : List ℕ) (o u d : ℕ) (far : o ≡ d + u) where
   again_same : (n q r : ℕ) → q ≡ r → Alike (SameStep Same) d (Ok (again n q)) (Ok (again n r))
   again_same n q r same = subst (λ x. Alike (SameStep Same) d (Ok (again n q)) (Ok (again n x))) same (both_give (both_again refl))
 
-  -- whatever brackets were open
-  any_alike : {x y : Read ℕ} → Alike (SameEnd Same) d x y → Alike (SameEnd Any) d x y
-  any_alike (both_give (same_end same)) = both_give (same_end tt)
-  any_alike (both_stop moves) = both_stop moves
-
   module _ (c e : Opened) (one : AllAlike c e) (stays : Stays T o c) (mode : Mode) (b : ℕ) (opened : b ≤ length T) where
     -- by what it begins with
     piece_alike_by : (n p : ℕ) (piece : Piece) → Shows T mode p piece
@@ -189,18 +184,20 @@ module _ (k : Bool) (T : List ℕ) (o u d : ℕ) (far : o ≡ d + u) where
         (piece_alike_by n p (piece_at T mode n p) (piece_shows T mode n p within))
 
     -- all pieces
-    contents_alike : (p : ℕ) → p ≤ length T → Alike (SameEnd Same) d (contents_at c T o mode b p) (contents_at e T u mode b p)
+    contents_alike : (p : ℕ) → p ≤ length T → Alike (SameEnd Any) d (contents_at c T o mode b p) (contents_at e T u mode b p)
     unfolding contents_at
     contents_alike p within =
-        turns_alike (length T) (piece_step c T o mode b) (piece_step e T u mode b) Same d (PiecesSo T o p) (PiecesEnd T o mode p)
-        (piece_keeps T o c stays mode b opened p) (λ n m q high same. piece_alike n m q high same) 0 0 p within (omega arith) refl
+        alike_then
+        (turns_alike (length T) (piece_step c T o mode b) (piece_step e T u mode b) Same d (PiecesSo T o p) (PiecesEnd T o mode p)
+        (piece_keeps T o c stays mode b opened p) (λ n m q high same. piece_alike n m q high same) 0 0 p within (omega arith) refl)
+        (λ x y f same. alike_end same (λ any. tt))
 
   -- constructs within constructs
   level_alike : (room : ℕ) → AllAlike (level_at T o room) (level_at T u room)
   unfolding level_at
   level_alike zero mode b p opened within = both_stop (fault_moved _ b)
   level_alike (suc room) mode b p opened within =
-      any_alike (contents_alike (level_at T o room) (level_at T u room) (level_alike room) (level_within T o room) mode b opened p within)
+      contents_alike (level_at T o room) (level_at T u room) (level_alike room) (level_within T o room) mode b opened p within
 
   -- a word
   word_alike : (p : ℕ) → p ≤ length T → Alike (SameEnd Any) d (word_at T o p) (word_at T u p)

@@ -1,18 +1,20 @@
 -- Bytes that are ordinary in every mode: each is a piece of its own.
-use Rattle.std.proofs.Common.{◌≡◌, ℕ, zero, suc, ◌+◌, ◌-◌, ◌<◌, ◌≤◌, ◌==◌, Bool, true, false, ◌||◌, ◌&&◌, not, Option, Some, None, Ok, slice_get, slice_index, get_or, List, length, drop, refl, sym, ap, ◌∙◌, arith, length-drop}
+use Rattle.std.proofs.Common.{◌≡◌, ℕ, zero, suc, ◌+◌, ◌-◌, ◌<◌, ◌≤◌, ◌==◌, Bool, true, false, ◌||◌, ◌&&◌, not, Option, Some, None, Ok, slice_get, slice_index, get_or, List, length, drop, refl, sym, ap, subst, ◌∙◌, arith, length-drop}
 use Rattle.std.proofs.lemmas.Option.{slice_get-get_or}
 use Rattle.shread.specs.Text.{IsRun, is_newline}
+use Rattle.shread.specs.declared.fault.Stop.{Stop}
+use Rattle.shread.specs.declared.fault.Stop.TheVariants.{Memory, Wrong}
 use Rattle.shread.specs.declared.mode.Mode.{Mode}
 use Rattle.shread.specs.declared.mode.Mode.TheVariants.{Plain, Double, Brace, DoubleBrace, Arith}
 use Rattle.shread.specs.declared.mode.Piece.TheVariants as pieces
 use Rattle.shread.specs.Bytes.{raw_in, passes, is_blank, is_operator, ends, ends_word, byte_at, behind}
 use Rattle.shread.specs.Words.{span, piece_by, piece_at, past_closer}
 use Rattle.shread.specs.Comes.{Read, again, done}
-use Rattle.shread.specs.Reading.{Opened, piece_of, piece_step, contents_at, level_at, word_at, turns}
+use Rattle.shread.specs.Reading.{◌>>=◌, Fails, Opened, piece_of, piece_step, contents_at, level_at, word_at, turns}
 use Rattle.shread.specs.Plain.{is_plain, ArePlain}
 use Rattle.shread.specs.Tree.{word, no_subst}
 use Rattle.std.proofs.lemmas.Bool.Decides.{nat_tests}
-use Rattle.shread.proofs.Turns.{turns_again, turns_done}
+use Rattle.shread.proofs.Turns.{turns_again, turns_done, turns_stop}
 use Rattle.shread.proofs.Places.{word_longer}
 use Rattle.shread.proofs.Stretches.{get_drop}
 use Rattle.shread.proofs.Unbroken.{stays}
@@ -133,23 +135,39 @@ word_closes : (c : Opened) (T : List ℕ) (o b q : ℕ) → ends_word T q ≡ tr
 unfolding piece_step piece_at ends_word
 word_closes c T o b q end = ap (piece_of c T o Plain b 0 q) (closer_at T q 0 (byte_at T q) end)
 
+-- what pieces give is only where they end
+abbrev only_end : Read ℕ → Read (Unit {0})
+only_end read = read >>= λ w. Ok (tt, w.1)
+
+stops : (e : Stop) (x : Read ℕ) → Fails e x → Fails e (only_end x)
+stops Memory x stop = tt
+stops (Wrong f) x stop = rw stop refl
+
+-- a piece that stops, stops all
+pub contents_stop : (c : Opened) (T : List ℕ) (o : ℕ) (mode : Mode) (b n p s : ℕ) (e : Stop)
+    → turns (length T) (piece_step c T o mode b) n p ≡ turns (length T) (piece_step c T o mode b) 0 s
+    → Fails e (piece_step c T o mode b n p) → Fails e (contents_at c T o mode b s)
+unfolding contents_at
+contents_stop c T o mode b n p s e so stop =
+    stops e _ (subst (Fails e) so (turns_stop (length T) (piece_step c T o mode b) n p e stop))
+
 -- plain bytes, and what closes behind them
 pub plain_closed : (c : Opened) (T : List ℕ) (o : ℕ) (mode : Mode) (b p q : ℕ) → ArePlain T p q → p ≤ q → q ≤ length T → piece_at T mode 0 q ≡ pieces.Closer
-    → contents_at c T o mode b p ≡ Ok (0, past_closer T mode q)
+    → contents_at c T o mode b p ≡ Ok (tt, past_closer T mode q)
 unfolding contents_at piece_step
 plain_closed c T o mode b p q plain low high end =
-    plain_turns c T o mode b 0 p q plain low high ∙ turns_done (length T) (piece_step c T o mode b) 0 0 q (past_closer T mode q) (ap (piece_of c T o mode b 0 q) end)
+    ap only_end (plain_turns c T o mode b 0 p q plain low high ∙ turns_done (length T) (piece_step c T o mode b) 0 0 q (past_closer T mode q) (ap (piece_of c T o mode b 0 q) end))
 
 -- plain bytes, and what stands behind them
 pub plain_contents : (c : Opened) (T : List ℕ) (o : ℕ) (mode : Mode) (b p q : ℕ) → ArePlain T p q → p ≤ q → q ≤ length T
     → contents_at c T o mode b p ≡ contents_at c T o mode b q
 unfolding contents_at
-plain_contents c T o mode b p q plain low high = plain_turns c T o mode b 0 p q plain low high
+plain_contents c T o mode b p q plain low high = ap only_end (plain_turns c T o mode b 0 p q plain low high)
 
-plain_end : (c : Opened) (T : List ℕ) (o b p q : ℕ) → ArePlain T p q → p ≤ q → q ≤ length T → ends_word T q ≡ true → contents_at c T o Plain b p ≡ Ok (0, q)
+plain_end : (c : Opened) (T : List ℕ) (o b p q : ℕ) → ArePlain T p q → p ≤ q → q ≤ length T → ends_word T q ≡ true → contents_at c T o Plain b p ≡ Ok (tt, q)
 unfolding contents_at
 plain_end c T o b p q plain low high end =
-    plain_turns c T o Plain b 0 p q plain low high ∙ turns_done (length T) (piece_step c T o Plain b) 0 0 q q (word_closes c T o b q end)
+    ap only_end (plain_turns c T o Plain b 0 p q plain low high ∙ turns_done (length T) (piece_step c T o Plain b) 0 0 q q (word_closes c T o b q end))
 
 -- a word of plain bytes
 pub plain_word : (T : List ℕ) (o p q : ℕ) → ArePlain T p q → p ≤ q → q ≤ length T → ends_word T q ≡ true → word_at T o p ≡ Ok (word (span o p q) no_subst, q)

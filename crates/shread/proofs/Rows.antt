@@ -79,8 +79,9 @@ module _ (T : List ℕ) (o : ℕ) where
     is_contents : (p : ℕ) → p ≤ length T → Is (contents C T o mode b p) (contents_at c T o mode b p)
     unfolding contents_at
     is_contents p within =
-        is_many (length T) (a_piece C T o mode b) (piece_step c T o mode b) (PiecesSo T o p) (PiecesEnd T o mode p)
-        (piece_keeps T o c stays mode b opened p) is_piece 0 p within (omega arith)
+        is_then
+        (is_many (length T) (a_piece C T o mode b) (piece_step c T o mode b) (PiecesSo T o p) (PiecesEnd T o mode p)
+        (piece_keeps T o c stays mode b opened p) is_piece 0 p within (omega arith)) (λ w e. is_give _)
 
   -- constructs within constructs
   is_level : (room : ℕ) → OneEach (level T o room) (level_at T o room)

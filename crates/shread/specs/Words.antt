@@ -122,10 +122,9 @@ past_closer T Brace p = behind T p
 past_closer T DoubleBrace p = behind T p
 past_closer T Arith p = behind T (behind T p)
 
--- What may be read in a construct, by its mode, its opener's place and the place behind that: how many brackets of arithmetic
--- are open at its end, which is none there and no row asks for, and the place behind it.
+-- What may be read in a construct, by its mode, its opener's place and the place behind that.
 abbrev pub Constructs : Type 1
-Constructs = Mode → ℕ → ℕ → Comes (ℕ × ℕ)
+Constructs = Mode → ℕ → ℕ → Comes (Unit {0} × ℕ)
 
 -- One piece, or the end of the construct that opened at b, with n brackets open in arithmetic. A fault stands where the
 -- piece begins, past continuations; that of text that ends inside at the opener.
@@ -150,8 +149,8 @@ abbrev pub a_piece : Constructs → List ℕ → ℕ → Mode → ℕ → ℕ �
 a_piece c T o mode b n p = piece_row c T o mode b n p (piece_at T mode n p)
 
 -- what a construct holds, up to its end
-abbrev pub contents : Constructs → List ℕ → ℕ → Mode → ℕ → ℕ → Comes (ℕ × ℕ)
-contents c T o mode b p = Many (a_piece c T o mode b) 0 p
+abbrev pub contents : Constructs → List ℕ → ℕ → Mode → ℕ → ℕ → Comes (Unit {0} × ℕ)
+contents c T o mode b p = Many (a_piece c T o mode b) 0 p >>= λ w. give (tt, w.1)
 
 -- what may be read where so many more constructs may be opened
 unfoldable pub level : List ℕ → ℕ → ℕ → Constructs

@@ -62,11 +62,11 @@ impl<'a, S: Source> Cursor<'a, S> {
     #[cycle(words)]
     #[inline(always)]
     #[tactic(auto, using(crate::proofs::Levels::level_below, crate::proofs::Levels::level_closed, crate::proofs::PlainBytes::plain_closed, crate::proofs::PlainBytes::plain_contents))]
-    fn construct(&mut self, mode: Mode, opener: usize, room: usize) -> Result<usize, Stop>
+    fn construct(&mut self, mode: Mode, opener: usize, room: usize) -> Result<(), Stop>
         requires { opener ≤ self.old.at }
         ensures value { let text = (drop self.old.base (S.bytes self.old.source.now)) in
-            Gives (λ nested. (nested, self.new.at)) result (level_at text self.old.origin room mode opener self.old.at) }
-        ensures onward { IfOk result (λ nested. self.old.at ≤ self.new.at) }
+            Gives (λ done. (tt, self.new.at)) result (level_at text self.old.origin room mode opener self.old.at) }
+        ensures onward { IfOk result (λ done. self.old.at ≤ self.new.at) }
         ensures same { (self.new.source ≡ self.old.source) × (self.new.base ≡ self.old.base) × (self.new.origin ≡ self.old.origin) × (self.new.keep ≡ self.old.keep) }
     {
         if room == 0 {
@@ -76,18 +76,18 @@ impl<'a, S: Source> Cursor<'a, S> {
         let here = self.place(self.at);
         if self.piece(mode, 0, here) == Piece::Closer {
             self.close(mode, here);
-            return Ok(0);
+            return Ok(());
         }
         self.contents(mode, opener, room - 1)
     }
 
     /// A string in double quotes, from its opener on.
     #[cycle(words)]
-    fn string(&mut self, opener: usize, room: usize) -> Result<usize, Stop>
+    fn string(&mut self, opener: usize, room: usize) -> Result<(), Stop>
         requires { opener < length (drop self.old.base (S.bytes self.old.source.now)) }
         ensures value { let text = (drop self.old.base (S.bytes self.old.source.now)) in
-            Gives (λ nested. (nested, self.new.at)) result (level_at text self.old.origin room Mode.Double opener (opener + 1)) }
-        ensures onward { IfOk result (λ nested. opener < self.new.at) }
+            Gives (λ done. (tt, self.new.at)) result (level_at text self.old.origin room Mode.Double opener (opener + 1)) }
+        ensures onward { IfOk result (λ done. opener < self.new.at) }
         ensures same { (self.new.source ≡ self.old.source) × (self.new.base ≡ self.old.base) × (self.new.origin ≡ self.old.origin) × (self.new.keep ≡ self.old.keep) }
     {
         self.at = opener + 1;
@@ -96,13 +96,13 @@ impl<'a, S: Source> Cursor<'a, S> {
 
     /// An arithmetic expansion, from its opener on.
     #[cycle(words)]
-    fn arithmetic(&mut self, opener: usize, room: usize) -> Result<usize, Stop>
+    fn arithmetic(&mut self, opener: usize, room: usize) -> Result<(), Stop>
         requires one { opener < length (drop self.old.base (S.bytes self.old.source.now)) }
         requires two { past_continuations (drop self.old.base (S.bytes self.old.source.now)) (opener + 1) < length (drop self.old.base (S.bytes self.old.source.now)) }
         requires three { past_continuations (drop self.old.base (S.bytes self.old.source.now)) (behind (drop self.old.base (S.bytes self.old.source.now)) (opener + 1)) < length (drop self.old.base (S.bytes self.old.source.now)) }
         ensures value { let text = (drop self.old.base (S.bytes self.old.source.now)) in
-            Gives (λ nested. (nested, self.new.at)) result (level_at text self.old.origin room Mode.Arith opener (behind text (behind text (opener + 1)))) }
-        ensures onward { IfOk result (λ nested. opener < self.new.at) }
+            Gives (λ done. (tt, self.new.at)) result (level_at text self.old.origin room Mode.Arith opener (behind text (behind text (opener + 1)))) }
+        ensures onward { IfOk result (λ done. opener < self.new.at) }
         ensures same { (self.new.source ≡ self.old.source) × (self.new.base ≡ self.old.base) × (self.new.origin ≡ self.old.origin) × (self.new.keep ≡ self.old.keep) }
     {
         self.at = self.behind(self.behind(opener + 1));
@@ -111,13 +111,13 @@ impl<'a, S: Source> Cursor<'a, S> {
 
     /// A parameter expansion, from its opener on, inside this mode.
     #[cycle(words)]
-    fn expansion(&mut self, mode: Mode, opener: usize, room: usize) -> Result<usize, Stop>
+    fn expansion(&mut self, mode: Mode, opener: usize, room: usize) -> Result<(), Stop>
         requires one { opener < length (drop self.old.base (S.bytes self.old.source.now)) }
         requires two { past_continuations (drop self.old.base (S.bytes self.old.source.now)) (opener + 1) < length (drop self.old.base (S.bytes self.old.source.now)) }
         ensures value { let text = (drop self.old.base (S.bytes self.old.source.now)) in
-            Gives (λ nested. (nested, self.new.at)) result
+            Gives (λ done. (tt, self.new.at)) result
             (level_at text self.old.origin room (rest_mode text mode (past_parameter text (behind text (opener + 1)))) opener (past_parameter text (behind text (opener + 1)))) }
-        ensures onward { IfOk result (λ nested. opener < self.new.at) }
+        ensures onward { IfOk result (λ done. opener < self.new.at) }
         ensures same { (self.new.source ≡ self.old.source) × (self.new.base ≡ self.old.base) × (self.new.origin ≡ self.old.origin) × (self.new.keep ≡ self.old.keep) }
     {
         self.at = self.behind(opener + 1);
@@ -158,15 +158,9 @@ impl<'a, S: Source> Cursor<'a, S> {
             Piece::Escape => self.at = here + 2,
             Piece::Single => self.single(here)?,
             Piece::Backquote => self.backquoted(here)?,
-            Piece::Double => {
-                let _ = self.string(here, room)?;
-            }
-            Piece::Arith => {
-                let _ = self.arithmetic(here, room)?;
-            }
-            Piece::Param => {
-                let _ = self.expansion(mode, here, room)?;
-            }
+            Piece::Double => self.string(here, room)?,
+            Piece::Arith => self.arithmetic(here, room)?,
+            Piece::Param => self.expansion(mode, here, room)?,
             Piece::Open => {
                 *nested += 1;
                 self.at = here + 1;
@@ -181,22 +175,22 @@ impl<'a, S: Source> Cursor<'a, S> {
         Ok(true)
     }
 
-    /// What a construct holds, up to its end. Answers how many brackets of arithmetic are open there.
+    /// What a construct holds, up to its end.
     #[cycle(words)]
-    #[tactic(auto, unfolding(crate::specs::Reading::contents_at), using(crate::proofs::Turns::turns_done, crate::proofs::Turns::turns_stop, crate::proofs::PlainBytes::piece_and_plain))]
-    fn contents(&mut self, mode: Mode, opener: usize, room: usize) -> Result<usize, Stop>
+    #[tactic(auto, unfolding(crate::specs::Reading::contents_at), using(crate::proofs::Turns::turns_done, crate::proofs::PlainBytes::contents_stop, crate::proofs::PlainBytes::piece_and_plain))]
+    fn contents(&mut self, mode: Mode, opener: usize, room: usize) -> Result<(), Stop>
         requires { opener ≤ self.old.at }
         ensures value { let text = (drop self.old.base (S.bytes self.old.source.now)) in
-            Gives (λ nested. (nested, self.new.at)) result (contents_at (level_at text self.old.origin room) text self.old.origin mode opener self.old.at) }
-        ensures onward { IfOk result (λ nested. self.old.at ≤ self.new.at) }
-        ensures some { mode ≡ Mode.Plain → ends_word (drop self.old.base (S.bytes self.old.source.now)) self.old.at ≡ false → IfOk result (λ nested. self.old.at < self.new.at) }
+            Gives (λ done. (tt, self.new.at)) result (contents_at (level_at text self.old.origin room) text self.old.origin mode opener self.old.at) }
+        ensures onward { IfOk result (λ done. self.old.at ≤ self.new.at) }
+        ensures some { mode ≡ Mode.Plain → ends_word (drop self.old.base (S.bytes self.old.source.now)) self.old.at ≡ false → IfOk result (λ done. self.old.at < self.new.at) }
         ensures same { (self.new.source ≡ self.old.source) × (self.new.base ≡ self.old.base) × (self.new.origin ≡ self.old.origin) × (self.new.keep ≡ self.old.keep) }
     {
         let mut nested = 0;
         'pieces: while self.take_piece(mode, opener, &mut nested, room)? {
             self.skip_plain();
         }
-        Ok(nested)
+        Ok(())
     }
 
     /// Passes the word that begins here. Most words are plain bytes alone.
@@ -211,7 +205,7 @@ impl<'a, S: Source> Cursor<'a, S> {
         let start = self.at;
         self.skip_plain();
         if !self.ends_word() {
-            let _ = self.contents(Mode::Plain, start, MOST_OPEN)?;
+            self.contents(Mode::Plain, start, MOST_OPEN)?;
         }
         Ok(())
     }
