@@ -1,5 +1,5 @@
 -- What newlines, and bytes that are none, do to the line and the column of a place.
-use Rattle.std.proofs.Common.{◌≡◌, ℕ, zero, suc, ◌+◌, ◌-◌, ◌<◌, ◌≤◌, ◌==◌, Bool, true, false, not, cond, Some, slice_get, List, length, take, get_or, refl, sym, ap, ◌∙◌, arith, add-zero}
+use Rattle.std.proofs.Common.{◌≡◌, ℕ, zero, suc, ◌+◌, ◌-◌, ◌<◌, ◌≤◌, ◌==◌, Bool, true, false, not, cond, List, length, take, get_or, refl, sym, ap, ◌∙◌, arith, add-zero}
 use Rattle.std.proofs.lemmas.List.Sums.{fold_more, count_by_more_no, count_by_more_yes}
 use Rattle.std.proofs.lemmas.Option.{slice_get-get_or}
 use Rattle.shread.specs.Text.{is_newline, line_of, column_of, since_newline}
@@ -48,9 +48,9 @@ quiet bytes start (suc n) fits none =
 ends : (bytes : List ℕ) (at : ℕ) → at < length bytes → (get_or bytes at 0 == 10) ≡ true
     → (line_of bytes (at + 1) ≡ line_of bytes at + 1) × (since_newline (take (at + 1) bytes) ≡ 0)
 ends bytes at lt here = (
-      ap (λ m. 1 + m) (count_by_more_yes is_newline bytes at 0 lt here) ∙ omega arith,
-      since-more bytes at lt ∙ ap (λ t. cond t 0 (since_newline (take at bytes) + 1)) here,
-    )
+  ap (λ m. 1 + m) (count_by_more_yes is_newline bytes at 0 lt here) ∙ omega arith,
+  since-more bytes at lt ∙ ap (λ t. cond t 0 (since_newline (take at bytes) + 1)) here,
+)
 
 -- the next newline after the start of a line
 pub next_line : (bytes : List ℕ) (start : ℕ) → since_newline (take start bytes) ≡ 0 → next_newline bytes start < length bytes

@@ -1,5 +1,5 @@
 -- Bytes that are ordinary in every mode: each is a piece of its own.
-use Rattle.std.proofs.Common.{◌≡◌, ℕ, zero, suc, ◌+◌, ◌-◌, ◌<◌, ◌≤◌, ◌==◌, Bool, true, false, ◌||◌, ◌&&◌, not, Option, Some, None, Ok, slice_get, slice_index, get_or, List, length, drop, refl, sym, ap, subst, ◌∙◌, arith, length-drop}
+use Rattle.std.proofs.Common.{◌≡◌, ℕ, zero, suc, ◌+◌, ◌-◌, ◌<◌, ◌≤◌, ◌==◌, Bool, true, false, ◌||◌, not, Option, Some, None, Ok, slice_get, slice_index, get_or, List, length, drop, refl, sym, ap, subst, ◌∙◌, arith, length-drop}
 use Rattle.std.proofs.lemmas.Option.{slice_get-get_or}
 use Rattle.shread.specs.Text.{IsRun, is_newline}
 use Rattle.shread.specs.declared.fault.Stop.{Stop}
@@ -131,10 +131,6 @@ closer_at : (T : List ℕ) (p n : ℕ) (a : Option ℕ) → ends a ≡ true → 
 closer_at T p n None end = refl
 closer_at T p n (Some b) end = closer_by T p n b end
 
-word_closes : (c : Opened) (T : List ℕ) (o b q : ℕ) → ends_word T q ≡ true → piece_step c T o Plain b 0 q ≡ Ok (done 0 q)
-unfolding piece_step piece_at ends_word
-word_closes c T o b q end = ap (piece_of c T o Plain b 0 q) (closer_at T q 0 (byte_at T q) end)
-
 -- what pieces give is only where they end
 abbrev only_end : Read ℕ → Read (Unit {0})
 only_end read = read >>= λ w. Ok (tt, w.1)
@@ -164,15 +160,15 @@ pub plain_contents : (c : Opened) (T : List ℕ) (o : ℕ) (mode : Mode) (b p q 
 unfolding contents_at
 plain_contents c T o mode b p q plain low high = ap only_end (plain_turns c T o mode b 0 p q plain low high)
 
-plain_end : (c : Opened) (T : List ℕ) (o b p q : ℕ) → ArePlain T p q → p ≤ q → q ≤ length T → ends_word T q ≡ true → contents_at c T o Plain b p ≡ Ok (tt, q)
-unfolding contents_at
-plain_end c T o b p q plain low high end =
-    ap only_end (plain_turns c T o Plain b 0 p q plain low high ∙ turns_done (length T) (piece_step c T o Plain b) 0 0 q q (word_closes c T o b q end))
+-- a word ends where no piece begins
+word_closes : (T : List ℕ) (q : ℕ) → ends_word T q ≡ true → piece_at T Plain 0 q ≡ pieces.Closer
+unfolding piece_at ends_word
+word_closes T q end = closer_at T q 0 (byte_at T q) end
 
 -- a word of plain bytes
 pub plain_word : (T : List ℕ) (o p q : ℕ) → ArePlain T p q → p ≤ q → q ≤ length T → ends_word T q ≡ true → word_at T o p ≡ Ok (word (span o p q) no_subst, q)
 unfolding word_at
-plain_word T o p q plain low high end = rw (plain_end (level_at T o 100) T o p p q plain low high end) refl
+plain_word T o p q plain low high end = rw (plain_closed (level_at T o 100) T o Plain p p q plain low high (word_closes T q end)) refl
 
 -- where a word begins and another place ends it, some bytes stand between
 pub some_plain : (T : List ℕ) (p q : ℕ) → p ≤ q → ends_word T p ≡ false → ends_word T q ≡ true → p < q

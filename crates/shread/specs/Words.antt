@@ -1,5 +1,5 @@
 -- Words and their pieces (XCU 2.2, 2.3, 2.6). T is the text from where the line begins, and o the offset of its first byte.
-use Rattle.std.specs.Prelude.{ℕ, zero, suc, ◌+◌, ◌-◌, ◌==◌, Bool, true, false, ◌||◌, not, Option, None, Some, if◌then◌else◌}
+use Rattle.std.specs.Prelude.{ℕ, zero, suc, ◌+◌, ◌-◌, ◌==◌, Bool, true, false, ◌||◌, Option, None, Some, if◌then◌else◌}
 use Rattle.std.specs.Prelude.{List}
 use Rattle.shread.specs.declared.tree.Span.{Span}
 use Rattle.shread.specs.declared.fault.FaultKind.{FaultKind}

@@ -1,4 +1,4 @@
-use Rattle.std.proofs.Common.{◌≡◌, ◌≤◌, ◌<◌, ◌-◌, length, drop}
+use Rattle.std.proofs.Common.{◌≡◌, ◌<◌, ◌-◌, length, drop}
 use Rattle.shread.specs.Reading.{turns, backquote_step, backquoted_at}
 use Rattle.shread.proofs.cursor.Cursor.backquoted.Given as goal
 
