@@ -302,6 +302,28 @@ fn depth(rt: HostRuntime) -> Result<(), Fail> {
     Ok(())
 }
 
+/// Quoted text of every short length, closed and not; its end is found one byte at a time, or by a search.
+#[test]
+fn short_quotes(rt: HostRuntime) -> Result<(), Fail> {
+    let alloc = rt.alloc();
+    for (quote, kind) in [
+        (b"'".as_slice(), FaultKind::UnclosedSingle),
+        (b"\"", FaultKind::UnclosedDouble),
+        (b"`", FaultKind::UnclosedBackquote),
+    ] {
+        let mut text = Vec::new(alloc);
+        for _ in 0..20 {
+            assert_eq!(rt; nested(alloc, 1, quote, &text, quote)?, None);
+            assert_eq!(rt;
+                nested(alloc, 1, quote, &text, b"")?,
+                Some(Fault { kind, at: 0 })
+            );
+            text.push(b';')?;
+        }
+    }
+    Ok(())
+}
+
 /// 8 MiB in one pair of quotes, and a word of a million pieces.
 #[test]
 fn long_words(rt: HostRuntime) -> Result<(), Fail> {
