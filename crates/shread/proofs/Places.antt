@@ -7,7 +7,7 @@ use Rattle.std.proofs.lemmas.Option.{slice_get_within}
 use Rattle.shread.specs.Text.{is_newline}
 use Rattle.shread.specs.declared.token.Token.{Token}
 use Rattle.shread.specs.declared.token.Token.TheVariants as tokens
-use Rattle.shread.specs.Bytes.{is_blank, is_digit, is_name, is_operator, is_letter, is_byte, is_none, raw_stands, raw_in, at_end, raw_past, next_of, stands, ends, ends_word, passes, stands_in, count_front, past, past_below, past_blanks, count_joined, past_continuations, byte_at, behind, next_newline, before_blanks, begins_assignment, is_number, token_of, token_at}
+use Rattle.shread.specs.Bytes.{is_blank, is_digit, is_name, is_operator, is_letter, is_byte, is_none, raw_stands, raw_in, at_end, raw_past, next_of, stands, ends, ends_word, passes, stands_in, count_front, past, past_below, past_blanks, count_joined, past_continuations, byte_at, behind, next_newline, begins_assignment, is_number, token_of, token_at}
 use Rattle.shread.specs.Words.{next_in_backquotes, is_special, past_parameter}
 use Rattle.shread.specs.Commands.{is_word, past_comment, is_parted, separator_by, separator_at, past_separator}
 use Rattle.shread.proofs.Stretches.{get_drop, place_low, stands_in_low}
@@ -49,11 +49,6 @@ place_same T p =
     ap count_joined (sym (drop-drop (count_joined (drop p T)) p T)) ∙ joined_rest (drop p T) in
     omega (arith, none)
 
--- what is read past continuations is what is read before them
-pub stands_past : (T : List ℕ) (p c : ℕ) → stands T (past_continuations T p) c ≡ stands T p c
-unfolding stands
-stands_past T p c = ap (λ q. is_byte (slice_get T q) c) (place_same T p)
-
 -- the same of a byte of a class
 pub stands_in_past : (test : ℕ → Bool) (T : List ℕ) (p : ℕ) → stands_in test T (past_continuations T p) ≡ stands_in test T p
 unfolding stands_in
@@ -71,11 +66,6 @@ byte_low : (T : List ℕ) (p c : ℕ) (b : Option ℕ) → slice_get T p ≡ b �
 byte_low T p c None is e = absurd cc
 byte_low T p c (Some b) is e = slice_get_within T p b is
 
--- where a byte is there is one
-pub raw_stands_low : (T : List ℕ) (p c : ℕ) → raw_stands T p c ≡ true → p < length T
-unfolding raw_stands
-raw_stands_low T p c e = byte_low T p c (slice_get T p) refl e
-
 -- where a byte is read there is one
 pub stands_low : (T : List ℕ) (p c : ℕ) → stands T p c ≡ true → past_continuations T p < length T
 unfolding stands
@@ -90,16 +80,6 @@ some_low T p (Some b) is e = slice_get_within T p b is
 pub not_end_low : (T : List ℕ) (p : ℕ) → at_end T p ≡ false → p < length T
 unfolding at_end
 not_end_low T p e = some_low T p (slice_get T p) refl e
-
--- a byte that ends no word is one
-not_ends_low : (T : List ℕ) (p : ℕ) (b : Option ℕ) → slice_get T p ≡ b → ends b ≡ false → p < length T
-not_ends_low T p None is e = absurd cc
-not_ends_low T p (Some b) is e = slice_get_within T p b is
-
--- where no word ends a byte is read
-pub word_low : (T : List ℕ) (p : ℕ) → ends_word T p ≡ false → past_continuations T p < length T
-unfolding ends_word
-word_low T p e = not_ends_low T (past_continuations T p) (byte_at T p) refl e
 
 -- behind a byte is to the right of it
 pub behind_low : (T : List ℕ) (p : ℕ) → p < behind T p
@@ -191,13 +171,6 @@ next_newline_high T p within = next_of_high 10 T p within
 pub next_in_backquotes_low : (T : List ℕ) (p : ℕ) → p ≤ next_in_backquotes T p
 next_in_backquotes_low T p = raw_past_low (λ c. not (c == 96 || c == 92)) T p
 
--- without the blanks before it a stretch is not longer
-pub before_blanks_high : (T : List ℕ) (q : ℕ) → before_blanks T q ≤ q
-unfolding before_blanks
-before_blanks_high T zero = omega arith
-before_blanks_high T (suc q) =
-    cond_both (raw_in is_blank T q) _ _ (λ n. n ≤ suc q) (λ e. omega (arith, before_blanks_high T q)) (λ e. omega arith)
-
 -- ---- stretches of what is read
 
 -- by how many bytes may be read
@@ -249,19 +222,10 @@ pub blanks_high : (T : List ℕ) (p : ℕ) → p ≤ length T → past_blanks T 
 unfolding past_blanks
 blanks_high T p within = place_high T (past is_blank T p) (past_high is_blank T p within)
 
--- no continuation is there
-pub blanks_same : (T : List ℕ) (p : ℕ) → past_continuations T (past_blanks T p) ≡ past_blanks T p
-unfolding past_blanks
-blanks_same T p = place_same T (past is_blank T p)
-
 -- nor a blank
 pub blanks_stop : (T : List ℕ) (p : ℕ) → stands_in is_blank T (past_blanks T p) ≡ false
 unfolding past_blanks
 blanks_stop T p = stands_in_past is_blank T (past is_blank T p) ∙ past_stops is_blank T p
-
--- so what is read there is the byte there
-pub blanks_raw : (T : List ℕ) (p c : ℕ) → stands T (past_blanks T p) c ≡ raw_stands T (past_blanks T p) c
-blanks_raw T p c = stands_raw T (past_blanks T p) c ∙ ap (λ q. raw_stands T q c) (blanks_same T p)
 
 -- behind a parameter
 pub parameter_low : (T : List ℕ) (p : ℕ) → p ≤ past_parameter T p

@@ -1,19 +1,17 @@
 -- What a script and its lines say of its tree and of its first fault.
-use Rattle.std.proofs.Common.{◌≡◌, ℕ, ◌+◌, ◌≤◌, ◌<◌, Bool, true, false, not, ◌&&◌, List, List as Row, [], ◌∷◌, length, drop, None, Some, Ok, Err, refl, sym, ap, subst, ◌∙◌, arith}
-use Rattle.std.proofs.lemmas.Bool.{and_parts}
-use Rattle.std.proofs.lemmas.List.{length-drop}
+use Rattle.std.proofs.Common.{◌≡◌, ℕ, ◌+◌, ◌≤◌, Bool, true, false, not, ◌&&◌, List, List as Row, length, drop, None, Some, Ok, Err, refl, ap, subst, ◌∙◌, arith}
 use Rattle.shread.specs.declared.fault.Fault.{Fault}
 use Rattle.shread.specs.Tree.{AnEntry}
 use Rattle.shread.specs.Comes.{Read}
 use Rattle.shread.specs.Commands.{is_empty}
-use Rattle.shread.specs.Lines.{ALine, AScript, IsLine, Outcome, FirstFault, faulty_line, kind_of}
+use Rattle.shread.specs.Lines.{FirstFault}
 use Rattle.shread.specs.Normal.{IsNormal}
-use Rattle.shread.specs.Reading.{turns, line_at, SoFar, script_next, script_step, nothing_yet, script_of, script_at, line_read_of, line_of_text, first_fault_from, TellsFirst}
+use Rattle.shread.specs.Reading.{turns, line_at, SoFar, script_next, script_step, nothing_yet, script_of, script_at, first_fault_from, TellsFirst}
 use Rattle.shread.proofs.Alike.{moved, Alike, both_give, both_stop, SameEnd, same_end, SameStep, both_again, both_done, turns_alike, SameFlag, line_alike}
-use Rattle.shread.proofs.Progress.{ScriptSo, script_keeps, Within, LineEnd, line_within, ScriptEnd, script_within, script_good}
+use Rattle.shread.proofs.Progress.{ScriptSo, script_keeps, ScriptEnd, script_within, script_good}
 use Rattle.shread.proofs.Loops.{Keeps}
 use Rattle.shread.proofs.Turns.{turns_again, turns_done}
-use Rattle.shread.proofs.Scripts.{line_only, script_is, script_only}
+use Rattle.shread.proofs.Scripts.{script_is}
 
 -- ---- the tree, and where a fault may be
 
@@ -22,70 +20,14 @@ pub script_normal : (B : List ℕ) → IsNormal (script_at B).entries
 unfolding script_at
 script_normal B = (script_good B _ (script_within B 0 (omega arith))).0
 
--- a fault of a script is not past its end
-pub fault_within : (B : List ℕ) (s : AScript) (f : Fault) → Outcome B s → s.wrong ≡ Some f → f.at ≤ length B
-unfolding script_at
-fault_within B s f is wrong =
-    (script_good B _ (script_within B 0 (omega arith))).1 f (sym (ap (λ (y : AScript). y.wrong) (script_only B s is)) ∙ wrong)
-
 -- nor is the first one from a place on
 pub first_fault_within : (B : List ℕ) (p : ℕ) (f : Fault) → p ≤ length B → first_fault_from B p ≡ Some f → f.at ≤ length B
 unfolding first_fault_from
 first_fault_within B p f within is = (script_good B _ (script_within B p within)).1 f is
 
--- a line that was read has no fault
-not_faulty : (es : Row AnEntry) (newline : Bool) (f : Fault) → kind_of es newline ≡ faulty_line f → ⊥
-not_faulty [] true f is = cc
-not_faulty [] false f is = cc
-not_faulty (e ∷ es) newline f is = cc
-
--- by its outcome
-line_fault_by : (T : List ℕ) (x : Read (Row AnEntry × Bool)) (f : Fault) → Within (LineEnd T 0 false 0) 0 (length T) 0 x
-    → (line_read_of T x).kind ≡ faulty_line f → f.at ≤ length T
-line_fault_by T (Ok ((es, newline), q)) f within is = absurd (not_faulty es newline f is)
-line_fault_by T (Err e) f within is = let same : e ≡ f = cc in rw (← same) (omega (arith, within))
-
--- a fault of a line is not past the end of its text
-pub line_fault_within : (T : List ℕ) (l : ALine) (f : Fault) → IsLine T l → l.kind ≡ faulty_line f → f.at ≤ length T
-unfolding line_of_text
-line_fault_within T l f is kind =
-    line_fault_by T _ f (line_within T 0 false 0 (omega arith)) (sym (ap (λ (m : ALine). m.kind) (line_only T l is)) ∙ kind)
-
 -- a fault that does not move
 not_moved : (f : Fault) → moved 0 f ≡ f
 not_moved f = let same : 0 + f.at ≡ f.at = omega arith in ap (λ n. record { kind = f.kind; at = n }) same
-
--- by its outcome
-line_next_by : (T : List ℕ) (x : Read (Row AnEntry × Bool)) → Within (LineEnd T 0 false 0) 0 (length T) 0 x → (line_read_of T x).next ≤ length T
-line_next_by T (Ok ((es, newline), q)) within = within.1
-line_next_by T (Err f) within = omega arith
-
--- a line is not longer than its text
-pub line_next : (T : List ℕ) (l : ALine) → IsLine T l → l.next ≤ length T
-unfolding line_of_text
-line_next T l is =
-    let P : ALine → Type 0 = λ m. m.next ≤ length T in subst P (sym (line_only T l is)) (line_next_by T _ (line_within T 0 false 0 (omega arith)))
-
--- by its outcome
-line_onward_by : (T : List ℕ) (x : Read (Row AnEntry × Bool)) → Within (LineEnd T 0 false 0) 0 (length T) 0 x → (line_read_of T x).ended ≡ true
-    → 0 < (line_read_of T x).next
-line_onward_by T (Ok ((es, newline), q)) within ended = (within.2.1 (and_parts _ _ ended).0).0
-line_onward_by T (Err f) within ended = absurd cc
-
--- a line that a newline token ended has a byte
-pub line_onward : (T : List ℕ) (l : ALine) → IsLine T l → l.ended ≡ true → 0 < l.next
-unfolding line_of_text
-line_onward T l is =
-    let P : ALine → Type 0 = λ m. m.ended ≡ true → 0 < m.next in subst P (sym (line_only T l is)) (line_onward_by T _ (line_within T 0 false 0 (omega arith)))
-
--- in a text from p on: the place behind a line
-pub next_within : (B : List ℕ) (p : ℕ) (l : ALine) → p ≤ length B → IsLine (drop p B) l → p + l.next ≤ length B
-next_within B p l within is = omega (arith, line_next (drop p B) l is, length-drop p B)
-
--- in this grammar a newline token is always the last byte
-not_ended : (b c : Bool) → (b && c) ≡ false → (b ≡ true → c ≡ true) → b ≡ false
-not_ended true c ended newline = let last = newline refl in absurd cc
-not_ended false c ended newline = refl
 
 -- ---- the lines from a place on, whatever stands before it
 

@@ -31,14 +31,7 @@ fn next_line<S: Source>(alloc: Global, source: &S, so_far: &mut SoFar) -> Result
     ensures onward { IfOk result (Onward so_far.old.at so_far.new.at) }
     ensures within { so_far.new.at ≤ length (S.bytes source.now) }
 {
-    let _end = source.len();
-    let mut cursor = Cursor {
-        source,
-        base: so_far.at,
-        origin: so_far.at,
-        keep: true,
-        at: 0,
-    };
+    let mut cursor = Cursor::at_line(source, so_far.at, so_far.at, true);
     let blank = so_far.gap && !so_far.entries.is_empty();
     match cursor.line(alloc, blank) {
         Ok((mut entries, newline)) => {

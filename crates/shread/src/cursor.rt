@@ -1,11 +1,10 @@
 //! A place in a text, and what stands there.
 ghost use Rattle.std.specs.Prelude.{◌≡◌, ◌≢◌, ◌+◌, ◌-◌, ◌^◌, ◌<◌, ◌≤◌, drop, length, slice_get, true, false, IfSome, Some};
-ghost use Rattle.shread.specs.Bytes.{is_blank, is_broken_at, raw_past, at_end, behind, byte_at, continues, past_blanks, past_continuations, ends, raw_in, raw_stands, begins_assignment, ends_word, is_number, is_reserved, is_word_at, past, stands, stands_in, token_at};
+ghost use Rattle.shread.specs.Bytes.{is_blank, is_broken_at, raw_past, at_end, behind, byte_at, continues, past_blanks, past_continuations, ends, raw_in, raw_stands, ends_word, past, stands, stands_in};
 ghost use Rattle.shread.specs.Classes.{in_class};
-ghost use Rattle.shread.specs.Commands.{is_word};
 
 use crate::source::Source;
-use crate::token::{Class, Token};
+use crate::token::Class;
 
 /// Whether a word ends before this byte: a blank, a newline, or what an operator begins with.
 #[inline(always)]
@@ -20,7 +19,7 @@ pub(crate) fn ends_words(byte: u8) -> bool
 
 /// A place in the text that a source holds from `base` on.
 ///
-/// Places count from `base`. The offsets that it tells, in spans and faults, are its places behind `origin`.
+/// Places count from `base`. The offsets that it tells, in spans and faults, are its places plus `origin`.
 #[derive(Drop)]
 pub(crate) struct Cursor<'a, S: Source> {
     pub(crate) source: &'a S,
@@ -36,6 +35,22 @@ pub(crate) struct Cursor<'a, S: Source> {
 }
 
 impl<'a, S: Source> Cursor<'a, S> {
+    /// Where the line at an offset begins, whose own offsets are counted from `origin`.
+    pub(crate) fn at_line(source: &'a S, base: usize, origin: usize, keep: bool) -> Cursor<'a, S>
+        requires { (base ≤ length (S.bytes source.now)) × (origin ≤ base) }
+        ensures { (result.source.now ≡ source.now) × (result.base ≡ base) × (result.origin ≡ origin) × (result.keep ≡ keep) × (result.at ≡ 0) }
+    {
+        // The length is asked for its bound alone: no offset in the text overflows.
+        let _ = source.len();
+        Cursor {
+            source,
+            base,
+            origin,
+            keep,
+            at: 0,
+        }
+    }
+
     /// The byte at a place as it stands, or `None` at the end.
     #[inline(always)]
     #[tactic(auto, using(crate::proofs::Stretches::get_drop))]
@@ -294,7 +309,7 @@ impl<'a, S: Source> Cursor<'a, S> {
     /// Whether a word ends at a place.
     #[inline(always)]
     #[tactic(auto, unfolding(crate::specs::Bytes::ends_word))]
-    fn ends_at(&self, at: usize) -> bool
+    pub(crate) fn ends_at(&self, at: usize) -> bool
         requires { at ≤ length (drop self.now.base (S.bytes self.now.source.now)) }
         ensures value { result ≡ ends_word (drop self.now.base (S.bytes self.now.source.now)) at }
         ensures inside { result ≡ false → past_continuations (drop self.now.base (S.bytes self.now.source.now)) at < length (drop self.now.base (S.bytes self.now.source.now)) }
@@ -312,123 +327,5 @@ impl<'a, S: Source> Cursor<'a, S> {
         ensures inside { result ≡ false → past_continuations (drop self.now.base (S.bytes self.now.source.now)) self.now.at < length (drop self.now.base (S.bytes self.now.source.now)) }
     {
         self.ends_at(self.at)
-    }
-
-    /// Whether the word that is spelled so stands here.
-    #[tactic(auto, using(crate::proofs::Stretches::word_more, crate::proofs::Stretches::word_other, crate::proofs::Stretches::word_whole))]
-    fn is_word(&self, word: &[u8]) -> bool
-        ensures { result ≡ is_word_at (drop self.now.base (S.bytes self.now.source.now)) self.now.at word.now }
-    {
-        let mut at = self.at;
-        'letters: for byte in word {
-            if !self.stands(at, *byte) {
-                return false;
-            }
-            at = self.behind(at);
-        }
-        self.ends_at(at)
-    }
-
-    /// Whether a reserved word stands here. Its first byte tells which it may be.
-    #[tactic(auto, unfolding(crate::specs::Bytes::is_reserved, crate::specs::Bytes::is_opening_word, crate::specs::Bytes::is_closing_word, crate::specs::Bytes::is_word_at, crate::specs::Bytes::stands))]
-    pub(crate) fn is_reserved(&self) -> bool
-        ensures { result ≡ is_reserved (drop self.now.base (S.bytes self.now.source.now)) self.now.at }
-    {
-        match self.byte() {
-            Some(b'!') => self.is_word(b"!"),
-            Some(b'{') => self.is_word(b"{"),
-            Some(b'}') => self.is_word(b"}"),
-            Some(b'c') => self.is_word(b"case"),
-            Some(b'd') => self.is_word(b"do") || self.is_word(b"done"),
-            Some(b'e') => self.is_word(b"elif") || self.is_word(b"else") || self.is_word(b"esac"),
-            Some(b'f') => self.is_word(b"fi") || self.is_word(b"for"),
-            Some(b'i') => self.is_word(b"if") || self.is_word(b"in"),
-            Some(b't') => self.is_word(b"then"),
-            Some(b'u') => self.is_word(b"until"),
-            Some(b'w') => self.is_word(b"while"),
-            _ => false,
-        }
-    }
-
-    /// Whether a NAME and `=` stand here.
-    #[inline(always)]
-    #[tactic(auto, unfolding(crate::specs::Bytes::begins_assignment, crate::specs::Bytes::stands_in, crate::specs::Bytes::ends_word))]
-    pub(crate) fn begins_assignment(&self) -> bool
-        ensures value { result ≡ begins_assignment (drop self.now.base (S.bytes self.now.source.now)) self.now.at }
-        ensures word { result ≡ true → ends_word (drop self.now.base (S.bytes self.now.source.now)) self.now.at ≡ false }
-    {
-        match self.byte() {
-            Some(b'a'..=b'z' | b'A'..=b'Z' | b'_') => self.stands(
-                self.past(self.at, Class::Name),
-                b'=',
-            ),
-            _ => false,
-        }
-    }
-
-    /// Whether digits that `<` or `>` follows stand here.
-    #[inline(always)]
-    #[tactic(auto, unfolding(crate::specs::Bytes::is_number))]
-    fn is_number(&self) -> bool
-        ensures { result ≡ is_number (drop self.now.base (S.bytes self.now.source.now)) self.now.at }
-    {
-        if !self.stands_in(self.at, Class::Digit) {
-            return false;
-        }
-        let end = self.past(self.at, Class::Digit);
-        self.stands(end, b'<') || self.stands(end, b'>')
-    }
-
-    /// What begins here, where no blank stands.
-    #[tactic(auto, unfolding(crate::specs::Bytes::token_at, crate::specs::Bytes::behind, crate::specs::Bytes::raw_stands, crate::specs::Bytes::stands, crate::specs::Bytes::stands_in, crate::specs::Bytes::ends_word))]
-    pub(crate) fn token(&self) -> Token
-        ensures value { result ≡ token_at (drop self.now.base (S.bytes self.now.source.now)) self.now.at }
-        ensures inside { result ≢ Token.End → past_continuations (drop self.now.base (S.bytes self.now.source.now)) self.now.at < length (drop self.now.base (S.bytes self.now.source.now)) }
-        ensures word { let text = drop self.now.base (S.bytes self.now.source.now) in
-            stands_in is_blank text self.now.at ≡ false → result ≡ Token.Word → ends_word text self.now.at ≡ false }
-        ensures newline { result ≡ Token.Newline → raw_stands (drop self.now.base (S.bytes self.now.source.now)) (behind (drop self.now.base (S.bytes self.now.source.now)) self.now.at - 1) 10 ≡ true }
-    {
-        match self.byte() {
-            None => Token::End,
-            Some(b'\n') => Token::Newline,
-            Some(b';') => {
-                if self.is_next(b';') {
-                    Token::Operator
-                } else {
-                    Token::Semicolon
-                }
-            }
-            Some(b'&') => {
-                if self.is_next(b'&') {
-                    Token::Operator
-                } else {
-                    Token::Ampersand
-                }
-            }
-            Some(b'|' | b'<' | b'>' | b'(' | b')') => Token::Operator,
-            Some(b'#') => Token::Comment,
-            Some(_) => {
-                if self.is_number() {
-                    Token::Number
-                } else {
-                    Token::Word
-                }
-            }
-        }
-    }
-
-    /// Whether a word begins here, where no blank stands. Most often a letter or the line's end tells.
-    #[inline(always)]
-    #[tactic(auto, unfolding(crate::specs::Bytes::token_at, crate::specs::Bytes::is_number, crate::specs::Bytes::stands_in, crate::specs::Bytes::ends_word))]
-    pub(crate) fn begins_word(&self) -> bool
-        requires { stands_in is_blank (drop self.now.base (S.bytes self.now.source.now)) self.now.at ≡ false }
-        ensures value { result ≡ is_word (token_at (drop self.now.base (S.bytes self.now.source.now)) self.now.at) }
-        ensures word { result ≡ true → ends_word (drop self.now.base (S.bytes self.now.source.now)) self.now.at ≡ false }
-    {
-        match self.byte() {
-            Some(b'a'..=b'z' | b'A'..=b'Z') => true,
-            Some(b'\n') | None => false,
-            _ => self.token().is_word(),
-        }
     }
 }

@@ -5,7 +5,10 @@ ghost use Rattle.shread.specs.declared.fault.Stop.TheVariants.{Memory};
 use std::alloc::{AllocError, AllocFailed};
 use thiserror::Error;
 
-/// What is wrong with a script, numbered as in the replies of a session.
+/// What is wrong with a script. The numbers are fixed: whoever tells a kind by its number may rely on them.
+///
+/// No script has the kinds yet of forms that are not read: `UnclosedSubst`, `UnclosedHere`, `BadHereWord`, `UnexpectedEnd`,
+/// `BadForName` and `BadFunctionName`.
 #[derive(Clone, Copy, Debug, PartialEq, Eq)]
 pub enum FaultKind {
     /// A single quote is not closed (XCU 2.2.2); at the quote.

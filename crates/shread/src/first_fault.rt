@@ -25,14 +25,7 @@ fn look<S: Source>(alloc: Global, source: &S, at: usize) -> Result<Found, ReadEr
     requires { at ≤ length (S.bytes source.now) }
     ensures { IfOk result (Tells (S.bytes source.now) at) }
 {
-    let _end = source.len();
-    let mut cursor = Cursor {
-        source,
-        base: at,
-        origin: at,
-        keep: false,
-        at: 0,
-    };
+    let mut cursor = Cursor::at_line(source, at, at, false);
     match cursor.line(alloc, false) {
         Ok((_, newline)) => {
             if newline {

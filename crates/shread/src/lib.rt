@@ -7,19 +7,19 @@
 
 mod all_lines;
 mod command;
+mod comment;
 mod cursor;
 mod fault;
 mod first_fault;
 pub mod laws;
 mod line;
+mod line_col;
 mod make;
 mod mode;
 mod one_line;
 mod piece;
-mod place;
 mod plain;
 mod reader;
-mod remark;
 mod search;
 mod source;
 mod token;
@@ -27,7 +27,7 @@ mod tree;
 mod word;
 
 pub use fault::{Fault, FaultKind, ReadError};
-pub use place::line_col_of;
+pub use line_col::line_col_of;
 pub use reader::{Line, LineKind, Reader, Script};
 pub use source::{Flat, Source};
 pub use tree::{

@@ -11,9 +11,9 @@ pub(crate) enum Mode {
     Plain,
     /// In a double-quoted string.
     Double,
-    /// In `${`, outside double quotes, or behind `#` or `%`.
+    /// In a `${` that opened in `Plain` or `Brace`, or in a pattern, behind `#` or `%`.
     Brace,
-    /// In `${`, in double quotes or arithmetic.
+    /// In any other `${`.
     DoubleBrace,
     /// In `$((`.
     Arith,

@@ -44,13 +44,7 @@ pub(crate) fn line_from<S: Source>(alloc: Global, source: &S, at: usize) -> Resu
             ended: false,
         });
     }
-    let mut cursor = Cursor {
-        source,
-        base: at,
-        origin: 0,
-        keep: true,
-        at: 0,
-    };
+    let mut cursor = Cursor::at_line(source, at, 0, true);
     match cursor.line(alloc, false) {
         Ok((entries, newline)) => Ok(Line {
             kind: line_kind(entries, newline),

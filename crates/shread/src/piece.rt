@@ -1,6 +1,6 @@
 //! Which piece of a word begins at a place, and the pieces that hold no others (XCU 2.2, 2.6).
 ghost use Rattle.std.specs.Prelude.{◌≡◌, ◌≢◌, ◌⊎◌, ◌+◌, ◌<◌, ◌≤◌, drop, length, IfOk, Some, false, true};
-ghost use Rattle.shread.specs.Bytes.{behind, byte_at, ends, ends_word, next_of, past_continuations, stands};
+ghost use Rattle.shread.specs.Bytes.{behind, byte_at, ends, ends_word, past_continuations, stands};
 ghost use Rattle.shread.specs.Reading.{Gives, backquote_step, backquoted_at, single_at, turns};
 ghost use Rattle.shread.specs.Comes.{step_if};
 ghost use Rattle.shread.specs.Words.{bracket_by, byte_by, dollar_at, past_parameter, piece_at, rest_mode};
@@ -11,9 +11,6 @@ use crate::mode::{Mode, Piece};
 use crate::search::Sought;
 use crate::source::Source;
 use crate::token::Class;
-
-/// How many bytes of quoted text are looked at before it is searched.
-const NEAR: usize = 8;
 
 impl<'a, S: Source> Cursor<'a, S> {
     /// What the `$` at a place begins.
@@ -148,25 +145,6 @@ impl<'a, S: Source> Cursor<'a, S> {
         }
     }
 
-    /// The next single quote from a place on, or the end. The nearest bytes are looked at one by one, since a search
-    /// costs more to begin than most quoted text is long.
-    #[inline(always)]
-    #[tactic(auto, using(crate::proofs::Searches::byte_passed, crate::proofs::Searches::byte_here, crate::proofs::Searches::byte_end))]
-    fn next_quote(&self, from: usize) -> usize
-        requires { from ≤ length (drop self.now.base (S.bytes self.now.source.now)) }
-        ensures value { result ≡ next_of 39 (drop self.now.base (S.bytes self.now.source.now)) from }
-        ensures inside { (from ≤ result) × (result ≤ length (drop self.now.base (S.bytes self.now.source.now))) }
-    {
-        let mut at = from;
-        'near: for _ in 0..NEAR {
-            if self.at_end(at) || self.raw_stands(at, b'\'') {
-                return at;
-            }
-            at += 1;
-        }
-        self.next(Sought::Byte(b'\''), at)
-    }
-
     /// Text in single quotes, from its opener on.
     #[tactic(auto, unfolding(crate::specs::Reading::single_at))]
     pub(crate) fn single(&mut self, opener: usize) -> Result<(), Stop>
@@ -193,7 +171,7 @@ impl<'a, S: Source> Cursor<'a, S> {
         ensures onward { IfOk result (λ more. self.old.at < self.new.at) }
         ensures same { (self.new.source ≡ self.old.source) × (self.new.base ≡ self.old.base) × (self.new.origin ≡ self.old.origin) × (self.new.keep ≡ self.old.keep) }
     {
-        let next = self.next(Sought::Either(b'`', b'\\'), self.at);
+        let next = self.find(Sought::Either(b'`', b'\\'), self.at);
         if self.at_end(next) {
             return Err(self.wrong_at(FaultKind::UnclosedBackquote, opener));
         }

@@ -1,43 +1,83 @@
-//! Bytes that are ordinary in every mode, many at once.
+//! Bytes that are ordinary in a mode, many at once.
 ghost use Rattle.std.specs.Prelude.{◌≡◌, ◌+◌, ◌<◌, ◌≤◌, ℕ, drop, length, slice_index, true};
-ghost use Rattle.shread.specs.Plain.{ArePlain, is_plain};
+ghost use Rattle.shread.specs.Plain.{ArePlain, alone, is_plain};
 
 use crate::cursor::Cursor;
+use crate::mode::Mode;
 use crate::source::Source;
 
-const P: bool = true;
+// A set of modes: a bit for each.
+const PLAIN: u8 = 1;
 
-const X: bool = false;
+const DOUBLE: u8 = 2;
 
-/// By a byte, whether it is ordinary in every mode. A table is read faster than so many tests.
-const PLAIN: [bool; 256] = [
-    P, P, P, P, P, P, P, P, P, X, X, P, P, P, P, P, P, P, P, P, P, P, P, P, P, P, P, P, P, P, P, P,
-    X, P, X, P, X, P, X, X, X, X, P, P, P, P, P, P, P, P, P, P, P, P, P, P, P, P, P, X, X, P, X, P,
-    P, P, P, P, P, P, P, P, P, P, P, P, P, P, P, P, P, P, P, P, P, P, P, P, P, P, P, P, X, P, P, P,
-    X, P, P, P, P, P, P, P, P, P, P, P, P, P, P, P, P, P, P, P, P, P, P, P, P, P, P, P, X, X, P, P,
-    P, P, P, P, P, P, P, P, P, P, P, P, P, P, P, P, P, P, P, P, P, P, P, P, P, P, P, P, P, P, P, P,
-    P, P, P, P, P, P, P, P, P, P, P, P, P, P, P, P, P, P, P, P, P, P, P, P, P, P, P, P, P, P, P, P,
-    P, P, P, P, P, P, P, P, P, P, P, P, P, P, P, P, P, P, P, P, P, P, P, P, P, P, P, P, P, P, P, P,
-    P, P, P, P, P, P, P, P, P, P, P, P, P, P, P, P, P, P, P, P, P, P, P, P, P, P, P, P, P, P, P, P,
+const BRACE: u8 = 4;
+
+const DOUBLE_BRACE: u8 = 8;
+
+const ARITH: u8 = 16;
+
+// In which modes a byte is special.
+/// Ordinary bytes, in none.
+const O: u8 = 0;
+/// The backslash, the backquote and `$`, in all.
+const A: u8 = PLAIN | DOUBLE | BRACE | DOUBLE_BRACE | ARITH;
+/// What ends a word.
+const E: u8 = PLAIN;
+/// Round brackets.
+const R: u8 = PLAIN | ARITH;
+/// The single quote.
+const S: u8 = PLAIN | BRACE;
+/// The double quote.
+const D: u8 = PLAIN | DOUBLE | BRACE | DOUBLE_BRACE;
+/// The closing brace.
+const C: u8 = BRACE | DOUBLE_BRACE;
+
+/// By a byte, in which modes it is special. A table is read faster than so many tests.
+const SPECIAL: [u8; 256] = [
+    O, O, O, O, O, O, O, O, O, E, E, O, O, O, O, O, O, O, O, O, O, O, O, O, O, O, O, O, O, O, O, O,
+    E, O, D, O, A, O, E, S, R, R, O, O, O, O, O, O, O, O, O, O, O, O, O, O, O, O, O, E, E, O, E, O,
+    O, O, O, O, O, O, O, O, O, O, O, O, O, O, O, O, O, O, O, O, O, O, O, O, O, O, O, O, A, O, O, O,
+    A, O, O, O, O, O, O, O, O, O, O, O, O, O, O, O, O, O, O, O, O, O, O, O, O, O, O, O, E, C, O, O,
+    O, O, O, O, O, O, O, O, O, O, O, O, O, O, O, O, O, O, O, O, O, O, O, O, O, O, O, O, O, O, O, O,
+    O, O, O, O, O, O, O, O, O, O, O, O, O, O, O, O, O, O, O, O, O, O, O, O, O, O, O, O, O, O, O, O,
+    O, O, O, O, O, O, O, O, O, O, O, O, O, O, O, O, O, O, O, O, O, O, O, O, O, O, O, O, O, O, O, O,
+    O, O, O, O, O, O, O, O, O, O, O, O, O, O, O, O, O, O, O, O, O, O, O, O, O, O, O, O, O, O, O, O,
 ];
 
-/// Whether a byte is ordinary in every mode.
-#[inline(always)]
-#[tactic(auto, using(crate::proofs::PlainTable::table_tells))]
-fn is_plain(byte: u8) -> bool
-    ensures { result ≡ is_plain byte }
-{
-    PLAIN[byte as usize]
+impl Mode {
+    /// The set of this mode alone.
+    #[inline(always)]
+    fn alone(self) -> u8
+        ensures { result ≡ alone self }
+    {
+        match self {
+            Mode::Plain => PLAIN,
+            Mode::Double => DOUBLE,
+            Mode::Brace => BRACE,
+            Mode::DoubleBrace => DOUBLE_BRACE,
+            Mode::Arith => ARITH,
+        }
+    }
+
+    /// Whether a byte is ordinary in this mode.
+    #[inline(always)]
+    #[tactic(auto, using(crate::proofs::PlainTable::table_tells))]
+    fn is_plain(self, byte: u8) -> bool
+        ensures { result ≡ is_plain self byte }
+    {
+        SPECIAL[byte as usize] & self.alone() == 0
+    }
 }
 
-/// How many bytes at the front are ordinary in every mode.
+/// How many bytes at the front are ordinary in a mode.
 #[inline(always)]
-fn plain_front(run: &[u8]) -> usize
+fn plain_front(run: &[u8], mode: Mode) -> usize
     ensures within { result ≤ length run.now }
-    ensures plain { (k : ℕ) → k < result → is_plain (slice_index run.now k) ≡ true }
+    ensures plain { (k : ℕ) → k < result → is_plain mode (slice_index run.now k) ≡ true }
 {
     for (count, byte) in run.iter().enumerate() {
-        if !is_plain(*byte) {
+        if !mode.is_plain(*byte) {
             return count;
         }
     }
@@ -45,15 +85,15 @@ fn plain_front(run: &[u8]) -> usize
 }
 
 impl<'a, S: Source> Cursor<'a, S> {
-    /// Passes the bytes from here on that are ordinary in every mode, or some of them.
-    #[tactic(auto, using(crate::proofs::PlainBytes::run_plain, crate::proofs::PlainBytes::run_within))]
-    pub(crate) fn skip_plain(&mut self)
-        ensures plain { ArePlain (drop self.old.base (S.bytes self.old.source.now)) self.old.at self.new.at }
+    /// Passes the bytes from here on that are ordinary in a mode, or some of them.
+    #[inline(always)]
+    pub(crate) fn skip_plain(&mut self, mode: Mode)
+        ensures plain { ArePlain mode (drop self.old.base (S.bytes self.old.source.now)) self.old.at self.new.at }
         ensures onward { self.old.at ≤ self.new.at }
         ensures within { self.new.at ≤ length (drop self.old.base (S.bytes self.old.source.now)) }
         ensures same { (self.new.source ≡ self.old.source) × (self.new.base ≡ self.old.base) × (self.new.origin ≡ self.old.origin) × (self.new.keep ≡ self.old.keep) }
     {
         let run = self.source.run(self.base + self.at);
-        self.at += plain_front(run);
+        self.at += plain_front(run, mode);
     }
 }

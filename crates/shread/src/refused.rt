@@ -108,3 +108,24 @@ fn read_line_at_the_length(rt: HostRuntime) -> Result<(), Fail> {
     );
     Ok(())
 }
+
+/// A check asks for no growth, whatever the script holds.
+#[test]
+fn first_fault(rt: HostRuntime) -> Result<(), Fail> {
+    let refuses = refuses(rt.alloc());
+    for script in [
+        TEXT,
+        b"a\\\n=1 i\\\nf \\b # c\n",
+        b"'a' \"b ${c-\"d\"}\" `e\\`f`",
+        b"${a#'b'}$((1 + (2)))$$\n",
+    ] {
+        let mut reader = Reader::new(rt.alloc());
+        refuse(rt.alloc(), 1);
+        let read = reader.first_fault(&Flat::new(script));
+        let has_grown = was_refused(rt.alloc(), 1);
+        assert_eq!(rt; read?, None);
+        assert!(rt; !refuses || !has_grown);
+        assert_eq!(rt; reader.meter(), script.len() as u64);
+    }
+    Ok(())
+}

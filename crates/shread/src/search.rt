@@ -1,12 +1,15 @@
 //! Searches: the next place in a text where a byte stands, or one of two.
 ghost use Rattle.std.specs.Prelude.{◌≡◌, ◌≤◌, drop, length};
 ghost use Rattle.memchr.specs.Find.{IsFirstByte};
-ghost use Rattle.shread.specs.Bytes.{next_such};
+ghost use Rattle.shread.specs.Bytes.{next_of, next_such};
 ghost use Rattle.shread.specs.Classes.{is_sought};
 
 use crate::cursor::Cursor;
 use crate::source::Source;
 use memchr::{memchr, memchr2};
+
+/// How many bytes of text in single quotes are looked at before it is searched.
+const NEAR: usize = 8;
 
 /// What a search looks for.
 #[derive(Clone, Copy, Debug, PartialEq, Eq)]
@@ -32,7 +35,7 @@ impl Sought {
 /// The next offset from an offset on where a byte that is sought stands, or the length.
 #[inline(always)]
 #[tactic(auto, using(crate::proofs::Searches::such_found, crate::proofs::Searches::such_passed, crate::proofs::Searches::such_end))]
-pub(crate) fn next_in<S: Source>(source: &S, from: usize, sought: Sought) -> usize
+pub(crate) fn find_in<S: Source>(source: &S, from: usize, sought: Sought) -> usize
     requires { from ≤ length (S.bytes source.now) }
     ensures value { result ≡ next_such (is_sought sought) (S.bytes source.now) from }
     ensures inside { (from ≤ result) × (result ≤ length (S.bytes source.now)) }
@@ -52,11 +55,30 @@ pub(crate) fn next_in<S: Source>(source: &S, from: usize, sought: Sought) -> usi
 impl<'a, S: Source> Cursor<'a, S> {
     /// The next place from a place on where a byte that is sought stands, or the end.
     #[tactic(auto, using(crate::proofs::Searches::such_behind))]
-    pub(crate) fn next(&self, sought: Sought, from: usize) -> usize
+    pub(crate) fn find(&self, sought: Sought, from: usize) -> usize
         requires { from ≤ length (drop self.now.base (S.bytes self.now.source.now)) }
         ensures value { result ≡ next_such (is_sought sought) (drop self.now.base (S.bytes self.now.source.now)) from }
         ensures inside { (from ≤ result) × (result ≤ length (drop self.now.base (S.bytes self.now.source.now))) }
     {
-        next_in(self.source, self.base + from, sought) - self.base
+        find_in(self.source, self.base + from, sought) - self.base
+    }
+
+    /// The next single quote from a place on, or the end. The nearest bytes are looked at one by one, since a search
+    /// costs more to begin than most text in single quotes is long.
+    #[inline(always)]
+    #[tactic(auto, using(crate::proofs::Searches::byte_passed, crate::proofs::Searches::byte_here, crate::proofs::Searches::byte_end))]
+    pub(crate) fn next_quote(&self, from: usize) -> usize
+        requires { from ≤ length (drop self.now.base (S.bytes self.now.source.now)) }
+        ensures value { result ≡ next_of 39 (drop self.now.base (S.bytes self.now.source.now)) from }
+        ensures inside { (from ≤ result) × (result ≤ length (drop self.now.base (S.bytes self.now.source.now))) }
+    {
+        let mut at = from;
+        'near: for _ in 0..NEAR {
+            if self.at_end(at) || self.raw_stands(at, b'\'') {
+                return at;
+            }
+            at += 1;
+        }
+        self.find(Sought::Byte(b'\''), at)
     }
 }

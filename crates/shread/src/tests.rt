@@ -1,5 +1,5 @@
 // Each public function on its happy path, with answers worked out by hand from the grammar.
-use crate::search::{Sought, next_in};
+use crate::search::{Sought, find_in};
 use crate::{
     Command, Comment, Content, Entry, Fault, FaultKind, Flat, Item, ItemContent, Line, LineKind,
     List, Reader, Source, Span, line_col_of,
@@ -15,8 +15,8 @@ fn runs(rt: HostRuntime) -> Result<(), Fail> {
     assert_eq!(rt; text.byte(4), None);
     assert_eq!(rt; text.run(2), b"\nc".as_slice());
     assert_eq!(rt; text.run(4), b"".as_slice());
-    assert_eq!(rt; next_in(&text, 1, Sought::Byte(b'c')), 3);
-    assert_eq!(rt; next_in(&text, 3, Sought::Byte(b'\n')), text.len());
+    assert_eq!(rt; find_in(&text, 1, Sought::Byte(b'c')), 3);
+    assert_eq!(rt; find_in(&text, 3, Sought::Byte(b'\n')), text.len());
     Ok(())
 }
 
@@ -151,43 +151,71 @@ fn scripts(rt: HostRuntime) -> Result<(), Fail> {
 }
 
 /// Scripts of one line with a fault in it, its kind and its offset.
+const FAULTS: [(&[u8], FaultKind, usize); 57] = [
+    (b"in\n", FaultKind::Unexpected, 0),
+    (b"! a\n", FaultKind::Unexpected, 0),
+    (b"\t}\n", FaultKind::Unexpected, 1),
+    (b";a\n", FaultKind::Unexpected, 0),
+    (b"a & ; b\n", FaultKind::Unexpected, 4),
+    (b"a ;; b\n", FaultKind::Unexpected, 2),
+    (b"a;;", FaultKind::Unexpected, 1),
+    (b"a;&b", FaultKind::Unexpected, 2),
+    (b"a && b", FaultKind::Unexpected, 2),
+    (b"a|b", FaultKind::Unexpected, 1),
+    (b"f()", FaultKind::Unexpected, 1),
+    (b"a 12<b", FaultKind::Unexpected, 2),
+    (b"a12>b", FaultKind::Unexpected, 3),
+    (b"a'\n", FaultKind::UnclosedSingle, 1),
+    (b"echo 'a", FaultKind::UnclosedSingle, 5),
+    (b"echo $((1+(2))\n", FaultKind::BadArithClose, 13),
+    (b"a\\", FaultKind::LoneBackslash, 1),
+    (b"\"\\", FaultKind::LoneBackslash, 1),
+    (b"${x-\\", FaultKind::LoneBackslash, 4),
+    (b"$((\\", FaultKind::LoneBackslash, 3),
+    (b"`\\", FaultKind::UnclosedBackquote, 0),
+    (b"a `b\\`", FaultKind::UnclosedBackquote, 2),
+    (b"'\\", FaultKind::UnclosedSingle, 0),
+    (b"$((1)", FaultKind::BadArithClose, 4),
+    (b"$((1)\\", FaultKind::BadArithClose, 4),
+    (b"$((1", FaultKind::UnclosedArith, 0),
+    (b"\"${x", FaultKind::UnclosedParam, 1),
+    (b"a \"b", FaultKind::UnclosedDouble, 2),
+    (b"$((${x", FaultKind::UnclosedParam, 3),
+    (b"$((${x}", FaultKind::UnclosedArith, 0),
+    (b"${x-$((1", FaultKind::UnclosedArith, 4),
+    (b"${x-\"", FaultKind::UnclosedDouble, 4),
+    (b"${x-\"}\"", FaultKind::UnclosedParam, 0),
+    (b"\"a`b\"", FaultKind::UnclosedBackquote, 2),
+    (b"\"a`b`", FaultKind::UnclosedDouble, 0),
+    (b"${x-'}", FaultKind::UnclosedSingle, 4),
+    (b"$\\\n{x", FaultKind::UnclosedParam, 0),
+    (b"$\\\n(\\\n(1", FaultKind::UnclosedArith, 0),
+    (b"a$\\\n{x-\\\n\"", FaultKind::UnclosedDouble, 9),
+    (b"echo \"${x#'}\"\n", FaultKind::UnclosedSingle, 10),
+    (b"\"${1\\\n#'}\"", FaultKind::UnclosedSingle, 7),
+    (b"\"${1\\\n0\\\n%'}\"", FaultKind::UnclosedSingle, 10),
+    (b"\"${?\\\n%'}\"", FaultKind::UnclosedSingle, 7),
+    (b"\"${#\\\n#'}\"", FaultKind::UnclosedSingle, 7),
+    (b"\"${\\\n#x%'}", FaultKind::UnclosedDouble, 0),
+    (b"echo $$(a)\n", FaultKind::Unexpected, 7),
+    (b"echo \"${x:-$(a)}\"\n", FaultKind::Unexpected, 11),
+    (b"echo ${$$(", FaultKind::Unexpected, 8),
+    (b"${$\\\n$(a)}", FaultKind::Unexpected, 5),
+    (b"$$$(", FaultKind::Unexpected, 2),
+    (b"$\\\n(a)", FaultKind::Unexpected, 0),
+    (b"$((1+$(a)))", FaultKind::Unexpected, 5),
+    (b"${x-`a\\`}", FaultKind::UnclosedBackquote, 4),
+    (b"${x%${y-'}'}", FaultKind::UnclosedParam, 0),
+    (b"$((1+(2", FaultKind::UnclosedArith, 0),
+    (b"a_long_word 'a long text", FaultKind::UnclosedSingle, 12),
+    (b"\"a `a long text\\`\"", FaultKind::UnclosedBackquote, 3),
+];
+
+/// Each fault, found by its line and by a check of the script.
 #[test]
 fn faults(rt: HostRuntime) -> Result<(), Fail> {
     let mut reader = Reader::new(rt.alloc());
-    for (script, kind, at) in [
-        (b"in\n".as_slice(), FaultKind::Unexpected, 0),
-        (b"! a\n", FaultKind::Unexpected, 0),
-        (b"\t}\n", FaultKind::Unexpected, 1),
-        (b";a\n", FaultKind::Unexpected, 0),
-        (b"a & ; b\n", FaultKind::Unexpected, 4),
-        (b"a ;; b\n", FaultKind::Unexpected, 2),
-        (b"a;;", FaultKind::Unexpected, 1),
-        (b"a;&b", FaultKind::Unexpected, 2),
-        (b"a && b", FaultKind::Unexpected, 2),
-        (b"a|b", FaultKind::Unexpected, 1),
-        (b"f()", FaultKind::Unexpected, 1),
-        (b"a 12<b", FaultKind::Unexpected, 2),
-        (b"a12>b", FaultKind::Unexpected, 3),
-        (b"a'\n", FaultKind::UnclosedSingle, 1),
-        (b"echo 'a", FaultKind::UnclosedSingle, 5),
-        (b"echo $((1+(2))\n", FaultKind::BadArithClose, 13),
-        (b"a\\", FaultKind::LoneBackslash, 1),
-        (b"\"\\", FaultKind::LoneBackslash, 1),
-        (b"`\\", FaultKind::UnclosedBackquote, 0),
-        (b"a `b\\`", FaultKind::UnclosedBackquote, 2),
-        (b"'\\", FaultKind::UnclosedSingle, 0),
-        (b"$((1)", FaultKind::BadArithClose, 4),
-        (b"$((1)\\", FaultKind::BadArithClose, 4),
-        (b"$((1", FaultKind::UnclosedArith, 0),
-        (b"\"${x", FaultKind::UnclosedParam, 1),
-        (b"a \"b", FaultKind::UnclosedDouble, 2),
-        (b"echo \"${x#'}\"\n", FaultKind::UnclosedSingle, 10),
-        (b"echo $$(a)\n", FaultKind::Unexpected, 7),
-        (b"echo \"${x:-$(a)}\"\n", FaultKind::Unexpected, 11),
-        (b"echo ${$$(", FaultKind::Unexpected, 8),
-        (b"$$$(", FaultKind::Unexpected, 2),
-        (b"$\\\n(a)", FaultKind::Unexpected, 0),
-    ] {
+    for (script, kind, at) in FAULTS {
         let line = reader.read_line(&Flat::new(script), 0)?;
         let LineKind::Faulty(fault) = line.kind else {
             return Err(Fail::from("no fault"));
@@ -200,7 +228,7 @@ fn faults(rt: HostRuntime) -> Result<(), Fail> {
 }
 
 /// Words without fault: every mode in every other, with each byte that quotes.
-const WORDS: [&[u8]; 33] = [
+const WORDS: [&[u8]; 39] = [
     b"'\"`$(\\'",
     b"\"'\\\"`'`$$(\"",
     b"`'\"\\`${$((`",
@@ -224,6 +252,12 @@ const WORDS: [&[u8]; 33] = [
     b"${}",
     b"${-}${?}${!}${@}${*}${#}${$}${10}${a_1}",
     b"${\\\nx\\\n%'}'}",
+    b"\"${1\\\n#'}\"'}\"",
+    b"\"${1\\\n0\\\n%%'}\"'}\"",
+    b"\"${?\\\n%'}\"'}\"",
+    b"\"${#\\\n#'}\"'}\"",
+    b"\"${#x%'}\"",
+    b"${$(a)}",
     b"$((1+(2*(3))))",
     b"$\\\n(\\\n(1)\\\n)",
     b"$(('+\"+${x-'}\"}\"}+`)`))",
@@ -272,16 +306,21 @@ fn nested(
     Ok(Reader::new(alloc).first_fault(&Flat::new(&script))?)
 }
 
-/// 100 constructs may be open, and not one more; brackets in arithmetic are none.
+/// 100 constructs may be open, and not one more.
 #[test]
 fn depth(rt: HostRuntime) -> Result<(), Fail> {
     let alloc = rt.alloc();
-    for (opener, middle, closer, at) in [
-        (b"${x:-".as_slice(), b"".as_slice(), b"}".as_slice(), 500),
-        (b"$((", b"1", b"))", 300),
-        (b"\"${x-", b"", b"}\"", 250),
+    for (open, opener, middle, closer, at) in [
+        (
+            100,
+            b"${x:-".as_slice(),
+            b"".as_slice(),
+            b"}".as_slice(),
+            500,
+        ),
+        (100, b"$((", b"1", b"))", 300),
+        (50, b"\"${x-", b"", b"}\"", 250),
     ] {
-        let open = if at == 250 { 50 } else { 100 };
         assert_eq!(rt; nested(alloc, open, opener, middle, closer)?, None);
         assert_eq!(rt;
             nested(alloc, open + 1, opener, middle, closer)?,
@@ -291,13 +330,41 @@ fn depth(rt: HostRuntime) -> Result<(), Fail> {
             })
         );
     }
-    let mut script = Vec::from_slice(alloc, b"$((")?;
-    for byte in [b'(', b'1', b')'] {
-        for _ in 0..if byte == b'1' { 1 } else { 200 } {
-            script.push(byte)?;
+    Ok(())
+}
+
+/// What stands inside 100 open constructs: a construct of any kind is one too many, other pieces are not.
+#[test]
+fn innermost(rt: HostRuntime) -> Result<(), Fail> {
+    for (middle, fault) in [
+        (b"'a'`b`\\c$$d".as_slice(), None),
+        (b"\"a\"", Some((FaultKind::TooDeep, 400))),
+        (b"a$((1))", Some((FaultKind::TooDeep, 401))),
+        (b"$\\\n{x}", Some((FaultKind::TooDeep, 400))),
+        (b"$(a)", Some((FaultKind::Unexpected, 400))),
+    ] {
+        let found = nested(rt.alloc(), 100, b"${x-", middle, b"}")?;
+        assert_eq!(rt; found.map(|f| (f.kind, f.at)), fault);
+    }
+    Ok(())
+}
+
+/// Round brackets in arithmetic are no constructs.
+#[test]
+fn brackets(rt: HostRuntime) -> Result<(), Fail> {
+    let alloc = rt.alloc();
+    let mut script = Vec::new(alloc);
+    for (bytes, count) in [
+        (b"$((".as_slice(), 1),
+        (b"(", 200),
+        (b"1", 1),
+        (b")", 200),
+        (b"))", 1),
+    ] {
+        for _ in 0..count {
+            script.extend_from_slice(bytes)?;
         }
     }
-    script.extend_from_slice(b"))")?;
     assert_eq!(rt; Reader::new(alloc).first_fault(&Flat::new(&script))?, None);
     Ok(())
 }
@@ -357,10 +424,93 @@ fn lines(rt: HostRuntime) -> Result<(), Fail> {
     assert_eq!(rt; shown(rt.alloc(), &list)?.as_str(), ". #0-3\n");
     assert_eq!(rt; (next, ended, reader.meter()), (8, true, 8));
     let line = reader.read_line(&text, 8)?;
-    assert!(rt; matches!(line.kind, LineKind::Faulty(_)));
+    let LineKind::Faulty(fault) = line.kind else {
+        return Err(Fail::from("no fault"));
+    };
+    assert_eq!(rt; (fault.kind, fault.at), (FaultKind::Unexpected, 0));
     assert_eq!(rt; (line.next, line.ended, reader.meter()), (10, false, 10));
     let line = reader.read_line(&text, 10)?;
     assert!(rt; matches!(line.kind, LineKind::End));
     assert_eq!(rt; (line.next, line.ended, reader.meter()), (10, false, 10));
+    Ok(())
+}
+
+/// A text told in short stretches, as one whose bytes lie in many pieces.
+#[derive(Clone, Copy)]
+struct Stretches<'a> {
+    bytes: &'a [u8],
+    /// How many bytes a stretch has at most, beside its first.
+    more: u8,
+}
+
+impl<'a> Source for Stretches<'a> {
+    ghost bytes = { λ text. text.bytes.now };
+
+    fn len(&self) -> usize {
+        self.bytes.len()
+    }
+
+    fn byte(&self, at: usize) -> Option<u8> {
+        self.bytes.get(at).copied()
+    }
+
+    fn run(&self, at: usize) -> &[u8] {
+        if self.bytes.len() <= at {
+            return &[];
+        }
+        let rest = &self.bytes[at..];
+        let most = 1 + self.more as usize;
+        if rest.len() <= most {
+            rest
+        } else {
+            &rest[..most]
+        }
+    }
+}
+
+/// Faultless scripts with long words, quotes and comments: one search in them goes through many stretches.
+const LONG_SCRIPTS: [&[u8]; 8] = [
+    b"a_long_plain_word another-long-plain-word; third_long_word\n",
+    b"a_long_name=1 other_na\\\nme=2\\\n3456789012345 command\n",
+    b"'a text of many bytes;'\" another one $x ${y} \\\" $((1 + 2))\"\n",
+    b"a `b c d e f g h \\` i j k l \\\\` m\n",
+    b"# a comment of many words \t \nb # and another comment\n",
+    b"${a_long_name_of_a_parameter#pattern 'with } a quote'}\n",
+    b"$((1234567890 + (1234567890)\\\n))${12345\\\n67890}\n",
+    b"       \t\t\t  a      \\\n\\\n\\\n   b \n\n\n\n\n      c &\n",
+];
+
+/// In short stretches a script is read as where its bytes lie in one piece.
+#[test]
+fn short_stretches(rt: HostRuntime) -> Result<(), Fail> {
+    let alloc = rt.alloc();
+    let mut reader = Reader::new(alloc);
+    for script in LONG_SCRIPTS {
+        let whole = reader.read_script(&Flat::new(script))?;
+        let list = shown(alloc, &whole.list)?;
+        assert_eq!(rt; whole.fault, None);
+        for more in 0..3u8 {
+            let text = Stretches { bytes: script, more };
+            let read = reader.read_script(&text)?;
+            assert_eq!(rt; read.fault, None);
+            assert_eq!(rt; shown(alloc, &read.list)?.as_str(), list.as_str());
+            assert_eq!(rt; reader.first_fault(&text)?, None);
+        }
+    }
+    Ok(())
+}
+
+/// The faults of the table are found in short stretches, too.
+#[test]
+fn faults_in_short_stretches(rt: HostRuntime) -> Result<(), Fail> {
+    let mut reader = Reader::new(rt.alloc());
+    for (script, kind, at) in FAULTS {
+        for more in 0..3u8 {
+            let text = Stretches { bytes: script, more };
+            let fault = Some(Fault { kind, at });
+            assert_eq!(rt; reader.read_script(&text)?.fault, fault);
+            assert_eq!(rt; reader.first_fault(&text)?, fault);
+        }
+    }
     Ok(())
 }

@@ -84,7 +84,7 @@ pub struct Join {
 #[cycle(tree)]
 #[derive(Debug, Drop)]
 pub struct Pipeline {
-    /// The `!` before it.
+    /// The `!` before it; it is not read yet.
     pub bang: Option<Span>,
     pub first: Command,
     pub rest: Vec<PipelinePart>,
@@ -130,7 +130,7 @@ pub enum ItemContent {
 #[derive(Debug, Drop)]
 pub struct Word {
     pub span: Span,
-    /// The command substitutions in it, in their order.
+    /// The command substitutions in it, in their order; none yet, since no `$(` is read.
     pub substs: Vec<Subst>,
 }
 

@@ -72,7 +72,7 @@ impl<'a, S: Source> Cursor<'a, S> {
         if room == 0 {
             return Err(self.wrong_at(FaultKind::TooDeep, opener));
         }
-        self.skip_plain();
+        self.skip_plain(mode);
         let here = self.place(self.at);
         if self.piece(mode, 0, here) == Piece::Closer {
             self.close(mode, here);
@@ -188,7 +188,7 @@ impl<'a, S: Source> Cursor<'a, S> {
     {
         let mut nested = 0;
         'pieces: while self.take_piece(mode, opener, &mut nested, room)? {
-            self.skip_plain();
+            self.skip_plain(mode);
         }
         Ok(())
     }
@@ -203,7 +203,7 @@ impl<'a, S: Source> Cursor<'a, S> {
         ensures same { (self.new.source ≡ self.old.source) × (self.new.base ≡ self.old.base) × (self.new.origin ≡ self.old.origin) × (self.new.keep ≡ self.old.keep) }
     {
         let start = self.at;
-        self.skip_plain();
+        self.skip_plain(Mode::Plain);
         if !self.ends_word() {
             self.contents(Mode::Plain, start, MOST_OPEN)?;
         }

@@ -3,4 +3,4 @@ use Rattle.shread.specs.Plain.{is_plain}
 use Rattle.shread.proofs.plain.plain_front.Given as goal
 
 abbrev pub invariant-loop-count : goal.invariant-loop-count
-invariant-loop-count l = (k : ℕ) → k < l.count → is_plain (slice_index l.run k) ≡ true
+invariant-loop-count l = (k : ℕ) → k < l.count → is_plain l.mode (slice_index l.run k) ≡ true

@@ -7,5 +7,5 @@ returns-clause-plain g c =
     let bytes = g.S.Source.bytes c.args.self.now.source.now in
     let low : c.args.self.now.base ≤ length bytes = omega arith in
     let within : c.args.self.now.at ≤ length (drop c.args.self.now.base bytes) = omega arith in
-    run_plain bytes c.args.self.now.base c.args.self.now.at c.plain_front.result c.run-run.result.now c.run-run.ensures low within
+    run_plain c.args.mode bytes c.args.self.now.base c.args.self.now.at c.plain_front.result c.run-run.result.now c.run-run.ensures low within
     c.plain_front.ensures.within c.plain_front.ensures.plain

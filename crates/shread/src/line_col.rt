@@ -2,7 +2,7 @@
 ghost use Rattle.std.specs.Prelude.{◌≡◌, ◌<◌, ◌≤◌, length};
 ghost use Rattle.shread.specs.Text.{column_of, line_of};
 
-use crate::search::{Sought, next_in};
+use crate::search::{Sought, find_in};
 use crate::source::Source;
 
 /// The line and the column of an offset in bytes, which may be the length. Both count from 1, and the column counts bytes.
@@ -15,7 +15,7 @@ pub fn line_col_of<S: Source>(source: &S, at: usize) -> (usize, usize)
     let mut line = 1;
     let mut start = 0;
     'lines: loop {
-        let newline = next_in(source, start, Sought::Byte(b'\n'));
+        let newline = find_in(source, start, Sought::Byte(b'\n'));
         if newline >= at {
             return (line, at - start + 1);
         }

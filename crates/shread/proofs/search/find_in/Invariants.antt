@@ -1,7 +1,7 @@
 use Rattle.std.proofs.Common.{◌≡◌, ◌-◌, ◌≤◌, length}
 use Rattle.shread.specs.Bytes.{next_such}
 use Rattle.shread.specs.Classes.{is_sought}
-use Rattle.shread.proofs.search.next_in.Given as goal
+use Rattle.shread.proofs.search.find_in.Given as goal
 
 abbrev pub invariant-runs : goal.invariant-runs
 invariant-runs g l =

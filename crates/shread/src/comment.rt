@@ -36,7 +36,7 @@ impl<'a, S: Source> Cursor<'a, S> {
         if !self.is_at(b'#') {
             return None;
         }
-        let next_newline = self.next(Sought::Byte(b'\n'), self.at);
+        let next_newline = self.find(Sought::Byte(b'\n'), self.at);
         let span = Span {
             start: self.origin + self.at,
             end: self.origin + self.before_blanks(next_newline),
