@@ -71,14 +71,23 @@ impl<'a, S: Source> Cursor<'a, S> {
         ensures word { mode ≡ Mode.Plain → ends (Some byte) ≡ false → result ≢ Piece.Closer }
         ensures kinds { (result ≢ Piece.Missing) × (result ≢ Piece.Escape) × (result ≢ Piece.Pid) × (result ≢ Piece.Arith) × (result ≢ Piece.Param) }
     {
-        match (mode, byte) {
-            (Mode::Double, b'"') => Piece::Closer,
-            (Mode::Brace | Mode::DoubleBrace, b'}') => Piece::Closer,
-            (Mode::Plain | Mode::Brace, b'\'') => Piece::Single,
-            (Mode::Plain | Mode::Brace | Mode::DoubleBrace, b'"') => Piece::Double,
-            (Mode::Arith, b'(') => Piece::Open,
-            (Mode::Arith, b')') => self.bracket(nested, here),
-            (Mode::Plain, _) if ends_words(byte) => Piece::Closer,
+        match byte {
+            b'"' => match mode {
+                Mode::Plain | Mode::Brace | Mode::DoubleBrace => Piece::Double,
+                Mode::Double => Piece::Closer,
+                Mode::Arith => Piece::Ordinary,
+            },
+            b'\'' => match mode {
+                Mode::Plain | Mode::Brace => Piece::Single,
+                Mode::Double | Mode::DoubleBrace | Mode::Arith => Piece::Ordinary,
+            },
+            b'}' => match mode {
+                Mode::Brace | Mode::DoubleBrace => Piece::Closer,
+                Mode::Plain | Mode::Double | Mode::Arith => Piece::Ordinary,
+            },
+            b'(' if mode == Mode::Arith => Piece::Open,
+            b')' if mode == Mode::Arith => self.bracket(nested, here),
+            _ if mode == Mode::Plain && ends_words(byte) => Piece::Closer,
             _ => Piece::Ordinary,
         }
     }

@@ -490,7 +490,10 @@ fn short_stretches(rt: HostRuntime) -> Result<(), Fail> {
         let list = shown(alloc, &whole.list)?;
         assert_eq!(rt; whole.fault, None);
         for more in 0..3u8 {
-            let text = Stretches { bytes: script, more };
+            let text = Stretches {
+                bytes: script,
+                more,
+            };
             let read = reader.read_script(&text)?;
             assert_eq!(rt; read.fault, None);
             assert_eq!(rt; shown(alloc, &read.list)?.as_str(), list.as_str());
@@ -506,7 +509,10 @@ fn faults_in_short_stretches(rt: HostRuntime) -> Result<(), Fail> {
     let mut reader = Reader::new(rt.alloc());
     for (script, kind, at) in FAULTS {
         for more in 0..3u8 {
-            let text = Stretches { bytes: script, more };
+            let text = Stretches {
+                bytes: script,
+                more,
+            };
             let fault = Some(Fault { kind, at });
             assert_eq!(rt; reader.read_script(&text)?.fault, fault);
             assert_eq!(rt; reader.first_fault(&text)?, fault);
