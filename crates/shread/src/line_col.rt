@@ -5,7 +5,8 @@ ghost use Rattle.shread.specs.Text.{column_of, line_of};
 use crate::search::{Sought, find_in};
 use crate::source::Source;
 
-/// The line and the column of an offset in bytes, which may be the length. Both count from 1, and the column counts bytes.
+/// The line and the column of an offset in bytes, which is at most the length and below the greatest `usize`. Both count from 1,
+/// and the column counts bytes.
 pub fn line_col_of<S: Source>(source: &S, at: usize) -> (usize, usize)
     requires within { at ≤ length (S.bytes source.now) }
     requires room { at < usize.MAX }

@@ -61,7 +61,7 @@ impl Reader {
         Reader { alloc, meter: 0 }
     }
 
-    /// Reads the top-level line that begins at an offset, as if a script began there.
+    /// Reads the top-level line that begins at an offset, as if a script began there. The offset is at most the length.
     ///
     /// A fault is part of the answer. Want of memory is the only error: the meter is then as before, and the reader can
     /// be used again. At the length of the source no memory is wanted.

@@ -1,4 +1,4 @@
-// Each public function on its happy path, with answers worked out by hand from the grammar.
+// Public functions, and a search, with answers worked out by hand from the grammar.
 use crate::search::{Sought, find_in};
 use crate::{
     Command, Comment, Content, Entry, Fault, FaultKind, Flat, Item, ItemContent, Line, LineKind,
