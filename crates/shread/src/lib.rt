@@ -39,3 +39,5 @@ pub use tree::{
 mod refused;
 #[cfg(test)]
 mod tests;
+#[cfg(test)]
+mod trees;
