@@ -14,8 +14,8 @@
 //   $S-E(..)     directly behind a word: one of its substitutions, with the entries in it
 //   fault K at O a fault by its number, and its offset
 use crate::{
-    AndOr, AndOrOperator, Command, Comment, Content, Entry, Fault, Flat, ItemContent,
-    Join, List, Pipeline, Reader, Span, Word,
+    AndOr, AndOrOperator, Command, Comment, Content, Entry, Fault, FaultKind, Flat, ItemContent,
+    Join, LineKind, List, Pipeline, ReadError, Reader, Span, Word, line_col_of,
 };
 use std::alloc::Global;
 use std::test::Fail;
@@ -57,10 +57,11 @@ fn dump_word(text: &mut String, word: &Word) -> Result<(), Fail> {
 fn dump_command(text: &mut String, command: &Command) -> Result<(), Fail> {
     match command {
         Command::Simple { items } => {
-            let mut before = "[";
-            for item in items {
-                text.push_str(before)?;
-                before = " ";
+            text.push_str("[")?;
+            for (n, item) in items.iter().enumerate() {
+                if n > 0 {
+                    text.push_str(" ")?;
+                }
                 if item.broken {
                     text.push_str("^")?;
                 }
@@ -127,10 +128,10 @@ fn dump_entry(text: &mut String, entry: &Entry) -> Result<(), Fail> {
 
 #[cycle(dump)]
 fn dump_list(text: &mut String, list: &List) -> Result<(), Fail> {
-    let mut before = "";
-    for entry in &list.entries {
-        text.push_str(before)?;
-        before = " ";
+    for (n, entry) in list.entries.iter().enumerate() {
+        if n > 0 {
+            text.push_str(" ")?;
+        }
         dump_entry(text, entry)?;
     }
     Ok(())
@@ -722,8 +723,8 @@ const ROWS: &[(&[u8], &str)] = &[
     (b"$((\\\n\\", "fault 8 at 5"),
 ];
 
-/// What is wrong with a row: its script, and what was read in the place of what was wanted.
-fn tell_wrong(wrong: &mut String, script: &[u8], dump: &str, wanted: &str) -> Result<(), Fail> {
+/// What is wrong with a row: its script, and what was read in the place of what is wanted.
+fn tell(wrong: &mut String, script: &[u8], dump: &str, wanted: &str) -> Result<(), Fail> {
     if dump != wanted {
         for byte in script {
             wrong.push(char::from(*byte))?;
@@ -738,8 +739,482 @@ fn trees(rt: HostRuntime) -> Result<(), Fail> {
     let mut wrong = String::new(rt.alloc());
     for (script, wanted) in ROWS {
         let dump = dumped(rt.alloc(), script)?;
-        tell_wrong(&mut wrong, script, dump.as_str(), wanted)?;
+        tell(&mut wrong, script, dump.as_str(), wanted)?;
     }
     assert_eq!(rt; wrong.as_str(), "");
+    Ok(())
+}
+
+/// Each byte in some places: the bytes before it, which bytes these are, the bytes behind it, and the dump. The row without
+/// bytes is that of all others, beside the rows above it with the same bytes before and behind.
+#[rattlefmt::skip]
+const BYTES: &[(&[u8], &[u8], &[u8], &str)] = &[
+    // ---- between two letters
+    (b"a", b"\t ", b"b", "[0-1 2-3]"),
+    (b"a", b"\n;", b"b", "[0-1] [2-3]"),
+    (b"a", b"&", b"b", "[0-1]& [2-3]"),
+    (b"a", b"()<>|", b"b", "fault 11 at 1"),
+    (b"a", b"'", b"b", "fault 1 at 1"),
+    (b"a", b"\"", b"b", "fault 2 at 1"),
+    (b"a", b"`", b"b", "fault 3 at 1"),
+    (b"a", b"=", b"b", "[=0-3]"),
+    (b"a", b"", b"b", "[0-3]"),
+    // ---- where a command begins
+    (b"", b"\t\n ", b"b", "[1-2]"),
+    (b"", b"#", b"b", "#0-2"),
+    (b"", b"&()<>|;", b"b", "fault 11 at 0"),
+    (b"", b"'", b"b", "fault 1 at 0"),
+    (b"", b"\"", b"b", "fault 2 at 0"),
+    (b"", b"`", b"b", "fault 3 at 0"),
+    (b"", b"", b"b", "[0-2]"),
+    // ---- a command of one byte
+    (b"", b"\t\n ", b" ", ""),
+    (b"", b"#", b" ", "#0-1"),
+    (b"", b"!&()<>|;{}", b" ", "fault 11 at 0"),
+    (b"", b"'", b" ", "fault 1 at 0"),
+    (b"", b"\"", b" ", "fault 2 at 0"),
+    (b"", b"`", b" ", "fault 3 at 0"),
+    (b"", b"\\", b" ", "[0-2]"),
+    (b"", b"", b" ", "[0-1]"),
+    // ---- behind a reserved word
+    (b"if", b"\t\n &()<>|;", b"", "fault 11 at 0"),
+    (b"if", b"=", b"", "[=0-3]"),
+    (b"if", b"'", b"", "fault 1 at 2"),
+    (b"if", b"\"", b"", "fault 2 at 2"),
+    (b"if", b"`", b"", "fault 3 at 2"),
+    (b"if", b"\\", b"", "fault 8 at 2"),
+    (b"if", b"", b"", "[0-3]"),
+    // ---- behind a continuation
+    (b"a\\\n", b"\t\n ;", b"", "[0-1]"),
+    (b"a\\\n", b"&", b"", "[0-1]&"),
+    (b"a\\\n", b"()<>|", b"", "fault 11 at 3"),
+    (b"a\\\n", b"=", b"", "[=0-4]"),
+    (b"a\\\n", b"'", b"", "fault 1 at 3"),
+    (b"a\\\n", b"\"", b"", "fault 2 at 3"),
+    (b"a\\\n", b"`", b"", "fault 3 at 3"),
+    (b"a\\\n", b"\\", b"", "fault 8 at 3"),
+    (b"a\\\n", b"", b"", "[0-4]"),
+    // ---- behind a backslash, and before a newline
+    (b"a\\", b"\n", b" b", "[0-1 ^4-5]"),
+    (b"a\\", b"", b" b", "[0-3 4-5]"),
+    (b"a ", b"\\", b"\nb", "[0-1 ^4-5]"),
+    (b"a ", b"\t ;", b"\nb", "[0-1] [4-5]"),
+    (b"a ", b"\n", b"\nb", "[0-1] ~[4-5]"),
+    (b"a ", b"&", b"\nb", "[0-1]& [4-5]"),
+    (b"a ", b"#", b"\nb", "[0-1]#2-3 [4-5]"),
+    (b"a ", b"()<>|", b"\nb", "fault 11 at 2"),
+    (b"a ", b"'", b"\nb", "fault 1 at 2"),
+    (b"a ", b"\"", b"\nb", "fault 2 at 2"),
+    (b"a ", b"`", b"\nb", "fault 3 at 2"),
+    (b"a ", b"", b"\nb", "[0-1 2-3] [4-5]"),
+    // ---- behind `;` and `&`
+    (b"a;", b";", b"", "fault 11 at 1"),
+    (b"a;", b"\t\n ", b"", "[0-1]"),
+    (b"a;", b"#", b"", "[0-1]#2-3"),
+    (b"a;", b"!&()<>|{}", b"", "fault 11 at 2"),
+    (b"a;", b"'", b"", "fault 1 at 2"),
+    (b"a;", b"\"", b"", "fault 2 at 2"),
+    (b"a;", b"`", b"", "fault 3 at 2"),
+    (b"a;", b"\\", b"", "fault 8 at 2"),
+    (b"a;", b"", b"", "[0-1] [2-3]"),
+    (b"a&", b"&", b"", "fault 11 at 1"),
+    (b"a&", b"\t\n ", b"", "[0-1]&"),
+    (b"a&", b"#", b"", "[0-1]&#2-3"),
+    (b"a&", b"!;()<>|{}", b"", "fault 11 at 2"),
+    (b"a&", b"'", b"", "fault 1 at 2"),
+    (b"a&", b"\"", b"", "fault 2 at 2"),
+    (b"a&", b"`", b"", "fault 3 at 2"),
+    (b"a&", b"\\", b"", "fault 8 at 2"),
+    (b"a&", b"", b"", "[0-1]& [2-3]"),
+    // ---- comments
+    (b"a", b"\t ;", b"#b", "[0-1]#2-4"),
+    (b"a", b"\n", b"#b", "[0-1] #2-4"),
+    (b"a", b"&", b"#b", "[0-1]&#2-4"),
+    (b"a", b"=", b"#b", "[=0-4]"),
+    (b"a", b"()<>|", b"#b", "fault 11 at 1"),
+    (b"a", b"'", b"#b", "fault 1 at 1"),
+    (b"a", b"\"", b"#b", "fault 2 at 1"),
+    (b"a", b"`", b"#b", "fault 3 at 1"),
+    (b"a", b"", b"#b", "[0-4]"),
+    (b"#a", b"\t\n ", b"", "#0-2"),
+    (b"#a", b"", b"", "#0-3"),
+    (b"#", b"\n", b"b", "#0-1 [2-3]"),
+    (b"#", b"", b"b", "#0-3"),
+    // ---- names
+    (b"", b"ABCDEFGHIJKLMNOPQRSTUVWXYZ_abcdefghijklmnopqrstuvwxyz", b"=1", "[=0-3]"),
+    (b"", b"\t\n ", b"=1", "[1-3]"),
+    (b"", b"#", b"=1", "#0-3"),
+    (b"", b"&()<>|;", b"=1", "fault 11 at 0"),
+    (b"", b"'", b"=1", "fault 1 at 0"),
+    (b"", b"\"", b"=1", "fault 2 at 0"),
+    (b"", b"`", b"=1", "fault 3 at 0"),
+    (b"", b"", b"=1", "[0-3]"),
+    (b"a", b"ABCDEFGHIJKLMNOPQRSTUVWXYZ_abcdefghijklmnopqrstuvwxyz0123456789=", b"=1", "[=0-4]"),
+    (b"a", b"\t ", b"=1", "[0-1 2-4]"),
+    (b"a", b"\n;", b"=1", "[0-1] [2-4]"),
+    (b"a", b"&", b"=1", "[0-1]& [2-4]"),
+    (b"a", b"()<>|", b"=1", "fault 11 at 1"),
+    (b"a", b"'", b"=1", "fault 1 at 1"),
+    (b"a", b"\"", b"=1", "fault 2 at 1"),
+    (b"a", b"`", b"=1", "fault 3 at 1"),
+    (b"a", b"", b"=1", "[0-4]"),
+    // ---- numbers
+    (b"a ", b"0123456789()<>|", b"<", "fault 11 at 2"),
+    (b"a ", b"\n", b"<", "[0-1] fault 11 at 3"),
+    (b"a ", b"#", b"<", "[0-1]#2-4"),
+    (b"a ", b"\\", b"<", "[0-1 2-4]"),
+    (b"a ", b"'", b"<", "fault 1 at 2"),
+    (b"a ", b"\"", b"<", "fault 2 at 2"),
+    (b"a ", b"`", b"<", "fault 3 at 2"),
+    (b"a ", b"", b"<", "fault 11 at 3"),
+    (b"a 9", b"0123456789<>", b"<", "fault 11 at 2"),
+    (b"a 9", b"()|", b"<", "fault 11 at 3"),
+    (b"a 9", b"\n", b"<", "[0-1 2-3] fault 11 at 4"),
+    (b"a 9", b"\\", b"<", "[0-1 2-5]"),
+    (b"a 9", b"'", b"<", "fault 1 at 3"),
+    (b"a 9", b"\"", b"<", "fault 2 at 3"),
+    (b"a 9", b"`", b"<", "fault 3 at 3"),
+    (b"a 9", b"", b"<", "fault 11 at 4"),
+    (b"a 9", b"<>", b"", "fault 11 at 2"),
+    (b"a 9", b"()|", b"", "fault 11 at 3"),
+    (b"a 9", b"\t\n ;", b"", "[0-1 2-3]"),
+    (b"a 9", b"&", b"", "[0-1 2-3]&"),
+    (b"a 9", b"\\", b"", "fault 8 at 3"),
+    (b"a 9", b"'", b"", "fault 1 at 3"),
+    (b"a 9", b"\"", b"", "fault 2 at 3"),
+    (b"a 9", b"`", b"", "fault 3 at 3"),
+    (b"a 9", b"", b"", "[0-1 2-4]"),
+    // ---- quoted
+    (b"\\", b"\n", b"", ""),
+    (b"\\", b"", b"", "[0-2]"),
+    (b"'", b"'", b"'", "fault 1 at 2"),
+    (b"'", b"", b"'", "[0-3]"),
+    (b"`", b"`", b"`", "fault 3 at 2"),
+    (b"`", b"\\", b"`", "fault 3 at 0"),
+    (b"`", b"", b"`", "[0-3]"),
+    (b"`\\", b"", b"`", "[0-4]"),
+    (b"\"", b"\"", b"a\"", "fault 2 at 3"),
+    (b"\"", b"`", b"a\"", "fault 3 at 1"),
+    (b"\"", b"", b"a\"", "[0-4]"),
+    (b"\"\\", b"", b"\"", "[0-4]"),
+    // ---- behind a `$`, and behind `$(`
+    (b"$", b"(", b"", "fault 11 at 0"),
+    (b"$", b"{", b"", "fault 4 at 0"),
+    (b"$", b"\t\n ;", b"", "[0-1]"),
+    (b"$", b"&", b"", "[0-1]&"),
+    (b"$", b")<>|", b"", "fault 11 at 1"),
+    (b"$", b"'", b"", "fault 1 at 1"),
+    (b"$", b"\"", b"", "fault 2 at 1"),
+    (b"$", b"`", b"", "fault 3 at 1"),
+    (b"$", b"\\", b"", "fault 8 at 1"),
+    (b"$", b"", b"", "[0-2]"),
+    (b"$(", b"(", b"", "fault 5 at 0"),
+    (b"$(", b"", b"", "fault 11 at 0"),
+    // ---- parameters, and where a pattern begins
+    (b"\"${", b"!#$%*-0123456789?@ABCDEFGHIJKLMNOPQRSTUVWXYZ_abcdefghijklmnopqrstuvwxyz", b"%'}\"", "fault 1 at 5"),
+    (b"\"${", b"\"", b"%'}\"", "fault 4 at 1"),
+    (b"\"${", b"`", b"%'}\"", "fault 3 at 3"),
+    (b"\"${", b"", b"%'}\"", "[0-8]"),
+    (b"\"${a", b"#%0123456789ABCDEFGHIJKLMNOPQRSTUVWXYZ_abcdefghijklmnopqrstuvwxyz", b"%'}\"", "fault 1 at 6"),
+    (b"\"${a", b"\"", b"%'}\"", "fault 4 at 1"),
+    (b"\"${a", b"`", b"%'}\"", "fault 3 at 4"),
+    (b"\"${a", b"", b"%'}\"", "[0-9]"),
+    (b"\"${1", b"#%0123456789", b"%'}\"", "fault 1 at 6"),
+    (b"\"${1", b"\"", b"%'}\"", "fault 4 at 1"),
+    (b"\"${1", b"`", b"%'}\"", "fault 3 at 4"),
+    (b"\"${1", b"", b"%'}\"", "[0-9]"),
+    (b"\"${@", b"#%", b"%'}\"", "fault 1 at 6"),
+    (b"\"${@", b"\"", b"%'}\"", "fault 4 at 1"),
+    (b"\"${@", b"`", b"%'}\"", "fault 3 at 4"),
+    (b"\"${@", b"", b"%'}\"", "[0-9]"),
+    (b"\"${a", b"#%", b"'}\"", "fault 1 at 5"),
+    (b"\"${a", b"\"", b"'}\"", "fault 4 at 1"),
+    (b"\"${a", b"`", b"'}\"", "fault 3 at 4"),
+    (b"\"${a", b"", b"'}\"", "[0-8]"),
+    // ---- in an expansion, in one in double quotes, and in arithmetic
+    (b"${a-", b"}", b" c}", "[0-5 6-8]"),
+    (b"${a-", b"'", b" c}", "fault 1 at 4"),
+    (b"${a-", b"\"", b" c}", "fault 2 at 4"),
+    (b"${a-", b"`", b" c}", "fault 3 at 4"),
+    (b"${a-", b"", b" c}", "[0-8]"),
+    (b"${a-\\", b"", b"}", "[0-7]"),
+    (b"\"${a-", b"}", b"\" c", "[0-7 8-9]"),
+    (b"\"${a-", b"\"\\", b"\" c", "fault 4 at 1"),
+    (b"\"${a-", b"`", b"\" c", "fault 3 at 5"),
+    (b"\"${a-", b"", b"\" c", "fault 2 at 6"),
+    (b"$((", b"(", b"1))", "fault 6 at 6"),
+    (b"$((", b")", b"1))", "fault 6 at 3"),
+    (b"$((", b"`", b"1))", "fault 3 at 3"),
+    (b"$((", b"", b"1))", "[0-7]"),
+    (b"$((1)", b")", b"", "[0-6]"),
+    (b"$((1)", b"", b"", "fault 6 at 4"),
+];
+
+#[test]
+fn bytes(rt: HostRuntime) -> Result<(), Fail> {
+    let mut wrong = String::new(rt.alloc());
+    let mut named = [false; 256];
+    for (before, these, behind, wanted) in BYTES {
+        for byte in 0..=255u8 {
+            if these.contains(&byte) {
+                named[byte as usize] = true;
+            } else if !these.is_empty() || named[byte as usize] {
+                continue;
+            }
+            let mut script = Vec::from_slice(rt.alloc(), before)?;
+            script.push(byte)?;
+            script.extend_from_slice(behind)?;
+            let dump = dumped(rt.alloc(), &script)?;
+            tell(&mut wrong, &script, dump.as_str(), wanted)?;
+        }
+        if these.is_empty() {
+            named = [false; 256];
+        }
+    }
+    assert_eq!(rt; wrong.as_str(), "");
+    Ok(())
+}
+
+/// Scripts made of some bytes repeated, and their dumps.
+#[rattlefmt::skip]
+const REPEATED: &[(&[(&[u8], usize)], &str)] = &[
+    // ---- 100 constructs may be open
+    (&[(b"${a-", 100), (b"}", 100)], "[0-500]"),
+    (&[(b"${a-", 101), (b"}", 101)], "fault 15 at 400"),
+    (&[(b"$((", 100), (b"1", 1), (b"))", 100)], "[0-501]"),
+    (&[(b"$((", 101), (b"1", 1), (b"))", 101)], "fault 15 at 300"),
+    (&[(b"\"${a-", 50), (b"}\"", 50)], "[0-350]"),
+    (&[(b"\"${a-", 51), (b"}\"", 51)], "fault 15 at 250"),
+    (&[(b"\"$((${a-", 33), (b"\"b\"", 1), (b"}))\"", 33)], "[0-399]"),
+    (&[(b"\"$((${a-", 33), (b"\"${b}\"", 1), (b"}))\"", 33)], "fault 15 at 265"),
+    (&[(b"$((${a-", 50), (b"}))", 50)], "[0-500]"),
+    (&[(b"$((${a-", 51), (b"}))", 51)], "fault 15 at 350"),
+    (&[(b"${a-", 100), (b"'b'`c`\\d$$e$f", 1), (b"}", 100)], "[0-513]"),
+    (&[(b"${a-", 99), (b"\"b\"${c}$((1))", 1), (b"}", 99)], "[0-508]"),
+    (&[(b"${a-", 100), (b"\"b\"", 1), (b"}", 100)], "fault 15 at 400"),
+    (&[(b"${a-", 100), (b"$((1))", 1), (b"}", 100)], "fault 15 at 400"),
+    (&[(b"${a-", 100), (b"b${c}", 1), (b"}", 100)], "fault 15 at 401"),
+    (&[(b"${a-", 100), (b"b\\\n\"c\"", 1), (b"}", 100)], "fault 15 at 403"),
+    (&[(b"${a-", 100), (b"$\\\n{b}", 1), (b"}", 100)], "fault 15 at 400"),
+    (&[(b"${a-", 100), (b"$(b)", 1), (b"}", 100)], "fault 11 at 400"),
+    (&[(b"${a-", 100), (b"'", 1)], "fault 1 at 400"),
+    (&[(b"${a-", 100)], "fault 4 at 396"),
+    (&[(b"a ", 1), (b"${a-", 101)], "fault 15 at 402"),
+    // ---- what was closed is open no more, and brackets and other words count nothing
+    (&[(b"${a}", 101)], "[0-404]"),
+    (&[(b"\"a\"", 101)], "[0-303]"),
+    (&[(b"$((1))", 101)], "[0-606]"),
+    (&[(b"${a-", 1), (b"\"b\"", 101), (b"}", 1)], "[0-308]"),
+    (&[(b"${a-", 60), (b"}", 60), (b" ", 1), (b"${a-", 60), (b"}", 60)], "[0-300 301-601]"),
+    (&[(b"${a-", 100), (b"}", 100), (b"${a-", 100), (b"}", 100)], "[0-1000]"),
+    (&[(b"$((", 1), (b"(", 101), (b"1", 1), (b")", 101), (b"))", 1)], "[0-208]"),
+    (&[(b"$((", 1), (b"(", 101), (b"1", 1), (b")", 102)], "fault 6 at 206"),
+    (&[(b"$((", 1), (b"(", 101), (b"1", 1), (b")", 101)], "fault 5 at 0"),
+    // ---- many of a kind
+    (&[(b"\\\n", 1000), (b"a", 1), (b"\\\n", 1000)], "[2000-2001]"),
+    (&[(b"a", 1), (b"\\\n", 1000), (b"b", 1)], "[0-2002]"),
+    (&[(b" ", 1000), (b"a", 1), (b"\t", 1000), (b"b", 1)], "[1000-1001 2001-2002]"),
+    (&[(b"a", 1), (b" \\\n", 1000), (b"b", 1)], "[0-1 ^3001-3002]"),
+    (&[(b"a", 1000), (b"=", 1), (b"b", 1000)], "[=0-2001]"),
+    (&[(b"1", 1000), (b"<", 1)], "fault 11 at 0"),
+    (&[(b"1", 1000), (b"a<", 1)], "fault 11 at 1001"),
+    (&[(b"'a'", 1000), (b"'", 1)], "fault 1 at 3000"),
+    (&[(b"`", 1), (b"\\`", 1000), (b"`", 1)], "[0-2002]"),
+    (&[(b"#", 1000), (b" ", 1000), (b"\n", 1), (b"a", 1)], "#0-1000 [2001-2002]"),
+    (&[(b"a", 1), (b"\n", 1000), (b"b", 1)], "[0-1] ~[1001-1002]"),
+    (&[(b"\n", 1000), (b"a;", 1), (b"\n", 1000), (b";", 1)], "[1000-1001] fault 11 at 2002"),
+    (&[(b"\"${", 1), (b"a", 1000), (b"%'}\"", 1)], "fault 1 at 1004"),
+    (&[(b"\"${", 1), (b"1", 1000), (b"#'}\"", 1)], "fault 1 at 1004"),
+];
+
+#[test]
+fn repeated(rt: HostRuntime) -> Result<(), Fail> {
+    let mut wrong = String::new(rt.alloc());
+    for (parts, wanted) in REPEATED {
+        let mut script = Vec::new(rt.alloc());
+        for (bytes, count) in *parts {
+            for _ in 0..*count {
+                script.extend_from_slice(bytes)?;
+            }
+        }
+        let dump = dumped(rt.alloc(), &script)?;
+        tell(&mut wrong, &script, dump.as_str(), wanted)?;
+    }
+    assert_eq!(rt; wrong.as_str(), "");
+    Ok(())
+}
+
+/// The line that begins at an offset of a script: `blank`, `end`, or a dump; the place behind it, and whether it ended.
+#[rattlefmt::skip]
+const LINES: &[(&[u8], usize, &str, usize, bool)] = &[
+    // ---- lines without entries
+    (b"", 0, "end", 0, false),
+    (b" \t", 0, "end", 2, false),
+    (b"\\\n", 0, "end", 2, false),
+    (b"a\n \\\n\\\n\t", 2, "end", 8, false),
+    (b"\n", 0, "blank", 1, true),
+    (b"\n", 1, "end", 1, false),
+    (b"\n\n", 0, "blank", 1, true),
+    (b" \\\n\t\n", 0, "blank", 5, true),
+    (b"a\n\\\n\nb", 2, "blank", 5, true),
+    // ---- what ends a line
+    (b"a", 0, "[0-1]", 1, false),
+    (b"a\n", 0, "[0-1]", 2, true),
+    (b"a\n", 2, "end", 2, false),
+    (b"a\\\n", 0, "[0-1]", 3, false),
+    (b"a\\\n\n", 0, "[0-1]", 4, true),
+    (b"a;\n\n", 0, "[0-1]", 3, true),
+    (b"#a", 0, "#0-2", 2, false),
+    (b"#a \n", 0, "#0-2", 4, true),
+    (b"#a\\\nb", 0, "#0-3", 4, true),
+    (b"a # b \n c", 0, "[0-1]#2-5", 7, true),
+    (b"a\\\nb\nc", 0, "[0-4]", 5, true),
+    (b"'a\nb' \"c\nd\"`e\nf`\ng", 0, "[0-5 6-16]", 17, true),
+    (b"${a\n}$((\n))\nb", 0, "[0-11]", 12, true),
+    (b"a \\\n b\n\nc", 0, "[0-1 ^5-6]", 7, true),
+    // ---- the lines of one script: spans count from where a line begins, and no line is blank
+    (b"a\n\nb;c\n#d\n", 0, "[0-1]", 2, true),
+    (b"a\n\nb;c\n#d\n", 2, "blank", 3, true),
+    (b"a\n\nb;c\n#d\n", 3, "[0-1] [2-3]", 7, true),
+    (b"a\n\nb;c\n#d\n", 7, "#0-2", 10, true),
+    (b"a\n\nb;c\n#d\n", 10, "end", 10, false),
+    (b"a\n\n\n#b\nc=1 d&e", 4, "#0-2", 7, true),
+    (b"a\n\n\n#b\nc=1 d&e", 7, "[=0-3 4-5]& [6-7]", 14, false),
+    (b"a\nb \\\n c;d #e\nf", 2, "[0-1 ^5-6] [7-8]#9-11", 14, true),
+    (b"a\nb \\\n c;d #e\nf", 14, "[0-1]", 15, false),
+    // ---- a fault counts from where its line begins
+    (b";", 0, "fault 11 at 0", 1, false),
+    (b"a\n;b\nc", 2, "fault 11 at 0", 6, false),
+    (b"a\nb '\nc", 2, "fault 1 at 2", 7, false),
+    (b"a\nb;c\\\n\"d\ne\n", 2, "fault 2 at 5", 12, false),
+    (b"a\n;\nb\n", 4, "[0-1]", 6, true),
+    (b"a\nb\\", 2, "fault 8 at 1", 4, false),
+    // ---- any place begins a line: what stands before it counts nothing
+    (b"a\n;b", 3, "[0-1]", 4, false),
+    (b"a b", 1, "[1-2]", 3, false),
+    (b"a \\\nb", 2, "[2-3]", 5, false),
+    (b"a \\\nb", 3, "blank", 4, true),
+    (b"ab=1", 1, "[=0-3]", 4, false),
+    (b"a=1 b", 2, "[0-1 2-3]", 5, false),
+    (b"xif", 1, "fault 11 at 0", 3, false),
+    (b"a if", 2, "fault 11 at 0", 4, false),
+    (b"a#b", 1, "#0-2", 3, false),
+    (b"a9<", 1, "fault 11 at 0", 3, false),
+    (b"\\;", 1, "fault 11 at 0", 2, false),
+    (b"'a;b'", 3, "fault 1 at 1", 5, false),
+    (b"$$(a)", 1, "fault 11 at 0", 5, false),
+    (b"#a;b\nc", 3, "[0-1]", 5, true),
+];
+
+fn dumped_line(alloc: Global, kind: &LineKind) -> Result<String, Fail> {
+    let mut text = String::new(alloc);
+    match kind {
+        LineKind::Blank => text.push_str("blank")?,
+        LineKind::Entries(list) => dump_list(&mut text, list)?,
+        LineKind::End => text.push_str("end")?,
+        LineKind::Faulty(fault) => dump_fault(&mut text, Some(*fault))?,
+    }
+    Ok(text)
+}
+
+#[test]
+fn lines(rt: HostRuntime) -> Result<(), Fail> {
+    let mut wrong = String::new(rt.alloc());
+    for (script, at, wanted, next, ended) in LINES {
+        assert!(rt; *at <= script.len());
+        let mut reader = Reader::new(rt.alloc());
+        let line = reader.read_line(&Flat::new(script), *at)?;
+        let mut dump = dumped_line(rt.alloc(), &line.kind)?;
+        write!(dump, " to {}, {}", line.next, line.ended)?;
+        let mut whole = String::from_str(rt.alloc(), wanted)?;
+        write!(whole, " to {next}, {ended}")?;
+        tell(&mut wrong, &script[*at..], dump.as_str(), whole.as_str())?;
+        assert!(rt; *at <= line.next);
+        assert_eq!(rt; reader.meter(), (line.next - at) as u64);
+    }
+    assert_eq!(rt; wrong.as_str(), "");
+    Ok(())
+}
+
+/// Line by line a script has the entries and the fault that it has as a whole, and the meter rises as far.
+#[test]
+fn line_by_line(rt: HostRuntime) -> Result<(), Fail> {
+    let mut reader = Reader::new(rt.alloc());
+    let mut meter = 0;
+    for (script, _) in ROWS {
+        let source = Flat::new(script);
+        let whole = reader.read_script(&source)?;
+        meter += script.len();
+        assert_eq!(rt; reader.meter(), meter as u64);
+        let mut entries = 0;
+        let mut fault = None;
+        let mut at = 0;
+        for _ in 0..=script.len() {
+            assert!(rt; at <= script.len());
+            let line = reader.read_line(&source, at)?;
+            match line.kind {
+                LineKind::Entries(list) => entries += list.entries.len(),
+                LineKind::Faulty(Fault { kind, at: place }) => {
+                    fault = Some(Fault {
+                        kind,
+                        at: at + place,
+                    });
+                }
+                LineKind::Blank | LineKind::End => {}
+            }
+            at = line.next;
+            if !line.ended {
+                break;
+            }
+        }
+        meter += script.len();
+        assert_eq!(rt; reader.meter(), meter as u64);
+        assert_eq!(rt;
+            (at, entries, fault),
+            (script.len(), whole.list.entries.len(), whole.fault)
+        );
+    }
+    Ok(())
+}
+
+/// The numbers of the kinds, and of the error, are fixed.
+#[test]
+fn numbers(rt: HostRuntime) -> Result<(), Fail> {
+    for (kind, number) in [
+        (FaultKind::UnclosedSingle, 1),
+        (FaultKind::UnclosedDouble, 2),
+        (FaultKind::UnclosedBackquote, 3),
+        (FaultKind::UnclosedParam, 4),
+        (FaultKind::UnclosedArith, 5),
+        (FaultKind::BadArithClose, 6),
+        (FaultKind::UnclosedSubst, 7),
+        (FaultKind::LoneBackslash, 8),
+        (FaultKind::UnclosedHere, 9),
+        (FaultKind::BadHereWord, 10),
+        (FaultKind::Unexpected, 11),
+        (FaultKind::UnexpectedEnd, 12),
+        (FaultKind::BadForName, 13),
+        (FaultKind::BadFunctionName, 14),
+        (FaultKind::TooDeep, 15),
+    ] {
+        assert_eq!(rt; kind as u8, number);
+    }
+    assert_eq!(rt; ReadError::Memory as u8, 3);
+    Ok(())
+}
+
+/// A newline alone ends a line: in the text of all bytes the eleventh.
+#[test]
+fn places(rt: HostRuntime) -> Result<(), Fail> {
+    let mut bytes = Vec::new(rt.alloc());
+    for byte in 0..=255u8 {
+        bytes.push(byte)?;
+    }
+    let text = Flat::new(&bytes);
+    assert_eq!(rt; bytes.len(), 256);
+    for at in 0..=256 {
+        let place = if at <= 10 { (1, at + 1) } else { (2, at - 10) };
+        assert_eq!(rt; line_col_of(&text, at), place);
+    }
     Ok(())
 }
