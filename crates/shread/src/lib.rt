@@ -36,6 +36,8 @@ pub use tree::{
 };
 
 #[cfg(test)]
+mod dump;
+#[cfg(test)]
 mod refused;
 #[cfg(test)]
 mod tests;
