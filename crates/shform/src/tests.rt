@@ -217,6 +217,163 @@ fn failed_writes(rt: HostRuntime) -> Result<(), Fail> {
     Ok(())
 }
 
+/// How the one call of a hiccup fails.
+#[derive(Clone, Copy, Debug, PartialEq, Eq)]
+enum Way {
+    Errs(io::ErrorKind),
+    /// A flush cannot: it errs.
+    TakesNothing,
+}
+
+/// A writer that fails in one of its calls, writes and flushes, and works before and after it.
+#[derive(Drop)]
+struct Hiccup {
+    bytes: [u8; 128],
+    len: usize,
+    /// How many bytes a write takes at most.
+    step: usize,
+    calls: u64,
+    fails_at: u64,
+    way: Way,
+}
+
+impl Hiccup {
+    fn new(step: usize, fails_at: u64, way: Way) -> Hiccup {
+        Hiccup {
+            bytes: [0; 128],
+            len: 0,
+            step,
+            calls: 0,
+            fails_at,
+            way,
+        }
+    }
+
+    fn text(&self) -> &[u8] {
+        &self.bytes[..self.len.min(128)]
+    }
+
+    /// Whether this call is the one that fails.
+    fn fails(&mut self) -> bool {
+        self.calls = self.calls.wrapping_add(1);
+        self.calls == self.fails_at
+    }
+}
+
+impl Write for Hiccup {
+    fn write(&mut self, buf: &[u8]) -> io::Result<usize> {
+        if self.fails() {
+            return match self.way {
+                Way::Errs(kind) => Err(Error::from(kind)),
+                Way::TakesNothing => Ok(0),
+            };
+        }
+        let start = self.len.min(128);
+        let count = buf.len().min(self.step).min(128 - start);
+        self.bytes[start..start + count].copy_from_slice(&buf[..count]);
+        self.len = start + count;
+        Ok(count)
+    }
+
+    fn flush(&mut self) -> io::Result<()> {
+        if !self.fails() {
+            return Ok(());
+        }
+        match self.way {
+            Way::Errs(kind) => Err(Error::from(kind)),
+            Way::TakesNothing => Err(Error::from(io::ErrorKind::Other)),
+        }
+    }
+}
+
+const WAYS: [Way; 3] = [
+    Way::Errs(io::ErrorKind::Other),
+    Way::Errs(io::ErrorKind::Interrupted),
+    Way::TakesNothing,
+];
+
+/// After a write or a flush that failed no further one is tried, though it would work: what stands is the beginning that was
+/// taken before.
+#[test]
+fn hiccups(rt: HostRuntime) -> Result<(), Fail> {
+    // Where the first read fails and where none does, a text that is written in `parts`.
+    for (fails_at, text, parts, status) in [
+        (0, b"-:1:3: unexpected token\n".as_slice(), 1, 1),
+        (1, b"shform: cannot read -\n", 3, 2),
+    ] {
+        for (step, writes) in [(1, text.len() as u64), (99, parts)] {
+            for way in WAYS {
+                for nth in 1..writes + 4 {
+                    let mut tape = Tape::new(b"a ;;\n", 99);
+                    tape.fails_at = fails_at;
+                    let mut page = Hiccup::new(step, nth, way);
+                    let mut input = Input::new(tape);
+                    let mut output = Output::new(io::sink());
+                    let mut errors = Output::new(&mut page);
+                    let answer = check_engine(
+                        rt.alloc(),
+                        "-",
+                        &mut input,
+                        &mut output,
+                        &mut errors,
+                    );
+                    let failed = errors.failed();
+                    // The last call is the flush.
+                    if nth <= writes + 1 {
+                        assert_eq!(rt; (answer, failed, page.calls), (2, true, nth));
+                        assert!(rt; text.starts_with(page.text()));
+                    } else {
+                        assert_eq!(rt; (answer, failed, page.calls), (status, false, writes + 1));
+                    }
+                    if nth > writes {
+                        assert_eq!(rt; page.text(), text);
+                    } else if step == 1 {
+                        assert_eq!(rt; page.text().len() as u64, nth - 1);
+                    }
+                }
+            }
+        }
+    }
+    Ok(())
+}
+
+/// An end that failed once still says so when it works again.
+#[test]
+fn ends_that_failed(rt: HostRuntime) -> Result<(), Fail> {
+    for way in WAYS {
+        let mut page = Hiccup::new(99, 2, way);
+        let mut output = Output::new(&mut page);
+        assert_eq!(rt; output.write(b"a"), Ok(1));
+        assert!(rt; !output.failed());
+        assert_eq!(rt; output.write(b"b"), Err(Failed));
+        assert!(rt; output.failed());
+        assert_eq!(rt; output.write(b"c"), Ok(1));
+        assert_eq!(rt; output.flush(), Ok(()));
+        assert!(rt; output.failed());
+        assert_eq!(rt; page.text(), b"ac".as_slice());
+        let mut page = Hiccup::new(99, 1, way);
+        let mut output = Output::new(&mut page);
+        assert_eq!(rt; output.flush(), Err(Failed));
+        assert_eq!(rt; output.flush(), Ok(()));
+        assert_eq!(rt; output.write(b"d"), Ok(1));
+        assert!(rt; output.failed());
+        assert_eq!(rt; page.text(), b"d".as_slice());
+    }
+    let mut piece = [0; 4];
+    let mut tape = Tape::new(b"ab", 1);
+    tape.fails_at = 2;
+    let mut input = Input::new(tape);
+    assert_eq!(rt; input.read(&mut piece), Ok(1));
+    assert!(rt; !input.failed());
+    assert_eq!(rt; input.read(&mut piece), Err(Failed));
+    assert_eq!(rt; input.read(&mut piece), Ok(1));
+    assert_eq!(rt; piece[0], b'b');
+    assert!(rt; input.failed() && !input.ended());
+    assert_eq!(rt; input.read(&mut piece), Ok(0));
+    assert!(rt; input.failed() && input.ended());
+    Ok(())
+}
+
 #[test]
 fn ends(rt: HostRuntime) -> Result<(), Fail> {
     let mut piece = [0; 4];
