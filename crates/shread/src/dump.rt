@@ -192,11 +192,12 @@ pub(crate) fn tell(
     Ok(())
 }
 
-/// A text of a row, and the number behind it, or 0.
+/// A text of a row, and what stands behind it: a number, or 0, and `true` or not.
 #[derive(Drop)]
 pub(crate) struct Cell {
     pub(crate) bytes: Vec<u8>,
     pub(crate) number: usize,
+    pub(crate) is_true: bool,
 }
 
 /// Where the reading of a row stands.
@@ -223,9 +224,8 @@ fn digit(byte: u8) -> u8 {
     }
 }
 
-/// The texts of a line of a table, which are written as in Rust. A table is one text, which a check passes over: an array would
-/// take it minutes.
-pub(crate) fn cells(alloc: Global, line: &[u8]) -> Result<Vec<Cell>, Fail> {
+/// The texts of a row.
+fn cells(alloc: Global, line: &[u8]) -> Result<Vec<Cell>, Fail> {
     let mut cells = Vec::new(alloc);
     let mut state = State::Outside;
     for byte in line {
@@ -235,6 +235,7 @@ pub(crate) fn cells(alloc: Global, line: &[u8]) -> Result<Vec<Cell>, Fail> {
                 cells.push(Cell {
                     bytes: Vec::new(alloc),
                     number: 0,
+                    is_true: false,
                 })?;
                 State::Inside
             }
@@ -242,6 +243,12 @@ pub(crate) fn cells(alloc: Global, line: &[u8]) -> Result<Vec<Cell>, Fail> {
                 if let Some(cell) = cells.last_mut() {
                     let value = digit(*byte) as usize;
                     cell.number = cell.number.wrapping_mul(10).wrapping_add(value);
+                }
+                State::Outside
+            }
+            (State::Outside, b't') => {
+                if let Some(cell) = cells.last_mut() {
+                    cell.is_true = true;
                 }
                 State::Outside
             }
@@ -274,4 +281,19 @@ pub(crate) fn cells(alloc: Global, line: &[u8]) -> Result<Vec<Cell>, Fail> {
         }
     }
     Ok(cells)
+}
+
+/// The rows of a table, which are written as in Rust, a line each, with lines of comments between them. A table is one text,
+/// which a check passes over: an array would take it minutes.
+pub(crate) fn rows(alloc: Global, table: &[u8]) -> Result<Vec<Vec<Cell>>, Fail> {
+    let mut rows = Vec::new(alloc);
+    for line in table.split(|b| *b == b'\n') {
+        if !line.is_empty() && !line.starts_with(b"//") {
+            rows.push(cells(alloc, line)?)?;
+        }
+    }
+    if rows.is_empty() {
+        return Err(Fail::from("no rows"));
+    }
+    Ok(rows)
 }

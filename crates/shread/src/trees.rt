@@ -1,6 +1,6 @@
 // Scripts and lines whose trees and faults pin each rule of the grammar: where a rule is turned, a row fails. The rows are worked
 // out by hand from the grammar; none is what the reader told. How they are written is said in `dump.rt`.
-use crate::dump::{cells, dumped, dumped_line, tell};
+use crate::dump::{dumped, dumped_line, rows, tell};
 use crate::{
     Command, Content, Entry, Fault, FaultKind, Flat, LineKind, List, ReadError, Reader, line_col_of,
 };
@@ -570,17 +570,14 @@ const ROWS: &[u8] = br###"
 #[test]
 fn trees(rt: HostRuntime) -> Result<(), Fail> {
     let mut wrong = String::new(rt.alloc());
-    let mut count = 0;
-    for row in ROWS.split(|b| *b == b'\n') {
-        let cells = cells(rt.alloc(), row)?;
-        if let [script, wanted] = cells.as_slice() {
-            let dump = dumped(rt.alloc(), &script.bytes)?;
-            tell(&mut wrong, &script.bytes, dump.as_str(), &wanted.bytes)?;
-            count += 1;
-        }
+    for row in rows(rt.alloc(), ROWS)? {
+        let [script, wanted] = row.as_slice() else {
+            return Err(Fail::from("no row"));
+        };
+        let dump = dumped(rt.alloc(), &script.bytes)?;
+        tell(&mut wrong, &script.bytes, dump.as_str(), &wanted.bytes)?;
     }
     assert_eq!(rt; wrong.as_str(), "");
-    assert_eq!(rt; count, 532);
     Ok(())
 }
 
@@ -791,32 +788,29 @@ const BYTES: &[u8] = br###"
 #[test]
 fn bytes(rt: HostRuntime) -> Result<(), Fail> {
     let mut wrong = String::new(rt.alloc());
-    let mut count = 0;
     let mut named = [false; 256];
-    for row in BYTES.split(|b| *b == b'\n') {
-        let cells = cells(rt.alloc(), row)?;
-        if let [before, these, behind, wanted] = cells.as_slice() {
-            let others = these.bytes.is_empty();
-            for byte in 0..=255u8 {
-                if these.bytes.contains(&byte) {
-                    named[byte as usize] = true;
-                } else if !others || named[byte as usize] {
-                    continue;
-                }
-                let mut script = Vec::from_slice(rt.alloc(), &before.bytes)?;
-                script.push(byte)?;
-                script.extend_from_slice(&behind.bytes)?;
-                let dump = dumped(rt.alloc(), &script)?;
-                tell(&mut wrong, &script, dump.as_str(), &wanted.bytes)?;
-                count += 1;
+    for row in rows(rt.alloc(), BYTES)? {
+        let [before, these, behind, wanted] = row.as_slice() else {
+            return Err(Fail::from("no row"));
+        };
+        let others = these.bytes.is_empty();
+        for byte in 0..=255u8 {
+            if these.bytes.contains(&byte) {
+                named[byte as usize] = true;
+            } else if !others || named[byte as usize] {
+                continue;
             }
-            if others {
-                named = [false; 256];
-            }
+            let mut script = Vec::from_slice(rt.alloc(), &before.bytes)?;
+            script.push(byte)?;
+            script.extend_from_slice(&behind.bytes)?;
+            let dump = dumped(rt.alloc(), &script)?;
+            tell(&mut wrong, &script, dump.as_str(), &wanted.bytes)?;
+        }
+        if others {
+            named = [false; 256];
         }
     }
     assert_eq!(rt; wrong.as_str(), "");
-    assert_eq!(rt; count, 35 * 256);
     Ok(())
 }
 
@@ -874,23 +868,20 @@ const REPEATED: &[u8] = br###"
 #[test]
 fn repeated(rt: HostRuntime) -> Result<(), Fail> {
     let mut wrong = String::new(rt.alloc());
-    let mut count = 0;
-    for row in REPEATED.split(|b| *b == b'\n') {
-        let cells = cells(rt.alloc(), row)?;
-        if let Some((wanted, parts)) = cells.split_last() {
-            let mut script = Vec::new(rt.alloc());
-            for part in parts {
-                for _ in 0..part.number {
-                    script.extend_from_slice(&part.bytes)?;
-                }
+    for row in rows(rt.alloc(), REPEATED)? {
+        let Some((wanted, parts)) = row.split_last() else {
+            return Err(Fail::from("no row"));
+        };
+        let mut script = Vec::new(rt.alloc());
+        for part in parts {
+            for _ in 0..part.number {
+                script.extend_from_slice(&part.bytes)?;
             }
-            let dump = dumped(rt.alloc(), &script)?;
-            tell(&mut wrong, &script, dump.as_str(), &wanted.bytes)?;
-            count += 1;
         }
+        let dump = dumped(rt.alloc(), &script)?;
+        tell(&mut wrong, &script, dump.as_str(), &wanted.bytes)?;
     }
     assert_eq!(rt; wrong.as_str(), "");
-    assert_eq!(rt; count, 44);
     Ok(())
 }
 
@@ -958,34 +949,26 @@ const LINES: &[u8] = br###"
 #[test]
 fn lines(rt: HostRuntime) -> Result<(), Fail> {
     let mut wrong = String::new(rt.alloc());
-    let mut count = 0;
-    for row in LINES.split(|b| *b == b'\n') {
-        let cells = cells(rt.alloc(), row)?;
-        if let [script, wanted] = cells.as_slice() {
-            let at = script.number;
-            assert!(rt; at <= script.bytes.len());
-            let mut reader = Reader::new(rt.alloc());
-            let line = reader.read_line(&Flat::new(&script.bytes), at)?;
-            let dump = dumped_line(rt.alloc(), &line.kind)?;
-            tell(
-                &mut wrong,
-                &script.bytes[at..],
-                dump.as_str(),
-                &wanted.bytes,
-            )?;
-            let ended = row.ends_with(b"true),");
-            assert_eq!(rt;
-                (line.next, line.ended),
-                (wanted.number, ended),
-                "row {count}"
-            );
-            assert!(rt; at <= line.next);
-            assert_eq!(rt; reader.meter(), (line.next - at) as u64);
-            count += 1;
-        }
+    for row in rows(rt.alloc(), LINES)? {
+        let [script, wanted] = row.as_slice() else {
+            return Err(Fail::from("no row"));
+        };
+        let at = script.number;
+        assert!(rt; at <= script.bytes.len());
+        let mut reader = Reader::new(rt.alloc());
+        let line = reader.read_line(&Flat::new(&script.bytes), at)?;
+        let dump = dumped_line(rt.alloc(), &line.kind)?;
+        tell(
+            &mut wrong,
+            &script.bytes[at..],
+            dump.as_str(),
+            &wanted.bytes,
+        )?;
+        assert_eq!(rt; (line.next, line.ended), (wanted.number, wanted.is_true));
+        assert!(rt; at <= line.next);
+        assert_eq!(rt; reader.meter(), (line.next - at) as u64);
     }
     assert_eq!(rt; wrong.as_str(), "");
-    assert_eq!(rt; count, 52);
     Ok(())
 }
 
@@ -993,10 +976,9 @@ fn lines(rt: HostRuntime) -> Result<(), Fail> {
 #[test]
 fn line_by_line(rt: HostRuntime) -> Result<(), Fail> {
     let mut reader = Reader::new(rt.alloc());
-    for row in ROWS.split(|b| *b == b'\n') {
-        let cells = cells(rt.alloc(), row)?;
-        let Some(script) = cells.first() else {
-            continue;
+    for row in rows(rt.alloc(), ROWS)? {
+        let Some(script) = row.first() else {
+            return Err(Fail::from("no row"));
         };
         let source = Flat::new(&script.bytes);
         let whole = reader.read_script(&source)?;
@@ -1092,20 +1074,20 @@ fn first_items(list: &List) -> usize {
 }
 
 /// A long line is read where memory is there, in a script with a fault behind it and alone. A row has what is repeated on a line
-/// of a megabyte, how many entries that line has, and how many items the first of them.
+/// of a megabyte and how often, how many entries that line has, and how many items the first of them.
 #[test]
 fn long_lines(rt: HostRuntime) -> Result<(), Fail> {
-    for (piece, entries, items) in [
-        (b" ".as_slice(), 0, 0),
-        (b"\\\n", 0, 0),
-        (b"#", 1, 0),
-        (b"a", 1, 1),
-        (b"abc 'd e' \"fgh\" ", 1, 196_608),
-        (b"ab=$((1 + 2)) \\\n", 1, 65_536),
-        (b"abc de=f g h; ij ${k-l m} nop & ", 65_536, 4),
+    for (piece, times, entries, items) in [
+        (b" ".as_slice(), 1_048_576, 0, 0),
+        (b"\\\n", 524_288, 0, 0),
+        (b"#", 1_048_576, 1, 0),
+        (b"a", 1_048_576, 1, 1),
+        (b"abc 'd e' \"fgh\" ", 65_536, 1, 196_608),
+        (b"ab=$((1 + 2)) \\\n", 65_536, 1, 65_536),
+        (b"abc de=f g h; ij ${k-l m} nop & ", 32_768, 65_536, 4),
     ] {
         let mut script = Vec::new(rt.alloc());
-        while script.len() < 1_048_576 {
+        for _ in 0..times {
             script.extend_from_slice(piece)?;
         }
         script.extend_from_slice(b"\n(")?;
@@ -1158,6 +1140,7 @@ fn many_lines(rt: HostRuntime) -> Result<(), Fail> {
         at = line.next;
     }
     assert_eq!(rt; (at, found, reader.meter()), (1_280_000, 80_000, 2_560_003));
+    assert!(rt; at <= script.len());
     assert!(rt; matches!(reader.read_line(&source, at)?.kind, LineKind::Faulty(_)));
     Ok(())
 }
