@@ -1,7 +1,7 @@
 -- What is said of an input, and the status that is answered.
 use Rattle.std.specs.Prelude.{◌≡◌, ◌⊎◌, ℕ, ◌+◌, ◌≤◌, ◌++◌, [], Bool, true, false, List, Option, None, Some, Result, Ok, Err, length, codes, if◌then◌else◌}
 use Rattle.std.specs.Io.KnownBytes.{Consumes}
-use Rattle.shread.specs.Lines.{FirstFault}
+use Rattle.shread.specs.Scripts.{FirstFault}
 use Rattle.shread.specs.Text.{line_of, column_of}
 use Rattle.shread.specs.declared.fault.Fault.{Fault}
 use Rattle.shform.specs.Device.{Writes}

@@ -1,313 +1,350 @@
--- The reading of a line goes the same way whatever was read before, and wherever its text begins: then its fault moves.
-use Rattle.std.proofs.Common.{◌≡◌, ℕ, zero, suc, ◌+◌, ◌≤◌, ◌<◌, Bool, true, false, cond, ◌&&◌, List, List as Row, [], ◌∷◌, ◌++◌, length, Result, Ok, Err, refl, sym, ap, subst, ◌∙◌, arith}
+-- A form goes the same way with its tree and without, whatever was read before.
+use Rattle.std.proofs.Common.{◌≡◌, ℕ, zero, suc, ◌+◌, ◌-◌, ◌<◌, Bool, true, false, not, cond, Ok, Err, List, List as Row, [], ◌∷◌, ◌++◌, length, Option, Some, None, refl, sym, ap, subst, ◌∙◌, arith}
+use Rattle.std.proofs.lemmas.Bool.{ltb-true}
 use Rattle.shread.specs.declared.fault.Fault.{Fault}
 use Rattle.shread.specs.declared.fault.FaultKind.{FaultKind}
-use Rattle.shread.specs.declared.fault.Stop.TheVariants.{Wrong}
 use Rattle.shread.specs.declared.mode.Mode.{Mode}
-use Rattle.shread.specs.declared.mode.Mode.TheVariants.{Plain, Double, Arith}
 use Rattle.shread.specs.declared.mode.Piece.{Piece}
 use Rattle.shread.specs.declared.mode.Piece.TheVariants as pieces
+use Rattle.shread.specs.declared.token.Next.{Next}
+use Rattle.shread.specs.declared.token.Position.{Position}
+use Rattle.shread.specs.declared.token.Separator.{Separator}
+use Rattle.shread.specs.declared.token.Separator.TheVariants.{Semicolon, Ampersand}
 use Rattle.shread.specs.declared.token.Token.{Token}
 use Rattle.shread.specs.declared.token.Token.TheVariants as tokens
-use Rattle.shread.specs.Tree.{AnItem, AnEntry, AnAndOr}
-use Rattle.shread.specs.Bytes.{raw_stands, at_end, next_of, past_continuations, behind, past_blanks, token_at, begins_assignment}
-use Rattle.shread.specs.Words.{next_in_backquotes, past_parameter, rest_mode, piece_at}
-use Rattle.shread.specs.Commands.{is_empty, is_word, is_parted, separator_at, remark_place, comment_at, past_comment}
-use Rattle.shread.specs.Comes.{Read, Step, again, done, step_if}
-use Rattle.shread.specs.Lines.{begins_command, with_remark}
-use Rattle.shread.specs.Reading.{◌>>=◌, turns, Opened, single_at, backquote_step, backquoted_at, piece_of, piece_step, contents_at, level_at, word_at, assignment_step, argument_step, simple_at, pipeline_at, and_or_at, entry_at, entry_step, end_of_line_of, end_of_line_at, line_at, pushed, remarked}
-use Rattle.shread.proofs.Loops.{Keeps, turns_keep}
-use Rattle.shread.proofs.NormalForm.{no_items, no_entries}
-use Rattle.shread.proofs.Places.{behind_high, parameter_high, blanks_high}
-use Rattle.shread.proofs.Pieces.{Shows, piece_shows, opener_second, opener_third}
-use Rattle.shread.proofs.Progress.{QuotedSo, QuotedEnd, backquote_keeps, Stays, level_within, PiecesSo, PiecesEnd, piece_keeps, ItemsSo, ItemsEnd, assignment_keeps, argument_keeps, assignments_within, EntriesSo, EntriesEnd, entry_keeps}
-use Rattle.shread.proofs.Turns.{turns_again, turns_done, turns_stop}
+use Rattle.shread.specs.declared.tree.Comment.{Comment}
+use Rattle.shread.specs.declared.tree.Span.{Span}
+use Rattle.shread.specs.Tree.{ASubst, AWord, AnItemContent, ACommand, APipeline, AnAndOr, AnEntry}
+use Rattle.shread.specs.Comments.{span}
+use Rattle.shread.specs.Sights.{Given, State, Sight, seen, the_piece, Move}
+use Rattle.shread.specs.Form.{Read, ◌▸◌, Form, give, see, move, push, stop, both, when, token, loop, many, Step, again, done, step_if, leads_on, turns, does}
+use Rattle.shread.specs.Words.{single, backquote_turn, backquoted, Inner, Held, having, opened, piece_row, a_piece, contents, level, a_word}
+use Rattle.shread.specs.Commands.{next_token, Items, so_many, an_item, item_by, item_turn, a_simple, a_pipeline, an_and_or, separator_by, a_separator, comment_by, a_comment, is_parted, Entered, an_entry}
+use Rattle.shread.specs.Lines.{LineSo, line_so, one_entry, entry_by, entry_turn, all_entries, remark_by, a_remark, end_by, end_of_line, a_line}
+use Rattle.shread.proofs.Turns.{turns_on, turns_rest, turns_done, turns_fault}
 
--- a fault d bytes further on
-abbrev pub moved : ℕ → Fault → Fault
-moved d f = record { kind = f.kind; at = d + f.at }
+-- both give something, of which S holds, and end in one state; or both stop with one fault
+abbrev pub Like : {X Y : Type 0} → (X → Y → Type 0) → Read X → Read Y → Type 0
+Like S (Ok (x, s)) (Ok (y, t)) = (s ≡ t) × S x y
+Like S (Ok (x, s)) (Err f) = ⊥
+Like S (Err e) (Ok (y, t)) = ⊥
+Like S (Err e) (Err f) = e ≡ f
 
--- Both give something, of which S holds; or both stop with one fault, which is d bytes further on in the first.
-pub data Alike {X Y : Type 0} (S : X → Y → Type 0) (d : ℕ) : Result X Fault → Result Y Fault → Type 0 where
-  both_give : {x : X} {y : Y} → S x y → Alike S d (Ok x) (Ok y)
-  both_stop : {f g : Fault} → f ≡ moved d g → Alike S d (Err f) (Err g)
+-- both lines end with a newline, or both with the text
+abbrev pub SameEnd : Row AnEntry × Bool → Row AnEntry × Bool → Type 0
+SameEnd x y = x.1 ≡ y.1
 
--- at the same place
-pub data SameEnd {X Y : Type 0} (S : X → Y → Type 0) : X × ℕ → Y × ℕ → Type 0 where
-  same_end : {x : X} {y : Y} {p : ℕ} → S x y → SameEnd S (x, p) (y, p)
+module _ (g : Given) where
+  -- r with its tree, and q without
+  pub record Alike {X Y : Type 0} (S : X → Y → Type 0) (r : Form X) (q : Form Y) : Type 0 where
+    pub like : (s : State) → Like S (does r true g s) (does q false g s)
 
--- both go on, or both end
-pub data SameStep {X Y : Type 0} (S : X → Y → Type 0) : Step X → Step Y → Type 0 where
-  both_again : {x : X} {y : Y} {p : ℕ} → S x y → SameStep S (again x p) (again y p)
-  both_done : {x : X} {y : Y} {p : ℕ} → S x y → SameStep S (done x p) (done y p)
+  -- ---- the laws
 
--- ---- the combinators
+  pub alike_give : {X Y : Type 0} {S : X → Y → Type 0} {x : X} {y : Y} → S x y → Alike S (give x) (give y)
+  alike_give so = record { like = λ s. (refl, so) }
 
--- one part and then another
-pub alike_then : {X Y V W : Type 0} {S : X → Y → Type 0} {R : V → W → Type 0} {d : ℕ} {x : Result X Fault} {y : Result Y Fault} {f : X → Result V Fault} {g : Y → Result W Fault}
-    → Alike S d x y → ((a : X) (b : Y) → x ≡ Ok a → S a b → Alike R d (f a) (g b)) → Alike R d (x >>= f) (y >>= g)
-alike_then (both_give same) rest = rest _ _ refl same
-alike_then (both_stop same) rest = both_stop same
+  pub alike_push : {A B : Type 0} {S : Row A → Row B → Type 0} {xs : Row A} {x : A} {ys : Row B} {y : B} → S (xs ++ x ∷ []) ys → Alike S (push xs x) (push ys y)
+  alike_push so = record { like = λ s. (refl, so) }
 
--- one part or another, by one test
-pub alike_test : {X Y : Type 0} {S : X → Y → Type 0} {d : ℕ} (test : Bool) {x u : Result X Fault} {y v : Result Y Fault} → Alike S d x y
-    → Alike S d u v → Alike S d (cond test x u) (cond test y v)
-alike_test true here there = here
-alike_test false here there = there
+  pub alike_move : {S : Unit {0} → Unit {0} → Type 0} {m : Move} → S tt tt → Alike S (move m) (move m)
+  alike_move so = record { like = λ s. (refl, so) }
 
--- what ends at one place, of which more is made
-pub alike_end : {X Y V W : Type 0} {S : X → Y → Type 0} {R : V → W → Type 0} {d : ℕ} {x : X × ℕ} {y : Y × ℕ} {v : V} {w : W} → SameEnd S x y
-    → (S x.0 y.0 → R v w) → Alike (SameEnd R) d (Ok (v, x.1)) (Ok (w, y.1))
-alike_end (same_end same) more = both_give (same_end (more same))
+  pub alike_stop : {X Y : Type 0} {S : X → Y → Type 0} {kind : FaultKind} {at : ℕ} → Alike S (stop kind at) (stop kind at)
+  alike_stop = record { like = λ s. refl }
 
--- and then a turn goes on
-pub alike_again : {X Y V W : Type 0} {S : X → Y → Type 0} {R : V → W → Type 0} {d : ℕ} {x : X × ℕ} {y : Y × ℕ} {v : V} {w : W} → SameEnd S x y
-    → (S x.0 y.0 → R v w) → Alike (SameStep R) d (Ok (again v x.1)) (Ok (again w y.1))
-alike_again (same_end same) more = both_give (both_again (more same))
+  module _ {X Y V W : Type 0} (S : X → Y → Type 0) (R : V → W → Type 0) (f : X → Form V) (h : Y → Form W) (rest : (x : X) (y : Y) → S x y → Alike R (f x) (h y)) where
+    then_like : (x : Read X) (y : Read Y) → Like S x y → Like R (x ▸ λ a t. does (f a) true g t) (y ▸ λ b t. does (h b) false g t)
+    then_like (Ok (x, s)) (Ok (y, t)) like = rw (← like.0) ((rest x y like.1).like s)
+    then_like (Ok (x, s)) (Err e) like = absurd like
+    then_like (Err e) (Ok (y, t)) like = absurd like
+    then_like (Err e) (Err e') like = like
 
-module _ {A : Type 0} (len : ℕ) (f g : A → ℕ → Result (Step A) Fault) (S : A → A → Type 0) (d : ℕ) (Q : A → ℕ → Type 0) (R : Read A → Type 0)
-    (keeps : (a : A) (p : ℕ) → p ≤ len → Q a p → Keeps len Q R p (f a p))
-    (steps : (a b : A) (p : ℕ) → p ≤ len → S a b → Alike (SameStep S) d (f a p) (g b p)) where
-  -- the second loop has come to the same place
-  record Along (c : A) (s : ℕ) (a : A) (p : ℕ) : Type 0 where
-    kept : Q a p
-    other : A
-    alike : S a other
-    same : turns len g other p ≡ turns len g c s
+  -- one form and then another
+  pub alike_then : {X Y V W : Type 0} {S : X → Y → Type 0} {R : V → W → Type 0} {r : Form X} {q : Form Y} {f : X → Form V} {h : Y → Form W} → Alike S r q
+      → ((x : X) (y : Y) → S x y → Alike R (f x) (h y)) → Alike R (both r f) (both q h)
+  alike_then {S = S} {R = R} {r = r} {q = q} {f = f} {h = h} first rest = record { like = λ s. then_like S R f h rest (does r true g s) (does q false g s) (first.like s) }
 
-  -- the first loop does the same from here on
-  Reach : A → ℕ → Read A → Type 0
-  Reach c s x = Alike (SameEnd S) d x (turns len g c s)
+  -- what is seen, and then the rest
+  pub alike_see : {X V W : Type 0} {R : V → W → Type 0} {l : Sight X} {f : X → Form V} {h : X → Form W} → ((x : X) → Alike R (f x) (h x)) → Alike R (both (see l) f) (both (see l) h)
+  alike_see {l = l} rest = record { like = λ s. (rest (seen l g s)).like s }
 
-  -- by what both turns are
-  one_step : (c : A) (s : ℕ) (b : A) (p : ℕ) (x y : Result (Step A) Fault) → g b p ≡ y → turns len g b p ≡ turns len g c s → Keeps len Q R p x
-      → Alike (SameStep S) d x y → Keeps len (Along c s) (Reach c s) p x
-  unfolding Reach
-  one_step c s b p _ _ is same kept (both_give (both_again {y = h} {p = q} alike)) =
-      (kept.0, kept.1, record { kept = kept.2; other = h; alike = alike; same = sym (turns_again len g b h p q is kept.0 kept.1) ∙ same })
-  one_step c s b p _ _ is same kept (both_give (both_done {y = h} {p = q} alike)) =
-      rw (sym same ∙ turns_done len g b h p q is) (both_give (same_end alike))
-  one_step c s b p _ _ is same kept (both_stop {g = h} alike) = rw (sym same ∙ turns_stop len g b p (Wrong h) is) (both_stop alike)
+  -- the same is seen
+  pub alike_same : {X V W : Type 0} {R : V → W → Type 0} {l k : Sight X} {f : X → Form V} {h : X → Form W} → l ≡ k → ((x : X) → Alike R (f x) (h x)) → Alike R (both (see l) f) (both (see k) h)
+  alike_same {R = R} {l = l} {f = f} {h = h} is rest =
+      record { like = λ s. subst (λ z. Like R (does (f (seen l g s)) true g s) (does (h z) false g s)) (ap (λ z. seen z g s) is) ((rest (seen l g s)).like s) }
 
-  -- two loops whose steps are alike are alike
-  pub turns_alike : (a b : A) (p : ℕ) → p ≤ len → Q a p → S a b → Alike (SameEnd S) d (turns len f a p) (turns len g b p)
-  unfolding Reach
-  turns_alike a b p within here alike = turns_keep len f (Along b p) (Reach b p)
-      (λ c q high so. one_step b p so.other q (f c q) (g so.other q) refl so.same (keeps c q high so.kept) (steps c so.other q high so.alike))
-      a p within (record { kept = here; other = b; alike = alike; same = refl })
+  -- on, and then the rest
+  pub alike_on : {V W : Type 0} {R : V → W → Type 0} {m : Move} {f : Unit {0} → Form V} {h : Unit {0} → Form W} → Alike R (f tt) (h tt) → Alike R (both (move m) f) (both (move m) h)
+  alike_on rest = record { like = λ s. rest.like _ }
 
--- ---- words and commands
+  -- one more element, and then the rest
+  pub alike_pushed : {A B V W : Type 0} {R : V → W → Type 0} {xs : Row A} {x : A} {ys : Row B} {y : B} {f : Row A → Form V} {h : Row B → Form W} → Alike R (f (xs ++ x ∷ [])) (h ys)
+      → Alike R (both (push xs x) f) (both (push ys y) h)
+  alike_pushed rest = record { like = λ s. rest.like s }
 
--- whatever was read
-abbrev pub Any : {X Y : Type 0} → X → Y → Type 0
-Any x y = Unit {0}
+  when_like : {X Y : Type 0} (S : X → Y → Type 0) (test : Bool) (x u : Read X) (y v : Read Y) → Like S x y → Like S u v → Like S (cond test x u) (cond test y v)
+  when_like S true x u y v one two = one
+  when_like S false x u y v one two = two
 
--- what goes on the same way
-abbrev pub SameFlag : {X Y : Type 0} → X × Bool → Y × Bool → Type 0
-SameFlag x y = x.1 ≡ y.1
+  pub alike_when : {X Y : Type 0} {S : X → Y → Type 0} {l : Sight Bool} {r u : Form X} {q v : Form Y} → Alike S r q → Alike S u v → Alike S (when l r u) (when l q v)
+  alike_when {S = S} {l = l} one two = record { like = λ s. when_like S (seen l g s) _ _ _ _ (one.like s) (two.like s) }
 
-module _ (k : Bool) (T : List ℕ) (o u d : ℕ) (far : o ≡ d + u) where
-  -- the same fault in texts that begin d bytes apart
-  fault_moved : (kind : FaultKind) (p : ℕ) → record { kind = kind; at = o + p } ≡ moved d (record { kind = kind; at = u + p })
-  fault_moved kind p = let same : o + p ≡ d + (u + p) = omega (arith, far) in ap (λ n. record { kind = kind; at = n }) same
+  token_like : {X Y : Type 0} (S : X → Y → Type 0) (R : X × Span → Y × Span → Type 0) (s : State) (x : Read X) (y : Read Y) → Like S x y → ((a : X) (b : Y) (z : Span) → S a b → R (a, z) (b, z))
+      → Like R (x ▸ λ a t. Ok ((a, span g.offset s.at t.at), t)) (y ▸ λ b t. Ok ((b, span g.offset s.at t.at), t))
+  token_like S R s (Ok (x, t)) (Ok (y, u)) like so = rw (← like.0) (refl, so x y _ like.1)
+  token_like S R s (Ok (x, t)) (Err e) like so = absurd like
+  token_like S R s (Err e) (Ok (y, t)) like so = absurd like
+  token_like S R s (Err e) (Err e') like so = like
 
-  -- ---- text that is not read
+  pub alike_token : {X Y : Type 0} {S : X → Y → Type 0} {R : X × Span → Y × Span → Type 0} {r : Form X} {q : Form Y} → Alike S r q → ((a : X) (b : Y) (z : Span) → S a b → R (a, z) (b, z))
+      → Alike R (token r) (token q)
+  alike_token {S = S} {R = R} {r = r} {q = q} one so = record { like = λ s. token_like S R s (does r true g s) (does q false g s) (one.like s) so }
 
-  -- the same number
-  abbrev Same : ℕ → ℕ → Type 0
-  Same n m = n ≡ m
+  -- both go on, or both end
+  abbrev pub SameStep : {A B : Type 0} → (A → B → Type 0) → Step A → Step B → Type 0
+  SameStep S (again x) (again y) = S x y
+  SameStep S (again x) (done y) = ⊥
+  SameStep S (done x) (again y) = ⊥
+  SameStep S (done x) (done y) = S x y
 
-  -- text in single quotes
-  single_alike : (b : ℕ) → Alike Same d (single_at T o b) (single_at T u b)
-  unfolding single_at
-  single_alike b = alike_test (at_end T (next_of 39 T (b + 1))) (both_stop (fault_moved _ b)) (both_give refl)
+  module _ {A B : Type 0} (S : A → B → Type 0) (turn : A → Form (Step A)) (turn2 : B → Form (Step B)) (each : (a : A) (b : B) → S a b → Alike (SameStep S) (turn a) (turn2 b)) where
+    one : A → State → Read (Step A)
+    one a s = does (turn a) true g s
 
-  -- one turn of text in backquotes
-  backquote_alike : (b : ℕ) (x y : Unit {0}) (q : ℕ) → Alike (SameStep Any) d (backquote_step T o b x q) (backquote_step T u b y q)
-  unfolding backquote_step
-  backquote_alike b x y q =
-      alike_test (at_end T (next_in_backquotes T q)) (both_stop (fault_moved _ b))
-      (alike_test (raw_stands T (next_in_backquotes T q) 96) (both_give (both_done tt))
-      (alike_test (at_end T (next_in_backquotes T q + 1)) (both_stop (fault_moved _ b)) (both_give (both_again tt))))
+    two : B → State → Read (Step B)
+    two b s = does (turn2 b) false g s
 
-  -- all of it
-  backquoted_alike : (b : ℕ) → b < length T → Alike (SameEnd Any) d (backquoted_at T o b) (backquoted_at T u b)
-  unfolding backquoted_at
-  backquoted_alike b lt =
-      turns_alike (length T) (backquote_step T o b) (backquote_step T u b) Any d (QuotedSo T o b) (QuotedEnd T o b) (backquote_keeps T o b lt)
-      (λ x y q high any. backquote_alike b x y q) tt tt (b + 1) (omega arith) (omega arith) tt
+    turn_like : (a : A) (b : B) (s : State) (x : Read (Step A)) (y : Read (Step B)) → one a s ≡ x → two b s ≡ y → Like (SameStep S) x y
+        → ((c : A) (d : B) (t : State) → length g.text - t.at < length g.text - s.at → S c d → Like S (turns g one c t) (turns g two d t)) → Like S (turns g one a s) (turns g two b s)
+    turn_like a b s (Ok (again c, t)) (Ok (again d, u)) is is' like rest = on (leads_on g s t) refl
+      where
+        there : two b s ≡ Ok (again d, t)
+        there = is' ∙ ap (λ z. Ok (again d, z)) (sym like.0)
 
-  -- ---- words
+        on : (e : Bool) → leads_on g s t ≡ e → Like S (turns g one a s) (turns g two b s)
+        on true e = rw (turns_on g one a c s t is e, turns_on g two b d s t there e) (rest c d t (ltb-true _ _ e) like.1)
+        on false e = rw (turns_rest g one a c s t is e, turns_rest g two b d s t there e) (refl, like.1)
+    turn_like a b s (Ok (again c, t)) (Ok (done d, u)) is is' like rest = absurd like.1
+    turn_like a b s (Ok (done c, t)) (Ok (again d, u)) is is' like rest = absurd like.1
+    turn_like a b s (Ok (done c, t)) (Ok (done d, u)) is is' like rest = rw (turns_done g one a c s t is, turns_done g two b d s u is') like
+    turn_like a b s (Ok (x, t)) (Err e) is is' like rest = absurd like
+    turn_like a b s (Err e) (Ok (y, t)) is is' like rest = absurd like
+    turn_like a b s (Err e) (Err f) is is' like rest = rw (turns_fault g one a s e is, turns_fault g two b s f is') like
 
-  -- constructs that go the same way
-  abbrev AllAlike : Opened → Opened → Type 0
-  AllAlike c e = (mode : Mode) (b p : ℕ) → b ≤ length T → p ≤ length T → Alike (SameEnd Any) d (c mode b p) (e mode b p)
+    loop_like : (n : ℕ) (a : A) (b : B) (s : State) → length g.text - s.at < n → S a b → Like S (turns g one a s) (turns g two b s)
+    unfolding one two
+    loop_like zero a b s low so = absurd (omega arith)
+    loop_like (suc n) a b s low so = turn_like a b s (one a s) (two b s) refl refl ((each a b so).like s) (λ c d t less same. loop_like n c d t (omega (arith, less, low)) same)
 
-  -- and then the same piece
-  again_same : (n q r : ℕ) → q ≡ r → Alike (SameStep Same) d (Ok (again n q)) (Ok (again n r))
-  again_same n q r same = subst (λ x. Alike (SameStep Same) d (Ok (again n q)) (Ok (again n x))) same (both_give (both_again refl))
+    pub alike_many : (a : A) (b : B) → S a b → Alike S (many turn a) (many turn2 b)
+    unfolding many one two
+    alike_many a b so = record { like = λ s. loop_like (suc (length g.text - s.at)) a b s (omega arith) so }
 
-  module _ (c e : Opened) (one : AllAlike c e) (stays : Stays T o c) (mode : Mode) (b : ℕ) (opened : b ≤ length T) where
-    -- by what it begins with
-    piece_alike_by : (n p : ℕ) (piece : Piece) → Shows T mode p piece
-        → Alike (SameStep Same) d (piece_of c T o mode b n p piece) (piece_of e T u mode b n p piece)
-    piece_alike_by n p pieces.Closer shows = both_give (both_done refl)
-    piece_alike_by n p pieces.Missing shows = both_stop (fault_moved _ b)
-    piece_alike_by n p pieces.LoneBackslash shows = both_stop (fault_moved _ (past_continuations T p))
-    piece_alike_by n p pieces.Escape shows = both_give (both_again refl)
-    piece_alike_by n p pieces.Single shows = alike_then (single_alike (past_continuations T p)) (λ q r f same. again_same n q r same)
-    piece_alike_by n p pieces.Double shows =
-        alike_then (one Double (past_continuations T p) (behind T p) (omega (arith, shows)) (behind_high T p shows))
-        (λ x y f same. alike_again same (λ any. refl))
-    piece_alike_by n p pieces.Backquote shows =
-        alike_then (backquoted_alike (past_continuations T p) shows) (λ x y f same. alike_again same (λ any. refl))
-    piece_alike_by n p pieces.Pid shows = both_give (both_again refl)
-    piece_alike_by n p pieces.Subst shows = both_stop (fault_moved _ (past_continuations T p))
-    piece_alike_by n p pieces.Arith shows =
-        alike_then (one Arith (past_continuations T p) (behind T (behind T (behind T p))) (opener_third T p shows) shows)
-        (λ x y f same. alike_again same (λ any. refl))
-    piece_alike_by n p pieces.Param shows =
-        alike_then
-        (one (rest_mode T mode (past_parameter T (behind T (behind T p)))) (past_continuations T p) (past_parameter T (behind T (behind T p)))
-        (opener_second T p shows) (parameter_high T (behind T (behind T p)) shows)) (λ x y f same. alike_again same (λ any. refl))
-    piece_alike_by n p pieces.Open shows = both_give (both_again refl)
-    piece_alike_by n p pieces.Close shows = both_give (both_again refl)
-    piece_alike_by n p pieces.BadClose shows = both_stop (fault_moved _ (past_continuations T p))
-    piece_alike_by n p pieces.Ordinary shows = both_give (both_again refl)
+  -- ---- the rows
 
-    -- one piece
-    piece_alike : (n m p : ℕ) → p ≤ length T → Same n m
-        → Alike (SameStep Same) d (piece_step c T o mode b n p) (piece_step e T u mode b m p)
-    unfolding piece_step
-    piece_alike n m p within same =
-        subst (λ x. Alike (SameStep Same) d (piece_of c T o mode b n p (piece_at T mode n p)) (piece_of e T u mode b x p (piece_at T mode x p))) same
-        (piece_alike_by n p (piece_at T mode n p) (piece_shows T mode n p within))
+  -- whatever was read
+  abbrev pub All : {X Y : Type 0} → X → Y → Type 0
+  All x y = Unit {0}
 
-    -- all pieces
-    contents_alike : (p : ℕ) → p ≤ length T → Alike (SameEnd Any) d (contents_at c T o mode b p) (contents_at e T u mode b p)
-    unfolding contents_at
-    contents_alike p within =
-        alike_then
-        (turns_alike (length T) (piece_step c T o mode b) (piece_step e T u mode b) Same d (PiecesSo T o p) (PiecesEnd T o mode p)
-        (piece_keeps T o c stays mode b opened p) (λ n m q high same. piece_alike n m q high same) 0 0 p within (omega arith) refl)
-        (λ x y f same. alike_end same (λ any. tt))
+  alike_single : Alike All single single
+  unfolding single
+  alike_single = alike_see (λ b. alike_on (alike_on (alike_when alike_stop (alike_move tt))))
 
-  -- constructs within constructs
-  level_alike : (room : ℕ) → AllAlike (level_at T o room) (level_at T u room)
-  unfolding level_at
-  level_alike zero mode b p opened within = both_stop (fault_moved _ b)
-  level_alike (suc room) mode b p opened within =
-      contents_alike (level_at T o room) (level_at T u room) (level_alike room) (level_within T o room) mode b opened p within
+  alike_backquote_turn : (b : ℕ) (u v : Unit {0}) → Alike (SameStep All) (backquote_turn b u) (backquote_turn b v)
+  unfolding backquote_turn
+  alike_backquote_turn b u v = alike_on (alike_when alike_stop (alike_when alike_stop (alike_see (λ last. alike_on (alike_give (same_if last))))))
+    where
+      same_if : (last : Bool) → SameStep (All {X = Unit {0}} {Y = Unit {0}}) (step_if (not last) tt) (step_if (not last) tt)
+      same_if true = tt
+      same_if false = tt
 
-  -- a word
-  word_alike : (p : ℕ) → p ≤ length T → Alike (SameEnd Any) d (word_at T o p) (word_at T u p)
-  unfolding word_at
-  word_alike p within =
-      alike_then (contents_alike (level_at T o 100) (level_at T u 100) (level_alike 100) (level_within T o 100) Plain p within p within)
-      (λ x y e same. alike_end same (λ any. tt))
+  alike_backquoted : Alike All backquoted backquoted
+  unfolding backquoted
+  alike_backquoted = alike_see (λ b. alike_on (alike_many All (backquote_turn b) (backquote_turn b) (λ u v same. alike_backquote_turn b u v) tt tt tt))
 
-  -- one assignment
-  assignment_alike : (is js : Row AnItem) (p : ℕ) → p ≤ length T → Alike (SameStep Any) d (assignment_step true T o is p) (assignment_step k T u js p)
-  unfolding assignment_step
-  assignment_alike is js p within =
-      alike_test (begins_assignment T (past_blanks T p))
-      (alike_then (word_alike (past_blanks T p) (blanks_high T p within)) (λ x y e same. alike_again same (λ any. tt))) (both_give (both_done tt))
+  -- as many brackets are open
+  abbrev SameHeld : Held → Held → Type 0
+  SameHeld h i = h.nested ≡ i.nested
 
-  -- one argument
-  argument_alike : (is js : Row AnItem) (p : ℕ) → p ≤ length T → Alike (SameStep Any) d (argument_step true T o is p) (argument_step k T u js p)
-  unfolding argument_step
-  argument_alike is js p within =
-      alike_test (is_word (token_at T (past_blanks T p)))
-      (alike_then (word_alike (past_blanks T p) (blanks_high T p within)) (λ x y e same. alike_again same (λ any. tt))) (both_give (both_done tt))
+  -- words, where what may be opened goes the same way
+  pub record Fits (inner : Inner) : Type 0 where
+    pub construct : (mode : Mode) (b : ℕ) (ss zs : Row ASubst) → Alike All (inner.construct mode b ss) (inner.construct mode b zs)
 
-  -- all assignments
-  assignments_alike : (p : ℕ) → p ≤ length T
-      → Alike (SameEnd Any) d (turns (length T) (assignment_step true T o) [] p) (turns (length T) (assignment_step k T u) [] p)
-  assignments_alike p within =
-      turns_alike (length T) (assignment_step true T o) (assignment_step k T u) Any d (ItemsSo T o p) (ItemsEnd T o p) (assignment_keeps T o p)
-      (λ is js q high any. assignment_alike is js q high) [] [] p within (omega arith, no_items) tt
+  module _ (inner : Inner) (fits : Fits inner) where
+    alike_opened : (mode : Mode) (b : ℕ) (h i : Held) → SameHeld h i → Alike (SameStep SameHeld) (opened inner mode b h) (opened inner mode b i)
+    alike_opened mode b h i same = alike_then (fits.construct mode b h.substs i.substs) (λ x y so. alike_give same)
 
-  -- all arguments
-  arguments_alike : (s : ℕ) (x y : Row AnItem × ℕ) → ItemsEnd T o s (Ok x) → SameEnd Any x y
-      → Alike (SameEnd Any) d (turns (length T) (argument_step true T o) x.0 x.1) (turns (length T) (argument_step k T u) y.0 y.1)
-  arguments_alike s _ _ so (same_end {x = is} {y = js} {p = p} any) =
-      turns_alike (length T) (argument_step true T o) (argument_step k T u) Any d (ItemsSo T o s) (ItemsEnd T o s) (argument_keeps T o s)
-      (λ is js q high any. argument_alike is js q high) is js p so.1 (so.0, so.2) tt
+    alike_piece_by : (mode : Mode) (b : ℕ) (h i : Held) (piece : Piece) → SameHeld h i → Alike (SameStep SameHeld) (piece_row inner mode b h piece) (piece_row inner mode b i piece)
+    alike_piece_by mode b h i pieces.Closer same = alike_on (alike_give same)
+    alike_piece_by mode b h i pieces.Missing same = alike_stop
+    alike_piece_by mode b h i pieces.LoneBackslash same = alike_see (λ q. alike_stop)
+    alike_piece_by mode b h i pieces.Escape same = alike_on (alike_on (alike_give same))
+    alike_piece_by mode b h i pieces.Single same = alike_then alike_single (λ x y so. alike_give same)
+    alike_piece_by mode b h i pieces.Double same = alike_see (λ q. alike_on (alike_opened _ q h i same))
+    alike_piece_by mode b h i pieces.Backquote same = alike_then alike_backquoted (λ x y so. alike_give same)
+    alike_piece_by mode b h i pieces.Pid same = alike_on (alike_on (alike_give same))
+    alike_piece_by mode b h i pieces.Subst same = alike_see (λ q. alike_stop)
+    alike_piece_by mode b h i pieces.Arith same =
+        alike_see (λ q. alike_on (alike_on (alike_on (alike_opened _ q h i same))))
+    alike_piece_by mode b h i pieces.Param same =
+        alike_see (λ q. alike_on (alike_on (alike_on (alike_see (λ m. alike_opened m q h i same)))))
+    alike_piece_by mode b h i pieces.Open same = alike_on (alike_give (ap (λ n. n + 1) same))
+    alike_piece_by mode b h i pieces.Close same = alike_on (alike_give (ap (λ n. n - 1) same))
+    alike_piece_by mode b h i pieces.BadClose same = alike_see (λ q. alike_stop)
+    alike_piece_by mode b h i pieces.Ordinary same = alike_on (alike_give same)
 
-  -- a simple command
-  simple_alike : (p : ℕ) → p ≤ length T → Alike (SameEnd Any) d (simple_at true T o p) (simple_at k T u p)
-  unfolding simple_at
-  simple_alike p within =
-      alike_then (assignments_alike p within)
-      (λ x y e same. let so = subst (ItemsEnd T o p) e (assignments_within T o p p (omega arith) within) in
-      alike_then (arguments_alike p x y so same) (λ v w f more. alike_end more (λ any. tt)))
+    alike_piece : (mode : Mode) (b : ℕ) (h i : Held) → SameHeld h i → Alike (SameStep SameHeld) (a_piece inner mode b h) (a_piece inner mode b i)
+    unfolding a_piece
+    alike_piece mode b h i same = alike_same (ap (the_piece mode) same) (λ piece. alike_piece_by mode b h i piece same)
 
-  -- a pipeline
-  pipeline_alike : (p : ℕ) → p ≤ length T → Alike (SameEnd Any) d (pipeline_at true T o p) (pipeline_at k T u p)
-  unfolding pipeline_at
-  pipeline_alike p within = alike_then (simple_alike p within) (λ x y e same. alike_end same (λ any. tt))
+    pub alike_contents : (mode : Mode) (b : ℕ) (ss zs : Row ASubst) → Alike All (contents inner mode b ss) (contents inner mode b zs)
+    unfolding contents
+    alike_contents mode b ss zs = alike_then (alike_many SameHeld (a_piece inner mode b) (a_piece inner mode b) (alike_piece mode b) (having 0 ss) (having 0 zs) refl) (λ x y so. alike_give tt)
 
-  -- an and-or list
-  and_or_alike : (p : ℕ) → p ≤ length T → Alike (SameEnd Any) d (and_or_at true T o p) (and_or_at k T u p)
-  unfolding and_or_at
-  and_or_alike p within = alike_then (pipeline_alike p within) (λ x y e same. alike_end same (λ any. tt))
+    pub alike_word : Alike All (a_word inner) (a_word inner)
+    unfolding a_word
+    alike_word = alike_see (λ p. alike_then (alike_token {R = All} (alike_contents _ p [] []) (λ a b z so. tt)) (λ x y so. alike_give tt))
 
-  -- ---- entries and lines
+    -- ---- commands and lines
 
-  -- what stands behind an and-or list depends on its place alone
-  entry_so : (x y : AnAndOr × ℕ) (e f : AnEntry) → SameEnd Any x y
-      → Alike (SameEnd SameFlag) d (Ok ((e, is_parted (separator_at T x.1)), past_comment T (remark_place T x.1)))
-      (Ok ((f, is_parted (separator_at T y.1)), past_comment T (remark_place T y.1)))
-  entry_so _ _ e f (same_end same) = both_give (same_end refl)
+    alike_next : (position : Position) → Alike (λ n m. n ≡ m) (next_token position) (next_token position)
+    unfolding next_token
+    alike_next position = alike_see (λ n. alike_on (alike_give refl))
 
-  -- an entry
-  entry_alike : (blank white : Bool) (p : ℕ) → p ≤ length T → Alike (SameEnd SameFlag) d (entry_at true T o blank p) (entry_at k T u white p)
-  unfolding entry_at
-  entry_alike blank white p within = alike_then (and_or_alike p within) (λ x y e same. entry_so x y _ _ same)
+    abbrev SameItems : Items → Items → Type 0
+    SameItems i j = i.next ≡ j.next
 
-  -- by whether a separator stood there
-  step_if_alike : (es fs : Row AnEntry) (a b : Bool) (p : ℕ) → a ≡ b → Alike (SameStep Any) d (Ok (step_if a es p)) (Ok (step_if b fs p))
-  step_if_alike es fs true true p same = both_give (both_again tt)
-  step_if_alike es fs false false p same = both_give (both_done tt)
-  step_if_alike es fs true false p same = absurd cc
-  step_if_alike es fs false true p same = absurd cc
+    alike_item : (i j : Items) (content : AWord → AnItemContent) (position : Position) → Alike (SameStep SameItems) (an_item inner i content position) (an_item inner j content position)
+    unfolding an_item
+    alike_item i j content position =
+        alike_then alike_word (λ w v so. alike_pushed (alike_then (alike_next position) (λ n m same. alike_give same)))
 
-  -- and then the next turn
-  next_so : (es fs : Row AnEntry) (x y : (AnEntry × Bool) × ℕ) → SameEnd SameFlag x y
-      → Alike (SameStep Any) d (Ok (step_if x.0.1 (es ++ x.0.0 ∷ []) x.1)) (Ok (step_if y.0.1 (pushed k fs y.0.0) y.1))
-  next_so es fs _ _ (same_end {x = x} {y = y} {p = p} same) = step_if_alike (es ++ x.0 ∷ []) (pushed k fs y.0) x.1 y.1 p same
+    alike_item_by : (i j : Items) (t : Token) → SameItems i j → Alike (SameStep SameItems) (item_by inner i t) (item_by inner j t)
+    alike_item_by i j tokens.Assignment same = alike_item i j _ _
+    alike_item_by i j tokens.Word same = alike_item i j _ _
+    alike_item_by i j tokens.End same = alike_give same
+    alike_item_by i j tokens.Newline same = alike_give same
+    alike_item_by i j tokens.Semicolon same = alike_give same
+    alike_item_by i j tokens.Ampersand same = alike_give same
+    alike_item_by i j tokens.Operator same = alike_give same
+    alike_item_by i j tokens.Comment same = alike_give same
+    alike_item_by i j tokens.Number same = alike_give same
+    alike_item_by i j (tokens.Reserved r) same = alike_give same
 
-  -- one more entry, or none
-  next_alike : (blank white : Bool) (es fs : Row AnEntry) (p : ℕ) → p ≤ length T
-      → Alike (SameStep Any) d (entry_step true T o blank es p) (entry_step k T u white fs p)
-  unfolding entry_step
-  next_alike blank white es fs p within =
-      alike_test (begins_command T (past_blanks T p))
-      (alike_then (entry_alike (blank && is_empty es) (white && is_empty fs) (past_blanks T p) (blanks_high T p within)) (λ x y e same. next_so es fs x y same))
-      (both_give (both_done tt))
+    alike_item_turn : (i j : Items) → SameItems i j → Alike (SameStep SameItems) (item_turn inner i) (item_turn inner j)
+    unfolding item_turn
+    alike_item_turn i j same = subst (λ t. Alike (SameStep SameItems) (item_by inner i i.next.token) (item_by inner j t)) (ap (λ (n : Next). n.token) same) (alike_item_by i j i.next.token same)
 
-  -- all entries
-  entries_alike : (blank white : Bool) (p : ℕ) → p ≤ length T
-      → Alike (SameEnd Any) d (turns (length T) (entry_step true T o blank) [] p) (turns (length T) (entry_step k T u white) [] p)
-  entries_alike blank white p within =
-      turns_alike (length T) (entry_step true T o blank) (entry_step k T u white) Any d (EntriesSo T o blank p) (EntriesEnd T o blank p) (entry_keeps T o blank p)
-      (λ es fs q high any. next_alike blank white es fs q high) [] [] p within (omega arith, no_entries blank) tt
+    abbrev SameNext : {X Y : Type 0} → X × Next → Y × Next → Type 0
+    SameNext x y = x.1 ≡ y.1
 
-  -- the token behind them
-  end_of_line_alike : (es fs : Row AnEntry) (p : ℕ) (t : Token) → Alike (SameEnd SameFlag) d (end_of_line_of T o es p t) (end_of_line_of T u fs p t)
-  end_of_line_alike es fs p tokens.Newline = both_give (same_end refl)
-  end_of_line_alike es fs p tokens.End = both_give (same_end refl)
-  end_of_line_alike es fs p _ = both_stop (fault_moved _ p)
+    alike_simple : (n : Next) → Alike SameNext (a_simple inner n) (a_simple inner n)
+    unfolding a_simple
+    alike_simple n = alike_then (alike_many SameItems (item_turn inner) (item_turn inner) alike_item_turn (so_many [] n) (so_many [] n) refl) (λ i j same. alike_give same)
 
-  -- the end of a line
-  end_so : (blank white : Bool) (x y : Row AnEntry × ℕ) → SameEnd Any x y
-      → Alike (SameEnd SameFlag) d (end_of_line_at true T o blank x.0 x.1) (end_of_line_at k T u white y.0 y.1)
-  unfolding end_of_line_at
-  end_so blank white _ _ (same_end {x = es} {y = fs} {p = p} same) =
-      end_of_line_alike (with_remark blank es (comment_at T o p)) (remarked k white fs (comment_at T u p)) (past_comment T p)
-      (token_at T (past_comment T p))
+    alike_pipeline : (n : Next) → Alike SameNext (a_pipeline inner n) (a_pipeline inner n)
+    unfolding a_pipeline
+    alike_pipeline n = alike_then (alike_simple n) (λ x y same. alike_give same)
 
-  -- a line goes the same way in each script
-  pub line_alike : (blank white : Bool) (p : ℕ) → p ≤ length T → Alike (SameEnd SameFlag) d (line_at true T o blank p) (line_at k T u white p)
-  unfolding line_at
-  line_alike blank white p within = alike_then (entries_alike blank white p within) (λ x y e same. end_so blank white x y same)
+    alike_and_or : (n : Next) → Alike SameNext (an_and_or inner n) (an_and_or inner n)
+    unfolding an_and_or
+    alike_and_or n = alike_then (alike_pipeline n) (λ x y same. alike_give same)
+
+    alike_separator_by : (n : Next) (t : Token) → Alike (λ x y. x ≡ y) (separator_by n t) (separator_by n t)
+    alike_separator_by n tokens.Semicolon = alike_on (alike_then (alike_next _) (λ m k same. alike_give (ap (λ z. (Some Semicolon, z)) same)))
+    alike_separator_by n tokens.Ampersand = alike_on (alike_then (alike_next _) (λ m k same. alike_give (ap (λ z. (Some Ampersand, z)) same)))
+    alike_separator_by n tokens.End = alike_give refl
+    alike_separator_by n tokens.Newline = alike_give refl
+    alike_separator_by n tokens.Operator = alike_give refl
+    alike_separator_by n tokens.Comment = alike_give refl
+    alike_separator_by n tokens.Number = alike_give refl
+    alike_separator_by n (tokens.Reserved r) = alike_give refl
+    alike_separator_by n tokens.Assignment = alike_give refl
+    alike_separator_by n tokens.Word = alike_give refl
+
+    alike_separator : (n m : Next) → n ≡ m → Alike (λ x y. x ≡ y) (a_separator n) (a_separator m)
+    unfolding a_separator
+    alike_separator n m same = rw (← same) (alike_separator_by n n.token)
+
+    alike_comment_by : (n : Next) (c : Option Comment) → Alike (λ x y. x ≡ y) (comment_by n c) (comment_by n c)
+    alike_comment_by n (Some c) = alike_on (alike_then (alike_next _) (λ m k same. alike_give (ap (λ z. (Some c, z)) same)))
+    alike_comment_by n None = alike_give refl
+
+    alike_comment : (n m : Next) → n ≡ m → Alike (λ x y. x ≡ y) (a_comment n) (a_comment m)
+    unfolding a_comment
+    alike_comment n m same = rw (← same) (alike_see (λ c. alike_comment_by n c))
+
+    abbrev SameEntered : Entered → Entered → Type 0
+    SameEntered e f = (e.parted ≡ f.parted) × (e.next ≡ f.next)
+
+    alike_entry : (blank pale : Bool) (n : Next) → Alike SameEntered (an_entry inner blank n) (an_entry inner pale n)
+    unfolding an_entry
+    alike_entry blank pale n =
+        alike_then (alike_and_or n) (λ a b same. alike_then (alike_separator a.1 b.1 same)
+        (λ s z same'. alike_then (alike_comment s.1 z.1 (ap (λ (x : Option Separator × Next). x.1) same')) (λ c d same''. alike_give (ap (λ (x : Option Separator × Next). is_parted x.0) same', ap (λ (x : Option Comment × Next). x.1) same''))))
+
+    abbrev SameLine : LineSo → LineSo → Type 0
+    SameLine l m = l.next ≡ m.next
+
+    same_step : (p : Bool) (l m : LineSo) → SameLine l m → SameStep SameLine (step_if p l) (step_if p m)
+    same_step true l m same = same
+    same_step false l m same = same
+
+    alike_one_entry : (blank pale : Bool) (l m : LineSo) → SameLine l m → Alike (SameStep SameLine) (one_entry inner blank l) (one_entry inner pale m)
+    unfolding one_entry
+    alike_one_entry blank pale l m same =
+        rw (← same) (alike_then (alike_entry _ _ l.next) (λ e f so. alike_pushed (alike_give (rw (← so.0) (same_step e.parted (line_so _ e.next) (line_so _ f.next) so.1)))))
+
+    alike_entry_by : (blank pale : Bool) (l m : LineSo) (t : Token) → SameLine l m → Alike (SameStep SameLine) (entry_by inner blank l t) (entry_by inner pale m t)
+    alike_entry_by blank pale l m tokens.Assignment same = alike_one_entry blank pale l m same
+    alike_entry_by blank pale l m tokens.Word same = alike_one_entry blank pale l m same
+    alike_entry_by blank pale l m tokens.End same = alike_give same
+    alike_entry_by blank pale l m tokens.Newline same = alike_give same
+    alike_entry_by blank pale l m tokens.Semicolon same = alike_give same
+    alike_entry_by blank pale l m tokens.Ampersand same = alike_give same
+    alike_entry_by blank pale l m tokens.Operator same = alike_give same
+    alike_entry_by blank pale l m tokens.Comment same = alike_give same
+    alike_entry_by blank pale l m tokens.Number same = alike_give same
+    alike_entry_by blank pale l m (tokens.Reserved r) same = alike_give same
+
+    alike_entry_turn : (blank pale : Bool) (l m : LineSo) → SameLine l m → Alike (SameStep SameLine) (entry_turn inner blank l) (entry_turn inner pale m)
+    unfolding entry_turn
+    alike_entry_turn blank pale l m same =
+        subst (λ t. Alike (SameStep SameLine) (entry_by inner blank l l.next.token) (entry_by inner pale m t)) (ap (λ (n : Next). n.token) same) (alike_entry_by blank pale l m l.next.token same)
+
+    alike_remark_by : (blank pale : Bool) (l m : LineSo) (x : Option Comment × Next) → Alike SameLine (remark_by blank l x) (remark_by pale m x)
+    alike_remark_by blank pale l m (Some c, n) = alike_pushed (alike_give refl)
+    alike_remark_by blank pale l m (None, n) = alike_give refl
+
+    alike_remark : (blank pale : Bool) (l m : LineSo) → SameLine l m → Alike SameLine (a_remark blank l) (a_remark pale m)
+    unfolding a_remark
+    alike_remark blank pale l m same = alike_then (alike_comment l.next m.next same) (λ x y so. rw (← so) (alike_remark_by blank pale l m x))
+
+    alike_end_by : (t : Token) → Alike (λ x y. x ≡ y) (end_by t) (end_by t)
+    alike_end_by tokens.Newline = alike_on (alike_give refl)
+    alike_end_by tokens.End = alike_give refl
+    alike_end_by tokens.Semicolon = alike_see (λ p. alike_stop)
+    alike_end_by tokens.Ampersand = alike_see (λ p. alike_stop)
+    alike_end_by tokens.Operator = alike_see (λ p. alike_stop)
+    alike_end_by tokens.Comment = alike_see (λ p. alike_stop)
+    alike_end_by tokens.Number = alike_see (λ p. alike_stop)
+    alike_end_by (tokens.Reserved r) = alike_see (λ p. alike_stop)
+    alike_end_by tokens.Assignment = alike_see (λ p. alike_stop)
+    alike_end_by tokens.Word = alike_see (λ p. alike_stop)
+
+    alike_end : (n m : Next) → n ≡ m → Alike (λ x y. x ≡ y) (end_of_line n.token) (end_of_line m.token)
+    unfolding end_of_line
+    alike_end n m same = rw (← same) (alike_end_by n.token)
+
+    pub alike_line : (blank pale : Bool) → Alike SameEnd (a_line inner blank) (a_line inner pale)
+    unfolding a_line all_entries
+    alike_line blank pale =
+        alike_then (alike_next _) (λ n m same. rw (← same) (alike_then (alike_many SameLine (entry_turn inner blank) (entry_turn inner pale) (alike_entry_turn blank pale) (line_so [] n) (line_so [] n) refl)
+        (λ l k same'. alike_then (alike_remark blank pale l k same') (λ j i so. alike_then (alike_end j.next i.next so) (λ x y so'. alike_give so')))))
+
+  -- words within words
+  pub alike_level : (room : ℕ) → Fits (level room)
+  unfolding level
+  alike_level zero = record { construct = λ mode b ss zs. alike_stop }
+  alike_level (suc room) = record { construct = λ mode b ss zs. alike_contents (level room) (alike_level room) mode b ss zs }

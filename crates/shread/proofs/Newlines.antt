@@ -3,7 +3,7 @@ use Rattle.std.proofs.Common.{◌≡◌, ℕ, zero, suc, ◌+◌, ◌-◌, ◌<�
 use Rattle.std.proofs.lemmas.List.Sums.{fold_more, count_by_more_no, count_by_more_yes}
 use Rattle.std.proofs.lemmas.Option.{slice_get-get_or}
 use Rattle.shread.specs.Text.{is_newline, line_of, column_of, since_newline}
-use Rattle.shread.specs.Bytes.{raw_in, passes, next_newline}
+use Rattle.shread.specs.Standing.{raw_in, passes, next_newline}
 use Rattle.shread.proofs.Places.{next_newline_low, raw_past_all, raw_past_stops}
 
 since-more : (bytes : List ℕ) (i : ℕ) → i < length bytes → since_newline (take (i + 1) bytes) ≡ cond (get_or bytes i 0 == 10) 0 (since_newline (take i bytes) + 1)

@@ -3,17 +3,15 @@ use Rattle.std.proofs.Common.{◌≡◌, ℕ, zero, suc, ◌+◌, ◌-◌, ◌�
 use Rattle.std.proofs.lemmas.Bool.{and_parts, or_from, cond_both, both_ways, cases_lt}
 use Rattle.std.proofs.lemmas.Bool.Decides.{nat_tests}
 use Rattle.std.proofs.lemmas.List.{length-drop, drop-drop}
-use Rattle.std.proofs.lemmas.Option.{slice_get_within}
-use Rattle.shread.specs.Text.{is_newline}
-use Rattle.shread.specs.declared.token.Token.{Token}
-use Rattle.shread.specs.declared.token.Token.TheVariants as tokens
-use Rattle.shread.specs.Bytes.{is_blank, is_digit, is_name, is_operator, is_letter, is_byte, is_none, raw_stands, raw_in, at_end, raw_past, next_of, stands, ends, ends_word, passes, stands_in, count_front, past, past_below, past_blanks, count_joined, past_continuations, byte_at, behind, next_newline, begins_assignment, is_number, token_of, token_at}
-use Rattle.shread.specs.Words.{next_in_backquotes, is_special, past_parameter}
-use Rattle.shread.specs.Commands.{is_word, past_comment, is_parted, separator_by, separator_at, past_separator}
+use Rattle.std.proofs.lemmas.Option.{slice_get_within, slice_get-get_or}
+use Rattle.shread.specs.Classes.{is_blank, is_digit, is_name, is_operator, is_letter, is_special}
+use Rattle.shread.specs.Standing.{is_byte, is_none, raw_stands, raw_in, at_end, raw_past, next_of, passes, count_front, next_newline}
+use Rattle.shread.specs.Bytes.{stands, ends, ends_word, stands_in, past, past_below, past_blanks, count_joined, past_continuations, byte_at, behind}
+use Rattle.shread.specs.Pieces.{next_in_backquotes, past_parameter}
 use Rattle.shread.proofs.Stretches.{get_drop, place_low, stands_in_low}
 
 -- a test that cannot hold fails
-must_fail : (b : Bool) → (b ≡ true → ⊥) → b ≡ false
+pub must_fail : (b : Bool) → (b ≡ true → ⊥) → b ≡ false
 must_fail true never = absurd (never refl)
 must_fail false never = refl
 
@@ -245,113 +243,48 @@ parameter_high T p within =
     (λ e. cond_both (stands_in is_digit T p) _ _ P (λ f. past_high is_digit T p within)
     (λ f. cond_both (stands_in is_special T p) _ _ P (λ g. behind_high T p (stands_in_low is_special T p g)) (λ g. within)))
 
--- a comment
-pub comment_low : (T : List ℕ) (p : ℕ) → p ≤ past_comment T p
-unfolding past_comment
-comment_low T p = cond_both (stands T p 35) _ _ (λ n. p ≤ n) (λ e. next_newline_low T p) (λ e. omega arith)
-
--- it is not past the end of the text
-pub comment_high : (T : List ℕ) (p : ℕ) → p ≤ length T → past_comment T p ≤ length T
-unfolding past_comment
-comment_high T p within = cond_both (stands T p 35) _ _ (λ n. n ≤ length T) (λ e. next_newline_high T p within) (λ e. within)
-
--- ---- tokens
-
--- by the byte at p
-token_low_by : (T : List ℕ) (p q : ℕ) (b : Option ℕ) → slice_get T q ≡ b → (token_of T p b ≡ tokens.End → ⊥) → q < length T
-token_low_by T p q None is other = absurd (other refl)
-token_low_by T p q (Some b) is other = slice_get_within T q b is
-
--- where a token other than the end begins a byte is read
-pub token_low : (T : List ℕ) (p : ℕ) → (token_at T p ≡ tokens.End → ⊥) → past_continuations T p < length T
-unfolding token_at
-token_low T p other = token_low_by T p (past_continuations T p) (byte_at T p) refl other
-
--- the tokens that a byte may begin, and what it is not where it begins a number or a word
-token_by : (P : Token → Type 0) (T : List ℕ) (p b : ℕ) → (is_newline b ≡ true → P tokens.Newline) → P tokens.Semicolon → P tokens.Ampersand
-    → P tokens.Operator → P tokens.Comment → (is_newline b ≡ false → is_operator b ≡ false → P tokens.Number × P tokens.Word)
-    → P (token_of T p (Some b))
-token_by P T p b newline semicolon ampersand operator comment other = cond_both (is_newline b) _ _ P newline
-    (λ n. cond_both (b == 59) _ _ P (λ e. cond_both (stands T (behind T p) 59) _ _ P (λ f. operator) (λ f. semicolon))
-    (λ e. cond_both (b == 38) _ _ P (λ f. cond_both (stands T (behind T p) 38) _ _ P (λ g. operator) (λ g. ampersand))
-    (λ f. cond_both (is_operator b) _ _ P (λ g. operator)
-    (λ o. cond_both (b == 35) _ _ P (λ g. comment)
-    (λ g. cond_both (is_number T p) _ _ P (λ h. (other n o).0) (λ h. (other n o).1))))))
-
--- by the byte at p
-newline_by : (T : List ℕ) (p : ℕ) (b : Option ℕ) → token_of T p b ≡ tokens.Newline → is_byte b 10 ≡ true
-newline_by T p None e = absurd cc
-newline_by T p (Some b) e =
-    token_by (λ t. t ≡ tokens.Newline → is_newline b ≡ true) T p b (λ is f. is) (λ f. absurd cc) (λ f. absurd cc) (λ f. absurd cc) (λ f. absurd cc)
-    (λ n o. (λ f. absurd cc, λ f. absurd cc)) e
-
--- a newline token is a newline that is read
-pub newline_read : (T : List ℕ) (p : ℕ) → token_at T p ≡ tokens.Newline → stands T p 10 ≡ true
-unfolding token_at stands
-newline_read T p e = newline_by T p (byte_at T p) e
-
--- its last byte is a newline
-pub newline_stands : (T : List ℕ) (p : ℕ) → token_at T p ≡ tokens.Newline → raw_stands T (behind T p - 1) 10 ≡ true
-newline_stands T p e = ap (λ q. raw_stands T q 10) (behind_back T p) ∙ sym (stands_raw T p 10) ∙ newline_read T p e
-
--- by the byte at p
-word_by : (T : List ℕ) (p : ℕ) (b : Option ℕ) → passes is_blank b ≡ false → is_word (token_of T p b) ≡ true → ends b ≡ false
-word_by T p None blank e = absurd cc
-word_by T p (Some b) blank e =
-    token_by (λ t. is_word t ≡ true → ends (Some b) ≡ false) T p b (λ is f. absurd cc) (λ f. absurd cc) (λ f. absurd cc) (λ f. absurd cc)
-    (λ f. absurd cc) (λ n o. (λ f. absurd cc, λ f. or_from _ _ (or_from _ _ blank n) o)) e
-
--- where a word begins none ends
-pub word_begins : (T : List ℕ) (p : ℕ) → stands_in is_blank T p ≡ false → is_word (token_at T p) ≡ true → ends_word T p ≡ false
-unfolding token_at stands_in ends_word
-word_begins T p blank e = word_by T p (byte_at T p) blank e
-
--- a letter ends no word
-letter_goes_on : (b : ℕ) → is_letter b ≡ true → ends (Some b) ≡ false
-letter_goes_on b e = grind (arith, nat_tests)
-
-letter_by : (b : Option ℕ) → passes is_letter b ≡ true → ends b ≡ false
-letter_by None e = absurd cc
-letter_by (Some b) e = letter_goes_on b e
-
--- where an assignment begins no word ends
-pub assignment_begins : (T : List ℕ) (p : ℕ) → begins_assignment T p ≡ true → ends_word T p ≡ false
-unfolding begins_assignment stands_in ends_word
-assignment_begins T p e = letter_by (byte_at T p) (and_parts _ _ e).0
-
 -- two words do not end where only one does
 pub word_longer : (T : List ℕ) (p q : ℕ) → p ≤ q → ends_word T p ≡ false → ends_word T q ≡ true → p < q
 word_longer T p q low here there =
     ⊎_elim (λ lt. lt) (λ ge. let same : q ≡ p = omega (arith, ge) in absurd (both_ways (ends_word T p) here (rw same at there))) (cases_lt p q)
 
--- ---- separators
+-- ---- the end
 
--- the end is no separator
-parted_by : (t : Token) → is_parted (separator_by t) ≡ true → t ≡ tokens.End → ⊥
-parted_by tokens.Semicolon parted e = cc
-parted_by tokens.Ampersand parted e = cc
-parted_by _ parted e = cc
+no_byte : (T : List ℕ) (p : ℕ) → is_none (slice_get T p) ≡ true → length T ≤ p
+no_byte T p e = ⊎_elim (λ lt. absurd (both_ways _ refl (rw (slice_get-get_or T p 0 lt) at e))) (λ ge. ge) (cases_lt p (length T))
 
--- a separator is a byte
-pub separator_byte : (T : List ℕ) (p : ℕ) → is_parted (separator_at T p) ≡ true → past_continuations T (past_blanks T p) < length T
-unfolding separator_at
-separator_byte T p parted = token_low T (past_blanks T p) (parted_by (token_at T (past_blanks T p)) parted)
+-- where the text from `at` on ends
+pub end_is : (B : List ℕ) (at p : ℕ) → at ≤ length B → p ≤ length (drop at B) → at_end (drop at B) p ≡ true → at + p ≡ length B
+unfolding at_end
+end_is B at p within inside e = omega (arith, within, inside, no_byte (drop at B) p e, length-drop at B)
 
--- behind a separator, where one stands
-pub separator_low : (T : List ℕ) (p : ℕ) → p ≤ past_separator T p
-unfolding past_separator
-separator_low T p =
-    cond_both (is_parted (separator_at T p)) _ _ (λ n. p ≤ n)
-    (λ parted. omega (arith, blanks_low T p, behind_low T (past_blanks T p))) (λ none. omega arith)
+-- ---- text in quotes
 
--- it is not past the end of the text
-pub separator_high : (T : List ℕ) (p : ℕ) → p ≤ length T → past_separator T p ≤ length T
-unfolding past_separator
-separator_high T p within =
-    cond_both (is_parted (separator_at T p)) _ _ (λ n. n ≤ length T)
-    (λ parted. behind_high T (past_blanks T p) (separator_byte T p parted)) (λ none. within)
+quote_other : (b : Option ℕ) → passes (λ c. not (c == 39)) b ≡ false → is_byte b 92 ≡ false
+quote_other None e = refl
+quote_other (Some b) e = grind (arith, nat_tests)
 
--- a separator leads on
-pub separator_onward : (T : List ℕ) (p : ℕ) → is_parted (separator_at T p) ≡ true → p < past_separator T p
-unfolding past_separator
-separator_onward T p parted = rw parted (omega (arith, blanks_low T p, behind_low T (past_blanks T p)))
+-- a single quote, or the end, is no backslash
+pub quote_clear : (T : List ℕ) (p : ℕ) → raw_stands T (next_of 39 T p) 92 ≡ false
+unfolding raw_in raw_stands
+quote_clear T p = quote_other (slice_get T (next_of 39 T p)) (raw_past_stops (λ c. not (c == 39)) T p)
+
+-- ---- text in backquotes
+
+backslash_by : (b : Option ℕ) → is_none b ≡ false → is_byte b 96 ≡ false → passes (λ c. not (c == 96 || c == 92)) b ≡ false → is_byte b 92 ≡ true
+backslash_by None some other e = absurd cc
+backslash_by (Some b) some other e = grind (arith, nat_tests)
+
+-- what stops a search in backquotes and is no backquote is a backslash
+pub backslash_next : (T : List ℕ) (p : ℕ) → at_end T (next_in_backquotes T p) ≡ false → raw_stands T (next_in_backquotes T p) 96 ≡ false → raw_stands T (next_in_backquotes T p) 92 ≡ true
+unfolding raw_stands raw_in at_end
+backslash_next T p some other = backslash_by (slice_get T (next_in_backquotes T p)) some other (raw_past_stops (λ c. not (c == 96 || c == 92)) T p)
+
+quote_by : (b : Option ℕ) → is_byte b 96 ≡ true → is_byte b 92 ≡ false
+quote_by None e = absurd cc
+quote_by (Some b) e = grind (arith, nat_tests)
+
+-- a backquote is no backslash
+pub backquote_is : (T : List ℕ) (p : ℕ) → raw_stands T p 96 ≡ true → raw_stands T p 92 ≡ false
+unfolding raw_stands
+backquote_is T p e = quote_by (slice_get T p) e

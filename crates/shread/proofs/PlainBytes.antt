@@ -1,5 +1,5 @@
 -- Bytes that are ordinary in a mode: each is a piece of its own.
-use Rattle.std.proofs.Common.{◌≡◌, ℕ, zero, suc, ◌+◌, ◌-◌, ◌<◌, ◌≤◌, ◌==◌, Bool, true, false, ◌||◌, not, Option, Some, None, Ok, slice_get, slice_index, get_or, List, length, drop, refl, sym, ap, subst, ◌∙◌, arith, length-drop}
+use Rattle.std.proofs.Common.{◌≡◌, ℕ, zero, suc, ◌+◌, ◌-◌, ◌<◌, ◌≤◌, ◌==◌, Bool, true, false, ◌||◌, not, Option, Some, None, Ok, slice_get, slice_index, get_or, List, List as Row, [], length, drop, refl, sym, ap, subst, ◌∙◌, arith, length-drop}
 use Rattle.std.proofs.lemmas.Option.{slice_get-get_or}
 use Rattle.shread.specs.Text.{IsRun}
 use Rattle.shread.specs.declared.fault.Stop.{Stop}
@@ -7,17 +7,22 @@ use Rattle.shread.specs.declared.fault.Stop.TheVariants.{Memory, Wrong}
 use Rattle.shread.specs.declared.mode.Mode.{Mode}
 use Rattle.shread.specs.declared.mode.Mode.TheVariants.{Plain, Double, Brace, DoubleBrace, Arith}
 use Rattle.shread.specs.declared.mode.Piece.TheVariants as pieces
-use Rattle.shread.specs.Bytes.{raw_in, passes, ends, ends_word, byte_at, behind}
-use Rattle.shread.specs.Words.{span, piece_by, piece_at, past_closer}
-use Rattle.shread.specs.Comes.{Read, again}
-use Rattle.shread.specs.Reading.{◌>>=◌, Fails, Opened, piece_of, piece_step, contents_at, level_at, word_at, turns}
+use Rattle.shread.specs.Standing.{raw_in, passes}
+use Rattle.shread.specs.Bytes.{ends, ends_word, byte_at, behind}
+use Rattle.shread.specs.Pieces.{piece_by, piece_at, past_closer}
+use Rattle.shread.specs.Comments.{span}
+use Rattle.shread.specs.Clauses.{Fails}
+use Rattle.shread.specs.Sights.{Given, State, given, standing}
+use Rattle.shread.specs.Form.{Read, ◌▸◌, again, done, does, many}
+use Rattle.shread.specs.Words.{Inner, Held, having, piece_row, a_piece, contents, level, a_word}
 use Rattle.shread.specs.Plain.{is_special_in, is_plain, ArePlain}
-use Rattle.shread.specs.Tree.{word, no_subst}
+use Rattle.shread.specs.Tree.{ASubst, word, no_subst, substs_of}
 use Rattle.std.proofs.lemmas.Bool.Decides.{nat_tests}
-use Rattle.shread.proofs.Turns.{turns_again, turns_done, turns_stop}
+use Rattle.shread.proofs.Turns.{many_again, many_done, many_stop}
 use Rattle.shread.proofs.Places.{word_longer}
 use Rattle.shread.proofs.Stretches.{get_drop}
 use Rattle.shread.proofs.Unbroken.{stays}
+use Rattle.shread.proofs.Levels.{level_below}
 
 -- ---- a stretch of a source
 
@@ -91,39 +96,6 @@ no_backslash Brace = refl
 no_backslash DoubleBrace = refl
 no_backslash Arith = refl
 
-pub plain_piece : (c : Opened) (T : List ℕ) (o : ℕ) (mode : Mode) (b n p : ℕ) → raw_in (is_plain mode) T p ≡ true → piece_step c T o mode b n p ≡ Ok (again n (p + 1))
-unfolding piece_step piece_at behind
-plain_piece c T o mode b n p plain =
-    let same = stays (is_plain mode) T p (no_backslash mode) plain in
-    let ordinary : piece_by T p mode n (byte_at T p) ≡ pieces.Ordinary =
-    ap (λ q. piece_by T p mode n (slice_get T q)) same ∙ ordinary_at T p mode n (slice_get T p) (unfold raw_in in plain) in
-    rw (ordinary, same) refl
-
-plain_run : (c : Opened) (T : List ℕ) (o : ℕ) (mode : Mode) (b n p m : ℕ) → ArePlain mode T p (p + m) → p + m ≤ length T
-    → turns (length T) (piece_step c T o mode b) n p ≡ turns (length T) (piece_step c T o mode b) n (p + m)
-plain_run c T o mode b n p zero plain high =
-    let same : p + zero ≡ p = omega arith in
-    ap (turns (length T) (piece_step c T o mode b) n) (sym same)
-plain_run c T o mode b n p (suc m) plain high =
-    let next : p + 1 + m ≡ p + suc m = omega arith in
-    turns_again (length T) (piece_step c T o mode b) n n p (p + 1) (plain_piece c T o mode b n p (plain p (omega arith) (omega arith))) (omega arith) (omega arith)
-    ∙ plain_run c T o mode b n (p + 1) m (λ k low below. plain k (omega arith) (omega arith)) (omega arith)
-    ∙ ap (turns (length T) (piece_step c T o mode b) n) next
-
-pub plain_turns : (c : Opened) (T : List ℕ) (o : ℕ) (mode : Mode) (b n p q : ℕ) → ArePlain mode T p q → p ≤ q → q ≤ length T
-    → turns (length T) (piece_step c T o mode b) n p ≡ turns (length T) (piece_step c T o mode b) n q
-plain_turns c T o mode b n p q plain low high =
-    let there : p + (q - p) ≡ q = omega arith in
-    plain_run c T o mode b n p (q - p) (λ k k_low k_high. plain k k_low (omega (arith, k_high))) (omega arith)
-    ∙ ap (turns (length T) (piece_step c T o mode b) n) there
-
--- one piece, and the plain bytes behind it
-pub piece_and_plain : (c : Opened) (T : List ℕ) (o : ℕ) (mode : Mode) (b n m p q r : ℕ) (x : Read ℕ) → turns (length T) (piece_step c T o mode b) n p ≡ x
-    → piece_step c T o mode b n p ≡ Ok (again m q) → p < q → q ≤ length T → ArePlain mode T q r → q ≤ r → r ≤ length T
-    → turns (length T) (piece_step c T o mode b) m r ≡ x
-piece_and_plain c T o mode b n m p q r x before piece onward within plain low high =
-    sym (plain_turns c T o mode b m q r plain low high) ∙ sym (turns_again (length T) (piece_step c T o mode b) n m p q piece onward within) ∙ before
-
 -- what ends a word begins no piece
 closer_by : (T : List ℕ) (p n b : ℕ) → ends (Some b) ≡ true → piece_by T p Plain n (Some b) ≡ pieces.Closer
 closer_by T p n b end =
@@ -136,45 +108,113 @@ closer_at : (T : List ℕ) (p n : ℕ) (a : Option ℕ) → ends a ≡ true → 
 closer_at T p n None end = refl
 closer_at T p n (Some b) end = closer_by T p n b end
 
--- what pieces give is only where they end
-abbrev only_end : Read ℕ → Read (Unit {0})
-only_end read = read >>= λ w. Ok (tt, w.1)
-
-stops : (e : Stop) (x : Read ℕ) → Fails e x → Fails e (only_end x)
-stops Memory x stop = tt
-stops (Wrong f) x stop = rw stop refl
-
--- a piece that stops, stops all
-pub contents_stop : (c : Opened) (T : List ℕ) (o : ℕ) (mode : Mode) (b n p s : ℕ) (e : Stop)
-    → turns (length T) (piece_step c T o mode b) n p ≡ turns (length T) (piece_step c T o mode b) 0 s
-    → Fails e (piece_step c T o mode b n p) → Fails e (contents_at c T o mode b s)
-unfolding contents_at
-contents_stop c T o mode b n p s e so stop =
-    stops e _ (subst (Fails e) so (turns_stop (length T) (piece_step c T o mode b) n p e stop))
-
--- plain bytes, and what closes behind them
-pub plain_closed : (c : Opened) (T : List ℕ) (o : ℕ) (mode : Mode) (b p q : ℕ) → ArePlain mode T p q → p ≤ q → q ≤ length T → piece_at T mode 0 q ≡ pieces.Closer
-    → contents_at c T o mode b p ≡ Ok (tt, past_closer T mode q)
-unfolding contents_at piece_step
-plain_closed c T o mode b p q plain low high end =
-    ap only_end (plain_turns c T o mode b 0 p q plain low high ∙ turns_done (length T) (piece_step c T o mode b) 0 0 q (past_closer T mode q) (ap (piece_of c T o mode b 0 q) end))
-
--- plain bytes, and what stands behind them
-pub plain_contents : (c : Opened) (T : List ℕ) (o : ℕ) (mode : Mode) (b p q : ℕ) → ArePlain mode T p q → p ≤ q → q ≤ length T
-    → contents_at c T o mode b p ≡ contents_at c T o mode b q
-unfolding contents_at
-plain_contents c T o mode b p q plain low high = ap only_end (plain_turns c T o mode b 0 p q plain low high)
-
 -- a word ends where no piece begins
 word_closes : (T : List ℕ) (q : ℕ) → ends_word T q ≡ true → piece_at T Plain 0 q ≡ pieces.Closer
 unfolding piece_at ends_word
 word_closes T q end = closer_at T q 0 (byte_at T q) end
 
--- a word of plain bytes
-pub plain_word : (T : List ℕ) (o p q : ℕ) → ArePlain Plain T p q → p ≤ q → q ≤ length T → ends_word T q ≡ true → word_at T o p ≡ Ok (word (span o p q) no_subst, q)
-unfolding word_at
-plain_word T o p q plain low high end = rw (plain_closed (level_at T o 100) T o Plain p p q plain low high (word_closes T q end)) refl
-
 -- where a word begins and another place ends it, some bytes stand between
 pub some_plain : (T : List ℕ) (p q : ℕ) → p ≤ q → ends_word T p ≡ false → ends_word T q ≡ true → p < q
 some_plain T p q low here there = word_longer T p q low here there
+
+-- ---- the pieces of a construct that opened at b
+
+module _ (inner : Inner) (keep : Bool) (g : Given) (mode : Mode) (b : ℕ) where
+  -- one turn, and all
+  abbrev turn : Held → State → Read (Rattle.shread.specs.Form.Step Held)
+  turn h s = does (a_piece inner mode b h) keep g s
+
+  abbrev all : Held → ℕ → Read Held
+  all h p = does (many (a_piece inner mode b) h) keep g (standing p)
+
+  plain_piece : (h : Held) (p : ℕ) → raw_in (is_plain mode) g.text p ≡ true → turn h (standing p) ≡ Ok (again h, standing (p + 1))
+  unfolding a_piece piece_at behind
+  plain_piece h p plain =
+      let same = stays (is_plain mode) g.text p (no_backslash mode) plain in
+      let ordinary : piece_by g.text p mode h.nested (byte_at g.text p) ≡ pieces.Ordinary =
+      ap (λ q. piece_by g.text p mode h.nested (slice_get g.text q)) same ∙ ordinary_at g.text p mode h.nested (slice_get g.text p) (unfold raw_in in plain) in
+      rw (ordinary, same) refl
+
+  plain_run : (h : Held) (p m : ℕ) → ArePlain mode g.text p (p + m) → p + m ≤ length g.text → all h p ≡ all h (p + m)
+  plain_run h p zero plain high =
+      let same : p + zero ≡ p = omega arith in
+      ap (all h) (sym same)
+  plain_run h p (suc m) plain high =
+      let next : p + 1 + m ≡ p + suc m = omega arith in
+      many_again (a_piece inner mode b) keep g h h (standing p) (standing (p + 1)) (plain_piece h p (plain p (omega arith) (omega arith))) (omega arith) (omega arith)
+      ∙ plain_run h (p + 1) m (λ k low below. plain k (omega arith) (omega arith)) (omega arith)
+      ∙ ap (all h) next
+
+  pub plain_turns : (h : Held) (p q : ℕ) → ArePlain mode g.text p q → p ≤ q → q ≤ length g.text → all h p ≡ all h q
+  plain_turns h p q plain low high =
+      let there : p + (q - p) ≡ q = omega arith in
+      plain_run h p (q - p) (λ k k_low k_high. plain k k_low (omega (arith, k_high))) (omega arith) ∙ ap (all h) there
+
+  -- one piece, and the plain bytes behind it
+  pub piece_and_plain : (h i : Held) (p q r : ℕ) (x : Read Held) → all h p ≡ x → turn h (standing p) ≡ Ok (again i, standing q) → p < q → q ≤ length g.text
+      → ArePlain mode g.text q r → q ≤ r → r ≤ length g.text → all i r ≡ x
+  piece_and_plain h i p q r x before piece onward within plain low high =
+      sym (plain_turns i q r plain low high) ∙ sym (many_again (a_piece inner mode b) keep g h i (standing p) (standing q) piece onward within) ∙ before
+
+  -- what pieces give is the substitutions, and where they end
+  abbrev given_by : Read Held → Read (Row ASubst)
+  given_by read = read ▸ λ h t. Ok (h.substs, t)
+
+  stops : (end : ℕ) (e : Stop) (x : Read Held) → Fails end e x → Fails end e (given_by x)
+  stops end Memory x stop = tt
+  stops end (Wrong f) x stop = (rw (stop.0) refl, stop.1)
+
+  -- a piece that stops, stops all
+  pub contents_stop : (h : Held) (ss : Row ASubst) (p s : ℕ) (end : ℕ) (e : Stop) → all h p ≡ all (having 0 ss) s → Fails end e (turn h (standing p))
+      → Fails end e (does (contents inner mode b ss) keep g (standing s))
+  unfolding contents
+  contents_stop h ss p s end e so stop = stops end e _ (subst (Fails end e) so (many_stop (a_piece inner mode b) keep g h (standing p) end e stop))
+
+  -- the last piece
+  pub contents_done : (h : Held) (ss : Row ASubst) (p s q : ℕ) → all h p ≡ all (having 0 ss) s → turn h (standing p) ≡ Ok (done h, standing q)
+      → does (contents inner mode b ss) keep g (standing s) ≡ Ok (h.substs, standing q)
+  unfolding contents
+  contents_done h ss p s q so last = ap given_by (sym so ∙ many_done (a_piece inner mode b) keep g h h (standing p) (standing q) last)
+
+  -- plain bytes, and what closes behind them
+  pub plain_closed : (ss : Row ASubst) (p q : ℕ) → ArePlain mode g.text p q → p ≤ q → q ≤ length g.text → piece_at g.text mode 0 q ≡ pieces.Closer
+      → does (contents inner mode b ss) keep g (standing p) ≡ Ok (ss, standing (past_closer g.text mode q))
+  unfolding contents a_piece
+  plain_closed ss p q plain low high end =
+      ap given_by (plain_turns (having 0 ss) p q plain low high ∙ many_done (a_piece inner mode b) keep g (having 0 ss) (having 0 ss) (standing q) (standing (past_closer g.text mode q)) (rw end refl))
+
+  -- plain bytes, and what stands behind them
+  pub plain_contents : (ss : Row ASubst) (p q : ℕ) → ArePlain mode g.text p q → p ≤ q → q ≤ length g.text
+      → does (contents inner mode b ss) keep g (standing p) ≡ does (contents inner mode b ss) keep g (standing q)
+  unfolding contents
+  plain_contents ss p q plain low high = ap given_by (plain_turns (having 0 ss) p q plain low high)
+
+-- a construct of plain bytes, by how many more may be opened
+pub plain_construct : (room : ℕ) (keep : Bool) (T : List ℕ) (o : ℕ) (mode : Mode) (b : ℕ) (ss : Row ASubst) (p q : ℕ) → 0 < room → ArePlain mode T p q → p ≤ q → q ≤ length T
+    → piece_at T mode 0 q ≡ pieces.Closer → does ((level room).construct mode b ss) keep (given T o) (standing p) ≡ Ok (ss, standing (past_closer T mode q))
+plain_construct room keep T o mode b ss p q some plain low high end =
+    level_below keep (given T o) (standing p) room mode b ss some ∙ plain_closed (level (room - 1)) keep (given T o) mode b ss p q plain low high end
+
+-- plain bytes at its begin
+pub plain_begin : (room : ℕ) (keep : Bool) (T : List ℕ) (o : ℕ) (mode : Mode) (b : ℕ) (ss : Row ASubst) (p q : ℕ) → 0 < room → ArePlain mode T p q → p ≤ q → q ≤ length T
+    → does ((level room).construct mode b ss) keep (given T o) (standing p) ≡ does (contents (level (room - 1)) mode b ss) keep (given T o) (standing q)
+plain_begin room keep T o mode b ss p q some plain low high =
+    level_below keep (given T o) (standing p) room mode b ss some ∙ plain_contents (level (room - 1)) keep (given T o) mode b ss p q plain low high
+
+-- a word of plain bytes
+pub plain_word : (inner : Inner) (keep : Bool) (T : List ℕ) (o p q : ℕ) → ArePlain Plain T p q → p ≤ q → q ≤ length T → ends_word T q ≡ true
+    → does (a_word inner) keep (given T o) (standing p) ≡ Ok (word (span o p q) no_subst, standing q)
+unfolding a_word
+plain_word inner keep T o p q plain low high end = rw (plain_closed inner keep (given T o) Plain (o + p) [] p q plain low high (word_closes T q end)) refl
+
+-- plain bytes at the begin of a word, and what follows them
+pub word_rest : (inner : Inner) (keep : Bool) (T : List ℕ) (o p q : ℕ) (ss : Row ASubst) (t : State) → ArePlain Plain T p q → p ≤ q → q ≤ length T
+    → does (contents inner Plain (o + p) []) keep (given T o) (standing q) ≡ Ok (ss, t) → does (a_word inner) keep (given T o) (standing p) ≡ Ok (word (span o p t.at) (substs_of ss), t)
+unfolding a_word
+word_rest inner keep T o p q ss t plain low high rest = rw (plain_contents inner keep (given T o) Plain (o + p) [] p q plain low high ∙ rest) refl
+
+pub word_stops : (inner : Inner) (keep : Bool) (T : List ℕ) (o p q end : ℕ) (e : Stop) → ArePlain Plain T p q → p ≤ q → q ≤ length T
+    → Fails end e (does (contents inner Plain (o + p) []) keep (given T o) (standing q)) → Fails end e (does (a_word inner) keep (given T o) (standing p))
+unfolding a_word
+word_stops inner keep T o p q end Memory plain low high rest = tt
+word_stops inner keep T o p q end (Wrong f) plain low high rest = (rw (plain_contents inner keep (given T o) Plain (o + p) [] p q plain low high ∙ rest.0) refl, rest.1)

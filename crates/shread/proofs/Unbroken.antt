@@ -3,8 +3,9 @@ use Rattle.std.proofs.Common.{◌≡◌, ℕ, zero, suc, ◌+◌, ◌-◌, ◌<�
 use Rattle.std.proofs.lemmas.Bool.{eqb-true}
 use Rattle.shread.specs.declared.token.Class.{Class}
 use Rattle.shread.specs.declared.token.Class.TheVariants.{Blank, Digit, Name}
-use Rattle.shread.specs.Bytes.{passes, is_byte, raw_stands, raw_in, raw_past, stands_in, past, continues, past_continuations, behind}
-use Rattle.shread.specs.Classes.{in_class}
+use Rattle.shread.specs.Standing.{passes, is_byte, raw_stands, raw_in, raw_past, continues}
+use Rattle.shread.specs.Bytes.{stands_in, past, past_blanks, past_continuations, behind}
+use Rattle.shread.specs.Classes.{is_blank, in_class}
 use Rattle.shread.proofs.Stretches.{raw_more, raw_none, joined_none, passes_low, past_more, past_none}
 use Rattle.shread.proofs.Places.{place_same, stands_in_past, raw_past_stops}
 
@@ -79,3 +80,19 @@ joined_on class T p some =
     ∙ ap (λ q. past (in_class class) T (q + 1)) (sym (place_same T p))
     ∙ sym (past_more (in_class class) T (past_continuations T p) (stands_in_past (in_class class) T p ∙ here))
     ∙ past_raw class T (past_continuations T p)
+
+-- ---- blanks
+
+-- no blank stands where the blanks from p on end
+pub blanks_stop_raw : (T : List ℕ) (p : ℕ) → raw_in is_blank T (raw_past is_blank T p) ≡ false
+blanks_stop_raw T p = raw_past_stops is_blank T p
+
+-- where no continuation stands behind them, a token begins there
+pub blanks_whole : (T : List ℕ) (p : ℕ) → continues T (raw_past is_blank T p) ≡ false → past_blanks T p ≡ raw_past is_blank T p
+unfolding past_blanks
+blanks_whole T p none = ap (past_continuations T) (past_whole Blank T p none) ∙ joined_none T (raw_past is_blank T p) none
+
+-- else behind what follows the continuation
+pub blanks_on : (T : List ℕ) (p : ℕ) → past_blanks T p ≡ past_continuations T (past is_blank T (raw_past is_blank T p))
+unfolding past_blanks
+blanks_on T p = ap (past_continuations T) (past_raw Blank T p)

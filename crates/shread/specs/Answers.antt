@@ -6,7 +6,8 @@ use Rattle.shread.specs.declared.reader.LineKind as the_kind
 use Rattle.shread.specs.declared.reader.LineKind.TheVariants as kinds
 use Rattle.shread.specs.declared.reader.Script as the_script
 use Rattle.shread.specs.View.{view_list}
-use Rattle.shread.specs.Lines.{ALine, AKind, AScript, blank_line, entries_line, end_line, faulty_line}
+use Rattle.shread.specs.Lines.{ALine, AKind, blank_line, entries_line, end_line, faulty_line}
+use Rattle.shread.specs.Scripts.{AScript}
 
 abbrev pub view_kind : the_kind.LineKind → AKind
 view_kind kinds.Blank = blank_line

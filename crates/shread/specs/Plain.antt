@@ -2,7 +2,8 @@
 use Rattle.std.specs.Prelude.{◌≡◌, ℕ, ◌<◌, ◌≤◌, ◌==◌, Bool, true, ◌||◌, not, List, Some}
 use Rattle.shread.specs.declared.mode.Mode.{Mode}
 use Rattle.shread.specs.declared.mode.Mode.TheVariants.{Plain, Double, Brace, DoubleBrace, Arith}
-use Rattle.shread.specs.Bytes.{ends, raw_in}
+use Rattle.shread.specs.Bytes.{ends}
+use Rattle.shread.specs.Standing.{raw_in}
 
 -- what is special in a mode, besides what is so in every one
 abbrev pub is_special_in : Mode → ℕ → Bool

@@ -1,7 +1,8 @@
 //! Comments (XCU 2.3, rule 9).
-ghost use Rattle.std.specs.Prelude.{◌≡◌, ◌≤◌, drop, length};
-ghost use Rattle.shread.specs.Bytes.{before_blanks};
-ghost use Rattle.shread.specs.Commands.{comment_at, past_comment};
+ghost use Rattle.std.specs.Prelude.{◌≡◌, ◌≤◌, None, length};
+ghost use Rattle.shread.specs.Clauses.{Stays, text_of};
+ghost use Rattle.shread.specs.Comments.{comment_at, past_comment};
+ghost use Rattle.shread.specs.Standing.{before_blanks};
 
 use crate::cursor::Cursor;
 use crate::search::Sought;
@@ -13,8 +14,8 @@ impl<'a, S: Source> Cursor<'a, S> {
     /// The place behind the last byte before `end` that is no blank.
     #[tactic(auto, using(crate::proofs::Stretches::blanks_before, crate::proofs::Stretches::no_blanks_before, crate::proofs::Stretches::nothing_before))]
     fn before_blanks(&self, end: usize) -> usize
-        requires { end ≤ length (drop self.now.base (S.bytes self.now.source.now)) }
-        ensures value { result ≡ before_blanks (drop self.now.base (S.bytes self.now.source.now)) end }
+        requires { end ≤ length (text_of S.bytes self.now) }
+        ensures value { result ≡ before_blanks (text_of S.bytes self.now) end }
         ensures inside { result ≤ end }
     {
         let mut at = end;
@@ -26,14 +27,15 @@ impl<'a, S: Source> Cursor<'a, S> {
 
     /// Passes the comment that begins here, if one does.
     #[inline]
-    #[tactic(auto, unfolding(crate::specs::Commands::comment_at, crate::specs::Commands::past_comment))]
+    #[tactic(auto, unfolding(crate::specs::Comments::comment_at, crate::specs::Comments::past_comment))]
     pub(crate) fn comment(&mut self) -> Option<Comment>
-        ensures value { result ≡ comment_at (drop self.old.base (S.bytes self.old.source.now)) self.old.origin self.old.at }
-        ensures place { self.new.at ≡ past_comment (drop self.old.base (S.bytes self.old.source.now)) self.old.at }
+        ensures value { result ≡ comment_at (text_of S.bytes self.old) self.old.origin self.old.at }
+        ensures place { self.new.at ≡ past_comment (text_of S.bytes self.old) self.old.at }
+        ensures none { result ≡ None → self.new.at ≡ self.old.at }
         ensures onward { self.old.at ≤ self.new.at }
-        ensures same { (self.new.source ≡ self.old.source) × (self.new.base ≡ self.old.base) × (self.new.origin ≡ self.old.origin) × (self.new.keep ≡ self.old.keep) }
+        ensures same { Stays self.old self.new }
     {
-        if !self.is_at(b'#') {
+        if !self.raw_stands(self.at, b'#') {
             return None;
         }
         let next_newline = self.find(Sought::Byte(b'\n'), self.at);

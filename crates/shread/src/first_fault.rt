@@ -1,10 +1,10 @@
 //! The first fault of a script, a line at a time and without its tree.
 ghost use Rattle.std.specs.Prelude.{◌≡◌, ◌≤◌, IfOk, IfSome, length};
-ghost use Rattle.shread.specs.Reading.{first_fault_from};
+ghost use Rattle.shread.specs.Scripts.{first_fault_from};
 ghost use Rattle.shread.specs.Search.{Tells};
 
-use crate::cursor::Cursor;
 use crate::fault::{Fault, ReadError, Stop};
+use crate::one_line::line_at;
 use crate::source::Source;
 use std::alloc::Global;
 
@@ -20,16 +20,15 @@ enum Found {
 }
 
 /// Reads the line at an offset.
-#[tactic(auto, using(crate::proofs::Skim::skim_here, crate::proofs::Skim::skim_beyond, crate::proofs::Skim::skim_nowhere))]
+#[tactic(auto, using(crate::proofs::FirstFault::here_within, crate::proofs::FirstFault::beyond, crate::proofs::FirstFault::nowhere))]
 fn look<S: Source>(alloc: Global, source: &S, at: usize) -> Result<Found, ReadError>
     requires { at ≤ length (S.bytes source.now) }
     ensures { IfOk result (Tells (S.bytes source.now) at) }
 {
-    let mut cursor = Cursor::at_line(source, at, at, false);
-    match cursor.line(alloc, false) {
-        Ok((_, newline)) => {
-            if newline {
-                return Ok(Found::Beyond(at + cursor.at));
+    match line_at(alloc, source, at, at, false, false) {
+        Ok(told) => {
+            if told.newline {
+                return Ok(Found::Beyond(at + told.len));
             }
             Ok(Found::Nowhere)
         }

@@ -1,6 +1,7 @@
 //! Laws of the definitions alone, which no code stands behind.
 ghost use Rattle.std.specs.Prelude.{◌≡◌, ℕ, List};
-ghost use Rattle.shread.specs.Lines.{ALine, AScript, IsLine, Outcome};
+ghost use Rattle.shread.specs.Lines.{ALine, IsLine};
+ghost use Rattle.shread.specs.Scripts.{AScript, Outcome};
 
 /// Each byte list has one outcome as a script, and one line with which it begins.
 pub fn one_outcome()

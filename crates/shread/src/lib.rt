@@ -1,11 +1,13 @@
 //! The reader of shform: scripts of the Shell Command Language of POSIX, read line by line into a tree.
 //!
-//! Start with [`Reader`], whose `read_line` reads one top-level line of a [`Source`] and whose `read_script` reads all of
-//! them. [`List`] and the types below it are the tree; [`Fault`] is what is wrong with a script. The definitions that the
-//! contracts cite are in `specs/`: `Bytes`, `Words`, `Commands` and `Lines` are the grammar.
+//! Start with [`Reader`]: `read_line` reads one top-level line of a [`Source`], `read_script` all of them, and `first_fault` looks
+//! for the first fault alone, without a tree. [`List`] and the types below it are the tree; [`Fault`] is what is wrong with a
+//! script. The definitions that the contracts cite are in `specs/`: `Words`, `Commands` and `Lines` are the grammar's rows, and
+//! `Form` says what a row means.
 #![tactic(auto)]
 
 mod all_lines;
+mod bytes;
 mod command;
 mod comment;
 mod cursor;
@@ -16,12 +18,14 @@ mod line;
 mod line_col;
 mod make;
 mod mode;
+mod offsets;
 mod one_line;
 mod piece;
 mod plain;
 mod reader;
 mod search;
 mod source;
+mod standing;
 mod token;
 mod tree;
 mod word;

@@ -1,56 +1,80 @@
 //! The entries of a line, and the line's end (XCU 2.9.3, 2.10.2).
-ghost use Rattle.std.specs.Prelude.{◌≡◌, ◌-◌, ◌<◌, ◌≤◌, ◌&&◌, [], drop, length, map, IfOk, true, false};
-ghost use Rattle.shread.specs.Bytes.{is_blank, ends_word, raw_stands, stands_in};
-ghost use Rattle.shread.specs.Comes.{step_if};
-ghost use Rattle.shread.specs.Commands.{is_empty, is_parted, past_separator, separator_at};
-ghost use Rattle.shread.specs.Lines.{begins_command};
-ghost use Rattle.shread.specs.Reading.{Gives, Onward, end_of_line_at, entry_at, entry_step, line_at, turns};
+ghost use Rattle.std.specs.Prelude.{◌≡◌, ◌-◌, ◌<◌, ◌≤◌, [], map, IfOk, Ok as Done, false, true};
+ghost use Rattle.shread.specs.Clauses.{Gives, Onward, Shows, Stays, end_of, reads, text_of};
+ghost use Rattle.shread.specs.Commands.{a_comment, a_separator, an_entry, is_parted};
+ghost use Rattle.shread.specs.Form.{step_if};
+ghost use Rattle.shread.specs.Lines.{a_line, a_remark, all_entries, end_of_line, entry_turn, line_so};
+ghost use Rattle.shread.specs.Sights.{standing};
+ghost use Rattle.shread.specs.Standing.{at_end, raw_stands};
 ghost use Rattle.shread.specs.View.{view_entry};
+ghost use Rattle.shread.specs.Words.{level};
 
 use crate::cursor::Cursor;
 use crate::fault::{FaultKind, Stop};
 use crate::make::{command_entry, comment_entry};
 use crate::source::Source;
-use crate::token::{Separator, Token};
-use crate::tree::Entry;
+use crate::token::{Next, Position, Separator, Token};
+use crate::tree::{Comment, Entry};
 use std::alloc::Global;
 
 impl<'a, S: Source> Cursor<'a, S> {
-    /// Passes `;` or `&`, if one stands behind this place.
-    #[tactic(auto, unfolding(crate::specs::Commands::separator_at, crate::specs::Commands::past_separator))]
-    fn separator(&mut self) -> Option<Separator>
-        ensures value { result ≡ separator_at (drop self.old.base (S.bytes self.old.source.now)) self.old.at }
-        ensures place { self.new.at ≡ past_separator (drop self.old.base (S.bytes self.old.source.now)) self.old.at }
+    /// Passes `;` or `&`, if the token here is one of them. `next` is that token, and then the one behind it.
+    #[tactic(auto, unfolding(crate::specs::Commands::a_separator, crate::specs::Commands::next_token))]
+    fn separator(&mut self, next: &mut Next) -> Option<Separator>
+        requires shows { Shows next.old.token (text_of S.bytes self.old) self.old.at }
+        ensures value { reads S.bytes self.old (a_separator next.old) ≡ Done ((result, next.new), standing self.new.at) }
+        ensures shows { Shows next.new.token (text_of S.bytes self.old) self.new.at }
         ensures onward { Onward self.old.at self.new.at (is_parted result) }
-        ensures same { (self.new.source ≡ self.old.source) × (self.new.base ≡ self.old.base) × (self.new.origin ≡ self.old.origin) × (self.new.keep ≡ self.old.keep) }
+        ensures same { Stays self.old self.new }
     {
-        let before = self.at;
-        self.skip_blanks();
-        let separator = match self.token() {
+        let separator = match next.token {
             Token::Semicolon => Separator::Semicolon,
             Token::Ampersand => Separator::Ampersand,
-            _ => {
-                self.at = before;
-                return None;
-            }
+            _ => return None,
         };
         self.bump();
+        *next = self.next_token(Position::Command);
         Some(separator)
     }
 
-    /// The command that begins here with what parts it from the next one, and the comment behind it on its line.
-    /// Answers too whether another may follow.
-    #[tactic(auto, unfolding(crate::specs::Reading::entry_at))]
-    fn entry(&mut self, alloc: Global, blank: bool) -> Result<(Entry, bool), Stop>
-        ensures value { let text = drop self.old.base (S.bytes self.old.source.now) in
-            Gives (λ x. ((view_entry x.0, x.1), self.new.at)) result (entry_at self.old.keep text self.old.origin blank self.old.at) }
-        ensures onward { IfOk result (λ x. Onward self.old.at self.new.at x.1) }
-        ensures same { (self.new.source ≡ self.old.source) × (self.new.base ≡ self.old.base) × (self.new.origin ≡ self.old.origin) × (self.new.keep ≡ self.old.keep) }
+    /// Passes the comment here, if one stands. `next` is the token here, and then the one behind it.
+    #[tactic(auto, unfolding(crate::specs::Commands::a_comment, crate::specs::Commands::next_token))]
+    fn remark(&mut self, next: &mut Next) -> Option<Comment>
+        requires shows { Shows next.old.token (text_of S.bytes self.old) self.old.at }
+        ensures value { reads S.bytes self.old (a_comment next.old) ≡ Done ((result, next.new), standing self.new.at) }
+        ensures shows { Shows next.new.token (text_of S.bytes self.old) self.new.at }
+        ensures onward { self.old.at ≤ self.new.at }
+        ensures same { Stays self.old self.new }
     {
-        let and_or = self.and_or(alloc)?;
-        let separator = self.separator();
-        self.skip_blanks();
-        let comment = self.comment();
+        match self.comment() {
+            Some(comment) => {
+                *next = self.next_token(Position::Command);
+                Some(comment)
+            }
+            None => None,
+        }
+    }
+
+    /// The command that the token here begins with what parts it from the next one, and the comment behind it on its line.
+    /// Answers too whether another may follow.
+    #[tactic(auto, unfolding(crate::specs::Commands::an_entry))]
+    fn entry(
+        &mut self,
+        alloc: Global,
+        next: &mut Next,
+        blank: bool,
+        room: usize,
+    ) -> Result<(Entry, bool), Stop>
+        requires shows { Shows next.old.token (text_of S.bytes self.old) self.old.at }
+        ensures value { Gives (end_of S.bytes self.old) (λ x. (record { entry = view_entry x.0; parted = x.1; next = next.new }, standing self.new.at)) result
+            (reads S.bytes self.old (an_entry (level room) blank next.old)) }
+        ensures shows { IfOk result (λ x. Shows next.new.token (text_of S.bytes self.old) self.new.at) }
+        ensures onward { IfOk result (λ x. Onward self.old.at self.new.at x.1) }
+        ensures same { Stays self.old self.new }
+    {
+        let and_or = self.and_or(alloc, next, room)?;
+        let separator = self.separator(next);
+        let comment = self.remark(next);
         let background = matches!(separator, Some(Separator::Ampersand));
         Ok((
             command_entry(and_or, background, blank, comment),
@@ -58,89 +82,119 @@ impl<'a, S: Source> Cursor<'a, S> {
         ))
     }
 
-    /// Whether a command begins here, where no blank stands.
-    #[tactic(auto, unfolding(crate::specs::Lines::begins_command))]
-    fn begins_command(&self) -> bool
-        requires { stands_in is_blank (drop self.now.base (S.bytes self.now.source.now)) self.now.at ≡ false }
-        ensures value { result ≡ begins_command (drop self.now.base (S.bytes self.now.source.now)) self.now.at }
-        ensures word { result ≡ true → ends_word (drop self.now.base (S.bytes self.now.source.now)) self.now.at ≡ false }
-    {
-        self.begins_word() && !self.is_reserved()
-    }
-
-    /// One more entry of a line. Answers whether another may follow; `blank` tells of the line's first entry.
-    #[tactic(auto, unfolding(crate::specs::Reading::entry_step))]
+    /// One more entry of a line, if the token here begins one. Answers whether another may follow; `blank` tells of the line's
+    /// first entry.
+    #[tactic(auto, unfolding(crate::specs::Lines::entry_turn, crate::specs::Lines::one_entry))]
     fn next_entry(
         &mut self,
         alloc: Global,
+        next: &mut Next,
         blank: bool,
         entries: &mut Vec<Entry>,
+        room: usize,
     ) -> Result<bool, Stop>
-        ensures value { let text = drop self.old.base (S.bytes self.old.source.now) in
-            Gives (λ more. step_if more (map view_entry entries.new.items) self.new.at) result (entry_step self.old.keep text self.old.origin blank (map view_entry entries.old.items) self.old.at) }
+        requires shows { Shows next.old.token (text_of S.bytes self.old) self.old.at }
+        ensures value { Gives (end_of S.bytes self.old) (λ more. (step_if more (line_so (map view_entry entries.new.items) next.new), standing self.new.at)) result
+            (reads S.bytes self.old (entry_turn (level room) blank (line_so (map view_entry entries.old.items) next.old))) }
+        ensures shows { IfOk result (λ more. Shows next.new.token (text_of S.bytes self.old) self.new.at) }
         ensures onward { IfOk result (Onward self.old.at self.new.at) }
-        ensures same { (self.new.source ≡ self.old.source) × (self.new.base ≡ self.old.base) × (self.new.origin ≡ self.old.origin) × (self.new.keep ≡ self.old.keep) }
+        ensures same { Stays self.old self.new }
     {
-        self.skip_blanks();
-        if !self.begins_command() {
-            return Ok(false);
+        match next.token {
+            Token::Assignment | Token::Word => {}
+            _ => return Ok(false),
         }
-        let (entry, parted) = self.entry(alloc, blank && entries.is_empty())?;
+        let (entry, parted) = self.entry(alloc, next, blank && entries.is_empty(), room)?;
         if self.keep {
             entries.push(entry)?;
         }
         Ok(parted)
     }
 
-    #[tactic(auto, using(crate::proofs::Turns::turns_again, crate::proofs::Turns::turns_done, crate::proofs::Turns::turns_stop))]
-    fn entries(&mut self, alloc: Global, blank: bool) -> Result<Vec<Entry>, Stop>
-        ensures value { let text = drop self.old.base (S.bytes self.old.source.now) in
-            Gives (λ entries. (map view_entry entries.items, self.new.at)) result (turns (length text) (entry_step self.old.keep text self.old.origin blank) [] self.old.at) }
+    /// All of them.
+    #[tactic(auto, unfolding(crate::specs::Lines::all_entries), using(crate::proofs::Turns::many_again, crate::proofs::Turns::many_done, crate::proofs::Turns::many_stop))]
+    fn entries(
+        &mut self,
+        alloc: Global,
+        next: &mut Next,
+        blank: bool,
+        room: usize,
+    ) -> Result<Vec<Entry>, Stop>
+        requires shows { Shows next.old.token (text_of S.bytes self.old) self.old.at }
+        ensures value { Gives (end_of S.bytes self.old) (λ entries. (line_so (map view_entry entries.items) next.new, standing self.new.at)) result
+            (reads S.bytes self.old (all_entries (level room) blank next.old)) }
+        ensures shows { IfOk result (λ entries. Shows next.new.token (text_of S.bytes self.old) self.new.at) }
         ensures onward { IfOk result (λ entries. self.old.at ≤ self.new.at) }
-        ensures same { (self.new.source ≡ self.old.source) × (self.new.base ≡ self.old.base) × (self.new.origin ≡ self.old.origin) × (self.new.keep ≡ self.old.keep) }
+        ensures same { Stays self.old self.new }
     {
         let mut entries = Vec::new(alloc);
-        'turns: while self.next_entry(alloc, blank, &mut entries)? {}
+        'turns: while self.next_entry(alloc, next, blank, &mut entries, room)? {}
         Ok(entries)
     }
 
-    /// The newline or the end behind the entries of a line, and the comment of a line without entries.
-    /// Answers whether it was a newline.
-    #[tactic(auto, unfolding(crate::specs::Reading::end_of_line_at, crate::specs::Bytes::token_at, crate::specs::Bytes::behind, crate::specs::Bytes::raw_stands))]
-    fn end_of_line(&mut self, blank: bool, entries: &mut Vec<Entry>) -> Result<bool, Stop>
-        ensures value { let text = drop self.old.base (S.bytes self.old.source.now) in
-            Gives (λ newline. ((map view_entry entries.new.items, newline), self.new.at)) result (end_of_line_at self.old.keep text self.old.origin blank (map view_entry entries.old.items) self.old.at) }
-        ensures onward { IfOk result (Onward self.old.at self.new.at) }
-        ensures newline { IfOk result (λ newline. newline ≡ true → raw_stands (drop self.old.base (S.bytes self.old.source.now)) (self.new.at - 1) 10 ≡ true) }
-        ensures same { (self.new.source ≡ self.old.source) × (self.new.base ≡ self.old.base) × (self.new.origin ≡ self.old.origin) × (self.new.keep ≡ self.old.keep) }
+    /// The comment of a line without entries, as an entry.
+    #[tactic(auto, unfolding(crate::specs::Lines::a_remark))]
+    fn own_comment(
+        &mut self,
+        next: &mut Next,
+        blank: bool,
+        entries: &mut Vec<Entry>,
+    ) -> Result<(), Stop>
+        requires shows { Shows next.old.token (text_of S.bytes self.old) self.old.at }
+        ensures value { Gives (end_of S.bytes self.old) (λ done. (line_so (map view_entry entries.new.items) next.new, standing self.new.at)) result
+            (reads S.bytes self.old (a_remark blank (line_so (map view_entry entries.old.items) next.old))) }
+        ensures shows { IfOk result (λ done. Shows next.new.token (text_of S.bytes self.old) self.new.at) }
+        ensures onward { IfOk result (λ done. self.old.at ≤ self.new.at) }
+        ensures same { Stays self.old self.new }
     {
-        if let Some(comment) = self.comment() {
+        if let Some(comment) = self.remark(next) {
             let blank = blank && entries.is_empty();
             if self.keep {
                 entries.push(comment_entry(comment, blank))?;
             }
         }
-        match self.byte() {
-            Some(b'\n') => {
+        Ok(())
+    }
+
+    /// The newline or the end behind the entries of a line. Answers whether it was a newline.
+    #[tactic(auto, unfolding(crate::specs::Lines::end_of_line, crate::specs::Bytes::behind))]
+    fn end_of_line(&mut self, next: Next) -> Result<bool, Stop>
+        requires shows { Shows next.token (text_of S.bytes self.old) self.old.at }
+        ensures value { Gives (end_of S.bytes self.old) (λ newline. (newline, standing self.new.at)) result (reads S.bytes self.old (end_of_line next.token)) }
+        ensures onward { IfOk result (Onward self.old.at self.new.at) }
+        ensures newline { IfOk result (λ newline. newline ≡ true → raw_stands (text_of S.bytes self.old) (self.new.at - 1) 10 ≡ true) }
+        ensures whole { IfOk result (λ newline. newline ≡ false → at_end (text_of S.bytes self.old) self.new.at ≡ true) }
+        ensures same { Stays self.old self.new }
+    {
+        match next.token {
+            Token::Newline => {
                 self.bump();
                 Ok(true)
             }
-            None => Ok(false),
+            Token::End => Ok(false),
             _ => Err(self.wrong_at(FaultKind::Unexpected, self.at)),
         }
     }
 
     /// A line from here on: its entries, and whether a newline ended it.
-    #[tactic(auto, unfolding(crate::specs::Reading::line_at))]
-    pub(crate) fn line(&mut self, alloc: Global, blank: bool) -> Result<(Vec<Entry>, bool), Stop>
-        ensures value { let text = drop self.old.base (S.bytes self.old.source.now) in
-            Gives (λ x. ((map view_entry x.0.items, x.1), self.new.at)) result (line_at self.old.keep text self.old.origin blank self.old.at) }
+    #[tactic(auto, unfolding(crate::specs::Lines::a_line, crate::specs::Commands::next_token))]
+    pub(crate) fn line(
+        &mut self,
+        alloc: Global,
+        blank: bool,
+        room: usize,
+    ) -> Result<(Vec<Entry>, bool), Stop>
+        ensures value { Gives (end_of S.bytes self.old) (λ x. ((map view_entry x.0.items, x.1), standing self.new.at)) result
+            (reads S.bytes self.old (a_line (level room) blank)) }
         ensures onward { IfOk result (λ x. Onward self.old.at self.new.at x.1) }
-        ensures newline { IfOk result (λ x. x.1 ≡ true → raw_stands (drop self.old.base (S.bytes self.old.source.now)) (self.new.at - 1) 10 ≡ true) }
-        ensures same { (self.new.source ≡ self.old.source) × (self.new.base ≡ self.old.base) × (self.new.origin ≡ self.old.origin) × (self.new.keep ≡ self.old.keep) }
+        ensures newline { IfOk result (λ x. x.1 ≡ true → raw_stands (text_of S.bytes self.old) (self.new.at - 1) 10 ≡ true) }
+        ensures whole { IfOk result (λ x. x.1 ≡ false → at_end (text_of S.bytes self.old) self.new.at ≡ true) }
+        ensures same { Stays self.old self.new }
     {
-        let mut entries = self.entries(alloc, blank)?;
-        let newline = self.end_of_line(blank, &mut entries)?;
+        let mut next = self.next_token(Position::Command);
+        let mut entries = self.entries(alloc, &mut next, blank, room)?;
+        self.own_comment(&mut next, blank, &mut entries)?;
+        let newline = self.end_of_line(next)?;
         Ok((entries, newline))
     }
 }

@@ -1,6 +1,6 @@
 //! How the bytes of a word are read: the modes, and the pieces that they take.
 ghost use Rattle.std.specs.Prelude.{◌≡◌};
-ghost use Rattle.shread.specs.Words.{braces_in, unclosed};
+ghost use Rattle.shread.specs.Pieces.{braces_in, unclosed};
 
 use crate::fault::FaultKind;
 

@@ -1,8 +1,11 @@
-//! One line of a source, read as a script of its own.
-ghost use Rattle.std.specs.Prelude.{◌≡◌, ◌≤◌, drop, length, map, IfOk, IsOk};
+//! One line of a source, alone or as a script of its own.
+ghost use Rattle.std.specs.Prelude.{◌≡◌, ◌+◌, ◌-◌, ◌^◌, ◌<◌, ◌≤◌, drop, false, length, map, true, IfOk, IsOk};
 ghost use Rattle.shread.specs.Answers.{view_kind, view_line};
+ghost use Rattle.shread.specs.Clauses.{Gives, Onward};
 ghost use Rattle.shread.specs.Lines.{kind_of};
-ghost use Rattle.shread.specs.Reading.{line_of_text};
+ghost use Rattle.shread.specs.Scripts.{line_of_text, line_told};
+ghost use Rattle.shread.specs.Sights.{standing};
+ghost use Rattle.shread.specs.Standing.{raw_stands};
 ghost use Rattle.shread.specs.View.{view_entry};
 
 use crate::cursor::Cursor;
@@ -12,6 +15,47 @@ use crate::reader::{Line, LineKind};
 use crate::source::Source;
 use crate::tree::Entry;
 use std::alloc::Global;
+
+/// How many constructs may be open.
+const MOST_OPEN: usize = 100;
+
+/// What was read of a line that has no fault.
+#[derive(Drop)]
+pub(crate) struct Told {
+    pub(crate) entries: Vec<Entry>,
+    /// A newline ends it.
+    pub(crate) newline: bool,
+    /// How many bytes it has.
+    pub(crate) len: usize,
+}
+
+/// The line that begins at an offset, whose own offsets are counted from `origin`.
+#[tactic(auto, using(crate::proofs::Places::end_is))]
+pub(crate) fn line_at<S: Source>(
+    alloc: Global,
+    source: &S,
+    at: usize,
+    origin: usize,
+    blank: bool,
+    keep: bool,
+) -> Result<Told, Stop>
+    requires { (at ≤ length (S.bytes source.now)) × (origin ≤ at) }
+    ensures value { Gives (origin + length (drop at (S.bytes source.now))) (λ x. ((map view_entry x.entries.items, x.newline), standing x.len)) result
+        (line_told (S.bytes source.now) keep blank at origin) }
+    ensures onward { IfOk result (λ x. Onward 0 x.len x.newline) }
+    ensures within { IfOk result (λ x. at + x.len ≤ length (S.bytes source.now)) }
+    ensures fits { IfOk result (λ x. at + x.len < 2 ^ 64) }
+    ensures newline { IfOk result (λ x. x.newline ≡ true → raw_stands (drop at (S.bytes source.now)) (x.len - 1) 10 ≡ true) }
+    ensures whole { IfOk result (λ x. x.newline ≡ false → at + x.len ≡ length (S.bytes source.now)) }
+{
+    let mut cursor = Cursor::at_line(source, at, origin, keep);
+    let (entries, newline) = cursor.line(alloc, blank, MOST_OPEN)?;
+    Ok(Told {
+        entries,
+        newline,
+        len: cursor.at,
+    })
+}
 
 /// What a line without fault is.
 #[tactic(auto, using(crate::proofs::LineKinds::kind_of_none, crate::proofs::LineKinds::kind_of_some))]
@@ -28,12 +72,14 @@ fn line_kind(entries: Vec<Entry>, newline: bool) -> LineKind
     }
 }
 
-/// The line that begins at an offset. At the length no memory is wanted.
-#[tactic(auto, unfolding(crate::specs::Reading::line_of_text), using(crate::proofs::LineKinds::nothing_left))]
+/// The line that begins at an offset, read as a script of its own. At the length no memory is wanted.
+#[tactic(auto, unfolding(crate::specs::Scripts::line_of_text), using(crate::proofs::LineKinds::nothing_left))]
 pub(crate) fn line_from<S: Source>(alloc: Global, source: &S, at: usize) -> Result<Line, ReadError>
     requires { at ≤ length (S.bytes source.now) }
     ensures value { IfOk result (λ line. view_line at line ≡ line_of_text (drop at (S.bytes source.now))) }
     ensures next { IfOk result (λ line. (at ≤ line.next) × (line.next ≤ length (S.bytes source.now))) }
+    ensures onward { IfOk result (λ line. line.ended ≡ true → at < line.next) }
+    ensures whole { IfOk result (λ line. line.ended ≡ false → line.next ≡ length (S.bytes source.now)) }
     ensures end { at ≡ length (S.bytes source.now) → IsOk result }
 {
     let end = source.len();
@@ -44,11 +90,16 @@ pub(crate) fn line_from<S: Source>(alloc: Global, source: &S, at: usize) -> Resu
             ended: false,
         });
     }
-    let mut cursor = Cursor::at_line(source, at, 0, true);
-    match cursor.line(alloc, false) {
-        Ok((entries, newline)) => Ok(Line {
+    match line_at(alloc, source, at, 0, false, true) {
+        Ok(
+            Told {
+                entries,
+                newline,
+                len,
+            },
+        ) => Ok(Line {
             kind: line_kind(entries, newline),
-            next: at + cursor.at,
+            next: at + len,
             ended: newline,
         }),
         Err(Stop::Wrong(fault)) => Ok(Line {

@@ -1,11 +1,15 @@
 //! Which piece of a word begins at a place, and the pieces that hold no others (XCU 2.2, 2.6).
-ghost use Rattle.std.specs.Prelude.{◌≡◌, ◌≢◌, ◌⊎◌, ◌+◌, ◌<◌, ◌≤◌, drop, length, IfOk, Some, false, true};
-ghost use Rattle.shread.specs.Bytes.{behind, byte_at, ends, ends_word, past_continuations, stands};
-ghost use Rattle.shread.specs.Reading.{Gives, backquote_step, backquoted_at, single_at, turns};
-ghost use Rattle.shread.specs.Comes.{step_if};
-ghost use Rattle.shread.specs.Words.{bracket_by, byte_by, dollar_at, past_parameter, piece_at, rest_mode};
+ghost use Rattle.std.specs.Prelude.{◌≡◌, ◌≢◌, ◌⊎◌, ◌+◌, ◌<◌, ◌≤◌, length, IfOk, Some, false, true};
+ghost use Rattle.shread.specs.Bytes.{behind, ends, ends_word, past_continuations, stands};
+ghost use Rattle.shread.specs.Clauses.{Gives, IsRead, Stays, end_of, reads, text_of};
+ghost use Rattle.shread.specs.Form.{step_if};
+ghost use Rattle.shread.specs.Pieces.{bracket_by, byte_by, dollar_at, past_parameter, piece_at, rest_mode};
+ghost use Rattle.shread.specs.Sights.{standing};
+ghost use Rattle.shread.specs.Standing.{raw_stands};
+ghost use Rattle.shread.specs.Words.{backquote_turn, backquoted, single};
 
-use crate::cursor::{Cursor, ends_words};
+use crate::bytes::ends_words;
+use crate::cursor::Cursor;
 use crate::fault::{FaultKind, Stop};
 use crate::mode::{Mode, Piece};
 use crate::search::Sought;
@@ -15,13 +19,13 @@ use crate::token::Class;
 impl<'a, S: Source> Cursor<'a, S> {
     /// What the `$` at a place begins.
     #[inline(always)]
-    #[tactic(auto, unfolding(crate::specs::Words::dollar_at, crate::specs::Bytes::behind, crate::specs::Bytes::stands))]
+    #[tactic(auto, unfolding(crate::specs::Pieces::dollar_at, crate::specs::Bytes::behind, crate::specs::Bytes::stands))]
     fn dollar(&self, here: usize) -> Piece
-        requires here { here ≡ past_continuations (drop self.now.base (S.bytes self.now.source.now)) self.now.at }
-        requires some { here < length (drop self.now.base (S.bytes self.now.source.now)) }
-        ensures value { result ≡ dollar_at (drop self.now.base (S.bytes self.now.source.now)) self.now.at }
-        ensures two { (result ≡ Piece.Pid) ⊎ (result ≡ Piece.Arith) ⊎ (result ≡ Piece.Param) → past_continuations (drop self.now.base (S.bytes self.now.source.now)) (here + 1) < length (drop self.now.base (S.bytes self.now.source.now)) }
-        ensures three { result ≡ Piece.Arith → past_continuations (drop self.now.base (S.bytes self.now.source.now)) (behind (drop self.now.base (S.bytes self.now.source.now)) (here + 1)) < length (drop self.now.base (S.bytes self.now.source.now)) }
+        requires here { here ≡ past_continuations (text_of S.bytes self.now) self.now.at }
+        requires some { here < length (text_of S.bytes self.now) }
+        ensures value { result ≡ dollar_at (text_of S.bytes self.now) self.now.at }
+        ensures two { (result ≡ Piece.Pid) ⊎ (result ≡ Piece.Arith) ⊎ (result ≡ Piece.Param) → IsRead (text_of S.bytes self.now) (here + 1) }
+        ensures three { result ≡ Piece.Arith → IsRead (text_of S.bytes self.now) (behind (text_of S.bytes self.now) (here + 1)) }
         ensures kinds { (result ≢ Piece.Closer) × (result ≢ Piece.Missing) × (result ≢ Piece.Escape) × (result ≢ Piece.Close) }
     {
         let next = here + 1;
@@ -43,10 +47,10 @@ impl<'a, S: Source> Cursor<'a, S> {
     #[inline(always)]
     #[tactic(auto, unfolding(crate::specs::Bytes::behind))]
     fn bracket(&self, nested: usize, here: usize) -> Piece
-        requires here { here ≡ past_continuations (drop self.now.base (S.bytes self.now.source.now)) self.now.at }
-        requires some { here < length (drop self.now.base (S.bytes self.now.source.now)) }
-        ensures value { result ≡ bracket_by nested (stands (drop self.now.base (S.bytes self.now.source.now)) (behind (drop self.now.base (S.bytes self.now.source.now)) self.now.at) 41) }
-        ensures closer { result ≡ Piece.Closer → past_continuations (drop self.now.base (S.bytes self.now.source.now)) (here + 1) < length (drop self.now.base (S.bytes self.now.source.now)) }
+        requires here { here ≡ past_continuations (text_of S.bytes self.now) self.now.at }
+        requires some { here < length (text_of S.bytes self.now) }
+        ensures value { result ≡ bracket_by nested (stands (text_of S.bytes self.now) (behind (text_of S.bytes self.now) self.now.at) 41) }
+        ensures closer { result ≡ Piece.Closer → IsRead (text_of S.bytes self.now) (here + 1) }
         ensures close { result ≡ Piece.Close → 0 < nested }
         ensures kinds { (result ≡ Piece.Closer) ⊎ (result ≡ Piece.Close) ⊎ (result ≡ Piece.BadClose) }
     {
@@ -63,10 +67,10 @@ impl<'a, S: Source> Cursor<'a, S> {
     /// The piece that a byte begins which is no backslash, no backquote and no `$`.
     #[inline(always)]
     fn byte_piece(&self, mode: Mode, nested: usize, byte: u8, here: usize) -> Piece
-        requires here { here ≡ past_continuations (drop self.now.base (S.bytes self.now.source.now)) self.now.at }
-        requires some { here < length (drop self.now.base (S.bytes self.now.source.now)) }
-        ensures value { result ≡ byte_by (drop self.now.base (S.bytes self.now.source.now)) self.now.at mode nested byte }
-        ensures closer { mode ≡ Mode.Arith → result ≡ Piece.Closer → past_continuations (drop self.now.base (S.bytes self.now.source.now)) (here + 1) < length (drop self.now.base (S.bytes self.now.source.now)) }
+        requires here { here ≡ past_continuations (text_of S.bytes self.now) self.now.at }
+        requires some { here < length (text_of S.bytes self.now) }
+        ensures value { result ≡ byte_by (text_of S.bytes self.now) self.now.at mode nested byte }
+        ensures closer { mode ≡ Mode.Arith → result ≡ Piece.Closer → IsRead (text_of S.bytes self.now) (here + 1) }
         ensures close { result ≡ Piece.Close → 0 < nested }
         ensures word { mode ≡ Mode.Plain → ends (Some byte) ≡ false → result ≢ Piece.Closer }
         ensures kinds { (result ≢ Piece.Missing) × (result ≢ Piece.Escape) × (result ≢ Piece.Pid) × (result ≢ Piece.Arith) × (result ≢ Piece.Param) }
@@ -94,18 +98,18 @@ impl<'a, S: Source> Cursor<'a, S> {
 
     /// The piece that begins here, with so many brackets open in arithmetic; its first byte is read at the place `here`.
     #[inline(always)]
-    #[tactic(auto, unfolding(crate::specs::Words::piece_at, crate::specs::Bytes::ends_word, crate::specs::Bytes::behind))]
+    #[tactic(auto, unfolding(crate::specs::Pieces::piece_at, crate::specs::Standing::raw_stands, crate::specs::Bytes::ends_word, crate::specs::Bytes::behind))]
     pub(crate) fn piece(&self, mode: Mode, nested: usize, here: usize) -> Piece
-        requires here { here ≡ past_continuations (drop self.now.base (S.bytes self.now.source.now)) self.now.at }
-        requires within { here ≤ length (drop self.now.base (S.bytes self.now.source.now)) }
-        ensures value { result ≡ piece_at (drop self.now.base (S.bytes self.now.source.now)) mode nested self.now.at }
-        ensures some { (result ≢ Piece.Missing) × ((mode ≢ Mode.Plain) ⊎ (result ≢ Piece.Closer)) → here < length (drop self.now.base (S.bytes self.now.source.now)) }
-        ensures escape { result ≡ Piece.Escape → here + 2 ≤ length (drop self.now.base (S.bytes self.now.source.now)) }
-        ensures two { (result ≡ Piece.Pid) ⊎ (result ≡ Piece.Arith) ⊎ (result ≡ Piece.Param) → past_continuations (drop self.now.base (S.bytes self.now.source.now)) (here + 1) < length (drop self.now.base (S.bytes self.now.source.now)) }
-        ensures three { result ≡ Piece.Arith → past_continuations (drop self.now.base (S.bytes self.now.source.now)) (behind (drop self.now.base (S.bytes self.now.source.now)) (here + 1)) < length (drop self.now.base (S.bytes self.now.source.now)) }
-        ensures closer { mode ≡ Mode.Arith → result ≡ Piece.Closer → past_continuations (drop self.now.base (S.bytes self.now.source.now)) (here + 1) < length (drop self.now.base (S.bytes self.now.source.now)) }
+        requires here { here ≡ past_continuations (text_of S.bytes self.now) self.now.at }
+        requires within { here ≤ length (text_of S.bytes self.now) }
+        ensures value { result ≡ piece_at (text_of S.bytes self.now) mode nested self.now.at }
+        ensures some { (result ≢ Piece.Missing) × ((mode ≢ Mode.Plain) ⊎ (result ≢ Piece.Closer)) → here < length (text_of S.bytes self.now) }
+        ensures escape { result ≡ Piece.Escape → (here + 2 ≤ length (text_of S.bytes self.now)) × (raw_stands (text_of S.bytes self.now) here 92 ≡ true) }
+        ensures two { (result ≡ Piece.Pid) ⊎ (result ≡ Piece.Arith) ⊎ (result ≡ Piece.Param) → IsRead (text_of S.bytes self.now) (here + 1) }
+        ensures three { result ≡ Piece.Arith → IsRead (text_of S.bytes self.now) (behind (text_of S.bytes self.now) (here + 1)) }
+        ensures closer { mode ≡ Mode.Arith → result ≡ Piece.Closer → IsRead (text_of S.bytes self.now) (here + 1) }
         ensures close { result ≡ Piece.Close → 0 < nested }
-        ensures word { mode ≡ Mode.Plain → ends_word (drop self.now.base (S.bytes self.now.source.now)) self.now.at ≡ false → result ≢ Piece.Closer }
+        ensures word { mode ≡ Mode.Plain → ends_word (text_of S.bytes self.now) self.now.at ≡ false → result ≢ Piece.Closer }
     {
         match self.raw_byte(here) {
             None => {
@@ -129,11 +133,11 @@ impl<'a, S: Source> Cursor<'a, S> {
     }
 
     /// Passes the parameter of an expansion: a name, digits, a special parameter or nothing.
-    #[tactic(auto, unfolding(crate::specs::Words::past_parameter, crate::specs::Bytes::stands_in))]
+    #[tactic(auto, unfolding(crate::specs::Pieces::past_parameter, crate::specs::Bytes::stands_in))]
     pub(crate) fn parameter(&mut self)
-        ensures value { self.new.at ≡ past_parameter (drop self.old.base (S.bytes self.old.source.now)) self.old.at }
+        ensures value { self.new.at ≡ past_parameter (text_of S.bytes self.old) self.old.at }
         ensures onward { self.old.at ≤ self.new.at }
-        ensures same { (self.new.source ≡ self.old.source) × (self.new.base ≡ self.old.base) × (self.new.origin ≡ self.old.origin) × (self.new.keep ≡ self.old.keep) }
+        ensures same { Stays self.old self.new }
     {
         match self.byte() {
             Some(b'a'..=b'z' | b'A'..=b'Z' | b'_') => self.at = self.past(self.at, Class::Name),
@@ -144,9 +148,9 @@ impl<'a, S: Source> Cursor<'a, S> {
     }
 
     /// How the rest of an expansion is read that opened in this mode.
-    #[tactic(auto, unfolding(crate::specs::Words::rest_mode, crate::specs::Bytes::stands))]
+    #[tactic(auto, unfolding(crate::specs::Pieces::rest_mode, crate::specs::Bytes::stands))]
     pub(crate) fn rest_mode(&self, mode: Mode) -> Mode
-        ensures { result ≡ rest_mode (drop self.now.base (S.bytes self.now.source.now)) mode self.now.at }
+        ensures { result ≡ rest_mode (text_of S.bytes self.now) mode self.now.at }
     {
         match self.byte() {
             Some(b'#' | b'%') => Mode::Brace,
@@ -155,13 +159,13 @@ impl<'a, S: Source> Cursor<'a, S> {
     }
 
     /// Text in single quotes, from its opener on.
-    #[tactic(auto, unfolding(crate::specs::Reading::single_at))]
+    #[tactic(auto, unfolding(crate::specs::Words::single, crate::specs::Pieces::past_taken, crate::specs::Bytes::behind), using(crate::proofs::Places::quote_clear))]
     pub(crate) fn single(&mut self, opener: usize) -> Result<(), Stop>
-        requires { opener < length (drop self.old.base (S.bytes self.old.source.now)) }
-        ensures value { let text = (drop self.old.base (S.bytes self.old.source.now)) in
-            Gives (λ done. self.new.at) result (single_at text self.old.origin opener) }
+        requires opener { opener ≡ past_continuations (text_of S.bytes self.old) self.old.at }
+        requires some { opener < length (text_of S.bytes self.old) }
+        ensures value { Gives (end_of S.bytes self.old) (λ done. (tt, standing self.new.at)) result (reads S.bytes self.old single) }
         ensures onward { IfOk result (λ done. opener < self.new.at) }
-        ensures same { (self.new.source ≡ self.old.source) × (self.new.base ≡ self.old.base) × (self.new.origin ≡ self.old.origin) × (self.new.keep ≡ self.old.keep) }
+        ensures same { Stays self.old self.new }
     {
         let closer = self.next_quote(opener + 1);
         if self.at_end(closer) {
@@ -172,13 +176,13 @@ impl<'a, S: Source> Cursor<'a, S> {
     }
 
     /// What stands up to the next backquote or backslash. Answers whether more follows: if not, the text is closed.
-    #[tactic(auto, unfolding(crate::specs::Reading::backquote_step))]
+    #[tactic(auto, unfolding(crate::specs::Words::backquote_turn, crate::specs::Pieces::past_taken), using(crate::proofs::Places::backslash_next, crate::proofs::Places::backquote_is))]
     fn backquote_turn(&mut self, opener: usize) -> Result<bool, Stop>
         requires { opener ≤ self.old.at }
-        ensures value { let text = (drop self.old.base (S.bytes self.old.source.now)) in
-            Gives (λ more. step_if more tt self.new.at) result (backquote_step text self.old.origin opener tt self.old.at) }
+        ensures value { Gives (end_of S.bytes self.old) (λ more. (step_if more tt, standing self.new.at)) result
+            (reads S.bytes self.old (backquote_turn (self.old.origin + opener) tt)) }
         ensures onward { IfOk result (λ more. self.old.at < self.new.at) }
-        ensures same { (self.new.source ≡ self.old.source) × (self.new.base ≡ self.old.base) × (self.new.origin ≡ self.old.origin) × (self.new.keep ≡ self.old.keep) }
+        ensures same { Stays self.old self.new }
     {
         let next = self.find(Sought::Either(b'`', b'\\'), self.at);
         if self.at_end(next) {
@@ -196,13 +200,13 @@ impl<'a, S: Source> Cursor<'a, S> {
     }
 
     /// Text in backquotes, from its opener on.
-    #[tactic(auto, unfolding(crate::specs::Reading::backquoted_at), using(crate::proofs::Turns::turns_again, crate::proofs::Turns::turns_done, crate::proofs::Turns::turns_stop))]
+    #[tactic(auto, unfolding(crate::specs::Words::backquoted, crate::specs::Bytes::behind), using(crate::proofs::Turns::many_again, crate::proofs::Turns::many_done, crate::proofs::Turns::many_stop))]
     pub(crate) fn backquoted(&mut self, opener: usize) -> Result<(), Stop>
-        requires { opener < length (drop self.old.base (S.bytes self.old.source.now)) }
-        ensures value { let text = (drop self.old.base (S.bytes self.old.source.now)) in
-            Gives (λ done. (tt, self.new.at)) result (backquoted_at text self.old.origin opener) }
+        requires opener { opener ≡ past_continuations (text_of S.bytes self.old) self.old.at }
+        requires some { opener < length (text_of S.bytes self.old) }
+        ensures value { Gives (end_of S.bytes self.old) (λ done. (tt, standing self.new.at)) result (reads S.bytes self.old backquoted) }
         ensures onward { IfOk result (λ done. opener < self.new.at) }
-        ensures same { (self.new.source ≡ self.old.source) × (self.new.base ≡ self.old.base) × (self.new.origin ≡ self.old.origin) × (self.new.keep ≡ self.old.keep) }
+        ensures same { Stays self.old self.new }
     {
         self.at = opener + 1;
         'turns: while self.backquote_turn(opener)? {}

@@ -1,5 +1,6 @@
 //! Bytes that are ordinary in a mode, many at once.
-ghost use Rattle.std.specs.Prelude.{◌≡◌, ◌+◌, ◌<◌, ◌≤◌, ℕ, drop, length, slice_index, true};
+ghost use Rattle.std.specs.Prelude.{◌≡◌, ◌+◌, ◌<◌, ◌≤◌, ℕ, length, slice_index, true};
+ghost use Rattle.shread.specs.Clauses.{Stays, text_of};
 ghost use Rattle.shread.specs.Plain.{ArePlain, alone, is_plain};
 
 use crate::cursor::Cursor;
@@ -88,10 +89,10 @@ impl<'a, S: Source> Cursor<'a, S> {
     /// Passes the bytes from here on that are ordinary in a mode, or some of them.
     #[inline(always)]
     pub(crate) fn skip_plain(&mut self, mode: Mode)
-        ensures plain { ArePlain mode (drop self.old.base (S.bytes self.old.source.now)) self.old.at self.new.at }
+        ensures plain { ArePlain mode (text_of S.bytes self.old) self.old.at self.new.at }
         ensures onward { self.old.at ≤ self.new.at }
-        ensures within { self.new.at ≤ length (drop self.old.base (S.bytes self.old.source.now)) }
-        ensures same { (self.new.source ≡ self.old.source) × (self.new.base ≡ self.old.base) × (self.new.origin ≡ self.old.origin) × (self.new.keep ≡ self.old.keep) }
+        ensures within { self.new.at ≤ length (text_of S.bytes self.old) }
+        ensures same { Stays self.old self.new }
     {
         let run = self.source.run(self.base + self.at);
         self.at += plain_front(run, mode);

@@ -1,7 +1,8 @@
 //! The reader: one line, or a whole script.
-ghost use Rattle.std.specs.Prelude.{◌≡◌, ◌+◌, ◌-◌, ◌≤◌, drop, length, IfOk, IfErr, IfSome, IsOk};
+ghost use Rattle.std.specs.Prelude.{◌≡◌, ◌+◌, ◌-◌, ◌<◌, ◌≤◌, drop, false, length, true, IfOk, IfErr, IfSome, IsOk};
 ghost use Rattle.shread.specs.Answers.{meter_of, raised, view_line, view_script};
-ghost use Rattle.shread.specs.Lines.{ALine, AScript, FirstFault, IsLine, Outcome};
+ghost use Rattle.shread.specs.Lines.{ALine, IsLine, NoFurther, SameBytes};
+ghost use Rattle.shread.specs.Scripts.{AScript, FirstFault, Outcome};
 ghost use Rattle.shread.specs.Normal.{IsNormal};
 
 use crate::all_lines::script_from;
@@ -71,7 +72,12 @@ impl Reader {
         // The answer is the line that the grammar has for the bytes from `at` on, and it has no other.
         ensures line { IfOk result (λ line. IsLine (drop at (S.bytes source.now)) (view_line at line)) }
         ensures only { IfOk result (λ line. (a : ALine) → IsLine (drop at (S.bytes source.now)) a → a ≡ view_line at line) }
+        // The same bytes have the same line wherever they stand, and a line that a newline ended looks no further.
+        ensures same_bytes { IfOk result (λ line. SameBytes (drop at (S.bytes source.now)) (view_line at line)) }
+        ensures no_further { IfOk result (λ line. line.ended ≡ true → NoFurther (drop at (S.bytes source.now)) (view_line at line)) }
         ensures next { IfOk result (λ line. (at ≤ line.next) × (line.next ≤ length (S.bytes source.now))) }
+        ensures onward { IfOk result (λ line. line.ended ≡ true → at < line.next) }
+        ensures whole { IfOk result (λ line. line.ended ≡ false → line.next ≡ length (S.bytes source.now)) }
         ensures meter { IfOk result (λ line. meter_of self.new ≡ raised (meter_of self.old) (line.next - at)) }
         ensures err { IfErr result (λ e. meter_of self.new ≡ meter_of self.old) }
         ensures end { at ≡ length (S.bytes source.now) → IsOk result }

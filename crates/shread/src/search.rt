@@ -1,8 +1,9 @@
 //! Searches: the next place in a text where a byte stands, or one of two.
-ghost use Rattle.std.specs.Prelude.{◌≡◌, ◌≤◌, drop, length};
+ghost use Rattle.std.specs.Prelude.{◌≡◌, ◌≤◌, length};
 ghost use Rattle.memchr.specs.Find.{IsFirstByte};
-ghost use Rattle.shread.specs.Bytes.{next_of, next_such};
 ghost use Rattle.shread.specs.Classes.{is_sought};
+ghost use Rattle.shread.specs.Clauses.{text_of};
+ghost use Rattle.shread.specs.Standing.{next_of, next_such};
 
 use crate::cursor::Cursor;
 use crate::source::Source;
@@ -56,9 +57,9 @@ impl<'a, S: Source> Cursor<'a, S> {
     /// The next place from a place on where a byte that is sought stands, or the end.
     #[tactic(auto, using(crate::proofs::Searches::such_behind))]
     pub(crate) fn find(&self, sought: Sought, from: usize) -> usize
-        requires { from ≤ length (drop self.now.base (S.bytes self.now.source.now)) }
-        ensures value { result ≡ next_such (is_sought sought) (drop self.now.base (S.bytes self.now.source.now)) from }
-        ensures inside { (from ≤ result) × (result ≤ length (drop self.now.base (S.bytes self.now.source.now))) }
+        requires { from ≤ length (text_of S.bytes self.now) }
+        ensures value { result ≡ next_such (is_sought sought) (text_of S.bytes self.now) from }
+        ensures inside { (from ≤ result) × (result ≤ length (text_of S.bytes self.now)) }
     {
         find_in(self.source, self.base + from, sought) - self.base
     }
@@ -68,9 +69,9 @@ impl<'a, S: Source> Cursor<'a, S> {
     #[inline(always)]
     #[tactic(auto, using(crate::proofs::Searches::byte_passed, crate::proofs::Searches::byte_here, crate::proofs::Searches::byte_end))]
     pub(crate) fn next_quote(&self, from: usize) -> usize
-        requires { from ≤ length (drop self.now.base (S.bytes self.now.source.now)) }
-        ensures value { result ≡ next_of 39 (drop self.now.base (S.bytes self.now.source.now)) from }
-        ensures inside { (from ≤ result) × (result ≤ length (drop self.now.base (S.bytes self.now.source.now))) }
+        requires { from ≤ length (text_of S.bytes self.now) }
+        ensures value { result ≡ next_of 39 (text_of S.bytes self.now) from }
+        ensures inside { (from ≤ result) × (result ≤ length (text_of S.bytes self.now)) }
     {
         let mut at = from;
         'near: for _ in 0..NEAR {

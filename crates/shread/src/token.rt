@@ -1,8 +1,9 @@
 //! Tokens: what may begin where one begins (XCU 2.3, 2.4, 2.10.1).
-ghost use Rattle.std.specs.Prelude.{◌≡◌, ◌≢◌, ◌-◌, ◌<◌, drop, length, true, false};
-ghost use Rattle.shread.specs.Bytes.{is_blank, begins_assignment, behind, ends_word, is_number, is_reserved, is_word_at, past_continuations, raw_stands, stands_in, token_at};
+ghost use Rattle.std.specs.Prelude.{◌≡◌, ◌≤◌, [], ◌∷◌, None, Some, if◌then◌else◌};
+ghost use Rattle.shread.specs.Bytes.{past_blanks};
 ghost use Rattle.shread.specs.Classes.{in_class};
-ghost use Rattle.shread.specs.Commands.{is_word};
+ghost use Rattle.shread.specs.Clauses.{Shows, Stays, text_of};
+ghost use Rattle.shread.specs.Tokens.{begins_assignment, first_of_words, is_number, is_word_at, next_at, reserved_at, token_at, word_by};
 
 use crate::cursor::Cursor;
 use crate::source::Source;
@@ -23,8 +24,55 @@ pub(crate) enum Token {
     Comment,
     /// Digits before `<` or `>`: the number of a redirection.
     Number,
+    /// A reserved word, where a command may begin.
+    Reserved(Reserved),
+    /// A word that begins with a NAME and `=`, before the command's name.
+    Assignment,
     /// Any other word.
     Word,
+}
+
+/// The reserved words (XCU 2.4).
+#[derive(Clone, Copy, Debug, PartialEq, Eq)]
+pub(crate) enum Reserved {
+    /// `!`
+    Bang,
+    /// `{`
+    OpenBrace,
+    /// `}`
+    CloseBrace,
+    Case,
+    Do,
+    Done,
+    Elif,
+    Else,
+    Esac,
+    Fi,
+    For,
+    If,
+    In,
+    Then,
+    Until,
+    While,
+}
+
+/// Where in a simple command a token stands, which decides what a word may be there (XCU 2.4, 2.10.2).
+#[derive(Clone, Copy, Debug, PartialEq, Eq)]
+pub(crate) enum Position {
+    /// Where a command may begin: a word may be reserved, or an assignment.
+    Command,
+    /// Behind an assignment: a word may be one more.
+    Prefix,
+    /// Behind the command's name: a word is an argument.
+    Suffix,
+}
+
+/// The token that begins here, told once and handed on.
+#[derive(Clone, Copy, Debug, PartialEq, Eq)]
+pub(crate) struct Next {
+    pub(crate) token: Token,
+    /// A continuation stands before it.
+    pub(crate) broken: bool,
 }
 
 /// What parts two and-or lists of a line (XCU 2.9.3).
@@ -43,15 +91,6 @@ pub(crate) enum Class {
     Name,
 }
 
-impl Token {
-    pub(crate) fn is_word(self) -> bool
-        ensures value { result ≡ is_word self }
-        ensures word { result ≡ true → self ≡ Token.Word }
-    {
-        matches!(self, Token::Word)
-    }
-}
-
 impl Class {
     pub(crate) fn has(self, byte: u8) -> bool
         ensures { result ≡ in_class self byte }
@@ -68,7 +107,7 @@ impl<'a, S: Source> Cursor<'a, S> {
     /// Whether the word that is spelled so stands here.
     #[tactic(auto, using(crate::proofs::Stretches::word_more, crate::proofs::Stretches::word_other, crate::proofs::Stretches::word_whole))]
     fn is_word(&self, word: &[u8]) -> bool
-        ensures { result ≡ is_word_at (drop self.now.base (S.bytes self.now.source.now)) self.now.at word.now }
+        ensures { result ≡ is_word_at (text_of S.bytes self.now) self.now.at word.now }
     {
         let mut at = self.at;
         'letters: for byte in word {
@@ -80,33 +119,65 @@ impl<'a, S: Source> Cursor<'a, S> {
         self.ends_at(at)
     }
 
-    /// Whether a reserved word stands here. Its first byte tells which it may be.
-    #[tactic(auto, unfolding(crate::specs::Bytes::is_reserved, crate::specs::Bytes::is_opening_word, crate::specs::Bytes::is_closing_word, crate::specs::Bytes::is_word_at, crate::specs::Bytes::stands))]
-    pub(crate) fn is_reserved(&self) -> bool
-        ensures { result ≡ is_reserved (drop self.now.base (S.bytes self.now.source.now)) self.now.at }
+    /// This reserved word, if it stands here.
+    fn spelled(&self, word: &[u8], reserved: Reserved) -> Option<Reserved>
+        ensures { result ≡ (if is_word_at (text_of S.bytes self.now) self.now.at word.now then Some reserved else None) }
+    {
+        if self.is_word(word) {
+            Some(reserved)
+        } else {
+            None
+        }
+    }
+
+    /// This reserved word, or that one, if one of them stands here.
+    #[tactic(auto, unfolding(crate::specs::Tokens::first_of_words))]
+    fn spelled_as(
+        &self,
+        word: &[u8],
+        reserved: Reserved,
+        other: &[u8],
+        second: Reserved,
+    ) -> Option<Reserved>
+        ensures { result ≡ first_of_words (text_of S.bytes self.now) self.now.at ((word.now, reserved) ∷ (other.now, second) ∷ []) }
+    {
+        if self.is_word(word) {
+            return Some(reserved);
+        }
+        self.spelled(other, second)
+    }
+
+    /// The reserved word that stands here, if one does. Its first byte tells which it may be.
+    #[tactic(auto, unfolding(crate::specs::Tokens::reserved_words, crate::specs::Tokens::first_of_words, crate::specs::Tokens::is_word_at, crate::specs::Bytes::stands))]
+    fn reserved(&self) -> Option<Reserved>
+        ensures { result ≡ reserved_at (text_of S.bytes self.now) self.now.at }
     {
         match self.byte() {
-            Some(b'!') => self.is_word(b"!"),
-            Some(b'{') => self.is_word(b"{"),
-            Some(b'}') => self.is_word(b"}"),
-            Some(b'c') => self.is_word(b"case"),
-            Some(b'd') => self.is_word(b"do") || self.is_word(b"done"),
-            Some(b'e') => self.is_word(b"elif") || self.is_word(b"else") || self.is_word(b"esac"),
-            Some(b'f') => self.is_word(b"fi") || self.is_word(b"for"),
-            Some(b'i') => self.is_word(b"if") || self.is_word(b"in"),
-            Some(b't') => self.is_word(b"then"),
-            Some(b'u') => self.is_word(b"until"),
-            Some(b'w') => self.is_word(b"while"),
-            _ => false,
+            Some(b'!') => self.spelled(b"!", Reserved::Bang),
+            Some(b'{') => self.spelled(b"{", Reserved::OpenBrace),
+            Some(b'}') => self.spelled(b"}", Reserved::CloseBrace),
+            Some(b'c') => self.spelled(b"case", Reserved::Case),
+            Some(b'd') => self.spelled_as(b"do", Reserved::Do, b"done", Reserved::Done),
+            Some(b'e') => {
+                if self.is_word(b"elif") {
+                    return Some(Reserved::Elif);
+                }
+                self.spelled_as(b"else", Reserved::Else, b"esac", Reserved::Esac)
+            }
+            Some(b'f') => self.spelled_as(b"fi", Reserved::Fi, b"for", Reserved::For),
+            Some(b'i') => self.spelled_as(b"if", Reserved::If, b"in", Reserved::In),
+            Some(b't') => self.spelled(b"then", Reserved::Then),
+            Some(b'u') => self.spelled(b"until", Reserved::Until),
+            Some(b'w') => self.spelled(b"while", Reserved::While),
+            _ => None,
         }
     }
 
     /// Whether a NAME and `=` stand here.
     #[inline(always)]
-    #[tactic(auto, unfolding(crate::specs::Bytes::begins_assignment, crate::specs::Bytes::stands_in, crate::specs::Bytes::ends_word))]
-    pub(crate) fn begins_assignment(&self) -> bool
-        ensures value { result ≡ begins_assignment (drop self.now.base (S.bytes self.now.source.now)) self.now.at }
-        ensures word { result ≡ true → ends_word (drop self.now.base (S.bytes self.now.source.now)) self.now.at ≡ false }
+    #[tactic(auto, unfolding(crate::specs::Tokens::begins_assignment, crate::specs::Bytes::stands_in))]
+    fn begins_assignment(&self) -> bool
+        ensures { result ≡ begins_assignment (text_of S.bytes self.now) self.now.at }
     {
         match self.byte() {
             Some(b'a'..=b'z' | b'A'..=b'Z' | b'_') => self.stands(
@@ -119,9 +190,9 @@ impl<'a, S: Source> Cursor<'a, S> {
 
     /// Whether digits that `<` or `>` follows stand here.
     #[inline(always)]
-    #[tactic(auto, unfolding(crate::specs::Bytes::is_number))]
+    #[tactic(auto, unfolding(crate::specs::Tokens::is_number))]
     fn is_number(&self) -> bool
-        ensures { result ≡ is_number (drop self.now.base (S.bytes self.now.source.now)) self.now.at }
+        ensures { result ≡ is_number (text_of S.bytes self.now) self.now.at }
     {
         if !self.stands_in(self.at, Class::Digit) {
             return false;
@@ -130,14 +201,30 @@ impl<'a, S: Source> Cursor<'a, S> {
         self.stands(end, b'<') || self.stands(end, b'>')
     }
 
+    /// What the word here is in this position of a command.
+    #[inline(always)]
+    fn word_token(&self, position: Position) -> Token
+        ensures { result ≡ word_by position (text_of S.bytes self.now) self.now.at }
+    {
+        if position == Position::Suffix {
+            return Token::Word;
+        }
+        if position == Position::Command {
+            if let Some(reserved) = self.reserved() {
+                return Token::Reserved(reserved);
+            }
+        }
+        if self.begins_assignment() {
+            Token::Assignment
+        } else {
+            Token::Word
+        }
+    }
+
     /// What begins here, where no blank stands.
-    #[tactic(auto, unfolding(crate::specs::Bytes::token_at, crate::specs::Bytes::behind, crate::specs::Bytes::raw_stands, crate::specs::Bytes::stands, crate::specs::Bytes::stands_in, crate::specs::Bytes::ends_word))]
-    pub(crate) fn token(&self) -> Token
-        ensures value { result ≡ token_at (drop self.now.base (S.bytes self.now.source.now)) self.now.at }
-        ensures inside { result ≢ Token.End → past_continuations (drop self.now.base (S.bytes self.now.source.now)) self.now.at < length (drop self.now.base (S.bytes self.now.source.now)) }
-        ensures word { let text = drop self.now.base (S.bytes self.now.source.now) in
-            stands_in is_blank text self.now.at ≡ false → result ≡ Token.Word → ends_word text self.now.at ≡ false }
-        ensures newline { result ≡ Token.Newline → raw_stands (drop self.now.base (S.bytes self.now.source.now)) (behind (drop self.now.base (S.bytes self.now.source.now)) self.now.at - 1) 10 ≡ true }
+    #[tactic(auto, unfolding(crate::specs::Tokens::token_at, crate::specs::Tokens::is_number, crate::specs::Bytes::behind, crate::specs::Bytes::stands, crate::specs::Bytes::stands_in))]
+    fn token(&self, position: Position) -> Token
+        ensures { result ≡ token_at position (text_of S.bytes self.now) self.now.at }
     {
         match self.byte() {
             None => Token::End,
@@ -158,28 +245,25 @@ impl<'a, S: Source> Cursor<'a, S> {
             }
             Some(b'|' | b'<' | b'>' | b'(' | b')') => Token::Operator,
             Some(b'#') => Token::Comment,
-            Some(_) => {
-                if self.is_number() {
-                    Token::Number
-                } else {
-                    Token::Word
-                }
-            }
+            Some(b'0'..=b'9') if self.is_number() => Token::Number,
+            Some(_) => self.word_token(position),
         }
     }
 
-    /// Whether a word begins here, where no blank stands. Most often a letter or the line's end tells.
+    /// To where the next token begins, and what it is in this position of a command.
     #[inline(always)]
-    #[tactic(auto, unfolding(crate::specs::Bytes::token_at, crate::specs::Bytes::is_number, crate::specs::Bytes::stands_in, crate::specs::Bytes::ends_word))]
-    pub(crate) fn begins_word(&self) -> bool
-        requires { stands_in is_blank (drop self.now.base (S.bytes self.now.source.now)) self.now.at ≡ false }
-        ensures value { result ≡ is_word (token_at (drop self.now.base (S.bytes self.now.source.now)) self.now.at) }
-        ensures word { result ≡ true → ends_word (drop self.now.base (S.bytes self.now.source.now)) self.now.at ≡ false }
+    #[tactic(auto, using(crate::proofs::Shown::shown))]
+    pub(crate) fn next_token(&mut self, position: Position) -> Next
+        ensures value { result ≡ next_at position (text_of S.bytes self.old) self.old.at }
+        ensures place { self.new.at ≡ past_blanks (text_of S.bytes self.old) self.old.at }
+        ensures shows { Shows result.token (text_of S.bytes self.old) self.new.at }
+        ensures inside { self.old.at ≤ self.new.at }
+        ensures same { Stays self.old self.new }
     {
-        match self.byte() {
-            Some(b'a'..=b'z' | b'A'..=b'Z') => true,
-            Some(b'\n') | None => false,
-            _ => self.token().is_word(),
+        let broken = self.skip_blanks();
+        Next {
+            token: self.token(position),
+            broken,
         }
     }
 }

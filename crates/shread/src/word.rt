@@ -1,55 +1,33 @@
 //! Words (XCU 2.3), and how far they go: their pieces in the five modes (XCU 2.2, 2.6).
-ghost use Rattle.std.specs.Prelude.{◌≡◌, ◌≢◌, ◌+◌, ◌<◌, ◌≤◌, drop, length, IfOk, false, true};
-ghost use Rattle.shread.specs.Bytes.{behind, ends_word, past_continuations};
-ghost use Rattle.shread.specs.Comes.{step_if};
-ghost use Rattle.shread.specs.Reading.{Gives, Onward, contents_at, level_at, piece_step, word_at};
+ghost use Rattle.std.specs.Prelude.{◌≡◌, ◌≢◌, ◌+◌, ◌<◌, ◌≤◌, [], length, IfOk, false};
+ghost use Rattle.shread.specs.Bytes.{ends_word, past_continuations};
+ghost use Rattle.shread.specs.Clauses.{Gives, IsRead, Onward, Stays, end_of, reads, text_of};
+ghost use Rattle.shread.specs.Comments.{span};
+ghost use Rattle.shread.specs.Form.{step_if};
+ghost use Rattle.shread.specs.Pieces.{past_closer};
+ghost use Rattle.shread.specs.Sights.{standing};
 ghost use Rattle.shread.specs.Tree.{no_subst, word};
 ghost use Rattle.shread.specs.View.{view_word};
-ghost use Rattle.shread.specs.Words.{past_closer, past_parameter, rest_mode, span, unclosed};
+ghost use Rattle.shread.specs.Words.{a_piece, a_word, contents, having, level};
 
 use crate::cursor::Cursor;
-use crate::fault::{Fault, FaultKind, Stop};
+use crate::fault::{FaultKind, Stop};
 use crate::make::word_of;
 use crate::mode::{Mode, Piece};
 use crate::source::Source;
-use crate::tree::{Span, Word};
+use crate::tree::Word;
 use std::alloc::Global;
 
-/// How many constructs may be open.
-const MOST_OPEN: usize = 100;
-
 impl<'a, S: Source> Cursor<'a, S> {
-    /// What stops the reading at a place.
-    pub(crate) fn wrong_at(&self, kind: FaultKind, place: usize) -> Stop
-        requires { place ≤ length (drop self.now.base (S.bytes self.now.source.now)) }
-        ensures { result ≡ Stop.Wrong (record { kind = kind; at = self.now.origin + place }) }
-    {
-        Stop::Wrong(Fault {
-            kind,
-            at: self.origin + place,
-        })
-    }
-
-    /// The span from a place to this one.
-    pub(crate) fn span_from(&self, start: usize) -> Span
-        requires { start ≤ self.now.at }
-        ensures { result ≡ span self.now.origin start self.now.at }
-    {
-        Span {
-            start: self.origin + start,
-            end: self.origin + self.at,
-        }
-    }
-
     /// What closes a construct of this mode, from its place on; nothing closes a word.
     #[tactic(auto, unfolding(crate::specs::Bytes::behind), using(crate::proofs::Stretches::place_low))]
     fn close(&mut self, mode: Mode, here: usize)
-        requires here { here ≡ past_continuations (drop self.old.base (S.bytes self.old.source.now)) self.old.at }
-        requires one { mode ≢ Mode.Plain → here < length (drop self.old.base (S.bytes self.old.source.now)) }
-        requires two { mode ≡ Mode.Arith → past_continuations (drop self.old.base (S.bytes self.old.source.now)) (here + 1) < length (drop self.old.base (S.bytes self.old.source.now)) }
-        ensures value { self.new.at ≡ past_closer (drop self.old.base (S.bytes self.old.source.now)) mode self.old.at }
+        requires here { here ≡ past_continuations (text_of S.bytes self.old) self.old.at }
+        requires one { mode ≢ Mode.Plain → here < length (text_of S.bytes self.old) }
+        requires two { mode ≡ Mode.Arith → IsRead (text_of S.bytes self.old) (here + 1) }
+        ensures value { self.new.at ≡ past_closer (text_of S.bytes self.old) mode self.old.at }
         ensures onward { self.old.at ≤ self.new.at }
-        ensures same { (self.new.source ≡ self.old.source) × (self.new.base ≡ self.old.base) × (self.new.origin ≡ self.old.origin) × (self.new.keep ≡ self.old.keep) }
+        ensures same { Stays self.old self.new }
     {
         match mode {
             Mode::Plain => {}
@@ -61,13 +39,13 @@ impl<'a, S: Source> Cursor<'a, S> {
     /// A construct, from behind its opener to behind its closer. Most often it holds plain bytes alone.
     #[cycle(words)]
     #[inline(always)]
-    #[tactic(auto, using(crate::proofs::Levels::level_below, crate::proofs::Levels::level_closed, crate::proofs::PlainBytes::plain_closed, crate::proofs::PlainBytes::plain_contents))]
+    #[tactic(auto, using(crate::proofs::Levels::level_closed, crate::proofs::PlainBytes::plain_construct, crate::proofs::PlainBytes::plain_begin))]
     fn construct(&mut self, mode: Mode, opener: usize, room: usize) -> Result<(), Stop>
         requires { opener ≤ self.old.at }
-        ensures value { let text = (drop self.old.base (S.bytes self.old.source.now)) in
-            Gives (λ done. (tt, self.new.at)) result (level_at text self.old.origin room mode opener self.old.at) }
+        ensures value { Gives (end_of S.bytes self.old) (λ done. ([], standing self.new.at)) result
+            (reads S.bytes self.old ((level room).construct mode (self.old.origin + opener) [])) }
         ensures onward { IfOk result (λ done. self.old.at ≤ self.new.at) }
-        ensures same { (self.new.source ≡ self.old.source) × (self.new.base ≡ self.old.base) × (self.new.origin ≡ self.old.origin) × (self.new.keep ≡ self.old.keep) }
+        ensures same { Stays self.old self.new }
     {
         if room == 0 {
             return Err(self.wrong_at(FaultKind::TooDeep, opener));
@@ -81,54 +59,9 @@ impl<'a, S: Source> Cursor<'a, S> {
         self.contents(mode, opener, room - 1)
     }
 
-    /// A string in double quotes, from its opener on.
-    #[cycle(words)]
-    fn string(&mut self, opener: usize, room: usize) -> Result<(), Stop>
-        requires { opener < length (drop self.old.base (S.bytes self.old.source.now)) }
-        ensures value { let text = (drop self.old.base (S.bytes self.old.source.now)) in
-            Gives (λ done. (tt, self.new.at)) result (level_at text self.old.origin room Mode.Double opener (opener + 1)) }
-        ensures onward { IfOk result (λ done. opener < self.new.at) }
-        ensures same { (self.new.source ≡ self.old.source) × (self.new.base ≡ self.old.base) × (self.new.origin ≡ self.old.origin) × (self.new.keep ≡ self.old.keep) }
-    {
-        self.at = opener + 1;
-        self.construct(Mode::Double, opener, room)
-    }
-
-    /// An arithmetic expansion, from its opener on.
-    #[cycle(words)]
-    fn arithmetic(&mut self, opener: usize, room: usize) -> Result<(), Stop>
-        requires one { opener < length (drop self.old.base (S.bytes self.old.source.now)) }
-        requires two { past_continuations (drop self.old.base (S.bytes self.old.source.now)) (opener + 1) < length (drop self.old.base (S.bytes self.old.source.now)) }
-        requires three { past_continuations (drop self.old.base (S.bytes self.old.source.now)) (behind (drop self.old.base (S.bytes self.old.source.now)) (opener + 1)) < length (drop self.old.base (S.bytes self.old.source.now)) }
-        ensures value { let text = (drop self.old.base (S.bytes self.old.source.now)) in
-            Gives (λ done. (tt, self.new.at)) result (level_at text self.old.origin room Mode.Arith opener (behind text (behind text (opener + 1)))) }
-        ensures onward { IfOk result (λ done. opener < self.new.at) }
-        ensures same { (self.new.source ≡ self.old.source) × (self.new.base ≡ self.old.base) × (self.new.origin ≡ self.old.origin) × (self.new.keep ≡ self.old.keep) }
-    {
-        self.at = self.behind(self.behind(opener + 1));
-        self.construct(Mode::Arith, opener, room)
-    }
-
-    /// A parameter expansion, from its opener on, inside this mode.
-    #[cycle(words)]
-    fn expansion(&mut self, mode: Mode, opener: usize, room: usize) -> Result<(), Stop>
-        requires one { opener < length (drop self.old.base (S.bytes self.old.source.now)) }
-        requires two { past_continuations (drop self.old.base (S.bytes self.old.source.now)) (opener + 1) < length (drop self.old.base (S.bytes self.old.source.now)) }
-        ensures value { let text = (drop self.old.base (S.bytes self.old.source.now)) in
-            Gives (λ done. (tt, self.new.at)) result
-            (level_at text self.old.origin room (rest_mode text mode (past_parameter text (behind text (opener + 1)))) opener (past_parameter text (behind text (opener + 1)))) }
-        ensures onward { IfOk result (λ done. opener < self.new.at) }
-        ensures same { (self.new.source ≡ self.old.source) × (self.new.base ≡ self.old.base) × (self.new.origin ≡ self.old.origin) × (self.new.keep ≡ self.old.keep) }
-    {
-        self.at = self.behind(opener + 1);
-        self.parameter();
-        let rest = self.rest_mode(mode);
-        self.construct(rest, opener, room)
-    }
-
     /// One piece, with so many brackets open in arithmetic. Answers whether there was one: if not, the construct ends here.
     #[cycle(words)]
-    #[tactic(auto, unfolding(crate::specs::Reading::piece_step, crate::specs::Bytes::behind), using(crate::proofs::Stretches::place_low))]
+    #[tactic(auto, unfolding(crate::specs::Words::a_piece, crate::specs::Pieces::past_taken, crate::specs::Bytes::behind), using(crate::proofs::Stretches::place_low))]
     fn take_piece(
         &mut self,
         mode: Mode,
@@ -138,12 +71,12 @@ impl<'a, S: Source> Cursor<'a, S> {
     ) -> Result<bool, Stop>
         requires opener { opener ≤ self.old.at }
         requires nested { nested.old ≤ self.old.at }
-        ensures value { let text = (drop self.old.base (S.bytes self.old.source.now)) in
-            Gives (λ more. step_if more nested.new self.new.at) result (piece_step (level_at text self.old.origin room) text self.old.origin mode opener nested.old self.old.at) }
+        ensures value { Gives (end_of S.bytes self.old) (λ more. (step_if more (having nested.new []), standing self.new.at)) result
+            (reads S.bytes self.old (a_piece (level room) mode (self.old.origin + opener) (having nested.old []))) }
         ensures onward { IfOk result (Onward self.old.at self.new.at) }
         ensures nested { IfOk result (λ more. nested.new ≤ self.new.at) }
-        ensures some { mode ≡ Mode.Plain → ends_word (drop self.old.base (S.bytes self.old.source.now)) self.old.at ≡ false → IfOk result (λ more. self.old.at < self.new.at) }
-        ensures same { (self.new.source ≡ self.old.source) × (self.new.base ≡ self.old.base) × (self.new.origin ≡ self.old.origin) × (self.new.keep ≡ self.old.keep) }
+        ensures some { mode ≡ Mode.Plain → ends_word (text_of S.bytes self.old) self.old.at ≡ false → IfOk result (λ more. self.old.at < self.new.at) }
+        ensures same { Stays self.old self.new }
     {
         let here = self.place(self.at);
         match self.piece(mode, *nested, here) {
@@ -158,9 +91,20 @@ impl<'a, S: Source> Cursor<'a, S> {
             Piece::Escape => self.at = here + 2,
             Piece::Single => self.single(here)?,
             Piece::Backquote => self.backquoted(here)?,
-            Piece::Double => self.string(here, room)?,
-            Piece::Arith => self.arithmetic(here, room)?,
-            Piece::Param => self.expansion(mode, here, room)?,
+            Piece::Double => {
+                self.at = here + 1;
+                self.construct(Mode::Double, here, room)?;
+            }
+            Piece::Arith => {
+                self.at = self.behind(self.behind(here + 1));
+                self.construct(Mode::Arith, here, room)?;
+            }
+            Piece::Param => {
+                self.at = self.behind(here + 1);
+                self.parameter();
+                let rest = self.rest_mode(mode);
+                self.construct(rest, here, room)?;
+            }
             Piece::Open => {
                 *nested += 1;
                 self.at = here + 1;
@@ -177,14 +121,14 @@ impl<'a, S: Source> Cursor<'a, S> {
 
     /// What a construct holds, up to its end.
     #[cycle(words)]
-    #[tactic(auto, unfolding(crate::specs::Reading::contents_at), using(crate::proofs::Turns::turns_done, crate::proofs::PlainBytes::contents_stop, crate::proofs::PlainBytes::piece_and_plain))]
+    #[tactic(auto, unfolding(crate::specs::Words::contents), using(crate::proofs::Turns::many_done, crate::proofs::PlainBytes::contents_stop, crate::proofs::PlainBytes::piece_and_plain))]
     fn contents(&mut self, mode: Mode, opener: usize, room: usize) -> Result<(), Stop>
         requires { opener ≤ self.old.at }
-        ensures value { let text = (drop self.old.base (S.bytes self.old.source.now)) in
-            Gives (λ done. (tt, self.new.at)) result (contents_at (level_at text self.old.origin room) text self.old.origin mode opener self.old.at) }
+        ensures value { Gives (end_of S.bytes self.old) (λ done. ([], standing self.new.at)) result
+            (reads S.bytes self.old (contents (level room) mode (self.old.origin + opener) [])) }
         ensures onward { IfOk result (λ done. self.old.at ≤ self.new.at) }
-        ensures some { mode ≡ Mode.Plain → ends_word (drop self.old.base (S.bytes self.old.source.now)) self.old.at ≡ false → IfOk result (λ done. self.old.at < self.new.at) }
-        ensures same { (self.new.source ≡ self.old.source) × (self.new.base ≡ self.old.base) × (self.new.origin ≡ self.old.origin) × (self.new.keep ≡ self.old.keep) }
+        ensures some { mode ≡ Mode.Plain → ends_word (text_of S.bytes self.old) self.old.at ≡ false → IfOk result (λ done. self.old.at < self.new.at) }
+        ensures same { Stays self.old self.new }
     {
         let mut nested = 0;
         'pieces: while self.take_piece(mode, opener, &mut nested, room)? {
@@ -194,18 +138,18 @@ impl<'a, S: Source> Cursor<'a, S> {
     }
 
     /// Passes the word that begins here. Most words are plain bytes alone.
-    #[tactic(auto, unfolding(crate::specs::Reading::word_at), using(crate::proofs::PlainBytes::plain_word, crate::proofs::PlainBytes::plain_contents, crate::proofs::PlainBytes::some_plain))]
-    pub(crate) fn pass_word(&mut self) -> Result<(), Stop>
-        requires { ends_word (drop self.old.base (S.bytes self.old.source.now)) self.old.at ≡ false }
-        ensures value { let text = (drop self.old.base (S.bytes self.old.source.now)) in
-            Gives (λ done. (word (span self.old.origin self.old.at self.new.at) no_subst, self.new.at)) result (word_at text self.old.origin self.old.at) }
+    #[tactic(auto, using(crate::proofs::PlainBytes::plain_word, crate::proofs::PlainBytes::word_rest, crate::proofs::PlainBytes::word_stops, crate::proofs::PlainBytes::some_plain))]
+    pub(crate) fn pass_word(&mut self, room: usize) -> Result<(), Stop>
+        requires { ends_word (text_of S.bytes self.old) self.old.at ≡ false }
+        ensures value { Gives (end_of S.bytes self.old) (λ done. (word (span self.old.origin self.old.at self.new.at) no_subst, standing self.new.at)) result
+            (reads S.bytes self.old (a_word (level room))) }
         ensures onward { IfOk result (λ done. self.old.at < self.new.at) }
-        ensures same { (self.new.source ≡ self.old.source) × (self.new.base ≡ self.old.base) × (self.new.origin ≡ self.old.origin) × (self.new.keep ≡ self.old.keep) }
+        ensures same { Stays self.old self.new }
     {
         let start = self.at;
         self.skip_plain(Mode::Plain);
         if !self.ends_word() {
-            self.contents(Mode::Plain, start, MOST_OPEN)?;
+            self.contents(Mode::Plain, start, room)?;
         }
         Ok(())
     }

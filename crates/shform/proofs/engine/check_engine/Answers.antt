@@ -1,5 +1,5 @@
 use Rattle.std.proofs.Common.{sym, ap, subst, ◌∙◌, cond, None, Ok, Err}
-use Rattle.shread.specs.Lines.{FirstFault}
+use Rattle.shread.specs.Scripts.{FirstFault}
 use Rattle.shform.specs.Device.{output_failed}
 use Rattle.shform.specs.declared.report.Stop.TheVariants.{Memory}
 use Rattle.shform.proofs.Known.{Writes-nothing}

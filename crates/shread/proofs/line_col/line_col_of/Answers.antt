@@ -1,5 +1,5 @@
 use Rattle.std.proofs.Common.{◌≡◌, ◌+◌, ◌≤◌, arith, refl, ◌∙◌, ap}
-use Rattle.shread.specs.Bytes.{next_newline}
+use Rattle.shread.specs.Standing.{next_newline}
 use Rattle.shread.proofs.Newlines.{since_start, next_line, in_line}
 use Rattle.shread.proofs.line_col.line_col_of.Goals as goal
 

@@ -1,5 +1,5 @@
 use Rattle.std.proofs.Common.{◌≡◌, ◌-◌, ◌≤◌, length}
-use Rattle.shread.specs.Bytes.{next_such}
+use Rattle.shread.specs.Standing.{next_such}
 use Rattle.shread.specs.Classes.{is_sought}
 use Rattle.shread.proofs.search.find_in.Given as goal
 

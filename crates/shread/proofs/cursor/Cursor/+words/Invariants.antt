@@ -1,5 +1,7 @@
-use Rattle.std.proofs.Common.{◌≡◌, ◌≤◌, ◌+◌, ◌*◌, ◌-◌, length, drop}
-use Rattle.shread.specs.Reading.{turns, piece_step, level_at}
+use Rattle.std.proofs.Common.{◌≡◌, ◌≤◌, ◌+◌, ◌*◌, ◌-◌, [], length}
+use Rattle.shread.specs.Clauses.{Stays, reads, reads_at, text_of}
+use Rattle.shread.specs.Form.{many}
+use Rattle.shread.specs.Words.{a_piece, having, level}
 use Rattle.shread.proofs.cursor.Cursor.+words.Given as goal
 
 abbrev pub decreases-contents : goal.decreases-contents
@@ -8,25 +10,14 @@ decreases-contents g l = 16 * l.room + 4
 abbrev pub decreases-take_piece : goal.decreases-take_piece
 decreases-take_piece g l = 16 * l.room + 3
 
-abbrev pub decreases-string : goal.decreases-string
-decreases-string g l = 16 * l.room + 2
-
-abbrev pub decreases-arithmetic : goal.decreases-arithmetic
-decreases-arithmetic g l = 16 * l.room + 2
-
-abbrev pub decreases-expansion : goal.decreases-expansion
-decreases-expansion g l = 16 * l.room + 2
-
 abbrev pub decreases-construct : goal.decreases-construct
 decreases-construct g l = 16 * l.room + 1
 
 abbrev pub invariant-contents-pieces : goal.invariant-contents-pieces
 invariant-contents-pieces g l =
-    let text = drop l.fn.self.base (g.S.Source.bytes l.fn.self.source.now) in
-    (turns (length text) (piece_step (level_at text l.fn.self.origin l.room) text l.fn.self.origin l.mode l.opener) l.nested l.self.at
-    ≡ turns (length text) (piece_step (level_at text l.fn.self.origin l.room) text l.fn.self.origin l.mode l.opener) 0 l.fn.self.at)
-    × (l.fn.self.at ≤ l.self.at) × (l.nested ≤ l.self.at) × (l.opener ≤ l.self.at)
-    × (l.self.source ≡ l.fn.self.source) × (l.self.base ≡ l.fn.self.base) × (l.self.origin ≡ l.fn.self.origin) × (l.self.keep ≡ l.fn.self.keep)
+    (reads_at g.S.Source.bytes l.fn.self (many (a_piece (level l.room) l.mode (l.fn.self.origin + l.opener)) (having l.nested [])) l.self.at
+    ≡ reads g.S.Source.bytes l.fn.self (many (a_piece (level l.room) l.mode (l.fn.self.origin + l.opener)) (having 0 [])))
+    × (l.fn.self.at ≤ l.self.at) × (l.nested ≤ l.self.at) × (l.opener ≤ l.self.at) × Stays l.fn.self l.self
 
 abbrev pub decreases-contents-pieces : goal.decreases-contents-pieces
-decreases-contents-pieces g l = length (drop l.self.base (g.S.Source.bytes l.self.source.now)) - l.self.at
+decreases-contents-pieces g l = length (text_of g.S.Source.bytes l.self) - l.self.at

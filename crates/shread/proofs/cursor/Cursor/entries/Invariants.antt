@@ -1,13 +1,16 @@
-use Rattle.std.proofs.Common.{◌≡◌, ◌≤◌, ◌-◌, [], length, drop, map}
-use Rattle.shread.specs.Reading.{turns, entry_step}
+use Rattle.std.proofs.Common.{◌≡◌, ◌≤◌, ◌-◌, [], length, map}
+use Rattle.shread.specs.Clauses.{Shows, Stays, reads, reads_at, text_of}
+use Rattle.shread.specs.Form.{many}
+use Rattle.shread.specs.Lines.{entry_turn, line_so}
 use Rattle.shread.specs.View.{view_entry}
+use Rattle.shread.specs.Words.{level}
 use Rattle.shread.proofs.cursor.Cursor.entries.Given as goal
 
 abbrev pub invariant-turns : goal.invariant-turns
 invariant-turns g l =
-    let text = drop l.fn.self.base (g.S.Source.bytes l.fn.self.source.now) in
-    (turns (length text) (entry_step l.fn.self.keep text l.fn.self.origin l.blank) (map view_entry l.entries.items) l.self.at ≡ turns (length text) (entry_step l.fn.self.keep text l.fn.self.origin l.blank) [] l.fn.self.at)
-    × (l.fn.self.at ≤ l.self.at) × (l.self.source ≡ l.fn.self.source) × (l.self.base ≡ l.fn.self.base) × (l.self.origin ≡ l.fn.self.origin) × (l.self.keep ≡ l.fn.self.keep)
+    (reads_at g.S.Source.bytes l.fn.self (many (entry_turn (level l.room) l.blank) (line_so (map view_entry l.entries.items) l.next)) l.self.at
+    ≡ reads g.S.Source.bytes l.fn.self (many (entry_turn (level l.room) l.blank) (line_so [] l.fn.next)))
+    × Shows l.next.token (text_of g.S.Source.bytes l.fn.self) l.self.at × (l.fn.self.at ≤ l.self.at) × Stays l.fn.self l.self
 
 abbrev pub decreases-turns : goal.decreases-turns
-decreases-turns g l = length (drop l.self.base (g.S.Source.bytes l.self.source.now)) - l.self.at
+decreases-turns g l = length (text_of g.S.Source.bytes l.self) - l.self.at

@@ -1,5 +1,6 @@
 use Rattle.std.proofs.Common.{◌≡◌, ◌≤◌, ◌-◌, length, drop, false}
-use Rattle.shread.specs.Bytes.{past, raw_in}
+use Rattle.shread.specs.Bytes.{past}
+use Rattle.shread.specs.Standing.{raw_in}
 use Rattle.shread.specs.Classes.{in_class}
 use Rattle.shread.proofs.cursor.Cursor.past_joined.Given as goal
 

@@ -1,5 +1,5 @@
 use Rattle.std.proofs.Common.{◌≡◌, ◌≤◌, ◌-◌, length, drop}
-use Rattle.shread.specs.Bytes.{raw_past}
+use Rattle.shread.specs.Standing.{raw_past}
 use Rattle.shread.specs.Classes.{in_class}
 use Rattle.shread.proofs.cursor.Cursor.raw_past.Given as goal
 

@@ -1,0 +1,146 @@
+-- What holds of whatever a form gives: the laws of forms, and that no form goes back.
+use Rattle.std.proofs.Common.{◌≡◌, ℕ, zero, suc, ◌+◌, ◌-◌, ◌≤◌, ◌<◌, Bool, true, false, cond, Ok, Err, List, List as Row, [], ◌∷◌, ◌++◌, length, refl, sym, arith}
+use Rattle.std.proofs.lemmas.Bool.{ltb-true, cond_both}
+use Rattle.shread.specs.declared.mode.Mode.{Mode}
+use Rattle.shread.specs.declared.mode.Mode.TheVariants.{Plain, Double, Brace, DoubleBrace, Arith}
+use Rattle.shread.specs.declared.tree.Span.{Span}
+use Rattle.shread.specs.declared.fault.FaultKind.{FaultKind}
+use Rattle.shread.specs.Standing.{raw_stands, next_newline}
+use Rattle.shread.specs.Bytes.{behind}
+use Rattle.shread.specs.Comments.{span, past_comment}
+use Rattle.shread.specs.Pieces.{past_taken, past_closer}
+use Rattle.shread.specs.Sights.{Given, State, Sight, seen, Move, one_byte, joined, one_taken, the_closer, the_parameter, a_quote_on, in_backquotes_on, blanks, a_comment_on, to}
+use Rattle.shread.specs.Form.{Read, ◌▸◌, Form, give, see, move, push, stop, both, when, token, loop, many, Step, again, done, pushed, moved, leads_on, turns, turns_below, next, does}
+use Rattle.shread.proofs.Stretches.{place_low}
+use Rattle.shread.proofs.Places.{behind_low, blanks_low, next_in_backquotes_low, next_newline_low, next_of_low, parameter_low}
+use Rattle.shread.proofs.Turns.{turns_on, turns_rest, turns_done, turns_fault}
+
+-- P holds of what is read and of the state behind it; of a fault nothing is said
+abbrev pub Holds : {X : Type 0} → (X → State → Type 0) → Read X → Type 0
+Holds P (Ok (x, t)) = P x t
+Holds P (Err f) = Unit {0}
+
+module _ (keep : Bool) (g : Given) where
+  -- of what the form r gives from s on
+  pub record Tells {X : Type 0} (r : Form X) (P : X → State → Type 0) (s : State) : Type 0 where
+    pub told : Holds P (does r keep g s)
+
+  then_by : {X Y : Type 0} (P : X → State → Type 0) (Q : Y → State → Type 0) (q : X → Form Y) (x : Read X) → Holds P x
+      → ((a : X) (t : State) → P a t → Tells (q a) Q t) → Holds Q (x ▸ λ a t. does (q a) keep g t)
+  then_by P Q q (Ok (a, t)) first rest = (rest a t first).told
+  then_by P Q q (Err f) first rest = tt
+
+  -- this is given
+  pub tells_give : {X : Type 0} {x : X} {P : X → State → Type 0} {s : State} → P x s → Tells (give x) P s
+  tells_give so = record { told = so }
+
+  -- one form and then another
+  pub tells_then : {X Y : Type 0} {P : X → State → Type 0} {Q : Y → State → Type 0} {r : Form X} {q : X → Form Y} {s : State} → Tells r P s
+      → ((a : X) (t : State) → P a t → Tells (q a) Q t) → Tells (both r q) Q s
+  tells_then {P = P} {Q = Q} {r = r} {q = q} {s = s} first rest = record { told = then_by P Q q (does r keep g s) first.told rest }
+
+  when_by : {X : Type 0} (P : X → State → Type 0) (test : Bool) (x y : Read X) → Holds P x → Holds P y → Holds P (cond test x y)
+  when_by P true x y one two = one
+  when_by P false x y one two = two
+
+  -- one form or another
+  pub tells_when : {X : Type 0} {P : X → State → Type 0} {f : Sight Bool} {r q : Form X} {s : State} → Tells r P s → Tells q P s → Tells (when f r q) P s
+  tells_when {P = P} {f = f} {s = s} one two = record { told = when_by P (seen f g s) _ _ one.told two.told }
+
+  token_by : {X : Type 0} (P : X → State → Type 0) (Q : X × Span → State → Type 0) (s : State) (x : Read X) → Holds P x
+      → ((a : X) (t : State) → P a t → Q (a, span g.offset s.at t.at) t) → Holds Q (x ▸ λ a t. Ok ((a, span g.offset s.at t.at), t))
+  token_by P Q s (Ok (a, t)) one so = so a t one
+  token_by P Q s (Err f) one so = tt
+
+  -- one token
+  pub tells_token : {X : Type 0} {P : X → State → Type 0} {Q : X × Span → State → Type 0} {r : Form X} {s : State} → Tells r P s
+      → ((a : X) (t : State) → P a t → Q (a, span g.offset s.at t.at) t) → Tells (token r) Q s
+  tells_token {P = P} {Q = Q} {r = r} {s = s} one so = record { told = token_by P Q s (does r keep g s) one.told so }
+
+  -- what a turn gives
+  abbrev pub Turned : {A : Type 0} → (A → State → Type 0) → Step A → State → Type 0
+  Turned P (again a) t = P a t
+  Turned P (done a) t = P a t
+
+  module _ {A : Type 0} (turn : A → Form (Step A)) (P : A → State → Type 0) (each : (a : A) (s : State) → P a s → Tells (turn a) (Turned P) s) where
+    f : A → State → Read (Step A)
+    f a s = does (turn a) keep g s
+
+    turn_by : (a : A) (s : State) (x : Read (Step A)) → f a s ≡ x → Holds (Turned P) x
+        → ((b : A) (t : State) → length g.text - t.at < length g.text - s.at → P b t → Holds P (turns g f b t)) → Holds P (turns g f a s)
+    turn_by a s (Ok (done b, t)) is good rest = rw (turns_done g f a b s t is) good
+    turn_by a s (Ok (again b, t)) is good rest = on (leads_on g s t) refl
+      where
+        on : (c : Bool) → leads_on g s t ≡ c → Holds P (turns g f a s)
+        on true e = rw (turns_on g f a b s t is e) (rest b t (ltb-true _ _ e) good)
+        on false e = rw (turns_rest g f a b s t is e) good
+    turn_by a s (Err e) is good rest = rw (turns_fault g f a s e is) tt
+
+    turns_hold : (n : ℕ) (a : A) (s : State) → length g.text - s.at < n → P a s → Holds P (turns g f a s)
+    unfolding f
+    turns_hold zero a s low so = absurd (omega arith)
+    turns_hold (suc n) a s low so = turn_by a s (f a s) refl (each a s so).told (λ b t less there. turns_hold n b t (omega (arith, less, low)) there)
+
+    -- a repetition
+    pub tells_loop : (a : A) (s : State) → P a s → Tells (loop turn a) P s
+    unfolding f
+    tells_loop a s so = record { told = turns_hold (suc (length g.text - s.at)) a s (omega arith) so }
+
+    pub tells_many : (a : A) (s : State) → P a s → Tells (many turn a) P s
+    unfolding many
+    tells_many a s so = record { told = (tells_loop a s so).told }
+
+  so_by : {X : Type 0} (P Q : X → State → Type 0) (x : Read X) → Holds P x → ((a : X) (t : State) → P a t → Q a t) → Holds Q x
+  so_by P Q (Ok (a, t)) one so = so a t one
+  so_by P Q (Err f) one so = tt
+
+  -- what follows
+  pub tells_so : {X : Type 0} {P Q : X → State → Type 0} {r : Form X} {s : State} → Tells r P s → ((a : X) (t : State) → P a t → Q a t) → Tells r Q s
+  tells_so {P = P} {Q = Q} {r = r} {s = s} one so = record { told = so_by P Q (does r keep g s) one.told so }
+
+-- ---- no form goes back
+
+closer_low : (mode : Mode) (T : List ℕ) (p : ℕ) → p ≤ past_closer T mode p
+closer_low Plain T p = omega arith
+closer_low Double T p = omega (arith, behind_low T p)
+closer_low Brace T p = omega (arith, behind_low T p)
+closer_low DoubleBrace T p = omega (arith, behind_low T p)
+closer_low Arith T p = omega (arith, behind_low T p, behind_low T (behind T p))
+
+taken_low : (T : List ℕ) (p : ℕ) → p ≤ past_taken T p
+unfolding past_taken
+taken_low T p = cond_both (raw_stands T p 92) _ _ (λ n. p ≤ p + n) (λ e. omega arith) (λ e. omega arith)
+
+comment_low : (T : List ℕ) (p : ℕ) → p ≤ past_comment T p
+unfolding past_comment
+comment_low T p = cond_both (raw_stands T p 35) _ _ (λ n. p ≤ n) (λ e. next_newline_low T p) (λ e. omega arith)
+
+pub move_low : (m : Move) (T : List ℕ) (p : ℕ) → p ≤ to m T p
+move_low one_byte T p = omega (arith, behind_low T p)
+move_low joined T p = place_low T p
+move_low one_taken T p = taken_low T p
+move_low (the_closer mode) T p = closer_low mode T p
+move_low the_parameter T p = parameter_low T p
+move_low a_quote_on T p = next_of_low 39 T p
+move_low in_backquotes_on T p = next_in_backquotes_low T p
+move_low blanks T p = blanks_low T p
+move_low a_comment_on T p = comment_low T p
+
+-- behind a state
+abbrev pub Behind : {X : Type 0} → State → X → State → Type 0
+Behind s x t = s.at ≤ t.at
+
+pub low : {X : Type 0} (r : Form X) (keep : Bool) (g : Given) (s : State) → Tells keep g r (Behind s) s
+low (give x) keep g s = record { told = omega arith }
+low (see f) keep g s = record { told = omega arith }
+low (move m) keep g s = record { told = move_low m g.text s.at }
+low (push xs x) keep g s = record { told = omega arith }
+low (stop kind at) keep g s = record { told = tt }
+low (both r q) keep g s = tells_then keep g (low r keep g s) (λ a t on. tells_so keep g (low (q a) keep g t) (λ b u more. omega (arith, on, more)))
+low (when f r q) keep g s = tells_when keep g (low r keep g s) (low q keep g s)
+low (token r) keep g s = tells_token keep g (low r keep g s) (λ a t on. on)
+low {X = X} (loop turn a) keep g s = tells_loop keep g turn (Behind s) (λ b t on. tells_so keep g (low (turn b) keep g t) (turned t on)) a s (omega arith)
+  where
+    turned : (t : State) → s.at ≤ t.at → (c : Step X) (u : State) → t.at ≤ u.at → Turned keep g (Behind s) c u
+    turned t on (again c) u more = omega (arith, on, more)
+    turned t on (done c) u more = omega (arith, on, more)

@@ -1,0 +1,160 @@
+-- What a form reads before a newline it reads in each text that has the bytes up to there: one induction, for every row.
+use Rattle.std.proofs.Common.{◌≡◌, ℕ, zero, suc, ◌+◌, ◌-◌, ◌≤◌, ◌<◌, ◌==◌, Bool, true, false, ltb, Ok, Err, List, List as Row, [], ◌∷◌, ◌++◌, length, Option, Some, None, slice_get, refl, sym, ap, subst, ◌∙◌, arith, ⊎_elim}
+use Rattle.std.proofs.lemmas.Bool.{ltb-true, lt-ltb, both_ways, cases_lt, cases_Bool}
+use Rattle.std.proofs.lemmas.Option.{slice_get_within}
+use Rattle.shread.specs.declared.tree.Comment.{Comment}
+use Rattle.shread.specs.declared.tree.Span.{Span}
+use Rattle.shread.specs.Comments.{span}
+use Rattle.shread.specs.Sights.{Given, given, State, Sight, here, the_byte, the_piece, the_rest, the_end, a_backquote, last_backslash, the_token, the_comment, seen, Move, one_byte, joined, one_taken, the_closer, the_parameter, a_quote_on, in_backquotes_on, blanks, a_comment_on, to as leads}
+use Rattle.shread.specs.Form.{Spelled, Read, Form, give, see, move, push, stop, both, when, token, loop, Step, again, done, Just, just, Halts, halted, Then, and_then, or_stops, Either, holds, fails, raw, OneToken, whole, broken_off, leads_on, Turns, last, rests, more, halts, moved, may, does}
+use Rattle.shread.proofs.OneOutcome.{is}
+use Rattle.shread.proofs.Holds.{Holds, Behind, low, move_low}
+use Rattle.shread.proofs.SameBytes.{safe_high, safe_low}
+use Rattle.shread.proofs.Ahead.{ListEnds, K, same_place, same_next}
+use Rattle.shread.proofs.Asked.{Good, high, on, moves_behind, moves_joined, moves_taken, moves_closer, moves_parameter, moves_quote, moves_backquotes, moves_blanks, moves_comment, same_end_here, same_raw_stands, same_last_backslash, same_comment, same_piece, same_mode, same_raw}
+
+-- what may be read is not before where it begins
+pub behind : {X : Type 0} (r : Form X) (g : Given) (s : State) (y : Read X) (k : Row Spelled) → may r g s y k → Holds (Behind s) y
+behind r g s y k part = subst (Holds (Behind s)) (sym ((is r g s).only y k part)) (low r true g s).told
+
+module _ {T U : List ℕ} {a M : ℕ} {to : ℕ → ℕ} (E : ListEnds T U a M to 10) (o o2 : ℕ) (off : (p : ℕ) → a ≤ p → o2 + to p ≡ o + p) where
+  abbrev G : ℕ → Type 0
+  G p = Good T a M p
+
+  abbrev g : Given
+  g = given T o
+
+  abbrev h : Given
+  h = given U o2
+
+  -- the state, elsewhere
+  abbrev pub there : State → State
+  there s = record { at = to s.at; waiting = s.waiting; bodies = s.bodies }
+
+  abbrev pub elsewhere : {X : Type 0} → Read X → Read X
+  elsewhere (Ok (x, t)) = Ok (x, there t)
+  elsewhere (Err f) = Err f
+
+  -- it ends at a good place
+  abbrev pub Ends : {X : Type 0} → Read X → Type 0
+  Ends (Ok (x, t)) = G t.at
+  Ends (Err f) = ⊥
+
+  spans : (p q : ℕ) → a ≤ p → a ≤ q → span o2 (to p) (to q) ≡ span o p q
+  spans p q low_p low_q = rw (off p low_p, off q low_q) refl
+
+  -- what may be seen is the same
+  same_seen : {X : Type 0} (l : Sight X) (s : State) → a ≤ s.at → G s.at → seen l h (there s) ≡ seen l g s
+  same_seen here s from good = off s.at from
+  same_seen the_byte s from good = rw (same_place E good) (off _ (omega (arith, from, Rattle.shread.proofs.Stretches.place_low T s.at)))
+  same_seen (the_piece mode n) s from good = same_piece E mode n s.at good
+  same_seen (the_rest mode) s from good = same_mode E mode s.at good
+  same_seen the_end s from good = same_end_here E s.at from good
+  same_seen a_backquote s from good = same_raw_stands E s.at 96 from (high E good)
+  same_seen last_backslash s from good = same_last_backslash E s.at from good
+  same_seen (the_token position) s from good = same_next E position good
+  same_seen the_comment s from good = same_comment E o o2 spans s.at good
+
+  -- a move to a good place is one from a good place, and leads to the same
+  abbrev Leads : Move → ℕ → Type 0
+  Leads m p = a ≤ p → G (leads m T p) → G p × (leads m U (to p) ≡ to (leads m T p))
+
+  same_move : (m : Move) (p : ℕ) → Leads m p
+  same_move one_byte p = (moves_behind E p).1
+  same_move joined p = (moves_joined E p).1
+  same_move one_taken p = (moves_taken E p).1
+  same_move (the_closer mode) p = (moves_closer E mode p).1
+  same_move the_parameter p = (moves_parameter E p).1
+  same_move a_quote_on p = (moves_quote E p).1
+  same_move in_backquotes_on p = (moves_backquotes E p).1
+  same_move blanks p = (moves_blanks E p).1
+  same_move a_comment_on p = (moves_comment E p).1
+
+  -- ---- whether a turn leads on
+
+  long : M < length T
+  long = slice_get_within T M 10 E.byte
+
+  long_there : to M < length U
+  long_there = slice_get_within U (to M) 10 (E.kept.same M E.under (omega arith) ∙ E.byte)
+
+  far : (p : ℕ) → a ≤ p → p ≤ M → to M ≡ to p + (M - p)
+  far p from le = let is : p + (M - p) ≡ M = omega (arith, le) in ap to (sym is) ∙ on E p (M - p) from
+
+  apart : (p q : ℕ) → a ≤ p → p ≤ q → to q ≡ to p + (q - p)
+  apart p q from le = let is : p + (q - p) ≡ q = omega (arith, le) in ap to (sym is) ∙ on E p (q - p) from
+
+  less_same : (x y z w : ℕ) → (x < y → z < w) → (z < w → x < y) → ltb z w ≡ ltb x y
+  less_same x y z w one two =
+      ⊎_elim (λ lt. lt-ltb z w (one lt) ∙ sym (lt-ltb x y lt))
+      (λ ge. ⊎_elim (λ lt. let no = two lt in absurd (omega (arith, no, ge))) (λ other. not_less z w other ∙ sym (not_less x y ge)) (cases_lt z w)) (cases_lt x y)
+    where
+      not_less : (m n : ℕ) → n ≤ m → ltb m n ≡ false
+      not_less m n le = ⊎_elim (λ (e : ltb m n ≡ true). let lt = ltb-true m n e in absurd (omega (arith, lt, le))) (λ (e : ltb m n ≡ false). e) (cases_Bool (ltb m n))
+
+  same_leads : (s t : State) → a ≤ s.at → s.at ≤ t.at → t.at ≤ M → leads_on h (there s) (there t) ≡ leads_on g s t
+  same_leads s t from onward le =
+      let one = apart s.at t.at from onward in
+      let two = far t.at (omega (arith, from, onward)) le in
+      less_same (length T - t.at) (length T - s.at) (length U - to t.at) (length U - to s.at)
+      (λ lt. omega (arith, lt, one, two, long, long_there, onward, le)) (λ lt. omega (arith, lt, one, two, long, long_there, onward, le))
+
+  -- ---- every form
+
+  just_in : {X : Type 0} {x : X} {t : State} (P : Read X → Row Spelled → Type 0) → P (Ok (x, t)) [] → (y : Read X) (k : Row Spelled) → Just x t y k → P y k
+  just_in P so y k just = so
+
+  halts_in : {X : Type 0} (P : Read X → Row Spelled → Type 0) (f : _) → P (Err f) [] → (y : Read X) (k : Row Spelled) → Halts {X = X} f y k → P y k
+  halts_in P f so y k halted = so
+
+  -- what r reads in the first text up to a good place it reads in the second, from a good place on
+  abbrev Back : {X : Type 0} → Form X → State → Read X → Row Spelled → Type 0
+  Back r s y k = Ends y → G s.at × may r h (there s) (elsewhere y) k
+
+  both_back : {X Y : Type 0} (r : Form X) (q : X → Form Y) (s : State) → ((y : Read X) (k : Row Spelled) → may r g s y k → Back r s y k)
+      → ((x : X) (t : State) → a ≤ t.at → (y : Read Y) (k : Row Spelled) → may (q x) g t y k → Back (q x) t y k) → a ≤ s.at → (y : Read Y) (k : Row Spelled) → Then (may r g) (λ x. may (q x) g) s y k → Back (both r q) s y k
+  both_back r q s first rest from y k (and_then {x = x} {t = t} {k = k1} {l = l} one two) good =
+      let b = rest x t (omega (arith, from, behind r g s (Ok (x, t)) k1 one)) y l two good in
+      let c = first (Ok (x, t)) k1 one b.0 in
+      (c.0, and_then c.1 b.1)
+  both_back r q s first rest from y k (or_stops one) good = absurd good
+
+  token_back : {X : Type 0} (r : Form X) (s : State) → ((y : Read X) (k : Row Spelled) → may r g s y k → Back r s y k) → a ≤ s.at → (y : Read (X × Span)) (k : Row Spelled) → OneToken g (may r g) s y k → Back (token r) s y k
+  token_back {X = X} r s first from y k (whole {x = x} {t = t} {k = k1} part) good =
+      let w = first (Ok (x, t)) k1 part good in
+      let onward = behind r g s (Ok (x, t)) k1 part in
+      let same = spans s.at t.at from (omega (arith, from, onward)) in
+      let told = same_raw E s.at t.at from (omega (arith, from, onward)) (high E good) in (
+        w.0,
+        subst (λ (z : Span). OneToken h (may r h) (there s) (Ok ((x, z), there t)) (raw T s.at t.at ∷ [])) same
+            (subst (λ (z : Spelled). OneToken h (may r h) (there s) (Ok ((x, span o2 (to s.at) (to t.at)), there t)) (z ∷ [])) told (whole w.1)),
+      )
+  token_back r s first from y k (broken_off part) good = absurd good
+
+  module _ {A : Type 0} (turn : A → Form (Step A)) (each : (b : A) (s : State) → a ≤ s.at → (y : Read (Step A)) (k : Row Spelled) → may (turn b) g s y k → Back (turn b) s y k) where
+    loop_back : (b : A) (s : State) (y : Read A) (k : Row Spelled) → Turns g (λ c. may (turn c) g) b s y k → a ≤ s.at → Ends y → G s.at × Turns h (λ c. may (turn c) h) b (there s) (elsewhere y) k
+    loop_back b s y k (last {b = c} {t = t} part) from good = let w = each b s from (Ok (done c, t)) k part good in (w.0, last w.1)
+    loop_back b s y k (rests {b = c} {t = t} part off') from good =
+        let w = each b s from (Ok (again c, t)) k part good in
+        let onward = behind (turn b) g s (Ok (again c, t)) k part in
+        (w.0, rests w.1 (same_leads s t from onward (high E good) ∙ off'))
+    loop_back b s y k (more {b = c} {t = t} {k = k1} part on' rest) from good =
+        let onward = behind (turn b) g s (Ok (again c, t)) k1 part in
+        let r = loop_back c t y _ rest (omega (arith, from, onward)) good in
+        let w = each b s from (Ok (again c, t)) k1 part r.0 in
+        (w.0, more w.1 (same_leads s t from onward (high E r.0) ∙ on') r.1)
+    loop_back b s y k (halts part) from good = absurd good
+
+  pub back : {X : Type 0} (r : Form X) (s : State) → a ≤ s.at → (y : Read X) (k : Row Spelled) → may r g s y k → Back r s y k
+  back (give x) s from y k part = just_in (Back (give x) s) (λ good. (good, just)) y k part
+  back {X = X} (see l) s from y k part =
+      just_in (Back (see l) s) (λ good. (good, subst (λ (z : X). Just (seen l h (there s)) (there s) (Ok (z, there s)) []) (same_seen l s from good) just)) y k part
+  back (move m) s from y k part =
+      just_in (Back (move m) s) (λ good. let w = same_move m s.at from good in (w.0, subst (λ (z : ℕ). Just tt (moved m h (there s)) (Ok (tt, record { at = z; waiting = s.waiting; bodies = s.bodies })) []) w.1 just)) y k part
+  back (push xs x) s from y k part = just_in (Back (push xs x) s) (λ good. (good, just)) y k part
+  back (stop kind at) s from y k part = halts_in (Back (stop kind at) s) _ (λ good. absurd good) y k part
+  back (both r q) s from y k part = both_back r q s (back r s from) (λ x t. back (q x) t) from y k part
+  back (when l r q) s from y k (holds e part) = λ good. let w = back r s from y k part good in (w.0, holds (same_seen l s from w.0 ∙ e) w.1)
+  back (when l r q) s from y k (fails e part) = λ good. let w = back q s from y k part good in (w.0, fails (same_seen l s from w.0 ∙ e) w.1)
+  back (token r) s from y k part = token_back r s (back r s from) from y k part
+  back (loop turn b) s from y k part = loop_back turn (λ c t. back (turn c) t) b s y k part from

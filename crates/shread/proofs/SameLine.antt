@@ -1,0 +1,158 @@
+-- A line that a newline ended looks no further than that newline.
+use Rattle.std.proofs.Common.{◌≡◌, ℕ, zero, suc, ◌+◌, ◌-◌, ◌≤◌, ◌<◌, ◌==◌, Bool, true, false, ◌&&◌, Ok, Err, List, List as Row, [], ◌∷◌, ◌++◌, length, take, drop, Option, Some, None, slice_get, refl, sym, ap, subst, ◌∙◌, arith}
+use Rattle.std.proofs.lemmas.Bool.{and_parts}
+use Rattle.std.proofs.lemmas.Bool.Decides.{nat_tests}
+use Rattle.shread.specs.declared.token.Next.{Next}
+use Rattle.shread.specs.declared.token.Position.TheVariants.{Command}
+use Rattle.shread.specs.declared.token.Token.{Token}
+use Rattle.shread.specs.declared.token.Token.TheVariants as tokens
+use Rattle.shread.specs.Tree.{AnEntry}
+use Rattle.shread.specs.Standing.{is_byte, raw_stands}
+use Rattle.shread.specs.Bytes.{behind, past_continuations}
+use Rattle.shread.specs.Sights.{Given, given, State, standing}
+use Rattle.shread.specs.Form.{Spelled, Read, Form, give, both, may, does, Then, and_then, or_stops, moved}
+use Rattle.shread.specs.Words.{Inner, level}
+use Rattle.shread.specs.Commands.{next_token}
+use Rattle.shread.specs.Lines.{LineSo, all_entries, a_remark, end_of_line, a_line, most_open, ALine, IsLine, SameBytes, NoFurther, line_read, line_stops, is_ended, kind_of}
+use Rattle.shread.proofs.OneOutcome.{is}
+use Rattle.shread.proofs.Holds.{Holds}
+use Rattle.shread.proofs.Lined.{line_ended_low}
+use Rattle.shread.proofs.SameBytes.{at_limit, safe_place}
+use Rattle.shread.proofs.Ahead.{ListEnds, K, newline_ends, same_behind}
+use Rattle.shread.proofs.Asked.{Good, on}
+use Rattle.shread.proofs.NoFurther.{back, behind as onward, there, elsewhere}
+
+module _ {T U : List ℕ} {a M : ℕ} {to : ℕ → ℕ} (E : ListEnds T U a M to 10) (o o2 : ℕ) (off : (p : ℕ) → a ≤ p → o2 + to p ≡ o + p) where
+  abbrev g : Given
+  g = given T o
+
+  abbrev h : Given
+  h = given U o2
+
+  -- a line that ends behind the newline
+  abbrev Closed : Read (Row AnEntry × Bool) → Type 0
+  Closed (Ok ((es, newline), t)) = (newline ≡ true) × (t.at ≡ M + 1)
+  Closed (Err f) = ⊥
+
+  -- it is read in the second text too, from a good place on
+  abbrev Again : Form (Row AnEntry × Bool) → State → Read (Row AnEntry × Bool) → Type 0
+  Again r s y = Closed y → Good T a M s.at × ((l : Row Spelled) × may r h (there E o o2 off s) (elsewhere E o o2 off y) l)
+
+  both_again : {X : Type 0} (r : Form X) (q : X → Form (Row AnEntry × Bool)) (s : State) → a ≤ s.at
+      → ((x : X) (t : State) → a ≤ t.at → (y : Read (Row AnEntry × Bool)) (k : Row Spelled) → may (q x) g t y k → Again (q x) t y) → (y : Read (Row AnEntry × Bool)) (k : Row Spelled) → Then (may r g) (λ x. may (q x) g) s y k → Again (both r q) s y
+  both_again r q s from rest y k (and_then {x = x} {t = t} {k = k1} {l = l} one two) closed =
+      let b = rest x t (omega (arith, from, onward r g s (Ok (x, t)) k1 one)) y l two closed in
+      let c = back E o o2 off r s from (Ok (x, t)) k1 one b.0 in
+      (c.0, (k1 ++ b.1.0, and_then c.1 b.1.1))
+  both_again r q s from rest y k (or_stops one) closed = absurd closed
+
+  -- the end of a line
+  abbrev ending : Row AnEntry → Token → Form (Row AnEntry × Bool)
+  ending es token = both (end_of_line token) (λ newline. give (es, newline))
+
+  behind_is : (p : ℕ) → behind T p ≡ past_continuations T p + 1
+  unfolding behind
+  behind_is p = refl
+
+  newline_again : (es : Row AnEntry) (s : State) → a ≤ s.at → (y : Read (Row AnEntry × Bool)) → y ≡ Ok ((es, true), record { at = behind T s.at; waiting = s.waiting; bodies = s.bodies }) → Again (ending es tokens.Newline) s y
+  unfolding end_of_line
+  newline_again es s from y y_is closed =
+      let at_newline : behind T s.at ≡ M + 1 = (subst Closed y_is closed).1 in
+      let at : M ≡ past_continuations T s.at = omega (arith, at_newline, behind_is s.at) in
+      let good : Good T a M s.at = safe_place (K E) s.at from (subst (Good T a M) at at_limit) in
+      let one = (is (ending es tokens.Newline) h (there E o o2 off s)).some in (
+        good,
+        (
+          one.0,
+          subst (λ (z : Read (Row AnEntry × Bool)). may (ending es tokens.Newline) h (there E o o2 off s) (elsewhere E o o2 off z) one.0) (sym y_is)
+              (subst (λ (p : ℕ). may (ending es tokens.Newline) h (there E o o2 off s) (Ok ((es, true), record { at = p; waiting = s.waiting; bodies = s.bodies })) one.0) (same_behind E good) one.1),
+        ),
+      )
+
+  clash : {X : Type 0} (es : Row AnEntry) (s : State) (y : Read (Row AnEntry × Bool)) → y ≡ Ok ((es, false), s) → Closed y → X
+  clash es s y y_is closed = let no = (subst Closed y_is closed).0 in absurd cc
+
+  faulty : {X : Type 0} (f : _) (y : Read (Row AnEntry × Bool)) → y ≡ Err f → Closed y → X
+  faulty f y y_is closed = absurd (subst Closed y_is closed)
+
+  ending_by : (es : Row AnEntry) (token : Token) (s : State) → a ≤ s.at → (y : Read (Row AnEntry × Bool)) → y ≡ does (ending es token) true g s → Again (ending es token) s y
+  unfolding end_of_line
+  ending_by es tokens.Newline s from y y_is closed = newline_again es s from y y_is closed
+  ending_by es tokens.End s from y y_is closed = clash es s y y_is closed
+  ending_by es tokens.Semicolon s from y y_is closed = faulty _ y y_is closed
+  ending_by es tokens.Ampersand s from y y_is closed = faulty _ y y_is closed
+  ending_by es tokens.Operator s from y y_is closed = faulty _ y y_is closed
+  ending_by es tokens.Comment s from y y_is closed = faulty _ y y_is closed
+  ending_by es tokens.Number s from y y_is closed = faulty _ y y_is closed
+  ending_by es (tokens.Reserved r) s from y y_is closed = faulty _ y y_is closed
+  ending_by es tokens.Assignment s from y y_is closed = faulty _ y y_is closed
+  ending_by es tokens.Word s from y y_is closed = faulty _ y y_is closed
+
+  ending_again : (es : Row AnEntry) (token : Token) (s : State) → a ≤ s.at → (y : Read (Row AnEntry × Bool)) (k : Row Spelled) → may (ending es token) g s y k → Again (ending es token) s y
+  ending_again es token s from y k part = ending_by es token s from y ((is (ending es token) g s).only y k part)
+
+  abbrev at_end : LineSo → Form (Row AnEntry × Bool)
+  at_end m = ending m.entries m.next.token
+
+  abbrev at_remark : Bool → LineSo → Form (Row AnEntry × Bool)
+  at_remark blank l = both (a_remark blank l) at_end
+
+  abbrev at_entries : Inner → Bool → Next → Form (Row AnEntry × Bool)
+  at_entries inner blank n = both (all_entries inner blank n) (at_remark blank)
+
+  pub line_again : (inner : Inner) (blank : Bool) (s : State) → a ≤ s.at → (y : Read (Row AnEntry × Bool)) (k : Row Spelled) → may (a_line inner blank) g s y k → Again (a_line inner blank) s y
+  unfolding a_line
+  line_again inner blank s from y k part =
+      both_again (next_token Command) (at_entries inner blank) s from (λ n t from_t.
+      both_again (all_entries inner blank n) (at_remark blank) t from_t (λ l u from_u.
+      both_again (a_remark blank l) at_end u from_u (λ m v from_v. ending_again m.entries m.next.token v from_v))) y k part
+
+-- ---- one line and two texts
+
+byte_is : (x : Option ℕ) → is_byte x 10 ≡ true → x ≡ Some 10
+byte_is None e = absurd cc
+byte_is (Some b) e = let is : b ≡ 10 = grind (arith, nat_tests) in ap Some is
+
+newline_at : (T : List ℕ) (p : ℕ) → raw_stands T p 10 ≡ true → slice_get T p ≡ Some 10
+unfolding raw_stands
+newline_at T p e = byte_is (slice_get T p) e
+
+same_texts : (T U : List ℕ) (M : ℕ) → ((r : ℕ) → r < M + 1 → slice_get U r ≡ slice_get T r) → slice_get T M ≡ Some 10 → ListEnds T U 0 M (λ p. p) 10
+same_texts T U M same byte = record {
+  kept = record { under = omega arith; on = λ p k from. refl; same = λ r from lt. same r lt };
+  under = omega arith;
+  byte = byte;
+  ender = newline_ends;
+}
+
+same_raw : (T U : List ℕ) (p : ℕ) → slice_get U p ≡ slice_get T p → raw_stands T p 10 ≡ true → raw_stands U p 10 ≡ true
+unfolding raw_stands
+same_raw T U p is e = ap (λ b. is_byte b 10) is ∙ e
+
+-- U has the bytes of T up to where its line ends
+ended_alone : (T U : List ℕ) (l : ALine) → IsLine T l → l.ended ≡ true → ((r : ℕ) → r < l.next → slice_get U r ≡ slice_get T r) → IsLine U l
+ended_alone T U l (line_read es newline t k part) ended same =
+    let both = and_parts _ _ ended in
+    let M = t.at - 1 in
+    let inner = level most_open in
+    let some : 0 < t.at = subst (Holds (λ (x : Row AnEntry × Bool) (u : State). x.1 ≡ true → 0 < u.at)) (sym ((is (a_line inner false) (given T 0) (standing 0)).only _ _ part)) (line_ended_low inner false true (given T 0) (standing 0)).told both.0 in
+    let E = same_texts T U M (λ r lt. same r (omega (arith, lt, some))) (newline_at T M both.1) in
+    let again = line_again E 0 0 (λ p from. refl) inner false (standing 0) (omega arith) (Ok ((es, newline), t)) k part (both.0, omega (arith, some)) in
+    let there_too : raw_stands U M 10 ≡ true = same_raw T U M (same M (omega (arith, some))) both.1 in
+    subst (λ (c : Bool). IsLine U (record { kind = kind_of es newline; next = t.at; ended = newline && c })) (there_too ∙ sym both.1) (line_read es newline t again.1.0 again.1.1)
+ended_alone T U l (line_stops f k part) ended same = absurd cc
+
+get_take : (n : ℕ) (B : List ℕ) (r : ℕ) → r < n → slice_get (take n B) r ≡ slice_get B r
+get_take zero B r lt = absurd (omega arith)
+get_take (suc n) [] r lt = refl
+get_take (suc n) (b ∷ B) zero lt = refl
+get_take (suc n) (b ∷ B) (suc r) lt = get_take n B r (omega arith)
+
+same_front : (n : ℕ) (T U : List ℕ) → take n U ≡ take n T → (r : ℕ) → r < n → slice_get U r ≡ slice_get T r
+same_front n T U is r lt = sym (get_take n U r lt) ∙ ap (λ B. slice_get B r) is ∙ get_take n T r lt
+
+pub no_further : (T : List ℕ) (l : ALine) → IsLine T l → l.ended ≡ true → NoFurther T l
+no_further T l is ended other q same = ended_alone T (drop q other) l is ended (same_front l.next T (drop q other) same)
+
+pub same_bytes : (T : List ℕ) (l : ALine) → IsLine T l → SameBytes T l
+same_bytes T l is other q same = subst (λ U. IsLine U l) (sym same) is

@@ -1,0 +1,57 @@
+-- Words for the clauses of the code: what a function of the reader answers, and what it leaves as it was.
+use Rattle.std.specs.Prelude.{◌≡◌, ℕ, ◌+◌, ◌<◌, ◌≤◌, Bool, true, false, List, length, drop, Result, Ok, Err}
+use Rattle.shread.specs.declared.cursor.Cursor.{Cursor}
+use Rattle.shread.specs.declared.fault.Fault.{Fault}
+use Rattle.shread.specs.declared.fault.Stop.{Stop}
+use Rattle.shread.specs.declared.fault.Stop.TheVariants.{Memory, Wrong}
+use Rattle.shread.specs.declared.token.Token.{Token}
+use Rattle.shread.specs.declared.token.Token.TheVariants as tokens
+use Rattle.shread.specs.Standing.{raw_stands, at_end}
+use Rattle.shread.specs.Bytes.{past_continuations, ends_word}
+use Rattle.shread.specs.Sights.{State, given, standing}
+use Rattle.shread.specs.Form.{Form, Read, does}
+
+-- the text of a cursor
+abbrev pub text_of : {S : Type 0} {g : _} → (S → List ℕ) → Cursor S g → List ℕ
+text_of bytes cursor = drop cursor.base (bytes cursor.source.now)
+
+-- only the place may differ
+abbrev pub Stays : {S : Type 0} {g : _} → Cursor S g → Cursor S g → Type 0
+Stays old new = (new.source ≡ old.source) × (new.base ≡ old.base) × (new.origin ≡ old.origin) × (new.keep ≡ old.keep)
+
+-- a byte is read at p
+abbrev pub IsRead : List ℕ → ℕ → Type 0
+IsRead T p = past_continuations T p < length T
+
+-- what a form gives from a place in a cursor's text on, and from where the cursor stands
+abbrev pub reads_at : {S X : Type 0} {g : _} → (S → List ℕ) → Cursor S g → Form X → ℕ → Read X
+reads_at bytes cursor form p = does form cursor.keep (given (text_of bytes cursor) cursor.origin) (standing p)
+
+abbrev pub reads : {S X : Type 0} {g : _} → (S → List ℕ) → Cursor S g → Form X → Read X
+reads bytes cursor form = reads_at bytes cursor form cursor.at
+
+-- the offset at which a cursor's text ends
+abbrev pub end_of : {S : Type 0} {g : _} → (S → List ℕ) → Cursor S g → ℕ
+end_of bytes cursor = cursor.origin + length (text_of bytes cursor)
+
+-- what a stop says of the reading: a fault is its outcome, and stands within the text; want of memory says nothing
+abbrev pub Fails : {Y : Type 0} → ℕ → Stop → Read Y → Type 0
+Fails end Memory read = Unit {0}
+Fails end (Wrong f) read = (read ≡ Err f) × (f.at ≤ end)
+
+-- What a function returned, seen by view, is what the reading gives, unless memory ran out.
+abbrev pub Gives : {X Y : Type 0} → ℕ → (X → Y × State) → Result X Stop → Read Y → Type 0
+Gives end view (Ok x) read = read ≡ Ok (view x)
+Gives end view (Err e) read = Fails end e read
+
+-- a turn that goes on moves to the right
+abbrev pub Onward : ℕ → ℕ → Bool → Type 0
+Onward p q true = p < q
+Onward p q false = p ≤ q
+
+-- what a token says of the bytes from its first one on
+abbrev pub Shows : Token → List ℕ → ℕ → Type 0
+Shows token T p =
+    (token ≡ tokens.Word → ends_word T p ≡ false) × (token ≡ tokens.Assignment → ends_word T p ≡ false)
+    × (token ≡ tokens.Newline → IsRead T p) × (token ≡ tokens.Newline → raw_stands T p 10 ≡ true) × (token ≡ tokens.End → at_end T p ≡ true)
+    × (token ≡ tokens.Semicolon → IsRead T p) × (token ≡ tokens.Ampersand → IsRead T p) × (past_continuations T p ≡ p)

@@ -1,0 +1,86 @@
+//! The bytes of a text as they stand, continuations and all.
+ghost use Rattle.std.specs.Prelude.{◌≡◌, ◌+◌, ◌<◌, ◌≤◌, length, slice_get, true, false, IfSome};
+ghost use Rattle.shread.specs.Classes.{in_class};
+ghost use Rattle.shread.specs.Clauses.{text_of};
+ghost use Rattle.shread.specs.Standing.{raw_past, at_end, continues, raw_in, raw_stands};
+
+use crate::cursor::Cursor;
+use crate::source::Source;
+use crate::token::Class;
+
+impl<'a, S: Source> Cursor<'a, S> {
+    /// The byte at a place as it stands, or `None` at the end.
+    #[inline(always)]
+    #[tactic(auto, using(crate::proofs::Stretches::get_drop))]
+    pub(crate) fn raw_byte(&self, at: usize) -> Option<u8>
+        requires { at ≤ length (text_of S.bytes self.now) }
+        ensures value { result ≡ slice_get (text_of S.bytes self.now) at }
+        ensures inside { IfSome result (λ b. at < length (text_of S.bytes self.now)) }
+    {
+        self.source.byte(self.base + at)
+    }
+
+    /// Whether this byte is the one at a place.
+    #[inline(always)]
+    #[tactic(auto, unfolding(crate::specs::Standing::raw_stands))]
+    pub(crate) fn raw_stands(&self, at: usize, byte: u8) -> bool
+        requires { at ≤ length (text_of S.bytes self.now) }
+        ensures value { result ≡ raw_stands (text_of S.bytes self.now) at byte }
+        ensures inside { result ≡ true → at < length (text_of S.bytes self.now) }
+    {
+        match self.raw_byte(at) {
+            Some(found) => found == byte,
+            None => false,
+        }
+    }
+
+    /// Whether the byte at a place is of this class.
+    #[inline(always)]
+    #[tactic(auto, unfolding(crate::specs::Standing::raw_in))]
+    pub(crate) fn raw_in(&self, at: usize, class: Class) -> bool
+        requires { at ≤ length (text_of S.bytes self.now) }
+        ensures value { result ≡ raw_in (in_class class) (text_of S.bytes self.now) at }
+        ensures inside { result ≡ true → at < length (text_of S.bytes self.now) }
+    {
+        match self.raw_byte(at) {
+            Some(byte) => class.has(byte),
+            None => false,
+        }
+    }
+
+    /// Whether the text ends at a place.
+    #[inline(always)]
+    #[tactic(auto, unfolding(crate::specs::Standing::at_end))]
+    pub(crate) fn at_end(&self, at: usize) -> bool
+        requires { at ≤ length (text_of S.bytes self.now) }
+        ensures value { result ≡ at_end (text_of S.bytes self.now) at }
+        ensures inside { result ≡ false → at < length (text_of S.bytes self.now) }
+    {
+        self.raw_byte(at).is_none()
+    }
+
+    /// Whether a continuation stands at a place.
+    #[inline(always)]
+    #[tactic(auto, unfolding(crate::specs::Standing::continues))]
+    pub(crate) fn continues(&self, at: usize) -> bool
+        requires { at ≤ length (text_of S.bytes self.now) }
+        ensures value { result ≡ continues (text_of S.bytes self.now) at }
+        ensures inside { result ≡ true → at + 2 ≤ length (text_of S.bytes self.now) }
+    {
+        self.raw_stands(at, b'\\') && self.raw_stands(at + 1, b'\n')
+    }
+
+    /// The place behind the bytes of this class that stand from a place on.
+    #[tactic(auto, using(crate::proofs::Stretches::raw_more, crate::proofs::Stretches::raw_none))]
+    pub(crate) fn raw_past(&self, from: usize, class: Class) -> usize
+        requires { from ≤ length (text_of S.bytes self.now) }
+        ensures value { result ≡ raw_past (in_class class) (text_of S.bytes self.now) from }
+        ensures inside { (from ≤ result) × (result ≤ length (text_of S.bytes self.now)) }
+    {
+        let mut at = from;
+        'bytes: while self.raw_in(at, class) {
+            at += 1;
+        }
+        at
+    }
+}
