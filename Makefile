@@ -1,11 +1,12 @@
 # make             proves and builds the program, if it is older than its sources
 # make test        the gate: proves every crate from nothing, runs every test; then the scripts over what the gate has built
-# make scripts     those scripts alone, over what the last gate has built
+# make scripts     those scripts alone, over what the last gate has left
 # make bench       times the program beside dash and cat, and prints a table
 # make install     installs the program and its manual page below PREFIX, itself below DESTDIR where that is given
 
 PREFIX = /usr/local
 PROGRAM = crates/shform/out/shform
+TESTS = crates/shread/out/shread_tests crates/shform/out/shform_tests
 
 .PHONY: all test scripts bench install
 
@@ -16,11 +17,14 @@ test:
 	rt ci
 	$(MAKE) scripts
 
-scripts:
+scripts: $(PROGRAM) $(TESTS)
 	tests/run
 	tests/refused-growths
 	tests/launcher
 	tests/install
+
+$(PROGRAM) $(TESTS):
+	@echo "make scripts: there is no $@: run make test, whose gate leaves it" >&2; exit 1
 
 bench:
 	@./shform --version >/dev/null
