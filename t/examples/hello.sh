@@ -1,0 +1,4 @@
+#!/bin/sh
+# Greets, and tells the day.
+echo Hello, $USER
+date +%A
