@@ -60,26 +60,36 @@ word_step w = word w.span (substs_of w.substs.items)
 
 -- ---- a whole tree, and each of its parts
 
+-- a fold, at these steps
+abbrev Steps : Type 0 → Type 0
+Steps V =
+    (Seen Command-F → ACommand) → (Seen Content-F → AContent) → (Seen ItemContent-F → AnItemContent) → (Seen AndOr-F → AnAndOr) → (Seen AndOrPart-F → AnAndOrPart)
+    → (Seen Entry-F → AnEntry) → (Seen Item-F → AnItem) → (Seen List-F → Entries) → (Seen Pipeline-F → APipeline) → (Seen PipelinePart-F → APipelinePart)
+    → (Seen Subst-F → ASubst) → (Seen Word-F → AWord) → V
+
+abbrev seen : {V : Type 0} → Steps V → V
+seen fold = fold command_step content_step item_content_step and_or_step and_or_part_step entry_step item_step list_step pipeline_step pipeline_part_step subst_step word_step
+
 abbrev pub view_list : the_list.List → Entries
-view_list = fold-List ACommand AContent AnItemContent AnAndOr AnAndOrPart AnEntry AnItem Entries APipeline APipelinePart ASubst AWord command_step content_step item_content_step and_or_step and_or_part_step entry_step item_step list_step pipeline_step pipeline_part_step subst_step word_step
+view_list = seen (fold-List _ _ _ _ _ _ _ _ _ _ _ _)
 
 abbrev pub view_entry : the_entry.Entry → AnEntry
-view_entry = fold-Entry ACommand AContent AnItemContent AnAndOr AnAndOrPart AnEntry AnItem Entries APipeline APipelinePart ASubst AWord command_step content_step item_content_step and_or_step and_or_part_step entry_step item_step list_step pipeline_step pipeline_part_step subst_step word_step
+view_entry = seen (fold-Entry _ _ _ _ _ _ _ _ _ _ _ _)
 
 abbrev pub view_and_or : the_and_or.AndOr → AnAndOr
-view_and_or = fold-AndOr ACommand AContent AnItemContent AnAndOr AnAndOrPart AnEntry AnItem Entries APipeline APipelinePart ASubst AWord command_step content_step item_content_step and_or_step and_or_part_step entry_step item_step list_step pipeline_step pipeline_part_step subst_step word_step
+view_and_or = seen (fold-AndOr _ _ _ _ _ _ _ _ _ _ _ _)
 
 abbrev pub view_pipeline : the_pipeline.Pipeline → APipeline
-view_pipeline = fold-Pipeline ACommand AContent AnItemContent AnAndOr AnAndOrPart AnEntry AnItem Entries APipeline APipelinePart ASubst AWord command_step content_step item_content_step and_or_step and_or_part_step entry_step item_step list_step pipeline_step pipeline_part_step subst_step word_step
+view_pipeline = seen (fold-Pipeline _ _ _ _ _ _ _ _ _ _ _ _)
 
 abbrev pub view_command : the_command.Command → ACommand
-view_command = fold-Command ACommand AContent AnItemContent AnAndOr AnAndOrPart AnEntry AnItem Entries APipeline APipelinePart ASubst AWord command_step content_step item_content_step and_or_step and_or_part_step entry_step item_step list_step pipeline_step pipeline_part_step subst_step word_step
+view_command = seen (fold-Command _ _ _ _ _ _ _ _ _ _ _ _)
 
 abbrev pub view_item : the_item.Item → AnItem
-view_item = fold-Item ACommand AContent AnItemContent AnAndOr AnAndOrPart AnEntry AnItem Entries APipeline APipelinePart ASubst AWord command_step content_step item_content_step and_or_step and_or_part_step entry_step item_step list_step pipeline_step pipeline_part_step subst_step word_step
+view_item = seen (fold-Item _ _ _ _ _ _ _ _ _ _ _ _)
 
 abbrev pub view_word : the_word.Word → AWord
-view_word = fold-Word ACommand AContent AnItemContent AnAndOr AnAndOrPart AnEntry AnItem Entries APipeline APipelinePart ASubst AWord command_step content_step item_content_step and_or_step and_or_part_step entry_step item_step list_step pipeline_step pipeline_part_step subst_step word_step
+view_word = seen (fold-Word _ _ _ _ _ _ _ _ _ _ _ _)
 
 abbrev pub view_subst : the_subst.Subst → ASubst
-view_subst = fold-Subst ACommand AContent AnItemContent AnAndOr AnAndOrPart AnEntry AnItem Entries APipeline APipelinePart ASubst AWord command_step content_step item_content_step and_or_step and_or_part_step entry_step item_step list_step pipeline_step pipeline_part_step subst_step word_step
+view_subst = seen (fold-Subst _ _ _ _ _ _ _ _ _ _ _ _)
