@@ -44,6 +44,10 @@ abbrev pub Gives : {X Y : Type 0} → ℕ → (X → Y × State) → Result X St
 Gives end view (Ok x) read = read ≡ Ok (view x)
 Gives end view (Err e) read = Fails end e read
 
+-- What a function returned, seen by view, is what the form gives from where the cursor stood, and ends at p; unless memory ran out.
+abbrev pub Reads : {S X Y : Type 0} {g : _} → (S → List ℕ) → Cursor S g → Form Y → Result X Stop → (X → Y) → ℕ → Type 0
+Reads bytes cursor form result view p = Gives (end_of bytes cursor) (λ x. (view x, standing p)) result (reads bytes cursor form)
+
 -- a turn that goes on moves to the right
 abbrev pub Onward : ℕ → ℕ → Bool → Type 0
 Onward p q true = p < q

@@ -1,9 +1,8 @@
 //! Simple commands, pipelines and and-or lists (XCU 2.9.1 to 2.9.3).
 ghost use Rattle.std.specs.Prelude.{◌≡◌, ◌≤◌, map, IfOk};
-ghost use Rattle.shread.specs.Clauses.{Gives, Onward, Shows, Stays, end_of, reads, text_of};
+ghost use Rattle.shread.specs.Clauses.{Onward, Reads, Shows, Stays, text_of};
 ghost use Rattle.shread.specs.Commands.{a_pipeline, a_simple, an_and_or, item_turn, so_many};
 ghost use Rattle.shread.specs.Form.{many, step_if};
-ghost use Rattle.shread.specs.Sights.{standing};
 ghost use Rattle.shread.specs.View.{view_and_or, view_command, view_item, view_pipeline};
 ghost use Rattle.shread.specs.Words.{level};
 
@@ -26,8 +25,8 @@ impl<'a, S: Source> Cursor<'a, S> {
         room: usize,
     ) -> Result<bool, Stop>
         requires shows { Shows next.old.token (text_of S.bytes self.old) self.old.at }
-        ensures value { Gives (end_of S.bytes self.old) (λ more. (step_if more (so_many (map view_item items.new.items) next.new), standing self.new.at)) result
-            (reads S.bytes self.old (item_turn (level room) (so_many (map view_item items.old.items) next.old))) }
+        ensures value { Reads S.bytes self.old (item_turn (level room) (so_many (map view_item items.old.items) next.old)) result
+            (λ more. step_if more (so_many (map view_item items.new.items) next.new)) self.new.at }
         ensures shows { IfOk result (λ more. Shows next.new.token (text_of S.bytes self.old) self.new.at) }
         ensures onward { IfOk result (Onward self.old.at self.new.at) }
         ensures same { Stays self.old self.new }
@@ -58,8 +57,8 @@ impl<'a, S: Source> Cursor<'a, S> {
     #[tactic(auto, unfolding(crate::specs::Commands::a_simple), using(crate::proofs::Turns::many_again, crate::proofs::Turns::many_done, crate::proofs::Turns::many_stop))]
     fn simple(&mut self, alloc: Global, next: &mut Next, room: usize) -> Result<Command, Stop>
         requires shows { Shows next.old.token (text_of S.bytes self.old) self.old.at }
-        ensures value { Gives (end_of S.bytes self.old) (λ command. ((view_command command, next.new), standing self.new.at)) result
-            (reads S.bytes self.old (a_simple (level room) next.old)) }
+        ensures value { Reads S.bytes self.old (a_simple (level room) next.old) result
+            (λ command. (view_command command, next.new)) self.new.at }
         ensures shows { IfOk result (λ command. Shows next.new.token (text_of S.bytes self.old) self.new.at) }
         ensures onward { IfOk result (λ command. self.old.at ≤ self.new.at) }
         ensures same { Stays self.old self.new }
@@ -72,8 +71,8 @@ impl<'a, S: Source> Cursor<'a, S> {
     #[tactic(auto, unfolding(crate::specs::Commands::a_pipeline))]
     fn pipeline(&mut self, alloc: Global, next: &mut Next, room: usize) -> Result<Pipeline, Stop>
         requires shows { Shows next.old.token (text_of S.bytes self.old) self.old.at }
-        ensures value { Gives (end_of S.bytes self.old) (λ pipeline. ((view_pipeline pipeline, next.new), standing self.new.at)) result
-            (reads S.bytes self.old (a_pipeline (level room) next.old)) }
+        ensures value { Reads S.bytes self.old (a_pipeline (level room) next.old) result
+            (λ pipeline. (view_pipeline pipeline, next.new)) self.new.at }
         ensures shows { IfOk result (λ pipeline. Shows next.new.token (text_of S.bytes self.old) self.new.at) }
         ensures onward { IfOk result (λ pipeline. self.old.at ≤ self.new.at) }
         ensures same { Stays self.old self.new }
@@ -90,8 +89,8 @@ impl<'a, S: Source> Cursor<'a, S> {
         room: usize,
     ) -> Result<AndOr, Stop>
         requires shows { Shows next.old.token (text_of S.bytes self.old) self.old.at }
-        ensures value { Gives (end_of S.bytes self.old) (λ and_or. ((view_and_or and_or, next.new), standing self.new.at)) result
-            (reads S.bytes self.old (an_and_or (level room) next.old)) }
+        ensures value { Reads S.bytes self.old (an_and_or (level room) next.old) result
+            (λ and_or. (view_and_or and_or, next.new)) self.new.at }
         ensures shows { IfOk result (λ and_or. Shows next.new.token (text_of S.bytes self.old) self.new.at) }
         ensures onward { IfOk result (λ and_or. self.old.at ≤ self.new.at) }
         ensures same { Stays self.old self.new }

@@ -16,9 +16,14 @@ pub fn one_outcome()
 
 /// The normal form of a list refuses each of these, in a list of one entry.
 pub fn normal_form()
-    ensures blank_first { (what : AContent) (background : Bool) (comment : Option Comment) → IsNormal (alone (entry what background true comment)) → ⊥ }
-    ensures comment_in_background { (c : Comment) (comment : Option Comment) → IsNormal (alone (entry (remark c) true false comment)) → ⊥ }
-    ensures comment_with_comment { (c d : Comment) (background : Bool) → IsNormal (alone (entry (remark c) background false (Some d))) → ⊥ }
-    ensures broken_first_item { (what : AnItemContent) (items : Items) → IsNormal (alone (of_command (simple (more_items (item true what) items)))) → ⊥ }
-    ensures unbroken_join { (c : Comment) (cs : Row Comment) (one two : ACommand) → IsNormal (alone (joined (record { broken = false; comments = c ∷ cs }) one two)) → ⊥ }
+    ensures blank_first { (what : AContent) (background : Bool) (comment : Option Comment) →
+        IsNormal (alone (entry what background true comment)) → ⊥ }
+    ensures comment_in_background { (c : Comment) (comment : Option Comment) →
+        IsNormal (alone (entry (remark c) true false comment)) → ⊥ }
+    ensures comment_with_comment { (c d : Comment) (background : Bool) →
+        IsNormal (alone (entry (remark c) background false (Some d))) → ⊥ }
+    ensures broken_first_item { (what : AnItemContent) (items : Items) →
+        IsNormal (alone (of_command (simple (more_items (item true what) items)))) → ⊥ }
+    ensures unbroken_join { (c : Comment) (cs : Row Comment) (one two : ACommand) →
+        IsNormal (alone (joined (record { broken = false; comments = c ∷ cs }) one two)) → ⊥ }
 {}

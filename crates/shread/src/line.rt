@@ -1,6 +1,6 @@
 //! The entries of a line, and the line's end (XCU 2.9.3, 2.10.2).
 ghost use Rattle.std.specs.Prelude.{◌≡◌, ◌-◌, ◌<◌, ◌≤◌, [], map, IfOk, Ok as Done, false, true};
-ghost use Rattle.shread.specs.Clauses.{Gives, Onward, Shows, Stays, end_of, reads, text_of};
+ghost use Rattle.shread.specs.Clauses.{Onward, Reads, reads, Shows, Stays, text_of};
 ghost use Rattle.shread.specs.Commands.{a_comment, a_separator, an_entry, is_parted};
 ghost use Rattle.shread.specs.Form.{step_if};
 ghost use Rattle.shread.specs.Lines.{a_line, a_remark, all_entries, end_of_line, entry_turn, line_so};
@@ -66,8 +66,8 @@ impl<'a, S: Source> Cursor<'a, S> {
         room: usize,
     ) -> Result<(Entry, bool), Stop>
         requires shows { Shows next.old.token (text_of S.bytes self.old) self.old.at }
-        ensures value { Gives (end_of S.bytes self.old) (λ x. (record { entry = view_entry x.0; parted = x.1; next = next.new }, standing self.new.at)) result
-            (reads S.bytes self.old (an_entry (level room) blank next.old)) }
+        ensures value { Reads S.bytes self.old (an_entry (level room) blank next.old) result
+            (λ x. record { entry = view_entry x.0; parted = x.1; next = next.new }) self.new.at }
         ensures shows { IfOk result (λ x. Shows next.new.token (text_of S.bytes self.old) self.new.at) }
         ensures onward { IfOk result (λ x. Onward self.old.at self.new.at x.1) }
         ensures same { Stays self.old self.new }
@@ -94,8 +94,8 @@ impl<'a, S: Source> Cursor<'a, S> {
         room: usize,
     ) -> Result<bool, Stop>
         requires shows { Shows next.old.token (text_of S.bytes self.old) self.old.at }
-        ensures value { Gives (end_of S.bytes self.old) (λ more. (step_if more (line_so (map view_entry entries.new.items) next.new), standing self.new.at)) result
-            (reads S.bytes self.old (entry_turn (level room) blank (line_so (map view_entry entries.old.items) next.old))) }
+        ensures value { Reads S.bytes self.old (entry_turn (level room) blank (line_so (map view_entry entries.old.items) next.old)) result
+            (λ more. step_if more (line_so (map view_entry entries.new.items) next.new)) self.new.at }
         ensures shows { IfOk result (λ more. Shows next.new.token (text_of S.bytes self.old) self.new.at) }
         ensures onward { IfOk result (Onward self.old.at self.new.at) }
         ensures same { Stays self.old self.new }
@@ -121,8 +121,8 @@ impl<'a, S: Source> Cursor<'a, S> {
         room: usize,
     ) -> Result<Vec<Entry>, Stop>
         requires shows { Shows next.old.token (text_of S.bytes self.old) self.old.at }
-        ensures value { Gives (end_of S.bytes self.old) (λ entries. (line_so (map view_entry entries.items) next.new, standing self.new.at)) result
-            (reads S.bytes self.old (all_entries (level room) blank next.old)) }
+        ensures value { Reads S.bytes self.old (all_entries (level room) blank next.old) result
+            (λ entries. line_so (map view_entry entries.items) next.new) self.new.at }
         ensures shows { IfOk result (λ entries. Shows next.new.token (text_of S.bytes self.old) self.new.at) }
         ensures onward { IfOk result (λ entries. self.old.at ≤ self.new.at) }
         ensures same { Stays self.old self.new }
@@ -141,8 +141,8 @@ impl<'a, S: Source> Cursor<'a, S> {
         entries: &mut Vec<Entry>,
     ) -> Result<(), Stop>
         requires shows { Shows next.old.token (text_of S.bytes self.old) self.old.at }
-        ensures value { Gives (end_of S.bytes self.old) (λ done. (line_so (map view_entry entries.new.items) next.new, standing self.new.at)) result
-            (reads S.bytes self.old (a_remark blank (line_so (map view_entry entries.old.items) next.old))) }
+        ensures value { Reads S.bytes self.old (a_remark blank (line_so (map view_entry entries.old.items) next.old)) result
+            (λ done. line_so (map view_entry entries.new.items) next.new) self.new.at }
         ensures shows { IfOk result (λ done. Shows next.new.token (text_of S.bytes self.old) self.new.at) }
         ensures onward { IfOk result (λ done. self.old.at ≤ self.new.at) }
         ensures same { Stays self.old self.new }
@@ -160,9 +160,10 @@ impl<'a, S: Source> Cursor<'a, S> {
     #[tactic(auto, unfolding(crate::specs::Lines::end_of_line, crate::specs::Bytes::behind))]
     fn end_of_line(&mut self, next: Next) -> Result<bool, Stop>
         requires shows { Shows next.token (text_of S.bytes self.old) self.old.at }
-        ensures value { Gives (end_of S.bytes self.old) (λ newline. (newline, standing self.new.at)) result (reads S.bytes self.old (end_of_line next.token)) }
+        ensures value { Reads S.bytes self.old (end_of_line next.token) result (λ newline. newline) self.new.at }
         ensures onward { IfOk result (Onward self.old.at self.new.at) }
-        ensures newline { IfOk result (λ newline. newline ≡ true → raw_stands (text_of S.bytes self.old) (self.new.at - 1) 10 ≡ true) }
+        ensures newline { IfOk result (λ newline. newline ≡ true → raw_stands (text_of S.bytes self.old) (self.new.at - 1) 10 ≡
+            true) }
         ensures whole { IfOk result (λ newline. newline ≡ false → at_end (text_of S.bytes self.old) self.new.at ≡ true) }
         ensures same { Stays self.old self.new }
     {
@@ -184,8 +185,8 @@ impl<'a, S: Source> Cursor<'a, S> {
         blank: bool,
         room: usize,
     ) -> Result<(Vec<Entry>, bool), Stop>
-        ensures value { Gives (end_of S.bytes self.old) (λ x. ((map view_entry x.0.items, x.1), standing self.new.at)) result
-            (reads S.bytes self.old (a_line (level room) blank)) }
+        ensures value { Reads S.bytes self.old (a_line (level room) blank) result
+            (λ x. (map view_entry x.0.items, x.1)) self.new.at }
         ensures onward { IfOk result (λ x. Onward self.old.at self.new.at x.1) }
         ensures newline { IfOk result (λ x. x.1 ≡ true → raw_stands (text_of S.bytes self.old) (self.new.at - 1) 10 ≡ true) }
         ensures whole { IfOk result (λ x. x.1 ≡ false → at_end (text_of S.bytes self.old) self.new.at ≡ true) }

@@ -1,10 +1,9 @@
 //! Which piece of a word begins at a place, and the pieces that hold no others (XCU 2.2, 2.6).
 ghost use Rattle.std.specs.Prelude.{◌≡◌, ◌≢◌, ◌⊎◌, ◌+◌, ◌<◌, ◌≤◌, length, IfOk, Some, false, true};
 ghost use Rattle.shread.specs.Bytes.{behind, ends, ends_word, past_continuations, stands};
-ghost use Rattle.shread.specs.Clauses.{Gives, IsRead, Stays, end_of, reads, text_of};
+ghost use Rattle.shread.specs.Clauses.{IsRead, Reads, Stays, text_of};
 ghost use Rattle.shread.specs.Form.{step_if};
 ghost use Rattle.shread.specs.Pieces.{bracket_by, byte_by, dollar_at, past_parameter, piece_at, rest_mode};
-ghost use Rattle.shread.specs.Sights.{standing};
 ghost use Rattle.shread.specs.Standing.{raw_stands};
 ghost use Rattle.shread.specs.Words.{backquote_turn, backquoted, single};
 
@@ -24,7 +23,8 @@ impl<'a, S: Source> Cursor<'a, S> {
         requires here { here ≡ past_continuations (text_of S.bytes self.now) self.now.at }
         requires some { here < length (text_of S.bytes self.now) }
         ensures value { result ≡ dollar_at (text_of S.bytes self.now) self.now.at }
-        ensures two { (result ≡ Piece.Pid) ⊎ (result ≡ Piece.Arith) ⊎ (result ≡ Piece.Param) → IsRead (text_of S.bytes self.now) (here + 1) }
+        ensures two { (result ≡ Piece.Pid) ⊎ (result ≡ Piece.Arith) ⊎ (result ≡ Piece.Param) →
+            IsRead (text_of S.bytes self.now) (here + 1) }
         ensures three { result ≡ Piece.Arith → IsRead (text_of S.bytes self.now) (behind (text_of S.bytes self.now) (here + 1)) }
         ensures kinds { (result ≢ Piece.Closer) × (result ≢ Piece.Missing) × (result ≢ Piece.Escape) × (result ≢ Piece.Close) }
     {
@@ -103,9 +103,12 @@ impl<'a, S: Source> Cursor<'a, S> {
         requires here { here ≡ past_continuations (text_of S.bytes self.now) self.now.at }
         requires within { here ≤ length (text_of S.bytes self.now) }
         ensures value { result ≡ piece_at (text_of S.bytes self.now) mode nested self.now.at }
-        ensures some { (result ≢ Piece.Missing) × ((mode ≢ Mode.Plain) ⊎ (result ≢ Piece.Closer)) → here < length (text_of S.bytes self.now) }
-        ensures escape { result ≡ Piece.Escape → (here + 2 ≤ length (text_of S.bytes self.now)) × (raw_stands (text_of S.bytes self.now) here 92 ≡ true) }
-        ensures two { (result ≡ Piece.Pid) ⊎ (result ≡ Piece.Arith) ⊎ (result ≡ Piece.Param) → IsRead (text_of S.bytes self.now) (here + 1) }
+        ensures some { (result ≢ Piece.Missing) × ((mode ≢ Mode.Plain) ⊎ (result ≢ Piece.Closer)) →
+            here < length (text_of S.bytes self.now) }
+        ensures escape { result ≡ Piece.Escape → (here + 2 ≤ length (text_of S.bytes self.now)) ×
+            (raw_stands (text_of S.bytes self.now) here 92 ≡ true) }
+        ensures two { (result ≡ Piece.Pid) ⊎ (result ≡ Piece.Arith) ⊎ (result ≡ Piece.Param) →
+            IsRead (text_of S.bytes self.now) (here + 1) }
         ensures three { result ≡ Piece.Arith → IsRead (text_of S.bytes self.now) (behind (text_of S.bytes self.now) (here + 1)) }
         ensures closer { mode ≡ Mode.Arith → result ≡ Piece.Closer → IsRead (text_of S.bytes self.now) (here + 1) }
         ensures close { result ≡ Piece.Close → 0 < nested }
@@ -163,7 +166,7 @@ impl<'a, S: Source> Cursor<'a, S> {
     pub(crate) fn single(&mut self, opener: usize) -> Result<(), Stop>
         requires opener { opener ≡ past_continuations (text_of S.bytes self.old) self.old.at }
         requires some { opener < length (text_of S.bytes self.old) }
-        ensures value { Gives (end_of S.bytes self.old) (λ done. (tt, standing self.new.at)) result (reads S.bytes self.old single) }
+        ensures value { Reads S.bytes self.old single result (λ done. tt) self.new.at }
         ensures onward { IfOk result (λ done. opener < self.new.at) }
         ensures same { Stays self.old self.new }
     {
@@ -179,8 +182,8 @@ impl<'a, S: Source> Cursor<'a, S> {
     #[tactic(auto, unfolding(crate::specs::Words::backquote_turn, crate::specs::Pieces::past_taken), using(crate::proofs::Places::backslash_next, crate::proofs::Places::backquote_is))]
     fn backquote_turn(&mut self, opener: usize) -> Result<bool, Stop>
         requires { opener ≤ self.old.at }
-        ensures value { Gives (end_of S.bytes self.old) (λ more. (step_if more tt, standing self.new.at)) result
-            (reads S.bytes self.old (backquote_turn (self.old.origin + opener) tt)) }
+        ensures value { Reads S.bytes self.old (backquote_turn (self.old.origin + opener) tt) result
+            (λ more. step_if more tt) self.new.at }
         ensures onward { IfOk result (λ more. self.old.at < self.new.at) }
         ensures same { Stays self.old self.new }
     {
@@ -204,7 +207,7 @@ impl<'a, S: Source> Cursor<'a, S> {
     pub(crate) fn backquoted(&mut self, opener: usize) -> Result<(), Stop>
         requires opener { opener ≡ past_continuations (text_of S.bytes self.old) self.old.at }
         requires some { opener < length (text_of S.bytes self.old) }
-        ensures value { Gives (end_of S.bytes self.old) (λ done. (tt, standing self.new.at)) result (reads S.bytes self.old backquoted) }
+        ensures value { Reads S.bytes self.old backquoted result (λ done. tt) self.new.at }
         ensures onward { IfOk result (λ done. opener < self.new.at) }
         ensures same { Stays self.old self.new }
     {

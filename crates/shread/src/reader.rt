@@ -74,7 +74,8 @@ impl Reader {
         ensures only { IfOk result (λ line. (a : ALine) → IsLine (drop at (S.bytes source.now)) a → a ≡ view_line at line) }
         // The same bytes have the same line wherever they stand, and a line that a newline ended looks no further.
         ensures same_bytes { IfOk result (λ line. SameBytes (drop at (S.bytes source.now)) (view_line at line)) }
-        ensures no_further { IfOk result (λ line. line.ended ≡ true → NoFurther (drop at (S.bytes source.now)) (view_line at line)) }
+        ensures no_further { IfOk result (λ line. line.ended ≡ true →
+            NoFurther (drop at (S.bytes source.now)) (view_line at line)) }
         ensures next { IfOk result (λ line. (at ≤ line.next) × (line.next ≤ length (S.bytes source.now))) }
         ensures onward { IfOk result (λ line. line.ended ≡ true → at < line.next) }
         ensures whole { IfOk result (λ line. line.ended ≡ false → line.next ≡ length (S.bytes source.now)) }

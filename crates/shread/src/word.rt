@@ -1,11 +1,10 @@
 //! Words (XCU 2.3), and how far they go: their pieces in the five modes (XCU 2.2, 2.6).
 ghost use Rattle.std.specs.Prelude.{◌≡◌, ◌≢◌, ◌+◌, ◌<◌, ◌≤◌, [], length, IfOk, false};
 ghost use Rattle.shread.specs.Bytes.{ends_word, past_continuations};
-ghost use Rattle.shread.specs.Clauses.{Gives, IsRead, Onward, Stays, end_of, reads, text_of};
+ghost use Rattle.shread.specs.Clauses.{IsRead, Onward, Reads, Stays, text_of};
 ghost use Rattle.shread.specs.Comments.{span};
 ghost use Rattle.shread.specs.Form.{step_if};
 ghost use Rattle.shread.specs.Pieces.{past_closer};
-ghost use Rattle.shread.specs.Sights.{standing};
 ghost use Rattle.shread.specs.Tree.{no_subst, word};
 ghost use Rattle.shread.specs.View.{view_word};
 ghost use Rattle.shread.specs.Words.{a_piece, a_word, contents, having, level};
@@ -42,8 +41,8 @@ impl<'a, S: Source> Cursor<'a, S> {
     #[tactic(auto, using(crate::proofs::Levels::level_closed, crate::proofs::PlainBytes::plain_construct, crate::proofs::PlainBytes::plain_begin))]
     fn construct(&mut self, mode: Mode, opener: usize, room: usize) -> Result<(), Stop>
         requires { opener ≤ self.old.at }
-        ensures value { Gives (end_of S.bytes self.old) (λ done. ([], standing self.new.at)) result
-            (reads S.bytes self.old ((level room).construct mode (self.old.origin + opener) [])) }
+        ensures value { Reads S.bytes self.old ((level room).construct mode (self.old.origin + opener) []) result
+            (λ done. []) self.new.at }
         ensures onward { IfOk result (λ done. self.old.at ≤ self.new.at) }
         ensures same { Stays self.old self.new }
     {
@@ -71,11 +70,12 @@ impl<'a, S: Source> Cursor<'a, S> {
     ) -> Result<bool, Stop>
         requires opener { opener ≤ self.old.at }
         requires nested { nested.old ≤ self.old.at }
-        ensures value { Gives (end_of S.bytes self.old) (λ more. (step_if more (having nested.new []), standing self.new.at)) result
-            (reads S.bytes self.old (a_piece (level room) mode (self.old.origin + opener) (having nested.old []))) }
+        ensures value { Reads S.bytes self.old (a_piece (level room) mode (self.old.origin + opener) (having nested.old [])) result
+            (λ more. step_if more (having nested.new [])) self.new.at }
         ensures onward { IfOk result (Onward self.old.at self.new.at) }
         ensures nested { IfOk result (λ more. nested.new ≤ self.new.at) }
-        ensures some { mode ≡ Mode.Plain → ends_word (text_of S.bytes self.old) self.old.at ≡ false → IfOk result (λ more. self.old.at < self.new.at) }
+        ensures some { mode ≡ Mode.Plain → ends_word (text_of S.bytes self.old) self.old.at ≡ false →
+            IfOk result (λ more. self.old.at < self.new.at) }
         ensures same { Stays self.old self.new }
     {
         let here = self.place(self.at);
@@ -124,10 +124,11 @@ impl<'a, S: Source> Cursor<'a, S> {
     #[tactic(auto, unfolding(crate::specs::Words::contents), using(crate::proofs::Turns::many_done, crate::proofs::PlainBytes::contents_stop, crate::proofs::PlainBytes::piece_and_plain))]
     fn contents(&mut self, mode: Mode, opener: usize, room: usize) -> Result<(), Stop>
         requires { opener ≤ self.old.at }
-        ensures value { Gives (end_of S.bytes self.old) (λ done. ([], standing self.new.at)) result
-            (reads S.bytes self.old (contents (level room) mode (self.old.origin + opener) [])) }
+        ensures value { Reads S.bytes self.old (contents (level room) mode (self.old.origin + opener) []) result
+            (λ done. []) self.new.at }
         ensures onward { IfOk result (λ done. self.old.at ≤ self.new.at) }
-        ensures some { mode ≡ Mode.Plain → ends_word (text_of S.bytes self.old) self.old.at ≡ false → IfOk result (λ done. self.old.at < self.new.at) }
+        ensures some { mode ≡ Mode.Plain → ends_word (text_of S.bytes self.old) self.old.at ≡ false →
+            IfOk result (λ done. self.old.at < self.new.at) }
         ensures same { Stays self.old self.new }
     {
         let mut nested = 0;
@@ -141,8 +142,8 @@ impl<'a, S: Source> Cursor<'a, S> {
     #[tactic(auto, using(crate::proofs::PlainBytes::plain_word, crate::proofs::PlainBytes::word_rest, crate::proofs::PlainBytes::word_stops, crate::proofs::PlainBytes::some_plain))]
     pub(crate) fn pass_word(&mut self, room: usize) -> Result<(), Stop>
         requires { ends_word (text_of S.bytes self.old) self.old.at ≡ false }
-        ensures value { Gives (end_of S.bytes self.old) (λ done. (word (span self.old.origin self.old.at self.new.at) no_subst, standing self.new.at)) result
-            (reads S.bytes self.old (a_word (level room))) }
+        ensures value { Reads S.bytes self.old (a_word (level room)) result
+            (λ done. word (span self.old.origin self.old.at self.new.at) no_subst) self.new.at }
         ensures onward { IfOk result (λ done. self.old.at < self.new.at) }
         ensures same { Stays self.old self.new }
     {
