@@ -74,7 +74,7 @@ shows_by T p (tokens.Reserved r) still e = (λ f. absurd cc, λ f. absurd cc, λ
 shows_by T p tokens.Assignment still e = (λ f. absurd cc, λ f. e, λ f. absurd cc, λ f. absurd cc, λ f. absurd cc, λ f. absurd cc, λ f. absurd cc, still)
 shows_by T p tokens.Word still e = (λ f. e, λ f. absurd cc, λ f. absurd cc, λ f. absurd cc, λ f. absurd cc, λ f. absurd cc, λ f. absurd cc, still)
 
-blanks_still : (T : List ℕ) (p : ℕ) → past_continuations T (past_blanks T p) ≡ past_blanks T p
+pub blanks_still : (T : List ℕ) (p : ℕ) → past_continuations T (past_blanks T p) ≡ past_blanks T p
 unfolding past_blanks
 blanks_still T p = place_same T _
 

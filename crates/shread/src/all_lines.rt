@@ -41,7 +41,8 @@ impl SoFar {
     /// The entries of one more line, which has so many bytes.
     fn add(&mut self, mut entries: Vec<Entry>, len: usize) -> Result<(), ReadError>
         requires { self.old.at + len < 2 ^ 64 }
-        ensures line { IfOk result (λ done. view_so_far self.new ≡ with_line (view_so_far self.old) (map view_entry entries.items)) }
+        ensures line { IfOk result (λ done.
+            view_so_far self.new ≡ with_line (view_so_far self.old) (map view_entry entries.items)) }
         ensures place { IfOk result (λ done. self.new.at ≡ self.old.at + len) }
     {
         self.gap = entries.is_empty();
@@ -56,7 +57,8 @@ impl SoFar {
     #[tactic(auto, using(crate::proofs::Lined::line_more, crate::proofs::Lined::line_last, crate::proofs::Lined::line_faulty))]
     fn next_line<S: Source>(&mut self, alloc: Global, source: &S) -> Result<Rest, ReadError>
         requires { self.old.at ≤ length (S.bytes source.now) }
-        ensures value { IfOk result (λ rest. script_on (S.bytes source.now) (view_so_far self.old) self.old.at ≡ script_then (S.bytes source.now) self.new rest) }
+        ensures value { IfOk result (λ rest.
+            script_on (S.bytes source.now) (view_so_far self.old) self.old.at ≡ script_then (S.bytes source.now) self.new rest) }
         ensures onward { IfOk result (λ rest. rest ≡ Rest.More → self.old.at < self.new.at) }
         ensures within { IfOk result (λ rest. self.new.at ≤ length (S.bytes source.now)) }
     {

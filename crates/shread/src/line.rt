@@ -19,6 +19,7 @@ use std::alloc::Global;
 
 impl<'a, S: Source> Cursor<'a, S> {
     /// Passes `;` or `&`, if the token here is one of them. `next` is that token, and then the one behind it.
+    #[inline(always)]
     #[tactic(auto, unfolding(crate::specs::Commands::a_separator, crate::specs::Commands::next_token))]
     fn separator(&mut self, next: &mut Next) -> Option<Separator>
         requires shows { Shows next.old.token (text_of S.bytes self.old) self.old.at }
@@ -38,6 +39,7 @@ impl<'a, S: Source> Cursor<'a, S> {
     }
 
     /// Passes the comment here, if one stands. `next` is the token here, and then the one behind it.
+    #[inline(always)]
     #[tactic(auto, unfolding(crate::specs::Commands::a_comment, crate::specs::Commands::next_token))]
     fn remark(&mut self, next: &mut Next) -> Option<Comment>
         requires shows { Shows next.old.token (text_of S.bytes self.old) self.old.at }
@@ -133,6 +135,7 @@ impl<'a, S: Source> Cursor<'a, S> {
     }
 
     /// The comment of a line without entries, as an entry.
+    #[inline(always)]
     #[tactic(auto, unfolding(crate::specs::Lines::a_remark))]
     fn own_comment(
         &mut self,
@@ -157,6 +160,7 @@ impl<'a, S: Source> Cursor<'a, S> {
     }
 
     /// The newline or the end behind the entries of a line. Answers whether it was a newline.
+    #[inline(always)]
     #[tactic(auto, unfolding(crate::specs::Lines::end_of_line, crate::specs::Bytes::behind))]
     fn end_of_line(&mut self, next: Next) -> Result<bool, Stop>
         requires shows { Shows next.token (text_of S.bytes self.old) self.old.at }

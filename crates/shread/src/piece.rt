@@ -73,7 +73,8 @@ impl<'a, S: Source> Cursor<'a, S> {
         ensures closer { mode ≡ Mode.Arith → result ≡ Piece.Closer → IsRead (text_of S.bytes self.now) (here + 1) }
         ensures close { result ≡ Piece.Close → 0 < nested }
         ensures word { mode ≡ Mode.Plain → ends (Some byte) ≡ false → result ≢ Piece.Closer }
-        ensures kinds { (result ≢ Piece.Missing) × (result ≢ Piece.Escape) × (result ≢ Piece.Pid) × (result ≢ Piece.Arith) × (result ≢ Piece.Param) }
+        ensures kinds { (result ≢ Piece.Missing) × (result ≢ Piece.Escape)
+            × (result ≢ Piece.Pid) × (result ≢ Piece.Arith) × (result ≢ Piece.Param) }
     {
         match byte {
             b'"' => match mode {

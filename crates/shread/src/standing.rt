@@ -71,6 +71,7 @@ impl<'a, S: Source> Cursor<'a, S> {
     }
 
     /// The place behind the bytes of this class that stand from a place on.
+    #[inline(always)]
     #[tactic(auto, using(crate::proofs::Stretches::raw_more, crate::proofs::Stretches::raw_none))]
     pub(crate) fn raw_past(&self, from: usize, class: Class) -> usize
         requires { from ≤ length (text_of S.bytes self.now) }

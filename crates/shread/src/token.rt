@@ -1,6 +1,6 @@
 //! Tokens: what may begin where one begins (XCU 2.3, 2.4, 2.10.1).
 ghost use Rattle.std.specs.Prelude.{◌≡◌, ◌≤◌, [], ◌∷◌, None, Some, if◌then◌else◌};
-ghost use Rattle.shread.specs.Bytes.{past_blanks};
+ghost use Rattle.shread.specs.Bytes.{past_blanks, past_continuations};
 ghost use Rattle.shread.specs.Classes.{in_class};
 ghost use Rattle.shread.specs.Clauses.{Shows, Stays, text_of};
 ghost use Rattle.shread.specs.Tokens.{begins_assignment, first_of_words, is_number, is_word_at, next_at, reserved_at, token_at, word_by};
@@ -224,9 +224,10 @@ impl<'a, S: Source> Cursor<'a, S> {
     /// What begins here, where no blank stands.
     #[tactic(auto, unfolding(crate::specs::Tokens::token_at, crate::specs::Tokens::is_number, crate::specs::Bytes::behind, crate::specs::Bytes::stands, crate::specs::Bytes::stands_in))]
     fn token(&self, position: Position) -> Token
+        requires { past_continuations (text_of S.bytes self.now) self.now.at ≡ self.now.at }
         ensures { result ≡ token_at position (text_of S.bytes self.now) self.now.at }
     {
-        match self.byte() {
+        match self.raw_byte(self.at) {
             None => Token::End,
             Some(b'\n') => Token::Newline,
             Some(b';') => {
@@ -252,7 +253,7 @@ impl<'a, S: Source> Cursor<'a, S> {
 
     /// To where the next token begins, and what it is in this position of a command.
     #[inline(always)]
-    #[tactic(auto, using(crate::proofs::Shown::shown))]
+    #[tactic(auto, using(crate::proofs::Shown::shown, crate::proofs::Shown::blanks_still))]
     pub(crate) fn next_token(&mut self, position: Position) -> Next
         ensures value { result ≡ next_at position (text_of S.bytes self.old) self.old.at }
         ensures place { self.new.at ≡ past_blanks (text_of S.bytes self.old) self.old.at }
