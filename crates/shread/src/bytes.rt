@@ -1,24 +1,14 @@
 //! The bytes of a text as they are read: continuations are removed (XCU 2.2.1).
-ghost use Rattle.std.specs.Prelude.{◌≡◌, ◌<◌, ◌≤◌, length, true, false, IfSome, Some};
-ghost use Rattle.shread.specs.Bytes.{behind, byte_at, ends, ends_word, is_broken_at, past, past_blanks, past_continuations, stands, stands_in};
+ghost use Rattle.std.specs.Prelude.{◌≡◌, ◌<◌, ◌≤◌, length, true, false, IfSome};
+ghost use Rattle.shread.specs.Bytes.{behind, byte_at, ends_word, is_broken_at, past, past_blanks, past_continuations, stands, stands_in};
 ghost use Rattle.shread.specs.Classes.{in_class};
 ghost use Rattle.shread.specs.Clauses.{IsRead, Stays, text_of};
 ghost use Rattle.shread.specs.Standing.{raw_in};
 
 use crate::cursor::Cursor;
+use crate::plain::ends_words;
 use crate::source::Source;
 use crate::token::Class;
-
-/// Whether a word ends before this byte: a blank, a newline, or what an operator begins with.
-#[inline(always)]
-pub(crate) fn ends_words(byte: u8) -> bool
-    ensures { result ≡ ends (Some byte) }
-{
-    matches!(
-        byte,
-        b' ' | b'\t' | b'\n' | b'&' | b'|' | b';' | b'<' | b'>' | b'(' | b')'
-    )
-}
 
 impl<'a, S: Source> Cursor<'a, S> {
     /// The place past the continuations at a place. Most often none stands there.

@@ -7,10 +7,10 @@ ghost use Rattle.shread.specs.Pieces.{bracket_by, byte_by, dollar_at, past_param
 ghost use Rattle.shread.specs.Standing.{raw_stands};
 ghost use Rattle.shread.specs.Words.{backquote_turn, backquoted, single};
 
-use crate::bytes::ends_words;
 use crate::cursor::Cursor;
 use crate::fault::{FaultKind, Stop};
 use crate::mode::{Mode, Piece};
+use crate::plain::ends_words;
 use crate::search::Sought;
 use crate::source::Source;
 use crate::token::Class;

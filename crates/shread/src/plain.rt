@@ -1,5 +1,6 @@
 //! Bytes that are ordinary in a mode, many at once.
-ghost use Rattle.std.specs.Prelude.{◌≡◌, ◌+◌, ◌<◌, ◌≤◌, ℕ, length, slice_index, true};
+ghost use Rattle.std.specs.Prelude.{◌≡◌, ◌+◌, ◌<◌, ◌≤◌, ℕ, length, slice_index, true, Some};
+ghost use Rattle.shread.specs.Bytes.{ends};
 ghost use Rattle.shread.specs.Clauses.{Stays, text_of};
 ghost use Rattle.shread.specs.Plain.{ArePlain, alone, is_plain};
 
@@ -18,15 +19,18 @@ const DOUBLE_BRACE: u8 = 8;
 
 const ARITH: u8 = 16;
 
+/// Of a byte before which a word ends.
+const ENDS: u8 = 32;
+
 // In which modes a byte is special.
 /// Ordinary bytes, in none.
 const O: u8 = 0;
 /// The backslash, the backquote and `$`, in all.
 const A: u8 = PLAIN | DOUBLE | BRACE | DOUBLE_BRACE | ARITH;
 /// What ends a word.
-const E: u8 = PLAIN;
+const E: u8 = PLAIN | ENDS;
 /// Round brackets.
-const R: u8 = PLAIN | ARITH;
+const R: u8 = PLAIN | ARITH | ENDS;
 /// The single quote.
 const S: u8 = PLAIN | BRACE;
 /// The double quote.
@@ -34,7 +38,7 @@ const D: u8 = PLAIN | DOUBLE | BRACE | DOUBLE_BRACE;
 /// The closing brace.
 const C: u8 = BRACE | DOUBLE_BRACE;
 
-/// By a byte, in which modes it is special. A table is read faster than so many tests.
+/// By a byte, in which modes it is special, and whether a word ends before it. A table is read faster than so many tests.
 const SPECIAL: [u8; 256] = [
     O, O, O, O, O, O, O, O, O, E, E, O, O, O, O, O, O, O, O, O, O, O, O, O, O, O, O, O, O, O, O, O,
     E, O, D, O, A, O, E, S, R, R, O, O, O, O, O, O, O, O, O, O, O, O, O, O, O, O, O, E, E, O, E, O,
@@ -45,6 +49,15 @@ const SPECIAL: [u8; 256] = [
     O, O, O, O, O, O, O, O, O, O, O, O, O, O, O, O, O, O, O, O, O, O, O, O, O, O, O, O, O, O, O, O,
     O, O, O, O, O, O, O, O, O, O, O, O, O, O, O, O, O, O, O, O, O, O, O, O, O, O, O, O, O, O, O, O,
 ];
+
+/// Whether a word ends before this byte: a blank, a newline, or what an operator begins with.
+#[inline(always)]
+#[tactic(auto, using(crate::proofs::PlainTable::table_ends))]
+pub(crate) fn ends_words(byte: u8) -> bool
+    ensures { result ≡ ends (Some byte) }
+{
+    SPECIAL[byte as usize] & ENDS != 0
+}
 
 impl Mode {
     /// The set of this mode alone.
