@@ -1,7 +1,6 @@
 -- A form goes the same way with its tree and without, whatever was read before.
-use Rattle.std.proofs.Common.{◌≡◌, ℕ, zero, suc, ◌+◌, ◌-◌, ◌<◌, Bool, true, false, not, cond, Ok, Err, List, List as Row, [], ◌∷◌, ◌++◌, length, Option, Some, None, refl, sym, ap, subst, ◌∙◌, arith}
+use Rattle.std.proofs.Common.{◌≡◌, ℕ, zero, suc, ◌+◌, ◌-◌, ◌<◌, Bool, true, false, not, cond, Ok, Err, List as Row, [], ◌∷◌, ◌++◌, length, Option, Some, None, refl, sym, ap, subst, ◌∙◌, arith}
 use Rattle.std.proofs.lemmas.Bool.{ltb-true}
-use Rattle.shread.specs.declared.fault.Fault.{Fault}
 use Rattle.shread.specs.declared.fault.FaultKind.{FaultKind}
 use Rattle.shread.specs.declared.mode.Mode.{Mode}
 use Rattle.shread.specs.declared.mode.Piece.{Piece}
@@ -14,10 +13,10 @@ use Rattle.shread.specs.declared.token.Token.{Token}
 use Rattle.shread.specs.declared.token.Token.TheVariants as tokens
 use Rattle.shread.specs.declared.tree.Comment.{Comment}
 use Rattle.shread.specs.declared.tree.Span.{Span}
-use Rattle.shread.specs.Tree.{ASubst, AWord, AnItemContent, ACommand, APipeline, AnAndOr, AnEntry}
+use Rattle.shread.specs.Tree.{ASubst, AWord, AnItemContent, AnEntry}
 use Rattle.shread.specs.Comments.{span}
 use Rattle.shread.specs.Sights.{Given, State, Sight, seen, the_piece, Move}
-use Rattle.shread.specs.Form.{Read, ◌▸◌, Form, give, see, move, push, stop, both, when, token, loop, many, Step, again, done, step_if, leads_on, turns, does}
+use Rattle.shread.specs.Form.{Read, ◌▸◌, Form, give, see, move, push, stop, both, when, token, many, Step, again, done, step_if, leads_on, turns, does}
 use Rattle.shread.specs.Words.{single, backquote_turn, backquoted, Inner, Held, having, opened, piece_row, a_piece, contents, level, a_word}
 use Rattle.shread.specs.Commands.{next_token, Items, so_many, an_item, item_by, item_turn, a_simple, a_pipeline, an_and_or, separator_by, a_separator, comment_by, a_comment, is_parted, Entered, an_entry}
 use Rattle.shread.specs.Lines.{LineSo, line_so, one_entry, entry_by, entry_turn, all_entries, remark_by, a_remark, end_by, end_of_line, a_line}

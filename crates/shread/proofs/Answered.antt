@@ -1,7 +1,7 @@
 -- What the contracts of the reader say follows from what its functions compute.
-use Rattle.std.proofs.Common.{◌≡◌, ℕ, List, drop, refl, sym, ap, subst, ◌∙◌}
+use Rattle.std.proofs.Common.{◌≡◌, ℕ, List, sym, ap, subst, ◌∙◌}
 use Rattle.shread.specs.Lines.{ALine, IsLine}
-use Rattle.shread.specs.Scripts.{AScript, Outcome, FirstFault, script_at, script_on, line_of_text, first_fault_from}
+use Rattle.shread.specs.Scripts.{AScript, Outcome, FirstFault, script_at, line_of_text, first_fault_from}
 use Rattle.shread.proofs.Scripts.{line_is, line_only, script_is, script_only}
 
 pub line_answered : (T : List ℕ) (l : ALine) → l ≡ line_of_text T → IsLine T l

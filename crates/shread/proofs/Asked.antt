@@ -1,22 +1,19 @@
 -- What a row may see of a text, and where it may move to: the same in each text that has its bytes up to a newline.
-use Rattle.std.proofs.Common.{◌≡◌, ℕ, zero, suc, ◌+◌, ◌-◌, ◌≤◌, ◌<◌, ◌==◌, Bool, true, false, not, cond, ◌&&◌, ◌||◌, List, [], ◌∷◌, length, take, drop, Option, Some, None, slice_get, refl, sym, ap, subst, ◌∙◌, arith, ⊎_elim}
+use Rattle.std.proofs.Common.{◌≡◌, ℕ, zero, suc, ◌+◌, ◌-◌, ◌≤◌, ◌<◌, ◌==◌, Bool, true, false, not, cond, ◌||◌, List, [], ◌∷◌, take, drop, Option, Some, None, slice_get, refl, sym, ap, subst, ◌∙◌, arith, ⊎_elim}
 use Rattle.std.proofs.lemmas.Bool.{both_ways, cases_lt, cases_Bool}
 use Rattle.std.proofs.lemmas.Bool.Decides.{nat_tests}
 use Rattle.shread.specs.declared.mode.Mode.{Mode}
 use Rattle.shread.specs.declared.mode.Mode.TheVariants.{Plain, Double, Brace, DoubleBrace, Arith}
-use Rattle.shread.specs.declared.mode.Piece.{Piece}
-use Rattle.shread.specs.declared.mode.Piece.TheVariants as pieces
-use Rattle.shread.specs.declared.tree.Span.{Span}
 use Rattle.shread.specs.Classes.{is_letter, is_digit, is_name, is_blank, is_special}
 use Rattle.shread.specs.Standing.{is_byte, is_none, at_end, raw_in, raw_stands, raw_past, next_of, next_newline, before_blanks, passes, continues}
-use Rattle.shread.specs.Bytes.{ends, past, past_blanks, past_continuations, byte_at, behind, stands, stands_in}
+use Rattle.shread.specs.Bytes.{past, past_blanks, past_continuations, byte_at, behind, stands, stands_in}
 use Rattle.shread.specs.Comments.{span, comment_at, past_comment}
-use Rattle.shread.specs.Pieces.{dollar_by, dollar_at, bracket_by, byte_by, piece_by, piece_at, past_taken, next_quote, next_in_backquotes, is_last_backslash, past_parameter, rest_mode, past_closer, braces_in}
+use Rattle.shread.specs.Pieces.{dollar_by, dollar_at, byte_by, piece_by, piece_at, past_taken, next_quote, next_in_backquotes, is_last_backslash, past_parameter, rest_mode, past_closer}
 use Rattle.shread.specs.Form.{raw}
-use Rattle.shread.proofs.Stretches.{place_low, joined_more, joined_none, raw_more, raw_is, get_drop, blanks_before, no_blanks_before}
+use Rattle.shread.proofs.Stretches.{place_low, joined_more, raw_more, raw_is, get_drop, blanks_before, no_blanks_before}
 use Rattle.shread.proofs.Places.{must_fail, place_same, behind_low, raw_past_low, raw_past_stops, raw_past_all, next_in_backquotes_low, next_of_low, next_newline_low, parameter_low, blanks_low}
-use Rattle.shread.proofs.SameBytes.{Kept, Safe, at_limit, halts, one_byte, two_bytes, goes_on, safe_high, safe_low, safe_escape, safe_place, no_backslash, continued}
-use Rattle.shread.proofs.Ahead.{ListEnds, newline_ends, K, Goes, goes_name, goes_letter, goes_digit, goes_one, behind_is, same_if, same_and, seen, same_byte, same_behind, same_stands, same_stands_in, same_place, next_safe, past_safe, past_back, blanks_safe, blanks_back, same_raw_in}
+use Rattle.shread.proofs.SameBytes.{Safe, halts, one_byte, two_bytes, goes_on, safe_high, safe_low, safe_escape, safe_place, no_backslash, continued}
+use Rattle.shread.proofs.Ahead.{ListEnds, newline_ends, K, Goes, goes_name, goes_digit, goes_one, behind_is, same_if, same_and, seen, same_byte, same_behind, same_stands, same_stands_in, same_place, next_safe, past_safe, past_back, blanks_safe, blanks_back, same_raw_in}
 
 -- what is looked for ahead from p on is found before the newline at M, or at it
 abbrev pub Good : List ℕ → ℕ → ℕ → ℕ → Type 0

@@ -1,16 +1,15 @@
 -- What holds of whatever a form gives: the laws of forms, and that no form goes back.
-use Rattle.std.proofs.Common.{◌≡◌, ℕ, zero, suc, ◌+◌, ◌-◌, ◌≤◌, ◌<◌, Bool, true, false, cond, Ok, Err, List, List as Row, [], ◌∷◌, ◌++◌, length, refl, sym, arith}
+use Rattle.std.proofs.Common.{◌≡◌, ℕ, zero, suc, ◌+◌, ◌-◌, ◌≤◌, ◌<◌, Bool, true, false, cond, Ok, Err, List, length, refl, arith}
 use Rattle.std.proofs.lemmas.Bool.{ltb-true, cond_both}
 use Rattle.shread.specs.declared.mode.Mode.{Mode}
 use Rattle.shread.specs.declared.mode.Mode.TheVariants.{Plain, Double, Brace, DoubleBrace, Arith}
 use Rattle.shread.specs.declared.tree.Span.{Span}
-use Rattle.shread.specs.declared.fault.FaultKind.{FaultKind}
-use Rattle.shread.specs.Standing.{raw_stands, next_newline}
+use Rattle.shread.specs.Standing.{raw_stands}
 use Rattle.shread.specs.Bytes.{behind}
 use Rattle.shread.specs.Comments.{span, past_comment}
 use Rattle.shread.specs.Pieces.{past_taken, past_closer}
 use Rattle.shread.specs.Sights.{Given, State, Sight, seen, Move, one_byte, joined, one_taken, the_closer, the_parameter, a_quote_on, in_backquotes_on, blanks, a_comment_on, to}
-use Rattle.shread.specs.Form.{Read, ◌▸◌, Form, give, see, move, push, stop, both, when, token, loop, many, Step, again, done, pushed, moved, leads_on, turns, turns_below, next, does}
+use Rattle.shread.specs.Form.{Read, ◌▸◌, Form, give, see, move, push, stop, both, when, token, loop, many, Step, again, done, leads_on, turns, does}
 use Rattle.shread.proofs.Stretches.{place_low}
 use Rattle.shread.proofs.Places.{behind_low, blanks_low, next_in_backquotes_low, next_newline_low, next_of_low, parameter_low}
 use Rattle.shread.proofs.Turns.{turns_on, turns_rest, turns_done, turns_fault}

@@ -1,5 +1,5 @@
 -- The lines of a script, one after the other.
-use Rattle.std.proofs.Common.{◌≡◌, ℕ, zero, suc, ◌+◌, ◌-◌, ◌≤◌, ◌<◌, Bool, true, false, not, ◌&&◌, Ok, Err, List, List as Row, [], ◌∷◌, ◌++◌, length, drop, Option, None, Some, refl, sym, ap, subst, ◌∙◌, arith, ⊎_elim}
+use Rattle.std.proofs.Common.{◌≡◌, ℕ, zero, suc, ◌+◌, ◌-◌, ◌≤◌, ◌<◌, Bool, true, false, Ok, Err, List, List as Row, [], length, drop, None, Some, refl, sym, ap, subst, ◌∙◌, arith, ⊎_elim}
 use Rattle.std.proofs.lemmas.Bool.{cases_lt}
 use Rattle.std.proofs.lemmas.List.{drop_all}
 use Rattle.shread.specs.declared.fault.Fault.{Fault}
@@ -14,8 +14,8 @@ use Rattle.shread.specs.Tokens.{token_at}
 use Rattle.shread.specs.Sights.{Given, given, State, standing}
 use Rattle.shread.specs.Form.{Form, Read, does, many, turns, turns_below}
 use Rattle.shread.specs.Words.{Inner, level}
-use Rattle.shread.specs.Commands.{is_empty, next_token, a_comment}
-use Rattle.shread.specs.Lines.{LineSo, most_open, entry_turn, all_entries, a_remark, end_by, end_of_line, a_line}
+use Rattle.shread.specs.Commands.{next_token, a_comment}
+use Rattle.shread.specs.Lines.{most_open, entry_turn, all_entries, a_remark, end_by, end_of_line, a_line}
 use Rattle.shread.specs.Scripts.{AScript, SoFar, is_blank_line, with_line, the_line, line_from, script_by, script_below, script_on}
 use Rattle.shread.proofs.Places.{behind_low}
 use Rattle.shread.proofs.Holds.{Holds, Tells, Behind, tells_give, tells_then, tells_so, low}

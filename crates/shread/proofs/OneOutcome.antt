@@ -1,11 +1,11 @@
 -- Each form has one outcome, the one that is computed: one induction, for every row of the grammar.
-use Rattle.std.proofs.Common.{◌≡◌, ℕ, zero, suc, ◌-◌, ◌<◌, Bool, true, false, cond, Result, Ok, Err, List, List as Row, [], ◌∷◌, ◌++◌, length, refl, sym, subst, ◌∙◌, arith}
-use Rattle.std.proofs.lemmas.Bool.{ltb-true, both_ways}
+use Rattle.std.proofs.Common.{◌≡◌, ℕ, zero, suc, ◌-◌, ◌<◌, Bool, true, false, cond, Ok, Err, List as Row, [], ◌∷◌, ◌++◌, length, refl, sym, subst, ◌∙◌, arith}
+use Rattle.std.proofs.lemmas.Bool.{ltb-true}
 use Rattle.shread.specs.declared.tree.Span.{Span}
 use Rattle.shread.specs.declared.fault.Fault.{Fault}
 use Rattle.shread.specs.Comments.{span}
 use Rattle.shread.specs.Sights.{Given, State, seen}
-use Rattle.shread.specs.Form.{Spelled, Read, Comes, Step, again, done, Form, give, see, move, push, stop, both, when, token, loop, Just, just, Halts, halted, Then, and_then, or_stops, Either, holds, fails, raw, OneToken, whole, broken_off, leads_on, Turns, last, rests, more, halts, moved, may, ◌▸◌, next, turns_below, turns, does}
+use Rattle.shread.specs.Form.{Spelled, Read, Comes, Step, again, done, Form, give, see, move, push, stop, both, when, token, loop, Just, just, Halts, halted, Then, and_then, or_stops, Either, holds, fails, raw, OneToken, whole, broken_off, leads_on, Turns, last, rests, more, halts, moved, may, ◌▸◌, turns, does}
 use Rattle.shread.proofs.Turns.{turns_on, turns_rest, turns_done, turns_fault}
 
 -- x is what may be read, and nothing else

@@ -1,12 +1,12 @@
 -- Where something is read there is a byte, and how far the stretches of a text reach.
 use Rattle.std.proofs.Common.{◌≡◌, ℕ, zero, suc, ◌+◌, ◌-◌, ◌≤◌, ◌<◌, ◌==◌, Bool, true, false, not, cond, ◌&&◌, ◌||◌, List, [], ◌∷◌, length, drop, Option, Some, None, slice_get, refl, sym, ap, ◌∙◌, arith, ⊎_elim}
-use Rattle.std.proofs.lemmas.Bool.{and_parts, or_from, cond_both, both_ways, cases_lt}
+use Rattle.std.proofs.lemmas.Bool.{cond_both, both_ways, cases_lt}
 use Rattle.std.proofs.lemmas.Bool.Decides.{nat_tests}
 use Rattle.std.proofs.lemmas.List.{length-drop, drop-drop}
 use Rattle.std.proofs.lemmas.Option.{slice_get_within, slice_get-get_or}
-use Rattle.shread.specs.Classes.{is_blank, is_digit, is_name, is_operator, is_letter, is_special}
+use Rattle.shread.specs.Classes.{is_blank, is_digit, is_name, is_letter, is_special}
 use Rattle.shread.specs.Standing.{is_byte, is_none, raw_stands, raw_in, at_end, raw_past, next_of, passes, count_front, next_newline}
-use Rattle.shread.specs.Bytes.{stands, ends, ends_word, stands_in, past, past_below, past_blanks, count_joined, past_continuations, byte_at, behind}
+use Rattle.shread.specs.Bytes.{stands, ends_word, stands_in, past, past_below, past_blanks, count_joined, past_continuations, byte_at, behind}
 use Rattle.shread.specs.Pieces.{next_in_backquotes, past_parameter}
 use Rattle.shread.proofs.Stretches.{get_drop, place_low, stands_in_low}
 

@@ -1,5 +1,5 @@
 -- A line that a newline ended looks no further than that newline.
-use Rattle.std.proofs.Common.{◌≡◌, ℕ, zero, suc, ◌+◌, ◌-◌, ◌≤◌, ◌<◌, ◌==◌, Bool, true, false, ◌&&◌, Ok, Err, List, List as Row, [], ◌∷◌, ◌++◌, length, take, drop, Option, Some, None, slice_get, refl, sym, ap, subst, ◌∙◌, arith}
+use Rattle.std.proofs.Common.{◌≡◌, ℕ, zero, suc, ◌+◌, ◌-◌, ◌≤◌, ◌<◌, Bool, true, false, ◌&&◌, Ok, Err, List, List as Row, [], ◌∷◌, ◌++◌, take, drop, Option, Some, None, slice_get, refl, sym, ap, subst, ◌∙◌, arith}
 use Rattle.std.proofs.lemmas.Bool.{and_parts}
 use Rattle.std.proofs.lemmas.Bool.Decides.{nat_tests}
 use Rattle.shread.specs.declared.token.Next.{Next}
@@ -10,16 +10,16 @@ use Rattle.shread.specs.Tree.{AnEntry}
 use Rattle.shread.specs.Standing.{is_byte, raw_stands}
 use Rattle.shread.specs.Bytes.{behind, past_continuations}
 use Rattle.shread.specs.Sights.{Given, given, State, standing}
-use Rattle.shread.specs.Form.{Spelled, Read, Form, give, both, may, does, Then, and_then, or_stops, moved}
+use Rattle.shread.specs.Form.{Spelled, Read, Form, give, both, may, does, Then, and_then, or_stops}
 use Rattle.shread.specs.Words.{Inner, level}
 use Rattle.shread.specs.Commands.{next_token}
-use Rattle.shread.specs.Lines.{LineSo, all_entries, a_remark, end_of_line, a_line, most_open, ALine, IsLine, SameBytes, NoFurther, line_read, line_stops, is_ended, kind_of}
+use Rattle.shread.specs.Lines.{LineSo, all_entries, a_remark, end_of_line, a_line, most_open, ALine, IsLine, SameBytes, NoFurther, line_read, line_stops, kind_of}
 use Rattle.shread.proofs.OneOutcome.{is}
 use Rattle.shread.proofs.Holds.{Holds}
 use Rattle.shread.proofs.Lined.{line_ended_low}
 use Rattle.shread.proofs.SameBytes.{at_limit, safe_place}
 use Rattle.shread.proofs.Ahead.{ListEnds, K, newline_ends, same_behind}
-use Rattle.shread.proofs.Asked.{Good, on}
+use Rattle.shread.proofs.Asked.{Good}
 use Rattle.shread.proofs.NoFurther.{back, behind as onward, there, elsewhere}
 
 module _ {T U : List ℕ} {a M : ℕ} {to : ℕ → ℕ} (E : ListEnds T U a M to 10) (o o2 : ℕ) (off : (p : ℕ) → a ≤ p → o2 + to p ≡ o + p) where

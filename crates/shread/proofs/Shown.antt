@@ -1,5 +1,5 @@
 -- What a token says of the bytes from its first one on.
-use Rattle.std.proofs.Common.{◌≡◌, ℕ, ◌<◌, ◌==◌, Bool, true, false, ◌&&◌, ◌||◌, List, length, Option, Some, None, slice_get, refl, sym, ap, ◌∙◌, arith}
+use Rattle.std.proofs.Common.{◌≡◌, ℕ, ◌<◌, ◌==◌, Bool, true, false, List, length, Option, Some, None, slice_get, refl, sym, ap, ◌∙◌}
 use Rattle.std.proofs.lemmas.Bool.{or_from, cond_both}
 use Rattle.std.proofs.lemmas.Option.{slice_get_within}
 use Rattle.shread.specs.declared.token.Position.{Position}
@@ -11,8 +11,8 @@ use Rattle.shread.specs.Text.{is_newline}
 use Rattle.shread.specs.Classes.{is_blank, is_operator}
 use Rattle.shread.specs.Standing.{is_byte, is_none, passes, raw_stands, at_end}
 use Rattle.shread.specs.Bytes.{byte_at, behind, ends, ends_word, past_blanks, past_continuations, stands, stands_in}
-use Rattle.shread.specs.Tokens.{begins_assignment, first_word, is_number, reserved_at, token_at, token_of, word_by, word_of}
-use Rattle.shread.specs.Clauses.{IsRead, Shows}
+use Rattle.shread.specs.Tokens.{first_word, is_number, token_at, token_of, word_by, word_of}
+use Rattle.shread.specs.Clauses.{Shows}
 use Rattle.shread.proofs.Places.{blanks_stop, place_same}
 
 -- what the byte there is, by the token

@@ -1,7 +1,6 @@
 -- Words for the clauses of the code: what a function of the reader answers, and what it leaves as it was.
 use Rattle.std.specs.Prelude.{◌≡◌, ℕ, ◌+◌, ◌<◌, ◌≤◌, Bool, true, false, List, length, drop, Result, Ok, Err}
 use Rattle.shread.specs.declared.cursor.Cursor.{Cursor}
-use Rattle.shread.specs.declared.fault.Fault.{Fault}
 use Rattle.shread.specs.declared.fault.Stop.{Stop}
 use Rattle.shread.specs.declared.fault.Stop.TheVariants.{Memory, Wrong}
 use Rattle.shread.specs.declared.token.Token.{Token}

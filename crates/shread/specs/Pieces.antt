@@ -8,7 +8,7 @@ use Rattle.shread.specs.declared.mode.Piece.{Piece}
 use Rattle.shread.specs.declared.mode.Piece.TheVariants as pieces
 use Rattle.shread.specs.Classes.{is_digit, is_letter, is_name, is_special}
 use Rattle.shread.specs.Standing.{raw_stands, at_end, next_such, next_of}
-use Rattle.shread.specs.Bytes.{past_continuations, byte_at, behind, stands, stands_in, ends, past}
+use Rattle.shread.specs.Bytes.{byte_at, behind, stands, stands_in, ends, past}
 
 -- ---- what a byte begins in a mode
 

@@ -1,5 +1,5 @@
 -- A script as a whole: its lines, one after the other (XCU 2.10.2).
-use Rattle.std.specs.Prelude.{ℕ, zero, suc, ◌+◌, ◌-◌, Bool, true, false, ◌&&◌, not, [], ◌++◌, List, List as Row, drop, length, Option, None, Some, Ok, Err, ◌≡◌, ◌≤◌}
+use Rattle.std.specs.Prelude.{ℕ, zero, suc, ◌+◌, ◌-◌, Bool, true, false, ◌&&◌, not, [], ◌++◌, List, List as Row, drop, length, Option, None, Some, Ok, Err}
 use Rattle.shread.specs.declared.fault.Fault.{Fault}
 use Rattle.shread.specs.Tree.{AnEntry, Entries, entries_of}
 use Rattle.shread.specs.Sights.{given, standing, State}

@@ -1,7 +1,5 @@
 -- A search for the first fault, a line at a time.
-use Rattle.std.specs.Prelude.{◌≡◌, ℕ, ◌+◌, ◌<◌, ◌≤◌, Bool, true, false, List, List as Row, None, Some, Ok, Err, length}
-use Rattle.shread.specs.Tree.{AnEntry}
-use Rattle.shread.specs.Form.{Read}
+use Rattle.std.specs.Prelude.{◌≡◌, ℕ, ◌<◌, ◌≤◌, List, None, Some, length}
 use Rattle.shread.specs.Scripts.{first_fault_from}
 use Rattle.shread.specs.declared.first_fault.Found.{Found}
 use Rattle.shread.specs.declared.first_fault.Found.TheVariants.{Here, Beyond, Nowhere}

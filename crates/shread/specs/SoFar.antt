@@ -1,6 +1,5 @@
 -- What the lines so far gave, as the code holds it.
-use Rattle.std.specs.Prelude.{ℕ, List, Option, map}
-use Rattle.shread.specs.declared.fault.Fault.{Fault}
+use Rattle.std.specs.Prelude.{ℕ, List, map}
 use Rattle.shread.specs.declared.all_lines.Rest.{Rest}
 use Rattle.shread.specs.declared.all_lines.Rest.TheVariants.{More, Nothing}
 use Rattle.shread.specs.declared.all_lines.SoFar as the_so_far

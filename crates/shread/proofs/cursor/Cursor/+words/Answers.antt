@@ -1,6 +1,6 @@
 use Rattle.std.proofs.Common.{◌<◌, ◌+◌, [], ◌∙◌, arith}
 use Rattle.shread.specs.Clauses.{text_of}
-use Rattle.shread.specs.Sights.{given, standing}
+use Rattle.shread.specs.Sights.{given}
 use Rattle.shread.specs.Words.{having, level}
 use Rattle.shread.proofs.PlainBytes.{piece_and_plain}
 use Rattle.shread.proofs.cursor.Cursor.+words.Goals as goal
