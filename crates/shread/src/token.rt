@@ -222,6 +222,7 @@ impl<'a, S: Source> Cursor<'a, S> {
     }
 
     /// What begins here, where no blank stands.
+    #[inline(always)]
     #[tactic(auto, unfolding(crate::specs::Tokens::token_at, crate::specs::Tokens::is_number, crate::specs::Bytes::behind, crate::specs::Bytes::stands, crate::specs::Bytes::stands_in))]
     fn token(&self, position: Position) -> Token
         requires { past_continuations (text_of S.bytes self.now) self.now.at ≡ self.now.at }
