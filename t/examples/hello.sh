@@ -1,4 +1,0 @@
-#!/bin/sh
-# Greets, and tells the day.
-echo Hello, $USER
-date +%A
