@@ -33,6 +33,17 @@ Like S (Err e) (Err f) = e ≡ f
 abbrev pub SameEnd : Row AnEntry × Bool → Row AnEntry × Bool → Type 0
 SameEnd x y = x.1 ≡ y.1
 
+-- both go on, or both end
+abbrev pub SameStep : {A B : Type 0} → (A → B → Type 0) → Step A → Step B → Type 0
+SameStep S (again x) (again y) = S x y
+SameStep S (again x) (done y) = ⊥
+SameStep S (done x) (again y) = ⊥
+SameStep S (done x) (done y) = S x y
+
+-- as many brackets are open
+abbrev pub SameHeld : Held → Held → Type 0
+SameHeld h i = h.nested ≡ i.nested
+
 module _ (g : Given) where
   -- r with its tree, and q without
   pub record Alike {X Y : Type 0} (S : X → Y → Type 0) (r : Form X) (q : Form Y) : Type 0 where
@@ -100,13 +111,6 @@ module _ (g : Given) where
       → Alike R (token r) (token q)
   alike_token {S = S} {R = R} {r = r} {q = q} one so = record { like = λ s. token_like S R s (does r true g s) (does q false g s) (one.like s) so }
 
-  -- both go on, or both end
-  abbrev pub SameStep : {A B : Type 0} → (A → B → Type 0) → Step A → Step B → Type 0
-  SameStep S (again x) (again y) = S x y
-  SameStep S (again x) (done y) = ⊥
-  SameStep S (done x) (again y) = ⊥
-  SameStep S (done x) (done y) = S x y
-
   module _ {A B : Type 0} (S : A → B → Type 0) (turn : A → Form (Step A)) (turn2 : B → Form (Step B)) (each : (a : A) (b : B) → S a b → Alike (SameStep S) (turn a) (turn2 b)) where
     one : A → State → Read (Step A)
     one a s = does (turn a) true g s
@@ -161,10 +165,6 @@ module _ (g : Given) where
   alike_backquoted : Alike All backquoted backquoted
   unfolding backquoted
   alike_backquoted = alike_see (λ b. alike_on (alike_many All (backquote_turn b) (backquote_turn b) (λ u v same. alike_backquote_turn b u v) tt tt tt))
-
-  -- as many brackets are open
-  abbrev SameHeld : Held → Held → Type 0
-  SameHeld h i = h.nested ≡ i.nested
 
   -- words, where what may be opened goes the same way
   pub record Fits (inner : Inner) : Type 0 where

@@ -10,9 +10,9 @@ use Rattle.shread.specs.Bytes.{past, past_blanks, past_continuations, byte_at, b
 use Rattle.shread.specs.Comments.{span, comment_at, past_comment}
 use Rattle.shread.specs.Pieces.{dollar_by, dollar_at, byte_by, piece_by, piece_at, past_taken, next_quote, next_in_backquotes, is_last_backslash, past_parameter, rest_mode, past_closer}
 use Rattle.shread.specs.Form.{raw}
-use Rattle.shread.proofs.Stretches.{place_low, joined_more, raw_more, raw_is, get_drop, blanks_before, no_blanks_before}
+use Rattle.shread.proofs.Stretches.{place_low, joined_more, raw_more, get_drop, blanks_before, no_blanks_before}
 use Rattle.shread.proofs.Places.{must_fail, place_same, behind_low, raw_past_low, raw_past_stops, raw_past_all, next_in_backquotes_low, next_of_low, next_newline_low, parameter_low, blanks_low}
-use Rattle.shread.proofs.SameBytes.{Safe, halts, one_byte, two_bytes, goes_on, safe_high, safe_low, safe_escape, safe_place, no_backslash, continued}
+use Rattle.shread.proofs.SameBytes.{Safe, halts, one_byte, two_bytes, goes_on, safe_high, safe_low, safe_escape, safe_place, no_backslash, continued, raw_there, byte_other}
 use Rattle.shread.proofs.Ahead.{ListEnds, newline_ends, K, Goes, goes_name, goes_digit, goes_one, behind_is, same_if, same_and, seen, same_byte, same_behind, same_stands, same_stands_in, same_place, next_safe, past_safe, past_back, blanks_safe, blanks_back, same_raw_in}
 
 -- what is looked for ahead from p on is found before the newline at M, or at it
@@ -123,21 +123,6 @@ module _ {T U : List ℕ} {a M : ℕ} {to : ℕ → ℕ} (E : ListEnds T U a M t
   unfolding at_end
   same_end p low le = ap is_none (E.kept.same p low (omega (arith, le)))
 
-  raw_in_next : (test : ℕ → Bool) (p k : ℕ) → a ≤ p → p + k ≤ M → raw_in test U (to p + k) ≡ raw_in test T (p + k)
-  unfolding raw_in
-  raw_in_next test p k low le = ap (λ q. passes test (slice_get U q)) (sym (on p k low)) ∙ ap (passes test) (E.kept.same (p + k) (omega (arith, low)) (omega (arith, le)))
-
-  raw_there : (test : ℕ → Bool) (p : ℕ) → a ≤ p → raw_past test T p ≤ M → raw_past test U (to p) ≡ to (raw_past test T p)
-  raw_there test p low le =
-      let q = raw_past test T p in
-      let n = q - p in
-      let end : p + n ≡ q = omega (arith, raw_past_low test T p) in
-      raw_is test U (to p) n
-      (λ k from up. let j = k - to p in let at : to p + j ≡ k = omega (arith, from) in
-      subst (λ z. raw_in test U z ≡ true) at (raw_in_next test p j low (omega (arith, up, end, le, from)) ∙ raw_past_all test T p (p + j) (omega arith) (omega (arith, up, end, from))))
-      (raw_in_next test p n low (omega (arith, end, le)) ∙ subst (λ z. raw_in test T z ≡ false) (sym end) (raw_past_stops test T p))
-      ∙ sym (on p n low) ∙ ap to end
-
   no_newline : (q : ℕ) → raw_stands T (q + 1) 10 ≡ false → continues T q ≡ false
   no_newline q e = must_fail _ (λ c. both_ways (raw_stands T (q + 1) 10) e (continued T q c).1)
 
@@ -150,7 +135,7 @@ module _ {T U : List ℕ} {a M : ℕ} {to : ℕ → ℕ} (E : ListEnds T U a M t
             (λ lt. let back : q - 1 + 1 ≡ q = omega (arith, lt) in
             good_over p (q - 1) low (omega (arith, lt)) (no_newline (q - 1) (subst (λ z. raw_stands T z 10 ≡ false) (sym back) other)) (subst G (sym back) s))
             (λ ge. let is : q ≡ p = omega (arith, ge, le, from) in subst G is s) (cases_lt p q),
-        raw_there test b (omega (arith, low, le)) (high s),
+        raw_there E.kept test b (omega (arith, low, le)) (omega (arith, high s)),
       )
 
   quote_other : (x : Option ℕ) (c : ℕ) → (39 == c) ≡ false → passes (λ b. not (b == 39)) x ≡ false → is_byte x c ≡ false
@@ -160,10 +145,6 @@ module _ {T U : List ℕ} {a M : ℕ} {to : ℕ → ℕ} (E : ListEnds T U a M t
   backquote_other : (x : Option ℕ) → passes (λ b. not (b == 96 || b == 92)) x ≡ false → is_byte x 10 ≡ false
   backquote_other None e = refl
   backquote_other (Some b) e = grind (arith, nat_tests)
-
-  byte_other : (x : Option ℕ) (c d : ℕ) → (c == d) ≡ false → is_byte x c ≡ true → is_byte x d ≡ false
-  byte_other None c d e f = refl
-  byte_other (Some b) c d e f = grind (arith, nat_tests)
 
   pub moves_one : (p : ℕ) → raw_stands T p 92 ≡ false → Moves (λ T p. p + 1) p
   moves_one p e = (omega arith, λ low s. (good_back p low (no_backslash T p e) s, sym (on p 1 low)))
@@ -190,7 +171,7 @@ module _ {T U : List ℕ} {a M : ℕ} {to : ℕ → ℕ} (E : ListEnds T U a M t
       ⊎_elim (λ lt. absurd (both_ways _ (newline_by (slice_get T M) E.byte) (raw_past_all (λ b. not (b == 10)) T p M le lt))) (λ ge. ge) (cases_lt M (next_newline T p))
 
   pub same_newline : (p : ℕ) → a ≤ p → p ≤ M → next_newline U (to p) ≡ to (next_newline T p)
-  same_newline p low le = raw_there (λ b. not (b == 10)) p low (newline_near p le)
+  same_newline p low le = raw_there E.kept (λ b. not (b == 10)) p low (omega (arith, newline_near p le))
 
   -- before q, behind a byte at p that is no blank
   before_there : (n p q : ℕ) → q ≤ p + n → a ≤ p → p < q → q ≤ M → raw_in is_blank T p ≡ false → (before_blanks U (to q) ≡ to (before_blanks T q)) × (p ≤ before_blanks T q)

@@ -19,15 +19,21 @@ abbrev pub Holds : {X : Type 0} → (X → State → Type 0) → Read X → Type
 Holds P (Ok (x, t)) = P x t
 Holds P (Err f) = Unit {0}
 
+-- what holds of what is read, and then of the rest
+pub holds_then : {X Y : Type 0} (P : X → State → Type 0) (Q : Y → State → Type 0) (x : Read X) (f : X → State → Read Y) → Holds P x
+    → ((c : X) (t : State) → P c t → Holds Q (f c t)) → Holds Q (x ▸ f)
+holds_then P Q (Ok (c, t)) f one rest = rest c t one
+holds_then P Q (Err e) f one rest = tt
+
+-- what follows from it
+pub holds_so : {X : Type 0} (P Q : X → State → Type 0) (x : Read X) → Holds P x → ((c : X) (t : State) → P c t → Q c t) → Holds Q x
+holds_so P Q (Ok (c, t)) one so = so c t one
+holds_so P Q (Err e) one so = tt
+
 module _ (keep : Bool) (g : Given) where
   -- of what the form r gives from s on
   pub record Tells {X : Type 0} (r : Form X) (P : X → State → Type 0) (s : State) : Type 0 where
     pub told : Holds P (does r keep g s)
-
-  then_by : {X Y : Type 0} (P : X → State → Type 0) (Q : Y → State → Type 0) (q : X → Form Y) (x : Read X) → Holds P x
-      → ((a : X) (t : State) → P a t → Tells (q a) Q t) → Holds Q (x ▸ λ a t. does (q a) keep g t)
-  then_by P Q q (Ok (a, t)) first rest = (rest a t first).told
-  then_by P Q q (Err f) first rest = tt
 
   -- this is given
   pub tells_give : {X : Type 0} {x : X} {P : X → State → Type 0} {s : State} → P x s → Tells (give x) P s
@@ -36,7 +42,7 @@ module _ (keep : Bool) (g : Given) where
   -- one form and then another
   pub tells_then : {X Y : Type 0} {P : X → State → Type 0} {Q : Y → State → Type 0} {r : Form X} {q : X → Form Y} {s : State} → Tells r P s
       → ((a : X) (t : State) → P a t → Tells (q a) Q t) → Tells (both r q) Q s
-  tells_then {P = P} {Q = Q} {r = r} {q = q} {s = s} first rest = record { told = then_by P Q q (does r keep g s) first.told rest }
+  tells_then {P = P} {Q = Q} {r = r} {q = q} {s = s} first rest = record { told = holds_then P Q (does r keep g s) (λ a t. does (q a) keep g t) first.told (λ a t so. (rest a t so).told) }
 
   when_by : {X : Type 0} (P : X → State → Type 0) (test : Bool) (x y : Read X) → Holds P x → Holds P y → Holds P (cond test x y)
   when_by P true x y one two = one
@@ -89,13 +95,9 @@ module _ (keep : Bool) (g : Given) where
     unfolding many
     tells_many a s so = record { told = (tells_loop a s so).told }
 
-  so_by : {X : Type 0} (P Q : X → State → Type 0) (x : Read X) → Holds P x → ((a : X) (t : State) → P a t → Q a t) → Holds Q x
-  so_by P Q (Ok (a, t)) one so = so a t one
-  so_by P Q (Err f) one so = tt
-
   -- what follows
   pub tells_so : {X : Type 0} {P Q : X → State → Type 0} {r : Form X} {s : State} → Tells r P s → ((a : X) (t : State) → P a t → Q a t) → Tells r Q s
-  tells_so {P = P} {Q = Q} {r = r} {s = s} one so = record { told = so_by P Q (does r keep g s) one.told so }
+  tells_so {P = P} {Q = Q} {r = r} {s = s} one so = record { told = holds_so P Q (does r keep g s) one.told so }
 
 -- ---- no form goes back
 

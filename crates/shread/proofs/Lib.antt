@@ -22,3 +22,6 @@ pub mod Ahead
 pub mod Asked
 pub mod NoFurther
 pub mod SameLine
+pub mod Inside
+pub mod PiecesInside
+pub mod Anywhere

@@ -15,6 +15,15 @@ use Rattle.shread.proofs.Asked.{Good, high, on, moves_behind, moves_joined, move
 pub behind : {X : Type 0} (r : Form X) (g : Given) (s : State) (y : Read X) (k : Row Spelled) → may r g s y k → Holds (Behind s) y
 behind r g s y k part = subst (Holds (Behind s)) (sym ((is r g s).only y k part)) (low r true g s).told
 
+-- two that say the same of less
+pub less_same : (x y z w : ℕ) → (x < y → z < w) → (z < w → x < y) → ltb z w ≡ ltb x y
+less_same x y z w one two =
+    ⊎_elim (λ lt. lt-ltb z w (one lt) ∙ sym (lt-ltb x y lt))
+    (λ ge. ⊎_elim (λ lt. let no = two lt in absurd (omega (arith, no, ge))) (λ other. not_less z w other ∙ sym (not_less x y ge)) (cases_lt z w)) (cases_lt x y)
+  where
+    not_less : (m n : ℕ) → n ≤ m → ltb m n ≡ false
+    not_less m n le = ⊎_elim (λ (e : ltb m n ≡ true). let lt = ltb-true m n e in absurd (omega (arith, lt, le))) (λ (e : ltb m n ≡ false). e) (cases_Bool (ltb m n))
+
 module _ {T U : List ℕ} {a M : ℕ} {to : ℕ → ℕ} (E : ListEnds T U a M to 10) (o o2 : ℕ) (off : (p : ℕ) → a ≤ p → o2 + to p ≡ o + p) where
   abbrev G : ℕ → Type 0
   G p = Good T a M p
@@ -81,14 +90,6 @@ module _ {T U : List ℕ} {a M : ℕ} {to : ℕ → ℕ} (E : ListEnds T U a M t
 
   apart : (p q : ℕ) → a ≤ p → p ≤ q → to q ≡ to p + (q - p)
   apart p q from le = let is : p + (q - p) ≡ q = omega (arith, le) in ap to (sym is) ∙ on E p (q - p) from
-
-  less_same : (x y z w : ℕ) → (x < y → z < w) → (z < w → x < y) → ltb z w ≡ ltb x y
-  less_same x y z w one two =
-      ⊎_elim (λ lt. lt-ltb z w (one lt) ∙ sym (lt-ltb x y lt))
-      (λ ge. ⊎_elim (λ lt. let no = two lt in absurd (omega (arith, no, ge))) (λ other. not_less z w other ∙ sym (not_less x y ge)) (cases_lt z w)) (cases_lt x y)
-    where
-      not_less : (m n : ℕ) → n ≤ m → ltb m n ≡ false
-      not_less m n le = ⊎_elim (λ (e : ltb m n ≡ true). let lt = ltb-true m n e in absurd (omega (arith, lt, le))) (λ (e : ltb m n ≡ false). e) (cases_Bool (ltb m n))
 
   same_leads : (s t : State) → a ≤ s.at → s.at ≤ t.at → t.at ≤ M → leads_on h (there s) (there t) ≡ leads_on g s t
   same_leads s t from onward le =

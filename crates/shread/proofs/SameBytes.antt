@@ -1,10 +1,11 @@
 -- One text and another that has the same bytes from a place on up to a limit: what is read there is the same.
 use Rattle.std.proofs.Common.{◌≡◌, ℕ, zero, suc, ◌+◌, ◌-◌, ◌≤◌, ◌<◌, ◌==◌, Bool, true, false, not, ◌&&◌, ◌||◌, List, Option, Some, None, slice_get, refl, sym, ap, subst, ◌∙◌, arith, ⊎_elim}
 use Rattle.std.proofs.lemmas.Bool.{and_parts, and_left, both_ways, cases_lt, cases_Bool}
-use Rattle.shread.specs.Standing.{is_byte, passes, raw_stands, raw_in, continues}
+use Rattle.std.proofs.lemmas.Bool.Decides.{nat_tests}
+use Rattle.shread.specs.Standing.{is_byte, passes, raw_stands, raw_in, raw_past, continues}
 use Rattle.shread.specs.Bytes.{ends, past_continuations, byte_at, behind, stands, stands_in}
-use Rattle.shread.proofs.Stretches.{joined_more, joined_none, place_low}
-use Rattle.shread.proofs.Places.{must_fail, behind_low}
+use Rattle.shread.proofs.Stretches.{joined_more, joined_none, place_low, raw_is}
+use Rattle.shread.proofs.Places.{must_fail, behind_low, raw_past_low, raw_past_all, raw_past_stops}
 
 -- `to` says where the places of the first text from `a` on are in the second; the bytes are the same below L
 pub record Kept (T T2 : List ℕ) (a L : ℕ) (to : ℕ → ℕ) : Type 0 where
@@ -61,6 +62,11 @@ backslash_stops_by (Some b) e = rw e refl
 backslash_stops : (T : List ℕ) (p : ℕ) → raw_stands T p 92 ≡ true → raw_in goes_on T p ≡ false
 unfolding raw_in raw_stands
 backslash_stops T p e = backslash_stops_by (slice_get T p) e
+
+-- what is one byte is no other
+pub byte_other : (x : Option ℕ) (c d : ℕ) → (c == d) ≡ false → is_byte x c ≡ true → is_byte x d ≡ false
+byte_other None c d e f = refl
+byte_other (Some b) c d e f = grind (arith, nat_tests)
 
 -- a continuation is two bytes
 pub continued : (T : List ℕ) (p : ℕ) → continues T p ≡ true → (raw_stands T p 92 ≡ true) × (raw_stands T (p + 1) 10 ≡ true)
@@ -213,3 +219,20 @@ module _ {T T2 : List ℕ} {a L : ℕ} {to : ℕ → ℕ} (K : Kept T T2 a L to)
   unfolding behind
   safe_behind p low e rest =
       let lt = place_low T p in safe_place p low (safe_byte (past_continuations T p) (omega (arith, low)) e rest)
+
+  -- ---- stretches as they stand
+
+  raw_in_next : (test : ℕ → Bool) (p k : ℕ) → a ≤ p → p + k < L → raw_in test T2 (to p + k) ≡ raw_in test T (p + k)
+  unfolding raw_in
+  raw_in_next test p k low lt = ap (λ q. passes test (slice_get T2 q)) (sym (K.on p k low)) ∙ ap (passes test) (K.same (p + k) (omega (arith, low)) lt)
+
+  pub raw_there : (test : ℕ → Bool) (p : ℕ) → a ≤ p → raw_past test T p < L → raw_past test T2 (to p) ≡ to (raw_past test T p)
+  raw_there test p low lt =
+      let q = raw_past test T p in
+      let n = q - p in
+      let end : p + n ≡ q = omega (arith, raw_past_low test T p) in
+      raw_is test T2 (to p) n
+      (λ k from up. let j = k - to p in let at : to p + j ≡ k = omega (arith, from) in
+      subst (λ z. raw_in test T2 z ≡ true) at (raw_in_next test p j low (omega (arith, up, end, lt, from)) ∙ raw_past_all test T p (p + j) (omega arith) (omega (arith, up, end, from))))
+      (raw_in_next test p n low (omega (arith, end, lt)) ∙ subst (λ z. raw_in test T z ≡ false) (sym end) (raw_past_stops test T p))
+      ∙ sym (K.on p n low) ∙ ap to end

@@ -148,7 +148,7 @@ get_take (suc n) [] r lt = refl
 get_take (suc n) (b ∷ B) zero lt = refl
 get_take (suc n) (b ∷ B) (suc r) lt = get_take n B r (omega arith)
 
-same_front : (n : ℕ) (T U : List ℕ) → take n U ≡ take n T → (r : ℕ) → r < n → slice_get U r ≡ slice_get T r
+pub same_front : (n : ℕ) (T U : List ℕ) → take n U ≡ take n T → (r : ℕ) → r < n → slice_get U r ≡ slice_get T r
 same_front n T U is r lt = sym (get_take n U r lt) ∙ ap (λ B. slice_get B r) is ∙ get_take n T r lt
 
 pub no_further : (T : List ℕ) (l : ALine) → IsLine T l → l.ended ≡ true → NoFurther T l

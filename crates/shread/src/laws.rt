@@ -1,10 +1,12 @@
 //! Laws of the definitions alone, which no code stands behind.
-ghost use Rattle.std.specs.Prelude.{◌≡◌, ◌∷◌, ℕ, Bool, List, List as Row, Option, Some, false, true};
+ghost use Rattle.std.specs.Prelude.{◌≡◌, ◌+◌, ◌∷◌, ℕ, Bool, List, List as Row, Option, Some, drop, false, take, true};
 ghost use Rattle.shread.specs.declared.tree.Comment.{Comment};
 ghost use Rattle.shread.specs.Lines.{ALine, IsLine};
 ghost use Rattle.shread.specs.Normal.{IsNormal, alone, joined, of_command};
 ghost use Rattle.shread.specs.Scripts.{AScript, Outcome};
+ghost use Rattle.shread.specs.Sights.{Given};
 ghost use Rattle.shread.specs.Tree.{ACommand, AContent, AnItemContent, Items, entry, item, more_items, remark, simple};
+ghost use Rattle.shread.specs.Words.{IsWord, MayFollow};
 
 /// Each byte list has one outcome as a script, and one line with which it begins.
 pub fn one_outcome()
@@ -26,4 +28,11 @@ pub fn normal_form()
         IsNormal (alone (of_command (simple (more_items (item true what) items)))) → ⊥ }
     ensures unbroken_join { (c : Comment) (cs : Row Comment) (one two : ACommand) →
         IsNormal (alone (joined (record { broken = false; comments = c ∷ cs }) one two)) → ⊥ }
+{}
+
+/// A word is read wherever its bytes stand, before a byte that ends words and is no `(`. Before `(` it may not be: `a$` is a word,
+/// and in `a$(` a substitution begins.
+pub fn word_anywhere()
+    ensures word { (room p q n : ℕ) (g h : Given) → IsWord room g p n →
+        take n (drop q h.text) ≡ take n (drop p g.text) → MayFollow h.text (q + n) → IsWord room h q n }
 {}
