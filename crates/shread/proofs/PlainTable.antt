@@ -1,10 +1,11 @@
--- The table of special bytes agrees with the definition, byte by byte.
+-- The table of bytes agrees with the definitions, byte by byte.
 use Rattle.std.proofs.Common.{◌≡◌, ℕ, zero, suc, ◌+◌, ◌<◌, ◌==◌, Bool, true, false, ◌&&◌, not, Some, List, [], ◌∷◌, length, get_or, refl, sym, ap, ◌∙◌, arith, add-zero, zero-add}
 use Rattle.std.specs.Prelude.{bit_and}
 use Rattle.std.proofs.lemmas.Bool.{and_parts}
-use Rattle.shread.specs.declared.plain.TheConstants.{SPECIAL}
+use Rattle.shread.specs.declared.plain.TheConstants.{MARKS}
 use Rattle.shread.specs.declared.mode.Mode.{Mode}
 use Rattle.shread.specs.declared.mode.Mode.TheVariants.{Plain, Double, Brace, DoubleBrace, Arith}
+use Rattle.shread.specs.Classes.{is_name}
 use Rattle.shread.specs.Bytes.{ends}
 use Rattle.shread.specs.Plain.{alone, is_plain}
 
@@ -31,7 +32,7 @@ agrees_at set test (x ∷ xs) n (suc k) e lt =
     let next : n + 1 + k ≡ n + suc k = omega arith in
     agrees_at set test xs (n + 1) k (and_parts _ _ e).1 (omega arith) ∙ ap test next
 
-all_agree : (mode : Mode) → agrees (alone mode) (is_plain mode) SPECIAL 0 ≡ true
+all_agree : (mode : Mode) → agrees (alone mode) (is_plain mode) MARKS 0 ≡ true
 unfolding agrees same
 all_agree Plain = refl
 all_agree Double = refl
@@ -39,22 +40,29 @@ all_agree Brace = refl
 all_agree DoubleBrace = refl
 all_agree Arith = refl
 
-pub table_tells : (mode : Mode) (b : ℕ) → b < 256 → (bit_and (get_or SPECIAL b 0) (alone mode) == 0) ≡ is_plain mode b
-table_tells mode b lt = agrees_at (alone mode) (is_plain mode) SPECIAL 0 b (all_agree mode) lt ∙ ap (is_plain mode) (zero-add b)
+pub table_tells : (mode : Mode) (b : ℕ) → b < 256 → (bit_and (get_or MARKS b 0) (alone mode) == 0) ≡ is_plain mode b
+table_tells mode b lt = agrees_at (alone mode) (is_plain mode) MARKS 0 b (all_agree mode) lt ∙ ap (is_plain mode) (zero-add b)
 
--- ---- where a word ends
-
-ends_not : ℕ → Bool
-ends_not b = not (ends (Some b))
-
-ends_agree : agrees 32 ends_not SPECIAL 0 ≡ true
-unfolding agrees same ends_not
-ends_agree = refl
+-- ---- where a word ends, and what a name has
 
 not_not : (x : Bool) → not (not x) ≡ x
 not_not true = refl
 not_not false = refl
 
-pub table_ends : (b : ℕ) → b < 256 → not (bit_and (get_or SPECIAL b 0) 32 == 0) ≡ ends (Some b)
-unfolding ends_not
-table_ends b lt = ap not (agrees_at 32 ends_not SPECIAL 0 b ends_agree lt ∙ ap ends_not (zero-add b)) ∙ not_not (ends (Some b))
+-- a test whose bytes are marked
+marks : (set : ℕ) (test : ℕ → Bool) (b : ℕ) → agrees set (λ c. not (test c)) MARKS 0 ≡ true → b < 256 → not (bit_and (get_or MARKS b 0) set == 0) ≡ test b
+marks set test b e lt = ap not (agrees_at set (λ c. not (test c)) MARKS 0 b e lt ∙ ap (λ c. not (test c)) (zero-add b)) ∙ not_not (test b)
+
+ends_agree : agrees 32 (λ b. not (ends (Some b))) MARKS 0 ≡ true
+unfolding agrees same
+ends_agree = refl
+
+names_agree : agrees 64 (λ b. not (is_name b)) MARKS 0 ≡ true
+unfolding agrees same
+names_agree = refl
+
+pub table_ends : (b : ℕ) → b < 256 → not (bit_and (get_or MARKS b 0) 32 == 0) ≡ ends (Some b)
+table_ends b lt = marks 32 (λ c. ends (Some c)) b ends_agree lt
+
+pub table_names : (b : ℕ) → b < 256 → not (bit_and (get_or MARKS b 0) 64 == 0) ≡ is_name b
+table_names b lt = marks 64 is_name b names_agree lt

@@ -1,6 +1,7 @@
 //! Bytes that are ordinary in a mode, many at once.
 ghost use Rattle.std.specs.Prelude.{◌≡◌, ◌+◌, ◌<◌, ◌≤◌, ℕ, length, slice_index, true, Some};
 ghost use Rattle.shread.specs.Bytes.{ends};
+ghost use Rattle.shread.specs.Classes.{is_name};
 ghost use Rattle.shread.specs.Clauses.{Stays, text_of};
 ghost use Rattle.shread.specs.Plain.{ArePlain, alone, is_plain};
 
@@ -22,9 +23,14 @@ const ARITH: u8 = 16;
 /// Of a byte before which a word ends.
 const ENDS: u8 = 32;
 
-// In which modes a byte is special.
+/// Of a byte of a name.
+const NAME: u8 = 64;
+
+// In which modes a byte is special, and what else is to be known of it.
 /// Ordinary bytes, in none.
 const O: u8 = 0;
+/// Letters, digits and the underscore.
+const N: u8 = NAME;
 /// The backslash, the backquote and `$`, in all.
 const A: u8 = PLAIN | DOUBLE | BRACE | DOUBLE_BRACE | ARITH;
 /// What ends a word.
@@ -38,12 +44,13 @@ const D: u8 = PLAIN | DOUBLE | BRACE | DOUBLE_BRACE;
 /// The closing brace.
 const C: u8 = BRACE | DOUBLE_BRACE;
 
-/// By a byte, in which modes it is special, and whether a word ends before it. A table is read faster than so many tests.
-const SPECIAL: [u8; 256] = [
+/// By a byte: in which modes it is special, whether a word ends before it, and whether it may be in a name. A table is read faster
+/// than so many tests.
+const MARKS: [u8; 256] = [
     O, O, O, O, O, O, O, O, O, E, E, O, O, O, O, O, O, O, O, O, O, O, O, O, O, O, O, O, O, O, O, O,
-    E, O, D, O, A, O, E, S, R, R, O, O, O, O, O, O, O, O, O, O, O, O, O, O, O, O, O, E, E, O, E, O,
-    O, O, O, O, O, O, O, O, O, O, O, O, O, O, O, O, O, O, O, O, O, O, O, O, O, O, O, O, A, O, O, O,
-    A, O, O, O, O, O, O, O, O, O, O, O, O, O, O, O, O, O, O, O, O, O, O, O, O, O, O, O, E, C, O, O,
+    E, O, D, O, A, O, E, S, R, R, O, O, O, O, O, O, N, N, N, N, N, N, N, N, N, N, O, E, E, O, E, O,
+    O, N, N, N, N, N, N, N, N, N, N, N, N, N, N, N, N, N, N, N, N, N, N, N, N, N, N, O, A, O, O, N,
+    A, N, N, N, N, N, N, N, N, N, N, N, N, N, N, N, N, N, N, N, N, N, N, N, N, N, N, O, E, C, O, O,
     O, O, O, O, O, O, O, O, O, O, O, O, O, O, O, O, O, O, O, O, O, O, O, O, O, O, O, O, O, O, O, O,
     O, O, O, O, O, O, O, O, O, O, O, O, O, O, O, O, O, O, O, O, O, O, O, O, O, O, O, O, O, O, O, O,
     O, O, O, O, O, O, O, O, O, O, O, O, O, O, O, O, O, O, O, O, O, O, O, O, O, O, O, O, O, O, O, O,
@@ -56,7 +63,16 @@ const SPECIAL: [u8; 256] = [
 pub(crate) fn ends_words(byte: u8) -> bool
     ensures { result ≡ ends (Some byte) }
 {
-    SPECIAL[byte as usize] & ENDS != 0
+    MARKS[byte as usize] & ENDS != 0
+}
+
+/// Whether a byte is a letter, a digit or an underscore, all ASCII.
+#[inline(always)]
+#[tactic(auto, using(crate::proofs::PlainTable::table_names))]
+pub(crate) fn is_in_names(byte: u8) -> bool
+    ensures { result ≡ is_name byte }
+{
+    MARKS[byte as usize] & NAME != 0
 }
 
 impl Mode {
@@ -80,7 +96,7 @@ impl Mode {
     fn is_plain(self, byte: u8) -> bool
         ensures { result ≡ is_plain self byte }
     {
-        SPECIAL[byte as usize] & self.alone() == 0
+        MARKS[byte as usize] & self.alone() == 0
     }
 }
 

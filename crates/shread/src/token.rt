@@ -6,6 +6,7 @@ ghost use Rattle.shread.specs.Clauses.{Shows, Stays, text_of};
 ghost use Rattle.shread.specs.Tokens.{begins_assignment, first_of_words, is_number, is_word_at, next_at, reserved_at, token_at, word_by};
 
 use crate::cursor::Cursor;
+use crate::plain::is_in_names;
 use crate::source::Source;
 
 /// What begins at a place that no blank stands at (XCU 2.3, 2.10.1).
@@ -98,7 +99,7 @@ impl Class {
         match self {
             Class::Blank => byte == b' ' || byte == b'\t',
             Class::Digit => byte.is_ascii_digit(),
-            Class::Name => byte.is_ascii_alphanumeric() || byte == b'_',
+            Class::Name => is_in_names(byte),
         }
     }
 }
