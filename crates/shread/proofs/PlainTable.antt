@@ -7,7 +7,7 @@ use Rattle.shread.specs.declared.mode.Mode.{Mode}
 use Rattle.shread.specs.declared.mode.Mode.TheVariants.{Plain, Double, Brace, DoubleBrace, Arith}
 use Rattle.shread.specs.Classes.{is_name}
 use Rattle.shread.specs.Bytes.{ends}
-use Rattle.shread.specs.Plain.{alone, is_plain}
+use Rattle.shread.specs.Plain.{alone, begins_a_word, is_plain}
 
 same : Bool → Bool → Bool
 same true b = b
@@ -66,3 +66,10 @@ table_ends b lt = marks 32 (λ c. ends (Some c)) b ends_agree lt
 
 pub table_names : (b : ℕ) → b < 256 → not (bit_and (get_or MARKS b 0) 64 == 0) ≡ is_name b
 table_names b lt = marks 64 is_name b names_agree lt
+
+words_agree : agrees 128 begins_a_word MARKS 0 ≡ true
+unfolding agrees same
+words_agree = refl
+
+pub table_words : (b : ℕ) → b < 256 → (bit_and (get_or MARKS b 0) 128 == 0) ≡ begins_a_word b
+table_words b lt = agrees_at 128 begins_a_word MARKS 0 b words_agree lt ∙ ap begins_a_word (zero-add b)

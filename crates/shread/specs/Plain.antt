@@ -2,6 +2,7 @@
 use Rattle.std.specs.Prelude.{◌≡◌, ℕ, ◌<◌, ◌≤◌, ◌==◌, Bool, true, ◌||◌, not, List, Some}
 use Rattle.shread.specs.declared.mode.Mode.{Mode}
 use Rattle.shread.specs.declared.mode.Mode.TheVariants.{Plain, Double, Brace, DoubleBrace, Arith}
+use Rattle.shread.specs.Classes.{is_digit}
 use Rattle.shread.specs.Bytes.{ends}
 use Rattle.shread.specs.Standing.{raw_in}
 
@@ -28,3 +29,7 @@ alone Arith = 16
 -- from p up to q stand such bytes
 abbrev pub ArePlain : Mode → List ℕ → ℕ → ℕ → Type 0
 ArePlain mode T p q = (k : ℕ) → p ≤ k → k < q → raw_in (is_plain mode) T k ≡ true
+
+-- no byte before which a word ends, no `#`, and no digit: only a word begins with it
+abbrev pub begins_a_word : ℕ → Bool
+begins_a_word b = not (ends (Some b) || b == 35 || is_digit b)

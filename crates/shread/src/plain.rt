@@ -3,7 +3,7 @@ ghost use Rattle.std.specs.Prelude.{◌≡◌, ◌+◌, ◌<◌, ◌≤◌, ℕ,
 ghost use Rattle.shread.specs.Bytes.{ends};
 ghost use Rattle.shread.specs.Classes.{is_name};
 ghost use Rattle.shread.specs.Clauses.{Stays, text_of};
-ghost use Rattle.shread.specs.Plain.{ArePlain, alone, is_plain};
+ghost use Rattle.shread.specs.Plain.{ArePlain, alone, begins_a_word, is_plain};
 
 use crate::cursor::Cursor;
 use crate::mode::Mode;
@@ -26,17 +26,24 @@ const ENDS: u8 = 32;
 /// Of a byte of a name.
 const NAME: u8 = 64;
 
+/// Of a byte with which something else than a word may begin.
+const OTHER: u8 = 128;
+
 // In which modes a byte is special, and what else is to be known of it.
 /// Ordinary bytes, in none.
 const O: u8 = 0;
-/// Letters, digits and the underscore.
+/// Letters and the underscore.
 const N: u8 = NAME;
+/// Digits: a number may begin.
+const G: u8 = NAME | OTHER;
+/// `#`: a comment begins.
+const H: u8 = OTHER;
 /// The backslash, the backquote and `$`, in all.
 const A: u8 = PLAIN | DOUBLE | BRACE | DOUBLE_BRACE | ARITH;
 /// What ends a word.
-const E: u8 = PLAIN | ENDS;
+const E: u8 = PLAIN | ENDS | OTHER;
 /// Round brackets.
-const R: u8 = PLAIN | ARITH | ENDS;
+const R: u8 = PLAIN | ARITH | ENDS | OTHER;
 /// The single quote.
 const S: u8 = PLAIN | BRACE;
 /// The double quote.
@@ -44,11 +51,11 @@ const D: u8 = PLAIN | DOUBLE | BRACE | DOUBLE_BRACE;
 /// The closing brace.
 const C: u8 = BRACE | DOUBLE_BRACE;
 
-/// By a byte: in which modes it is special, whether a word ends before it, and whether it may be in a name. A table is read faster
-/// than so many tests.
+/// By a byte: in which modes it is special, whether a word ends before it, whether it may be in a name, and whether something else
+/// than a word may begin with it. A table is read faster than so many tests.
 const MARKS: [u8; 256] = [
     O, O, O, O, O, O, O, O, O, E, E, O, O, O, O, O, O, O, O, O, O, O, O, O, O, O, O, O, O, O, O, O,
-    E, O, D, O, A, O, E, S, R, R, O, O, O, O, O, O, N, N, N, N, N, N, N, N, N, N, O, E, E, O, E, O,
+    E, O, D, H, A, O, E, S, R, R, O, O, O, O, O, O, G, G, G, G, G, G, G, G, G, G, O, E, E, O, E, O,
     O, N, N, N, N, N, N, N, N, N, N, N, N, N, N, N, N, N, N, N, N, N, N, N, N, N, N, O, A, O, O, N,
     A, N, N, N, N, N, N, N, N, N, N, N, N, N, N, N, N, N, N, N, N, N, N, N, N, N, N, O, E, C, O, O,
     O, O, O, O, O, O, O, O, O, O, O, O, O, O, O, O, O, O, O, O, O, O, O, O, O, O, O, O, O, O, O, O,
@@ -73,6 +80,15 @@ pub(crate) fn is_in_names(byte: u8) -> bool
     ensures { result ≡ is_name byte }
 {
     MARKS[byte as usize] & NAME != 0
+}
+
+/// Whether only a word begins with this byte: it is no digit, no `#`, and no word ends before it.
+#[inline(always)]
+#[tactic(auto, using(crate::proofs::PlainTable::table_words))]
+pub(crate) fn begins_a_word(byte: u8) -> bool
+    ensures { result ≡ begins_a_word byte }
+{
+    MARKS[byte as usize] & OTHER == 0
 }
 
 impl Mode {

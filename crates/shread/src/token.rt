@@ -6,7 +6,7 @@ ghost use Rattle.shread.specs.Clauses.{Shows, Stays, text_of};
 ghost use Rattle.shread.specs.Tokens.{begins_assignment, first_of_words, is_number, is_word_at, next_at, reserved_at, token_at, word_by};
 
 use crate::cursor::Cursor;
-use crate::plain::is_in_names;
+use crate::plain::{begins_a_word, is_in_names};
 use crate::source::Source;
 
 /// What begins at a place that no blank stands at (XCU 2.3, 2.10.1).
@@ -231,6 +231,7 @@ impl<'a, S: Source> Cursor<'a, S> {
     {
         match self.raw_byte(self.at) {
             None => Token::End,
+            Some(byte) if begins_a_word(byte) => self.word_token(position),
             Some(b'\n') => Token::Newline,
             Some(b';') => {
                 if self.is_next(b';') {
