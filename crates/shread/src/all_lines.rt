@@ -23,7 +23,7 @@ struct SoFar {
 }
 
 /// What follows a line.
-#[derive(Clone, Copy, Debug, PartialEq, Eq)]
+#[derive(Clone, Copy)]
 enum Rest {
     More,
     /// The script ends with the line, or with a fault in it.

@@ -61,7 +61,7 @@ pub enum ReadError {
 }
 
 /// What ends a row of the grammar before its end.
-#[derive(Clone, Copy, Debug, PartialEq, Eq)]
+#[derive(Clone, Copy)]
 pub(crate) enum Stop {
     Memory,
     Wrong(Fault),

@@ -9,7 +9,7 @@ use crate::source::Source;
 use std::alloc::Global;
 
 /// What one line tells of the first fault from its begin on.
-#[derive(Clone, Copy, Debug, PartialEq, Eq)]
+#[derive(Clone, Copy)]
 enum Found {
     /// It is in this line.
     Here(Fault),

@@ -5,7 +5,7 @@ ghost use Rattle.shread.specs.Pieces.{braces_in, unclosed};
 use crate::fault::FaultKind;
 
 /// Where in a word a place is (XCU 2.2, 2.6).
-#[derive(Clone, Copy, Debug, PartialEq, Eq)]
+#[derive(Clone, Copy, PartialEq, Eq)]
 pub(crate) enum Mode {
     /// Outside all quotes and expansions.
     Plain,
@@ -20,7 +20,7 @@ pub(crate) enum Mode {
 }
 
 /// A piece of a word, by what it begins with.
-#[derive(Clone, Copy, Debug, PartialEq, Eq)]
+#[derive(Clone, Copy)]
 pub(crate) enum Piece {
     /// No piece: the word, the string or the expansion ends.
     Closer,

@@ -13,7 +13,7 @@ use memchr::{memchr, memchr2};
 const NEAR: usize = 8;
 
 /// What a search looks for.
-#[derive(Clone, Copy, Debug, PartialEq, Eq)]
+#[derive(Clone, Copy)]
 pub(crate) enum Sought {
     Byte(u8),
     /// The one or the other.

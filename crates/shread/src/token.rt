@@ -10,7 +10,7 @@ use crate::plain::{begins_a_word, is_in_names};
 use crate::source::Source;
 
 /// What begins at a place that no blank stands at (XCU 2.3, 2.10.1).
-#[derive(Clone, Copy, Debug, PartialEq, Eq)]
+#[derive(Clone, Copy)]
 pub(crate) enum Token {
     /// The end of the text.
     End,
@@ -34,7 +34,7 @@ pub(crate) enum Token {
 }
 
 /// The reserved words (XCU 2.4).
-#[derive(Clone, Copy, Debug, PartialEq, Eq)]
+#[derive(Clone, Copy)]
 pub(crate) enum Reserved {
     /// `!`
     Bang,
@@ -58,7 +58,7 @@ pub(crate) enum Reserved {
 }
 
 /// Where in a simple command a token stands, which decides what a word may be there (XCU 2.4, 2.10.2).
-#[derive(Clone, Copy, Debug, PartialEq, Eq)]
+#[derive(Clone, Copy, PartialEq, Eq)]
 pub(crate) enum Position {
     /// Where a command may begin: a word may be reserved, or an assignment.
     Command,
@@ -69,7 +69,7 @@ pub(crate) enum Position {
 }
 
 /// The token that begins here, told once and handed on.
-#[derive(Clone, Copy, Debug, PartialEq, Eq)]
+#[derive(Clone, Copy)]
 pub(crate) struct Next {
     pub(crate) token: Token,
     /// A continuation stands before it.
@@ -77,14 +77,14 @@ pub(crate) struct Next {
 }
 
 /// What parts two and-or lists of a line (XCU 2.9.3).
-#[derive(Clone, Copy, Debug, PartialEq, Eq)]
+#[derive(Clone, Copy)]
 pub(crate) enum Separator {
     Semicolon,
     Ampersand,
 }
 
 /// A set of bytes.
-#[derive(Clone, Copy, Debug, PartialEq, Eq)]
+#[derive(Clone, Copy)]
 pub(crate) enum Class {
     Blank,
     Digit,
