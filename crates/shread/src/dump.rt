@@ -1,4 +1,4 @@
-// Dumps of trees and faults as short texts, and tables of them.
+// Dumps of trees and faults as short texts.
 //
 // A script is dumped as its entries and then its fault, parted by spaces. `S-E` is a span.
 //
@@ -12,39 +12,36 @@
 //   | && ||      between operands, with `^` behind it where the join is broken, and then with its comments
 //   $S-E(..)     directly behind a word: one of its substitutions, with the entries in it
 //   fault K at O a fault by its number, and its offset
+//
+// So is a line, which is `blank` or `end` where it has no entry; then follow `to N`, the offset behind it, and `, ended`.
 use crate::{
-    AndOr, AndOrOperator, Command, Comment, Content, Entry, Fault, Flat, ItemContent, Join,
-    LineKind, List, Pipeline, Reader, Span, Word,
+    AndOr, AndOrOperator, Command, Comment, Content, Entry, Fault, Item, ItemContent, Join, Line,
+    LineKind, List, Pipeline, Reader, Source, Span, Word,
 };
 use std::alloc::Global;
 use std::test::Fail;
 
-fn dump_span(text: &mut String, span: Span) -> Result<(), Fail> {
-    write!(text, "{}-{}", span.start, span.end)?;
+fn dump_span(text: &mut String, before: &str, span: Span) -> Result<(), Fail> {
+    write!(text, "{before}{}-{}", span.start, span.end)?;
     Ok(())
 }
 
-fn dump_comment(text: &mut String, comment: Comment) -> Result<(), Fail> {
-    text.push_str("#")?;
-    dump_span(text, comment.span)
-}
-
-fn dump_join(text: &mut String, join: &Join) -> Result<(), Fail> {
+fn dump_join(text: &mut String, operator: &str, join: &Join) -> Result<(), Fail> {
+    text.push_str(operator)?;
     if join.broken {
         text.push_str("^")?;
     }
     for comment in &join.comments {
-        dump_comment(text, *comment)?;
+        dump_span(text, "#", comment.span)?;
     }
     Ok(())
 }
 
 #[cycle(dump)]
-fn dump_word(text: &mut String, word: &Word) -> Result<(), Fail> {
-    dump_span(text, word.span)?;
+fn dump_word(text: &mut String, before: &str, word: &Word) -> Result<(), Fail> {
+    dump_span(text, before, word.span)?;
     for subst in &word.substs {
-        text.push_str("$")?;
-        dump_span(text, subst.span)?;
+        dump_span(text, "$", subst.span)?;
         text.push_str("(")?;
         dump_list(text, &subst.list)?;
         text.push_str(")")?;
@@ -53,24 +50,25 @@ fn dump_word(text: &mut String, word: &Word) -> Result<(), Fail> {
 }
 
 #[cycle(dump)]
+fn dump_item(text: &mut String, item: &Item) -> Result<(), Fail> {
+    if item.broken {
+        text.push_str("^")?;
+    }
+    match &item.what {
+        ItemContent::Assign(word) => dump_word(text, "=", word),
+        ItemContent::Word(word) => dump_word(text, "", word),
+    }
+}
+
+#[cycle(dump)]
 fn dump_command(text: &mut String, command: &Command) -> Result<(), Fail> {
     match command {
         Command::Simple { items } => {
-            text.push_str("[")?;
-            for (n, item) in items.iter().enumerate() {
-                if n > 0 {
-                    text.push_str(" ")?;
-                }
-                if item.broken {
-                    text.push_str("^")?;
-                }
-                match &item.what {
-                    ItemContent::Assign(word) => {
-                        text.push_str("=")?;
-                        dump_word(text, word)?;
-                    }
-                    ItemContent::Word(word) => dump_word(text, word)?,
-                }
+            let mut before = "[";
+            for item in items {
+                text.push_str(before)?;
+                dump_item(text, item)?;
+                before = " ";
             }
             text.push_str("]")?;
         }
@@ -81,13 +79,11 @@ fn dump_command(text: &mut String, command: &Command) -> Result<(), Fail> {
 #[cycle(dump)]
 fn dump_pipeline(text: &mut String, pipeline: &Pipeline) -> Result<(), Fail> {
     if let Some(bang) = pipeline.bang {
-        text.push_str("!")?;
-        dump_span(text, bang)?;
+        dump_span(text, "!", bang)?;
     }
     dump_command(text, &pipeline.first)?;
     for part in &pipeline.rest {
-        text.push_str("|")?;
-        dump_join(text, &part.join)?;
+        dump_join(text, "|", &part.join)?;
         dump_command(text, &part.command)?;
     }
     Ok(())
@@ -97,11 +93,11 @@ fn dump_pipeline(text: &mut String, pipeline: &Pipeline) -> Result<(), Fail> {
 fn dump_and_or(text: &mut String, and_or: &AndOr) -> Result<(), Fail> {
     dump_pipeline(text, &and_or.first)?;
     for part in &and_or.rest {
-        text.push_str(match part.operator {
+        let operator = match part.operator {
             AndOrOperator::And => "&&",
             AndOrOperator::Or => "||",
-        })?;
-        dump_join(text, &part.join)?;
+        };
+        dump_join(text, operator, &part.join)?;
         dump_pipeline(text, &part.pipeline)?;
     }
     Ok(())
@@ -114,186 +110,143 @@ fn dump_entry(text: &mut String, entry: &Entry) -> Result<(), Fail> {
     }
     match &entry.what {
         Content::AndOr(and_or) => dump_and_or(text, and_or)?,
-        Content::Comment(comment) => dump_comment(text, *comment)?,
+        Content::Comment(comment) => dump_span(text, "#", comment.span)?,
     }
     if entry.background {
         text.push_str("&")?;
     }
     if let Some(comment) = entry.comment {
-        dump_comment(text, comment)?;
+        dump_span(text, "#", comment.span)?;
     }
     Ok(())
 }
 
 #[cycle(dump)]
 fn dump_list(text: &mut String, list: &List) -> Result<(), Fail> {
-    for (n, entry) in list.entries.iter().enumerate() {
-        if n > 0 {
-            text.push_str(" ")?;
-        }
+    let mut before = "";
+    for entry in &list.entries {
+        text.push_str(before)?;
         dump_entry(text, entry)?;
+        before = " ";
     }
     Ok(())
 }
 
-fn dump_fault(text: &mut String, fault: Option<Fault>) -> Result<(), Fail> {
+pub(crate) fn dump_fault(text: &mut String, fault: Option<Fault>) -> Result<(), Fail> {
     if let Some(fault) = fault {
-        if !text.is_empty() {
-            text.push_str(" ")?;
-        }
+        text.push_str(if text.is_empty() { "" } else { " " })?;
         write!(text, "fault {} at {}", fault.kind as u8, fault.at)?;
     }
     Ok(())
 }
 
-/// The dump of a script. A check for faults finds the same one.
-pub(crate) fn dumped(alloc: Global, script: &[u8]) -> Result<String, Fail> {
-    let mut reader = Reader::new(alloc);
-    let source = Flat::new(script);
-    let read = reader.read_script(&source)?;
-    if reader.first_fault(&source)? != read.fault {
-        return Err(Fail::from("another first fault"));
-    }
-    let mut text = String::new(alloc);
-    dump_list(&mut text, &read.list)?;
-    dump_fault(&mut text, read.fault)?;
-    Ok(text)
+/// Where a line ends.
+pub(crate) fn dump_end(text: &mut String, line: &Line) -> Result<(), Fail> {
+    write!(text, " to {}", line.next)?;
+    text.push_str(if line.ended { ", ended" } else { "" })?;
+    Ok(())
 }
 
-/// The dump of a line, as of a script; `blank` or `end` where it has no entry.
-pub(crate) fn dumped_line(alloc: Global, kind: &LineKind) -> Result<String, Fail> {
+fn dumped_line(alloc: Global, line: &Line) -> Result<String, Fail> {
     let mut text = String::new(alloc);
-    match kind {
+    match &line.kind {
         LineKind::Blank => text.push_str("blank")?,
         LineKind::Entries(list) => dump_list(&mut text, list)?,
         LineKind::End => text.push_str("end")?,
         LineKind::Faulty(fault) => dump_fault(&mut text, Some(*fault))?,
     }
+    dump_end(&mut text, line)?;
     Ok(text)
 }
 
-/// What is wrong with a row: its script, and what was read in the place of what is wanted.
-pub(crate) fn tell(
-    wrong: &mut String,
-    script: &[u8],
-    dump: &str,
-    wanted: &[u8],
-) -> Result<(), Fail> {
-    if dump.as_bytes() != wanted {
-        for byte in script {
-            wrong.push(char::from(*byte))?;
-        }
-        write!(wrong, ": {dump}, and not ")?;
-        for byte in wanted {
-            wrong.push(char::from(*byte))?;
-        }
-        wrong.push_str("\n")?;
-    }
-    Ok(())
+/// Dumps a script, and answers its fault.
+fn dump_script<S: Source>(
+    text: &mut String,
+    reader: &mut Reader,
+    source: &S,
+) -> Result<Option<Fault>, Fail> {
+    let read = reader.read_script(source)?;
+    dump_list(text, &read.list)?;
+    dump_fault(text, read.fault)?;
+    Ok(read.fault)
 }
 
-/// A text of a row, and what stands behind it: a number, or 0, and `true` or not.
+/// The dump of a script. A check for faults has to find the same one, and each reading to raise the meter by the length.
+fn dumped<S: Source>(alloc: Global, reader: &mut Reader, source: &S) -> Result<String, Fail> {
+    let mut text = String::new(alloc);
+    let before = reader.meter();
+    let fault = dump_script(&mut text, reader, source)?;
+    let between = reader.meter();
+    if reader.first_fault(source)? != fault {
+        text.push_str(" and another first fault")?;
+    }
+    let first = between.wrapping_sub(before);
+    let second = reader.meter().wrapping_sub(between);
+    if first != source.len() as u64 || second != first {
+        text.push_str(" and another meter")?;
+    }
+    Ok(text)
+}
+
+/// Compares texts with what is wanted, and keeps what is wrong.
 #[derive(Drop)]
-pub(crate) struct Cell {
-    pub(crate) bytes: Vec<u8>,
-    pub(crate) number: usize,
-    pub(crate) is_true: bool,
+pub(crate) struct Judge {
+    alloc: Global,
+    reader: Reader,
+    wrong: String,
 }
 
-/// Where the reading of a row stands.
-#[derive(Clone, Copy)]
-enum State {
-    /// Outside of quotes.
-    Outside,
-    /// Inside quotes.
-    Inside,
-    /// Behind a backslash.
-    Escaped,
-    /// Behind `\x`.
-    First,
-    /// Behind `\x` and a digit of this value.
-    Second(u8),
-}
-
-/// The value of a hexadecimal digit.
-fn digit(byte: u8) -> u8 {
-    match byte {
-        b'0'..=b'9' => byte - b'0',
-        b'a'..=b'f' => byte - b'a' + 10,
-        _ => 0,
-    }
-}
-
-/// The texts of a row.
-fn cells(alloc: Global, line: &[u8]) -> Result<Vec<Cell>, Fail> {
-    let mut cells = Vec::new(alloc);
-    let mut state = State::Outside;
-    for byte in line {
-        let mut read = None;
-        state = match (state, *byte) {
-            (State::Outside, b'"') => {
-                cells.push(Cell {
-                    bytes: Vec::new(alloc),
-                    number: 0,
-                    is_true: false,
-                })?;
-                State::Inside
-            }
-            (State::Outside, b'0'..=b'9') => {
-                if let Some(cell) = cells.last_mut() {
-                    let value = digit(*byte) as usize;
-                    cell.number = cell.number.wrapping_mul(10).wrapping_add(value);
-                }
-                State::Outside
-            }
-            (State::Outside, b't') => {
-                if let Some(cell) = cells.last_mut() {
-                    cell.is_true = true;
-                }
-                State::Outside
-            }
-            (State::Outside, _) | (State::Inside, b'"') => State::Outside,
-            (State::Inside, b'\\') => State::Escaped,
-            (State::Escaped, b'x') => State::First,
-            (State::First, _) => State::Second(digit(*byte)),
-            (State::Second(value), _) => {
-                read = Some(value.wrapping_mul(16).wrapping_add(digit(*byte)));
-                State::Inside
-            }
-            (State::Escaped, _) => {
-                read = Some(match *byte {
-                    b'n' => b'\n',
-                    b'r' => b'\r',
-                    b't' => b'\t',
-                    other => other,
-                });
-                State::Inside
-            }
-            (State::Inside, _) => {
-                read = Some(*byte);
-                State::Inside
-            }
-        };
-        if let Some(byte) = read {
-            if let Some(cell) = cells.last_mut() {
-                cell.bytes.push(byte)?;
-            }
+impl Judge {
+    pub(crate) fn new(alloc: Global) -> Judge {
+        Judge {
+            alloc,
+            reader: Reader::new(alloc),
+            wrong: String::new(alloc),
         }
     }
-    Ok(cells)
-}
 
-/// The rows of a table, which are written as in Rust, a line each, with lines of comments between them. A table is one text,
-/// which a check passes over: an array would take it minutes.
-pub(crate) fn rows(alloc: Global, table: &[u8]) -> Result<Vec<Vec<Cell>>, Fail> {
-    let mut rows = Vec::new(alloc);
-    for line in table.split(|b| *b == b'\n') {
-        if !line.is_empty() && !line.starts_with(b"//") {
-            rows.push(cells(alloc, line)?)?;
+    /// Tells of a script, of which no more than the beginning is shown, where a text is not the wanted one.
+    pub(crate) fn text(&mut self, script: &[u8], text: &str, wanted: &[u8]) -> Result<(), Fail> {
+        if text.as_bytes() != wanted {
+            self.show(script.get(..100).unwrap_or(script))?;
+            self.wrong.push_str(": ")?;
+            self.wrong.push_str(text)?;
+            self.wrong.push_str(", and not ")?;
+            self.show(wanted)?;
+            self.wrong.push_str("\n")?;
+        }
+        Ok(())
+    }
+
+    fn show(&mut self, bytes: &[u8]) -> Result<(), Fail> {
+        let shown = String::from_utf8_lossy(self.alloc, bytes)?;
+        self.wrong.push_str(shown.as_str())?;
+        Ok(())
+    }
+
+    /// Compares the dump of a script that a source tells.
+    pub(crate) fn source<S: Source>(
+        &mut self,
+        source: &S,
+        script: &[u8],
+        wanted: &[u8],
+    ) -> Result<(), Fail> {
+        let dump = dumped(self.alloc, &mut self.reader, source)?;
+        self.text(script, dump.as_str(), wanted)
+    }
+
+    /// Compares the dump of a line.
+    pub(crate) fn line(&mut self, rest: &[u8], line: &Line, wanted: &[u8]) -> Result<(), Fail> {
+        let dump = dumped_line(self.alloc, line)?;
+        self.text(rest, dump.as_str(), wanted)
+    }
+
+    /// Fails where something was wrong.
+    pub(crate) fn verdict(self) -> Result<(), Fail> {
+        if self.wrong.is_empty() {
+            Ok(())
+        } else {
+            Err(Fail::new(self.wrong))
         }
     }
-    if rows.is_empty() {
-        return Err(Fail::from("no rows"));
-    }
-    Ok(rows)
 }

@@ -40,9 +40,13 @@ pub use tree::{
 };
 
 #[cfg(test)]
+mod by_line;
+#[cfg(test)]
 mod dump;
 #[cfg(test)]
 mod refused;
+#[cfg(test)]
+mod table;
 #[cfg(test)]
 mod tests;
 #[cfg(test)]

@@ -29,61 +29,73 @@ fn refuses(alloc: Global) -> bool {
     Vec::<u8>::with_capacity(alloc, 1).is_err()
 }
 
-/// How many commands and comments a line has, where it ends, and whether a newline ended it.
-fn told(line: &Line) -> (usize, usize, bool) {
-    let count = match &line.kind {
+/// How many commands and comments a line has.
+fn count(line: &Line) -> usize {
+    match &line.kind {
         LineKind::Entries(list) => list.entries.len(),
         _ => 0,
-    };
-    (count, line.next, line.ended)
+    }
+}
+
+/// A reader that has read the first line, which is empty.
+fn begun(alloc: Global) -> Result<Reader, Fail> {
+    let mut reader = Reader::new(alloc);
+    let line = reader.read_line(&Flat::new(TEXT), 0)?;
+    if count(&line) == 0 && line.next == 1 && line.ended {
+        Ok(reader)
+    } else {
+        Err(Fail::from("another first line"))
+    }
+}
+
+/// Whether the second line is read as it stands there, and counted.
+fn reads_line(reader: &mut Reader) -> Result<bool, ReadError> {
+    let line = reader.read_line(&Flat::new(TEXT), 1)?;
+    let is_whole = count(&line) == 2 && line.next == 28 && line.ended;
+    Ok(is_whole && reader.meter() == 28)
 }
 
 #[test]
 fn read_line(rt: HostRuntime) -> Result<(), Fail> {
     let refuses = refuses(rt.alloc());
-    let text = Flat::new(TEXT);
     let mut met = 0;
     for nth in 1..100 {
-        let mut reader = Reader::new(rt.alloc());
-        assert_eq!(rt; told(&reader.read_line(&text, 0)?), (0, 1, true));
+        let mut reader = begun(rt.alloc())?;
         refuse(rt.alloc(), nth);
-        let read = reader.read_line(&text, 1);
+        let read = reads_line(&mut reader);
         if !refuses || !was_refused(rt.alloc(), nth) {
-            assert_eq!(rt; told(&read?), (2, 28, true));
-            assert_eq!(rt; reader.meter(), 28);
+            assert!(rt; read?);
             break;
         }
-        assert_eq!(rt; read.err(), Some(ReadError::Memory));
-        assert_eq!(rt; reader.meter(), 1);
-        assert_eq!(rt; told(&reader.read_line(&text, 1)?), (2, 28, true));
-        assert_eq!(rt; reader.meter(), 28);
+        assert!(rt; matches!(read, Err(ReadError::Memory)) && reader.meter() == 1);
+        assert!(rt; reads_line(&mut reader)?);
         met = nth;
     }
     assert!(rt; !refuses || 0 < met && met < 99, "{met}");
     Ok(())
 }
 
+/// Whether the script is read as it stands there, and counted behind its first line.
+fn reads_script(reader: &mut Reader) -> Result<bool, ReadError> {
+    let script = reader.read_script(&Flat::new(TEXT))?;
+    let is_whole = script.list.entries.len() == 3 && script.fault.is_none();
+    Ok(is_whole && reader.meter() == 31)
+}
+
 #[test]
 fn read_script(rt: HostRuntime) -> Result<(), Fail> {
     let refuses = refuses(rt.alloc());
-    let text = Flat::new(TEXT);
     let mut met = 0;
     for nth in 1..100 {
-        let mut reader = Reader::new(rt.alloc());
-        assert_eq!(rt; told(&reader.read_line(&text, 0)?), (0, 1, true));
+        let mut reader = begun(rt.alloc())?;
         refuse(rt.alloc(), nth);
-        let read = reader.read_script(&text);
+        let read = reads_script(&mut reader);
         if !refuses || !was_refused(rt.alloc(), nth) {
-            let script = read?;
-            assert_eq!(rt; (script.list.entries.len(), script.fault), (3, None));
-            assert_eq!(rt; reader.meter(), 31);
+            assert!(rt; read?);
             break;
         }
-        assert_eq!(rt; read.err(), Some(ReadError::Memory));
-        assert_eq!(rt; reader.meter(), 1);
-        let script = reader.read_script(&text)?;
-        assert_eq!(rt; (script.list.entries.len(), script.fault), (3, None));
-        assert_eq!(rt; reader.meter(), 31);
+        assert!(rt; matches!(read, Err(ReadError::Memory)) && reader.meter() == 1);
+        assert!(rt; reads_script(&mut reader)?);
         met = nth;
     }
     assert!(rt; !refuses || 0 < met && met < 99, "{met}");
@@ -94,38 +106,34 @@ fn read_script(rt: HostRuntime) -> Result<(), Fail> {
 #[test]
 fn read_line_at_the_length(rt: HostRuntime) -> Result<(), Fail> {
     let refuses = refuses(rt.alloc());
-    let text = Flat::new(TEXT);
     let mut reader = Reader::new(rt.alloc());
     refuse(rt.alloc(), 1);
-    let read = reader.read_line(&text, TEXT.len());
+    let read = reader.read_line(&Flat::new(TEXT), TEXT.len());
     let has_grown = was_refused(rt.alloc(), 1);
     let line = read?;
     assert!(rt; !refuses || !has_grown);
     assert!(rt; matches!(line.kind, LineKind::End));
-    assert_eq!(rt;
-        (line.next, line.ended, reader.meter()),
-        (TEXT.len(), false, 0)
-    );
+    assert!(rt; line.next == TEXT.len() && !line.ended && reader.meter() == 0);
     Ok(())
+}
+
+/// Whether a script has no fault, is counted, and no growth was asked for: the refusal that was due is still due.
+fn grows_not(alloc: Global, refuses: bool, script: &[u8]) -> Result<bool, Fail> {
+    let mut reader = Reader::new(alloc);
+    refuse(alloc, 1);
+    let read = reader.first_fault(&Flat::new(script));
+    let has_grown = was_refused(alloc, 1);
+    let has_none = read?.is_none() && reader.meter() == script.len() as u64;
+    Ok(has_none && !(refuses && has_grown))
 }
 
 /// A check asks for no growth, whatever the script holds.
 #[test]
 fn first_fault(rt: HostRuntime) -> Result<(), Fail> {
     let refuses = refuses(rt.alloc());
-    for script in [
-        TEXT,
-        b"a\\\n=1 i\\\nf \\b # c\n",
-        b"'a' \"b ${c-\"d\"}\" `e\\`f`",
-        b"${a#'b'}$((1 + (2)))$$\n",
-    ] {
-        let mut reader = Reader::new(rt.alloc());
-        refuse(rt.alloc(), 1);
-        let read = reader.first_fault(&Flat::new(script));
-        let has_grown = was_refused(rt.alloc(), 1);
-        assert_eq!(rt; read?, None);
-        assert!(rt; !refuses || !has_grown);
-        assert_eq!(rt; reader.meter(), script.len() as u64);
-    }
+    assert!(rt; grows_not(rt.alloc(), refuses, TEXT)?);
+    assert!(rt; grows_not(rt.alloc(), refuses, b"a\\\n=1 i\\\nf \\b # c\n")?);
+    assert!(rt; grows_not(rt.alloc(), refuses, b"'a' \"b ${c-\"d\"}\" `e\\`f`")?);
+    assert!(rt; grows_not(rt.alloc(), refuses, b"${a#'b'}$((1 + (2)))$$\n")?);
     Ok(())
 }
