@@ -64,11 +64,10 @@ fn dump_item(text: &mut String, item: &Item) -> Result<(), Fail> {
 fn dump_command(text: &mut String, command: &Command) -> Result<(), Fail> {
     match command {
         Command::Simple { items } => {
-            let mut before = "[";
-            for item in items {
-                text.push_str(before)?;
+            text.push_str("[")?;
+            for (n, item) in items.iter().enumerate() {
+                text.push_str(if n > 0 { " " } else { "" })?;
                 dump_item(text, item)?;
-                before = " ";
             }
             text.push_str("]")?;
         }
@@ -123,11 +122,9 @@ fn dump_entry(text: &mut String, entry: &Entry) -> Result<(), Fail> {
 
 #[cycle(dump)]
 fn dump_list(text: &mut String, list: &List) -> Result<(), Fail> {
-    let mut before = "";
-    for entry in &list.entries {
-        text.push_str(before)?;
+    for (n, entry) in list.entries.iter().enumerate() {
+        text.push_str(if n > 0 { " " } else { "" })?;
         dump_entry(text, entry)?;
-        before = " ";
     }
     Ok(())
 }
