@@ -23,7 +23,8 @@ fn read_whole<R: Read>(alloc: Global, input: &mut Input<R>) -> Result<Vec<u8>, S
     ensures ok { IfOk result (λ text. Consumes (left_of R.remaining input.old) (left_of R.remaining input.new) text.items
         × (IsAtEnd (left_of R.remaining input.new)) × (length text.items ≤ limit)
         × (input_failed input.new ≡ false) × (input_ended input.new ≡ true)) }
-    ensures err { IfErr result (λ stop. (read : List ℕ) × (Consumes (left_of R.remaining input.old) (left_of R.remaining input.new) read)
+    ensures err { IfErr result (λ stop. (read : List ℕ)
+        × (Consumes (left_of R.remaining input.old) (left_of R.remaining input.new) read)
         × StopsFor read (input_failed input.new) (input_ended input.new) stop) }
 {
     let mut text = Vec::new(alloc);
@@ -58,7 +59,8 @@ pub fn check_engine<R: Read, O: Write, E: Write>(
     requires sound { input_failed input.old ≡ false }
     requires open { input_ended input.old ≡ false }
     requires unbroken { output_failed errors.old ≡ false }
-    ensures report { IsReport name.now (left_of R.remaining input.old) (left_of R.remaining input.new) (input_failed input.new) (input_ended input.new)
+    ensures report { IsReport name.now (left_of R.remaining input.old) (left_of R.remaining input.new)
+        (input_failed input.new) (input_ended input.new)
         (held_of E.contents errors.old) (held_of E.contents errors.new) (output_failed errors.new) result }
     ensures whole { result ≢ 2 → (input_ended input.new ≡ true) × IsAtEnd (left_of R.remaining input.new) }
     ensures silent { output.new ≡ output.old }

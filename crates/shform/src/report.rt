@@ -36,7 +36,8 @@ fn write_parts<E: Write>(
     name: &[u8],
     after: &[u8],
 ) -> Result<(), Failed>
-    ensures bytes { Writes (held_of E.contents errors.old) (held_of E.contents errors.new) (not (is_ok result)) (before.now ++ name.now ++ after.now) }
+    ensures bytes { Writes (held_of E.contents errors.old) (held_of E.contents errors.new) (not (is_ok result))
+        (before.now ++ name.now ++ after.now) }
     ensures failed { output_failed errors.new ≡ (output_failed errors.old || not (is_ok result)) }
 {
     errors.write_whole(before)?;

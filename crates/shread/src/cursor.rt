@@ -24,7 +24,8 @@ impl<'a, S: Source> Cursor<'a, S> {
     /// Where the line at an offset begins, whose own offsets are counted from `origin`.
     pub(crate) fn at_line(source: &'a S, base: usize, origin: usize, keep: bool) -> Cursor<'a, S>
         requires { (base ≤ length (S.bytes source.now)) × (origin ≤ base) }
-        ensures { (result.source.now ≡ source.now) × (result.base ≡ base) × (result.origin ≡ origin) × (result.keep ≡ keep) × (result.at ≡ 0) }
+        ensures { (result.source.now ≡ source.now) × (result.base ≡ base) × (result.origin ≡ origin)
+            × (result.keep ≡ keep) × (result.at ≡ 0) }
     {
         // The length is asked for its bound alone: no offset in the text overflows.
         let _ = source.len();

@@ -96,7 +96,8 @@ impl<'a, S: Source> Cursor<'a, S> {
         room: usize,
     ) -> Result<bool, Stop>
         requires shows { Shows next.old.token (text_of S.bytes self.old) self.old.at }
-        ensures value { Reads S.bytes self.old (entry_turn (level room) blank (line_so (map view_entry entries.old.items) next.old)) result
+        ensures value { Reads S.bytes self.old
+            (entry_turn (level room) blank (line_so (map view_entry entries.old.items) next.old)) result
             (λ more. step_if more (line_so (map view_entry entries.new.items) next.new)) self.new.at }
         ensures shows { IfOk result (λ more. Shows next.new.token (text_of S.bytes self.old) self.new.at) }
         ensures onward { IfOk result (Onward self.old.at self.new.at) }

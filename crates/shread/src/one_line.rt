@@ -40,7 +40,8 @@ pub(crate) fn line_at<S: Source>(
     keep: bool,
 ) -> Result<Told, Stop>
     requires { (at ≤ length (S.bytes source.now)) × (origin ≤ at) }
-    ensures value { Gives (origin + length (drop at (S.bytes source.now))) (λ x. ((map view_entry x.entries.items, x.newline), standing x.len)) result
+    ensures value { Gives (origin + length (drop at (S.bytes source.now)))
+        (λ x. ((map view_entry x.entries.items, x.newline), standing x.len)) result
         (line_told (S.bytes source.now) keep blank at origin) }
     ensures onward { IfOk result (λ x. Onward 0 x.len x.newline) }
     ensures within { IfOk result (λ x. at + x.len ≤ length (S.bytes source.now)) }

@@ -49,7 +49,8 @@ impl<'a, S: Source> Cursor<'a, S> {
     fn bracket(&self, nested: usize, here: usize) -> Piece
         requires here { here ≡ past_continuations (text_of S.bytes self.now) self.now.at }
         requires some { here < length (text_of S.bytes self.now) }
-        ensures value { result ≡ bracket_by nested (stands (text_of S.bytes self.now) (behind (text_of S.bytes self.now) self.now.at) 41) }
+        ensures value { result ≡ bracket_by nested
+            (stands (text_of S.bytes self.now) (behind (text_of S.bytes self.now) self.now.at) 41) }
         ensures closer { result ≡ Piece.Closer → IsRead (text_of S.bytes self.now) (here + 1) }
         ensures close { result ≡ Piece.Close → 0 < nested }
         ensures kinds { (result ≡ Piece.Closer) ⊎ (result ≡ Piece.Close) ⊎ (result ≡ Piece.BadClose) }

@@ -140,7 +140,8 @@ impl<'a, S: Source> Cursor<'a, S> {
         other: &[u8],
         second: Reserved,
     ) -> Option<Reserved>
-        ensures { result ≡ first_of_words (text_of S.bytes self.now) self.now.at ((word.now, reserved) ∷ (other.now, second) ∷ []) }
+        ensures { result ≡ first_of_words (text_of S.bytes self.now) self.now.at
+            ((word.now, reserved) ∷ (other.now, second) ∷ []) }
     {
         if self.is_word(word) {
             return Some(reserved);

@@ -70,7 +70,8 @@ impl<'a, S: Source> Cursor<'a, S> {
     ) -> Result<bool, Stop>
         requires opener { opener ≤ self.old.at }
         requires nested { nested.old ≤ self.old.at }
-        ensures value { Reads S.bytes self.old (a_piece (level room) mode (self.old.origin + opener) (having nested.old [])) result
+        ensures value { Reads S.bytes self.old
+            (a_piece (level room) mode (self.old.origin + opener) (having nested.old [])) result
             (λ more. step_if more (having nested.new [])) self.new.at }
         ensures onward { IfOk result (Onward self.old.at self.new.at) }
         ensures nested { IfOk result (λ more. nested.new ≤ self.new.at) }
