@@ -108,3 +108,12 @@ unfolding ends_word stands
 anywhere room g h p q n (w, part) same ender no_open =
     let v = word_there room g h p q n same ender no_open w (sym ((is (a_word (level room)) g (standing p)).only _ _ part)) in
     word_may room g h p q n same ender no_open v.0 v.1
+
+-- at a place no two words are read
+pub one_word : (room : ℕ) (g : Given) (p m n : ℕ) → IsWord room g p m → IsWord room g p n → m ≡ n
+one_word room g p m n (w, one) (v, two) =
+    let only = (is (a_word (level room)) g (standing p)).only in
+    let same : ◌≡◌ {A = Read AWord} (Ok (w, standing (p + m))) (Ok (v, standing (p + n))) = only _ _ one ∙ sym (only _ _ two) in
+    let pair : ◌≡◌ {A = AWord × State} (w, standing (p + m)) (v, standing (p + n)) = cc in
+    let end : p + m ≡ p + n = ap (λ (z : AWord × State). z.1.at) pair in
+    omega (arith, end)

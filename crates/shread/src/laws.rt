@@ -30,9 +30,10 @@ pub fn normal_form()
         IsNormal (alone (joined (record { broken = false; comments = c ∷ cs }) one two)) → ⊥ }
 {}
 
-/// A word is read wherever its bytes stand, before a byte that ends words and is no `(`. Before a `(` it may be another: `a$` is a
-/// word, and in `a$(` a substitution begins.
+/// A word is read wherever its bytes stand, before a byte that ends words and is no `(`, and no other word is. Before a `(` it may
+/// not be: `a$` is a word, and in `a$(` a substitution begins.
 pub fn word_anywhere()
     ensures word { (room p q n : ℕ) (g h : Given) → IsWord room g p n →
         take n (drop q h.text) ≡ take n (drop p g.text) → MayFollow h.text (q + n) → IsWord room h q n }
+    ensures only { (room p m n : ℕ) (g : Given) → IsWord room g p m → IsWord room g p n → m ≡ n }
 {}

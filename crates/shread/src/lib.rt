@@ -38,16 +38,3 @@ pub use tree::{
     AndOr, AndOrOperator, AndOrPart, Command, Comment, Content, Entry, Item, ItemContent, Join,
     List, Pipeline, PipelinePart, Span, Subst, Word,
 };
-
-#[cfg(test)]
-mod by_line;
-#[cfg(test)]
-mod dump;
-#[cfg(test)]
-mod refused;
-#[cfg(test)]
-mod table;
-#[cfg(test)]
-mod tests;
-#[cfg(test)]
-mod trees;

@@ -3,7 +3,7 @@
 use crate::dump::{Judge, dump_end, dump_fault};
 use crate::table::{Cell, rows, split};
 use crate::trees::ROWS;
-use crate::{Command, Content, Fault, Flat, LineKind, List, Reader};
+use shread::{Command, Content, Fault, Flat, LineKind, List, Reader};
 use std::alloc::Global;
 use std::test::Fail;
 
