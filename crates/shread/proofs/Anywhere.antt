@@ -1,5 +1,5 @@
 -- A word is read wherever its bytes stand, before a byte that ends words and is no `(`.
-use Rattle.std.proofs.Common.{◌≡◌, ℕ, ◌+◌, ◌-◌, ◌<◌, true, false, Ok, List, List as Row, [], ◌∷◌, ◌++◌, take, drop, slice_get, refl, sym, ap, subst, ◌∙◌, arith}
+use Rattle.std.proofs.Common.{◌≡◌, ℕ, ◌+◌, ◌-◌, ◌<◌, Bool, true, false, Ok, List, List as Row, [], ◌∷◌, ◌++◌, take, drop, slice_get, refl, sym, ap, subst, ◌∙◌, arith}
 use Rattle.shread.specs.declared.mode.Mode.TheVariants.{Plain}
 use Rattle.shread.specs.declared.tree.Span.{Span}
 use Rattle.shread.specs.Comments.{span}
@@ -7,10 +7,10 @@ use Rattle.shread.specs.Standing.{is_byte}
 use Rattle.shread.specs.Bytes.{ends, ends_word, byte_at, stands}
 use Rattle.shread.specs.Tree.{ASubst, AWord, word, substs_of}
 use Rattle.shread.specs.Sights.{Given, State, standing}
-use Rattle.shread.specs.Form.{Spelled, Read, Form, token, does, Comes, may, raw, Just, just, Then, and_then, or_stops, OneToken, whole, broken_off}
+use Rattle.shread.specs.Form.{Spelled, Read, Form, give, see, move, push, stop, both, when, token, loop, Step, again, done, does, Comes, may, raw, Just, just, Then, and_then, or_stops, OneToken, whole, broken_off}
 use Rattle.shread.specs.Words.{Inner, contents, level, a_word, IsWord}
 use Rattle.shread.proofs.Stretches.{get_drop}
-use Rattle.shread.proofs.Holds.{Holds, holds_then}
+use Rattle.shread.proofs.Holds.{Holds, holds_then, Tells, Turned, tells_so, tells_then, tells_when, tells_token, tells_loop, Behind, low}
 use Rattle.shread.proofs.SameBytes.{Kept}
 use Rattle.shread.proofs.Inside.{there}
 use Rattle.shread.proofs.PiecesInside.{word_in, local}
@@ -108,6 +108,42 @@ unfolding ends_word stands
 anywhere room g h p q n (w, part) same ender no_open =
     let v = word_there room g h p q n same ender no_open w (sym ((is (a_word (level room)) g (standing p)).only _ _ part)) in
     word_may room g h p q n same ender no_open v.0 v.1
+
+-- what waits, and the bodies, stay as they are
+abbrev Still : State → State → Type 0
+Still s t = (t.waiting ≡ s.waiting) × (t.bodies ≡ s.bodies)
+
+abbrev Waits : {X : Type 0} → State → X → State → Type 0
+Waits s x t = Still s t
+
+waits : {X : Type 0} (r : Form X) (keep : Bool) (g : Given) (s : State) → Tells keep g r (Waits s) s
+waits (give x) keep g s = record { told = (refl, refl) }
+waits (see f) keep g s = record { told = (refl, refl) }
+waits (move m) keep g s = record { told = (refl, refl) }
+waits (push xs x) keep g s = record { told = (refl, refl) }
+waits (stop kind at) keep g s = record { told = tt }
+waits (both r q) keep g s = tells_then keep g (waits r keep g s) (λ a t one. tells_so keep g (waits (q a) keep g t) (λ b u two. (two.0 ∙ one.0, two.1 ∙ one.1)))
+waits (when f r q) keep g s = tells_when keep g (waits r keep g s) (waits q keep g s)
+waits (token r) keep g s = tells_token keep g (waits r keep g s) (λ a t one. one)
+waits {X = X} (loop turn a) keep g s = tells_loop keep g turn (Waits s) (λ b t one. tells_so keep g (waits (turn b) keep g t) (turned t one)) a s (refl, refl)
+  where
+    turned : (t : State) → Still s t → (c : Step X) (u : State) → Still t u → Turned keep g (Waits s) c u
+    turned t one (again c) u two = (two.0 ∙ one.0, two.1 ∙ one.1)
+    turned t one (done c) u two = (two.0 ∙ one.0, two.1 ∙ one.1)
+
+state_is : (t : State) → t.waiting ≡ [] → t.bodies ≡ [] → t ≡ standing t.at
+state_is t one two = rw (← one, ← two) refl
+
+-- whatever the row of a word reads is a word
+pub read_word : (room : ℕ) (g : Given) (p : ℕ) (w : AWord) (t : State) (told : Row Spelled) → may (a_word (level room)) g (standing p) (Ok (w, t)) told → IsWord room g p (t.at - p)
+read_word room g p w t told part =
+    let is_read = (is (a_word (level room)) g (standing p)).only _ _ part in
+    let on = subst (Holds (Behind (standing p))) (sym is_read) (low (a_word (level room)) true g (standing p)).told in
+    let stays = subst (Holds (Waits (standing p))) (sym is_read) (waits (a_word (level room)) true g (standing p)).told in
+    let told_is = word_told (level room) g (standing p) t w told part in
+    let end : t.at ≡ p + (t.at - p) = omega (arith, on) in
+    let same = state_is t stays.0 stays.1 ∙ ap standing end in
+    (w, subst (λ k. may (a_word (level room)) g (standing p) (Ok (w, standing (p + (t.at - p)))) k) (told_is ∙ ap (λ q. raw g.text p q ∷ []) end) (subst (λ u. may (a_word (level room)) g (standing p) (Ok (w, u)) told) same part))
 
 -- at a place no two words are read
 pub one_word : (room : ℕ) (g : Given) (p m n : ℕ) → IsWord room g p m → IsWord room g p n → m ≡ n

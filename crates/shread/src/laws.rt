@@ -1,12 +1,14 @@
 //! Laws of the definitions alone, which no code stands behind.
-ghost use Rattle.std.specs.Prelude.{◌≡◌, ◌+◌, ◌∷◌, ℕ, Bool, List, List as Row, Option, Some, drop, false, take, true};
+ghost use Rattle.std.specs.Prelude.{◌≡◌, ◌+◌, ◌-◌, ◌∷◌, ℕ, Bool, List, List as Row, Ok, Option, Some, drop, false, take, true};
 ghost use Rattle.shread.specs.declared.tree.Comment.{Comment};
 ghost use Rattle.shread.specs.Lines.{ALine, IsLine};
 ghost use Rattle.shread.specs.Normal.{IsNormal, alone, joined, of_command};
 ghost use Rattle.shread.specs.Scripts.{AScript, Outcome};
-ghost use Rattle.shread.specs.Sights.{Given};
-ghost use Rattle.shread.specs.Tree.{ACommand, AContent, AnItemContent, Items, entry, item, more_items, remark, simple};
-ghost use Rattle.shread.specs.Words.{IsWord, MayFollow};
+ghost use Rattle.shread.specs.Bytes.{ends_word, stands};
+ghost use Rattle.shread.specs.Form.{Spelled, may};
+ghost use Rattle.shread.specs.Sights.{Given, State, standing};
+ghost use Rattle.shread.specs.Tree.{ACommand, AContent, AWord, AnItemContent, Items, entry, item, more_items, remark, simple};
+ghost use Rattle.shread.specs.Words.{IsWord, a_word, level};
 
 /// Each byte list has one outcome as a script, and one line with which it begins.
 pub fn one_outcome()
@@ -30,10 +32,13 @@ pub fn normal_form()
         IsNormal (alone (joined (record { broken = false; comments = c ∷ cs }) one two)) → ⊥ }
 {}
 
-/// A word is read wherever its bytes stand, before a byte that ends words and is no `(`, and no other word is. Before a `(` it may
-/// not be: `a$` is a word, and in `a$(` a substitution begins.
+/// A word, which is whatever the row of a word reads, is read wherever its bytes stand, before a byte that ends words and is no `(`,
+/// and no other word is. Before a `(` it may not be: `a$` is a word, and in `a$(` a substitution begins.
 pub fn word_anywhere()
+    ensures read { (room p : ℕ) (g : Given) (w : AWord) (t : State) (told : Row Spelled) →
+        may (a_word (level room)) g (standing p) (Ok (w, t)) told → IsWord room g p (t.at - p) }
     ensures word { (room p q n : ℕ) (g h : Given) → IsWord room g p n →
-        take n (drop q h.text) ≡ take n (drop p g.text) → MayFollow h.text (q + n) → IsWord room h q n }
+        take n (drop q h.text) ≡ take n (drop p g.text) →
+        ends_word h.text (q + n) ≡ true → stands h.text (q + n) 40 ≡ false → IsWord room h q n }
     ensures only { (room p m n : ℕ) (g : Given) → IsWord room g p m → IsWord room g p n → m ≡ n }
 {}

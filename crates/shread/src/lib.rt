@@ -7,10 +7,14 @@
 #![tactic(auto)]
 
 mod all_lines;
+#[cfg(test)]
+mod by_line;
 mod bytes;
 mod command;
 mod comment;
 mod cursor;
+#[cfg(test)]
+mod dump;
 mod fault;
 mod first_fault;
 pub mod laws;
@@ -23,11 +27,19 @@ mod one_line;
 mod piece;
 mod plain;
 mod reader;
+#[cfg(test)]
+mod refused;
 mod search;
 mod source;
+#[cfg(test)]
+mod sources;
 mod standing;
+#[cfg(test)]
+mod table;
 mod token;
 mod tree;
+#[cfg(test)]
+mod trees;
 mod word;
 
 pub use fault::{Fault, FaultKind, ReadError};

@@ -12,16 +12,6 @@ pub(crate) struct Cell {
     pub(crate) number: usize,
 }
 
-impl Cell {
-    /// Appends the text as often as the number says: once where there is none.
-    pub(crate) fn repeat(&self, script: &mut Vec<u8>) -> Result<(), Fail> {
-        for _ in 0..self.number.max(1) {
-            script.extend_from_slice(&self.bytes)?;
-        }
-        Ok(())
-    }
-}
-
 /// Where the reading of a table stands.
 #[derive(Clone, Copy)]
 enum State {
@@ -139,4 +129,20 @@ pub(crate) fn split(row: &[Cell]) -> Result<(&[Cell], &Cell), Fail> {
         [cells @ .., last] => Ok((cells, last)),
         _ => Err(Fail::from("no row")),
     }
+}
+
+fn repeat(cell: &Cell, text: &mut Vec<u8>) -> Result<(), Fail> {
+    for _ in 0..cell.number.max(1) {
+        text.extend_from_slice(&cell.bytes)?;
+    }
+    Ok(())
+}
+
+/// The texts of the cells, each as often as its number says: once where there is none.
+pub(crate) fn joined(alloc: Global, cells: &[Cell]) -> Result<Vec<u8>, Fail> {
+    let mut text = Vec::new(alloc);
+    for cell in cells {
+        repeat(cell, &mut text)?;
+    }
+    Ok(text)
 }

@@ -1,9 +1,9 @@
 // Scripts whose trees and faults pin each rule of the grammar: where a rule is turned, a row fails. The answers are worked out by
 // hand from the grammar; none is what the reader told. Rows of one theme stand together, several on a line: `table.rt` says how
 // they are written, and `dump.rt` how the dumps are.
+use crate::Flat;
 use crate::dump::Judge;
-use crate::table::{Cell, rows, split};
-use shread::Flat;
+use crate::table::{Cell, joined, rows, split};
 use std::alloc::Global;
 use std::test::Fail;
 
@@ -381,10 +381,7 @@ const REPEATED: &[u8] = br###"
 /// A script made of all cells but the last, which is its dump.
 fn judge_parts(judge: &mut Judge, alloc: Global, row: &[Cell]) -> Result<(), Fail> {
     let (parts, wanted) = split(row)?;
-    let mut script = Vec::new(alloc);
-    for part in parts {
-        part.repeat(&mut script)?;
-    }
+    let script = joined(alloc, parts)?;
     judge.source(&Flat::new(&script), &script, &wanted.bytes)
 }
 

@@ -1,7 +1,7 @@
 // Each growth refused in turn. `tests/refused-growths` runs these tests under a library that refuses the growth they ask it to
 // refuse; without it, as in the gate, no growth is refused and each test runs once. They catch the wrong body that no contract
 // can: `always_out_of_memory`, which gives up though memory is there, from the start or once a growth was refused.
-use shread::{Flat, Line, LineKind, ReadError, Reader};
+use crate::{Flat, Line, LineKind, ReadError, Reader};
 use std::alloc::Global;
 use std::test::Fail;
 

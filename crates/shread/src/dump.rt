@@ -14,7 +14,7 @@
 //   fault K at O a fault by its number, and its offset
 //
 // So is a line, which is `blank` or `end` where it has no entry; then follow `to N`, the offset behind it, and `, ended`.
-use shread::{
+use crate::{
     AndOr, AndOrOperator, Command, Comment, Content, Entry, Fault, Item, ItemContent, Join, Line,
     LineKind, List, Pipeline, Reader, Source, Span, Word,
 };

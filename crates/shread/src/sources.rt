@@ -1,8 +1,9 @@
-// Places, runs, stretches and numbers: what no table of scripts holds.
+// Sources, places in them, and numbers: what no table of scripts holds.
 use crate::dump::Judge;
+use crate::search::{Sought, find_in};
 use crate::table::{rows, split};
 use crate::trees::ROWS;
-use shread::{FaultKind, Flat, ReadError, Source, line_col_of};
+use crate::{FaultKind, Flat, ReadError, Source, line_col_of};
 use std::test::Fail;
 
 #[test]
@@ -13,6 +14,13 @@ fn runs(rt: HostRuntime) {
     assert!(rt; text.byte(4).is_none());
     assert!(rt; text.run(2) == b"\nc".as_slice());
     assert!(rt; text.run(4).is_empty());
+}
+
+#[test]
+fn searches(rt: HostRuntime) {
+    let text = Flat::new(b"ab\nc");
+    assert!(rt; find_in(&text, 1, Sought::Byte(b'c')) == 3);
+    assert!(rt; find_in(&text, 3, Sought::Byte(b'\n')) == text.len());
 }
 
 /// A newline alone ends a line: in the text of all bytes the eleventh.

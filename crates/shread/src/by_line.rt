@@ -1,9 +1,9 @@
 // Scripts read line by line: what a line is, where it ends, and that lines come to what the whole script has. The answers are
 // worked out by hand from the grammar; none is what the reader told. `table.rt` and `dump.rt` say how they are written.
 use crate::dump::{Judge, dump_end, dump_fault};
-use crate::table::{Cell, rows, split};
+use crate::table::{Cell, joined, rows, split};
 use crate::trees::ROWS;
-use shread::{Command, Content, Fault, Flat, LineKind, List, Reader};
+use crate::{Command, Content, Fault, Flat, LineKind, List, Reader};
 use std::alloc::Global;
 use std::test::Fail;
 
@@ -177,10 +177,7 @@ const LONG: &[u8] = br###"
 
 fn judge_long(judge: &mut Judge, alloc: Global, row: &[Cell]) -> Result<(), Fail> {
     let (pieces, wanted) = split(row)?;
-    let mut script = Vec::new(alloc);
-    for piece in pieces {
-        piece.repeat(&mut script)?;
-    }
+    let mut script = joined(alloc, pieces)?;
     script.extend_from_slice(b"\n(")?;
     let counts = dumped_counts(alloc, &script)?;
     judge.text(&script, counts.as_str(), &wanted.bytes)
