@@ -77,44 +77,53 @@ fn told_fault(rt: HostRuntime) -> Result<(), Fail> {
         refuse(rt.alloc(), nth);
         let text = message(rt.alloc(), name, 12, 345, fault);
         if !refuses || !was_refused(rt.alloc(), nth) {
-            assert_eq!(rt;
-                text?.as_slice(),
-                b"a script with a long name.sh:12:345: unexpected token\n".as_slice()
+            assert!(rt;
+                text?.as_slice()
+                    == b"a script with a long name.sh:12:345: unexpected token\n".as_slice()
             );
             break;
         }
-        assert_eq!(rt; text.err(), Some(AllocError));
+        assert!(rt; text.err() == Some(AllocError));
         met = nth;
     }
     assert!(rt; !refuses || 0 < met && met < 99, "{met}");
     Ok(())
 }
 
+/// The status of a check over these pages.
+fn checked<R: Read + Drop>(alloc: Global, reader: R, written: &mut Page, told: &mut Page) -> u8 {
+    let mut input = Input::new(reader);
+    let mut output = Output::new(written);
+    let mut errors = Output::new(told);
+    check_engine(alloc, "-", &mut input, &mut output, &mut errors)
+}
+
+/// The status of the check of 20,001 lines with the nth growth refused, and what it told; 99 if it wrote to standard output.
+fn check_refused(alloc: Global, nth: usize) -> (u8, Page) {
+    let script = [b'\n'; 20_000];
+    let reader = script.as_slice().chain(b"a b &;\n".as_slice());
+    let mut written = Page::new();
+    let mut told = Page::new();
+    refuse(alloc, nth);
+    let status = checked(alloc, reader, &mut written, &mut told);
+    (if written.len == 0 { status } else { 99 }, told)
+}
+
 /// The input is read in several growths, and its fault is told in some more.
 #[test]
-fn check(rt: HostRuntime) -> Result<(), Fail> {
+fn check(rt: HostRuntime) {
     let refuses = refuses(rt.alloc());
-    let script = [b'\n'; 20_000];
     let mut met = 0;
     for nth in 1..100 {
-        let mut input = Input::new(script.as_slice().chain(b"a b &;\n".as_slice()));
-        let mut written = Page::new();
-        let mut told = Page::new();
-        let mut output = Output::new(&mut written);
-        let mut errors = Output::new(&mut told);
-        refuse(rt.alloc(), nth);
-        let status = check_engine(rt.alloc(), "-", &mut input, &mut output, &mut errors);
-        let is_last = !refuses || !was_refused(rt.alloc(), nth);
-        assert_eq!(rt; written.text(), b"".as_slice());
-        if is_last {
-            assert_eq!(rt; told.text(), b"-:20001:6: unexpected token\n".as_slice());
-            assert_eq!(rt; status, 1);
+        let (status, told) = check_refused(rt.alloc(), nth);
+        if !refuses || !was_refused(rt.alloc(), nth) {
+            assert!(rt; status == 1);
+            assert!(rt; told.text() == b"-:20001:6: unexpected token\n".as_slice());
             break;
         }
-        assert_eq!(rt; told.text(), b"shform: out of memory\n".as_slice());
-        assert_eq!(rt; status, 2);
+        assert!(rt; status == 2);
+        assert!(rt; told.text() == b"shform: out of memory\n".as_slice());
         met = nth;
     }
     assert!(rt; !refuses || 0 < met && met < 99, "{met}");
-    Ok(())
 }

@@ -58,7 +58,7 @@ impl Read for Same {
 }
 
 /// What a page does when it is full.
-#[derive(Clone, Copy, Debug, PartialEq, Eq)]
+#[derive(Clone, Copy, PartialEq, Eq)]
 enum WhenFull {
     Fails,
     TakesNothing,
@@ -121,8 +121,23 @@ fn check<R: Read + Drop>(alloc: Global, reader: R, page: &mut Page) -> u8 {
     check_engine(alloc, "-", &mut input, &mut output, &mut errors)
 }
 
+/// Whether `check` on a reader ends with this status and leaves this text on a page.
+fn is_told<R: Read + Drop>(
+    alloc: Global,
+    reader: R,
+    mut page: Page,
+    (status, text): (u8, &[u8]),
+) -> bool {
+    check(alloc, reader, &mut page) == status && page.text() == text
+}
+
+/// So where the page has room for each text.
+fn tells<R: Read + Drop>(alloc: Global, reader: R, verdict: (u8, &[u8])) -> bool {
+    is_told(alloc, reader, Page::new(128, WhenFull::Fails), verdict)
+}
+
 #[test]
-fn verdicts(rt: HostRuntime) -> Result<(), Fail> {
+fn verdicts(rt: HostRuntime) {
     for (script, status, text) in [
         (b"".as_slice(), 0, b"".as_slice()),
         (b"a b; c & # x\n#y\n\nd", 0, b""),
@@ -143,82 +158,81 @@ fn verdicts(rt: HostRuntime) -> Result<(), Fail> {
         (b"a\n\nb # c |\n \t d|\n|", 1, b"-:4:5: unexpected token\n"),
     ] {
         for step in [1, 2, 99] {
-            let mut page = Page::new(128, WhenFull::Fails);
-            assert_eq!(rt;
-                check(rt.alloc(), Tape::new(script, step), &mut page),
-                status
-            );
-            assert_eq!(rt; page.text(), text);
+            let tape = Tape::new(script, step);
+            assert!(rt; tells(rt.alloc(), tape, (status, text)), "{text:?}");
         }
     }
-    let mut page = Page::new(128, WhenFull::Fails);
-    let script = Same(b'\n', 69_999).chain(b"ab|".as_slice());
-    assert_eq!(rt; check(rt.alloc(), script, &mut page), 1);
-    assert_eq!(rt; page.text(), b"-:70000:3: unexpected token\n".as_slice());
-    Ok(())
 }
 
 #[test]
-fn limit(rt: HostRuntime) -> Result<(), Fail> {
+fn late_fault(rt: HostRuntime) {
+    let script = Same(b'\n', 69_999).chain(b"ab|".as_slice());
+    assert!(rt; tells(rt.alloc(), script, (1, b"-:70000:3: unexpected token\n")));
+}
+
+#[test]
+fn limit(rt: HostRuntime) {
+    assert!(rt; LIMIT == 16_777_216);
+    assert!(rt; tells(rt.alloc(), Same(b'a', 16_777_216), (0, b"")));
+}
+
+#[test]
+fn beyond_the_limit(rt: HostRuntime) {
     let mut page = Page::new(128, WhenFull::Fails);
-    assert_eq!(rt; check(rt.alloc(), Same(b'a', 16_777_216), &mut page), 0);
-    assert_eq!(rt; page.text(), b"".as_slice());
     let mut input = Input::new(Same(b'a', 16_777_216 + 10_000));
     let mut output = Output::new(io::sink());
     let mut errors = Output::new(&mut page);
-    assert_eq!(rt;
-        check_engine(rt.alloc(), "-", &mut input, &mut output, &mut errors),
-        2
-    );
-    assert!(rt; !input.ended() && !input.failed() && !errors.failed());
-    assert_eq!(rt; page.text(), b"shform: -: too large\n".as_slice());
-    assert_eq!(rt; LIMIT, 16_777_216);
-    Ok(())
+    let status = check_engine(rt.alloc(), "-", &mut input, &mut output, &mut errors);
+    assert!(rt; status == 2 && !errors.failed());
+    assert!(rt; !input.ended() && !input.failed());
+    assert!(rt; page.text() == b"shform: -: too large\n".as_slice());
 }
 
 /// A script of six bytes is read in so many reads and one more, which meets the end. Each may fail.
 #[test]
-fn failed_reads(rt: HostRuntime) -> Result<(), Fail> {
+fn failed_reads(rt: HostRuntime) {
     for (step, reads) in [(1, 7), (4, 3), (99, 2)] {
         for fails_at in 1..9 {
-            let mut page = Page::new(128, WhenFull::Fails);
             let mut tape = Tape::new(b"a\nb\n;\n", step);
             tape.fails_at = fails_at;
-            let status = check(rt.alloc(), tape, &mut page);
-            if fails_at <= reads {
-                assert_eq!(rt; page.text(), b"shform: cannot read -\n".as_slice());
-                assert_eq!(rt; status, 2);
+            let verdict = if fails_at <= reads {
+                (2, b"shform: cannot read -\n".as_slice())
             } else {
-                assert_eq!(rt; page.text(), b"-:3:1: unexpected token\n".as_slice());
-                assert_eq!(rt; status, 1);
-            }
+                (1, b"-:3:1: unexpected token\n".as_slice())
+            };
+            assert!(rt; tells(rt.alloc(), tape, verdict), "{step} {fails_at}");
         }
     }
-    Ok(())
+}
+
+const TEXT: &[u8] = b"-:1:1: unexpected token\n";
+
+/// Whether the check of a faulty script ends with this status, and leaves this on the page.
+fn fault_is_told(alloc: Global, page: Page, status: u8, text: &[u8]) -> bool {
+    is_told(alloc, b"in".as_slice(), page, (status, text))
 }
 
 #[test]
-fn failed_writes(rt: HostRuntime) -> Result<(), Fail> {
-    let text = b"-:1:1: unexpected token\n";
+fn failed_writes(rt: HostRuntime) {
     for when_full in [WhenFull::Fails, WhenFull::TakesNothing] {
-        for room in 0..text.len() {
-            let mut page = Page::new(room, when_full);
-            assert_eq!(rt; check(rt.alloc(), b"in".as_slice(), &mut page), 2);
-            assert_eq!(rt; page.text(), &text[..room]);
+        for room in 0..TEXT.len() {
+            let page = Page::new(room, when_full);
+            assert!(rt; fault_is_told(rt.alloc(), page, 2, &TEXT[..room]), "{room}");
         }
-        let mut page = Page::new(text.len(), when_full);
-        assert_eq!(rt; check(rt.alloc(), b"in".as_slice(), &mut page), 1);
-        assert_eq!(rt; page.text(), text.as_slice());
+        let page = Page::new(TEXT.len(), when_full);
+        assert!(rt; fault_is_told(rt.alloc(), page, 1, TEXT));
     }
+}
+
+#[test]
+fn failed_flush(rt: HostRuntime) {
     let mut page = Page::new(128, WhenFull::Fails);
     page.can_flush = false;
-    assert_eq!(rt; check(rt.alloc(), b"in".as_slice(), &mut page), 2);
-    assert_eq!(rt; page.text(), text.as_slice());
-    Ok(())
+    assert!(rt; fault_is_told(rt.alloc(), page, 2, TEXT));
 }
 
 /// How the one call of a hiccup fails.
-#[derive(Clone, Copy, Debug, PartialEq, Eq)]
+#[derive(Clone, Copy)]
 enum Way {
     Errs(io::ErrorKind),
     /// A flush cannot: it errs.
@@ -292,118 +306,153 @@ const WAYS: [Way; 3] = [
     Way::TakesNothing,
 ];
 
-/// After a write or a flush that failed no further one is tried, though it would work: what stands is the beginning that was
-/// taken before.
-#[test]
-fn hiccups(rt: HostRuntime) -> Result<(), Fail> {
-    // Where the first read fails and where none does, a text that is written in `parts`.
-    for (fails_at, text, parts, status) in [
-        (0, b"-:1:3: unexpected token\n".as_slice(), 1, 1),
-        (1, b"shform: cannot read -\n", 3, 2),
-    ] {
-        for (step, writes) in [(1, text.len() as u64), (99, parts)] {
-            for way in WAYS {
-                for nth in 1..writes + 4 {
-                    let mut tape = Tape::new(b"a ;;\n", 99);
-                    tape.fails_at = fails_at;
-                    let mut page = Hiccup::new(step, nth, way);
-                    let mut input = Input::new(tape);
-                    let mut output = Output::new(io::sink());
-                    let mut errors = Output::new(&mut page);
-                    let answer = check_engine(
-                        rt.alloc(),
-                        "-",
-                        &mut input,
-                        &mut output,
-                        &mut errors,
-                    );
-                    let failed = errors.failed();
-                    // The last call is the flush.
-                    if nth <= writes + 1 {
-                        assert_eq!(rt; (answer, failed, page.calls), (2, true, nth));
-                        assert!(rt; text.starts_with(page.text()));
-                    } else {
-                        assert_eq!(rt; (answer, failed, page.calls), (status, false, writes + 1));
-                    }
-                    if nth > writes {
-                        assert_eq!(rt; page.text(), text);
-                    } else if step == 1 {
-                        assert_eq!(rt; page.text().len() as u64, nth - 1);
-                    }
-                }
+/// A text that a check of `a ;;` writes: where its reader fails (at no read where this is 0), in how many writes where the writer
+/// takes all, and the status.
+#[derive(Clone, Copy)]
+struct Told {
+    fails_at: u64,
+    text: &'static [u8],
+    writes: u64,
+    status: u8,
+}
+
+const TOLD: [Told; 2] = [
+    Told {
+        fails_at: 0,
+        text: b"-:1:3: unexpected token\n",
+        writes: 1,
+        status: 1,
+    },
+    Told {
+        fails_at: 1,
+        text: b"shform: cannot read -\n",
+        writes: 3,
+        status: 2,
+    },
+];
+
+/// The status of that check over a page as standard error, and whether it says that this failed.
+fn check_over(alloc: Global, fails_at: u64, page: &mut Hiccup) -> (u8, bool) {
+    let mut tape = Tape::new(b"a ;;\n", 99);
+    tape.fails_at = fails_at;
+    let mut input = Input::new(tape);
+    let mut output = Output::new(io::sink());
+    let mut errors = Output::new(page);
+    let status = check_engine(alloc, "-", &mut input, &mut output, &mut errors);
+    (status, errors.failed())
+}
+
+/// Whether the status and the calls are right where the nth of so many writes and a flush fails: no further one is tried then.
+fn has_stopped(alloc: Global, told: Told, writes: u64, nth: u64, page: &mut Hiccup) -> bool {
+    let answer = check_over(alloc, told.fails_at, page);
+    if nth <= writes.wrapping_add(1) {
+        answer == (2, true) && page.calls == nth
+    } else {
+        answer == (told.status, false) && page.calls == writes.wrapping_add(1)
+    }
+}
+
+/// Whether what stands is the beginning that was taken before.
+fn is_beginning(told: Told, writes: u64, nth: u64, page: &Hiccup) -> bool {
+    if nth > writes {
+        return page.text() == told.text;
+    }
+    told.text.starts_with(page.text())
+        && (page.step > 1 || page.text().len() as u64 == nth.wrapping_sub(1))
+}
+
+/// The first call whose failure is told wrong.
+fn wrong_hiccup(alloc: Global, told: Told, step: usize, writes: u64) -> Option<u64> {
+    for way in WAYS {
+        for nth in 1..writes.wrapping_add(4) {
+            let mut page = Hiccup::new(step, nth, way);
+            let stopped = has_stopped(alloc, told, writes, nth, &mut page);
+            if !stopped || !is_beginning(told, writes, nth, &page) {
+                return Some(nth);
             }
         }
     }
-    Ok(())
+    None
+}
+
+/// After a write or a flush that failed no further one is tried, though it would work.
+#[test]
+fn hiccups(rt: HostRuntime) {
+    for told in TOLD {
+        let writes = told.text.len() as u64;
+        assert!(rt; wrong_hiccup(rt.alloc(), told, 1, writes).is_none());
+        assert!(rt; wrong_hiccup(rt.alloc(), told, 99, told.writes).is_none());
+    }
 }
 
 /// An end that failed once still says so when it works again.
 #[test]
-fn ends_that_failed(rt: HostRuntime) -> Result<(), Fail> {
+fn output_that_failed(rt: HostRuntime) {
     for way in WAYS {
         let mut page = Hiccup::new(99, 2, way);
         let mut output = Output::new(&mut page);
-        assert_eq!(rt; output.write(b"a"), Ok(1));
-        assert!(rt; !output.failed());
-        assert_eq!(rt; output.write(b"b"), Err(Failed));
-        assert!(rt; output.failed());
-        assert_eq!(rt; output.write(b"c"), Ok(1));
-        assert_eq!(rt; output.flush(), Ok(()));
-        assert!(rt; output.failed());
-        assert_eq!(rt; page.text(), b"ac".as_slice());
+        assert!(rt; output.write(b"a") == Ok(1) && !output.failed());
+        assert!(rt; output.write(b"b") == Err(Failed) && output.failed());
+        assert!(rt; output.write(b"c") == Ok(1) && output.failed());
+        assert!(rt; output.flush() == Ok(()) && output.failed());
+        assert!(rt; page.text() == b"ac".as_slice());
+    }
+}
+
+#[test]
+fn flush_that_failed(rt: HostRuntime) {
+    for way in WAYS {
         let mut page = Hiccup::new(99, 1, way);
         let mut output = Output::new(&mut page);
-        assert_eq!(rt; output.flush(), Err(Failed));
-        assert_eq!(rt; output.flush(), Ok(()));
-        assert_eq!(rt; output.write(b"d"), Ok(1));
-        assert!(rt; output.failed());
-        assert_eq!(rt; page.text(), b"d".as_slice());
+        assert!(rt; output.flush() == Err(Failed) && output.failed());
+        assert!(rt; output.flush() == Ok(()) && output.failed());
+        assert!(rt; output.write(b"d") == Ok(1) && output.failed());
+        assert!(rt; page.text() == b"d".as_slice());
     }
+}
+
+#[test]
+fn input_that_failed(rt: HostRuntime) {
     let mut piece = [0; 4];
     let mut tape = Tape::new(b"ab", 1);
     tape.fails_at = 2;
     let mut input = Input::new(tape);
-    assert_eq!(rt; input.read(&mut piece), Ok(1));
-    assert!(rt; !input.failed());
-    assert_eq!(rt; input.read(&mut piece), Err(Failed));
-    assert_eq!(rt; input.read(&mut piece), Ok(1));
-    assert_eq!(rt; piece[0], b'b');
+    assert!(rt; input.read(&mut piece) == Ok(1) && !input.failed());
+    assert!(rt; input.read(&mut piece) == Err(Failed));
+    assert!(rt; input.read(&mut piece) == Ok(1) && piece[0] == b'b');
     assert!(rt; input.failed() && !input.ended());
-    assert_eq!(rt; input.read(&mut piece), Ok(0));
+    assert!(rt; input.read(&mut piece) == Ok(0));
     assert!(rt; input.failed() && input.ended());
-    Ok(())
 }
 
 #[test]
-fn ends(rt: HostRuntime) -> Result<(), Fail> {
+fn input_that_ends(rt: HostRuntime) {
     let mut piece = [0; 4];
     let mut input = Input::new(b"abc".as_slice());
-    assert_eq!(rt; input.read(&mut piece[..0]), Ok(0));
-    assert!(rt; !input.ended());
-    assert_eq!(rt; input.read(&mut piece), Ok(3));
-    assert_eq!(rt; piece, *b"abc\0");
-    assert!(rt; !input.ended());
-    assert_eq!(rt; input.read(&mut piece), Ok(0));
+    assert!(rt; input.read(&mut piece[..0]) == Ok(0) && !input.ended());
+    assert!(rt; input.read(&mut piece) == Ok(3) && !input.ended());
+    assert!(rt; piece == *b"abc\0");
+    assert!(rt; input.read(&mut piece) == Ok(0));
     assert!(rt; input.ended() && !input.failed());
+}
+
+#[test]
+fn input_that_fails(rt: HostRuntime) {
     let mut tape = Tape::new(b"a", 1);
     tape.fails_at = 1;
     let mut input = Input::new(tape);
-    assert_eq!(rt; input.read(&mut piece), Err(Failed));
+    assert!(rt; input.read(&mut [0; 4]) == Err(Failed));
     assert!(rt; input.failed() && !input.ended());
+}
+
+#[test]
+fn output_that_is_full(rt: HostRuntime) {
     let mut page = Page::new(2, WhenFull::TakesNothing);
     let mut output = Output::new(&mut page);
-    assert_eq!(rt; output.write(b""), Ok(0));
-    assert_eq!(rt; output.write(b"abc"), Ok(2));
-    assert_eq!(rt; output.flush(), Ok(()));
-    assert!(rt; !output.failed());
-    assert_eq!(rt; output.write(b"c"), Err(Failed));
-    assert!(rt; output.failed());
-    let mut page = Page::new(2, WhenFull::Fails);
-    page.can_flush = false;
-    let mut output = Output::new(&mut page);
-    assert_eq!(rt; output.flush(), Err(Failed));
-    assert!(rt; output.failed());
-    Ok(())
+    assert!(rt; output.write(b"") == Ok(0));
+    assert!(rt; output.write(b"abc") == Ok(2));
+    assert!(rt; output.flush() == Ok(()) && !output.failed());
+    assert!(rt; output.write(b"c") == Err(Failed) && output.failed());
 }
 
 #[test]
@@ -441,7 +490,7 @@ fn messages(rt: HostRuntime) -> Result<(), Fail> {
         (FaultKind::TooDeep, "a:1:20: too many open constructs\n"),
     ] {
         let text = message(rt.alloc(), b"a", 1, 20, Fault { kind, at: 7 })?;
-        assert_eq!(rt; text.as_slice(), line.as_bytes());
+        assert!(rt; text.as_slice() == line.as_bytes(), "{line}");
     }
     Ok(())
 }
@@ -455,8 +504,13 @@ fn words(rt: HostRuntime) -> Result<(), Fail> {
         (&["check", "-"], None),
         (&["check"], None),
     ] {
-        assert_eq!(rt; settings(rt.alloc(), words)?.file, file);
+        assert!(rt; settings(rt.alloc(), words)?.file == file, "{file:?}");
     }
+    Ok(())
+}
+
+#[test]
+fn words_that_are_refused(rt: HostRuntime) {
     for (words, kind) in [
         ([].as_slice(), ErrorKind::MissingSubcommand),
         (&["chekc"], ErrorKind::InvalidSubcommand),
@@ -465,10 +519,7 @@ fn words(rt: HostRuntime) -> Result<(), Fail> {
         (&["--help"], ErrorKind::DisplayHelp),
         (&["--version"], ErrorKind::DisplayVersion),
     ] {
-        match settings(rt.alloc(), words) {
-            Ok(_) => panic!(rt; "taken"),
-            Err(error) => assert_eq!(rt; error.kind(), kind),
-        }
+        let error = settings(rt.alloc(), words).err();
+        assert!(rt; error.is_some_and(|e| e.kind() == kind), "{kind:?}");
     }
-    Ok(())
 }

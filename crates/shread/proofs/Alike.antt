@@ -8,18 +8,17 @@ use Rattle.shread.specs.declared.mode.Piece.TheVariants as pieces
 use Rattle.shread.specs.declared.token.Next.{Next}
 use Rattle.shread.specs.declared.token.Position.{Position}
 use Rattle.shread.specs.declared.token.Separator.{Separator}
-use Rattle.shread.specs.declared.token.Separator.TheVariants.{Semicolon, Ampersand}
 use Rattle.shread.specs.declared.token.Token.{Token}
 use Rattle.shread.specs.declared.token.Token.TheVariants as tokens
 use Rattle.shread.specs.declared.tree.Comment.{Comment}
 use Rattle.shread.specs.declared.tree.Span.{Span}
-use Rattle.shread.specs.Tree.{ASubst, AWord, AnItemContent, AnEntry}
+use Rattle.shread.specs.Tree.{ASubst, AnEntry}
 use Rattle.shread.specs.Comments.{span}
 use Rattle.shread.specs.Sights.{Given, State, Sight, seen, the_piece, Move}
 use Rattle.shread.specs.Form.{Read, ◌▸◌, Form, give, see, move, push, stop, both, when, token, many, Step, again, done, step_if, leads_on, turns, does}
 use Rattle.shread.specs.Words.{single, backquote_turn, backquoted, Inner, Held, having, opened, piece_row, a_piece, contents, level, a_word}
-use Rattle.shread.specs.Commands.{next_token, Items, so_many, an_item, item_by, item_turn, a_simple, a_pipeline, an_and_or, separator_by, a_separator, comment_by, a_comment, is_parted, Entered, an_entry}
-use Rattle.shread.specs.Lines.{LineSo, line_so, one_entry, entry_by, entry_turn, all_entries, remark_by, a_remark, end_by, end_of_line, a_line}
+use Rattle.shread.specs.Commands.{next_token, Items, so_many, behind_item, an_item, item_by, item_turn, a_simple, a_pipeline, an_and_or, separator_of, separator_by, a_separator, comment_by, a_comment, is_parted, Entered, an_entry}
+use Rattle.shread.specs.Lines.{LineSo, line_so, one_entry, begins_command, entry_by, entry_turn, all_entries, remark_by, a_remark, end_by, end_of_line, a_line}
 use Rattle.shread.proofs.Turns.{turns_on, turns_rest, turns_done, turns_fault}
 
 -- both give something, of which S holds, and end in one state; or both stop with one fault
@@ -214,26 +213,18 @@ module _ (g : Given) where
     abbrev SameItems : Items → Items → Type 0
     SameItems i j = i.next ≡ j.next
 
-    alike_item : (i j : Items) (content : AWord → AnItemContent) (position : Position) → Alike (SameStep SameItems) (an_item inner i content position) (an_item inner j content position)
+    alike_item : (i j : Items) (position : Position) → Alike (SameStep SameItems) (an_item inner i position) (an_item inner j position)
     unfolding an_item
-    alike_item i j content position =
+    alike_item i j position =
         alike_then alike_word (λ w v so. alike_pushed (alike_then (alike_next position) (λ n m same. alike_give same)))
 
-    alike_item_by : (i j : Items) (t : Token) → SameItems i j → Alike (SameStep SameItems) (item_by inner i t) (item_by inner j t)
-    alike_item_by i j tokens.Assignment same = alike_item i j _ _
-    alike_item_by i j tokens.Word same = alike_item i j _ _
-    alike_item_by i j tokens.End same = alike_give same
-    alike_item_by i j tokens.Newline same = alike_give same
-    alike_item_by i j tokens.Semicolon same = alike_give same
-    alike_item_by i j tokens.Ampersand same = alike_give same
-    alike_item_by i j tokens.Operator same = alike_give same
-    alike_item_by i j tokens.Comment same = alike_give same
-    alike_item_by i j tokens.Number same = alike_give same
-    alike_item_by i j (tokens.Reserved r) same = alike_give same
+    alike_item_by : (i j : Items) (position : Option Position) → SameItems i j → Alike (SameStep SameItems) (item_by inner i position) (item_by inner j position)
+    alike_item_by i j (Some position) same = alike_item i j position
+    alike_item_by i j None same = alike_give same
 
     alike_item_turn : (i j : Items) → SameItems i j → Alike (SameStep SameItems) (item_turn inner i) (item_turn inner j)
     unfolding item_turn
-    alike_item_turn i j same = subst (λ t. Alike (SameStep SameItems) (item_by inner i i.next.token) (item_by inner j t)) (ap (λ (n : Next). n.token) same) (alike_item_by i j i.next.token same)
+    alike_item_turn i j same = subst (λ (n : Next). Alike (SameStep SameItems) (item_by inner i (behind_item i.next.token)) (item_by inner j (behind_item n.token))) same (alike_item_by i j (behind_item i.next.token) same)
 
     abbrev SameNext : {X Y : Type 0} → X × Next → Y × Next → Type 0
     SameNext x y = x.1 ≡ y.1
@@ -250,21 +241,13 @@ module _ (g : Given) where
     unfolding an_and_or
     alike_and_or n = alike_then (alike_pipeline n) (λ x y same. alike_give same)
 
-    alike_separator_by : (n : Next) (t : Token) → Alike (λ x y. x ≡ y) (separator_by n t) (separator_by n t)
-    alike_separator_by n tokens.Semicolon = alike_on (alike_then (alike_next _) (λ m k same. alike_give (ap (λ z. (Some Semicolon, z)) same)))
-    alike_separator_by n tokens.Ampersand = alike_on (alike_then (alike_next _) (λ m k same. alike_give (ap (λ z. (Some Ampersand, z)) same)))
-    alike_separator_by n tokens.End = alike_give refl
-    alike_separator_by n tokens.Newline = alike_give refl
-    alike_separator_by n tokens.Operator = alike_give refl
-    alike_separator_by n tokens.Comment = alike_give refl
-    alike_separator_by n tokens.Number = alike_give refl
-    alike_separator_by n (tokens.Reserved r) = alike_give refl
-    alike_separator_by n tokens.Assignment = alike_give refl
-    alike_separator_by n tokens.Word = alike_give refl
+    alike_separator_by : (n : Next) (s : Option Separator) → Alike (λ x y. x ≡ y) (separator_by n s) (separator_by n s)
+    alike_separator_by n (Some s) = alike_on (alike_then (alike_next _) (λ m k same. alike_give (ap (λ z. (Some s, z)) same)))
+    alike_separator_by n None = alike_give refl
 
     alike_separator : (n m : Next) → n ≡ m → Alike (λ x y. x ≡ y) (a_separator n) (a_separator m)
     unfolding a_separator
-    alike_separator n m same = rw (← same) (alike_separator_by n n.token)
+    alike_separator n m same = rw (← same) (alike_separator_by n (separator_of n.token))
 
     alike_comment_by : (n : Next) (c : Option Comment) → Alike (λ x y. x ≡ y) (comment_by n c) (comment_by n c)
     alike_comment_by n (Some c) = alike_on (alike_then (alike_next _) (λ m k same. alike_give (ap (λ z. (Some c, z)) same)))
@@ -295,22 +278,14 @@ module _ (g : Given) where
     alike_one_entry blank pale l m same =
         rw (← same) (alike_then (alike_entry _ _ l.next) (λ e f so. alike_pushed (alike_give (rw (← so.0) (same_step e.parted (line_so _ e.next) (line_so _ f.next) so.1)))))
 
-    alike_entry_by : (blank pale : Bool) (l m : LineSo) (t : Token) → SameLine l m → Alike (SameStep SameLine) (entry_by inner blank l t) (entry_by inner pale m t)
-    alike_entry_by blank pale l m tokens.Assignment same = alike_one_entry blank pale l m same
-    alike_entry_by blank pale l m tokens.Word same = alike_one_entry blank pale l m same
-    alike_entry_by blank pale l m tokens.End same = alike_give same
-    alike_entry_by blank pale l m tokens.Newline same = alike_give same
-    alike_entry_by blank pale l m tokens.Semicolon same = alike_give same
-    alike_entry_by blank pale l m tokens.Ampersand same = alike_give same
-    alike_entry_by blank pale l m tokens.Operator same = alike_give same
-    alike_entry_by blank pale l m tokens.Comment same = alike_give same
-    alike_entry_by blank pale l m tokens.Number same = alike_give same
-    alike_entry_by blank pale l m (tokens.Reserved r) same = alike_give same
+    alike_entry_by : (blank pale : Bool) (l m : LineSo) (begins : Bool) → SameLine l m → Alike (SameStep SameLine) (entry_by inner blank l begins) (entry_by inner pale m begins)
+    alike_entry_by blank pale l m true same = alike_one_entry blank pale l m same
+    alike_entry_by blank pale l m false same = alike_give same
 
     alike_entry_turn : (blank pale : Bool) (l m : LineSo) → SameLine l m → Alike (SameStep SameLine) (entry_turn inner blank l) (entry_turn inner pale m)
     unfolding entry_turn
     alike_entry_turn blank pale l m same =
-        subst (λ t. Alike (SameStep SameLine) (entry_by inner blank l l.next.token) (entry_by inner pale m t)) (ap (λ (n : Next). n.token) same) (alike_entry_by blank pale l m l.next.token same)
+        subst (λ (n : Next). Alike (SameStep SameLine) (entry_by inner blank l (begins_command l.next.token)) (entry_by inner pale m (begins_command n.token))) same (alike_entry_by blank pale l m (begins_command l.next.token) same)
 
     alike_remark_by : (blank pale : Bool) (l m : LineSo) (x : Option Comment × Next) → Alike SameLine (remark_by blank l x) (remark_by pale m x)
     alike_remark_by blank pale l m (Some c, n) = alike_pushed (alike_give refl)

@@ -63,16 +63,16 @@ byte_read T q (Some b) is e = slice_get_within T q b is
 
 shows_by : (T : List ℕ) (p : ℕ) (t : Token) → past_continuations T p ≡ p → Byte (byte_at T p) t → Shows t T p
 unfolding ends_word raw_stands at_end
-shows_by T p tokens.End still e = (λ f. absurd cc, λ f. absurd cc, λ f. absurd cc, λ f. absurd cc, λ f. ap (λ q. is_none (slice_get T q)) (sym still) ∙ e, λ f. absurd cc, λ f. absurd cc, still)
-shows_by T p tokens.Newline still e = (λ f. absurd cc, λ f. absurd cc, λ f. byte_read T _ _ refl e, λ f. ap (λ q. is_byte (slice_get T q) 10) (sym still) ∙ e, λ f. absurd cc, λ f. absurd cc, λ f. absurd cc, still)
-shows_by T p tokens.Semicolon still e = (λ f. absurd cc, λ f. absurd cc, λ f. absurd cc, λ f. absurd cc, λ f. absurd cc, λ f. some_read T _ _ refl e, λ f. absurd cc, still)
-shows_by T p tokens.Ampersand still e = (λ f. absurd cc, λ f. absurd cc, λ f. absurd cc, λ f. absurd cc, λ f. absurd cc, λ f. absurd cc, λ f. some_read T _ _ refl e, still)
-shows_by T p tokens.Operator still e = (λ f. absurd cc, λ f. absurd cc, λ f. absurd cc, λ f. absurd cc, λ f. absurd cc, λ f. absurd cc, λ f. absurd cc, still)
-shows_by T p tokens.Comment still e = (λ f. absurd cc, λ f. absurd cc, λ f. absurd cc, λ f. absurd cc, λ f. absurd cc, λ f. absurd cc, λ f. absurd cc, still)
-shows_by T p tokens.Number still e = (λ f. absurd cc, λ f. absurd cc, λ f. absurd cc, λ f. absurd cc, λ f. absurd cc, λ f. absurd cc, λ f. absurd cc, still)
-shows_by T p (tokens.Reserved r) still e = (λ f. absurd cc, λ f. absurd cc, λ f. absurd cc, λ f. absurd cc, λ f. absurd cc, λ f. absurd cc, λ f. absurd cc, still)
-shows_by T p tokens.Assignment still e = (λ f. absurd cc, λ f. e, λ f. absurd cc, λ f. absurd cc, λ f. absurd cc, λ f. absurd cc, λ f. absurd cc, still)
-shows_by T p tokens.Word still e = (λ f. e, λ f. absurd cc, λ f. absurd cc, λ f. absurd cc, λ f. absurd cc, λ f. absurd cc, λ f. absurd cc, still)
+shows_by T p tokens.End still e = (λ z f. absurd cc, λ f. absurd cc, λ f. absurd cc, λ f. ap (λ q. is_none (slice_get T q)) (sym still) ∙ e, λ z f. absurd cc, still)
+shows_by T p tokens.Newline still e = (λ z f. absurd cc, λ f. byte_read T _ _ refl e, λ f. ap (λ q. is_byte (slice_get T q) 10) (sym still) ∙ e, λ f. absurd cc, λ z f. absurd cc, still)
+shows_by T p tokens.Semicolon still e = (λ z f. absurd cc, λ f. absurd cc, λ f. absurd cc, λ f. absurd cc, λ z f. some_read T _ _ refl e, still)
+shows_by T p tokens.Ampersand still e = (λ z f. absurd cc, λ f. absurd cc, λ f. absurd cc, λ f. absurd cc, λ z f. some_read T _ _ refl e, still)
+shows_by T p tokens.Operator still e = (λ z f. absurd cc, λ f. absurd cc, λ f. absurd cc, λ f. absurd cc, λ z f. absurd cc, still)
+shows_by T p tokens.Comment still e = (λ z f. absurd cc, λ f. absurd cc, λ f. absurd cc, λ f. absurd cc, λ z f. absurd cc, still)
+shows_by T p tokens.Number still e = (λ z f. absurd cc, λ f. absurd cc, λ f. absurd cc, λ f. absurd cc, λ z f. absurd cc, still)
+shows_by T p (tokens.Reserved r) still e = (λ z f. absurd cc, λ f. absurd cc, λ f. absurd cc, λ f. absurd cc, λ z f. absurd cc, still)
+shows_by T p tokens.Assignment still e = (λ z f. e, λ f. absurd cc, λ f. absurd cc, λ f. absurd cc, λ z f. absurd cc, still)
+shows_by T p tokens.Word still e = (λ z f. e, λ f. absurd cc, λ f. absurd cc, λ f. absurd cc, λ z f. absurd cc, still)
 
 pub blanks_still : (T : List ℕ) (p : ℕ) → past_continuations T (past_blanks T p) ≡ past_blanks T p
 unfolding past_blanks

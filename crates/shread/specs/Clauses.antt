@@ -1,13 +1,16 @@
 -- Words for the clauses of the code: what a function of the reader answers, and what it leaves as it was.
-use Rattle.std.specs.Prelude.{◌≡◌, ℕ, ◌+◌, ◌<◌, ◌≤◌, Bool, true, false, List, length, drop, Result, Ok, Err}
+use Rattle.std.specs.Prelude.{◌≡◌, ℕ, ◌+◌, ◌<◌, ◌≤◌, Bool, true, false, List, length, drop, Some, Result, Ok, Err}
 use Rattle.shread.specs.declared.cursor.Cursor.{Cursor}
 use Rattle.shread.specs.declared.fault.Stop.{Stop}
 use Rattle.shread.specs.declared.fault.Stop.TheVariants.{Memory, Wrong}
+use Rattle.shread.specs.declared.token.Position.{Position}
+use Rattle.shread.specs.declared.token.Separator.{Separator}
 use Rattle.shread.specs.declared.token.Token.{Token}
 use Rattle.shread.specs.declared.token.Token.TheVariants as tokens
 use Rattle.shread.specs.Standing.{raw_stands, at_end}
 use Rattle.shread.specs.Bytes.{past_continuations, ends_word}
 use Rattle.shread.specs.Sights.{State, given, standing}
+use Rattle.shread.specs.Commands.{behind_item, separator_of}
 use Rattle.shread.specs.Form.{Form, Read, does}
 
 -- the text of a cursor
@@ -55,6 +58,6 @@ Onward p q false = p ≤ q
 -- what a token says of the bytes from its first one on
 abbrev pub Shows : Token → List ℕ → ℕ → Type 0
 Shows token T p =
-    (token ≡ tokens.Word → ends_word T p ≡ false) × (token ≡ tokens.Assignment → ends_word T p ≡ false)
+    ((position : Position) → behind_item token ≡ Some position → ends_word T p ≡ false)
     × (token ≡ tokens.Newline → IsRead T p) × (token ≡ tokens.Newline → raw_stands T p 10 ≡ true) × (token ≡ tokens.End → at_end T p ≡ true)
-    × (token ≡ tokens.Semicolon → IsRead T p) × (token ≡ tokens.Ampersand → IsRead T p) × (past_continuations T p ≡ p)
+    × ((separator : Separator) → separator_of token ≡ Some separator → IsRead T p) × (past_continuations T p ≡ p)

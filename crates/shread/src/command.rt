@@ -1,18 +1,29 @@
 //! Simple commands, pipelines and and-or lists (XCU 2.9.1 to 2.9.3).
 ghost use Rattle.std.specs.Prelude.{◌≡◌, ◌≤◌, map, IfOk};
 ghost use Rattle.shread.specs.Clauses.{Onward, Reads, Shows, Stays, text_of};
-ghost use Rattle.shread.specs.Commands.{a_pipeline, a_simple, an_and_or, item_turn, so_many};
+ghost use Rattle.shread.specs.Commands.{a_pipeline, a_simple, an_and_or, as_item, item_turn, so_many};
 ghost use Rattle.shread.specs.Form.{many, step_if};
-ghost use Rattle.shread.specs.View.{view_and_or, view_command, view_item, view_pipeline};
+ghost use Rattle.shread.specs.Tree.{item};
+ghost use Rattle.shread.specs.View.{view_and_or, view_command, view_item, view_pipeline, view_word};
 ghost use Rattle.shread.specs.Words.{level};
 
 use crate::cursor::Cursor;
 use crate::fault::Stop;
 use crate::make::{and_or_of, argument_of, assign_of, pipeline_of, simple_of};
 use crate::source::Source;
-use crate::token::{Next, Position, Token};
-use crate::tree::{AndOr, Command, Item, Pipeline};
+use crate::token::{Next, Position};
+use crate::tree::{AndOr, Command, Item, Pipeline, Word};
 use std::alloc::Global;
+
+/// A word as an item, by the position behind it.
+fn item_of(word: Word, position: Position, broken: bool) -> Item
+    ensures { view_item result ≡ item broken (as_item position (view_word word)) }
+{
+    match position {
+        Position::Prefix => assign_of(word, broken),
+        Position::Command | Position::Suffix => argument_of(word, broken),
+    }
+}
 
 impl<'a, S: Source> Cursor<'a, S> {
     /// One more item of a simple command, if the token here begins one, and the token behind it. Answers whether there was one.
@@ -31,25 +42,16 @@ impl<'a, S: Source> Cursor<'a, S> {
         ensures onward { IfOk result (Onward self.old.at self.new.at) }
         ensures same { Stays self.old self.new }
     {
+        let Some(position) = next.token.behind_item() else {
+            return Ok(false);
+        };
         let broken = !items.is_empty() && next.broken;
         let start = self.at;
-        match next.token {
-            Token::Assignment => {
-                self.pass_word(room)?;
-                if self.keep {
-                    items.push(assign_of(self.word_from(alloc, start), broken))?;
-                }
-                *next = self.next_token(Position::Prefix);
-            }
-            Token::Word => {
-                self.pass_word(room)?;
-                if self.keep {
-                    items.push(argument_of(self.word_from(alloc, start), broken))?;
-                }
-                *next = self.next_token(Position::Suffix);
-            }
-            _ => return Ok(false),
+        self.pass_word(room)?;
+        if self.keep {
+            items.push(item_of(self.word_from(alloc, start), position, broken))?;
         }
+        *next = self.next_token(position);
         Ok(true)
     }
 

@@ -28,11 +28,7 @@ impl<'a, S: Source> Cursor<'a, S> {
         ensures onward { Onward self.old.at self.new.at (is_parted result) }
         ensures same { Stays self.old self.new }
     {
-        let separator = match next.token {
-            Token::Semicolon => Separator::Semicolon,
-            Token::Ampersand => Separator::Ampersand,
-            _ => return None,
-        };
+        let separator = next.token.separator()?;
         self.bump();
         *next = self.next_token(Position::Command);
         Some(separator)
@@ -103,9 +99,8 @@ impl<'a, S: Source> Cursor<'a, S> {
         ensures onward { IfOk result (Onward self.old.at self.new.at) }
         ensures same { Stays self.old self.new }
     {
-        match next.token {
-            Token::Assignment | Token::Word => {}
-            _ => return Ok(false),
+        if !next.token.begins_command() {
+            return Ok(false);
         }
         let (entry, parted) = self.entry(alloc, next, blank && entries.is_empty(), room)?;
         if self.keep {

@@ -1,7 +1,7 @@
 // Sources, places in them, and numbers: what no table of scripts holds.
 use crate::dump::Judge;
 use crate::search::{Sought, find_in};
-use crate::table::{rows, split};
+use crate::table::{Cell, rows, split};
 use crate::trees::ROWS;
 use crate::{FaultKind, Flat, ReadError, Source, line_col_of};
 use std::test::Fail;
@@ -34,6 +34,12 @@ fn places(rt: HostRuntime) -> Result<(), Fail> {
         let place = if at <= 10 { (1, at + 1) } else { (2, at - 10) };
         assert!(rt; at <= bytes.len() && line_col_of(&Flat::new(&bytes), at) == place);
     }
+    Ok(())
+}
+
+/// An empty line has a place too, and so has the end of the text.
+#[test]
+fn places_of_lines(rt: HostRuntime) -> Result<(), Fail> {
     let text = Flat::new(b"ab\n\nc\n");
     let mut told = String::new(rt.alloc());
     for at in 0..=6 {
@@ -110,15 +116,20 @@ fn judge_stretches(judge: &mut Judge, bytes: &[u8], wanted: &[u8]) -> Result<(),
     Ok(())
 }
 
+fn judge_row(judge: &mut Judge, row: &[Cell]) -> Result<(), Fail> {
+    let (scripts, wanted) = split(row)?;
+    for script in scripts {
+        judge_stretches(judge, &script.bytes, &wanted.bytes)?;
+    }
+    Ok(())
+}
+
 /// In stretches of one, two and three bytes each script is read as where its bytes lie in one piece.
 #[test]
 fn stretches(rt: HostRuntime) -> Result<(), Fail> {
     let mut judge = Judge::new(rt.alloc());
     for row in &rows(rt.alloc(), ROWS)? {
-        let (scripts, wanted) = split(row)?;
-        for script in scripts {
-            judge_stretches(&mut judge, &script.bytes, &wanted.bytes)?;
-        }
+        judge_row(&mut judge, row)?;
     }
     judge.verdict()
 }

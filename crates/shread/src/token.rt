@@ -3,6 +3,8 @@ ghost use Rattle.std.specs.Prelude.{◌≡◌, ◌≤◌, [], ◌∷◌, None, S
 ghost use Rattle.shread.specs.Bytes.{past_blanks, past_continuations};
 ghost use Rattle.shread.specs.Classes.{in_class};
 ghost use Rattle.shread.specs.Clauses.{Shows, Stays, text_of};
+ghost use Rattle.shread.specs.Commands.{behind_item, separator_of};
+ghost use Rattle.shread.specs.Lines.{begins_command};
 ghost use Rattle.shread.specs.Tokens.{begins_assignment, first_of_words, is_number, is_word_at, next_at, reserved_at, token_at, word_by};
 
 use crate::cursor::Cursor;
@@ -31,6 +33,40 @@ pub(crate) enum Token {
     Assignment,
     /// Any other word.
     Word,
+}
+
+impl Token {
+    /// The position behind the item of a simple command that this token begins, if it begins one.
+    #[inline(always)]
+    pub(crate) fn behind_item(self) -> Option<Position>
+        ensures { result ≡ behind_item self }
+    {
+        match self {
+            Token::Assignment => Some(Position::Prefix),
+            Token::Word => Some(Position::Suffix),
+            _ => None,
+        }
+    }
+
+    /// Whether a command begins with this token.
+    #[inline(always)]
+    pub(crate) fn begins_command(self) -> bool
+        ensures { result ≡ begins_command self }
+    {
+        matches!(self, Token::Assignment | Token::Word)
+    }
+
+    /// The separator that this token is, if it is one.
+    #[inline(always)]
+    pub(crate) fn separator(self) -> Option<Separator>
+        ensures { result ≡ separator_of self }
+    {
+        match self {
+            Token::Semicolon => Some(Separator::Semicolon),
+            Token::Ampersand => Some(Separator::Ampersand),
+            _ => None,
+        }
+    }
 }
 
 /// The reserved words (XCU 2.4).

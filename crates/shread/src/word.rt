@@ -1,13 +1,14 @@
 //! Words (XCU 2.3), and how far they go: their pieces in the five modes (XCU 2.2, 2.6).
-ghost use Rattle.std.specs.Prelude.{◌≡◌, ◌≢◌, ◌+◌, ◌<◌, ◌≤◌, [], length, IfOk, false};
+ghost use Rattle.std.specs.Prelude.{◌≡◌, ◌≢◌, ◌+◌, ◌<◌, ◌≤◌, [], length, IfOk, false, true};
 ghost use Rattle.shread.specs.Bytes.{ends_word, past_continuations};
 ghost use Rattle.shread.specs.Clauses.{IsRead, Onward, Reads, Stays, text_of};
 ghost use Rattle.shread.specs.Comments.{span};
-ghost use Rattle.shread.specs.Form.{step_if};
+ghost use Rattle.shread.specs.Form.{again, step_if};
 ghost use Rattle.shread.specs.Pieces.{past_closer};
 ghost use Rattle.shread.specs.Tree.{no_subst, word};
 ghost use Rattle.shread.specs.View.{view_word};
-ghost use Rattle.shread.specs.Words.{a_piece, a_word, contents, having, level};
+ghost use Rattle.shread.specs.Standing.{raw_stands};
+ghost use Rattle.shread.specs.Words.{a_piece, a_word, contents, having, holds_others, level, piece_row};
 
 use crate::cursor::Cursor;
 use crate::fault::{FaultKind, Stop};
@@ -58,6 +59,55 @@ impl<'a, S: Source> Cursor<'a, S> {
         self.contents(mode, opener, room - 1)
     }
 
+    /// A piece that holds no others, or the fault that it is.
+    #[inline(always)]
+    #[tactic(auto, unfolding(crate::specs::Pieces::past_taken, crate::specs::Bytes::behind), using(crate::proofs::Stretches::place_low))]
+    fn closed_piece(
+        &mut self,
+        piece: Piece,
+        mode: Mode,
+        opener: usize,
+        nested: &mut usize,
+        here: usize,
+    ) -> Result<(), Stop>
+        requires closed { holds_others piece ≡ false }
+        requires here { here ≡ past_continuations (text_of S.bytes self.old) self.old.at }
+        requires some { piece ≢ Piece.Missing → here < length (text_of S.bytes self.old) }
+        requires escape { piece ≡ Piece.Escape → (here + 2 ≤ length (text_of S.bytes self.old)) ×
+            (raw_stands (text_of S.bytes self.old) here 92 ≡ true) }
+        requires two { piece ≡ Piece.Pid → IsRead (text_of S.bytes self.old) (here + 1) }
+        requires opener { opener ≤ self.old.at }
+        requires nested { nested.old ≤ self.old.at }
+        requires close { piece ≡ Piece.Close → 0 < nested.old }
+        ensures value { Reads S.bytes self.old (piece_row (level 0) mode (self.old.origin + opener) (having nested.old []) piece)
+            result (λ done. again (having nested.new [])) self.new.at }
+        ensures onward { IfOk result (λ done. self.old.at < self.new.at) }
+        ensures nested { IfOk result (λ done. nested.new ≤ self.new.at) }
+        ensures same { Stays self.old self.new }
+    {
+        match piece {
+            Piece::Missing => return Err(self.wrong_at(mode.unclosed(), opener)),
+            Piece::LoneBackslash => return Err(self.wrong_at(FaultKind::LoneBackslash, here)),
+            Piece::Subst => return Err(self.wrong_at(FaultKind::Unexpected, here)),
+            Piece::BadClose => return Err(self.wrong_at(FaultKind::BadArithClose, here)),
+            Piece::Escape => self.at = here + 2,
+            Piece::Single => self.single(here)?,
+            Piece::Backquote => self.backquoted(here)?,
+            Piece::Open => {
+                *nested += 1;
+                self.at = here + 1;
+            }
+            Piece::Close => {
+                *nested -= 1;
+                self.at = here + 1;
+            }
+            Piece::Pid => self.at = self.behind(here + 1),
+            // an ordinary byte: by the contract nothing else is left
+            _ => self.at = here + 1,
+        }
+        Ok(())
+    }
+
     /// One piece, with so many brackets open in arithmetic. Answers whether there was one: if not, the construct ends here.
     #[cycle(words)]
     #[tactic(auto, unfolding(crate::specs::Words::a_piece, crate::specs::Pieces::past_taken, crate::specs::Bytes::behind), using(crate::proofs::Stretches::place_low))]
@@ -80,18 +130,12 @@ impl<'a, S: Source> Cursor<'a, S> {
         ensures same { Stays self.old self.new }
     {
         let here = self.place(self.at);
-        match self.piece(mode, *nested, here) {
+        let piece = self.piece(mode, *nested, here);
+        match piece {
             Piece::Closer => {
                 self.close(mode, here);
                 return Ok(false);
             }
-            Piece::Missing => return Err(self.wrong_at(mode.unclosed(), opener)),
-            Piece::LoneBackslash => return Err(self.wrong_at(FaultKind::LoneBackslash, here)),
-            Piece::Subst => return Err(self.wrong_at(FaultKind::Unexpected, here)),
-            Piece::BadClose => return Err(self.wrong_at(FaultKind::BadArithClose, here)),
-            Piece::Escape => self.at = here + 2,
-            Piece::Single => self.single(here)?,
-            Piece::Backquote => self.backquoted(here)?,
             Piece::Double => {
                 self.at = here + 1;
                 self.construct(Mode::Double, here, room)?;
@@ -106,16 +150,7 @@ impl<'a, S: Source> Cursor<'a, S> {
                 let rest = self.rest_mode(mode);
                 self.construct(rest, here, room)?;
             }
-            Piece::Open => {
-                *nested += 1;
-                self.at = here + 1;
-            }
-            Piece::Close => {
-                *nested -= 1;
-                self.at = here + 1;
-            }
-            Piece::Pid => self.at = self.behind(here + 1),
-            Piece::Ordinary => self.at = here + 1,
+            _ => self.closed_piece(piece, mode, opener, nested, here)?,
         }
         Ok(true)
     }
