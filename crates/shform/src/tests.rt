@@ -144,7 +144,9 @@ fn verdicts(rt: HostRuntime) {
         (b"#!/bin/sh\necho hi\r\n", 0, b""),
         (b"a=1 if\n", 0, b""),
         (b"in\n", 1, b"-:1:1: unexpected token\n"),
-        (b"! a\n", 1, b"-:1:1: unexpected token\n"),
+        (b"! a | b && c\n", 0, b""),
+        (b"a | ! b\n", 1, b"-:1:5: unexpected token\n"),
+        (b"a &&\n", 1, b"-:2:1: unexpected end\n"),
         (b";a\n", 1, b"-:1:1: unexpected token\n"),
         (b"a & ; b\n", 1, b"-:1:5: unexpected token\n"),
         (b"a ;; b\n", 1, b"-:1:3: unexpected token\n"),
@@ -155,7 +157,7 @@ fn verdicts(rt: HostRuntime) {
             1,
             b"-:1:4: unclosed parameter expansion\n",
         ),
-        (b"a\n\nb # c |\n \t d|\n|", 1, b"-:4:5: unexpected token\n"),
+        (b"a\n\nb # c |\n \t d(\n|", 1, b"-:4:5: unexpected token\n"),
     ] {
         for step in [1, 2, 99] {
             let tape = Tape::new(script, step);
@@ -166,7 +168,7 @@ fn verdicts(rt: HostRuntime) {
 
 #[test]
 fn late_fault(rt: HostRuntime) {
-    let script = Same(b'\n', 69_999).chain(b"ab|".as_slice());
+    let script = Same(b'\n', 69_999).chain(b"ab)".as_slice());
     assert!(rt; tells(rt.alloc(), script, (1, b"-:70000:3: unexpected token\n")));
 }
 

@@ -28,12 +28,13 @@ pub record Ender (c : ℕ) : Type 0 where
   pub no_blank : is_blank c ≡ false
   pub no_semicolon : (c == 59) ≡ false
   pub no_ampersand : (c == 38) ≡ false
+  pub no_bar : (c == 124) ≡ false
 
 pub newline_ends : Ender 10
-newline_ends = record { ends_it = refl; no_open = refl; no_blank = refl; no_semicolon = refl; no_ampersand = refl }
+newline_ends = record { ends_it = refl; no_open = refl; no_blank = refl; no_semicolon = refl; no_ampersand = refl; no_bar = refl }
 
 pub bracket_ends : Ender 41
-bracket_ends = record { ends_it = refl; no_open = refl; no_blank = refl; no_semicolon = refl; no_ampersand = refl }
+bracket_ends = record { ends_it = refl; no_open = refl; no_blank = refl; no_semicolon = refl; no_ampersand = refl; no_bar = refl }
 
 -- a test that holds only of bytes over which it goes on, and not of the one at the limit
 pub record Goes (c : ℕ) (test : ℕ → Bool) : Type 0 where
@@ -319,7 +320,9 @@ module _ {T T2 : List ℕ} {a L : ℕ} {to : ℕ → ℕ} {c : ℕ} (E : ListEnd
       (λ f. let next = next_safe (λ x. x == 59) (goes_one c 59 refl E.ender.no_semicolon) s (rw is f) in rw (same_behind s, same_stands next 59) refl)
       (λ f. same_if (b == 38) _ _ _ _
       (λ g. let next = next_safe (λ x. x == 38) (goes_one c 38 refl E.ender.no_ampersand) s (rw is g) in rw (same_behind s, same_stands next 38) refl)
-      (λ g. rw (same_number s, same_in_position position s) refl)))
+      (λ g. same_if (b == 124) _ _ _ _
+      (λ h. let next = next_safe (λ x. x == 124) (goes_one c 124 refl E.ender.no_bar) s (rw is h) in rw (same_behind s, same_stands next 124) refl)
+      (λ h. rw (same_number s, same_in_position position s) refl))))
 
   pub same_token : (position : Position) {p : ℕ} → Safe T a L p → token_at position T2 (to p) ≡ token_at position T p
   unfolding token_at

@@ -8,17 +8,17 @@ use Rattle.shread.specs.declared.mode.Piece.TheVariants as pieces
 use Rattle.shread.specs.declared.token.Next.{Next}
 use Rattle.shread.specs.declared.token.Position.{Position}
 use Rattle.shread.specs.declared.token.Separator.{Separator}
-use Rattle.shread.specs.declared.token.Token.{Token}
-use Rattle.shread.specs.declared.token.Token.TheVariants as tokens
 use Rattle.shread.specs.declared.tree.Comment.{Comment}
 use Rattle.shread.specs.declared.tree.Span.{Span}
-use Rattle.shread.specs.Tree.{ASubst, AnEntry}
+use Rattle.shread.specs.declared.tree.AndOrOperator.{AndOrOperator}
+use Rattle.shread.specs.Tree.{AJoin, ASubst, AnEntry}
 use Rattle.shread.specs.Comments.{span}
 use Rattle.shread.specs.Sights.{Given, State, Sight, seen, the_piece, Move}
 use Rattle.shread.specs.Form.{Read, ◌▸◌, Form, give, see, move, push, stop, both, when, token, many, Step, again, done, step_if, leads_on, turns, does}
 use Rattle.shread.specs.Words.{single, backquote_turn, backquoted, Inner, Held, having, opened, piece_row, a_piece, contents, level, a_word}
-use Rattle.shread.specs.Commands.{next_token, Items, so_many, behind_item, an_item, item_by, item_turn, a_simple, a_pipeline, an_and_or, separator_of, separator_by, a_separator, comment_by, a_comment, is_parted, Entered, an_entry}
-use Rattle.shread.specs.Lines.{LineSo, line_so, one_entry, begins_command, entry_by, entry_turn, all_entries, remark_by, a_remark, end_by, end_of_line, a_line}
+use Rattle.shread.specs.Tokens.{is_end}
+use Rattle.shread.specs.Commands.{pick, is_newline, is_pipe, is_bang, begins_simple, begins_pipeline, and_or_operator_of, next_token, Items, so_many, behind_item, an_item, item_by, item_turn, a_simple, comment_by, a_comment, a_newline, what_is_wrong, unexpected, JoinSo, join_so, with_comment, join_turn, a_join, a_command, a_bang, Piped, piped, pipe_turn, a_pipeline, Joined, joined_so, joined_by, join_pipeline, an_and_or, separator_of, separator_by, a_separator, is_parted, Entered, an_entry}
+use Rattle.shread.specs.Lines.{LineSo, line_so, one_entry, entry_turn, all_entries, remark_by, a_remark, end_of_line, a_line}
 use Rattle.shread.proofs.Turns.{turns_on, turns_rest, turns_done, turns_fault}
 
 -- both give something, of which S holds, and end in one state; or both stop with one fault
@@ -91,6 +91,17 @@ module _ (g : Given) where
   pub alike_pushed : {A B V W : Type 0} {R : V → W → Type 0} {xs : Row A} {x : A} {ys : Row B} {y : B} {f : Row A → Form V} {h : Row B → Form W} → Alike R (f (xs ++ x ∷ [])) (h ys)
       → Alike R (both (push xs x) f) (both (push ys y) h)
   alike_pushed rest = record { like = λ s. rest.like s }
+
+  -- one form, or the other
+  pub alike_pick : {X Y : Type 0} {S : X → Y → Type 0} {r u : Form X} {q v : Form Y} (b c : Bool) → b ≡ c → Alike S r q → Alike S u v → Alike S (pick b r u) (pick c q v)
+  alike_pick true true is one two = one
+  alike_pick true false is one two = absurd cc
+  alike_pick false true is one two = absurd cc
+  alike_pick false false is one two = two
+
+  -- behind the same token
+  pub alike_at : {X : Type 0} {S : X → X → Type 0} (r : Next → Form X) → ((n : Next) → Alike S (r n) (r n)) → (n m : Next) → n ≡ m → Alike S (r n) (r m)
+  alike_at {S = S} r each n m same = subst (λ z. Alike S (r n) (r z)) same (each n)
 
   when_like : {X Y : Type 0} (S : X → Y → Type 0) (test : Bool) (x u : Read X) (y v : Read Y) → Like S x y → Like S u v → Like S (cond test x u) (cond test y v)
   when_like S true x u y v one two = one
@@ -233,13 +244,92 @@ module _ (g : Given) where
     unfolding a_simple
     alike_simple n = alike_then (alike_many SameItems (item_turn inner) (item_turn inner) alike_item_turn (so_many [] n) (so_many [] n) refl) (λ i j same. alike_give same)
 
+    alike_comment_by : (n : Next) (c : Option Comment) → Alike (λ x y. x ≡ y) (comment_by n c) (comment_by n c)
+    alike_comment_by n (Some c) = alike_on (alike_then (alike_next _) (λ m k same. alike_give (ap (λ z. (Some c, z)) same)))
+    alike_comment_by n None = alike_give refl
+
+    alike_comment : (n m : Next) → n ≡ m → Alike (λ x y. x ≡ y) (a_comment n) (a_comment m)
+    unfolding a_comment
+    alike_comment n m same = rw (← same) (alike_see (λ c. alike_comment_by n c))
+
+    alike_newline : (n : Next) → Alike (λ x y. x ≡ y) (a_newline n) (a_newline n)
+    unfolding a_newline
+    alike_newline n = alike_pick (is_newline n.token) _ refl (alike_on (alike_then (alike_next _) (λ m k same. alike_give (ap (λ z. (true, z)) same)))) (alike_give refl)
+
+    alike_wrong : (n : Next) → Alike (λ x y. x ≡ y) (what_is_wrong n) (what_is_wrong n)
+    unfolding what_is_wrong
+    alike_wrong n = alike_then (alike_comment n n refl) (λ c d so. rw (← so) (alike_see (λ p. alike_give refl)))
+
+    alike_unexpected : {X : Type 0} {S : X → X → Type 0} (n : Next) → Alike S (unexpected n) (unexpected n)
+    alike_unexpected n = alike_then (alike_wrong n) (λ w v so. rw (← so) alike_stop)
+
+    alike_with : (cs ds : Row Comment) (c : Option Comment) → Alike All (with_comment cs c) (with_comment ds c)
+    alike_with cs ds (Some c) = alike_push tt
+    alike_with cs ds None = alike_give tt
+
+    abbrev SameJoin : JoinSo → JoinSo → Type 0
+    SameJoin j k = j.next ≡ k.next
+
+    join_step : (p : Bool) (j k : JoinSo) → SameJoin j k → SameStep SameJoin (step_if p j) (step_if p k)
+    join_step true j k same = same
+    join_step false j k same = same
+
+    join_steps : (l m : Bool × Next) → l ≡ m → (i j : AJoin) → SameStep SameJoin (step_if l.0 (join_so i l.1)) (step_if m.0 (join_so j m.1))
+    join_steps l m is i j = subst (λ (z : Bool × Next). SameStep SameJoin (step_if l.0 (join_so i l.1)) (step_if z.0 (join_so j z.1))) is (join_step l.0 (join_so i l.1) (join_so j l.1) refl)
+
+    alike_join_turn : (j k : JoinSo) → SameJoin j k → Alike (SameStep SameJoin) (join_turn j) (join_turn k)
+    unfolding join_turn
+    alike_join_turn j k same =
+        alike_then (alike_comment j.next k.next same) (λ c d so. rw (← so) (alike_then (alike_with j.join.comments k.join.comments c.0)
+        (λ cs ds all. alike_then (alike_newline c.1) (λ l m is. alike_give (join_steps l m is _ _)))))
+
+    alike_join : (broken pale : Bool) → Alike SameNext (a_join broken) (a_join pale)
+    unfolding a_join
+    alike_join broken pale =
+        alike_then (alike_next _) (λ n m same. alike_then (alike_many SameJoin join_turn join_turn alike_join_turn _ _ same) (λ j k so. alike_give so))
+
+    alike_command : (n : Next) → Alike SameNext (a_command inner n) (a_command inner n)
+    unfolding a_command
+    alike_command n = alike_pick (begins_simple n.token) _ refl (alike_simple n) (alike_unexpected n)
+
+    alike_bang : (n : Next) → Alike SameNext (a_bang n) (a_bang n)
+    unfolding a_bang
+    alike_bang n =
+        alike_pick (is_bang n.token) _ refl (alike_then (alike_token {R = All} (alike_move {S = All} tt) (λ a b z so. tt)) (λ x y so. alike_then (alike_next _) (λ m k same. alike_give same))) (alike_give refl)
+
+    abbrev SamePiped : Piped → Piped → Type 0
+    SamePiped p q = p.next ≡ q.next
+
+    alike_pipe_turn : (p q : Piped) → SamePiped p q → Alike (SameStep SamePiped) (pipe_turn inner p) (pipe_turn inner q)
+    unfolding pipe_turn
+    alike_pipe_turn p q same =
+        alike_pick _ _ (ap (λ (n : Next). is_pipe n.token) same)
+        (alike_on (alike_then (alike_join p.next.broken q.next.broken) (λ j k so. alike_then (alike_at (a_command inner) alike_command j.1 k.1 so) (λ c d so'. alike_pushed (alike_give so')))))
+        (alike_give same)
+
     alike_pipeline : (n : Next) → Alike SameNext (a_pipeline inner n) (a_pipeline inner n)
     unfolding a_pipeline
-    alike_pipeline n = alike_then (alike_simple n) (λ x y same. alike_give same)
+    alike_pipeline n =
+        alike_then (alike_bang n) (λ b d so. alike_then (alike_at (a_command inner) alike_command b.1 d.1 so)
+        (λ c e so'. alike_then (alike_many SamePiped (pipe_turn inner) (pipe_turn inner) alike_pipe_turn (piped [] c.1) (piped [] e.1) so') (λ p q so''. alike_give so'')))
+
+    abbrev SameJoined : Joined → Joined → Type 0
+    SameJoined a b = a.next ≡ b.next
+
+    alike_joined_by : (a b : Joined) (o : Option AndOrOperator) → SameJoined a b → Alike (SameStep SameJoined) (joined_by inner a o) (joined_by inner b o)
+    alike_joined_by a b (Some o) same =
+        alike_on (alike_on (alike_then (alike_join a.next.broken b.next.broken) (λ j k so. alike_then (alike_at (a_pipeline inner) alike_pipeline j.1 k.1 so) (λ p q so'. alike_pushed (alike_give so')))))
+    alike_joined_by a b None same = alike_give same
+
+    alike_join_pipeline : (a b : Joined) → SameJoined a b → Alike (SameStep SameJoined) (join_pipeline inner a) (join_pipeline inner b)
+    unfolding join_pipeline
+    alike_join_pipeline a b same =
+        subst (λ (n : Next). Alike (SameStep SameJoined) (joined_by inner a (and_or_operator_of a.next.token)) (joined_by inner b (and_or_operator_of n.token))) same (alike_joined_by a b (and_or_operator_of a.next.token) same)
 
     alike_and_or : (n : Next) → Alike SameNext (an_and_or inner n) (an_and_or inner n)
     unfolding an_and_or
-    alike_and_or n = alike_then (alike_pipeline n) (λ x y same. alike_give same)
+    alike_and_or n =
+        alike_then (alike_pipeline n) (λ p q same. alike_then (alike_many SameJoined (join_pipeline inner) (join_pipeline inner) alike_join_pipeline (joined_so [] p.1) (joined_so [] q.1) same) (λ a b so. alike_give so))
 
     alike_separator_by : (n : Next) (s : Option Separator) → Alike (λ x y. x ≡ y) (separator_by n s) (separator_by n s)
     alike_separator_by n (Some s) = alike_on (alike_then (alike_next _) (λ m k same. alike_give (ap (λ z. (Some s, z)) same)))
@@ -248,14 +338,6 @@ module _ (g : Given) where
     alike_separator : (n m : Next) → n ≡ m → Alike (λ x y. x ≡ y) (a_separator n) (a_separator m)
     unfolding a_separator
     alike_separator n m same = rw (← same) (alike_separator_by n (separator_of n.token))
-
-    alike_comment_by : (n : Next) (c : Option Comment) → Alike (λ x y. x ≡ y) (comment_by n c) (comment_by n c)
-    alike_comment_by n (Some c) = alike_on (alike_then (alike_next _) (λ m k same. alike_give (ap (λ z. (Some c, z)) same)))
-    alike_comment_by n None = alike_give refl
-
-    alike_comment : (n m : Next) → n ≡ m → Alike (λ x y. x ≡ y) (a_comment n) (a_comment m)
-    unfolding a_comment
-    alike_comment n m same = rw (← same) (alike_see (λ c. alike_comment_by n c))
 
     abbrev SameEntered : Entered → Entered → Type 0
     SameEntered e f = (e.parted ≡ f.parted) × (e.next ≡ f.next)
@@ -278,14 +360,10 @@ module _ (g : Given) where
     alike_one_entry blank pale l m same =
         rw (← same) (alike_then (alike_entry _ _ l.next) (λ e f so. alike_pushed (alike_give (rw (← so.0) (same_step e.parted (line_so _ e.next) (line_so _ f.next) so.1)))))
 
-    alike_entry_by : (blank pale : Bool) (l m : LineSo) (begins : Bool) → SameLine l m → Alike (SameStep SameLine) (entry_by inner blank l begins) (entry_by inner pale m begins)
-    alike_entry_by blank pale l m true same = alike_one_entry blank pale l m same
-    alike_entry_by blank pale l m false same = alike_give same
-
     alike_entry_turn : (blank pale : Bool) (l m : LineSo) → SameLine l m → Alike (SameStep SameLine) (entry_turn inner blank l) (entry_turn inner pale m)
     unfolding entry_turn
     alike_entry_turn blank pale l m same =
-        subst (λ (n : Next). Alike (SameStep SameLine) (entry_by inner blank l (begins_command l.next.token)) (entry_by inner pale m (begins_command n.token))) same (alike_entry_by blank pale l m (begins_command l.next.token) same)
+        alike_pick _ _ (ap (λ (n : Next). begins_pipeline n.token) same) (alike_one_entry blank pale l m same) (alike_give same)
 
     alike_remark_by : (blank pale : Bool) (l m : LineSo) (x : Option Comment × Next) → Alike SameLine (remark_by blank l x) (remark_by pale m x)
     alike_remark_by blank pale l m (Some c, n) = alike_pushed (alike_give refl)
@@ -295,27 +373,15 @@ module _ (g : Given) where
     unfolding a_remark
     alike_remark blank pale l m same = alike_then (alike_comment l.next m.next same) (λ x y so. rw (← so) (alike_remark_by blank pale l m x))
 
-    alike_end_by : (t : Token) → Alike (λ x y. x ≡ y) (end_by t) (end_by t)
-    alike_end_by tokens.Newline = alike_on (alike_give refl)
-    alike_end_by tokens.End = alike_give refl
-    alike_end_by tokens.Semicolon = alike_see (λ p. alike_stop)
-    alike_end_by tokens.Ampersand = alike_see (λ p. alike_stop)
-    alike_end_by tokens.Operator = alike_see (λ p. alike_stop)
-    alike_end_by tokens.Comment = alike_see (λ p. alike_stop)
-    alike_end_by tokens.Number = alike_see (λ p. alike_stop)
-    alike_end_by (tokens.Reserved r) = alike_see (λ p. alike_stop)
-    alike_end_by tokens.Assignment = alike_see (λ p. alike_stop)
-    alike_end_by tokens.Word = alike_see (λ p. alike_stop)
-
-    alike_end : (n m : Next) → n ≡ m → Alike (λ x y. x ≡ y) (end_of_line n.token) (end_of_line m.token)
+    alike_end : (n : Next) → Alike (λ x y. x ≡ y) (end_of_line n) (end_of_line n)
     unfolding end_of_line
-    alike_end n m same = rw (← same) (alike_end_by n.token)
+    alike_end n = alike_pick (is_newline n.token) _ refl (alike_on (alike_give refl)) (alike_pick (is_end n.token) _ refl (alike_give refl) (alike_unexpected n))
 
     pub alike_line : (blank pale : Bool) → Alike SameEnd (a_line inner blank) (a_line inner pale)
     unfolding a_line all_entries
     alike_line blank pale =
         alike_then (alike_next _) (λ n m same. rw (← same) (alike_then (alike_many SameLine (entry_turn inner blank) (entry_turn inner pale) (alike_entry_turn blank pale) (line_so [] n) (line_so [] n) refl)
-        (λ l k same'. alike_then (alike_remark blank pale l k same') (λ j i so. alike_then (alike_end j.next i.next so) (λ x y so'. alike_give so')))))
+        (λ l k same'. alike_then (alike_remark blank pale l k same') (λ j i so. alike_then (alike_at end_of_line alike_end j.next i.next so) (λ x y so'. alike_give so')))))
 
   -- words within words
   pub alike_level : (room : ℕ) → Fits (level room)

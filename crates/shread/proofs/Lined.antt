@@ -3,22 +3,21 @@ use Rattle.std.proofs.Common.{◌≡◌, ℕ, zero, suc, ◌+◌, ◌-◌, ◌�
 use Rattle.std.proofs.lemmas.Bool.{cases_lt}
 use Rattle.std.proofs.lemmas.List.{drop_all}
 use Rattle.shread.specs.declared.fault.Fault.{Fault}
-use Rattle.shread.specs.declared.token.Token.{Token}
-use Rattle.shread.specs.declared.token.Token.TheVariants as tokens
+use Rattle.shread.specs.declared.token.Next.{Next}
 use Rattle.shread.specs.declared.token.Position.TheVariants.{Command}
 use Rattle.shread.specs.Tree.{AnEntry, entries_of}
 use Rattle.shread.specs.Standing.{count_front, raw_stands}
 use Rattle.shread.specs.Bytes.{past, past_below, past_blanks, past_continuations, count_joined}
 use Rattle.shread.specs.Comments.{comment_at}
-use Rattle.shread.specs.Tokens.{token_at}
+use Rattle.shread.specs.Tokens.{is_end, token_at}
 use Rattle.shread.specs.Sights.{Given, given, State, standing}
 use Rattle.shread.specs.Form.{Form, Read, does, many, turns, turns_below}
 use Rattle.shread.specs.Words.{Inner, level}
-use Rattle.shread.specs.Commands.{next_token, a_comment}
+use Rattle.shread.specs.Commands.{is_newline, next_token, a_comment, what_is_wrong}
 use Rattle.shread.specs.Lines.{most_open, entry_turn, all_entries, a_remark, end_by, end_of_line, a_line}
 use Rattle.shread.specs.Scripts.{AScript, SoFar, is_blank_line, with_line, the_line, line_from, script_by, script_below, script_on}
 use Rattle.shread.proofs.Places.{behind_low}
-use Rattle.shread.proofs.Holds.{Holds, Tells, Behind, tells_give, tells_then, tells_so, low}
+use Rattle.shread.proofs.Holds.{Holds, holds_then, holds_so, Tells, Behind, tells_give, tells_then, tells_so, low}
 
 -- ---- a line that a newline ends
 
@@ -26,21 +25,14 @@ use Rattle.shread.proofs.Holds.{Holds, Tells, Behind, tells_give, tells_then, te
 abbrev Ended : State → Bool → State → Type 0
 Ended s newline t = newline ≡ true → s.at < t.at
 
-ended_by : (keep : Bool) (g : Given) (s : State) (token : Token) → Holds (Ended s) (does (end_by token) keep g s)
-ended_by keep g s tokens.Newline = λ e. behind_low g.text s.at
-ended_by keep g s tokens.End = λ e. absurd cc
-ended_by keep g s tokens.Semicolon = tt
-ended_by keep g s tokens.Ampersand = tt
-ended_by keep g s tokens.Operator = tt
-ended_by keep g s tokens.Comment = tt
-ended_by keep g s tokens.Number = tt
-ended_by keep g s (tokens.Reserved r) = tt
-ended_by keep g s tokens.Assignment = tt
-ended_by keep g s tokens.Word = tt
+ended_by : (keep : Bool) (g : Given) (s : State) (newline end : Bool) (n : Next) → Holds (Ended s) (does (end_by newline end n) keep g s)
+ended_by keep g s true end n = λ e. behind_low g.text s.at
+ended_by keep g s false true n = λ e. absurd cc
+ended_by keep g s false false n = holds_then (λ w t. Unit {0}) (Ended s) (does (what_is_wrong n) keep g s) _ (holds_so (Behind s) (λ w t. Unit {0}) _ (low (what_is_wrong n) keep g s).told (λ c t on. tt)) (λ w t so. tt)
 
-end_ended : (keep : Bool) (g : Given) (s : State) (token : Token) → Tells keep g (end_of_line token) (Ended s) s
+end_ended : (keep : Bool) (g : Given) (s : State) (n : Next) → Tells keep g (end_of_line n) (Ended s) s
 unfolding end_of_line
-end_ended keep g s token = record { told = ended_by keep g s token }
+end_ended keep g s n = record { told = ended_by keep g s (is_newline n.token) (is_end n.token) n }
 
 abbrev LineEnded : State → Row AnEntry × Bool → State → Type 0
 LineEnded s x t = x.1 ≡ true → s.at < t.at
@@ -55,7 +47,7 @@ line_ended_low inner blank keep g s =
     tells_then keep g (further keep g (next_token Command) s s (omega arith))
     (λ n t one. tells_then keep g (further keep g (all_entries inner blank n) s t one)
     (λ l u two. tells_then keep g (further keep g (a_remark blank l) s u two)
-    (λ m v three. tells_then keep g (end_ended keep g v m.next.token)
+    (λ m v three. tells_then keep g (end_ended keep g v m.next)
     (λ newline w more. tells_give keep g (λ e. omega (arith, three, more e))))))
 
 -- at the end of the text there is none

@@ -11,68 +11,79 @@ use Rattle.shread.specs.Text.{is_newline}
 use Rattle.shread.specs.Classes.{is_blank, is_operator}
 use Rattle.shread.specs.Standing.{is_byte, is_none, passes, raw_stands, at_end}
 use Rattle.shread.specs.Bytes.{byte_at, behind, ends, ends_word, past_blanks, past_continuations, stands, stands_in}
-use Rattle.shread.specs.Tokens.{first_word, is_number, token_at, token_of, word_by, word_of}
-use Rattle.shread.specs.Clauses.{Shows}
+use Rattle.shread.specs.Tokens.{first_word, is_end, is_number, token_at, token_of, word_by, word_of}
+use Rattle.shread.specs.Clauses.{IsRead, Shows}
 use Rattle.shread.proofs.Places.{blanks_stop, place_same}
 
--- what the byte there is, by the token
-abbrev Byte : Option ℕ → Token → Type 0
-Byte b tokens.End = is_none b ≡ true
-Byte b tokens.Newline = is_byte b 10 ≡ true
-Byte b tokens.Semicolon = is_none b ≡ false
-Byte b tokens.Ampersand = is_none b ≡ false
-Byte b tokens.Operator = Unit {0}
-Byte b tokens.Comment = Unit {0}
-Byte b tokens.Number = Unit {0}
-Byte b (tokens.Reserved r) = Unit {0}
-Byte b tokens.Assignment = ends b ≡ false
-Byte b tokens.Word = ends b ≡ false
+byte_read : (T : List ℕ) (q c : ℕ) (b : Option ℕ) → slice_get T q ≡ b → is_byte b c ≡ true → q < length T
+byte_read T q c None is e = absurd cc
+byte_read T q c (Some b) is e = slice_get_within T q b is
 
-word_is : (b : Option ℕ) (assigns : Bool) → ends b ≡ false → Byte b (word_of assigns)
-word_is b true e = e
-word_is b false e = e
-
-first_is : (b : Option ℕ) (assigns : Bool) (r : Option Reserved) → ends b ≡ false → Byte b (first_word assigns r)
-first_is b assigns None e = word_is b assigns e
-first_is b assigns (Some r) e = tt
-
-in_position : (position : Position) (T : List ℕ) (p : ℕ) (b : Option ℕ) → ends b ≡ false → Byte b (word_by position T p)
-in_position Command T p b e = first_is b _ _ e
-in_position Prefix T p b e = word_is b _ e
-in_position Suffix T p b e = e
-
--- by the byte
-token_byte : (position : Position) (T : List ℕ) (p : ℕ) (b : Option ℕ) → passes is_blank b ≡ false → Byte b (token_of position T p b)
-token_byte position T p None blank = refl
-token_byte position T p (Some b) blank =
-    let P = Byte (Some b) in
-    cond_both (is_newline b) _ _ P (λ e. e)
-    (λ n. cond_both (b == 59) _ _ P (λ e. cond_both (stands T (behind T p) 59) _ _ P (λ f. tt) (λ f. refl))
-    (λ e. cond_both (b == 38) _ _ P (λ f. cond_both (stands T (behind T p) 38) _ _ P (λ g. tt) (λ g. refl))
-    (λ f. cond_both (is_operator b) _ _ P (λ g. tt)
-    (λ o. cond_both (b == 35) _ _ P (λ g. tt)
-    (λ g. cond_both (is_number T p) _ _ P (λ h. tt) (λ h. in_position position T p (Some b) (or_from _ _ (or_from _ _ blank n) o)))))))
+stands_read : (T : List ℕ) (q c : ℕ) → stands T q c ≡ true → IsRead T q
+unfolding stands
+stands_read T q c e = byte_read T (past_continuations T q) c _ refl e
 
 some_read : (T : List ℕ) (q : ℕ) (b : Option ℕ) → slice_get T q ≡ b → is_none b ≡ false → q < length T
 some_read T q None is e = absurd cc
 some_read T q (Some b) is e = slice_get_within T q b is
 
-byte_read : (T : List ℕ) (q : ℕ) (b : Option ℕ) → slice_get T q ≡ b → is_byte b 10 ≡ true → q < length T
-byte_read T q None is e = absurd cc
-byte_read T q (Some b) is e = slice_get_within T q b is
+-- what the bytes at p are, by the token
+abbrev Byte : List ℕ → ℕ → Option ℕ → Token → Type 0
+Byte T p b tokens.End = is_none b ≡ true
+Byte T p b tokens.Newline = is_byte b 10 ≡ true
+Byte T p b tokens.AndIf = IsRead T (behind T p)
+Byte T p b tokens.OrIf = IsRead T (behind T p)
+Byte T p b tokens.Assignment = ends b ≡ false
+Byte T p b tokens.Word = ends b ≡ false
+Byte T p b _ = Unit {0}
 
-shows_by : (T : List ℕ) (p : ℕ) (t : Token) → past_continuations T p ≡ p → Byte (byte_at T p) t → Shows t T p
+module _ (T : List ℕ) (p : ℕ) where
+  word_is : (b : Option ℕ) (assigns : Bool) → ends b ≡ false → Byte T p b (word_of assigns)
+  word_is b true e = e
+  word_is b false e = e
+
+  first_is : (b : Option ℕ) (assigns : Bool) (r : Option Reserved) → ends b ≡ false → Byte T p b (first_word assigns r)
+  first_is b assigns None e = word_is b assigns e
+  first_is b assigns (Some r) e = tt
+
+  in_position : (position : Position) (b : Option ℕ) → ends b ≡ false → Byte T p b (word_by position T p)
+  in_position Command b e = first_is b _ _ e
+  in_position Prefix b e = word_is b _ e
+  in_position Suffix b e = e
+
+  -- by the byte
+  token_byte : (position : Position) (b : Option ℕ) → passes is_blank b ≡ false → Byte T p b (token_of position T p b)
+  token_byte position None blank = refl
+  token_byte position (Some b) blank =
+      let P = Byte T p (Some b) in
+      cond_both (is_newline b) _ _ P (λ e. e)
+      (λ n. cond_both (b == 59) _ _ P (λ e. cond_both (stands T (behind T p) 59) _ _ P (λ f. tt) (λ f. tt))
+      (λ e. cond_both (b == 38) _ _ P (λ f. cond_both (stands T (behind T p) 38) _ _ P (λ g. stands_read T (behind T p) 38 g) (λ g. tt))
+      (λ f. cond_both (b == 124) _ _ P (λ g. cond_both (stands T (behind T p) 124) _ _ P (λ h. stands_read T (behind T p) 124 h) (λ h. tt))
+      (λ i. cond_both (is_operator b) _ _ P (λ g. tt)
+      (λ o. cond_both (b == 35) _ _ P (λ g. tt)
+      (λ g. cond_both (is_number T p) _ _ P (λ h. tt) (λ h. in_position position (Some b) (or_from _ _ (or_from _ _ blank n) o))))))))
+
+  -- a token that is not the end has a byte
+  some_byte : (position : Position) (b : Option ℕ) → is_end (token_of position T p b) ≡ false → is_none b ≡ false
+  some_byte position None e = absurd cc
+  some_byte position (Some b) e = refl
+
+shows_by : (T : List ℕ) (p : ℕ) (t : Token) → past_continuations T p ≡ p → (is_end t ≡ false → IsRead T p) → Byte T p (byte_at T p) t → Shows t T p
 unfolding ends_word raw_stands at_end
-shows_by T p tokens.End still e = (λ z f. absurd cc, λ f. absurd cc, λ f. absurd cc, λ f. ap (λ q. is_none (slice_get T q)) (sym still) ∙ e, λ z f. absurd cc, still)
-shows_by T p tokens.Newline still e = (λ z f. absurd cc, λ f. byte_read T _ _ refl e, λ f. ap (λ q. is_byte (slice_get T q) 10) (sym still) ∙ e, λ f. absurd cc, λ z f. absurd cc, still)
-shows_by T p tokens.Semicolon still e = (λ z f. absurd cc, λ f. absurd cc, λ f. absurd cc, λ f. absurd cc, λ z f. some_read T _ _ refl e, still)
-shows_by T p tokens.Ampersand still e = (λ z f. absurd cc, λ f. absurd cc, λ f. absurd cc, λ f. absurd cc, λ z f. some_read T _ _ refl e, still)
-shows_by T p tokens.Operator still e = (λ z f. absurd cc, λ f. absurd cc, λ f. absurd cc, λ f. absurd cc, λ z f. absurd cc, still)
-shows_by T p tokens.Comment still e = (λ z f. absurd cc, λ f. absurd cc, λ f. absurd cc, λ f. absurd cc, λ z f. absurd cc, still)
-shows_by T p tokens.Number still e = (λ z f. absurd cc, λ f. absurd cc, λ f. absurd cc, λ f. absurd cc, λ z f. absurd cc, still)
-shows_by T p (tokens.Reserved r) still e = (λ z f. absurd cc, λ f. absurd cc, λ f. absurd cc, λ f. absurd cc, λ z f. absurd cc, still)
-shows_by T p tokens.Assignment still e = (λ z f. e, λ f. absurd cc, λ f. absurd cc, λ f. absurd cc, λ z f. absurd cc, still)
-shows_by T p tokens.Word still e = (λ z f. e, λ f. absurd cc, λ f. absurd cc, λ f. absurd cc, λ z f. absurd cc, still)
+shows_by T p tokens.End still some e = (λ z f. absurd cc, some, λ f. absurd cc, λ f. ap (λ q. is_none (slice_get T q)) (sym still) ∙ e, λ o f. absurd cc, still)
+shows_by T p tokens.Newline still some e = (λ z f. absurd cc, some, λ f. ap (λ q. is_byte (slice_get T q) 10) (sym still) ∙ e, λ f. absurd cc, λ o f. absurd cc, still)
+shows_by T p tokens.Semicolon still some e = (λ z f. absurd cc, some, λ f. absurd cc, λ f. absurd cc, λ o f. absurd cc, still)
+shows_by T p tokens.Ampersand still some e = (λ z f. absurd cc, some, λ f. absurd cc, λ f. absurd cc, λ o f. absurd cc, still)
+shows_by T p tokens.AndIf still some e = (λ z f. absurd cc, some, λ f. absurd cc, λ f. absurd cc, λ o f. e, still)
+shows_by T p tokens.OrIf still some e = (λ z f. absurd cc, some, λ f. absurd cc, λ f. absurd cc, λ o f. e, still)
+shows_by T p tokens.Pipe still some e = (λ z f. absurd cc, some, λ f. absurd cc, λ f. absurd cc, λ o f. absurd cc, still)
+shows_by T p tokens.Operator still some e = (λ z f. absurd cc, some, λ f. absurd cc, λ f. absurd cc, λ o f. absurd cc, still)
+shows_by T p tokens.Comment still some e = (λ z f. absurd cc, some, λ f. absurd cc, λ f. absurd cc, λ o f. absurd cc, still)
+shows_by T p tokens.Number still some e = (λ z f. absurd cc, some, λ f. absurd cc, λ f. absurd cc, λ o f. absurd cc, still)
+shows_by T p (tokens.Reserved r) still some e = (λ z f. absurd cc, some, λ f. absurd cc, λ f. absurd cc, λ o f. absurd cc, still)
+shows_by T p tokens.Assignment still some e = (λ z f. e, some, λ f. absurd cc, λ f. absurd cc, λ o f. absurd cc, still)
+shows_by T p tokens.Word still some e = (λ z f. e, some, λ f. absurd cc, λ f. absurd cc, λ o f. absurd cc, still)
 
 pub blanks_still : (T : List ℕ) (p : ℕ) → past_continuations T (past_blanks T p) ≡ past_blanks T p
 unfolding past_blanks
@@ -81,4 +92,6 @@ blanks_still T p = place_same T _
 -- a token says this of the bytes behind blanks
 pub shown : (position : Position) (T : List ℕ) (p : ℕ) → Shows (token_at position T (past_blanks T p)) T (past_blanks T p)
 unfolding token_at stands_in
-shown position T p = shows_by T (past_blanks T p) _ (blanks_still T p) (token_byte position T (past_blanks T p) (byte_at T (past_blanks T p)) (blanks_stop T p))
+shown position T p =
+    let q = past_blanks T p in
+    shows_by T q _ (blanks_still T p) (λ e. some_read T _ _ refl (some_byte T q position (byte_at T q) e)) (token_byte T q position (byte_at T q) (blanks_stop T p))

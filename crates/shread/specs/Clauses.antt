@@ -4,13 +4,14 @@ use Rattle.shread.specs.declared.cursor.Cursor.{Cursor}
 use Rattle.shread.specs.declared.fault.Stop.{Stop}
 use Rattle.shread.specs.declared.fault.Stop.TheVariants.{Memory, Wrong}
 use Rattle.shread.specs.declared.token.Position.{Position}
-use Rattle.shread.specs.declared.token.Separator.{Separator}
 use Rattle.shread.specs.declared.token.Token.{Token}
 use Rattle.shread.specs.declared.token.Token.TheVariants as tokens
+use Rattle.shread.specs.declared.tree.AndOrOperator.{AndOrOperator}
 use Rattle.shread.specs.Standing.{raw_stands, at_end}
-use Rattle.shread.specs.Bytes.{past_continuations, ends_word}
+use Rattle.shread.specs.Bytes.{behind, past_continuations, ends_word}
 use Rattle.shread.specs.Sights.{State, given, standing}
-use Rattle.shread.specs.Commands.{behind_item, separator_of}
+use Rattle.shread.specs.Tokens.{is_end}
+use Rattle.shread.specs.Commands.{and_or_operator_of, behind_item}
 use Rattle.shread.specs.Form.{Form, Read, does}
 
 -- the text of a cursor
@@ -59,5 +60,5 @@ Onward p q false = p ≤ q
 abbrev pub Shows : Token → List ℕ → ℕ → Type 0
 Shows token T p =
     ((position : Position) → behind_item token ≡ Some position → ends_word T p ≡ false)
-    × (token ≡ tokens.Newline → IsRead T p) × (token ≡ tokens.Newline → raw_stands T p 10 ≡ true) × (token ≡ tokens.End → at_end T p ≡ true)
-    × ((separator : Separator) → separator_of token ≡ Some separator → IsRead T p) × (past_continuations T p ≡ p)
+    × (is_end token ≡ false → IsRead T p) × (token ≡ tokens.Newline → raw_stands T p 10 ≡ true) × (token ≡ tokens.End → at_end T p ≡ true)
+    × ((operator : AndOrOperator) → and_or_operator_of token ≡ Some operator → IsRead T (behind T p)) × (past_continuations T p ≡ p)

@@ -1,5 +1,5 @@
 -- Tokens: what begins at a place where no blank stands (XCU 2.3, 2.4, 2.10.1).
-use Rattle.std.specs.Prelude.{ℕ, Bool, true, ◌==◌, ◌&&◌, ◌||◌, List, [], ◌∷◌, List as Row, Option, Some, None, codes, if◌then◌else◌}
+use Rattle.std.specs.Prelude.{ℕ, Bool, true, false, ◌==◌, ◌&&◌, ◌||◌, List, [], ◌∷◌, List as Row, Option, Some, None, codes, if◌then◌else◌}
 use Rattle.shread.specs.declared.token.Next.{Next}
 use Rattle.shread.specs.declared.token.Position.{Position}
 use Rattle.shread.specs.declared.token.Position.TheVariants.{Command, Prefix, Suffix}
@@ -67,10 +67,16 @@ abbrev pub token_of : Position → List ℕ → ℕ → Option ℕ → Token
 token_of position T p None = tokens.End
 token_of position T p (Some b) = if is_newline b then tokens.Newline
     else (if b == 59 then (if stands T (behind T p) 59 then tokens.Operator else tokens.Semicolon)
-    else (if b == 38 then (if stands T (behind T p) 38 then tokens.Operator else tokens.Ampersand)
+    else (if b == 38 then (if stands T (behind T p) 38 then tokens.AndIf else tokens.Ampersand)
+    else (if b == 124 then (if stands T (behind T p) 124 then tokens.OrIf else tokens.Pipe)
     else (if is_operator b then tokens.Operator
     else (if b == 35 then tokens.Comment
-    else (if is_number T p then tokens.Number else word_by position T p)))))
+    else (if is_number T p then tokens.Number else word_by position T p))))))
+
+-- no token begins here
+abbrev pub is_end : Token → Bool
+is_end tokens.End = true
+is_end _ = false
 
 -- what begins at p
 unfoldable pub token_at : Position → List ℕ → ℕ → Token

@@ -3,13 +3,15 @@ use Rattle.shread.specs.declared.tree.Join as the_join
 use Rattle.shread.specs.declared.tree.List as the_list
 use Rattle.shread.specs.declared.tree.Entry as the_entry
 use Rattle.shread.specs.declared.tree.AndOr as the_and_or
+use Rattle.shread.specs.declared.tree.AndOrPart as the_and_or_part
 use Rattle.shread.specs.declared.tree.Pipeline as the_pipeline
+use Rattle.shread.specs.declared.tree.PipelinePart as the_pipeline_part
 use Rattle.shread.specs.declared.tree.Command as the_command
 use Rattle.shread.specs.declared.tree.Item as the_item
 use Rattle.shread.specs.declared.tree.Word as the_word
 use Rattle.shread.specs.declared.tree.Subst as the_subst
 use Rattle.shread.specs.declared.tree.Command.TheOpen.{Command-F, Content-F, ItemContent-F, AndOr-F, AndOrPart-F, Entry-F, Item-F, List-F, Pipeline-F, PipelinePart-F, Subst-F, Word-F}
-use Rattle.shread.specs.declared.tree.Command.TheFolds.{fold-List, fold-Entry, fold-AndOr, fold-Pipeline, fold-Command, fold-Item, fold-Word, fold-Subst}
+use Rattle.shread.specs.declared.tree.Command.TheFolds.{fold-List, fold-Entry, fold-AndOr, fold-AndOrPart, fold-Pipeline, fold-PipelinePart, fold-Command, fold-Item, fold-Word, fold-Subst}
 use Rattle.shread.specs.Tree.{AJoin, Entries, AnEntry, AContent, AnAndOr, AnAndOrPart, APipeline, APipelinePart, ACommand, AnItem, AnItemContent, AWord, ASubst, entry, command, remark, and_or, pipeline, simple, item, assign, argument, word, subst, entries_of, and_or_parts_of, pipeline_parts_of, items_of, substs_of}
 
 abbrev pub view_join : the_join.Join → AJoin
@@ -81,6 +83,12 @@ view_and_or = seen (fold-AndOr _ _ _ _ _ _ _ _ _ _ _ _)
 
 abbrev pub view_pipeline : the_pipeline.Pipeline → APipeline
 view_pipeline = seen (fold-Pipeline _ _ _ _ _ _ _ _ _ _ _ _)
+
+abbrev pub view_and_or_part : the_and_or_part.AndOrPart → AnAndOrPart
+view_and_or_part = seen (fold-AndOrPart _ _ _ _ _ _ _ _ _ _ _ _)
+
+abbrev pub view_pipeline_part : the_pipeline_part.PipelinePart → APipelinePart
+view_pipeline_part = seen (fold-PipelinePart _ _ _ _ _ _ _ _ _ _ _ _)
 
 abbrev pub view_command : the_command.Command → ACommand
 view_command = seen (fold-Command _ _ _ _ _ _ _ _ _ _ _ _)

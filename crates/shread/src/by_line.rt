@@ -19,6 +19,8 @@ const LINES: &[u8] = br###"
 ("#a\\\nb", 0, "#0-3 to 4, ended") ("a # b \n c", 0, "[0-1]#2-5 to 7, ended") ("a\\\nb\nc", 0, "[0-4] to 5, ended")
 ("'a\nb' \"c\nd\"`e\nf`\ng", 0, "[0-5 6-16] to 17, ended") ("${a\n}$((\n))\nb", 0, "[0-11] to 12, ended")
 ("a \\\n b\n\nc", 0, "[0-1 ^5-6] to 7, ended")
+("a &&\nb\nc", 0, "[0-1]&&^[5-6] to 7, ended") ("a |\n#b\nc\nd", 0, "[0-1]|^#4-6[7-8] to 9, ended") ("a &&\n", 0, "fault 12 at 5 to 5")
+("a\nb ||\n\nc\n", 2, "[0-1]||^[6-7] to 10, ended")
 // the lines of one script: spans count from where a line begins, and no line is blank
 ("a\n\nb;c\n#d\n", 0, "[0-1] to 2, ended") ("a\n\nb;c\n#d\n", 2, "blank to 3, ended")
 ("a\n\nb;c\n#d\n", 3, "[0-1] [2-3] to 7, ended") ("a\n\nb;c\n#d\n", 7, "#0-2 to 10, ended") ("a\n\nb;c\n#d\n", 10, "end to 10")

@@ -1,18 +1,18 @@
-//! Simple commands, pipelines and and-or lists (XCU 2.9.1 to 2.9.3).
+//! Commands: simple ones, so far (XCU 2.9, 2.9.1).
 ghost use Rattle.std.specs.Prelude.{◌≡◌, ◌≤◌, map, IfOk};
 ghost use Rattle.shread.specs.Clauses.{Onward, Reads, Shows, Stays, text_of};
-ghost use Rattle.shread.specs.Commands.{a_pipeline, a_simple, an_and_or, as_item, item_turn, so_many};
+ghost use Rattle.shread.specs.Commands.{a_command, a_simple, as_item, item_turn, so_many};
 ghost use Rattle.shread.specs.Form.{many, step_if};
 ghost use Rattle.shread.specs.Tree.{item};
-ghost use Rattle.shread.specs.View.{view_and_or, view_command, view_item, view_pipeline, view_word};
+ghost use Rattle.shread.specs.View.{view_command, view_item, view_word};
 ghost use Rattle.shread.specs.Words.{level};
 
 use crate::cursor::Cursor;
 use crate::fault::Stop;
-use crate::make::{and_or_of, argument_of, assign_of, pipeline_of, simple_of};
+use crate::make::{argument_of, assign_of, simple_of};
 use crate::source::Source;
 use crate::token::{Next, Position};
-use crate::tree::{AndOr, Command, Item, Pipeline, Word};
+use crate::tree::{Command, Item, Word};
 use std::alloc::Global;
 
 /// A word as an item, by the position behind it.
@@ -70,34 +70,26 @@ impl<'a, S: Source> Cursor<'a, S> {
         Ok(simple_of(items))
     }
 
-    #[tactic(auto, unfolding(crate::specs::Commands::a_pipeline))]
-    fn pipeline(&mut self, alloc: Global, next: &mut Next, room: usize) -> Result<Pipeline, Stop>
-        requires shows { Shows next.old.token (text_of S.bytes self.old) self.old.at }
-        ensures value { Reads S.bytes self.old (a_pipeline (level room) next.old) result
-            (λ pipeline. (view_pipeline pipeline, next.new)) self.new.at }
-        ensures shows { IfOk result (λ pipeline. Shows next.new.token (text_of S.bytes self.old) self.new.at) }
-        ensures onward { IfOk result (λ pipeline. self.old.at ≤ self.new.at) }
-        ensures same { Stays self.old self.new }
-    {
-        let first = self.simple(alloc, next, room)?;
-        Ok(pipeline_of(alloc, first))
-    }
-
-    #[tactic(auto, unfolding(crate::specs::Commands::an_and_or))]
-    pub(crate) fn and_or(
+    /// The command that the token here begins.
+    #[inline(always)]
+    #[tactic(auto, unfolding(crate::specs::Commands::a_command))]
+    pub(crate) fn command(
         &mut self,
         alloc: Global,
         next: &mut Next,
         room: usize,
-    ) -> Result<AndOr, Stop>
+    ) -> Result<Command, Stop>
         requires shows { Shows next.old.token (text_of S.bytes self.old) self.old.at }
-        ensures value { Reads S.bytes self.old (an_and_or (level room) next.old) result
-            (λ and_or. (view_and_or and_or, next.new)) self.new.at }
-        ensures shows { IfOk result (λ and_or. Shows next.new.token (text_of S.bytes self.old) self.new.at) }
-        ensures onward { IfOk result (λ and_or. self.old.at ≤ self.new.at) }
+        ensures value { Reads S.bytes self.old (a_command (level room) next.old) result
+            (λ command. (view_command command, next.new)) self.new.at }
+        ensures shows { IfOk result (λ command. Shows next.new.token (text_of S.bytes self.old) self.new.at) }
+        ensures onward { IfOk result (λ command. self.old.at ≤ self.new.at) }
         ensures same { Stays self.old self.new }
     {
-        let first = self.pipeline(alloc, next, room)?;
-        Ok(and_or_of(alloc, first))
+        if next.token.begins_simple() {
+            self.simple(alloc, next, room)
+        } else {
+            Err(Stop::Wrong(self.what_is_wrong(next)))
+        }
     }
 }

@@ -7,6 +7,7 @@
 #![tactic(auto)]
 
 mod all_lines;
+mod and_or;
 #[cfg(test)]
 mod by_line;
 mod bytes;
@@ -17,6 +18,7 @@ mod cursor;
 mod dump;
 mod fault;
 mod first_fault;
+mod join;
 pub mod laws;
 mod line;
 mod line_col;
@@ -25,6 +27,7 @@ mod mode;
 mod offsets;
 mod one_line;
 mod piece;
+mod pipeline;
 mod plain;
 mod reader;
 #[cfg(test)]

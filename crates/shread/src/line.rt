@@ -10,7 +10,7 @@ ghost use Rattle.shread.specs.View.{view_entry};
 ghost use Rattle.shread.specs.Words.{level};
 
 use crate::cursor::Cursor;
-use crate::fault::{FaultKind, Stop};
+use crate::fault::Stop;
 use crate::make::{command_entry, comment_entry};
 use crate::source::Source;
 use crate::token::{Next, Position, Separator, Token};
@@ -37,7 +37,7 @@ impl<'a, S: Source> Cursor<'a, S> {
     /// Passes the comment here, if one stands. `next` is the token here, and then the one behind it.
     #[inline(always)]
     #[tactic(auto, unfolding(crate::specs::Commands::a_comment, crate::specs::Commands::next_token))]
-    fn remark(&mut self, next: &mut Next) -> Option<Comment>
+    pub(crate) fn remark(&mut self, next: &mut Next) -> Option<Comment>
         requires shows { Shows next.old.token (text_of S.bytes self.old) self.old.at }
         ensures value { reads S.bytes self.old (a_comment next.old) ≡ Done ((result, next.new), standing self.new.at) }
         ensures shows { Shows next.new.token (text_of S.bytes self.old) self.new.at }
@@ -99,7 +99,7 @@ impl<'a, S: Source> Cursor<'a, S> {
         ensures onward { IfOk result (Onward self.old.at self.new.at) }
         ensures same { Stays self.old self.new }
     {
-        if !next.token.begins_command() {
+        if !next.token.begins_pipeline() {
             return Ok(false);
         }
         let (entry, parted) = self.entry(alloc, next, blank && entries.is_empty(), room)?;
@@ -158,9 +158,9 @@ impl<'a, S: Source> Cursor<'a, S> {
     /// The newline or the end behind the entries of a line. Answers whether it was a newline.
     #[inline(always)]
     #[tactic(auto, unfolding(crate::specs::Lines::end_of_line, crate::specs::Bytes::behind))]
-    fn end_of_line(&mut self, next: Next) -> Result<bool, Stop>
-        requires shows { Shows next.token (text_of S.bytes self.old) self.old.at }
-        ensures value { Reads S.bytes self.old (end_of_line next.token) result (λ newline. newline) self.new.at }
+    fn end_of_line(&mut self, next: &mut Next) -> Result<bool, Stop>
+        requires shows { Shows next.old.token (text_of S.bytes self.old) self.old.at }
+        ensures value { Reads S.bytes self.old (end_of_line next.old) result (λ newline. newline) self.new.at }
         ensures onward { IfOk result (Onward self.old.at self.new.at) }
         ensures newline { IfOk result (λ newline. newline ≡ true → raw_stands (text_of S.bytes self.old) (self.new.at - 1) 10 ≡
             true) }
@@ -173,7 +173,7 @@ impl<'a, S: Source> Cursor<'a, S> {
                 Ok(true)
             }
             Token::End => Ok(false),
-            _ => Err(self.wrong_at(FaultKind::Unexpected, self.at)),
+            _ => Err(Stop::Wrong(self.what_is_wrong(next))),
         }
     }
 
@@ -195,7 +195,7 @@ impl<'a, S: Source> Cursor<'a, S> {
         let mut next = self.next_token(Position::Command);
         let mut entries = self.entries(alloc, &mut next, blank, room)?;
         self.own_comment(&mut next, blank, &mut entries)?;
-        let newline = self.end_of_line(next)?;
+        let newline = self.end_of_line(&mut next)?;
         Ok((entries, newline))
     }
 }

@@ -1,20 +1,21 @@
 //! The nodes of a tree: one maker for each kind, which says what its node is in the definitions.
-ghost use Rattle.std.specs.Prelude.{◌≡◌, [], map, true, false, None};
-ghost use Rattle.shread.specs.Tree.{and_or, argument, assign, command, entries_of, entry, item, items_of, no_and_or, no_pipe, pipeline, remark, simple, substs_of, word};
-ghost use Rattle.shread.specs.View.{view_and_or, view_command, view_entry, view_item, view_list, view_pipeline, view_subst, view_word};
+ghost use Rattle.std.specs.Prelude.{◌≡◌, map, false, None};
+ghost use Rattle.shread.specs.Tree.{and_or, and_or_parts_of, argument, assign, command, entries_of, entry, item, items_of, pipeline, pipeline_parts_of, remark, simple, substs_of, word};
+ghost use Rattle.shread.specs.View.{view_and_or, view_and_or_part, view_command, view_entry, view_item, view_join, view_list, view_pipeline, view_pipeline_part, view_subst, view_word};
 
 use crate::tree::{
-    AndOr, Command, Comment, Content, Entry, Item, ItemContent, List, Pipeline, Span, Subst, Word,
+    AndOr, AndOrOperator, AndOrPart, Command, Comment, Content, Entry, Item, ItemContent, Join,
+    List, Pipeline, PipelinePart, Span, Subst, Word,
 };
-use std::alloc::Global;
 
+/// A list of these entries (XCU 2.9.3).
 pub(crate) fn list_of(entries: Vec<Entry>) -> List
     ensures { view_list result ≡ entries_of (map view_entry entries.items) }
 {
     List { entries }
 }
 
-/// A command as an entry.
+/// A command as an entry: whether `&` ends it, whether an empty line stands before it, and the comment behind it on its line.
 pub(crate) fn command_entry(
     and_or: AndOr,
     background: bool,
@@ -31,7 +32,7 @@ pub(crate) fn command_entry(
     }
 }
 
-/// A comment on a line of its own.
+/// A comment on a line of its own as an entry; whether an empty line stands before it.
 pub(crate) fn comment_entry(comment: Comment, blank: bool) -> Entry
     ensures { view_entry result ≡ entry (remark comment) false blank None }
 {
@@ -43,33 +44,46 @@ pub(crate) fn comment_entry(comment: Comment, blank: bool) -> Entry
     }
 }
 
-/// An and-or list of one pipeline.
-pub(crate) fn and_or_of(alloc: Global, first: Pipeline) -> AndOr
-    ensures { view_and_or result ≡ and_or (view_pipeline first) no_and_or }
+/// An and-or list of these pipelines (XCU 2.9.3).
+pub(crate) fn and_or_of(first: Pipeline, rest: Vec<AndOrPart>) -> AndOr
+    ensures { view_and_or result ≡ and_or (view_pipeline first) (and_or_parts_of (map view_and_or_part rest.items)) }
 {
-    AndOr {
-        first,
-        rest: Vec::new(alloc),
+    AndOr { first, rest }
+}
+
+/// An operator of an and-or list, what stands around it, and the pipeline behind it.
+pub(crate) fn and_or_part_of(operator: AndOrOperator, join: Join, pipeline: Pipeline) -> AndOrPart
+    ensures { view_and_or_part result ≡ record { operator = operator; join = view_join join; pipeline = view_pipeline pipeline } }
+{
+    AndOrPart {
+        operator,
+        join,
+        pipeline,
     }
 }
 
-/// A pipeline of one command.
-pub(crate) fn pipeline_of(alloc: Global, first: Command) -> Pipeline
-    ensures { view_pipeline result ≡ pipeline None (view_command first) no_pipe }
+/// A pipeline of these commands, and the `!` before it (XCU 2.9.2).
+pub(crate) fn pipeline_of(bang: Option<Span>, first: Command, rest: Vec<PipelinePart>) -> Pipeline
+    ensures { view_pipeline result ≡ pipeline bang (view_command first) (pipeline_parts_of (map view_pipeline_part rest.items)) }
 {
-    Pipeline {
-        bang: None,
-        first,
-        rest: Vec::new(alloc),
-    }
+    Pipeline { bang, first, rest }
 }
 
+/// The command behind a `|`, and what stands around that.
+pub(crate) fn pipeline_part_of(join: Join, command: Command) -> PipelinePart
+    ensures { view_pipeline_part result ≡ record { join = view_join join; command = view_command command } }
+{
+    PipelinePart { join, command }
+}
+
+/// A simple command of these items (XCU 2.9.1).
 pub(crate) fn simple_of(items: Vec<Item>) -> Command
     ensures { view_command result ≡ simple (items_of (map view_item items.items)) }
 {
     Command::Simple { items }
 }
 
+/// A word as an assignment of a simple command; whether a continuation stands before it.
 pub(crate) fn assign_of(word: Word, broken: bool) -> Item
     ensures { view_item result ≡ item broken (assign (view_word word)) }
 {
@@ -79,6 +93,7 @@ pub(crate) fn assign_of(word: Word, broken: bool) -> Item
     }
 }
 
+/// A word as a simple command's name or argument; whether a continuation stands before it.
 pub(crate) fn argument_of(word: Word, broken: bool) -> Item
     ensures { view_item result ≡ item broken (argument (view_word word)) }
 {
@@ -88,6 +103,7 @@ pub(crate) fn argument_of(word: Word, broken: bool) -> Item
     }
 }
 
+/// A word with the substitutions in it.
 pub(crate) fn word_of(span: Span, substs: Vec<Subst>) -> Word
     ensures { view_word result ≡ word span (substs_of (map view_subst substs.items)) }
 {

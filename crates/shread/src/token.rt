@@ -1,15 +1,15 @@
 //! Tokens: what may begin where one begins (XCU 2.3, 2.4, 2.10.1).
-ghost use Rattle.std.specs.Prelude.{◌≡◌, ◌≤◌, [], ◌∷◌, None, Some, if◌then◌else◌};
+ghost use Rattle.std.specs.Prelude.{◌≡◌, ◌≤◌, [], ◌∷◌, IfSome, None, Some, false, if◌then◌else◌};
 ghost use Rattle.shread.specs.Bytes.{past_blanks, past_continuations};
 ghost use Rattle.shread.specs.Classes.{in_class};
 ghost use Rattle.shread.specs.Clauses.{Shows, Stays, text_of};
-ghost use Rattle.shread.specs.Commands.{behind_item, separator_of};
-ghost use Rattle.shread.specs.Lines.{begins_command};
-ghost use Rattle.shread.specs.Tokens.{begins_assignment, first_of_words, is_number, is_word_at, next_at, reserved_at, token_at, word_by};
+ghost use Rattle.shread.specs.Commands.{and_or_operator_of, begins_pipeline, begins_simple, behind_item, separator_of};
+ghost use Rattle.shread.specs.Tokens.{begins_assignment, first_of_words, is_end, is_number, is_word_at, next_at, reserved_at, token_at, word_by};
 
 use crate::cursor::Cursor;
 use crate::plain::{begins_a_word, is_in_names};
 use crate::source::Source;
+use crate::tree::AndOrOperator;
 
 /// What begins at a place that no blank stands at (XCU 2.3, 2.10.1).
 #[derive(Clone, Copy)]
@@ -21,6 +21,12 @@ pub(crate) enum Token {
     Semicolon,
     /// `&`
     Ampersand,
+    /// `&&`
+    AndIf,
+    /// `||`
+    OrIf,
+    /// `|`
+    Pipe,
     /// Any other operator. No row of the grammar takes one yet.
     Operator,
     /// A `#` and what follows it on its line; it belongs to the newline, or the end, behind it.
@@ -48,18 +54,43 @@ impl Token {
         }
     }
 
-    /// Whether a command begins with this token.
+    /// Whether a simple command begins with this token.
     #[inline(always)]
-    pub(crate) fn begins_command(self) -> bool
-        ensures { result ≡ begins_command self }
+    pub(crate) fn begins_simple(self) -> bool
+        ensures { result ≡ begins_simple self }
     {
         matches!(self, Token::Assignment | Token::Word)
+    }
+
+    /// Whether a pipeline begins with this token.
+    #[inline(always)]
+    pub(crate) fn begins_pipeline(self) -> bool
+        ensures { result ≡ begins_pipeline self }
+    {
+        matches!(
+            self,
+            Token::Assignment | Token::Word | Token::Reserved(Reserved::Bang)
+        )
+    }
+
+    /// The operator of an and-or list that this token is, if it is one.
+    #[inline(always)]
+    pub(crate) fn and_or_operator(self) -> Option<AndOrOperator>
+        ensures value { result ≡ and_or_operator_of self }
+        ensures some { IfSome result (λ operator. is_end self ≡ false) }
+    {
+        match self {
+            Token::AndIf => Some(AndOrOperator::And),
+            Token::OrIf => Some(AndOrOperator::Or),
+            _ => None,
+        }
     }
 
     /// The separator that this token is, if it is one.
     #[inline(always)]
     pub(crate) fn separator(self) -> Option<Separator>
-        ensures { result ≡ separator_of self }
+        ensures value { result ≡ separator_of self }
+        ensures some { IfSome result (λ separator. is_end self ≡ false) }
     {
         match self {
             Token::Semicolon => Some(Separator::Semicolon),
@@ -279,12 +310,19 @@ impl<'a, S: Source> Cursor<'a, S> {
             }
             Some(b'&') => {
                 if self.is_next(b'&') {
-                    Token::Operator
+                    Token::AndIf
                 } else {
                     Token::Ampersand
                 }
             }
-            Some(b'|' | b'<' | b'>' | b'(' | b')') => Token::Operator,
+            Some(b'|') => {
+                if self.is_next(b'|') {
+                    Token::OrIf
+                } else {
+                    Token::Pipe
+                }
+            }
+            Some(b'<' | b'>' | b'(' | b')') => Token::Operator,
             Some(b'#') => Token::Comment,
             Some(b'0'..=b'9') if self.is_number() => Token::Number,
             Some(_) => self.word_token(position),

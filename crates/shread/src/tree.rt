@@ -84,7 +84,7 @@ pub struct Join {
 #[cycle(tree)]
 #[derive(Debug, Drop)]
 pub struct Pipeline {
-    /// The `!` before it; it is not read yet.
+    /// The `!` before it.
     pub bang: Option<Span>,
     pub first: Command,
     pub rest: Vec<PipelinePart>,

@@ -37,14 +37,33 @@ pub(crate) const ROWS: &[u8] = br###"
 // continuations in tokens and between them
 ("\\\n", "\\\n\\\n", "\\\n \\\n", "\\\n\n", "") ("a\\\n", "[0-1]") ("a\\\nb", "[0-4]") ("a\\\n\\\nb", "[0-6]")
 ("a\\\n;b", "[0-1] [4-5]") ("a\\\n&b", "[0-1]& [4-5]") ("a \\\n ;b", "[0-1] [6-7]") ("a \\\n &b", "[0-1]& [6-7]")
-("a\\\n(b", "a\\\n|b", "fault 11 at 3") ("a;\\\n;b", "a&\\\n&b", "fault 11 at 1") ("a\\\\\nb", "[0-3] [4-5]") ("\\\r\n", "[0-2]")
+("a\\\n(b", "fault 11 at 3") ("a\\\n|b", "[0-1]|^[4-5]") ("a;\\\n;b", "fault 11 at 1") ("a&\\\n&b", "[0-1]&&[5-6]") ("a\\\\\nb", "[0-3] [4-5]") ("\\\r\n", "[0-2]")
 // bytes in words
 ("a\x0bb", "a\x0cb", "[0-3]") ("\x0b", "\x00", "[0-1]") ("a \x0c b", "[0-1 2-3 4-5]") ("a\r", "\xff\x80", "[0-2]")
 // operators
 (";", "&", "(a)", ")", "<a", ">a", "|a", "fault 11 at 0")
-("a;;b", "a&&b", "a|b", "a||b", "a<b", "a>b", "a(b", "a)b", "f()", "fault 11 at 1")
+("a;;b", "a<b", "a>b", "a(b", "a)b", "f()", "fault 11 at 1")
 ("a ;; b", "a;&b", "a;&&b", "a&;b", "a&;;", "a&>f", "a=(b", "fault 11 at 2") ("a; ;b", "fault 11 at 3")
 ("a & &b", "a ; |", "fault 11 at 4")
+// joins
+("a&&b", "[0-1]&&[3-4]") ("a||b", "[0-1]||[3-4]") ("a|b", "[0-1]|[2-3]") ("a&&b||c", "[0-1]&&[3-4]||[6-7]") ("a|b|c", "[0-1]|[2-3]|[4-5]")
+("a|b&&c|d", "[0-1]|[2-3]&&[5-6]|[7-8]") ("a && b&", "[0-1]&&[5-6]&") ("a|b;c||d", "[0-1]|[2-3] [4-5]||[7-8]")
+("a x|b y", "[0-1 2-3]|[4-5 6-7]") ("a=1|b=2", "[=0-3]|[=4-7]") ("a&&b #c", "[0-1]&&[3-4]#5-7") ("a & b && c &", "[0-1]& [4-5]&&[9-10]&")
+// broken joins: a newline or a continuation on either side, and none inside the operator
+("a&&\nb", "[0-1]&&^[4-5]") ("a||\nb", "[0-1]||^[4-5]") ("a|\nb", "[0-1]|^[3-4]") ("a&&\\\nb", "a\\\n&&b", "[0-1]&&^[5-6]")
+("a &\\\n& b", "[0-1]&&[7-8]") ("a|\\\n|b", "[0-1]||[5-6]") ("a |\\\n b", "a \\\n| b", "[0-1]|^[6-7]") ("a &&\n\n\nb", "[0-1]&&^[7-8]")
+("a &&\n\nb\n\nc", "[0-1]&&^[6-7] ~[9-10]")
+// comments between operands
+("a && #b\nc", "[0-1]&&^#5-7[8-9]") ("a |\n#b\n\n # c\nd", "[0-1]|^#4-6#9-12[13-14]") ("a && #b \\\nc", "[0-1]&&^#5-9[10-11]")
+("a ||\n# c\nb # d", "[0-1]||^#5-8[9-10]#11-14")
+// `!` before a pipeline
+("! a", "!0-1[2-3]") ("!\\\n a", "!0-1[4-5]") ("! a|b", "!0-1[2-3]|[4-5]") ("! a && ! b", "!0-1[2-3]&&!7-8[9-10]") ("! a=1 b", "!0-1[=2-5 6-7]")
+("a;! b", "[0-1] !2-3[4-5]") ("!", "fault 12 at 1") ("!\na", "fault 11 at 1") ("! ! a", "! | a", "! if", "! ;", "! <a", "! (", "fault 11 at 2")
+("! #a", "fault 12 at 4") ("! #a\nb", "fault 11 at 4") ("! 'a", "fault 1 at 2")
+// an operand is missing
+("a &&", "a ||", "fault 12 at 4") ("a|", "fault 12 at 2") ("a && #b", "fault 12 at 7") ("a |\n\n#b\n", "fault 12 at 8") ("a &&\nb |\n", "fault 12 at 9")
+("a && && b", "a && ;", "a || )", "a && fi", "a || 1<", "fault 11 at 5") ("a | | b", "a | ! b", "a | !", "fault 11 at 4") ("a |;", "a |&b", "fault 11 at 3")
+("a && ! ! b", "fault 11 at 7") ("a && 'b", "fault 1 at 5") ("a |\n\"b", "fault 2 at 4") ("a\nb &&", "[0-1] fault 12 at 6") ("a &&\n;", "fault 11 at 5")
 // a fault, and the entries of the lines before
 ("a\n;b", "a\n$(b)", "[0-1] fault 11 at 2") ("a;b\n;", "[0-1] [2-3] fault 11 at 4") ("a\nb;(", "[0-1] fault 11 at 4")
 ("a\n\n;", "[0-1] fault 11 at 3") ("#a\n;", "#0-2 fault 11 at 3") ("a #b\n(", "[0-1]#2-4 fault 11 at 5")
@@ -60,7 +79,7 @@ pub(crate) const ROWS: &[u8] = br###"
 ("a=1 1=2 b=3", "[=0-3 4-7 8-11]") ("a=1;b=2", "[=0-3] [=4-7]") ("a=1&", "[=0-3]&") ("a='b c'", "[=0-7]")
 ("a\\\n=1", "a=\\\n1", "[=0-5]") ("a\\\nb=1", "[=0-6]")
 // reserved words
-("!", "{", "}", "case", "do", "done", "elif", "else", "esac", "fi", "for", "if", "in", "then", "until", "while", "if a", "i\\\nf",
+("{", "}", "case", "do", "done", "elif", "else", "esac", "fi", "for", "if", "in", "then", "until", "while", "if a", "i\\\nf",
   "if\\\n", "if\\\n\\\n;", "f\\\nor", "w\\\nhi\\\n\\\nle\\\n;", "fault 11 at 0")
 ("a;if", "a&then b", "a;case", "a;do", "a;done", "a;elif", "a;else", "a;esac", "a;fi", "a;for", "a;in", "a;until", "a;while",
   "\\\nif", "fault 11 at 2")
@@ -72,7 +91,7 @@ pub(crate) const ROWS: &[u8] = br###"
 ("return;export;foreach", "[0-6] [7-13] [14-21]")
 // numbers
 ("9", "[0-1]") ("9 8", "[0-1 2-3]") ("9<", "9>", "0<", "12<", "9\\\n<", "9\\\n8\\\n>", "9\\\n8<", "fault 11 at 0")
-(":<", "/<", "9|", "fault 11 at 1") ("9&b", "[0-1]& [2-3]")
+(":<", "/<", "fault 11 at 1") ("9|", "fault 12 at 2") ("9&b", "[0-1]& [2-3]")
 ("9=<", "1a<", "a1<", "9 <", "\\9<", "$9<", "a 12>b", "a;9<", "\\\n9<", "fault 11 at 2") ("'9'<", "fault 11 at 3")
 ("a 12b>", "fault 11 at 5") ("a 9'", "fault 1 at 3") ("a=1 9<", "9\\\n <", "9\\\na<", "fault 11 at 4")
 // escapes
@@ -155,10 +174,10 @@ pub(crate) const ROWS: &[u8] = br###"
 ("\n\na#b;#c \t\r \n\n\n# d\n", "[2-5]#6-11 ~#15-18") ("if=1 =x _9=\x00 1=2 $ $$$", "[=0-4 5-7 8-12 13-16 17-18 19-22]")
 ("a;b&\nin'", "[0-1] [2-3]& fault 1 at 7") ("a\n\n\n\n\n b\n2>c\n", "[0-1] ~[7-8] fault 11 at 9")
 ("a\nb $$${c", "[0-1] fault 4 at 6") ("a \\\n b\\\nc=\\ \\\n#d", "[0-1 ^5-16]")
-("i\\\nf=1 x\\\n\\\n=2 \\\n'a\n\\\nb'c\\\n\n", "[=0-6 =7-14 ^17-25]") ("a\\\n;\\\n\\\nb &\\\n& c", "fault 11 at 10")
+("i\\\nf=1 x\\\n\\\n=2 \\\n'a\n\\\nb'c\\\n\n", "[=0-6 =7-14 ^17-25]") ("a\\\n;\\\n\\\nb &\\\n& c", "[0-1] [8-9]&&[15-16]")
 // a fault of each kind, in a script of one line
-("in\n", "! a\n", ";a\n", "fault 11 at 0") ("\t}\n", "a;;", "fault 11 at 1") ("a & ; b\n", "fault 11 at 4")
-("a ;; b\n", "a && b", "a 12<b", "fault 11 at 2") ("a12>b", "fault 11 at 3") ("a'\n", "fault 1 at 1") ("echo 'a", "fault 1 at 5")
+("in\n", ";a\n", "fault 11 at 0") ("! a\n", "!0-1[2-3]") ("\t}\n", "a;;", "fault 11 at 1") ("a & ; b\n", "fault 11 at 4")
+("a ;; b\n", "a 12<b", "fault 11 at 2") ("a && b", "[0-1]&&[5-6]") ("a12>b", "fault 11 at 3") ("a'\n", "fault 1 at 1") ("echo 'a", "fault 1 at 5")
 ("echo $((1+(2))\n", "fault 6 at 13") ("${x-\\", "fault 8 at 4") ("a `b\\`", "fault 3 at 2") ("a \"b", "fault 2 at 2")
 ("${x-$((1", "fault 5 at 4") ("${x-\"", "fault 2 at 4") ("${x-\"}\"", "$\\\n{x", "${x%${y-'}'}", "fault 4 at 0")
 ("${x-'}", "fault 1 at 4") ("a$\\\n{x-\\\n\"", "fault 2 at 9") ("echo \"${x#'}\"\n", "\"${1\\\n0\\\n%'}\"", "fault 1 at 10")
@@ -232,34 +251,34 @@ fn trees(rt: HostRuntime) -> Result<(), Fail> {
 /// for all others.
 const BYTES: &[u8] = br###"
 // between two letters
-("a" ? "b", "\t ": "[0-1 2-3]", "\n;": "[0-1] [2-3]", "&": "[0-1]& [2-3]", "()<>|": "fault 11 at 1", "'": "fault 1 at 1",
-  "\"": "fault 2 at 1", "`": "fault 3 at 1", "=": "[=0-3]", "": "[0-3]")
+("a" ? "b", "\t ": "[0-1 2-3]", "\n;": "[0-1] [2-3]", "&": "[0-1]& [2-3]", "|": "[0-1]|[2-3]", "()<>": "fault 11 at 1",
+  "'": "fault 1 at 1", "\"": "fault 2 at 1", "`": "fault 3 at 1", "=": "[=0-3]", "": "[0-3]")
 // where a command begins
 ("" ? "b", "\t\n ": "[1-2]", "#": "#0-2", "&()<>|;": "fault 11 at 0", "'": "fault 1 at 0", "\"": "fault 2 at 0",
   "`": "fault 3 at 0", "": "[0-2]")
 // a command of one byte
-("" ? " ", "\t\n ": "", "#": "#0-1", "!&()<>|;{}": "fault 11 at 0", "'": "fault 1 at 0", "\"": "fault 2 at 0",
+("" ? " ", "\t\n ": "", "#": "#0-1", "&()<>|;{}": "fault 11 at 0", "!": "fault 12 at 2", "'": "fault 1 at 0", "\"": "fault 2 at 0",
   "`": "fault 3 at 0", "\\": "[0-2]", "": "[0-1]")
 // behind a reserved word
 ("if" ? "", "\t\n &()<>|;": "fault 11 at 0", "=": "[=0-3]", "'": "fault 1 at 2", "\"": "fault 2 at 2", "`": "fault 3 at 2",
   "\\": "fault 8 at 2", "": "[0-3]")
 // behind a continuation
-("a\\\n" ? "", "\t\n ;": "[0-1]", "&": "[0-1]&", "()<>|": "fault 11 at 3", "=": "[=0-4]", "'": "fault 1 at 3",
+("a\\\n" ? "", "\t\n ;": "[0-1]", "&": "[0-1]&", "()<>": "fault 11 at 3", "|": "fault 12 at 4", "=": "[=0-4]", "'": "fault 1 at 3",
   "\"": "fault 2 at 3", "`": "fault 3 at 3", "\\": "fault 8 at 3", "": "[0-4]")
 // behind a backslash, and before a newline
 ("a\\" ? " b", "\n": "[0-1 ^4-5]", "": "[0-3 4-5]")
 ("a " ? "\nb", "\\": "[0-1 ^4-5]", "\t ;": "[0-1] [4-5]", "\n": "[0-1] ~[4-5]", "&": "[0-1]& [4-5]", "#": "[0-1]#2-3 [4-5]",
-  "()<>|": "fault 11 at 2", "'": "fault 1 at 2", "\"": "fault 2 at 2", "`": "fault 3 at 2", "": "[0-1 2-3] [4-5]")
+  "|": "[0-1]|^[4-5]", "()<>": "fault 11 at 2", "'": "fault 1 at 2", "\"": "fault 2 at 2", "`": "fault 3 at 2", "": "[0-1 2-3] [4-5]")
 ("a \\" ? " b", "\n": "[0-1 ^5-6]", "": "[0-1 2-4 5-6]")
 // behind `;` and `&`
 ("a;" ? "b", ";": "fault 11 at 1", "\t\n ": "[0-1] [3-4]", "#": "[0-1]#2-4", "&()<>|": "fault 11 at 2", "'": "fault 1 at 2",
   "\"": "fault 2 at 2", "`": "fault 3 at 2", "": "[0-1] [2-4]")
-("a;" ? "", ";": "fault 11 at 1", "\t\n ": "[0-1]", "#": "[0-1]#2-3", "!&()<>|{}": "fault 11 at 2", "'": "fault 1 at 2",
+("a;" ? "", ";": "fault 11 at 1", "\t\n ": "[0-1]", "#": "[0-1]#2-3", "!": "fault 12 at 3", "&()<>|{}": "fault 11 at 2", "'": "fault 1 at 2",
   "\"": "fault 2 at 2", "`": "fault 3 at 2", "\\": "fault 8 at 2", "": "[0-1] [2-3]")
-("a&" ? "", "&": "fault 11 at 1", "\t\n ": "[0-1]&", "#": "[0-1]&#2-3", "!;()<>|{}": "fault 11 at 2", "'": "fault 1 at 2",
+("a&" ? "", "&!": "fault 12 at 3", "\t\n ": "[0-1]&", "#": "[0-1]&#2-3", ";()<>|{}": "fault 11 at 2", "'": "fault 1 at 2",
   "\"": "fault 2 at 2", "`": "fault 3 at 2", "\\": "fault 8 at 2", "": "[0-1]& [2-3]")
 // comments
-("a" ? "#b", "\t ;": "[0-1]#2-4", "\n": "[0-1] #2-4", "&": "[0-1]&#2-4", "=": "[=0-4]", "()<>|": "fault 11 at 1",
+("a" ? "#b", "\t ;": "[0-1]#2-4", "\n": "[0-1] #2-4", "&": "[0-1]&#2-4", "=": "[=0-4]", "()<>": "fault 11 at 1", "|": "fault 12 at 4",
   "'": "fault 1 at 1", "\"": "fault 2 at 1", "`": "fault 3 at 1", "": "[0-4]")
 ("#a" ? "", "\t\n ": "#0-2", "": "#0-3")
 ("#" ? "b", "\n": "#0-1 [2-3]", "": "#0-3")
@@ -267,14 +286,14 @@ const BYTES: &[u8] = br###"
 ("" ? "=1", "ABCDEFGHIJKLMNOPQRSTUVWXYZ_abcdefghijklmnopqrstuvwxyz": "[=0-3]", "\t\n ": "[1-3]", "#": "#0-3",
   "&()<>|;": "fault 11 at 0", "'": "fault 1 at 0", "\"": "fault 2 at 0", "`": "fault 3 at 0", "": "[0-3]")
 ("a" ? "=1", "ABCDEFGHIJKLMNOPQRSTUVWXYZ_abcdefghijklmnopqrstuvwxyz0123456789=": "[=0-4]", "\t ": "[0-1 2-4]",
-  "\n;": "[0-1] [2-4]", "&": "[0-1]& [2-4]", "()<>|": "fault 11 at 1", "'": "fault 1 at 1", "\"": "fault 2 at 1",
+  "\n;": "[0-1] [2-4]", "&": "[0-1]& [2-4]", "|": "[0-1]|[2-4]", "()<>": "fault 11 at 1", "'": "fault 1 at 1", "\"": "fault 2 at 1",
   "`": "fault 3 at 1", "": "[0-4]")
 // numbers
-("a " ? "<", "0123456789()<>|": "fault 11 at 2", "\n": "[0-1] fault 11 at 3", "#": "[0-1]#2-4", "\\": "[0-1 2-4]",
+("a " ? "<", "0123456789()<>": "fault 11 at 2", "\n": "[0-1] fault 11 at 3", "#": "[0-1]#2-4", "\\": "[0-1 2-4]",
   "'": "fault 1 at 2", "\"": "fault 2 at 2", "`": "fault 3 at 2", "": "fault 11 at 3")
-("a 9" ? "<", "0123456789<>": "fault 11 at 2", "()|": "fault 11 at 3", "\n": "[0-1 2-3] fault 11 at 4", "\\": "[0-1 2-5]",
+("a 9" ? "<", "0123456789<>": "fault 11 at 2", "()": "fault 11 at 3", "\n": "[0-1 2-3] fault 11 at 4", "\\": "[0-1 2-5]",
   "'": "fault 1 at 3", "\"": "fault 2 at 3", "`": "fault 3 at 3", "": "fault 11 at 4")
-("a 9" ? "", "<>": "fault 11 at 2", "()|": "fault 11 at 3", "\t\n ;": "[0-1 2-3]", "&": "[0-1 2-3]&", "\\": "fault 8 at 3",
+("a 9" ? "", "<>": "fault 11 at 2", "()": "fault 11 at 3", "|": "fault 12 at 4", "\t\n ;": "[0-1 2-3]", "&": "[0-1 2-3]&", "\\": "fault 8 at 3",
   "'": "fault 1 at 3", "\"": "fault 2 at 3", "`": "fault 3 at 3", "": "[0-1 2-4]")
 // quoted
 ("\\" ? "", "\n": "", "": "[0-2]")
@@ -284,10 +303,10 @@ const BYTES: &[u8] = br###"
 ("\"" ? "\"", "\"": "fault 2 at 2", "\\": "fault 2 at 0", "`": "fault 3 at 1", "": "[0-3]")
 ("\"\\" ? "\"", "": "[0-4]")
 // before `{`
-("a" ? "{", "\t ": "[0-1 2-3]", "\n": "[0-1] fault 11 at 2", "&;": "fault 11 at 2", "()<>|": "fault 11 at 1", "$": "fault 4 at 1",
+("a" ? "{", "\t ": "[0-1 2-3]", "\n": "[0-1] fault 11 at 2", "&;|": "fault 11 at 2", "()<>": "fault 11 at 1", "$": "fault 4 at 1",
   "'": "fault 1 at 1", "\"": "fault 2 at 1", "`": "fault 3 at 1", "=": "[=0-3]", "": "[0-3]")
 // behind a `$`, and behind `$(`
-("$" ? "", "(": "fault 11 at 0", "{": "fault 4 at 0", "\t\n ;": "[0-1]", "&": "[0-1]&", ")<>|": "fault 11 at 1",
+("$" ? "", "(": "fault 11 at 0", "{": "fault 4 at 0", "\t\n ;": "[0-1]", "&": "[0-1]&", ")<>": "fault 11 at 1", "|": "fault 12 at 2",
   "'": "fault 1 at 1", "\"": "fault 2 at 1", "`": "fault 3 at 1", "\\": "fault 8 at 1", "": "[0-2]")
 ("$(" ? "", "(": "fault 5 at 0", "": "fault 11 at 0")
 // parameters, and where a pattern begins

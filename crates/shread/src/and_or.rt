@@ -1,0 +1,90 @@
+//! And-or lists: pipelines joined by `&&` and `||` (XCU 2.9.3).
+ghost use Rattle.std.specs.Prelude.{◌≡◌, ◌≤◌, [], map, IfOk};
+ghost use Rattle.shread.specs.Clauses.{Onward, Reads, Shows, Stays, text_of};
+ghost use Rattle.shread.specs.Commands.{an_and_or, join_pipeline, joined_so};
+ghost use Rattle.shread.specs.Form.{many, step_if};
+ghost use Rattle.shread.specs.Words.{level};
+ghost use Rattle.shread.specs.View.{view_and_or, view_and_or_part};
+
+use crate::cursor::Cursor;
+use crate::fault::Stop;
+use crate::make::{and_or_of, and_or_part_of};
+use crate::source::Source;
+use crate::token::Next;
+use crate::tree::{AndOr, AndOrPart};
+use std::alloc::Global;
+
+impl<'a, S: Source> Cursor<'a, S> {
+    /// One more pipeline of an and-or list, behind `&&` or `||`. Answers whether there was one.
+    #[inline(always)]
+    #[tactic(auto, unfolding(crate::specs::Commands::join_pipeline))]
+    fn join_pipeline(
+        &mut self,
+        alloc: Global,
+        next: &mut Next,
+        parts: &mut Vec<AndOrPart>,
+        room: usize,
+    ) -> Result<bool, Stop>
+        requires shows { Shows next.old.token (text_of S.bytes self.old) self.old.at }
+        ensures value { Reads S.bytes self.old
+            (join_pipeline (level room) (joined_so (map view_and_or_part parts.old.items) next.old)) result
+            (λ more. step_if more (joined_so (map view_and_or_part parts.new.items) next.new)) self.new.at }
+        ensures shows { IfOk result (λ more. Shows next.new.token (text_of S.bytes self.old) self.new.at) }
+        ensures onward { IfOk result (Onward self.old.at self.new.at) }
+        ensures same { Stays self.old self.new }
+    {
+        let Some(operator) = next.token.and_or_operator() else {
+            return Ok(false);
+        };
+        self.bump();
+        self.bump();
+        let join = self.join(alloc, next)?;
+        let pipeline = self.pipeline(alloc, next, room)?;
+        if self.keep {
+            parts.push(and_or_part_of(operator, join, pipeline))?;
+        }
+        Ok(true)
+    }
+
+    /// The pipelines of an and-or list behind its first.
+    #[inline(always)]
+    #[tactic(auto, using(crate::proofs::Turns::many_again, crate::proofs::Turns::many_done, crate::proofs::Turns::many_stop))]
+    fn joined_pipelines(
+        &mut self,
+        alloc: Global,
+        next: &mut Next,
+        room: usize,
+    ) -> Result<Vec<AndOrPart>, Stop>
+        requires shows { Shows next.old.token (text_of S.bytes self.old) self.old.at }
+        ensures value { Reads S.bytes self.old (many (join_pipeline (level room)) (joined_so [] next.old)) result
+            (λ parts. joined_so (map view_and_or_part parts.items) next.new) self.new.at }
+        ensures shows { IfOk result (λ parts. Shows next.new.token (text_of S.bytes self.old) self.new.at) }
+        ensures onward { IfOk result (λ parts. self.old.at ≤ self.new.at) }
+        ensures same { Stays self.old self.new }
+    {
+        let mut parts = Vec::new(alloc);
+        'turns: while self.join_pipeline(alloc, next, &mut parts, room)? {}
+        Ok(parts)
+    }
+
+    /// The and-or list that the token here begins.
+    #[inline(always)]
+    #[tactic(auto, unfolding(crate::specs::Commands::an_and_or))]
+    pub(crate) fn and_or(
+        &mut self,
+        alloc: Global,
+        next: &mut Next,
+        room: usize,
+    ) -> Result<AndOr, Stop>
+        requires shows { Shows next.old.token (text_of S.bytes self.old) self.old.at }
+        ensures value { Reads S.bytes self.old (an_and_or (level room) next.old) result
+            (λ and_or. (view_and_or and_or, next.new)) self.new.at }
+        ensures shows { IfOk result (λ and_or. Shows next.new.token (text_of S.bytes self.old) self.new.at) }
+        ensures onward { IfOk result (λ and_or. self.old.at ≤ self.new.at) }
+        ensures same { Stays self.old self.new }
+    {
+        let first = self.pipeline(alloc, next, room)?;
+        let rest = self.joined_pipelines(alloc, next, room)?;
+        Ok(and_or_of(first, rest))
+    }
+}

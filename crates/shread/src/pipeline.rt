@@ -1,0 +1,110 @@
+//! Pipelines (XCU 2.9.2).
+ghost use Rattle.std.specs.Prelude.{◌≡◌, ◌≤◌, [], map, IfOk, Ok as Done};
+ghost use Rattle.shread.specs.Clauses.{Onward, Reads, reads, Shows, Stays, text_of};
+ghost use Rattle.shread.specs.Commands.{a_bang, a_pipeline, pipe_turn, piped};
+ghost use Rattle.shread.specs.Form.{many, step_if};
+ghost use Rattle.shread.specs.Sights.{standing};
+ghost use Rattle.shread.specs.Words.{level};
+ghost use Rattle.shread.specs.View.{view_pipeline, view_pipeline_part};
+
+use crate::cursor::Cursor;
+use crate::fault::Stop;
+use crate::make::{pipeline_of, pipeline_part_of};
+use crate::source::Source;
+use crate::token::{Next, Position, Reserved, Token};
+use crate::tree::{Pipeline, PipelinePart, Span};
+use std::alloc::Global;
+
+impl<'a, S: Source> Cursor<'a, S> {
+    /// Passes the `!` of a pipeline, if one stands here.
+    #[inline(always)]
+    #[tactic(auto, unfolding(crate::specs::Commands::a_bang, crate::specs::Commands::next_token))]
+    fn bang(&mut self, next: &mut Next) -> Option<Span>
+        requires shows { Shows next.old.token (text_of S.bytes self.old) self.old.at }
+        ensures value { reads S.bytes self.old (a_bang next.old) ≡ Done ((result, next.new), standing self.new.at) }
+        ensures shows { Shows next.new.token (text_of S.bytes self.old) self.new.at }
+        ensures onward { self.old.at ≤ self.new.at }
+        ensures same { Stays self.old self.new }
+    {
+        let Token::Reserved(Reserved::Bang) = next.token else {
+            return None;
+        };
+        let start = self.at;
+        self.bump();
+        let span = self.span_from(start);
+        *next = self.next_token(Position::Command);
+        Some(span)
+    }
+
+    /// One more command of a pipeline, behind a `|`. Answers whether there was one.
+    #[inline(always)]
+    #[tactic(auto, unfolding(crate::specs::Commands::pipe_turn))]
+    fn pipe(
+        &mut self,
+        alloc: Global,
+        next: &mut Next,
+        parts: &mut Vec<PipelinePart>,
+        room: usize,
+    ) -> Result<bool, Stop>
+        requires shows { Shows next.old.token (text_of S.bytes self.old) self.old.at }
+        ensures value { Reads S.bytes self.old (pipe_turn (level room) (piped (map view_pipeline_part parts.old.items) next.old)) result
+            (λ more. step_if more (piped (map view_pipeline_part parts.new.items) next.new)) self.new.at }
+        ensures shows { IfOk result (λ more. Shows next.new.token (text_of S.bytes self.old) self.new.at) }
+        ensures onward { IfOk result (Onward self.old.at self.new.at) }
+        ensures same { Stays self.old self.new }
+    {
+        let Token::Pipe = next.token else {
+            return Ok(false);
+        };
+        self.bump();
+        let join = self.join(alloc, next)?;
+        let command = self.command(alloc, next, room)?;
+        if self.keep {
+            parts.push(pipeline_part_of(join, command))?;
+        }
+        Ok(true)
+    }
+
+    /// The commands of a pipeline behind its first.
+    #[inline(always)]
+    #[tactic(auto, using(crate::proofs::Turns::many_again, crate::proofs::Turns::many_done, crate::proofs::Turns::many_stop))]
+    fn pipes(
+        &mut self,
+        alloc: Global,
+        next: &mut Next,
+        room: usize,
+    ) -> Result<Vec<PipelinePart>, Stop>
+        requires shows { Shows next.old.token (text_of S.bytes self.old) self.old.at }
+        ensures value { Reads S.bytes self.old (many (pipe_turn (level room)) (piped [] next.old)) result
+            (λ parts. piped (map view_pipeline_part parts.items) next.new) self.new.at }
+        ensures shows { IfOk result (λ parts. Shows next.new.token (text_of S.bytes self.old) self.new.at) }
+        ensures onward { IfOk result (λ parts. self.old.at ≤ self.new.at) }
+        ensures same { Stays self.old self.new }
+    {
+        let mut parts = Vec::new(alloc);
+        'turns: while self.pipe(alloc, next, &mut parts, room)? {}
+        Ok(parts)
+    }
+
+    /// The pipeline that the token here begins.
+    #[inline(always)]
+    #[tactic(auto, unfolding(crate::specs::Commands::a_pipeline))]
+    pub(crate) fn pipeline(
+        &mut self,
+        alloc: Global,
+        next: &mut Next,
+        room: usize,
+    ) -> Result<Pipeline, Stop>
+        requires shows { Shows next.old.token (text_of S.bytes self.old) self.old.at }
+        ensures value { Reads S.bytes self.old (a_pipeline (level room) next.old) result
+            (λ pipeline. (view_pipeline pipeline, next.new)) self.new.at }
+        ensures shows { IfOk result (λ pipeline. Shows next.new.token (text_of S.bytes self.old) self.new.at) }
+        ensures onward { IfOk result (λ pipeline. self.old.at ≤ self.new.at) }
+        ensures same { Stays self.old self.new }
+    {
+        let bang = self.bang(next);
+        let first = self.command(alloc, next, room)?;
+        let rest = self.pipes(alloc, next, room)?;
+        Ok(pipeline_of(bang, first, rest))
+    }
+}
