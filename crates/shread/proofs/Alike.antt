@@ -5,20 +5,27 @@ use Rattle.shread.specs.declared.fault.FaultKind.{FaultKind}
 use Rattle.shread.specs.declared.mode.Mode.{Mode}
 use Rattle.shread.specs.declared.mode.Piece.{Piece}
 use Rattle.shread.specs.declared.mode.Piece.TheVariants as pieces
+use Rattle.shread.specs.declared.token.Closing.{Closing}
+use Rattle.shread.specs.declared.token.Closing.TheVariants as closings
 use Rattle.shread.specs.declared.token.Next.{Next}
+use Rattle.shread.specs.declared.token.Opener.{Opener}
+use Rattle.shread.specs.declared.token.Opener.TheVariants as openers
 use Rattle.shread.specs.declared.token.Position.{Position}
 use Rattle.shread.specs.declared.token.Separator.{Separator}
-use Rattle.shread.specs.declared.tree.Comment.{Comment}
-use Rattle.shread.specs.declared.tree.Span.{Span}
-use Rattle.shread.specs.declared.tree.AndOrOperator.{AndOrOperator}
-use Rattle.shread.specs.Tree.{AJoin, ASubst, AnEntry}
+use Rattle.shtree.specs.declared.tree.Comment.{Comment}
+use Rattle.shtree.specs.declared.tree.Span.{Span}
+use Rattle.shtree.specs.declared.tree.AndOrOperator.{AndOrOperator}
+use Rattle.shtree.specs.Tree.{AJoin, ASubst, AnEntry}
 use Rattle.shread.specs.Comments.{span}
 use Rattle.shread.specs.Sights.{Given, State, Sight, seen, the_piece, Move}
-use Rattle.shread.specs.Form.{Read, ◌▸◌, Form, give, see, move, push, stop, both, when, token, many, Step, again, done, step_if, leads_on, turns, does}
-use Rattle.shread.specs.Words.{single, backquote_turn, backquoted, Inner, Held, having, opened, piece_row, a_piece, contents, level, a_word}
+use Rattle.shread.specs.Form.{Read, ◌▸◌, Form, give, see, move, push, stop, both, when, token, many, ◌>>=◌, Step, again, done, step_if, leads_on, turns, does}
+use Rattle.shread.specs.Words.{single, backquote_turn, backquoted, Inner, Held, having, opened, piece_row, a_piece, contents, a_word}
+use Rattle.shread.specs.Levels.{level}
 use Rattle.shread.specs.Tokens.{is_end}
-use Rattle.shread.specs.Commands.{pick, is_newline, is_pipe, is_bang, begins_simple, begins_pipeline, and_or_operator_of, next_token, Items, so_many, behind_item, an_item, item_by, item_turn, a_simple, comment_by, a_comment, a_newline, what_is_wrong, unexpected, JoinSo, join_so, with_comment, join_turn, a_join, a_command, a_bang, Piped, piped, pipe_turn, a_pipeline, Joined, joined_so, joined_by, join_pipeline, an_and_or, separator_of, separator_by, a_separator, is_parted, Entered, an_entry}
-use Rattle.shread.specs.Lines.{LineSo, line_so, one_entry, entry_turn, all_entries, remark_by, a_remark, end_of_line, a_line}
+use Rattle.shread.specs.Commands.{pick, is_newline, is_pipe, is_bang, begins_simple, begins_pipeline, opener_of, compound_by, and_or_operator_of, next_token, Items, so_many, behind_item, an_item, item_by, item_turn, a_simple, comment_by, a_comment, a_newline, what_is_wrong, unexpected, JoinSo, join_so, with_comment, join_turn, a_join, a_command, a_bang, Piped, piped, one_command, pipe_turn, a_pipeline, Joined, joined_so, one_pipeline, joined_by, join_pipeline, an_and_or, separator_of, separator_by, a_separator, is_parted, Entered, an_entry}
+use Rattle.shread.specs.Lines.{end_of_line, a_line}
+use Rattle.shread.specs.Lists.{Listed, ListSo, list_so, none_listed, with_command, next_line, one_entry, entry_turn, remark_by, a_remark, on_line, list_turn, a_list}
+use Rattle.shread.specs.Compounds.{is_closing, is_open_paren, is_close_paren, passed, closing, Closed, closed, a_branch, Branched, branched, elif_turn, an_else, an_if, a_loop, a_brace, a_subshell, a_form, a_compound}
 use Rattle.shread.proofs.Turns.{turns_on, turns_rest, turns_done, turns_fault}
 
 -- both give something, of which S holds, and end in one state; or both stop with one fault
@@ -177,8 +184,12 @@ module _ (g : Given) where
   alike_backquoted = alike_see (λ b. alike_on (alike_many All (backquote_turn b) (backquote_turn b) (λ u v same. alike_backquote_turn b u v) tt tt tt))
 
   -- words, where what may be opened goes the same way
+  abbrev SameNext : {X Y : Type 0} → X × Next → Y × Next → Type 0
+  SameNext x y = x.1 ≡ y.1
+
   pub record Fits (inner : Inner) : Type 0 where
     pub construct : (mode : Mode) (b : ℕ) (ss zs : Row ASubst) → Alike All (inner.construct mode b ss) (inner.construct mode b zs)
+    pub compound : (o : Opener) → Alike SameNext (inner.compound o) (inner.compound o)
 
   module _ (inner : Inner) (fits : Fits inner) where
     alike_opened : (mode : Mode) (b : ℕ) (h i : Held) → SameHeld h i → Alike (SameStep SameHeld) (opened inner mode b h) (opened inner mode b i)
@@ -237,9 +248,6 @@ module _ (g : Given) where
     unfolding item_turn
     alike_item_turn i j same = subst (λ (n : Next). Alike (SameStep SameItems) (item_by inner i (behind_item i.next.token)) (item_by inner j (behind_item n.token))) same (alike_item_by i j (behind_item i.next.token) same)
 
-    abbrev SameNext : {X Y : Type 0} → X × Next → Y × Next → Type 0
-    SameNext x y = x.1 ≡ y.1
-
     alike_simple : (n : Next) → Alike SameNext (a_simple inner n) (a_simple inner n)
     unfolding a_simple
     alike_simple n = alike_then (alike_many SameItems (item_turn inner) (item_turn inner) alike_item_turn (so_many [] n) (so_many [] n) refl) (λ i j same. alike_give same)
@@ -256,11 +264,13 @@ module _ (g : Given) where
     unfolding a_newline
     alike_newline n = alike_pick (is_newline n.token) _ refl (alike_on (alike_then (alike_next _) (λ m k same. alike_give (ap (λ z. (true, z)) same)))) (alike_give refl)
 
-    alike_wrong : (n : Next) → Alike (λ x y. x ≡ y) (what_is_wrong n) (what_is_wrong n)
+    alike_wrong : (n : Next) → Alike (λ x y. x ≡ y) (what_is_wrong inner n) (what_is_wrong inner n)
     unfolding what_is_wrong
-    alike_wrong n = alike_then (alike_comment n n refl) (λ c d so. rw (← so) (alike_see (λ p. alike_give refl)))
+    alike_wrong n =
+        alike_pick (begins_simple n.token) _ refl (alike_see (λ p. alike_then alike_word (λ w v so. alike_give refl)))
+        (alike_then (alike_comment n n refl) (λ c d so. rw (← so) (alike_see (λ p. alike_give refl))))
 
-    alike_unexpected : {X : Type 0} {S : X → X → Type 0} (n : Next) → Alike S (unexpected n) (unexpected n)
+    alike_unexpected : {X : Type 0} {S : X → X → Type 0} (n : Next) → Alike S (unexpected inner n) (unexpected inner n)
     alike_unexpected n = alike_then (alike_wrong n) (λ w v so. rw (← so) alike_stop)
 
     alike_with : (cs ds : Row Comment) (c : Option Comment) → Alike All (with_comment cs c) (with_comment ds c)
@@ -288,9 +298,13 @@ module _ (g : Given) where
     alike_join broken pale =
         alike_then (alike_next _) (λ n m same. alike_then (alike_many SameJoin join_turn join_turn alike_join_turn _ _ same) (λ j k so. alike_give so))
 
+    alike_compound_by : (n : Next) (o : Option Opener) → Alike SameNext (compound_by inner n o) (compound_by inner n o)
+    alike_compound_by n (Some o) = fits.compound o
+    alike_compound_by n None = alike_unexpected n
+
     alike_command : (n : Next) → Alike SameNext (a_command inner n) (a_command inner n)
     unfolding a_command
-    alike_command n = alike_pick (begins_simple n.token) _ refl (alike_simple n) (alike_unexpected n)
+    alike_command n = alike_pick (begins_simple n.token) _ refl (alike_simple n) (alike_compound_by n (opener_of n.token))
 
     alike_bang : (n : Next) → Alike SameNext (a_bang n) (a_bang n)
     unfolding a_bang
@@ -300,12 +314,14 @@ module _ (g : Given) where
     abbrev SamePiped : Piped → Piped → Type 0
     SamePiped p q = p.next ≡ q.next
 
+    alike_one_command : (p q : Piped) → Alike (SameStep SamePiped) (one_command inner p) (one_command inner q)
+    unfolding one_command
+    alike_one_command p q =
+        alike_on (alike_then (alike_join p.next.broken q.next.broken) (λ j k so. alike_then (alike_at (a_command inner) alike_command j.1 k.1 so) (λ c d so'. alike_pushed (alike_give so'))))
+
     alike_pipe_turn : (p q : Piped) → SamePiped p q → Alike (SameStep SamePiped) (pipe_turn inner p) (pipe_turn inner q)
     unfolding pipe_turn
-    alike_pipe_turn p q same =
-        alike_pick _ _ (ap (λ (n : Next). is_pipe n.token) same)
-        (alike_on (alike_then (alike_join p.next.broken q.next.broken) (λ j k so. alike_then (alike_at (a_command inner) alike_command j.1 k.1 so) (λ c d so'. alike_pushed (alike_give so')))))
-        (alike_give same)
+    alike_pipe_turn p q same = alike_pick _ _ (ap (λ (n : Next). is_pipe n.token) same) (alike_one_command p q) (alike_give same)
 
     alike_pipeline : (n : Next) → Alike SameNext (a_pipeline inner n) (a_pipeline inner n)
     unfolding a_pipeline
@@ -316,9 +332,13 @@ module _ (g : Given) where
     abbrev SameJoined : Joined → Joined → Type 0
     SameJoined a b = a.next ≡ b.next
 
-    alike_joined_by : (a b : Joined) (o : Option AndOrOperator) → SameJoined a b → Alike (SameStep SameJoined) (joined_by inner a o) (joined_by inner b o)
-    alike_joined_by a b (Some o) same =
+    alike_one_pipeline : (a b : Joined) (o : AndOrOperator) → Alike (SameStep SameJoined) (one_pipeline inner a o) (one_pipeline inner b o)
+    unfolding one_pipeline
+    alike_one_pipeline a b o =
         alike_on (alike_on (alike_then (alike_join a.next.broken b.next.broken) (λ j k so. alike_then (alike_at (a_pipeline inner) alike_pipeline j.1 k.1 so) (λ p q so'. alike_pushed (alike_give so')))))
+
+    alike_joined_by : (a b : Joined) (o : Option AndOrOperator) → SameJoined a b → Alike (SameStep SameJoined) (joined_by inner a o) (joined_by inner b o)
+    alike_joined_by a b (Some o) same = alike_one_pipeline a b o
     alike_joined_by a b None same = alike_give same
 
     alike_join_pipeline : (a b : Joined) → SameJoined a b → Alike (SameStep SameJoined) (join_pipeline inner a) (join_pipeline inner b)
@@ -348,43 +368,136 @@ module _ (g : Given) where
         alike_then (alike_and_or n) (λ a b same. alike_then (alike_separator a.1 b.1 same)
         (λ s z same'. alike_then (alike_comment s.1 z.1 (ap (λ (x : Option Separator × Next). x.1) same')) (λ c d same''. alike_give (ap (λ (x : Option Separator × Next). is_parted x.0) same', ap (λ (x : Option Comment × Next). x.1) same''))))
 
-    abbrev SameLine : LineSo → LineSo → Type 0
-    SameLine l m = l.next ≡ m.next
+    -- ---- lists and compound commands
 
-    same_step : (p : Bool) (l m : LineSo) → SameLine l m → SameStep SameLine (step_if p l) (step_if p m)
+    abbrev SameList : ListSo → ListSo → Type 0
+    SameList l m = (l.list.commands ≡ m.list.commands) × (l.next ≡ m.next)
+
+    same_step : (p : Bool) (l m : ListSo) → SameList l m → SameStep SameList (step_if p l) (step_if p m)
     same_step true l m same = same
     same_step false l m same = same
 
-    alike_one_entry : (blank pale : Bool) (l m : LineSo) → SameLine l m → Alike (SameStep SameLine) (one_entry inner blank l) (one_entry inner pale m)
+    alike_one_entry : (l m : ListSo) → SameList l m → Alike (SameStep SameList) (one_entry inner l) (one_entry inner m)
     unfolding one_entry
-    alike_one_entry blank pale l m same =
-        rw (← same) (alike_then (alike_entry _ _ l.next) (λ e f so. alike_pushed (alike_give (rw (← so.0) (same_step e.parted (line_so _ e.next) (line_so _ f.next) so.1)))))
+    alike_one_entry l m same =
+        rw (← same.1) (alike_then (alike_entry _ _ l.next) (λ e f so. alike_pushed (alike_give (rw (← so.0) (same_step e.parted (list_so (with_command l.list _) e.next) (list_so (with_command m.list _) f.next) (refl, so.1))))))
 
-    alike_entry_turn : (blank pale : Bool) (l m : LineSo) → SameLine l m → Alike (SameStep SameLine) (entry_turn inner blank l) (entry_turn inner pale m)
+    alike_entry_turn : (l m : ListSo) → SameList l m → Alike (SameStep SameList) (entry_turn inner l) (entry_turn inner m)
     unfolding entry_turn
-    alike_entry_turn blank pale l m same =
-        alike_pick _ _ (ap (λ (n : Next). begins_pipeline n.token) same) (alike_one_entry blank pale l m same) (alike_give same)
+    alike_entry_turn l m same = alike_pick _ _ (ap (λ (n : Next). begins_pipeline n.token) same.1) (alike_one_entry l m same) (alike_give same)
 
-    alike_remark_by : (blank pale : Bool) (l m : LineSo) (x : Option Comment × Next) → Alike SameLine (remark_by blank l x) (remark_by pale m x)
-    alike_remark_by blank pale l m (Some c, n) = alike_pushed (alike_give refl)
-    alike_remark_by blank pale l m (None, n) = alike_give refl
+    alike_remark_by : (l m : ListSo) (x : Option Comment × Next) → l.list.commands ≡ m.list.commands → Alike SameList (remark_by l x) (remark_by m x)
+    alike_remark_by l m (Some c, n) same = alike_pushed (alike_give (same, refl))
+    alike_remark_by l m (None, n) same = alike_give (same, refl)
 
-    alike_remark : (blank pale : Bool) (l m : LineSo) → SameLine l m → Alike SameLine (a_remark blank l) (a_remark pale m)
+    alike_remark : (l m : ListSo) → SameList l m → Alike SameList (a_remark l) (a_remark m)
     unfolding a_remark
-    alike_remark blank pale l m same = alike_then (alike_comment l.next m.next same) (λ x y so. rw (← so) (alike_remark_by blank pale l m x))
+    alike_remark l m same = alike_then (alike_comment l.next m.next same.1) (λ x y so. rw (← so) (alike_remark_by l m x same.0))
 
-    alike_end : (n : Next) → Alike (λ x y. x ≡ y) (end_of_line n) (end_of_line n)
+    alike_on_line : (l m : ListSo) → SameList l m → Alike SameList (on_line inner l) (on_line inner m)
+    unfolding on_line
+    alike_on_line l m same = alike_then (alike_many SameList (entry_turn inner) (entry_turn inner) alike_entry_turn l m same) (λ j k so. alike_remark j k so)
+
+    line_steps : (x y : Bool × Next) → x ≡ y → (l m : Listed) → l.commands ≡ m.commands → SameStep SameList (step_if x.0 (list_so (next_line l) x.1)) (step_if y.0 (list_so (next_line m) y.1))
+    line_steps x y is l m same =
+        subst (λ (z : Bool × Next). SameStep SameList (step_if x.0 (list_so (next_line l) x.1)) (step_if z.0 (list_so (next_line m) z.1))) is
+        (same_step x.0 (list_so (next_line l) x.1) (list_so (next_line m) x.1) (same, refl))
+
+    alike_list_turn : (l m : ListSo) → SameList l m → Alike (SameStep SameList) (list_turn inner l) (list_turn inner m)
+    unfolding list_turn
+    alike_list_turn l m same =
+        alike_then (alike_on_line l m same) (λ j k so. alike_then (alike_at a_newline alike_newline j.next k.next so.1) (λ x y is. alike_give (line_steps x y is j.list k.list so.0)))
+
+    alike_list : (n : Next) → Alike SameNext (a_list inner n) (a_list inner n)
+    unfolding a_list
+    alike_list n =
+        alike_then (alike_many SameList (list_turn inner) (list_turn inner) alike_list_turn (list_so (none_listed false) n) (list_so (none_listed false) n) (refl, refl))
+        (λ l m same. alike_pick _ _ same.0 (alike_give same.1) (alike_at (unexpected inner) alike_unexpected l.next m.next same.1))
+
+    alike_passed : (paren : Bool) → Alike (λ x y. x ≡ y) (passed paren) (passed paren)
+    unfolding passed
+    alike_passed paren =
+        alike_then (alike_token {R = λ x y. x ≡ y} (alike_move {S = All} tt) (λ a b z so. refl)) (λ x y so. rw (← so) (alike_then (alike_next _) (λ m k same. alike_give (ap (λ z. (x.1, z)) same))))
+
+    alike_closing : (c : Closing) (n : Next) → Alike (λ x y. x ≡ y) (closing inner c n) (closing inner c n)
+    unfolding closing
+    alike_closing c n = alike_pick (is_closing c n.token) _ refl (alike_passed (is_close_paren c)) (alike_unexpected n)
+
+    -- what was read last, and the token behind it
+    abbrev SameClosed : {X : Type 0} → Closed X → Closed X → Type 0
+    SameClosed x y = x.next ≡ y.next
+
+    alike_closed : {X : Type 0} (a b : X) (c : Closing) (n m : Next) → n ≡ m → Alike SameClosed (closing inner c n >>= λ x. give (closed a x)) (closing inner c m >>= λ x. give (closed b x))
+    alike_closed a b c n m same =
+        alike_then (alike_at (closing inner c) (alike_closing c) n m same) (λ x y so. alike_give (ap (λ (z : Span × Next). z.1) so))
+
+    -- a list that another closing word follows, and the token behind that
+    alike_branch : (n : Next) → Alike SameNext (a_branch inner n) (a_branch inner n)
+    unfolding a_branch
+    alike_branch n =
+        alike_then (alike_list n) (λ c d same. alike_then (alike_at (closing inner closings.Then) (alike_closing closings.Then) c.1 d.1 same)
+        (λ t u so. alike_then (alike_at (a_list inner) alike_list t.1 u.1 (ap (λ (z : Span × Next). z.1) so)) (λ b e so'. alike_give so')))
+
+    abbrev SameBranched : Branched → Branched → Type 0
+    SameBranched b c = b.next ≡ c.next
+
+    alike_elif : (b c : Branched) → SameBranched b c → Alike (SameStep SameBranched) (elif_turn inner b) (elif_turn inner c)
+    unfolding elif_turn
+    alike_elif b c same =
+        alike_pick _ _ (ap (λ (n : Next). is_closing closings.Elif n.token) same)
+        (alike_then (alike_passed false) (λ k m so. alike_then (alike_at (a_branch inner) alike_branch k.1 m.1 (ap (λ (z : Span × Next). z.1) so)) (λ x y so'. alike_pushed (alike_give so'))))
+        (alike_give same)
+
+    alike_else : (n : Next) → Alike SameNext (an_else inner n) (an_else inner n)
+    unfolding an_else
+    alike_else n =
+        alike_pick (is_closing closings.Else n.token) _ refl
+        (alike_then (alike_passed false) (λ k m so. alike_then (alike_at (a_list inner) alike_list k.1 m.1 (ap (λ (z : Span × Next). z.1) so)) (λ x y so'. alike_give so')))
+        (alike_give refl)
+
+    alike_if : (n : Next) → Alike SameClosed (an_if inner n) (an_if inner n)
+    unfolding an_if
+    alike_if n =
+        alike_then (alike_branch n) (λ f g same. alike_then (alike_many SameBranched (elif_turn inner) (elif_turn inner) alike_elif (branched [] f.1) (branched [] g.1) same)
+        (λ b c so. alike_then (alike_at (an_else inner) alike_else b.next c.next so) (λ e d so'. alike_closed _ _ closings.Fi e.1 d.1 so')))
+
+    alike_loop : (n : Next) → Alike SameClosed (a_loop inner n) (a_loop inner n)
+    unfolding a_loop
+    alike_loop n =
+        alike_then (alike_list n) (λ c d same. alike_then (alike_at (closing inner closings.Do) (alike_closing closings.Do) c.1 d.1 same)
+        (λ t u so. alike_then (alike_at (a_list inner) alike_list t.1 u.1 (ap (λ (z : Span × Next). z.1) so)) (λ b e so'. alike_closed _ _ closings.Done b.1 e.1 so')))
+
+    alike_form : (o : Opener) (n : Next) → Alike SameClosed (a_form inner o n) (a_form inner o n)
+    unfolding a_brace a_subshell
+    alike_form openers.Brace n = alike_then (alike_list n) (λ l m same. alike_closed _ _ closings.Brace l.1 m.1 same)
+    alike_form openers.Paren n = alike_then (alike_list n) (λ l m same. alike_closed _ _ closings.Paren l.1 m.1 same)
+    alike_form openers.If n = alike_if n
+    alike_form openers.While n = alike_then (alike_loop n) (λ l m same. alike_give same)
+    alike_form openers.Until n = alike_then (alike_loop n) (λ l m same. alike_give same)
+
+    pub alike_compound : (o : Opener) → Alike SameNext (a_compound inner o) (a_compound inner o)
+    unfolding a_compound
+    alike_compound o =
+        alike_then (alike_passed (is_open_paren o)) (λ x y so. alike_then (alike_at (a_form inner o) (alike_form o) x.1 y.1 (ap (λ (z : Span × Next). z.1) so)) (λ f g same. alike_give same))
+
+    -- ---- lines
+
+    alike_end : (n : Next) → Alike (λ x y. x ≡ y) (end_of_line inner n) (end_of_line inner n)
     unfolding end_of_line
     alike_end n = alike_pick (is_newline n.token) _ refl (alike_on (alike_give refl)) (alike_pick (is_end n.token) _ refl (alike_give refl) (alike_unexpected n))
 
     pub alike_line : (blank pale : Bool) → Alike SameEnd (a_line inner blank) (a_line inner pale)
-    unfolding a_line all_entries
+    unfolding a_line
     alike_line blank pale =
-        alike_then (alike_next _) (λ n m same. rw (← same) (alike_then (alike_many SameLine (entry_turn inner blank) (entry_turn inner pale) (alike_entry_turn blank pale) (line_so [] n) (line_so [] n) refl)
-        (λ l k same'. alike_then (alike_remark blank pale l k same') (λ j i so. alike_then (alike_at end_of_line alike_end j.next i.next so) (λ x y so'. alike_give so')))))
+        alike_then (alike_next _) (λ n m same. alike_then (alike_on_line (list_so (none_listed blank) n) (list_so (none_listed pale) m) (refl, same))
+        (λ j i so. alike_then (alike_at (end_of_line inner) alike_end j.next i.next so.1) (λ x y so'. alike_give so')))
 
-  -- words within words
+  -- words within words, commands within commands
   pub alike_level : (room : ℕ) → Fits (level room)
   unfolding level
-  alike_level zero = record { construct = λ mode b ss zs. alike_stop }
-  alike_level (suc room) = record { construct = λ mode b ss zs. alike_contents (level room) (alike_level room) mode b ss zs }
+  alike_level zero = record { construct = λ mode b ss zs. alike_stop; compound = λ o. alike_see (λ p. alike_stop) }
+  alike_level (suc room) =
+      record {
+        construct = λ mode b ss zs. alike_contents (level room) (alike_level room) mode b ss zs;
+        compound = λ o. alike_compound (level room) (alike_level room) o;
+      }

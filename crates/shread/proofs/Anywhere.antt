@@ -1,14 +1,15 @@
 -- A word is read wherever its bytes stand, before a byte that ends words and is no `(`.
 use Rattle.std.proofs.Common.{◌≡◌, ℕ, ◌+◌, ◌-◌, ◌<◌, Bool, true, false, Ok, List, List as Row, [], ◌∷◌, ◌++◌, take, drop, slice_get, refl, sym, ap, subst, ◌∙◌, arith}
 use Rattle.shread.specs.declared.mode.Mode.TheVariants.{Plain}
-use Rattle.shread.specs.declared.tree.Span.{Span}
+use Rattle.shtree.specs.declared.tree.Span.{Span}
 use Rattle.shread.specs.Comments.{span}
 use Rattle.shread.specs.Standing.{is_byte}
 use Rattle.shread.specs.Bytes.{ends, ends_word, byte_at, stands}
-use Rattle.shread.specs.Tree.{ASubst, AWord, word, substs_of}
+use Rattle.shtree.specs.Tree.{ASubst, AWord, word, substs_of}
 use Rattle.shread.specs.Sights.{Given, State, standing}
 use Rattle.shread.specs.Form.{Spelled, Read, Form, give, see, move, push, stop, both, when, token, loop, Step, again, done, does, Comes, may, raw, Just, just, Then, and_then, or_stops, OneToken, whole, broken_off}
-use Rattle.shread.specs.Words.{Inner, contents, level, a_word, IsWord}
+use Rattle.shread.specs.Words.{Inner, contents, a_word}
+use Rattle.shread.specs.Levels.{level, IsWord}
 use Rattle.shread.proofs.Stretches.{get_drop}
 use Rattle.shread.proofs.Holds.{Holds, holds_then, Tells, Turned, tells_so, tells_then, tells_when, tells_token, tells_loop, Behind, low}
 use Rattle.shread.proofs.SameBytes.{Kept}

@@ -9,9 +9,10 @@ use Rattle.shread.specs.Standing.{is_byte, is_none, at_end, raw_in, raw_stands, 
 use Rattle.shread.specs.Bytes.{past, past_blanks, past_continuations, byte_at, behind, stands, stands_in}
 use Rattle.shread.specs.Comments.{span, comment_at, past_comment}
 use Rattle.shread.specs.Pieces.{dollar_by, dollar_at, byte_by, piece_by, piece_at, past_taken, next_quote, next_in_backquotes, is_last_backslash, past_parameter, rest_mode, past_closer}
+use Rattle.shread.specs.Tokens.{past_reserved}
 use Rattle.shread.specs.Form.{raw}
 use Rattle.shread.proofs.Stretches.{place_low, joined_more, raw_more, get_drop, blanks_before, no_blanks_before}
-use Rattle.shread.proofs.Places.{must_fail, place_same, behind_low, raw_past_low, raw_past_stops, raw_past_all, next_in_backquotes_low, next_of_low, next_newline_low, parameter_low, blanks_low}
+use Rattle.shread.proofs.Places.{must_fail, place_same, behind_low, raw_past_low, raw_past_stops, raw_past_all, next_in_backquotes_low, next_of_low, next_newline_low, parameter_low, reserved_low, blanks_low}
 use Rattle.shread.proofs.SameBytes.{Safe, halts, one_byte, two_bytes, goes_on, safe_high, safe_low, safe_escape, safe_place, no_backslash, continued, raw_there, byte_other}
 use Rattle.shread.proofs.Ahead.{ListEnds, newline_ends, K, Goes, goes_name, goes_digit, goes_one, behind_is, same_if, same_and, seen, same_byte, same_behind, same_stands, same_stands_in, same_place, next_safe, past_safe, past_back, blanks_safe, blanks_back, same_raw_in}
 
@@ -101,6 +102,15 @@ module _ {T U : List ℕ} {a M : ℕ} {to : ℕ → ℕ} (E : ListEnds T U a M t
 
   moves_past : (test : ℕ → Bool) → Goes 10 test → (p : ℕ) → a ≤ p → G (past test T p) → G p × (past test U (to p) ≡ to (past test T p))
   moves_past test goes p low s = let g = past_back E test goes p low s in (g, (past_safe E test goes g).1)
+
+  pub moves_reserved : (p : ℕ) → Moves past_reserved p
+  unfolding past_reserved
+  moves_reserved p = (
+    reserved_low T p,
+    λ low s.
+        let w = moves_past is_name (goes_name 10 newline_ends) (behind T p) (omega (arith, low, behind_low T p)) s in
+        let v = (moves_behind p).1 low w.0 in (v.0, ap (past is_name U) v.1 ∙ w.1),
+  )
 
   pub moves_parameter : (p : ℕ) → Moves past_parameter p
   unfolding past_parameter

@@ -1,11 +1,11 @@
 -- The first fault of a script is that of the first line, read without its tree, that has one.
 use Rattle.std.proofs.Common.{◌≡◌, ℕ, zero, suc, ◌+◌, ◌-◌, ◌≤◌, Bool, true, false, Ok, Err, List, List as Row, length, drop, None, Some, refl, sym, ap, ◌∙◌, arith, length-drop}
 use Rattle.shread.specs.declared.fault.Fault.{Fault}
-use Rattle.shread.specs.Tree.{AnEntry}
+use Rattle.shtree.specs.Tree.{AnEntry}
 use Rattle.shread.specs.Sights.{State, given, standing}
 use Rattle.shread.specs.Form.{Read}
-use Rattle.shread.specs.Words.{level}
-use Rattle.shread.specs.Lines.{most_open}
+use Rattle.shread.specs.Levels.{level}
+use Rattle.shread.specs.Levels.{most_open}
 use Rattle.shread.specs.Scripts.{AScript, SoFar, is_blank_line, with_line, line_from, script_by, script_below, script_on, nothing_yet, first_fault_from}
 use Rattle.shread.proofs.Alike.{Like, SameEnd, alike_level, alike_line}
 use Rattle.shread.proofs.Lined.{line_more, line_last, line_faulty}

@@ -1,14 +1,15 @@
 -- What a line is, by its entries; and the line at the end of a text.
 use Rattle.std.proofs.Common.{◌≡◌, ℕ, ◌<◌, Bool, true, false, List, [], ◌∷◌, length, map, drop, cond, refl, arith}
 use Rattle.std.proofs.Math.Seq.{drop-length}
-use Rattle.shread.specs.Tree.{AnEntry, entries_of}
+use Rattle.shtree.specs.Tree.{AnEntry, entries_of}
 use Rattle.shread.specs.Standing.{count_front, raw_stands}
 use Rattle.shread.specs.Bytes.{past, past_below, past_blanks, past_continuations, count_joined}
 use Rattle.shread.specs.Tokens.{token_at}
 use Rattle.shread.specs.Comments.{comment_at}
 use Rattle.shread.specs.Form.{many, turns, turns_below}
 use Rattle.shread.specs.Commands.{next_token, a_comment}
-use Rattle.shread.specs.Lines.{blank_line, end_line, entries_line, kind_of, entry_turn, all_entries, a_remark, end_of_line, a_line}
+use Rattle.shread.specs.Lines.{blank_line, end_line, entries_line, kind_of, end_of_line, a_line}
+use Rattle.shread.specs.Lists.{entry_turn, a_remark, on_line}
 use Rattle.shread.specs.Scripts.{line_of_text}
 
 pub kind_of_none : {X : Type 0} (view : X → AnEntry) (xs : List X) (newline : Bool) → length xs ≡ 0 → kind_of (map view xs) newline ≡ cond newline blank_line end_line
@@ -21,7 +22,7 @@ kind_of_some view [] newline lt = absurd (omega arith)
 kind_of_some view (x ∷ xs) newline lt = refl
 
 nothing : line_of_text [] ≡ record { kind = end_line; next = 0; ended = false }
-unfolding line_of_text a_line next_token all_entries many turns turns_below entry_turn a_remark a_comment end_of_line token_at comment_at raw_stands past count_front past_blanks past_continuations count_joined past_below
+unfolding line_of_text a_line next_token on_line many turns turns_below entry_turn a_remark a_comment end_of_line token_at comment_at raw_stands past count_front past_blanks past_continuations count_joined past_below
 nothing = refl
 
 -- at the length nothing is left to read

@@ -5,16 +5,19 @@ use Rattle.std.proofs.lemmas.List.{drop_all}
 use Rattle.shread.specs.declared.fault.Fault.{Fault}
 use Rattle.shread.specs.declared.token.Next.{Next}
 use Rattle.shread.specs.declared.token.Position.TheVariants.{Command}
-use Rattle.shread.specs.Tree.{AnEntry, entries_of}
+use Rattle.shtree.specs.Tree.{AnEntry, entries_of}
 use Rattle.shread.specs.Standing.{count_front, raw_stands}
 use Rattle.shread.specs.Bytes.{past, past_below, past_blanks, past_continuations, count_joined}
 use Rattle.shread.specs.Comments.{comment_at}
 use Rattle.shread.specs.Tokens.{is_end, token_at}
 use Rattle.shread.specs.Sights.{Given, given, State, standing}
 use Rattle.shread.specs.Form.{Form, Read, does, many, turns, turns_below}
-use Rattle.shread.specs.Words.{Inner, level}
+use Rattle.shread.specs.Words.{Inner}
+use Rattle.shread.specs.Levels.{level}
 use Rattle.shread.specs.Commands.{is_newline, next_token, a_comment, what_is_wrong}
-use Rattle.shread.specs.Lines.{most_open, entry_turn, all_entries, a_remark, end_by, end_of_line, a_line}
+use Rattle.shread.specs.Lines.{end_by, end_of_line, a_line}
+use Rattle.shread.specs.Levels.{most_open}
+use Rattle.shread.specs.Lists.{list_so, none_listed, entry_turn, a_remark, on_line}
 use Rattle.shread.specs.Scripts.{AScript, SoFar, is_blank_line, with_line, the_line, line_from, script_by, script_below, script_on}
 use Rattle.shread.proofs.Places.{behind_low}
 use Rattle.shread.proofs.Holds.{Holds, holds_then, holds_so, Tells, Behind, tells_give, tells_then, tells_so, low}
@@ -25,14 +28,15 @@ use Rattle.shread.proofs.Holds.{Holds, holds_then, holds_so, Tells, Behind, tell
 abbrev Ended : State → Bool → State → Type 0
 Ended s newline t = newline ≡ true → s.at < t.at
 
-ended_by : (keep : Bool) (g : Given) (s : State) (newline end : Bool) (n : Next) → Holds (Ended s) (does (end_by newline end n) keep g s)
-ended_by keep g s true end n = λ e. behind_low g.text s.at
-ended_by keep g s false true n = λ e. absurd cc
-ended_by keep g s false false n = holds_then (λ w t. Unit {0}) (Ended s) (does (what_is_wrong n) keep g s) _ (holds_so (Behind s) (λ w t. Unit {0}) _ (low (what_is_wrong n) keep g s).told (λ c t on. tt)) (λ w t so. tt)
+ended_by : (inner : Inner) (keep : Bool) (g : Given) (s : State) (newline end : Bool) (n : Next) → Holds (Ended s) (does (end_by inner newline end n) keep g s)
+ended_by inner keep g s true end n = λ e. behind_low g.text s.at
+ended_by inner keep g s false true n = λ e. absurd cc
+ended_by inner keep g s false false n =
+    holds_then (λ w t. Unit {0}) (Ended s) (does (what_is_wrong inner n) keep g s) _ (holds_so (Behind s) (λ w t. Unit {0}) _ (low (what_is_wrong inner n) keep g s).told (λ c t on. tt)) (λ w t so. tt)
 
-end_ended : (keep : Bool) (g : Given) (s : State) (n : Next) → Tells keep g (end_of_line n) (Ended s) s
+end_ended : (inner : Inner) (keep : Bool) (g : Given) (s : State) (n : Next) → Tells keep g (end_of_line inner n) (Ended s) s
 unfolding end_of_line
-end_ended keep g s n = record { told = ended_by keep g s (is_newline n.token) (is_end n.token) n }
+end_ended inner keep g s n = record { told = ended_by inner keep g s (is_newline n.token) (is_end n.token) n }
 
 abbrev LineEnded : State → Row AnEntry × Bool → State → Type 0
 LineEnded s x t = x.1 ≡ true → s.at < t.at
@@ -45,14 +49,13 @@ pub line_ended_low : (inner : Inner) (blank keep : Bool) (g : Given) (s : State)
 unfolding a_line
 line_ended_low inner blank keep g s =
     tells_then keep g (further keep g (next_token Command) s s (omega arith))
-    (λ n t one. tells_then keep g (further keep g (all_entries inner blank n) s t one)
-    (λ l u two. tells_then keep g (further keep g (a_remark blank l) s u two)
-    (λ m v three. tells_then keep g (end_ended keep g v m.next)
-    (λ newline w more. tells_give keep g (λ e. omega (arith, three, more e))))))
+    (λ n t one. tells_then keep g (further keep g (on_line inner (list_so (none_listed blank) n)) s t one)
+    (λ l u two. tells_then keep g (end_ended inner keep g u l.next)
+    (λ newline w more. tells_give keep g (λ e. omega (arith, two, more e)))))
 
 -- at the end of the text there is none
 nothing : (blank keep : Bool) (o : ℕ) → does (the_line blank) keep (given [] o) (standing 0) ≡ Ok (([], false), standing 0)
-unfolding a_line next_token all_entries many turns turns_below entry_turn a_remark a_comment end_of_line token_at comment_at raw_stands past count_front past_blanks past_continuations count_joined past_below
+unfolding a_line next_token on_line many turns turns_below entry_turn a_remark a_comment end_of_line token_at comment_at raw_stands past count_front past_blanks past_continuations count_joined past_below
 nothing blank keep o = refl
 
 flag : Read (Row AnEntry × Bool) → Bool

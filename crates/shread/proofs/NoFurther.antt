@@ -2,14 +2,14 @@
 use Rattle.std.proofs.Common.{◌≡◌, ℕ, ◌+◌, ◌-◌, ◌≤◌, ◌<◌, true, false, ltb, Ok, Err, List, List as Row, [], ◌∷◌, length, refl, sym, ap, subst, ◌∙◌, arith, ⊎_elim}
 use Rattle.std.proofs.lemmas.Bool.{ltb-true, lt-ltb, cases_lt, cases_Bool}
 use Rattle.std.proofs.lemmas.Option.{slice_get_within}
-use Rattle.shread.specs.declared.tree.Span.{Span}
+use Rattle.shtree.specs.declared.tree.Span.{Span}
 use Rattle.shread.specs.Comments.{span}
-use Rattle.shread.specs.Sights.{Given, given, State, Sight, here, the_byte, the_piece, the_rest, the_end, a_backquote, last_backslash, the_token, the_comment, seen, Move, one_byte, joined, one_taken, the_closer, the_parameter, a_quote_on, in_backquotes_on, blanks, a_comment_on, to as leads}
+use Rattle.shread.specs.Sights.{Given, given, State, Sight, here, the_byte, the_piece, the_rest, the_end, a_backquote, last_backslash, the_token, the_comment, seen, Move, one_byte, joined, one_taken, the_closer, the_parameter, a_quote_on, in_backquotes_on, blanks, a_comment_on, the_reserved, to as leads}
 use Rattle.shread.specs.Form.{Spelled, Read, Form, give, see, move, push, stop, both, when, token, loop, Step, again, done, Just, just, Halts, halted, Then, and_then, or_stops, holds, fails, raw, OneToken, whole, broken_off, leads_on, Turns, last, rests, more, halts, moved, may}
 use Rattle.shread.proofs.OneOutcome.{is}
 use Rattle.shread.proofs.Holds.{Holds, Behind, low}
 use Rattle.shread.proofs.Ahead.{ListEnds, same_place, same_next}
-use Rattle.shread.proofs.Asked.{Good, high, on, moves_behind, moves_joined, moves_taken, moves_closer, moves_parameter, moves_quote, moves_backquotes, moves_blanks, moves_comment, same_end_here, same_raw_stands, same_last_backslash, same_comment, same_piece, same_mode, same_raw}
+use Rattle.shread.proofs.Asked.{Good, high, on, moves_behind, moves_joined, moves_taken, moves_closer, moves_parameter, moves_quote, moves_backquotes, moves_blanks, moves_comment, moves_reserved, same_end_here, same_raw_stands, same_last_backslash, same_comment, same_piece, same_mode, same_raw}
 
 -- what may be read is not before where it begins
 pub behind : {X : Type 0} (r : Form X) (g : Given) (s : State) (y : Read X) (k : Row Spelled) → may r g s y k → Holds (Behind s) y
@@ -76,6 +76,7 @@ module _ {T U : List ℕ} {a M : ℕ} {to : ℕ → ℕ} (E : ListEnds T U a M t
   same_move in_backquotes_on p = (moves_backquotes E p).1
   same_move blanks p = (moves_blanks E p).1
   same_move a_comment_on p = (moves_comment E p).1
+  same_move the_reserved p = (moves_reserved E p).1
 
   -- ---- whether a turn leads on
 

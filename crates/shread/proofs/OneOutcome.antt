@@ -1,7 +1,7 @@
 -- Each form has one outcome, the one that is computed: one induction, for every row of the grammar.
 use Rattle.std.proofs.Common.{◌≡◌, ℕ, zero, suc, ◌-◌, ◌<◌, Bool, true, false, cond, Ok, Err, List as Row, [], ◌∷◌, ◌++◌, length, refl, sym, subst, ◌∙◌, arith}
 use Rattle.std.proofs.lemmas.Bool.{ltb-true}
-use Rattle.shread.specs.declared.tree.Span.{Span}
+use Rattle.shtree.specs.declared.tree.Span.{Span}
 use Rattle.shread.specs.declared.fault.Fault.{Fault}
 use Rattle.shread.specs.Comments.{span}
 use Rattle.shread.specs.Sights.{Given, State, seen}

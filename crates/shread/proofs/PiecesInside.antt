@@ -11,10 +11,11 @@ use Rattle.shread.specs.declared.mode.Piece.TheVariants as pieces
 use Rattle.shread.specs.Standing.{is_byte, at_end, raw_stands}
 use Rattle.shread.specs.Bytes.{ends, past_continuations, byte_at, behind, stands}
 use Rattle.shread.specs.Pieces.{dollar_by, dollar_at, bracket_by, byte_by, piece_by, piece_at, past_taken, past_closer, past_parameter, braces_in, rest_mode}
-use Rattle.shread.specs.Tree.{ASubst}
+use Rattle.shtree.specs.Tree.{ASubst}
 use Rattle.shread.specs.Sights.{Given, given, State}
 use Rattle.shread.specs.Form.{Read, ◌▸◌, Form, Step, again, done, loop, many, leads_on, does}
-use Rattle.shread.specs.Words.{single, backquoted, Inner, Held, having, opened, piece_row, a_piece, contents, level}
+use Rattle.shread.specs.Words.{single, backquoted, Inner, Held, having, opened, piece_row, a_piece, contents}
+use Rattle.shread.specs.Levels.{level}
 use Rattle.shread.proofs.Stretches.{place_low}
 use Rattle.shread.proofs.Places.{behind_low, parameter_low}
 use Rattle.shread.proofs.Holds.{Holds, holds_then, holds_so}

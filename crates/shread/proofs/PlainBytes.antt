@@ -14,9 +14,10 @@ use Rattle.shread.specs.Comments.{span}
 use Rattle.shread.specs.Clauses.{Fails}
 use Rattle.shread.specs.Sights.{Given, State, given, standing}
 use Rattle.shread.specs.Form.{Read, ◌▸◌, again, done, does, many}
-use Rattle.shread.specs.Words.{Inner, Held, having, a_piece, contents, level, a_word}
+use Rattle.shread.specs.Words.{Inner, Held, having, a_piece, contents, a_word}
+use Rattle.shread.specs.Levels.{level}
 use Rattle.shread.specs.Plain.{is_special_in, is_plain, ArePlain}
-use Rattle.shread.specs.Tree.{ASubst, word, no_subst, substs_of}
+use Rattle.shtree.specs.Tree.{ASubst, word, no_subst, substs_of}
 use Rattle.std.proofs.lemmas.Bool.Decides.{nat_tests}
 use Rattle.shread.proofs.Turns.{many_again, many_done, many_stop}
 use Rattle.shread.proofs.Places.{word_longer}

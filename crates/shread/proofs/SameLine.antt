@@ -5,15 +5,18 @@ use Rattle.std.proofs.lemmas.Bool.Decides.{nat_tests}
 use Rattle.shread.specs.declared.fault.FaultKind.{FaultKind}
 use Rattle.shread.specs.declared.token.Next.{Next}
 use Rattle.shread.specs.declared.token.Position.TheVariants.{Command}
-use Rattle.shread.specs.Tree.{AnEntry}
+use Rattle.shtree.specs.Tree.{AnEntry}
 use Rattle.shread.specs.Standing.{is_byte, raw_stands}
 use Rattle.shread.specs.Bytes.{behind, past_continuations}
 use Rattle.shread.specs.Sights.{Given, given, State, standing}
 use Rattle.shread.specs.Form.{Spelled, Read, ◌▸◌, Form, give, both, may, does, Then, and_then, or_stops}
-use Rattle.shread.specs.Words.{Inner, level}
+use Rattle.shread.specs.Words.{Inner}
+use Rattle.shread.specs.Levels.{level}
 use Rattle.shread.specs.Tokens.{is_end}
 use Rattle.shread.specs.Commands.{is_newline, next_token, what_is_wrong}
-use Rattle.shread.specs.Lines.{LineSo, all_entries, a_remark, end_by, end_of_line, a_line, most_open, ALine, IsLine, SameBytes, NoFurther, line_read, line_stops, kind_of}
+use Rattle.shread.specs.Lines.{end_by, end_of_line, a_line, ALine, IsLine, SameBytes, NoFurther, line_read, line_stops, kind_of}
+use Rattle.shread.specs.Levels.{most_open}
+use Rattle.shread.specs.Lists.{ListSo, list_so, none_listed, on_line}
 use Rattle.shread.proofs.OneOutcome.{is}
 use Rattle.shread.proofs.Holds.{Holds}
 use Rattle.shread.proofs.Lined.{line_ended_low}
@@ -47,25 +50,25 @@ module _ {T U : List ℕ} {a M : ℕ} {to : ℕ → ℕ} (E : ListEnds T U a M t
   both_again r q s from rest y k (or_stops one) closed = absurd closed
 
   -- the end of a line
-  abbrev ending : Row AnEntry → Bool → Bool → Next → Form (Row AnEntry × Bool)
-  ending es newline end n = both (end_by newline end n) (λ newline. give (es, newline))
+  abbrev ending : Inner → Row AnEntry → Bool → Bool → Next → Form (Row AnEntry × Bool)
+  ending inner es newline end n = both (end_by inner newline end n) (λ newline. give (es, newline))
 
   behind_is : (p : ℕ) → behind T p ≡ past_continuations T p + 1
   unfolding behind
   behind_is p = refl
 
-  newline_again : (es : Row AnEntry) (end : Bool) (n : Next) (s : State) → a ≤ s.at → (y : Read (Row AnEntry × Bool)) → y ≡ Ok ((es, true), record { at = behind T s.at; waiting = s.waiting; bodies = s.bodies })
-      → Again (ending es true end n) s y
-  newline_again es end n s from y y_is closed =
+  newline_again : (inner : Inner) (es : Row AnEntry) (end : Bool) (n : Next) (s : State) → a ≤ s.at → (y : Read (Row AnEntry × Bool)) → y ≡ Ok ((es, true), record { at = behind T s.at; waiting = s.waiting; bodies = s.bodies })
+      → Again (ending inner es true end n) s y
+  newline_again inner es end n s from y y_is closed =
       let at_newline : behind T s.at ≡ M + 1 = (subst Closed y_is closed).1 in
       let at : M ≡ past_continuations T s.at = omega (arith, at_newline, behind_is s.at) in
       let good : Good T a M s.at = safe_place (K E) s.at from (subst (Good T a M) at at_limit) in
-      let one = (is (ending es true end n) h (there E o o2 off s)).some in (
+      let one = (is (ending inner es true end n) h (there E o o2 off s)).some in (
         good,
         (
           one.0,
-          subst (λ (z : Read (Row AnEntry × Bool)). may (ending es true end n) h (there E o o2 off s) (elsewhere E o o2 off z) one.0) (sym y_is)
-              (subst (λ (p : ℕ). may (ending es true end n) h (there E o o2 off s) (Ok ((es, true), record { at = p; waiting = s.waiting; bodies = s.bodies })) one.0) (same_behind E good) one.1),
+          subst (λ (z : Read (Row AnEntry × Bool)). may (ending inner es true end n) h (there E o o2 off s) (elsewhere E o o2 off z) one.0) (sym y_is)
+              (subst (λ (p : ℕ). may (ending inner es true end n) h (there E o o2 off s) (Ok ((es, true), record { at = p; waiting = s.waiting; bodies = s.bodies })) one.0) (same_behind E good) one.1),
         ),
       )
 
@@ -79,30 +82,27 @@ module _ {T U : List ℕ} {a M : ℕ} {to : ℕ → ℕ} (E : ListEnds T U a M t
   stopped (Ok (w, t)) f y y_is closed = faulty _ y y_is closed
   stopped (Err e) f y y_is closed = faulty _ y y_is closed
 
-  ending_by : (es : Row AnEntry) (newline end : Bool) (n : Next) (s : State) → a ≤ s.at → (y : Read (Row AnEntry × Bool)) → y ≡ does (ending es newline end n) true g s → Again (ending es newline end n) s y
-  ending_by es true end n s from y y_is closed = newline_again es end n s from y y_is closed
-  ending_by es false true n s from y y_is closed = clash es s y y_is closed
-  ending_by es false false n s from y y_is closed = stopped (does (what_is_wrong n) true g s) _ y y_is closed
+  ending_by : (inner : Inner) (es : Row AnEntry) (newline end : Bool) (n : Next) (s : State) → a ≤ s.at → (y : Read (Row AnEntry × Bool)) → y ≡ does (ending inner es newline end n) true g s
+      → Again (ending inner es newline end n) s y
+  ending_by inner es true end n s from y y_is closed = newline_again inner es end n s from y y_is closed
+  ending_by inner es false true n s from y y_is closed = clash es s y y_is closed
+  ending_by inner es false false n s from y y_is closed = stopped (does (what_is_wrong inner n) true g s) _ y y_is closed
 
-  abbrev at_end : LineSo → Form (Row AnEntry × Bool)
-  at_end m = both (end_of_line m.next) (λ newline. give (m.entries, newline))
+  abbrev at_end : Inner → ListSo → Form (Row AnEntry × Bool)
+  at_end inner l = both (end_of_line inner l.next) (λ newline. give (l.list.entries, newline))
 
-  ending_again : (m : LineSo) (s : State) → a ≤ s.at → (y : Read (Row AnEntry × Bool)) (k : Row Spelled) → may (at_end m) g s y k → Again (at_end m) s y
+  ending_again : (inner : Inner) (l : ListSo) (s : State) → a ≤ s.at → (y : Read (Row AnEntry × Bool)) (k : Row Spelled) → may (at_end inner l) g s y k → Again (at_end inner l) s y
   unfolding end_of_line
-  ending_again m s from y k part = ending_by m.entries (is_newline m.next.token) (is_end m.next.token) m.next s from y ((is (at_end m) g s).only y k part)
-
-  abbrev at_remark : Bool → LineSo → Form (Row AnEntry × Bool)
-  at_remark blank l = both (a_remark blank l) at_end
+  ending_again inner l s from y k part = ending_by inner l.list.entries (is_newline l.next.token) (is_end l.next.token) l.next s from y ((is (at_end inner l) g s).only y k part)
 
   abbrev at_entries : Inner → Bool → Next → Form (Row AnEntry × Bool)
-  at_entries inner blank n = both (all_entries inner blank n) (at_remark blank)
+  at_entries inner blank n = both (on_line inner (list_so (none_listed blank) n)) (at_end inner)
 
   pub line_again : (inner : Inner) (blank : Bool) (s : State) → a ≤ s.at → (y : Read (Row AnEntry × Bool)) (k : Row Spelled) → may (a_line inner blank) g s y k → Again (a_line inner blank) s y
   unfolding a_line
   line_again inner blank s from y k part =
       both_again (next_token Command) (at_entries inner blank) s from (λ n t from_t.
-      both_again (all_entries inner blank n) (at_remark blank) t from_t (λ l u from_u.
-      both_again (a_remark blank l) at_end u from_u (λ m v from_v. ending_again m v from_v))) y k part
+      both_again (on_line inner (list_so (none_listed blank) n)) (at_end inner) t from_t (λ l u from_u. ending_again inner l u from_u)) y k part
 
 -- ---- one line and two texts
 

@@ -60,9 +60,11 @@ module _ (T : List ℕ) (p : ℕ) where
       (λ n. cond_both (b == 59) _ _ P (λ e. cond_both (stands T (behind T p) 59) _ _ P (λ f. tt) (λ f. tt))
       (λ e. cond_both (b == 38) _ _ P (λ f. cond_both (stands T (behind T p) 38) _ _ P (λ g. stands_read T (behind T p) 38 g) (λ g. tt))
       (λ f. cond_both (b == 124) _ _ P (λ g. cond_both (stands T (behind T p) 124) _ _ P (λ h. stands_read T (behind T p) 124 h) (λ h. tt))
-      (λ i. cond_both (is_operator b) _ _ P (λ g. tt)
+      (λ i. cond_both (b == 40) _ _ P (λ g. tt)
+      (λ j. cond_both (b == 41) _ _ P (λ g. tt)
+      (λ k. cond_both (is_operator b) _ _ P (λ g. tt)
       (λ o. cond_both (b == 35) _ _ P (λ g. tt)
-      (λ g. cond_both (is_number T p) _ _ P (λ h. tt) (λ h. in_position position (Some b) (or_from _ _ (or_from _ _ blank n) o))))))))
+      (λ g. cond_both (is_number T p) _ _ P (λ h. tt) (λ h. in_position position (Some b) (or_from _ _ (or_from _ _ blank n) o))))))))))
 
   -- a token that is not the end has a byte
   some_byte : (position : Position) (b : Option ℕ) → is_end (token_of position T p b) ≡ false → is_none b ≡ false
@@ -78,6 +80,8 @@ shows_by T p tokens.Ampersand still some e = (λ z f. absurd cc, some, λ f. abs
 shows_by T p tokens.AndIf still some e = (λ z f. absurd cc, some, λ f. absurd cc, λ f. absurd cc, λ o f. e, still)
 shows_by T p tokens.OrIf still some e = (λ z f. absurd cc, some, λ f. absurd cc, λ f. absurd cc, λ o f. e, still)
 shows_by T p tokens.Pipe still some e = (λ z f. absurd cc, some, λ f. absurd cc, λ f. absurd cc, λ o f. absurd cc, still)
+shows_by T p tokens.OpenParen still some e = (λ z f. absurd cc, some, λ f. absurd cc, λ f. absurd cc, λ o f. absurd cc, still)
+shows_by T p tokens.CloseParen still some e = (λ z f. absurd cc, some, λ f. absurd cc, λ f. absurd cc, λ o f. absurd cc, still)
 shows_by T p tokens.Operator still some e = (λ z f. absurd cc, some, λ f. absurd cc, λ f. absurd cc, λ o f. absurd cc, still)
 shows_by T p tokens.Comment still some e = (λ z f. absurd cc, some, λ f. absurd cc, λ f. absurd cc, λ o f. absurd cc, still)
 shows_by T p tokens.Number still some e = (λ z f. absurd cc, some, λ f. absurd cc, λ f. absurd cc, λ o f. absurd cc, still)

@@ -5,7 +5,7 @@ use Rattle.shread.specs.declared.reader.Line as the_line
 use Rattle.shread.specs.declared.reader.LineKind as the_kind
 use Rattle.shread.specs.declared.reader.LineKind.TheVariants as kinds
 use Rattle.shread.specs.declared.reader.Script as the_script
-use Rattle.shread.specs.View.{view_list}
+use Rattle.shtree.specs.View.{view_list}
 use Rattle.shread.specs.Lines.{ALine, AKind, blank_line, entries_line, end_line, faulty_line}
 use Rattle.shread.specs.Scripts.{AScript}
 

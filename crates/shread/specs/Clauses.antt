@@ -6,7 +6,7 @@ use Rattle.shread.specs.declared.fault.Stop.TheVariants.{Memory, Wrong}
 use Rattle.shread.specs.declared.token.Position.{Position}
 use Rattle.shread.specs.declared.token.Token.{Token}
 use Rattle.shread.specs.declared.token.Token.TheVariants as tokens
-use Rattle.shread.specs.declared.tree.AndOrOperator.{AndOrOperator}
+use Rattle.shtree.specs.declared.tree.AndOrOperator.{AndOrOperator}
 use Rattle.shread.specs.Standing.{raw_stands, at_end}
 use Rattle.shread.specs.Bytes.{behind, past_continuations, ends_word}
 use Rattle.shread.specs.Sights.{State, given, standing}

@@ -1,7 +1,7 @@
 -- Comments (XCU 2.3, rule 9), and spans.
 use Rattle.std.specs.Prelude.{ℕ, ◌+◌, List, Option, None, Some, if◌then◌else◌}
-use Rattle.shread.specs.declared.tree.Comment.{Comment}
-use Rattle.shread.specs.declared.tree.Span.{Span}
+use Rattle.shtree.specs.declared.tree.Comment.{Comment}
+use Rattle.shtree.specs.declared.tree.Span.{Span}
 use Rattle.shread.specs.Standing.{raw_stands, next_newline, before_blanks}
 
 -- the span from the place p up to the place q of a text that begins at the offset o

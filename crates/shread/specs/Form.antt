@@ -4,7 +4,7 @@
 -- function that computes (`does`). That the one is what the other computes is shown once, for all forms. What is given, the
 -- state and the tokens passed are handed on here: no row names them.
 use Rattle.std.specs.Prelude.{◌≡◌, ℕ, zero, suc, ◌-◌, Bool, true, false, Result, Ok, Err, List, [], ◌∷◌, ◌++◌, List as Row, length, nat_lt, take, drop, if◌then◌else◌}
-use Rattle.shread.specs.declared.tree.Span.{Span}
+use Rattle.shtree.specs.declared.tree.Span.{Span}
 use Rattle.shread.specs.declared.fault.Fault.{Fault}
 use Rattle.shread.specs.declared.fault.FaultKind.{FaultKind}
 use Rattle.shread.specs.Comments.{span}

@@ -1,6 +1,4 @@
 pub mod Text
-pub mod Tree
-pub mod View
 pub mod Classes
 pub mod Standing
 pub mod Bytes
@@ -11,11 +9,14 @@ pub mod Sights
 pub mod Form
 pub mod Words
 pub mod Commands
+pub mod Lists
+pub mod Listed
+pub mod Compounds
+pub mod Levels
 pub mod Lines
 pub mod Scripts
 pub mod Clauses
 pub mod Answers
 pub mod SoFar
-pub mod Normal
 pub mod Search
 pub mod Plain

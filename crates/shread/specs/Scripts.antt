@@ -1,12 +1,12 @@
 -- A script as a whole: its lines, one after the other (XCU 2.10.2).
 use Rattle.std.specs.Prelude.{ℕ, zero, suc, ◌+◌, ◌-◌, Bool, true, false, ◌&&◌, not, [], ◌++◌, List, List as Row, drop, length, Option, None, Some, Ok, Err}
 use Rattle.shread.specs.declared.fault.Fault.{Fault}
-use Rattle.shread.specs.Tree.{AnEntry, Entries, entries_of}
+use Rattle.shtree.specs.Tree.{AnEntry, Entries, entries_of}
 use Rattle.shread.specs.Sights.{given, standing, State}
 use Rattle.shread.specs.Form.{Form, Read, may, does, Spelled}
-use Rattle.shread.specs.Words.{level}
+use Rattle.shread.specs.Levels.{most_open, level}
 use Rattle.shread.specs.Commands.{is_empty}
-use Rattle.shread.specs.Lines.{most_open, a_line, ALine, kind_of, faulty_line, is_ended}
+use Rattle.shread.specs.Lines.{a_line, ALine, kind_of, faulty_line, is_ended}
 
 -- the entries of a script, and its first fault; with a fault the entries of the lines before the faulty one
 pub record AScript : Type 0 where

@@ -5,11 +5,11 @@ use Rattle.shread.specs.declared.mode.Mode.{Mode}
 use Rattle.shread.specs.declared.mode.Piece.{Piece}
 use Rattle.shread.specs.declared.token.Next.{Next}
 use Rattle.shread.specs.declared.token.Position.{Position}
-use Rattle.shread.specs.declared.tree.Comment.{Comment}
-use Rattle.shread.specs.declared.tree.Span.{Span}
+use Rattle.shtree.specs.declared.tree.Comment.{Comment}
+use Rattle.shtree.specs.declared.tree.Span.{Span}
 use Rattle.shread.specs.Standing.{raw_stands, at_end}
 use Rattle.shread.specs.Bytes.{past_continuations, behind, past_blanks}
-use Rattle.shread.specs.Tokens.{next_at}
+use Rattle.shread.specs.Tokens.{next_at, past_reserved}
 use Rattle.shread.specs.Pieces.{piece_at, past_taken, past_closer, next_quote, next_in_backquotes, is_last_backslash, past_parameter, rest_mode}
 use Rattle.shread.specs.Comments.{comment_at, past_comment}
 
@@ -90,6 +90,8 @@ pub data Move : Type 0 where
   blanks : Move
   -- to the end of the comment here
   a_comment_on : Move
+  -- behind the reserved word here
+  the_reserved : Move
 
 abbrev pub to : Move → List ℕ → ℕ → ℕ
 to one_byte T p = behind T p
@@ -101,3 +103,4 @@ to a_quote_on T p = next_quote T p
 to in_backquotes_on T p = next_in_backquotes T p
 to blanks T p = past_blanks T p
 to a_comment_on T p = past_comment T p
+to the_reserved T p = past_reserved T p

@@ -3,8 +3,8 @@ use Rattle.std.specs.Prelude.{ℕ, List, map}
 use Rattle.shread.specs.declared.all_lines.Rest.{Rest}
 use Rattle.shread.specs.declared.all_lines.Rest.TheVariants.{More, Nothing}
 use Rattle.shread.specs.declared.all_lines.SoFar as the_so_far
-use Rattle.shread.specs.Tree.{entries_of}
-use Rattle.shread.specs.View.{view_entry}
+use Rattle.shtree.specs.Tree.{entries_of}
+use Rattle.shtree.specs.View.{view_entry}
 use Rattle.shread.specs.Scripts.{AScript, SoFar, script_on}
 
 abbrev pub view_so_far : the_so_far.SoFar → SoFar

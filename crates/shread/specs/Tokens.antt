@@ -36,6 +36,10 @@ reserved_words = (codes "!", reserved.Bang) ∷ (codes "{", reserved.OpenBrace) 
 abbrev pub reserved_at : List ℕ → ℕ → Option Reserved
 reserved_at T p = first_of_words T p reserved_words
 
+-- the place behind the reserved word that stands at p
+unfoldable pub past_reserved : List ℕ → ℕ → ℕ
+past_reserved T p = past is_name T (behind T p)
+
 -- a NAME and `=` stand at p (XCU 2.10.2, rule 7)
 unfoldable pub begins_assignment : List ℕ → ℕ → Bool
 begins_assignment T p = stands_in is_letter T p && stands T (past is_name T p) 61
@@ -69,9 +73,11 @@ token_of position T p (Some b) = if is_newline b then tokens.Newline
     else (if b == 59 then (if stands T (behind T p) 59 then tokens.Operator else tokens.Semicolon)
     else (if b == 38 then (if stands T (behind T p) 38 then tokens.AndIf else tokens.Ampersand)
     else (if b == 124 then (if stands T (behind T p) 124 then tokens.OrIf else tokens.Pipe)
+    else (if b == 40 then tokens.OpenParen
+    else (if b == 41 then tokens.CloseParen
     else (if is_operator b then tokens.Operator
     else (if b == 35 then tokens.Comment
-    else (if is_number T p then tokens.Number else word_by position T p))))))
+    else (if is_number T p then tokens.Number else word_by position T p))))))))
 
 -- no token begins here
 abbrev pub is_end : Token → Bool

@@ -3,14 +3,14 @@ ghost use Rattle.std.specs.Prelude.{◌≡◌, ◌+◌, ◌^◌, ◌<◌, ◌≤
 ghost use Rattle.shread.specs.Answers.{view_script};
 ghost use Rattle.shread.specs.Scripts.{is_blank_line, script_at, script_on, with_line};
 ghost use Rattle.shread.specs.SoFar.{script_then, view_so_far};
-ghost use Rattle.shread.specs.View.{view_entry};
+ghost use Rattle.shtree.specs.View.{view_entry};
 
 use crate::fault::{Fault, ReadError, Stop};
-use crate::make::list_of;
 use crate::one_line::{Told, line_at};
 use crate::reader::Script;
 use crate::source::Source;
-use crate::tree::Entry;
+use shtree::Entry;
+use shtree::make::list_of;
 use std::alloc::Global;
 
 /// What the lines before `at` gave.

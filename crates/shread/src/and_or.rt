@@ -1,21 +1,53 @@
 //! And-or lists: pipelines joined by `&&` and `||` (XCU 2.9.3).
-ghost use Rattle.std.specs.Prelude.{◌≡◌, ◌≤◌, [], map, IfOk};
-ghost use Rattle.shread.specs.Clauses.{Onward, Reads, Shows, Stays, text_of};
-ghost use Rattle.shread.specs.Commands.{an_and_or, join_pipeline, joined_so};
-ghost use Rattle.shread.specs.Form.{many, step_if};
-ghost use Rattle.shread.specs.Words.{level};
-ghost use Rattle.shread.specs.View.{view_and_or, view_and_or_part};
+ghost use Rattle.std.specs.Prelude.{◌≡◌, ◌<◌, ◌≤◌, [], map, IfOk};
+ghost use Rattle.shread.specs.Bytes.{behind};
+ghost use Rattle.shread.specs.Clauses.{IsRead, Onward, Reads, Shows, Stays, text_of};
+ghost use Rattle.shread.specs.Commands.{an_and_or, join_pipeline, joined_so, one_pipeline};
+ghost use Rattle.shread.specs.Form.{again, many, step_if};
+ghost use Rattle.shread.specs.Levels.{level};
+ghost use Rattle.shtree.specs.View.{view_and_or, view_and_or_part};
 
 use crate::cursor::Cursor;
 use crate::fault::Stop;
-use crate::make::{and_or_of, and_or_part_of};
 use crate::source::Source;
 use crate::token::Next;
-use crate::tree::{AndOr, AndOrPart};
+use shtree::make::{and_or_of, and_or_part_of};
+use shtree::{AndOr, AndOrOperator, AndOrPart};
 use std::alloc::Global;
 
 impl<'a, S: Source> Cursor<'a, S> {
-    /// One more pipeline of an and-or list, behind `&&` or `||`. Answers whether there was one.
+    /// One more pipeline of an and-or list, behind `&&` or `||`. It stands apart to keep the frames of nested commands small.
+    #[cycle(commands)]
+    #[tactic(auto, unfolding(crate::specs::Commands::one_pipeline))]
+    fn one_pipeline(
+        &mut self,
+        alloc: Global,
+        operator: AndOrOperator,
+        next: &mut Next,
+        parts: &mut Vec<AndOrPart>,
+        room: usize,
+    ) -> Result<(), Stop>
+        requires first { IsRead (text_of S.bytes self.old) self.old.at }
+        requires second { IsRead (text_of S.bytes self.old) (behind (text_of S.bytes self.old) self.old.at) }
+        ensures value { Reads S.bytes self.old
+            (one_pipeline (level room) (joined_so (map view_and_or_part parts.old.items) next.old) operator) result
+            (λ done. again (joined_so (map view_and_or_part parts.new.items) next.new)) self.new.at }
+        ensures shows { IfOk result (λ done. Shows next.new.token (text_of S.bytes self.old) self.new.at) }
+        ensures onward { IfOk result (λ done. self.old.at < self.new.at) }
+        ensures same { Stays self.old self.new }
+    {
+        self.bump();
+        self.bump();
+        let join = self.join(alloc, next)?;
+        let pipeline = self.pipeline(alloc, next, room)?;
+        if self.keep {
+            parts.push(and_or_part_of(operator, join, pipeline))?;
+        }
+        Ok(())
+    }
+
+    /// One more, if such an operator stands here. Answers whether there was one.
+    #[cycle(commands)]
     #[inline(always)]
     #[tactic(auto, unfolding(crate::specs::Commands::join_pipeline))]
     fn join_pipeline(
@@ -36,17 +68,12 @@ impl<'a, S: Source> Cursor<'a, S> {
         let Some(operator) = next.token.and_or_operator() else {
             return Ok(false);
         };
-        self.bump();
-        self.bump();
-        let join = self.join(alloc, next)?;
-        let pipeline = self.pipeline(alloc, next, room)?;
-        if self.keep {
-            parts.push(and_or_part_of(operator, join, pipeline))?;
-        }
+        self.one_pipeline(alloc, operator, next, parts, room)?;
         Ok(true)
     }
 
     /// The pipelines of an and-or list behind its first.
+    #[cycle(commands)]
     #[inline(always)]
     #[tactic(auto, using(crate::proofs::Turns::many_again, crate::proofs::Turns::many_done, crate::proofs::Turns::many_stop))]
     fn joined_pipelines(
@@ -68,6 +95,7 @@ impl<'a, S: Source> Cursor<'a, S> {
     }
 
     /// The and-or list that the token here begins.
+    #[cycle(commands)]
     #[inline(always)]
     #[tactic(auto, unfolding(crate::specs::Commands::an_and_or))]
     pub(crate) fn and_or(

@@ -3,7 +3,8 @@
 use crate::dump::{Judge, dump_end, dump_fault};
 use crate::table::{Cell, joined, rows, split};
 use crate::trees::ROWS;
-use crate::{Command, Content, Fault, Flat, LineKind, List, Reader};
+use crate::{Fault, Flat, LineKind, Reader};
+use shtree::{Command, Content, List};
 use std::alloc::Global;
 use std::test::Fail;
 
@@ -31,9 +32,10 @@ const LINES: &[u8] = br###"
 ("a\nb;c\\\n\"d\ne\n", 2, "fault 2 at 5 to 12") ("a\n;\nb\n", 4, "[0-1] to 6, ended") ("a\nb\\", 2, "fault 8 at 1 to 4")
 // any place begins a line: what stands before it counts nothing
 ("a\n;b", 3, "[0-1] to 4") ("a b", 1, "[1-2] to 3") ("a \\\nb", 2, "[2-3] to 5") ("a \\\nb", 3, "blank to 4, ended")
-("ab=1", 1, "[=0-3] to 4") ("a=1 b", 2, "[0-1 2-3] to 5") ("xif", 1, "fault 11 at 0 to 3") ("a if", 2, "fault 11 at 0 to 4")
+("ab=1", 1, "[=0-3] to 4") ("a=1 b", 2, "[0-1 2-3] to 5") ("xfi", 1, "fault 11 at 0 to 3") ("a fi", 2, "fault 11 at 0 to 4")
 ("a#b", 1, "#0-2 to 3") ("a9<", 1, "fault 11 at 0 to 3") ("\\;", 1, "fault 11 at 0 to 2") ("'a;b'", 3, "fault 1 at 1 to 5")
-("$$(a)", 1, "fault 11 at 0 to 5") ("#a;b\nc", 3, "[0-1] to 5, ended")
+("$$(a)", 1, "fault 11 at 0 to 5") ("xif", 1, "fault 12 at 2 to 3") ("{ a\n}\nb", 0, "{0-5 [2-3]} to 6, ended")
+("{ a\n}\nb", 2, "[0-1] to 4, ended") ("{ a\n}\nb", 4, "fault 11 at 0 to 7") ("a;(b\n\nc)\nd", 0, "[0-1] (2-8 [3-4] ~[6-7]) to 9, ended") ("#a;b\nc", 3, "[0-1] to 5, ended")
 // all lines of a script
 ("a\n \n# b\n;\n", 0, "[0-1] to 2, ended") ("a\n \n# b\n;\n", 2, "blank to 4, ended") ("a\n \n# b\n;\n", 4, "#0-3 to 8, ended")
 ("a\n \n# b\n;\n", 8, "fault 11 at 0 to 10") ("a\n \n# b\n;\n", 10, "end to 10")
@@ -133,8 +135,9 @@ fn dump_counts(text: &mut String, list: &List) -> Result<(), Fail> {
     let mut items = 0;
     if let Some(entry) = list.entries.first() {
         if let Content::AndOr(and_or) = &entry.what {
-            let Command::Simple { items: found } = &and_or.first.first;
-            items = found.len();
+            if let Command::Simple { items: found } = &and_or.first.first {
+                items = found.len();
+            }
         }
     }
     write!(text, "{} {items}", list.entries.len())?;
@@ -180,7 +183,7 @@ const LONG: &[u8] = br###"
 fn judge_long(judge: &mut Judge, alloc: Global, row: &[Cell]) -> Result<(), Fail> {
     let (pieces, wanted) = split(row)?;
     let mut script = joined(alloc, pieces)?;
-    script.extend_from_slice(b"\n(")?;
+    script.extend_from_slice(b"\n)")?;
     let counts = dumped_counts(alloc, &script)?;
     judge.text(&script, counts.as_str(), &wanted.bytes)
 }
@@ -200,7 +203,7 @@ fn many(alloc: Global) -> Result<Vec<u8>, Fail> {
     for _ in 0..40_000 {
         script.extend_from_slice(b"ab c='d\ne' #f\n\n#g h i j k l m n\n")?;
     }
-    script.extend_from_slice(b"a;(")?;
+    script.extend_from_slice(b"a;)")?;
     Ok(script)
 }
 

@@ -1,18 +1,18 @@
-//! Commands: simple ones, so far (XCU 2.9, 2.9.1).
+//! Commands, and the simple ones among them (XCU 2.9, 2.9.1).
 ghost use Rattle.std.specs.Prelude.{◌≡◌, ◌≤◌, map, IfOk};
 ghost use Rattle.shread.specs.Clauses.{Onward, Reads, Shows, Stays, text_of};
 ghost use Rattle.shread.specs.Commands.{a_command, a_simple, as_item, item_turn, so_many};
 ghost use Rattle.shread.specs.Form.{many, step_if};
-ghost use Rattle.shread.specs.Tree.{item};
-ghost use Rattle.shread.specs.View.{view_command, view_item, view_word};
-ghost use Rattle.shread.specs.Words.{level};
+ghost use Rattle.shtree.specs.Tree.{item};
+ghost use Rattle.shtree.specs.View.{view_command, view_item, view_word};
+ghost use Rattle.shread.specs.Levels.{level};
 
 use crate::cursor::Cursor;
 use crate::fault::Stop;
-use crate::make::{argument_of, assign_of, simple_of};
 use crate::source::Source;
 use crate::token::{Next, Position};
-use crate::tree::{Command, Item, Word};
+use shtree::make::{argument_of, assign_of, simple_of};
+use shtree::{Command, Item, Word};
 use std::alloc::Global;
 
 /// A word as an item, by the position behind it.
@@ -71,6 +71,7 @@ impl<'a, S: Source> Cursor<'a, S> {
     }
 
     /// The command that the token here begins.
+    #[cycle(commands)]
     #[inline(always)]
     #[tactic(auto, unfolding(crate::specs::Commands::a_command))]
     pub(crate) fn command(
@@ -87,9 +88,11 @@ impl<'a, S: Source> Cursor<'a, S> {
         ensures same { Stays self.old self.new }
     {
         if next.token.begins_simple() {
-            self.simple(alloc, next, room)
-        } else {
-            Err(Stop::Wrong(self.what_is_wrong(next)))
+            return self.simple(alloc, next, room);
+        }
+        match next.token.opener() {
+            Some(opener) => self.compound(alloc, opener, next, room),
+            None => Err(Stop::Wrong(self.what_is_wrong(next, room)?)),
         }
     }
 }

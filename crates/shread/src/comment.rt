@@ -8,7 +8,7 @@ use crate::cursor::Cursor;
 use crate::search::Sought;
 use crate::source::Source;
 use crate::token::Class;
-use crate::tree::{Comment, Span};
+use shtree::{Comment, Span};
 
 impl<'a, S: Source> Cursor<'a, S> {
     /// The place behind the last byte before `end` that is no blank.

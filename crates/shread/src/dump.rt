@@ -4,6 +4,8 @@
 //
 //   [S-E S-E]    a simple command and its items; an item has `=` before it where it is an assignment, and `^` before that
 //                where it is broken
+//   {S-E ..}     a group and its entries; so is (S-E ..), a subshell
+//   <S-E if .. then .. elif .. then .. else ..>, <S-E while .. do ..>, <S-E until .. do ..>
 //   #S-E         a comment that is an entry
 //   ~            before an entry: it is blank
 //   &            behind an entry: it is in the background
@@ -14,9 +16,10 @@
 //   fault K at O a fault by its number, and its offset
 //
 // So is a line, which is `blank` or `end` where it has no entry; then follow `to N`, the offset behind it, and `, ended`.
-use crate::{
-    AndOr, AndOrOperator, Command, Comment, Content, Entry, Fault, Item, ItemContent, Join, Line,
-    LineKind, List, Pipeline, Reader, Source, Span, Word,
+use crate::{Fault, Line, LineKind, Reader, Source};
+use shtree::{
+    AndOr, AndOrOperator, Branch, Command, Compound, Content, Entry, Form, Item, ItemContent, Join,
+    List, Pipeline, Span, Word,
 };
 use std::alloc::Global;
 use std::test::Fail;
@@ -24,6 +27,11 @@ use std::test::Fail;
 fn dump_span(text: &mut String, before: &str, span: Span) -> Result<(), Fail> {
     write!(text, "{before}{}-{}", span.start, span.end)?;
     Ok(())
+}
+
+/// What no row of the grammar reads yet.
+fn unread() -> Result<(), Fail> {
+    Err(Fail::new("a node that is not read yet"))
 }
 
 fn dump_join(text: &mut String, operator: &str, join: &Join) -> Result<(), Fail> {
@@ -57,6 +65,7 @@ fn dump_item(text: &mut String, item: &Item) -> Result<(), Fail> {
     match &item.what {
         ItemContent::Assign(word) => dump_word(text, "=", word),
         ItemContent::Word(word) => dump_word(text, "", word),
+        ItemContent::Redirect { .. } => unread(),
     }
 }
 
@@ -70,8 +79,71 @@ fn dump_command(text: &mut String, command: &Command) -> Result<(), Fail> {
                 dump_item(text, item)?;
             }
             text.push_str("]")?;
+            Ok(())
         }
+        Command::Compound(compound) => dump_compound(text, compound),
+        Command::Function { .. } => unread(),
     }
+}
+
+/// A list behind a word that tells what it is.
+#[cycle(dump)]
+fn dump_part(text: &mut String, before: &str, list: &List) -> Result<(), Fail> {
+    text.push_str(before)?;
+    text.push_str(" ")?;
+    dump_list(text, list)
+}
+
+#[cycle(dump)]
+fn dump_branch(
+    text: &mut String,
+    before: &str,
+    branch: &Branch,
+    between: &str,
+) -> Result<(), Fail> {
+    dump_part(text, before, &branch.condition)?;
+    dump_part(text, between, &branch.body)
+}
+
+#[cycle(dump)]
+fn dump_form(text: &mut String, form: &Form) -> Result<(), Fail> {
+    match form {
+        Form::Brace(list) => dump_part(text, "", list),
+        Form::Subshell(list) => dump_part(text, "", list),
+        Form::If {
+            first,
+            rest,
+            otherwise,
+        } => {
+            dump_branch(text, " if", first, " then")?;
+            for branch in rest {
+                dump_branch(text, " elif", branch, " then")?;
+            }
+            match otherwise {
+                Some(list) => dump_part(text, " else", list),
+                None => Ok(()),
+            }
+        }
+        Form::While(branch) => dump_branch(text, " while", branch, " do"),
+        Form::Until(branch) => dump_branch(text, " until", branch, " do"),
+        Form::For { .. } | Form::Case { .. } => unread(),
+    }
+}
+
+/// A compound command. No redirection behind one is read yet.
+#[cycle(dump)]
+fn dump_compound(text: &mut String, compound: &Compound) -> Result<(), Fail> {
+    let (opener, closer) = match &compound.form {
+        Form::Brace(_) => ("{", "}"),
+        Form::Subshell(_) => ("(", ")"),
+        _ => ("<", ">"),
+    };
+    dump_span(text, opener, compound.span)?;
+    dump_form(text, &compound.form)?;
+    if !compound.redirects.is_empty() {
+        return unread();
+    }
+    text.push_str(closer)?;
     Ok(())
 }
 
@@ -230,6 +302,22 @@ impl Judge {
     ) -> Result<(), Fail> {
         let dump = dumped(self.alloc, &mut self.reader, source)?;
         self.text(script, dump.as_str(), wanted)
+    }
+
+    /// Compares the fault of a script, which a reading with its tree has to find too.
+    pub(crate) fn fault<S: Source>(
+        &mut self,
+        source: &S,
+        script: &[u8],
+        wanted: &[u8],
+    ) -> Result<(), Fail> {
+        let fault = self.reader.first_fault(source)?;
+        let mut text = String::new(self.alloc);
+        dump_fault(&mut text, fault)?;
+        if self.reader.read_script(source)?.fault != fault {
+            text.push_str(" and another fault with a tree")?;
+        }
+        self.text(script, text.as_str(), wanted)
     }
 
     /// Compares the dump of a line.

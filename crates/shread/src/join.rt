@@ -1,55 +1,18 @@
-//! What stands around an operator that joins two operands, and what no row takes (XCU 2.9.2, 2.9.3).
-ghost use Rattle.std.specs.Prelude.{◌≡◌, ◌≤◌, IfOk, Ok as Done};
-ghost use Rattle.shread.specs.Clauses.{end_of, Onward, Reads, reads, Shows, Stays, text_of};
-ghost use Rattle.shread.specs.Commands.{a_join, a_newline, join_so, join_turn, what_is_wrong};
+//! What stands around an operator that joins two operands (XCU 2.9.2, 2.9.3).
+ghost use Rattle.std.specs.Prelude.{◌≡◌, ◌≤◌, IfOk};
+ghost use Rattle.shread.specs.Clauses.{Onward, Reads, Shows, Stays, text_of};
+ghost use Rattle.shread.specs.Commands.{a_join, join_so, join_turn};
 ghost use Rattle.shread.specs.Form.{many, step_if};
-ghost use Rattle.shread.specs.Sights.{standing};
-ghost use Rattle.shread.specs.View.{view_join};
+ghost use Rattle.shtree.specs.View.{view_join};
 
 use crate::cursor::Cursor;
-use crate::fault::{Fault, FaultKind, Stop};
+use crate::fault::Stop;
 use crate::source::Source;
-use crate::token::{Next, Position, Token};
-use crate::tree::Join;
+use crate::token::{Next, Position};
+use shtree::Join;
 use std::alloc::Global;
 
 impl<'a, S: Source> Cursor<'a, S> {
-    /// What is wrong where no row takes the token here. A comment goes with the token behind it.
-    #[tactic(auto, unfolding(crate::specs::Commands::what_is_wrong))]
-    pub(crate) fn what_is_wrong(&mut self, next: &mut Next) -> Fault
-        requires { Shows next.old.token (text_of S.bytes self.old) self.old.at }
-        ensures value { reads S.bytes self.old (what_is_wrong next.old) ≡ Done ((result.kind, result.at), standing self.new.at) }
-        ensures within { result.at ≤ end_of S.bytes self.old }
-        ensures same { Stays self.old self.new }
-    {
-        let _ = self.remark(next);
-        let kind = match next.token {
-            Token::End => FaultKind::UnexpectedEnd,
-            _ => FaultKind::Unexpected,
-        };
-        Fault {
-            kind,
-            at: self.origin + self.at,
-        }
-    }
-
-    /// Passes the newline here, if one stands. `next` is the token here, and then the one behind it.
-    #[tactic(auto, unfolding(crate::specs::Commands::a_newline, crate::specs::Commands::next_token))]
-    fn newline(&mut self, next: &mut Next) -> bool
-        requires shows { Shows next.old.token (text_of S.bytes self.old) self.old.at }
-        ensures value { reads S.bytes self.old (a_newline next.old) ≡ Done ((result, next.new), standing self.new.at) }
-        ensures shows { Shows next.new.token (text_of S.bytes self.old) self.new.at }
-        ensures onward { Onward self.old.at self.new.at result }
-        ensures same { Stays self.old self.new }
-    {
-        let Token::Newline = next.token else {
-            return false;
-        };
-        self.bump();
-        *next = self.next_token(Position::Command);
-        true
-    }
-
     /// One more comment and newline behind an operator. Answers whether there was a newline.
     #[tactic(auto, unfolding(crate::specs::Commands::join_turn))]
     fn join_turn(&mut self, next: &mut Next, join: &mut Join) -> Result<bool, Stop>

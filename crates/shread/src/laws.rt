@@ -1,14 +1,13 @@
 //! Laws of the definitions alone, which no code stands behind.
-ghost use Rattle.std.specs.Prelude.{◌≡◌, ◌+◌, ◌-◌, ◌∷◌, ℕ, Bool, List, List as Row, Ok, Option, Some, drop, false, take, true};
-ghost use Rattle.shread.specs.declared.tree.Comment.{Comment};
+ghost use Rattle.std.specs.Prelude.{◌≡◌, ◌+◌, ◌-◌, ℕ, List, List as Row, Ok, false, drop, take, true};
 ghost use Rattle.shread.specs.Lines.{ALine, IsLine};
-ghost use Rattle.shread.specs.Normal.{IsNormal, alone, joined, of_command};
 ghost use Rattle.shread.specs.Scripts.{AScript, Outcome};
 ghost use Rattle.shread.specs.Bytes.{ends_word, stands};
 ghost use Rattle.shread.specs.Form.{Spelled, may};
 ghost use Rattle.shread.specs.Sights.{Given, State, standing};
-ghost use Rattle.shread.specs.Tree.{ACommand, AContent, AWord, AnItemContent, Items, entry, item, more_items, remark, simple};
-ghost use Rattle.shread.specs.Words.{IsWord, a_word, level};
+ghost use Rattle.shtree.specs.Tree.{AWord};
+ghost use Rattle.shread.specs.Words.{a_word};
+ghost use Rattle.shread.specs.Levels.{IsWord, level};
 
 /// Each byte list has one outcome as a script, and one line with which it begins.
 pub fn one_outcome()
@@ -16,20 +15,6 @@ pub fn one_outcome()
     ensures some_script { (bytes : List ℕ) → (a : AScript) × Outcome bytes a }
     ensures line { (bytes : List ℕ) (a b : ALine) → IsLine bytes a → IsLine bytes b → a ≡ b }
     ensures some_line { (bytes : List ℕ) → (a : ALine) × IsLine bytes a }
-{}
-
-/// The normal form of a list refuses each of these, in a list of one entry.
-pub fn normal_form()
-    ensures blank_first { (what : AContent) (background : Bool) (comment : Option Comment) →
-        IsNormal (alone (entry what background true comment)) → ⊥ }
-    ensures comment_in_background { (c : Comment) (comment : Option Comment) →
-        IsNormal (alone (entry (remark c) true false comment)) → ⊥ }
-    ensures comment_with_comment { (c d : Comment) (background : Bool) →
-        IsNormal (alone (entry (remark c) background false (Some d))) → ⊥ }
-    ensures broken_first_item { (what : AnItemContent) (items : Items) →
-        IsNormal (alone (of_command (simple (more_items (item true what) items)))) → ⊥ }
-    ensures unbroken_join { (c : Comment) (cs : Row Comment) (one two : ACommand) →
-        IsNormal (alone (joined (record { broken = false; comments = c ∷ cs }) one two)) → ⊥ }
 {}
 
 /// A word, which is whatever the row of a word reads, is read wherever its bytes stand, before a byte that ends words and is no `(`,

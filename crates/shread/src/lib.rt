@@ -1,18 +1,20 @@
 //! The reader of shform: scripts of the Shell Command Language of POSIX, read line by line into a tree.
 //!
 //! Start with [`Reader`]: `read_line` reads one top-level line of a [`Source`], `read_script` all of them, and `first_fault` looks
-//! for the first fault alone, without a tree. [`List`] and the types below it are the tree; [`Fault`] is what is wrong with a
-//! script. The definitions that the contracts cite are in `specs/`: `Words`, `Commands` and `Lines` are the grammar's rows, and
-//! `Form` says what a row means.
+//! for the first fault alone. The tree is that of the crate `shtree`; [`Fault`] is what is wrong with a script. The definitions
+//! that the contracts cite are in `specs/`: `Words`, `Commands`, `Lists`, `Compounds` and `Lines` are the grammar's rows, and `Form`
+//! says what a row means.
 #![tactic(auto)]
 
 mod all_lines;
 mod and_or;
+mod between;
 #[cfg(test)]
 mod by_line;
 mod bytes;
 mod command;
 mod comment;
+mod compound;
 mod cursor;
 #[cfg(test)]
 mod dump;
@@ -22,7 +24,7 @@ mod join;
 pub mod laws;
 mod line;
 mod line_col;
-mod make;
+mod list;
 mod mode;
 mod offsets;
 mod one_line;
@@ -40,7 +42,6 @@ mod standing;
 #[cfg(test)]
 mod table;
 mod token;
-mod tree;
 #[cfg(test)]
 mod trees;
 mod word;
@@ -49,7 +50,3 @@ pub use fault::{Fault, FaultKind, ReadError};
 pub use line_col::line_col_of;
 pub use reader::{Line, LineKind, Reader, Script};
 pub use source::{Flat, Source};
-pub use tree::{
-    AndOr, AndOrOperator, AndOrPart, Command, Comment, Content, Entry, Item, ItemContent, Join,
-    List, Pipeline, PipelinePart, Span, Subst, Word,
-};

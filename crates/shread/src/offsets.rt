@@ -6,7 +6,7 @@ ghost use Rattle.shread.specs.Comments.{span};
 use crate::cursor::Cursor;
 use crate::fault::{Fault, FaultKind, Stop};
 use crate::source::Source;
-use crate::tree::Span;
+use shtree::Span;
 
 impl<'a, S: Source> Cursor<'a, S> {
     /// What stops the reading at a place.

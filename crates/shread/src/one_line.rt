@@ -6,14 +6,14 @@ ghost use Rattle.shread.specs.Lines.{kind_of};
 ghost use Rattle.shread.specs.Scripts.{line_of_text, line_told};
 ghost use Rattle.shread.specs.Sights.{standing};
 ghost use Rattle.shread.specs.Standing.{raw_stands};
-ghost use Rattle.shread.specs.View.{view_entry};
+ghost use Rattle.shtree.specs.View.{view_entry};
 
 use crate::cursor::Cursor;
 use crate::fault::{ReadError, Stop};
-use crate::make::list_of;
 use crate::reader::{Line, LineKind};
 use crate::source::Source;
-use crate::tree::Entry;
+use shtree::Entry;
+use shtree::make::list_of;
 use std::alloc::Global;
 
 /// How many constructs may be open.

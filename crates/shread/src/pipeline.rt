@@ -1,18 +1,18 @@
 //! Pipelines (XCU 2.9.2).
-ghost use Rattle.std.specs.Prelude.{◌≡◌, ◌≤◌, [], map, IfOk, Ok as Done};
-ghost use Rattle.shread.specs.Clauses.{Onward, Reads, reads, Shows, Stays, text_of};
-ghost use Rattle.shread.specs.Commands.{a_bang, a_pipeline, pipe_turn, piped};
-ghost use Rattle.shread.specs.Form.{many, step_if};
+ghost use Rattle.std.specs.Prelude.{◌≡◌, ◌<◌, ◌≤◌, [], map, IfOk, Ok as Done};
+ghost use Rattle.shread.specs.Clauses.{IsRead, Onward, Reads, reads, Shows, Stays, text_of};
+ghost use Rattle.shread.specs.Commands.{a_bang, a_pipeline, one_command, pipe_turn, piped};
+ghost use Rattle.shread.specs.Form.{again, many, step_if};
 ghost use Rattle.shread.specs.Sights.{standing};
-ghost use Rattle.shread.specs.Words.{level};
-ghost use Rattle.shread.specs.View.{view_pipeline, view_pipeline_part};
+ghost use Rattle.shread.specs.Levels.{level};
+ghost use Rattle.shtree.specs.View.{view_pipeline, view_pipeline_part};
 
 use crate::cursor::Cursor;
 use crate::fault::Stop;
-use crate::make::{pipeline_of, pipeline_part_of};
 use crate::source::Source;
 use crate::token::{Next, Position, Reserved, Token};
-use crate::tree::{Pipeline, PipelinePart, Span};
+use shtree::make::{pipeline_of, pipeline_part_of};
+use shtree::{Pipeline, PipelinePart, Span};
 use std::alloc::Global;
 
 impl<'a, S: Source> Cursor<'a, S> {
@@ -36,7 +36,34 @@ impl<'a, S: Source> Cursor<'a, S> {
         Some(span)
     }
 
-    /// One more command of a pipeline, behind a `|`. Answers whether there was one.
+    /// One more command of a pipeline, behind a `|`. It stands apart to keep the frames of nested commands small.
+    #[cycle(commands)]
+    #[tactic(auto, unfolding(crate::specs::Commands::one_command))]
+    fn one_command(
+        &mut self,
+        alloc: Global,
+        next: &mut Next,
+        parts: &mut Vec<PipelinePart>,
+        room: usize,
+    ) -> Result<(), Stop>
+        requires { IsRead (text_of S.bytes self.old) self.old.at }
+        ensures value { Reads S.bytes self.old (one_command (level room) (piped (map view_pipeline_part parts.old.items) next.old)) result
+            (λ done. again (piped (map view_pipeline_part parts.new.items) next.new)) self.new.at }
+        ensures shows { IfOk result (λ done. Shows next.new.token (text_of S.bytes self.old) self.new.at) }
+        ensures onward { IfOk result (λ done. self.old.at < self.new.at) }
+        ensures same { Stays self.old self.new }
+    {
+        self.bump();
+        let join = self.join(alloc, next)?;
+        let command = self.command(alloc, next, room)?;
+        if self.keep {
+            parts.push(pipeline_part_of(join, command))?;
+        }
+        Ok(())
+    }
+
+    /// One more, if a `|` stands here. Answers whether there was one.
+    #[cycle(commands)]
     #[inline(always)]
     #[tactic(auto, unfolding(crate::specs::Commands::pipe_turn))]
     fn pipe(
@@ -56,16 +83,12 @@ impl<'a, S: Source> Cursor<'a, S> {
         let Token::Pipe = next.token else {
             return Ok(false);
         };
-        self.bump();
-        let join = self.join(alloc, next)?;
-        let command = self.command(alloc, next, room)?;
-        if self.keep {
-            parts.push(pipeline_part_of(join, command))?;
-        }
+        self.one_command(alloc, next, parts, room)?;
         Ok(true)
     }
 
     /// The commands of a pipeline behind its first.
+    #[cycle(commands)]
     #[inline(always)]
     #[tactic(auto, using(crate::proofs::Turns::many_again, crate::proofs::Turns::many_done, crate::proofs::Turns::many_stop))]
     fn pipes(
@@ -87,6 +110,7 @@ impl<'a, S: Source> Cursor<'a, S> {
     }
 
     /// The pipeline that the token here begins.
+    #[cycle(commands)]
     #[inline(always)]
     #[tactic(auto, unfolding(crate::specs::Commands::a_pipeline))]
     pub(crate) fn pipeline(

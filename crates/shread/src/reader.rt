@@ -3,14 +3,14 @@ ghost use Rattle.std.specs.Prelude.{◌≡◌, ◌+◌, ◌-◌, ◌<◌, ◌≤
 ghost use Rattle.shread.specs.Answers.{meter_of, raised, view_line, view_script};
 ghost use Rattle.shread.specs.Lines.{ALine, IsLine, NoFurther, SameBytes};
 ghost use Rattle.shread.specs.Scripts.{AScript, FirstFault, Outcome};
-ghost use Rattle.shread.specs.Normal.{IsNormal};
+ghost use Rattle.shtree.specs.Normal.{is_normal};
 
 use crate::all_lines::script_from;
 use crate::fault::{Fault, ReadError};
 use crate::first_fault::first_fault_of;
 use crate::one_line::line_from;
 use crate::source::Source;
-use crate::tree::List;
+use shtree::List;
 use std::alloc::Global;
 
 /// What a top-level line is.
@@ -97,7 +97,7 @@ impl Reader {
         // The answer is what the grammar has for the bytes, and it has nothing else.
         ensures outcome { IfOk result (λ script. Outcome (S.bytes source.now) (view_script script)) }
         ensures only { IfOk result (λ script. (a : AScript) → Outcome (S.bytes source.now) a → a ≡ view_script script) }
-        ensures normal { IfOk result (λ script. IsNormal (view_script script).entries) }
+        ensures normal { IfOk result (λ script. is_normal (view_script script).entries ≡ true) }
         ensures meter { IfOk result (λ script. meter_of self.new ≡ raised (meter_of self.old) (length (S.bytes source.now))) }
         ensures err { IfErr result (λ e. meter_of self.new ≡ meter_of self.old) }
     {

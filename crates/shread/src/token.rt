@@ -1,15 +1,16 @@
 //! Tokens: what may begin where one begins (XCU 2.3, 2.4, 2.10.1).
-ghost use Rattle.std.specs.Prelude.{◌≡◌, ◌≤◌, [], ◌∷◌, IfSome, None, Some, false, if◌then◌else◌};
+ghost use Rattle.std.specs.Prelude.{◌≡◌, ◌<◌, ◌≤◌, [], ◌∷◌, IfSome, None, Some, false, true, if◌then◌else◌};
 ghost use Rattle.shread.specs.Bytes.{past_blanks, past_continuations};
 ghost use Rattle.shread.specs.Classes.{in_class};
-ghost use Rattle.shread.specs.Clauses.{Shows, Stays, text_of};
-ghost use Rattle.shread.specs.Commands.{and_or_operator_of, begins_pipeline, begins_simple, behind_item, separator_of};
-ghost use Rattle.shread.specs.Tokens.{begins_assignment, first_of_words, is_end, is_number, is_word_at, next_at, reserved_at, token_at, word_by};
+ghost use Rattle.shread.specs.Clauses.{IsRead, Shows, Stays, text_of};
+ghost use Rattle.shread.specs.Commands.{and_or_operator_of, begins_pipeline, begins_simple, behind_item, opener_of, separator_of};
+ghost use Rattle.shread.specs.Compounds.{is_closing};
+ghost use Rattle.shread.specs.Tokens.{begins_assignment, first_of_words, is_end, is_number, is_word_at, next_at, past_reserved, reserved_at, token_at, word_by};
 
 use crate::cursor::Cursor;
 use crate::plain::{begins_a_word, is_in_names};
 use crate::source::Source;
-use crate::tree::AndOrOperator;
+use shtree::AndOrOperator;
 
 /// What begins at a place that no blank stands at (XCU 2.3, 2.10.1).
 #[derive(Clone, Copy)]
@@ -27,6 +28,10 @@ pub(crate) enum Token {
     OrIf,
     /// `|`
     Pipe,
+    /// `(`
+    OpenParen,
+    /// `)`
+    CloseParen,
     /// Any other operator. No row of the grammar takes one yet.
     Operator,
     /// A `#` and what follows it on its line; it belongs to the newline, or the end, behind it.
@@ -59,7 +64,7 @@ impl Token {
     pub(crate) fn begins_simple(self) -> bool
         ensures { result ≡ begins_simple self }
     {
-        matches!(self, Token::Assignment | Token::Word)
+        self.behind_item().is_some()
     }
 
     /// Whether a pipeline begins with this token.
@@ -67,10 +72,43 @@ impl Token {
     pub(crate) fn begins_pipeline(self) -> bool
         ensures { result ≡ begins_pipeline self }
     {
-        matches!(
-            self,
-            Token::Assignment | Token::Word | Token::Reserved(Reserved::Bang)
-        )
+        self.begins_simple()
+            || matches!(self, Token::Reserved(Reserved::Bang))
+            || self.opener().is_some()
+    }
+
+    /// The compound command that this token opens, if it opens one.
+    #[inline(always)]
+    pub(crate) fn opener(self) -> Option<Opener>
+        ensures value { result ≡ opener_of self }
+        ensures some { IfSome result (λ opener. is_end self ≡ false) }
+    {
+        match self {
+            Token::Reserved(Reserved::OpenBrace) => Some(Opener::Brace),
+            Token::OpenParen => Some(Opener::Paren),
+            Token::Reserved(Reserved::If) => Some(Opener::If),
+            Token::Reserved(Reserved::While) => Some(Opener::While),
+            Token::Reserved(Reserved::Until) => Some(Opener::Until),
+            _ => None,
+        }
+    }
+
+    /// Whether this token is that.
+    pub(crate) fn is_closing(self, closing: Closing) -> bool
+        ensures value { result ≡ is_closing closing self }
+        ensures some { result ≡ true → is_end self ≡ false }
+    {
+        match (closing, self) {
+            (Closing::Brace, Token::Reserved(Reserved::CloseBrace)) => true,
+            (Closing::Paren, Token::CloseParen) => true,
+            (Closing::Then, Token::Reserved(Reserved::Then)) => true,
+            (Closing::Elif, Token::Reserved(Reserved::Elif)) => true,
+            (Closing::Else, Token::Reserved(Reserved::Else)) => true,
+            (Closing::Fi, Token::Reserved(Reserved::Fi)) => true,
+            (Closing::Do, Token::Reserved(Reserved::Do)) => true,
+            (Closing::Done, Token::Reserved(Reserved::Done)) => true,
+            _ => false,
+        }
     }
 
     /// The operator of an and-or list that this token is, if it is one.
@@ -122,6 +160,33 @@ pub(crate) enum Reserved {
     Then,
     Until,
     While,
+}
+
+/// What opens a compound command (XCU 2.9.4).
+#[derive(Clone, Copy)]
+pub(crate) enum Opener {
+    /// `{`
+    Brace,
+    /// `(`
+    Paren,
+    If,
+    While,
+    Until,
+}
+
+/// What parts or closes the lists of a compound command (XCU 2.9.4).
+#[derive(Clone, Copy)]
+pub(crate) enum Closing {
+    /// `}`
+    Brace,
+    /// `)`
+    Paren,
+    Then,
+    Elif,
+    Else,
+    Fi,
+    Do,
+    Done,
 }
 
 /// Where in a simple command a token stands, which decides what a word may be there (XCU 2.4, 2.10.2).
@@ -242,6 +307,17 @@ impl<'a, S: Source> Cursor<'a, S> {
         }
     }
 
+    /// Passes the reserved word here.
+    #[tactic(auto, unfolding(crate::specs::Tokens::past_reserved, crate::specs::Bytes::behind))]
+    pub(crate) fn pass_reserved(&mut self)
+        requires { IsRead (text_of S.bytes self.old) self.old.at }
+        ensures value { self.new.at ≡ past_reserved (text_of S.bytes self.old) self.old.at }
+        ensures onward { self.old.at < self.new.at }
+        ensures same { Stays self.old self.new }
+    {
+        self.at = self.past(self.behind(self.at), Class::Name);
+    }
+
     /// Whether a NAME and `=` stand here.
     #[inline(always)]
     #[tactic(auto, unfolding(crate::specs::Tokens::begins_assignment, crate::specs::Bytes::stands_in))]
@@ -322,7 +398,9 @@ impl<'a, S: Source> Cursor<'a, S> {
                     Token::Pipe
                 }
             }
-            Some(b'<' | b'>' | b'(' | b')') => Token::Operator,
+            Some(b'(') => Token::OpenParen,
+            Some(b')') => Token::CloseParen,
+            Some(b'<' | b'>') => Token::Operator,
             Some(b'#') => Token::Comment,
             Some(b'0'..=b'9') if self.is_number() => Token::Number,
             Some(_) => self.word_token(position),

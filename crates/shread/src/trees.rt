@@ -41,7 +41,7 @@ pub(crate) const ROWS: &[u8] = br###"
 // bytes in words
 ("a\x0bb", "a\x0cb", "[0-3]") ("\x0b", "\x00", "[0-1]") ("a \x0c b", "[0-1 2-3 4-5]") ("a\r", "\xff\x80", "[0-2]")
 // operators
-(";", "&", "(a)", ")", "<a", ">a", "|a", "fault 11 at 0")
+(";", "&", ")", "<a", ">a", "|a", "fault 11 at 0")
 ("a;;b", "a<b", "a>b", "a(b", "a)b", "f()", "fault 11 at 1")
 ("a ;; b", "a;&b", "a;&&b", "a&;b", "a&;;", "a&>f", "a=(b", "fault 11 at 2") ("a; ;b", "fault 11 at 3")
 ("a & &b", "a ; |", "fault 11 at 4")
@@ -58,15 +58,90 @@ pub(crate) const ROWS: &[u8] = br###"
 ("a ||\n# c\nb # d", "[0-1]||^#5-8[9-10]#11-14")
 // `!` before a pipeline
 ("! a", "!0-1[2-3]") ("!\\\n a", "!0-1[4-5]") ("! a|b", "!0-1[2-3]|[4-5]") ("! a && ! b", "!0-1[2-3]&&!7-8[9-10]") ("! a=1 b", "!0-1[=2-5 6-7]")
-("a;! b", "[0-1] !2-3[4-5]") ("!", "fault 12 at 1") ("!\na", "fault 11 at 1") ("! ! a", "! | a", "! if", "! ;", "! <a", "! (", "fault 11 at 2")
+("a;! b", "[0-1] !2-3[4-5]") ("!", "fault 12 at 1") ("!\na", "fault 11 at 1") ("! ! a", "! | a", "! fi", "! ;", "! <a", "! )", "fault 11 at 2")
 ("! #a", "fault 12 at 4") ("! #a\nb", "fault 11 at 4") ("! 'a", "fault 1 at 2")
+// groups and subshells
+("{ a;}", "{ a\n}", "{0-5 [2-3]}") ("{ a&}", "{0-5 [2-3]&}") ("(a)", "(0-3 [1-2])") ("( a )", "( a;)", "(0-5 [2-3])") ("(\na)", "(0-4 [2-3])")
+("{ a; }", "{0-6 [2-3]}") ("{ a& }", "{0-6 [2-3]&}") ("{ a b; c; }", "{0-11 [2-3 4-5] [7-8]}") ("{ a;\n}", "{0-6 [2-3]}") ("{\na\n}", "{\ta\n}", "{0-5 [2-3]}")
+("(a;b)", "(a\nb)", "(0-5 [1-2] [3-4])") ("(a&)", "(0-4 [1-2]&)") ("((a))", "(0-5 (1-4 [2-3]))") ("( ( a ) )", "(0-9 (2-7 [4-5]))")
+("{ { a;}\n}", "{0-9 {2-7 [4-5]}}") ("{ (a) }", "{0-7 (2-5 [3-4])}") ("({ a;})", "(0-7 {1-6 [3-4]})") ("{ a\n\n b\n}", "{0-9 [2-3] ~[6-7]}")
+("{ a;}\n(b)", "{0-5 [2-3]} (6-9 [7-8])") ("(a);(b)", "(0-3 [1-2]) (4-7 [5-6])") ("(a)&", "(0-3 [1-2])&") ("{ a;};b", "{0-5 [2-3]} [6-7]")
+// an `if` and its parts
+("if a;then b;fi", "if a\nthen b\nfi", "<0-14 if [3-4] then [10-11]>") ("if a;then b;else c;fi", "<0-21 if [3-4] then [10-11] else [17-18]>")
+("if a;then b;elif c;then d;fi", "<0-28 if [3-4] then [10-11] elif [17-18] then [24-25]>")
+("if a;then b;elif c;then d;elif e;then f;else g;fi", "<0-49 if [3-4] then [10-11] elif [17-18] then [24-25] elif [31-32] then [38-39] else [45-46]>")
+("if a b&c;then d;e&fi", "<0-20 if [3-4 5-6]& [7-8] then [14-15] [16-17]&>") ("if\na\nthen\nb\nfi", "<0-14 if [3-4] then [10-11]>")
+("if if a;then b;fi;then c;fi", "<0-27 if <3-17 if [6-7] then [13-14]> then [23-24]>") ("if(a)then(b)fi", "<0-14 if (2-5 [3-4]) then (9-12 [10-11])>")
+("if ! a|b&&c;then d;fi", "<0-21 if !3-4[5-6]|[7-8]&&[10-11] then [17-18]>")
+// loops
+("while a;do b;done", "while a\ndo b\ndone", "<0-17 while [6-7] do [11-12]>") ("until a;do b;done", "<0-17 until [6-7] do [11-12]>")
+("while a;b\ndo c;d&done", "<0-21 while [6-7] [8-9] do [13-14] [15-16]&>") ("while\na\ndo\nb\ndone", "<0-17 while [6-7] do [11-12]>")
+("until while a;do b;done;do c;done", "<0-33 until <6-23 while [12-13] do [17-18]> do [27-28]>") ("while(a)do(b)done", "<0-17 while (5-8 [6-7]) do (10-13 [11-12])>")
+("while a;do if b;then c;fi;done", "<0-30 while [6-7] do <11-25 if [14-15] then [21-22]>>")
+// compound commands among others
+("(a)|(b)", "(0-3 [1-2])|(4-7 [5-6])") ("{ a;}|b", "{0-5 [2-3]}|[6-7]") ("a|{ b;}", "[0-1]|{2-7 [4-5]}") ("! (a)", "!0-1(2-5 [3-4])")
+("(a)&&(b)||c", "(0-3 [1-2])&&(5-8 [6-7])||[10-11]") ("a && { b; }", "[0-1]&&{5-11 [7-8]}") ("(a) && #b\n(c)", "(0-3 [1-2])&&^#7-9(10-13 [11-12])")
+("if a;then b;fi|while c;do d;done", "<0-14 if [3-4] then [10-11]>|<15-32 while [21-22] do [26-27]>") ("(a)\\\n|b", "(0-3 [1-2])|^[6-7]")
+("(a) #b", "(0-3 [1-2])#4-6") ("(a);#b", "(0-3 [1-2])#4-6") ("(a)\n\n(b)", "(0-3 [1-2]) ~(5-8 [6-7])")
+// behind a compound command a closing word needs no separator
+("{ (a) }", "{0-7 (2-5 [3-4])}") ("{ { a;} }", "{0-9 {2-7 [4-5]}}") ("{ if a;then b;fi }", "{0-18 <2-16 if [5-6] then [12-13]>}")
+("if { a;} then { b;} else { c;} fi", "<0-33 if {3-8 [5-6]} then {14-19 [16-17]} else {25-30 [27-28]}>")
+("if (a) then (b) elif (c) then (d) fi", "<0-36 if (3-6 [4-5]) then (12-15 [13-14]) elif (21-24 [22-23]) then (30-33 [31-32])>")
+("while (a) do (b) done", "<0-21 while (6-9 [7-8]) do (13-16 [14-15])>") ("(while a;do b;done)", "(0-19 <1-18 while [7-8] do [12-13]>)")
+("{ a|(b) }", "{0-9 [2-3]|(4-7 [5-6])}") ("{ a&&! (b) }", "{0-12 [2-3]&&!5-6(7-10 [8-9])}")
+// behind a simple command it is an argument
+("{ a }", "fault 12 at 5") ("{ a };", "fault 12 at 6") ("{ a } ; }", "{0-9 [2-3 4-5]}") ("if a then b;fi", "fault 11 at 12") ("if a;then b fi;fi", "<0-17 if [3-4] then [10-11 12-14]>")
+("while a;do b done;done", "<0-22 while [6-7] do [11-12 13-17]>") ("{ a=1 };}", "{0-9 [=2-5 6-7]}") ("(a })", "(0-5 [1-2 3-4])")
+// other tokens behind a compound command
+("(a) b", "(a) if", "(a) {", "(a) (b", "(a) !", "(a) )", "(a) b=1", "(a) 1<", "(a) <", "(a) in", "(a) fi", "fault 11 at 4")
+("(a)(b)", "(a)b", "(a))", "(a)<b", "(a)1>b", "(a){", "(a);;", "fault 11 at 3") ("{ a;}b", "fault 12 at 6") ("{ a;} b", "fault 11 at 6")
+("{ (a) b;}", "fault 11 at 6") ("if a;then b;fi c", "fault 11 at 15") ("while a;do b;done;done", "fault 11 at 18")
+("(a) 'x", "fault 1 at 4") ("(a) \"x", "fault 2 at 4") ("(a) b`x", "fault 3 at 5") ("(a) b=${", "fault 4 at 6") ("(a) \\", "fault 8 at 4")
+("(a) 'x'", "(a) \"${x}\"", "(a) $(b)", "fault 11 at 4") ("{ (a) 'x", "fault 1 at 6") ("(a)#b", "(0-3 [1-2])#3-5") ("(a) #b\nc d", "(0-3 [1-2])#4-6 [7-8 9-10]")
+// a list in a compound command holds a command
+("{ }", "( )", "{ ;", "{ &", "{ |", "{ fi", "fault 11 at 2") ("()", "(;)", "(&", "(<", "fault 11 at 1") ("(#a\n;", "fault 11 at 4") ("{\n}", "(\n)", "fault 11 at 2")
+("if;", "fault 11 at 2") ("if then", "if ;", "if fi", "fault 11 at 3") ("if a;then fi", "if a;then ;", "fault 11 at 10") ("if a;fi", "if a;do", "if a;}", "fault 11 at 5")
+("if a;then b;else fi", "fault 11 at 17") ("if a;then b;elif then", "fault 11 at 17") ("if a;then b;elif c;fi", "fault 11 at 19") ("if a;then b;done", "fault 11 at 12")
+("if a;then b;else c;else d;fi", "fault 11 at 19") ("if a;then b;else c;elif d;then e;fi", "fault 11 at 19") ("while do", "until do", "fault 11 at 6")
+("while a;then", "while a;done", "fault 11 at 8") ("while a;do done", "fault 11 at 11") ("while a;do b;fi", "fault 11 at 13") ("{ a;)", "{ a;fi", "fault 11 at 4")
+("(a}", "fault 12 at 3") ("(a;}", "(a;fi", "fault 11 at 3") ("{ a;;}", "fault 11 at 3") ("(a;;)", "fault 11 at 2") ("{ a; ;}", "fault 11 at 5") ("{ a\n;}", "fault 11 at 4")
+("{ #a\n}", "fault 11 at 5") ("(#a\n)", "fault 11 at 4") ("if #a\nthen", "fault 11 at 6") ("while a;do #b\ndone", "fault 11 at 14")
+// the end in a compound command
+("{", "(", "fault 12 at 1") ("{ ", "if", "(a", "fault 12 at 2") ("if a", "if\\\n", "i\\\nf", "fault 12 at 4") ("{ a;", "{ a\n", "{ a}", "fault 12 at 4")
+("while", "until", "if a;", "if a\n", "(a)&&", "fault 12 at 5") ("if a;then", "{ a;#bcde", "fault 12 at 9") ("if a;then b;", "if a;then b}", "fault 12 at 12")
+("while a;do b;", "fault 12 at 13") ("(a\n#b", "fault 12 at 5") ("{ (a)", "fault 12 at 5") ("a\n{ b", "[0-1] fault 12 at 5")
+// comments in lists: on a line of their own, on the line of an opener, behind an entry, before a closer
+("{ #a\nb\n}", "{0-8 #2-4 [5-6]}") ("{\n#a\nb\n}", "{0-8 #2-4 [5-6]}") ("{ a #b\n}", "{0-8 [2-3]#4-6}") ("{ a;#b\n}", "{0-8 [2-3]#4-6}") ("{ a& #b\n}", "{0-9 [2-3]&#5-7}")
+("{ a\n#b\n}", "{0-8 [2-3] #4-6}") ("{ a\n\n#b\n}", "{0-9 [2-3] ~#5-7}") ("{ a\n#b\n\n#c\n}", "{0-12 [2-3] #4-6 ~#8-10}") ("(a #b\n)", "(0-7 [1-2]#3-5)")
+("{ #a\n\nb\n}", "{0-9 #2-4 ~[6-7]}") ("{ a;b #c\n#d\n}", "{0-13 [2-3] [4-5]#6-8 #9-11}") ("{ a\n} #b", "{0-5 [2-3]}#6-8") ("(a)#b\nc", "(0-3 [1-2])#3-5 [6-7]")
+("if #a\nb #c\nthen #d\ne #f\nelse #g\nh #i\nfi #j", "<0-39 if #3-5 [6-7]#8-10 then #16-18 [19-20]#21-23 else #29-31 [32-33]#34-36>#40-42")
+("if a\nthen b\nelif #c\nd #e\n#f\nthen #g\nh\nfi", "<0-40 if [3-4] then [10-11] elif #17-19 [20-21]#22-24 #25-27 then #33-35 [36-37]>")
+("while #a\nb\n#c\ndo #d\ne\n#f\ndone #g", "<0-29 while #6-8 [9-10] #11-13 do #17-19 [20-21] #22-24>#30-32")
+("until a #b\ndo\n\n#c\nd\ndone", "<0-24 until [6-7]#8-10 do #15-17 [18-19]>")
+// empty lines in lists: none is counted before a first entry or a closer
+("{\n\na\n\n}", "{0-7 [3-4]}") ("{ a\n\nb\n\n\nc\n}", "{0-12 [2-3] ~[5-6] ~[9-10]}") ("{ a\n\nb;c\n}", "{0-10 [2-3] ~[5-6] [7-8]}") ("(a;\n\nb)", "(0-7 [1-2] ~[5-6])")
+("(\n\n(a)\n\n(b)\n\n)", "(0-14 (3-6 [4-5]) ~(8-11 [9-10]))") ("if\n\na\n\nb\nthen\n\nc\nfi", "<0-19 if [4-5] ~[7-8] then [15-16]>")
+("while a\n\ndo\n\nb\n\ndone", "<0-20 while [6-7] do [13-14]>") ("a\n\n{ b\n\nc\n}\n\nd", "[0-1] ~{3-11 [5-6] ~[8-9]} ~[13-14]") ("(a\n \\\n\nb)", "(0-9 [1-2] ~[7-8])")
+("{ a\n\n#b\nc\n}", "{0-11 [2-3] ~#5-7 [8-9]}") ("{ #a\nb\n\nc\n}", "{0-11 #2-4 [5-6] ~[8-9]}") ("(a\n\nb\nc)", "(0-8 [1-2] ~[4-5] [6-7])")
+// continuations in reserved words, and around them
+("{\\\n a;}", "{0-7 [4-5]}") ("{ a;\\\n}", "{0-7 [2-3]}") ("(\\\na\\\n)\\\n", "(0-7 [3-4])") ("\\\n{ a;}", "{2-7 [4-5]}") ("\\\n(a)", "(2-5 [3-4])")
+("i\\\nf a;th\\\nen b;f\\\ni", "<0-20 if [5-6] then [14-15]>") ("if a;then b;\\\nfi", "<0-16 if [3-4] then [10-11]>") ("if a;then b;fi\\\n", "<0-14 if [3-4] then [10-11]>")
+("if\\\n a;then\\\n b;el\\\nif c;t\\\nhen d;e\\\nlse e;fi", "<0-45 if [5-6] then [14-15] elif [23-24] then [32-33] else [41-42]>")
+("w\\\nhile a;d\\\no b;d\\\none", "<0-23 while [8-9] do [15-16]>") ("un\\\ntil a;do\\\n b;done\\\n;c", "<0-21 until [8-9] do [15-16]> [24-25]")
+("{ \\\na \\\nb;}", "{0-11 [4-5 ^8-9]}") ("if \\\na;then \\\nb;fi", "<0-18 if [5-6] then [14-15]>")
+// quoted or joined to other bytes they are words
+("'if' a", "[0-4 5-6]") ("\\if a", "[0-3 4-5]") ("{a;}", "fault 11 at 3") ("{a", "[0-2]") ("if a;then b;fi;'fi'", "<0-14 if [3-4] then [10-11]> [15-19]") ("ifa", "fi.", "[0-3]")
+("{ a;'}';}", "{0-9 [2-3] [4-7]}") ("while a;do b;\"done\";done", "<0-24 while [6-7] do [11-12] [13-19]>") ("(a)'", "fault 1 at 3")
+// whole commands, as people write them
+("if [ -f \"$1\" ]; then\n  . \"$1\" # read\n\n  run \\\n    now &\nfi\n", "<0-58 if [3-4 5-7 8-12 13-14] then [23-24 25-29]#30-36 ~[40-43 ^50-53]&>")
+("{ a\n  # b\n  c; } | while d; do\n  e\ndone && f\n", "{0-16 [2-3] #6-9 [12-13]}|<19-39 while [25-26] do [33-34]>&&[43-44]")
 // an operand is missing
 ("a &&", "a ||", "fault 12 at 4") ("a|", "fault 12 at 2") ("a && #b", "fault 12 at 7") ("a |\n\n#b\n", "fault 12 at 8") ("a &&\nb |\n", "fault 12 at 9")
 ("a && && b", "a && ;", "a || )", "a && fi", "a || 1<", "fault 11 at 5") ("a | | b", "a | ! b", "a | !", "fault 11 at 4") ("a |;", "a |&b", "fault 11 at 3")
 ("a && ! ! b", "fault 11 at 7") ("a && 'b", "fault 1 at 5") ("a |\n\"b", "fault 2 at 4") ("a\nb &&", "[0-1] fault 12 at 6") ("a &&\n;", "fault 11 at 5")
 // a fault, and the entries of the lines before
-("a\n;b", "a\n$(b)", "[0-1] fault 11 at 2") ("a;b\n;", "[0-1] [2-3] fault 11 at 4") ("a\nb;(", "[0-1] fault 11 at 4")
-("a\n\n;", "[0-1] fault 11 at 3") ("#a\n;", "#0-2 fault 11 at 3") ("a #b\n(", "[0-1]#2-4 fault 11 at 5")
+("a\n;b", "a\n$(b)", "[0-1] fault 11 at 2") ("a;b\n;", "[0-1] [2-3] fault 11 at 4") ("a\nb;)", "[0-1] fault 11 at 4")
+("a\n\n;", "[0-1] fault 11 at 3") ("#a\n;", "#0-2 fault 11 at 3") ("a #b\n)", "[0-1]#2-4 fault 11 at 5")
 ("\n\n)", "fault 11 at 2") ("a\n'b", "[0-1] fault 1 at 2") ("a\n\nb&\nc \"d", "[0-1] ~[3-4]& fault 2 at 8")
 ("a;b'", "fault 1 at 3") ("a;; 'b", "fault 11 at 1") ("a 'b;;", "fault 1 at 2") ("'a'\n'b", "[0-3] fault 1 at 4")
 ("a\nb=1 c", "[0-1] [=2-5 6-7]") ("a\nb='", "[0-1] fault 1 at 4") ("a\n`b", "a\n`b\\", "[0-1] fault 3 at 2")
@@ -79,10 +154,8 @@ pub(crate) const ROWS: &[u8] = br###"
 ("a=1 1=2 b=3", "[=0-3 4-7 8-11]") ("a=1;b=2", "[=0-3] [=4-7]") ("a=1&", "[=0-3]&") ("a='b c'", "[=0-7]")
 ("a\\\n=1", "a=\\\n1", "[=0-5]") ("a\\\nb=1", "[=0-6]")
 // reserved words
-("{", "}", "case", "do", "done", "elif", "else", "esac", "fi", "for", "if", "in", "then", "until", "while", "if a", "i\\\nf",
-  "if\\\n", "if\\\n\\\n;", "f\\\nor", "w\\\nhi\\\n\\\nle\\\n;", "fault 11 at 0")
-("a;if", "a&then b", "a;case", "a;do", "a;done", "a;elif", "a;else", "a;esac", "a;fi", "a;for", "a;in", "a;until", "a;while",
-  "\\\nif", "fault 11 at 2")
+("}", "case", "do", "done", "elif", "else", "esac", "fi", "for", "in", "then", "f\\\nor", "fi\\\n", "d\\\no\\\n\\\nne\\\n;", "fault 11 at 0")
+("a;}", "a&then b", "a;case", "a;do", "a;done", "a;elif", "a;else", "a;esac", "a;fi", "a;for", "a;in", "\\\nfi", "fault 11 at 2")
 ("a\ndo", "[0-1] fault 11 at 2") ("a if", "[0-1 2-4]") ("a=1 if", "[=0-3 4-6]")
 ("a ! { } case do done", "[0-1 2-3 4-5 6-7 8-12 13-15 16-20]") ("i", "[0-1]") ("iff", "do.", "{a}", "i\\f", "if$", "if#", "[0-3]")
 ("If", "{}", "!!", "[0-2]") ("if''", "'if'", "\"if\"", "[0-4]") ("if\\\nx", "i\\\nfx", "[0-5]") ("[[ a ]]", "[0-2 3-4 5-7]")
@@ -254,13 +327,13 @@ const BYTES: &[u8] = br###"
 ("a" ? "b", "\t ": "[0-1 2-3]", "\n;": "[0-1] [2-3]", "&": "[0-1]& [2-3]", "|": "[0-1]|[2-3]", "()<>": "fault 11 at 1",
   "'": "fault 1 at 1", "\"": "fault 2 at 1", "`": "fault 3 at 1", "=": "[=0-3]", "": "[0-3]")
 // where a command begins
-("" ? "b", "\t\n ": "[1-2]", "#": "#0-2", "&()<>|;": "fault 11 at 0", "'": "fault 1 at 0", "\"": "fault 2 at 0",
+("" ? "b", "\t\n ": "[1-2]", "#": "#0-2", "&)<>|;": "fault 11 at 0", "(": "fault 12 at 2", "'": "fault 1 at 0", "\"": "fault 2 at 0",
   "`": "fault 3 at 0", "": "[0-2]")
 // a command of one byte
-("" ? " ", "\t\n ": "", "#": "#0-1", "&()<>|;{}": "fault 11 at 0", "!": "fault 12 at 2", "'": "fault 1 at 0", "\"": "fault 2 at 0",
+("" ? " ", "\t\n ": "", "#": "#0-1", "&)<>|;}": "fault 11 at 0", "!({": "fault 12 at 2", "'": "fault 1 at 0", "\"": "fault 2 at 0",
   "`": "fault 3 at 0", "\\": "[0-2]", "": "[0-1]")
 // behind a reserved word
-("if" ? "", "\t\n &()<>|;": "fault 11 at 0", "=": "[=0-3]", "'": "fault 1 at 2", "\"": "fault 2 at 2", "`": "fault 3 at 2",
+("if" ? "", "\t\n (": "fault 12 at 3", "&)<>|;": "fault 11 at 2", "=": "[=0-3]", "'": "fault 1 at 2", "\"": "fault 2 at 2", "`": "fault 3 at 2",
   "\\": "fault 8 at 2", "": "[0-3]")
 // behind a continuation
 ("a\\\n" ? "", "\t\n ;": "[0-1]", "&": "[0-1]&", "()<>": "fault 11 at 3", "|": "fault 12 at 4", "=": "[=0-4]", "'": "fault 1 at 3",
@@ -271,11 +344,11 @@ const BYTES: &[u8] = br###"
   "|": "[0-1]|^[4-5]", "()<>": "fault 11 at 2", "'": "fault 1 at 2", "\"": "fault 2 at 2", "`": "fault 3 at 2", "": "[0-1 2-3] [4-5]")
 ("a \\" ? " b", "\n": "[0-1 ^5-6]", "": "[0-1 2-4 5-6]")
 // behind `;` and `&`
-("a;" ? "b", ";": "fault 11 at 1", "\t\n ": "[0-1] [3-4]", "#": "[0-1]#2-4", "&()<>|": "fault 11 at 2", "'": "fault 1 at 2",
+("a;" ? "b", ";": "fault 11 at 1", "\t\n ": "[0-1] [3-4]", "#": "[0-1]#2-4", "&)<>|": "fault 11 at 2", "(": "fault 12 at 4", "'": "fault 1 at 2",
   "\"": "fault 2 at 2", "`": "fault 3 at 2", "": "[0-1] [2-4]")
-("a;" ? "", ";": "fault 11 at 1", "\t\n ": "[0-1]", "#": "[0-1]#2-3", "!": "fault 12 at 3", "&()<>|{}": "fault 11 at 2", "'": "fault 1 at 2",
+("a;" ? "", ";": "fault 11 at 1", "\t\n ": "[0-1]", "#": "[0-1]#2-3", "!({": "fault 12 at 3", "&)<>|}": "fault 11 at 2", "'": "fault 1 at 2",
   "\"": "fault 2 at 2", "`": "fault 3 at 2", "\\": "fault 8 at 2", "": "[0-1] [2-3]")
-("a&" ? "", "&!": "fault 12 at 3", "\t\n ": "[0-1]&", "#": "[0-1]&#2-3", ";()<>|{}": "fault 11 at 2", "'": "fault 1 at 2",
+("a&" ? "", "&!({": "fault 12 at 3", "\t\n ": "[0-1]&", "#": "[0-1]&#2-3", ";)<>|}": "fault 11 at 2", "'": "fault 1 at 2",
   "\"": "fault 2 at 2", "`": "fault 3 at 2", "\\": "fault 8 at 2", "": "[0-1]& [2-3]")
 // comments
 ("a" ? "#b", "\t ;": "[0-1]#2-4", "\n": "[0-1] #2-4", "&": "[0-1]&#2-4", "=": "[=0-4]", "()<>": "fault 11 at 1", "|": "fault 12 at 4",
@@ -284,7 +357,7 @@ const BYTES: &[u8] = br###"
 ("#" ? "b", "\n": "#0-1 [2-3]", "": "#0-3")
 // names
 ("" ? "=1", "ABCDEFGHIJKLMNOPQRSTUVWXYZ_abcdefghijklmnopqrstuvwxyz": "[=0-3]", "\t\n ": "[1-3]", "#": "#0-3",
-  "&()<>|;": "fault 11 at 0", "'": "fault 1 at 0", "\"": "fault 2 at 0", "`": "fault 3 at 0", "": "[0-3]")
+  "&)<>|;": "fault 11 at 0", "(": "fault 12 at 3", "'": "fault 1 at 0", "\"": "fault 2 at 0", "`": "fault 3 at 0", "": "[0-3]")
 ("a" ? "=1", "ABCDEFGHIJKLMNOPQRSTUVWXYZ_abcdefghijklmnopqrstuvwxyz0123456789=": "[=0-4]", "\t ": "[0-1 2-4]",
   "\n;": "[0-1] [2-4]", "&": "[0-1]& [2-4]", "|": "[0-1]|[2-4]", "()<>": "fault 11 at 1", "'": "fault 1 at 1", "\"": "fault 2 at 1",
   "`": "fault 3 at 1", "": "[0-4]")
@@ -303,7 +376,7 @@ const BYTES: &[u8] = br###"
 ("\"" ? "\"", "\"": "fault 2 at 2", "\\": "fault 2 at 0", "`": "fault 3 at 1", "": "[0-3]")
 ("\"\\" ? "\"", "": "[0-4]")
 // before `{`
-("a" ? "{", "\t ": "[0-1 2-3]", "\n": "[0-1] fault 11 at 2", "&;|": "fault 11 at 2", "()<>": "fault 11 at 1", "$": "fault 4 at 1",
+("a" ? "{", "\t ": "[0-1 2-3]", "\n": "[0-1] fault 12 at 3", "&;|": "fault 12 at 3", "()<>": "fault 11 at 1", "$": "fault 4 at 1",
   "'": "fault 1 at 1", "\"": "fault 2 at 1", "`": "fault 3 at 1", "=": "[=0-3]", "": "[0-3]")
 // behind a `$`, and behind `$(`
 ("$" ? "", "(": "fault 11 at 0", "{": "fault 4 at 0", "\t\n ;": "[0-1]", "&": "[0-1]&", ")<>": "fault 11 at 1", "|": "fault 12 at 2",
@@ -409,6 +482,47 @@ fn repeated(rt: HostRuntime) -> Result<(), Fail> {
     let mut judge = Judge::new(rt.alloc());
     for row in &rows(rt.alloc(), REPEATED)? {
         judge_parts(&mut judge, rt.alloc(), row)?;
+    }
+    judge.verdict()
+}
+
+/// Scripts whose parts stand many times, and their first faults: how many constructs may be open, compound commands and those of
+/// words together, and long lists.
+const DEEP: &[u8] = br###"
+("(" * 100, "a", ")" * 100, "") ("(" * 101, "a", ")" * 101, "fault 15 at 100") ("{ " * 100, "a", "; }" * 100, "") ("{ " * 101, "a", "; }" * 101, "fault 15 at 200")
+("{ " * 100, "a", "\n}" * 100, "") ("{ " * 101, "fault 15 at 200") ("(" * 100, "fault 12 at 100") ("{ " * 100, "fault 12 at 200")
+("if " * 100, "a", ";then b;fi" * 100, "") ("if " * 101, "a", ";then b;fi" * 101, "fault 15 at 300") ("if a;then " * 101, "fault 15 at 1000")
+("if a;then b;else " * 100, "c", ";fi" * 100, "") ("if a;then b;else " * 101, "fault 15 at 1700") ("if a;then b;elif " * 101, "fault 15 at 1700")
+("while " * 100, "a", ";do b;done" * 100, "") ("while " * 101, "fault 15 at 600") ("until a;do " * 100, "b", ";done" * 100, "") ("until a;do " * 101, "fault 15 at 1100")
+// with constructs of words
+("a ", "${x:-" * 100, "}" * 100, "") ("a ", "${x:-" * 101, "}" * 101, "fault 15 at 502") ("{ ", "a ", "${x:-" * 99, "}" * 99, "; }", "")
+("{ ", "a ", "${x:-" * 100, "}" * 100, "; }", "fault 15 at 499") ("{ " * 50, "a ", "${x:-" * 50, "}" * 50, "; }" * 50, "")
+("{ " * 50, "a ", "${x:-" * 51, "}" * 51, "; }" * 50, "fault 15 at 352") ("{ " * 99, "a ", "${x:-}", "; }" * 99, "")
+("{ " * 99, "a ", "${x:-" * 2, "}" * 2, "; }" * 99, "fault 15 at 205") ("{ " * 100, "a ${x:-}", "; }" * 100, "fault 15 at 202")
+("(" * 99, "a \"b\"", ")" * 99, "") ("(" * 99, "a \"${x}\"", ")" * 99, "fault 15 at 102") ("(" * 100, "a \"b\"", ")" * 100, "fault 15 at 102")
+("(" * 100, "a 'b' `c`", ")" * 100, "") ("if " * 100, "b=$((1))", "fault 15 at 302")
+// a word behind a compound command is read outside of it
+("(" * 99, "(a) \"x\"", "fault 11 at 103") ("(" * 99, "(a) \"${x}\"", "fault 15 at 104") ("(" * 98, "(a) \"${x}\"", "fault 11 at 102")
+// what was closed is open no more
+("(a);" * 101, "") ("(" * 60, "a", ")" * 60, ";", "(" * 60, "a", ")" * 60, "") ("(" * 60, "a", ")" * 60, "|", "(" * 60, "a", ")" * 60, "")
+("{ " * 60, "a \"b\";", "(" * 40, "a", ")" * 40, "\n}" * 60, "") ("{ " * 60, "a \"b\";", "(" * 41, "fault 15 at 166") ("if (a);then " * 100, "b", "\nfi" * 100, "fault 15 at 1191")
+// many of a kind
+("{ ", "a\n" * 100000, "}", "") ("(", "a;" * 100000, ")", "") ("if ", "a|" * 100000, "b;then c;fi", "") ("{ a", "&&\nb" * 100000, "\n}", "") ("{ ", "#a\n" * 1000, "}", "fault 11 at 3002")
+("{ ", "\n" * 1000, "a\n}", "") ("if a;then b;", "elif a;then b;" * 1000, "fi", "") ("{ ", "a\n" * 100000, "b", "fault 12 at 200003") ("(a)" , " \\\n" * 1000, ";", "")
+"###;
+
+/// The first fault of a script that is made of all cells but the last, which is its dump.
+fn judge_fault(judge: &mut Judge, alloc: Global, row: &[Cell]) -> Result<(), Fail> {
+    let (parts, wanted) = split(row)?;
+    let script = joined(alloc, parts)?;
+    judge.fault(&Flat::new(&script), &script, &wanted.bytes)
+}
+
+#[test]
+fn deep(rt: HostRuntime) -> Result<(), Fail> {
+    let mut judge = Judge::new(rt.alloc());
+    for row in &rows(rt.alloc(), DEEP)? {
+        judge_fault(&mut judge, rt.alloc(), row)?;
     }
     judge.verdict()
 }

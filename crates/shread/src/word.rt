@@ -5,17 +5,18 @@ ghost use Rattle.shread.specs.Clauses.{IsRead, Onward, Reads, Stays, text_of};
 ghost use Rattle.shread.specs.Comments.{span};
 ghost use Rattle.shread.specs.Form.{again, step_if};
 ghost use Rattle.shread.specs.Pieces.{past_closer};
-ghost use Rattle.shread.specs.Tree.{no_subst, word};
-ghost use Rattle.shread.specs.View.{view_word};
+ghost use Rattle.shtree.specs.Tree.{no_subst, word};
+ghost use Rattle.shtree.specs.View.{view_word};
 ghost use Rattle.shread.specs.Standing.{raw_stands};
-ghost use Rattle.shread.specs.Words.{a_piece, a_word, contents, having, holds_others, level, piece_row};
+ghost use Rattle.shread.specs.Words.{a_piece, a_word, contents, having, holds_others, piece_row};
+ghost use Rattle.shread.specs.Levels.{level};
 
 use crate::cursor::Cursor;
 use crate::fault::{FaultKind, Stop};
-use crate::make::word_of;
 use crate::mode::{Mode, Piece};
 use crate::source::Source;
-use crate::tree::Word;
+use shtree::Word;
+use shtree::make::word_of;
 use std::alloc::Global;
 
 impl<'a, S: Source> Cursor<'a, S> {
@@ -175,6 +176,7 @@ impl<'a, S: Source> Cursor<'a, S> {
     }
 
     /// Passes the word that begins here. Most words are plain bytes alone.
+    #[inline(always)]
     #[tactic(auto, using(crate::proofs::PlainBytes::plain_word, crate::proofs::PlainBytes::word_rest, crate::proofs::PlainBytes::word_stops, crate::proofs::PlainBytes::some_plain))]
     pub(crate) fn pass_word(&mut self, room: usize) -> Result<(), Stop>
         requires { ends_word (text_of S.bytes self.old) self.old.at ≡ false }

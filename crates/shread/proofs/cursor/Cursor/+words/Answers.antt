@@ -1,7 +1,8 @@
 use Rattle.std.proofs.Common.{◌<◌, ◌+◌, [], ◌∙◌, arith}
 use Rattle.shread.specs.Clauses.{text_of}
 use Rattle.shread.specs.Sights.{given}
-use Rattle.shread.specs.Words.{having, level}
+use Rattle.shread.specs.Words.{having}
+use Rattle.shread.specs.Levels.{level}
 use Rattle.shread.proofs.PlainBytes.{piece_and_plain}
 use Rattle.shread.proofs.cursor.Cursor.+words.Goals as goal
 

@@ -1,7 +1,8 @@
 use Rattle.std.proofs.Common.{◌≡◌, ◌≤◌, ◌+◌, ◌*◌, ◌-◌, [], length}
 use Rattle.shread.specs.Clauses.{Stays, reads, reads_at, text_of}
 use Rattle.shread.specs.Form.{many}
-use Rattle.shread.specs.Words.{a_piece, having, level}
+use Rattle.shread.specs.Words.{a_piece, having}
+use Rattle.shread.specs.Levels.{level}
 use Rattle.shread.proofs.cursor.Cursor.+words.Given as goal
 
 abbrev pub decreases-contents : goal.decreases-contents

@@ -2,7 +2,7 @@ use Rattle.std.proofs.Common.{◌≡◌, ◌≤◌, ◌-◌, length}
 use Rattle.shread.specs.Clauses.{Shows, Stays, reads, reads_at, text_of}
 use Rattle.shread.specs.Commands.{join_so, join_turn}
 use Rattle.shread.specs.Form.{many}
-use Rattle.shread.specs.View.{view_join}
+use Rattle.shtree.specs.View.{view_join}
 use Rattle.shread.proofs.cursor.Cursor.join_on.Given as goal
 
 abbrev pub invariant-turns : goal.invariant-turns

@@ -2,8 +2,8 @@ use Rattle.std.proofs.Common.{◌≡◌, ◌≤◌, ◌-◌, [], length, map}
 use Rattle.shread.specs.Clauses.{Shows, Stays, reads, reads_at, text_of}
 use Rattle.shread.specs.Commands.{item_turn, so_many}
 use Rattle.shread.specs.Form.{many}
-use Rattle.shread.specs.View.{view_item}
-use Rattle.shread.specs.Words.{level}
+use Rattle.shtree.specs.View.{view_item}
+use Rattle.shread.specs.Levels.{level}
 use Rattle.shread.proofs.cursor.Cursor.simple.Given as goal
 
 abbrev pub invariant-turns : goal.invariant-turns

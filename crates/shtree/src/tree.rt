@@ -2,8 +2,7 @@
 
 /// From the offset of a first byte to the offset after a last one.
 ///
-/// Offsets count bytes from 0. In a [`Line`](crate::Line) they count from where the line begins, in a
-/// [`Script`](crate::Script) from where the script begins.
+/// Offsets count bytes from 0, from a base that the holder of the tree knows: where a line begins, or a script.
 #[derive(Clone, Copy, Debug, PartialEq, Eq)]
 pub struct Span {
     pub start: usize,
@@ -103,10 +102,81 @@ pub struct PipelinePart {
 #[derive(Debug, Drop)]
 pub enum Command {
     /// A simple command (XCU 2.9.1). It has an item.
-    Simple { items: Vec<Item> },
+    Simple {
+        items: Vec<Item>,
+    },
+    Compound(Box<Compound>),
+    /// The definition of a function (XCU 2.9.5).
+    Function {
+        name: Span,
+        /// The comments between the `)` and the body.
+        comments: Vec<Comment>,
+        body: Box<Compound>,
+    },
 }
 
-/// A part of a simple command.
+/// A compound command, and the redirections behind it (XCU 2.9.4).
+#[cycle(tree)]
+#[derive(Debug, Drop)]
+pub struct Compound {
+    pub form: Form,
+    /// From its opener to after its closer.
+    pub span: Span,
+    /// Each is an item that is a redirection.
+    pub redirects: Vec<Item>,
+}
+
+/// The forms of a compound command (XCU 2.9.4). The list of a group, a condition and a body hold a command, a case's body may not.
+#[cycle(tree)]
+#[derive(Debug, Drop)]
+pub enum Form {
+    /// `{ list }`
+    Brace(List),
+    /// `( list )`
+    Subshell(List),
+    If {
+        first: Branch,
+        /// Those of `elif`.
+        rest: Vec<Branch>,
+        otherwise: Option<List>,
+    },
+    While(Branch),
+    Until(Branch),
+    For {
+        name: Word,
+        /// The words behind `in`, where it stands.
+        words: Option<Vec<Item>>,
+        body: List,
+    },
+    Case {
+        word: Word,
+        items: Vec<CaseItem>,
+        /// The comments behind the last item.
+        tail: Vec<Comment>,
+    },
+}
+
+/// A condition and what is run by it.
+#[cycle(tree)]
+#[derive(Debug, Drop)]
+pub struct Branch {
+    pub condition: List,
+    pub body: List,
+}
+
+/// An item of a `case`.
+#[cycle(tree)]
+#[derive(Debug, Drop)]
+pub struct CaseItem {
+    /// The comments before it.
+    pub comments: Vec<Comment>,
+    pub patterns: Vec<Word>,
+    pub body: List,
+    /// From its `(` or its first pattern to after its `;;`; without one to the end of its last token that is no newline.
+    pub span: Span,
+}
+
+/// A part of a simple command, a word of a `for`, or a redirection of a compound command.
 #[cycle(tree)]
 #[derive(Debug, Drop)]
 pub struct Item {
@@ -123,6 +193,51 @@ pub enum ItemContent {
     Assign(Word),
     /// The command's name or an argument.
     Word(Word),
+    /// A redirection (XCU 2.7).
+    Redirect {
+        /// The number before it.
+        number: Option<Span>,
+        operator: RedirectOperator,
+        /// The operator's.
+        span: Span,
+        word: Word,
+        /// What belongs to `<<` and `<<-`.
+        here: Option<HereDocument>,
+    },
+}
+
+/// The operators of redirections (XCU 2.7).
+#[derive(Clone, Copy, Debug, PartialEq, Eq)]
+pub enum RedirectOperator {
+    /// `<`
+    Input,
+    /// `>`
+    Output,
+    /// `<<`
+    Here,
+    /// `>>`
+    Append,
+    /// `<&`
+    DuplicateInput,
+    /// `>&`
+    DuplicateOutput,
+    /// `<>`
+    ReadWrite,
+    /// `<<-`
+    HereStripped,
+    /// `>|`
+    Clobber,
+}
+
+/// A here-document (XCU 2.7.4).
+#[derive(Clone, Copy, Debug, PartialEq, Eq)]
+pub struct HereDocument {
+    /// A part of its delimiter is quoted: nothing is expanded in it.
+    pub literal: bool,
+    /// Leading tabs are taken off its lines.
+    pub strip: bool,
+    /// From its first byte to where its delimiter's line begins.
+    pub body: Span,
 }
 
 /// A word (XCU 2.3, 2.10.1).
@@ -130,7 +245,7 @@ pub enum ItemContent {
 #[derive(Debug, Drop)]
 pub struct Word {
     pub span: Span,
-    /// The command substitutions in it, in their order; none yet, since no `$(` is read.
+    /// The command substitutions in it, in their order.
     pub substs: Vec<Subst>,
 }
 

@@ -1,0 +1,129 @@
+use Rattle.std.proofs.Common.{◌≡◌, ◌≤◌, ◌+◌, ◌*◌, ◌-◌, [], length, map}
+use Rattle.shread.specs.Clauses.{Shows, Stays, reads, reads_at, text_of}
+use Rattle.shread.specs.Commands.{join_pipeline, joined_so, pipe_turn, piped}
+use Rattle.shread.specs.Compounds.{branched, elif_turn}
+use Rattle.shread.specs.Form.{many}
+use Rattle.shread.specs.Levels.{level}
+use Rattle.shread.specs.Listed.{view_listed}
+use Rattle.shread.specs.Lists.{entry_turn, list_so, list_turn}
+use Rattle.shtree.specs.View.{view_and_or_part, view_branch, view_pipeline_part}
+use Rattle.shread.proofs.cursor.Cursor.+commands.Given as goal
+
+-- ---- the way down: to what is read inside, and at last to fewer that may be opened
+
+abbrev pub decreases-compound : goal.decreases-compound
+decreases-compound g l = 32 * l.room + 1
+
+abbrev pub decreases-command : goal.decreases-command
+decreases-command g l = 32 * l.room + 2
+
+abbrev pub decreases-one_command : goal.decreases-one_command
+decreases-one_command g l = 32 * l.room + 3
+
+abbrev pub decreases-pipe : goal.decreases-pipe
+decreases-pipe g l = 32 * l.room + 4
+
+abbrev pub decreases-pipes : goal.decreases-pipes
+decreases-pipes g l = 32 * l.room + 5
+
+abbrev pub decreases-pipeline : goal.decreases-pipeline
+decreases-pipeline g l = 32 * l.room + 6
+
+abbrev pub decreases-one_pipeline : goal.decreases-one_pipeline
+decreases-one_pipeline g l = 32 * l.room + 7
+
+abbrev pub decreases-join_pipeline : goal.decreases-join_pipeline
+decreases-join_pipeline g l = 32 * l.room + 8
+
+abbrev pub decreases-joined_pipelines : goal.decreases-joined_pipelines
+decreases-joined_pipelines g l = 32 * l.room + 9
+
+abbrev pub decreases-and_or : goal.decreases-and_or
+decreases-and_or g l = 32 * l.room + 10
+
+abbrev pub decreases-next_entry : goal.decreases-next_entry
+decreases-next_entry g l = 32 * l.room + 12
+
+abbrev pub decreases-entries : goal.decreases-entries
+decreases-entries g l = 32 * l.room + 13
+
+abbrev pub decreases-on_line : goal.decreases-on_line
+decreases-on_line g l = 32 * l.room + 14
+
+abbrev pub decreases-list_line : goal.decreases-list_line
+decreases-list_line g l = 32 * l.room + 15
+
+abbrev pub decreases-list_lines : goal.decreases-list_lines
+decreases-list_lines g l = 32 * l.room + 16
+
+abbrev pub decreases-list : goal.decreases-list
+decreases-list g l = 32 * l.room + 17
+
+abbrev pub decreases-branch : goal.decreases-branch
+decreases-branch g l = 32 * l.room + 18
+
+abbrev pub decreases-brace : goal.decreases-brace
+decreases-brace g l = 32 * l.room + 18
+
+abbrev pub decreases-subshell : goal.decreases-subshell
+decreases-subshell g l = 32 * l.room + 18
+
+abbrev pub decreases-loop_command : goal.decreases-loop_command
+decreases-loop_command g l = 32 * l.room + 18
+
+abbrev pub decreases-otherwise : goal.decreases-otherwise
+decreases-otherwise g l = 32 * l.room + 18
+
+abbrev pub decreases-elif : goal.decreases-elif
+decreases-elif g l = 32 * l.room + 19
+
+abbrev pub decreases-elifs : goal.decreases-elifs
+decreases-elifs g l = 32 * l.room + 20
+
+abbrev pub decreases-if_command : goal.decreases-if_command
+decreases-if_command g l = 32 * l.room + 21
+
+abbrev pub decreases-form : goal.decreases-form
+decreases-form g l = 32 * l.room + 22
+
+-- ---- loops
+
+abbrev pub invariant-pipes-turns : goal.invariant-pipes-turns
+invariant-pipes-turns g l =
+    (reads_at g.S.Source.bytes l.fn.self (many (pipe_turn (level l.room)) (piped (map view_pipeline_part l.parts.items) l.next)) l.self.at ≡ reads g.S.Source.bytes l.fn.self (many (pipe_turn (level l.room)) (piped [] l.fn.next)))
+    × Shows l.next.token (text_of g.S.Source.bytes l.fn.self) l.self.at × (l.fn.self.at ≤ l.self.at) × Stays l.fn.self l.self
+
+abbrev pub decreases-pipes-turns : goal.decreases-pipes-turns
+decreases-pipes-turns g l = length (text_of g.S.Source.bytes l.self) - l.self.at
+
+abbrev pub invariant-joined_pipelines-turns : goal.invariant-joined_pipelines-turns
+invariant-joined_pipelines-turns g l =
+    (reads_at g.S.Source.bytes l.fn.self (many (join_pipeline (level l.room)) (joined_so (map view_and_or_part l.parts.items) l.next)) l.self.at ≡ reads g.S.Source.bytes l.fn.self (many (join_pipeline (level l.room)) (joined_so [] l.fn.next)))
+    × Shows l.next.token (text_of g.S.Source.bytes l.fn.self) l.self.at × (l.fn.self.at ≤ l.self.at) × Stays l.fn.self l.self
+
+abbrev pub decreases-joined_pipelines-turns : goal.decreases-joined_pipelines-turns
+decreases-joined_pipelines-turns g l = length (text_of g.S.Source.bytes l.self) - l.self.at
+
+abbrev pub invariant-entries-turns : goal.invariant-entries-turns
+invariant-entries-turns g l =
+    (reads_at g.S.Source.bytes l.fn.self (many (entry_turn (level l.room)) (list_so (view_listed l.listed) l.next)) l.self.at ≡ reads g.S.Source.bytes l.fn.self (many (entry_turn (level l.room)) (list_so (view_listed l.fn.listed) l.fn.next)))
+    × Shows l.next.token (text_of g.S.Source.bytes l.fn.self) l.self.at × (l.fn.self.at ≤ l.self.at) × Stays l.fn.self l.self
+
+abbrev pub decreases-entries-turns : goal.decreases-entries-turns
+decreases-entries-turns g l = length (text_of g.S.Source.bytes l.self) - l.self.at
+
+abbrev pub invariant-list_lines-turns : goal.invariant-list_lines-turns
+invariant-list_lines-turns g l =
+    (reads_at g.S.Source.bytes l.fn.self (many (list_turn (level l.room)) (list_so (view_listed l.listed) l.next)) l.self.at ≡ reads g.S.Source.bytes l.fn.self (many (list_turn (level l.room)) (list_so (view_listed l.fn.listed) l.fn.next)))
+    × Shows l.next.token (text_of g.S.Source.bytes l.fn.self) l.self.at × (l.fn.self.at ≤ l.self.at) × Stays l.fn.self l.self
+
+abbrev pub decreases-list_lines-turns : goal.decreases-list_lines-turns
+decreases-list_lines-turns g l = length (text_of g.S.Source.bytes l.self) - l.self.at
+
+abbrev pub invariant-elifs-turns : goal.invariant-elifs-turns
+invariant-elifs-turns g l =
+    (reads_at g.S.Source.bytes l.fn.self (many (elif_turn (level l.room)) (branched (map view_branch l.branches.items) l.next)) l.self.at ≡ reads g.S.Source.bytes l.fn.self (many (elif_turn (level l.room)) (branched [] l.fn.next)))
+    × Shows l.next.token (text_of g.S.Source.bytes l.fn.self) l.self.at × (l.fn.self.at ≤ l.self.at) × Stays l.fn.self l.self
+
+abbrev pub decreases-elifs-turns : goal.decreases-elifs-turns
+decreases-elifs-turns g l = length (text_of g.S.Source.bytes l.self) - l.self.at

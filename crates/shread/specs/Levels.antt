@@ -1,0 +1,21 @@
+-- What may be opened where so many more constructs may be, and what is read there.
+use Rattle.std.specs.Prelude.{ℕ, zero, suc, ◌+◌, [], ◌∷◌, Ok}
+use Rattle.shread.specs.declared.fault.FaultKind.TheVariants.{TooDeep}
+use Rattle.shtree.specs.Tree.{AWord}
+use Rattle.shread.specs.Sights.{Given, here, standing}
+use Rattle.shread.specs.Form.{see, stop, ◌>>=◌, may, raw}
+use Rattle.shread.specs.Words.{Inner, contents, a_word}
+use Rattle.shread.specs.Compounds.{a_compound}
+
+-- how many constructs may be open
+abbrev pub most_open : ℕ
+most_open = 100
+
+-- where no more may be opened, an opener is a fault
+unfoldable pub level : ℕ → Inner
+level zero = record { construct = λ mode b ss. stop TooDeep b; compound = λ o. see here >>= λ p. stop TooDeep p }
+level (suc room) = record { construct = λ mode b ss. contents (level room) mode b ss; compound = λ o. a_compound (level room) o }
+
+-- the n bytes from p on are a word, where so many constructs may be open
+abbrev pub IsWord : ℕ → Given → ℕ → ℕ → Type 0
+IsWord room g p n = (w : AWord) × may (a_word (level room)) g (standing p) (Ok (w, standing (p + n))) (raw g.text p (p + n) ∷ [])

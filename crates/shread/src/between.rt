@@ -1,0 +1,94 @@
+//! What may stand between commands: comments, newlines, separators, and what no row takes (XCU 2.3, 2.9.3).
+ghost use Rattle.std.specs.Prelude.{◌≡◌, ◌≤◌, IfOk, Ok as Done};
+ghost use Rattle.shread.specs.Clauses.{end_of, Onward, Reads, reads, Shows, Stays, text_of};
+ghost use Rattle.shread.specs.Commands.{a_comment, a_newline, a_separator, is_parted, what_is_wrong};
+ghost use Rattle.shread.specs.Levels.{level};
+ghost use Rattle.shread.specs.Sights.{standing};
+
+use crate::cursor::Cursor;
+use crate::fault::{Fault, FaultKind, Stop};
+use crate::source::Source;
+use crate::token::{Next, Position, Separator, Token};
+use shtree::Comment;
+
+impl<'a, S: Source> Cursor<'a, S> {
+    /// Passes the comment here, if one stands. `next` is the token here, and then the one behind it.
+    #[inline(always)]
+    #[tactic(auto, unfolding(crate::specs::Commands::a_comment, crate::specs::Commands::next_token))]
+    pub(crate) fn remark(&mut self, next: &mut Next) -> Option<Comment>
+        requires shows { Shows next.old.token (text_of S.bytes self.old) self.old.at }
+        ensures value { reads S.bytes self.old (a_comment next.old) ≡ Done ((result, next.new), standing self.new.at) }
+        ensures shows { Shows next.new.token (text_of S.bytes self.old) self.new.at }
+        ensures onward { self.old.at ≤ self.new.at }
+        ensures same { Stays self.old self.new }
+    {
+        match self.comment() {
+            Some(comment) => {
+                *next = self.next_token(Position::Command);
+                Some(comment)
+            }
+            None => None,
+        }
+    }
+
+    /// Passes the newline here, if one stands. `next` is the token here, and then the one behind it.
+    #[tactic(auto, unfolding(crate::specs::Commands::a_newline, crate::specs::Commands::next_token))]
+    pub(crate) fn newline(&mut self, next: &mut Next) -> bool
+        requires shows { Shows next.old.token (text_of S.bytes self.old) self.old.at }
+        ensures value { reads S.bytes self.old (a_newline next.old) ≡ Done ((result, next.new), standing self.new.at) }
+        ensures shows { Shows next.new.token (text_of S.bytes self.old) self.new.at }
+        ensures onward { Onward self.old.at self.new.at result }
+        ensures same { Stays self.old self.new }
+    {
+        let Token::Newline = next.token else {
+            return false;
+        };
+        self.bump();
+        *next = self.next_token(Position::Command);
+        true
+    }
+
+    /// Passes `;` or `&`, if the token here is one of them. `next` is that token, and then the one behind it.
+    #[inline(always)]
+    #[tactic(auto, unfolding(crate::specs::Commands::a_separator, crate::specs::Commands::next_token))]
+    pub(crate) fn separator(&mut self, next: &mut Next) -> Option<Separator>
+        requires shows { Shows next.old.token (text_of S.bytes self.old) self.old.at }
+        ensures value { reads S.bytes self.old (a_separator next.old) ≡ Done ((result, next.new), standing self.new.at) }
+        ensures shows { Shows next.new.token (text_of S.bytes self.old) self.new.at }
+        ensures onward { Onward self.old.at self.new.at (is_parted result) }
+        ensures same { Stays self.old self.new }
+    {
+        let separator = next.token.separator()?;
+        self.bump();
+        *next = self.next_token(Position::Command);
+        Some(separator)
+    }
+
+    /// What is wrong where no row takes the token here. A word is read whole first; a comment goes with the token behind it.
+    #[tactic(auto, unfolding(crate::specs::Commands::what_is_wrong))]
+    pub(crate) fn what_is_wrong(&mut self, next: &mut Next, room: usize) -> Result<Fault, Stop>
+        requires { Shows next.old.token (text_of S.bytes self.old) self.old.at }
+        ensures value { Reads S.bytes self.old (what_is_wrong (level room) next.old) result
+            (λ fault. (fault.kind, fault.at)) self.new.at }
+        ensures within { IfOk result (λ fault. fault.at ≤ end_of S.bytes self.old) }
+        ensures same { Stays self.old self.new }
+    {
+        if let Some(_) = next.token.behind_item() {
+            let at = self.origin + self.at;
+            self.pass_word(room)?;
+            return Ok(Fault {
+                kind: FaultKind::Unexpected,
+                at,
+            });
+        }
+        let _ = self.remark(next);
+        let kind = match next.token {
+            Token::End => FaultKind::UnexpectedEnd,
+            _ => FaultKind::Unexpected,
+        };
+        Ok(Fault {
+            kind,
+            at: self.origin + self.at,
+        })
+    }
+}

@@ -1,0 +1,215 @@
+//! Lists: entries on one line or on many (XCU 2.9.3, 2.10.2).
+ghost use Rattle.std.specs.Prelude.{◌≡◌, ◌≤◌, IfOk, false};
+ghost use Rattle.shread.specs.Clauses.{Onward, Reads, Shows, Stays, text_of};
+ghost use Rattle.shread.specs.Form.{many, step_if};
+ghost use Rattle.shread.specs.Levels.{level};
+ghost use Rattle.shread.specs.Listed.{view_listed};
+ghost use Rattle.shread.specs.Lists.{a_list, a_remark, entry_turn, list_so, list_turn, next_line, none_listed, on_line};
+ghost use Rattle.shtree.specs.View.{view_list};
+
+use crate::cursor::Cursor;
+use crate::fault::Stop;
+use crate::source::Source;
+use crate::token::{Next, Separator};
+use shtree::make::{command_entry, comment_entry, list_of};
+use shtree::{Entry, List};
+use std::alloc::Global;
+
+/// The entries of a list so far.
+#[derive(Drop)]
+pub(crate) struct Listed {
+    pub(crate) entries: Vec<Entry>,
+    /// The next line's first entry is blank.
+    pub(crate) blank: bool,
+    /// One of them stands on this line.
+    pub(crate) begun: bool,
+    /// One of them is a command.
+    pub(crate) commands: bool,
+}
+
+impl Listed {
+    /// No entry yet, on a line whose first entry may be blank.
+    pub(crate) fn new(alloc: Global, blank: bool) -> Listed
+        ensures { view_listed result ≡ none_listed blank }
+    {
+        Listed {
+            entries: Vec::new(alloc),
+            blank,
+            begun: false,
+            commands: false,
+        }
+    }
+
+    /// Behind a newline: a line without entries makes the next entry blank, if one stands before it.
+    fn next_line(&mut self)
+        ensures { view_listed self.new ≡ next_line (view_listed self.old) }
+    {
+        self.blank = !self.begun && !self.entries.is_empty();
+        self.begun = false;
+    }
+}
+
+impl<'a, S: Source> Cursor<'a, S> {
+    /// One more entry of a line, if the token here begins one: a command, with what parts it from the next one, and the comment behind
+    /// it on its line. Answers whether another may follow.
+    #[cycle(commands)]
+    #[inline(always)]
+    #[tactic(auto, unfolding(crate::specs::Lists::entry_turn, crate::specs::Lists::one_entry, crate::specs::Commands::an_entry))]
+    fn next_entry(
+        &mut self,
+        alloc: Global,
+        next: &mut Next,
+        listed: &mut Listed,
+        room: usize,
+    ) -> Result<bool, Stop>
+        requires shows { Shows next.old.token (text_of S.bytes self.old) self.old.at }
+        ensures value { Reads S.bytes self.old (entry_turn (level room) (list_so (view_listed listed.old) next.old)) result
+            (λ more. step_if more (list_so (view_listed listed.new) next.new)) self.new.at }
+        ensures shows { IfOk result (λ more. Shows next.new.token (text_of S.bytes self.old) self.new.at) }
+        ensures onward { IfOk result (Onward self.old.at self.new.at) }
+        ensures same { Stays self.old self.new }
+    {
+        if !next.token.begins_pipeline() {
+            return Ok(false);
+        }
+        let blank = listed.blank && !listed.begun;
+        let and_or = self.and_or(alloc, next, room)?;
+        let separator = self.separator(next);
+        let comment = self.remark(next);
+        listed.begun = true;
+        listed.commands = true;
+        if self.keep {
+            let background = matches!(separator, Some(Separator::Ampersand));
+            listed
+                .entries
+                .push(command_entry(and_or, background, blank, comment))?;
+        }
+        Ok(separator.is_some())
+    }
+
+    /// All of them.
+    #[cycle(commands)]
+    #[inline(always)]
+    #[tactic(auto, using(crate::proofs::Turns::many_again, crate::proofs::Turns::many_done, crate::proofs::Turns::many_stop))]
+    fn entries(
+        &mut self,
+        alloc: Global,
+        next: &mut Next,
+        listed: &mut Listed,
+        room: usize,
+    ) -> Result<(), Stop>
+        requires shows { Shows next.old.token (text_of S.bytes self.old) self.old.at }
+        ensures value { Reads S.bytes self.old (many (entry_turn (level room)) (list_so (view_listed listed.old) next.old)) result
+            (λ done. list_so (view_listed listed.new) next.new) self.new.at }
+        ensures shows { IfOk result (λ done. Shows next.new.token (text_of S.bytes self.old) self.new.at) }
+        ensures onward { IfOk result (λ done. self.old.at ≤ self.new.at) }
+        ensures same { Stays self.old self.new }
+    {
+        'turns: while self.next_entry(alloc, next, listed, room)? {}
+        Ok(())
+    }
+
+    /// The comment of a line without entries, or behind its last separator, as an entry.
+    #[inline(always)]
+    #[tactic(auto, unfolding(crate::specs::Lists::a_remark))]
+    fn own_comment(&mut self, next: &mut Next, listed: &mut Listed) -> Result<(), Stop>
+        requires shows { Shows next.old.token (text_of S.bytes self.old) self.old.at }
+        ensures value { Reads S.bytes self.old (a_remark (list_so (view_listed listed.old) next.old)) result
+            (λ done. list_so (view_listed listed.new) next.new) self.new.at }
+        ensures shows { IfOk result (λ done. Shows next.new.token (text_of S.bytes self.old) self.new.at) }
+        ensures onward { IfOk result (λ done. self.old.at ≤ self.new.at) }
+        ensures same { Stays self.old self.new }
+    {
+        if let Some(comment) = self.remark(next) {
+            let blank = listed.blank && !listed.begun;
+            listed.begun = true;
+            if self.keep {
+                listed.entries.push(comment_entry(comment, blank))?;
+            }
+        }
+        Ok(())
+    }
+
+    /// The entries and the comment of one line.
+    #[cycle(commands)]
+    #[tactic(auto, unfolding(crate::specs::Lists::on_line))]
+    pub(crate) fn on_line(
+        &mut self,
+        alloc: Global,
+        next: &mut Next,
+        listed: &mut Listed,
+        room: usize,
+    ) -> Result<(), Stop>
+        requires shows { Shows next.old.token (text_of S.bytes self.old) self.old.at }
+        ensures value { Reads S.bytes self.old (on_line (level room) (list_so (view_listed listed.old) next.old)) result
+            (λ done. list_so (view_listed listed.new) next.new) self.new.at }
+        ensures shows { IfOk result (λ done. Shows next.new.token (text_of S.bytes self.old) self.new.at) }
+        ensures onward { IfOk result (λ done. self.old.at ≤ self.new.at) }
+        ensures same { Stays self.old self.new }
+    {
+        self.entries(alloc, next, listed, room)?;
+        self.own_comment(next, listed)
+    }
+
+    /// A line of a list. Answers whether another follows.
+    #[cycle(commands)]
+    #[tactic(auto, unfolding(crate::specs::Lists::list_turn))]
+    fn list_line(
+        &mut self,
+        alloc: Global,
+        next: &mut Next,
+        listed: &mut Listed,
+        room: usize,
+    ) -> Result<bool, Stop>
+        requires shows { Shows next.old.token (text_of S.bytes self.old) self.old.at }
+        ensures value { Reads S.bytes self.old (list_turn (level room) (list_so (view_listed listed.old) next.old)) result
+            (λ more. step_if more (list_so (view_listed listed.new) next.new)) self.new.at }
+        ensures shows { IfOk result (λ more. Shows next.new.token (text_of S.bytes self.old) self.new.at) }
+        ensures onward { IfOk result (Onward self.old.at self.new.at) }
+        ensures same { Stays self.old self.new }
+    {
+        self.on_line(alloc, next, listed, room)?;
+        let newline = self.newline(next);
+        listed.next_line();
+        Ok(newline)
+    }
+
+    /// All of them.
+    #[cycle(commands)]
+    #[tactic(auto, using(crate::proofs::Turns::many_again, crate::proofs::Turns::many_done, crate::proofs::Turns::many_stop))]
+    fn list_lines(
+        &mut self,
+        alloc: Global,
+        next: &mut Next,
+        listed: &mut Listed,
+        room: usize,
+    ) -> Result<(), Stop>
+        requires shows { Shows next.old.token (text_of S.bytes self.old) self.old.at }
+        ensures value { Reads S.bytes self.old (many (list_turn (level room)) (list_so (view_listed listed.old) next.old)) result
+            (λ done. list_so (view_listed listed.new) next.new) self.new.at }
+        ensures shows { IfOk result (λ done. Shows next.new.token (text_of S.bytes self.old) self.new.at) }
+        ensures onward { IfOk result (λ done. self.old.at ≤ self.new.at) }
+        ensures same { Stays self.old self.new }
+    {
+        'turns: while self.list_line(alloc, next, listed, room)? {}
+        Ok(())
+    }
+
+    /// A list that holds a command. It ends where no entry may begin; who reads it asks for what has to follow.
+    #[cycle(commands)]
+    #[tactic(auto, unfolding(crate::specs::Lists::a_list))]
+    pub(crate) fn list(&mut self, alloc: Global, next: &mut Next, room: usize) -> Result<List, Stop>
+        requires shows { Shows next.old.token (text_of S.bytes self.old) self.old.at }
+        ensures value { Reads S.bytes self.old (a_list (level room) next.old) result (λ list. (view_list list, next.new)) self.new.at }
+        ensures shows { IfOk result (λ list. Shows next.new.token (text_of S.bytes self.old) self.new.at) }
+        ensures onward { IfOk result (λ list. self.old.at ≤ self.new.at) }
+        ensures same { Stays self.old self.new }
+    {
+        let mut listed = Listed::new(alloc, false);
+        self.list_lines(alloc, next, &mut listed, room)?;
+        if !listed.commands {
+            return Err(Stop::Wrong(self.what_is_wrong(next, room)?));
+        }
+        Ok(list_of(listed.entries))
+    }
+}

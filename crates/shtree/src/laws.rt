@@ -1,0 +1,24 @@
+//! Laws of the definitions alone, which no code stands behind.
+ghost use Rattle.std.specs.Prelude.{◌≡◌, ◌∷◌, Bool, List as Row, Option, Some, false, true};
+ghost use Rattle.shtree.specs.declared.tree.Comment.{Comment};
+ghost use Rattle.shtree.specs.declared.tree.Span.{Span};
+ghost use Rattle.shtree.specs.Normal.{alone, is_normal, joined, of_command};
+ghost use Rattle.shtree.specs.Tree.{ACommand, AContent, AWord, AnItemContent, Entries, Items, brace, compound, entry, for_in, formed, in_words, item, more_items, no_entry, no_item, remark, simple};
+
+/// The normal form of a list refuses each of these, in a list of one entry.
+pub fn normal_form()
+    ensures blank_first { (what : AContent) (background : Bool) (comment : Option Comment) →
+        is_normal (alone (entry what background true comment)) ≡ false }
+    ensures comment_in_background { (c : Comment) (comment : Option Comment) →
+        is_normal (alone (entry (remark c) true false comment)) ≡ false }
+    ensures comment_with_comment { (c d : Comment) (background : Bool) →
+        is_normal (alone (entry (remark c) background false (Some d))) ≡ false }
+    ensures broken_first_item { (what : AnItemContent) (items : Items) →
+        is_normal (alone (of_command (simple (more_items (item true what) items)))) ≡ false }
+    ensures unbroken_join { (c : Comment) (cs : Row Comment) (one two : ACommand) →
+        is_normal (alone (joined (record { broken = false; comments = c ∷ cs }) one two)) ≡ false }
+    ensures empty_group { (span : Span) →
+        is_normal (alone (of_command (compound (formed (brace no_entry) span no_item)))) ≡ false }
+    ensures group_of_a_comment { (c : Comment) (span : Span) (comment : Option Comment) →
+        is_normal (alone (of_command (compound (formed (brace (alone (entry (remark c) false false comment))) span no_item)))) ≡ false }
+{}
