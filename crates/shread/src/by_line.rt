@@ -102,7 +102,11 @@ fn by_lines(reader: &mut Reader, script: &[u8]) -> Result<(usize, usize, Option<
 }
 
 /// The lines of a script have the entries and the fault that it has as a whole, and the meter rises by its length.
-fn judge_lines(judge: &mut Judge, reader: &mut Reader, script: &[u8]) -> Result<(), Fail> {
+pub(crate) fn judge_lines(
+    judge: &mut Judge,
+    reader: &mut Reader,
+    script: &[u8],
+) -> Result<(), Fail> {
     let read = reader.read_script(&Flat::new(script))?;
     let before = reader.meter();
     let (_, entries, fault) = by_lines(reader, script)?;

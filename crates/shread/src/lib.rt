@@ -8,6 +8,8 @@
 
 mod all_lines;
 mod and_or;
+#[cfg(test)]
+mod beginnings;
 mod between;
 #[cfg(test)]
 mod by_line;

@@ -6,7 +6,7 @@ use std::alloc::Global;
 use std::test::Fail;
 
 /// A line that the reader grows for in several places: its second command and its comment come late.
-const TEXT: &[u8] = b"\na=1 'b' $c \"\" d e; g & # h\ni\n";
+const TEXT: &[u8] = b"\na=1 'b' $c \"\" d e; if f|g;then h;elif i&&j;then k;fi & # l\nm\n";
 
 /// Asks for the refusal of the nth growth from here on, by a request that no allocator grants.
 fn refuse(alloc: Global, nth: usize) {
@@ -51,8 +51,8 @@ fn begun(alloc: Global) -> Result<Reader, Fail> {
 /// Whether the second line is read as it stands there, and counted.
 fn reads_line(reader: &mut Reader) -> Result<bool, ReadError> {
     let line = reader.read_line(&Flat::new(TEXT), 1)?;
-    let is_whole = count(&line) == 2 && line.next == 28 && line.ended;
-    Ok(is_whole && reader.meter() == 28)
+    let is_whole = count(&line) == 2 && line.next == 60 && line.ended;
+    Ok(is_whole && reader.meter() == 60)
 }
 
 #[test]
@@ -79,7 +79,7 @@ fn read_line(rt: HostRuntime) -> Result<(), Fail> {
 fn reads_script(reader: &mut Reader) -> Result<bool, ReadError> {
     let script = reader.read_script(&Flat::new(TEXT))?;
     let is_whole = script.list.entries.len() == 3 && script.fault.is_none();
-    Ok(is_whole && reader.meter() == 31)
+    Ok(is_whole && reader.meter() == 63)
 }
 
 #[test]
@@ -127,13 +127,40 @@ fn grows_not(alloc: Global, refuses: bool, script: &[u8]) -> Result<bool, Fail> 
     Ok(has_none && !(refuses && has_grown))
 }
 
-/// A check asks for no growth, whatever the script holds.
+/// A check asks for no growth where the script has no compound command.
 #[test]
 fn first_fault(rt: HostRuntime) -> Result<(), Fail> {
     let refuses = refuses(rt.alloc());
-    assert!(rt; grows_not(rt.alloc(), refuses, TEXT)?);
+    assert!(rt;
+        grows_not(
+            rt.alloc(),
+            refuses,
+            b"\na=1 'b' $c \"\" d e; g & # h\ni|j&&! k\n"
+        )?
+    );
     assert!(rt; grows_not(rt.alloc(), refuses, b"a\\\n=1 i\\\nf \\b # c\n")?);
     assert!(rt; grows_not(rt.alloc(), refuses, b"'a' \"b ${c-\"d\"}\" `e\\`f`")?);
     assert!(rt; grows_not(rt.alloc(), refuses, b"${a#'b'}$((1 + (2)))$$\n")?);
+    Ok(())
+}
+
+/// For a compound command a check asks for a box, and says so where there is none.
+#[test]
+fn boxes(rt: HostRuntime) -> Result<(), Fail> {
+    let refuses = refuses(rt.alloc());
+    let mut met = 0;
+    for nth in 1..100 {
+        let mut reader = begun(rt.alloc())?;
+        refuse(rt.alloc(), nth);
+        let found = reader.first_fault(&Flat::new(TEXT));
+        if !refuses || !was_refused(rt.alloc(), nth) {
+            assert!(rt; found?.is_none());
+            break;
+        }
+        assert!(rt; matches!(found, Err(ReadError::Memory)) && reader.meter() == 1);
+        assert!(rt; reader.first_fault(&Flat::new(TEXT))?.is_none());
+        met = nth;
+    }
+    assert!(rt; !refuses || 0 < met && met < 99, "{met}");
     Ok(())
 }

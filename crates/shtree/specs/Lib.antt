@@ -1,3 +1,5 @@
 pub mod Tree
 pub mod View
 pub mod Normal
+pub mod Nodes
+pub mod Gathered

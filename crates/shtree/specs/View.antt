@@ -12,11 +12,13 @@ use Rattle.shtree.specs.declared.tree.Compound as the_compound
 use Rattle.shtree.specs.declared.tree.Form as the_form
 use Rattle.shtree.specs.declared.tree.Branch as the_branch
 use Rattle.shtree.specs.declared.tree.CaseItem as the_case_item
+use Rattle.shtree.specs.declared.tree.Content as the_content
+use Rattle.shtree.specs.declared.tree.ItemContent as the_item_content
 use Rattle.shtree.specs.declared.tree.Item as the_item
 use Rattle.shtree.specs.declared.tree.Word as the_word
 use Rattle.shtree.specs.declared.tree.Subst as the_subst
 use Rattle.shtree.specs.declared.tree.Command.TheOpen.{Command-F, Content-F, Form-F, ItemContent-F, AndOr-F, AndOrPart-F, Branch-F, CaseItem-F, Compound-F, Entry-F, Item-F, List-F, Pipeline-F, PipelinePart-F, Subst-F, Word-F}
-use Rattle.shtree.specs.declared.tree.Command.TheFolds.{fold-List, fold-Entry, fold-AndOr, fold-AndOrPart, fold-Pipeline, fold-PipelinePart, fold-Command, fold-Compound, fold-Form, fold-Branch, fold-CaseItem, fold-Item, fold-Word, fold-Subst}
+use Rattle.shtree.specs.declared.tree.Command.TheFolds.{fold-List, fold-Entry, fold-AndOr, fold-AndOrPart, fold-Pipeline, fold-PipelinePart, fold-Command, fold-Compound, fold-Content, fold-Form, fold-Branch, fold-CaseItem, fold-Item, fold-ItemContent, fold-Word, fold-Subst}
 use Rattle.shtree.specs.Tree.{AJoin, Entries, AnEntry, AContent, AnAndOr, AnAndOrPart, APipeline, APipelinePart, ACommand, ACompound, AForm, ABranch, ForWords, ACaseItem, AnItem, AnItemContent, AWord, ASubst, entry, command, remark, and_or, pipeline, simple, compound, function, formed, brace, subshell, if_then, while_do, until_do, for_in, case_in, branch, Otherwise, no_else, otherwise, no_in, in_words, case_item, item, assign, argument, redirect, word, subst, entries_of, and_or_parts_of, pipeline_parts_of, branches_of, otherwise_of, cases_of, patterns_of, items_of, substs_of}
 
 abbrev pub view_join : the_join.Join → AJoin
@@ -112,6 +114,9 @@ view_list = seen (fold-List _ _ _ _ _ _ _ _ _ _ _ _ _ _ _ _)
 abbrev pub view_entry : the_entry.Entry → AnEntry
 view_entry = seen (fold-Entry _ _ _ _ _ _ _ _ _ _ _ _ _ _ _ _)
 
+abbrev pub view_content : the_content.Content → AContent
+view_content = seen (fold-Content _ _ _ _ _ _ _ _ _ _ _ _ _ _ _ _)
+
 abbrev pub view_and_or : the_and_or.AndOr → AnAndOr
 view_and_or = seen (fold-AndOr _ _ _ _ _ _ _ _ _ _ _ _ _ _ _ _)
 
@@ -141,6 +146,9 @@ view_case_item = seen (fold-CaseItem _ _ _ _ _ _ _ _ _ _ _ _ _ _ _ _)
 
 abbrev pub view_item : the_item.Item → AnItem
 view_item = seen (fold-Item _ _ _ _ _ _ _ _ _ _ _ _ _ _ _ _)
+
+abbrev pub view_item_content : the_item_content.ItemContent → AnItemContent
+view_item_content = seen (fold-ItemContent _ _ _ _ _ _ _ _ _ _ _ _ _ _ _ _)
 
 abbrev pub view_word : the_word.Word → AWord
 view_word = seen (fold-Word _ _ _ _ _ _ _ _ _ _ _ _ _ _ _ _)

@@ -1,0 +1,117 @@
+-- Nodes at a base: they stand in the order that they have without it.
+use Rattle.std.proofs.Common.{◌≡◌, ℕ, zero, suc, ◌+◌, ◌-◌, ◌<◌, ◌≤◌, Bool, true, false, List as Row, [], ◌∷◌, length, map, set, get_or, refl, sym, ap, ◌∙◌, arith, cond, add-one}
+use Rattle.std.specs.Prelude.{All, ◌&&◌, nat_le, nat_lt}
+use Rattle.std.specs.List.{filter}
+use Rattle.std.specs.Ordering.{nat_cmp}
+use Rattle.std.proofs.lemmas.Bool.Decides.{nat_tests}
+use Rattle.std.proofs.lemmas.List.Elements.{All-cons, All-filter, All-head, All-tail}
+use Rattle.shtree.specs.declared.nodes.NodeLine.{NodeLine}
+use Rattle.shtree.specs.Tree.{Entries}
+use Rattle.shtree.specs.Nodes.{by_place, entries_nodes, holds, in_order, in_outline, inserted, nodes_at, outline, placed}
+use Rattle.shtree.proofs.InOrder.{before, filter-in_order}
+
+cmp_moved : (b s t : ℕ) → nat_cmp (b + s) (b + t) ≡ nat_cmp s t
+cmp_moved b s t = grind (arith, nat_tests)
+
+by_place_moved : (b : ℕ) (m n : NodeLine) → by_place (placed b m) (placed b n) ≡ by_place m n
+by_place_moved b m n = rw (cmp_moved b m.start n.start, cmp_moved b n.«end» m.«end») refl
+
+inserted_case : (b : ℕ) (n m : NodeLine) (ms : Row NodeLine) (c : Bool) → inserted (placed b n) (map (placed b) ms) ≡ map (placed b) (inserted n ms)
+    → cond c (placed b m ∷ inserted (placed b n) (map (placed b) ms)) (placed b n ∷ placed b m ∷ map (placed b) ms) ≡ map (placed b) (cond c (m ∷ inserted n ms) (n ∷ m ∷ ms))
+inserted_case b n m ms true h = ap (λ r. placed b m ∷ r) h
+inserted_case b n m ms false h = refl
+
+inserted_moved : (b : ℕ) (n : NodeLine) (ms : Row NodeLine) → inserted (placed b n) (map (placed b) ms) ≡ map (placed b) (inserted n ms)
+inserted_moved b n [] = refl
+inserted_moved b n (m ∷ ms) =
+    let same : before (placed b m) (placed b n) ≡ before m n = rw (by_place_moved b m n) refl in
+    rw same (inserted_case b n m ms (before m n) (inserted_moved b n ms))
+
+in_order_moved : (b : ℕ) (ns : Row NodeLine) → in_order (map (placed b) ns) ≡ map (placed b) (in_order ns)
+in_order_moved b [] = refl
+in_order_moved b (n ∷ ns) = rw (in_order_moved b ns) (inserted_moved b n (in_order ns))
+
+filter_case : (f : NodeLine → NodeLine) (n : NodeLine) (ms : Row NodeLine) (c : Bool) → cond c (f n ∷ map f ms) (map f ms) ≡ map f (cond c (n ∷ ms) ms)
+filter_case f n ms true = refl
+filter_case f n ms false = refl
+
+filter_moved : (p q : NodeLine → Bool) (f : NodeLine → NodeLine) → ((n : NodeLine) → p (f n) ≡ q n) → (ns : Row NodeLine) → filter p (map f ns) ≡ map f (filter q ns)
+filter_moved p q f h [] = refl
+filter_moved p q f h (n ∷ ns) = rw (h n, filter_moved p q f h ns) (filter_case f n (filter q ns) (q n))
+
+-- nodes that pass a test, found without the base
+asked : (p q : NodeLine → Bool) (b : ℕ) → ((n : NodeLine) → p (placed b n) ≡ q n) → (ns : Row NodeLine)
+    → map (placed b) (in_order (filter q ns)) ≡ filter p (in_order (map (placed b) ns))
+asked p q b h ns =
+    sym (in_order_moved b (filter q ns)) ∙ ap in_order (sym (filter_moved p q (placed b) h ns)) ∙ sym (filter-in_order p (map (placed b) ns))
+
+pub outline_is : (base : ℕ) (es : Entries) → map (placed base) (in_order (filter in_outline (entries_nodes es))) ≡ outline base es
+outline_is base es = asked in_outline in_outline base (λ n. refl) (entries_nodes es)
+
+within_moved : (b at s e : ℕ) → b ≤ at → (nat_le (b + s) at && nat_lt at (b + e)) ≡ (nat_le s (at - b) && nat_lt (at - b) e)
+within_moved b at s e h = grind (arith, nat_tests)
+
+pub nodes_at_is : (base at : ℕ) (es : Entries) → base ≤ at → map (placed base) (in_order (filter (holds (at - base)) (entries_nodes es))) ≡ nodes_at base at es
+nodes_at_is base at es h = asked (holds at) (holds (at - base)) base (λ n. within_moved base at n.start n.«end» h) (entries_nodes es)
+
+-- no node stands before the base
+not_before : (b at s e : ℕ) → at < b → (nat_le (b + s) at && nat_lt at (b + e)) ≡ false
+not_before b at s e h = grind (arith, nat_tests)
+
+filter_none : (p : NodeLine → Bool) → ((n : NodeLine) → p n ≡ false) → (ns : Row NodeLine) → filter p ns ≡ []
+filter_none p h [] = refl
+filter_none p h (n ∷ ns) = rw (h n) (filter_none p h ns)
+
+all_passed : (b at : ℕ) (ns : Row NodeLine) → at < b → filter (holds at) (map (placed b) ns) ≡ []
+all_passed b at [] h = refl
+all_passed b at (n ∷ ns) h = rw (not_before b at n.start n.«end» h) (all_passed b at ns h)
+
+pub nodes_at_none : (base at : ℕ) (es : Entries) → at < base → nodes_at base at es ≡ []
+nodes_at_none base at es h =
+    filter-in_order (holds at) (map (placed base) (entries_nodes es)) ∙ ap in_order (all_passed base at (entries_nodes es) h)
+
+-- ---- what holds of each node holds in any order
+
+module _ (P : NodeLine → Type 0) where
+  all_inserted : (n : NodeLine) (ms : Row NodeLine) → P n → All P ms → All P (inserted n ms)
+  all_inserted n [] h a = All-cons P n [] h a
+  all_inserted n (m ∷ ms) h a =
+      elim (before m n) as (λ b. All P (cond b (m ∷ inserted n ms) (n ∷ m ∷ ms))) [
+        | true ↦ All-cons P m (inserted n ms) (All-head P m ms a) (all_inserted n ms h (All-tail P m ms a))
+        | false ↦ All-cons P n (m ∷ ms) h a
+      ]
+
+  all_in_order : (ns : Row NodeLine) → All P ns → All P (in_order ns)
+  all_in_order [] a = a
+  all_in_order (n ∷ ns) a = all_inserted n (in_order ns) (All-head P n ns a) (all_in_order ns (All-tail P n ns a))
+
+  pub all_asked : (p : NodeLine → Bool) (ns : Row NodeLine) → All P ns → All P (in_order (filter p ns))
+  all_asked p ns a = all_in_order (filter p ns) (All-filter p P ns a)
+
+-- ---- nodes that are placed one by one
+
+-- the nodes before the index stay
+unfoldable pub placed_from : ℕ → Row NodeLine → ℕ → Row NodeLine
+placed_from b [] i = []
+placed_from b (n ∷ ns) zero = placed b n ∷ placed_from b ns zero
+placed_from b (n ∷ ns) (suc i) = n ∷ placed_from b ns i
+
+placed_suc : (b : ℕ) (ns : Row NodeLine) (i : ℕ) (d : NodeLine) → i < length ns → placed_from b (set ns i (placed b (get_or ns i d))) (suc i) ≡ placed_from b ns i
+unfolding placed_from
+placed_suc b [] i d h = absurd (omega arith)
+placed_suc b (n ∷ ns) zero d h = refl
+placed_suc b (n ∷ ns) (suc i) d h = ap (λ r. n ∷ r) (placed_suc b ns i d (omega arith))
+
+pub placed_more : (b : ℕ) (ns : Row NodeLine) (i : ℕ) (n d : NodeLine) → i < length ns → n ≡ placed b (get_or ns i d) → placed_from b (set ns i n) (i + 1) ≡ placed_from b ns i
+placed_more b ns i n d h e = rw (e, add-one) (placed_suc b ns i d h)
+
+pub placed_end : (b : ℕ) (ns : Row NodeLine) (i : ℕ) → length ns ≤ i → placed_from b ns i ≡ ns
+unfolding placed_from
+placed_end b [] i h = refl
+placed_end b (n ∷ ns) zero h = absurd (omega arith)
+placed_end b (n ∷ ns) (suc i) h = ap (λ r. n ∷ r) (placed_end b ns i (omega arith))
+
+pub placed_all : (b : ℕ) (ns : Row NodeLine) → placed_from b ns 0 ≡ map (placed b) ns
+unfolding placed_from
+placed_all b [] = refl
+placed_all b (n ∷ ns) = ap (λ r. placed b n ∷ r) (placed_all b ns)

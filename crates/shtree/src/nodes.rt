@@ -1,0 +1,238 @@
+//! The nodes of a script's tree, as an editor asks for them: what stands where in the text.
+ghost use Rattle.std.specs.Prelude.{◌≡◌, ◌-◌, ◌++◌, Bool, All, filter, IfOk, map, OnErr, OnOk};
+ghost use Rattle.shtree.specs.declared.nodes.NodeLine.{NodeLine};
+ghost use Rattle.shtree.specs.Nodes.{AreWithin, by_place, entries_nodes, holds, in_order, in_outline, is_outlined, IsSpanWithin, IsWithin, named, node, nodes_at, outline, placed, placed_span};
+ghost use Rattle.shtree.specs.View.{view_list};
+
+use crate::tree::{List, Span};
+use crate::visit::{Wanted, visit_list};
+use std::alloc::{AllocError, Global};
+use std::cmp::Ordering;
+
+/// A node of a script's tree: what stands where in the text that holds the script.
+///
+/// Its offsets count bytes from the begin of that text.
+#[derive(Clone, Copy, Debug, PartialEq, Eq)]
+pub struct NodeLine {
+    /// The offset of its first byte.
+    pub start: usize,
+    /// The offset after its last byte.
+    pub end: usize,
+    pub kind: NodeKind,
+    /// Where the name of a function, or of the variable of a `for`, stands. No other kind has a name.
+    pub name: Option<Span>,
+}
+
+/// What a node is, and from where to where it stands.
+#[derive(Clone, Copy, Debug, PartialEq, Eq)]
+pub enum NodeKind {
+    /// A comment, from its `#` to its last byte that is no blank (XCU 2.3).
+    Comment,
+    /// A word that is no assignment and no name of a function.
+    Word,
+    /// An assignment before a command's name (XCU 2.9.1).
+    Assign,
+    /// A redirection, from its number or its operator to the end of its word (XCU 2.7).
+    Redirect,
+    /// A command substitution, from its `$` to after its `)` (XCU 2.6.3).
+    Subst,
+    /// A simple command, from its first item to its last (XCU 2.9.1).
+    Simple,
+    /// `{ list }`, from its opener to the last redirection behind it, as all compound commands (XCU 2.9.4).
+    Brace,
+    /// `( list )`
+    Subshell,
+    If,
+    While,
+    Until,
+    For,
+    Case,
+    /// An item of a `case`, from its `(` or its first pattern to after its `;;`.
+    Item,
+    /// The definition of a function, from its name to the end of its body (XCU 2.9.5).
+    Function,
+    /// Commands that `|` joins, or one with `!`; from its `!` or its first command to its last (XCU 2.9.2).
+    Pipeline,
+    /// Pipelines that `&&` and `||` join, from the first to the last (XCU 2.9.3).
+    AndOr,
+}
+
+/// Adds the nodes of a list that an outline shows to `lines`: all but words, assignments, redirections and comments.
+///
+/// The list stands in the text from the offset `base` on. The nodes come by their starts, at equal starts the longer first, and a
+/// parent before its child.
+///
+/// # Errors
+///
+/// [`AllocError`], where memory runs out. `lines` then holds what it held before.
+pub fn outline_of(
+    alloc: Global,
+    list: &List,
+    base: usize,
+    lines: &mut Vec<NodeLine>,
+) -> Result<(), AllocError>
+    requires { AreWithin (usize.MAX - base) (view_list list.now) }
+    ensures ok { OnOk result (lines.new.items ≡ lines.old.items ++ outline base (view_list list.now)) }
+    ensures err { OnErr result (lines.new.items ≡ lines.old.items) }
+{
+    let found = gather(alloc, list, Outlined)?;
+    add_at(base, found, lines)
+}
+
+/// Adds the nodes of a list that hold the byte at the offset `at` to `lines`, of every kind.
+///
+/// The list stands in the text from the offset `base` on. The nodes come as those of [`outline_of`] do: the outer before the inner.
+///
+/// # Errors
+///
+/// [`AllocError`], where memory runs out. `lines` then holds what it held before.
+pub fn nodes_at(
+    alloc: Global,
+    list: &List,
+    base: usize,
+    at: usize,
+    lines: &mut Vec<NodeLine>,
+) -> Result<(), AllocError>
+    requires { AreWithin (usize.MAX - base) (view_list list.now) }
+    ensures ok { OnOk result (lines.new.items ≡ lines.old.items ++ nodes_at base at (view_list list.now)) }
+    ensures err { OnErr result (lines.new.items ≡ lines.old.items) }
+{
+    // nothing of the list stands before its base
+    if at < base {
+        return Ok(());
+    }
+    let found = gather(alloc, list, Holding(at - base))?;
+    add_at(base, found, lines)
+}
+
+/// The nodes that an outline shows.
+#[derive(Clone, Copy)]
+struct Outlined;
+
+impl Wanted for Outlined {
+    ghost is_wanted = { λ _. in_outline };
+
+    fn wants(self, line: &NodeLine) -> bool {
+        line.kind.is_outlined()
+    }
+}
+
+/// The nodes that hold the byte at this offset from the list's base.
+#[derive(Clone, Copy)]
+struct Holding(usize);
+
+impl Wanted for Holding {
+    ghost is_wanted = { λ at. holds at.0 };
+
+    fn wants(self, line: &NodeLine) -> bool {
+        line.start <= self.0 && self.0 < line.end
+    }
+}
+
+/// The nodes that are wanted, in order, with offsets from the list's base.
+///
+/// They are gathered apart, so that a call that runs out of memory leaves the caller's nodes as they are.
+fn gather<W: Wanted>(alloc: Global, list: &List, wanted: W) -> Result<Vec<NodeLine>, AllocError>
+    ensures { IfOk result (λ found. found.items ≡ in_order (filter (W.is_wanted wanted) (entries_nodes (view_list list.now)))) }
+{
+    let mut found = Vec::new(alloc);
+    visit_list(list, wanted, &mut found)?;
+    found.sort_by(by_place)?;
+    Ok(found)
+}
+
+/// Adds nodes of a list that stands from `base` on to `lines`, at their places in the text.
+fn add_at(
+    base: usize,
+    mut found: Vec<NodeLine>,
+    lines: &mut Vec<NodeLine>,
+) -> Result<(), AllocError>
+    requires { All (IsWithin (usize.MAX - base)) found.items }
+    ensures ok { OnOk result (lines.new.items ≡ lines.old.items ++ map (placed base) found.items) }
+    ensures err { OnErr result (lines.new.items ≡ lines.old.items) }
+{
+    place(&mut found, base);
+    lines.extend_from_slice(&found)
+}
+
+/// By their starts, at equal starts the longer first.
+fn by_place(a: &NodeLine, b: &NodeLine) -> Ordering
+    ensures { result ≡ by_place a.now b.now }
+{
+    a.start.cmp(&b.start).then(b.end.cmp(&a.end))
+}
+
+/// Puts nodes of a list that stands from `base` on at their places in the text.
+#[tactic(auto, using(crate::proofs::Placed::placed_end, crate::proofs::Placed::placed_all))]
+fn place(found: &mut [NodeLine], base: usize)
+    requires { All (IsWithin (usize.MAX - base)) found.old }
+    ensures { found.new ≡ map (placed base) found.old }
+{
+    for line in found.iter_mut() {
+        *line = line.placed(base);
+    }
+}
+
+impl NodeLine {
+    pub(crate) fn new(kind: NodeKind, span: Span) -> NodeLine
+        ensures { result ≡ node kind span }
+    {
+        NodeLine {
+            start: span.start,
+            end: span.end,
+            kind,
+            name: None,
+        }
+    }
+
+    pub(crate) fn named(kind: NodeKind, span: Span, name: Span) -> NodeLine
+        ensures { result ≡ named kind span name }
+    {
+        NodeLine {
+            start: span.start,
+            end: span.end,
+            kind,
+            name: Some(name),
+        }
+    }
+
+    fn placed(self, base: usize) -> NodeLine
+        requires { IsWithin (usize.MAX - base) self }
+        ensures { result ≡ placed base self }
+    {
+        let name = match self.name {
+            Some(name) => Some(name.placed(base)),
+            None => None,
+        };
+        NodeLine {
+            start: base + self.start,
+            end: base + self.end,
+            kind: self.kind,
+            name,
+        }
+    }
+}
+
+impl NodeKind {
+    /// An outline tells of commands and what they are made of, and not of words and comments.
+    pub(crate) fn is_outlined(self) -> bool
+        ensures { result ≡ is_outlined self }
+    {
+        !matches!(
+            self,
+            NodeKind::Comment | NodeKind::Word | NodeKind::Assign | NodeKind::Redirect
+        )
+    }
+}
+
+impl Span {
+    fn placed(self, base: usize) -> Span
+        requires { IsSpanWithin (usize.MAX - base) self }
+        ensures { result ≡ placed_span base self }
+    {
+        Span {
+            start: base + self.start,
+            end: base + self.end,
+        }
+    }
+}

@@ -1,0 +1,420 @@
+// Each rule of the normal form, turned: a tree that keeps all rules but one.
+use crate::built::Script;
+use crate::make::{and_or_of, argument_of, command_entry, list_of, pipeline_of, simple_of};
+use crate::normal::is_normal;
+use crate::tree::{Branch, CaseItem, Command, Comment, Content, Entry, Form, Join, List, Word};
+use std::alloc::{AllocError, Global};
+use std::process::Abort;
+use std::test::Fail;
+
+/// Where a list stands in a script: as that of a substitution in a word, or as that of a compound command.
+#[derive(Clone, Copy, Debug)]
+enum Place {
+    Assign,
+    Argument,
+    SecondItem,
+    Redirect,
+    RedirectBehindCompound,
+    FunctionBody,
+    SecondCommand,
+    SecondPipeline,
+    SecondEntry,
+    ForName,
+    ForWord,
+    CaseWord,
+    Pattern,
+    SecondPattern,
+    SecondCase,
+    CaseBody,
+    Brace,
+    Subshell,
+    IfCondition,
+    IfBody,
+    ElifCondition,
+    ElifBody,
+    SecondElif,
+    Else,
+    WhileCondition,
+    WhileBody,
+    UntilCondition,
+    UntilBody,
+    ForBody,
+}
+
+const PLACES: [Place; 29] = [
+    Place::Assign,
+    Place::Argument,
+    Place::SecondItem,
+    Place::Redirect,
+    Place::RedirectBehindCompound,
+    Place::FunctionBody,
+    Place::SecondCommand,
+    Place::SecondPipeline,
+    Place::SecondEntry,
+    Place::ForName,
+    Place::ForWord,
+    Place::CaseWord,
+    Place::Pattern,
+    Place::SecondPattern,
+    Place::SecondCase,
+    Place::CaseBody,
+    Place::Brace,
+    Place::Subshell,
+    Place::IfCondition,
+    Place::IfBody,
+    Place::ElifCondition,
+    Place::ElifBody,
+    Place::SecondElif,
+    Place::Else,
+    Place::WhileCondition,
+    Place::WhileBody,
+    Place::UntilCondition,
+    Place::UntilBody,
+    Place::ForBody,
+];
+
+impl Place {
+    /// A list there has to hold a command.
+    fn wants_command(self) -> bool {
+        matches!(
+            self,
+            Place::Brace
+                | Place::Subshell
+                | Place::IfCondition
+                | Place::IfBody
+                | Place::ElifCondition
+                | Place::ElifBody
+                | Place::SecondElif
+                | Place::Else
+                | Place::WhileCondition
+                | Place::WhileBody
+                | Place::UntilCondition
+                | Place::UntilBody
+                | Place::ForBody
+        )
+    }
+}
+
+// No rule of the normal form asks where anything stands.
+fn script(alloc: Global) -> Script<'static> {
+    Script { alloc, text: "" }
+}
+
+fn run(alloc: Global) -> Result<List, AllocError> {
+    script(alloc).run(&["a"])
+}
+
+fn around(alloc: Global, list: List) -> Result<Word, AllocError> {
+    script(alloc).word_with("", "", list)
+}
+
+fn simple(alloc: Global, word: Word) -> Result<Command, AllocError> {
+    Ok(simple_of(script(alloc).one(argument_of(word, false))?))
+}
+
+fn branch(
+    alloc: Global,
+    condition: Option<List>,
+    body: Option<List>,
+) -> Result<Branch, AllocError> {
+    let condition = match condition {
+        Some(list) => list,
+        None => run(alloc)?,
+    };
+    let body = match body {
+        Some(list) => list,
+        None => run(alloc)?,
+    };
+    Ok(Branch { condition, body })
+}
+
+fn if_form(alloc: Global, rest: Vec<Branch>, otherwise: Option<List>) -> Result<Form, AllocError> {
+    Ok(Form::If {
+        first: branch(alloc, None, None)?,
+        rest,
+        otherwise,
+    })
+}
+
+fn for_form(
+    alloc: Global,
+    name: Word,
+    words: Option<Word>,
+    body: List,
+) -> Result<Form, AllocError> {
+    let words = match words {
+        Some(word) => Some(script(alloc).one(argument_of(word, false))?),
+        None => None,
+    };
+    Ok(Form::For { name, words, body })
+}
+
+fn case_form(alloc: Global, word: Word, items: Vec<CaseItem>) -> Form {
+    Form::Case {
+        word,
+        items,
+        tail: Vec::new(alloc),
+    }
+}
+
+fn case_item(alloc: Global, pattern: Word, body: List) -> Result<CaseItem, AllocError> {
+    let script = script(alloc);
+    Ok(CaseItem {
+        comments: Vec::new(alloc),
+        patterns: script.patterns(pattern)?,
+        body,
+        span: script.at(""),
+    })
+}
+
+fn in_form(alloc: Global, place: Place, list: List) -> Result<Form, AllocError> {
+    let script = script(alloc);
+    let word = script.word("");
+    Ok(match place {
+        Place::Subshell => Form::Subshell(list),
+        Place::IfCondition => Form::If {
+            first: branch(alloc, Some(list), None)?,
+            rest: Vec::new(alloc),
+            otherwise: None,
+        },
+        Place::IfBody => Form::If {
+            first: branch(alloc, None, Some(list))?,
+            rest: Vec::new(alloc),
+            otherwise: None,
+        },
+        Place::ElifCondition => {
+            let rest = script.branches(branch(alloc, Some(list), None)?)?;
+            if_form(alloc, rest, None)?
+        }
+        Place::ElifBody => {
+            let rest = script.branches(branch(alloc, None, Some(list))?)?;
+            if_form(alloc, rest, None)?
+        }
+        Place::SecondElif => {
+            let mut rest = script.branches(branch(alloc, None, None)?)?;
+            rest.push(branch(alloc, None, Some(list))?)?;
+            if_form(alloc, rest, None)?
+        }
+        Place::Else => if_form(alloc, Vec::new(alloc), Some(list))?,
+        Place::WhileCondition => Form::While(branch(alloc, Some(list), None)?),
+        Place::WhileBody => Form::While(branch(alloc, None, Some(list))?),
+        Place::UntilCondition => Form::Until(branch(alloc, Some(list), None)?),
+        Place::UntilBody => Form::Until(branch(alloc, None, Some(list))?),
+        Place::ForBody => for_form(alloc, word, None, list)?,
+        Place::ForName => for_form(alloc, around(alloc, list)?, None, run(alloc)?)?,
+        Place::ForWord => for_form(alloc, word, Some(around(alloc, list)?), run(alloc)?)?,
+        Place::CaseWord => case_form(alloc, around(alloc, list)?, Vec::new(alloc)),
+        Place::Pattern => {
+            let item = case_item(alloc, around(alloc, list)?, run(alloc)?)?;
+            case_form(alloc, word, script.cases(item)?)
+        }
+        Place::SecondPattern => {
+            let mut item = case_item(alloc, script.word(""), run(alloc)?)?;
+            item.patterns.push(around(alloc, list)?)?;
+            case_form(alloc, word, script.cases(item)?)
+        }
+        Place::SecondCase => {
+            let mut items = script.cases(case_item(alloc, script.word(""), run(alloc)?)?)?;
+            items.push(case_item(alloc, script.word(""), list)?)?;
+            case_form(alloc, word, items)
+        }
+        Place::CaseBody => {
+            let item = case_item(alloc, script.word(""), list)?;
+            case_form(alloc, word, script.cases(item)?)
+        }
+        _ => Form::Brace(list),
+    })
+}
+
+fn in_command(alloc: Global, place: Place, list: List) -> Result<Command, AllocError> {
+    let script = script(alloc);
+    Ok(match place {
+        Place::Assign => {
+            let item = script.assignment(around(alloc, list)?);
+            simple_of(script.one(item)?)
+        }
+        Place::Argument => simple(alloc, around(alloc, list)?)?,
+        Place::SecondItem => {
+            let mut items = script.arguments(&["a"])?;
+            items.push(argument_of(around(alloc, list)?, true))?;
+            simple_of(items)
+        }
+        Place::Redirect => {
+            let item = script.redirect("", "", around(alloc, list)?);
+            simple_of(script.one(item)?)
+        }
+        Place::RedirectBehindCompound => {
+            let mut compound = script.formed(Form::Brace(run(alloc)?), "");
+            compound
+                .redirects
+                .push(script.redirect("", "", around(alloc, list)?))?;
+            script.boxed(compound)?
+        }
+        Place::FunctionBody => {
+            let word = around(alloc, list)?;
+            let body = script.list(simple(alloc, word)?)?;
+            Command::Function {
+                name: script.at(""),
+                comments: Vec::new(alloc),
+                body: Box::new(alloc, script.formed(Form::Brace(body), ""))?,
+            }
+        }
+        _ => script.compound(in_form(alloc, place, list)?, "")?,
+    })
+}
+
+fn in_script(alloc: Global, place: Place, list: List) -> Result<List, AllocError> {
+    let script = script(alloc);
+    match place {
+        Place::SecondCommand => {
+            let join = script.join(false, &[])?;
+            let rest = script.piped(join, simple(alloc, around(alloc, list)?)?)?;
+            let pipeline = pipeline_of(None, script.simple(&["a"])?, rest);
+            script.only(command_entry(script.operand(pipeline), false, false, None))
+        }
+        Place::SecondPipeline => {
+            let join = script.join(false, &[])?;
+            let rest = script.joined(join, simple(alloc, around(alloc, list)?)?)?;
+            let first = pipeline_of(None, script.simple(&["a"])?, Vec::new(alloc));
+            script.only(command_entry(and_or_of(first, rest), false, false, None))
+        }
+        Place::SecondEntry => {
+            let mut entries = Vec::new(alloc);
+            entries.push(script.entry(script.simple(&["a"])?))?;
+            let word = around(alloc, list)?;
+            let and_or = script.alone(simple(alloc, word)?);
+            entries.push(command_entry(and_or, true, true, None))?;
+            Ok(list_of(entries))
+        }
+        _ => script.list(in_command(alloc, place, list)?),
+    }
+}
+
+fn judge(
+    rt: &impl Abort,
+    alloc: Global,
+    place: Place,
+    list: List,
+    normal: bool,
+) -> Result<(), Fail> {
+    let script = in_script(alloc, place, list)?;
+    assert!(rt; is_normal(&script) == normal, "{place:?}");
+    Ok(())
+}
+
+/// The first entry is blank.
+fn blank(alloc: Global) -> Result<List, AllocError> {
+    let script = script(alloc);
+    let and_or = script.alone(script.simple(&["a"])?);
+    script.only(command_entry(and_or, false, true, None))
+}
+
+/// The first item of a simple command is broken.
+fn broken(alloc: Global) -> Result<List, AllocError> {
+    let script = script(alloc);
+    let items = script.one(argument_of(script.word(""), true))?;
+    script.list(simple_of(items))
+}
+
+#[test]
+fn a_list_in_each_place(rt: HostRuntime) -> Result<(), Fail> {
+    let alloc = rt.alloc();
+    for place in PLACES {
+        judge(&rt, alloc, place, run(alloc)?, true)?;
+        judge(&rt, alloc, place, blank(alloc)?, false)?;
+        judge(&rt, alloc, place, broken(alloc)?, false)?;
+        let may_be_empty = !place.wants_command();
+        judge(&rt, alloc, place, list_of(Vec::new(alloc)), may_be_empty)?;
+        let remark = script(alloc).remark("")?;
+        judge(&rt, alloc, place, remark, may_be_empty)?;
+    }
+    Ok(())
+}
+
+#[test]
+fn a_command_behind_a_comment(rt: HostRuntime) -> Result<(), Fail> {
+    let alloc = rt.alloc();
+    let script = script(alloc);
+    for place in PLACES {
+        let mut list = script.remark("")?;
+        list.entries.push(script.entry(script.simple(&["a"])?))?;
+        judge(&rt, alloc, place, list, true)?;
+    }
+    Ok(())
+}
+
+#[test]
+fn the_list_of_a_script(rt: HostRuntime) -> Result<(), Fail> {
+    let alloc = rt.alloc();
+    assert!(rt; is_normal(&list_of(Vec::new(alloc))));
+    assert!(rt; is_normal(&run(alloc)?));
+    assert!(rt; is_normal(&script(alloc).remark("")?));
+    assert!(rt; !is_normal(&blank(alloc)?));
+    assert!(rt; !is_normal(&broken(alloc)?));
+    Ok(())
+}
+
+/// A comment on a line of its own, as no maker makes it.
+fn remark(alloc: Global, background: bool, comment: Option<Comment>) -> Result<List, AllocError> {
+    let script = script(alloc);
+    script.only(Entry {
+        what: Content::Comment(script.comment("")),
+        background,
+        blank: false,
+        comment,
+    })
+}
+
+#[test]
+fn a_comment_alone(rt: HostRuntime) -> Result<(), Fail> {
+    let alloc = rt.alloc();
+    let comment = script(alloc).comment("");
+    assert!(rt; is_normal(&remark(alloc, false, None)?));
+    assert!(rt; !is_normal(&remark(alloc, true, None)?));
+    assert!(rt; !is_normal(&remark(alloc, false, Some(comment))?));
+    Ok(())
+}
+
+fn piped(alloc: Global, join: Join) -> Result<List, AllocError> {
+    let script = script(alloc);
+    let rest = script.piped(join, script.simple(&["a"])?)?;
+    let pipeline = pipeline_of(None, script.simple(&["a"])?, rest);
+    script.only(command_entry(script.operand(pipeline), false, false, None))
+}
+
+fn joined(alloc: Global, join: Join) -> Result<List, AllocError> {
+    let script = script(alloc);
+    let rest = script.joined(join, script.simple(&["a"])?)?;
+    let first = pipeline_of(None, script.simple(&["a"])?, Vec::new(alloc));
+    script.only(command_entry(and_or_of(first, rest), false, false, None))
+}
+
+#[test]
+fn comments_of_a_join(rt: HostRuntime) -> Result<(), Fail> {
+    let alloc = rt.alloc();
+    let script = script(alloc);
+    for broken in [false, true] {
+        assert!(rt; is_normal(&piped(alloc, script.join(broken, &[])?)?));
+        assert!(rt; is_normal(&joined(alloc, script.join(broken, &[])?)?));
+        assert!(rt; is_normal(&piped(alloc, script.join(broken, &["# a"])?)?) == broken);
+        assert!(rt; is_normal(&joined(alloc, script.join(broken, &["# a"])?)?) == broken);
+    }
+    Ok(())
+}
+
+#[test]
+fn the_first_word_of_a_for(rt: HostRuntime) -> Result<(), Fail> {
+    let alloc = rt.alloc();
+    let script = script(alloc);
+    for (first, second, normal) in [(false, true, true), (true, false, false)] {
+        let mut words = script.one(argument_of(script.word(""), first))?;
+        words.push(argument_of(script.word(""), second))?;
+        let form = Form::For {
+            name: script.word(""),
+            words: Some(words),
+            body: run(alloc)?,
+        };
+        assert!(rt; is_normal(&script.list(script.compound(form, "")?)?) == normal);
+    }
+    Ok(())
+}

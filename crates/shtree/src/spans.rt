@@ -1,0 +1,116 @@
+//! Where the parts of a script stand that have no span of their own.
+ghost use Rattle.std.specs.Prelude.{◌≡◌, map};
+ghost use Rattle.shtree.specs.Tree.{and_or_parts_of, items_of, pipeline_parts_of};
+ghost use Rattle.shtree.specs.Nodes.{and_or_span, command_span, compound_span, item_span, items_span, last_command, last_item, last_pipeline, pipeline_span, through};
+ghost use Rattle.shtree.specs.View.{view_and_or, view_and_or_part, view_command, view_compound, view_item, view_pipeline, view_pipeline_part};
+
+use crate::tree::{
+    AndOr, AndOrPart, Command, Compound, Item, ItemContent, Pipeline, PipelinePart, Span,
+};
+
+impl Span {
+    /// From where this one begins to where the other ends.
+    pub(crate) fn through(self, last: Span) -> Span
+        ensures { result ≡ through self last }
+    {
+        Span {
+            start: self.start,
+            end: last.end,
+        }
+    }
+}
+
+pub(crate) fn item_span(item: &Item) -> Span
+    ensures { result ≡ item_span (view_item item.now) }
+{
+    match &item.what {
+        ItemContent::Assign(word) | ItemContent::Word(word) => word.span,
+        ItemContent::Redirect {
+            number,
+            span,
+            word,
+            ..
+        } => number.unwrap_or(*span).through(word.span),
+    }
+}
+
+/// The last of these items; where there is none, what stands before them.
+fn last_item(before: Span, items: &[Item]) -> Span
+    ensures { result ≡ last_item before (items_of (map view_item items.now)) }
+{
+    match items.last() {
+        Some(item) => item_span(item),
+        None => before,
+    }
+}
+
+/// From the first item to the last. A simple command has an item.
+pub(crate) fn items_span(items: &[Item]) -> Span
+    ensures { result ≡ items_span (items_of (map view_item items.now)) }
+{
+    match items.split_first() {
+        Some((first, rest)) => {
+            let first = item_span(first);
+            first.through(last_item(first, rest))
+        }
+        None => Span { start: 0, end: 0 },
+    }
+}
+
+/// From its opener to its closer, or to the last redirection behind that.
+pub(crate) fn compound_span(compound: &Compound) -> Span
+    ensures { result ≡ compound_span (view_compound compound.now) }
+{
+    compound
+        .span
+        .through(last_item(compound.span, &compound.redirects))
+}
+
+fn command_span(command: &Command) -> Span
+    ensures { result ≡ command_span (view_command command.now) }
+{
+    match command {
+        Command::Simple { items } => items_span(items),
+        Command::Compound(compound) => compound_span(compound),
+        Command::Function { name, body, .. } => name.through(compound_span(body)),
+    }
+}
+
+/// The last of these commands; where there is none, what stands before them.
+fn last_command(before: Span, parts: &[PipelinePart]) -> Span
+    ensures { result ≡ last_command before (pipeline_parts_of (map view_pipeline_part parts.now)) }
+{
+    match parts.last() {
+        Some(part) => command_span(&part.command),
+        None => before,
+    }
+}
+
+/// From its `!`, where it has one, to its last command.
+pub(crate) fn pipeline_span(pipeline: &Pipeline) -> Span
+    ensures { result ≡ pipeline_span (view_pipeline pipeline.now) }
+{
+    let first = command_span(&pipeline.first);
+    pipeline
+        .bang
+        .unwrap_or(first)
+        .through(last_command(first, &pipeline.rest))
+}
+
+/// The last of these pipelines; where there is none, what stands before them.
+fn last_pipeline(before: Span, parts: &[AndOrPart]) -> Span
+    ensures { result ≡ last_pipeline before (and_or_parts_of (map view_and_or_part parts.now)) }
+{
+    match parts.last() {
+        Some(part) => pipeline_span(&part.pipeline),
+        None => before,
+    }
+}
+
+/// From its first pipeline to its last.
+pub(crate) fn and_or_span(and_or: &AndOr) -> Span
+    ensures { result ≡ and_or_span (view_and_or and_or.now) }
+{
+    let first = pipeline_span(&and_or.first);
+    first.through(last_pipeline(first, &and_or.rest))
+}

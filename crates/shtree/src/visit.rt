@@ -1,0 +1,506 @@
+//! The walk over a tree that gathers its nodes. Each function adds the nodes of one part of a script: itself, and then what it holds
+//! from left to right.
+#![tactic(auto, using(crate::proofs::Gathering::gathered_append, crate::proofs::Gathering::gathered_none))]
+
+ghost use Rattle.std.specs.Prelude.{◌≡◌, [], ◌∷◌, ◌++◌, Bool, IfOk, map};
+ghost use Rattle.std.specs.Option.{option_to_list};
+ghost use Rattle.shtree.specs.Gathered.{gathered};
+ghost use Rattle.shtree.specs.declared.nodes.NodeLine.{NodeLine};
+ghost use Rattle.shtree.specs.Nodes.{and_or_node, and_or_nodes, and_or_parts_nodes, branch_nodes, branches_nodes, case_nodes, cases_nodes, command_nodes, comment_node, compound_nodes, content_nodes, entries_nodes, entry_nodes, form_node, form_nodes, item_nodes, items_nodes, patterns_nodes, pipeline_node, pipeline_nodes, pipes_nodes, subst_nodes, substs_nodes, word_nodes};
+ghost use Rattle.shtree.specs.Tree.{and_or_parts_of, branches_of, cases_of, entries_of, items_of, patterns_of, pipeline_parts_of, substs_of};
+ghost use Rattle.shtree.specs.View.{view_and_or, view_and_or_part, view_branch, view_case_item, view_command, view_compound, view_content, view_entry, view_form, view_item, view_list, view_pipeline, view_pipeline_part, view_subst, view_word};
+
+use crate::nodes::{NodeKind, NodeLine};
+use crate::spans::{and_or_span, compound_span, item_span, items_span, pipeline_span};
+use crate::tree::{
+    AndOr, AndOrPart, Branch, CaseItem, Command, Comment, Compound, Content, Entry, Form, Item,
+    ItemContent, List, Pipeline, PipelinePart, Span, Subst, Word,
+};
+use std::alloc::AllocError;
+
+/// Which nodes are asked for.
+pub(crate) trait Wanted: Copy {
+    ghost is_wanted: { Self → NodeLine → Bool };
+
+    fn wants(self, line: &NodeLine) -> bool
+        ensures { result ≡ is_wanted self line.now };
+}
+
+/// Adds a node, if it is wanted.
+#[tactic(auto, using(crate::proofs::Gathering::gathered_wanted, crate::proofs::Gathering::gathered_unwanted))]
+fn add<W: Wanted>(line: NodeLine, wanted: W, lines: &mut Vec<NodeLine>) -> Result<(), AllocError>
+    ensures { IfOk result (λ _. lines.new.items ≡ gathered (W.is_wanted wanted) lines.old.items (line ∷ [])) }
+{
+    if wanted.wants(&line) {
+        lines.push(line)?;
+    }
+    Ok(())
+}
+
+fn add_comment<W: Wanted>(
+    comment: &Comment,
+    wanted: W,
+    lines: &mut Vec<NodeLine>,
+) -> Result<(), AllocError>
+    ensures { IfOk result (λ _. lines.new.items ≡ gathered (W.is_wanted wanted) lines.old.items (comment_node comment.now ∷ [])) }
+{
+    add(
+        NodeLine::new(NodeKind::Comment, comment.span),
+        wanted,
+        lines,
+    )
+}
+
+/// The comment behind a command on its line, where there is one.
+fn add_own_comment<W: Wanted>(
+    comment: &Option<Comment>,
+    wanted: W,
+    lines: &mut Vec<NodeLine>,
+) -> Result<(), AllocError>
+    ensures { IfOk result (λ _. lines.new.items ≡ gathered (W.is_wanted wanted) lines.old.items (map comment_node (option_to_list comment.now))) }
+{
+    match comment {
+        Some(comment) => add_comment(comment, wanted, lines),
+        None => Ok(()),
+    }
+}
+
+#[tactic(auto, using(crate::proofs::Gathering::gathered_append, crate::proofs::Gathering::gathered_none, crate::proofs::Gathering::from_end, crate::proofs::Gathering::nodes_are))]
+fn add_comments<W: Wanted>(
+    comments: &[Comment],
+    wanted: W,
+    lines: &mut Vec<NodeLine>,
+) -> Result<(), AllocError>
+    ensures { IfOk result (λ _. lines.new.items ≡ gathered (W.is_wanted wanted) lines.old.items (map comment_node comments.now)) }
+{
+    for comment in comments {
+        add_comment(comment, wanted, lines)?;
+    }
+    Ok(())
+}
+
+/// An and-or list is a node where an operator joins pipelines.
+fn add_and_or<W: Wanted>(
+    and_or: &AndOr,
+    wanted: W,
+    lines: &mut Vec<NodeLine>,
+) -> Result<(), AllocError>
+    ensures { IfOk result (λ _. lines.new.items ≡ gathered (W.is_wanted wanted) lines.old.items (and_or_node (view_and_or and_or.now))) }
+{
+    if and_or.rest.is_empty() {
+        return Ok(());
+    }
+    add(
+        NodeLine::new(NodeKind::AndOr, and_or_span(and_or)),
+        wanted,
+        lines,
+    )
+}
+
+/// A pipeline is a node where `!` stands before it or `|` joins commands.
+fn add_pipeline<W: Wanted>(
+    pipeline: &Pipeline,
+    wanted: W,
+    lines: &mut Vec<NodeLine>,
+) -> Result<(), AllocError>
+    ensures { IfOk result (λ _. lines.new.items ≡ gathered (W.is_wanted wanted) lines.old.items (pipeline_node (view_pipeline pipeline.now))) }
+{
+    if pipeline.bang.is_none() && pipeline.rest.is_empty() {
+        return Ok(());
+    }
+    add(
+        NodeLine::new(NodeKind::Pipeline, pipeline_span(pipeline)),
+        wanted,
+        lines,
+    )
+}
+
+/// The node of a compound command of this form.
+fn form_line(form: &Form, span: Span) -> NodeLine
+    ensures { result ≡ form_node (view_form form.now) span }
+{
+    let kind = match form {
+        Form::For { name, .. } => return NodeLine::named(NodeKind::For, span, name.span),
+        Form::Brace(_) => NodeKind::Brace,
+        Form::Subshell(_) => NodeKind::Subshell,
+        Form::If { .. } => NodeKind::If,
+        Form::While(_) => NodeKind::While,
+        Form::Until(_) => NodeKind::Until,
+        Form::Case { .. } => NodeKind::Case,
+    };
+    NodeLine::new(kind, span)
+}
+
+#[cycle(visit)]
+pub(crate) fn visit_list<W: Wanted>(
+    list: &List,
+    wanted: W,
+    lines: &mut Vec<NodeLine>,
+) -> Result<(), AllocError>
+    ensures { IfOk result (λ _. lines.new.items ≡ gathered (W.is_wanted wanted) lines.old.items (entries_nodes (view_list list.now))) }
+{
+    visit_entries(&list.entries, wanted, lines)
+}
+
+#[cycle(visit)]
+#[tactic(auto, using(crate::proofs::Gathering::gathered_append, crate::proofs::Gathering::gathered_none, crate::proofs::Gathering::from_end, crate::proofs::Gathering::entries_are))]
+fn visit_entries<W: Wanted>(
+    entries: &[Entry],
+    wanted: W,
+    lines: &mut Vec<NodeLine>,
+) -> Result<(), AllocError>
+    ensures { IfOk result (λ _. lines.new.items ≡ gathered (W.is_wanted wanted) lines.old.items (entries_nodes (entries_of (map view_entry entries.now)))) }
+{
+    for entry in entries {
+        visit_entry(entry, wanted, lines)?;
+    }
+    Ok(())
+}
+
+#[cycle(visit)]
+fn visit_entry<W: Wanted>(
+    entry: &Entry,
+    wanted: W,
+    lines: &mut Vec<NodeLine>,
+) -> Result<(), AllocError>
+    ensures { IfOk result (λ _. lines.new.items ≡ gathered (W.is_wanted wanted) lines.old.items (entry_nodes (view_entry entry.now))) }
+{
+    visit_content(&entry.what, wanted, lines)?;
+    add_own_comment(&entry.comment, wanted, lines)
+}
+
+#[cycle(visit)]
+fn visit_content<W: Wanted>(
+    content: &Content,
+    wanted: W,
+    lines: &mut Vec<NodeLine>,
+) -> Result<(), AllocError>
+    ensures { IfOk result (λ _. lines.new.items ≡ gathered (W.is_wanted wanted) lines.old.items (content_nodes (view_content content.now))) }
+{
+    match content {
+        Content::AndOr(and_or) => visit_and_or(and_or, wanted, lines),
+        Content::Comment(comment) => add_comment(comment, wanted, lines),
+    }
+}
+
+#[cycle(visit)]
+fn visit_and_or<W: Wanted>(
+    and_or: &AndOr,
+    wanted: W,
+    lines: &mut Vec<NodeLine>,
+) -> Result<(), AllocError>
+    ensures { IfOk result (λ _. lines.new.items ≡ gathered (W.is_wanted wanted) lines.old.items (and_or_nodes (view_and_or and_or.now))) }
+{
+    add_and_or(and_or, wanted, lines)?;
+    visit_pipeline(&and_or.first, wanted, lines)?;
+    visit_and_or_parts(&and_or.rest, wanted, lines)
+}
+
+#[cycle(visit)]
+#[tactic(auto, using(crate::proofs::Gathering::gathered_append, crate::proofs::Gathering::gathered_none, crate::proofs::Gathering::from_end, crate::proofs::Gathering::parts_are))]
+fn visit_and_or_parts<W: Wanted>(
+    parts: &[AndOrPart],
+    wanted: W,
+    lines: &mut Vec<NodeLine>,
+) -> Result<(), AllocError>
+    ensures { IfOk result (λ _. lines.new.items ≡ gathered (W.is_wanted wanted) lines.old.items (and_or_parts_nodes (and_or_parts_of (map view_and_or_part parts.now)))) }
+{
+    for part in parts {
+        visit_and_or_part(part, wanted, lines)?;
+    }
+    Ok(())
+}
+
+#[cycle(visit)]
+fn visit_and_or_part<W: Wanted>(
+    part: &AndOrPart,
+    wanted: W,
+    lines: &mut Vec<NodeLine>,
+) -> Result<(), AllocError>
+    ensures { IfOk result (λ _. lines.new.items ≡ gathered (W.is_wanted wanted) lines.old.items (map comment_node (view_and_or_part part.now).join.comments ++ pipeline_nodes (view_and_or_part part.now).pipeline)) }
+{
+    add_comments(&part.join.comments, wanted, lines)?;
+    visit_pipeline(&part.pipeline, wanted, lines)
+}
+
+#[cycle(visit)]
+fn visit_pipeline<W: Wanted>(
+    pipeline: &Pipeline,
+    wanted: W,
+    lines: &mut Vec<NodeLine>,
+) -> Result<(), AllocError>
+    ensures { IfOk result (λ _. lines.new.items ≡ gathered (W.is_wanted wanted) lines.old.items (pipeline_nodes (view_pipeline pipeline.now))) }
+{
+    add_pipeline(pipeline, wanted, lines)?;
+    visit_command(&pipeline.first, wanted, lines)?;
+    visit_pipes(&pipeline.rest, wanted, lines)
+}
+
+#[cycle(visit)]
+#[tactic(auto, using(crate::proofs::Gathering::gathered_append, crate::proofs::Gathering::gathered_none, crate::proofs::Gathering::from_end, crate::proofs::Gathering::pipes_are))]
+fn visit_pipes<W: Wanted>(
+    parts: &[PipelinePart],
+    wanted: W,
+    lines: &mut Vec<NodeLine>,
+) -> Result<(), AllocError>
+    ensures { IfOk result (λ _. lines.new.items ≡ gathered (W.is_wanted wanted) lines.old.items (pipes_nodes (pipeline_parts_of (map view_pipeline_part parts.now)))) }
+{
+    for part in parts {
+        visit_pipe(part, wanted, lines)?;
+    }
+    Ok(())
+}
+
+#[cycle(visit)]
+fn visit_pipe<W: Wanted>(
+    part: &PipelinePart,
+    wanted: W,
+    lines: &mut Vec<NodeLine>,
+) -> Result<(), AllocError>
+    ensures { IfOk result (λ _. lines.new.items ≡ gathered (W.is_wanted wanted) lines.old.items (map comment_node (view_pipeline_part part.now).join.comments ++ command_nodes (view_pipeline_part part.now).command)) }
+{
+    add_comments(&part.join.comments, wanted, lines)?;
+    visit_command(&part.command, wanted, lines)
+}
+
+#[cycle(visit)]
+fn visit_command<W: Wanted>(
+    command: &Command,
+    wanted: W,
+    lines: &mut Vec<NodeLine>,
+) -> Result<(), AllocError>
+    ensures { IfOk result (λ _. lines.new.items ≡ gathered (W.is_wanted wanted) lines.old.items (command_nodes (view_command command.now))) }
+{
+    match command {
+        Command::Simple { items } => {
+            add(
+                NodeLine::new(NodeKind::Simple, items_span(items)),
+                wanted,
+                lines,
+            )?;
+            visit_items(items, wanted, lines)
+        }
+        Command::Compound(compound) => visit_compound(compound, wanted, lines),
+        Command::Function {
+            name,
+            comments,
+            body,
+        } => {
+            let span = name.through(compound_span(body));
+            add(
+                NodeLine::named(NodeKind::Function, span, *name),
+                wanted,
+                lines,
+            )?;
+            add_comments(comments, wanted, lines)?;
+            visit_compound(body, wanted, lines)
+        }
+    }
+}
+
+#[cycle(visit)]
+fn visit_compound<W: Wanted>(
+    compound: &Compound,
+    wanted: W,
+    lines: &mut Vec<NodeLine>,
+) -> Result<(), AllocError>
+    ensures { IfOk result (λ _. lines.new.items ≡ gathered (W.is_wanted wanted) lines.old.items (compound_nodes (view_compound compound.now))) }
+{
+    add(
+        form_line(&compound.form, compound_span(compound)),
+        wanted,
+        lines,
+    )?;
+    visit_form(&compound.form, wanted, lines)?;
+    visit_items(&compound.redirects, wanted, lines)
+}
+
+#[cycle(visit)]
+fn visit_form<W: Wanted>(
+    form: &Form,
+    wanted: W,
+    lines: &mut Vec<NodeLine>,
+) -> Result<(), AllocError>
+    ensures { IfOk result (λ _. lines.new.items ≡ gathered (W.is_wanted wanted) lines.old.items (form_nodes (view_form form.now))) }
+{
+    match form {
+        Form::Brace(list) | Form::Subshell(list) => visit_list(list, wanted, lines),
+        Form::If {
+            first,
+            rest,
+            otherwise,
+        } => {
+            visit_branch(first, wanted, lines)?;
+            visit_branches(rest, wanted, lines)?;
+            match otherwise {
+                Some(list) => visit_list(list, wanted, lines),
+                None => Ok(()),
+            }
+        }
+        Form::While(branch) | Form::Until(branch) => visit_branch(branch, wanted, lines),
+        Form::For { name, words, body } => {
+            visit_word(name, wanted, lines)?;
+            match words {
+                Some(words) => visit_items(words, wanted, lines)?,
+                None => {}
+            }
+            visit_list(body, wanted, lines)
+        }
+        Form::Case { word, items, tail } => {
+            visit_word(word, wanted, lines)?;
+            visit_cases(items, wanted, lines)?;
+            add_comments(tail, wanted, lines)
+        }
+    }
+}
+
+#[cycle(visit)]
+fn visit_branch<W: Wanted>(
+    branch: &Branch,
+    wanted: W,
+    lines: &mut Vec<NodeLine>,
+) -> Result<(), AllocError>
+    ensures { IfOk result (λ _. lines.new.items ≡ gathered (W.is_wanted wanted) lines.old.items (branch_nodes (view_branch branch.now))) }
+{
+    visit_list(&branch.condition, wanted, lines)?;
+    visit_list(&branch.body, wanted, lines)
+}
+
+#[cycle(visit)]
+#[tactic(auto, using(crate::proofs::Gathering::gathered_append, crate::proofs::Gathering::gathered_none, crate::proofs::Gathering::from_end, crate::proofs::Gathering::branches_are))]
+fn visit_branches<W: Wanted>(
+    branches: &[Branch],
+    wanted: W,
+    lines: &mut Vec<NodeLine>,
+) -> Result<(), AllocError>
+    ensures { IfOk result (λ _. lines.new.items ≡ gathered (W.is_wanted wanted) lines.old.items (branches_nodes (branches_of (map view_branch branches.now)))) }
+{
+    for branch in branches {
+        visit_branch(branch, wanted, lines)?;
+    }
+    Ok(())
+}
+
+#[cycle(visit)]
+#[tactic(auto, using(crate::proofs::Gathering::gathered_append, crate::proofs::Gathering::gathered_none, crate::proofs::Gathering::from_end, crate::proofs::Gathering::cases_are))]
+fn visit_cases<W: Wanted>(
+    items: &[CaseItem],
+    wanted: W,
+    lines: &mut Vec<NodeLine>,
+) -> Result<(), AllocError>
+    ensures { IfOk result (λ _. lines.new.items ≡ gathered (W.is_wanted wanted) lines.old.items (cases_nodes (cases_of (map view_case_item items.now)))) }
+{
+    for item in items {
+        visit_case(item, wanted, lines)?;
+    }
+    Ok(())
+}
+
+#[cycle(visit)]
+fn visit_case<W: Wanted>(
+    item: &CaseItem,
+    wanted: W,
+    lines: &mut Vec<NodeLine>,
+) -> Result<(), AllocError>
+    ensures { IfOk result (λ _. lines.new.items ≡ gathered (W.is_wanted wanted) lines.old.items (case_nodes (view_case_item item.now))) }
+{
+    add(NodeLine::new(NodeKind::Item, item.span), wanted, lines)?;
+    add_comments(&item.comments, wanted, lines)?;
+    visit_patterns(&item.patterns, wanted, lines)?;
+    visit_list(&item.body, wanted, lines)
+}
+
+#[cycle(visit)]
+#[tactic(auto, using(crate::proofs::Gathering::gathered_append, crate::proofs::Gathering::gathered_none, crate::proofs::Gathering::from_end, crate::proofs::Gathering::patterns_are))]
+fn visit_patterns<W: Wanted>(
+    patterns: &[Word],
+    wanted: W,
+    lines: &mut Vec<NodeLine>,
+) -> Result<(), AllocError>
+    ensures { IfOk result (λ _. lines.new.items ≡ gathered (W.is_wanted wanted) lines.old.items (patterns_nodes (patterns_of (map view_word patterns.now)))) }
+{
+    for pattern in patterns {
+        visit_word(pattern, wanted, lines)?;
+    }
+    Ok(())
+}
+
+#[cycle(visit)]
+#[tactic(auto, using(crate::proofs::Gathering::gathered_append, crate::proofs::Gathering::gathered_none, crate::proofs::Gathering::from_end, crate::proofs::Gathering::items_are))]
+fn visit_items<W: Wanted>(
+    items: &[Item],
+    wanted: W,
+    lines: &mut Vec<NodeLine>,
+) -> Result<(), AllocError>
+    ensures { IfOk result (λ _. lines.new.items ≡ gathered (W.is_wanted wanted) lines.old.items (items_nodes (items_of (map view_item items.now)))) }
+{
+    for item in items {
+        visit_item(item, wanted, lines)?;
+    }
+    Ok(())
+}
+
+/// An assignment is one node, and no word besides. The body of a here-document is no node.
+#[cycle(visit)]
+fn visit_item<W: Wanted>(
+    item: &Item,
+    wanted: W,
+    lines: &mut Vec<NodeLine>,
+) -> Result<(), AllocError>
+    ensures { IfOk result (λ _. lines.new.items ≡ gathered (W.is_wanted wanted) lines.old.items (item_nodes (view_item item.now))) }
+{
+    match &item.what {
+        ItemContent::Assign(word) => {
+            add(NodeLine::new(NodeKind::Assign, word.span), wanted, lines)?;
+            visit_substs(&word.substs, wanted, lines)
+        }
+        ItemContent::Word(word) => visit_word(word, wanted, lines),
+        ItemContent::Redirect { word, .. } => {
+            add(
+                NodeLine::new(NodeKind::Redirect, item_span(item)),
+                wanted,
+                lines,
+            )?;
+            visit_word(word, wanted, lines)
+        }
+    }
+}
+
+#[cycle(visit)]
+fn visit_word<W: Wanted>(
+    word: &Word,
+    wanted: W,
+    lines: &mut Vec<NodeLine>,
+) -> Result<(), AllocError>
+    ensures { IfOk result (λ _. lines.new.items ≡ gathered (W.is_wanted wanted) lines.old.items (word_nodes (view_word word.now))) }
+{
+    add(NodeLine::new(NodeKind::Word, word.span), wanted, lines)?;
+    visit_substs(&word.substs, wanted, lines)
+}
+
+#[cycle(visit)]
+#[tactic(auto, using(crate::proofs::Gathering::gathered_append, crate::proofs::Gathering::gathered_none, crate::proofs::Gathering::from_end, crate::proofs::Gathering::substs_are))]
+fn visit_substs<W: Wanted>(
+    substs: &[Subst],
+    wanted: W,
+    lines: &mut Vec<NodeLine>,
+) -> Result<(), AllocError>
+    ensures { IfOk result (λ _. lines.new.items ≡ gathered (W.is_wanted wanted) lines.old.items (substs_nodes (substs_of (map view_subst substs.now)))) }
+{
+    for subst in substs {
+        visit_subst(subst, wanted, lines)?;
+    }
+    Ok(())
+}
+
+#[cycle(visit)]
+fn visit_subst<W: Wanted>(
+    subst: &Subst,
+    wanted: W,
+    lines: &mut Vec<NodeLine>,
+) -> Result<(), AllocError>
+    ensures { IfOk result (λ _. lines.new.items ≡ gathered (W.is_wanted wanted) lines.old.items (subst_nodes (view_subst subst.now))) }
+{
+    add(NodeLine::new(NodeKind::Subst, subst.span), wanted, lines)?;
+    visit_list(&subst.list, wanted, lines)
+}
