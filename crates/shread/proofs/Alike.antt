@@ -18,14 +18,14 @@ use Rattle.shtree.specs.declared.tree.AndOrOperator.{AndOrOperator}
 use Rattle.shtree.specs.Tree.{AJoin, ASubst, AnEntry}
 use Rattle.shread.specs.Comments.{span}
 use Rattle.shread.specs.Sights.{Given, State, Sight, seen, the_piece, Move}
-use Rattle.shread.specs.Form.{Read, ◌▸◌, Form, give, see, move, push, stop, both, when, token, many, ◌>>=◌, Step, again, done, step_if, leads_on, turns, does}
+use Rattle.shread.specs.Form.{Spelled, Told, Read, ◌▸◌, Form, give, see, move, push, stop, both, when, token, many, ◌>>=◌, Step, again, done, step_if, leads_on, turns, does}
 use Rattle.shread.specs.Words.{single, backquote_turn, backquoted, Inner, Held, having, opened, piece_row, a_piece, contents, a_word}
 use Rattle.shread.specs.Levels.{level}
 use Rattle.shread.specs.Tokens.{is_end}
 use Rattle.shread.specs.Commands.{pick, is_newline, is_pipe, is_bang, begins_simple, begins_pipeline, opener_of, compound_by, and_or_operator_of, next_token, Items, so_many, behind_item, an_item, item_by, item_turn, a_simple, comment_by, a_comment, a_newline, what_is_wrong, unexpected, JoinSo, join_so, with_comment, join_turn, a_join, a_command, a_bang, Piped, piped, one_command, pipe_turn, a_pipeline, Joined, joined_so, one_pipeline, joined_by, join_pipeline, an_and_or, separator_of, separator_by, a_separator, is_parted, Entered, an_entry}
 use Rattle.shread.specs.Lines.{end_of_line, a_line}
 use Rattle.shread.specs.Lists.{Listed, ListSo, list_so, none_listed, with_command, next_line, one_entry, entry_turn, remark_by, a_remark, on_line, list_turn, a_list}
-use Rattle.shread.specs.Compounds.{is_closing, is_open_paren, is_close_paren, passed, closing, Closed, closed, a_branch, Branched, branched, elif_turn, an_else, an_if, a_loop, a_brace, a_subshell, a_form, a_compound}
+use Rattle.shread.specs.Compounds.{is_closing, is_open_paren, is_close_paren, passed, closing, Closed, closed, a_branch, Branched, branched, elif_turn, an_else, an_if, a_loop, a_group, a_form, a_compound}
 use Rattle.shread.proofs.Turns.{turns_on, turns_rest, turns_done, turns_fault}
 
 -- both give something, of which S holds, and end in one state; or both stop with one fault
@@ -124,8 +124,8 @@ module _ (g : Given) where
   token_like S R s (Err e) (Ok (y, t)) like so = absurd like
   token_like S R s (Err e) (Err e') like so = like
 
-  pub alike_token : {X Y : Type 0} {S : X → Y → Type 0} {R : X × Span → Y × Span → Type 0} {r : Form X} {q : Form Y} → Alike S r q → ((a : X) (b : Y) (z : Span) → S a b → R (a, z) (b, z))
-      → Alike R (token r) (token q)
+  pub alike_token : {X Y : Type 0} {S : X → Y → Type 0} {R : X × Span → Y × Span → Type 0} {how : Told} {r : Form X} {q : Form Y} → Alike S r q → ((a : X) (b : Y) (z : Span) → S a b → R (a, z) (b, z))
+      → Alike R (token how r) (token how q)
   alike_token {S = S} {R = R} {r = r} {q = q} one so = record { like = λ s. token_like S R s (does r true g s) (does q false g s) (one.like s) so }
 
   module _ {A B : Type 0} (S : A → B → Type 0) (turn : A → Form (Step A)) (turn2 : B → Form (Step B)) (each : (a : A) (b : B) → S a b → Alike (SameStep S) (turn a) (turn2 b)) where
@@ -228,6 +228,10 @@ module _ (g : Given) where
 
     -- ---- commands and lines
 
+    -- an operator, told in whatever way
+    alike_mark : {how : Told} {m : Move} → Alike All (token how (move m)) (token how (move m))
+    alike_mark = alike_token {R = All} (alike_move {S = All} tt) (λ a b z so. tt)
+
     alike_next : (position : Position) → Alike (λ n m. n ≡ m) (next_token position) (next_token position)
     unfolding next_token
     alike_next position = alike_see (λ n. alike_on (alike_give refl))
@@ -309,7 +313,7 @@ module _ (g : Given) where
     alike_bang : (n : Next) → Alike SameNext (a_bang n) (a_bang n)
     unfolding a_bang
     alike_bang n =
-        alike_pick (is_bang n.token) _ refl (alike_then (alike_token {R = All} (alike_move {S = All} tt) (λ a b z so. tt)) (λ x y so. alike_then (alike_next _) (λ m k same. alike_give same))) (alike_give refl)
+        alike_pick (is_bang n.token) _ refl (alike_then alike_mark (λ x y so. alike_then (alike_next _) (λ m k same. alike_give same))) (alike_give refl)
 
     abbrev SamePiped : Piped → Piped → Type 0
     SamePiped p q = p.next ≡ q.next
@@ -317,7 +321,7 @@ module _ (g : Given) where
     alike_one_command : (p q : Piped) → Alike (SameStep SamePiped) (one_command inner p) (one_command inner q)
     unfolding one_command
     alike_one_command p q =
-        alike_on (alike_then (alike_join p.next.broken q.next.broken) (λ j k so. alike_then (alike_at (a_command inner) alike_command j.1 k.1 so) (λ c d so'. alike_pushed (alike_give so'))))
+        alike_then alike_mark (λ x y all. alike_then (alike_join p.next.broken q.next.broken) (λ j k so. alike_then (alike_at (a_command inner) alike_command j.1 k.1 so) (λ c d so'. alike_pushed (alike_give so'))))
 
     alike_pipe_turn : (p q : Piped) → SamePiped p q → Alike (SameStep SamePiped) (pipe_turn inner p) (pipe_turn inner q)
     unfolding pipe_turn
@@ -335,7 +339,8 @@ module _ (g : Given) where
     alike_one_pipeline : (a b : Joined) (o : AndOrOperator) → Alike (SameStep SameJoined) (one_pipeline inner a o) (one_pipeline inner b o)
     unfolding one_pipeline
     alike_one_pipeline a b o =
-        alike_on (alike_on (alike_then (alike_join a.next.broken b.next.broken) (λ j k so. alike_then (alike_at (a_pipeline inner) alike_pipeline j.1 k.1 so) (λ p q so'. alike_pushed (alike_give so')))))
+        alike_then (alike_token {R = All} (alike_on (alike_move {S = All} tt)) (λ x y z so. tt)) (λ x y all. alike_then (alike_join a.next.broken b.next.broken)
+        (λ j k so. alike_then (alike_at (a_pipeline inner) alike_pipeline j.1 k.1 so) (λ p q so'. alike_pushed (alike_give so'))))
 
     alike_joined_by : (a b : Joined) (o : Option AndOrOperator) → SameJoined a b → Alike (SameStep SameJoined) (joined_by inner a o) (joined_by inner b o)
     alike_joined_by a b (Some o) same = alike_one_pipeline a b o
@@ -352,7 +357,7 @@ module _ (g : Given) where
         alike_then (alike_pipeline n) (λ p q same. alike_then (alike_many SameJoined (join_pipeline inner) (join_pipeline inner) alike_join_pipeline (joined_so [] p.1) (joined_so [] q.1) same) (λ a b so. alike_give so))
 
     alike_separator_by : (n : Next) (s : Option Separator) → Alike (λ x y. x ≡ y) (separator_by n s) (separator_by n s)
-    alike_separator_by n (Some s) = alike_on (alike_then (alike_next _) (λ m k same. alike_give (ap (λ z. (Some s, z)) same)))
+    alike_separator_by n (Some s) = alike_then alike_mark (λ x y all. alike_then (alike_next _) (λ m k same. alike_give (ap (λ z. (Some s, z)) same)))
     alike_separator_by n None = alike_give refl
 
     alike_separator : (n m : Next) → n ≡ m → Alike (λ x y. x ≡ y) (a_separator n) (a_separator m)
@@ -414,14 +419,14 @@ module _ (g : Given) where
         alike_then (alike_many SameList (list_turn inner) (list_turn inner) alike_list_turn (list_so (none_listed false) n) (list_so (none_listed false) n) (refl, refl))
         (λ l m same. alike_pick _ _ same.0 (alike_give same.1) (alike_at (unexpected inner) alike_unexpected l.next m.next same.1))
 
-    alike_passed : (paren : Bool) → Alike (λ x y. x ≡ y) (passed paren) (passed paren)
+    alike_passed : (text : Spelled) (paren : Bool) → Alike (λ x y. x ≡ y) (passed text paren) (passed text paren)
     unfolding passed
-    alike_passed paren =
+    alike_passed text paren =
         alike_then (alike_token {R = λ x y. x ≡ y} (alike_move {S = All} tt) (λ a b z so. refl)) (λ x y so. rw (← so) (alike_then (alike_next _) (λ m k same. alike_give (ap (λ z. (x.1, z)) same))))
 
     alike_closing : (c : Closing) (n : Next) → Alike (λ x y. x ≡ y) (closing inner c n) (closing inner c n)
     unfolding closing
-    alike_closing c n = alike_pick (is_closing c n.token) _ refl (alike_passed (is_close_paren c)) (alike_unexpected n)
+    alike_closing c n = alike_pick (is_closing c n.token) _ refl (alike_passed _ (is_close_paren c)) (alike_unexpected n)
 
     -- what was read last, and the token behind it
     abbrev SameClosed : {X : Type 0} → Closed X → Closed X → Type 0
@@ -445,14 +450,14 @@ module _ (g : Given) where
     unfolding elif_turn
     alike_elif b c same =
         alike_pick _ _ (ap (λ (n : Next). is_closing closings.Elif n.token) same)
-        (alike_then (alike_passed false) (λ k m so. alike_then (alike_at (a_branch inner) alike_branch k.1 m.1 (ap (λ (z : Span × Next). z.1) so)) (λ x y so'. alike_pushed (alike_give so'))))
+        (alike_then (alike_passed _ false) (λ k m so. alike_then (alike_at (a_branch inner) alike_branch k.1 m.1 (ap (λ (z : Span × Next). z.1) so)) (λ x y so'. alike_pushed (alike_give so'))))
         (alike_give same)
 
     alike_else : (n : Next) → Alike SameNext (an_else inner n) (an_else inner n)
     unfolding an_else
     alike_else n =
         alike_pick (is_closing closings.Else n.token) _ refl
-        (alike_then (alike_passed false) (λ k m so. alike_then (alike_at (a_list inner) alike_list k.1 m.1 (ap (λ (z : Span × Next). z.1) so)) (λ x y so'. alike_give so')))
+        (alike_then (alike_passed _ false) (λ k m so. alike_then (alike_at (a_list inner) alike_list k.1 m.1 (ap (λ (z : Span × Next). z.1) so)) (λ x y so'. alike_give so')))
         (alike_give refl)
 
     alike_if : (n : Next) → Alike SameClosed (an_if inner n) (an_if inner n)
@@ -467,10 +472,13 @@ module _ (g : Given) where
         alike_then (alike_list n) (λ c d same. alike_then (alike_at (closing inner closings.Do) (alike_closing closings.Do) c.1 d.1 same)
         (λ t u so. alike_then (alike_at (a_list inner) alike_list t.1 u.1 (ap (λ (z : Span × Next). z.1) so)) (λ b e so'. alike_closed _ _ closings.Done b.1 e.1 so')))
 
+    alike_group : (c : Closing) (n : Next) → Alike SameClosed (a_group inner c n) (a_group inner c n)
+    unfolding a_group
+    alike_group c n = alike_then (alike_list n) (λ l m same. alike_closed _ _ c l.1 m.1 same)
+
     alike_form : (o : Opener) (n : Next) → Alike SameClosed (a_form inner o n) (a_form inner o n)
-    unfolding a_brace a_subshell
-    alike_form openers.Brace n = alike_then (alike_list n) (λ l m same. alike_closed _ _ closings.Brace l.1 m.1 same)
-    alike_form openers.Paren n = alike_then (alike_list n) (λ l m same. alike_closed _ _ closings.Paren l.1 m.1 same)
+    alike_form openers.Brace n = alike_then (alike_group closings.Brace n) (λ l m same. alike_give same)
+    alike_form openers.Paren n = alike_then (alike_group closings.Paren n) (λ l m same. alike_give same)
     alike_form openers.If n = alike_if n
     alike_form openers.While n = alike_then (alike_loop n) (λ l m same. alike_give same)
     alike_form openers.Until n = alike_then (alike_loop n) (λ l m same. alike_give same)
@@ -478,7 +486,7 @@ module _ (g : Given) where
     pub alike_compound : (o : Opener) → Alike SameNext (a_compound inner o) (a_compound inner o)
     unfolding a_compound
     alike_compound o =
-        alike_then (alike_passed (is_open_paren o)) (λ x y so. alike_then (alike_at (a_form inner o) (alike_form o) x.1 y.1 (ap (λ (z : Span × Next). z.1) so)) (λ f g same. alike_give same))
+        alike_then (alike_passed _ (is_open_paren o)) (λ x y so. alike_then (alike_at (a_form inner o) (alike_form o) x.1 y.1 (ap (λ (z : Span × Next). z.1) so)) (λ f g same. alike_give same))
 
     -- ---- lines
 

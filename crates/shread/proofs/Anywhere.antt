@@ -7,7 +7,7 @@ use Rattle.shread.specs.Standing.{is_byte}
 use Rattle.shread.specs.Bytes.{ends, ends_word, byte_at, stands}
 use Rattle.shtree.specs.Tree.{ASubst, AWord, word, substs_of}
 use Rattle.shread.specs.Sights.{Given, State, standing}
-use Rattle.shread.specs.Form.{Spelled, Read, Form, give, see, move, push, stop, both, when, token, loop, Step, again, done, does, Comes, may, raw, Just, just, Then, and_then, or_stops, OneToken, whole, broken_off}
+use Rattle.shread.specs.Form.{Spelled, as_it_stands, Read, Form, give, see, move, push, stop, both, when, token, loop, Step, again, done, does, Comes, may, raw, Just, just, Then, and_then, or_stops, OneToken, whole, broken_off}
 use Rattle.shread.specs.Words.{Inner, contents, a_word}
 use Rattle.shread.specs.Levels.{level, IsWord}
 use Rattle.shread.proofs.Stretches.{get_drop}
@@ -21,7 +21,7 @@ use Rattle.shread.proofs.SameLine.{same_front}
 just_is : {X : Type 0} {x : X} {t : State} (y : Read X) (k : Row Spelled) → Just x t y k → (y ≡ Ok (x, t)) × (k ≡ [])
 just_is y k just = (refl, refl)
 
-token_is : {X : Type 0} {g : Given} {r : Comes X} {s : State} (y : Read (X × Span)) (k : Row Spelled) → OneToken g r s y k → (x : X × Span) (t : State) → y ≡ Ok (x, t) → k ≡ raw g.text s.at t.at ∷ []
+token_is : {X : Type 0} {g : Given} {r : Comes X} {s : State} (y : Read (X × Span)) (k : Row Spelled) → OneToken as_it_stands g r s y k → (x : X × Span) (t : State) → y ≡ Ok (x, t) → k ≡ raw g.text s.at t.at ∷ []
 token_is {X = X} {g = g} {s = s} y k (whole {x = a} {t = u} part) x t is =
     let same : ◌≡◌ {A = (X × Span) × State} ((a, span g.offset s.at u.at), u) (x, t) = cc in ap (λ (z : (X × Span) × State). raw g.text s.at z.1.at ∷ []) same
 token_is y k (broken_off part) x t is = absurd cc
@@ -88,8 +88,8 @@ module _ (room : ℕ) (g h : Given) (p q n : ℕ) (same : take n (drop q h.text)
   word_by : Holds (there_is (a_word inner)) (does (a_word inner) true g (standing p))
   unfolding a_word
   word_by =
-      holds_then (there_is (token holds_there)) (there_is (a_word inner)) (does (token (contents inner Plain (g.offset + p) [])) true g (standing p)) _
-      (holds_then (there_is holds_there) (there_is (token holds_there)) (does (contents inner Plain (g.offset + p) []) true g (standing p)) _ contents_by
+      holds_then (there_is (token as_it_stands holds_there)) (there_is (a_word inner)) (does (token as_it_stands (contents inner Plain (g.offset + p) [])) true g (standing p)) _
+      (holds_then (there_is holds_there) (there_is (token as_it_stands holds_there)) (does (contents inner Plain (g.offset + p) []) true g (standing p)) _ contents_by
       (λ x t found is. let f = found is in ((f.0, span h.offset (from_to p q p) (from_to p q t.at)), rw f.1 refl)))
       (λ x t found is. let f = found is in (word f.0.1 (substs_of f.0.0), rw f.1 refl))
 
@@ -125,7 +125,7 @@ waits (push xs x) keep g s = record { told = (refl, refl) }
 waits (stop kind at) keep g s = record { told = tt }
 waits (both r q) keep g s = tells_then keep g (waits r keep g s) (λ a t one. tells_so keep g (waits (q a) keep g t) (λ b u two. (two.0 ∙ one.0, two.1 ∙ one.1)))
 waits (when f r q) keep g s = tells_when keep g (waits r keep g s) (waits q keep g s)
-waits (token r) keep g s = tells_token keep g (waits r keep g s) (λ a t one. one)
+waits (token how r) keep g s = tells_token keep g (waits r keep g s) (λ a t one. one)
 waits {X = X} (loop turn a) keep g s = tells_loop keep g turn (Waits s) (λ b t one. tells_so keep g (waits (turn b) keep g t) (turned t one)) a s (refl, refl)
   where
     turned : (t : State) → Still s t → (c : Step X) (u : State) → Still t u → Turned keep g (Waits s) c u

@@ -9,7 +9,7 @@ use Rattle.shread.specs.Bytes.{behind}
 use Rattle.shread.specs.Comments.{span, past_comment}
 use Rattle.shread.specs.Pieces.{past_taken, past_closer}
 use Rattle.shread.specs.Sights.{Given, State, Sight, seen, Move, one_byte, joined, one_taken, the_closer, the_parameter, a_quote_on, in_backquotes_on, blanks, a_comment_on, the_reserved, to}
-use Rattle.shread.specs.Form.{Read, ◌▸◌, Form, give, see, move, push, stop, both, when, token, loop, many, Step, again, done, leads_on, turns, does}
+use Rattle.shread.specs.Form.{Read, ◌▸◌, Form, give, see, move, push, stop, both, when, Told, token, loop, many, Step, again, done, leads_on, turns, does}
 use Rattle.shread.proofs.Stretches.{place_low}
 use Rattle.shread.proofs.Places.{behind_low, blanks_low, next_in_backquotes_low, next_newline_low, next_of_low, parameter_low, reserved_low}
 use Rattle.shread.proofs.Turns.{turns_on, turns_rest, turns_done, turns_fault}
@@ -58,8 +58,8 @@ module _ (keep : Bool) (g : Given) where
   token_by P Q s (Err f) one so = tt
 
   -- one token
-  pub tells_token : {X : Type 0} {P : X → State → Type 0} {Q : X × Span → State → Type 0} {r : Form X} {s : State} → Tells r P s
-      → ((a : X) (t : State) → P a t → Q (a, span g.offset s.at t.at) t) → Tells (token r) Q s
+  pub tells_token : {X : Type 0} {P : X → State → Type 0} {Q : X × Span → State → Type 0} {how : Told} {r : Form X} {s : State} → Tells r P s
+      → ((a : X) (t : State) → P a t → Q (a, span g.offset s.at t.at) t) → Tells (token how r) Q s
   tells_token {P = P} {Q = Q} {r = r} {s = s} one so = record { told = token_by P Q s (does r keep g s) one.told so }
 
   -- what a turn gives
@@ -140,7 +140,7 @@ low (push xs x) keep g s = record { told = omega arith }
 low (stop kind at) keep g s = record { told = tt }
 low (both r q) keep g s = tells_then keep g (low r keep g s) (λ a t on. tells_so keep g (low (q a) keep g t) (λ b u more. omega (arith, on, more)))
 low (when f r q) keep g s = tells_when keep g (low r keep g s) (low q keep g s)
-low (token r) keep g s = tells_token keep g (low r keep g s) (λ a t on. on)
+low (token how r) keep g s = tells_token keep g (low r keep g s) (λ a t on. on)
 low {X = X} (loop turn a) keep g s = tells_loop keep g turn (Behind s) (λ b t on. tells_so keep g (low (turn b) keep g t) (turned t on)) a s (omega arith)
   where
     turned : (t : State) → s.at ≤ t.at → (c : Step X) (u : State) → t.at ≤ u.at → Turned keep g (Behind s) c u

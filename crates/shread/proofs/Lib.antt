@@ -25,3 +25,4 @@ pub mod SameLine
 pub mod Inside
 pub mod PiecesInside
 pub mod Anywhere
+pub mod Spelling

@@ -5,7 +5,7 @@ use Rattle.std.proofs.lemmas.Option.{slice_get_within}
 use Rattle.shtree.specs.declared.tree.Span.{Span}
 use Rattle.shread.specs.Comments.{span}
 use Rattle.shread.specs.Sights.{Given, given, State, Sight, here, the_byte, the_piece, the_rest, the_end, a_backquote, last_backslash, the_token, the_comment, seen, Move, one_byte, joined, one_taken, the_closer, the_parameter, a_quote_on, in_backquotes_on, blanks, a_comment_on, the_reserved, to as leads}
-use Rattle.shread.specs.Form.{Spelled, Read, Form, give, see, move, push, stop, both, when, token, loop, Step, again, done, Just, just, Halts, halted, Then, and_then, or_stops, holds, fails, raw, OneToken, whole, broken_off, leads_on, Turns, last, rests, more, halts, moved, may}
+use Rattle.shread.specs.Form.{Spelled, Told, untold, as_it_stands, by, tell, Read, Form, give, see, move, push, stop, both, when, token, loop, Step, again, done, Just, just, Halts, halted, Then, and_then, or_stops, holds, fails, raw, OneToken, whole, broken_off, leads_on, Turns, last, rests, more, halts, moved, may}
 use Rattle.shread.proofs.OneOutcome.{is}
 use Rattle.shread.proofs.Holds.{Holds, Behind, low}
 use Rattle.shread.proofs.Ahead.{ListEnds, same_place, same_next}
@@ -119,17 +119,22 @@ module _ {T U : List ℕ} {a M : ℕ} {to : ℕ → ℕ} (E : ListEnds T U a M t
       (c.0, and_then c.1 b.1)
   both_back r q s first rest from y k (or_stops one) good = absurd good
 
-  token_back : {X : Type 0} (r : Form X) (s : State) → ((y : Read X) (k : Row Spelled) → may r g s y k → Back r s y k) → a ≤ s.at → (y : Read (X × Span)) (k : Row Spelled) → OneToken g (may r g) s y k → Back (token r) s y k
-  token_back {X = X} r s first from y k (whole {x = x} {t = t} {k = k1} part) good =
+  same_tell : (how : Told) (p q u v : ℕ) → raw U u v ≡ raw T p q → tell how U u v ≡ tell how T p q
+  same_tell untold p q u v same = refl
+  same_tell as_it_stands p q u v same = ap (λ z. z ∷ []) same
+  same_tell (by text) p q u v same = refl
+
+  token_back : {X : Type 0} (how : Told) (r : Form X) (s : State) → ((y : Read X) (k : Row Spelled) → may r g s y k → Back r s y k) → a ≤ s.at → (y : Read (X × Span)) (k : Row Spelled) → OneToken how g (may r g) s y k → Back (token how r) s y k
+  token_back {X = X} how r s first from y k (whole {x = x} {t = t} {k = k1} part) good =
       let w = first (Ok (x, t)) k1 part good in
       let onward = behind r g s (Ok (x, t)) k1 part in
       let same = spans s.at t.at from (omega (arith, from, onward)) in
-      let told = same_raw E s.at t.at from (omega (arith, from, onward)) (high E good) in (
+      let told = same_tell how s.at t.at (to s.at) (to t.at) (same_raw E s.at t.at from (omega (arith, from, onward)) (high E good)) in (
         w.0,
-        subst (λ (z : Span). OneToken h (may r h) (there s) (Ok ((x, z), there t)) (raw T s.at t.at ∷ [])) same
-            (subst (λ (z : Spelled). OneToken h (may r h) (there s) (Ok ((x, span o2 (to s.at) (to t.at)), there t)) (z ∷ [])) told (whole w.1)),
+        subst (λ (z : Span). OneToken how h (may r h) (there s) (Ok ((x, z), there t)) (tell how T s.at t.at)) same
+            (subst (λ (z : Row Spelled). OneToken how h (may r h) (there s) (Ok ((x, span o2 (to s.at) (to t.at)), there t)) z) told (whole w.1)),
       )
-  token_back r s first from y k (broken_off part) good = absurd good
+  token_back how r s first from y k (broken_off part) good = absurd good
 
   module _ {A : Type 0} (turn : A → Form (Step A)) (each : (b : A) (s : State) → a ≤ s.at → (y : Read (Step A)) (k : Row Spelled) → may (turn b) g s y k → Back (turn b) s y k) where
     loop_back : (b : A) (s : State) (y : Read A) (k : Row Spelled) → Turns g (λ c. may (turn c) g) b s y k → a ≤ s.at → Ends y → G s.at × Turns h (λ c. may (turn c) h) b (there s) (elsewhere y) k
@@ -156,5 +161,5 @@ module _ {T U : List ℕ} {a M : ℕ} {to : ℕ → ℕ} (E : ListEnds T U a M t
   back (both r q) s from y k part = both_back r q s (back r s from) (λ x t. back (q x) t) from y k part
   back (when l r q) s from y k (holds e part) = λ good. let w = back r s from y k part good in (w.0, holds (same_seen l s from w.0 ∙ e) w.1)
   back (when l r q) s from y k (fails e part) = λ good. let w = back q s from y k part good in (w.0, fails (same_seen l s from w.0 ∙ e) w.1)
-  back (token r) s from y k part = token_back r s (back r s from) from y k part
+  back (token how r) s from y k part = token_back how r s (back r s from) from y k part
   back (loop turn b) s from y k part = loop_back turn (λ c t. back (turn c) t) b s y k part from

@@ -5,7 +5,7 @@ use Rattle.shtree.specs.declared.tree.Span.{Span}
 use Rattle.shread.specs.declared.fault.Fault.{Fault}
 use Rattle.shread.specs.Comments.{span}
 use Rattle.shread.specs.Sights.{Given, State, seen}
-use Rattle.shread.specs.Form.{Spelled, Read, Comes, Step, again, done, Form, give, see, move, push, stop, both, when, token, loop, Just, just, Halts, halted, Then, and_then, or_stops, Either, holds, fails, raw, OneToken, whole, broken_off, leads_on, Turns, last, rests, more, halts, moved, may, ◌▸◌, turns, does}
+use Rattle.shread.specs.Form.{Spelled, Read, Comes, Step, again, done, Form, give, see, move, push, stop, both, when, token, loop, Just, just, Halts, halted, Then, and_then, or_stops, Either, holds, fails, Told, tell, OneToken, whole, broken_off, leads_on, Turns, last, rests, more, halts, moved, may, ◌▸◌, turns, does}
 use Rattle.shread.proofs.Turns.{turns_on, turns_rest, turns_done, turns_fault}
 
 -- x is what may be read, and nothing else
@@ -56,19 +56,19 @@ module _ {X : Type 0} (r q : Comes X) (s : State) (x y : Read X) (one : Is (r s)
 
 -- ---- one token
 
-module _ {X : Type 0} (g : Given) (r : Comes X) (s : State) where
+module _ {X : Type 0} (how : Told) (g : Given) (r : Comes X) (s : State) where
   abbrev spanned : Read X → Read (X × Span)
   spanned x = x ▸ λ a t. Ok ((a, span g.offset s.at t.at), t)
 
-  token_some : (x : Read X) (k : Row Spelled) → r s x k → (l : Row Spelled) × OneToken g r s (spanned x) l
-  token_some (Ok (x, t)) k part = (raw g.text s.at t.at ∷ [], whole part)
+  token_some : (x : Read X) (k : Row Spelled) → r s x k → (l : Row Spelled) × OneToken how g r s (spanned x) l
+  token_some (Ok (x, t)) k part = (tell how g.text s.at t.at, whole part)
   token_some (Err f) k part = (k, broken_off part)
 
-  token_only : (x : Read X) → ((y : Read X) (k : Row Spelled) → r s y k → y ≡ x) → (y : Read (X × Span)) (l : Row Spelled) → OneToken g r s y l → y ≡ spanned x
+  token_only : (x : Read X) → ((y : Read X) (k : Row Spelled) → r s y k → y ≡ x) → (y : Read (X × Span)) (l : Row Spelled) → OneToken how g r s y l → y ≡ spanned x
   token_only x one y l (whole {x = b} {t = u} {k = k} part) = rw (← one (Ok (b, u)) k part) refl
   token_only x one y l (broken_off {f = e} {k = k} part) = rw (← one (Err e) k part) refl
 
-  is_token : (x : Read X) → Is (r s) x → Is (OneToken g r s) (spanned x)
+  is_token : (x : Read X) → Is (r s) x → Is (OneToken how g r s) (spanned x)
   is_token x one = record { some = token_some x one.some.0 one.some.1; only = token_only x one.only }
 
 -- ---- turns
@@ -110,5 +110,5 @@ is (push xs x) g s = is_just (xs ++ x ∷ []) s
 is (stop kind at) g s = record { some = ([], halted); only = halts_only (record { kind = kind; at = at }) }
 is (both r q) g s = is_then (may r g) (λ x. may (q x) g) (λ x t. does (q x) true g t) (λ x t. is (q x) g t) s (does r true g s) (is r g s)
 is (when f r q) g s = is_either (may r g) (may q g) s (does r true g s) (does q true g s) (is r g s) (is q g s) (seen f g s)
-is (token r) g s = is_token g (may r g) s (does r true g s) (is r g s)
+is (token how r) g s = is_token how g (may r g) s (does r true g s) (is r g s)
 is (loop turn a) g s = is_many g (λ b. may (turn b) g) (λ b t. does (turn b) true g t) (λ b t. is (turn b) g t) a s

@@ -1,5 +1,5 @@
 -- Compound commands: groups, `if` and loops (XCU 2.9.4, 2.10.2).
-use Rattle.std.specs.Prelude.{Bool, true, false, [], List as Row}
+use Rattle.std.specs.Prelude.{Bool, true, false, [], codes, List as Row}
 use Rattle.shread.specs.declared.token.Closing.{Closing}
 use Rattle.shread.specs.declared.token.Closing.TheVariants as closings
 use Rattle.shread.specs.declared.token.Next.{Next}
@@ -10,9 +10,10 @@ use Rattle.shread.specs.declared.token.Reserved.TheVariants as reserved
 use Rattle.shread.specs.declared.token.Token.{Token}
 use Rattle.shread.specs.declared.token.Token.TheVariants as tokens
 use Rattle.shtree.specs.declared.tree.Span.{Span}
-use Rattle.shtree.specs.Tree.{ACommand, compound, formed, AForm, brace, subshell, if_then, while_do, until_do, ABranch, branch, branches_of, Otherwise, no_else, otherwise, no_item}
+use Rattle.shtree.specs.Nodes.{through}
+use Rattle.shtree.specs.Tree.{Entries, ACommand, compound, formed, AForm, brace, subshell, if_then, while_do, until_do, ABranch, branch, branches_of, Otherwise, no_else, otherwise, no_item}
 use Rattle.shread.specs.Sights.{Move, one_byte, the_reserved}
-use Rattle.shread.specs.Form.{Form, give, move, push, token, many, ◌>>=◌, Step, again, done}
+use Rattle.shread.specs.Form.{Form, Spelled, give, move, push, by, token, many, ◌>>=◌, Step, again, done}
 use Rattle.shread.specs.Words.{Inner}
 use Rattle.shread.specs.Commands.{next_token, pick, unexpected}
 use Rattle.shread.specs.Lists.{a_list}
@@ -30,6 +31,23 @@ is_closing closings.Do (tokens.Reserved reserved.Do) = true
 is_closing closings.Done (tokens.Reserved reserved.Done) = true
 is_closing _ _ = false
 
+abbrev pub opener_text : Opener → Spelled
+opener_text openers.Brace = codes "{"
+opener_text openers.Paren = codes "("
+opener_text openers.If = codes "if"
+opener_text openers.While = codes "while"
+opener_text openers.Until = codes "until"
+
+abbrev pub closing_text : Closing → Spelled
+closing_text closings.Brace = codes "}"
+closing_text closings.Paren = codes ")"
+closing_text closings.Then = codes "then"
+closing_text closings.Elif = codes "elif"
+closing_text closings.Else = codes "else"
+closing_text closings.Fi = codes "fi"
+closing_text closings.Do = codes "do"
+closing_text closings.Done = codes "done"
+
 -- all others are reserved words
 abbrev pub is_open_paren : Opener → Bool
 is_open_paren openers.Paren = true
@@ -43,13 +61,13 @@ abbrev pub past_opener : Bool → Move
 past_opener true = one_byte
 past_opener false = the_reserved
 
--- the round bracket or the reserved word here, and the token behind it
-unfoldable pub passed : Bool → Form (Span × Next)
-passed paren = token (move (past_opener paren)) >>= λ x. next_token Command >>= λ n. give (x.1, n)
+-- the round bracket or the reserved word here, told by this text, and the token behind it
+unfoldable pub passed : Spelled → Bool → Form (Span × Next)
+passed text paren = token (by text) (move (past_opener paren)) >>= λ x. next_token Command >>= λ n. give (x.1, n)
 
 -- what has to stand here, and the token behind it
 unfoldable pub closing : Inner → Closing → Next → Form (Span × Next)
-closing inner c n = pick (is_closing c n.token) (passed (is_close_paren c)) (unexpected inner n)
+closing inner c n = pick (is_closing c n.token) (passed (closing_text c) (is_close_paren c)) (unexpected inner n)
 
 -- ---- compound commands, from behind their openers
 
@@ -62,12 +80,9 @@ pub record Closed (X : Type 0) : Type 0 where
 abbrev pub closed : {X : Type 0} → X → Span × Next → Closed X
 closed x c = record { what = x; closer = c.0; next = c.1 }
 
--- (XCU 2.9.4.1)
-unfoldable pub a_brace : Inner → Next → Form (Closed AForm)
-a_brace inner n = a_list inner n >>= λ l. closing inner closings.Brace l.1 >>= λ c. give (closed (brace l.0) c)
-
-unfoldable pub a_subshell : Inner → Next → Form (Closed AForm)
-a_subshell inner n = a_list inner n >>= λ l. closing inner closings.Paren l.1 >>= λ c. give (closed (subshell l.0) c)
+-- the list of a group, and what closes it (XCU 2.9.4.1)
+unfoldable pub a_group : Inner → Closing → Next → Form (Closed Entries)
+a_group inner what n = a_list inner n >>= λ l. closing inner what l.1 >>= λ c. give (closed l.0 c)
 
 -- a condition, `then` and what it runs (XCU 2.9.4.4)
 unfoldable pub a_branch : Inner → Next → Form (ABranch × Next)
@@ -85,11 +100,11 @@ branched bs n = record { branches = bs; next = n }
 unfoldable pub elif_turn : Inner → Branched → Form (Step Branched)
 elif_turn inner b =
     pick (is_closing closings.Elif b.next.token)
-    (passed false >>= λ k. a_branch inner k.1 >>= λ x. push b.branches x.0 >>= λ bs. give (again (branched bs x.1)))
+    (passed (closing_text closings.Elif) false >>= λ k. a_branch inner k.1 >>= λ x. push b.branches x.0 >>= λ bs. give (again (branched bs x.1)))
     (give (done b))
 
 unfoldable pub an_else : Inner → Next → Form (Otherwise × Next)
-an_else inner n = pick (is_closing closings.Else n.token) (passed false >>= λ k. a_list inner k.1 >>= λ l. give (otherwise l.0, l.1)) (give (no_else, n))
+an_else inner n = pick (is_closing closings.Else n.token) (passed (closing_text closings.Else) false >>= λ k. a_list inner k.1 >>= λ l. give (otherwise l.0, l.1)) (give (no_else, n))
 
 unfoldable pub an_if : Inner → Next → Form (Closed AForm)
 an_if inner n =
@@ -109,18 +124,15 @@ a_loop inner n =
     give (closed (branch c.0 b.0) e)
 
 abbrev pub a_form : Inner → Opener → Next → Form (Closed AForm)
-a_form inner openers.Brace n = a_brace inner n
-a_form inner openers.Paren n = a_subshell inner n
+a_form inner openers.Brace n = a_group inner closings.Brace n >>= λ l. give (closed (brace l.what) (l.closer, l.next))
+a_form inner openers.Paren n = a_group inner closings.Paren n >>= λ l. give (closed (subshell l.what) (l.closer, l.next))
 a_form inner openers.If n = an_if inner n
 a_form inner openers.While n = a_loop inner n >>= λ l. give (closed (while_do l.what) (l.closer, l.next))
 a_form inner openers.Until n = a_loop inner n >>= λ l. give (closed (until_do l.what) (l.closer, l.next))
 
 -- ---- a compound command
 
-abbrev pub from_to : Span → Span → Span
-from_to a b = record { start = a.start; «end» = b.«end» }
-
 -- the compound command that opens here, and the token behind it
 unfoldable pub a_compound : Inner → Opener → Form (ACommand × Next)
 a_compound inner o =
-    passed (is_open_paren o) >>= λ x. a_form inner o x.1 >>= λ f. give (compound (formed f.what (from_to x.0 f.closer) no_item), f.next)
+    passed (opener_text o) (is_open_paren o) >>= λ x. a_form inner o x.1 >>= λ f. give (compound (formed f.what (through x.0 f.closer) no_item), f.next)

@@ -14,6 +14,12 @@ use Rattle.shread.specs.Sights.{Given, State, Sight, seen, Move, to}
 abbrev pub Spelled : Type 0
 Spelled = List ℕ
 
+-- how what was passed is told: not at all, as it stands, or by a text
+pub data Told : Type 0 where
+  untold : Told
+  as_it_stands : Told
+  by : Spelled → Told
+
 -- what was read, and the state behind it; or the fault that stopped the reading
 abbrev pub Read : Type 0 → Type 0
 Read X = Result (X × State) Fault
@@ -42,8 +48,8 @@ pub data Form : Type 0 → Type 1 where
   both : {X Y : Type 0} → Form X → (X → Form Y) → Form Y
   -- one form where what is seen holds, and another where it does not
   when : {X : Type 0} → Sight Bool → Form X → Form X → Form X
-  -- what is read is one token: with its span, and told as it stands
-  token : {X : Type 0} → Form X → Form (X × Span)
+  -- what is read is one token: with its span, and told so
+  token : {X : Type 0} → Told → Form X → Form (X × Span)
   -- turns until one is the last
   loop : {A : Type 0} → (A → Form (Step A)) → A → Form A
 
@@ -84,10 +90,15 @@ pub data Either {X : Type 0} (test : Bool) (r q : Comes X) (s : State) (x : Read
 abbrev pub raw : List ℕ → ℕ → ℕ → Spelled
 raw T p q = take (q - p) (drop p T)
 
+abbrev pub tell : Told → List ℕ → ℕ → ℕ → Row Spelled
+tell untold T p q = []
+tell as_it_stands T p q = raw T p q ∷ []
+tell (by text) T p q = text ∷ []
+
 -- the tokens passed inside are not told
-pub data OneToken {X : Type 0} (g : Given) (r : Comes X) (s : State) : Read (X × Span) → Row Spelled → Type 0 where
-  whole : {x : X} {t : State} {k : Row Spelled} → r s (Ok (x, t)) k → OneToken g r s (Ok ((x, span g.offset s.at t.at), t)) (raw g.text s.at t.at ∷ [])
-  broken_off : {f : Fault} {k : Row Spelled} → r s (Err f) k → OneToken g r s (Err f) k
+pub data OneToken {X : Type 0} (told : Told) (g : Given) (r : Comes X) (s : State) : Read (X × Span) → Row Spelled → Type 0 where
+  whole : {x : X} {t : State} {k : Row Spelled} → r s (Ok (x, t)) k → OneToken told g r s (Ok ((x, span g.offset s.at t.at), t)) (tell told g.text s.at t.at)
+  broken_off : {f : Fault} {k : Row Spelled} → r s (Err f) k → OneToken told g r s (Err f) k
 
 -- less of the text is left at t than at s
 abbrev pub leads_on : Given → State → State → Bool
@@ -111,7 +122,7 @@ may (push xs x) g s = Just (xs ++ x ∷ []) s
 may (stop kind at) g s = Halts (record { kind = kind; at = at })
 may (both r q) g s = Then (may r g) (λ x. may (q x) g) s
 may (when f r q) g s = Either (seen f g s) (may r g) (may q g) s
-may (token r) g s = OneToken g (may r g) s
+may (token told r) g s = OneToken told g (may r g) s
 may (loop turn a) g s = Turns g (λ b. may (turn b) g) a s
 
 -- ---- what is computed
@@ -145,5 +156,5 @@ does (push xs x) keep g s = Ok (pushed keep xs x, s)
 does (stop kind at) keep g s = Err (record { kind = kind; at = at })
 does (both r q) keep g s = does r keep g s ▸ λ x t. does (q x) keep g t
 does (when f r q) keep g s = if seen f g s then does r keep g s else does q keep g s
-does (token r) keep g s = does r keep g s ▸ λ x t. Ok ((x, span g.offset s.at t.at), t)
+does (token told r) keep g s = does r keep g s ▸ λ x t. Ok ((x, span g.offset s.at t.at), t)
 does (loop turn a) keep g s = turns g (λ b t. does (turn b) keep g t) a s

@@ -29,21 +29,24 @@ with_line so es = record { entries = so.entries ++ es; gap = is_empty es }
 abbrev pub the_line : Bool → Form (Row AnEntry × Bool)
 the_line blank = a_line (level most_open) blank
 
--- the lines from p on
-pub data Lines (B : List ℕ) : SoFar → ℕ → AScript → Type 0 where
-  line_ended : {so : SoFar} {p : ℕ} {s : AScript} (es : Row AnEntry) (t : State) (k : Row Spelled) → may (the_line (is_blank_line so)) (given (drop p B) p) (standing 0) (Ok ((es, true), t)) k
-      → Lines B (with_line so es) (p + t.at) s → Lines B so p s
+-- the lines from p on, and the tokens passed
+pub data Lines (B : List ℕ) : SoFar → ℕ → AScript → Row Spelled → Type 0 where
+  line_ended : {so : SoFar} {p : ℕ} {s : AScript} {l : Row Spelled} (es : Row AnEntry) (t : State) (k : Row Spelled)
+      → may (the_line (is_blank_line so)) (given (drop p B) p) (standing 0) (Ok ((es, true), t)) k → Lines B (with_line so es) (p + t.at) s l → Lines B so p s (k ++ l)
   last_line : {so : SoFar} {p : ℕ} (es : Row AnEntry) (t : State) (k : Row Spelled) → may (the_line (is_blank_line so)) (given (drop p B) p) (standing 0) (Ok ((es, false), t)) k
-      → Lines B so p (record { entries = entries_of (so.entries ++ es); wrong = None })
+      → Lines B so p (record { entries = entries_of (so.entries ++ es); wrong = None }) k
   faulty : {so : SoFar} {p : ℕ} (f : Fault) (k : Row Spelled) → may (the_line (is_blank_line so)) (given (drop p B) p) (standing 0) (Err f) k
-      → Lines B so p (record { entries = entries_of so.entries; wrong = Some f })
+      → Lines B so p (record { entries = entries_of so.entries; wrong = Some f }) k
 
 abbrev pub nothing_yet : SoFar
 nothing_yet = record { entries = []; gap = false }
 
--- what is read of the bytes of a script
+-- what is read of the bytes of a script, and the tokens passed
+abbrev pub Passes : List ℕ → AScript → Row Spelled → Type 0
+Passes B s k = Lines B nothing_yet 0 s k
+
 abbrev pub Outcome : List ℕ → AScript → Type 0
-Outcome B s = Lines B nothing_yet 0 s
+Outcome B s = (k : Row Spelled) × Passes B s k
 
 -- the first fault of a script, or that it has none
 abbrev pub FirstFault : List ℕ → Option Fault → Type 0

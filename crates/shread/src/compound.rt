@@ -1,12 +1,12 @@
 //! Compound commands: groups, `if` and loops (XCU 2.9.4).
 ghost use Rattle.std.specs.Prelude.{◌≡◌, ◌<◌, ◌≤◌, [], map, IfOk, Ok as Done, false};
 ghost use Rattle.shread.specs.Clauses.{IsRead, Onward, Reads, reads, Shows, Stays, text_of};
-ghost use Rattle.shread.specs.Compounds.{a_branch, a_brace, a_form, a_loop, a_subshell, an_else, an_if, branched, closed, closing, elif_turn, from_to, passed};
-ghost use Rattle.shread.specs.Form.{many, step_if};
+ghost use Rattle.shread.specs.Compounds.{a_branch, a_form, a_group, a_loop, an_else, an_if, branched, closed, closing, elif_turn, passed};
+ghost use Rattle.shread.specs.Form.{many, Spelled, step_if};
 ghost use Rattle.shread.specs.Levels.{level};
 ghost use Rattle.shread.specs.Sights.{standing};
 ghost use Rattle.shread.specs.Tokens.{is_end};
-ghost use Rattle.shtree.specs.View.{view_branch, view_command, view_form, view_otherwise};
+ghost use Rattle.shtree.specs.View.{view_branch, view_command, view_form, view_list, view_otherwise};
 
 use crate::cursor::Cursor;
 use crate::fault::{FaultKind, Stop};
@@ -18,22 +18,12 @@ use shtree::make::{
 use shtree::{Branch, Command, Form, List, Span};
 use std::alloc::Global;
 
-/// From where one span begins to where another one ends.
-fn from_to(first: Span, last: Span) -> Span
-    ensures { result ≡ from_to first last }
-{
-    Span {
-        start: first.start,
-        end: last.end,
-    }
-}
-
 impl<'a, S: Source> Cursor<'a, S> {
     /// Passes the round bracket or the reserved word here. `next` is set to the token behind it.
     #[tactic(auto, unfolding(crate::specs::Compounds::passed, crate::specs::Commands::next_token))]
     fn passed(&mut self, paren: bool, next: &mut Next) -> Span
         requires { IsRead (text_of S.bytes self.old) self.old.at }
-        ensures value { reads S.bytes self.old (passed paren) ≡ Done ((result, next.new), standing self.new.at) }
+        ensures value { (text : Spelled) → reads S.bytes self.old (passed text paren) ≡ Done ((result, next.new), standing self.new.at) }
         ensures shows { Shows next.new.token (text_of S.bytes self.old) self.new.at }
         ensures onward { self.old.at < self.new.at }
         ensures same { Stays self.old self.new }
@@ -64,41 +54,26 @@ impl<'a, S: Source> Cursor<'a, S> {
         Ok(self.passed(matches!(what, Closing::Paren), next))
     }
 
-    /// `{ list }`, from behind its opener.
+    /// The list of a group, and what closes it.
     #[cycle(commands)]
-    #[tactic(auto, unfolding(crate::specs::Compounds::a_brace))]
-    fn brace(&mut self, alloc: Global, next: &mut Next, room: usize) -> Result<(Form, Span), Stop>
-        requires shows { Shows next.old.token (text_of S.bytes self.old) self.old.at }
-        ensures value { Reads S.bytes self.old (a_brace (level room) next.old) result
-            (λ x. closed (view_form x.0) (x.1, next.new)) self.new.at }
-        ensures shows { IfOk result (λ x. Shows next.new.token (text_of S.bytes self.old) self.new.at) }
-        ensures onward { IfOk result (λ x. self.old.at ≤ self.new.at) }
-        ensures same { Stays self.old self.new }
-    {
-        let list = self.list(alloc, next, room)?;
-        let closer = self.closing(Closing::Brace, next, room)?;
-        Ok((brace_of(list), closer))
-    }
-
-    /// `( list )`, from behind its opener.
-    #[cycle(commands)]
-    #[tactic(auto, unfolding(crate::specs::Compounds::a_subshell))]
-    fn subshell(
+    #[tactic(auto, unfolding(crate::specs::Compounds::a_group))]
+    fn group(
         &mut self,
         alloc: Global,
+        what: Closing,
         next: &mut Next,
         room: usize,
-    ) -> Result<(Form, Span), Stop>
+    ) -> Result<(List, Span), Stop>
         requires shows { Shows next.old.token (text_of S.bytes self.old) self.old.at }
-        ensures value { Reads S.bytes self.old (a_subshell (level room) next.old) result
-            (λ x. closed (view_form x.0) (x.1, next.new)) self.new.at }
+        ensures value { Reads S.bytes self.old (a_group (level room) what next.old) result
+            (λ x. closed (view_list x.0) (x.1, next.new)) self.new.at }
         ensures shows { IfOk result (λ x. Shows next.new.token (text_of S.bytes self.old) self.new.at) }
         ensures onward { IfOk result (λ x. self.old.at ≤ self.new.at) }
         ensures same { Stays self.old self.new }
     {
         let list = self.list(alloc, next, room)?;
-        let closer = self.closing(Closing::Paren, next, room)?;
-        Ok((subshell_of(list), closer))
+        let closer = self.closing(what, next, room)?;
+        Ok((list, closer))
     }
 
     /// A condition, `then` and what it runs.
@@ -248,8 +223,14 @@ impl<'a, S: Source> Cursor<'a, S> {
         ensures same { Stays self.old self.new }
     {
         match opener {
-            Opener::Brace => self.brace(alloc, next, room),
-            Opener::Paren => self.subshell(alloc, next, room),
+            Opener::Brace => {
+                let (list, closer) = self.group(alloc, Closing::Brace, next, room)?;
+                Ok((brace_of(list), closer))
+            }
+            Opener::Paren => {
+                let (list, closer) = self.group(alloc, Closing::Paren, next, room)?;
+                Ok((subshell_of(list), closer))
+            }
             Opener::If => self.if_command(alloc, next, room),
             Opener::While => {
                 let (branch, closer) = self.loop_command(alloc, next, room)?;
@@ -284,7 +265,7 @@ impl<'a, S: Source> Cursor<'a, S> {
         }
         let opened = self.passed(matches!(opener, Opener::Paren), next);
         let (form, closer) = self.form(alloc, opener, next, room - 1)?;
-        let compound = compound_of(form, from_to(opened, closer), Vec::new(alloc));
+        let compound = compound_of(form, opened.through(closer), Vec::new(alloc));
         Ok(compound_command(Box::new(alloc, compound)?))
     }
 }

@@ -1,9 +1,11 @@
 //! The reader: one line, or a whole script.
-ghost use Rattle.std.specs.Prelude.{◌≡◌, ◌+◌, ◌-◌, ◌<◌, ◌≤◌, drop, false, length, true, IfOk, IfErr, IfSome, IsOk};
+ghost use Rattle.std.specs.Prelude.{◌≡◌, ◌+◌, ◌-◌, ◌<◌, ◌≤◌, drop, false, length, true, List as Row, None, IfOk, IfErr, IfSome, IsOk};
 ghost use Rattle.shread.specs.Answers.{meter_of, raised, view_line, view_script};
 ghost use Rattle.shread.specs.Lines.{ALine, IsLine, NoFurther, SameBytes};
-ghost use Rattle.shread.specs.Scripts.{AScript, FirstFault, Outcome};
+ghost use Rattle.shread.specs.Form.{Spelled};
+ghost use Rattle.shread.specs.Scripts.{AScript, FirstFault, Outcome, Passes};
 ghost use Rattle.shtree.specs.Normal.{is_normal};
+ghost use Rattle.shtree.specs.Spelling.{spell_entries};
 
 use crate::all_lines::script_from;
 use crate::fault::{Fault, ReadError};
@@ -92,12 +94,15 @@ impl Reader {
     ///
     /// A fault is part of the answer. Want of memory is the only error: the meter is then as before, and the reader can
     /// be used again.
-    #[tactic(auto, using(crate::proofs::Answered::script_answered))]
+    #[tactic(auto, using(crate::proofs::Answered::script_answered, crate::proofs::Spelling::script_spelled))]
     pub fn read_script<S: Source>(&mut self, source: &S) -> Result<Script, ReadError>
         // The answer is what the grammar has for the bytes, and it has nothing else.
         ensures outcome { IfOk result (λ script. Outcome (S.bytes source.now) (view_script script)) }
         ensures only { IfOk result (λ script. (a : AScript) → Outcome (S.bytes source.now) a → a ≡ view_script script) }
         ensures normal { IfOk result (λ script. is_normal (view_script script).entries ≡ true) }
+        // The tokens passed in a script without a fault are those that its tree spells.
+        ensures spelling { IfOk result (λ script. script.fault ≡ None → (k : Row Spelled) →
+            Passes (S.bytes source.now) (view_script script) k → k ≡ spell_entries (S.bytes source.now) (view_script script).entries) }
         ensures meter { IfOk result (λ script. meter_of self.new ≡ raised (meter_of self.old) (length (S.bytes source.now))) }
         ensures err { IfErr result (λ e. meter_of self.new ≡ meter_of self.old) }
     {

@@ -3,3 +3,4 @@ pub mod View
 pub mod Normal
 pub mod Nodes
 pub mod Gathered
+pub mod Spelling

@@ -10,7 +10,7 @@ use crate::tree::{
 
 impl Span {
     /// From where this one begins to where the other ends.
-    pub(crate) fn through(self, last: Span) -> Span
+    pub fn through(self, last: Span) -> Span
         ensures { result ≡ through self last }
     {
         Span {

@@ -62,11 +62,8 @@ decreases-list g l = 32 * l.room + 17
 abbrev pub decreases-branch : goal.decreases-branch
 decreases-branch g l = 32 * l.room + 18
 
-abbrev pub decreases-brace : goal.decreases-brace
-decreases-brace g l = 32 * l.room + 18
-
-abbrev pub decreases-subshell : goal.decreases-subshell
-decreases-subshell g l = 32 * l.room + 18
+abbrev pub decreases-group : goal.decreases-group
+decreases-group g l = 32 * l.room + 18
 
 abbrev pub decreases-loop_command : goal.decreases-loop_command
 decreases-loop_command g l = 32 * l.room + 18

@@ -1,0 +1,496 @@
+-- The tokens passed where a faultless script is read are those that its tree spells.
+use Rattle.std.proofs.Common.{◌≡◌, ◌∙◌, refl, sym, ap, subst, ℕ, zero, suc, ◌+◌, ◌-◌, Bool, true, false, Ok, Err, List, List as Row, [], ◌∷◌, ◌++◌, drop, take, codes, Option, Some, None, arith}
+use Rattle.std.proofs.lemmas.List.{append-nil, append_assoc, drop-drop}
+use Rattle.shread.specs.declared.token.Closing.{Closing}
+use Rattle.shread.specs.declared.token.Closing.TheVariants as closings
+use Rattle.shread.specs.declared.token.Next.{Next}
+use Rattle.shread.specs.declared.token.Opener.{Opener}
+use Rattle.shread.specs.declared.token.Opener.TheVariants as openers
+use Rattle.shread.specs.declared.token.Position.{Position}
+use Rattle.shread.specs.declared.token.Position.TheVariants.{Command, Prefix, Suffix}
+use Rattle.shread.specs.declared.token.Separator.{Separator}
+use Rattle.shread.specs.declared.token.Separator.TheVariants.{Semicolon, Ampersand}
+use Rattle.shtree.specs.declared.tree.AndOrOperator.{AndOrOperator}
+use Rattle.shtree.specs.declared.tree.Comment.{Comment}
+use Rattle.shtree.specs.declared.tree.Span.{Span}
+use Rattle.shtree.specs.Tree.{APipelinePart, AnAndOrPart, ABranch, pipeline_parts_of, and_or_parts_of, branches_of, AnEntry, AnItem, AWord, entry, remark, item, entries_of, items_of}
+use Rattle.shtree.specs.Spelling.{Tokens, text_at, and_or_text, spell_background, spell_bang, spell_word, spell_item, spell_items, spell_entries, spell_entry, spell_and_or, spell_and_or_parts, spell_pipeline, spell_pipes, spell_command, spell_form, spell_branch, spell_branches, spell_else, spell_loop}
+use Rattle.shread.specs.Comments.{span}
+use Rattle.shread.specs.Sights.{Given, given, State, standing, Sight, Move}
+use Rattle.shread.specs.Form.{Spelled, Read, Step, again, done, step_if, Form, give, see, move, push, stop, both, Told, by, tell, token, many, Just, just, Halts, halted, Then, and_then, or_stops, OneToken, whole, broken_off, Turns, last, rests, more, halts, raw, may}
+use Rattle.shread.specs.Words.{Inner, a_word}
+use Rattle.shread.specs.Commands.{pick, next_token, is_newline, is_pipe, is_bang, begins_simple, begins_pipeline, opener_of, compound_by, and_or_operator_of, Items, so_many, behind_item, as_item, breaks, an_item, item_by, item_turn, a_simple, unexpected, comment_by, a_comment, a_newline, with_comment, JoinSo, join_turn, a_join, a_command, a_bang, Piped, piped, one_command, pipe_turn, a_pipeline, Joined, joined_so, one_pipeline, joined_by, join_pipeline, an_and_or, separator_of, told_separator, separator_by, a_separator, is_background, an_entry}
+use Rattle.shread.specs.Lists.{ListSo, list_so, none_listed, is_blank_next, one_entry, entry_turn, remark_by, a_remark, on_line, list_turn, a_list}
+use Rattle.shread.specs.Compounds.{Branched, branched, is_closing, opener_text, closing_text, passed, closing, a_group, a_branch, elif_turn, an_else, an_if, a_loop, a_form, a_compound}
+use Rattle.shread.specs.Levels.{most_open, level}
+use Rattle.shread.specs.Tokens.{is_end}
+use Rattle.shread.specs.Lines.{a_line, end_of_line}
+use Rattle.shread.specs.Scripts.{AScript, SoFar, Lines, line_ended, last_line, faulty, Passes, nothing_yet}
+
+-- ---- rows that grow at their end
+
+-- a row with one more in front, and one more at the end
+between : (a x b c : Tokens) → x ≡ b ++ c → a ++ x ≡ (a ++ b) ++ c
+between a x b c is = ap (λ z. a ++ z) is ∙ sym (append_assoc a b c)
+
+module _ (B : List ℕ) where
+  items_last : (is : Row AnItem) (i : AnItem) → spell_items B (items_of (is ++ i ∷ [])) ≡ spell_items B (items_of is) ++ spell_item B i
+  items_last [] i = append-nil _
+  items_last (j ∷ is) i = between (spell_item B j) _ (spell_items B (items_of is)) (spell_item B i) (items_last is i)
+
+  pipes_last : (ps : Row APipelinePart) (p : APipelinePart) → spell_pipes B (pipeline_parts_of (ps ++ p ∷ [])) ≡ spell_pipes B (pipeline_parts_of ps) ++ (codes "|" ∷ spell_command B p.command)
+  pipes_last [] p = ap (λ z. codes "|" ∷ z) (append-nil _)
+  pipes_last (q ∷ ps) p = between (codes "|" ∷ spell_command B q.command) _ (spell_pipes B (pipeline_parts_of ps)) (codes "|" ∷ spell_command B p.command) (pipes_last ps p)
+
+  joined_last : (ps : Row AnAndOrPart) (p : AnAndOrPart) → spell_and_or_parts B (and_or_parts_of (ps ++ p ∷ [])) ≡ spell_and_or_parts B (and_or_parts_of ps) ++ (and_or_text p.operator ∷ spell_pipeline B p.pipeline)
+  joined_last [] p = ap (λ z. and_or_text p.operator ∷ z) (append-nil _)
+  joined_last (q ∷ ps) p =
+      between (and_or_text q.operator ∷ spell_pipeline B q.pipeline) _ (spell_and_or_parts B (and_or_parts_of ps)) (and_or_text p.operator ∷ spell_pipeline B p.pipeline) (joined_last ps p)
+
+  branches_last : (bs : Row ABranch) (b : ABranch) → spell_branches B (branches_of (bs ++ b ∷ [])) ≡ spell_branches B (branches_of bs) ++ (codes "elif" ∷ spell_branch B b)
+  branches_last [] b = ap (λ z. codes "elif" ∷ z) (append-nil _)
+  branches_last (c ∷ bs) b = between (codes "elif" ∷ spell_branch B c) _ (spell_branches B (branches_of bs)) (codes "elif" ∷ spell_branch B b) (branches_last bs b)
+
+  entries_joined : (es ls : Row AnEntry) → spell_entries B (entries_of (es ++ ls)) ≡ spell_entries B (entries_of es) ++ spell_entries B (entries_of ls)
+  entries_joined [] ls = refl
+  entries_joined (e ∷ es) ls = between (spell_entry B e) _ (spell_entries B (entries_of es)) (spell_entries B (entries_of ls)) (entries_joined es ls)
+
+  entries_last : (es : Row AnEntry) (e : AnEntry) → spell_entries B (entries_of (es ++ e ∷ [])) ≡ spell_entries B (entries_of es) ++ spell_entry B e
+  entries_last es e = entries_joined es (e ∷ []) ∙ ap (λ z. spell_entries B (entries_of es) ++ z) (append-nil _)
+
+-- ---- what holds of what a form reads, and of the tokens passed
+
+-- of a fault nothing is said
+abbrev Of : {X : Type 0} → (X → Row Spelled → Type 0) → Read X → Row Spelled → Type 0
+Of P (Ok (x, t)) k = P x k
+Of P (Err f) k = Unit {0}
+
+of_so : {X : Type 0} (P Q : X → Row Spelled → Type 0) (y : Read X) (k : Row Spelled) → Of P y k → ((x : X) → P x k → Q x k) → Of Q y k
+of_so P Q (Ok (x, t)) k one so = so x one
+of_so P Q (Err f) k one so = tt
+
+-- behind the tokens k
+of_behind : {X : Type 0} (Q : X → Row Spelled → Type 0) (k : Row Spelled) (y : Read X) (l : Row Spelled) → Of (λ x m. Q x (k ++ m)) y l → Of Q y (k ++ l)
+of_behind Q k (Ok (x, t)) l so = so
+of_behind Q k (Err f) l so = tt
+
+-- what a step goes on with, or ends with
+abbrev held : {A : Type 0} → Step A → A
+held (again a) = a
+held (done a) = a
+
+held_if : {A : Type 0} (on : Bool) (a : A) → held (step_if on a) ≡ a
+held_if true a = refl
+held_if false a = refl
+
+module _ (g : Given) where
+  pub record Passing {X : Type 0} (r : Form X) (P : X → Row Spelled → Type 0) (s : State) : Type 0 where
+    pub passing : (y : Read X) (k : Row Spelled) → may r g s y k → Of P y k
+
+  just_of : {X : Type 0} (P : X → Row Spelled → Type 0) {x : X} {s : State} → P x [] → (y : Read X) (k : Row Spelled) → Just x s y k → Of P y k
+  just_of P so y k just = so
+
+  halts_of : {X : Type 0} (P : X → Row Spelled → Type 0) (f : _) (y : Read X) (k : Row Spelled) → Halts {X = X} f y k → Of P y k
+  halts_of P f y k halted = tt
+
+  pass_give : {X : Type 0} {P : X → Row Spelled → Type 0} {x : X} {s : State} → P x [] → Passing (give x) P s
+  pass_give {P = P} so = record { passing = just_of P so }
+
+  pass_stop : {X : Type 0} {P : X → Row Spelled → Type 0} {kind : _} {at : ℕ} {s : State} → Passing (stop kind at) P s
+  pass_stop {P = P} = record { passing = halts_of P _ }
+
+  pass_so : {X : Type 0} {P Q : X → Row Spelled → Type 0} {r : Form X} {s : State} → Passing r P s → ((x : X) (k : Row Spelled) → P x k → Q x k) → Passing r Q s
+  pass_so {P = P} {Q = Q} one so = record { passing = λ y k part. of_so P Q y k (one.passing y k part) (λ x good. so x k good) }
+
+  then_of : {X Y : Type 0} (P : X → Row Spelled → Type 0) (Q : Y → Row Spelled → Type 0) (r : Form X) (q : X → Form Y) (s : State) → Passing r P s
+      → ((x : X) (t : State) (k : Row Spelled) → P x k → Passing (q x) (λ y l. Q y (k ++ l)) t) → (y : Read Y) (m : Row Spelled) → Then (may r g) (λ x. may (q x) g) s y m → Of Q y m
+  then_of P Q r q s first rest y m (and_then {x = x} {t = t} {k = k} {l = l} one two) = of_behind Q k y l ((rest x t k (first.passing (Ok (x, t)) k one)).passing y l two)
+  then_of P Q r q s first rest y m (or_stops one) = tt
+
+  pass_then : {X Y : Type 0} {P : X → Row Spelled → Type 0} {Q : Y → Row Spelled → Type 0} {r : Form X} {q : X → Form Y} {s : State} → Passing r P s
+      → ((x : X) (t : State) (k : Row Spelled) → P x k → Passing (q x) (λ y l. Q y (k ++ l)) t) → Passing (both r q) Q s
+  pass_then {P = P} {Q = Q} {r = r} {q = q} {s = s} first rest = record { passing = then_of P Q r q s first rest }
+
+  -- nothing is told
+  abbrev Silent : {X : Type 0} → X → Row Spelled → Type 0
+  Silent x k = k ≡ []
+
+  -- a form that tells nothing, and then the rest
+  pass_on : {X Y : Type 0} {Q : Y → Row Spelled → Type 0} {r : Form X} {q : X → Form Y} {s : State} → Passing r Silent s → ((x : X) (t : State) → Passing (q x) Q t) → Passing (both r q) Q s
+  pass_on {Q = Q} {q = q} first rest = pass_then first (λ x t k so. subst (λ (m : Row Spelled). Passing (q x) (λ y l. Q y (m ++ l)) t) (sym so) (rest x t))
+
+  -- and then what is given
+  pass_last : {X Y : Type 0} {P : X → Row Spelled → Type 0} {Q : Y → Row Spelled → Type 0} {r : Form X} {f : X → Y} {s : State} → Passing r P s
+      → ((x : X) (k : Row Spelled) → P x k → Q (f x) k) → Passing (both r (λ x. give (f x))) Q s
+  pass_last {Q = Q} {f = f} first so = pass_then first (λ x t k good. pass_give (subst (λ (m : Row Spelled). Q (f x) m) (sym (append-nil k)) (so x k good)))
+
+  pass_see : {X : Type 0} {f : Sight X} {s : State} → Passing (see f) Silent s
+  pass_see = record { passing = just_of Silent refl }
+
+  pass_move : {m : Move} {s : State} → Passing (move m) Silent s
+  pass_move = record { passing = just_of Silent refl }
+
+  -- one more element, and then the rest
+  pass_pushed : {A Y : Type 0} {Q : Y → Row Spelled → Type 0} {xs : Row A} {x : A} {q : Row A → Form Y} {s : State} → ((t : State) → Passing (q (xs ++ x ∷ [])) Q t) → Passing (both (push xs x) q) Q s
+  pass_pushed {Q = Q} {xs = xs} {x = x} {q = q} rest =
+      pass_then {P = λ ys k. (ys ≡ xs ++ x ∷ []) × (k ≡ [])} (record { passing = just_of (λ ys k. (ys ≡ xs ++ x ∷ []) × (k ≡ [])) (refl, refl) })
+      (λ ys t k so. subst (λ (m : Row Spelled). Passing (q ys) (λ y l. Q y (m ++ l)) t) (sym so.1) (subst (λ zs. Passing (q zs) Q t) (sym so.0) (rest t)))
+
+  token_of : {X : Type 0} (P : X × Span → Row Spelled → Type 0) (how : Told) (r : Form X) (s : State) → ((x : X) (t : State) → P (x, span g.offset s.at t.at) (tell how g.text s.at t.at))
+      → (y : Read (X × Span)) (k : Row Spelled) → OneToken how g (may r g) s y k → Of P y k
+  token_of P how r s so y k (whole {x = x} {t = t} part) = so x t
+  token_of P how r s so y k (broken_off part) = tt
+
+  pass_token : {X : Type 0} {P : X × Span → Row Spelled → Type 0} {how : Told} {r : Form X} {s : State} → ((x : X) (t : State) → P (x, span g.offset s.at t.at) (tell how g.text s.at t.at)) → Passing (token how r) P s
+  pass_token {P = P} {how = how} {r = r} {s = s} so = record { passing = token_of P how r s so }
+
+  -- a token that is told by this text
+  abbrev OneText : {X : Type 0} → Spelled → X → Row Spelled → Type 0
+  OneText text x k = k ≡ text ∷ []
+
+  pass_text : {X : Type 0} {text : Spelled} {r : Form X} {s : State} → Passing (token (by text) r) (OneText text) s
+  pass_text = pass_token (λ x t. refl)
+
+  pass_pick : {X : Type 0} {P : X → Row Spelled → Type 0} {r q : Form X} {s : State} (b : Bool) → Passing r P s → Passing q P s → Passing (pick b r q) P s
+  pass_pick true one two = one
+  pass_pick false one two = two
+
+  module _ {A : Type 0} (f : A → Row Spelled) where
+    -- a turn adds to what is spelled so far the tokens that it passes
+    abbrev Grows : A → Step A → Row Spelled → Type 0
+    Grows a x k = f (held x) ≡ f a ++ k
+
+    grows_none : (a : A) → f a ≡ f a ++ []
+    grows_none a = sym (append-nil (f a))
+
+    module _ (turn : A → Form (Step A)) (each : (a : A) (s : State) → Passing (turn a) (Grows a) s) where
+      grown : (a b : A) (k : Row Spelled) (y : Read A) (l : Row Spelled) → f b ≡ f a ++ k → Of (λ c m. f c ≡ f b ++ m) y l → Of (λ c m. f c ≡ f a ++ m) y (k ++ l)
+      grown a b k (Ok (c, t)) l one rest = rest ∙ ap (λ z. z ++ l) one ∙ append_assoc (f a) k l
+      grown a b k (Err e) l one rest = tt
+
+      turns_of : (a : A) (s : State) (y : Read A) (k : Row Spelled) → Turns g (λ b. may (turn b) g) a s y k → Of (λ b m. f b ≡ f a ++ m) y k
+      turns_of a s y k (last {b = b} {t = t} part) = (each a s).passing (Ok (done b, t)) k part
+      turns_of a s y k (rests {b = b} {t = t} part off) = (each a s).passing (Ok (again b, t)) k part
+      turns_of a s y m (more {b = b} {t = t} {k = k} {l = l} part on rest) = grown a b k y l ((each a s).passing (Ok (again b, t)) k part) (turns_of b t y l rest)
+      turns_of a s y k (halts part) = tt
+
+      pass_many : (a : A) (s : State) → Passing (many turn a) (λ b k. f b ≡ f a ++ k) s
+      unfolding many
+      pass_many a s = record { passing = turns_of a s }
+
+  -- turns that tell nothing
+  silent_many : {A : Type 0} (turn : A → Form (Step A)) → ((a : A) (s : State) → Passing (turn a) Silent s) → (a : A) (s : State) → Passing (many turn a) Silent s
+  silent_many turn each a s = pass_so (pass_many (λ b. []) turn (λ b t. pass_so (each b t) (λ x k so. sym so)) a s) (λ x k so. sym so)
+
+  -- ---- what tells nothing
+
+  any : {X : Type 0} {r : Form X} {s : State} → Passing r (λ x k. Unit {0}) s
+  any = record { passing = λ y k part. of_any y k }
+    where
+      of_any : {X : Type 0} (y : Read X) (k : Row Spelled) → Of (λ x k. Unit {0}) y k
+      of_any (Ok (x, t)) k = tt
+      of_any (Err f) k = tt
+
+  silent_next : (position : Position) (s : State) → Passing (next_token position) Silent s
+  unfolding next_token
+  silent_next position s = pass_on pass_see (λ n t. pass_on pass_move (λ u v. pass_give refl))
+
+  silent_comment : (n : Next) (s : State) → Passing (a_comment n) Silent s
+  unfolding a_comment
+  silent_comment n s = pass_on pass_see (λ c t. by_comment c t)
+    where
+      by_comment : (c : Option Comment) (t : State) → Passing (comment_by n c) Silent t
+      by_comment (Some c) t = pass_on pass_move (λ u v. pass_on (silent_next Command v) (λ m w. pass_give refl))
+      by_comment None t = pass_give refl
+
+  silent_newline : (n : Next) (s : State) → Passing (a_newline n) Silent s
+  unfolding a_newline
+  silent_newline n s = pass_pick (is_newline n.token) (pass_on pass_move (λ u v. pass_on (silent_next Command v) (λ m w. pass_give refl))) (pass_give refl)
+
+  silent_kept : (cs : Row Comment) (c : Option Comment) (s : State) → Passing (with_comment cs c) Silent s
+  silent_kept cs (Some c) s = record { passing = just_of Silent refl }
+  silent_kept cs None s = pass_give refl
+
+  silent_join_turn : (j : JoinSo) (s : State) → Passing (join_turn j) Silent s
+  unfolding join_turn
+  silent_join_turn j s = pass_on (silent_comment j.next s) (λ c t. pass_on (silent_kept j.join.comments c.0 t) (λ cs u. pass_on (silent_newline c.1 u) (λ l v. pass_give refl)))
+
+  silent_join : (broken : Bool) (s : State) → Passing (a_join broken) Silent s
+  unfolding a_join
+  silent_join broken s = pass_on (silent_next Command s) (λ n t. pass_on (silent_many join_turn silent_join_turn _ t) (λ j u. pass_give refl))
+
+  pass_unexpected : {X : Type 0} {P : X → Row Spelled → Type 0} (inner : Inner) (n : Next) (s : State) → Passing (unexpected inner n) P s
+  pass_unexpected inner n s = pass_then any (λ w t k so. pass_stop)
+
+-- ---- what the rows pass
+
+module _ (B : List ℕ) (g : Given) (stands : g.text ≡ drop g.offset B) where
+  raw_at : (p q : ℕ) → raw g.text p q ≡ text_at B (span g.offset p q)
+  raw_at p q =
+      let inside : raw g.text p q ≡ take (q - p) (drop (g.offset + p) B) = ap (λ T. take (q - p) (drop p T)) stands ∙ ap (take (q - p)) (drop-drop p g.offset B) in
+      let many : q - p ≡ (g.offset + q) - (g.offset + p) = omega arith in
+      inside ∙ ap (λ n. take n (drop (g.offset + p) B)) many
+
+  pass_word : (inner : Inner) (s : State) → Passing g (a_word inner) (λ w k. k ≡ spell_word B w) s
+  unfolding a_word
+  pass_word inner s =
+      pass_on g (pass_see g) (λ p t. pass_last g (pass_token g {P = λ x k. k ≡ text_at B x.1 ∷ []} (λ x u. ap (λ z. z ∷ []) (raw_at t.at u.at))) (λ x k so. so))
+
+  abbrev Spells : {X : Type 0} → (X → Tokens) → X → Tokens → Type 0
+  Spells of x k = k ≡ of x
+
+  pub record Fine (inner : Inner) : Type 0 where
+    pub compound : (o : Opener) (s : State) → Passing g (inner.compound o) (Spells (λ c. spell_command B c.0)) s
+
+  module _ (inner : Inner) (fine : Fine inner) where
+    -- ---- simple commands
+
+    abbrev spelled_items : Items → Tokens
+    spelled_items i = spell_items B (items_of i.items)
+
+    item_word : (position : Position) (broken : Bool) (w : AWord) → spell_item B (item broken (as_item position w)) ≡ spell_word B w
+    item_word Command broken w = refl
+    item_word Prefix broken w = refl
+    item_word Suffix broken w = refl
+
+    pass_item : (i : Items) (position : Position) (s : State) → Passing g (an_item inner i position) (Grows g spelled_items i) s
+    unfolding an_item
+    pass_item i position s =
+        pass_then g (pass_word inner s) (λ w t k so. pass_pushed g (λ u. pass_on g (silent_next g position u) (λ n v. pass_give g
+        (items_last B i.items (item (breaks i) (as_item position w)) ∙ ap (λ z. spelled_items i ++ z) (item_word position (breaks i) w ∙ sym so ∙ sym (append-nil k))))))
+
+    pass_item_by : (i : Items) (o : Option Position) (s : State) → Passing g (item_by inner i o) (Grows g spelled_items i) s
+    pass_item_by i (Some position) s = pass_item i position s
+    pass_item_by i None s = pass_give g (grows_none g spelled_items i)
+
+    pass_item_turn : (i : Items) (s : State) → Passing g (item_turn inner i) (Grows g spelled_items i) s
+    unfolding item_turn
+    pass_item_turn i s = pass_item_by i (behind_item i.next.token) s
+
+    pass_simple : (n : Next) (s : State) → Passing g (a_simple inner n) (Spells (λ c. spell_command B c.0)) s
+    unfolding a_simple
+    pass_simple n s = pass_last g (pass_many g spelled_items (item_turn inner) pass_item_turn (so_many [] n) s) (λ i k so. sym so)
+
+    -- ---- pipelines
+
+    pass_command : (n : Next) (s : State) → Passing g (a_command inner n) (Spells (λ c. spell_command B c.0)) s
+    unfolding a_command
+    pass_command n s = pass_pick g (begins_simple n.token) (pass_simple n s) (by_opener (opener_of n.token))
+      where
+        by_opener : (o : Option Opener) → Passing g (compound_by inner n o) (Spells (λ c. spell_command B c.0)) s
+        by_opener (Some o) = fine.compound o s
+        by_opener None = pass_unexpected g inner n s
+
+    pass_bang : (n : Next) (s : State) → Passing g (a_bang n) (Spells (λ x. spell_bang x.0)) s
+    unfolding a_bang
+    pass_bang n s =
+        pass_pick g (is_bang n.token) (pass_then g (pass_text g) (λ x t k so. pass_on g (silent_next g Command t) (λ m u. pass_give g (append-nil k ∙ so)))) (pass_give g refl)
+
+    abbrev spelled_pipes : Piped → Tokens
+    spelled_pipes p = spell_pipes B (pipeline_parts_of p.parts)
+
+    pass_one_command : (p : Piped) (s : State) → Passing g (one_command inner p) (Grows g spelled_pipes p) s
+    unfolding one_command
+    pass_one_command p s =
+        pass_then g (pass_text g) (λ x t k is. pass_on g (silent_join g p.next.broken t) (λ j u. pass_then g (pass_command j.1 u) (λ c v l so. pass_pushed g (λ w. pass_give g
+        (pipes_last B p.parts (record { join = j.0; command = c.0 }) ∙ ap (λ z. spelled_pipes p ++ z) (rw (is, so) (ap (λ z. codes "|" ∷ z) (sym (append-nil _)))))))))
+
+    pass_pipe_turn : (p : Piped) (s : State) → Passing g (pipe_turn inner p) (Grows g spelled_pipes p) s
+    unfolding pipe_turn
+    pass_pipe_turn p s = pass_pick g (is_pipe p.next.token) (pass_one_command p s) (pass_give g (grows_none g spelled_pipes p))
+
+    pass_pipeline : (n : Next) (s : State) → Passing g (a_pipeline inner n) (Spells (λ x. spell_pipeline B x.0)) s
+    unfolding a_pipeline
+    pass_pipeline n s =
+        pass_then g (pass_bang n s) (λ b t k is. pass_then g (pass_command b.1 t) (λ c u l so.
+        pass_last g (pass_many g spelled_pipes (pipe_turn inner) pass_pipe_turn (piped [] c.1) u) (λ p m all. rw (is, so, ← all) (sym (append_assoc (spell_bang b.0) (spell_command B c.0) (spelled_pipes p))))))
+
+    -- ---- and-or lists
+
+    abbrev spelled_joined : Joined → Tokens
+    spelled_joined a = spell_and_or_parts B (and_or_parts_of a.parts)
+
+    pass_one_pipeline : (a : Joined) (o : AndOrOperator) (s : State) → Passing g (one_pipeline inner a o) (Grows g spelled_joined a) s
+    unfolding one_pipeline
+    pass_one_pipeline a o s =
+        pass_then g (pass_text g) (λ x t k is. pass_on g (silent_join g a.next.broken t) (λ j u. pass_then g (pass_pipeline j.1 u) (λ p v l so. pass_pushed g (λ w. pass_give g
+        (joined_last B a.parts (record { operator = o; join = j.0; pipeline = p.0 }) ∙ ap (λ z. spelled_joined a ++ z) (rw (is, so) (ap (λ z. and_or_text o ∷ z) (sym (append-nil _)))))))))
+
+    pass_join_pipeline : (a : Joined) (s : State) → Passing g (join_pipeline inner a) (Grows g spelled_joined a) s
+    unfolding join_pipeline
+    pass_join_pipeline a s = by_operator (and_or_operator_of a.next.token)
+      where
+        by_operator : (o : Option AndOrOperator) → Passing g (joined_by inner a o) (Grows g spelled_joined a) s
+        by_operator (Some o) = pass_one_pipeline a o s
+        by_operator None = pass_give g (grows_none g spelled_joined a)
+
+    pass_and_or : (n : Next) (s : State) → Passing g (an_and_or inner n) (Spells (λ x. spell_and_or B x.0)) s
+    unfolding an_and_or
+    pass_and_or n s =
+        pass_then g (pass_pipeline n s) (λ p t k is.
+        pass_last g (pass_many g spelled_joined (join_pipeline inner) pass_join_pipeline (joined_so [] p.1) t) (λ a m all. rw (is, ← all) refl))
+
+    -- ---- entries
+
+    told_is : (T : List ℕ) (p q : ℕ) (c : Separator) → tell (told_separator c) T p q ≡ spell_background (is_background (Some c))
+    told_is T p q Semicolon = refl
+    told_is T p q Ampersand = refl
+
+    pass_separator : (n : Next) (s : State) → Passing g (a_separator n) (Spells (λ x. spell_background (is_background x.0))) s
+    unfolding a_separator
+    pass_separator n s = by_separator (separator_of n.token)
+      where
+        by_separator : (c : Option Separator) → Passing g (separator_by n c) (Spells (λ x. spell_background (is_background x.0))) s
+        by_separator (Some c) =
+            pass_then g (pass_token g {P = λ x k. k ≡ spell_background (is_background (Some c))} (λ x t. told_is g.text s.at t.at c))
+            (λ x t k so. pass_on g (silent_next g Command t) (λ m u. pass_give g (append-nil k ∙ so)))
+        by_separator None = pass_give g refl
+
+    pass_entry : (blank : Bool) (n : Next) (s : State) → Passing g (an_entry inner blank n) (Spells (λ e. spell_entry B e.entry)) s
+    unfolding an_entry
+    pass_entry blank n s =
+        pass_then g (pass_and_or n s) (λ a t k is. pass_then g (pass_separator a.1 t) (λ c u l so. pass_on g (silent_comment g c.1 u) (λ d v. pass_give g (rw (is, append-nil l, so) refl))))
+
+    -- ---- lists
+
+    abbrev spelled_list : ListSo → Tokens
+    spelled_list l = spell_entries B (entries_of l.list.entries)
+
+    step_grows : (l m : ListSo) (on : Bool) (k : Tokens) → spelled_list m ≡ spelled_list l ++ k → Grows g spelled_list l (step_if on m) k
+    step_grows l m on k so = ap spelled_list (held_if on m) ∙ so
+
+    pass_one_entry : (l : ListSo) (s : State) → Passing g (one_entry inner l) (Grows g spelled_list l) s
+    unfolding one_entry
+    pass_one_entry l s =
+        pass_then g (pass_entry _ l.next s) (λ e t k so. pass_pushed g (λ u. pass_give g
+        (step_grows l _ e.parted _ (entries_last B l.list.entries e.entry ∙ ap (λ z. spelled_list l ++ z) (sym so ∙ sym (append-nil k))))))
+
+    pass_entry_turn : (l : ListSo) (s : State) → Passing g (entry_turn inner l) (Grows g spelled_list l) s
+    unfolding entry_turn
+    pass_entry_turn l s = pass_pick g (begins_pipeline l.next.token) (pass_one_entry l s) (pass_give g (grows_none g spelled_list l))
+
+    -- what a list has so far, and the tokens passed since l
+    abbrev Since : ListSo → ListSo → Tokens → Type 0
+    Since l m k = spelled_list m ≡ spelled_list l ++ k
+
+    pass_remark : (l : ListSo) (s : State) → Passing g (a_remark l) (Since l) s
+    unfolding a_remark
+    pass_remark l s = pass_on g (silent_comment g l.next s) (λ x t. by_comment x t)
+      where
+        by_comment : (x : Option Comment × Next) (t : State) → Passing g (remark_by l x) (Since l) t
+        by_comment (Some c, n) t = pass_pushed g (λ u. pass_give g (entries_last B l.list.entries (entry (remark c) false (is_blank_next l.list) None)))
+        by_comment (None, n) t = pass_give g (grows_none g spelled_list l)
+
+    pass_on_line : (l : ListSo) (s : State) → Passing g (on_line inner l) (Since l) s
+    unfolding on_line
+    pass_on_line l s =
+        pass_then g (pass_many g spelled_list (entry_turn inner) pass_entry_turn l s)
+        (λ m t k so. pass_so g (pass_remark m t) (λ x j is. is ∙ ap (λ z. z ++ j) so ∙ append_assoc (spelled_list l) k j))
+
+    pass_list_turn : (l : ListSo) (s : State) → Passing g (list_turn inner l) (Grows g spelled_list l) s
+    unfolding list_turn
+    pass_list_turn l s = pass_then g (pass_on_line l s) (λ m t k so. pass_on g (silent_newline g m.next t) (λ x u. pass_give g (step_grows l _ x.0 _ (so ∙ ap (λ z. spelled_list l ++ z) (sym (append-nil k))))))
+
+    pass_list : (n : Next) (s : State) → Passing g (a_list inner n) (Spells (λ x. spell_entries B x.0)) s
+    unfolding a_list
+    pass_list n s =
+        pass_then g (pass_many g spelled_list (list_turn inner) pass_list_turn (list_so (none_listed false) n) s)
+        (λ l t k so. pass_pick g l.list.commands (pass_give g (append-nil k ∙ sym so)) (pass_unexpected g inner l.next t))
+
+    -- ---- compound commands
+
+    pass_passed : (text : Spelled) (paren : Bool) (s : State) → Passing g (passed text paren) (OneText g text) s
+    unfolding passed
+    pass_passed text paren s = pass_then g (pass_text g) (λ x t k so. pass_on g (silent_next g Command t) (λ n u. pass_give g (append-nil k ∙ so)))
+
+    pass_closing : (c : Closing) (n : Next) (s : State) → Passing g (closing inner c n) (OneText g (closing_text c)) s
+    unfolding closing
+    pass_closing c n s = pass_pick g (is_closing c n.token) (pass_passed (closing_text c) _ s) (pass_unexpected g inner n s)
+
+    pass_group : (c : Closing) (n : Next) (s : State) → Passing g (a_group inner c n) (Spells (λ x. spell_entries B x.what ++ (closing_text c ∷ []))) s
+    unfolding a_group
+    pass_group c n s = pass_then g (pass_list n s) (λ l t k is. pass_last g (pass_closing c l.1 t) (λ x m so. rw (is, so) refl))
+
+    pass_branch : (n : Next) (s : State) → Passing g (a_branch inner n) (Spells (λ x. spell_branch B x.0)) s
+    unfolding a_branch
+    pass_branch n s =
+        pass_then g (pass_list n s) (λ c t k is. pass_then g (pass_closing closings.Then c.1 t) (λ x u l so. pass_last g (pass_list x.1 u) (λ b m other. rw (is, so, other) refl)))
+
+    abbrev spelled_branches : Branched → Tokens
+    spelled_branches b = spell_branches B (branches_of b.branches)
+
+    pass_elif : (b : Branched) (s : State) → Passing g (elif_turn inner b) (Grows g spelled_branches b) s
+    unfolding elif_turn
+    pass_elif b s =
+        pass_pick g (is_closing closings.Elif b.next.token)
+        (pass_then g (pass_passed (closing_text closings.Elif) false s) (λ x t k is. pass_then g (pass_branch x.1 t) (λ c u l so. pass_pushed g (λ v. pass_give g
+        (branches_last B b.branches c.0 ∙ ap (λ z. spelled_branches b ++ z) (rw (is, so) (ap (λ z. codes "elif" ∷ z) (sym (append-nil _)))))))))
+        (pass_give g (grows_none g spelled_branches b))
+
+    pass_else : (n : Next) (s : State) → Passing g (an_else inner n) (Spells (λ x. spell_else B x.0)) s
+    unfolding an_else
+    pass_else n s =
+        pass_pick g (is_closing closings.Else n.token)
+        (pass_then g (pass_passed (closing_text closings.Else) false s) (λ x t k is. pass_last g (pass_list x.1 t) (λ l m so. rw (is, so) refl)))
+        (pass_give g refl)
+
+    pass_if : (n : Next) (s : State) → Passing g (an_if inner n) (λ f k. codes "if" ∷ k ≡ spell_form B f.what) s
+    unfolding an_if
+    pass_if n s =
+        pass_then g (pass_branch n s) (λ f t k1 one.
+        pass_then g (pass_many g spelled_branches (elif_turn inner) pass_elif (branched [] f.1) t) (λ b u k2 two.
+        pass_then g (pass_else b.next u) (λ e v k3 three.
+        pass_last g (pass_closing closings.Fi e.1 v) (λ c k4 four. rw (one, ← two, three, four) (ap (λ z. codes "if" ∷ z) (sym (append_assoc (spell_branch B f.0 ++ spelled_branches b) (spell_else B e.0) (codes "fi" ∷ []) ∙ append_assoc (spell_branch B f.0) (spelled_branches b) (spell_else B e.0 ++ (codes "fi" ∷ [])))))))))
+
+    pass_loop : (n : Next) (s : State) → Passing g (a_loop inner n) (Spells (λ x. spell_loop B x.what)) s
+    unfolding a_loop
+    pass_loop n s =
+        pass_then g (pass_list n s) (λ c t k1 one. pass_then g (pass_closing closings.Do c.1 t) (λ d u k2 two. pass_then g (pass_list d.1 u) (λ b v k3 three.
+        pass_last g (pass_closing closings.Done b.1 v) (λ e k4 four. rw (one, two, three, four) (sym (append_assoc (spell_entries B c.0) (codes "do" ∷ spell_entries B b.0) (codes "done" ∷ [])))))))
+
+    pass_form : (o : Opener) (n : Next) (s : State) → Passing g (a_form inner o n) (λ f k. opener_text o ∷ k ≡ spell_form B f.what) s
+    pass_form openers.Brace n s = pass_last g (pass_group closings.Brace n s) (λ l k so. rw so refl)
+    pass_form openers.Paren n s = pass_last g (pass_group closings.Paren n s) (λ l k so. rw so refl)
+    pass_form openers.If n s = pass_if n s
+    pass_form openers.While n s = pass_last g (pass_loop n s) (λ l k so. rw so refl)
+    pass_form openers.Until n s = pass_last g (pass_loop n s) (λ l k so. rw so refl)
+
+    pass_compound : (o : Opener) (s : State) → Passing g (a_compound inner o) (Spells (λ c. spell_command B c.0)) s
+    unfolding a_compound
+    pass_compound o s =
+        pass_then g (pass_passed (opener_text o) _ s) (λ x t k is. pass_last g (pass_form o x.1 t) (λ f m so. rw is (so ∙ sym (append-nil _))))
+
+    -- ---- lines
+
+    silent_end : (n : Next) (s : State) → Passing g (end_of_line inner n) (Silent g) s
+    unfolding end_of_line
+    silent_end n s = pass_pick g (is_newline n.token) (pass_on g (pass_move g) (λ u v. pass_give g refl)) (pass_pick g (is_end n.token) (pass_give g refl) (pass_unexpected g inner n s))
+
+    pass_line : (blank : Bool) (s : State) → Passing g (a_line inner blank) (Spells (λ x. spell_entries B (entries_of x.0))) s
+    unfolding a_line
+    pass_line blank s =
+        pass_on g (silent_next g Command s) (λ n t. pass_then g (pass_on_line (list_so (none_listed blank) n) t)
+        (λ l u k so. pass_on g (silent_end l.next u) (λ newline v. pass_give g (append-nil k ∙ sym so))))
+
+  pass_level : (room : ℕ) → Fine (level room)
+  unfolding level
+  pass_level zero = record { compound = λ o s. pass_on g (pass_see g) (λ p t. pass_stop g) }
+  pass_level (suc room) = record { compound = λ o s. pass_compound (level room) (pass_level room) o s }
+
+-- ---- a script
+
+module _ (B : List ℕ) where
+  line_spelled : (blank : Bool) (p : ℕ) (es : Row AnEntry) (newline : Bool) (t : State) (k : Row Spelled) → may (a_line (level most_open) blank) (given (drop p B) p) (standing 0) (Ok ((es, newline), t)) k
+      → k ≡ spell_entries B (entries_of es)
+  line_spelled blank p es newline t k part = let g = given (drop p B) p in (pass_line B g refl (level most_open) (pass_level B g refl most_open) blank (standing 0)).passing (Ok ((es, newline), t)) k part
+
+  lines_spelled : (so : SoFar) (p : ℕ) (s : AScript) (k : Row Spelled) → Lines B so p s k → s.wrong ≡ None → spell_entries B s.entries ≡ spell_entries B (entries_of so.entries) ++ k
+  lines_spelled so p s m (line_ended {l = l} es t k part rest) none =
+      lines_spelled _ _ s l rest none ∙ ap (λ z. z ++ l) (entries_joined B so.entries es ∙ ap (λ z. spell_entries B (entries_of so.entries) ++ z) (sym (line_spelled _ p es true t k part)))
+      ∙ append_assoc (spell_entries B (entries_of so.entries)) k l
+  lines_spelled so p s m (last_line es t k part) none = entries_joined B so.entries es ∙ ap (λ z. spell_entries B (entries_of so.entries) ++ z) (sym (line_spelled _ p es false t k part))
+  lines_spelled so p s m (faulty f k part) none = absurd cc
+
+-- the tokens passed in a faultless script are those that its tree spells
+pub script_spelled : (B : List ℕ) (s : AScript) → s.wrong ≡ None → (k : Row Spelled) → Passes B s k → k ≡ spell_entries B s.entries
+script_spelled B s none k passes = sym (lines_spelled B nothing_yet 0 s k passes none)
