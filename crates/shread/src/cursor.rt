@@ -11,7 +11,7 @@ pub(crate) struct Cursor<'a, S: Source> {
     pub(crate) source: &'a S,
     pub(crate) base: usize,
     pub(crate) origin: usize,
-    /// It grows the tree of what it reads. If not, it only sees how far the reading goes, and grows nothing.
+    /// It grows the tree of what it reads. If not, it only sees how far the reading goes, and grows no vector.
     pub(crate) keep: bool,
     pub(crate) at: usize,
     ghost begins: { base ≤ length (S.bytes source.now) },
