@@ -4,7 +4,8 @@ use Rattle.std.proofs.Common.{◌≡◌, refl, ℕ, false, true, None, Some, [],
 use Rattle.shtree.specs.declared.tree.Span.{Span}
 use Rattle.shtree.specs.declared.tree.Comment.{Comment}
 use Rattle.shtree.specs.declared.tree.AndOrOperator.TheVariants.{And, Or}
-use Rattle.shtree.specs.declared.tree.RedirectOperator.TheVariants.{Input, Output, Append}
+use Rattle.shtree.specs.declared.tree.RedirectOperator.{RedirectOperator}
+use Rattle.shtree.specs.declared.tree.RedirectOperator.TheVariants.{Input, Output, Here, Append, DuplicateInput, DuplicateOutput, ReadWrite, HereStripped, Clobber}
 use Rattle.shtree.specs.Tree.{AJoin, Entries, no_entry, more_entries, AnEntry, entry, command, remark, and_or, no_and_or, more_and_or, APipeline, pipeline, no_pipe, more_pipes, ACommand, simple, compound, function, formed, AForm, brace, subshell, if_then, while_do, until_do, for_in, case_in, branch, otherwise, no_in, in_words, case_item, no_item, AnItem, item, assign, argument, redirect, AWord, word, no_subst, subst, items_of, branches_of, cases_of, patterns_of, substs_of}
 use Rattle.shtree.specs.Spelling.{bare, spell_entries}
 
@@ -31,6 +32,9 @@ a_name p q = item false (argument (a_word p q))
 
 abbrev a_command : ℕ → ℕ → ACommand
 a_command p q = simple (items_of (a_name p q ∷ []))
+
+abbrev to : RedirectOperator → ℕ → ℕ → AnItem
+to operator p q = item false (redirect None operator nowhere (a_word p q) None)
 
 abbrev a_compound : AForm → ACommand
 a_compound form = compound (formed form nowhere no_item)
@@ -96,15 +100,16 @@ matched = refl
 -- functions
 named :
     spell_entries (codes "f() { a; } >b")
-    (list_of (function (at 0 1) [] (formed (brace (a_list 6 7)) nowhere (items_of (item false (redirect None Output nowhere (a_word 12 13) None) ∷ [])))))
+    (list_of (function (at 0 1) [] (formed (brace (a_list 6 7)) nowhere (items_of (to Output 12 13 ∷ [])))))
     ≡ codes "f" ∷ codes "(" ∷ codes ")" ∷ codes "{" ∷ codes "a" ∷ codes "}" ∷ codes ">" ∷ codes "b" ∷ []
 named = refl
 
 -- a number by its bare text, a word as it stands
 redirected :
-    spell_entries (codes "a 1\\\n2<\"$(b)\" >>c")
+    spell_entries (codes "a 1\\\n2<\"$(b)\" >c >>d <&e >&f <>g >|h <<i <<-j")
     (list_of (simple (items_of (a_name 0 1 ∷ item false (redirect (Some (at 2 6)) Input nowhere (word (at 7 13) (substs_of (subst (a_list 10 11) nowhere ∷ []))) None)
-    ∷ item false (redirect None Append nowhere (a_word 16 17) None) ∷ []))))
-    ≡ codes "a" ∷ codes "12" ∷ codes "<" ∷ codes "\"$(b)\"" ∷ codes ">>" ∷ codes "c" ∷ []
+    ∷ to Output 15 16 ∷ to Append 19 20 ∷ to DuplicateInput 23 24 ∷ to DuplicateOutput 27 28 ∷ to ReadWrite 31 32 ∷ to Clobber 35 36 ∷ to Here 39 40 ∷ to HereStripped 44 45 ∷ []))))
+    ≡ codes "a" ∷ codes "12" ∷ codes "<" ∷ codes "\"$(b)\"" ∷ codes ">" ∷ codes "c"
+    ∷ codes ">>" ∷ codes "d" ∷ codes "<&" ∷ codes "e" ∷ codes ">&" ∷ codes "f" ∷ codes "<>" ∷ codes "g" ∷ codes ">|" ∷ codes "h" ∷ codes "<<" ∷ codes "i" ∷ codes "<<-" ∷ codes "j" ∷ []
 unfolding bare
 redirected = refl
