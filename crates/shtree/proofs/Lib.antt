@@ -6,3 +6,4 @@ pub mod Joined
 pub mod InOrder
 pub mod Placed
 pub mod Within
+pub mod Reach
