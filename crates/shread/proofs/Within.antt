@@ -18,7 +18,7 @@ use Rattle.shtree.specs.declared.tree.Comment.{Comment}
 use Rattle.shtree.specs.declared.tree.Span.{Span}
 use Rattle.shtree.specs.Nodes.{AreWithin, IsSpanWithin, and_or_nodes, branch_nodes, branches_nodes, else_nodes, entries_nodes, form_nodes}
 use Rattle.shtree.specs.Tree.{ABranch, AForm, ASubst, AWord, AnAndOrPart, AnEntry, AnItem, APipelinePart, branches_of, entries_of, item, while_do, until_do}
-use Rattle.shtree.proofs.Reach.{Nodes, CommentFits, SubstFits, WordFits, ItemFits, CommandFits, PipelineFits, PipeFits, PartFits, EntryFits, BranchFits, both as fits_both, fits_substs, fits_entries, fits_branches, fits_assign, fits_argument, fits_simple, fits_compound, fits_pipeline, fits_and_or, fits_command, fits_remark}
+use Rattle.shtree.proofs.Reach.{Nodes, CommentFits, SubstFits, WordFits, ItemFits, CommandFits, PipelineFits, PipeFits, PartFits, EntryFits, BranchFits, both as fits_both, fits_substs, fits_entries, fits_branches, fits_assign, fits_argument, fits_simple, fits_compound, fits_pipeline, fits_and_or, fits_command, fits_remark, within_append}
 use Rattle.shread.specs.Standing.{raw_stands, raw_in, next_newline, before_blanks}
 use Rattle.shread.specs.Comments.{span, comment_at, past_comment}
 use Rattle.shread.specs.Classes.{is_blank}
@@ -30,7 +30,7 @@ use Rattle.shread.specs.Lists.{ListSo, list_so, none_listed, is_blank_next, one_
 use Rattle.shread.specs.Compounds.{Branched, branched, Closed, is_closing, is_open_paren, is_close_paren, passed, closing, a_branch, elif_turn, an_else, an_if, a_loop, a_brace, a_subshell, a_form, a_compound}
 use Rattle.shread.specs.Levels.{most_open, level}
 use Rattle.shread.specs.Lines.{a_line, ALine, IsLine, line_read, line_stops, kind_of}
-use Rattle.shread.specs.Scripts.{the_line}
+use Rattle.shread.specs.Scripts.{SoFar, the_line, with_line}
 use Rattle.shread.specs.Answers.{EntriesWithin}
 use Rattle.shread.proofs.OneOutcome.{is}
 use Rattle.shread.proofs.Places.{next_newline_low}
@@ -407,3 +407,10 @@ pub entries_within : (T : List ℕ) (l : ALine) → IsLine T l → EntriesWithin
 entries_within T l (line_read es newline t k part) =
     kind_within t.at es newline (line_within T 0 true false newline es t (sym ((is (the_line false) (given T 0) (standing 0)).only _ _ part)) t.at (omega arith))
 entries_within T l (line_stops f k part) = tt
+
+-- ---- scripts
+
+-- one more line
+pub more_within : (limit : ℕ) (so then : SoFar) (es : Row AnEntry) → then ≡ with_line so es → AreWithin limit (entries_of so.entries) → AreWithin limit (entries_of es)
+    → AreWithin limit (entries_of then.entries)
+more_within limit so then es is all line = subst (λ (s : SoFar). AreWithin limit (entries_of s.entries)) (sym is) (within_append limit so.entries es all line)
