@@ -201,13 +201,7 @@ fn add(
 }
 
 /// Adds nodes with each growth refused in turn: after a refusal the vector is as it was, and at last it has so many nodes more.
-fn adds(
-    rt: &impl Abort,
-    alloc: Global,
-    list: &List,
-    asked: Asked,
-    count: usize,
-) -> Result<(), Fail>
+fn adds(rt: &impl Abort, alloc: Global, list: &List, asked: Asked, count: usize) -> Result<(), Fail>
     requires { AreWithin usize.MAX (view_list list.now) }
 {
     let refuses = refuses(alloc);
