@@ -18,7 +18,7 @@ use Rattle.shtree.specs.declared.tree.Comment.{Comment}
 use Rattle.shtree.specs.declared.tree.Span.{Span}
 use Rattle.shtree.specs.Nodes.{AreWithin, IsSpanWithin, and_or_nodes, branch_nodes, branches_nodes, else_nodes, entries_nodes, form_nodes}
 use Rattle.shtree.specs.Tree.{AForm, ASubst, AWord, AnEntry, branches_of, entries_of, item}
-use Rattle.shtree.proofs.Reach.{Nodes, CommentFits, SubstFits, WordFits, ItemFits, CommandFits, PipelineFits, PipeFits, PartFits, EntryFits, BranchFits, both as fits_both, fits_substs, fits_entries, fits_branches, fits_assign, fits_argument, fits_simple, fits_compound, fits_pipeline, fits_and_or, fits_command, fits_remark, within_append}
+use Rattle.shtree.proofs.Reach.{Nodes, CommentFits, SubstFits, WordFits, ItemFits, CommandFits, PipelineFits, PipeFits, PartFits, EntryFits, BranchFits, both as fits_both, fits_substs, fits_entries, fits_branches, fits_assign, fits_argument, fits_simple, fits_compound, fits_pipeline, fits_and_or, fits_command, fits_remark, span_fits_more, within_append}
 use Rattle.shread.specs.Standing.{raw_stands, raw_in, next_newline, before_blanks}
 use Rattle.shread.specs.Comments.{span, comment_at, past_comment}
 use Rattle.shread.specs.Classes.{is_blank}
@@ -53,9 +53,6 @@ comment_low : (T : List ℕ) (o p : ℕ) (c : Comment) → comment_at T o p ≡ 
 unfolding comment_at past_comment
 comment_low T o p c is =
     comment_by_test (raw_stands T p 35) o p (before_blanks T (next_newline T p)) (next_newline T p) c (next_newline_low T p) (before_blanks_low T (next_newline T p)) is
-
-span_more : (limit more : ℕ) (s : Span) → limit ≤ more → IsSpanWithin limit s → IsSpanWithin more s
-span_more limit more s le so = (omega (arith, le, so.0), omega (arith, le, so.1))
 
 -- ---- forms
 
@@ -200,7 +197,7 @@ module _ (keep : Bool) (g : Given) (limit : ℕ) where
     comment_fits_by n None s is = gives tt
     comment_fits_by n (Some c) s is =
         tells_then keep g {P = λ x t. t.at ≡ past_comment g.text s.at} (record { told = refl })
-        (λ x t there. unless (λ b. after (λ m u. gives (span_more _ limit c.span (subst (λ p. g.offset + p ≤ limit) there b) (comment_low g.text g.offset s.at c is)))))
+        (λ x t there. unless (λ b. after (λ m u. gives (span_fits_more _ limit (subst (λ p. g.offset + p ≤ limit) there b) c.span (comment_low g.text g.offset s.at c is)))))
 
     comment_fits : (n : Next) (s : State) → R (a_comment n) OwnComment s
     unfolding a_comment

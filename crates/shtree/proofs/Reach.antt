@@ -185,7 +185,7 @@ module _ (limit : ℕ) where
 
 -- ---- a greater limit
 
-span_fits_more : (limit more : ℕ) → limit ≤ more → (s : Span) → IsSpanWithin limit s → IsSpanWithin more s
+pub span_fits_more : (limit more : ℕ) → limit ≤ more → (s : Span) → IsSpanWithin limit s → IsSpanWithin more s
 span_fits_more limit more le s so = (omega (arith, le, so.0), omega (arith, le, so.1))
 
 name_fits_more : (limit more : ℕ) → limit ≤ more → (name : Option Span) → MatchOption name (Unit {0}) (IsSpanWithin limit) → MatchOption name (Unit {0}) (IsSpanWithin more)
