@@ -7,6 +7,7 @@ pub mod Scripts
 pub mod Alike
 pub mod FirstFault
 pub mod NormalForm
+pub mod Within
 pub mod Answered
 pub mod Stretches
 pub mod Places

@@ -2,7 +2,8 @@
 ghost use Rattle.std.specs.Prelude.{◌≡◌, ◌+◌, ◌^◌, ◌<◌, ◌≤◌, length, map, IfOk};
 ghost use Rattle.shread.specs.Answers.{view_script};
 ghost use Rattle.shread.specs.Scripts.{is_blank_line, script_at, script_on, with_line};
-ghost use Rattle.shread.specs.SoFar.{script_then, view_so_far};
+ghost use Rattle.shread.specs.SoFar.{list_so_far, script_then, view_so_far};
+ghost use Rattle.shtree.specs.Nodes.{AreWithin};
 ghost use Rattle.shtree.specs.View.{view_entry};
 
 use crate::fault::{Fault, ReadError, Stop};
@@ -61,6 +62,8 @@ impl SoFar {
             script_on (S.bytes source.now) (view_so_far self.old) self.old.at ≡ script_then (S.bytes source.now) self.new rest) }
         ensures onward { IfOk result (λ rest. rest ≡ Rest.More → self.old.at < self.new.at) }
         ensures within { IfOk result (λ rest. self.new.at ≤ length (S.bytes source.now)) }
+        ensures spans { IfOk result (λ rest. AreWithin (length (S.bytes source.now)) (list_so_far self.old) →
+            AreWithin (length (S.bytes source.now)) (list_so_far self.new)) }
     {
         match line_at(alloc, source, self.at, self.at, self.is_blank_next(), true) {
             Ok(
@@ -86,7 +89,8 @@ impl SoFar {
 /// A whole script.
 #[tactic(auto, unfolding(crate::specs::Scripts::script_at))]
 pub(crate) fn script_from<S: Source>(alloc: Global, source: &S) -> Result<Script, ReadError>
-    ensures { IfOk result (λ script. view_script script ≡ script_at (S.bytes source.now)) }
+    ensures value { IfOk result (λ script. view_script script ≡ script_at (S.bytes source.now)) }
+    ensures spans { IfOk result (λ script. AreWithin (length (S.bytes source.now)) (view_script script).entries) }
 {
     let mut so_far = SoFar {
         entries: Vec::new(alloc),

@@ -28,6 +28,8 @@ mod line;
 mod line_col;
 mod list;
 mod mode;
+#[cfg(test)]
+mod nodes;
 mod offsets;
 mod one_line;
 mod piece;

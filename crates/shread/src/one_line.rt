@@ -1,11 +1,13 @@
 //! One line of a source, alone or as a script of its own.
-ghost use Rattle.std.specs.Prelude.{◌≡◌, ◌+◌, ◌-◌, ◌^◌, ◌<◌, ◌≤◌, drop, false, length, map, true, IfOk, IsOk};
+ghost use Rattle.std.specs.Prelude.{◌≡◌, ◌+◌, ◌-◌, ◌^◌, ◌<◌, ◌≤◌, ℕ, drop, false, length, map, true, IfOk, IsOk};
 ghost use Rattle.shread.specs.Answers.{view_kind, view_line};
 ghost use Rattle.shread.specs.Clauses.{Gives, Onward};
 ghost use Rattle.shread.specs.Lines.{kind_of};
 ghost use Rattle.shread.specs.Scripts.{line_of_text, line_told};
 ghost use Rattle.shread.specs.Sights.{standing};
 ghost use Rattle.shread.specs.Standing.{raw_stands};
+ghost use Rattle.shtree.specs.Nodes.{AreWithin};
+ghost use Rattle.shtree.specs.Tree.{entries_of};
 ghost use Rattle.shtree.specs.View.{view_entry};
 
 use crate::cursor::Cursor;
@@ -43,6 +45,9 @@ pub(crate) fn line_at<S: Source>(
     ensures value { Gives (origin + length (drop at (S.bytes source.now)))
         (λ x. ((map view_entry x.entries.items, x.newline), standing x.len)) result
         (line_told (S.bytes source.now) keep blank at origin) }
+    // No node of its entries names an offset behind it.
+    ensures spans { IfOk result (λ x. (limit : ℕ) → origin + x.len ≤ limit →
+        AreWithin limit (entries_of (map view_entry x.entries.items))) }
     ensures onward { IfOk result (λ x. Onward 0 x.len x.newline) }
     ensures within { IfOk result (λ x. at + x.len ≤ length (S.bytes source.now)) }
     ensures fits { IfOk result (λ x. at + x.len < 2 ^ 64) }

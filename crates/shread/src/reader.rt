@@ -1,9 +1,10 @@
 //! The reader: one line, or a whole script.
 ghost use Rattle.std.specs.Prelude.{◌≡◌, ◌+◌, ◌-◌, ◌<◌, ◌≤◌, drop, false, length, true, List as Row, None, IfOk, IfErr, IfSome, IsOk};
-ghost use Rattle.shread.specs.Answers.{meter_of, raised, view_line, view_script};
-ghost use Rattle.shread.specs.Lines.{ALine, IsLine, NoFurther, SameBytes};
+ghost use Rattle.shread.specs.Answers.{EntriesWithin, meter_of, raised, view_kind, view_line, view_script};
 ghost use Rattle.shread.specs.Form.{Spelled};
+ghost use Rattle.shread.specs.Lines.{ALine, IsLine, NoFurther, SameBytes};
 ghost use Rattle.shread.specs.Scripts.{AScript, FirstFault, Outcome, Passes};
+ghost use Rattle.shtree.specs.Nodes.{AreWithin};
 ghost use Rattle.shtree.specs.Normal.{is_normal};
 ghost use Rattle.shtree.specs.Spelling.{spell_entries};
 
@@ -81,6 +82,8 @@ impl Reader {
         ensures next { IfOk result (λ line. (at ≤ line.next) × (line.next ≤ length (S.bytes source.now))) }
         ensures onward { IfOk result (λ line. line.ended ≡ true → at < line.next) }
         ensures whole { IfOk result (λ line. line.ended ≡ false → line.next ≡ length (S.bytes source.now)) }
+        // No node of its entries names an offset above the line's length.
+        ensures within { IfOk result (λ line. EntriesWithin (line.next - at) (view_kind line.kind)) }
         ensures meter { IfOk result (λ line. meter_of self.new ≡ raised (meter_of self.old) (line.next - at)) }
         ensures err { IfErr result (λ e. meter_of self.new ≡ meter_of self.old) }
         ensures end { at ≡ length (S.bytes source.now) → IsOk result }
@@ -103,6 +106,8 @@ impl Reader {
         // The tokens passed in a script without a fault are those that its tree spells.
         ensures spelling { IfOk result (λ script. script.fault ≡ None → (k : Row Spelled) →
             Passes (S.bytes source.now) (view_script script) k → k ≡ spell_entries (S.bytes source.now) (view_script script).entries) }
+        // No node of the list names an offset above the length.
+        ensures within { IfOk result (λ script. AreWithin (length (S.bytes source.now)) (view_script script).entries) }
         ensures meter { IfOk result (λ script. meter_of self.new ≡ raised (meter_of self.old) (length (S.bytes source.now))) }
         ensures err { IfErr result (λ e. meter_of self.new ≡ meter_of self.old) }
     {

@@ -1,8 +1,14 @@
 // Each growth refused in turn. `tests/refused-growths` runs these tests under a library that refuses the growth they ask it to
 // refuse; without it, as in the gate, no growth is refused and each test runs once. They catch the wrong body that no contract
 // can: `always_out_of_memory`, which gives up though memory is there, from the start or once a growth was refused.
+ghost use Rattle.shtree.specs.Nodes.{AreWithin};
+ghost use Rattle.shtree.specs.View.{view_list};
+
 use crate::{Flat, Line, LineKind, ReadError, Reader};
-use std::alloc::Global;
+use shtree::laws::greater_limit;
+use shtree::{List, NodeKind, NodeLine};
+use std::alloc::{AllocError, Global};
+use std::process::Abort;
 use std::test::Fail;
 
 /// A line that the reader grows for in several places: its second command and its comment come late.
@@ -163,4 +169,71 @@ fn boxes(rt: HostRuntime) -> Result<(), Fail> {
     }
     assert!(rt; !refuses || 0 < met && met < 99, "{met}");
     Ok(())
+}
+
+/// What stands in the vector before a call.
+const EARLIER: NodeLine = NodeLine {
+    start: 900,
+    end: 901,
+    kind: NodeKind::Comment,
+    name: None,
+};
+
+/// Which nodes of a list are asked for.
+#[derive(Clone, Copy)]
+enum Asked {
+    Outline,
+    At(usize),
+}
+
+fn add(
+    alloc: Global,
+    list: &List,
+    asked: Asked,
+    lines: &mut Vec<NodeLine>,
+) -> Result<(), AllocError>
+    requires { AreWithin usize.MAX (view_list list.now) }
+{
+    match asked {
+        Asked::Outline => shtree::outline_of(alloc, list, 0, lines),
+        Asked::At(at) => shtree::nodes_at(alloc, list, 0, at, lines),
+    }
+}
+
+/// Adds nodes with each growth refused in turn: after a refusal the vector is as it was, and at last it has so many nodes more.
+fn adds(rt: &impl Abort, alloc: Global, list: &List, asked: Asked, count: usize) -> Result<(), Fail>
+    requires { AreWithin usize.MAX (view_list list.now) }
+{
+    let refuses = refuses(alloc);
+    let mut met = 0;
+    for nth in 1..100 {
+        let mut lines = Vec::new(alloc);
+        lines.push(EARLIER)?;
+        refuse(alloc, nth);
+        let added = add(alloc, list, asked, &mut lines);
+        if !refuses || !was_refused(alloc, nth) {
+            added?;
+            assert!(rt; lines.first() == Some(&EARLIER) && lines.len() == count.wrapping_add(1));
+            break;
+        }
+        assert!(rt; added.is_err() && lines.as_slice() == [EARLIER].as_slice());
+        met = nth;
+    }
+    assert!(rt; !refuses || 0 < met && met < 99, "{met}");
+    Ok(())
+}
+
+#[test]
+fn outline_of(rt: HostRuntime) -> Result<(), Fail> {
+    let script = Reader::new(rt.alloc()).read_script(&Flat::new(TEXT))?;
+    greater_limit();
+    adds(&rt, rt.alloc(), &script.list, Asked::Outline, 11)
+}
+
+/// The byte is that of `f`.
+#[test]
+fn nodes_at(rt: HostRuntime) -> Result<(), Fail> {
+    let script = Reader::new(rt.alloc()).read_script(&Flat::new(TEXT))?;
+    greater_limit();
+    adds(&rt, rt.alloc(), &script.list, Asked::At(23), 4)
 }

@@ -7,3 +7,4 @@ pub mod InOrder
 pub mod Placed
 pub mod Within
 pub mod Spelled
+pub mod Reach

@@ -1,7 +1,8 @@
 //! Laws of the definitions alone, which no code stands behind.
-ghost use Rattle.std.specs.Prelude.{◌≡◌, ◌∷◌, Bool, List as Row, Option, Some, false, true};
+ghost use Rattle.std.specs.Prelude.{◌≡◌, ◌∷◌, ◌≤◌, ℕ, Bool, List as Row, Option, Some, false, true};
 ghost use Rattle.shtree.specs.declared.tree.Comment.{Comment};
 ghost use Rattle.shtree.specs.declared.tree.Span.{Span};
+ghost use Rattle.shtree.specs.Nodes.{AreWithin};
 ghost use Rattle.shtree.specs.Normal.{alone, is_normal, joined, of_command};
 ghost use Rattle.shtree.specs.Tree.{ACommand, AContent, AWord, AnItemContent, Entries, Items, brace, compound, entry, for_in, formed, in_words, item, more_items, no_entry, no_item, remark, simple};
 
@@ -21,4 +22,11 @@ pub fn normal_form()
         is_normal (alone (of_command (compound (formed (brace no_entry) span no_item)))) ≡ false }
     ensures group_of_a_comment { (c : Comment) (span : Span) (comment : Option Comment) →
         is_normal (alone (of_command (compound (formed (brace (alone (entry (remark c) false false comment))) span no_item)))) ≡ false }
+{}
+
+/// A list that names no offset above a limit names none above a greater one: so what a reader tells of its lists is what
+/// [`outline_of`](crate::outline_of) and [`nodes_at`](crate::nodes_at) ask for.
+#[tactic(auto, using(crate::proofs::Reach::within_more))]
+pub fn greater_limit()
+    ensures { (limit more : ℕ) (list : Entries) → limit ≤ more → AreWithin limit list → AreWithin more list }
 {}

@@ -1,6 +1,7 @@
 use Rattle.std.proofs.Common.{drop}
 use Rattle.shread.proofs.Answered.{line_alone, line_answered}
 use Rattle.shread.proofs.SameLine.{no_further, same_bytes}
+use Rattle.shread.proofs.Within.{entries_within}
 use Rattle.shread.proofs.reader.Reader.read_line.Goals as goal
 
 pub returns-clause-only : goal.returns-clause-only
@@ -11,3 +12,6 @@ returns-clause-same_bytes g c = same_bytes (drop c.args.at (g.S.Source.bytes c.a
 
 pub returns-clause-no_further : goal.returns-clause-no_further
 returns-clause-no_further g c = λ ended. no_further (drop c.args.at (g.S.Source.bytes c.args.source.now)) _ (line_answered _ _ c.in_ok-line.ensures.value) ended
+
+pub returns-clause-within : goal.returns-clause-within
+returns-clause-within g c = entries_within (drop c.args.at (g.S.Source.bytes c.args.source.now)) _ (line_answered _ _ c.in_ok-line.ensures.value)

@@ -1,0 +1,413 @@
+-- No node of what was read names an offset behind the place where the reading stands then.
+use Rattle.std.proofs.Common.{◌≡◌, refl, sym, subst, ℕ, zero, suc, ◌+◌, ◌≤◌, Bool, true, false, cond, Ok, Err, List, List as Row, [], ◌∷◌, Option, Some, None, arith, ⊎_elim}
+use Rattle.std.specs.Prelude.{All, MatchOption}
+use Rattle.std.proofs.lemmas.Bool.{cases_lt, cond_both}
+use Rattle.std.proofs.lemmas.List.Elements.{All-nil, All-push}
+use Rattle.shread.specs.declared.mode.Mode.{Mode}
+use Rattle.shread.specs.declared.mode.Piece.{Piece}
+use Rattle.shread.specs.declared.mode.Piece.TheVariants as pieces
+use Rattle.shread.specs.declared.token.Closing.{Closing}
+use Rattle.shread.specs.declared.token.Closing.TheVariants as closings
+use Rattle.shread.specs.declared.token.Next.{Next}
+use Rattle.shread.specs.declared.token.Opener.{Opener}
+use Rattle.shread.specs.declared.token.Opener.TheVariants as openers
+use Rattle.shread.specs.declared.token.Position.{Position}
+use Rattle.shread.specs.declared.token.Position.TheVariants.{Command, Prefix, Suffix}
+use Rattle.shtree.specs.declared.tree.AndOrOperator.{AndOrOperator}
+use Rattle.shtree.specs.declared.tree.Comment.{Comment}
+use Rattle.shtree.specs.declared.tree.Span.{Span}
+use Rattle.shtree.specs.Nodes.{AreWithin, IsSpanWithin, and_or_nodes, branch_nodes, branches_nodes, else_nodes, entries_nodes, form_nodes}
+use Rattle.shtree.specs.Tree.{AForm, ASubst, AWord, AnEntry, branches_of, entries_of, item}
+use Rattle.shtree.proofs.Reach.{Nodes, CommentFits, SubstFits, WordFits, ItemFits, CommandFits, PipelineFits, PipeFits, PartFits, EntryFits, BranchFits, both as fits_both, fits_substs, fits_entries, fits_branches, fits_assign, fits_argument, fits_simple, fits_compound, fits_pipeline, fits_and_or, fits_command, fits_remark, span_fits_more, within_append}
+use Rattle.shread.specs.Standing.{raw_stands, raw_in, next_newline, before_blanks}
+use Rattle.shread.specs.Comments.{span, comment_at, past_comment}
+use Rattle.shread.specs.Classes.{is_blank}
+use Rattle.shread.specs.Sights.{Given, given, State, standing}
+use Rattle.shread.specs.Form.{Read, Form, give, push, both, many, token, does, Step, again, done, step_if, pushed}
+use Rattle.shread.specs.Words.{Inner, Held, having, opened, piece_row, a_piece, contents, a_word}
+use Rattle.shread.specs.Commands.{pick, is_pipe, is_bang, begins_simple, begins_pipeline, opener_of, compound_by, and_or_operator_of, breaks, Items, so_many, behind_item, as_item, an_item, item_by, item_turn, a_simple, a_bang, a_comment, comment_by, unexpected, with_comment, JoinSo, join_turn, a_join, a_command, Piped, piped, one_command, pipe_turn, a_pipeline, Joined, joined_so, one_pipeline, joined_by, join_pipeline, an_and_or, is_background, an_entry}
+use Rattle.shread.specs.Lists.{ListSo, list_so, none_listed, is_blank_next, one_entry, entry_turn, remark_by, a_remark, on_line, list_turn, a_list}
+use Rattle.shread.specs.Compounds.{Branched, branched, Closed, is_closing, is_open_paren, is_close_paren, passed, closing, a_branch, elif_turn, an_else, an_if, a_loop, a_brace, a_subshell, a_form, a_compound}
+use Rattle.shread.specs.Levels.{most_open, level}
+use Rattle.shread.specs.Lines.{a_line, ALine, IsLine, line_read, line_stops, kind_of}
+use Rattle.shread.specs.Scripts.{SoFar, the_line, with_line}
+use Rattle.shread.specs.Answers.{EntriesWithin}
+use Rattle.shread.proofs.OneOutcome.{is}
+use Rattle.shread.proofs.Places.{next_newline_low}
+use Rattle.shread.proofs.Holds.{Holds, Tells, Turned, tells_give, tells_then, tells_token, tells_many, tells_so, low}
+
+-- ---- comments
+
+before_blanks_low : (T : List ℕ) (q : ℕ) → before_blanks T q ≤ q
+unfolding before_blanks
+before_blanks_low T zero = omega arith
+before_blanks_low T (suc q) = cond_both (raw_in is_blank T q) _ _ (λ n. n ≤ suc q) (λ e. omega (arith, before_blanks_low T q)) (λ e. omega arith)
+
+comment_by_test : (test : Bool) (o p last next : ℕ) (c : Comment) → p ≤ next → last ≤ next → cond test (Some (record { span = span o p last })) None ≡ Some c
+    → IsSpanWithin (o + cond test next p) c.span
+comment_by_test true o p last next c one two is = let spans : record { span = span o p last } ≡ c = cc in subst (λ (d : Comment). IsSpanWithin (o + next) d.span) spans (omega (arith, one), omega (arith, two))
+comment_by_test false o p last next c one two is = absurd cc
+
+-- a comment ends before the place behind it
+comment_low : (T : List ℕ) (o p : ℕ) (c : Comment) → comment_at T o p ≡ Some c → IsSpanWithin (o + past_comment T p) c.span
+unfolding comment_at past_comment
+comment_low T o p c is =
+    comment_by_test (raw_stands T p 35) o p (before_blanks T (next_newline T p)) (next_newline T p) c (next_newline_low T p) (before_blanks_low T (next_newline T p)) is
+
+-- ---- forms
+
+holds_and : {X : Type 0} (P Q : X → State → Type 0) (x : Read X) → Holds P x → Holds Q x → Holds (λ a t. P a t × Q a t) x
+holds_and P Q (Ok (a, t)) one two = (one, two)
+holds_and P Q (Err f) one two = tt
+
+module _ (keep : Bool) (g : Given) (limit : ℕ) where
+  -- the reading does not stand above the limit
+  abbrev pub Before : State → Type 0
+  Before s = g.offset + s.at ≤ limit
+
+  -- P holds of what r reads, unless that ends above the limit
+  abbrev pub R : {X : Type 0} → Form X → (X → Type 0) → State → Type 0
+  R r P s = Tells keep g r (λ x t. Before t → P x) s
+
+  -- of what begins above the limit nothing is said, since no form goes back
+  unless : {X : Type 0} {P : X → Type 0} {r : Form X} {s : State} → (Before s → R r P s) → R r P s
+  unless {r = r} {s = s} so =
+      ⊎_elim (λ lt. tells_so keep g (low r keep g s) (λ x t on. λ b. absurd (omega (arith, lt, on, b)))) (λ ge. so (omega (arith, ge))) (cases_lt limit (g.offset + s.at))
+
+  gives : {X : Type 0} {P : X → Type 0} {x : X} {s : State} → P x → R (give x) P s
+  gives so = tells_give keep g (λ b. so)
+
+  -- one form and then another
+  first : {X Y : Type 0} {P : X → Type 0} {Q : Y → Type 0} {r : Form X} {q : X → Form Y} {s : State} → R r P s → ((x : X) (t : State) → P x → R (q x) Q t) → R (both r q) Q s
+  first one rest = tells_then keep g one (λ x t so. unless (λ b. rest x t (so b)))
+
+  -- what a form gives may be anything
+  after : {X Y : Type 0} {Q : Y → Type 0} {r : Form X} {q : X → Form Y} {s : State} → ((x : X) (t : State) → R (q x) Q t) → R (both r q) Q s
+  after {r = r} {s = s} rest = tells_then keep g {r = r} {s = s} (low r keep g s) (λ x t on. rest x t)
+
+  pushed_all : {A : Type 0} (P : A → Type 0) (keep : Bool) (xs : Row A) (x : A) → All P xs → P x → All P (pushed keep xs x)
+  pushed_all P true xs x all one = All-push P xs x all one
+  pushed_all P false xs x all one = all
+
+  -- one more element
+  pushes : {A : Type 0} (P : A → Type 0) {xs : Row A} {x : A} {s : State} → All P xs → P x → R (push xs x) (All P) s
+  pushes P {xs = xs} {x = x} all one = record { told = λ b. pushed_all P keep xs x all one }
+
+  -- one token
+  tokens : {X : Type 0} {P : X → Type 0} {r : Form X} {s : State} → R r P s → R (token r) (λ x. P x.0 × IsSpanWithin limit x.1) s
+  tokens {P = P} {r = r} {s = s} one =
+      tells_token keep g {P = λ a t. (Before t → P a) × (s.at ≤ t.at)} {Q = λ x t. Before t → P x.0 × IsSpanWithin limit x.1}
+      (record { told = holds_and (λ a t. Before t → P a) (λ a t. s.at ≤ t.at) (does r keep g s) one.told (low r keep g s).told })
+      (λ a t so. λ b. (so.0 b, (omega (arith, so.1, b), b)))
+
+  -- what a turn gives
+  abbrev Stepped : {A : Type 0} → (A → Type 0) → Step A → Type 0
+  Stepped P (again a) = P a
+  Stepped P (done a) = P a
+
+  turned : {A : Type 0} (P : A → Type 0) (c : Step A) (t : State) → (Before t → Stepped P c) → Turned keep g (λ a u. Before u → P a) c t
+  turned P (again a) t so = so
+  turned P (done a) t so = so
+
+  stepped : {A : Type 0} (P : A → Type 0) (b : Bool) (a : A) → P a → Stepped P (step_if b a)
+  stepped P true a so = so
+  stepped P false a so = so
+
+  -- a repetition
+  repeats : {A : Type 0} (P : A → Type 0) (turn : A → Form (Step A)) → ((a : A) (s : State) → P a → R (turn a) (Stepped P) s) → (a : A) (s : State) → P a → R (many turn a) P s
+  repeats P turn each a s so =
+      tells_many keep g turn (λ a t. Before t → P a) (λ a t there. tells_so keep g (unless {P = Stepped P} {r = turn a} {s = t} (λ b. each a t (there b))) (turned P)) a s (λ b. so)
+
+  picks : {X : Type 0} {P : X → Type 0} (b : Bool) {r q : Form X} {s : State} → R r P s → R q P s → R (pick b r q) P s
+  picks true one two = one
+  picks false one two = two
+
+  -- ---- words
+
+  abbrev SubstsFit : Held → Type 0
+  SubstsFit h = All (SubstFits limit) h.substs
+
+  pub record Fine (inner : Inner) : Type 0 where
+    pub construct : (mode : Mode) (b : ℕ) (ss : Row ASubst) (s : State) → All (SubstFits limit) ss → R (inner.construct mode b ss) (All (SubstFits limit)) s
+    pub compound : (o : Opener) (s : State) → R (inner.compound o) (λ c. CommandFits limit c.0) s
+
+  module _ (inner : Inner) (fine : Fine inner) where
+    opened_fits : (mode : Mode) (b : ℕ) (h : Held) (s : State) → SubstsFit h → R (opened inner mode b h) (Stepped SubstsFit) s
+    opened_fits mode b h s so = first (fine.construct mode b h.substs s so) (λ zs t good. gives good)
+
+    piece_fits_by : (mode : Mode) (b : ℕ) (h : Held) (piece : Piece) (s : State) → SubstsFit h → R (piece_row inner mode b h piece) (Stepped SubstsFit) s
+    piece_fits_by mode b h pieces.Closer s so = after (λ x t. gives so)
+    piece_fits_by mode b h pieces.Missing s so = record { told = tt }
+    piece_fits_by mode b h pieces.LoneBackslash s so = record { told = tt }
+    piece_fits_by mode b h pieces.Escape s so = after (λ x t. after (λ y u. gives so))
+    piece_fits_by mode b h pieces.Single s so = after (λ x t. gives so)
+    piece_fits_by mode b h pieces.Double s so = after (λ q t. after (λ x u. opened_fits _ q h u so))
+    piece_fits_by mode b h pieces.Backquote s so = after (λ x t. gives so)
+    piece_fits_by mode b h pieces.Pid s so = after (λ x t. after (λ y u. gives so))
+    piece_fits_by mode b h pieces.Subst s so = record { told = tt }
+    piece_fits_by mode b h pieces.Arith s so = after (λ q t. after (λ x u. after (λ y v. after (λ z w. opened_fits _ q h w so))))
+    piece_fits_by mode b h pieces.Param s so = after (λ q t. after (λ x u. after (λ y v. after (λ z w. after (λ m a. opened_fits m q h a so)))))
+    piece_fits_by mode b h pieces.Open s so = after (λ x t. gives so)
+    piece_fits_by mode b h pieces.Close s so = after (λ x t. gives so)
+    piece_fits_by mode b h pieces.BadClose s so = record { told = tt }
+    piece_fits_by mode b h pieces.Ordinary s so = after (λ x t. gives so)
+
+    piece_fits : (mode : Mode) (b : ℕ) (h : Held) (s : State) → SubstsFit h → R (a_piece inner mode b h) (Stepped SubstsFit) s
+    unfolding a_piece
+    piece_fits mode b h s so = after (λ piece t. piece_fits_by mode b h piece t so)
+
+    contents_fit : (mode : Mode) (b : ℕ) (ss : Row ASubst) (s : State) → All (SubstFits limit) ss → R (contents inner mode b ss) (All (SubstFits limit)) s
+    unfolding contents
+    contents_fit mode b ss s so = first (repeats SubstsFit (a_piece inner mode b) (piece_fits mode b) (having 0 ss) s so) (λ h t good. gives good)
+
+    word_fits : (s : State) → R (a_word inner) (WordFits limit) s
+    unfolding a_word
+    word_fits s = after (λ p t. first (tokens (contents_fit _ p [] t (All-nil (SubstFits limit)))) (λ w u good. gives (good.1, fits_substs limit w.0 good.0)))
+
+    -- ---- commands
+
+    abbrev ItemsFit : Items → Type 0
+    ItemsFit i = All (ItemFits limit) i.items
+
+    item_fits : (position : Position) (broken : Bool) (w : AWord) → WordFits limit w → ItemFits limit (item broken (as_item position w))
+    item_fits Command broken w so = fits_argument limit broken w so
+    item_fits Prefix broken w so = fits_assign limit broken w so
+    item_fits Suffix broken w so = fits_argument limit broken w so
+
+    one_item_fits : (i : Items) (position : Position) (s : State) → ItemsFit i → R (an_item inner i position) (Stepped ItemsFit) s
+    unfolding an_item
+    one_item_fits i position s so = first (word_fits s) (λ w t good. first (pushes (ItemFits limit) so (item_fits position (breaks i) w good)) (λ is u all. after (λ n v. gives all)))
+
+    item_fits_by : (i : Items) (position : Option Position) (s : State) → ItemsFit i → R (item_by inner i position) (Stepped ItemsFit) s
+    item_fits_by i (Some position) s so = one_item_fits i position s so
+    item_fits_by i None s so = gives so
+
+    item_turn_fits : (i : Items) (s : State) → ItemsFit i → R (item_turn inner i) (Stepped ItemsFit) s
+    unfolding item_turn
+    item_turn_fits i s so = item_fits_by i (behind_item i.next.token) s so
+
+    simple_fits : (n : Next) (s : State) → R (a_simple inner n) (λ c. CommandFits limit c.0) s
+    unfolding a_simple
+    simple_fits n s = first (repeats ItemsFit (item_turn inner) item_turn_fits (so_many [] n) s (All-nil (ItemFits limit))) (λ i t all. gives (fits_simple limit i.items all))
+
+    abbrev OwnComment : Option Comment × Next → Type 0
+    OwnComment x = MatchOption x.0 (Unit {0}) (CommentFits limit)
+
+    comment_fits_by : (n : Next) (c : Option Comment) (s : State) → comment_at g.text g.offset s.at ≡ c → R (comment_by n c) OwnComment s
+    comment_fits_by n None s is = gives tt
+    comment_fits_by n (Some c) s is =
+        tells_then keep g {P = λ x t. t.at ≡ past_comment g.text s.at} (record { told = refl })
+        (λ x t there. unless (λ b. after (λ m u. gives (span_fits_more _ limit (subst (λ p. g.offset + p ≤ limit) there b) c.span (comment_low g.text g.offset s.at c is)))))
+
+    comment_fits : (n : Next) (s : State) → R (a_comment n) OwnComment s
+    unfolding a_comment
+    comment_fits n s = tells_then keep g {P = λ c t. comment_at g.text g.offset t.at ≡ c} (record { told = refl }) (λ c t is. comment_fits_by n c t is)
+
+    with_fits : (cs : Row Comment) (c : Option Comment) (s : State) → All (CommentFits limit) cs → MatchOption c (Unit {0}) (CommentFits limit) → R (with_comment cs c) (All (CommentFits limit)) s
+    with_fits cs (Some c) s all one = pushes (CommentFits limit) all one
+    with_fits cs None s all one = gives all
+
+    abbrev JoinFits : JoinSo → Type 0
+    JoinFits j = All (CommentFits limit) j.join.comments
+
+    join_turn_fits : (j : JoinSo) (s : State) → JoinFits j → R (join_turn j) (Stepped JoinFits) s
+    unfolding join_turn
+    join_turn_fits j s so = first (comment_fits j.next s) (λ c t one. first (with_fits j.join.comments c.0 t so one) (λ cs u all. after (λ l v. gives (stepped JoinFits l.0 _ all))))
+
+    join_fits : (broken : Bool) (s : State) → R (a_join broken) (λ x. All (CommentFits limit) x.0.comments) s
+    unfolding a_join
+    join_fits broken s = after (λ n t. first (repeats JoinFits join_turn join_turn_fits _ t (All-nil (CommentFits limit))) (λ j u all. gives all))
+
+    stopped : {X : Type 0} {P : X → Type 0} (n : Next) {s : State} → R (unexpected {X = X} inner n) P s
+    stopped n = after (λ w t. record { told = tt })
+
+    compound_fits_by : (n : Next) (o : Option Opener) (s : State) → R (compound_by inner n o) (λ c. CommandFits limit c.0) s
+    compound_fits_by n (Some o) s = fine.compound o s
+    compound_fits_by n None s = stopped n
+
+    command_fits : (n : Next) (s : State) → R (a_command inner n) (λ c. CommandFits limit c.0) s
+    unfolding a_command
+    command_fits n s = picks (begins_simple n.token) (simple_fits n s) (compound_fits_by n (opener_of n.token) s)
+
+    abbrev PipesFit : Piped → Type 0
+    PipesFit p = All (PipeFits limit) p.parts
+
+    one_command_fits : (p : Piped) (s : State) → PipesFit p → R (one_command inner p) (Stepped PipesFit) s
+    unfolding one_command
+    one_command_fits p s so =
+        after (λ x t. first (join_fits p.next.broken t) (λ j u one. first (command_fits j.1 u) (λ c v two. first (pushes (PipeFits limit) so (one, two)) (λ ps w all. gives all))))
+
+    pipe_turn_fits : (p : Piped) (s : State) → PipesFit p → R (pipe_turn inner p) (Stepped PipesFit) s
+    unfolding pipe_turn
+    pipe_turn_fits p s so = picks (is_pipe p.next.token) (one_command_fits p s so) (gives so)
+
+    bang_fits : (n : Next) (s : State) → R (a_bang n) (λ x. MatchOption x.0 (Unit {0}) (IsSpanWithin limit)) s
+    unfolding a_bang
+    bang_fits n s = picks (is_bang n.token) (first (tokens {P = λ u. Unit {0}} (record { told = λ b. tt })) (λ x t so. after (λ m u. gives so.1))) (gives tt)
+
+    pipeline_fits : (n : Next) (s : State) → R (a_pipeline inner n) (λ p. PipelineFits limit p.0) s
+    unfolding a_pipeline
+    pipeline_fits n s =
+        first (bang_fits n s) (λ b t one. first (command_fits b.1 t) (λ c u two. first (repeats PipesFit (pipe_turn inner) pipe_turn_fits (piped [] c.1) u (All-nil (PipeFits limit))) (λ p v all. gives (fits_pipeline limit b.0 c.0 p.parts one two all))))
+
+    abbrev PartsFit : Joined → Type 0
+    PartsFit a = All (PartFits limit) a.parts
+
+    one_pipeline_fits : (a : Joined) (o : AndOrOperator) (s : State) → PartsFit a → R (one_pipeline inner a o) (Stepped PartsFit) s
+    unfolding one_pipeline
+    one_pipeline_fits a o s so =
+        after (λ x t. after (λ y u. first (join_fits a.next.broken u) (λ j v one. first (pipeline_fits j.1 v) (λ p w two. first (pushes (PartFits limit) so (one, two)) (λ ps z all. gives all)))))
+
+    joined_fits_by : (a : Joined) (o : Option AndOrOperator) (s : State) → PartsFit a → R (joined_by inner a o) (Stepped PartsFit) s
+    joined_fits_by a (Some o) s so = one_pipeline_fits a o s so
+    joined_fits_by a None s so = gives so
+
+    join_pipeline_fits : (a : Joined) (s : State) → PartsFit a → R (join_pipeline inner a) (Stepped PartsFit) s
+    unfolding join_pipeline
+    join_pipeline_fits a s so = joined_fits_by a (and_or_operator_of a.next.token) s so
+
+    and_or_fits : (n : Next) (s : State) → R (an_and_or inner n) (λ a. Nodes limit (and_or_nodes a.0)) s
+    unfolding an_and_or
+    and_or_fits n s =
+        first (pipeline_fits n s) (λ p t one. first (repeats PartsFit (join_pipeline inner) join_pipeline_fits (joined_so [] p.1) t (All-nil (PartFits limit))) (λ a u all. gives (fits_and_or limit p.0 a.parts one all)))
+
+    entry_fits : (blank : Bool) (n : Next) (s : State) → R (an_entry inner blank n) (λ e. EntryFits limit e.entry) s
+    unfolding an_entry
+    entry_fits blank n s = first (and_or_fits n s) (λ a t one. after (λ z u. first (comment_fits z.1 u) (λ c v two. gives (fits_command limit a.0 (is_background z.0) blank c.0 one two))))
+
+    -- ---- lists
+
+    abbrev ListFits : ListSo → Type 0
+    ListFits l = All (EntryFits limit) l.list.entries
+
+    one_entry_fits : (l : ListSo) (s : State) → ListFits l → R (one_entry inner l) (Stepped ListFits) s
+    unfolding one_entry
+    one_entry_fits l s so = first (entry_fits _ l.next s) (λ e t one. first (pushes (EntryFits limit) so one) (λ es u all. gives (stepped ListFits e.parted _ all)))
+
+    entry_turn_fits : (l : ListSo) (s : State) → ListFits l → R (entry_turn inner l) (Stepped ListFits) s
+    unfolding entry_turn
+    entry_turn_fits l s so = picks (begins_pipeline l.next.token) (one_entry_fits l s so) (gives so)
+
+    remark_fits_by : (l : ListSo) (x : Option Comment × Next) (s : State) → ListFits l → OwnComment x → R (remark_by l x) ListFits s
+    remark_fits_by l (Some c, n) s so one = first (pushes (EntryFits limit) so (fits_remark limit c false (is_blank_next l.list) one)) (λ es t all. gives all)
+    remark_fits_by l (None, n) s so one = gives so
+
+    on_line_fits : (l : ListSo) (s : State) → ListFits l → R (on_line inner l) ListFits s
+    unfolding on_line a_remark
+    on_line_fits l s so =
+        first (repeats ListFits (entry_turn inner) entry_turn_fits l s so) (λ m t all. first (comment_fits m.next t) (λ x u one. remark_fits_by m x u all one))
+
+    list_turn_fits : (l : ListSo) (s : State) → ListFits l → R (list_turn inner l) (Stepped ListFits) s
+    unfolding list_turn
+    list_turn_fits l s so = first (on_line_fits l s so) (λ m t all. after (λ x u. gives (stepped ListFits x.0 _ all)))
+
+    list_fits : (n : Next) (s : State) → R (a_list inner n) (λ l. AreWithin limit l.0) s
+    unfolding a_list
+    list_fits n s =
+        first (repeats ListFits (list_turn inner) list_turn_fits (list_so (none_listed false) n) s (All-nil (EntryFits limit)))
+        (λ l t all. picks l.list.commands (gives (fits_entries limit l.list.entries all)) (stopped l.next))
+
+    pub line_fits : (blank : Bool) (s : State) → R (a_line inner blank) (λ x. All (EntryFits limit) x.0) s
+    unfolding a_line
+    line_fits blank s = after (λ n t. first (on_line_fits (list_so (none_listed blank) n) t (All-nil (EntryFits limit))) (λ l u all. after (λ newline v. gives all)))
+
+    -- ---- compound commands
+
+    passed_fits : (paren : Bool) (s : State) → R (passed paren) (λ x. IsSpanWithin limit x.0) s
+    unfolding passed
+    passed_fits paren s = first (tokens {P = λ u. Unit {0}} (record { told = λ b. tt })) (λ x t so. after (λ n u. gives so.1))
+
+    closing_fits : (c : Closing) (n : Next) (s : State) → R (closing inner c n) (λ x. IsSpanWithin limit x.0) s
+    unfolding closing
+    closing_fits c n s = picks (is_closing c n.token) (passed_fits (is_close_paren c) s) (stopped n)
+
+    branch_fits : (n : Next) (s : State) → R (a_branch inner n) (λ x. BranchFits limit x.0) s
+    unfolding a_branch
+    branch_fits n s =
+        first (list_fits n s) (λ c t one. after (λ k u. first (list_fits k.1 u) (λ b v two. gives (fits_both limit (entries_nodes c.0) (entries_nodes b.0) one two))))
+
+    abbrev BranchesFit : Branched → Type 0
+    BranchesFit b = All (BranchFits limit) b.branches
+
+    elif_fits : (b : Branched) (s : State) → BranchesFit b → R (elif_turn inner b) (Stepped BranchesFit) s
+    unfolding elif_turn
+    elif_fits b s so =
+        picks (is_closing closings.Elif b.next.token)
+        (after (λ k t. first (branch_fits k.1 t) (λ x u one. first (pushes (BranchFits limit) so one) (λ bs v all. gives all))))
+        (gives so)
+
+    else_fits : (n : Next) (s : State) → R (an_else inner n) (λ x. Nodes limit (else_nodes x.0)) s
+    unfolding an_else
+    else_fits n s =
+        picks (is_closing closings.Else n.token)
+        (after (λ k t. first (list_fits k.1 t) (λ l u so. gives so)))
+        (gives (All-nil _))
+
+    abbrev FormFits : Closed AForm → Type 0
+    FormFits f = Nodes limit (form_nodes f.what) × IsSpanWithin limit f.closer
+
+    if_fits : (n : Next) (s : State) → R (an_if inner n) FormFits s
+    unfolding an_if
+    if_fits n s =
+        first (branch_fits n s)
+        (λ f t one. first (repeats BranchesFit (elif_turn inner) elif_fits (branched [] f.1) t (All-nil (BranchFits limit)))
+        (λ b u all. first (else_fits b.next u)
+        (λ e v other. first (closing_fits closings.Fi e.1 v)
+        (λ c w last. gives (fits_both limit _ (else_nodes e.0) (fits_both limit (branch_nodes f.0) (branches_nodes (branches_of b.branches)) one (fits_branches limit b.branches all)) other, last)))))
+
+    loop_fits : (n : Next) (s : State) → R (a_loop inner n) (λ x. BranchFits limit x.what × IsSpanWithin limit x.closer) s
+    unfolding a_loop
+    loop_fits n s =
+        first (list_fits n s)
+        (λ c t one. after (λ d u. first (list_fits d.1 u)
+        (λ b v two. first (closing_fits closings.Done b.1 v)
+        (λ e w last. gives (fits_both limit (entries_nodes c.0) (entries_nodes b.0) one two, last)))))
+
+    form_fits : (o : Opener) (n : Next) (s : State) → R (a_form inner o n) FormFits s
+    unfolding a_brace a_subshell
+    form_fits openers.Brace n s = first (list_fits n s) (λ l t so. first (closing_fits closings.Brace l.1 t) (λ c u last. gives (so, last)))
+    form_fits openers.Paren n s = first (list_fits n s) (λ l t so. first (closing_fits closings.Paren l.1 t) (λ c u last. gives (so, last)))
+    form_fits openers.If n s = if_fits n s
+    form_fits openers.While n s = first (loop_fits n s) (λ l t so. gives so)
+    form_fits openers.Until n s = first (loop_fits n s) (λ l t so. gives so)
+
+    compound_fits : (o : Opener) (s : State) → R (a_compound inner o) (λ c. CommandFits limit c.0) s
+    unfolding a_compound
+    compound_fits o s = first (passed_fits (is_open_paren o) s) (λ x t begin. first (form_fits o x.1 t) (λ f u so. gives (fits_compound limit f.what _ (begin.0, so.1.1) so.0)))
+
+  pub level_fits : (room : ℕ) → Fine (level room)
+  unfolding level
+  level_fits zero = record { construct = λ mode b ss s so. record { told = tt }; compound = λ o s. after (λ p t. record { told = tt }) }
+  level_fits (suc room) =
+      record {
+        construct = λ mode b ss s so. contents_fit (level room) (level_fits room) mode b ss s so;
+        compound = λ o s. compound_fits (level room) (level_fits room) o s;
+      }
+
+-- ---- lines
+
+-- the entries of a line, with its tree or without
+pub line_within : (T : List ℕ) (o : ℕ) (keep blank newline : Bool) (es : Row AnEntry) (t : State) → does (the_line blank) keep (given T o) (standing 0) ≡ Ok ((es, newline), t)
+    → (limit : ℕ) → o + t.at ≤ limit → AreWithin limit (entries_of es)
+line_within T o keep blank newline es t is limit le =
+    let g = given T o in
+    let told = (line_fits keep g limit (level most_open) (level_fits keep g limit most_open) blank (standing 0)).told in
+    fits_entries limit es (subst (Holds (λ (x : Row AnEntry × Bool) (u : State). o + u.at ≤ limit → All (EntryFits limit) x.0)) is told le)
+
+kind_within : (limit : ℕ) (es : Row AnEntry) (newline : Bool) → AreWithin limit (entries_of es) → EntriesWithin limit (kind_of es newline)
+kind_within limit [] true so = tt
+kind_within limit [] false so = tt
+kind_within limit (e ∷ es) newline so = so
+
+-- those of a line, as far as the line goes
+pub entries_within : (T : List ℕ) (l : ALine) → IsLine T l → EntriesWithin l.next l.kind
+entries_within T l (line_read es newline t k part) =
+    kind_within t.at es newline (line_within T 0 true false newline es t (sym ((is (the_line false) (given T 0) (standing 0)).only _ _ part)) t.at (omega arith))
+entries_within T l (line_stops f k part) = tt
+
+-- ---- scripts
+
+-- one more line
+pub more_within : (limit : ℕ) (so then : SoFar) (es : Row AnEntry) → then ≡ with_line so es → AreWithin limit (entries_of so.entries) → AreWithin limit (entries_of es)
+    → AreWithin limit (entries_of then.entries)
+more_within limit so then es is all line = subst (λ (s : SoFar). AreWithin limit (entries_of s.entries)) (sym is) (within_append limit so.entries es all line)

@@ -1,0 +1,102 @@
+// What stands where in scripts that are read: the outline of a script, and the nodes at a byte of a line. The nodes are worked out by
+// hand. What both calls ask of a list is proved of those that the reader answers.
+use crate::dump::Judge;
+use crate::table::{Cell, rows};
+use crate::{Flat, LineKind, Reader};
+use shtree::laws::greater_limit;
+use shtree::{NodeLine, nodes_at, outline_of};
+use std::alloc::Global;
+use std::test::Fail;
+
+/// Scripts, and their outlines.
+const OUTLINES: &[u8] = br###"
+("if a;then b;fi", "0 14 If, 3 4 Simple, 10 11 Simple")
+("! a | b && c\n", "0 12 AndOr, 0 7 Pipeline, 2 3 Simple, 6 7 Simple, 11 12 Simple")
+("{ a && b; }&", "0 11 Brace, 2 8 AndOr, 2 3 Simple, 7 8 Simple") ("! a", "0 3 Pipeline, 2 3 Simple") ("a=1 b", "0 5 Simple")
+("while a;do (b);done\nc", "0 19 While, 6 7 Simple, 11 14 Subshell, 12 13 Simple, 20 21 Simple")
+// comments are no part of an outline, nor is what a fault breaks off
+("a | #b\nc", "0 8 Pipeline, 0 1 Simple, 7 8 Simple") ("#a\n", "") ("a\nb;)", "0 1 Simple")
+"###;
+
+/// Scripts, each with the offset at which a line begins, and the nodes of that line at a byte, with the byte's offset in the script.
+const AT: &[u8] = br###"
+("if (a b);then c;fi", 0, "0 18 If, 3 8 Subshell, 4 7 Simple, 6 7 Word", 6)
+("x\nif (a b);then c;fi\ny", 2, "2 20 If, 5 10 Subshell, 6 9 Simple, 8 9 Word", 8)
+("x\na=1 #b\n", 2, "2 5 Simple, 2 5 Assign", 4) ("x\na=1 #b\n", 2, "6 8 Comment", 7) ("x\na=1 #b\n", 2, "", 5)
+("x\na && b", 2, "2 8 AndOr", 5) ("x\na", 2, "", 0) ("x\n\n", 2, "", 2)
+"###;
+
+/// Each node as its start, its end and its kind.
+fn dumped(alloc: Global, lines: &[NodeLine]) -> Result<String, Fail> {
+    let mut text = String::new(alloc);
+    for (n, line) in lines.iter().enumerate() {
+        text.push_str(if n > 0 { ", " } else { "" })?;
+        write!(text, "{} {} {:?}", line.start, line.end, line.kind)?;
+    }
+    Ok(text)
+}
+
+fn outlined(alloc: Global, reader: &mut Reader, script: &[u8]) -> Result<String, Fail> {
+    let read = reader.read_script(&Flat::new(script))?;
+    let mut lines = Vec::new(alloc);
+    greater_limit();
+    outline_of(alloc, &read.list, 0, &mut lines)?;
+    dumped(alloc, &lines)
+}
+
+/// The nodes at a byte, of the line that begins at `from`.
+fn found_at(
+    alloc: Global,
+    reader: &mut Reader,
+    script: &[u8],
+    from: usize,
+    at: usize,
+) -> Result<String, Fail> {
+    if script.len() < from {
+        return Err(Fail::from("no such place"));
+    }
+    let line = reader.read_line(&Flat::new(script), from)?;
+    let mut lines = Vec::new(alloc);
+    greater_limit();
+    if let LineKind::Entries(list) = &line.kind {
+        nodes_at(alloc, list, from, at, &mut lines)?;
+    }
+    dumped(alloc, &lines)
+}
+
+fn pair(row: &[Cell]) -> Result<(&Cell, &Cell), Fail> {
+    match row {
+        [script, wanted] => Ok((script, wanted)),
+        _ => Err(Fail::from("no row")),
+    }
+}
+
+#[test]
+fn outlines(rt: HostRuntime) -> Result<(), Fail> {
+    let mut judge = Judge::new(rt.alloc());
+    let mut reader = Reader::new(rt.alloc());
+    for row in &rows(rt.alloc(), OUTLINES)? {
+        let (script, wanted) = pair(row)?;
+        let found = outlined(rt.alloc(), &mut reader, &script.bytes)?;
+        judge.text(&script.bytes, found.as_str(), &wanted.bytes)?;
+    }
+    judge.verdict()
+}
+
+#[test]
+fn at_a_byte(rt: HostRuntime) -> Result<(), Fail> {
+    let mut judge = Judge::new(rt.alloc());
+    let mut reader = Reader::new(rt.alloc());
+    for row in &rows(rt.alloc(), AT)? {
+        let (script, wanted) = pair(row)?;
+        let found = found_at(
+            rt.alloc(),
+            &mut reader,
+            &script.bytes,
+            script.number,
+            wanted.number,
+        )?;
+        judge.text(&script.bytes, found.as_str(), &wanted.bytes)?;
+    }
+    judge.verdict()
+}
