@@ -23,11 +23,11 @@ use Rattle.shread.specs.Standing.{raw_stands, raw_in, next_newline, before_blank
 use Rattle.shread.specs.Comments.{span, comment_at, past_comment}
 use Rattle.shread.specs.Classes.{is_blank}
 use Rattle.shread.specs.Sights.{Given, given, State, standing}
-use Rattle.shread.specs.Form.{Read, Form, give, push, both, many, token, does, Step, again, done, step_if, pushed}
+use Rattle.shread.specs.Form.{Spelled, Told, Read, Form, give, push, both, many, token, does, Step, again, done, step_if, pushed}
 use Rattle.shread.specs.Words.{Inner, Held, having, opened, piece_row, a_piece, contents, a_word}
 use Rattle.shread.specs.Commands.{pick, is_pipe, is_bang, begins_simple, begins_pipeline, opener_of, compound_by, and_or_operator_of, breaks, Items, so_many, behind_item, as_item, an_item, item_by, item_turn, a_simple, a_bang, a_comment, comment_by, unexpected, with_comment, JoinSo, join_turn, a_join, a_command, Piped, piped, one_command, pipe_turn, a_pipeline, Joined, joined_so, one_pipeline, joined_by, join_pipeline, an_and_or, is_background, an_entry}
 use Rattle.shread.specs.Lists.{ListSo, list_so, none_listed, is_blank_next, one_entry, entry_turn, remark_by, a_remark, on_line, list_turn, a_list}
-use Rattle.shread.specs.Compounds.{Branched, branched, Closed, is_closing, is_open_paren, is_close_paren, passed, closing, a_branch, elif_turn, an_else, an_if, a_loop, a_brace, a_subshell, a_form, a_compound}
+use Rattle.shread.specs.Compounds.{Branched, branched, Closed, is_closing, is_open_paren, is_close_paren, passed, closing, a_branch, elif_turn, an_else, an_if, a_loop, a_group, a_form, a_compound}
 use Rattle.shread.specs.Levels.{most_open, level}
 use Rattle.shread.specs.Lines.{a_line, ALine, IsLine, line_read, line_stops, kind_of}
 use Rattle.shread.specs.Scripts.{SoFar, the_line, with_line}
@@ -94,7 +94,7 @@ module _ (keep : Bool) (g : Given) (limit : ℕ) where
   pushes P {xs = xs} {x = x} all one = record { told = λ b. pushed_all P keep xs x all one }
 
   -- one token
-  tokens : {X : Type 0} {P : X → Type 0} {r : Form X} {s : State} → R r P s → R (token r) (λ x. P x.0 × IsSpanWithin limit x.1) s
+  tokens : {X : Type 0} {P : X → Type 0} {how : Told} {r : Form X} {s : State} → R r P s → R (token how r) (λ x. P x.0 × IsSpanWithin limit x.1) s
   tokens {P = P} {r = r} {s = s} one =
       tells_token keep g {P = λ a t. (Before t → P a) × (s.at ≤ t.at)} {Q = λ x t. Before t → P x.0 × IsSpanWithin limit x.1}
       (record { told = holds_and (λ a t. Before t → P a) (λ a t. s.at ≤ t.at) (does r keep g s) one.told (low r keep g s).told })
@@ -256,7 +256,7 @@ module _ (keep : Bool) (g : Given) (limit : ℕ) where
     one_pipeline_fits : (a : Joined) (o : AndOrOperator) (s : State) → PartsFit a → R (one_pipeline inner a o) (Stepped PartsFit) s
     unfolding one_pipeline
     one_pipeline_fits a o s so =
-        after (λ x t. after (λ y u. first (join_fits a.next.broken u) (λ j v one. first (pipeline_fits j.1 v) (λ p w two. first (pushes (PartFits limit) so (one, two)) (λ ps z all. gives all)))))
+        after (λ x u. first (join_fits a.next.broken u) (λ j v one. first (pipeline_fits j.1 v) (λ p w two. first (pushes (PartFits limit) so (one, two)) (λ ps z all. gives all))))
 
     joined_fits_by : (a : Joined) (o : Option AndOrOperator) (s : State) → PartsFit a → R (joined_by inner a o) (Stepped PartsFit) s
     joined_fits_by a (Some o) s so = one_pipeline_fits a o s so
@@ -313,13 +313,13 @@ module _ (keep : Bool) (g : Given) (limit : ℕ) where
 
     -- ---- compound commands
 
-    passed_fits : (paren : Bool) (s : State) → R (passed paren) (λ x. IsSpanWithin limit x.0) s
+    passed_fits : (text : Spelled) (paren : Bool) (s : State) → R (passed text paren) (λ x. IsSpanWithin limit x.0) s
     unfolding passed
-    passed_fits paren s = first (tokens {P = λ u. Unit {0}} (record { told = λ b. tt })) (λ x t so. after (λ n u. gives so.1))
+    passed_fits text paren s = first (tokens {P = λ u. Unit {0}} (record { told = λ b. tt })) (λ x t so. after (λ n u. gives so.1))
 
     closing_fits : (c : Closing) (n : Next) (s : State) → R (closing inner c n) (λ x. IsSpanWithin limit x.0) s
     unfolding closing
-    closing_fits c n s = picks (is_closing c n.token) (passed_fits (is_close_paren c) s) (stopped n)
+    closing_fits c n s = picks (is_closing c n.token) (passed_fits _ (is_close_paren c) s) (stopped n)
 
     branch_fits : (n : Next) (s : State) → R (a_branch inner n) (λ x. BranchFits limit x.0) s
     unfolding a_branch
@@ -363,17 +363,20 @@ module _ (keep : Bool) (g : Given) (limit : ℕ) where
         (λ b v two. first (closing_fits closings.Done b.1 v)
         (λ e w last. gives (fits_both limit (entries_nodes c.0) (entries_nodes b.0) one two, last)))))
 
+    group_fits : (c : Closing) (n : Next) (s : State) → R (a_group inner c n) (λ x. AreWithin limit x.what × IsSpanWithin limit x.closer) s
+    unfolding a_group
+    group_fits c n s = first (list_fits n s) (λ l t so. first (closing_fits c l.1 t) (λ k u last. gives (so, last)))
+
     form_fits : (o : Opener) (n : Next) (s : State) → R (a_form inner o n) FormFits s
-    unfolding a_brace a_subshell
-    form_fits openers.Brace n s = first (list_fits n s) (λ l t so. first (closing_fits closings.Brace l.1 t) (λ c u last. gives (so, last)))
-    form_fits openers.Paren n s = first (list_fits n s) (λ l t so. first (closing_fits closings.Paren l.1 t) (λ c u last. gives (so, last)))
+    form_fits openers.Brace n s = first (group_fits closings.Brace n s) (λ l t so. gives so)
+    form_fits openers.Paren n s = first (group_fits closings.Paren n s) (λ l t so. gives so)
     form_fits openers.If n s = if_fits n s
     form_fits openers.While n s = first (loop_fits n s) (λ l t so. gives so)
     form_fits openers.Until n s = first (loop_fits n s) (λ l t so. gives so)
 
     compound_fits : (o : Opener) (s : State) → R (a_compound inner o) (λ c. CommandFits limit c.0) s
     unfolding a_compound
-    compound_fits o s = first (passed_fits (is_open_paren o) s) (λ x t begin. first (form_fits o x.1 t) (λ f u so. gives (fits_compound limit f.what _ (begin.0, so.1.1) so.0)))
+    compound_fits o s = first (passed_fits _ (is_open_paren o) s) (λ x t begin. first (form_fits o x.1 t) (λ f u so. gives (fits_compound limit f.what _ (begin.0, so.1.1) so.0)))
 
   pub level_fits : (room : ℕ) → Fine (level room)
   unfolding level
