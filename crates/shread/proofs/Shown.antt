@@ -1,6 +1,6 @@
 -- What a token says of the bytes from its first one on.
 use Rattle.std.proofs.Common.{◌≡◌, ℕ, ◌<◌, ◌==◌, Bool, true, false, List, length, Option, Some, None, slice_get, refl, sym, ap, ◌∙◌}
-use Rattle.std.proofs.lemmas.Bool.{or_from, cond_both}
+use Rattle.std.proofs.lemmas.Bool.{eqb-true, or_from, cond_both}
 use Rattle.std.proofs.lemmas.Option.{slice_get_within}
 use Rattle.shread.specs.declared.token.Position.{Position}
 use Rattle.shread.specs.declared.token.Position.TheVariants.{Command, Prefix, Suffix}
@@ -11,6 +11,7 @@ use Rattle.shread.specs.Text.{is_newline}
 use Rattle.shread.specs.Classes.{is_blank, is_operator}
 use Rattle.shread.specs.Standing.{is_byte, is_none, passes, raw_stands, at_end}
 use Rattle.shread.specs.Bytes.{byte_at, behind, ends, ends_word, past_blanks, past_continuations, stands, stands_in}
+use Rattle.shread.specs.Comments.{comment_at}
 use Rattle.shread.specs.Tokens.{first_word, is_end, is_number, token_at, token_of, word_by, word_of}
 use Rattle.shread.specs.Clauses.{IsRead, Shows}
 use Rattle.shread.proofs.Places.{blanks_stop, place_same}
@@ -99,3 +100,12 @@ unfolding token_at stands_in
 shown position T p =
     let q = past_blanks T p in
     shows_by T q _ (blanks_still T p) (λ e. some_read T _ _ refl (some_byte T q position (byte_at T q) e)) (token_byte T q position (byte_at T q) (blanks_stop T p))
+
+newline_other : (b : Option ℕ) → is_byte b 10 ≡ true → is_byte b 35 ≡ false
+newline_other None e = refl
+newline_other (Some b) e = rw (eqb-true b 10 e) refl
+
+-- no comment begins at a newline
+pub no_comment : (T : List ℕ) (o p : ℕ) → raw_stands T p 10 ≡ true → comment_at T o p ≡ None
+unfolding comment_at raw_stands
+no_comment T o p e = rw (newline_other (slice_get T p) e) refl
