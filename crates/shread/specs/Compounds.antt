@@ -1,5 +1,5 @@
 -- Compound commands: groups, `if` and loops (XCU 2.9.4, 2.10.2).
-use Rattle.std.specs.Prelude.{Bool, true, false, [], List as Row}
+use Rattle.std.specs.Prelude.{Bool, true, false, [], ◌∷◌, List as Row}
 use Rattle.shread.specs.declared.token.Closing.{Closing}
 use Rattle.shread.specs.declared.token.Closing.TheVariants as closings
 use Rattle.shread.specs.declared.token.Next.{Next}
@@ -10,7 +10,7 @@ use Rattle.shread.specs.declared.token.Reserved.TheVariants as reserved
 use Rattle.shread.specs.declared.token.Token.{Token}
 use Rattle.shread.specs.declared.token.Token.TheVariants as tokens
 use Rattle.shtree.specs.declared.tree.Span.{Span}
-use Rattle.shtree.specs.Tree.{ACommand, compound, formed, AForm, brace, subshell, if_then, while_do, until_do, ABranch, branch, branches_of, Otherwise, no_else, otherwise, no_item}
+use Rattle.shtree.specs.Tree.{ACommand, simple, compound, formed, AForm, brace, subshell, if_then, while_do, until_do, ABranch, branch, branches_of, Otherwise, no_else, otherwise, no_item}
 use Rattle.shread.specs.Sights.{Move, one_byte, the_reserved}
 use Rattle.shread.specs.Form.{Form, give, move, push, token, many, ◌>>=◌, Step, again, done}
 use Rattle.shread.specs.Words.{Inner}
@@ -120,7 +120,12 @@ a_form inner openers.Until n = a_loop inner n >>= λ l. give (closed (until_do l
 abbrev pub from_to : Span → Span → Span
 from_to a b = record { start = a.start; «end» = b.«end» }
 
+-- The one command of a row that grew by it. Where no row grows, a compound command is told as one that holds nothing.
+abbrev pub the_one : Row ACommand → ACommand
+the_one [] = simple no_item
+the_one (c ∷ cs) = c
+
 -- the compound command that opens here, and the token behind it
 unfoldable pub a_compound : Inner → Opener → Form (ACommand × Next)
 a_compound inner o =
-    passed (is_open_paren o) >>= λ x. a_form inner o x.1 >>= λ f. give (compound (formed f.what (from_to x.0 f.closer) no_item), f.next)
+    passed (is_open_paren o) >>= λ x. a_form inner o x.1 >>= λ f. push [] (compound (formed f.what (from_to x.0 f.closer) no_item)) >>= λ cs. give (the_one cs, f.next)
