@@ -45,10 +45,10 @@ impl<'a, S: Source> Cursor<'a, S> {
         let Some(position) = next.token.behind_item() else {
             return Ok(false);
         };
-        let broken = !items.is_empty() && next.broken;
         let start = self.at;
         self.pass_word(room)?;
         if self.keep {
+            let broken = !items.is_empty() && next.broken;
             items.push(item_of(self.word_from(alloc, start), position, broken))?;
         }
         *next = self.next_token(position);
