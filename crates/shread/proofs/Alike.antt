@@ -486,7 +486,7 @@ module _ (g : Given) where
     pub alike_compound : (o : Opener) → Alike SameNext (a_compound inner o) (a_compound inner o)
     unfolding a_compound
     alike_compound o =
-        alike_then (alike_passed _ (is_open_paren o)) (λ x y so. alike_then (alike_at (a_form inner o) (alike_form o) x.1 y.1 (ap (λ (z : Span × Next). z.1) so)) (λ f g same. alike_give same))
+        alike_then (alike_passed _ (is_open_paren o)) (λ x y so. alike_then (alike_at (a_form inner o) (alike_form o) x.1 y.1 (ap (λ (z : Span × Next). z.1) so)) (λ f g same. alike_pushed (alike_give same)))
 
     -- ---- lines
 

@@ -1,6 +1,6 @@
 -- What a token says of the bytes from its first one on.
 use Rattle.std.proofs.Common.{◌≡◌, ℕ, ◌<◌, ◌==◌, Bool, true, false, List, length, Option, Some, None, slice_get, refl, sym, ap, ◌∙◌}
-use Rattle.std.proofs.lemmas.Bool.{or_from, cond_both}
+use Rattle.std.proofs.lemmas.Bool.{eqb-true, or_from, cond_both}
 use Rattle.std.proofs.lemmas.Option.{slice_get_within}
 use Rattle.shread.specs.declared.token.Position.{Position}
 use Rattle.shread.specs.declared.token.Position.TheVariants.{Command, Prefix, Suffix}
@@ -11,7 +11,7 @@ use Rattle.shread.specs.Text.{is_newline}
 use Rattle.shread.specs.Classes.{is_blank, is_operator}
 use Rattle.shread.specs.Standing.{is_byte, is_none, passes, raw_stands, at_end}
 use Rattle.shread.specs.Bytes.{byte_at, behind, ends, ends_word, past_blanks, past_continuations, stands, stands_in}
-use Rattle.shread.specs.Tokens.{first_word, is_end, is_number, token_at, token_of, word_by, word_of}
+use Rattle.shread.specs.Tokens.{first_word, is_comment, is_end, is_number, token_at, token_of, word_by, word_of}
 use Rattle.shread.specs.Clauses.{IsRead, Shows}
 use Rattle.shread.proofs.Places.{blanks_stop, place_same}
 
@@ -71,23 +71,34 @@ module _ (T : List ℕ) (p : ℕ) where
   some_byte position None e = absurd cc
   some_byte position (Some b) e = refl
 
-shows_by : (T : List ℕ) (p : ℕ) (t : Token) → past_continuations T p ≡ p → (is_end t ≡ false → IsRead T p) → Byte T p (byte_at T p) t → Shows t T p
+  -- a `#` begins a comment
+  hash_byte : (position : Position) (b : Option ℕ) → is_byte b 35 ≡ true → is_comment (token_of position T p b) ≡ true
+  hash_byte position None e = absurd cc
+  hash_byte position (Some b) e = rw (eqb-true b 35 e) refl
+
+  no_hash : (position : Position) (b : Option ℕ) (hash : Bool) → is_byte b 35 ≡ hash → is_comment (token_of position T p b) ≡ false → is_byte b 35 ≡ false
+  no_hash position b true is e =
+      let contrary : true ≡ false = sym (hash_byte position b is) ∙ e in
+      absurd cc
+  no_hash position b false is e = is
+
+shows_by : (T : List ℕ) (p : ℕ) (t : Token) → past_continuations T p ≡ p → (is_end t ≡ false → IsRead T p) → Byte T p (byte_at T p) t → (is_comment t ≡ false → raw_stands T p 35 ≡ false) → Shows t T p
 unfolding ends_word raw_stands at_end
-shows_by T p tokens.End still some e = (λ z f. absurd cc, some, λ f. absurd cc, λ f. ap (λ q. is_none (slice_get T q)) (sym still) ∙ e, λ o f. absurd cc, still)
-shows_by T p tokens.Newline still some e = (λ z f. absurd cc, some, λ f. ap (λ q. is_byte (slice_get T q) 10) (sym still) ∙ e, λ f. absurd cc, λ o f. absurd cc, still)
-shows_by T p tokens.Semicolon still some e = (λ z f. absurd cc, some, λ f. absurd cc, λ f. absurd cc, λ o f. absurd cc, still)
-shows_by T p tokens.Ampersand still some e = (λ z f. absurd cc, some, λ f. absurd cc, λ f. absurd cc, λ o f. absurd cc, still)
-shows_by T p tokens.AndIf still some e = (λ z f. absurd cc, some, λ f. absurd cc, λ f. absurd cc, λ o f. e, still)
-shows_by T p tokens.OrIf still some e = (λ z f. absurd cc, some, λ f. absurd cc, λ f. absurd cc, λ o f. e, still)
-shows_by T p tokens.Pipe still some e = (λ z f. absurd cc, some, λ f. absurd cc, λ f. absurd cc, λ o f. absurd cc, still)
-shows_by T p tokens.OpenParen still some e = (λ z f. absurd cc, some, λ f. absurd cc, λ f. absurd cc, λ o f. absurd cc, still)
-shows_by T p tokens.CloseParen still some e = (λ z f. absurd cc, some, λ f. absurd cc, λ f. absurd cc, λ o f. absurd cc, still)
-shows_by T p tokens.Operator still some e = (λ z f. absurd cc, some, λ f. absurd cc, λ f. absurd cc, λ o f. absurd cc, still)
-shows_by T p tokens.Comment still some e = (λ z f. absurd cc, some, λ f. absurd cc, λ f. absurd cc, λ o f. absurd cc, still)
-shows_by T p tokens.Number still some e = (λ z f. absurd cc, some, λ f. absurd cc, λ f. absurd cc, λ o f. absurd cc, still)
-shows_by T p (tokens.Reserved r) still some e = (λ z f. absurd cc, some, λ f. absurd cc, λ f. absurd cc, λ o f. absurd cc, still)
-shows_by T p tokens.Assignment still some e = (λ z f. e, some, λ f. absurd cc, λ f. absurd cc, λ o f. absurd cc, still)
-shows_by T p tokens.Word still some e = (λ z f. e, some, λ f. absurd cc, λ f. absurd cc, λ o f. absurd cc, still)
+shows_by T p tokens.End still some e none = (λ z f. absurd cc, some, λ f. absurd cc, λ f. ap (λ q. is_none (slice_get T q)) (sym still) ∙ e, λ o f. absurd cc, none, still)
+shows_by T p tokens.Newline still some e none = (λ z f. absurd cc, some, λ f. ap (λ q. is_byte (slice_get T q) 10) (sym still) ∙ e, λ f. absurd cc, λ o f. absurd cc, none, still)
+shows_by T p tokens.Semicolon still some e none = (λ z f. absurd cc, some, λ f. absurd cc, λ f. absurd cc, λ o f. absurd cc, none, still)
+shows_by T p tokens.Ampersand still some e none = (λ z f. absurd cc, some, λ f. absurd cc, λ f. absurd cc, λ o f. absurd cc, none, still)
+shows_by T p tokens.AndIf still some e none = (λ z f. absurd cc, some, λ f. absurd cc, λ f. absurd cc, λ o f. e, none, still)
+shows_by T p tokens.OrIf still some e none = (λ z f. absurd cc, some, λ f. absurd cc, λ f. absurd cc, λ o f. e, none, still)
+shows_by T p tokens.Pipe still some e none = (λ z f. absurd cc, some, λ f. absurd cc, λ f. absurd cc, λ o f. absurd cc, none, still)
+shows_by T p tokens.OpenParen still some e none = (λ z f. absurd cc, some, λ f. absurd cc, λ f. absurd cc, λ o f. absurd cc, none, still)
+shows_by T p tokens.CloseParen still some e none = (λ z f. absurd cc, some, λ f. absurd cc, λ f. absurd cc, λ o f. absurd cc, none, still)
+shows_by T p tokens.Operator still some e none = (λ z f. absurd cc, some, λ f. absurd cc, λ f. absurd cc, λ o f. absurd cc, none, still)
+shows_by T p tokens.Comment still some e none = (λ z f. absurd cc, some, λ f. absurd cc, λ f. absurd cc, λ o f. absurd cc, none, still)
+shows_by T p tokens.Number still some e none = (λ z f. absurd cc, some, λ f. absurd cc, λ f. absurd cc, λ o f. absurd cc, none, still)
+shows_by T p (tokens.Reserved r) still some e none = (λ z f. absurd cc, some, λ f. absurd cc, λ f. absurd cc, λ o f. absurd cc, none, still)
+shows_by T p tokens.Assignment still some e none = (λ z f. e, some, λ f. absurd cc, λ f. absurd cc, λ o f. absurd cc, none, still)
+shows_by T p tokens.Word still some e none = (λ z f. e, some, λ f. absurd cc, λ f. absurd cc, λ o f. absurd cc, none, still)
 
 pub blanks_still : (T : List ℕ) (p : ℕ) → past_continuations T (past_blanks T p) ≡ past_blanks T p
 unfolding past_blanks
@@ -95,7 +106,8 @@ blanks_still T p = place_same T _
 
 -- a token says this of the bytes behind blanks
 pub shown : (position : Position) (T : List ℕ) (p : ℕ) → Shows (token_at position T (past_blanks T p)) T (past_blanks T p)
-unfolding token_at stands_in
+unfolding token_at stands_in raw_stands
 shown position T p =
     let q = past_blanks T p in
     shows_by T q _ (blanks_still T p) (λ e. some_read T _ _ refl (some_byte T q position (byte_at T q) e)) (token_byte T q position (byte_at T q) (blanks_stop T p))
+    (λ e. ap (λ r. is_byte (slice_get T r) 35) (sym (blanks_still T p)) ∙ no_hash T q position (byte_at T q) _ refl e)

@@ -458,7 +458,7 @@ module _ (B : List ℕ) (g : Given) (stands : g.text ≡ drop g.offset B) where
     pass_compound : (o : Opener) (s : State) → Passing g (a_compound inner o) (Spells (λ c. spell_command B c.0)) s
     unfolding a_compound
     pass_compound o s =
-        pass_then g (pass_passed (opener_text o) _ s) (λ x t k is. pass_last g (pass_form o x.1 t) (λ f m so. rw is (so ∙ sym (append-nil _))))
+        pass_then g (pass_passed (opener_text o) _ s) (λ x t k is. pass_then g (pass_form o x.1 t) (λ f u m so. pass_pushed g (λ v. pass_give g (rw (is, append-nil m) (so ∙ sym (append-nil _))))))
 
     -- ---- lines
 

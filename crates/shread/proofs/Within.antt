@@ -2,7 +2,7 @@
 use Rattle.std.proofs.Common.{◌≡◌, refl, sym, subst, ℕ, zero, suc, ◌+◌, ◌≤◌, Bool, true, false, cond, Ok, Err, List, List as Row, [], ◌∷◌, Option, Some, None, arith, ⊎_elim}
 use Rattle.std.specs.Prelude.{All, MatchOption}
 use Rattle.std.proofs.lemmas.Bool.{cases_lt, cond_both}
-use Rattle.std.proofs.lemmas.List.Elements.{All-nil, All-push}
+use Rattle.std.proofs.lemmas.List.Elements.{All-head, All-nil, All-push}
 use Rattle.shread.specs.declared.mode.Mode.{Mode}
 use Rattle.shread.specs.declared.mode.Piece.{Piece}
 use Rattle.shread.specs.declared.mode.Piece.TheVariants as pieces
@@ -17,7 +17,7 @@ use Rattle.shtree.specs.declared.tree.AndOrOperator.{AndOrOperator}
 use Rattle.shtree.specs.declared.tree.Comment.{Comment}
 use Rattle.shtree.specs.declared.tree.Span.{Span}
 use Rattle.shtree.specs.Nodes.{AreWithin, IsSpanWithin, and_or_nodes, branch_nodes, branches_nodes, else_nodes, entries_nodes, form_nodes}
-use Rattle.shtree.specs.Tree.{AForm, ASubst, AWord, AnEntry, branches_of, entries_of, item}
+use Rattle.shtree.specs.Tree.{ACommand, AForm, ASubst, AWord, AnEntry, branches_of, entries_of, item}
 use Rattle.shtree.proofs.Reach.{Nodes, CommentFits, SubstFits, WordFits, ItemFits, CommandFits, PipelineFits, PipeFits, PartFits, EntryFits, BranchFits, both as fits_both, fits_substs, fits_entries, fits_branches, fits_assign, fits_argument, fits_simple, fits_compound, fits_pipeline, fits_and_or, fits_command, fits_remark, span_fits_more, within_append}
 use Rattle.shread.specs.Standing.{raw_stands, raw_in, next_newline, before_blanks}
 use Rattle.shread.specs.Comments.{span, comment_at, past_comment}
@@ -27,7 +27,7 @@ use Rattle.shread.specs.Form.{Spelled, Told, Read, Form, give, push, both, many,
 use Rattle.shread.specs.Words.{Inner, Held, having, opened, piece_row, a_piece, contents, a_word}
 use Rattle.shread.specs.Commands.{pick, is_pipe, is_bang, begins_simple, begins_pipeline, opener_of, compound_by, and_or_operator_of, breaks, Items, so_many, behind_item, as_item, an_item, item_by, item_turn, a_simple, a_bang, a_comment, comment_by, unexpected, with_comment, JoinSo, join_turn, a_join, a_command, Piped, piped, one_command, pipe_turn, a_pipeline, Joined, joined_so, one_pipeline, joined_by, join_pipeline, an_and_or, is_background, an_entry}
 use Rattle.shread.specs.Lists.{ListSo, list_so, none_listed, is_blank_next, one_entry, entry_turn, remark_by, a_remark, on_line, list_turn, a_list}
-use Rattle.shread.specs.Compounds.{Branched, branched, Closed, is_closing, is_open_paren, is_close_paren, passed, closing, a_branch, elif_turn, an_else, an_if, a_loop, a_group, a_form, a_compound}
+use Rattle.shread.specs.Compounds.{Branched, branched, Closed, is_closing, is_open_paren, is_close_paren, passed, closing, a_branch, elif_turn, an_else, an_if, a_loop, a_group, a_form, held_apart, a_compound}
 use Rattle.shread.specs.Levels.{most_open, level}
 use Rattle.shread.specs.Lines.{a_line, ALine, IsLine, line_read, line_stops, kind_of}
 use Rattle.shread.specs.Scripts.{SoFar, the_line, with_line}
@@ -374,9 +374,15 @@ module _ (keep : Bool) (g : Given) (limit : ℕ) where
     form_fits openers.While n s = first (loop_fits n s) (λ l t so. gives so)
     form_fits openers.Until n s = first (loop_fits n s) (λ l t so. gives so)
 
+    -- a command held apart, or one that holds nothing
+    apart_fits : (cs : Row ACommand) → All (CommandFits limit) cs → CommandFits limit (held_apart cs)
+    apart_fits [] all = fits_simple limit [] (All-nil (ItemFits limit))
+    apart_fits (c ∷ cs) all = All-head (CommandFits limit) c cs all
+
     compound_fits : (o : Opener) (s : State) → R (a_compound inner o) (λ c. CommandFits limit c.0) s
     unfolding a_compound
-    compound_fits o s = first (passed_fits _ (is_open_paren o) s) (λ x t begin. first (form_fits o x.1 t) (λ f u so. gives (fits_compound limit f.what _ (begin.0, so.1.1) so.0)))
+    compound_fits o s = first (passed_fits _ (is_open_paren o) s) (λ x t begin. first (form_fits o x.1 t)
+        (λ f u so. first (pushes (CommandFits limit) (All-nil (CommandFits limit)) (fits_compound limit f.what _ (begin.0, so.1.1) so.0)) (λ cs v all. gives (apart_fits cs all))))
 
   pub level_fits : (room : ℕ) → Fine (level room)
   unfolding level

@@ -1,5 +1,5 @@
 -- Compound commands: groups, `if` and loops (XCU 2.9.4, 2.10.2).
-use Rattle.std.specs.Prelude.{Bool, true, false, [], codes, List as Row}
+use Rattle.std.specs.Prelude.{Bool, true, false, [], ◌∷◌, codes, List as Row}
 use Rattle.shread.specs.declared.token.Closing.{Closing}
 use Rattle.shread.specs.declared.token.Closing.TheVariants as closings
 use Rattle.shread.specs.declared.token.Next.{Next}
@@ -11,7 +11,7 @@ use Rattle.shread.specs.declared.token.Token.{Token}
 use Rattle.shread.specs.declared.token.Token.TheVariants as tokens
 use Rattle.shtree.specs.declared.tree.Span.{Span}
 use Rattle.shtree.specs.Nodes.{through}
-use Rattle.shtree.specs.Tree.{Entries, ACommand, compound, formed, AForm, brace, subshell, if_then, while_do, until_do, ABranch, branch, branches_of, Otherwise, no_else, otherwise, no_item}
+use Rattle.shtree.specs.Tree.{Entries, ACommand, simple, compound, formed, AForm, brace, subshell, if_then, while_do, until_do, ABranch, branch, branches_of, Otherwise, no_else, otherwise, no_item}
 use Rattle.shread.specs.Sights.{Move, one_byte, the_reserved}
 use Rattle.shread.specs.Form.{Form, Spelled, give, move, push, by, token, many, ◌>>=◌, Step, again, done}
 use Rattle.shread.specs.Words.{Inner}
@@ -132,7 +132,15 @@ a_form inner openers.Until n = a_loop inner n >>= λ l. give (closed (until_do l
 
 -- ---- a compound command
 
+-- A compound command is held apart from what it stands in, in a row of its own: without a tree that row stays empty.
+abbrev pub held_apart : Row ACommand → ACommand
+held_apart [] = simple no_item
+held_apart (c ∷ cs) = c
+
 -- the compound command that opens here, and the token behind it
 unfoldable pub a_compound : Inner → Opener → Form (ACommand × Next)
 a_compound inner o =
-    passed (opener_text o) (is_open_paren o) >>= λ x. a_form inner o x.1 >>= λ f. give (compound (formed f.what (through x.0 f.closer) no_item), f.next)
+    passed (opener_text o) (is_open_paren o) >>= λ x.
+    a_form inner o x.1 >>= λ f.
+    push [] (compound (formed f.what (through x.0 f.closer) no_item)) >>= λ cs.
+    give (held_apart cs, f.next)

@@ -84,6 +84,11 @@ abbrev pub is_end : Token → Bool
 is_end tokens.End = true
 is_end _ = false
 
+-- a comment begins here
+abbrev pub is_comment : Token → Bool
+is_comment tokens.Comment = true
+is_comment _ = false
+
 -- what begins at p
 unfoldable pub token_at : Position → List ℕ → ℕ → Token
 token_at position T p = token_of position T p (byte_at T p)

@@ -14,7 +14,7 @@ use shtree::Comment;
 impl<'a, S: Source> Cursor<'a, S> {
     /// Passes the comment here, if one stands. `next` is the token here, and then the one behind it.
     #[inline(always)]
-    #[tactic(auto, unfolding(crate::specs::Commands::a_comment, crate::specs::Commands::next_token))]
+    #[tactic(auto, unfolding(crate::specs::Commands::a_comment, crate::specs::Commands::next_token, crate::specs::Comments::comment_at))]
     pub(crate) fn remark(&mut self, next: &mut Next) -> Option<Comment>
         requires shows { Shows next.old.token (text_of S.bytes self.old) self.old.at }
         ensures value { reads S.bytes self.old (a_comment next.old) ≡ Done ((result, next.new), standing self.new.at) }
@@ -22,6 +22,9 @@ impl<'a, S: Source> Cursor<'a, S> {
         ensures onward { self.old.at ≤ self.new.at }
         ensures same { Stays self.old self.new }
     {
+        let Token::Comment = next.token else {
+            return None;
+        };
         match self.comment() {
             Some(comment) => {
                 *next = self.next_token(Position::Command);

@@ -42,14 +42,18 @@ impl<'a, S: Source> Cursor<'a, S> {
         at
     }
 
-    /// The byte that is read at a place, or `None` at the end.
+    /// The byte that is read at a place, or `None` at the end. Only behind a backslash another byte may be meant.
     #[inline(always)]
+    #[tactic(auto, using(crate::proofs::Stretches::raw_stays))]
     pub(crate) fn byte_at(&self, at: usize) -> Option<u8>
         requires { at ≤ length (text_of S.bytes self.now) }
         ensures value { result ≡ byte_at (text_of S.bytes self.now) at }
         ensures inside { IfSome result (λ b. IsRead (text_of S.bytes self.now) at) }
     {
-        self.raw_byte(self.place(at))
+        if self.raw_stands(at, b'\\') {
+            return self.raw_byte(self.place(at));
+        }
+        self.raw_byte(at)
     }
 
     /// The byte that is read here, or `None` at the end.

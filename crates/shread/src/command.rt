@@ -45,18 +45,39 @@ impl<'a, S: Source> Cursor<'a, S> {
         let Some(position) = next.token.behind_item() else {
             return Ok(false);
         };
-        let broken = !items.is_empty() && next.broken;
         let start = self.at;
         self.pass_word(room)?;
         if self.keep {
+            let broken = !items.is_empty() && next.broken;
             items.push(item_of(self.word_from(alloc, start), position, broken))?;
         }
         *next = self.next_token(position);
         Ok(true)
     }
 
+    /// The items of the simple command that the token here begins. `next` is that token, and then the one behind them.
+    #[tactic(auto, using(crate::proofs::Turns::many_again, crate::proofs::Turns::many_done, crate::proofs::Turns::many_stop))]
+    fn items(
+        &mut self,
+        alloc: Global,
+        next: &mut Next,
+        items: &mut Vec<Item>,
+        room: usize,
+    ) -> Result<(), Stop>
+        requires shows { Shows next.old.token (text_of S.bytes self.old) self.old.at }
+        ensures value { Reads S.bytes self.old (many (item_turn (level room)) (so_many (map view_item items.old.items) next.old)) result
+            (λ done. so_many (map view_item items.new.items) next.new) self.new.at }
+        ensures shows { IfOk result (λ done. Shows next.new.token (text_of S.bytes self.old) self.new.at) }
+        ensures onward { IfOk result (λ done. self.old.at ≤ self.new.at) }
+        ensures same { Stays self.old self.new }
+    {
+        'turns: while self.item(alloc, next, items, room)? {}
+        Ok(())
+    }
+
     /// The simple command that the token here begins. `next` is that token, and then the one behind it.
-    #[tactic(auto, unfolding(crate::specs::Commands::a_simple), using(crate::proofs::Turns::many_again, crate::proofs::Turns::many_done, crate::proofs::Turns::many_stop))]
+    #[inline(always)]
+    #[tactic(auto, unfolding(crate::specs::Commands::a_simple))]
     fn simple(&mut self, alloc: Global, next: &mut Next, room: usize) -> Result<Command, Stop>
         requires shows { Shows next.old.token (text_of S.bytes self.old) self.old.at }
         ensures value { Reads S.bytes self.old (a_simple (level room) next.old) result
@@ -66,7 +87,7 @@ impl<'a, S: Source> Cursor<'a, S> {
         ensures same { Stays self.old self.new }
     {
         let mut items = Vec::new(alloc);
-        'turns: while self.item(alloc, next, &mut items, room)? {}
+        self.items(alloc, next, &mut items, room)?;
         Ok(simple_of(items))
     }
 

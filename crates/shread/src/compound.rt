@@ -13,7 +13,8 @@ use crate::fault::{FaultKind, Stop};
 use crate::source::Source;
 use crate::token::{Closing, Next, Opener, Position};
 use shtree::make::{
-    brace_of, branch_of, compound_command, compound_of, if_of, subshell_of, until_of, while_of,
+    brace_of, branch_of, compound_command, compound_of, if_of, simple_of, subshell_of, until_of,
+    while_of,
 };
 use shtree::{Branch, Command, Form, List, Span};
 use std::alloc::Global;
@@ -265,6 +266,10 @@ impl<'a, S: Source> Cursor<'a, S> {
         }
         let opened = self.passed(matches!(opener, Opener::Paren), next);
         let (form, closer) = self.form(alloc, opener, next, room - 1)?;
+        if !self.keep {
+            // Who drops the command asks for no box.
+            return Ok(simple_of(Vec::new(alloc)));
+        }
         let compound = compound_of(form, opened.through(closer), Vec::new(alloc));
         Ok(compound_command(Box::new(alloc, compound)?))
     }

@@ -229,7 +229,7 @@ fn dumped_line(alloc: Global, line: &Line) -> Result<String, Fail> {
 }
 
 /// Dumps a script, and answers its fault.
-fn dump_script<S: Source>(
+pub(crate) fn dump_script<S: Source>(
     text: &mut String,
     reader: &mut Reader,
     source: &S,

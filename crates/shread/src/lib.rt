@@ -47,6 +47,8 @@ mod standing;
 mod table;
 mod token;
 #[cfg(test)]
+mod tree_size;
+#[cfg(test)]
 mod trees;
 mod word;
 

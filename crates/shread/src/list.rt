@@ -89,7 +89,6 @@ impl<'a, S: Source> Cursor<'a, S> {
 
     /// All of them.
     #[cycle(commands)]
-    #[inline(always)]
     #[tactic(auto, using(crate::proofs::Turns::many_again, crate::proofs::Turns::many_done, crate::proofs::Turns::many_stop))]
     fn entries(
         &mut self,
@@ -130,9 +129,10 @@ impl<'a, S: Source> Cursor<'a, S> {
         Ok(())
     }
 
-    /// The entries and the comment of one line.
+    /// The entries and the comment of one line. Many lines of a list have neither: what holds the entries is called only for some.
     #[cycle(commands)]
-    #[tactic(auto, unfolding(crate::specs::Lists::on_line))]
+    #[inline(always)]
+    #[tactic(auto, unfolding(crate::specs::Lists::on_line), using(crate::proofs::Turns::no_entries))]
     pub(crate) fn on_line(
         &mut self,
         alloc: Global,
@@ -147,7 +147,9 @@ impl<'a, S: Source> Cursor<'a, S> {
         ensures onward { IfOk result (λ done. self.old.at ≤ self.new.at) }
         ensures same { Stays self.old self.new }
     {
-        self.entries(alloc, next, listed, room)?;
+        if next.token.begins_pipeline() {
+            self.entries(alloc, next, listed, room)?;
+        }
         self.own_comment(next, listed)
     }
 

@@ -133,7 +133,7 @@ fn grows_not(alloc: Global, refuses: bool, script: &[u8]) -> Result<bool, Fail> 
     Ok(has_none && !(refuses && has_grown))
 }
 
-/// A check asks for no growth where the script has no compound command.
+/// A check asks for no growth.
 #[test]
 fn first_fault(rt: HostRuntime) -> Result<(), Fail> {
     let refuses = refuses(rt.alloc());
@@ -144,30 +144,10 @@ fn first_fault(rt: HostRuntime) -> Result<(), Fail> {
             b"\na=1 'b' $c \"\" d e; g & # h\ni|j&&! k\n"
         )?
     );
+    assert!(rt; grows_not(rt.alloc(), refuses, TEXT)?);
     assert!(rt; grows_not(rt.alloc(), refuses, b"a\\\n=1 i\\\nf \\b # c\n")?);
     assert!(rt; grows_not(rt.alloc(), refuses, b"'a' \"b ${c-\"d\"}\" `e\\`f`")?);
     assert!(rt; grows_not(rt.alloc(), refuses, b"${a#'b'}$((1 + (2)))$$\n")?);
-    Ok(())
-}
-
-/// For a compound command a check asks for a box, and says so where there is none.
-#[test]
-fn boxes(rt: HostRuntime) -> Result<(), Fail> {
-    let refuses = refuses(rt.alloc());
-    let mut met = 0;
-    for nth in 1..100 {
-        let mut reader = begun(rt.alloc())?;
-        refuse(rt.alloc(), nth);
-        let found = reader.first_fault(&Flat::new(TEXT));
-        if !refuses || !was_refused(rt.alloc(), nth) {
-            assert!(rt; found?.is_none());
-            break;
-        }
-        assert!(rt; matches!(found, Err(ReadError::Memory)) && reader.meter() == 1);
-        assert!(rt; reader.first_fault(&Flat::new(TEXT))?.is_none());
-        met = nth;
-    }
-    assert!(rt; !refuses || 0 < met && met < 99, "{met}");
     Ok(())
 }
 

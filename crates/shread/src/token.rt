@@ -237,14 +237,34 @@ impl Class {
 }
 
 impl<'a, S: Source> Cursor<'a, S> {
-    /// Whether the word that is spelled so stands here.
-    #[tactic(auto, using(crate::proofs::Stretches::word_more, crate::proofs::Stretches::word_other, crate::proofs::Stretches::word_whole))]
+    /// Whether the word that is spelled so stands here. Most often no continuation stands in it.
+    #[inline(always)]
+    #[tactic(auto, using(crate::proofs::Stretches::letter_more, crate::proofs::Stretches::letter_other, crate::proofs::Stretches::word_whole))]
     fn is_word(&self, word: &[u8]) -> bool
         ensures { result ≡ is_word_at (text_of S.bytes self.now) self.now.at word.now }
     {
         let mut at = self.at;
-        'letters: for byte in word {
-            if !self.stands(at, *byte) {
+        'letters: for letter in word {
+            if self.raw_stands(at, b'\\') {
+                return self.is_broken_word(word);
+            }
+            if !self.raw_stands(at, *letter) {
+                return false;
+            }
+            at += 1;
+        }
+        self.ends_at(at)
+    }
+
+    /// The same, past continuations.
+    #[cold]
+    #[tactic(auto, using(crate::proofs::Stretches::word_more, crate::proofs::Stretches::word_other, crate::proofs::Stretches::word_whole))]
+    fn is_broken_word(&self, word: &[u8]) -> bool
+        ensures { result ≡ is_word_at (text_of S.bytes self.now) self.now.at word.now }
+    {
+        let mut at = self.at;
+        'letters: for letter in word {
+            if !self.stands(at, *letter) {
                 return false;
             }
             at = self.behind(at);
@@ -253,6 +273,7 @@ impl<'a, S: Source> Cursor<'a, S> {
     }
 
     /// This reserved word, if it stands here.
+    #[inline(always)]
     fn spelled(&self, word: &[u8], reserved: Reserved) -> Option<Reserved>
         ensures { result ≡ (if is_word_at (text_of S.bytes self.now) self.now.at word.now then Some reserved else None) }
     {
@@ -264,6 +285,7 @@ impl<'a, S: Source> Cursor<'a, S> {
     }
 
     /// This reserved word, or that one, if one of them stands here.
+    #[inline(always)]
     #[tactic(auto, unfolding(crate::specs::Tokens::first_of_words))]
     fn spelled_as(
         &self,
@@ -281,9 +303,23 @@ impl<'a, S: Source> Cursor<'a, S> {
         self.spelled(other, second)
     }
 
-    /// The reserved word that stands here, if one does. Its first byte tells which it may be.
+    /// The reserved word that stands here, if one does. Most words begin with a byte that begins none.
+    #[inline(always)]
     #[tactic(auto, unfolding(crate::specs::Tokens::reserved_words, crate::specs::Tokens::first_of_words, crate::specs::Tokens::is_word_at, crate::specs::Bytes::stands))]
     fn reserved(&self) -> Option<Reserved>
+        ensures { result ≡ reserved_at (text_of S.bytes self.now) self.now.at }
+    {
+        match self.byte() {
+            Some(b'!' | b'{' | b'}' | b'c' | b'd' | b'e' | b'f' | b'i' | b't' | b'u' | b'w') =>
+                self.reserved_by_letters(),
+            _ => None,
+        }
+    }
+
+    /// The same. The first byte tells which word it may be.
+    #[inline(never)]
+    #[tactic(auto, unfolding(crate::specs::Tokens::reserved_words, crate::specs::Tokens::first_of_words, crate::specs::Tokens::is_word_at, crate::specs::Bytes::stands))]
+    fn reserved_by_letters(&self) -> Option<Reserved>
         ensures { result ≡ reserved_at (text_of S.bytes self.now) self.now.at }
     {
         match self.byte() {
@@ -318,19 +354,16 @@ impl<'a, S: Source> Cursor<'a, S> {
         self.at = self.past(self.behind(self.at), Class::Name);
     }
 
-    /// Whether a NAME and `=` stand here.
+    /// Whether a NAME and `=` stand here. The `=` is asked for first, since most words have none.
     #[inline(always)]
     #[tactic(auto, unfolding(crate::specs::Tokens::begins_assignment, crate::specs::Bytes::stands_in))]
     fn begins_assignment(&self) -> bool
         ensures { result ≡ begins_assignment (text_of S.bytes self.now) self.now.at }
     {
-        match self.byte() {
-            Some(b'a'..=b'z' | b'A'..=b'Z' | b'_') => self.stands(
-                self.past(self.at, Class::Name),
-                b'=',
-            ),
-            _ => false,
+        if !self.stands(self.past(self.at, Class::Name), b'=') {
+            return false;
         }
+        matches!(self.byte(), Some(b'a'..=b'z' | b'A'..=b'Z' | b'_'))
     }
 
     /// Whether digits that `<` or `>` follows stand here.

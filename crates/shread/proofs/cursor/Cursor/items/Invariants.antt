@@ -1,14 +1,14 @@
-use Rattle.std.proofs.Common.{◌≡◌, ◌≤◌, ◌-◌, [], length, map}
+use Rattle.std.proofs.Common.{◌≡◌, ◌≤◌, ◌-◌, length, map}
 use Rattle.shread.specs.Clauses.{Shows, Stays, reads, reads_at, text_of}
 use Rattle.shread.specs.Commands.{item_turn, so_many}
 use Rattle.shread.specs.Form.{many}
 use Rattle.shtree.specs.View.{view_item}
 use Rattle.shread.specs.Levels.{level}
-use Rattle.shread.proofs.cursor.Cursor.simple.Given as goal
+use Rattle.shread.proofs.cursor.Cursor.items.Given as goal
 
 abbrev pub invariant-turns : goal.invariant-turns
 invariant-turns g l =
-    (reads_at g.S.Source.bytes l.fn.self (many (item_turn (level l.room)) (so_many (map view_item l.items.items) l.next)) l.self.at ≡ reads g.S.Source.bytes l.fn.self (many (item_turn (level l.room)) (so_many [] l.fn.next)))
+    (reads_at g.S.Source.bytes l.fn.self (many (item_turn (level l.room)) (so_many (map view_item l.items.items) l.next)) l.self.at ≡ reads g.S.Source.bytes l.fn.self (many (item_turn (level l.room)) (so_many (map view_item l.fn.items.items) l.fn.next)))
     × Shows l.next.token (text_of g.S.Source.bytes l.fn.self) l.self.at × (l.fn.self.at ≤ l.self.at) × Stays l.fn.self l.self
 
 abbrev pub decreases-turns : goal.decreases-turns

@@ -1,0 +1,43 @@
+// What a tree takes. `tests/bench` runs this test over a file that it names, and takes the time and the memory: of the file alone, of
+// the file and its tree, and how many nodes that tree has. Where no file is named, a short script is read.
+use crate::dump::dump_script;
+use crate::{Flat, Reader};
+use std::test::Fail;
+use std::{env, fs};
+
+/// One compound command, two simple ones, their four items, and a comment.
+const SHORT: &[u8] = b"if a 'b'; then c=1 d; fi # e\n";
+
+const SHORT_NODES: usize = 8;
+
+/// How many nodes the tree of a script has, beside pipelines and and-or lists: its commands, words, assignments and comments. In a dump
+/// each has a span, but simple commands, which have a bracket.
+fn count_nodes(rt: &HostRuntime, bytes: &[u8]) -> Result<usize, Fail> {
+    let mut text = String::new(rt.alloc());
+    dump_script(&mut text, &mut Reader::new(rt.alloc()), &Flat::new(bytes))?;
+    let mut nodes = 0usize;
+    for byte in text.as_bytes() {
+        if matches!(byte, b'-' | b'[') {
+            nodes = nodes.saturating_add(1);
+        }
+    }
+    Ok(nodes)
+}
+
+#[test]
+fn tree_size(rt: HostRuntime) -> Result<(), Fail> {
+    assert!(rt; count_nodes(&rt, SHORT)? == SHORT_NODES);
+    let Ok(name) = env::var(&rt, "SHREAD_FILE") else {
+        return Ok(());
+    };
+    let bytes = fs::read(&rt, name.as_str())?;
+    match env::var(&rt, "SHREAD_DOES") {
+        Ok(what) if what.as_str() == "read" => {
+            let script = Reader::new(rt.alloc()).read_script(&Flat::new(&bytes))?;
+            assert!(rt; script.fault.is_none());
+        }
+        Ok(what) if what.as_str() == "count" => println!(rt; "{}", count_nodes(&rt, &bytes)?)?,
+        _ => {}
+    }
+    Ok(())
+}
