@@ -1,7 +1,9 @@
 // What a tree takes. `tests/bench` runs this test over a file that it names, and takes the time and the memory: of the file alone, of
-// the file and its tree, and how many nodes that tree has. Where no file is named, a short script is read.
+// the file and its tree, of these and the outline, and how many nodes the tree has. Where no file is named, a short script is read.
 use crate::dump::dump_script;
 use crate::{Flat, Reader};
+use shtree::laws::greater_limit;
+use shtree::outline_of;
 use std::test::Fail;
 use std::{env, fs};
 
@@ -24,18 +26,30 @@ fn count_nodes(rt: &HostRuntime, bytes: &[u8]) -> Result<usize, Fail> {
     Ok(nodes)
 }
 
+/// Reads a script, and then its outline if that is asked for. Answers how many nodes that has.
+fn read(rt: &HostRuntime, bytes: &[u8], outlined: bool) -> Result<usize, Fail> {
+    let script = Reader::new(rt.alloc()).read_script(&Flat::new(bytes))?;
+    if script.fault.is_some() {
+        return Err(Fail::from("a fault"));
+    }
+    let mut lines = Vec::new(rt.alloc());
+    if outlined {
+        greater_limit();
+        outline_of(rt.alloc(), &script.list, 0, &mut lines)?;
+    }
+    Ok(lines.len())
+}
+
 #[test]
 fn tree_size(rt: HostRuntime) -> Result<(), Fail> {
-    assert!(rt; count_nodes(&rt, SHORT)? == SHORT_NODES);
+    assert!(rt; count_nodes(&rt, SHORT)? == SHORT_NODES && read(&rt, SHORT, true)? == 3);
     let Ok(name) = env::var(&rt, "SHREAD_FILE") else {
         return Ok(());
     };
     let bytes = fs::read(&rt, name.as_str())?;
     match env::var(&rt, "SHREAD_DOES") {
-        Ok(what) if what.as_str() == "read" => {
-            let script = Reader::new(rt.alloc()).read_script(&Flat::new(&bytes))?;
-            assert!(rt; script.fault.is_none());
-        }
+        Ok(what) if what.as_str() == "read" => assert!(rt; read(&rt, &bytes, false)? == 0),
+        Ok(what) if what.as_str() == "outline" => assert!(rt; read(&rt, &bytes, true)? > 0),
         Ok(what) if what.as_str() == "count" => println!(rt; "{}", count_nodes(&rt, &bytes)?)?,
         _ => {}
     }
