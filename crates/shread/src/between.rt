@@ -35,6 +35,7 @@ impl<'a, S: Source> Cursor<'a, S> {
     }
 
     /// Passes the newline here, if one stands. `next` is the token here, and then the one behind it.
+    #[inline(always)]
     #[tactic(auto, unfolding(crate::specs::Commands::a_newline, crate::specs::Commands::next_token))]
     pub(crate) fn newline(&mut self, next: &mut Next) -> bool
         requires shows { Shows next.old.token (text_of S.bytes self.old) self.old.at }

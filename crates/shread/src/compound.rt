@@ -267,7 +267,7 @@ impl<'a, S: Source> Cursor<'a, S> {
         let opened = self.passed(matches!(opener, Opener::Paren), next);
         let (form, closer) = self.form(alloc, opener, next, room - 1)?;
         if !self.keep {
-            // Who drops the command asks for no box.
+            // Nobody reads the command: it needs no box.
             return Ok(simple_of(Vec::new(alloc)));
         }
         let compound = compound_of(form, opened.through(closer), Vec::new(alloc));
