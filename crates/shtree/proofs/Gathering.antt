@@ -4,6 +4,7 @@ use Rattle.std.specs.List.{filter}
 use Rattle.std.proofs.lemmas.List.{append-nil}
 use Rattle.std.proofs.lemmas.List.Elements.{filter-append}
 use Rattle.shtree.specs.declared.nodes.NodeLine.{NodeLine}
+use Rattle.shtree.specs.declared.tree.Span.{Span}
 use Rattle.shtree.specs.Gathered.{gathered}
 use Rattle.shtree.specs.Tree.{AnEntry, AnAndOrPart, APipelinePart, ABranch, ACaseItem, AWord, AnItem, ASubst, entries_of, and_or_parts_of, pipeline_parts_of, branches_of, cases_of, patterns_of, items_of, substs_of}
 use Rattle.shtree.specs.Nodes.{and_or_parts_nodes, branch_nodes, branches_nodes, case_nodes, cases_nodes, command_nodes, comment_node, entries_nodes, entry_nodes, item_nodes, items_nodes, patterns_nodes, pipeline_nodes, pipes_nodes, subst_nodes, substs_nodes, word_nodes}
@@ -61,8 +62,8 @@ module _ {A : Type 0} (f : A → Row NodeLine) where
 
 -- ---- the nodes of the definitions, as rows
 
-abbrev pub one : NodeLine → Row NodeLine
-one n = n ∷ []
+abbrev pub comment_row : Span → Row NodeLine
+comment_row c = comment_node c ∷ []
 
 abbrev pub part_nodes : AnAndOrPart → Row NodeLine
 part_nodes p = map comment_node p.join.comments ++ pipeline_nodes p.pipeline
@@ -70,10 +71,10 @@ part_nodes p = map comment_node p.join.comments ++ pipeline_nodes p.pipeline
 abbrev pub pipe_nodes : APipelinePart → Row NodeLine
 pipe_nodes p = map comment_node p.join.comments ++ command_nodes p.command
 
-pub nodes_are : (ns : Row NodeLine) → ns ≡ nodes_from one ns 0
+pub comments_are : (cs : Row Span) → map comment_node cs ≡ nodes_from comment_row cs 0
 unfolding nodes_from
-nodes_are [] = refl
-nodes_are (n ∷ ns) = ap (λ r. n ∷ r) (nodes_are ns)
+comments_are [] = refl
+comments_are (c ∷ cs) = ap (λ r. comment_node c ∷ r) (comments_are cs)
 
 pub entries_are : (es : Row AnEntry) → entries_nodes (entries_of es) ≡ nodes_from entry_nodes es 0
 unfolding nodes_from

@@ -6,5 +6,6 @@ pub mod Joined
 pub mod InOrder
 pub mod Placed
 pub mod Within
+pub mod SameForm
 pub mod Spelled
 pub mod Reach

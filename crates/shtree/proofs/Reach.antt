@@ -5,7 +5,6 @@ use Rattle.std.specs.Option.{option_to_list}
 use Rattle.std.proofs.lemmas.List.Elements.{All-nil, All-cons, All-head, All-tail, All-append, All-same, All-map, All-weaker}
 use Rattle.shtree.specs.declared.nodes.NodeKind.{NodeKind}
 use Rattle.shtree.specs.declared.nodes.NodeLine.{NodeLine}
-use Rattle.shtree.specs.declared.tree.Comment.{Comment}
 use Rattle.shtree.specs.declared.tree.Span.{Span}
 use Rattle.shtree.specs.Nodes.{AreWithin, IsSpanWithin, IsWithin, and_or_nodes, and_or_parts_nodes, and_or_span, branch_nodes, branches_nodes, command_nodes, command_span, comment_node, entries_nodes, entry_nodes, form_node, form_nodes, item_nodes, item_span, items_nodes, items_span, last_command, last_item, last_pipeline, node, pipeline_nodes, pipeline_span, pipes_nodes, subst_nodes, substs_nodes}
 use Rattle.shtree.specs.Tree.{ABranch, ACommand, AForm, APipeline, APipelinePart, ASubst, AWord, AnAndOr, AnAndOrPart, AnEntry, AnItem, and_or, and_or_parts_of, argument, assign, brace, branches_of, case_in, command, compound, entries_of, entry, for_in, formed, if_then, item, items_of, no_item, pipeline, pipeline_parts_of, remark, simple, subshell, substs_of, until_do, while_do, word}
@@ -20,8 +19,8 @@ module _ (limit : ℕ) where
 
   -- ---- a part of a tree, by where it stands and by its nodes
 
-  abbrev pub CommentFits : Comment → Type 0
-  CommentFits c = IsSpanWithin limit c.span
+  abbrev pub CommentFits : Span → Type 0
+  CommentFits c = IsSpanWithin limit c
 
   abbrev pub SubstFits : ASubst → Type 0
   SubstFits s = Nodes (subst_nodes s)
@@ -59,12 +58,12 @@ module _ (limit : ℕ) where
   first : (n : NodeLine) (ns : Row NodeLine) → IsWithin limit n → Nodes ns → Nodes (n ∷ ns)
   first n ns one rest = All-cons (IsWithin limit) n ns one rest
 
-  fits_comments : (cs : Row Comment) → All CommentFits cs → Nodes (map comment_node cs)
-  fits_comments cs so = All-map (IsWithin limit) comment_node cs (All-weaker CommentFits (λ c. IsWithin limit (comment_node c)) (λ c. fits_node NodeKind.Comment c.span) cs so)
+  fits_comments : (cs : Row Span) → All CommentFits cs → Nodes (map comment_node cs)
+  fits_comments cs so = All-map (IsWithin limit) comment_node cs (All-weaker CommentFits (λ c. IsWithin limit (comment_node c)) (λ c. fits_node NodeKind.Comment c) cs so)
 
-  fits_comment : (c : Option Comment) → MatchOption c (Unit {0}) CommentFits → Nodes (map comment_node (option_to_list c))
+  fits_comment : (c : Option Span) → MatchOption c (Unit {0}) CommentFits → Nodes (map comment_node (option_to_list c))
   fits_comment None so = All-nil (IsWithin limit)
-  fits_comment (Some c) so = first (comment_node c) [] (fits_node NodeKind.Comment c.span so) (All-nil (IsWithin limit))
+  fits_comment (Some c) so = first (comment_node c) [] (fits_node NodeKind.Comment c so) (All-nil (IsWithin limit))
 
   -- ---- rows of parts
 
@@ -172,11 +171,11 @@ module _ (limit : ℕ) where
       let last = last_pipeline_fits (pipeline_span p) (q ∷ ps) so.0 all in
       first _ _ (fits_node NodeKind.AndOr (and_or_span (and_or p (and_or_parts_of (q ∷ ps)))) (so.0.0, last.1)) (both (pipeline_nodes p) _ so.1 (fits_parts (q ∷ ps) all))
 
-  pub fits_command : (a : AnAndOr) (background blank : Bool) (c : Option Comment) → Nodes (and_or_nodes a) → MatchOption c (Unit {0}) CommentFits → EntryFits (entry (command a) background blank c)
+  pub fits_command : (a : AnAndOr) (background blank : Bool) (c : Option Span) → Nodes (and_or_nodes a) → MatchOption c (Unit {0}) CommentFits → EntryFits (entry (command a) background blank c)
   fits_command a background blank c so one = both (and_or_nodes a) (map comment_node (option_to_list c)) so (fits_comment c one)
 
-  pub fits_remark : (c : Comment) (background blank : Bool) → CommentFits c → EntryFits (entry (remark c) background blank None)
-  fits_remark c background blank so = first (comment_node c) [] (fits_node NodeKind.Comment c.span so) (All-nil (IsWithin limit))
+  pub fits_remark : (c : Span) (background blank : Bool) → CommentFits c → EntryFits (entry (remark c) background blank None)
+  fits_remark c background blank so = first (comment_node c) [] (fits_node NodeKind.Comment c so) (All-nil (IsWithin limit))
 
   -- ---- two rows of entries, one behind the other
 

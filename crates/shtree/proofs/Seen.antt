@@ -1,5 +1,5 @@
 -- What the view of a part of a tree is, by the views of what it holds.
-use Rattle.std.proofs.Common.{◌≡◌, map, rules, Box, Vec, Global, Option, Some, None}
+use Rattle.std.proofs.Common.{◌≡◌, map, option_map, rules, Box, Vec, Global, Option, Some, None}
 use Rattle.shtree.specs.declared.tree.AndOr.{AndOr}
 use Rattle.shtree.specs.declared.tree.AndOrPart.{AndOrPart}
 use Rattle.shtree.specs.declared.tree.Branch.{Branch}
@@ -25,7 +25,7 @@ use Rattle.shtree.specs.declared.tree.ItemContent as the_item_content
 use Rattle.shtree.specs.declared.tree.Command.TheViews.{out-AndOr, out-AndOrPart, out-Branch, out-CaseItem, out-Compound, out-Entry, out-Item, out-Pipeline, out-PipelinePart, out-Subst, out-Word}
 use Rattle.shtree.specs.declared.tree.Command.TheFolds.{fold-roll-Command, fold-roll-Form, fold-roll-ItemContent, fold_out-AndOr, fold_out-AndOrPart, fold_out-Branch, fold_out-CaseItem, fold_out-Compound, fold_out-Entry, fold_out-Item, fold_out-Pipeline, fold_out-PipelinePart, fold_out-Subst, fold_out-Word}
 use Rattle.shtree.specs.Tree.{and_or, and_or_parts_of, assign, branch, branches_of, case_in, case_item, cases_of, entry, for_in, formed, function, if_then, in_words, item, items_of, no_else, no_in, otherwise, patterns_of, pipeline, pipeline_parts_of, redirect, simple, subst, substs_of, word}
-use Rattle.shtree.specs.View.{view_and_or, view_and_or_part, view_branch, view_case_item, view_command, view_compound, view_content, view_entry, view_form, view_item, view_item_content, view_join, view_list, view_pipeline, view_pipeline_part, view_subst, view_word}
+use Rattle.shtree.specs.View.{view_and_or, view_and_or_part, view_branch, view_case_item, view_command, view_comment, view_compound, view_content, view_entry, view_form, view_here, view_item, view_item_content, view_join, view_list, view_pipeline, view_pipeline_part, view_subst, view_word}
 
 pub subst_seen : (s : Subst) → view_subst s ≡ subst (view_list (out-Subst s).list) (out-Subst s).span
 subst_seen s = search (rules, fold_out-Subst)
@@ -51,10 +51,10 @@ compound_seen c = search (rules, fold_out-Compound)
 pub branch_seen : (b : Branch) → view_branch b ≡ branch (view_list (out-Branch b).condition) (view_list (out-Branch b).body)
 branch_seen b = search (rules, fold_out-Branch)
 
-pub case_item_seen : (c : CaseItem) → view_case_item c ≡ case_item (out-CaseItem c).comments.items (patterns_of (map view_word (out-CaseItem c).patterns.items)) (view_list (out-CaseItem c).body) (out-CaseItem c).span
+pub case_item_seen : (c : CaseItem) → view_case_item c ≡ case_item (map view_comment (out-CaseItem c).comments.items) (patterns_of (map view_word (out-CaseItem c).patterns.items)) (view_list (out-CaseItem c).body) (out-CaseItem c).span
 case_item_seen c = search (rules, fold_out-CaseItem)
 
-pub entry_seen : (e : Entry) → view_entry e ≡ entry (view_content (out-Entry e).what) (out-Entry e).background (out-Entry e).blank (out-Entry e).comment
+pub entry_seen : (e : Entry) → view_entry e ≡ entry (view_content (out-Entry e).what) (out-Entry e).background (out-Entry e).blank (option_map view_comment (out-Entry e).comment)
 entry_seen e = search (rules, fold_out-Entry)
 
 pub item_seen : (i : Item) → view_item i ≡ item (out-Item i).broken (view_item_content (out-Item i).what)
@@ -65,14 +65,14 @@ item_seen i = search (rules, fold_out-Item)
 pub simple_seen : (items : Vec Item Global) → view_command (the_command.TheVariants.Simple items) ≡ simple (items_of (map view_item items.items))
 simple_seen items = rw (← rolls-Simple items) (search (rules, fold-roll-Command))
 
-pub function_seen : (name : Span) (comments : Vec Comment Global) (body : Box Compound Global) → view_command (the_command.TheVariants.Function name comments body) ≡ function name comments.items (view_compound body.value)
+pub function_seen : (name : Span) (comments : Vec Comment Global) (body : Box Compound Global) → view_command (the_command.TheVariants.Function name comments body) ≡ function name (map view_comment comments.items) (view_compound body.value)
 function_seen name comments body = rw (← rolls-Function name comments body) (search (rules, fold-roll-Command))
 
 pub assign_seen : (w : Word) → view_item_content (the_item_content.TheVariants.Assign w) ≡ assign (view_word w)
 assign_seen w = rw (← rolls-Assign w) (search (rules, fold-roll-ItemContent))
 
 pub redirect_seen : (number : Option Span) (operator : RedirectOperator) (span : Span) (w : Word) (here : Option HereDocument)
-    → view_item_content (the_item_content.TheVariants.Redirect number operator span w here) ≡ redirect number operator span (view_word w) here
+    → view_item_content (the_item_content.TheVariants.Redirect number operator span w here) ≡ redirect number operator span (view_word w) (option_map view_here here)
 redirect_seen number operator span w here = rw (← rolls-Redirect number operator span w here) (search (rules, fold-roll-ItemContent))
 
 pub if_seen : (first : Branch) (rest : Vec Branch Global) → view_form (the_form.TheVariants.If first rest None) ≡ if_then (view_branch first) (branches_of (map view_branch rest.items)) no_else
@@ -90,5 +90,5 @@ pub for_words_seen : (name : Word) (words : Vec Item Global) (body : List)
 for_words_seen name words body = rw (← rolls-For name (Some words) body) (search (rules, fold-roll-Form))
 
 pub case_seen : (w : Word) (items : Vec CaseItem Global) (tail : Vec Comment Global)
-    → view_form (the_form.TheVariants.Case w items tail) ≡ case_in (view_word w) (cases_of (map view_case_item items.items)) tail.items
+    → view_form (the_form.TheVariants.Case w items tail) ≡ case_in (view_word w) (cases_of (map view_case_item items.items)) (map view_comment tail.items)
 case_seen w items tail = rw (← rolls-Case w items tail) (search (rules, fold-roll-Form))

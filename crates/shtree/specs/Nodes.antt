@@ -4,7 +4,6 @@ use Rattle.std.specs.Option.{option_to_list}
 use Rattle.std.specs.Ordering.{nat_cmp, ordering_then, is_lt}
 use Rattle.std.specs.declared.cmp.Ordering.{Ordering}
 use Rattle.shtree.specs.declared.tree.Span.{Span}
-use Rattle.shtree.specs.declared.tree.Comment.{Comment}
 use Rattle.shtree.specs.declared.nodes.NodeKind.{NodeKind}
 use Rattle.shtree.specs.declared.nodes.NodeLine.{NodeLine}
 use Rattle.shtree.specs.Tree.{Entries, no_entry, more_entries, AnEntry, entry, AContent, command, remark, AnAndOr, and_or, AndOrParts, no_and_or, more_and_or, APipeline, pipeline, PipelineParts, no_pipe, more_pipes, ACommand, simple, compound, function, ACompound, formed, AForm, brace, subshell, if_then, while_do, until_do, for_in, case_in, ABranch, branch, Branches, no_branch, more_branches, Otherwise, no_else, otherwise, ForWords, no_in, in_words, CaseItems, no_case, more_cases, ACaseItem, case_item, Patterns, no_pattern, more_patterns, Items, no_item, more_items, AnItem, item, assign, argument, redirect, AWord, word, Substs, no_subst, more_substs, ASubst, subst}
@@ -69,8 +68,8 @@ node kind span = record { start = span.start; «end» = span.«end»; kind = kin
 abbrev pub named : NodeKind → Span → Span → NodeLine
 named kind span name = record { start = span.start; «end» = span.«end»; kind = kind; name = Some name }
 
-abbrev pub comment_node : Comment → NodeLine
-comment_node c = node NodeKind.Comment c.span
+abbrev pub comment_node : Span → NodeLine
+comment_node span = node NodeKind.Comment span
 
 -- an and-or list is a node where an operator joins pipelines
 abbrev pub and_or_node : AnAndOr → Row NodeLine

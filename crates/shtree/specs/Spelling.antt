@@ -1,36 +1,26 @@
--- The spelling of a tree: its tokens from left to right. Newlines, `;`, `;;`, the round bracket before a pattern and the bodies of
--- here-documents are left out, since a tree does not tell them. A word is told as it stands, all else by its bare text.
-use Rattle.std.specs.Prelude.{ℕ, ◌-◌, ◌==◌, ◌&&◌, Bool, true, false, List, [], ◌∷◌, ◌++◌, List as Row, take, drop, codes, Option, None, Some, if◌then◌else◌}
-use Rattle.shtree.specs.declared.tree.Span.{Span}
+-- The spelling of a shape: its tokens from left to right. Newlines, `;`, `;;`, the round bracket before a pattern, comments and the
+-- bodies of here-documents are left out. Words, names and numbers are told by the texts that the shape holds.
+use Rattle.std.specs.Prelude.{Bool, true, false, List as Row, [], ◌∷◌, ◌++◌, codes, Option, None, Some}
 use Rattle.shtree.specs.declared.tree.AndOrOperator.{AndOrOperator}
 use Rattle.shtree.specs.declared.tree.AndOrOperator.TheVariants.{And, Or}
 use Rattle.shtree.specs.declared.tree.RedirectOperator.{RedirectOperator}
 use Rattle.shtree.specs.declared.tree.RedirectOperator.TheVariants as redirects
-use Rattle.shtree.specs.Tree.{Entries, no_entry, more_entries, AnEntry, entry, command, remark, AnAndOr, and_or, AndOrParts, no_and_or, more_and_or, APipeline, pipeline, PipelineParts, no_pipe, more_pipes, ACommand, simple, compound, function, ACompound, formed, AForm, brace, subshell, if_then, while_do, until_do, for_in, case_in, ABranch, branch, Branches, no_branch, more_branches, Otherwise, no_else, otherwise, ForWords, no_in, in_words, CaseItems, no_case, more_cases, ACaseItem, case_item, Patterns, no_pattern, more_patterns, Items, no_item, more_items, AnItem, item, assign, argument, redirect, AWord, word}
+use Rattle.shtree.specs.Tree.{EntriesOf, no_entry, more_entries, AnEntryOf, entry, command, remark, AnAndOrOf, and_or, AndOrPartsOf, no_and_or, more_and_or, APipelineOf, pipeline, PipelinePartsOf, no_pipe, more_pipes, ACommandOf, simple, compound, function, ACompoundOf, formed, AFormOf, brace, subshell, if_then, while_do, until_do, for_in, case_in, ABranchOf, branch, BranchesOf, no_branch, more_branches, OtherwiseOf, no_else, otherwise, ForWordsOf, no_in, in_words, CaseItemsOf, no_case, more_cases, ACaseItemOf, case_item, PatternsOf, no_pattern, more_patterns, ItemsOf, no_item, more_items, AnItemOf, item, assign, argument, redirect, AWordOf, word}
+use Rattle.shtree.specs.Shape.{Text, Shape}
 
 -- the tokens of a part of a script
 abbrev pub Tokens : Type 0
-Tokens = Row (List ℕ)
+Tokens = Row Text
 
--- ---- texts
-
--- the bytes of a span as they stand
-abbrev pub text_at : List ℕ → Span → List ℕ
-text_at B s = take (s.«end» - s.start) (drop s.start B)
-
--- without continuations, in text that has no quotes (XCU 2.2.1)
-unfoldable pub bare : List ℕ → List ℕ
-bare [] = []
-bare (b ∷ []) = b ∷ []
-bare (b ∷ c ∷ bs) = if b == 92 && c == 10 then bare bs else b ∷ bare (c ∷ bs)
+-- ---- texts of operators
 
 -- (XCU 2.9.3)
-abbrev pub and_or_text : AndOrOperator → List ℕ
+abbrev pub and_or_text : AndOrOperator → Text
 and_or_text And = codes "&&"
 and_or_text Or = codes "||"
 
 -- (XCU 2.7)
-abbrev pub redirect_text : RedirectOperator → List ℕ
+abbrev pub redirect_text : RedirectOperator → Text
 redirect_text redirects.Input = codes "<"
 redirect_text redirects.Output = codes ">"
 redirect_text redirects.Here = codes "<<"
@@ -48,98 +38,98 @@ abbrev pub spell_background : Bool → Tokens
 spell_background true = codes "&" ∷ []
 spell_background false = []
 
-abbrev pub spell_bang : Option Span → Tokens
+abbrev pub spell_bang : Option (Unit {0}) → Tokens
 spell_bang None = []
-spell_bang (Some s) = codes "!" ∷ []
+spell_bang (Some mark) = codes "!" ∷ []
 
-abbrev pub spell_number : List ℕ → Option Span → Tokens
-spell_number B None = []
-spell_number B (Some s) = bare (text_at B s) ∷ []
+abbrev pub spell_number : Option Text → Tokens
+spell_number None = []
+spell_number (Some t) = t ∷ []
 
 -- the lists in a word are part of its text
-abbrev pub spell_word : List ℕ → AWord → Tokens
-spell_word B (word span substs) = text_at B span ∷ []
+abbrev pub spell_word : Shape AWordOf → Tokens
+spell_word (word text substs) = text ∷ []
 
-abbrev pub spell_item : List ℕ → AnItem → Tokens
-spell_item B (item broken (assign w)) = spell_word B w
-spell_item B (item broken (argument w)) = spell_word B w
-spell_item B (item broken (redirect number operator span w here)) = spell_number B number ++ redirect_text operator ∷ spell_word B w
+abbrev pub spell_item : Shape AnItemOf → Tokens
+spell_item (item broken (assign w)) = spell_word w
+spell_item (item broken (argument w)) = spell_word w
+spell_item (item broken (redirect number operator mark w here)) = spell_number number ++ redirect_text operator ∷ spell_word w
 
-abbrev pub spell_items : List ℕ → Items → Tokens
-spell_items B no_item = []
-spell_items B (more_items i is) = spell_item B i ++ spell_items B is
+abbrev pub spell_items : Shape ItemsOf → Tokens
+spell_items no_item = []
+spell_items (more_items i is) = spell_item i ++ spell_items is
 
-abbrev pub spell_for_words : List ℕ → ForWords → Tokens
-spell_for_words B no_in = []
-spell_for_words B (in_words items) = codes "in" ∷ spell_items B items
+abbrev pub spell_for_words : Shape ForWordsOf → Tokens
+spell_for_words no_in = []
+spell_for_words (in_words items) = codes "in" ∷ spell_items items
 
-abbrev pub spell_patterns : List ℕ → Patterns → Tokens
-spell_patterns B no_pattern = []
-spell_patterns B (more_patterns w ws) = codes "|" ∷ spell_word B w ++ spell_patterns B ws
+abbrev pub spell_patterns : Shape PatternsOf → Tokens
+spell_patterns no_pattern = []
+spell_patterns (more_patterns w ws) = codes "|" ∷ spell_word w ++ spell_patterns ws
 
 -- no `|` stands before the first
-abbrev pub spell_first_pattern : List ℕ → Patterns → Tokens
-spell_first_pattern B no_pattern = []
-spell_first_pattern B (more_patterns w ws) = spell_word B w ++ spell_patterns B ws
+abbrev pub spell_first_pattern : Shape PatternsOf → Tokens
+spell_first_pattern no_pattern = []
+spell_first_pattern (more_patterns w ws) = spell_word w ++ spell_patterns ws
 
 abbrev mutual
-  pub spell_entries : List ℕ → Entries → Tokens
-  spell_entries B no_entry = []
-  spell_entries B (more_entries e es) = spell_entry B e ++ spell_entries B es
+  pub spelling : Shape EntriesOf → Tokens
+  spelling no_entry = []
+  spelling (more_entries e es) = spell_entry e ++ spelling es
 
   -- a comment is no token
-  pub spell_entry : List ℕ → AnEntry → Tokens
-  spell_entry B (entry (command a) background blank comment) = spell_and_or B a ++ spell_background background
-  spell_entry B (entry (remark c) background blank comment) = []
+  pub spell_entry : Shape AnEntryOf → Tokens
+  spell_entry (entry (command a) background blank comment) = spell_and_or a ++ spell_background background
+  spell_entry (entry (remark c) background blank comment) = []
 
-  pub spell_and_or : List ℕ → AnAndOr → Tokens
-  spell_and_or B (and_or first rest) = spell_pipeline B first ++ spell_and_or_parts B rest
+  pub spell_and_or : Shape AnAndOrOf → Tokens
+  spell_and_or (and_or first rest) = spell_pipeline first ++ spell_and_or_parts rest
 
-  pub spell_and_or_parts : List ℕ → AndOrParts → Tokens
-  spell_and_or_parts B no_and_or = []
-  spell_and_or_parts B (more_and_or operator join p ps) = and_or_text operator ∷ spell_pipeline B p ++ spell_and_or_parts B ps
+  pub spell_and_or_parts : Shape AndOrPartsOf → Tokens
+  spell_and_or_parts no_and_or = []
+  spell_and_or_parts (more_and_or operator join p ps) = and_or_text operator ∷ spell_pipeline p ++ spell_and_or_parts ps
 
-  pub spell_pipeline : List ℕ → APipeline → Tokens
-  spell_pipeline B (pipeline bang first rest) = spell_bang bang ++ spell_command B first ++ spell_pipes B rest
+  pub spell_pipeline : Shape APipelineOf → Tokens
+  spell_pipeline (pipeline bang first rest) = spell_bang bang ++ spell_command first ++ spell_pipes rest
 
-  pub spell_pipes : List ℕ → PipelineParts → Tokens
-  spell_pipes B no_pipe = []
-  spell_pipes B (more_pipes join c cs) = codes "|" ∷ spell_command B c ++ spell_pipes B cs
+  pub spell_pipes : Shape PipelinePartsOf → Tokens
+  spell_pipes no_pipe = []
+  spell_pipes (more_pipes join c cs) = codes "|" ∷ spell_command c ++ spell_pipes cs
 
-  pub spell_command : List ℕ → ACommand → Tokens
-  spell_command B (simple items) = spell_items B items
-  spell_command B (compound c) = spell_compound B c
-  spell_command B (function name comments body) = text_at B name ∷ codes "(" ∷ codes ")" ∷ spell_compound B body
+  pub spell_command : Shape ACommandOf → Tokens
+  spell_command (simple items) = spell_items items
+  spell_command (compound c) = spell_compound c
+  spell_command (function name comments body) = name ∷ codes "(" ∷ codes ")" ∷ spell_compound body
 
-  pub spell_compound : List ℕ → ACompound → Tokens
-  spell_compound B (formed form span redirects) = spell_form B form ++ spell_items B redirects
+  pub spell_compound : Shape ACompoundOf → Tokens
+  spell_compound (formed form mark redirects) = spell_form form ++ spell_items redirects
 
-  pub spell_form : List ℕ → AForm → Tokens
-  spell_form B (brace es) = codes "{" ∷ spell_entries B es ++ codes "}" ∷ []
-  spell_form B (subshell es) = codes "(" ∷ spell_entries B es ++ codes ")" ∷ []
-  spell_form B (if_then first rest other) = codes "if" ∷ spell_branch B first ++ spell_branches B rest ++ spell_else B other ++ codes "fi" ∷ []
-  spell_form B (while_do b) = codes "while" ∷ spell_loop B b
-  spell_form B (until_do b) = codes "until" ∷ spell_loop B b
-  spell_form B (for_in name words body) = codes "for" ∷ spell_word B name ++ spell_for_words B words ++ codes "do" ∷ spell_entries B body ++ codes "done" ∷ []
-  spell_form B (case_in w items tail) = codes "case" ∷ spell_word B w ++ codes "in" ∷ spell_cases B items ++ codes "esac" ∷ []
+  pub spell_form : Shape AFormOf → Tokens
+  spell_form (brace es) = codes "{" ∷ spelling es ++ codes "}" ∷ []
+  spell_form (subshell es) = codes "(" ∷ spelling es ++ codes ")" ∷ []
+  spell_form (if_then first rest other) = codes "if" ∷ spell_branch first ++ spell_branches rest ++ spell_else other ++ codes "fi" ∷ []
+  spell_form (while_do b) = codes "while" ∷ spell_loop b
+  spell_form (until_do b) = codes "until" ∷ spell_loop b
+  spell_form (for_in name words body) = codes "for" ∷ spell_word name ++ spell_for_words words ++ codes "do" ∷ spelling body ++ codes "done" ∷ []
+  spell_form (case_in w items tail) = codes "case" ∷ spell_word w ++ codes "in" ∷ spell_cases items ++ codes "esac" ∷ []
 
-  pub spell_branch : List ℕ → ABranch → Tokens
-  spell_branch B (branch condition body) = spell_entries B condition ++ codes "then" ∷ spell_entries B body
+  pub spell_branch : Shape ABranchOf → Tokens
+  spell_branch (branch condition body) = spelling condition ++ codes "then" ∷ spelling body
 
-  pub spell_branches : List ℕ → Branches → Tokens
-  spell_branches B no_branch = []
-  spell_branches B (more_branches b bs) = codes "elif" ∷ spell_branch B b ++ spell_branches B bs
+  pub spell_branches : Shape BranchesOf → Tokens
+  spell_branches no_branch = []
+  spell_branches (more_branches b bs) = codes "elif" ∷ spell_branch b ++ spell_branches bs
 
-  pub spell_else : List ℕ → Otherwise → Tokens
-  spell_else B no_else = []
-  spell_else B (otherwise es) = codes "else" ∷ spell_entries B es
+  pub spell_else : Shape OtherwiseOf → Tokens
+  spell_else no_else = []
+  spell_else (otherwise es) = codes "else" ∷ spelling es
 
-  pub spell_loop : List ℕ → ABranch → Tokens
-  spell_loop B (branch condition body) = spell_entries B condition ++ codes "do" ∷ spell_entries B body ++ codes "done" ∷ []
+  pub spell_loop : Shape ABranchOf → Tokens
+  spell_loop (branch condition body) = spelling condition ++ codes "do" ∷ spelling body ++ codes "done" ∷ []
 
-  pub spell_cases : List ℕ → CaseItems → Tokens
-  spell_cases B no_case = []
-  spell_cases B (more_cases c cs) = spell_case B c ++ spell_cases B cs
+  pub spell_cases : Shape CaseItemsOf → Tokens
+  spell_cases no_case = []
+  spell_cases (more_cases c cs) = spell_case c ++ spell_cases cs
 
-  pub spell_case : List ℕ → ACaseItem → Tokens
-  spell_case B (case_item comments patterns body span) = spell_first_pattern B patterns ++ codes ")" ∷ spell_entries B body
+  pub spell_case : Shape ACaseItemOf → Tokens
+  spell_case (case_item comments patterns body mark) = spell_first_pattern patterns ++ codes ")" ∷ spelling body

@@ -1,5 +1,8 @@
 -- What a tree of the code is in the tree of the definitions: a vector is the row of its items.
-use Rattle.std.specs.Prelude.{List as Row, Option, None, Some}
+use Rattle.std.specs.Prelude.{List as Row, Option, None, Some, map, option_map}
+use Rattle.shtree.specs.declared.tree.Span.{Span}
+use Rattle.shtree.specs.declared.tree.Comment as the_comment
+use Rattle.shtree.specs.declared.tree.HereDocument as the_here_document
 use Rattle.shtree.specs.declared.tree.Join as the_join
 use Rattle.shtree.specs.declared.tree.List as the_list
 use Rattle.shtree.specs.declared.tree.Entry as the_entry
@@ -19,10 +22,16 @@ use Rattle.shtree.specs.declared.tree.Word as the_word
 use Rattle.shtree.specs.declared.tree.Subst as the_subst
 use Rattle.shtree.specs.declared.tree.Command.TheOpen.{Command-F, Content-F, Form-F, ItemContent-F, AndOr-F, AndOrPart-F, Branch-F, CaseItem-F, Compound-F, Entry-F, Item-F, List-F, Pipeline-F, PipelinePart-F, Subst-F, Word-F}
 use Rattle.shtree.specs.declared.tree.Command.TheFolds.{fold-List, fold-Entry, fold-AndOr, fold-AndOrPart, fold-Pipeline, fold-PipelinePart, fold-Command, fold-Compound, fold-Content, fold-Form, fold-Branch, fold-CaseItem, fold-Item, fold-ItemContent, fold-Word, fold-Subst}
-use Rattle.shtree.specs.Tree.{AJoin, Entries, AnEntry, AContent, AnAndOr, AnAndOrPart, APipeline, APipelinePart, ACommand, ACompound, AForm, ABranch, ForWords, ACaseItem, AnItem, AnItemContent, AWord, ASubst, entry, command, remark, and_or, pipeline, simple, compound, function, formed, brace, subshell, if_then, while_do, until_do, for_in, case_in, branch, Otherwise, no_else, otherwise, no_in, in_words, case_item, item, assign, argument, redirect, word, subst, entries_of, and_or_parts_of, pipeline_parts_of, branches_of, otherwise_of, cases_of, patterns_of, items_of, substs_of}
+use Rattle.shtree.specs.Tree.{AJoin, AHere, Entries, AnEntry, AContent, AnAndOr, AnAndOrPart, APipeline, APipelinePart, ACommand, ACompound, AForm, ABranch, ForWords, ACaseItem, AnItem, AnItemContent, AWord, ASubst, entry, command, remark, and_or, pipeline, simple, compound, function, formed, brace, subshell, if_then, while_do, until_do, for_in, case_in, branch, Otherwise, no_else, otherwise, no_in, in_words, case_item, item, assign, argument, redirect, word, subst, entries_of, and_or_parts_of, pipeline_parts_of, branches_of, otherwise_of, cases_of, patterns_of, items_of, substs_of}
+
+abbrev pub view_comment : the_comment.Comment → Span
+view_comment c = c.span
 
 abbrev pub view_join : the_join.Join → AJoin
-view_join j = record { broken = j.broken; comments = j.comments.items }
+view_join j = record { broken = j.broken; comments = map view_comment j.comments.items }
+
+abbrev pub view_here : the_here_document.HereDocument → AHere
+view_here h = record { literal = h.literal; strip = h.strip; body = h.body }
 
 -- ---- one level of each type, with what is below it seen already
 
@@ -32,11 +41,11 @@ Seen F = F ACommand AContent AForm AnItemContent AnAndOr AnAndOrPart ABranch ACa
 abbrev pub command_step : Seen Command-F → ACommand
 command_step (Command-F.Simple items) = simple (items_of items.items)
 command_step (Command-F.Compound c) = compound c.value
-command_step (Command-F.Function name comments body) = function name comments.items body.value
+command_step (Command-F.Function name comments body) = function name (map view_comment comments.items) body.value
 
 abbrev pub content_step : Seen Content-F → AContent
 content_step (Content-F.AndOr a) = command a
-content_step (Content-F.Comment c) = remark c
+content_step (Content-F.Comment c) = remark (view_comment c)
 
 -- what follows the `in` of a for, by the row of its items
 abbrev for_words : {V : Type 0} → (V → Row AnItem) → Option V → ForWords
@@ -50,12 +59,12 @@ form_step (Form-F.If first rest other) = if_then first (branches_of rest.items) 
 form_step (Form-F.While b) = while_do b
 form_step (Form-F.Until b) = until_do b
 form_step (Form-F.For name words body) = for_in name (for_words (λ v. v.items) words) body
-form_step (Form-F.Case w cases tail) = case_in w (cases_of cases.items) tail.items
+form_step (Form-F.Case w cases tail) = case_in w (cases_of cases.items) (map view_comment tail.items)
 
 abbrev pub item_content_step : Seen ItemContent-F → AnItemContent
 item_content_step (ItemContent-F.Assign w) = assign w
 item_content_step (ItemContent-F.Word w) = argument w
-item_content_step (ItemContent-F.Redirect number operator span w here) = redirect number operator span w here
+item_content_step (ItemContent-F.Redirect number operator span w here) = redirect number operator span w (option_map view_here here)
 
 abbrev pub and_or_step : Seen AndOr-F → AnAndOr
 and_or_step a = and_or a.first (and_or_parts_of a.rest.items)
@@ -67,13 +76,13 @@ abbrev pub branch_step : Seen Branch-F → ABranch
 branch_step b = branch b.condition b.body
 
 abbrev pub case_item_step : Seen CaseItem-F → ACaseItem
-case_item_step c = case_item c.comments.items (patterns_of c.patterns.items) c.body c.span
+case_item_step c = case_item (map view_comment c.comments.items) (patterns_of c.patterns.items) c.body c.span
 
 abbrev pub compound_step : Seen Compound-F → ACompound
 compound_step c = formed c.form c.span (items_of c.redirects.items)
 
 abbrev pub entry_step : Seen Entry-F → AnEntry
-entry_step e = entry e.what e.background e.blank e.comment
+entry_step e = entry e.what e.background e.blank (option_map view_comment e.comment)
 
 abbrev pub item_step : Seen Item-F → AnItem
 item_step i = item i.broken i.what

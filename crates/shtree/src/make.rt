@@ -1,7 +1,7 @@
 //! The nodes of a tree: one maker for each kind, which says what its node is in the definitions.
-ghost use Rattle.std.specs.Prelude.{◌≡◌, map, false, None};
+ghost use Rattle.std.specs.Prelude.{◌≡◌, map, option_map, false, None};
 ghost use Rattle.shtree.specs.Tree.{and_or, and_or_parts_of, argument, assign, branch, branches_of, brace, command, compound, entries_of, entry, formed, if_then, item, items_of, pipeline, pipeline_parts_of, remark, simple, subshell, substs_of, until_do, while_do, word};
-ghost use Rattle.shtree.specs.View.{view_and_or, view_and_or_part, view_branch, view_command, view_compound, view_entry, view_form, view_item, view_join, view_list, view_otherwise, view_pipeline, view_pipeline_part, view_subst, view_word};
+ghost use Rattle.shtree.specs.View.{view_and_or, view_and_or_part, view_branch, view_command, view_comment, view_compound, view_entry, view_form, view_item, view_join, view_list, view_otherwise, view_pipeline, view_pipeline_part, view_subst, view_word};
 
 use crate::tree::{
     AndOr, AndOrOperator, AndOrPart, Branch, Command, Comment, Compound, Content, Entry, Form,
@@ -22,7 +22,7 @@ pub fn command_entry(
     blank: bool,
     comment: Option<Comment>,
 ) -> Entry
-    ensures { view_entry result ≡ entry (command (view_and_or and_or)) background blank comment }
+    ensures { view_entry result ≡ entry (command (view_and_or and_or)) background blank (option_map view_comment comment) }
 {
     Entry {
         what: Content::AndOr(and_or),
@@ -34,7 +34,7 @@ pub fn command_entry(
 
 /// A comment on a line of its own as an entry; whether an empty line stands before it.
 pub fn comment_entry(comment: Comment, blank: bool) -> Entry
-    ensures { view_entry result ≡ entry (remark comment) false blank None }
+    ensures { view_entry result ≡ entry (remark (view_comment comment)) false blank None }
 {
     Entry {
         what: Content::Comment(comment),

@@ -2,13 +2,13 @@
 //! from left to right.
 #![tactic(auto, using(crate::proofs::Gathering::gathered_append, crate::proofs::Gathering::gathered_none))]
 
-ghost use Rattle.std.specs.Prelude.{◌≡◌, [], ◌∷◌, ◌++◌, Bool, IfOk, map};
+ghost use Rattle.std.specs.Prelude.{◌≡◌, [], ◌∷◌, ◌++◌, Bool, IfOk, map, option_map};
 ghost use Rattle.std.specs.Option.{option_to_list};
 ghost use Rattle.shtree.specs.Gathered.{gathered};
 ghost use Rattle.shtree.specs.declared.nodes.NodeLine.{NodeLine};
 ghost use Rattle.shtree.specs.Nodes.{and_or_node, and_or_nodes, and_or_parts_nodes, branch_nodes, branches_nodes, case_nodes, cases_nodes, command_nodes, comment_node, compound_nodes, content_nodes, entries_nodes, entry_nodes, form_node, form_nodes, item_nodes, items_nodes, patterns_nodes, pipeline_node, pipeline_nodes, pipes_nodes, subst_nodes, substs_nodes, word_nodes};
 ghost use Rattle.shtree.specs.Tree.{and_or_parts_of, branches_of, cases_of, entries_of, items_of, patterns_of, pipeline_parts_of, substs_of};
-ghost use Rattle.shtree.specs.View.{view_and_or, view_and_or_part, view_branch, view_case_item, view_command, view_compound, view_content, view_entry, view_form, view_item, view_list, view_pipeline, view_pipeline_part, view_subst, view_word};
+ghost use Rattle.shtree.specs.View.{view_and_or, view_and_or_part, view_branch, view_case_item, view_command, view_comment, view_compound, view_content, view_entry, view_form, view_item, view_list, view_pipeline, view_pipeline_part, view_subst, view_word};
 
 use crate::nodes::{NodeKind, NodeLine};
 use crate::spans::{and_or_span, compound_span, item_span, items_span, pipeline_span};
@@ -42,7 +42,7 @@ fn add_comment<W: Wanted>(
     wanted: W,
     lines: &mut Vec<NodeLine>,
 ) -> Result<(), AllocError>
-    ensures { IfOk result (λ _. lines.new.items ≡ gathered (W.is_wanted wanted) lines.old.items (comment_node comment.now ∷ [])) }
+    ensures { IfOk result (λ _. lines.new.items ≡ gathered (W.is_wanted wanted) lines.old.items (comment_node (view_comment comment.now) ∷ [])) }
 {
     add(
         NodeLine::new(NodeKind::Comment, comment.span),
@@ -57,7 +57,7 @@ fn add_own_comment<W: Wanted>(
     wanted: W,
     lines: &mut Vec<NodeLine>,
 ) -> Result<(), AllocError>
-    ensures { IfOk result (λ _. lines.new.items ≡ gathered (W.is_wanted wanted) lines.old.items (map comment_node (option_to_list comment.now))) }
+    ensures { IfOk result (λ _. lines.new.items ≡ gathered (W.is_wanted wanted) lines.old.items (map comment_node (option_to_list (option_map view_comment comment.now)))) }
 {
     match comment {
         Some(comment) => add_comment(comment, wanted, lines),
@@ -65,13 +65,13 @@ fn add_own_comment<W: Wanted>(
     }
 }
 
-#[tactic(auto, using(crate::proofs::Gathering::gathered_append, crate::proofs::Gathering::gathered_none, crate::proofs::Gathering::from_end, crate::proofs::Gathering::nodes_are))]
+#[tactic(auto, using(crate::proofs::Gathering::gathered_append, crate::proofs::Gathering::gathered_none, crate::proofs::Gathering::from_end, crate::proofs::Gathering::comments_are))]
 fn add_comments<W: Wanted>(
     comments: &[Comment],
     wanted: W,
     lines: &mut Vec<NodeLine>,
 ) -> Result<(), AllocError>
-    ensures { IfOk result (λ _. lines.new.items ≡ gathered (W.is_wanted wanted) lines.old.items (map comment_node comments.now)) }
+    ensures { IfOk result (λ _. lines.new.items ≡ gathered (W.is_wanted wanted) lines.old.items (map comment_node (map view_comment comments.now))) }
 {
     for comment in comments {
         add_comment(comment, wanted, lines)?;
