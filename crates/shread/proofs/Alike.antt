@@ -12,7 +12,6 @@ use Rattle.shread.specs.declared.token.Opener.{Opener}
 use Rattle.shread.specs.declared.token.Opener.TheVariants as openers
 use Rattle.shread.specs.declared.token.Position.{Position}
 use Rattle.shread.specs.declared.token.Separator.{Separator}
-use Rattle.shtree.specs.declared.tree.Comment.{Comment}
 use Rattle.shtree.specs.declared.tree.Span.{Span}
 use Rattle.shtree.specs.declared.tree.AndOrOperator.{AndOrOperator}
 use Rattle.shtree.specs.Tree.{AJoin, ASubst, AnEntry}
@@ -256,7 +255,7 @@ module _ (g : Given) where
     unfolding a_simple
     alike_simple n = alike_then (alike_many SameItems (item_turn inner) (item_turn inner) alike_item_turn (so_many [] n) (so_many [] n) refl) (λ i j same. alike_give same)
 
-    alike_comment_by : (n : Next) (c : Option Comment) → Alike (λ x y. x ≡ y) (comment_by n c) (comment_by n c)
+    alike_comment_by : (n : Next) (c : Option Span) → Alike (λ x y. x ≡ y) (comment_by n c) (comment_by n c)
     alike_comment_by n (Some c) = alike_on (alike_then (alike_next _) (λ m k same. alike_give (ap (λ z. (Some c, z)) same)))
     alike_comment_by n None = alike_give refl
 
@@ -277,7 +276,7 @@ module _ (g : Given) where
     alike_unexpected : {X : Type 0} {S : X → X → Type 0} (n : Next) → Alike S (unexpected inner n) (unexpected inner n)
     alike_unexpected n = alike_then (alike_wrong n) (λ w v so. rw (← so) alike_stop)
 
-    alike_with : (cs ds : Row Comment) (c : Option Comment) → Alike All (with_comment cs c) (with_comment ds c)
+    alike_with : (cs ds : Row Span) (c : Option Span) → Alike All (with_comment cs c) (with_comment ds c)
     alike_with cs ds (Some c) = alike_push tt
     alike_with cs ds None = alike_give tt
 
@@ -371,7 +370,7 @@ module _ (g : Given) where
     unfolding an_entry
     alike_entry blank pale n =
         alike_then (alike_and_or n) (λ a b same. alike_then (alike_separator a.1 b.1 same)
-        (λ s z same'. alike_then (alike_comment s.1 z.1 (ap (λ (x : Option Separator × Next). x.1) same')) (λ c d same''. alike_give (ap (λ (x : Option Separator × Next). is_parted x.0) same', ap (λ (x : Option Comment × Next). x.1) same''))))
+        (λ s z same'. alike_then (alike_comment s.1 z.1 (ap (λ (x : Option Separator × Next). x.1) same')) (λ c d same''. alike_give (ap (λ (x : Option Separator × Next). is_parted x.0) same', ap (λ (x : Option Span × Next). x.1) same''))))
 
     -- ---- lists and compound commands
 
@@ -391,7 +390,7 @@ module _ (g : Given) where
     unfolding entry_turn
     alike_entry_turn l m same = alike_pick _ _ (ap (λ (n : Next). begins_pipeline n.token) same.1) (alike_one_entry l m same) (alike_give same)
 
-    alike_remark_by : (l m : ListSo) (x : Option Comment × Next) → l.list.commands ≡ m.list.commands → Alike SameList (remark_by l x) (remark_by m x)
+    alike_remark_by : (l m : ListSo) (x : Option Span × Next) → l.list.commands ≡ m.list.commands → Alike SameList (remark_by l x) (remark_by m x)
     alike_remark_by l m (Some c, n) same = alike_pushed (alike_give (same, refl))
     alike_remark_by l m (None, n) same = alike_give (same, refl)
 

@@ -360,5 +360,5 @@ module _ {T U : List ℕ} {a M : ℕ} {to : ℕ → ℕ} (E : ListEnds T U a M t
       let more : q ≡ next_newline T (p + 1) = raw_more (λ b. not (b == 10)) T p bytes.2 in
       let lt : p < q = omega (arith, more, next_newline_low T (p + 1)) in
       let w = before_there q p q (omega arith) low lt (newline_near p (high s)) bytes.1 in
-      rw (same_raw_stands p 35 low (high s), e, same_newline p low (high s), w.0) (ap (λ z. Some (record { span = z })) (spans p (before_blanks T q) low (omega (arith, low, w.1)))))
+      rw (same_raw_stands p 35 low (high s), e, same_newline p low (high s), w.0) (ap Some (spans p (before_blanks T q) low (omega (arith, low, w.1)))))
       (λ (e : raw_stands T p 35 ≡ false). rw (same_raw_stands p 35 low (high s), e) refl) (cases_Bool (raw_stands T p 35))

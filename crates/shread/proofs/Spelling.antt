@@ -11,10 +11,10 @@ use Rattle.shread.specs.declared.token.Position.TheVariants.{Command, Prefix, Su
 use Rattle.shread.specs.declared.token.Separator.{Separator}
 use Rattle.shread.specs.declared.token.Separator.TheVariants.{Semicolon, Ampersand}
 use Rattle.shtree.specs.declared.tree.AndOrOperator.{AndOrOperator}
-use Rattle.shtree.specs.declared.tree.Comment.{Comment}
 use Rattle.shtree.specs.declared.tree.Span.{Span}
 use Rattle.shtree.specs.Tree.{APipelinePart, AnAndOrPart, ABranch, pipeline_parts_of, and_or_parts_of, branches_of, AnEntry, AnItem, AWord, entry, remark, item, entries_of, items_of}
-use Rattle.shtree.specs.Spelling.{Tokens, text_at, and_or_text, spell_background, spell_bang, spell_word, spell_item, spell_items, spell_entries, spell_entry, spell_and_or, spell_and_or_parts, spell_pipeline, spell_pipes, spell_command, spell_form, spell_branch, spell_branches, spell_else, spell_loop}
+use Rattle.shtree.specs.Shape.{text_at, shape_of, shape_of_entry, shape_of_and_or, shape_of_and_or_parts, shape_of_pipeline, shape_of_bang, shape_of_pipes, shape_of_command, shape_of_form, shape_of_branch, shape_of_branches, shape_of_else, shape_of_items, shape_of_item, shape_of_word}
+use Rattle.shtree.specs.Spelling.{Tokens, and_or_text, spell_background, spell_bang, spell_word, spell_item, spell_items, spelling, spell_entry, spell_and_or, spell_and_or_parts, spell_pipeline, spell_pipes, spell_command, spell_form, spell_branch, spell_branches, spell_else, spell_loop}
 use Rattle.shread.specs.Comments.{span}
 use Rattle.shread.specs.Sights.{Given, given, State, standing, Sight, Move}
 use Rattle.shread.specs.Form.{Spelled, Read, Step, again, done, step_if, Form, give, see, move, push, stop, both, Told, by, tell, token, many, Just, just, Halts, halted, Then, and_then, or_stops, OneToken, whole, broken_off, Turns, last, rests, more, halts, raw, may}
@@ -34,29 +34,29 @@ between : (a x b c : Tokens) → x ≡ b ++ c → a ++ x ≡ (a ++ b) ++ c
 between a x b c is = ap (λ z. a ++ z) is ∙ sym (append_assoc a b c)
 
 module _ (B : List ℕ) where
-  items_last : (is : Row AnItem) (i : AnItem) → spell_items B (items_of (is ++ i ∷ [])) ≡ spell_items B (items_of is) ++ spell_item B i
+  items_last : (is : Row AnItem) (i : AnItem) → spell_items (shape_of_items B (items_of (is ++ i ∷ []))) ≡ spell_items (shape_of_items B (items_of is)) ++ spell_item (shape_of_item B i)
   items_last [] i = append-nil _
-  items_last (j ∷ is) i = between (spell_item B j) _ (spell_items B (items_of is)) (spell_item B i) (items_last is i)
+  items_last (j ∷ is) i = between (spell_item (shape_of_item B j)) _ (spell_items (shape_of_items B (items_of is))) (spell_item (shape_of_item B i)) (items_last is i)
 
-  pipes_last : (ps : Row APipelinePart) (p : APipelinePart) → spell_pipes B (pipeline_parts_of (ps ++ p ∷ [])) ≡ spell_pipes B (pipeline_parts_of ps) ++ (codes "|" ∷ spell_command B p.command)
+  pipes_last : (ps : Row APipelinePart) (p : APipelinePart) → spell_pipes (shape_of_pipes B (pipeline_parts_of (ps ++ p ∷ []))) ≡ spell_pipes (shape_of_pipes B (pipeline_parts_of ps)) ++ (codes "|" ∷ spell_command (shape_of_command B p.command))
   pipes_last [] p = ap (λ z. codes "|" ∷ z) (append-nil _)
-  pipes_last (q ∷ ps) p = between (codes "|" ∷ spell_command B q.command) _ (spell_pipes B (pipeline_parts_of ps)) (codes "|" ∷ spell_command B p.command) (pipes_last ps p)
+  pipes_last (q ∷ ps) p = between (codes "|" ∷ spell_command (shape_of_command B q.command)) _ (spell_pipes (shape_of_pipes B (pipeline_parts_of ps))) (codes "|" ∷ spell_command (shape_of_command B p.command)) (pipes_last ps p)
 
-  joined_last : (ps : Row AnAndOrPart) (p : AnAndOrPart) → spell_and_or_parts B (and_or_parts_of (ps ++ p ∷ [])) ≡ spell_and_or_parts B (and_or_parts_of ps) ++ (and_or_text p.operator ∷ spell_pipeline B p.pipeline)
+  joined_last : (ps : Row AnAndOrPart) (p : AnAndOrPart) → spell_and_or_parts (shape_of_and_or_parts B (and_or_parts_of (ps ++ p ∷ []))) ≡ spell_and_or_parts (shape_of_and_or_parts B (and_or_parts_of ps)) ++ (and_or_text p.operator ∷ spell_pipeline (shape_of_pipeline B p.pipeline))
   joined_last [] p = ap (λ z. and_or_text p.operator ∷ z) (append-nil _)
   joined_last (q ∷ ps) p =
-      between (and_or_text q.operator ∷ spell_pipeline B q.pipeline) _ (spell_and_or_parts B (and_or_parts_of ps)) (and_or_text p.operator ∷ spell_pipeline B p.pipeline) (joined_last ps p)
+      between (and_or_text q.operator ∷ spell_pipeline (shape_of_pipeline B q.pipeline)) _ (spell_and_or_parts (shape_of_and_or_parts B (and_or_parts_of ps))) (and_or_text p.operator ∷ spell_pipeline (shape_of_pipeline B p.pipeline)) (joined_last ps p)
 
-  branches_last : (bs : Row ABranch) (b : ABranch) → spell_branches B (branches_of (bs ++ b ∷ [])) ≡ spell_branches B (branches_of bs) ++ (codes "elif" ∷ spell_branch B b)
+  branches_last : (bs : Row ABranch) (b : ABranch) → spell_branches (shape_of_branches B (branches_of (bs ++ b ∷ []))) ≡ spell_branches (shape_of_branches B (branches_of bs)) ++ (codes "elif" ∷ spell_branch (shape_of_branch B b))
   branches_last [] b = ap (λ z. codes "elif" ∷ z) (append-nil _)
-  branches_last (c ∷ bs) b = between (codes "elif" ∷ spell_branch B c) _ (spell_branches B (branches_of bs)) (codes "elif" ∷ spell_branch B b) (branches_last bs b)
+  branches_last (c ∷ bs) b = between (codes "elif" ∷ spell_branch (shape_of_branch B c)) _ (spell_branches (shape_of_branches B (branches_of bs))) (codes "elif" ∷ spell_branch (shape_of_branch B b)) (branches_last bs b)
 
-  entries_joined : (es ls : Row AnEntry) → spell_entries B (entries_of (es ++ ls)) ≡ spell_entries B (entries_of es) ++ spell_entries B (entries_of ls)
+  entries_joined : (es ls : Row AnEntry) → spelling (shape_of B (entries_of (es ++ ls))) ≡ spelling (shape_of B (entries_of es)) ++ spelling (shape_of B (entries_of ls))
   entries_joined [] ls = refl
-  entries_joined (e ∷ es) ls = between (spell_entry B e) _ (spell_entries B (entries_of es)) (spell_entries B (entries_of ls)) (entries_joined es ls)
+  entries_joined (e ∷ es) ls = between (spell_entry (shape_of_entry B e)) _ (spelling (shape_of B (entries_of es))) (spelling (shape_of B (entries_of ls))) (entries_joined es ls)
 
-  entries_last : (es : Row AnEntry) (e : AnEntry) → spell_entries B (entries_of (es ++ e ∷ [])) ≡ spell_entries B (entries_of es) ++ spell_entry B e
-  entries_last es e = entries_joined es (e ∷ []) ∙ ap (λ z. spell_entries B (entries_of es) ++ z) (append-nil _)
+  entries_last : (es : Row AnEntry) (e : AnEntry) → spelling (shape_of B (entries_of (es ++ e ∷ []))) ≡ spelling (shape_of B (entries_of es)) ++ spell_entry (shape_of_entry B e)
+  entries_last es e = entries_joined es (e ∷ []) ∙ ap (λ z. spelling (shape_of B (entries_of es)) ++ z) (append-nil _)
 
 -- ---- what holds of what a form reads, and of the tokens passed
 
@@ -199,7 +199,7 @@ module _ (g : Given) where
   unfolding a_comment
   silent_comment n s = pass_on pass_see (λ c t. by_comment c t)
     where
-      by_comment : (c : Option Comment) (t : State) → Passing (comment_by n c) Silent t
+      by_comment : (c : Option Span) (t : State) → Passing (comment_by n c) Silent t
       by_comment (Some c) t = pass_on pass_move (λ u v. pass_on (silent_next Command v) (λ m w. pass_give refl))
       by_comment None t = pass_give refl
 
@@ -207,7 +207,7 @@ module _ (g : Given) where
   unfolding a_newline
   silent_newline n s = pass_pick (is_newline n.token) (pass_on pass_move (λ u v. pass_on (silent_next Command v) (λ m w. pass_give refl))) (pass_give refl)
 
-  silent_kept : (cs : Row Comment) (c : Option Comment) (s : State) → Passing (with_comment cs c) Silent s
+  silent_kept : (cs : Row Span) (c : Option Span) (s : State) → Passing (with_comment cs c) Silent s
   silent_kept cs (Some c) s = record { passing = just_of Silent refl }
   silent_kept cs None s = pass_give refl
 
@@ -231,7 +231,7 @@ module _ (B : List ℕ) (g : Given) (stands : g.text ≡ drop g.offset B) where
       let many : q - p ≡ (g.offset + q) - (g.offset + p) = omega arith in
       inside ∙ ap (λ n. take n (drop (g.offset + p) B)) many
 
-  pass_word : (inner : Inner) (s : State) → Passing g (a_word inner) (λ w k. k ≡ spell_word B w) s
+  pass_word : (inner : Inner) (s : State) → Passing g (a_word inner) (λ w k. k ≡ spell_word (shape_of_word B w)) s
   unfolding a_word
   pass_word inner s =
       pass_on g (pass_see g) (λ p t. pass_last g (pass_token g {P = λ x k. k ≡ text_at B x.1 ∷ []} (λ x u. ap (λ z. z ∷ []) (raw_at t.at u.at))) (λ x k so. so))
@@ -240,15 +240,15 @@ module _ (B : List ℕ) (g : Given) (stands : g.text ≡ drop g.offset B) where
   Spells of x k = k ≡ of x
 
   pub record Fine (inner : Inner) : Type 0 where
-    pub compound : (o : Opener) (s : State) → Passing g (inner.compound o) (Spells (λ c. spell_command B c.0)) s
+    pub compound : (o : Opener) (s : State) → Passing g (inner.compound o) (Spells (λ c. spell_command (shape_of_command B c.0))) s
 
   module _ (inner : Inner) (fine : Fine inner) where
     -- ---- simple commands
 
     abbrev spelled_items : Items → Tokens
-    spelled_items i = spell_items B (items_of i.items)
+    spelled_items i = spell_items (shape_of_items B (items_of i.items))
 
-    item_word : (position : Position) (broken : Bool) (w : AWord) → spell_item B (item broken (as_item position w)) ≡ spell_word B w
+    item_word : (position : Position) (broken : Bool) (w : AWord) → spell_item (shape_of_item B (item broken (as_item position w))) ≡ spell_word (shape_of_word B w)
     item_word Command broken w = refl
     item_word Prefix broken w = refl
     item_word Suffix broken w = refl
@@ -267,27 +267,27 @@ module _ (B : List ℕ) (g : Given) (stands : g.text ≡ drop g.offset B) where
     unfolding item_turn
     pass_item_turn i s = pass_item_by i (behind_item i.next.token) s
 
-    pass_simple : (n : Next) (s : State) → Passing g (a_simple inner n) (Spells (λ c. spell_command B c.0)) s
+    pass_simple : (n : Next) (s : State) → Passing g (a_simple inner n) (Spells (λ c. spell_command (shape_of_command B c.0))) s
     unfolding a_simple
     pass_simple n s = pass_last g (pass_many g spelled_items (item_turn inner) pass_item_turn (so_many [] n) s) (λ i k so. sym so)
 
     -- ---- pipelines
 
-    pass_command : (n : Next) (s : State) → Passing g (a_command inner n) (Spells (λ c. spell_command B c.0)) s
+    pass_command : (n : Next) (s : State) → Passing g (a_command inner n) (Spells (λ c. spell_command (shape_of_command B c.0))) s
     unfolding a_command
     pass_command n s = pass_pick g (begins_simple n.token) (pass_simple n s) (by_opener (opener_of n.token))
       where
-        by_opener : (o : Option Opener) → Passing g (compound_by inner n o) (Spells (λ c. spell_command B c.0)) s
+        by_opener : (o : Option Opener) → Passing g (compound_by inner n o) (Spells (λ c. spell_command (shape_of_command B c.0))) s
         by_opener (Some o) = fine.compound o s
         by_opener None = pass_unexpected g inner n s
 
-    pass_bang : (n : Next) (s : State) → Passing g (a_bang n) (Spells (λ x. spell_bang x.0)) s
+    pass_bang : (n : Next) (s : State) → Passing g (a_bang n) (Spells (λ x. spell_bang (shape_of_bang x.0))) s
     unfolding a_bang
     pass_bang n s =
         pass_pick g (is_bang n.token) (pass_then g (pass_text g) (λ x t k so. pass_on g (silent_next g Command t) (λ m u. pass_give g (append-nil k ∙ so)))) (pass_give g refl)
 
     abbrev spelled_pipes : Piped → Tokens
-    spelled_pipes p = spell_pipes B (pipeline_parts_of p.parts)
+    spelled_pipes p = spell_pipes (shape_of_pipes B (pipeline_parts_of p.parts))
 
     pass_one_command : (p : Piped) (s : State) → Passing g (one_command inner p) (Grows g spelled_pipes p) s
     unfolding one_command
@@ -299,16 +299,16 @@ module _ (B : List ℕ) (g : Given) (stands : g.text ≡ drop g.offset B) where
     unfolding pipe_turn
     pass_pipe_turn p s = pass_pick g (is_pipe p.next.token) (pass_one_command p s) (pass_give g (grows_none g spelled_pipes p))
 
-    pass_pipeline : (n : Next) (s : State) → Passing g (a_pipeline inner n) (Spells (λ x. spell_pipeline B x.0)) s
+    pass_pipeline : (n : Next) (s : State) → Passing g (a_pipeline inner n) (Spells (λ x. spell_pipeline (shape_of_pipeline B x.0))) s
     unfolding a_pipeline
     pass_pipeline n s =
         pass_then g (pass_bang n s) (λ b t k is. pass_then g (pass_command b.1 t) (λ c u l so.
-        pass_last g (pass_many g spelled_pipes (pipe_turn inner) pass_pipe_turn (piped [] c.1) u) (λ p m all. rw (is, so, ← all) (sym (append_assoc (spell_bang b.0) (spell_command B c.0) (spelled_pipes p))))))
+        pass_last g (pass_many g spelled_pipes (pipe_turn inner) pass_pipe_turn (piped [] c.1) u) (λ p m all. rw (is, so, ← all) (sym (append_assoc (spell_bang (shape_of_bang b.0)) (spell_command (shape_of_command B c.0)) (spelled_pipes p))))))
 
     -- ---- and-or lists
 
     abbrev spelled_joined : Joined → Tokens
-    spelled_joined a = spell_and_or_parts B (and_or_parts_of a.parts)
+    spelled_joined a = spell_and_or_parts (shape_of_and_or_parts B (and_or_parts_of a.parts))
 
     pass_one_pipeline : (a : Joined) (o : AndOrOperator) (s : State) → Passing g (one_pipeline inner a o) (Grows g spelled_joined a) s
     unfolding one_pipeline
@@ -324,7 +324,7 @@ module _ (B : List ℕ) (g : Given) (stands : g.text ≡ drop g.offset B) where
         by_operator (Some o) = pass_one_pipeline a o s
         by_operator None = pass_give g (grows_none g spelled_joined a)
 
-    pass_and_or : (n : Next) (s : State) → Passing g (an_and_or inner n) (Spells (λ x. spell_and_or B x.0)) s
+    pass_and_or : (n : Next) (s : State) → Passing g (an_and_or inner n) (Spells (λ x. spell_and_or (shape_of_and_or B x.0))) s
     unfolding an_and_or
     pass_and_or n s =
         pass_then g (pass_pipeline n s) (λ p t k is.
@@ -346,7 +346,7 @@ module _ (B : List ℕ) (g : Given) (stands : g.text ≡ drop g.offset B) where
             (λ x t k so. pass_on g (silent_next g Command t) (λ m u. pass_give g (append-nil k ∙ so)))
         by_separator None = pass_give g refl
 
-    pass_entry : (blank : Bool) (n : Next) (s : State) → Passing g (an_entry inner blank n) (Spells (λ e. spell_entry B e.entry)) s
+    pass_entry : (blank : Bool) (n : Next) (s : State) → Passing g (an_entry inner blank n) (Spells (λ e. spell_entry (shape_of_entry B e.entry))) s
     unfolding an_entry
     pass_entry blank n s =
         pass_then g (pass_and_or n s) (λ a t k is. pass_then g (pass_separator a.1 t) (λ c u l so. pass_on g (silent_comment g c.1 u) (λ d v. pass_give g (rw (is, append-nil l, so) refl))))
@@ -354,7 +354,7 @@ module _ (B : List ℕ) (g : Given) (stands : g.text ≡ drop g.offset B) where
     -- ---- lists
 
     abbrev spelled_list : ListSo → Tokens
-    spelled_list l = spell_entries B (entries_of l.list.entries)
+    spelled_list l = spelling (shape_of B (entries_of l.list.entries))
 
     step_grows : (l m : ListSo) (on : Bool) (k : Tokens) → spelled_list m ≡ spelled_list l ++ k → Grows g spelled_list l (step_if on m) k
     step_grows l m on k so = ap spelled_list (held_if on m) ∙ so
@@ -377,7 +377,7 @@ module _ (B : List ℕ) (g : Given) (stands : g.text ≡ drop g.offset B) where
     unfolding a_remark
     pass_remark l s = pass_on g (silent_comment g l.next s) (λ x t. by_comment x t)
       where
-        by_comment : (x : Option Comment × Next) (t : State) → Passing g (remark_by l x) (Since l) t
+        by_comment : (x : Option Span × Next) (t : State) → Passing g (remark_by l x) (Since l) t
         by_comment (Some c, n) t = pass_pushed g (λ u. pass_give g (entries_last B l.list.entries (entry (remark c) false (is_blank_next l.list) None)))
         by_comment (None, n) t = pass_give g (grows_none g spelled_list l)
 
@@ -391,7 +391,7 @@ module _ (B : List ℕ) (g : Given) (stands : g.text ≡ drop g.offset B) where
     unfolding list_turn
     pass_list_turn l s = pass_then g (pass_on_line l s) (λ m t k so. pass_on g (silent_newline g m.next t) (λ x u. pass_give g (step_grows l _ x.0 _ (so ∙ ap (λ z. spelled_list l ++ z) (sym (append-nil k))))))
 
-    pass_list : (n : Next) (s : State) → Passing g (a_list inner n) (Spells (λ x. spell_entries B x.0)) s
+    pass_list : (n : Next) (s : State) → Passing g (a_list inner n) (Spells (λ x. spelling (shape_of B x.0))) s
     unfolding a_list
     pass_list n s =
         pass_then g (pass_many g spelled_list (list_turn inner) pass_list_turn (list_so (none_listed false) n) s)
@@ -407,17 +407,17 @@ module _ (B : List ℕ) (g : Given) (stands : g.text ≡ drop g.offset B) where
     unfolding closing
     pass_closing c n s = pass_pick g (is_closing c n.token) (pass_passed (closing_text c) _ s) (pass_unexpected g inner n s)
 
-    pass_group : (c : Closing) (n : Next) (s : State) → Passing g (a_group inner c n) (Spells (λ x. spell_entries B x.what ++ (closing_text c ∷ []))) s
+    pass_group : (c : Closing) (n : Next) (s : State) → Passing g (a_group inner c n) (Spells (λ x. spelling (shape_of B x.what) ++ (closing_text c ∷ []))) s
     unfolding a_group
     pass_group c n s = pass_then g (pass_list n s) (λ l t k is. pass_last g (pass_closing c l.1 t) (λ x m so. rw (is, so) refl))
 
-    pass_branch : (n : Next) (s : State) → Passing g (a_branch inner n) (Spells (λ x. spell_branch B x.0)) s
+    pass_branch : (n : Next) (s : State) → Passing g (a_branch inner n) (Spells (λ x. spell_branch (shape_of_branch B x.0))) s
     unfolding a_branch
     pass_branch n s =
         pass_then g (pass_list n s) (λ c t k is. pass_then g (pass_closing closings.Then c.1 t) (λ x u l so. pass_last g (pass_list x.1 u) (λ b m other. rw (is, so, other) refl)))
 
     abbrev spelled_branches : Branched → Tokens
-    spelled_branches b = spell_branches B (branches_of b.branches)
+    spelled_branches b = spell_branches (shape_of_branches B (branches_of b.branches))
 
     pass_elif : (b : Branched) (s : State) → Passing g (elif_turn inner b) (Grows g spelled_branches b) s
     unfolding elif_turn
@@ -427,35 +427,35 @@ module _ (B : List ℕ) (g : Given) (stands : g.text ≡ drop g.offset B) where
         (branches_last B b.branches c.0 ∙ ap (λ z. spelled_branches b ++ z) (rw (is, so) (ap (λ z. codes "elif" ∷ z) (sym (append-nil _)))))))))
         (pass_give g (grows_none g spelled_branches b))
 
-    pass_else : (n : Next) (s : State) → Passing g (an_else inner n) (Spells (λ x. spell_else B x.0)) s
+    pass_else : (n : Next) (s : State) → Passing g (an_else inner n) (Spells (λ x. spell_else (shape_of_else B x.0))) s
     unfolding an_else
     pass_else n s =
         pass_pick g (is_closing closings.Else n.token)
         (pass_then g (pass_passed (closing_text closings.Else) false s) (λ x t k is. pass_last g (pass_list x.1 t) (λ l m so. rw (is, so) refl)))
         (pass_give g refl)
 
-    pass_if : (n : Next) (s : State) → Passing g (an_if inner n) (λ f k. codes "if" ∷ k ≡ spell_form B f.what) s
+    pass_if : (n : Next) (s : State) → Passing g (an_if inner n) (λ f k. codes "if" ∷ k ≡ spell_form (shape_of_form B f.what)) s
     unfolding an_if
     pass_if n s =
         pass_then g (pass_branch n s) (λ f t k1 one.
         pass_then g (pass_many g spelled_branches (elif_turn inner) pass_elif (branched [] f.1) t) (λ b u k2 two.
         pass_then g (pass_else b.next u) (λ e v k3 three.
-        pass_last g (pass_closing closings.Fi e.1 v) (λ c k4 four. rw (one, ← two, three, four) (ap (λ z. codes "if" ∷ z) (sym (append_assoc (spell_branch B f.0 ++ spelled_branches b) (spell_else B e.0) (codes "fi" ∷ []) ∙ append_assoc (spell_branch B f.0) (spelled_branches b) (spell_else B e.0 ++ (codes "fi" ∷ [])))))))))
+        pass_last g (pass_closing closings.Fi e.1 v) (λ c k4 four. rw (one, ← two, three, four) (ap (λ z. codes "if" ∷ z) (sym (append_assoc (spell_branch (shape_of_branch B f.0) ++ spelled_branches b) (spell_else (shape_of_else B e.0)) (codes "fi" ∷ []) ∙ append_assoc (spell_branch (shape_of_branch B f.0)) (spelled_branches b) (spell_else (shape_of_else B e.0) ++ (codes "fi" ∷ [])))))))))
 
-    pass_loop : (n : Next) (s : State) → Passing g (a_loop inner n) (Spells (λ x. spell_loop B x.what)) s
+    pass_loop : (n : Next) (s : State) → Passing g (a_loop inner n) (Spells (λ x. spell_loop (shape_of_branch B x.what))) s
     unfolding a_loop
     pass_loop n s =
         pass_then g (pass_list n s) (λ c t k1 one. pass_then g (pass_closing closings.Do c.1 t) (λ d u k2 two. pass_then g (pass_list d.1 u) (λ b v k3 three.
-        pass_last g (pass_closing closings.Done b.1 v) (λ e k4 four. rw (one, two, three, four) (sym (append_assoc (spell_entries B c.0) (codes "do" ∷ spell_entries B b.0) (codes "done" ∷ [])))))))
+        pass_last g (pass_closing closings.Done b.1 v) (λ e k4 four. rw (one, two, three, four) (sym (append_assoc (spelling (shape_of B c.0)) (codes "do" ∷ spelling (shape_of B b.0)) (codes "done" ∷ [])))))))
 
-    pass_form : (o : Opener) (n : Next) (s : State) → Passing g (a_form inner o n) (λ f k. opener_text o ∷ k ≡ spell_form B f.what) s
+    pass_form : (o : Opener) (n : Next) (s : State) → Passing g (a_form inner o n) (λ f k. opener_text o ∷ k ≡ spell_form (shape_of_form B f.what)) s
     pass_form openers.Brace n s = pass_last g (pass_group closings.Brace n s) (λ l k so. rw so refl)
     pass_form openers.Paren n s = pass_last g (pass_group closings.Paren n s) (λ l k so. rw so refl)
     pass_form openers.If n s = pass_if n s
     pass_form openers.While n s = pass_last g (pass_loop n s) (λ l k so. rw so refl)
     pass_form openers.Until n s = pass_last g (pass_loop n s) (λ l k so. rw so refl)
 
-    pass_compound : (o : Opener) (s : State) → Passing g (a_compound inner o) (Spells (λ c. spell_command B c.0)) s
+    pass_compound : (o : Opener) (s : State) → Passing g (a_compound inner o) (Spells (λ c. spell_command (shape_of_command B c.0))) s
     unfolding a_compound
     pass_compound o s =
         pass_then g (pass_passed (opener_text o) _ s) (λ x t k is. pass_then g (pass_form o x.1 t) (λ f u m so. pass_pushed g (λ v. pass_give g (rw (is, append-nil m) (so ∙ sym (append-nil _))))))
@@ -466,7 +466,7 @@ module _ (B : List ℕ) (g : Given) (stands : g.text ≡ drop g.offset B) where
     unfolding end_of_line
     silent_end n s = pass_pick g (is_newline n.token) (pass_on g (pass_move g) (λ u v. pass_give g refl)) (pass_pick g (is_end n.token) (pass_give g refl) (pass_unexpected g inner n s))
 
-    pass_line : (blank : Bool) (s : State) → Passing g (a_line inner blank) (Spells (λ x. spell_entries B (entries_of x.0))) s
+    pass_line : (blank : Bool) (s : State) → Passing g (a_line inner blank) (Spells (λ x. spelling (shape_of B (entries_of x.0)))) s
     unfolding a_line
     pass_line blank s =
         pass_on g (silent_next g Command s) (λ n t. pass_then g (pass_on_line (list_so (none_listed blank) n) t)
@@ -481,16 +481,16 @@ module _ (B : List ℕ) (g : Given) (stands : g.text ≡ drop g.offset B) where
 
 module _ (B : List ℕ) where
   line_spelled : (blank : Bool) (p : ℕ) (es : Row AnEntry) (newline : Bool) (t : State) (k : Row Spelled) → may (a_line (level most_open) blank) (given (drop p B) p) (standing 0) (Ok ((es, newline), t)) k
-      → k ≡ spell_entries B (entries_of es)
+      → k ≡ spelling (shape_of B (entries_of es))
   line_spelled blank p es newline t k part = let g = given (drop p B) p in (pass_line B g refl (level most_open) (pass_level B g refl most_open) blank (standing 0)).passing (Ok ((es, newline), t)) k part
 
-  lines_spelled : (so : SoFar) (p : ℕ) (s : AScript) (k : Row Spelled) → Lines B so p s k → s.wrong ≡ None → spell_entries B s.entries ≡ spell_entries B (entries_of so.entries) ++ k
+  lines_spelled : (so : SoFar) (p : ℕ) (s : AScript) (k : Row Spelled) → Lines B so p s k → s.wrong ≡ None → spelling (shape_of B s.entries) ≡ spelling (shape_of B (entries_of so.entries)) ++ k
   lines_spelled so p s m (line_ended {l = l} es t k part rest) none =
-      lines_spelled _ _ s l rest none ∙ ap (λ z. z ++ l) (entries_joined B so.entries es ∙ ap (λ z. spell_entries B (entries_of so.entries) ++ z) (sym (line_spelled _ p es true t k part)))
-      ∙ append_assoc (spell_entries B (entries_of so.entries)) k l
-  lines_spelled so p s m (last_line es t k part) none = entries_joined B so.entries es ∙ ap (λ z. spell_entries B (entries_of so.entries) ++ z) (sym (line_spelled _ p es false t k part))
+      lines_spelled _ _ s l rest none ∙ ap (λ z. z ++ l) (entries_joined B so.entries es ∙ ap (λ z. spelling (shape_of B (entries_of so.entries)) ++ z) (sym (line_spelled _ p es true t k part)))
+      ∙ append_assoc (spelling (shape_of B (entries_of so.entries))) k l
+  lines_spelled so p s m (last_line es t k part) none = entries_joined B so.entries es ∙ ap (λ z. spelling (shape_of B (entries_of so.entries)) ++ z) (sym (line_spelled _ p es false t k part))
   lines_spelled so p s m (faulty f k part) none = absurd cc
 
 -- the tokens passed in a faultless script are those that its tree spells
-pub script_spelled : (B : List ℕ) (s : AScript) → s.wrong ≡ None → (k : Row Spelled) → Passes B s k → k ≡ spell_entries B s.entries
+pub script_spelled : (B : List ℕ) (s : AScript) → s.wrong ≡ None → (k : Row Spelled) → Passes B s k → k ≡ spelling (shape_of B s.entries)
 script_spelled B s none k passes = sym (lines_spelled B nothing_yet 0 s k passes none)

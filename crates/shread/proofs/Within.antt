@@ -14,7 +14,6 @@ use Rattle.shread.specs.declared.token.Opener.TheVariants as openers
 use Rattle.shread.specs.declared.token.Position.{Position}
 use Rattle.shread.specs.declared.token.Position.TheVariants.{Command, Prefix, Suffix}
 use Rattle.shtree.specs.declared.tree.AndOrOperator.{AndOrOperator}
-use Rattle.shtree.specs.declared.tree.Comment.{Comment}
 use Rattle.shtree.specs.declared.tree.Span.{Span}
 use Rattle.shtree.specs.Nodes.{AreWithin, IsSpanWithin, and_or_nodes, branch_nodes, branches_nodes, else_nodes, entries_nodes, form_nodes}
 use Rattle.shtree.specs.Tree.{ACommand, AForm, ASubst, AWord, AnEntry, branches_of, entries_of, item}
@@ -43,13 +42,13 @@ unfolding before_blanks
 before_blanks_low T zero = omega arith
 before_blanks_low T (suc q) = cond_both (raw_in is_blank T q) _ _ (λ n. n ≤ suc q) (λ e. omega (arith, before_blanks_low T q)) (λ e. omega arith)
 
-comment_by_test : (test : Bool) (o p last next : ℕ) (c : Comment) → p ≤ next → last ≤ next → cond test (Some (record { span = span o p last })) None ≡ Some c
-    → IsSpanWithin (o + cond test next p) c.span
-comment_by_test true o p last next c one two is = let spans : record { span = span o p last } ≡ c = cc in subst (λ (d : Comment). IsSpanWithin (o + next) d.span) spans (omega (arith, one), omega (arith, two))
+comment_by_test : (test : Bool) (o p last next : ℕ) (c : Span) → p ≤ next → last ≤ next → cond test (Some (span o p last)) None ≡ Some c
+    → IsSpanWithin (o + cond test next p) c
+comment_by_test true o p last next c one two is = let spans : span o p last ≡ c = cc in subst (λ (d : Span). IsSpanWithin (o + next) d) spans (omega (arith, one), omega (arith, two))
 comment_by_test false o p last next c one two is = absurd cc
 
 -- a comment ends before the place behind it
-comment_low : (T : List ℕ) (o p : ℕ) (c : Comment) → comment_at T o p ≡ Some c → IsSpanWithin (o + past_comment T p) c.span
+comment_low : (T : List ℕ) (o p : ℕ) (c : Span) → comment_at T o p ≡ Some c → IsSpanWithin (o + past_comment T p) c
 unfolding comment_at past_comment
 comment_low T o p c is =
     comment_by_test (raw_stands T p 35) o p (before_blanks T (next_newline T p)) (next_newline T p) c (next_newline_low T p) (before_blanks_low T (next_newline T p)) is
@@ -190,20 +189,20 @@ module _ (keep : Bool) (g : Given) (limit : ℕ) where
     unfolding a_simple
     simple_fits n s = first (repeats ItemsFit (item_turn inner) item_turn_fits (so_many [] n) s (All-nil (ItemFits limit))) (λ i t all. gives (fits_simple limit i.items all))
 
-    abbrev OwnComment : Option Comment × Next → Type 0
+    abbrev OwnComment : Option Span × Next → Type 0
     OwnComment x = MatchOption x.0 (Unit {0}) (CommentFits limit)
 
-    comment_fits_by : (n : Next) (c : Option Comment) (s : State) → comment_at g.text g.offset s.at ≡ c → R (comment_by n c) OwnComment s
+    comment_fits_by : (n : Next) (c : Option Span) (s : State) → comment_at g.text g.offset s.at ≡ c → R (comment_by n c) OwnComment s
     comment_fits_by n None s is = gives tt
     comment_fits_by n (Some c) s is =
         tells_then keep g {P = λ x t. t.at ≡ past_comment g.text s.at} (record { told = refl })
-        (λ x t there. unless (λ b. after (λ m u. gives (span_fits_more _ limit (subst (λ p. g.offset + p ≤ limit) there b) c.span (comment_low g.text g.offset s.at c is)))))
+        (λ x t there. unless (λ b. after (λ m u. gives (span_fits_more _ limit (subst (λ p. g.offset + p ≤ limit) there b) c (comment_low g.text g.offset s.at c is)))))
 
     comment_fits : (n : Next) (s : State) → R (a_comment n) OwnComment s
     unfolding a_comment
     comment_fits n s = tells_then keep g {P = λ c t. comment_at g.text g.offset t.at ≡ c} (record { told = refl }) (λ c t is. comment_fits_by n c t is)
 
-    with_fits : (cs : Row Comment) (c : Option Comment) (s : State) → All (CommentFits limit) cs → MatchOption c (Unit {0}) (CommentFits limit) → R (with_comment cs c) (All (CommentFits limit)) s
+    with_fits : (cs : Row Span) (c : Option Span) (s : State) → All (CommentFits limit) cs → MatchOption c (Unit {0}) (CommentFits limit) → R (with_comment cs c) (All (CommentFits limit)) s
     with_fits cs (Some c) s all one = pushes (CommentFits limit) all one
     with_fits cs None s all one = gives all
 
@@ -288,7 +287,7 @@ module _ (keep : Bool) (g : Given) (limit : ℕ) where
     unfolding entry_turn
     entry_turn_fits l s so = picks (begins_pipeline l.next.token) (one_entry_fits l s so) (gives so)
 
-    remark_fits_by : (l : ListSo) (x : Option Comment × Next) (s : State) → ListFits l → OwnComment x → R (remark_by l x) ListFits s
+    remark_fits_by : (l : ListSo) (x : Option Span × Next) (s : State) → ListFits l → OwnComment x → R (remark_by l x) ListFits s
     remark_fits_by l (Some c, n) s so one = first (pushes (EntryFits limit) so (fits_remark limit c false (is_blank_next l.list) one)) (λ es t all. gives all)
     remark_fits_by l (None, n) s so one = gives so
 

@@ -1,7 +1,7 @@
 -- Lists: entries on one line or on many (XCU 2.9.3, 2.10.2).
 use Rattle.std.specs.Prelude.{Bool, true, false, ◌&&◌, not, [], List as Row, Option, None, Some}
 use Rattle.shread.specs.declared.token.Next.{Next}
-use Rattle.shtree.specs.declared.tree.Comment.{Comment}
+use Rattle.shtree.specs.declared.tree.Span.{Span}
 use Rattle.shtree.specs.Tree.{AnEntry, Entries, entry, remark, entries_of}
 use Rattle.shread.specs.Form.{Form, give, push, many, ◌>>=◌, Step, done, step_if}
 use Rattle.shread.specs.Words.{Inner}
@@ -52,7 +52,7 @@ unfoldable pub entry_turn : Inner → ListSo → Form (Step ListSo)
 entry_turn inner l = pick (begins_pipeline l.next.token) (one_entry inner l) (give (done l))
 
 -- the comment of a line without entries, or behind its last separator, stands for itself
-abbrev pub remark_by : ListSo → Option Comment × Next → Form ListSo
+abbrev pub remark_by : ListSo → Option Span × Next → Form ListSo
 remark_by l (Some c, n) = push l.list.entries (entry (remark c) false (is_blank_next l.list) None) >>= λ es. give (list_so (with_remark l.list es) n)
 remark_by l (None, n) = give (list_so l.list n)
 

@@ -5,7 +5,6 @@ use Rattle.shread.specs.declared.mode.Mode.{Mode}
 use Rattle.shread.specs.declared.mode.Piece.{Piece}
 use Rattle.shread.specs.declared.token.Next.{Next}
 use Rattle.shread.specs.declared.token.Position.{Position}
-use Rattle.shtree.specs.declared.tree.Comment.{Comment}
 use Rattle.shtree.specs.declared.tree.Span.{Span}
 use Rattle.shread.specs.Standing.{raw_stands, at_end}
 use Rattle.shread.specs.Bytes.{past_continuations, behind, past_blanks}
@@ -58,7 +57,7 @@ pub data Sight : Type 0 → Type 1 where
   -- the next token, where a token stands in this position of a command
   the_token : Position → Sight Next
   -- the comment that begins here
-  the_comment : Sight (Option Comment)
+  the_comment : Sight (Option Span)
 
 abbrev pub seen : {X : Type 0} → Sight X → Given → State → X
 seen here g s = g.offset + s.at

@@ -1,9 +1,10 @@
 //! What may stand between commands: comments, newlines, separators, and what no row takes (XCU 2.3, 2.9.3).
-ghost use Rattle.std.specs.Prelude.{◌≡◌, ◌≤◌, IfOk, Ok as Done};
+ghost use Rattle.std.specs.Prelude.{◌≡◌, ◌≤◌, IfOk, Ok as Done, option_map};
 ghost use Rattle.shread.specs.Clauses.{end_of, Onward, Reads, reads, Shows, Stays, text_of};
 ghost use Rattle.shread.specs.Commands.{a_comment, a_newline, a_separator, is_parted, what_is_wrong};
 ghost use Rattle.shread.specs.Levels.{level};
 ghost use Rattle.shread.specs.Sights.{standing};
+ghost use Rattle.shtree.specs.View.{view_comment};
 
 use crate::cursor::Cursor;
 use crate::fault::{Fault, FaultKind, Stop};
@@ -17,7 +18,7 @@ impl<'a, S: Source> Cursor<'a, S> {
     #[tactic(auto, unfolding(crate::specs::Commands::a_comment, crate::specs::Commands::next_token, crate::specs::Comments::comment_at))]
     pub(crate) fn remark(&mut self, next: &mut Next) -> Option<Comment>
         requires shows { Shows next.old.token (text_of S.bytes self.old) self.old.at }
-        ensures value { reads S.bytes self.old (a_comment next.old) ≡ Done ((result, next.new), standing self.new.at) }
+        ensures value { reads S.bytes self.old (a_comment next.old) ≡ Done ((option_map view_comment result, next.new), standing self.new.at) }
         ensures shows { Shows next.new.token (text_of S.bytes self.old) self.new.at }
         ensures onward { self.old.at ≤ self.new.at }
         ensures same { Stays self.old self.new }

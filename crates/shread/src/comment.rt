@@ -1,8 +1,9 @@
 //! Comments (XCU 2.3, rule 9).
-ghost use Rattle.std.specs.Prelude.{◌≡◌, ◌≤◌, None, length};
+ghost use Rattle.std.specs.Prelude.{◌≡◌, ◌≤◌, None, length, option_map};
 ghost use Rattle.shread.specs.Clauses.{Stays, text_of};
 ghost use Rattle.shread.specs.Comments.{comment_at, past_comment};
 ghost use Rattle.shread.specs.Standing.{before_blanks};
+ghost use Rattle.shtree.specs.View.{view_comment};
 
 use crate::cursor::Cursor;
 use crate::search::Sought;
@@ -29,7 +30,7 @@ impl<'a, S: Source> Cursor<'a, S> {
     #[inline]
     #[tactic(auto, unfolding(crate::specs::Comments::comment_at, crate::specs::Comments::past_comment))]
     pub(crate) fn comment(&mut self) -> Option<Comment>
-        ensures value { result ≡ comment_at (text_of S.bytes self.old) self.old.origin self.old.at }
+        ensures value { option_map view_comment result ≡ comment_at (text_of S.bytes self.old) self.old.origin self.old.at }
         ensures place { self.new.at ≡ past_comment (text_of S.bytes self.old) self.old.at }
         ensures none { result ≡ None → self.new.at ≡ self.old.at }
         ensures onward { self.old.at ≤ self.new.at }

@@ -6,7 +6,8 @@ ghost use Rattle.shread.specs.Lines.{ALine, IsLine, NoFurther, SameBytes};
 ghost use Rattle.shread.specs.Scripts.{AScript, FirstFault, Outcome, Passes};
 ghost use Rattle.shtree.specs.Nodes.{AreWithin};
 ghost use Rattle.shtree.specs.Normal.{is_normal};
-ghost use Rattle.shtree.specs.Spelling.{spell_entries};
+ghost use Rattle.shtree.specs.Shape.{shape_of};
+ghost use Rattle.shtree.specs.Spelling.{spelling};
 
 use crate::all_lines::script_from;
 use crate::fault::{Fault, ReadError};
@@ -105,7 +106,7 @@ impl Reader {
         ensures normal { IfOk result (λ script. is_normal (view_script script).entries ≡ true) }
         // The tokens passed in a script without a fault are those that its tree spells.
         ensures spelling { IfOk result (λ script. script.fault ≡ None → (k : Row Spelled) →
-            Passes (S.bytes source.now) (view_script script) k → k ≡ spell_entries (S.bytes source.now) (view_script script).entries) }
+            Passes (S.bytes source.now) (view_script script) k → k ≡ spelling (shape_of (S.bytes source.now) (view_script script).entries)) }
         // No node of the list names an offset above the length.
         ensures within { IfOk result (λ script. AreWithin (length (S.bytes source.now)) (view_script script).entries) }
         ensures meter { IfOk result (λ script. meter_of self.new ≡ raised (meter_of self.old) (length (S.bytes source.now))) }

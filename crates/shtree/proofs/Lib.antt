@@ -7,5 +7,6 @@ pub mod InOrder
 pub mod Placed
 pub mod Within
 pub mod SameForm
+pub mod Shaped
 pub mod Spelled
 pub mod Reach

@@ -2,7 +2,7 @@
 use Rattle.std.proofs.Common.{◌≡◌, refl, ℕ, Bool, List, [], ◌∷◌, List as Row, Some, None}
 use Rattle.shtree.specs.declared.tree.Span.{Span}
 use Rattle.shtree.specs.Tree.{AJoin, Entries, no_entry, more_entries, AnEntry, entry, command, remark, AnAndOr, and_or, AndOrParts, no_and_or, more_and_or, APipeline, pipeline, PipelineParts, no_pipe, more_pipes, ACommand, simple, compound, function, ACompound, formed, AForm, brace, subshell, if_then, while_do, until_do, for_in, case_in, ABranch, branch, Branches, no_branch, more_branches, Otherwise, no_else, otherwise, ForWords, no_in, in_words, CaseItems, no_case, more_cases, ACaseItem, case_item, Patterns, no_pattern, more_patterns, Items, no_item, more_items, AnItem, item, AnItemContent, assign, argument, redirect, AWord, word, Substs, no_subst, more_substs, ASubst, subst}
-use Rattle.shtree.specs.Normal.{is_blank_entry, first_not_blank, is_broken, first_not_broken, broken_by, is_normal_join, is_command, holds_command, is_whole, are_normal, is_normal_entry, is_normal_and_or, are_normal_and_ors, is_normal_pipeline, are_normal_pipes, is_normal_command, is_normal_compound, is_normal_form, is_normal_branch, are_normal_branches, is_normal_else, are_normal_words, are_normal_cases, is_normal_case, are_normal_patterns, are_normal_items, is_normal_item, is_normal_content, is_normal_word, are_normal_substs, is_normal_subst, is_normal}
+use Rattle.shtree.specs.Normal.{first_not_blank, first_not_broken, broken_by, is_normal_join, is_command, holds_command, is_whole, are_normal, is_normal_entry, is_normal_and_or, are_normal_and_ors, is_normal_pipeline, are_normal_pipes, is_normal_command, is_normal_compound, is_normal_form, is_normal_branch, are_normal_branches, is_normal_else, are_normal_words, are_normal_cases, is_normal_case, are_normal_patterns, are_normal_items, is_normal_item, is_normal_content, is_normal_word, are_normal_substs, is_normal_subst, is_normal}
 use Rattle.shtree.specs.Shape.{shape_of, shape_of_comments, shape_of_join, shape_of_entry, shape_of_and_or, shape_of_and_or_parts, shape_of_pipeline, shape_of_pipes, shape_of_command, shape_of_compound, shape_of_form, shape_of_branch, shape_of_branches, shape_of_else, shape_of_for_words, shape_of_cases, shape_of_case, shape_of_patterns, shape_of_items, shape_of_item, shape_of_item_content, shape_of_word, shape_of_substs, shape_of_subst}
 
 module _ (B : List ℕ) where

@@ -1,7 +1,7 @@
--- The shape of a tree: what a script is but for where its parts stand. In a shape each text stands in the place of its span, and no
--- other span is kept. So two scripts have one shape where they differ in nothing but blanks, newlines, `;` and continuations between
--- their tokens, or where a newline, an empty line or a continuation that the tree tells stands in both.
-use Rattle.std.specs.Prelude.{ℕ, ◌-◌, ◌==◌, ◌&&◌, List, [], ◌∷◌, List as Row, map, take, drop, Option, option_map, None, Some, if◌then◌else◌}
+-- The shape of a tree: all that a tree says of a script, but for where it stands. The bytes of a word, a name, a comment and the body
+-- of a here-document stand in the place of their span, as they are; those of a number stand there without continuations; of any other
+-- span it is left only that something stands there.
+use Rattle.std.specs.Prelude.{ℕ, ◌-◌, ◌==◌, ◌&&◌, List, [], ◌∷◌, List as Row, map, take, drop, Option, option_map, if◌then◌else◌}
 use Rattle.shtree.specs.declared.tree.Span.{Span}
 use Rattle.shtree.specs.Tree.{AJoinOf, AJoin, AHereOf, AHere, EntriesOf, Entries, no_entry, more_entries, AnEntryOf, AnEntry, entry, AContentOf, AContent, command, remark, AnAndOrOf, AnAndOr, and_or, AndOrPartsOf, AndOrParts, no_and_or, more_and_or, APipelineOf, APipeline, pipeline, PipelinePartsOf, PipelineParts, no_pipe, more_pipes, ACommandOf, ACommand, simple, compound, function, ACompoundOf, ACompound, formed, AFormOf, AForm, brace, subshell, if_then, while_do, until_do, for_in, case_in, ABranchOf, ABranch, branch, BranchesOf, Branches, no_branch, more_branches, OtherwiseOf, Otherwise, no_else, otherwise, ForWordsOf, ForWords, no_in, in_words, CaseItemsOf, CaseItems, no_case, more_cases, ACaseItemOf, ACaseItem, case_item, PatternsOf, Patterns, no_pattern, more_patterns, ItemsOf, Items, no_item, more_items, AnItemOf, AnItem, item, AnItemContentOf, AnItemContent, assign, argument, redirect, AWordOf, AWord, word, SubstsOf, Substs, no_subst, more_substs, ASubstOf, ASubst, subst, AnAndOrPartOf, AnAndOrPart, APipelinePartOf, APipelinePart}
 
@@ -34,6 +34,9 @@ Shape Part = Part Text (Unit {0})
 -- that something stands here, and not where
 abbrev pub shape_of_mark : Span → Unit {0}
 shape_of_mark s = tt
+
+abbrev pub shape_of_bang : Option Span → Option (Unit {0})
+shape_of_bang bang = option_map shape_of_mark bang
 
 -- ---- the shape of each part of a tree over these bytes
 
@@ -72,7 +75,7 @@ module _ (B : List ℕ) where
     shape_of_and_or_parts (more_and_or operator join p ps) = more_and_or operator (shape_of_join join) (shape_of_pipeline p) (shape_of_and_or_parts ps)
 
     pub shape_of_pipeline : APipeline → Shape APipelineOf
-    shape_of_pipeline (pipeline bang first rest) = pipeline (option_map shape_of_mark bang) (shape_of_command first) (shape_of_pipes rest)
+    shape_of_pipeline (pipeline bang first rest) = pipeline (shape_of_bang bang) (shape_of_command first) (shape_of_pipes rest)
 
     pub shape_of_pipes : PipelineParts → Shape PipelinePartsOf
     shape_of_pipes no_pipe = no_pipe

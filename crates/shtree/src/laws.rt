@@ -11,15 +11,15 @@ pub fn normal_form()
     ensures blank_first { (what : AContent) (background : Bool) (comment : Option Span) →
         is_normal (alone (entry what background true comment)) ≡ false }
     ensures comment_in_background { (c : Span) (comment : Option Span) →
-        is_normal (alone (entry (remark c) true false comment)) ≡ false }
+        is_normal {M = Span} (alone (entry (remark c) true false comment)) ≡ false }
     ensures comment_with_comment { (c d : Span) (background : Bool) →
-        is_normal (alone (entry (remark c) background false (Some d))) ≡ false }
+        is_normal {M = Span} (alone (entry (remark c) background false (Some d))) ≡ false }
     ensures broken_first_item { (what : AnItemContent) (items : Items) →
         is_normal (alone (of_command (simple (more_items (item true what) items)))) ≡ false }
     ensures unbroken_join { (c : Span) (cs : Row Span) (one two : ACommand) →
         is_normal (alone (joined (record { broken = false; comments = c ∷ cs }) one two)) ≡ false }
     ensures empty_group { (span : Span) →
-        is_normal (alone (of_command (compound (formed (brace no_entry) span no_item)))) ≡ false }
+        is_normal {T = Span} (alone (of_command (compound (formed (brace no_entry) span no_item)))) ≡ false }
     ensures group_of_a_comment { (c span : Span) (comment : Option Span) →
         is_normal (alone (of_command (compound (formed (brace (alone (entry (remark c) false false comment))) span no_item)))) ≡ false }
 {}
