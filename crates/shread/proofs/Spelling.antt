@@ -1,4 +1,4 @@
--- The tokens passed where a faultless script is read are those that its tree spells.
+-- The tokens passed where a faultless script is read are those that the shape of its tree spells.
 use Rattle.std.proofs.Common.{◌≡◌, ◌∙◌, refl, sym, ap, subst, ℕ, zero, suc, ◌+◌, ◌-◌, Bool, true, false, Ok, Err, List, List as Row, [], ◌∷◌, ◌++◌, drop, take, codes, Option, Some, None, arith}
 use Rattle.std.proofs.lemmas.List.{append-nil, append_assoc, drop-drop}
 use Rattle.shread.specs.declared.token.Closing.{Closing}
@@ -491,6 +491,6 @@ module _ (B : List ℕ) where
   lines_spelled so p s m (last_line es t k part) none = entries_joined B so.entries es ∙ ap (λ z. spelling (shape_of B (entries_of so.entries)) ++ z) (sym (line_spelled _ p es false t k part))
   lines_spelled so p s m (faulty f k part) none = absurd cc
 
--- the tokens passed in a faultless script are those that its tree spells
+-- the tokens passed in a faultless script are those that the shape of its tree spells
 pub script_spelled : (B : List ℕ) (s : AScript) → s.wrong ≡ None → (k : Row Spelled) → Passes B s k → k ≡ spelling (shape_of B s.entries)
 script_spelled B s none k passes = sym (lines_spelled B nothing_yet 0 s k passes none)

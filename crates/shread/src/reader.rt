@@ -104,7 +104,7 @@ impl Reader {
         ensures outcome { IfOk result (λ script. Outcome (S.bytes source.now) (view_script script)) }
         ensures only { IfOk result (λ script. (a : AScript) → Outcome (S.bytes source.now) a → a ≡ view_script script) }
         ensures normal { IfOk result (λ script. is_normal (view_script script).entries ≡ true) }
-        // The tokens passed in a script without a fault are those that its tree spells.
+        // The tokens passed in a script without a fault are those that the shape of its tree spells.
         ensures spelling { IfOk result (λ script. script.fault ≡ None → (k : Row Spelled) →
             Passes (S.bytes source.now) (view_script script) k → k ≡ spelling (shape_of (S.bytes source.now) (view_script script).entries)) }
         // No node of the list names an offset above the length.
