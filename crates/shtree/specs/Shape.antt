@@ -3,7 +3,7 @@
 -- span it is left only that something stands there.
 use Rattle.std.specs.Prelude.{ℕ, ◌-◌, ◌==◌, ◌&&◌, List, [], ◌∷◌, List as Row, map, take, drop, Option, option_map, if◌then◌else◌}
 use Rattle.shtree.specs.declared.tree.Span.{Span}
-use Rattle.shtree.specs.Tree.{AJoinOf, AJoin, AHereOf, AHere, EntriesOf, Entries, no_entry, more_entries, AnEntryOf, AnEntry, entry, AContentOf, AContent, command, remark, AnAndOrOf, AnAndOr, and_or, AndOrPartsOf, AndOrParts, no_and_or, more_and_or, APipelineOf, APipeline, pipeline, PipelinePartsOf, PipelineParts, no_pipe, more_pipes, ACommandOf, ACommand, simple, compound, function, ACompoundOf, ACompound, formed, AFormOf, AForm, brace, subshell, if_then, while_do, until_do, for_in, case_in, ABranchOf, ABranch, branch, BranchesOf, Branches, no_branch, more_branches, OtherwiseOf, Otherwise, no_else, otherwise, ForWordsOf, ForWords, no_in, in_words, CaseItemsOf, CaseItems, no_case, more_cases, ACaseItemOf, ACaseItem, case_item, PatternsOf, Patterns, no_pattern, more_patterns, ItemsOf, Items, no_item, more_items, AnItemOf, AnItem, item, AnItemContentOf, AnItemContent, assign, argument, redirect, AWordOf, AWord, word, SubstsOf, Substs, no_subst, more_substs, ASubstOf, ASubst, subst, AnAndOrPartOf, AnAndOrPart, APipelinePartOf, APipelinePart}
+use Rattle.shtree.specs.Tree.{AJoinOf, AJoin, AHereOf, AHere, EntriesOf, Entries, no_entry, more_entries, AnEntryOf, AnEntry, entry, AContentOf, AContent, command, remark, AnAndOrOf, AnAndOr, and_or, AndOrPartsOf, AndOrParts, no_and_or, more_and_or, APipelineOf, APipeline, pipeline, PipelinePartsOf, PipelineParts, no_pipe, more_pipes, ACommandOf, ACommand, simple, compound, function, ACompoundOf, ACompound, formed, AFormOf, AForm, brace, subshell, if_then, while_do, until_do, for_in, case_in, ABranchOf, ABranch, branch, BranchesOf, Branches, no_branch, more_branches, OtherwiseOf, Otherwise, no_else, otherwise, ForWordsOf, ForWords, no_in, in_words, CaseItemsOf, CaseItems, no_case, more_cases, ACaseItemOf, ACaseItem, case_item, PatternsOf, Patterns, no_pattern, more_patterns, ItemsOf, Items, no_item, more_items, AnItemOf, AnItem, item, AnItemContentOf, AnItemContent, assign, argument, redirect, AWordOf, AWord, word, SubstsOf, Substs, no_subst, more_substs, ASubstOf, ASubst, subst}
 
 -- ---- texts
 
@@ -147,11 +147,3 @@ module _ (B : List ℕ) where
 
     pub shape_of_subst : ASubst → Shape ASubstOf
     shape_of_subst (subst entries span) = subst (shape_of entries) (shape_of_mark span)
-
--- ---- the parts that stand in rows
-
-abbrev pub shape_of_and_or_part : List ℕ → AnAndOrPart → Shape AnAndOrPartOf
-shape_of_and_or_part B p = record { operator = p.operator; join = shape_of_join B p.join; pipeline = shape_of_pipeline B p.pipeline }
-
-abbrev pub shape_of_pipeline_part : List ℕ → APipelinePart → Shape APipelinePartOf
-shape_of_pipeline_part B p = record { join = shape_of_join B p.join; command = shape_of_command B p.command }
