@@ -7,9 +7,11 @@ pub mod Scripts
 pub mod Alike
 pub mod FirstFault
 pub mod NormalForm
+pub mod NoSubsts
 pub mod Within
 pub mod Answered
 pub mod Stretches
+pub mod Runs
 pub mod Places
 pub mod Unbroken
 pub mod Shown
@@ -27,3 +29,6 @@ pub mod Inside
 pub mod PiecesInside
 pub mod Anywhere
 pub mod Spelling
+pub mod CommentsElsewhere
+pub mod WordsWithin
+pub mod Elsewhere

@@ -1,14 +1,12 @@
 -- Bytes that are ordinary in a mode: each is a piece of its own.
-use Rattle.std.proofs.Common.{◌≡◌, ℕ, zero, suc, ◌+◌, ◌-◌, ◌<◌, ◌≤◌, ◌==◌, Bool, true, false, ◌||◌, not, Option, Some, None, Ok, slice_get, slice_index, get_or, List, List as Row, [], length, drop, refl, sym, ap, subst, ◌∙◌, arith, length-drop}
-use Rattle.std.proofs.lemmas.Option.{slice_get-get_or}
-use Rattle.shread.specs.Text.{IsRun}
+use Rattle.std.proofs.Common.{◌≡◌, ℕ, zero, suc, ◌+◌, ◌-◌, ◌<◌, ◌≤◌, ◌==◌, Bool, true, false, ◌||◌, not, Option, Some, None, Ok, slice_get, List, List as Row, [], length, refl, sym, ap, subst, ◌∙◌, arith}
 use Rattle.shread.specs.declared.fault.Stop.{Stop}
 use Rattle.shread.specs.declared.fault.Stop.TheVariants.{Memory, Wrong}
 use Rattle.shread.specs.declared.mode.Mode.{Mode}
 use Rattle.shread.specs.declared.mode.Mode.TheVariants.{Plain, Double, Brace, DoubleBrace, Arith}
 use Rattle.shread.specs.declared.mode.Piece.TheVariants as pieces
 use Rattle.shread.specs.Standing.{raw_in, passes}
-use Rattle.shread.specs.Bytes.{ends, ends_word, byte_at, behind}
+use Rattle.shread.specs.Bytes.{ends, ends_word, byte_at, behind, past_continuations}
 use Rattle.shread.specs.Pieces.{piece_by, piece_at, past_closer}
 use Rattle.shread.specs.Comments.{span}
 use Rattle.shread.specs.Clauses.{Fails}
@@ -21,29 +19,9 @@ use Rattle.shtree.specs.Tree.{ASubst, word, no_subst, substs_of}
 use Rattle.std.proofs.lemmas.Bool.Decides.{nat_tests}
 use Rattle.shread.proofs.Turns.{many_again, many_done, many_stop}
 use Rattle.shread.proofs.Places.{word_longer}
-use Rattle.shread.proofs.Stretches.{get_drop}
+use Rattle.shread.proofs.Stretches.{place_low}
 use Rattle.shread.proofs.Unbroken.{stays}
 use Rattle.shread.proofs.Levels.{level_below}
-
--- ---- a stretch of a source
-
-pub run_within : (B : List ℕ) (base at n : ℕ) (run : List ℕ) → IsRun B (base + at) run → base ≤ length B → at ≤ length (drop base B) → n ≤ length run → at + n ≤ length (drop base B)
-run_within B base at n run is low within short =
-    let whole : length (drop base B) ≡ length B - base = length-drop base B in
-    let high : base + at + length run ≤ length B = is.short (omega (arith, whole)) in
-    omega (arith, whole, high)
-
-pub run_plain : (mode : Mode) (B : List ℕ) (base at n : ℕ) (run : List ℕ) → IsRun B (base + at) run → base ≤ length B → at ≤ length (drop base B) → n ≤ length run
-    → ((k : ℕ) → k < n → is_plain mode (slice_index run k) ≡ true) → ArePlain mode (drop base B) at (at + n)
-unfolding raw_in
-run_plain mode B base at n run is low within short plain k k_low k_high =
-    let whole : length (drop base B) ≡ length B - base = length-drop base B in
-    let high : base + at + length run ≤ length B = is.short (omega (arith, whole)) in
-    let below : k - at < n = omega (arith, k_low, k_high) in
-    let there : base + at + (k - at) ≡ base + k = omega (arith, k_low) in
-    let byte : get_or B (base + k) 0 ≡ get_or run (k - at) 0 = ap (λ i. get_or B i 0) (sym there) ∙ is.same (k - at) (omega (arith, below)) in
-    let some : slice_get (drop base B) k ≡ Some (get_or B (base + k) 0) = get_drop base B k ∙ slice_get-get_or B (base + k) 0 (omega (arith, high, below, k_low)) in
-    rw some (ap (is_plain mode) byte ∙ plain (k - at) below)
 
 -- ---- a plain byte
 
@@ -63,7 +41,14 @@ others a b c d none =
     let one = or_parts _ _ two.0 in
     (one.0, one.1, two.1, three.1)
 
-ordinary_by : (T : List ℕ) (p : ℕ) (mode : Mode) (n b : ℕ) → is_plain mode b ≡ true → piece_by T p mode n (Some b) ≡ pieces.Ordinary
+-- no word ends before it
+pub plain_stays : (b : ℕ) → is_plain Plain b ≡ true → ends (Some b) ≡ false
+plain_stays b plain =
+    let q = others (b == 92) (b == 96) (b == 36) (is_special_in Plain b) plain in
+    let double = or_parts (ends (Some b) || b == 39) (b == 34) q.3 in
+    (or_parts (ends (Some b)) (b == 39) double.0).0
+
+pub ordinary_by : (T : List ℕ) (p : ℕ) (mode : Mode) (n b : ℕ) → is_plain mode b ≡ true → piece_by T p mode n (Some b) ≡ pieces.Ordinary
 ordinary_by T p Plain n b plain =
     let q = others (b == 92) (b == 96) (b == 36) (is_special_in Plain b) plain in
     let double = or_parts (ends (Some b) || b == 39) (b == 34) q.3 in
@@ -184,19 +169,40 @@ module _ (inner : Inner) (keep : Bool) (g : Given) (mode : Mode) (b : ℕ) where
   plain_closed ss p q plain low high end =
       ap given_by (plain_turns (having 0 ss) p q plain low high ∙ many_done (a_piece inner mode b) keep g (having 0 ss) (having 0 ss) (standing q) (standing (past_closer g.text mode q)) (rw end refl))
 
+  ordinary_piece : (h : Held) (p : ℕ) → piece_at g.text mode h.nested p ≡ pieces.Ordinary → turn h (standing p) ≡ Ok (again h, standing (past_continuations g.text p + 1))
+  unfolding a_piece behind
+  ordinary_piece h p ordinary = rw ordinary refl
+
+  -- an ordinary byte, and the plain ones behind it
+  pub ordinary_contents : (ss : Row ASubst) (p q : ℕ) → piece_at g.text mode 0 p ≡ pieces.Ordinary → ArePlain mode g.text (past_continuations g.text p + 1) q
+      → past_continuations g.text p + 1 ≤ q → q ≤ length g.text → does (contents inner mode b ss) keep g (standing p) ≡ does (contents inner mode b ss) keep g (standing q)
+  unfolding contents
+  ordinary_contents ss p q ordinary plain low high =
+      let h = having 0 ss in
+      let r = past_continuations g.text p + 1 in
+      ap given_by (many_again (a_piece inner mode b) keep g h h (standing p) (standing r) (ordinary_piece h p ordinary) (omega (arith, place_low g.text p)) (omega (arith, low, high))
+      ∙ plain_turns h r q plain low high)
+
   -- plain bytes, and what stands behind them
   pub plain_contents : (ss : Row ASubst) (p q : ℕ) → ArePlain mode g.text p q → p ≤ q → q ≤ length g.text
       → does (contents inner mode b ss) keep g (standing p) ≡ does (contents inner mode b ss) keep g (standing q)
   unfolding contents
   plain_contents ss p q plain low high = ap given_by (plain_turns (having 0 ss) p q plain low high)
 
--- a construct of plain bytes, by how many more may be opened
-pub plain_construct : (room : ℕ) (keep : Bool) (T : List ℕ) (o : ℕ) (mode : Mode) (b : ℕ) (ss : Row ASubst) (p q : ℕ) → 0 < room → ArePlain mode T p q → p ≤ q → q ≤ length T
-    → piece_at T mode 0 q ≡ pieces.Closer → does ((level room).construct mode b ss) keep (given T o) (standing p) ≡ Ok (ss, standing (past_closer T mode q))
-plain_construct room keep T o mode b ss p q some plain low high end =
-    level_below keep (given T o) (standing p) room mode b ss some ∙ plain_closed (level (room - 1)) keep (given T o) mode b ss p q plain low high end
+-- what closes a construct
+pub closed_here : (inner : Inner) (keep : Bool) (T : List ℕ) (o : ℕ) (mode : Mode) (b : ℕ) (ss : Row ASubst) (q : ℕ) → q ≤ length T → piece_at T mode 0 q ≡ pieces.Closer
+    → does (contents inner mode b ss) keep (given T o) (standing q) ≡ Ok (ss, standing (past_closer T mode q))
+closed_here inner keep T o mode b ss q high end =
+    plain_closed inner keep (given T o) mode b ss q q (λ k low below. absurd (omega (arith, low, below))) (omega arith) high end
 
--- plain bytes at its begin
+-- an ordinary byte, and the plain ones behind it
+pub ordinary_here : (inner : Inner) (keep : Bool) (T : List ℕ) (o : ℕ) (mode : Mode) (b : ℕ) (ss : Row ASubst) (p q : ℕ) → piece_at T mode 0 p ≡ pieces.Ordinary
+    → ArePlain mode T (past_continuations T p + 1) q → past_continuations T p + 1 ≤ q → q ≤ length T
+    → does (contents inner mode b ss) keep (given T o) (standing p) ≡ does (contents inner mode b ss) keep (given T o) (standing q)
+ordinary_here inner keep T o mode b ss p q piece plain low high =
+    ordinary_contents inner keep (given T o) mode b ss p q piece plain low high
+
+-- plain bytes at the begin of a construct, by how many more may be opened
 pub plain_begin : (room : ℕ) (keep : Bool) (T : List ℕ) (o : ℕ) (mode : Mode) (b : ℕ) (ss : Row ASubst) (p q : ℕ) → 0 < room → ArePlain mode T p q → p ≤ q → q ≤ length T
     → does ((level room).construct mode b ss) keep (given T o) (standing p) ≡ does (contents (level (room - 1)) mode b ss) keep (given T o) (standing q)
 plain_begin room keep T o mode b ss p q some plain low high =

@@ -48,7 +48,7 @@ impl<'a, S: Source> Cursor<'a, S> {
         let Token::Newline = next.token else {
             return false;
         };
-        self.bump();
+        self.step();
         *next = self.next_token(Position::Command);
         true
     }
@@ -64,7 +64,7 @@ impl<'a, S: Source> Cursor<'a, S> {
         ensures same { Stays self.old self.new }
     {
         let separator = next.token.separator()?;
-        self.bump();
+        self.step();
         *next = self.next_token(Position::Command);
         Some(separator)
     }

@@ -90,6 +90,20 @@ impl<'a, S: Source> Cursor<'a, S> {
         self.at = self.behind(self.at);
     }
 
+    /// The same, where no continuation stands: at the first byte of a token.
+    #[inline(always)]
+    #[tactic(auto, unfolding(crate::specs::Bytes::behind))]
+    pub(crate) fn step(&mut self)
+        requires still { past_continuations (text_of S.bytes self.old) self.old.at ≡ self.old.at }
+        requires some { IsRead (text_of S.bytes self.old) self.old.at }
+        ensures value { self.new.at ≡ behind (text_of S.bytes self.old) self.old.at }
+        ensures onward { self.old.at < self.new.at }
+        ensures past { past_continuations (text_of S.bytes self.old) self.old.at < self.new.at }
+        ensures same { Stays self.old self.new }
+    {
+        self.at += 1;
+    }
+
     /// Whether this byte is read at a place.
     #[inline(always)]
     #[tactic(auto, unfolding(crate::specs::Bytes::stands))]
@@ -174,22 +188,20 @@ impl<'a, S: Source> Cursor<'a, S> {
         at
     }
 
-    /// To where the next token begins. Answers whether a continuation stands among the blanks before it.
+    /// The place where the next token begins, and whether a continuation stands among the blanks before it.
     #[inline(always)]
     #[tactic(auto, unfolding(crate::specs::Bytes::is_broken_at), using(crate::proofs::Unbroken::blanks_whole, crate::proofs::Unbroken::blanks_on, crate::proofs::Unbroken::blanks_stop_raw))]
-    pub(crate) fn skip_blanks(&mut self) -> bool
-        ensures broken { result ≡ is_broken_at (text_of S.bytes self.old) self.old.at }
-        ensures value { self.new.at ≡ past_blanks (text_of S.bytes self.old) self.old.at }
-        ensures inside { self.old.at ≤ self.new.at }
-        ensures same { Stays self.old self.new }
+    pub(crate) fn past_blanks(&self, from: usize) -> (usize, bool)
+        requires { from ≤ length (text_of S.bytes self.now) }
+        ensures place { result.0 ≡ past_blanks (text_of S.bytes self.now) from }
+        ensures broken { result.1 ≡ is_broken_at (text_of S.bytes self.now) from }
+        ensures inside { (from ≤ result.0) × (result.0 ≤ length (text_of S.bytes self.now)) }
     {
-        let end = self.raw_past(self.at, Class::Blank);
-        self.at = end;
+        let end = self.raw_past(from, Class::Blank);
         if !self.continues(end) {
-            return false;
+            return (end, false);
         }
-        self.at = self.place(self.past_joined(end, Class::Blank));
-        true
+        (self.place(self.past_joined(end, Class::Blank)), true)
     }
 
     /// Whether a word ends at a place.

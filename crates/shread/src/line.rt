@@ -29,7 +29,7 @@ impl<'a, S: Source> Cursor<'a, S> {
     {
         match next.token {
             Token::Newline => {
-                self.bump();
+                self.step();
                 Ok(true)
             }
             Token::End => Ok(false),

@@ -89,7 +89,7 @@ impl<'a, S: Source> Cursor<'a, S> {
 
     /// All of them.
     #[cycle(commands)]
-    #[tactic(auto, using(crate::proofs::Turns::many_again, crate::proofs::Turns::many_done, crate::proofs::Turns::many_stop))]
+    #[tactic(auto, using(crate::proofs::Turns::many_again, crate::proofs::Turns::many_done, crate::proofs::Turns::many_stop, crate::proofs::Turns::last_entry))]
     fn entries(
         &mut self,
         alloc: Global,
@@ -104,7 +104,7 @@ impl<'a, S: Source> Cursor<'a, S> {
         ensures onward { IfOk result (λ done. self.old.at ≤ self.new.at) }
         ensures same { Stays self.old self.new }
     {
-        'turns: while self.next_entry(alloc, next, listed, room)? {}
+        'turns: while self.next_entry(alloc, next, listed, room)? && next.token.begins_pipeline() {}
         Ok(())
     }
 

@@ -1,5 +1,5 @@
 //! Tokens: what may begin where one begins (XCU 2.3, 2.4, 2.10.1).
-ghost use Rattle.std.specs.Prelude.{◌≡◌, ◌<◌, ◌≤◌, [], ◌∷◌, IfSome, None, Some, false, true, if◌then◌else◌};
+ghost use Rattle.std.specs.Prelude.{◌≡◌, ◌<◌, ◌≤◌, [], ◌∷◌, IfSome, None, Some, false, true, if◌then◌else◌, length};
 ghost use Rattle.shread.specs.Bytes.{past_blanks, past_continuations};
 ghost use Rattle.shread.specs.Classes.{in_class};
 ghost use Rattle.shread.specs.Clauses.{IsRead, Shows, Stays, text_of};
@@ -8,13 +8,13 @@ ghost use Rattle.shread.specs.Compounds.{is_closing};
 ghost use Rattle.shread.specs.Tokens.{begins_assignment, first_of_words, is_end, is_number, is_word_at, next_at, past_reserved, reserved_at, token_at, word_by};
 
 use crate::cursor::Cursor;
-use crate::plain::{begins_a_word, is_in_names};
+use crate::plain::{begins_a_word, ends_words, is_in_names};
 use crate::source::Source;
 use shtree::AndOrOperator;
 
 /// What begins at a place that no blank stands at (XCU 2.3, 2.10.1).
 #[derive(Clone, Copy)]
-pub(crate) enum Token {
+pub enum Token {
     /// The end of the text.
     End,
     Newline,
@@ -140,7 +140,7 @@ impl Token {
 
 /// The reserved words (XCU 2.4).
 #[derive(Clone, Copy)]
-pub(crate) enum Reserved {
+pub enum Reserved {
     /// `!`
     Bang,
     /// `{`
@@ -164,7 +164,7 @@ pub(crate) enum Reserved {
 
 /// What opens a compound command (XCU 2.9.4).
 #[derive(Clone, Copy)]
-pub(crate) enum Opener {
+pub enum Opener {
     /// `{`
     Brace,
     /// `(`
@@ -176,7 +176,7 @@ pub(crate) enum Opener {
 
 /// What parts or closes the lists of a compound command (XCU 2.9.4).
 #[derive(Clone, Copy)]
-pub(crate) enum Closing {
+pub enum Closing {
     /// `}`
     Brace,
     /// `)`
@@ -191,7 +191,7 @@ pub(crate) enum Closing {
 
 /// Where in a simple command a token stands, which decides what a word may be there (XCU 2.4, 2.10.2).
 #[derive(Clone, Copy, PartialEq, Eq)]
-pub(crate) enum Position {
+pub enum Position {
     /// Where a command may begin: a word may be reserved, or an assignment.
     Command,
     /// Behind an assignment: a word may be one more.
@@ -202,15 +202,15 @@ pub(crate) enum Position {
 
 /// The token that begins here, told once and handed on.
 #[derive(Clone, Copy)]
-pub(crate) struct Next {
-    pub(crate) token: Token,
+pub struct Next {
+    pub token: Token,
     /// A continuation stands before it.
-    pub(crate) broken: bool,
+    pub broken: bool,
 }
 
 /// What parts two and-or lists of a line (XCU 2.9.3).
 #[derive(Clone, Copy)]
-pub(crate) enum Separator {
+pub enum Separator {
     Semicolon,
     Ampersand,
 }
@@ -237,32 +237,41 @@ impl Class {
 }
 
 impl<'a, S: Source> Cursor<'a, S> {
-    /// Whether the word that is spelled so stands here. Most often no continuation stands in it.
+    /// Whether the word that is spelled so stands at a place. Most often no continuation stands in it.
     #[inline(always)]
-    #[tactic(auto, using(crate::proofs::Stretches::letter_more, crate::proofs::Stretches::letter_other, crate::proofs::Stretches::word_whole))]
-    fn is_word(&self, word: &[u8]) -> bool
-        ensures { result ≡ is_word_at (text_of S.bytes self.now) self.now.at word.now }
+    #[tactic(auto, using(crate::proofs::Runs::run_letter_more, crate::proofs::Runs::run_letter_other, crate::proofs::Runs::run_word_whole))]
+    fn is_word(&self, from: usize, word: &[u8]) -> bool
+        requires { from ≤ length (text_of S.bytes self.now) }
+        ensures { result ≡ is_word_at (text_of S.bytes self.now) from word.now }
     {
-        let mut at = self.at;
-        'letters: for letter in word {
-            if self.raw_stands(at, b'\\') {
-                return self.is_broken_word(word);
+        let run = self.source.run(self.base + from);
+        if run.len() <= word.len() {
+            return self.is_broken_word(from, word);
+        }
+        'letters: for (index, letter) in word.iter().enumerate() {
+            let byte = run[index];
+            if byte == b'\\' {
+                return self.is_broken_word(from, word);
             }
-            if !self.raw_stands(at, *letter) {
+            if byte != *letter {
                 return false;
             }
-            at += 1;
         }
-        self.ends_at(at)
+        let behind = run[word.len()];
+        if behind == b'\\' {
+            return self.is_broken_word(from, word);
+        }
+        ends_words(behind)
     }
 
-    /// The same, past continuations.
+    /// The same, past continuations and stretches of the source.
     #[cold]
     #[tactic(auto, using(crate::proofs::Stretches::word_more, crate::proofs::Stretches::word_other, crate::proofs::Stretches::word_whole))]
-    fn is_broken_word(&self, word: &[u8]) -> bool
-        ensures { result ≡ is_word_at (text_of S.bytes self.now) self.now.at word.now }
+    fn is_broken_word(&self, from: usize, word: &[u8]) -> bool
+        requires { from ≤ length (text_of S.bytes self.now) }
+        ensures { result ≡ is_word_at (text_of S.bytes self.now) from word.now }
     {
-        let mut at = self.at;
+        let mut at = from;
         'letters: for letter in word {
             if !self.stands(at, *letter) {
                 return false;
@@ -272,46 +281,51 @@ impl<'a, S: Source> Cursor<'a, S> {
         self.ends_at(at)
     }
 
-    /// This reserved word, if it stands here.
+    /// This reserved word, if it stands at a place.
     #[inline(always)]
-    fn spelled(&self, word: &[u8], reserved: Reserved) -> Option<Reserved>
-        ensures { result ≡ (if is_word_at (text_of S.bytes self.now) self.now.at word.now then Some reserved else None) }
+    fn spelled(&self, at: usize, word: &[u8], reserved: Reserved) -> Option<Reserved>
+        requires { at ≤ length (text_of S.bytes self.now) }
+        ensures { result ≡ (if is_word_at (text_of S.bytes self.now) at word.now then Some reserved else None) }
     {
-        if self.is_word(word) {
+        if self.is_word(at, word) {
             Some(reserved)
         } else {
             None
         }
     }
 
-    /// This reserved word, or that one, if one of them stands here.
+    /// This reserved word, or that one, if one of them stands at a place.
     #[inline(always)]
     #[tactic(auto, unfolding(crate::specs::Tokens::first_of_words))]
     fn spelled_as(
         &self,
+        at: usize,
         word: &[u8],
         reserved: Reserved,
         other: &[u8],
         second: Reserved,
     ) -> Option<Reserved>
-        ensures { result ≡ first_of_words (text_of S.bytes self.now) self.now.at
+        requires { at ≤ length (text_of S.bytes self.now) }
+        ensures { result ≡ first_of_words (text_of S.bytes self.now) at
             ((word.now, reserved) ∷ (other.now, second) ∷ []) }
     {
-        if self.is_word(word) {
+        if self.is_word(at, word) {
             return Some(reserved);
         }
-        self.spelled(other, second)
+        self.spelled(at, other, second)
     }
 
-    /// The reserved word that stands here, if one does. Most words begin with a byte that begins none.
+    /// The reserved word that stands at a place, if one does. Most words begin with a byte that begins none.
     #[inline(always)]
     #[tactic(auto, unfolding(crate::specs::Tokens::reserved_words, crate::specs::Tokens::first_of_words, crate::specs::Tokens::is_word_at, crate::specs::Bytes::stands))]
-    fn reserved(&self) -> Option<Reserved>
-        ensures { result ≡ reserved_at (text_of S.bytes self.now) self.now.at }
+    fn reserved(&self, at: usize) -> Option<Reserved>
+        requires within { at ≤ length (text_of S.bytes self.now) }
+        requires still { past_continuations (text_of S.bytes self.now) at ≡ at }
+        ensures { result ≡ reserved_at (text_of S.bytes self.now) at }
     {
-        match self.byte() {
+        match self.raw_byte(at) {
             Some(b'!' | b'{' | b'}' | b'c' | b'd' | b'e' | b'f' | b'i' | b't' | b'u' | b'w') =>
-                self.reserved_by_letters(),
+                self.reserved_by_letters(at),
             _ => None,
         }
     }
@@ -319,26 +333,28 @@ impl<'a, S: Source> Cursor<'a, S> {
     /// The same. The first byte tells which word it may be.
     #[inline(never)]
     #[tactic(auto, unfolding(crate::specs::Tokens::reserved_words, crate::specs::Tokens::first_of_words, crate::specs::Tokens::is_word_at, crate::specs::Bytes::stands))]
-    fn reserved_by_letters(&self) -> Option<Reserved>
-        ensures { result ≡ reserved_at (text_of S.bytes self.now) self.now.at }
+    fn reserved_by_letters(&self, at: usize) -> Option<Reserved>
+        requires within { at ≤ length (text_of S.bytes self.now) }
+        requires still { past_continuations (text_of S.bytes self.now) at ≡ at }
+        ensures { result ≡ reserved_at (text_of S.bytes self.now) at }
     {
-        match self.byte() {
-            Some(b'!') => self.spelled(b"!", Reserved::Bang),
-            Some(b'{') => self.spelled(b"{", Reserved::OpenBrace),
-            Some(b'}') => self.spelled(b"}", Reserved::CloseBrace),
-            Some(b'c') => self.spelled(b"case", Reserved::Case),
-            Some(b'd') => self.spelled_as(b"do", Reserved::Do, b"done", Reserved::Done),
+        match self.raw_byte(at) {
+            Some(b'!') => self.spelled(at, b"!", Reserved::Bang),
+            Some(b'{') => self.spelled(at, b"{", Reserved::OpenBrace),
+            Some(b'}') => self.spelled(at, b"}", Reserved::CloseBrace),
+            Some(b'c') => self.spelled(at, b"case", Reserved::Case),
+            Some(b'd') => self.spelled_as(at, b"do", Reserved::Do, b"done", Reserved::Done),
             Some(b'e') => {
-                if self.is_word(b"elif") {
+                if self.is_word(at, b"elif") {
                     return Some(Reserved::Elif);
                 }
-                self.spelled_as(b"else", Reserved::Else, b"esac", Reserved::Esac)
+                self.spelled_as(at, b"else", Reserved::Else, b"esac", Reserved::Esac)
             }
-            Some(b'f') => self.spelled_as(b"fi", Reserved::Fi, b"for", Reserved::For),
-            Some(b'i') => self.spelled_as(b"if", Reserved::If, b"in", Reserved::In),
-            Some(b't') => self.spelled(b"then", Reserved::Then),
-            Some(b'u') => self.spelled(b"until", Reserved::Until),
-            Some(b'w') => self.spelled(b"while", Reserved::While),
+            Some(b'f') => self.spelled_as(at, b"fi", Reserved::Fi, b"for", Reserved::For),
+            Some(b'i') => self.spelled_as(at, b"if", Reserved::If, b"in", Reserved::In),
+            Some(b't') => self.spelled(at, b"then", Reserved::Then),
+            Some(b'u') => self.spelled(at, b"until", Reserved::Until),
+            Some(b'w') => self.spelled(at, b"while", Reserved::While),
             _ => None,
         }
     }
@@ -354,78 +370,83 @@ impl<'a, S: Source> Cursor<'a, S> {
         self.at = self.past(self.behind(self.at), Class::Name);
     }
 
-    /// Whether a NAME and `=` stand here. The `=` is asked for first, since most words have none.
+    /// Whether a NAME and `=` stand at a place. The `=` is asked for first, since most words have none.
     #[inline(always)]
     #[tactic(auto, unfolding(crate::specs::Tokens::begins_assignment, crate::specs::Bytes::stands_in))]
-    fn begins_assignment(&self) -> bool
-        ensures { result ≡ begins_assignment (text_of S.bytes self.now) self.now.at }
+    fn begins_assignment(&self, at: usize) -> bool
+        requires { at ≤ length (text_of S.bytes self.now) }
+        ensures { result ≡ begins_assignment (text_of S.bytes self.now) at }
     {
-        if !self.stands(self.past(self.at, Class::Name), b'=') {
+        if !self.stands(self.past(at, Class::Name), b'=') {
             return false;
         }
-        matches!(self.byte(), Some(b'a'..=b'z' | b'A'..=b'Z' | b'_'))
+        matches!(self.byte_at(at), Some(b'a'..=b'z' | b'A'..=b'Z' | b'_'))
     }
 
-    /// Whether digits that `<` or `>` follows stand here.
+    /// Whether digits that `<` or `>` follows stand at a place.
     #[inline(always)]
     #[tactic(auto, unfolding(crate::specs::Tokens::is_number))]
-    fn is_number(&self) -> bool
-        ensures { result ≡ is_number (text_of S.bytes self.now) self.now.at }
+    fn is_number(&self, at: usize) -> bool
+        requires { at ≤ length (text_of S.bytes self.now) }
+        ensures { result ≡ is_number (text_of S.bytes self.now) at }
     {
-        if !self.stands_in(self.at, Class::Digit) {
+        if !self.stands_in(at, Class::Digit) {
             return false;
         }
-        let end = self.past(self.at, Class::Digit);
+        let end = self.past(at, Class::Digit);
         self.stands(end, b'<') || self.stands(end, b'>')
     }
 
-    /// What the word here is in this position of a command.
+    /// What the word at a place is in this position of a command.
     #[inline(always)]
-    fn word_token(&self, position: Position) -> Token
-        ensures { result ≡ word_by position (text_of S.bytes self.now) self.now.at }
+    fn word_token(&self, at: usize, position: Position) -> Token
+        requires within { at ≤ length (text_of S.bytes self.now) }
+        requires still { past_continuations (text_of S.bytes self.now) at ≡ at }
+        ensures { result ≡ word_by position (text_of S.bytes self.now) at }
     {
         if position == Position::Suffix {
             return Token::Word;
         }
         if position == Position::Command {
-            if let Some(reserved) = self.reserved() {
+            if let Some(reserved) = self.reserved(at) {
                 return Token::Reserved(reserved);
             }
         }
-        if self.begins_assignment() {
+        if self.begins_assignment(at) {
             Token::Assignment
         } else {
             Token::Word
         }
     }
 
-    /// What begins here, where no blank stands.
+    /// What begins at a place where no blank stands.
     #[inline(always)]
     #[tactic(auto, unfolding(crate::specs::Tokens::token_at, crate::specs::Tokens::is_number, crate::specs::Bytes::behind, crate::specs::Bytes::stands, crate::specs::Bytes::stands_in))]
-    fn token(&self, position: Position) -> Token
-        requires { past_continuations (text_of S.bytes self.now) self.now.at ≡ self.now.at }
-        ensures { result ≡ token_at position (text_of S.bytes self.now) self.now.at }
+    fn token(&self, at: usize, position: Position) -> Token
+        requires within { at ≤ length (text_of S.bytes self.now) }
+        requires still { past_continuations (text_of S.bytes self.now) at ≡ at }
+        ensures { result ≡ token_at position (text_of S.bytes self.now) at }
     {
-        match self.raw_byte(self.at) {
+        match self.raw_byte(at) {
             None => Token::End,
-            Some(byte) if begins_a_word(byte) => self.word_token(position),
+            Some(byte) if begins_a_word(byte) => self.word_token(at, position),
             Some(b'\n') => Token::Newline,
             Some(b';') => {
-                if self.is_next(b';') {
+                if self.stands(self.behind(at), b';') {
                     Token::Operator
                 } else {
                     Token::Semicolon
                 }
             }
             Some(b'&') => {
-                if self.is_next(b'&') {
+                if self.stands(self.behind(at), b'&') {
                     Token::AndIf
                 } else {
                     Token::Ampersand
                 }
             }
             Some(b'|') => {
-                if self.is_next(b'|') {
+                if self.stands(self.behind(at), b'|') {
                     Token::OrIf
                 } else {
                     Token::Pipe
@@ -435,8 +456,8 @@ impl<'a, S: Source> Cursor<'a, S> {
             Some(b')') => Token::CloseParen,
             Some(b'<' | b'>') => Token::Operator,
             Some(b'#') => Token::Comment,
-            Some(b'0'..=b'9') if self.is_number() => Token::Number,
-            Some(_) => self.word_token(position),
+            Some(b'0'..=b'9') if self.is_number(at) => Token::Number,
+            Some(_) => self.word_token(at, position),
         }
     }
 
@@ -450,10 +471,9 @@ impl<'a, S: Source> Cursor<'a, S> {
         ensures inside { self.old.at ≤ self.new.at }
         ensures same { Stays self.old self.new }
     {
-        let broken = self.skip_blanks();
-        Next {
-            token: self.token(position),
-            broken,
-        }
+        let (at, broken) = self.past_blanks(self.at);
+        let token = self.token(at, position);
+        self.at = at;
+        Next { token, broken }
     }
 }

@@ -37,10 +37,11 @@ impl<'a, S: Source> Cursor<'a, S> {
         }
     }
 
-    /// A construct, from behind its opener to behind its closer. Most often it holds plain bytes alone.
+    /// A construct, from behind its opener to behind its closer. Most often it holds plain bytes alone, and in double
+    /// quotes a `$` before a name, which is ordinary: what takes every piece is called for the others.
     #[cycle(words)]
     #[inline(always)]
-    #[tactic(auto, using(crate::proofs::Levels::level_closed, crate::proofs::PlainBytes::plain_construct, crate::proofs::PlainBytes::plain_begin))]
+    #[tactic(auto, unfolding(crate::specs::Bytes::behind), using(crate::proofs::Levels::level_closed, crate::proofs::PlainBytes::plain_begin, crate::proofs::PlainBytes::closed_here, crate::proofs::PlainBytes::ordinary_here, crate::proofs::Stretches::place_low))]
     fn construct(&mut self, mode: Mode, opener: usize, room: usize) -> Result<(), Stop>
         requires { opener ≤ self.old.at }
         ensures value { Reads S.bytes self.old ((level room).construct mode (self.old.origin + opener) []) result
@@ -52,12 +53,20 @@ impl<'a, S: Source> Cursor<'a, S> {
             return Err(self.wrong_at(FaultKind::TooDeep, opener));
         }
         self.skip_plain(mode);
-        let here = self.place(self.at);
-        if self.piece(mode, 0, here) == Piece::Closer {
-            self.close(mode, here);
-            return Ok(());
+        'ordinary: loop {
+            let here = self.place(self.at);
+            match self.piece(mode, 0, here) {
+                Piece::Closer => {
+                    self.close(mode, here);
+                    return Ok(());
+                }
+                Piece::Ordinary if mode == Mode::Double => {
+                    self.at = here + 1;
+                    self.skip_plain(mode);
+                }
+                _ => return self.contents(mode, opener, room - 1),
+            }
         }
-        self.contents(mode, opener, room - 1)
     }
 
     /// A piece that holds no others, or the fault that it is.

@@ -1,5 +1,6 @@
 use Rattle.std.proofs.Common.{◌≤◌, length, drop, arith}
-use Rattle.shread.proofs.PlainBytes.{run_plain}
+use Rattle.shread.specs.Plain.{is_plain}
+use Rattle.shread.proofs.Runs.{run_all}
 use Rattle.shread.proofs.cursor.Cursor.skip_plain.Goals as goal
 
 pub returns-clause-plain : goal.returns-clause-plain
@@ -7,5 +8,5 @@ returns-clause-plain g c =
     let bytes = g.S.Source.bytes c.args.self.now.source.now in
     let low : c.args.self.now.base ≤ length bytes = omega arith in
     let within : c.args.self.now.at ≤ length (drop c.args.self.now.base bytes) = omega arith in
-    run_plain c.args.mode bytes c.args.self.now.base c.args.self.now.at c.plain_front.result c.run-run.result.now c.run-run.ensures low within
-    c.plain_front.ensures.within c.plain_front.ensures.plain
+    run_all bytes c.args.self.now.base c.args.self.now.at c.run-run.result.now c.run-run.ensures low within
+    (is_plain c.args.mode) c.plain_front.result c.plain_front.ensures.within c.plain_front.ensures.plain
