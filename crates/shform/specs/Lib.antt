@@ -1,4 +1,3 @@
 pub mod Device
-pub mod Message
 pub mod Report
 pub mod Words

@@ -5,7 +5,7 @@ use Rattle.shread.specs.Scripts.{FirstFault}
 use Rattle.shread.specs.Text.{line_of, column_of}
 use Rattle.shread.specs.declared.fault.Fault.{Fault}
 use Rattle.shform.specs.Device.{Writes}
-use Rattle.shform.specs.Message.{message_text}
+use Rattle.shprint.specs.Message.{message_text}
 use Rattle.shform.specs.declared.report.Stop.{Stop}
 use Rattle.shform.specs.declared.report.Stop.TheVariants.{Unreadable, TooLarge, Memory}
 

@@ -1,14 +1,13 @@
 //! The program `shform`, a checker of scripts of the POSIX shell: `shform check [FILE]`.
 //!
 //! Start with `run`, which takes the words, and `check_engine` in `engine`, which does the work over readers and writers: it reads
-//! the input whole, has its first fault from the reader, and tells it by `report`, in the words of `messages`. `device` holds
-//! the ends that remember how their devices fared, and `words` reads the command line.
+//! the input whole, has its first fault from the reader, and tells it by `report`. `device` holds the ends that remember how
+//! their devices fared, and `words` reads the command line.
 #![tactic(auto)]
 
 mod asked;
 mod device;
 mod engine;
-mod messages;
 #[cfg(test)]
 mod refused;
 mod report;

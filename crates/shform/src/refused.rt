@@ -2,7 +2,7 @@
 // the gate, each test runs once. They catch the wrong body `always_out_of_memory`, which no contract can.
 use crate::device::{Input, Output};
 use crate::engine::check_engine;
-use crate::messages::message;
+use shprint::message;
 use shread::{Fault, FaultKind};
 use std::alloc::{AllocError, Global};
 use std::io;

@@ -4,7 +4,7 @@ ghost use Rattle.shform.specs.Device.{Writes, held_of, output_failed};
 ghost use Rattle.shform.specs.Report.{IsTold, TellsFault};
 
 use crate::device::{Failed, Output};
-use crate::messages::message;
+use shprint::message;
 use shread::{Fault, Source, line_col_of};
 use std::alloc::Global;
 use std::io::Write;

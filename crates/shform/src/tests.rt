@@ -1,7 +1,6 @@
 // What no clause says: that calls succeed where nothing fails, that a failure of a device is told, and the texts.
 use crate::device::{Failed, Input, Output};
 use crate::engine::{LIMIT, check_engine};
-use crate::messages::message;
 use crate::words::settings;
 use clap::error::ErrorKind;
 use shread::{Fault, FaultKind};
@@ -455,46 +454,6 @@ fn output_that_is_full(rt: HostRuntime) {
     assert!(rt; output.write(b"abc") == Ok(2));
     assert!(rt; output.flush() == Ok(()) && !output.failed());
     assert!(rt; output.write(b"c") == Err(Failed) && output.failed());
-}
-
-#[test]
-fn messages(rt: HostRuntime) -> Result<(), Fail> {
-    for (kind, line) in [
-        (FaultKind::UnclosedSingle, "a:1:20: unclosed single quote\n"),
-        (FaultKind::UnclosedDouble, "a:1:20: unclosed double quote\n"),
-        (FaultKind::UnclosedBackquote, "a:1:20: unclosed backquote\n"),
-        (
-            FaultKind::UnclosedParam,
-            "a:1:20: unclosed parameter expansion\n",
-        ),
-        (
-            FaultKind::UnclosedArith,
-            "a:1:20: unclosed arithmetic expansion\n",
-        ),
-        (
-            FaultKind::BadArithClose,
-            "a:1:20: arithmetic expansion closed by one bracket\n",
-        ),
-        (
-            FaultKind::UnclosedSubst,
-            "a:1:20: unclosed command substitution\n",
-        ),
-        (FaultKind::LoneBackslash, "a:1:20: backslash at the end\n"),
-        (FaultKind::UnclosedHere, "a:1:20: unclosed here-document\n"),
-        (
-            FaultKind::BadHereWord,
-            "a:1:20: here-document word with an expansion\n",
-        ),
-        (FaultKind::Unexpected, "a:1:20: unexpected token\n"),
-        (FaultKind::UnexpectedEnd, "a:1:20: unexpected end\n"),
-        (FaultKind::BadForName, "a:1:20: bad name after for\n"),
-        (FaultKind::BadFunctionName, "a:1:20: bad function name\n"),
-        (FaultKind::TooDeep, "a:1:20: too many open constructs\n"),
-    ] {
-        let text = message(rt.alloc(), b"a", 1, 20, Fault { kind, at: 7 })?;
-        assert!(rt; text.as_slice() == line.as_bytes(), "{line}");
-    }
-    Ok(())
 }
 
 #[test]

@@ -50,10 +50,10 @@ word_told inner g s t w k part =
 same_front_of : (A B : List ℕ) (p q n r : ℕ) → take n (drop q B) ≡ take n (drop p A) → r < n → slice_get B (q + r) ≡ slice_get A (p + r)
 same_front_of A B p q n r same lt = sym (get_drop q B r) ∙ same_front n (drop p A) (drop q B) same r lt ∙ get_drop p A r
 
-abbrev from_to : ℕ → ℕ → ℕ → ℕ
+abbrev pub from_to : ℕ → ℕ → ℕ → ℕ
 from_to p q r = q + (r - p)
 
-kept : (T U : List ℕ) (p q n : ℕ) → take n (drop q U) ≡ take n (drop p T) → Kept T U p (p + n) (from_to p q)
+pub kept : (T U : List ℕ) (p q n : ℕ) → take n (drop q U) ≡ take n (drop p T) → Kept T U p (p + n) (from_to p q)
 kept T U p q n same = record {
   under = omega arith;
   on = λ r k from. omega (arith, from);
@@ -111,13 +111,13 @@ anywhere room g h p q n (w, part) same ender no_open =
     word_may room g h p q n same ender no_open v.0 v.1
 
 -- what waits, and the bodies, stay as they are
-abbrev Still : State → State → Type 0
+abbrev pub Still : State → State → Type 0
 Still s t = (t.waiting ≡ s.waiting) × (t.bodies ≡ s.bodies)
 
-abbrev Waits : {X : Type 0} → State → X → State → Type 0
+abbrev pub Waits : {X : Type 0} → State → X → State → Type 0
 Waits s x t = Still s t
 
-waits : {X : Type 0} (r : Form X) (keep : Bool) (g : Given) (s : State) → Tells keep g r (Waits s) s
+pub waits : {X : Type 0} (r : Form X) (keep : Bool) (g : Given) (s : State) → Tells keep g r (Waits s) s
 waits (give x) keep g s = record { told = (refl, refl) }
 waits (see f) keep g s = record { told = (refl, refl) }
 waits (move m) keep g s = record { told = (refl, refl) }
@@ -132,7 +132,7 @@ waits {X = X} (loop turn a) keep g s = tells_loop keep g turn (Waits s) (λ b t 
     turned t one (again c) u two = (two.0 ∙ one.0, two.1 ∙ one.1)
     turned t one (done c) u two = (two.0 ∙ one.0, two.1 ∙ one.1)
 
-state_is : (t : State) → t.waiting ≡ [] → t.bodies ≡ [] → t ≡ standing t.at
+pub state_is : (t : State) → t.waiting ≡ [] → t.bodies ≡ [] → t ≡ standing t.at
 state_is t one two = rw (← one, ← two) refl
 
 -- whatever the row of a word reads is a word

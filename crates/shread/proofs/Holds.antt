@@ -1,5 +1,5 @@
 -- What holds of whatever a form gives: the laws of forms, and that no form goes back.
-use Rattle.std.proofs.Common.{◌≡◌, ℕ, zero, suc, ◌+◌, ◌-◌, ◌≤◌, ◌<◌, Bool, true, false, cond, Ok, Err, List, length, refl, arith}
+use Rattle.std.proofs.Common.{◌≡◌, ℕ, zero, suc, ◌+◌, ◌-◌, ◌≤◌, ◌<◌, Bool, true, false, cond, Ok, Err, List, List as Row, [], ◌∷◌, ◌++◌, length, refl, arith}
 use Rattle.std.proofs.lemmas.Bool.{ltb-true, cond_both}
 use Rattle.shread.specs.declared.mode.Mode.{Mode}
 use Rattle.shread.specs.declared.mode.Mode.TheVariants.{Plain, Double, Brace, DoubleBrace, Arith}
@@ -9,7 +9,7 @@ use Rattle.shread.specs.Bytes.{behind}
 use Rattle.shread.specs.Comments.{span, past_comment}
 use Rattle.shread.specs.Pieces.{past_taken, past_closer}
 use Rattle.shread.specs.Sights.{Given, State, Sight, seen, Move, one_byte, joined, one_taken, the_closer, the_parameter, a_quote_on, in_backquotes_on, blanks, a_comment_on, the_reserved, to}
-use Rattle.shread.specs.Form.{Read, ◌▸◌, Form, give, see, move, push, stop, both, when, Told, token, loop, many, Step, again, done, leads_on, turns, does}
+use Rattle.shread.specs.Form.{Read, ◌▸◌, Form, give, see, move, push, stop, both, when, Told, token, loop, many, Step, again, done, leads_on, moved, turns, does}
 use Rattle.shread.proofs.Stretches.{place_low}
 use Rattle.shread.proofs.Places.{behind_low, blanks_low, next_in_backquotes_low, next_newline_low, next_of_low, parameter_low, reserved_low}
 use Rattle.shread.proofs.Turns.{turns_on, turns_rest, turns_done, turns_fault}
@@ -62,42 +62,77 @@ module _ (keep : Bool) (g : Given) where
       → ((a : X) (t : State) → P a t → Q (a, span g.offset s.at t.at) t) → Tells (token how r) Q s
   tells_token {P = P} {Q = Q} {r = r} {s = s} one so = record { told = token_by P Q s (does r keep g s) one.told so }
 
-  -- what a turn gives
-  abbrev pub Turned : {A : Type 0} → (A → State → Type 0) → Step A → State → Type 0
-  Turned P (again a) t = P a t
-  Turned P (done a) t = P a t
+  -- what a turn gives: R where it goes on, and Q where it was the last
+  abbrev pub Stepped : {A : Type 0} → (A → State → Type 0) → (A → State → Type 0) → Step A → State → Type 0
+  Stepped R Q (again a) t = R a t
+  Stepped R Q (done a) t = Q a t
 
-  module _ {A : Type 0} (turn : A → Form (Step A)) (P : A → State → Type 0) (each : (a : A) (s : State) → P a s → Tells (turn a) (Turned P) s) where
+  -- the same of both
+  abbrev pub Turned : {A : Type 0} → (A → State → Type 0) → Step A → State → Type 0
+  Turned P c t = Stepped P P c t
+
+  module _ {A : Type 0} (turn : A → Form (Step A)) (P R Q : A → State → Type 0) (each : (a : A) (s : State) → P a s → Tells (turn a) (Stepped R Q) s)
+      (goes : (a : A) (s : State) → R a s → P a s) (ends : (a : A) (s : State) → R a s → Q a s) where
     f : A → State → Read (Step A)
     f a s = does (turn a) keep g s
 
-    turn_by : (a : A) (s : State) (x : Read (Step A)) → f a s ≡ x → Holds (Turned P) x
-        → ((b : A) (t : State) → length g.text - t.at < length g.text - s.at → P b t → Holds P (turns g f b t)) → Holds P (turns g f a s)
+    turn_by : (a : A) (s : State) (x : Read (Step A)) → f a s ≡ x → Holds (Stepped R Q) x
+        → ((b : A) (t : State) → length g.text - t.at < length g.text - s.at → P b t → Holds Q (turns g f b t)) → Holds Q (turns g f a s)
     turn_by a s (Ok (done b, t)) is good rest = rw (turns_done g f a b s t is) good
     turn_by a s (Ok (again b, t)) is good rest = on (leads_on g s t) refl
       where
-        on : (c : Bool) → leads_on g s t ≡ c → Holds P (turns g f a s)
-        on true e = rw (turns_on g f a b s t is e) (rest b t (ltb-true _ _ e) good)
-        on false e = rw (turns_rest g f a b s t is e) good
+        on : (c : Bool) → leads_on g s t ≡ c → Holds Q (turns g f a s)
+        on true e = rw (turns_on g f a b s t is e) (rest b t (ltb-true _ _ e) (goes b t good))
+        on false e = rw (turns_rest g f a b s t is e) (ends b t good)
     turn_by a s (Err e) is good rest = rw (turns_fault g f a s e is) tt
 
-    turns_hold : (n : ℕ) (a : A) (s : State) → length g.text - s.at < n → P a s → Holds P (turns g f a s)
+    turns_hold : (n : ℕ) (a : A) (s : State) → length g.text - s.at < n → P a s → Holds Q (turns g f a s)
     unfolding f
     turns_hold zero a s low so = absurd (omega arith)
     turns_hold (suc n) a s low so = turn_by a s (f a s) refl (each a s so).told (λ b t less there. turns_hold n b t (omega (arith, less, low)) there)
 
-    -- a repetition
-    pub tells_loop : (a : A) (s : State) → P a s → Tells (loop turn a) P s
-    unfolding f
-    tells_loop a s so = record { told = turns_hold (suc (length g.text - s.at)) a s (omega arith) so }
+    -- a repetition: P holds before each turn, and Q behind the last
+    pub tells_until : (a : A) (s : State) → P a s → Tells (many turn a) Q s
+    unfolding f many
+    tells_until a s so = record { told = turns_hold (suc (length g.text - s.at)) a s (omega arith) so }
 
+  module _ {A : Type 0} (turn : A → Form (Step A)) (P : A → State → Type 0) (each : (a : A) (s : State) → P a s → Tells (turn a) (Turned P) s) where
+    -- P holds before and behind each turn
     pub tells_many : (a : A) (s : State) → P a s → Tells (many turn a) P s
+    tells_many a s so = tells_until turn P P P each (λ b t good. good) (λ b t good. good) a s so
+
+    pub tells_loop : (a : A) (s : State) → P a s → Tells (loop turn a) P s
     unfolding many
-    tells_many a s so = record { told = (tells_loop a s so).told }
+    tells_loop a s so = record { told = (tells_many a s so).told }
 
   -- what follows
   pub tells_so : {X : Type 0} {P Q : X → State → Type 0} {r : Form X} {s : State} → Tells r P s → ((a : X) (t : State) → P a t → Q a t) → Tells r Q s
   tells_so {P = P} {Q = Q} {r = r} {s = s} one so = record { told = holds_so P Q (does r keep g s) one.told so }
+
+  -- nothing is said
+  any_read : {X : Type 0} (y : Read X) → Holds (λ x t. Unit {0}) y
+  any_read (Ok (x, t)) = tt
+  any_read (Err f) = tt
+
+  pub tells_any : {X : Type 0} {r : Form X} {s : State} → Tells r (λ x t. Unit {0}) s
+  tells_any {r = r} {s = s} = record { told = any_read (does r keep g s) }
+
+  -- what the first form gives may be anything
+  pub tells_after : {X Y : Type 0} {Q : Y → State → Type 0} {r : Form X} {q : X → Form Y} {s : State} → ((x : X) (t : State) → Tells (q x) Q t) → Tells (both r q) Q s
+  tells_after {r = r} {s = s} rest = tells_then {r = r} {s = s} tells_any (λ x t so. rest x t)
+
+  -- what is seen, and then the rest
+  pub tells_seen : {X Y : Type 0} {Q : Y → State → Type 0} {f : Sight X} {q : X → Form Y} {s : State} → Tells (q (seen f g s)) Q s → Tells (both (see f) q) Q s
+  tells_seen rest = record { told = rest.told }
+
+  -- on to another place, and then the rest
+  pub tells_moved : {Y : Type 0} {Q : Y → State → Type 0} {m : Move} {q : Unit {0} → Form Y} {s : State} → Tells (q tt) Q (moved m g s) → Tells (both (move m) q) Q s
+  tells_moved rest = record { told = rest.told }
+
+-- one more element of the tree, and then the rest
+pub tells_pushed : (g : Given) {A Y : Type 0} {Q : Y → State → Type 0} {xs : Row A} {x : A} {q : Row A → Form Y} {s : State} → Tells true g (q (xs ++ x ∷ [])) Q s
+    → Tells true g (both (push xs x) q) Q s
+tells_pushed g rest = record { told = rest.told }
 
 -- ---- no form goes back
 

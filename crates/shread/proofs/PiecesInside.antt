@@ -386,6 +386,10 @@ module _ {T U : List ℕ} {a L : ℕ} {to : ℕ → ℕ} (K : Kept T U a L to) (
       pieces_in mode b b2 c s from =
           looped K o o2 SameHeld (a_piece inner mode b) (a_piece inner mode b2) (From mode) (Last mode) (from_high mode) (last_high mode) (λ d t low. piece_turn inner local b b2 d t low mode) c s from
 
+      -- where the pieces of a word that ends at the limit begin
+      pub word_from : (b : ℕ) (c : Held) (s : State) → a ≤ s.at → Holds (λ x t. t.at ≡ L → From Plain s.at) (does (loop (a_piece inner Plain b) c) true g s)
+      word_from b c s from = holds_so _ (λ x t. t.at ≡ L → From Plain s.at) (does (loop (a_piece inner Plain b) c) true g s) (pieces_in Plain b b c s from) (λ x t ends is. (ends (omega (arith, is), λ e. is)).0)
+
       last_of : (mode : Mode) → Closed mode → (r : ℕ) → r ≤ L → Last mode r
       last_of mode closed r le = (le, λ e. absurd (not_plain mode closed e))
 

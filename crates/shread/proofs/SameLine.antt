@@ -139,7 +139,7 @@ ended_alone T U l (line_read es newline t k part) ended same =
     subst (λ (c : Bool). IsLine U (record { kind = kind_of es newline; next = t.at; ended = newline && c })) (there_too ∙ sym both.1) (line_read es newline t again.1.0 again.1.1)
 ended_alone T U l (line_stops f k part) ended same = absurd cc
 
-get_take : (n : ℕ) (B : List ℕ) (r : ℕ) → r < n → slice_get (take n B) r ≡ slice_get B r
+pub get_take : (n : ℕ) (B : List ℕ) (r : ℕ) → r < n → slice_get (take n B) r ≡ slice_get B r
 get_take zero B r lt = absurd (omega arith)
 get_take (suc n) [] r lt = refl
 get_take (suc n) (b ∷ B) zero lt = refl

@@ -225,7 +225,7 @@ module _ (g : Given) where
 -- ---- what the rows pass
 
 module _ (B : List ℕ) (g : Given) (stands : g.text ≡ drop g.offset B) where
-  raw_at : (p q : ℕ) → raw g.text p q ≡ text_at B (span g.offset p q)
+  pub raw_at : (p q : ℕ) → raw g.text p q ≡ text_at B (span g.offset p q)
   raw_at p q =
       let inside : raw g.text p q ≡ take (q - p) (drop (g.offset + p) B) = ap (λ T. take (q - p) (drop p T)) stands ∙ ap (take (q - p)) (drop-drop p g.offset B) in
       let many : q - p ≡ (g.offset + q) - (g.offset + p) = omega arith in

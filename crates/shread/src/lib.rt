@@ -56,3 +56,4 @@ pub use fault::{Fault, FaultKind, ReadError};
 pub use line_col::line_col_of;
 pub use reader::{Line, LineKind, Reader, Script};
 pub use source::{Flat, Source};
+pub use token::{Closing, Next, Opener, Position, Reserved, Separator, Token};

@@ -1,6 +1,6 @@
 //! The line that tells a fault.
 ghost use Rattle.std.specs.Prelude.{◌≡◌, IfOk};
-ghost use Rattle.shform.specs.Message.{message_text, text_of_kind};
+ghost use Rattle.shprint.specs.Message.{message_text, text_of_kind};
 
 use itoa::Buffer;
 use shread::{Fault, FaultKind};

@@ -1,0 +1,105 @@
+-- What a shape has so that its printed text is read back, beside its normal form: its words are words wherever they stand, its comments
+-- comments, and no more constructs are open than may be. What was read has it (proofs/Readable); what has it is read back (proofs/ReadBack).
+use Rattle.std.specs.Prelude.{◌≡◌, ℕ, zero, suc, Bool, [], ◌∷◌, List as Row, Option, None, Some}
+use Rattle.shread.specs.declared.token.Position.{Position}
+use Rattle.shread.specs.declared.token.Position.TheVariants.{Command, Prefix}
+use Rattle.shread.specs.declared.token.Token.{Token}
+use Rattle.shread.specs.Commands.{behind_item}
+use Rattle.shread.proofs.Elsewhere.{ItemAnywhere}
+use Rattle.shread.proofs.CommentsElsewhere.{CommentAnywhere}
+use Rattle.shtree.specs.Shape.{Text, Shape}
+use Rattle.shtree.specs.Tree.{EntriesOf, no_entry, more_entries, AnEntryOf, entry, AContentOf, command, remark, AnAndOrOf, and_or, AndOrPartsOf, no_and_or, more_and_or, APipelineOf, pipeline, PipelinePartsOf, no_pipe, more_pipes, ACommandOf, simple, compound, function, ACompoundOf, formed, AFormOf, brace, subshell, if_then, while_do, until_do, for_in, case_in, ABranchOf, branch, BranchesOf, no_branch, more_branches, OtherwiseOf, no_else, otherwise, ItemsOf, no_item, more_items, AnItemOf, item, AnItemContentOf, assign, argument, word, no_subst}
+
+abbrev pub GoodComments : Row Text → Type 0
+GoodComments [] = Unit {0}
+GoodComments (c ∷ cs) = CommentAnywhere c × GoodComments cs
+
+abbrev pub GoodOwnComment : Option Text → Type 0
+GoodOwnComment None = Unit {0}
+GoodOwnComment (Some c) = CommentAnywhere c
+
+-- what a word is, by the position behind it
+abbrev pub as_shape : Position → Text → Shape AnItemContentOf
+as_shape Prefix t = assign (word t no_subst)
+as_shape _ t = argument (word t no_subst)
+
+abbrev pub an_item_of : Bool → Position → Text → Shape AnItemOf
+an_item_of broken position t = item broken (as_shape position t)
+
+-- the items of a simple command from one position to another, where so many constructs may be open
+pub data GoodItems (room : ℕ) : Position → Shape ItemsOf → Position → Type 0 where
+  none_more : {position : Position} → GoodItems room position no_item position
+  one_more : {position next last : Position} {token : Token} {broken : Bool} {t : Text} {is : Shape ItemsOf} → behind_item token ≡ Some next → ItemAnywhere room position token t
+      → GoodItems room next is last → GoodItems room position (more_items (an_item_of broken next t) is) last
+
+abbrev pub SomeItem : Shape ItemsOf → Type 0
+SomeItem no_item = ⊥
+SomeItem (more_items i is) = Unit {0}
+
+abbrev pub NoItems : Shape ItemsOf → Type 0
+NoItems no_item = Unit {0}
+NoItems (more_items i is) = ⊥
+
+-- a simple command
+pub record GoodSimple (room : ℕ) (is : Shape ItemsOf) : Type 0 where
+  pub last : Position
+  pub items : GoodItems room Command is last
+  pub some : SomeItem is
+
+abbrev mutual
+  pub GoodEntries : ℕ → Shape EntriesOf → Type 0
+  GoodEntries room no_entry = Unit {0}
+  GoodEntries room (more_entries e es) = GoodEntry room e × GoodEntries room es
+
+  pub GoodEntry : ℕ → Shape AnEntryOf → Type 0
+  GoodEntry room (entry what background blank comment) = GoodContent room what × GoodOwnComment comment
+
+  pub GoodContent : ℕ → Shape AContentOf → Type 0
+  GoodContent room (command a) = GoodAndOr room a
+  GoodContent room (remark c) = CommentAnywhere c
+
+  pub GoodAndOr : ℕ → Shape AnAndOrOf → Type 0
+  GoodAndOr room (and_or first rest) = GoodPipeline room first × GoodParts room rest
+
+  pub GoodParts : ℕ → Shape AndOrPartsOf → Type 0
+  GoodParts room no_and_or = Unit {0}
+  GoodParts room (more_and_or operator j p ps) = GoodComments j.comments × GoodPipeline room p × GoodParts room ps
+
+  pub GoodPipeline : ℕ → Shape APipelineOf → Type 0
+  GoodPipeline room (pipeline bang first rest) = GoodCommand room first × GoodPipes room rest
+
+  pub GoodPipes : ℕ → Shape PipelinePartsOf → Type 0
+  GoodPipes room no_pipe = Unit {0}
+  GoodPipes room (more_pipes j c cs) = GoodComments j.comments × GoodCommand room c × GoodPipes room cs
+
+  -- a function is not read yet
+  pub GoodCommand : ℕ → Shape ACommandOf → Type 0
+  GoodCommand room (simple items) = GoodSimple room items
+  GoodCommand room (compound c) = GoodCompound room c
+  GoodCommand room (function name comments body) = ⊥
+
+  -- a compound command is open while what it holds is read; redirections are not read yet
+  pub GoodCompound : ℕ → Shape ACompoundOf → Type 0
+  GoodCompound zero (formed form mark redirects) = ⊥
+  GoodCompound (suc room) (formed form mark redirects) = GoodForm room form × NoItems redirects
+
+  -- `for` and `case` are not read yet
+  pub GoodForm : ℕ → Shape AFormOf → Type 0
+  GoodForm room (brace es) = GoodEntries room es
+  GoodForm room (subshell es) = GoodEntries room es
+  GoodForm room (if_then first rest other) = GoodBranch room first × GoodBranches room rest × GoodElse room other
+  GoodForm room (while_do b) = GoodBranch room b
+  GoodForm room (until_do b) = GoodBranch room b
+  GoodForm room (for_in name words body) = ⊥
+  GoodForm room (case_in w items tail) = ⊥
+
+  pub GoodBranch : ℕ → Shape ABranchOf → Type 0
+  GoodBranch room (branch condition body) = GoodEntries room condition × GoodEntries room body
+
+  pub GoodBranches : ℕ → Shape BranchesOf → Type 0
+  GoodBranches room no_branch = Unit {0}
+  GoodBranches room (more_branches b bs) = GoodBranch room b × GoodBranches room bs
+
+  pub GoodElse : ℕ → Shape OtherwiseOf → Type 0
+  GoodElse room no_else = Unit {0}
+  GoodElse room (otherwise es) = GoodEntries room es

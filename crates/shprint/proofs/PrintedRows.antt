@@ -1,0 +1,2456 @@
+-- The rows of the grammar over a printed text: what is printed for a good shape is read as a tree of that shape.
+use Rattle.std.proofs.Common.{◌≡◌, ℕ, zero, suc, ◌+◌, ◌-◌, ◌<◌, ◌≤◌, ⊎_elim, ◌==◌, Bool, true, false, not, ◌&&◌, ◌||◌, List, List as Row, [], ◌∷◌, ◌++◌, length, drop, take, codes, if◌then◌else◌, cond, Ok, Option, Some, None, is_some, option_map, slice_get, refl, sym, ap, subst, ◌∙◌, arith, append_assoc, append-nil}
+use Rattle.std.proofs.Math.ListN.{replicate}
+use Rattle.std.proofs.lemmas.Bool.{both_ways, cases_lt, lt-ltb, and_from, and_parts, cond_both}
+use Rattle.std.proofs.lemmas.Bool.Decides.{nat_tests}
+use Rattle.std.proofs.lemmas.Option.{slice_get_within}
+use Rattle.std.proofs.lemmas.List.{drop-drop, length-drop}
+use Rattle.shread.specs.declared.token.Next.{Next}
+use Rattle.shread.specs.declared.token.Closing.{Closing}
+use Rattle.shread.specs.declared.token.Closing.TheVariants as closings
+use Rattle.shread.specs.declared.token.Opener.{Opener}
+use Rattle.shread.specs.declared.token.Opener.TheVariants as openers
+use Rattle.shread.specs.declared.token.Position.{Position}
+use Rattle.shread.specs.declared.token.Position.TheVariants.{Command, Prefix, Suffix}
+use Rattle.shread.specs.declared.token.Reserved.{Reserved}
+use Rattle.shread.specs.declared.token.Reserved.TheVariants as reserved
+use Rattle.shread.specs.declared.token.Separator.{Separator}
+use Rattle.shread.specs.declared.token.Separator.TheVariants.{Semicolon, Ampersand}
+use Rattle.shread.specs.declared.token.Token.{Token}
+use Rattle.shread.specs.declared.token.Token.TheVariants as tokens
+use Rattle.shread.specs.Classes.{is_blank}
+use Rattle.shread.specs.Bytes.{ends, behind, past_continuations, byte_at, past_blanks, is_broken_at}
+use Rattle.shread.specs.Comments.{span, comment_at}
+use Rattle.shread.specs.Standing.{is_byte, raw_stands}
+use Rattle.shread.specs.Tokens.{is_end, is_comment, past_reserved, token_of, token_at, next_at}
+use Rattle.shread.specs.Sights.{Given, given, standing, the_token, the_comment, blanks, one_byte, the_reserved, a_comment_on}
+use Rattle.shread.specs.Form.{Spelled, Form, ◌>>◌, by, give, move, raw, may, leads_on, again, done, many}
+use Rattle.shread.specs.Words.{Inner, a_word}
+use Rattle.shread.specs.Levels.{most_open, level}
+use Rattle.shtree.specs.Nodes.{through}
+use Rattle.shtree.specs.Normal.{is_normal_form, is_normal_else, are_normal_branches, is_normal_branch, is_whole, is_command, holds_command, is_normal_entry, first_not_blank, are_normal, is_normal_and_or, are_normal_and_ors, is_normal_pipeline, are_normal_pipes, first_not_broken, is_normal_join, is_normal_compound, is_normal_command}
+use Rattle.shread.specs.Compounds.{a_compound, is_open_paren, an_if, a_group, a_form, opener_text, Closed, a_loop, an_else, elif_turn, branched, a_branch, passed, closing, closing_text, is_closing, is_close_paren}
+use Rattle.shread.specs.Lines.{a_line, end_of_line}
+use Rattle.shread.specs.Lists.{Listed, list_so, none_listed, one_entry, entry_turn, a_remark, on_line, list_turn, a_list}
+use Rattle.shread.specs.Commands.{Entered, an_entry, a_separator, separator_of, told_separator, is_background, is_parted, an_and_or, one_pipeline, join_pipeline, joined_so, a_bang, a_pipeline, begins_pipeline, and_or_operator_of, is_pipe, piped, one_command, pipe_turn, a_command, a_newline, a_comment, join_turn, join_so, a_join_of, a_join, begins_simple, opener_of, is_newline, is_bang, is_empty, next_token, behind_item, so_many, breaks, as_item, an_item, item_turn, a_simple}
+use Rattle.shread.proofs.Places.{must_fail, blanks_low}
+use Rattle.shread.proofs.NoSubsts.{no_substs}
+use Rattle.shread.proofs.Elsewhere.{follows, ItemAnywhere}
+use Rattle.shread.proofs.CommentsElsewhere.{CommentAnywhere}
+use Rattle.shtree.specs.declared.tree.AndOrOperator.{AndOrOperator}
+use Rattle.shtree.specs.declared.tree.AndOrOperator.TheVariants.{And, Or}
+use Rattle.shtree.specs.declared.tree.Span.{Span}
+use Rattle.shtree.specs.Spelling.{and_or_text}
+use Rattle.shtree.specs.Shape.{Text, Shape, text_at, shape_of_items, shape_of_item, shape_of_command, shape_of_comments, shape_of_join, shape_of_pipes, shape_of_bang, shape_of_pipeline, shape_of_and_or, shape_of_and_or_parts, shape_of_comment, shape_of_entry, shape_of, shape_of_branch, shape_of_branches, shape_of_else, shape_of_form}
+use Rattle.shtree.specs.Tree.{AJoinOf, AJoin, AnItemOf, AnItem, AWord, ABranchOf, ABranch, branch, BranchesOf, no_branch, more_branches, branches_of, OtherwiseOf, Otherwise, no_else, otherwise, EntriesOf, Entries, no_entry, more_entries, entries_of, AContentOf, remark, AnEntryOf, AnEntry, entry, command, AnAndOr, AnAndOrOf, and_or, AnAndOrPart, and_or_parts_of, APipeline, APipelineOf, pipeline, AndOrPartsOf, no_and_or, more_and_or, PipelinePartsOf, no_pipe, more_pipes, APipelinePart, pipeline_parts_of, ACompoundOf, formed, ACommandOf, ACommand, compound, function, item, AFormOf, AForm, brace, subshell, if_then, while_do, until_do, for_in, case_in, items_of, ItemsOf, no_item, more_items, simple, word, no_subst}
+use Rattle.shprint.specs.declared.layout.Layout.{Layout}
+use Rattle.shprint.specs.Marks.{text, line_end, Marks, laid, one, step, deeper, lines_between}
+use Rattle.shprint.specs.Printed.{print_form, print_branch, print_branches, print_else, is_one_line, print_only, print_content, print_entry, print_entries, print_blank, print_background, print_own_comment, print_and_or, print_bang, print_pipeline, print_and_or_parts, print_join, print_pipes, print_compound, print_command, operand_margin, breaks_line, print_comments, print_further_comments, print_gap, print_item, print_items, print_simple}
+use Rattle.shprint.proofs.Tokens.{none_first, end_here, if_here, then_here, elif_here, else_here, fi_here, while_here, until_here, do_here, done_here, brace_here, close_brace_here, open_token, close_token, semicolon_token, Keyword, ampersand_token, bang_here, pipe_token, and_token, or_token, first, byte_here, newline_token, start_here, skip, text_here, Gap, Start, all_blank, blank_gap, blanks_gap, broken_gap, no_gap, next_behind, next_one}
+use Rattle.shprint.proofs.Gives.{Gives, gives, gives_on, told_here, ◌⟫◌, given_here, seen_here, moved_here, pushed_here, first_of, second_of, last_turn, one_turn}
+use Rattle.shprint.proofs.Good.{NoItems, GoodForm, GoodElse, GoodBranches, GoodBranch, GoodContent, GoodEntries, GoodOwnComment, GoodAndOr, GoodParts, GoodPipeline, GoodPipes, GoodCompound, GoodCommand, GoodComments, GoodItems, none_more, one_more, GoodSimple, SomeItem, an_item_of, as_shape}
+
+-- ---- marks
+
+pub laid_text : (t : Text) (ms : Marks) → laid (text t ∷ ms) ≡ t ++ laid ms
+unfolding laid
+laid_text t ms = refl
+
+pub laid_line : (ms : Marks) → laid (line_end ∷ ms) ≡ 10 ∷ laid ms
+unfolding laid
+laid_line ms = refl
+
+-- ---- margins
+
+all_spaces : (n : ℕ) → all_blank (replicate n 32) ≡ true
+all_spaces zero = refl
+all_spaces (suc n) = all_spaces n
+
+blank_join : (a b : Text) → all_blank a ≡ true → all_blank b ≡ true → all_blank (a ++ b) ≡ true
+blank_join [] b one two = two
+blank_join (c ∷ a) b one two = let parts = and_parts _ _ one in and_from _ _ parts.0 (blank_join a b parts.1 two)
+
+step_blank : (y : Layout) → all_blank (step y) ≡ true
+step_blank y = cond_both (y.indent == 0) (codes "\t") (replicate y.indent 32) (λ t. all_blank t ≡ true) (λ e. refl) (λ e. all_spaces y.indent)
+
+pub deeper_blank : (y : Layout) (m : Text) → all_blank m ≡ true → all_blank (deeper y m) ≡ true
+deeper_blank y m blank = blank_join m (step y) blank (step_blank y)
+
+abbrev pub Some_byte : Text → Type 0
+Some_byte t = (c : ℕ) × (cs : Text) × (t ≡ c ∷ cs)
+
+some_spaces : (n : ℕ) → (n == 0) ≡ false → Some_byte (replicate n 32)
+some_spaces zero e = absurd cc
+some_spaces (suc n) e = (32, replicate n 32, refl)
+
+step_some : (y : Layout) → Some_byte (step y)
+step_some y = cond_both (y.indent == 0) (codes "\t") (replicate y.indent 32) Some_byte (λ e. (9, [], refl)) (λ e. some_spaces y.indent e)
+
+pub deeper_some : (y : Layout) (m : Text) → Some_byte (deeper y m)
+deeper_some y [] = step_some y
+deeper_some y (c ∷ m) = (c, m ++ step y, refl)
+
+-- the margin of an operand
+pub operand_blank : (y : Layout) (m : Text) (b : Bool) → all_blank m ≡ true → all_blank (operand_margin y m b) ≡ true
+operand_blank y m true blank = deeper_blank y m blank
+operand_blank y m false blank = blank
+
+-- ---- what a token is, where a command begins
+
+-- a command begins with this token
+abbrev pub begins_command : Token → Bool
+begins_command t = begins_simple t || is_some (opener_of t)
+
+-- what such a token is not
+pub record NoOther (t : Token) : Type 0 where
+  pub newline : is_newline t ≡ false
+  pub comment : is_comment t ≡ false
+  pub bang : is_bang t ≡ false
+
+pub no_other : (t : Token) → begins_command t ≡ true → NoOther t
+no_other tokens.End e = absurd cc
+no_other tokens.Newline e = absurd cc
+no_other tokens.Semicolon e = absurd cc
+no_other tokens.AndIf e = absurd cc
+no_other tokens.Ampersand e = absurd cc
+no_other tokens.OrIf e = absurd cc
+no_other tokens.Pipe e = absurd cc
+no_other tokens.OpenParen e = record { newline = refl; comment = refl; bang = refl }
+no_other tokens.CloseParen e = absurd cc
+no_other tokens.Operator e = absurd cc
+no_other tokens.Comment e = absurd cc
+no_other tokens.Number e = absurd cc
+no_other (tokens.Reserved r) e = record { newline = refl; comment = refl; bang = no_bang r e }
+  where
+    no_bang : (r : Reserved) → begins_command (tokens.Reserved r) ≡ true → is_bang (tokens.Reserved r) ≡ false
+    no_bang reserved.Bang e = absurd cc
+    no_bang reserved.OpenBrace e = refl
+    no_bang reserved.CloseBrace e = refl
+    no_bang reserved.Case e = refl
+    no_bang reserved.Do e = refl
+    no_bang reserved.Done e = refl
+    no_bang reserved.Elif e = refl
+    no_bang reserved.Else e = refl
+    no_bang reserved.Esac e = refl
+    no_bang reserved.Fi e = refl
+    no_bang reserved.For e = refl
+    no_bang reserved.If e = refl
+    no_bang reserved.In e = refl
+    no_bang reserved.Then e = refl
+    no_bang reserved.Until e = refl
+    no_bang reserved.While e = refl
+no_other tokens.Assignment e = record { newline = refl; comment = refl; bang = refl }
+no_other tokens.Word e = record { newline = refl; comment = refl; bang = refl }
+
+no_byte_end : (T : List ℕ) (q c : ℕ) → drop q T ≡ [] → raw_stands T q c ≡ false
+unfolding raw_stands
+no_byte_end T q c e = ap (λ b. is_byte b c) (none_first T q e)
+
+-- ---- one text, from the offset o of the printed text on
+
+module _ (B T : List ℕ) (o : ℕ) (here : drop o B ≡ T) where
+  abbrev g : Given
+  g = given T o
+
+  -- what is printed stands here
+  abbrev pub At : ℕ → Marks → Type 0
+  At p ms = drop p T ≡ laid ms
+
+  pub at_text : (p : ℕ) (t : Text) (ms : Marks) → At p (text t ∷ ms) → At (p + length t) ms
+  at_text p t ms at = skip T p t (laid ms) (at ∙ laid_text t ms)
+
+  pub at_line : (p : ℕ) (ms : Marks) → At p (line_end ∷ ms) → At (p + 1) ms
+  at_line p ms at = next_one T p 10 (laid ms) (at ∙ laid_line ms)
+
+  -- the text of a span
+  pub span_text : (p : ℕ) (w zs : List ℕ) → drop p T ≡ w ++ zs → text_at B (span o p (p + length w)) ≡ w
+  span_text p w zs at =
+      let n : o + (p + length w) - (o + p) ≡ length w = omega arith in
+      ap (λ k. take k (drop (o + p) B)) n ∙ ap (take (length w)) (sym (drop-drop p o B) ∙ ap (drop p) here) ∙ text_here T p w zs at
+
+  -- something stands at p
+  pub some_here : (p c : ℕ) (xs : List ℕ) → drop p T ≡ c ∷ xs → p < length T
+  some_here p c xs at = let e = ap length at in omega (arith, e, length-drop p T)
+
+  pub leads : (p q : ℕ) → p < q → p < length T → leads_on g (standing p) (standing q) ≡ true
+  leads p q on within = lt-ltb _ _ (omega (arith, on, within))
+
+  -- the next token, asked for at e
+  pub next_read : (position : Position) (e : ℕ) → Gives g (next_token position) (standing e) (next_at position T e) (standing (past_blanks T e))
+  unfolding next_token
+  next_read position e = seen_here (the_token position) ⟫ moved_here blanks ⟫ given_here
+
+  -- A token that begins no item stands behind e, whatever was asked for.
+  pub record Behind (e : ℕ) : Type 0 where
+    pub token : Token
+    pub seen_as : (position : Position) → next_at position T e ≡ record { token = token; broken = false }
+    pub no_item : behind_item token ≡ None
+
+  -- a row of the grammar that reads something and hands on the next token: what is read, and where it ends
+  pub record Got {X : Type 0} (r : Form (X × Next)) (p : ℕ) (rest : Marks) (Is : X → Type 0) : Type 0 where
+    pub value : X
+    pub «end» : ℕ
+    pub at : At «end» rest
+    pub reads : Gives g r (standing p) (value, next_at Command T «end») (standing (past_blanks T «end»))
+    pub is : Is value
+
+  -- What follows begins with this token, whatever is asked for, with no continuation before it.
+  pub record Follower (rest : Marks) (t : Token) : Type 0 where
+    pub follow : follows (laid rest) ≡ true
+    pub seen_as : (e : ℕ) → At e rest → (position : Position) → next_at position T e ≡ record { token = t; broken = false }
+
+  -- what a compound command opens with
+  pub record Opens (p : ℕ) (opener_is : Opener) : Type 0 where
+    pub start : Start T p
+    pub no_item : begins_simple (token_at Command T p) ≡ false
+    pub opener : opener_of (token_at Command T p) ≡ Some opener_is
+
+  module _ (room : ℕ) (plain_word : (p n : ℕ) (w : AWord) (k : Row Spelled) → may (a_word (level room)) g (standing p) (Ok (w, standing (p + n))) k → w ≡ word (span o p (p + n)) no_subst) where
+    abbrev inner : Inner
+    inner = level room
+
+    -- one item
+    pub record ItemRead (acc : Row AnItem) (n : Next) (p : ℕ) (position : Position) (w : Text) : Type 0 where
+      pub it : AnItem
+      pub reads : Gives g (item_turn inner (so_many acc n)) (standing p) (again (so_many (acc ++ it ∷ []) (next_at position T (p + length w)))) (standing (past_blanks T (p + length w)))
+      pub on : leads_on g (standing p) (standing (past_blanks T (p + length w))) ≡ true
+      pub is : shape_of_item B it ≡ an_item_of (breaks (so_many acc n)) position w
+
+    item_shape : (position : Position) (b : Bool) (p : ℕ) (w zs : Text) → drop p T ≡ w ++ zs → shape_of_item B (item b (as_item position (word (span o p (p + length w)) no_subst))) ≡ an_item_of b position w
+    item_shape Command b p w zs at = ap (λ t. item b (as_shape Command t)) (span_text p w zs at)
+    item_shape Prefix b p w zs at = ap (λ t. item b (as_shape Prefix t)) (span_text p w zs at)
+    item_shape Suffix b p w zs at = ap (λ t. item b (as_shape Suffix t)) (span_text p w zs at)
+
+    some_word : (p : ℕ) (w zs : Text) → 0 < length w → drop p T ≡ w ++ zs → p < length T
+    some_word p [] zs some at = absurd (omega (arith, some))
+    some_word p (c ∷ w) zs some at = some_here p c (w ++ zs) at
+
+    pub item_read : (position next : Position) (token : Token) (w : Text) (acc : Row AnItem) (n : Next) (p : ℕ) (rest : Marks) → n.token ≡ token → behind_item token ≡ Some next
+        → ItemAnywhere room position token w → At p (text w ∷ rest) → follows (laid rest) ≡ true → ItemRead acc n p next w
+    unfolding item_turn an_item
+    item_read position next token w acc n p rest is some good at follow =
+        let there = at ∙ laid_text w rest in
+        let found = good.there g p (laid rest) there follow in
+        let v = found.word in
+        let e = p + length w in
+        let plain = plain_word p (length w) v.0 _ v.1 in
+        let it = item (breaks (so_many acc n)) (as_item next (word (span o p e) no_subst)) in
+        let read : Gives g (a_word inner) (standing p) (word (span o p e) no_subst) (standing e) = gives _ (subst (λ x. may (a_word inner) g (standing p) (Ok (x, standing e)) (raw T p e ∷ [])) plain v.1) in
+        let low = blanks_low T e in
+        record {
+          it = it;
+          reads = rw (is, some) (read ⟫ pushed_here acc it ⟫ next_read next e ⟫ given_here);
+          on = leads p (past_blanks T e) (omega (arith, good.some, low)) (some_word p w (laid rest) good.some there);
+          is = item_shape next _ p w (laid rest) there;
+        }
+
+    abbrev Shapes : Row AnItem → Shape ItemsOf
+    Shapes is = shape_of_items B (items_of is)
+
+    -- ---- the items behind the first
+
+    pub record ItemsRead (acc : Row AnItem) (n : Next) (p : ℕ) (is : Shape ItemsOf) (rest : Marks) : Type 0 where
+      pub more_items_read : Row AnItem
+      pub «end» : ℕ
+      pub at : At «end» rest
+      pub reads : Gives g (many (item_turn inner) (so_many acc n)) (standing p) (so_many (acc ++ more_items_read) (next_at Command T «end»)) (standing (past_blanks T «end»))
+      pub shape : Shapes more_items_read ≡ is
+
+    -- one more item before others
+    items_on : {acc : Row AnItem} {n : Next} {p : ℕ} {position : Position} {w : Text} {is : Shape ItemsOf} {rest : Marks} (one : ItemRead acc n p position w)
+        → ItemsRead (acc ++ one.it ∷ []) (next_at position T (p + length w)) (past_blanks T (p + length w)) is rest
+        → ItemsRead acc n p (more_items (an_item_of (breaks (so_many acc n)) position w) is) rest
+    items_on {acc = acc} {n = n} {p = p} one others = record {
+      more_items_read = one.it ∷ others.more_items_read;
+      «end» = others.«end»;
+      at = others.at;
+      reads = subst (λ is. Gives g (many (item_turn inner) (so_many acc n)) (standing p) (so_many is (next_at Command T others.«end»)) (standing (past_blanks T others.«end»)))
+          (append_assoc acc (one.it ∷ []) others.more_items_read) (one_turn (item_turn inner) one.reads one.on others.reads);
+      shape = ap2 one.is others.shape;
+    }
+      where
+        ap2 : {i j : Shape AnItemOf} {is js : Shape ItemsOf} → i ≡ j → is ≡ js → more_items i is ≡ more_items j js
+        ap2 e f = rw (e, f) refl
+
+    -- no more item
+    item_stops : (acc : Row AnItem) (n : Next) (p : ℕ) → behind_item n.token ≡ None → Gives g (item_turn inner (so_many acc n)) (standing p) (done (so_many acc n)) (standing p)
+    unfolding item_turn
+    item_stops acc n p none = rw none given_here
+
+    no_items_on : (acc : Row AnItem) (n : Next) (e : ℕ) (rest : Marks) → At e rest → next_at Command T e ≡ n → behind_item n.token ≡ None → ItemsRead acc n (past_blanks T e) no_item rest
+    no_items_on acc n e rest at same none = record {
+      more_items_read = [];
+      «end» = e;
+      at = at;
+      reads = rw (append-nil acc, same) (last_turn (item_turn inner) (item_stops acc n (past_blanks T e) none));
+      shape = refl;
+    }
+
+    -- ---- gaps between items
+
+    gap_marks : (y : Layout) (m : Text) (broken : Bool) → Marks
+    gap_marks y m broken = print_gap y m broken
+
+    -- behind a printed gap an item may begin
+    pub record GapRead (e : ℕ) (broken : Bool) (ms : Marks) : Type 0 where
+      pub p : ℕ
+      pub at : At p ms
+      pub gap : Start T p → Gap T e p broken
+
+    pub gap_read : (y : Layout) (m : Text) (broken : Bool) (e : ℕ) (ms : Marks) → all_blank (deeper y m) ≡ true → (c : ℕ) (cs : Text) → deeper y m ≡ c ∷ cs → At e (print_gap y m broken ++ ms) → GapRead e broken ms
+    gap_read y m false e ms blank c cs is at =
+        let there = at ∙ laid_text (codes " ") ms in
+        record { p = e + 1; at = next_one T e 32 (laid ms) there; gap = λ s. blank_gap refl there (no_gap s) }
+    gap_read y m true e ms blank c cs is at =
+        let there : drop e T ≡ 32 ∷ 92 ∷ 10 ∷ c ∷ (cs ++ laid ms) =
+        at ∙ laid_text (codes " \\\n") (text (deeper y m) ∷ ms) ∙ ap (λ z. 32 ∷ 92 ∷ 10 ∷ z) (laid_text (deeper y m) ms ∙ ap (λ z. z ++ laid ms) is) in
+        let n : e + length (32 ∷ 92 ∷ 10 ∷ c ∷ cs) ≡ e + 3 + length (c ∷ cs) = omega arith in
+        record {
+          p = e + 3 + length (c ∷ cs);
+          at = subst (λ q. drop q T ≡ laid ms) n (skip T e (32 ∷ 92 ∷ 10 ∷ c ∷ cs) (laid ms) there);
+          gap = broken_gap T e c cs (laid ms) (subst (λ z. all_blank z ≡ true) is blank) there;
+        }
+
+    -- ---- all items
+
+    item_printed : (y : Layout) (b : Bool) (position : Position) (t : Text) → print_item y (an_item_of b position t) ≡ text t ∷ []
+    item_printed y b Command t = refl
+    item_printed y b Prefix t = refl
+    item_printed y b Suffix t = refl
+
+    more_printed : (y : Layout) (m : Text) (b : Bool) (position : Position) (t : Text) (is : Shape ItemsOf) (rest : Marks)
+        → print_items y m (more_items (an_item_of b position t) is) ++ rest ≡ print_gap y m b ++ (text t ∷ (print_items y m is ++ rest))
+    more_printed y m b position t is rest =
+        let one = item_printed y b position t in
+        let gap = print_gap y m b in
+        let others = print_items y m is in
+        append_assoc (gap ++ print_item y (an_item_of b position t)) others rest
+        ∙ append_assoc gap (print_item y (an_item_of b position t)) (others ++ rest) ∙ ap (λ i. gap ++ (i ++ (others ++ rest))) one
+
+    gap_follows : (y : Layout) (m : Text) (b : Bool) (ms : Marks) → follows (laid (print_gap y m b ++ ms)) ≡ true
+    unfolding laid
+    gap_follows y m true ms = refl
+    gap_follows y m false ms = refl
+
+    items_follow : {position last : Position} {is : Shape ItemsOf} (y : Layout) (m : Text) (rest : Marks) → GoodItems room position is last → follows (laid rest) ≡ true
+        → follows (laid (print_items y m is ++ rest)) ≡ true
+    items_follow y m rest none_more follow = follow
+    items_follow y m rest (one_more {next = next} {broken = b} {t = t} {is = is} some good others) follow =
+        ap (λ ms. follows (laid ms)) (more_printed y m b next t is rest) ∙ gap_follows y m b (text t ∷ (print_items y m is ++ rest))
+
+    not_empty : {A : Type 0} (xs : Row A) (x : A) → is_empty (xs ++ x ∷ []) ≡ false
+    not_empty [] x = refl
+    not_empty (x ∷ xs) y = refl
+
+    module _ (y : Layout) (m : Text) (c : ℕ) (cs : Text) (blank : all_blank (deeper y m) ≡ true) (some_margin : deeper y m ≡ c ∷ cs)
+        (rest : Marks) (follow : follows (laid rest) ≡ true) (behind : (e : ℕ) → At e rest → Behind e) where
+      items_read : {position last : Position} {is : Shape ItemsOf} → GoodItems room position is last → (acc : Row AnItem) (e : ℕ) → is_empty acc ≡ false
+          → At e (print_items y m is ++ rest) → ItemsRead acc (next_at position T e) (past_blanks T e) is rest
+      items_read {position = position} none_more acc e some at =
+          let b = behind e at in
+          no_items_on acc (next_at position T e) e rest at (b.seen_as Command ∙ sym (b.seen_as position)) (ap (λ (n : Next). behind_item n.token) (b.seen_as position) ∙ b.no_item)
+      items_read {position = position} (one_more {next = next} {token = token} {broken = b} {t = w} {is = is} some good others) acc e filled at =
+          let ms = text w ∷ (print_items y m is ++ rest) in
+          let gap = gap_read y m b e ms blank c cs some_margin (at ∙ ap laid (more_printed y m b next w is rest)) in
+          let follow_it = items_follow y m rest others follow in
+          let found = good.there g gap.p (laid (print_items y m is ++ rest)) (gap.at ∙ laid_text w (print_items y m is ++ rest)) follow_it in
+          let passed = gap.gap (record { place = found.place; no_blank = found.no_blank }) in
+          let n_is = next_behind position passed in
+          let q = past_blanks T e in
+          let n = next_at position T e in
+          let at_q = subst (λ r. At r ms) (sym passed.blanks) gap.at in
+          let one = item_read position next token w acc n q (print_items y m is ++ rest) (ap (λ (n : Next). n.token) n_is ∙ found.token_is) some good at_q follow_it in
+          let breaks_it : breaks (so_many acc n) ≡ b = rw filled (ap (λ (n : Next). n.broken) n_is) in
+          let all = items_on one (items_read others (acc ++ one.it ∷ []) (q + length w) (not_empty acc one.it) (at_text q w (print_items y m is ++ rest) at_q)) in
+          subst (λ broken. ItemsRead acc n q (more_items (an_item_of broken next w) is) rest) breaks_it all
+
+      first_not : (b : Bool) → not b ≡ true → b ≡ false
+      first_not true e = absurd cc
+      first_not false e = refl
+
+      simple_printed : (b : Bool) (position : Position) (t : Text) (is : Shape ItemsOf) → print_simple y m (more_items (an_item_of b position t) is) ++ rest ≡ text t ∷ (print_items y m is ++ rest)
+      simple_printed b position t is =
+          append_assoc (print_item y (an_item_of b position t)) (print_items y m is) rest ∙ ap (λ i. i ++ (print_items y m is ++ rest)) (item_printed y b position t)
+
+      -- all items of a simple command, and the token behind them
+      simple_items : {last : Position} {is : Shape ItemsOf} (n : Next) (p : ℕ) → GoodItems room Command is last → SomeItem is → first_not_broken is ≡ true → n.token ≡ token_at Command T p
+          → At p (print_simple y m is ++ rest) → ItemsRead [] n p is rest
+      simple_items n p none_more some first token_is at = absurd some
+      simple_items n p (one_more {next = next} {token = token} {broken = b} {t = w} {is = is} is_item good others) some first token_is at =
+          let there = at ∙ ap laid (simple_printed b next w is) in
+          let follow_it = items_follow y m rest others follow in
+          let found = good.there g p (laid (print_items y m is ++ rest)) (there ∙ laid_text w (print_items y m is ++ rest)) follow_it in
+          let one = item_read Command next token w [] n p (print_items y m is ++ rest) (token_is ∙ found.token_is) is_item good there follow_it in
+          let all = items_on one (items_read others (one.it ∷ []) (p + length w) refl (at_text p w (print_items y m is ++ rest) there)) in
+          subst (λ broken. ItemsRead [] n p (more_items (an_item_of broken next w) is) rest) (sym (first_not b first)) all
+
+      -- a simple command
+      pub simple_read : (is : Shape ItemsOf) (n : Next) (p : ℕ) → GoodSimple room is → first_not_broken is ≡ true → n.token ≡ token_at Command T p → At p (print_simple y m is ++ rest)
+          → Got (a_simple inner n) p rest (λ c. shape_of_command B c ≡ simple is)
+      unfolding a_simple
+      simple_read is n p good first token_is at =
+          let r = simple_items n p good.items good.some first token_is at in
+          record { value = simple (items_of r.more_items_read); «end» = r.«end»; at = r.at; reads = r.reads ⟫ given_here; is = ap (λ is. simple is) r.shape }
+
+    -- ---- comments and newlines
+
+    no_byte : (p c : ℕ) (xs : List ℕ) (x : ℕ) → (c == x) ≡ false → drop p T ≡ c ∷ xs → raw_stands T p x ≡ false
+    unfolding raw_stands
+    no_byte p c xs x e at = ap (λ b. is_byte b x) (first T p c xs at) ∙ e
+
+    -- behind e the line ends
+    pub newline_next : (position : Position) (e : ℕ) (ms : Marks) → At e (line_end ∷ ms) → (next_at position T e ≡ record { token = tokens.Newline; broken = false }) × (past_blanks T e ≡ e)
+    newline_next position e ms at =
+        let there = at ∙ laid_line ms in
+        let gap = no_gap (start_here (byte_here T e 10 (laid ms) refl there) refl) in
+        (next_behind position gap ∙ ap (λ t. record { token = t; broken = false }) (newline_token position T e (laid ms) there), gap.blanks)
+
+    pub newline_read : (n : Next) (p : ℕ) (ms : Marks) → is_newline n.token ≡ true → At p (line_end ∷ ms)
+        → Gives g (a_newline n) (standing p) (true, next_at Command T (p + 1)) (standing (past_blanks T (p + 1)))
+    unfolding a_newline
+    newline_read n p ms is at =
+        let behind_is = (byte_here T p 10 (laid ms) refl (at ∙ laid_line ms)).behind_it in
+        let moved : Gives g (move one_byte) (standing p) tt (standing (p + 1)) = subst (λ q. Gives g (move one_byte) (standing p) tt (standing q)) behind_is (moved_here one_byte) in
+        first_of _ _ is (moved ⟫ next_read Command (p + 1) ⟫ given_here)
+
+    pub no_newline_read : (n : Next) (p : ℕ) → is_newline n.token ≡ false → Gives g (a_newline n) (standing p) (false, n) (standing p)
+    unfolding a_newline
+    no_newline_read n p is = second_of _ _ is given_here
+
+    pub no_comment_read : (n : Next) (p : ℕ) → raw_stands T p 35 ≡ false → Gives g (a_comment n) (standing p) (None, n) (standing p)
+    unfolding a_comment comment_at
+    no_comment_read n p none = seen_here the_comment ⟫ (rw none given_here)
+
+    -- a comment, up to the end of its line
+    pub comment_read : (c : Text) (n : Next) (p : ℕ) (ms : Marks) → CommentAnywhere c → At p (text c ∷ line_end ∷ ms)
+        → Gives g (a_comment n) (standing p) (Some (span o p (p + length c)), next_at Command T (p + length c)) (standing (past_blanks T (p + length c)))
+    unfolding a_comment
+    comment_read c n p ms good at =
+        let found = good.there T o p (laid ms) (at ∙ laid_text c (line_end ∷ ms) ∙ ap (λ z. c ++ z) (laid_line ms)) in
+        let moved : Gives g (move a_comment_on) (standing p) tt (standing (p + length c)) = subst (λ q. Gives g (move a_comment_on) (standing p) tt (standing q)) found.1 (moved_here a_comment_on) in
+        seen_here the_comment ⟫ (rw found.0 (moved ⟫ next_read Command (p + length c) ⟫ given_here))
+
+    comment_shape : (c : Text) (p : ℕ) (ms : Marks) → At p (text c ∷ ms) → text_at B (span o p (p + length c)) ≡ c
+    comment_shape c p ms at = span_text p c (laid ms) (at ∙ laid_text c ms)
+
+    -- where a comment begins
+    comment_start : (c : Text) (p : ℕ) (ms : Marks) → CommentAnywhere c → At p (text c ∷ line_end ∷ ms) → Start T p
+    comment_start c p ms good at =
+        let found = good.there T o p (laid ms) (at ∙ laid_text c (line_end ∷ ms) ∙ ap (λ z. c ++ z) (laid_line ms)) in
+        record { place = found.2; no_blank = found.3 }
+
+    -- ---- margins
+
+    -- behind a margin
+    pub margin_gap : (m : Text) (e : ℕ) (ms : Marks) → all_blank m ≡ true → At e (text m ∷ ms) → Start T (e + length m) → Gap T e (e + length m) false
+    margin_gap m e ms blank at s = blanks_gap T e m (laid ms) blank (at ∙ laid_text m ms) s
+
+    -- ---- joins
+
+    -- what an operand begins with
+    pub record Operand (p : ℕ) : Type 0 where
+      pub start : Start T p
+      pub no_comment : raw_stands T p 35 ≡ false
+      pub no_newline : is_newline (token_at Command T p) ≡ false
+
+    or_true : (b : Bool) → (b || true) ≡ true
+    or_true true = refl
+    or_true false = refl
+
+    or_false : (b : Bool) → (b || false) ≡ b
+    or_false true = refl
+    or_false false = refl
+
+    -- the turns of a join: none, a comment and its newline, a newline
+    last_join_turn : (b : Bool) (acc : Row Span) (n : Next) (p : ℕ) → raw_stands T p 35 ≡ false → is_newline n.token ≡ false
+        → Gives g (join_turn (join_so (a_join_of b acc) n)) (standing p) (done (join_so (a_join_of b acc) n)) (standing p)
+    unfolding join_turn
+    last_join_turn b acc n p no_comment no_newline =
+        no_comment_read n p no_comment ⟫ given_here ⟫ no_newline_read n p no_newline
+        ⟫ subst (λ c. Gives g (give (done (join_so (a_join_of c acc) n))) (standing p) (done (join_so (a_join_of b acc) n)) (standing p)) (sym (or_false (b || false) ∙ or_false b)) given_here
+
+    comment_join_turn : (c : Text) (b : Bool) (acc : Row Span) (n : Next) (p : ℕ) (ms : Marks) → CommentAnywhere c → At p (text c ∷ line_end ∷ ms)
+        → Gives g (join_turn (join_so (a_join_of b acc) n)) (standing p) (again (join_so (a_join_of true (acc ++ span o p (p + length c) ∷ [])) (next_at Command T (p + length c + 1)))) (standing (past_blanks T (p + length c + 1)))
+    unfolding join_turn
+    comment_join_turn c b acc n p ms good at =
+        let e = p + length c in
+        let behind_it = at_text p c (line_end ∷ ms) at in
+        let line = newline_next Command e ms behind_it in
+        let s = span o p e in
+        let ended : Gives g (a_newline (next_at Command T e)) (standing (past_blanks T e)) (true, next_at Command T (e + 1)) (standing (past_blanks T (e + 1))) =
+        rw (ap (λ r. standing r) line.1) (newline_read (next_at Command T e) e ms (ap (λ (n : Next). is_newline n.token) line.0) behind_it) in
+        comment_read c n p ms good at ⟫ pushed_here acc s ⟫ ended
+        ⟫ subst (λ d. Gives g (give (again (join_so (a_join_of d (acc ++ s ∷ [])) (next_at Command T (e + 1))))) (standing (past_blanks T (e + 1))) (again (join_so (a_join_of true (acc ++ s ∷ [])) (next_at Command T (e + 1)))) (standing (past_blanks T (e + 1)))) (sym (or_true (b || true))) given_here
+
+    newline_join_turn : (b : Bool) (acc : Row Span) (n : Next) (p : ℕ) (ms : Marks) → is_newline n.token ≡ true → At p (line_end ∷ ms)
+        → Gives g (join_turn (join_so (a_join_of b acc) n)) (standing p) (again (join_so (a_join_of true acc) (next_at Command T (p + 1)))) (standing (past_blanks T (p + 1)))
+    unfolding join_turn
+    newline_join_turn b acc n p ms is at =
+        no_comment_read n p (no_byte p 10 (laid ms) 35 refl (at ∙ laid_line ms)) ⟫ given_here ⟫ newline_read n p ms is at
+        ⟫ subst (λ d. Gives g (give (again (join_so (a_join_of d acc) (next_at Command T (p + 1))))) (standing (past_blanks T (p + 1))) (again (join_so (a_join_of true acc) (next_at Command T (p + 1)))) (standing (past_blanks T (p + 1)))) (sym (or_true (b || false))) given_here
+
+    -- ---- a join as a whole
+
+    pub record JoinLines (b : Bool) (acc : Row Span) (n : Next) (p : ℕ) (cs : Row Text) (ms : Marks) : Type 0 where
+      pub comments : Row Span
+      pub q : ℕ
+      pub next : Next
+      pub reads : Gives g (many join_turn (join_so (a_join_of b acc) n)) (standing p) (join_so (a_join_of true (acc ++ comments)) next) (standing q)
+      pub at : At q ms
+      pub token_is : next.token ≡ token_at Command T q
+      pub shape : shape_of_comments B comments ≡ cs
+
+    comment_within : (c : Text) (p : ℕ) (ms : Marks) → CommentAnywhere c → At p (text c ∷ ms) → p < length T
+    comment_within c p ms good at = some_word p c (laid ms) good.some (at ∙ laid_text c ms)
+
+    cons_shape : (s : Span) (ss : Row Span) (c : Text) (cs : Row Text) → text_at B s ≡ c → shape_of_comments B ss ≡ cs → shape_of_comments B (s ∷ ss) ≡ c ∷ cs
+    cons_shape s ss c cs e f = rw (e, f) refl
+
+    -- one comment more in front
+    joined : (b : Bool) (n : Next) (p : ℕ) (acc : Row Span) (s : Span) (ss : Row Span) (q : ℕ) (next : Next)
+        → Gives g (many join_turn (join_so (a_join_of b acc) n)) (standing p) (join_so (a_join_of true ((acc ++ s ∷ []) ++ ss)) next) (standing q)
+        → Gives g (many join_turn (join_so (a_join_of b acc) n)) (standing p) (join_so (a_join_of true (acc ++ s ∷ ss)) next) (standing q)
+    joined b n p acc s ss q next r =
+        subst (λ all. Gives g (many join_turn (join_so (a_join_of b acc) n)) (standing p) (join_so (a_join_of true all) next) (standing q)) (append_assoc acc (s ∷ []) ss) r
+
+    -- behind an operator: the join, and where its operand begins
+    pub record JoinRead (e : ℕ) (j : AJoinOf Text) (ms : Marks) : Type 0 where
+      pub join : AJoin
+      pub q : ℕ
+      pub next : Next
+      pub reads : Gives g (a_join false) (standing e) (join, next) (standing q)
+      pub at : At q ms
+      pub token_is : next.token ≡ token_at Command T q
+      pub shape : shape_of_join B join ≡ j
+
+    module _ (d : Text) (blank : all_blank d ≡ true) (ms : Marks) (operand : (p : ℕ) → At p ms → Operand p) where
+      -- behind a newline the margin of the operand
+      operand_line : (b : Bool) (acc : Row Span) (e : ℕ) → At e (text d ∷ ms) → JoinLines true acc (next_at Command T e) (past_blanks T e) [] ms
+      operand_line b acc e at =
+          let q = past_blanks T e in
+          let behind_it = at_text e d ms at in
+          let gap = margin_gap d e ms blank at (operand (e + length d) behind_it).start in
+          let at_q = subst (λ r. At r ms) (sym gap.blanks) behind_it in
+          let it = operand q at_q in
+          let last_one = last_join_turn true acc (next_at Command T e) q it.no_comment it.no_newline in
+          record {
+            comments = [];
+            q = q;
+            next = next_at Command T e;
+            reads = rw (append-nil acc) (last_turn join_turn last_one);
+            at = at_q;
+            token_is = refl;
+            shape = refl;
+          }
+
+      abbrev further : Row Text → Marks
+      further cs = print_further_comments d cs ++ (line_end ∷ text d ∷ ms)
+
+      further_start : (c : Text) (cs : Row Text) (p : ℕ) → CommentAnywhere c → At p (text c ∷ further cs) → Start T p
+      further_start c [] p good at = comment_start c p (text d ∷ ms) good at
+      further_start c (c2 ∷ cs) p good at = comment_start c p (text d ∷ text c2 ∷ further cs) good at
+
+      comment_lines : (c : Text) (cs : Row Text) (b : Bool) (acc : Row Span) (n : Next) (p : ℕ) → GoodComments (c ∷ cs) → At p (text c ∷ further cs) → JoinLines b acc n p (c ∷ cs) ms
+      comment_lines c [] b acc n p good at =
+          let e = p + length c in
+          let s = span o p e in
+          let behind_it = at_line e (text d ∷ ms) (at_text p c (line_end ∷ text d ∷ ms) at) in
+          let rest = operand_line true (acc ++ s ∷ []) (e + 1) behind_it in
+          let on = leads p (past_blanks T (e + 1)) (omega (arith, blanks_low T (e + 1))) (comment_within c p _ good.0 at) in
+          record {
+            comments = s ∷ rest.comments;
+            q = rest.q;
+            next = rest.next;
+            reads = joined b n p acc s rest.comments rest.q rest.next (one_turn join_turn (comment_join_turn c b acc n p (text d ∷ ms) good.0 at) on rest.reads);
+            at = rest.at;
+            token_is = rest.token_is;
+            shape = cons_shape s rest.comments c _ (comment_shape c p (line_end ∷ text d ∷ ms) at) rest.shape;
+          }
+      comment_lines c (c2 ∷ cs) b acc n p good at =
+          let e = p + length c in
+          let s = span o p e in
+          let after = at_text p c (line_end ∷ text d ∷ text c2 ∷ further cs) at in
+          let behind_it = at_line e (text d ∷ text c2 ∷ further cs) after in
+          let margin_behind = at_text (e + 1) d (text c2 ∷ further cs) behind_it in
+          let gap = margin_gap d (e + 1) (text c2 ∷ further cs) blank behind_it (further_start c2 cs (e + 1 + length d) good.1.0 margin_behind) in
+          let q = past_blanks T (e + 1) in
+          let at_q = subst (λ r. At r (text c2 ∷ further cs)) (sym gap.blanks) margin_behind in
+          let rest = comment_lines c2 cs true (acc ++ s ∷ []) (next_at Command T (e + 1)) q good.1 at_q in
+          let on = leads p (past_blanks T (e + 1)) (omega (arith, blanks_low T (e + 1))) (comment_within c p _ good.0 at) in
+          record {
+            comments = s ∷ rest.comments;
+            q = rest.q;
+            next = rest.next;
+            reads = joined b n p acc s rest.comments rest.q rest.next (one_turn join_turn (comment_join_turn c b acc n p (text d ∷ text c2 ∷ further cs) good.0 at) on rest.reads);
+            at = rest.at;
+            token_is = rest.token_is;
+            shape = cons_shape s rest.comments c _ (comment_shape c p (line_end ∷ text d ∷ text c2 ∷ further cs) at) rest.shape;
+          }
+
+      -- the line is broken
+      join_of : (e : ℕ) (cs : Row Text) → JoinLines (is_broken_at T e) [] (next_at Command T e) (past_blanks T e) cs ms → JoinRead e (record { broken = true; comments = cs }) ms
+      unfolding a_join
+      join_of e cs r = record {
+        join = a_join_of true r.comments;
+        q = r.q;
+        next = r.next;
+        reads = next_read Command e ⟫ r.reads ⟫ given_here;
+        at = r.at;
+        token_is = r.token_is;
+        shape = ap (λ cs. record { broken = true; comments = cs }) r.shape;
+      }
+
+      -- it is not
+      join_on_line : (e : ℕ) → At e (text (codes " ") ∷ ms) → JoinRead e (record { broken = false; comments = [] }) ms
+      unfolding a_join
+      join_on_line e at =
+          let behind_it = at_text e (codes " ") ms at in
+          let gap = margin_gap (codes " ") e ms refl at (operand (e + 1) behind_it).start in
+          let q = past_blanks T e in
+          let at_q = subst (λ r. At r ms) (sym gap.blanks) behind_it in
+          let it = operand q at_q in
+          let n = next_at Command T e in
+          let last_one : Gives g (many join_turn (join_so (a_join_of false []) n)) (standing q) (join_so (a_join_of false []) n) (standing q) =
+          last_turn join_turn (last_join_turn false [] n q it.no_comment it.no_newline) in
+          let turns = subst (λ b. Gives g (many join_turn (join_so (a_join_of b []) n)) (standing q) (join_so (a_join_of false []) n) (standing q)) (sym gap.breaks) last_one in
+          record { join = a_join_of false []; q = q; next = n; reads = next_read Command e ⟫ turns ⟫ given_here; at = at_q; token_is = refl; shape = refl }
+
+      -- a newline without a comment
+      newline_lines : (b : Bool) (e : ℕ) → At e (line_end ∷ text d ∷ ms) → JoinLines b [] (next_at Command T e) (past_blanks T e) [] ms
+      newline_lines b e at =
+          let line = newline_next Command e (text d ∷ ms) at in
+          let q = past_blanks T e in
+          let at_q = subst (λ r. At r (line_end ∷ text d ∷ ms)) (sym line.1) at in
+          let rest = operand_line true [] (q + 1) (at_line q (text d ∷ ms) at_q) in
+          let on = leads q (past_blanks T (q + 1)) (omega (arith, blanks_low T (q + 1))) (some_here q 10 (laid (text d ∷ ms)) (at_q ∙ laid_line (text d ∷ ms))) in
+          record {
+            comments = rest.comments;
+            q = rest.q;
+            next = rest.next;
+            reads = one_turn join_turn (newline_join_turn b [] (next_at Command T e) q (text d ∷ ms) (ap (λ (n : Next). is_newline n.token) line.0) at_q) on rest.reads;
+            at = rest.at;
+            token_is = rest.token_is;
+            shape = rest.shape;
+          }
+
+      -- comments
+      commented : (b : Bool) (c : Text) (cs : Row Text) (e : ℕ) → GoodComments (c ∷ cs) → At e (text (codes " ") ∷ text c ∷ further cs) → JoinLines b [] (next_at Command T e) (past_blanks T e) (c ∷ cs) ms
+      commented b c cs e good at =
+          let behind_it = at_text e (codes " ") (text c ∷ further cs) at in
+          let gap = margin_gap (codes " ") e (text c ∷ further cs) refl at (further_start c cs (e + 1) good.0 behind_it) in
+          comment_lines c cs b [] (next_at Command T e) (past_blanks T e) good (subst (λ r. At r (text c ∷ further cs)) (sym gap.blanks) behind_it)
+
+    -- what stands behind an operator
+    abbrev pub join_rest : Layout → Text → AJoinOf Text → Marks
+    join_rest y m j = if breaks_line j then print_comments (deeper y m) j.comments ++ (line_end ∷ text (deeper y m) ∷ []) else one (codes " ")
+
+    pub join_read : (y : Layout) (m : Text) (ms : Marks) → all_blank (deeper y m) ≡ true → ((p : ℕ) → At p ms → Operand p) → (broken : Bool) (cs : Row Text) (e : ℕ)
+        → is_normal_join (record { broken = broken; comments = cs }) ≡ true → GoodComments cs → At e (join_rest y m (record { broken = broken; comments = cs }) ++ ms) → JoinRead e (record { broken = broken; comments = cs }) ms
+    join_read y m ms blank operand false [] e normal good at = join_on_line (deeper y m) blank ms operand e at
+    join_read y m ms blank operand true [] e normal good at = join_of (deeper y m) blank ms operand e [] (newline_lines (deeper y m) blank ms operand (is_broken_at T e) e at)
+    join_read y m ms blank operand false (c ∷ cs) e normal good at = absurd cc
+    join_read y m ms blank operand true (c ∷ cs) e normal good at =
+        let d = deeper y m in
+        let same = append_assoc (print_further_comments d cs) (line_end ∷ text d ∷ []) ms in
+        join_of d blank ms operand e (c ∷ cs) (commented d blank ms operand (is_broken_at T e) c cs e good (at ∙ ap (λ ks. laid (text (codes " ") ∷ text c ∷ ks)) same))
+
+    -- ---- what follows a command
+
+    follower_behind : {rest : Marks} {t : Token} → Follower rest t → behind_item t ≡ None → (e : ℕ) → At e rest → Behind e
+    follower_behind {t = t} f none e at = record { token = t; seen_as = f.seen_as e at; no_item = none }
+
+    -- a byte behind an operator that makes no longer one of it
+    pub record Parted (t : Text) : Type 0 where
+      pub c : ℕ
+      pub cs : Text
+      pub is : t ≡ c ∷ cs
+      pub no_backslash : (c == 92) ≡ false
+      pub no_bar : (c == 124) ≡ false
+      pub no_ampersand : (c == 38) ≡ false
+
+    join_parted : (y : Layout) (m : Text) (broken : Bool) (cs : Row Text) (ms : Marks) → Parted (laid (join_rest y m (record { broken = broken; comments = cs }) ++ ms))
+    unfolding laid
+    join_parted y m false [] ms = record { c = 32; cs = laid ms; is = refl; no_backslash = refl; no_bar = refl; no_ampersand = refl }
+    join_parted y m true [] ms = record { c = 10; cs = _; is = refl; no_backslash = refl; no_bar = refl; no_ampersand = refl }
+    join_parted y m false (c ∷ cs) ms = record { c = 32; cs = _; is = refl; no_backslash = refl; no_bar = refl; no_ampersand = refl }
+    join_parted y m true (c ∷ cs) ms = record { c = 32; cs = _; is = refl; no_backslash = refl; no_bar = refl; no_ampersand = refl }
+
+    -- an operator behind a space
+    space_then : (e : ℕ) (c : ℕ) (cs : Text) (ms : Marks) → (c == 92) ≡ false → is_blank c ≡ false → At e (text (codes " ") ∷ text (c ∷ cs) ∷ ms) → Gap T e (e + 1) false
+    space_then e c cs ms clear no_blank at =
+        let there = at_text e (codes " ") (text (c ∷ cs) ∷ ms) at ∙ laid_text (c ∷ cs) ms in
+        margin_gap (codes " ") e (text (c ∷ cs) ∷ ms) refl at (start_here (byte_here T (e + 1) c (cs ++ laid ms) clear there) no_blank)
+
+    pub pipe_follower : (ms : Marks) → Parted (laid ms) → Follower (text (codes " ") ∷ text (codes "|") ∷ ms) tokens.Pipe
+    unfolding laid
+    pipe_follower ms parted = record {
+      follow = refl;
+      seen_as = λ e at position.
+          let gap = space_then e 124 [] ms refl refl at in
+          let there = at_text e (codes " ") (text (codes "|") ∷ ms) at ∙ laid_text (codes "|") ms ∙ ap (λ z. 124 ∷ z) parted.is in
+          next_behind position gap ∙ ap (λ t. record { token = t; broken = false }) (pipe_token position T (e + 1) parted.c parted.cs parted.no_backslash parted.no_bar there);
+    }
+
+    abbrev pub operator_token : AndOrOperator → Token
+    operator_token And = tokens.AndIf
+    operator_token Or = tokens.OrIf
+
+    pub operator_follower : (o : AndOrOperator) (ms : Marks) → Follower (text (codes " ") ∷ text (and_or_text o) ∷ ms) (operator_token o)
+    unfolding laid
+    operator_follower And ms = record {
+      follow = refl;
+      seen_as = λ e at position.
+          let there = at_text e (codes " ") (text (codes "&&") ∷ ms) at ∙ laid_text (codes "&&") ms in
+          next_behind position (space_then e 38 (38 ∷ []) ms refl refl at) ∙ ap (λ t. record { token = t; broken = false }) (and_token position T (e + 1) (laid ms) there);
+    }
+    operator_follower Or ms = record {
+      follow = refl;
+      seen_as = λ e at position.
+          let there = at_text e (codes " ") (text (codes "||") ∷ ms) at ∙ laid_text (codes "||") ms in
+          next_behind position (space_then e 124 (124 ∷ []) ms refl refl at) ∙ ap (λ t. record { token = t; broken = false }) (or_token position T (e + 1) (laid ms) there);
+    }
+
+    -- ---- commands
+
+    -- a command begins here
+    pub record Begins (p : ℕ) : Type 0 where
+      pub start : Start T p
+      pub command : begins_command (token_at Command T p) ≡ true
+
+    no_sharp : (p : ℕ) → past_continuations T p ≡ p → is_comment (token_at Command T p) ≡ false → raw_stands T p 35 ≡ false
+    unfolding raw_stands token_at
+    no_sharp p place none = must_fail (is_byte (slice_get T p) 35) (λ e. both_ways (is_comment (token_of Command T p (byte_at T p))) none (ap (λ b. is_comment (token_of Command T p b)) (ap (slice_get T) place ∙ sharp (slice_get T p) e)))
+      where
+        sharp : (x : Option ℕ) → is_byte x 35 ≡ true → x ≡ Some 35
+        sharp None e = absurd cc
+        sharp (Some b) e = let is : b ≡ 35 = grind (arith, nat_tests) in ap Some is
+
+    begins_operand : (p : ℕ) → Begins p → Operand p
+    begins_operand p b =
+        let other = no_other (token_at Command T p) b.command in
+        record { start = b.start; no_comment = no_sharp p b.start.place other.comment; no_newline = other.newline }
+
+    module _ (y : Layout) where
+      -- what is known of the compound commands at this level
+      pub record Fine : Type 0 where
+        pub opens : (m : Text) (c : Shape ACompoundOf) (p : ℕ) (rest : Marks) → GoodCompound room c → At p (print_compound y m c ++ rest) → (o : Opener) × Opens p o
+        pub back : (m : Text) (c : Shape ACompoundOf) (p : ℕ) (rest : Marks) (t : Token) (o : Opener) → all_blank m ≡ true → GoodCompound room c → is_normal_compound c ≡ true
+            → Follower rest t → behind_item t ≡ None → Opens p o → At p (print_compound y m c ++ rest) → Got (inner.compound o) p rest (λ v. shape_of_command B v ≡ compound c)
+
+      module _ (fine : Fine) where
+        begins_by : (t : Token) → begins_simple t ≡ true → begins_command t ≡ true
+        begins_by t e = rw e refl
+
+        opens_by : (t : Token) (o : Opener) → opener_of t ≡ Some o → begins_command t ≡ true
+        opens_by t o e = rw e (or_true (begins_simple t))
+
+        item_begins : (t : Token) (position : Position) → behind_item t ≡ Some position → begins_simple t ≡ true
+        item_begins t position e = rw e refl
+
+        simple_begins : (m : Text) {last : Position} {is : Shape ItemsOf} (p : ℕ) (rest : Marks) → GoodItems room Command is last → SomeItem is → follows (laid rest) ≡ true
+            → At p (print_simple y m is ++ rest) → Start T p × (begins_simple (token_at Command T p) ≡ true)
+        simple_begins m p rest none_more some follow at = absurd some
+        simple_begins m p rest (one_more {next = next} {token = token} {broken = b} {t = w} {is = is} is_item good others) some follow at =
+            let printed_is = append_assoc (print_item y (an_item_of b next w)) (print_items y m is) rest ∙ ap (λ i. i ++ (print_items y m is ++ rest)) (item_printed y b next w) in
+            let there = at ∙ ap laid printed_is ∙ laid_text w (print_items y m is ++ rest) in
+            let found = good.there g p (laid (print_items y m is ++ rest)) there (items_follow y m rest others follow) in
+            (record { place = found.place; no_blank = found.no_blank }, ap begins_simple found.token_is ∙ item_begins token next is_item)
+
+        pub command_begins : (m : Text) (c : Shape ACommandOf) (p : ℕ) (rest : Marks) → GoodCommand room c → follows (laid rest) ≡ true → At p (print_command y m c ++ rest) → Begins p
+        command_begins m (simple is) p rest good follow at =
+            let b = simple_begins m p rest good.items good.some follow at in record { start = b.0; command = begins_by (token_at Command T p) b.1 }
+        command_begins m (compound c) p rest good follow at =
+            let b = fine.opens m c p rest good at in record { start = b.1.start; command = opens_by (token_at Command T p) b.0 b.1.opener }
+        command_begins m (function name comments body) p rest good follow at = absurd good
+
+        pub command_read : (m : Text) (c : Shape ACommandOf) (n : Next) (p : ℕ) (rest : Marks) (t : Token) → all_blank m ≡ true → GoodCommand room c → is_normal_command c ≡ true
+            → Follower rest t → behind_item t ≡ None → n.token ≡ token_at Command T p → At p (print_command y m c ++ rest) → Got (a_command inner n) p rest (λ v. shape_of_command B v ≡ c)
+        unfolding a_command
+        command_read m (simple is) n p rest t blank good normal f none token_is at =
+            let d = deeper_some y m in
+            let b = simple_begins m p rest good.items good.some f.follow at in
+            let r = simple_read y m d.0 d.1 (deeper_blank y m blank) d.2 rest f.follow (follower_behind f none) is n p good (and_parts _ _ normal).0 token_is at in
+            record { value = r.value; «end» = r.«end»; at = r.at; reads = first_of _ _ (ap begins_simple token_is ∙ b.1) r.reads; is = r.is }
+        command_read m (compound c) n p rest t blank good normal f none token_is at =
+            let b = fine.opens m c p rest good at in
+            let r = fine.back m c p rest t b.0 blank good normal f none b.1 at in
+            let opener_is : opener_of n.token ≡ Some b.0 = ap opener_of token_is ∙ b.1.opener in
+            record { value = r.value; «end» = r.«end»; at = r.at; reads = second_of _ _ (ap begins_simple token_is ∙ b.1.no_item) (rw opener_is r.reads); is = r.is }
+        command_read m (function name comments body) n p rest t blank good normal f none token_is at = absurd good
+
+        -- ---- pipelines
+
+        breaks_join : AJoinOf Text → Bool → Bool
+        breaks_join j b = b || breaks_line j
+
+        pipe_marks : (m : Text) (b : Bool) (j : AJoinOf Text) (c : Shape ACommandOf) (cs : Shape PipelinePartsOf) (rest : Marks)
+            → print_pipes y m b (more_pipes j c cs) ++ rest
+            ≡ text (codes " ") ∷ text (codes "|") ∷ (join_rest y m j ++ (print_command y (operand_margin y m (b || breaks_line j)) c ++ (print_pipes y m (b || breaks_line j) cs ++ rest)))
+        pipe_marks m b j c cs rest =
+            let J = print_join y m (codes "|") j in
+            let C = print_command y (operand_margin y m (b || breaks_line j)) c in
+            let P = print_pipes y m (b || breaks_line j) cs in
+            append_assoc (J ++ C) P rest ∙ append_assoc J C (P ++ rest)
+
+        -- what follows a command of a pipeline
+        record PipesFollow (ms : Marks) : Type 0 where
+          token : Token
+          follower : Follower ms token
+          no_item : behind_item token ≡ None
+
+        pipes_follow : (m : Text) (b : Bool) (cs : Shape PipelinePartsOf) (rest : Marks) (t : Token) → Follower rest t → behind_item t ≡ None → PipesFollow (print_pipes y m b cs ++ rest)
+        pipes_follow m b no_pipe rest t f none = record { token = t; follower = f; no_item = none }
+        pipes_follow m b (more_pipes j c cs) rest t f none =
+            let ms = print_command y (operand_margin y m (b || breaks_line j)) c ++ (print_pipes y m (b || breaks_line j) cs ++ rest) in
+            record {
+              token = tokens.Pipe;
+              follower = subst (λ ks. Follower ks tokens.Pipe) (sym (pipe_marks m b j c cs rest)) (pipe_follower (join_rest y m j ++ ms) (join_parted y m j.broken j.comments ms));
+              no_item = refl;
+            }
+
+        record PipesRead (acc : Row APipelinePart) (n : Next) (p : ℕ) (cs : Shape PipelinePartsOf) (rest : Marks) : Type 0 where
+          parts : Row APipelinePart
+          «end» : ℕ
+          at : At «end» rest
+          reads : Gives g (many (pipe_turn inner) (piped acc n)) (standing p) (piped (acc ++ parts) (next_at Command T «end»)) (standing (past_blanks T «end»))
+          shape : shape_of_pipes B (pipeline_parts_of parts) ≡ cs
+
+        pipes_shape : (q : APipelinePart) (qs : Row APipelinePart) (j : AJoinOf Text) (c : Shape ACommandOf) (cs : Shape PipelinePartsOf) → shape_of_join B q.join ≡ j → shape_of_command B q.command ≡ c
+            → shape_of_pipes B (pipeline_parts_of qs) ≡ cs → shape_of_pipes B (pipeline_parts_of (q ∷ qs)) ≡ more_pipes j c cs
+        pipes_shape q qs j c cs e f h = rw (e, f, h) refl
+
+        pipes_more : (acc : Row APipelinePart) (n : Next) (p : ℕ) (q : APipelinePart) (next : Next) (r : ℕ) (qs : Row APipelinePart) (z : Next) (e : ℕ)
+            → Gives g (pipe_turn inner (piped acc n)) (standing p) (again (piped (acc ++ q ∷ []) next)) (standing r) → leads_on g (standing p) (standing r) ≡ true
+            → Gives g (many (pipe_turn inner) (piped (acc ++ q ∷ []) next)) (standing r) (piped ((acc ++ q ∷ []) ++ qs) z) (standing e)
+            → Gives g (many (pipe_turn inner) (piped acc n)) (standing p) (piped (acc ++ (q ∷ qs)) z) (standing e)
+        pipes_more acc n p q next r qs z e one on rest =
+            subst (λ all. Gives g (many (pipe_turn inner) (piped acc n)) (standing p) (piped all z) (standing e)) (append_assoc acc (q ∷ []) qs) (one_turn (pipe_turn inner) one on rest)
+
+        -- one more command
+        record PipeRead (acc : Row APipelinePart) (n : Next) (p : ℕ) (j : AJoinOf Text) (c : Shape ACommandOf) (ms : Marks) : Type 0 where
+          part : APipelinePart
+          «end» : ℕ
+          at : At «end» ms
+          reads : Gives g (pipe_turn inner (piped acc n)) (standing p) (again (piped (acc ++ part ∷ []) (next_at Command T «end»))) (standing (past_blanks T «end»))
+          on : leads_on g (standing p) (standing (past_blanks T «end»)) ≡ true
+          join_is : shape_of_join B part.join ≡ j
+          command_is : shape_of_command B part.command ≡ c
+
+        one_pipe : (m : Text) (d : Text) (j : AJoinOf Text) (c : Shape ACommandOf) (acc : Row APipelinePart) (n : Next) (q : ℕ) (ms : Marks) (t : Token) → all_blank m ≡ true → all_blank d ≡ true
+            → is_normal_join j ≡ true → GoodComments j.comments → GoodCommand room c → is_normal_command c ≡ true → Follower ms t → behind_item t ≡ None
+            → is_pipe n.token ≡ true → n.broken ≡ false → At q (text (codes "|") ∷ (join_rest y m j ++ (print_command y d c ++ ms))) → PipeRead acc n q j c ms
+        unfolding pipe_turn one_command
+        one_pipe m d j c acc n q ms t blank blank_d normal_j good_j good normal f none is_it unbroken at =
+            let X = print_command y d c ++ ms in
+            let there = at ∙ laid_text (codes "|") (join_rest y m j ++ X) in
+            let r = byte_here T q 124 (laid (join_rest y m j ++ X)) refl there in
+            let moved : Gives g (move one_byte) (standing q) tt (standing (q + 1)) = subst (λ p. Gives g (move one_byte) (standing q) tt (standing p)) r.behind_it (moved_here one_byte) in
+            let jr = join_read y m X (deeper_blank y m blank) (λ p at. begins_operand p (command_begins d c p ms good f.follow at)) j.broken j.comments (q + 1) normal_j good_j (at_text q (codes "|") (join_rest y m j ++ X) at) in
+            let cr = command_read d c jr.next jr.q ms t blank_d good normal f none jr.token_is jr.at in
+            let part : APipelinePart = record { join = jr.join; command = cr.value } in
+            let joined_it : Gives g (a_join n.broken) (standing (q + 1)) (jr.join, jr.next) (standing jr.q) = rw unbroken jr.reads in
+            let low_j = gives_on (a_join false) _ _ _ jr.reads in
+            let low_c = gives_on (a_command inner jr.next) _ _ _ cr.reads in
+            record {
+              part = part;
+              «end» = cr.«end»;
+              at = cr.at;
+              reads = first_of _ _ is_it (told_here (by (codes "|")) moved ⟫ joined_it ⟫ cr.reads ⟫ pushed_here acc part ⟫ given_here);
+              on = leads q (past_blanks T cr.«end») (omega (arith, low_j, low_c)) (some_here q 124 (laid (join_rest y m j ++ X)) there);
+              join_is = jr.shape;
+              command_is = cr.is;
+            }
+
+        pipes_read : (m : Text) (b : Bool) (cs : Shape PipelinePartsOf) (acc : Row APipelinePart) (e : ℕ) (rest : Marks) (t : Token) → all_blank m ≡ true → GoodPipes room cs → are_normal_pipes cs ≡ true
+            → Follower rest t → behind_item t ≡ None → is_pipe t ≡ false → At e (print_pipes y m b cs ++ rest) → PipesRead acc (next_at Command T e) (past_blanks T e) cs rest
+        unfolding pipe_turn
+        pipes_read m b no_pipe acc e rest t blank good normal f none no_pipe_it at = record {
+          parts = [];
+          «end» = e;
+          at = at;
+          reads = rw (append-nil acc) (last_turn (pipe_turn inner) (second_of _ _ (ap (λ (n : Next). is_pipe n.token) (f.seen_as e at Command) ∙ no_pipe_it) given_here));
+          shape = refl;
+        }
+        pipes_read m b (more_pipes j c cs) acc e rest t blank good normal f none no_pipe_it at =
+            let d = operand_margin y m (b || breaks_line j) in
+            let ms = print_pipes y m (b || breaks_line j) cs ++ rest in
+            let X = print_command y d c ++ ms in
+            let there = at ∙ ap laid (pipe_marks m b j c cs rest) in
+            let parted = join_parted y m j.broken j.comments X in
+            let n_is = (pipe_follower (join_rest y m j ++ X) parted).seen_as e there Command in
+            let gap = space_then e 124 [] (join_rest y m j ++ X) refl refl there in
+            let parts = and_parts _ _ normal in
+            let first_parts = and_parts _ _ parts.0 in
+            let q = past_blanks T e in
+            let at_q = subst (λ r. At r (text (codes "|") ∷ (join_rest y m j ++ X))) (sym gap.blanks) (at_text e (codes " ") (text (codes "|") ∷ (join_rest y m j ++ X)) there) in
+            let follow = pipes_follow m (b || breaks_line j) cs rest t f none in
+            let one = one_pipe m d j c acc (next_at Command T e) q ms follow.token blank (operand_blank y m (b || breaks_line j) blank) first_parts.0 good.0 good.1 first_parts.1 follow.follower follow.no_item
+            (ap (λ (n : Next). is_pipe n.token) n_is) (ap (λ (n : Next). n.broken) n_is) at_q in
+            let others = pipes_read m (b || breaks_line j) cs (acc ++ one.part ∷ []) one.«end» rest t blank good.2 parts.1 f none no_pipe_it one.at in
+            record {
+              parts = one.part ∷ others.parts;
+              «end» = others.«end»;
+              at = others.at;
+              reads = pipes_more acc (next_at Command T e) q one.part (next_at Command T one.«end») (past_blanks T one.«end») others.parts (next_at Command T others.«end») (past_blanks T others.«end») one.reads one.on others.reads;
+              shape = pipes_shape one.part others.parts j c cs one.join_is one.command_is others.shape;
+            }
+
+        -- a pipeline begins here
+        pub record PipelineBegins (p : ℕ) : Type 0 where
+          pub operand : Operand p
+          pub begins : begins_pipeline (token_at Command T p) ≡ true
+
+        or_between : (a b c : Bool) → (a || c) ≡ true → ((a || b) || c) ≡ true
+        or_between true b c e = refl
+        or_between false b c e = rw e (or_true b)
+
+        command_pipeline : (p : ℕ) → Begins p → PipelineBegins p
+        command_pipeline p b =
+            let t = token_at Command T p in
+            record { operand = begins_operand p b; begins = or_between (begins_simple t) (is_bang t) (is_some (opener_of t)) b.command }
+
+        bang_begins : (p : ℕ) (ms : Marks) → At p (text (codes "! ") ∷ ms) → PipelineBegins p × (is_bang (token_at Command T p) ≡ true)
+        bang_begins p ms at =
+            let k = bang_here T p 32 (laid ms) refl refl (at ∙ laid_text (codes "! ") ms) in (
+              record {
+                operand = record { start = k.start; no_comment = no_sharp p k.start.place (ap is_comment k.token); no_newline = ap is_newline k.token };
+                begins = ap begins_pipeline k.token;
+              },
+              ap is_bang k.token,
+            )
+
+        pipeline_marks : (m : Text) (bang : Option (Unit {0})) (c : Shape ACommandOf) (cs : Shape PipelinePartsOf) (rest : Marks)
+            → print_pipeline y m (pipeline bang c cs) ++ rest ≡ print_bang bang ++ (print_command y m c ++ (print_pipes y m false cs ++ rest))
+        pipeline_marks m bang c cs rest =
+            let C = print_command y m c in
+            let P = print_pipes y m false cs in
+            append_assoc (print_bang bang ++ C) P rest ∙ append_assoc (print_bang bang) C (P ++ rest)
+
+        pub pipeline_begins : (m : Text) (x : Shape APipelineOf) (p : ℕ) (rest : Marks) (t : Token) → GoodPipeline room x → Follower rest t → behind_item t ≡ None
+            → At p (print_pipeline y m x ++ rest) → PipelineBegins p
+        pipeline_begins m (pipeline None c cs) p rest t good f none at =
+            command_pipeline p (command_begins m c p (print_pipes y m false cs ++ rest) good.0 (pipes_follow m false cs rest t f none).follower.follow (at ∙ ap laid (pipeline_marks m None c cs rest)))
+        pipeline_begins m (pipeline (Some mark) c cs) p rest t good f none at =
+            (bang_begins p (print_command y m c ++ (print_pipes y m false cs ++ rest)) (at ∙ ap laid (pipeline_marks m (Some mark) c cs rest))).0
+
+        -- what stands before the command
+        record BangRead (n : Next) (p : ℕ) (bang : Option (Unit {0})) (ms : Marks) : Type 0 where
+          value : Option Span
+          next : Next
+          q : ℕ
+          reads : Gives g (a_bang n) (standing p) (value, next) (standing q)
+          at : At q ms
+          token_is : next.token ≡ token_at Command T q
+          shape : shape_of_bang value ≡ bang
+
+        bang_read : (n : Next) (p : ℕ) (bang : Option (Unit {0})) (ms : Marks) → ((q : ℕ) → At q ms → Begins q) → n.token ≡ token_at Command T p → At p (print_bang bang ++ ms) → BangRead n p bang ms
+        unfolding a_bang
+        bang_read n p None ms begins token_is at =
+            let other = no_other (token_at Command T p) (begins p at).command in
+            record { value = None; next = n; q = p; reads = second_of _ _ (ap is_bang token_is ∙ other.bang) given_here; at = at; token_is = token_is; shape = refl }
+        bang_read n p (Some mark) ms begins token_is at =
+            let there = at ∙ laid_text (codes "! ") ms in
+            let r = byte_here T p 33 (32 ∷ laid ms) refl there in
+            let moved : Gives g (move one_byte) (standing p) tt (standing (p + 1)) = subst (λ q. Gives g (move one_byte) (standing p) tt (standing q)) r.behind_it (moved_here one_byte) in
+            let space : At (p + 1) (text (codes " ") ∷ ms) = r.rest ∙ sym (laid_text (codes " ") ms) in
+            let behind_it = at_text (p + 1) (codes " ") ms space in
+            let gap = margin_gap (codes " ") (p + 1) ms refl space (begins (p + 1 + 1) behind_it).start in
+            record {
+              value = Some (span o p (p + 1));
+              next = next_at Command T (p + 1);
+              q = past_blanks T (p + 1);
+              reads = first_of _ _ (ap is_bang token_is ∙ (bang_begins p ms at).1) (told_here (by (codes "!")) moved ⟫ next_read Command (p + 1) ⟫ given_here);
+              at = subst (λ q. At q ms) (sym gap.blanks) behind_it;
+              token_is = refl;
+              shape = refl;
+            }
+
+        pipeline_shape : (b : Option Span) (c : ACommand) (ps : Row APipelinePart) (bang : Option (Unit {0})) (d : Shape ACommandOf) (cs : Shape PipelinePartsOf)
+            → shape_of_bang b ≡ bang → shape_of_command B c ≡ d → shape_of_pipes B (pipeline_parts_of ps) ≡ cs → shape_of_pipeline B (pipeline b c (pipeline_parts_of ps)) ≡ pipeline bang d cs
+        pipeline_shape b c ps bang d cs e f h = rw (e, f, h) refl
+
+        pub pipeline_read : (m : Text) (x : Shape APipelineOf) (n : Next) (p : ℕ) (rest : Marks) (t : Token) → all_blank m ≡ true → GoodPipeline room x → is_normal_pipeline x ≡ true
+            → Follower rest t → behind_item t ≡ None → is_pipe t ≡ false → n.token ≡ token_at Command T p → At p (print_pipeline y m x ++ rest)
+            → Got (a_pipeline inner n) p rest (λ v. shape_of_pipeline B v ≡ x)
+        unfolding a_pipeline
+        pipeline_read m (pipeline bang c cs) n p rest t blank good normal f none no_pipe_it token_is at =
+            let parts = and_parts _ _ normal in
+            let follow = pipes_follow m false cs rest t f none in
+            let ms = print_pipes y m false cs ++ rest in
+            let br = bang_read n p bang (print_command y m c ++ ms) (λ q at. command_begins m c q ms good.0 follow.follower.follow at) token_is (at ∙ ap laid (pipeline_marks m bang c cs rest)) in
+            let cr = command_read m c br.next br.q ms follow.token blank good.0 parts.0 follow.follower follow.no_item br.token_is br.at in
+            let pr = pipes_read m false cs [] cr.«end» rest t blank good.1 parts.1 f none no_pipe_it cr.at in
+            record {
+              value = pipeline br.value cr.value (pipeline_parts_of pr.parts);
+              «end» = pr.«end»;
+              at = pr.at;
+              reads = br.reads ⟫ cr.reads ⟫ pr.reads ⟫ given_here;
+              is = pipeline_shape br.value cr.value pr.parts bang c cs br.shape cr.is pr.shape;
+            }
+
+        -- ---- and-or lists
+
+        part_marks : (m : Text) (b : Bool) (k : AndOrOperator) (j : AJoinOf Text) (x : Shape APipelineOf) (xs : Shape AndOrPartsOf) (rest : Marks)
+            → print_and_or_parts y m b (more_and_or k j x xs) ++ rest
+            ≡ text (codes " ") ∷ text (and_or_text k) ∷ (join_rest y m j ++ (print_pipeline y (operand_margin y m (b || breaks_line j)) x ++ (print_and_or_parts y m (b || breaks_line j) xs ++ rest)))
+        part_marks m b k j x xs rest =
+            let J = print_join y m (and_or_text k) j in
+            let X = print_pipeline y (operand_margin y m (b || breaks_line j)) x in
+            let P = print_and_or_parts y m (b || breaks_line j) xs in
+            append_assoc (J ++ X) P rest ∙ append_assoc J X (P ++ rest)
+
+        operator_no_item : (k : AndOrOperator) → (behind_item (operator_token k) ≡ None) × (is_pipe (operator_token k) ≡ false) × (and_or_operator_of (operator_token k) ≡ Some k)
+        operator_no_item And = (refl, refl, refl)
+        operator_no_item Or = (refl, refl, refl)
+
+        -- what follows a pipeline of an and-or list
+        record PartsFollow (ms : Marks) : Type 0 where
+          token : Token
+          follower : Follower ms token
+          no_item : behind_item token ≡ None
+          no_pipe_it : is_pipe token ≡ false
+
+        parts_follow : (m : Text) (b : Bool) (xs : Shape AndOrPartsOf) (rest : Marks) (t : Token) → Follower rest t → behind_item t ≡ None → is_pipe t ≡ false → PartsFollow (print_and_or_parts y m b xs ++ rest)
+        parts_follow m b no_and_or rest t f none no_pipe_it = record { token = t; follower = f; no_item = none; no_pipe_it = no_pipe_it }
+        parts_follow m b (more_and_or k j x xs) rest t f none no_pipe_it =
+            let ms = print_pipeline y (operand_margin y m (b || breaks_line j)) x ++ (print_and_or_parts y m (b || breaks_line j) xs ++ rest) in
+            let other = operator_no_item k in
+            record {
+              token = operator_token k;
+              follower = subst (λ ks. Follower ks (operator_token k)) (sym (part_marks m b k j x xs rest)) (operator_follower k (join_rest y m j ++ ms));
+              no_item = other.0;
+              no_pipe_it = other.1;
+            }
+
+        -- two bytes are passed
+        two_moves : (q : ℕ) → behind T q ≡ q + 1 → behind T (q + 1) ≡ q + 1 + 1 → Gives g (move one_byte >> move one_byte) (standing q) tt (standing (q + 2))
+        two_moves q one_is two_is =
+            let e : q + 1 + 1 ≡ q + 2 = omega arith in
+            let first_move : Gives g (move one_byte) (standing q) tt (standing (q + 1)) = subst (λ p. Gives g (move one_byte) (standing q) tt (standing p)) one_is (moved_here one_byte) in
+            let second_move : Gives g (move one_byte) (standing (q + 1)) tt (standing (q + 2)) = subst (λ p. Gives g (move one_byte) (standing (q + 1)) tt (standing p)) (two_is ∙ e) (moved_here one_byte) in
+            first_move ⟫ second_move
+
+        no_part : (acc : Row AnAndOrPart) (n : Next) (p : ℕ) → and_or_operator_of n.token ≡ None → Gives g (join_pipeline inner (joined_so acc n)) (standing p) (done (joined_so acc n)) (standing p)
+        unfolding join_pipeline
+        no_part acc n p none = rw none given_here
+
+        -- the bytes of an operator are passed
+        operator_passed : (k : AndOrOperator) (q : ℕ) (ms : Marks) → At q (text (and_or_text k) ∷ ms) → Gives g (move one_byte >> move one_byte) (standing q) tt (standing (q + 2))
+        operator_passed And q ms at =
+            let there = at ∙ laid_text (codes "&&") ms in
+            let one_is = byte_here T q 38 (38 ∷ laid ms) refl there in
+            let two_is = byte_here T (q + 1) 38 (laid ms) refl one_is.rest in
+            two_moves q one_is.behind_it two_is.behind_it
+        operator_passed Or q ms at =
+            let there = at ∙ laid_text (codes "||") ms in
+            let one_is = byte_here T q 124 (124 ∷ laid ms) refl there in
+            let two_is = byte_here T (q + 1) 124 (laid ms) refl one_is.rest in
+            two_moves q one_is.behind_it two_is.behind_it
+
+        record PartRead (acc : Row AnAndOrPart) (n : Next) (p : ℕ) (k : AndOrOperator) (j : AJoinOf Text) (x : Shape APipelineOf) (ms : Marks) : Type 0 where
+          part : AnAndOrPart
+          «end» : ℕ
+          at : At «end» ms
+          reads : Gives g (join_pipeline inner (joined_so acc n)) (standing p) (again (joined_so (acc ++ part ∷ []) (next_at Command T «end»))) (standing (past_blanks T «end»))
+          on : leads_on g (standing p) (standing (past_blanks T «end»)) ≡ true
+          operator_is : part.operator ≡ k
+          join_is : shape_of_join B part.join ≡ j
+          pipeline_is : shape_of_pipeline B part.pipeline ≡ x
+
+        operator_length : (k : AndOrOperator) → length (and_or_text k) ≡ 2
+        operator_length And = refl
+        operator_length Or = refl
+
+        operator_here : (k : AndOrOperator) (q : ℕ) (ms : Marks) → At q (text (and_or_text k) ∷ ms) → q < length T
+        operator_here And q ms at = some_here q 38 (38 ∷ laid ms) (at ∙ laid_text (codes "&&") ms)
+        operator_here Or q ms at = some_here q 124 (124 ∷ laid ms) (at ∙ laid_text (codes "||") ms)
+
+        one_part : (m : Text) (d : Text) (k : AndOrOperator) (j : AJoinOf Text) (x : Shape APipelineOf) (acc : Row AnAndOrPart) (n : Next) (q : ℕ) (ms : Marks) (t : Token)
+            → all_blank m ≡ true → all_blank d ≡ true → is_normal_join j ≡ true → GoodComments j.comments → GoodPipeline room x → is_normal_pipeline x ≡ true → Follower ms t → behind_item t ≡ None
+            → is_pipe t ≡ false → and_or_operator_of n.token ≡ Some k → n.broken ≡ false → At q (text (and_or_text k) ∷ (join_rest y m j ++ (print_pipeline y d x ++ ms))) → PartRead acc n q k j x ms
+        unfolding join_pipeline one_pipeline
+        one_part m d k j x acc n q ms t blank blank_d normal_j good_j good normal f none no_pipe_it is_it unbroken at =
+            let X = print_pipeline y d x ++ ms in
+            let moved = operator_passed k q (join_rest y m j ++ X) at in
+            let behind_it = subst (λ n. At (q + n) (join_rest y m j ++ X)) (operator_length k) (at_text q (and_or_text k) (join_rest y m j ++ X) at) in
+            let jr = join_read y m X (deeper_blank y m blank) (λ p at. (pipeline_begins d x p ms t good f none at).operand) j.broken j.comments (q + 2) normal_j good_j behind_it in
+            let xr = pipeline_read d x jr.next jr.q ms t blank_d good normal f none no_pipe_it jr.token_is jr.at in
+            let part : AnAndOrPart = record { operator = k; join = jr.join; pipeline = xr.value } in
+            let joined_it : Gives g (a_join n.broken) (standing (q + 2)) (jr.join, jr.next) (standing jr.q) = rw unbroken jr.reads in
+            let low_j = gives_on (a_join false) _ _ _ jr.reads in
+            let low_x = gives_on (a_pipeline inner jr.next) _ _ _ xr.reads in
+            record {
+              part = part;
+              «end» = xr.«end»;
+              at = xr.at;
+              reads = rw is_it (told_here (by (and_or_text k)) moved ⟫ joined_it ⟫ xr.reads ⟫ pushed_here acc part ⟫ given_here);
+              on = leads q (past_blanks T xr.«end») (omega (arith, low_j, low_x)) (operator_here k q (join_rest y m j ++ X) at);
+              operator_is = refl;
+              join_is = jr.shape;
+              pipeline_is = xr.is;
+            }
+
+        record PartsRead (acc : Row AnAndOrPart) (n : Next) (p : ℕ) (xs : Shape AndOrPartsOf) (rest : Marks) : Type 0 where
+          parts : Row AnAndOrPart
+          «end» : ℕ
+          at : At «end» rest
+          reads : Gives g (many (join_pipeline inner) (joined_so acc n)) (standing p) (joined_so (acc ++ parts) (next_at Command T «end»)) (standing (past_blanks T «end»))
+          shape : shape_of_and_or_parts B (and_or_parts_of parts) ≡ xs
+
+        parts_more : (acc : Row AnAndOrPart) (n : Next) (p : ℕ) (q : AnAndOrPart) (next : Next) (r : ℕ) (qs : Row AnAndOrPart) (z : Next) (e : ℕ)
+            → Gives g (join_pipeline inner (joined_so acc n)) (standing p) (again (joined_so (acc ++ q ∷ []) next)) (standing r) → leads_on g (standing p) (standing r) ≡ true
+            → Gives g (many (join_pipeline inner) (joined_so (acc ++ q ∷ []) next)) (standing r) (joined_so ((acc ++ q ∷ []) ++ qs) z) (standing e)
+            → Gives g (many (join_pipeline inner) (joined_so acc n)) (standing p) (joined_so (acc ++ (q ∷ qs)) z) (standing e)
+        parts_more acc n p q next r qs z e one on rest =
+            subst (λ all. Gives g (many (join_pipeline inner) (joined_so acc n)) (standing p) (joined_so all z) (standing e)) (append_assoc acc (q ∷ []) qs) (one_turn (join_pipeline inner) one on rest)
+
+        parts_shape : (q : AnAndOrPart) (qs : Row AnAndOrPart) (k : AndOrOperator) (j : AJoinOf Text) (x : Shape APipelineOf) (xs : Shape AndOrPartsOf) → q.operator ≡ k → shape_of_join B q.join ≡ j
+            → shape_of_pipeline B q.pipeline ≡ x → shape_of_and_or_parts B (and_or_parts_of qs) ≡ xs → shape_of_and_or_parts B (and_or_parts_of (q ∷ qs)) ≡ more_and_or k j x xs
+        parts_shape q qs k j x xs e f h i = rw (e, f, h, i) refl
+
+        -- where an operator begins behind a space
+        operator_gap : (k : AndOrOperator) (e : ℕ) (ms : Marks) → At e (text (codes " ") ∷ text (and_or_text k) ∷ ms) → Gap T e (e + 1) false
+        operator_gap And e ms at = space_then e 38 (38 ∷ []) ms refl refl at
+        operator_gap Or e ms at = space_then e 124 (124 ∷ []) ms refl refl at
+
+        parts_read : (m : Text) (b : Bool) (xs : Shape AndOrPartsOf) (acc : Row AnAndOrPart) (e : ℕ) (rest : Marks) (t : Token) → all_blank m ≡ true → GoodParts room xs → are_normal_and_ors xs ≡ true
+            → Follower rest t → behind_item t ≡ None → is_pipe t ≡ false → and_or_operator_of t ≡ None → At e (print_and_or_parts y m b xs ++ rest) → PartsRead acc (next_at Command T e) (past_blanks T e) xs rest
+        parts_read m b no_and_or acc e rest t blank good normal f none no_pipe_it no_operator at = record {
+          parts = [];
+          «end» = e;
+          at = at;
+          reads = rw (append-nil acc) (last_turn (join_pipeline inner) (no_part acc (next_at Command T e) (past_blanks T e) (ap (λ (n : Next). and_or_operator_of n.token) (f.seen_as e at Command) ∙ no_operator)));
+          shape = refl;
+        }
+        parts_read m b (more_and_or k j x xs) acc e rest t blank good normal f none no_pipe_it no_operator at =
+            let d = operand_margin y m (b || breaks_line j) in
+            let ms = print_and_or_parts y m (b || breaks_line j) xs ++ rest in
+            let X = print_pipeline y d x ++ ms in
+            let there = at ∙ ap laid (part_marks m b k j x xs rest) in
+            let n_is = (operator_follower k (join_rest y m j ++ X)).seen_as e there Command in
+            let gap = operator_gap k e (join_rest y m j ++ X) there in
+            let parts = and_parts _ _ normal in
+            let first_parts = and_parts _ _ parts.0 in
+            let q = past_blanks T e in
+            let at_q = subst (λ r. At r (text (and_or_text k) ∷ (join_rest y m j ++ X))) (sym gap.blanks) (at_text e (codes " ") (text (and_or_text k) ∷ (join_rest y m j ++ X)) there) in
+            let follow = parts_follow m (b || breaks_line j) xs rest t f none no_pipe_it in
+            let one = one_part m d k j x acc (next_at Command T e) q ms follow.token blank (operand_blank y m (b || breaks_line j) blank) first_parts.0 good.0 good.1 first_parts.1 follow.follower follow.no_item follow.no_pipe_it
+            (ap (λ (n : Next). and_or_operator_of n.token) n_is ∙ (operator_no_item k).2) (ap (λ (n : Next). n.broken) n_is) at_q in
+            let others = parts_read m (b || breaks_line j) xs (acc ++ one.part ∷ []) one.«end» rest t blank good.2 parts.1 f none no_pipe_it no_operator one.at in
+            record {
+              parts = one.part ∷ others.parts;
+              «end» = others.«end»;
+              at = others.at;
+              reads = parts_more acc (next_at Command T e) q one.part (next_at Command T one.«end») (past_blanks T one.«end») others.parts (next_at Command T others.«end») (past_blanks T others.«end») one.reads one.on others.reads;
+              shape = parts_shape one.part others.parts k j x xs one.operator_is one.join_is one.pipeline_is others.shape;
+            }
+
+        and_or_marks : (m : Text) (x : Shape APipelineOf) (xs : Shape AndOrPartsOf) (rest : Marks) → print_and_or y m (and_or x xs) ++ rest ≡ print_pipeline y m x ++ (print_and_or_parts y m false xs ++ rest)
+        and_or_marks m x xs rest = append_assoc (print_pipeline y m x) (print_and_or_parts y m false xs) rest
+
+        pub and_or_begins : (m : Text) (a : Shape AnAndOrOf) (p : ℕ) (rest : Marks) (t : Token) → GoodAndOr room a → Follower rest t → behind_item t ≡ None → is_pipe t ≡ false
+            → At p (print_and_or y m a ++ rest) → PipelineBegins p
+        and_or_begins m (and_or x xs) p rest t good f none no_pipe_it at =
+            let follow = parts_follow m false xs rest t f none no_pipe_it in
+            pipeline_begins m x p (print_and_or_parts y m false xs ++ rest) follow.token good.0 follow.follower follow.no_item (at ∙ ap laid (and_or_marks m x xs rest))
+
+        and_or_shape : (p : APipeline) (ps : Row AnAndOrPart) (x : Shape APipelineOf) (xs : Shape AndOrPartsOf) → shape_of_pipeline B p ≡ x → shape_of_and_or_parts B (and_or_parts_of ps) ≡ xs
+            → shape_of_and_or B (and_or p (and_or_parts_of ps)) ≡ and_or x xs
+        and_or_shape p ps x xs e f = rw (e, f) refl
+
+        pub and_or_read : (m : Text) (a : Shape AnAndOrOf) (n : Next) (p : ℕ) (rest : Marks) (t : Token) → all_blank m ≡ true → GoodAndOr room a → is_normal_and_or a ≡ true
+            → Follower rest t → behind_item t ≡ None → is_pipe t ≡ false → and_or_operator_of t ≡ None → n.token ≡ token_at Command T p → At p (print_and_or y m a ++ rest)
+            → Got (an_and_or inner n) p rest (λ v. shape_of_and_or B v ≡ a)
+        unfolding an_and_or
+        and_or_read m (and_or x xs) n p rest t blank good normal f none no_pipe_it no_operator token_is at =
+            let parts = and_parts _ _ normal in
+            let follow = parts_follow m false xs rest t f none no_pipe_it in
+            let xr = pipeline_read m x n p (print_and_or_parts y m false xs ++ rest) follow.token blank good.0 parts.0 follow.follower follow.no_item follow.no_pipe_it token_is (at ∙ ap laid (and_or_marks m x xs rest)) in
+            let pr = parts_read m false xs [] xr.«end» rest t blank good.1 parts.1 f none no_pipe_it no_operator xr.at in
+            record {
+              value = and_or xr.value (and_or_parts_of pr.parts);
+              «end» = pr.«end»;
+              at = pr.at;
+              reads = xr.reads ⟫ pr.reads ⟫ given_here;
+              is = and_or_shape xr.value pr.parts x xs xr.is pr.shape;
+            }
+
+        -- ---- entries
+
+        -- what stands behind the commands of an entry, up to the end of its line
+        abbrev pub entry_rest : Bool → Option Text → Marks → Marks
+        entry_rest background comment rest = print_background background ++ (print_own_comment comment ++ (line_end ∷ rest))
+
+        own_parted : (comment : Option Text) (rest : Marks) → Parted (laid (print_own_comment comment ++ (line_end ∷ rest)))
+        unfolding laid
+        own_parted None rest = record { c = 10; cs = _; is = refl; no_backslash = refl; no_bar = refl; no_ampersand = refl }
+        own_parted (Some c) rest = record { c = 32; cs = _; is = refl; no_backslash = refl; no_bar = refl; no_ampersand = refl }
+
+        -- what follows the commands of an entry
+        record EntryFollow (ms : Marks) : Type 0 where
+          token : Token
+          follower : Follower ms token
+          no_item : behind_item token ≡ None
+          no_pipe_it : is_pipe token ≡ false
+          no_operator : and_or_operator_of token ≡ None
+
+        line_follower : (rest : Marks) → Follower (line_end ∷ rest) tokens.Newline
+        unfolding laid
+        line_follower rest = record { follow = refl; seen_as = λ e at position. (newline_next position e rest at).0 }
+
+        sharp_token : (position : Position) (q : ℕ) → byte_at T q ≡ Some 35 → token_at position T q ≡ tokens.Comment
+        unfolding token_at
+        sharp_token position q e = ap (token_of position T q) e
+
+        comment_follower : (c : Text) (rest : Marks) → CommentAnywhere c → Follower (text (codes " ") ∷ text c ∷ line_end ∷ rest) tokens.Comment
+        unfolding laid
+        comment_follower c rest good = record {
+          follow = refl;
+          seen_as = λ e at position.
+              let behind_it = at_text e (codes " ") (text c ∷ line_end ∷ rest) at in
+              let found = good.there T o (e + 1) (laid rest) (behind_it ∙ laid_text c (line_end ∷ rest) ∙ ap (λ z. c ++ z) (laid_line rest)) in
+              let gap = margin_gap (codes " ") e (text c ∷ line_end ∷ rest) refl at (comment_start c (e + 1) rest good behind_it) in
+              next_behind position gap ∙ ap (λ t. record { token = t; broken = false }) (sharp_token position (e + 1) found.4);
+        }
+
+        background_follower : (ms : Marks) → Parted (laid ms) → Follower (text (codes " &") ∷ ms) tokens.Ampersand
+        unfolding laid
+        background_follower ms parted = record {
+          follow = refl;
+          seen_as = λ e at position.
+              let there = at ∙ laid_text (codes " &") ms in
+              let amp = next_one T e 32 (38 ∷ laid ms) there in
+              let start = start_here (byte_here T (e + 1) 38 (laid ms) refl amp) refl in
+              let gap = blank_gap refl there (no_gap start) in
+              next_behind position gap ∙ ap (λ t. record { token = t; broken = false }) (ampersand_token position T (e + 1) parted.c parted.cs parted.no_backslash parted.no_ampersand (amp ∙ ap (λ z. 38 ∷ z) parted.is));
+        }
+
+        entry_follow : (background : Bool) (comment : Option Text) (rest : Marks) → GoodOwnComment comment → EntryFollow (entry_rest background comment rest)
+        entry_follow true comment rest good = record {
+          token = tokens.Ampersand;
+          follower = background_follower (print_own_comment comment ++ (line_end ∷ rest)) (own_parted comment rest);
+          no_item = refl;
+          no_pipe_it = refl;
+          no_operator = refl;
+        }
+        entry_follow false None rest good = record { token = tokens.Newline; follower = line_follower rest; no_item = refl; no_pipe_it = refl; no_operator = refl }
+        entry_follow false (Some c) rest good = record { token = tokens.Comment; follower = comment_follower c rest good; no_item = refl; no_pipe_it = refl; no_operator = refl }
+
+        -- the separator
+        record SeparatorRead (e : ℕ) (background : Bool) (ms : Marks) : Type 0 where
+          separator : Option Separator
+          f : ℕ
+          at : At f ms
+          reads : Gives g (a_separator (next_at Command T e)) (standing (past_blanks T e)) (separator, next_at Command T f) (standing (past_blanks T f))
+          is_it : is_background separator ≡ background
+          parted_is : is_parted separator ≡ background
+
+        no_separator : (n : Next) (q : ℕ) → separator_of n.token ≡ None → Gives g (a_separator n) (standing q) (None, n) (standing q)
+        unfolding a_separator
+        no_separator n q e = rw e given_here
+
+        some_separator : (n : Next) (q : ℕ) (k : Separator) → separator_of n.token ≡ Some k → behind T q ≡ q + 1
+            → Gives g (a_separator n) (standing q) (Some k, next_at Command T (q + 1)) (standing (past_blanks T (q + 1)))
+        unfolding a_separator
+        some_separator n q k e behind_is =
+            let moved : Gives g (move one_byte) (standing q) tt (standing (q + 1)) = subst (λ p. Gives g (move one_byte) (standing q) tt (standing p)) behind_is (moved_here one_byte) in
+            rw e (told_here (told_separator k) moved ⟫ next_read Command (q + 1) ⟫ given_here)
+
+        separator_read : (background : Bool) (comment : Option Text) (rest : Marks) (e : ℕ) → GoodOwnComment comment → At e (entry_rest background comment rest)
+            → SeparatorRead e background (print_own_comment comment ++ (line_end ∷ rest))
+        separator_read true comment rest e good at =
+            let ms = print_own_comment comment ++ (line_end ∷ rest) in
+            let there = at ∙ laid_text (codes " &") ms in
+            let amp = next_one T e 32 (38 ∷ laid ms) there in
+            let r = byte_here T (e + 1) 38 (laid ms) refl amp in
+            let gap = blank_gap refl there (no_gap (start_here r refl)) in
+            let q = past_blanks T e in
+            let r_q = byte_here T q 38 (laid ms) refl (subst (λ p. drop p T ≡ 38 ∷ laid ms) (sym gap.blanks) amp) in
+            let n_is = (background_follower ms (own_parted comment rest)).seen_as e at Command in
+            record {
+              separator = Some Ampersand;
+              f = q + 1;
+              at = r_q.rest;
+              reads = some_separator (next_at Command T e) q Ampersand (ap (λ (n : Next). separator_of n.token) n_is) r_q.behind_it;
+              is_it = refl;
+              parted_is = refl;
+            }
+        separator_read false None rest e good at = record {
+          separator = None;
+          f = e;
+          at = at;
+          reads = no_separator (next_at Command T e) (past_blanks T e) (ap (λ (n : Next). separator_of n.token) ((line_follower rest).seen_as e at Command));
+          is_it = refl;
+          parted_is = refl;
+        }
+        separator_read false (Some c) rest e good at = record {
+          separator = None;
+          f = e;
+          at = at;
+          reads = no_separator (next_at Command T e) (past_blanks T e) (ap (λ (n : Next). separator_of n.token) ((comment_follower c rest good).seen_as e at Command));
+          is_it = refl;
+          parted_is = refl;
+        }
+
+        -- the comment of an entry, and then the end of its line
+        record OwnRead (f : ℕ) (comment : Option Text) (rest : Marks) : Type 0 where
+          own : Option Span
+          «end» : ℕ
+          at : At «end» (line_end ∷ rest)
+          reads : Gives g (a_comment (next_at Command T f)) (standing (past_blanks T f)) (own, next_at Command T «end») (standing (past_blanks T «end»))
+          shape : option_map (shape_of_comment B) own ≡ comment
+
+        own_read : (comment : Option Text) (rest : Marks) (f : ℕ) → GoodOwnComment comment → At f (print_own_comment comment ++ (line_end ∷ rest)) → OwnRead f comment rest
+        own_read None rest f good at =
+            let line = newline_next Command f rest at in
+            let at_q = subst (λ q. At q (line_end ∷ rest)) (sym line.1) at in
+            record {
+              own = None;
+              «end» = f;
+              at = at;
+              reads = no_comment_read (next_at Command T f) (past_blanks T f) (no_byte (past_blanks T f) 10 (laid rest) 35 refl (at_q ∙ laid_line rest));
+              shape = refl;
+            }
+        own_read (Some c) rest f good at =
+            let behind_it = at_text f (codes " ") (text c ∷ line_end ∷ rest) at in
+            let gap = margin_gap (codes " ") f (text c ∷ line_end ∷ rest) refl at (comment_start c (f + 1) rest good behind_it) in
+            let q = past_blanks T f in
+            let at_q = subst (λ r. At r (text c ∷ line_end ∷ rest)) (sym gap.blanks) behind_it in
+            record {
+              own = Some (span o q (q + length c));
+              «end» = q + length c;
+              at = at_text q c (line_end ∷ rest) at_q;
+              reads = comment_read c (next_at Command T f) q rest good at_q;
+              shape = ap Some (comment_shape c q (line_end ∷ rest) at_q);
+            }
+
+        -- an entry up to the end of its line
+        pub record EntryRead (blank : Bool) (n : Next) (p : ℕ) (a : Shape AnAndOrOf) (background : Bool) (comment : Option Text) (rest : Marks) : Type 0 where
+          pub value : AnEntry
+          pub «end» : ℕ
+          pub at : At «end» (line_end ∷ rest)
+          pub reads : Gives g (an_entry inner blank n) (standing p) (record { entry = value; parted = background; next = next_at Command T «end» }) (standing (past_blanks T «end»))
+          pub shape : shape_of_entry B value ≡ entry (command a) background blank comment
+
+        entered_is : (blank : Bool) (a : AnAndOr) (s : Option Separator) (c : Option Span) (n : Next) (background : Bool) → is_background s ≡ background → is_parted s ≡ background
+            → ◌≡◌ {A = Entered} (record { entry = entry (command a) (is_background s) blank c; parted = is_parted s; next = n }) (record { entry = entry (command a) background blank c; parted = background; next = n })
+        entered_is blank a s c n background e f = rw (e, f) refl
+
+        entry_shape : (blank background : Bool) (a : AnAndOr) (c : Option Span) (x : Shape AnAndOrOf) (comment : Option Text) → shape_of_and_or B a ≡ x → option_map (shape_of_comment B) c ≡ comment
+            → shape_of_entry B (entry (command a) background blank c) ≡ entry (command x) background blank comment
+        entry_shape blank background a c x comment e f = rw (e, f) refl
+
+        pub entry_read : (m : Text) (blank : Bool) (a : Shape AnAndOrOf) (background : Bool) (comment : Option Text) (n : Next) (p : ℕ) (rest : Marks) → all_blank m ≡ true → GoodAndOr room a
+            → GoodOwnComment comment → is_normal_and_or a ≡ true → n.token ≡ token_at Command T p → At p (print_and_or y m a ++ entry_rest background comment rest) → EntryRead blank n p a background comment rest
+        unfolding an_entry
+        entry_read m blank a background comment n p rest is_blank_m good good_c normal token_is at =
+            let follow = entry_follow background comment rest good_c in
+            let ar = and_or_read m a n p (entry_rest background comment rest) follow.token is_blank_m good normal follow.follower follow.no_item follow.no_pipe_it follow.no_operator token_is at in
+            let sr = separator_read background comment rest ar.«end» good_c ar.at in
+            let cr = own_read comment rest sr.f good_c sr.at in
+            let last_state = standing (past_blanks T cr.«end») in
+            let n_end = next_at Command T cr.«end» in
+            let is_entered = entered_is blank ar.value sr.separator cr.own n_end background sr.is_it sr.parted_is in
+            record {
+              value = entry (command ar.value) background blank cr.own;
+              «end» = cr.«end»;
+              at = cr.at;
+              reads = ar.reads ⟫ sr.reads ⟫ cr.reads ⟫ subst (λ z. Gives g (give (record { entry = entry (command ar.value) (is_background sr.separator) blank cr.own; parted = is_parted sr.separator; next = n_end })) last_state z last_state) is_entered given_here;
+              shape = entry_shape blank background ar.value cr.own a comment ar.is cr.shape;
+            }
+
+        -- ---- lines of a list
+
+        -- the entries so far, at the beginning of a line
+        abbrev pub at_line_start : Row AnEntry → Bool → Bool → Listed
+        at_line_start es blank commands = record { entries = es; blank = blank; begun = false; commands = commands }
+
+        -- behind an entry of a line
+        abbrev pub on_this_line : Row AnEntry → Bool → Bool → Listed
+        on_this_line es blank commands = record { entries = es; blank = blank; begun = true; commands = commands }
+
+        and_true : (b : Bool) → (b && true) ≡ b
+        and_true true = refl
+        and_true false = refl
+
+        -- no entry begins here
+        no_entry_turn : (l : Listed) (n : Next) (p : ℕ) → begins_pipeline n.token ≡ false → Gives g (entry_turn inner (list_so l n)) (standing p) (done (list_so l n)) (standing p)
+        unfolding entry_turn
+        no_entry_turn l n p e = second_of _ _ e given_here
+
+        no_remark : (l : Listed) (n : Next) (p : ℕ) → raw_stands T p 35 ≡ false → Gives g (a_remark (list_so l n)) (standing p) (list_so l n) (standing p)
+        unfolding a_remark
+        no_remark l n p e = no_comment_read n p e ⟫ given_here
+
+        -- a line without entries, up to what ends it
+        pub nothing_on_line : (l : Listed) (n : Next) (p : ℕ) → begins_pipeline n.token ≡ false → raw_stands T p 35 ≡ false → Gives g (on_line inner (list_so l n)) (standing p) (list_so l n) (standing p)
+        unfolding on_line
+        nothing_on_line l n p e f = last_turn (entry_turn inner) (no_entry_turn l n p e) ⟫ no_remark l n p f
+
+        -- the end of a line
+        record LineEnd (e : ℕ) (rest : Marks) : Type 0 where
+          n_is : next_at Command T e ≡ record { token = tokens.Newline; broken = false }
+          q_is : past_blanks T e ≡ e
+          at_q : At (past_blanks T e) (line_end ∷ rest)
+          no_comment_q : raw_stands T (past_blanks T e) 35 ≡ false
+
+        line_end_here : (e : ℕ) (rest : Marks) → At e (line_end ∷ rest) → LineEnd e rest
+        line_end_here e rest at =
+            let line = newline_next Command e rest at in
+            let at_q = subst (λ q. At q (line_end ∷ rest)) (sym line.1) at in
+            record { n_is = line.0; q_is = line.1; at_q = at_q; no_comment_q = no_byte (past_blanks T e) 10 (laid rest) 35 refl (at_q ∙ laid_line rest) }
+
+        -- an entry on its line
+        pub record OnLine (acc : Row AnEntry) (blank commands : Bool) (n : Next) (p : ℕ) (e : Shape AnEntryOf) (is_a_command : Bool) (rest : Marks) : Type 0 where
+          pub value : AnEntry
+          pub «end» : ℕ
+          pub at : At «end» (line_end ∷ rest)
+          pub reads : Gives g (on_line inner (list_so (at_line_start acc blank commands) n)) (standing p) (list_so (on_this_line (acc ++ value ∷ []) blank (commands || is_a_command)) (next_at Command T «end»)) (standing (past_blanks T «end»))
+          pub shape : shape_of_entry B value ≡ e
+
+        one_entry_by : (acc : Row AnEntry) (blank commands : Bool) (n : Next) (p : ℕ) (a : Shape AnAndOrOf) (background : Bool) (comment : Option Text) (rest : Marks)
+            → begins_pipeline n.token ≡ true → p < length T → (r : EntryRead (blank && true) n p a background comment rest) → p < past_blanks T r.«end»
+            → Gives g (many (entry_turn inner) (list_so (at_line_start acc blank commands) n)) (standing p) (list_so (on_this_line (acc ++ r.value ∷ []) blank true) (next_at Command T r.«end»)) (standing (past_blanks T r.«end»))
+        unfolding entry_turn one_entry
+        one_entry_by acc blank commands n p a true comment rest begins within r on =
+            let line = line_end_here r.«end» rest r.at in
+            let read_one = first_of _ _ begins (r.reads ⟫ pushed_here acc r.value ⟫ given_here) in
+            one_turn (entry_turn inner) read_one (leads p (past_blanks T r.«end») on within)
+            (last_turn (entry_turn inner) (no_entry_turn (on_this_line (acc ++ r.value ∷ []) blank true) (next_at Command T r.«end») (past_blanks T r.«end») (ap (λ (n : Next). begins_pipeline n.token) line.n_is)))
+        one_entry_by acc blank commands n p a false comment rest begins within r on =
+            last_turn (entry_turn inner) (first_of _ _ begins (r.reads ⟫ pushed_here acc r.value ⟫ given_here))
+
+        pipeline_within : (p : ℕ) → PipelineBegins p → p < length T
+        unfolding token_at
+        pipeline_within p b = by_byte (byte_at T p) refl
+          where
+            by_byte : (x : Option ℕ) → byte_at T p ≡ x → p < length T
+            by_byte None e = absurd (both_ways (begins_pipeline (token_of Command T p (byte_at T p))) (ap (λ x. begins_pipeline (token_of Command T p x)) e) b.begins)
+            by_byte (Some c) e = slice_get_within T p c (ap (slice_get T) (sym b.operand.start.place) ∙ e)
+
+        -- a command on its line
+        command_on_line : (m : Text) (acc : Row AnEntry) (blank commands : Bool) (a : Shape AnAndOrOf) (background : Bool) (comment : Option Text) (n : Next) (p : ℕ) (rest : Marks) → all_blank m ≡ true
+            → GoodAndOr room a → GoodOwnComment comment → is_normal_and_or a ≡ true → n.token ≡ token_at Command T p → At p (print_and_or y m a ++ entry_rest background comment rest)
+            → OnLine acc blank commands n p (entry (command a) background blank comment) true rest
+        unfolding on_line
+        command_on_line m acc blank commands a background comment n p rest blank_m good good_c normal token_is at =
+            let r = entry_read m (blank && true) a background comment n p rest blank_m good good_c normal token_is at in
+            let follow = entry_follow background comment rest good_c in
+            let b = and_or_begins m a p (entry_rest background comment rest) follow.token good follow.follower follow.no_item follow.no_pipe_it at in
+            let line = line_end_here r.«end» rest r.at in
+            let low = gives_on (an_entry inner (blank && true) n) _ _ _ r.reads in
+            let on : p < past_blanks T r.«end» = must_move p (past_blanks T r.«end») low b line.at_q in
+            let turns = one_entry_by acc blank commands n p a background comment rest (ap begins_pipeline token_is ∙ b.begins) (pipeline_within p b) r on in
+            record {
+              value = r.value;
+              «end» = r.«end»;
+              at = r.at;
+              reads = subst (λ c. Gives g (on_line inner (list_so (at_line_start acc blank commands) n)) (standing p) (list_so (on_this_line (acc ++ r.value ∷ []) blank c) (next_at Command T r.«end»)) (standing (past_blanks T r.«end»)))
+                  (sym (or_true commands)) (turns ⟫ no_remark (on_this_line (acc ++ r.value ∷ []) blank true) (next_at Command T r.«end») (past_blanks T r.«end») line.no_comment_q);
+              shape = r.shape ∙ ap (λ b. entry (command a) background b comment) (and_true blank);
+            }
+          where
+            must_move : (p q : ℕ) → p ≤ q → PipelineBegins p → At q (line_end ∷ rest) → p < q
+            must_move p q low b at_q = ⊎_elim (λ lt. lt) (λ ge. let same : p ≡ q = omega (arith, low, ge) in absurd (both_ways (is_newline (token_at Command T p)) b.operand.no_newline (ap is_newline (newline_token Command T p (laid rest) (subst (λ r. drop r T ≡ 10 ∷ laid rest) (sym same) (at_q ∙ laid_line rest)))))) (cases_lt p q)
+
+        -- a comment on a line of its own
+        remark_on_line : (acc : Row AnEntry) (blank commands : Bool) (c : Text) (n : Next) (p : ℕ) (rest : Marks) → CommentAnywhere c → n.token ≡ token_at Command T p → At p (text c ∷ line_end ∷ rest)
+            → OnLine acc blank commands n p (entry (remark c) false blank None) false rest
+        unfolding on_line a_remark
+        remark_on_line acc blank commands c n p rest good token_is at =
+            let found = good.there T o p (laid rest) (at ∙ laid_text c (line_end ∷ rest) ∙ ap (λ z. c ++ z) (laid_line rest)) in
+            let is_sharp = token_is ∙ sharp_token Command p found.4 in
+            let e = p + length c in
+            let v = entry (remark (span o p e)) false (blank && true) None in
+            record {
+              value = v;
+              «end» = e;
+              at = at_text p c (line_end ∷ rest) at;
+              reads = subst (λ k. Gives g (on_line inner (list_so (at_line_start acc blank commands) n)) (standing p) (list_so (on_this_line (acc ++ v ∷ []) blank k) (next_at Command T e)) (standing (past_blanks T e)))
+                  (sym (or_false commands))
+                  (last_turn (entry_turn inner) (no_entry_turn (at_line_start acc blank commands) n p (ap begins_pipeline is_sharp)) ⟫ (comment_read c n p rest good at ⟫ (pushed_here acc v ⟫ given_here)));
+              shape = remark_shape blank c p at;
+            }
+          where
+            remark_shape : (blank : Bool) (c : Text) (p : ℕ) → At p (text c ∷ line_end ∷ rest) → shape_of_entry B (entry (remark (span o p (p + length c))) false (blank && true) None) ≡ entry (remark c) false blank None
+            remark_shape blank c p at = rw (comment_shape c p (line_end ∷ rest) at, and_true blank) refl
+
+        entry_on_line : (m : Text) (acc : Row AnEntry) (blank commands : Bool) (what : Shape AContentOf) (background : Bool) (comment : Option Text) (n : Next) (p : ℕ) (rest : Marks) → all_blank m ≡ true
+            → GoodContent room what → GoodOwnComment comment → is_normal_entry (entry what background blank comment) ≡ true → n.token ≡ token_at Command T p
+            → At p (print_content y m what ++ entry_rest background comment rest) → OnLine acc blank commands n p (entry what background blank comment) (is_command (entry what background blank comment)) rest
+        entry_on_line m acc blank commands (command a) background comment n p rest blank_m good good_c normal token_is at =
+            command_on_line m acc blank commands a background comment n p rest blank_m good good_c normal token_is at
+        entry_on_line m acc blank commands (remark c) false None n p rest blank_m good good_c normal token_is at = remark_on_line acc blank commands c n p rest good token_is at
+        entry_on_line m acc blank commands (remark c) true comment n p rest blank_m good good_c normal token_is at = absurd cc
+        entry_on_line m acc blank commands (remark c) false (Some d) n p rest blank_m good good_c normal token_is at = absurd cc
+
+        content_start : (m : Text) (what : Shape AContentOf) (background blank : Bool) (comment : Option Text) (p : ℕ) (rest : Marks) → GoodContent room what → GoodOwnComment comment
+            → is_normal_entry (entry what background blank comment) ≡ true → At p (print_content y m what ++ entry_rest background comment rest) → Start T p
+        content_start m (command a) background blank comment p rest good good_c normal at =
+            let follow = entry_follow background comment rest good_c in
+            (and_or_begins m a p (entry_rest background comment rest) follow.token good follow.follower follow.no_item follow.no_pipe_it at).operand.start
+        content_start m (remark c) false blank None p rest good good_c normal at = comment_start c p rest good at
+        content_start m (remark c) true blank comment p rest good good_c normal at = absurd cc
+        content_start m (remark c) false blank (Some d) p rest good good_c normal at = absurd cc
+
+        -- an entry and the newline behind it
+        record LineRead (acc : Row AnEntry) (blank commands : Bool) (n : Next) (p : ℕ) (x : Shape AnEntryOf) (rest : Marks) : Type 0 where
+          value : AnEntry
+          f : ℕ
+          at : At f rest
+          reads : Gives g (list_turn inner (list_so (at_line_start acc blank commands) n)) (standing p) (again (list_so (at_line_start (acc ++ value ∷ []) false (commands || is_command x)) (next_at Command T f))) (standing (past_blanks T f))
+          on : leads_on g (standing p) (standing (past_blanks T f)) ≡ true
+          shape : shape_of_entry B value ≡ x
+
+        line_by : (acc : Row AnEntry) (blank commands : Bool) (n : Next) (p : ℕ) (x : Shape AnEntryOf) (rest : Marks) → OnLine acc blank commands n p x (is_command x) rest → LineRead acc blank commands n p x rest
+        unfolding list_turn
+        line_by acc blank commands n p x rest r =
+            let line = line_end_here r.«end» rest r.at in
+            let q = past_blanks T r.«end» in
+            let low = gives_on (on_line inner (list_so (at_line_start acc blank commands) n)) _ _ _ r.reads in
+            let within = some_here q 10 (laid rest) (line.at_q ∙ laid_line rest) in
+            record {
+              value = r.value;
+              f = q + 1;
+              at = at_line q rest line.at_q;
+              reads = r.reads ⟫ newline_read (next_at Command T r.«end») q rest (ap (λ (n : Next). is_newline n.token) line.n_is) line.at_q ⟫ given_here;
+              on = leads p (past_blanks T (q + 1)) (omega (arith, low, blanks_low T (q + 1))) (omega (arith, low, within));
+              shape = r.shape;
+            }
+
+        -- a line without entries
+        empty_line : (acc : Row AnEntry) (blank commands : Bool) (e : ℕ) (rest : Marks) → At e (line_end ∷ rest)
+            → Gives g (list_turn inner (list_so (at_line_start acc blank commands) (next_at Command T e))) (standing (past_blanks T e))
+            (again (list_so (at_line_start acc (not (is_empty acc)) commands) (next_at Command T (past_blanks T e + 1)))) (standing (past_blanks T (past_blanks T e + 1)))
+        unfolding list_turn
+        empty_line acc blank commands e rest at =
+            let line = line_end_here e rest at in
+            nothing_on_line (at_line_start acc blank commands) (next_at Command T e) (past_blanks T e) (ap (λ (n : Next). begins_pipeline n.token) line.n_is) line.no_comment_q
+            ⟫ newline_read (next_at Command T e) (past_blanks T e) rest (ap (λ (n : Next). is_newline n.token) line.n_is) line.at_q ⟫ given_here
+
+        empty_on : (e : ℕ) (rest : Marks) → At e (line_end ∷ rest) → leads_on g (standing (past_blanks T e)) (standing (past_blanks T (past_blanks T e + 1))) ≡ true
+        empty_on e rest at =
+            let line = line_end_here e rest at in
+            let q = past_blanks T e in
+            leads q (past_blanks T (q + 1)) (omega (arith, blanks_low T (q + 1))) (some_here q 10 (laid rest) (line.at_q ∙ laid_line rest))
+
+        -- what ends a list begins none of its lines
+        pub record Closes (e : ℕ) : Type 0 where
+          pub no_entry_it : begins_pipeline (token_at Command T (past_blanks T e)) ≡ false
+          pub no_newline_it : is_newline (token_at Command T (past_blanks T e)) ≡ false
+          pub no_comment_it : raw_stands T (past_blanks T e) 35 ≡ false
+
+        pub record ListRead (acc : Row AnEntry) (commands : Bool) (n : Next) (p : ℕ) (es : Shape EntriesOf) (rest : Marks) : Type 0 where
+          pub value : Row AnEntry
+          pub «end» : ℕ
+          pub blank : Bool
+          pub at : At «end» rest
+          pub reads : Gives g (many (list_turn inner) (list_so (at_line_start acc false commands) n)) (standing p) (list_so (at_line_start (acc ++ value) blank (commands || holds_command es)) (next_at Command T «end»)) (standing (past_blanks T «end»))
+          pub shape : shape_of B (entries_of value) ≡ es
+
+        list_ends : (acc : Row AnEntry) (blank commands : Bool) (e : ℕ) → Closes e
+            → Gives g (list_turn inner (list_so (at_line_start acc blank commands) (next_at Command T e))) (standing (past_blanks T e)) (done (list_so (at_line_start acc (not (is_empty acc)) commands) (next_at Command T e))) (standing (past_blanks T e))
+        unfolding list_turn
+        list_ends acc blank commands e c =
+            nothing_on_line (at_line_start acc blank commands) (next_at Command T e) (past_blanks T e) c.no_entry_it c.no_comment_it ⟫ no_newline_read (next_at Command T e) (past_blanks T e) c.no_newline_it ⟫ given_here
+
+        pub entry_marks : (d : Text) (what : Shape AContentOf) (background blank : Bool) (comment : Option Text) (es : Shape EntriesOf) (rest : Marks)
+            → print_entries y d (more_entries (entry what background blank comment) es) ++ rest
+            ≡ print_blank blank ++ (text d ∷ (print_content y d what ++ entry_rest background comment (print_entries y d es ++ rest)))
+        entry_marks d what background blank comment es rest =
+            let C = print_content y d what in
+            let G = print_background background in
+            let O = print_own_comment comment in
+            let L = line_end ∷ [] in
+            let more = print_entries y d es ++ rest in
+            append_assoc (print_entry y d (entry what background blank comment)) (print_entries y d es) rest
+            ∙ append_assoc (print_blank blank) (text d ∷ (((C ++ G) ++ O) ++ L)) more
+            ∙ ap (λ ms. print_blank blank ++ (text d ∷ ms)) (append_assoc ((C ++ G) ++ O) L more ∙ append_assoc (C ++ G) O (line_end ∷ more) ∙ append_assoc C G (O ++ (line_end ∷ more)))
+
+        or_three : (a b c : Bool) → ((a || b) || c) ≡ (a || (b || c))
+        or_three true b c = refl
+        or_three false b c = refl
+
+        -- a row of lines of which the first entry is blank or not
+        record ListBy (acc : Row AnEntry) (first_blank commands : Bool) (e : ℕ) (es : Shape EntriesOf) (rest : Marks) : Type 0 where
+          value : Row AnEntry
+          «end» : ℕ
+          blank : Bool
+          at : At «end» rest
+          reads : Gives g (many (list_turn inner) (list_so (at_line_start acc first_blank commands) (next_at Command T e))) (standing (past_blanks T e))
+              (list_so (at_line_start (acc ++ value) blank (commands || holds_command es)) (next_at Command T «end»)) (standing (past_blanks T «end»))
+          shape : shape_of B (entries_of value) ≡ es
+
+        -- one line more in front
+        list_turned : (acc : Row AnEntry) (b commands : Bool) (n : Next) (p : ℕ) (v : AnEntry) (c : Bool) (next : Next) (r : ℕ) (vs : Row AnEntry) (blank k : Bool) (z : Next) (f : ℕ)
+            → Gives g (list_turn inner (list_so (at_line_start acc b commands) n)) (standing p) (again (list_so (at_line_start (acc ++ v ∷ []) false (commands || c)) next)) (standing r) → leads_on g (standing p) (standing r) ≡ true
+            → Gives g (many (list_turn inner) (list_so (at_line_start (acc ++ v ∷ []) false (commands || c)) next)) (standing r) (list_so (at_line_start ((acc ++ v ∷ []) ++ vs) blank ((commands || c) || k)) z) (standing f)
+            → Gives g (many (list_turn inner) (list_so (at_line_start acc b commands) n)) (standing p) (list_so (at_line_start (acc ++ (v ∷ vs)) blank (commands || (c || k))) z) (standing f)
+        list_turned acc b commands n p v c next r vs blank k z f one on rest =
+            let all = one_turn (list_turn inner) one on rest in
+            let entries_are = subst (λ es. Gives g (many (list_turn inner) (list_so (at_line_start acc b commands) n)) (standing p) (list_so (at_line_start es blank ((commands || c) || k)) z) (standing f)) (append_assoc acc (v ∷ []) vs) all in
+            subst (λ q. Gives g (many (list_turn inner) (list_so (at_line_start acc b commands) n)) (standing p) (list_so (at_line_start (acc ++ (v ∷ vs)) blank q) z) (standing f)) (or_three commands c k) entries_are
+
+        entries_shape : (v : AnEntry) (vs : Row AnEntry) (x : Shape AnEntryOf) (es : Shape EntriesOf) → shape_of_entry B v ≡ x → shape_of B (entries_of vs) ≡ es → shape_of B (entries_of (v ∷ vs)) ≡ more_entries x es
+        entries_shape v vs x es e f = rw (e, f) refl
+
+        -- the first line of a row of them, from where its margin begins
+        first_line : (d : Text) (acc : Row AnEntry) (blank commands : Bool) (what : Shape AContentOf) (background : Bool) (comment : Option Text) (e : ℕ) (rest : Marks) → all_blank d ≡ true
+            → GoodContent room what → GoodOwnComment comment → is_normal_entry (entry what background blank comment) ≡ true → At e (text d ∷ (print_content y d what ++ entry_rest background comment rest))
+            → LineRead acc blank commands (next_at Command T e) (past_blanks T e) (entry what background blank comment) rest
+        first_line d acc blank commands what background comment e rest blank_d good good_c normal at =
+            let ms = print_content y d what ++ entry_rest background comment rest in
+            let behind_it = at_text e d ms at in
+            let gap = margin_gap d e ms blank_d at (content_start d what background blank comment (e + length d) rest good good_c normal behind_it) in
+            let q = past_blanks T e in
+            let at_q = subst (λ r. At r ms) (sym gap.blanks) behind_it in
+            line_by acc blank commands (next_at Command T e) q (entry what background blank comment) rest (entry_on_line d acc blank commands what background comment (next_at Command T e) q rest blank_d good good_c normal refl at_q)
+
+        blank_first : (acc : Row AnEntry) → (is_empty acc ≡ true → false ≡ true) → is_empty acc ≡ false
+        blank_first [] e = absurd (both_ways false refl (e refl))
+        blank_first (x ∷ xs) e = refl
+
+        list_by : (d : Text) (what : Shape AContentOf) (background blank : Bool) (comment : Option Text) (es : Shape EntriesOf) (acc : Row AnEntry) (commands : Bool) (e : ℕ) (rest : Marks) → all_blank d ≡ true
+            → GoodEntries room (more_entries (entry what background blank comment) es) → are_normal (more_entries (entry what background blank comment) es) ≡ true → ((acc : Row AnEntry) (commands : Bool) (f : ℕ) → is_empty acc ≡ false → At f (print_entries y d es ++ rest) → ListRead acc commands (next_at Command T f) (past_blanks T f) es rest)
+            → At e (text d ∷ (print_content y d what ++ entry_rest background comment (print_entries y d es ++ rest))) → ListBy acc blank commands e (more_entries (entry what background blank comment) es) rest
+        list_by d what background blank comment es acc commands e rest blank_d good normal others_by at =
+            let x = entry what background blank comment in
+            let parts = and_parts _ _ normal in
+            let one_line = first_line d acc blank commands what background comment e (print_entries y d es ++ rest) blank_d good.0.0 good.0.1 parts.0 at in
+            let others = others_by (acc ++ one_line.value ∷ []) (commands || is_command x) one_line.f (not_empty acc one_line.value) one_line.at in
+            record {
+              value = one_line.value ∷ others.value;
+              «end» = others.«end»;
+              blank = others.blank;
+              at = others.at;
+              reads = list_turned acc blank commands (next_at Command T e) (past_blanks T e) one_line.value (is_command x) (next_at Command T one_line.f) (past_blanks T one_line.f) others.value others.blank (holds_command es)
+                  (next_at Command T others.«end») (past_blanks T others.«end») one_line.reads one_line.on others.reads;
+              shape = entries_shape one_line.value others.value x es one_line.shape others.shape;
+            }
+
+        pub list_read : (d : Text) (es : Shape EntriesOf) (acc : Row AnEntry) (commands : Bool) (e : ℕ) (rest : Marks) → all_blank d ≡ true → GoodEntries room es → are_normal es ≡ true
+            → (is_empty acc ≡ true → first_not_blank es ≡ true) → ((f : ℕ) → At f rest → Closes f) → At e (print_entries y d es ++ rest) → ListRead acc commands (next_at Command T e) (past_blanks T e) es rest
+        list_read d no_entry acc commands e rest blank_d good normal first closes at =
+            let c = closes e at in
+            record {
+              value = [];
+              «end» = e;
+              blank = not (is_empty acc);
+              at = at;
+              reads = subst (λ k. Gives g (many (list_turn inner) (list_so (at_line_start acc false commands) (next_at Command T e))) (standing (past_blanks T e)) (list_so (at_line_start (acc ++ []) (not (is_empty acc)) k) (next_at Command T e)) (standing (past_blanks T e))) (sym (or_false commands))
+                  (subst (λ es. Gives g (many (list_turn inner) (list_so (at_line_start acc false commands) (next_at Command T e))) (standing (past_blanks T e)) (list_so (at_line_start es (not (is_empty acc)) commands) (next_at Command T e)) (standing (past_blanks T e))) (sym (append-nil acc))
+                  (last_turn (list_turn inner) (list_ends acc false commands e c)));
+              shape = refl;
+            }
+        list_read d (more_entries (entry what background false comment) es) acc commands e rest blank_d good normal first closes at =
+            let r = list_by d what background false comment es acc commands e rest blank_d good normal (λ more_acc k f filled there. list_read d es more_acc k f rest blank_d good.1 (and_parts _ _ normal).1 (λ none. absurd (both_ways (is_empty more_acc) filled none)) closes there) (at ∙ ap laid (entry_marks d what background false comment es rest)) in
+            record { value = r.value; «end» = r.«end»; blank = r.blank; at = r.at; reads = r.reads; shape = r.shape }
+        list_read d (more_entries (entry what background true comment) es) acc commands e rest blank_d good normal first closes at =
+            let more = text d ∷ (print_content y d what ++ entry_rest background comment (print_entries y d es ++ rest)) in
+            let there = at ∙ ap laid (entry_marks d what background true comment es rest) in
+            let line = line_end_here e more there in
+            let filled = blank_first acc first in
+            let others = list_by d what background true comment es acc commands (past_blanks T e + 1) rest blank_d good normal (λ more_acc k f filled there. list_read d es more_acc k f rest blank_d good.1 (and_parts _ _ normal).1 (λ none. absurd (both_ways (is_empty more_acc) filled none)) closes there) (at_line (past_blanks T e) more line.at_q) in
+            let flag : not (is_empty acc) ≡ true = ap not filled in
+            let one_line = subst (λ b. Gives g (list_turn inner (list_so (at_line_start acc false commands) (next_at Command T e))) (standing (past_blanks T e)) (again (list_so (at_line_start acc b commands) (next_at Command T (past_blanks T e + 1)))) (standing (past_blanks T (past_blanks T e + 1)))) flag (empty_line acc false commands e more there) in
+            record {
+              value = others.value;
+              «end» = others.«end»;
+              blank = others.blank;
+              at = others.at;
+              reads = one_turn (list_turn inner) one_line (empty_on e more there) others.reads;
+              shape = others.shape;
+            }
+
+        -- ---- lists
+
+        list_of : (es : Shape EntriesOf) (n : Next) (p : ℕ) (rest : Marks) (acc : Row AnEntry) (blank : Bool) (e : ℕ)
+            → Gives g (many (list_turn inner) (list_so (none_listed false) n)) (standing p) (list_so (at_line_start acc blank (holds_command es)) (next_at Command T e)) (standing (past_blanks T e))
+            → holds_command es ≡ true → At e rest → shape_of B (entries_of acc) ≡ es → Got (a_list inner n) p rest (λ v. shape_of B v ≡ es)
+        unfolding a_list
+        list_of es n p rest acc blank e turns holds_it at shape =
+            record { value = entries_of acc; «end» = e; at = at; reads = turns ⟫ first_of _ _ holds_it given_here; is = shape }
+
+        -- a list on lines of its own, from the end of the line before it
+        pub block_read : (d : Text) (es : Shape EntriesOf) (e : ℕ) (rest : Marks) → all_blank d ≡ true → GoodEntries room es → is_whole es ≡ true → are_normal es ≡ true → ((f : ℕ) → At f rest → Closes f)
+            → At e (line_end ∷ (print_entries y d es ++ rest)) → Got (a_list inner (next_at Command T e)) (past_blanks T e) rest (λ v. shape_of B v ≡ es)
+        block_read d es e rest blank_d good whole normal closes at =
+            let line = line_end_here e (print_entries y d es ++ rest) at in
+            let q = past_blanks T e in
+            let parts = and_parts _ _ whole in
+            let r = list_read d es [] false (q + 1) rest blank_d good normal (λ none. parts.1) closes (at_line q (print_entries y d es ++ rest) line.at_q) in
+            let turns = one_turn (list_turn inner) (empty_line [] false false e (print_entries y d es ++ rest) at) (empty_on e (print_entries y d es ++ rest) at) r.reads in
+            list_of es (next_at Command T e) q rest r.value r.blank r.«end» turns parts.0 r.at r.shape
+
+        -- ---- words that open, part and close
+
+        -- before what ends a word
+        pub record WordEnd (zs : Text) : Type 0 where
+          pub x : ℕ
+          pub xs : Text
+          pub is : zs ≡ x ∷ xs
+          pub clear : (x == 92) ≡ false
+          pub stops : ends (Some x) ≡ true
+
+        follows_end : (zs : Text) → follows zs ≡ true → WordEnd zs
+        follows_end [] e = absurd cc
+        follows_end (x ∷ xs) e = record { x = x; xs = xs; is = refl; clear = grind (arith, nat_tests); stops = grind (arith, nat_tests) }
+
+        line_end_end : (ms : Marks) → WordEnd (laid (line_end ∷ ms))
+        unfolding laid
+        line_end_end ms = record { x = 10; xs = laid ms; is = refl; clear = refl; stops = refl }
+
+        space_end : (ms : Marks) → WordEnd (laid (text (codes " ") ∷ ms))
+        unfolding laid
+        space_end ms = record { x = 32; xs = laid ms; is = refl; clear = refl; stops = refl }
+
+        -- wherever this word stands before these marks it is that reserved word
+        abbrev Key : Text → Reserved → Marks → Type 0
+        Key w r ms = (p : ℕ) → drop p T ≡ w ++ laid ms → Keyword T p w r
+
+        -- a reserved word behind a margin
+        record KeywordRead (e : ℕ) (r : Reserved) (ms : Marks) : Type 0 where
+          token_is : token_at Command T (past_blanks T e) ≡ tokens.Reserved r
+          no_comment_it : raw_stands T (past_blanks T e) 35 ≡ false
+          s : Span
+          f : ℕ
+          at : At f ms
+          reads : (label : Spelled) → Gives g (passed label false) (standing (past_blanks T e)) (s, next_at Command T f) (standing (past_blanks T f))
+
+        passed_by : (label : Spelled) (q f : ℕ) → past_reserved T q ≡ f → Gives g (passed label false) (standing q) (span o q f, next_at Command T f) (standing (past_blanks T f))
+        unfolding passed
+        passed_by label q f is =
+            let moved : Gives g (move the_reserved) (standing q) tt (standing f) = subst (λ p. Gives g (move the_reserved) (standing q) tt (standing p)) is (moved_here the_reserved) in
+            told_here (by label) moved ⟫ next_read Command f ⟫ given_here
+
+        passed_paren : (label : Spelled) (q : ℕ) → behind T q ≡ q + 1 → Gives g (passed label true) (standing q) (span o q (q + 1), next_at Command T (q + 1)) (standing (past_blanks T (q + 1)))
+        unfolding passed
+        passed_paren label q is =
+            let moved : Gives g (move one_byte) (standing q) tt (standing (q + 1)) = subst (λ p. Gives g (move one_byte) (standing q) tt (standing p)) is (moved_here one_byte) in
+            told_here (by label) moved ⟫ next_read Command (q + 1) ⟫ given_here
+
+        keyword_read : (m w : Text) (r : Reserved) (e : ℕ) (ms : Marks) → all_blank m ≡ true → Key w r ms → At e (text m ∷ text w ∷ ms) → KeywordRead e r ms
+        keyword_read m w r e ms blank key at =
+            let behind_it = at_text e m (text w ∷ ms) at in
+            let k = key (e + length m) (behind_it ∙ laid_text w ms) in
+            let gap = margin_gap m e (text w ∷ ms) blank at k.start in
+            let q = past_blanks T e in
+            let at_q = subst (λ p. At p (text w ∷ ms)) (sym gap.blanks) behind_it in
+            let kq = key q (at_q ∙ laid_text w ms) in
+            record {
+              token_is = kq.token;
+              no_comment_it = no_sharp q kq.start.place (ap is_comment kq.token);
+              s = span o q (q + length w);
+              f = q + length w;
+              at = at_text q w ms at_q;
+              reads = λ label. passed_by label q (q + length w) kq.past_it;
+            }
+
+        -- a closing word closes
+        keyword_closes : (m w : Text) (r : Reserved) (ms : Marks) → all_blank m ≡ true → Key w r ms → begins_pipeline (tokens.Reserved r) ≡ false → (e : ℕ) → At e (text m ∷ text w ∷ ms) → Closes e
+        keyword_closes m w r ms blank key none e at =
+            let k = keyword_read m w r e ms blank key at in
+            record { no_entry_it = ap begins_pipeline k.token_is ∙ none; no_newline_it = ap is_newline k.token_is; no_comment_it = k.no_comment_it }
+
+        -- what has to stand here
+        closing_read : (c : Closing) (r : Reserved) (e : ℕ) (ms : Marks) → is_closing c (tokens.Reserved r) ≡ true → is_close_paren c ≡ false → (k : KeywordRead e r ms)
+            → Gives g (closing inner c (next_at Command T e)) (standing (past_blanks T e)) (k.s, next_at Command T k.f) (standing (past_blanks T k.f))
+        unfolding closing
+        closing_read c r e ms is_it no_paren k = first_of _ _ (ap (is_closing c) k.token_is ∙ is_it) (rw no_paren (k.reads (closing_text c)))
+
+        -- ---- conditions
+
+        semicolon_follower : (ms : Marks) → Follower (text (codes "; ") ∷ ms) tokens.Semicolon
+        unfolding laid
+        semicolon_follower ms = record {
+          follow = refl;
+          seen_as = λ e at position.
+              let there = at ∙ laid_text (codes "; ") ms in
+              next_behind position (no_gap (start_here (byte_here T e 59 (32 ∷ laid ms) refl there) refl)) ∙ ap (λ t. record { token = t; broken = false }) (semicolon_token position T e 32 (laid ms) refl refl there);
+        }
+
+        -- a condition, and the word that parts it from what it runs
+        record CondRead (f : ℕ) (es : Shape EntriesOf) (r : Reserved) (ms : Marks) : Type 0 where
+          value : Entries
+          e : ℕ
+          key : KeywordRead e r ms
+          reads : Gives g (a_list inner (next_at Command T f)) (standing (past_blanks T f)) (value, next_at Command T e) (standing (past_blanks T e))
+          shape : shape_of B value ≡ es
+
+        abbrev one_command_list : Shape AnAndOrOf → Shape EntriesOf
+        one_command_list a = more_entries (entry (command a) false false None) no_entry
+
+        -- the entry of a condition on one line, and its `;`
+        record ShortRead (n : Next) (p : ℕ) (a : Shape AnAndOrOf) (ms : Marks) : Type 0 where
+          value : AnEntry
+          f : ℕ
+          at : At f (text (codes " ") ∷ ms)
+          reads : Gives g (an_entry inner false n) (standing p) (record { entry = value; parted = true; next = next_at Command T f }) (standing (past_blanks T f))
+          on : p < past_blanks T f
+          shape : shape_of_entry B value ≡ entry (command a) false false None
+
+        short_read : (m : Text) (a : Shape AnAndOrOf) (n : Next) (p : ℕ) (ms : Marks) → all_blank m ≡ true → GoodAndOr room a → is_normal_and_or a ≡ true → n.token ≡ token_at Command T p
+            → ((f : ℕ) → At f (text (codes " ") ∷ ms) → Closes f) → At p (print_and_or y m a ++ (text (codes "; ") ∷ ms)) → ShortRead n p a ms
+        unfolding an_entry
+        short_read m a n p ms blank good normal token_is closes at =
+            let follower = semicolon_follower ms in
+            let ar = and_or_read m a n p (text (codes "; ") ∷ ms) tokens.Semicolon blank good normal follower refl refl refl token_is at in
+            let there = ar.at ∙ laid_text (codes "; ") ms in
+            let gap = no_gap (start_here (byte_here T ar.«end» 59 (32 ∷ laid ms) refl there) refl) in
+            let q = past_blanks T ar.«end» in
+            let r_q = byte_here T q 59 (32 ∷ laid ms) refl (subst (λ r. drop r T ≡ 59 ∷ 32 ∷ laid ms) (sym gap.blanks) there) in
+            let n_is = follower.seen_as ar.«end» ar.at Command in
+            let behind_it : At (q + 1) (text (codes " ") ∷ ms) = r_q.rest ∙ sym (laid_text (codes " ") ms) in
+            let low = gives_on (an_and_or inner n) _ _ _ ar.reads in
+            record {
+              value = entry (command ar.value) false false None;
+              f = q + 1;
+              at = behind_it;
+              reads = ar.reads ⟫ some_separator (next_at Command T ar.«end») q Semicolon (ap (λ (n : Next). separator_of n.token) n_is) r_q.behind_it
+                  ⟫ no_comment_read (next_at Command T (q + 1)) (past_blanks T (q + 1)) (closes (q + 1) behind_it).no_comment_it ⟫ given_here;
+              on = omega (arith, low, blanks_low T (q + 1));
+              shape = ap (λ a. entry (command a) false false None) ar.is;
+            }
+
+        short_line : (m : Text) (a : Shape AnAndOrOf) (f : ℕ) (w : Text) (r : Reserved) (ms : Marks) → all_blank m ≡ true → GoodAndOr room a → is_normal_and_or a ≡ true → Key w r ms
+            → begins_pipeline (tokens.Reserved r) ≡ false → At f (text (codes " ") ∷ (print_and_or y m a ++ (text (codes "; ") ∷ text w ∷ ms))) → CondRead f (one_command_list a) r ms
+        unfolding list_turn on_line entry_turn one_entry a_list
+        short_line m a f w r ms blank good normal key none at =
+            let A = print_and_or y m a ++ (text (codes "; ") ∷ text w ∷ ms) in
+            let follower = semicolon_follower (text w ∷ ms) in
+            let begins : (p : ℕ) → At p A → PipelineBegins p = λ p at. and_or_begins m a p (text (codes "; ") ∷ text w ∷ ms) tokens.Semicolon good follower refl refl at in
+            let behind_it = at_text f (codes " ") A at in
+            let gap = margin_gap (codes " ") f A refl at (begins (f + 1) behind_it).operand.start in
+            let p = past_blanks T f in
+            let at_p = subst (λ q. At q A) (sym gap.blanks) behind_it in
+            let b = begins p at_p in
+            let n = next_at Command T f in
+            let closes = keyword_closes (codes " ") w r ms refl key none in
+            let one_read = short_read m a n p (text w ∷ ms) blank good normal refl closes at_p in
+            let c = closes one_read.f one_read.at in
+            let v = one_read.value in
+            let z = next_at Command T one_read.f in
+            let q = past_blanks T one_read.f in
+            let l = on_this_line (v ∷ []) false true in
+            let one_entry_read : Gives g (entry_turn inner (list_so (none_listed false) n)) (standing p) (again (list_so l z)) (standing q) = first_of _ _ b.begins (one_read.reads ⟫ pushed_here [] v ⟫ given_here) in
+            let entries_read = one_turn (entry_turn inner) one_entry_read (leads p q one_read.on (pipeline_within p b)) (last_turn (entry_turn inner) (no_entry_turn l z q c.no_entry_it)) in
+            let line_read : Gives g (list_turn inner (list_so (none_listed false) n)) (standing p) (done (list_so (at_line_start (v ∷ []) false true) z)) (standing q) =
+            (entries_read ⟫ no_remark l z q c.no_comment_it) ⟫ no_newline_read z q c.no_newline_it ⟫ given_here in
+            let got = list_of (one_command_list a) n p (text (codes " ") ∷ text w ∷ ms) (v ∷ []) false one_read.f (last_turn (list_turn inner) line_read) refl one_read.at (ap (λ x. more_entries x no_entry) one_read.shape) in
+            record { value = got.value; e = got.«end»; key = keyword_read (codes " ") w r got.«end» ms refl key got.at; reads = got.reads; shape = got.is }
+
+        -- a condition stands on one line, or it does not
+        data OneLine : Shape EntriesOf → Type 0 where
+          on_one : (a : Shape AnAndOrOf) (blank : Bool) → OneLine (more_entries (entry (command a) false blank None) no_entry)
+          on_more : {es : Shape EntriesOf} → is_one_line es ≡ false → OneLine es
+
+        one_line_or_more : (es : Shape EntriesOf) → OneLine es
+        one_line_or_more no_entry = on_more refl
+        one_line_or_more (more_entries (entry (remark c) background blank comment) es) = on_more refl
+        one_line_or_more (more_entries (entry (command a) true blank comment) es) = on_more refl
+        one_line_or_more (more_entries (entry (command a) false blank (Some c)) es) = on_more refl
+        one_line_or_more (more_entries (entry (command a) false blank None) (more_entries e es)) = on_more refl
+        one_line_or_more (more_entries (entry (command a) false blank None) no_entry) = on_one a blank
+
+        abbrev cond_marks : Text → Shape EntriesOf → Marks
+        cond_marks m es = if is_one_line es then text (codes " ") ∷ print_only y m es ++ one (codes "; ") else lines_between m (print_entries y (deeper y m) es)
+
+        cond_read : (m : Text) (es : Shape EntriesOf) (f : ℕ) (w : Text) (r : Reserved) (ms : Marks) → all_blank m ≡ true → GoodEntries room es → is_whole es ≡ true → are_normal es ≡ true → Key w r ms
+            → begins_pipeline (tokens.Reserved r) ≡ false → At f (cond_marks m es ++ (text w ∷ ms)) → CondRead f es r ms
+        cond_read m es f w r ms blank good whole normal key none at = by_form (one_line_or_more es) good whole normal at
+          where
+            by_form : {js : Shape EntriesOf} → OneLine js → GoodEntries room js → is_whole js ≡ true → are_normal js ≡ true → At f (cond_marks m js ++ (text w ∷ ms)) → CondRead f js r ms
+            by_form (on_one a true) good whole normal at = absurd cc
+            by_form (on_one a false) good whole normal at =
+                short_line m a f w r ms blank good.0.0 (and_parts _ _ normal).0 key none (at ∙ ap (λ ks. laid (text (codes " ") ∷ ks)) (append_assoc (print_and_or y m a) (one (codes "; ")) (text w ∷ ms)))
+            by_form {js = js} (on_more e) good whole normal at =
+                let d = deeper y m in
+                let ES = print_entries y d js in
+                let block_marks = ap (λ b. laid ((cond b (text (codes " ") ∷ print_only y m js ++ one (codes "; ")) (lines_between m ES)) ++ (text w ∷ ms))) e ∙ ap (λ ks. laid (line_end ∷ ks)) (append_assoc ES (one m) (text w ∷ ms)) in
+                let got = block_read d js f (text m ∷ text w ∷ ms) (deeper_blank y m blank) good whole normal (keyword_closes m w r ms blank key none) (at ∙ block_marks) in
+                record { value = got.value; e = got.«end»; key = keyword_read m w r got.«end» ms blank key got.at; reads = got.reads; shape = got.is }
+
+        -- ---- what is read between the words of a compound command
+
+        -- a list on lines of its own, up to the word behind its margin
+        record BlockRead (f : ℕ) (es : Shape EntriesOf) (r : Reserved) (ms : Marks) : Type 0 where
+          value : Entries
+          e : ℕ
+          key : KeywordRead e r ms
+          reads : Gives g (a_list inner (next_at Command T f)) (standing (past_blanks T f)) (value, next_at Command T e) (standing (past_blanks T e))
+          shape : shape_of B value ≡ es
+
+        abbrev block_marks : Text → Shape EntriesOf → Marks → Marks
+        block_marks m es ms = line_end ∷ (print_entries y (deeper y m) es ++ (text m ∷ ms))
+
+        between_is : (m : Text) (es : Shape EntriesOf) (ms : Marks) → lines_between m (print_entries y (deeper y m) es) ++ ms ≡ block_marks m es ms
+        between_is m es ms = ap (λ ks. line_end ∷ ks) (append_assoc (print_entries y (deeper y m) es) (one m) ms)
+
+        body_read : (m : Text) (es : Shape EntriesOf) (f : ℕ) (w : Text) (r : Reserved) (ms : Marks) → all_blank m ≡ true → GoodEntries room es → is_whole es ≡ true → are_normal es ≡ true → Key w r ms
+            → begins_pipeline (tokens.Reserved r) ≡ false → At f (block_marks m es (text w ∷ ms)) → BlockRead f es r ms
+        body_read m es f w r ms blank good whole normal key none at =
+            let got = block_read (deeper y m) es f (text m ∷ text w ∷ ms) (deeper_blank y m blank) good whole normal (keyword_closes m w r ms blank key none) at in
+            record { value = got.value; e = got.«end»; key = keyword_read m w r got.«end» ms blank key got.at; reads = got.reads; shape = got.is }
+
+        -- the word with which some marks begin
+        record FirstWord (ms : Marks) : Type 0 where
+          w : Text
+          r : Reserved
+          others : Marks
+          is : ms ≡ text w ∷ others
+          key : Key w r others
+          none : begins_pipeline (tokens.Reserved r) ≡ false
+
+        -- what a branch is followed by
+        abbrev if_rest : Text → Shape BranchesOf → Shape OtherwiseOf → Marks → Marks
+        if_rest m bs other rest = print_branches y m bs ++ (print_else y m other ++ (text (codes "fi") ∷ rest))
+
+        abbrev else_rest : Text → Shape OtherwiseOf → Marks → Marks
+        else_rest m other rest = print_else y m other ++ (text (codes "fi") ∷ rest)
+
+        key_by : (w : Text) (r : Reserved) (ms : Marks) → WordEnd (laid ms) → ((p x : ℕ) (xs : List ℕ) → (x == 92) ≡ false → ends (Some x) ≡ true → drop p T ≡ w ++ x ∷ xs → Keyword T p w r) → Key w r ms
+        key_by w r ms e here p at = here p e.x e.xs e.clear e.stops (at ∙ ap (λ z. w ++ z) e.is)
+
+        cond_end : (b : Bool) (A C ms : Marks) → WordEnd (laid (cond b (text (codes " ") ∷ A) (line_end ∷ C) ++ ms))
+        cond_end true A C ms = space_end (A ++ ms)
+        cond_end false A C ms = line_end_end (C ++ ms)
+
+        condition_end : (m : Text) (es : Shape EntriesOf) (ms : Marks) → WordEnd (laid (cond_marks m es ++ ms))
+        condition_end m es ms = cond_end (is_one_line es) (print_only y m es ++ one (codes "; ")) (print_entries y (deeper y m) es ++ one m) ms
+
+        -- a branch from behind its opener
+        abbrev branch_marks : Text → Text → Shape EntriesOf → Shape EntriesOf → Marks → Marks
+        branch_marks m w condition body ms = cond_marks m condition ++ (text w ∷ block_marks m body ms)
+
+        branch_is : (m opener w : Text) (condition body : Shape EntriesOf) (ms : Marks) → print_branch y m opener w (branch condition body) ++ ms ≡ text opener ∷ branch_marks m w condition body ms
+        branch_is m opener w condition body ms =
+            let C = cond_marks m condition in
+            ap (λ ks. text opener ∷ ks) (append_assoc C (text w ∷ lines_between m (print_entries y (deeper y m) body)) ms ∙ ap (λ ks. C ++ (text w ∷ ks)) (between_is m body ms))
+
+        else_first : (m : Text) (other : Shape OtherwiseOf) (rest : Marks) → WordEnd (laid rest) → FirstWord (else_rest m other rest)
+        else_first m no_else rest e = record { w = codes "fi"; r = reserved.Fi; others = rest; is = refl; key = key_by (codes "fi") reserved.Fi rest e (λ p x xs clear stops at. fi_here T p x xs clear stops at); none = refl }
+        else_first m (otherwise es) rest e =
+            let ms = block_marks m es (text (codes "fi") ∷ rest) in
+            record {
+              w = codes "else";
+              r = reserved.Else;
+              others = ms;
+              is = ap (λ ks. text (codes "else") ∷ ks) (between_is m es (text (codes "fi") ∷ rest));
+              key = key_by (codes "else") reserved.Else ms (line_end_end _) (λ p x xs clear stops at. else_here T p x xs clear stops at);
+              none = refl;
+            }
+
+        elif_is : (m : Text) (condition body : Shape EntriesOf) (bs : Shape BranchesOf) (ms : Marks)
+            → print_branches y m (more_branches (branch condition body) bs) ++ ms ≡ text (codes "elif") ∷ branch_marks m (codes "then") condition body (print_branches y m bs ++ ms)
+        elif_is m condition body bs ms = append_assoc (print_branch y m (codes "elif") (codes "then") (branch condition body)) (print_branches y m bs) ms ∙ branch_is m (codes "elif") (codes "then") condition body (print_branches y m bs ++ ms)
+
+        if_first : (m : Text) (bs : Shape BranchesOf) (other : Shape OtherwiseOf) (rest : Marks) → WordEnd (laid rest) → FirstWord (if_rest m bs other rest)
+        if_first m no_branch other rest e = else_first m other rest e
+        if_first m (more_branches (branch condition body) bs) other rest e =
+            let ms = branch_marks m (codes "then") condition body (if_rest m bs other rest) in
+            record {
+              w = codes "elif";
+              r = reserved.Elif;
+              others = ms;
+              is = elif_is m condition body bs (else_rest m other rest);
+              key = key_by (codes "elif") reserved.Elif ms (condition_end m condition (text (codes "then") ∷ block_marks m body (if_rest m bs other rest))) (λ p x xs clear stops at. elif_here T p x xs clear stops at);
+              none = refl;
+            }
+
+        first_closes : (m : Text) (ms : Marks) → all_blank m ≡ true → FirstWord ms → (e : ℕ) → At e (text m ∷ ms) → Closes e
+        first_closes m ms blank f e at = keyword_closes m f.w f.r f.others blank f.key f.none e (at ∙ ap (λ ks. laid (text m ∷ ks)) f.is)
+
+        -- a branch, and the word behind what it runs
+        record BranchRead (f : ℕ) (b : Shape ABranchOf) (ms : Marks) : Type 0 where
+          value : ABranch
+          e : ℕ
+          at : At e ms
+          reads : Gives g (a_branch inner (next_at Command T f)) (standing (past_blanks T f)) (value, next_at Command T e) (standing (past_blanks T e))
+          shape : shape_of_branch B value ≡ b
+
+        then_key : (ms : Marks) → WordEnd (laid ms) → Key (codes "then") reserved.Then ms
+        then_key ms e = key_by (codes "then") reserved.Then ms e (λ p x xs clear stops at. then_here T p x xs clear stops at)
+
+        do_key : (ms : Marks) → WordEnd (laid ms) → Key (codes "do") reserved.Do ms
+        do_key ms e = key_by (codes "do") reserved.Do ms e (λ p x xs clear stops at. do_here T p x xs clear stops at)
+
+        branch_shape : (c b : Entries) (condition body : Shape EntriesOf) → shape_of B c ≡ condition → shape_of B b ≡ body → shape_of_branch B (branch c b) ≡ branch condition body
+        branch_shape c b condition body e f = rw (e, f) refl
+
+        branch_read : (m : Text) (condition body : Shape EntriesOf) (f : ℕ) (ms : Marks) → all_blank m ≡ true → GoodBranch room (branch condition body) → is_normal_branch (branch condition body) ≡ true
+            → FirstWord ms → At f (branch_marks m (codes "then") condition body ms) → BranchRead f (branch condition body) (text m ∷ ms)
+        unfolding a_branch
+        branch_read m condition body f ms blank good normal next_word at =
+            let one_of = and_parts _ _ normal in
+            let two_of = and_parts _ _ one_of.0 in
+            let three_of = and_parts _ _ two_of.0 in
+            let X = block_marks m body ms in
+            let c = cond_read m condition f (codes "then") reserved.Then X blank good.0 three_of.0 three_of.1 (then_key X (line_end_end _)) refl at in
+            let b = block_read (deeper y m) body c.key.f (text m ∷ ms) (deeper_blank y m blank) good.1 two_of.1 one_of.1 (first_closes m ms blank next_word) c.key.at in
+            record {
+              value = branch c.value b.value;
+              e = b.«end»;
+              at = b.at;
+              reads = c.reads ⟫ closing_read closings.Then reserved.Then c.e X refl refl c.key ⟫ b.reads ⟫ given_here;
+              shape = branch_shape c.value b.value condition body c.shape b.is;
+            }
+
+        first_read : (m : Text) (ms : Marks) (e : ℕ) → all_blank m ≡ true → (f : FirstWord ms) → At e (text m ∷ ms) → KeywordRead e f.r f.others
+        first_read m ms e blank f at = keyword_read m f.w f.r e f.others blank f.key (at ∙ ap (λ ks. laid (text m ∷ ks)) f.is)
+
+        keyword_f : (m w : Text) (r : Reserved) (e : ℕ) (ms : Marks) (blank : all_blank m ≡ true) (key : Key w r ms) (at : At e (text m ∷ text w ∷ ms)) → (keyword_read m w r e ms blank key at).f ≡ past_blanks T e + length w
+        unfolding keyword_read
+        keyword_f m w r e ms blank key at = refl
+
+        -- ---- loops
+
+        record Finished (X : Type 0) (r : Form (Closed X)) (p : ℕ) (rest : Marks) (Is : X → Type 0) : Type 0 where
+          value : X
+          closer : Span
+          e : ℕ
+          at : At e rest
+          reads : Gives g r (standing p) (record { what = value; closer = closer; next = next_at Command T e }) (standing (past_blanks T e))
+          is : Is value
+
+        done_key : (ms : Marks) → WordEnd (laid ms) → Key (codes "done") reserved.Done ms
+        done_key ms e = key_by (codes "done") reserved.Done ms e (λ p x xs clear stops at. done_here T p x xs clear stops at)
+
+        loop_read : (m : Text) (condition body : Shape EntriesOf) (f : ℕ) (rest : Marks) → all_blank m ≡ true → GoodBranch room (branch condition body) → is_normal_branch (branch condition body) ≡ true
+            → WordEnd (laid rest) → At f (branch_marks m (codes "do") condition body (text (codes "done") ∷ rest))
+            → Finished ABranch (a_loop inner (next_at Command T f)) (past_blanks T f) rest (λ v. shape_of_branch B v ≡ branch condition body)
+        unfolding a_loop
+        loop_read m condition body f rest blank good normal stop at =
+            let one_of = and_parts _ _ normal in
+            let two_of = and_parts _ _ one_of.0 in
+            let three_of = and_parts _ _ two_of.0 in
+            let X = block_marks m body (text (codes "done") ∷ rest) in
+            let c = cond_read m condition f (codes "do") reserved.Do X blank good.0 three_of.0 three_of.1 (do_key X (line_end_end _)) refl at in
+            let b = body_read m body c.key.f (codes "done") reserved.Done rest blank good.1 two_of.1 one_of.1 (done_key rest stop) refl c.key.at in
+            record {
+              value = branch c.value b.value;
+              closer = b.key.s;
+              e = b.key.f;
+              at = b.key.at;
+              reads = c.reads ⟫ closing_read closings.Do reserved.Do c.e X refl refl c.key ⟫ b.reads ⟫ closing_read closings.Done reserved.Done b.e rest refl refl b.key ⟫ given_here;
+              is = branch_shape c.value b.value condition body c.shape b.shape;
+            }
+
+        -- ---- `if`
+
+        fi_key : (ms : Marks) → WordEnd (laid ms) → Key (codes "fi") reserved.Fi ms
+        fi_key ms e = key_by (codes "fi") reserved.Fi ms e (λ p x xs clear stops at. fi_here T p x xs clear stops at)
+
+        record ElseRead (e : ℕ) (other : Shape OtherwiseOf) (rest : Marks) : Type 0 where
+          value : Otherwise
+          f : ℕ
+          key : KeywordRead f reserved.Fi rest
+          reads : Gives g (an_else inner (next_at Command T e)) (standing (past_blanks T e)) (value, next_at Command T f) (standing (past_blanks T f))
+          shape : shape_of_else B value ≡ other
+
+        else_read : (m : Text) (other : Shape OtherwiseOf) (e : ℕ) (rest : Marks) → all_blank m ≡ true → GoodElse room other → is_normal_else other ≡ true → WordEnd (laid rest)
+            → At e (text m ∷ else_rest m other rest) → ElseRead e other rest
+        unfolding an_else else_first
+        else_read m no_else e rest blank good normal stop at =
+            let k = keyword_read m (codes "fi") reserved.Fi e rest blank (fi_key rest stop) at in
+            record { value = no_else; f = e; key = k; reads = second_of _ _ (ap (is_closing closings.Else) k.token_is) given_here; shape = refl }
+        else_read m (otherwise es) e rest blank good normal stop at =
+            let first_word = else_first m (otherwise es) rest stop in
+            let X = block_marks m es (text (codes "fi") ∷ rest) in
+            let k = keyword_read m (codes "else") reserved.Else e X blank (key_by (codes "else") reserved.Else X (line_end_end _) (λ p x xs clear stops at. else_here T p x xs clear stops at)) (at ∙ ap (λ ks. laid (text m ∷ ks)) first_word.is) in
+            let parts = and_parts _ _ normal in
+            let b = body_read m es k.f (codes "fi") reserved.Fi rest blank good parts.0 parts.1 (fi_key rest stop) refl k.at in
+            record {
+              value = otherwise b.value;
+              f = b.e;
+              key = b.key;
+              reads = first_of _ _ (ap (is_closing closings.Else) k.token_is) (k.reads (closing_text closings.Else) ⟫ b.reads ⟫ given_here);
+              shape = ap otherwise b.shape;
+            }
+
+        record BranchesRead (acc : Row ABranch) (e : ℕ) (bs : Shape BranchesOf) (ms : Marks) : Type 0 where
+          value : Row ABranch
+          f : ℕ
+          at : At f ms
+          reads : Gives g (many (elif_turn inner) (branched acc (next_at Command T e))) (standing (past_blanks T e)) (branched (acc ++ value) (next_at Command T f)) (standing (past_blanks T f))
+          shape : shape_of_branches B (branches_of value) ≡ bs
+
+        branches_turned : (acc : Row ABranch) (n : Next) (p : ℕ) (v : ABranch) (next : Next) (r : ℕ) (vs : Row ABranch) (z : Next) (f : ℕ)
+            → Gives g (elif_turn inner (branched acc n)) (standing p) (again (branched (acc ++ v ∷ []) next)) (standing r) → leads_on g (standing p) (standing r) ≡ true
+            → Gives g (many (elif_turn inner) (branched (acc ++ v ∷ []) next)) (standing r) (branched ((acc ++ v ∷ []) ++ vs) z) (standing f)
+            → Gives g (many (elif_turn inner) (branched acc n)) (standing p) (branched (acc ++ (v ∷ vs)) z) (standing f)
+        branches_turned acc n p v next r vs z f one on rest =
+            subst (λ all. Gives g (many (elif_turn inner) (branched acc n)) (standing p) (branched all z) (standing f)) (append_assoc acc (v ∷ []) vs) (one_turn (elif_turn inner) one on rest)
+
+        branches_shape : (v : ABranch) (vs : Row ABranch) (b : Shape ABranchOf) (bs : Shape BranchesOf) → shape_of_branch B v ≡ b → shape_of_branches B (branches_of vs) ≡ bs → shape_of_branches B (branches_of (v ∷ vs)) ≡ more_branches b bs
+        branches_shape v vs b bs e f = rw (e, f) refl
+
+        else_no_elif : (m : Text) (other : Shape OtherwiseOf) (rest : Marks) (stop : WordEnd (laid rest)) → is_closing closings.Elif (tokens.Reserved (else_first m other rest stop).r) ≡ false
+        unfolding else_first
+        else_no_elif m no_else rest stop = refl
+        else_no_elif m (otherwise es) rest stop = refl
+
+        elif_key : (m : Text) (condition : Shape EntriesOf) (ms : Marks) → Key (codes "elif") reserved.Elif (cond_marks m condition ++ ms)
+        elif_key m condition ms = key_by (codes "elif") reserved.Elif (cond_marks m condition ++ ms) (condition_end m condition ms) (λ p x xs clear stops at. elif_here T p x xs clear stops at)
+
+        keyword_within : (m : Text) (w : Text) (e : ℕ) (ms : Marks) → 0 < length w → all_blank m ≡ true → Start T (e + length m) → At e (text m ∷ text w ∷ ms) → past_blanks T e < length T
+        keyword_within m w e ms some blank s at =
+            let behind_it = at_text e m (text w ∷ ms) at in
+            let gap = margin_gap m e (text w ∷ ms) blank at s in
+            let low = some_word (e + length m) w (laid ms) some (behind_it ∙ laid_text w ms) in
+            let is = gap.blanks in omega (arith, low, is)
+
+        branches_read : (m : Text) (bs : Shape BranchesOf) (other : Shape OtherwiseOf) (acc : Row ABranch) (e : ℕ) (rest : Marks) → all_blank m ≡ true → GoodBranches room bs → are_normal_branches bs ≡ true
+            → WordEnd (laid rest) → At e (text m ∷ if_rest m bs other rest) → BranchesRead acc e bs (text m ∷ else_rest m other rest)
+        unfolding elif_turn
+        branches_read m no_branch other acc e rest blank good normal stop at =
+            let first_word = else_first m other rest stop in
+            let k = first_read m (else_rest m other rest) e blank first_word at in
+            record {
+              value = [];
+              f = e;
+              at = at;
+              reads = rw (append-nil acc) (last_turn (elif_turn inner) (second_of _ _ (ap (is_closing closings.Elif) k.token_is ∙ else_no_elif m other rest stop) given_here));
+              shape = refl;
+            }
+        branches_read m (more_branches (branch condition body) bs) other acc e rest blank good normal stop at =
+            let Z = if_rest m bs other rest in
+            let Y = text (codes "then") ∷ block_marks m body Z in
+            let X = cond_marks m condition ++ Y in
+            let parts = and_parts _ _ normal in
+            let there = at ∙ ap (λ ks. laid (text m ∷ ks)) (elif_is m condition body bs (else_rest m other rest)) in
+            let key = elif_key m condition Y in
+            let k = keyword_read m (codes "elif") reserved.Elif e X blank key there in
+            let k_f = keyword_f m (codes "elif") reserved.Elif e X blank key there in
+            let b = branch_read m condition body k.f Z blank good.0 parts.0 (if_first m bs other rest stop) k.at in
+            let low = gives_on (a_branch inner (next_at Command T k.f)) _ _ _ b.reads in
+            let start = (key (e + length m) (at_text e m (text (codes "elif") ∷ X) there ∙ laid_text (codes "elif") X)).start in
+            let within = keyword_within m (codes "elif") e X (omega arith) blank start there in
+            let others = branches_read m bs other (acc ++ b.value ∷ []) b.e rest blank good.1 parts.1 stop b.at in
+            record {
+              value = b.value ∷ others.value;
+              f = others.f;
+              at = others.at;
+              reads = branches_turned acc (next_at Command T e) (past_blanks T e) b.value (next_at Command T b.e) (past_blanks T b.e) others.value (next_at Command T others.f) (past_blanks T others.f)
+                  (first_of _ _ (ap (is_closing closings.Elif) k.token_is) (k.reads (closing_text closings.Elif) ⟫ b.reads ⟫ pushed_here acc b.value ⟫ given_here))
+                  (leads (past_blanks T e) (past_blanks T b.e) (omega (arith, low, k_f, blanks_low T k.f)) within) others.reads;
+              shape = branches_shape b.value others.value (branch condition body) bs b.shape others.shape;
+            }
+
+        -- ---- compound commands from behind their openers
+
+        if_read : (m : Text) (condition body : Shape EntriesOf) (bs : Shape BranchesOf) (other : Shape OtherwiseOf) (f : ℕ) (rest : Marks) → all_blank m ≡ true
+            → GoodForm room (if_then (branch condition body) bs other) → is_normal_form (if_then (branch condition body) bs other) ≡ true → WordEnd (laid rest)
+            → At f (branch_marks m (codes "then") condition body (if_rest m bs other rest))
+            → Finished AForm (an_if inner (next_at Command T f)) (past_blanks T f) rest (λ v. shape_of_form B v ≡ if_then (branch condition body) bs other)
+        unfolding an_if
+        if_read m condition body bs other f rest blank good normal stop at =
+            let one_of = and_parts _ _ normal in
+            let two_of = and_parts _ _ one_of.0 in
+            let b = branch_read m condition body f (if_rest m bs other rest) blank good.0 two_of.0 (if_first m bs other rest stop) at in
+            let r = branches_read m bs other [] b.e rest blank good.1 two_of.1 stop b.at in
+            let e = else_read m other r.f rest blank good.2 one_of.1 stop r.at in
+            record {
+              value = if_then b.value (branches_of r.value) e.value;
+              closer = e.key.s;
+              e = e.key.f;
+              at = e.key.at;
+              reads = b.reads ⟫ r.reads ⟫ e.reads ⟫ closing_read closings.Fi reserved.Fi e.f rest refl refl e.key ⟫ given_here;
+              is = if_shape b.value r.value e.value (branch condition body) bs other b.shape r.shape e.shape;
+            }
+          where
+            if_shape : (v : ABranch) (vs : Row ABranch) (w : Otherwise) (b : Shape ABranchOf) (bs : Shape BranchesOf) (other : Shape OtherwiseOf) → shape_of_branch B v ≡ b → shape_of_branches B (branches_of vs) ≡ bs
+                → shape_of_else B w ≡ other → shape_of_form B (if_then v (branches_of vs) w) ≡ if_then b bs other
+            if_shape v vs w b bs other e f h = rw (e, f, h) refl
+
+        -- behind a margin a `)` closes
+        paren_line : (m : Text) (e : ℕ) (ms : Marks) → all_blank m ≡ true → At e (text m ∷ text (codes ")") ∷ ms) → (token_at Command T (past_blanks T e) ≡ tokens.CloseParen) × At (past_blanks T e) (text (codes ")") ∷ ms)
+        paren_line m e ms blank at =
+            let behind_it = at_text e m (text (codes ")") ∷ ms) at in
+            let gap = margin_gap m e (text (codes ")") ∷ ms) blank at (start_here (byte_here T (e + length m) 41 (laid ms) refl (behind_it ∙ laid_text (codes ")") ms)) refl) in
+            let at_q = subst (λ q. At q (text (codes ")") ∷ ms)) (sym gap.blanks) behind_it in
+            (close_token Command T (past_blanks T e) (laid ms) (at_q ∙ laid_text (codes ")") ms), at_q)
+
+        paren_closes : (m : Text) (ms : Marks) → all_blank m ≡ true → (e : ℕ) → At e (text m ∷ text (codes ")") ∷ ms) → Closes e
+        paren_closes m ms blank e at =
+            let line = paren_line m e ms blank at in
+            record {
+              no_entry_it = ap begins_pipeline line.0;
+              no_newline_it = ap is_newline line.0;
+              no_comment_it = no_byte (past_blanks T e) 41 (laid ms) 35 refl (line.1 ∙ laid_text (codes ")") ms);
+            }
+
+        brace_key : (ms : Marks) → WordEnd (laid ms) → Key (codes "}") reserved.CloseBrace ms
+        brace_key ms e = key_by (codes "}") reserved.CloseBrace ms e (λ p x xs clear stops at. close_brace_here T p x xs clear stops at)
+
+        group_read : (m : Text) (es : Shape EntriesOf) (f : ℕ) (rest : Marks) → all_blank m ≡ true → GoodEntries room es → is_whole es ≡ true → are_normal es ≡ true → WordEnd (laid rest)
+            → At f (block_marks m es (text (codes "}") ∷ rest)) → Finished Entries (a_group inner closings.Brace (next_at Command T f)) (past_blanks T f) rest (λ v. shape_of B v ≡ es)
+        unfolding a_group
+        group_read m es f rest blank good whole normal stop at =
+            let b = body_read m es f (codes "}") reserved.CloseBrace rest blank good whole normal (brace_key rest stop) refl at in
+            record {
+              value = b.value;
+              closer = b.key.s;
+              e = b.key.f;
+              at = b.key.at;
+              reads = b.reads ⟫ closing_read closings.Brace reserved.CloseBrace b.e rest refl refl b.key ⟫ given_here;
+              is = b.shape;
+            }
+
+        subshell_read : (m : Text) (es : Shape EntriesOf) (f : ℕ) (rest : Marks) → all_blank m ≡ true → GoodEntries room es → is_whole es ≡ true → are_normal es ≡ true
+            → At f (block_marks m es (text (codes ")") ∷ rest)) → Finished Entries (a_group inner closings.Paren (next_at Command T f)) (past_blanks T f) rest (λ v. shape_of B v ≡ es)
+        unfolding a_group closing
+        subshell_read m es f rest blank good whole normal at =
+            let b = block_read (deeper y m) es f (text m ∷ text (codes ")") ∷ rest) (deeper_blank y m blank) good whole normal (paren_closes m rest blank) at in
+            let line = paren_line m b.«end» rest blank b.at in
+            let q = past_blanks T b.«end» in
+            let r = byte_here T q 41 (laid rest) refl (line.1 ∙ laid_text (codes ")") rest) in
+            record {
+              value = b.value;
+              closer = span o q (q + 1);
+              e = q + 1;
+              at = r.rest;
+              reads = b.reads ⟫ first_of _ _ (ap (is_closing closings.Paren) line.0) (passed_paren (closing_text closings.Paren) q r.behind_it) ⟫ given_here;
+              is = b.is;
+            }
+
+        -- what stands behind the opener of a form
+        abbrev form_rest : Text → Shape AFormOf → Marks → Marks
+        form_rest m (brace es) rest = block_marks m es (text (codes "}") ∷ rest)
+        form_rest m (subshell es) rest = block_marks m es (text (codes ")") ∷ rest)
+        form_rest m (if_then (branch condition body) bs other) rest = branch_marks m (codes "then") condition body (if_rest m bs other rest)
+        form_rest m (while_do (branch condition body)) rest = branch_marks m (codes "do") condition body (text (codes "done") ∷ rest)
+        form_rest m (until_do (branch condition body)) rest = branch_marks m (codes "do") condition body (text (codes "done") ∷ rest)
+        form_rest m (for_in name words body) rest = rest
+        form_rest m (case_in w items tail) rest = rest
+
+        abbrev opener_for : Shape AFormOf → Opener
+        opener_for (brace es) = openers.Brace
+        opener_for (subshell es) = openers.Paren
+        opener_for (if_then first rest other) = openers.If
+        opener_for (while_do b) = openers.While
+        opener_for (until_do b) = openers.Until
+        opener_for (for_in name words body) = openers.Brace
+        opener_for (case_in w items tail) = openers.Brace
+
+        form_is : (m : Text) (form : Shape AFormOf) (rest : Marks) → GoodForm room form → print_form y m form ++ rest ≡ text (opener_text (opener_for form)) ∷ form_rest m form rest
+        form_is m (brace es) rest good =
+            ap (λ ks. text (codes "{") ∷ ks) (append_assoc (lines_between m (print_entries y (deeper y m) es)) (one (codes "}")) rest ∙ between_is m es (text (codes "}") ∷ rest))
+        form_is m (subshell es) rest good =
+            ap (λ ks. text (codes "(") ∷ ks) (append_assoc (lines_between m (print_entries y (deeper y m) es)) (one (codes ")")) rest ∙ between_is m es (text (codes ")") ∷ rest))
+        form_is m (if_then (branch condition body) bs other) rest good =
+            let P = print_branch y m (codes "if") (codes "then") (branch condition body) in
+            let Q = print_branches y m bs in
+            let E = print_else y m other in
+            append_assoc ((P ++ Q) ++ E) (one (codes "fi")) rest ∙ append_assoc (P ++ Q) E (text (codes "fi") ∷ rest) ∙ append_assoc P Q (E ++ (text (codes "fi") ∷ rest))
+            ∙ branch_is m (codes "if") (codes "then") condition body (if_rest m bs other rest)
+        form_is m (while_do (branch condition body)) rest good =
+            append_assoc (print_branch y m (codes "while") (codes "do") (branch condition body)) (one (codes "done")) rest ∙ branch_is m (codes "while") (codes "do") condition body (text (codes "done") ∷ rest)
+        form_is m (until_do (branch condition body)) rest good =
+            append_assoc (print_branch y m (codes "until") (codes "do") (branch condition body)) (one (codes "done")) rest ∙ branch_is m (codes "until") (codes "do") condition body (text (codes "done") ∷ rest)
+        form_is m (for_in name words body) rest good = absurd good
+        form_is m (case_in w items tail) rest good = absurd good
+
+        form_read : (m : Text) (form : Shape AFormOf) (f : ℕ) (rest : Marks) → all_blank m ≡ true → GoodForm room form → is_normal_form form ≡ true → WordEnd (laid rest) → At f (form_rest m form rest)
+            → Finished AForm (a_form inner (opener_for form) (next_at Command T f)) (past_blanks T f) rest (λ v. shape_of_form B v ≡ form)
+        form_read m (brace es) f rest blank good normal stop at =
+            let parts = and_parts _ _ normal in
+            let r = group_read m es f rest blank good parts.0 parts.1 stop at in
+            record { value = brace r.value; closer = r.closer; e = r.e; at = r.at; reads = r.reads ⟫ given_here; is = ap (λ es. brace es) r.is }
+        form_read m (subshell es) f rest blank good normal stop at =
+            let parts = and_parts _ _ normal in
+            let r = subshell_read m es f rest blank good parts.0 parts.1 at in
+            record { value = subshell r.value; closer = r.closer; e = r.e; at = r.at; reads = r.reads ⟫ given_here; is = ap (λ es. subshell es) r.is }
+        form_read m (if_then (branch condition body) bs other) f rest blank good normal stop at = if_read m condition body bs other f rest blank good normal stop at
+        form_read m (while_do (branch condition body)) f rest blank good normal stop at =
+            let r = loop_read m condition body f rest blank good normal stop at in
+            record { value = while_do r.value; closer = r.closer; e = r.e; at = r.at; reads = r.reads ⟫ given_here; is = ap (λ b. while_do b) r.is }
+        form_read m (until_do (branch condition body)) f rest blank good normal stop at =
+            let r = loop_read m condition body f rest blank good normal stop at in
+            record { value = until_do r.value; closer = r.closer; e = r.e; at = r.at; reads = r.reads ⟫ given_here; is = ap (λ b. until_do b) r.is }
+        form_read m (for_in name words body) f rest blank good normal stop at = absurd good
+        form_read m (case_in w items tail) f rest blank good normal stop at = absurd good
+
+        -- ---- compound commands
+
+        -- an opener, and what stands behind it
+        record Opened (p : ℕ) (k : Opener) (ms : Marks) : Type 0 where
+          opens : Opens p k
+          s : Span
+          f : ℕ
+          at : At f ms
+          reads : Gives g (passed (opener_text k) (is_open_paren k)) (standing p) (s, next_at Command T f) (standing (past_blanks T f))
+
+        opened_by : (k : Opener) (r : Reserved) (p : ℕ) (ms : Marks) → is_open_paren k ≡ false → begins_simple (tokens.Reserved r) ≡ false → opener_of (tokens.Reserved r) ≡ Some k → Key (opener_text k) r ms
+            → At p (text (opener_text k) ∷ ms) → Opened p k ms
+        opened_by k r p ms no_paren none opener_is key at =
+            let it = key p (at ∙ laid_text (opener_text k) ms) in
+            record {
+              opens = record { start = it.start; no_item = ap begins_simple it.token ∙ none; opener = ap opener_of it.token ∙ opener_is };
+              s = span o p (p + length (opener_text k));
+              f = p + length (opener_text k);
+              at = at_text p (opener_text k) ms at;
+              reads = rw no_paren (passed_by (opener_text k) p (p + length (opener_text k)) it.past_it);
+            }
+
+        opened_paren : (p : ℕ) (ms : Marks) → At p (text (codes "(") ∷ ms) → Opened p openers.Paren ms
+        opened_paren p ms at =
+            let there = at ∙ laid_text (codes "(") ms in
+            let r = byte_here T p 40 (laid ms) refl there in
+            let token_is = open_token Command T p (laid ms) there in
+            record {
+              opens = record { start = start_here r refl; no_item = ap begins_simple token_is; opener = ap opener_of token_is };
+              s = span o p (p + 1);
+              f = p + 1;
+              at = r.rest;
+              reads = passed_paren (codes "(") p r.behind_it;
+            }
+
+        form_opened : (m : Text) (form : Shape AFormOf) (p : ℕ) (rest : Marks) → GoodForm room form → At p (text (opener_text (opener_for form)) ∷ form_rest m form rest) → Opened p (opener_for form) (form_rest m form rest)
+        form_opened m (brace es) p rest good at =
+            opened_by openers.Brace reserved.OpenBrace p (form_rest m (brace es) rest) refl refl refl (key_by (codes "{") reserved.OpenBrace (form_rest m (brace es) rest) (line_end_end _) (λ p x xs clear stops at. brace_here T p x xs clear stops at)) at
+        form_opened m (subshell es) p rest good at = opened_paren p (form_rest m (subshell es) rest) at
+        form_opened m (if_then (branch condition body) bs other) p rest good at =
+            let ms = text (codes "then") ∷ block_marks m body (if_rest m bs other rest) in
+            opened_by openers.If reserved.If p (cond_marks m condition ++ ms) refl refl refl (key_by (codes "if") reserved.If (cond_marks m condition ++ ms) (condition_end m condition ms) (λ p x xs clear stops at. if_here T p x xs clear stops at)) at
+        form_opened m (while_do (branch condition body)) p rest good at =
+            let ms = text (codes "do") ∷ block_marks m body (text (codes "done") ∷ rest) in
+            opened_by openers.While reserved.While p (cond_marks m condition ++ ms) refl refl refl (key_by (codes "while") reserved.While (cond_marks m condition ++ ms) (condition_end m condition ms) (λ p x xs clear stops at. while_here T p x xs clear stops at)) at
+        form_opened m (until_do (branch condition body)) p rest good at =
+            let ms = text (codes "do") ∷ block_marks m body (text (codes "done") ∷ rest) in
+            opened_by openers.Until reserved.Until p (cond_marks m condition ++ ms) refl refl refl (key_by (codes "until") reserved.Until (cond_marks m condition ++ ms) (condition_end m condition ms) (λ p x xs clear stops at. until_here T p x xs clear stops at)) at
+        form_opened m (for_in name words body) p rest good at = absurd good
+        form_opened m (case_in w items tail) p rest good at = absurd good
+
+        compound_is : (m : Text) (form : Shape AFormOf) (mark : Unit {0}) (redirects : Shape ItemsOf) (rest : Marks) → GoodForm room form → NoItems redirects
+            → print_compound y m (formed form mark redirects) ++ rest ≡ text (opener_text (opener_for form)) ∷ form_rest m form rest
+        compound_is m form mark no_item rest good none = append_assoc (print_form y m form) [] rest ∙ form_is m form rest good
+        compound_is m form mark (more_items i is) rest good none = absurd none
+
+        -- a compound command opens so, one level further out
+        pub compound_opens : (m : Text) (c : Shape ACompoundOf) (p : ℕ) (rest : Marks) → GoodCompound (suc room) c → At p (print_compound y m c ++ rest) → (k : Opener) × Opens p k
+        compound_opens m (formed form mark redirects) p rest good at =
+            (opener_for form, (form_opened m form p rest good.0 (at ∙ ap laid (compound_is m form mark redirects rest good.0 good.1))).opens)
+
+        opener_same : (k l : Opener) (p : ℕ) → Opens p k → Opens p l → k ≡ l
+        opener_same k l p one two = let same : ◌≡◌ {A = Option Opener} (Some k) (Some l) = sym one.opener ∙ two.opener in cc
+
+        compound_shape : (v : AForm) (s : Span) (form : Shape AFormOf) (mark : Unit {0}) (redirects : Shape ItemsOf) → NoItems redirects → shape_of_form B v ≡ form
+            → shape_of_command B (compound (formed v s no_item)) ≡ compound (formed form mark redirects)
+        compound_shape v s form mark no_item none e = ap (λ form. compound (formed form tt no_item)) e
+        compound_shape v s form mark (more_items i is) none e = absurd none
+
+        pub compound_read : (m : Text) (c : Shape ACompoundOf) (p : ℕ) (rest : Marks) (t : Token) (k : Opener) → all_blank m ≡ true → GoodCompound (suc room) c → is_normal_compound c ≡ true
+            → Follower rest t → behind_item t ≡ None → Opens p k → At p (print_compound y m c ++ rest) → Got (a_compound inner k) p rest (λ v. shape_of_command B v ≡ compound c)
+        unfolding a_compound
+        compound_read m (formed form mark redirects) p rest t k blank good normal f none opens at =
+            let there = at ∙ ap laid (compound_is m form mark redirects rest good.0 good.1) in
+            let it = form_opened m form p rest good.0 there in
+            let r = form_read m form it.f rest blank good.0 (and_parts _ _ normal).0 (follows_end (laid rest) f.follow) it.at in
+            let c = compound (formed r.value (through it.s r.closer) no_item) in
+            let got : Got (a_compound inner (opener_for form)) p rest (λ v. shape_of_command B v ≡ compound (formed form mark redirects)) = record {
+              value = c;
+              «end» = r.e;
+              at = r.at;
+              reads = it.reads ⟫ r.reads ⟫ pushed_here [] c ⟫ given_here;
+              is = compound_shape r.value (through it.s r.closer) form mark redirects good.1 r.is;
+            } in
+            subst (λ k. Got (a_compound inner k) p rest (λ v. shape_of_command B v ≡ compound (formed form mark redirects))) (opener_same (opener_for form) k p it.opens opens) got
+
+  -- ---- at every level
+
+  pub no_substs_here : (room p n : ℕ) (w : AWord) (k : Row Spelled) → may (a_word (level room)) g (standing p) (Ok (w, standing (p + n))) k → w ≡ word (span o p (p + n)) no_subst
+  no_substs_here room p n w k part = no_substs room g p w (standing (p + n)) k part
+
+  none_at_all : (c : Shape ACompoundOf) → GoodCompound zero c → ⊥
+  none_at_all (formed form mark redirects) good = good
+
+  pub fine : (y : Layout) (room : ℕ) → Fine room (no_substs_here room) y
+  unfolding level
+  fine y zero = record {
+    opens = λ m c p rest good at. absurd (none_at_all c good);
+    back = λ m c p rest t k blank good normal f none opens at. absurd (none_at_all c good);
+  }
+  fine y (suc room) = record {
+    opens = λ m c p rest good at. compound_opens room (no_substs_here room) y (fine y room) m c p rest good at;
+    back = λ m c p rest t k blank good normal f none opens at. compound_read room (no_substs_here room) y (fine y room) m c p rest t k blank good normal f none opens at;
+  }
+
+  -- ---- a line of the script
+
+  -- a line and where the next one begins
+  pub record ScriptLine (blank : Bool) (es : Row AnEntry) (newline : Bool) (rest : Marks) : Type 0 where
+    pub f : ℕ
+    pub at : At f rest
+    pub reads : Gives g (a_line (level most_open) blank) (standing 0) (es, newline) (standing f)
+
+  pub record EntryLine (blank : Bool) (x : Shape AnEntryOf) (rest : Marks) : Type 0 where
+    pub value : AnEntry
+    pub line : ScriptLine blank (value ∷ []) true rest
+    pub shape : shape_of_entry B value ≡ x
+
+  module _ (y : Layout) where
+    abbrev top : Inner
+    top = level most_open
+
+    -- the newline behind what stands on the line
+    ended_by : (n : Next) (q : ℕ) (rest : Marks) → is_newline n.token ≡ true → At q (line_end ∷ rest) → Gives g (end_of_line top n) (standing q) true (standing (q + 1))
+    unfolding end_of_line
+    ended_by n q rest is at =
+        let behind_is = (byte_here T q 10 (laid rest) refl (at ∙ laid_line rest)).behind_it in
+        let moved : Gives g (move one_byte) (standing q) tt (standing (q + 1)) = subst (λ p. Gives g (move one_byte) (standing q) tt (standing p)) behind_is (moved_here one_byte) in
+        first_of _ _ is (moved ⟫ given_here)
+
+    pub entry_line : (blank : Bool) (what : Shape AContentOf) (background : Bool) (comment : Option Text) (rest : Marks) → GoodContent most_open what → GoodOwnComment comment
+        → is_normal_entry (entry what background blank comment) ≡ true → At 0 (text [] ∷ (print_content y [] what ++ entry_rest most_open (no_substs_here most_open) y (fine y most_open) background comment rest))
+        → EntryLine blank (entry what background blank comment) rest
+    unfolding a_line
+    entry_line blank what background comment rest good good_c normal at =
+        let ms = print_content y [] what ++ entry_rest most_open (no_substs_here most_open) y (fine y most_open) background comment rest in
+        let behind_it = at_text 0 [] ms at in
+        let gap = margin_gap most_open (no_substs_here most_open) [] 0 ms refl at (content_start most_open (no_substs_here most_open) y (fine y most_open) [] what background blank comment 0 rest good good_c normal behind_it) in
+        let p = past_blanks T 0 in
+        let at_p = subst (λ q. At q ms) (sym gap.blanks) behind_it in
+        let n = next_at Command T 0 in
+        let r = entry_on_line most_open (no_substs_here most_open) y (fine y most_open) [] [] blank false what background comment n p rest refl good good_c normal refl at_p in
+        let line = line_end_here most_open (no_substs_here most_open) y (fine y most_open) r.«end» rest r.at in
+        let q = past_blanks T r.«end» in
+        record {
+          value = r.value;
+          line = record {
+            f = q + 1;
+            at = at_line q rest line.at_q;
+            reads = next_read Command 0 ⟫ r.reads ⟫ ended_by (next_at Command T r.«end») q rest (ap (λ (n : Next). is_newline n.token) line.n_is) line.at_q ⟫ given_here;
+          };
+          shape = r.shape;
+        }
+
+    pub blank_line_read : (blank : Bool) (rest : Marks) → At 0 (line_end ∷ rest) → ScriptLine blank [] true rest
+    unfolding a_line
+    blank_line_read blank rest at =
+        let line = line_end_here most_open (no_substs_here most_open) y (fine y most_open) 0 rest at in
+        let q = past_blanks T 0 in
+        let n = next_at Command T 0 in
+        record {
+          f = q + 1;
+          at = at_line q rest line.at_q;
+          reads = next_read Command 0 ⟫ nothing_on_line most_open (no_substs_here most_open) y (fine y most_open) (none_listed blank) n q (ap (λ (n : Next). begins_pipeline n.token) line.n_is) line.no_comment_q
+              ⟫ ended_by n q rest (ap (λ (n : Next). is_newline n.token) line.n_is) line.at_q ⟫ given_here;
+        }
+
+    pub end_line_read : (blank : Bool) → At 0 [] → ScriptLine blank [] false []
+    unfolding a_line end_of_line laid
+    end_line_read blank at =
+        let it = end_here T 0 at in
+        let n = next_at Command T 0 in
+        let q = past_blanks T 0 in
+        let token_is : n.token ≡ tokens.End = ap (token_at Command T) it.gap.blanks ∙ it.token Command in
+        let at_q = subst (λ p. drop p T ≡ []) (sym it.gap.blanks) at in
+        record {
+          f = q;
+          at = at_q;
+          reads = next_read Command 0 ⟫ nothing_on_line most_open (no_substs_here most_open) y (fine y most_open) (none_listed blank) n q (ap begins_pipeline token_is) (no_sharp_end q at_q)
+              ⟫ second_of _ _ (ap is_newline token_is) (first_of _ _ (ap is_end token_is) given_here) ⟫ given_here;
+        }
+      where
+        no_sharp_end : (q : ℕ) → drop q T ≡ [] → raw_stands T q 35 ≡ false
+        no_sharp_end q e = no_byte_end T q 35 e

@@ -1,0 +1,531 @@
+-- What was read has a good shape: its words and comments are read wherever they stand, and no more constructs are open than may be.
+use Rattle.std.proofs.Common.{◌≡◌, ◌∙◌, refl, sym, ap, subst, ℕ, zero, suc, ◌+◌, ◌-◌, Bool, true, false, Ok, Err, List, List as Row, [], ◌∷◌, ◌++◌, drop, take, Option, Some, None, is_some, option_map}
+use Rattle.std.proofs.lemmas.List.{drop-drop}
+use Rattle.shread.specs.declared.token.Closing.{Closing}
+use Rattle.shread.specs.declared.token.Closing.TheVariants as closings
+use Rattle.shread.specs.declared.token.Next.{Next}
+use Rattle.shread.specs.declared.token.Opener.{Opener}
+use Rattle.shread.specs.declared.token.Opener.TheVariants as openers
+use Rattle.shread.specs.declared.token.Position.{Position}
+use Rattle.shread.specs.declared.token.Position.TheVariants.{Command, Prefix, Suffix}
+use Rattle.shread.specs.declared.token.Separator.{Separator}
+use Rattle.shread.specs.declared.token.Token.{Token}
+use Rattle.shtree.specs.declared.tree.AndOrOperator.{AndOrOperator}
+use Rattle.shtree.specs.declared.tree.Span.{Span}
+use Rattle.shtree.specs.Tree.{APipelinePart, AnAndOrPart, ACommand, ABranch, AForm, pipeline_parts_of, and_or_parts_of, branches_of, AnEntry, AnItem, AWord, item, entry, remark, entries_of, items_of, ItemsOf, no_item, more_items, AnItemOf, word, no_subst}
+use Rattle.shtree.specs.Shape.{Text, Shape, text_at, shape_of, shape_of_comment, shape_of_comments, shape_of_entry, shape_of_and_or, shape_of_and_or_parts, shape_of_pipeline, shape_of_pipes, shape_of_command, shape_of_form, shape_of_branch, shape_of_branches, shape_of_else, shape_of_items, shape_of_item, shape_of_word}
+use Rattle.shread.specs.Classes.{is_blank}
+use Rattle.shread.specs.Bytes.{past_continuations, past_blanks, stands_in}
+use Rattle.shread.specs.Comments.{span, comment_at}
+use Rattle.shread.specs.Tokens.{token_at}
+use Rattle.shread.specs.Sights.{Given, given, State, standing, Sight, seen, Move, to}
+use Rattle.shread.specs.Form.{Spelled, Read, Form, see, move, push, give, both, many, Step, again, done, step_if, may}
+use Rattle.shread.specs.Words.{Inner, a_word}
+use Rattle.shread.specs.Commands.{pick, next_token, is_newline, is_pipe, is_bang, begins_simple, begins_pipeline, opener_of, compound_by, and_or_operator_of, Items, so_many, behind_item, as_item, breaks, an_item, item_by, item_turn, a_simple, unexpected, comment_by, a_comment, a_newline, with_comment, JoinSo, join_turn, a_join, a_command, a_bang, Piped, piped, one_command, pipe_turn, a_pipeline, Joined, joined_so, one_pipeline, joined_by, join_pipeline, an_and_or, separator_of, separator_by, a_separator, is_parted, an_entry}
+use Rattle.shread.specs.Lists.{ListSo, list_so, none_listed, is_blank_next, one_entry, entry_turn, remark_by, a_remark, on_line, list_turn, a_list}
+use Rattle.shread.specs.Compounds.{Branched, branched, Closed, is_closing, passed, closing, a_group, a_branch, elif_turn, an_else, an_if, a_loop, a_form, a_compound}
+use Rattle.shread.specs.Levels.{most_open, level, IsWord}
+use Rattle.shread.specs.Lines.{a_line}
+use Rattle.shread.specs.Scripts.{AScript, SoFar, Lines, line_ended, last_line, faulty, nothing_yet, Outcome}
+use Rattle.shread.proofs.Places.{place_same, blanks_stop}
+use Rattle.shread.proofs.OneOutcome.{is}
+use Rattle.shread.proofs.Holds.{Holds, Tells, Stepped, tells_give, tells_then, tells_so, tells_until, tells_seen, tells_moved, tells_pushed}
+use Rattle.shread.proofs.Anywhere.{waits, state_is, read_word}
+use Rattle.shread.proofs.NoSubsts.{no_substs}
+use Rattle.shread.proofs.Spelling.{raw_at}
+use Rattle.shread.proofs.Elsewhere.{ItemAnywhere, item_anywhere}
+use Rattle.shread.proofs.CommentsElsewhere.{CommentAnywhere, comment_is, comment_anywhere}
+use Rattle.shprint.proofs.Good.{GoodComments, GoodOwnComment, an_item_of, GoodItems, none_more, one_more, SomeItem, GoodSimple, GoodEntries, GoodEntry, GoodAndOr, GoodParts, GoodPipeline, GoodPipes, GoodCommand, GoodForm, GoodBranch, GoodBranches, GoodElse}
+
+-- ---- rows that grow at their end
+
+-- one more item
+abbrev with_last : Shape ItemsOf → Shape AnItemOf → Shape ItemsOf
+with_last no_item i = more_items i no_item
+with_last (more_items j is) i = more_items j (with_last is i)
+
+some_last : (is : Shape ItemsOf) (i : Shape AnItemOf) → SomeItem (with_last is i)
+some_last no_item i = tt
+some_last (more_items j is) i = tt
+
+items_more : {room : ℕ} {first position next : Position} {token : Token} {t : Text} {is : Shape ItemsOf} (broken : Bool) → GoodItems room first is position → behind_item token ≡ Some next
+    → ItemAnywhere room position token t → GoodItems room first (with_last is (an_item_of broken next t)) next
+items_more broken none_more e one = one_more e one none_more
+items_more broken (one_more f other rest) e one = one_more f other (items_more broken rest e one)
+
+module _ (B : List ℕ) where
+  items_last : (is : Row AnItem) (i : AnItem) → shape_of_items B (items_of (is ++ i ∷ [])) ≡ with_last (shape_of_items B (items_of is)) (shape_of_item B i)
+  items_last [] i = refl
+  items_last (j ∷ is) i = ap (more_items (shape_of_item B j)) (items_last is i)
+
+  -- an item, by its word
+  item_is : (broken : Bool) (position : Position) (w : AWord) (t : Text) → shape_of_word B w ≡ word t no_subst → shape_of_item B (item broken (as_item position w)) ≡ an_item_of broken position t
+  item_is broken Command w t e = rw e refl
+  item_is broken Prefix w t e = rw e refl
+  item_is broken Suffix w t e = rw e refl
+
+  comments_more : (cs : Row Span) (c : Span) → GoodComments (shape_of_comments B cs) → CommentAnywhere (text_at B c) → GoodComments (shape_of_comments B (cs ++ c ∷ []))
+  comments_more [] c all one = (one, tt)
+  comments_more (d ∷ cs) c all one = (all.0, comments_more cs c all.1 one)
+
+  module _ (room : ℕ) where
+    pipes_more : (ps : Row APipelinePart) (p : APipelinePart) → GoodPipes room (shape_of_pipes B (pipeline_parts_of ps)) → GoodComments (shape_of_comments B p.join.comments)
+        → GoodCommand room (shape_of_command B p.command) → GoodPipes room (shape_of_pipes B (pipeline_parts_of (ps ++ p ∷ [])))
+    pipes_more [] p all join one = (join, one, tt)
+    pipes_more (q ∷ ps) p (other, command, all) join one = (other, command, pipes_more ps p all join one)
+
+    joined_more : (ps : Row AnAndOrPart) (p : AnAndOrPart) → GoodParts room (shape_of_and_or_parts B (and_or_parts_of ps)) → GoodComments (shape_of_comments B p.join.comments)
+        → GoodPipeline room (shape_of_pipeline B p.pipeline) → GoodParts room (shape_of_and_or_parts B (and_or_parts_of (ps ++ p ∷ [])))
+    joined_more [] p all join one = (join, one, tt)
+    joined_more (q ∷ ps) p (other, pipeline, all) join one = (other, pipeline, joined_more ps p all join one)
+
+    branches_more : (bs : Row ABranch) (b : ABranch) → GoodBranches room (shape_of_branches B (branches_of bs)) → GoodBranch room (shape_of_branch B b)
+        → GoodBranches room (shape_of_branches B (branches_of (bs ++ b ∷ [])))
+    branches_more [] b all one = (one, tt)
+    branches_more (c ∷ bs) b all one = (all.0, branches_more bs b all.1 one)
+
+    entries_join : (es ls : Row AnEntry) → GoodEntries room (shape_of B (entries_of es)) → GoodEntries room (shape_of B (entries_of ls)) → GoodEntries room (shape_of B (entries_of (es ++ ls)))
+    entries_join [] ls all more = more
+    entries_join (e ∷ es) ls all more = (all.0, entries_join es ls all.1 more)
+
+-- ---- what a form reads from a place on, where nothing waits
+
+-- what may be read holds of what is read
+holds_by : {X : Type 0} (P : X → State → Type 0) (r : Read X → Row Spelled → Type 0) (y : Read X) (k : Row Spelled) → r y k
+    → ((x : X) (t : State) (k : Row Spelled) → r (Ok (x, t)) k → P x t) → Holds P y
+holds_by P r (Ok (x, t)) k part so = so x t k part
+holds_by P r (Err f) k part so = tt
+
+-- two things hold of what is read
+holds_both : {X : Type 0} (P Q S : X → State → Type 0) (y : Read X) → ((x : X) (t : State) → P x t → Q x t → S x t) → Holds P y → Holds Q y → Holds S y
+holds_both P Q S (Ok (x, t)) so one two = so x t one two
+holds_both P Q S (Err f) so one two = tt
+
+module _ (g : Given) where
+  abbrev At : {X : Type 0} → (X → ℕ → Type 0) → X → State → Type 0
+  At P x t = (t ≡ standing t.at) × P x t.at
+
+  -- P holds of what r reads from p on, and of the place behind it; nothing waits there
+  record Reads {X : Type 0} (r : Form X) (P : X → ℕ → Type 0) (p : ℕ) : Type 0 where
+    pub reads : Tells true g r (At P) (standing p)
+
+  gives : {X : Type 0} {P : X → ℕ → Type 0} {x : X} {p : ℕ} → P x p → Reads (give x) P p
+  gives so = record { reads = tells_give true g (refl, so) }
+
+  -- from a state that is such a place
+  from_place : {X : Type 0} {r : Form X} {P : X → ℕ → Type 0} (s : State) → s ≡ standing s.at → Reads r P s.at → Tells true g r (At P) s
+  from_place {r = r} {P = P} s e one = subst (λ u. Tells true g r (At P) u) (sym e) one.reads
+
+  first : {X Y : Type 0} {P : X → ℕ → Type 0} {Q : Y → ℕ → Type 0} {r : Form X} {q : X → Form Y} {p : ℕ} → Reads r P p → ((x : X) (e : ℕ) → P x e → Reads (q x) Q e)
+      → Reads (both r q) Q p
+  first {P = P} {Q = Q} one rest = record { reads = tells_then true g {P = At P} {Q = At Q} one.reads (λ x t so. from_place t so.0 (rest x t.at so.1)) }
+
+  any : {X : Type 0} {r : Form X} {p : ℕ} → Reads r (λ x e. Unit {0}) p
+  any {r = r} {p = p} = record { reads = tells_so true g (waits r true g (standing p)) (λ x t so. (state_is t so.0 so.1, tt)) }
+
+  -- what the first form gives may be anything
+  after : {X Y : Type 0} {Q : Y → ℕ → Type 0} {r : Form X} {q : X → Form Y} {p : ℕ} → ((x : X) (e : ℕ) → Reads (q x) Q e) → Reads (both r q) Q p
+  after {r = r} {p = p} rest = first {r = r} {p = p} any (λ x e so. rest x e)
+
+  sees : {X Y : Type 0} {Q : Y → ℕ → Type 0} {f : Sight X} {q : X → Form Y} {p : ℕ} → Reads (q (seen f g (standing p))) Q p → Reads (both (see f) q) Q p
+  sees rest = record { reads = tells_seen true g rest.reads }
+
+  moves : {Y : Type 0} {Q : Y → ℕ → Type 0} {m : Move} {q : Unit {0} → Form Y} {p : ℕ} → Reads (q tt) Q (to m g.text p) → Reads (both (move m) q) Q p
+  moves rest = record { reads = tells_moved true g rest.reads }
+
+  pushes : {A Y : Type 0} {Q : Y → ℕ → Type 0} {xs : Row A} {x : A} {q : Row A → Form Y} {p : ℕ} → Reads (q (xs ++ x ∷ [])) Q p → Reads (both (push xs x) q) Q p
+  pushes rest = record { reads = tells_pushed g rest.reads }
+
+  picks : {X : Type 0} {P : X → ℕ → Type 0} (b : Bool) {r q : Form X} {p : ℕ} → (b ≡ true → Reads r P p) → Reads q P p → Reads (pick b r q) P p
+  picks true one two = one refl
+  picks false one two = two
+
+  stopped : {X : Type 0} {P : X → ℕ → Type 0} {p : ℕ} (inner : Inner) (n : Next) → Reads (unexpected {X = X} inner n) P p
+  stopped inner n = after (λ w e. record { reads = record { told = tt } })
+
+  -- what a turn gives: R where it goes on, and Q where it was the last
+  abbrev Turned : {A : Type 0} → (A → ℕ → Type 0) → (A → ℕ → Type 0) → Step A → ℕ → Type 0
+  Turned R Q (again a) p = R a p
+  Turned R Q (done a) p = Q a p
+
+  turned : {A : Type 0} (R Q : A → ℕ → Type 0) (c : Step A) (t : State) → At (Turned R Q) c t → Stepped true g (At R) (At Q) c t
+  turned R Q (again a) t so = so
+  turned R Q (done a) t so = so
+
+  turned_if : {A : Type 0} (R Q : A → ℕ → Type 0) (b : Bool) (a : A) (p : ℕ) → (b ≡ true → R a p) → Q a p → Turned R Q (step_if b a) p
+  turned_if R Q true a p go last = go refl
+  turned_if R Q false a p go last = last
+
+  module _ {A : Type 0} (turn : A → Form (Step A)) (P R Q : A → ℕ → Type 0) (each : (a : A) (p : ℕ) → P a p → Reads (turn a) (Turned R Q) p)
+      (goes : (a : A) (p : ℕ) → R a p → P a p) (ends : (a : A) (p : ℕ) → R a p → Q a p) where
+    repeats : (a : A) (p : ℕ) → P a p → Reads (many turn a) Q p
+    repeats a p so = record {
+      reads = tells_until true g turn (At P) (At R) (At Q) (λ b s now. tells_so true g (from_place s now.0 (each b s.at now.1)) (turned R Q))
+          (λ b s now. (now.0, goes b s.at now.1)) (λ b s now. (now.0, ends b s.at now.1)) a (standing p) (refl, so);
+    }
+
+  -- ---- tokens
+
+  -- the token n stands at p, in this position of a command
+  record Stands (position : Position) (n : Next) (p : ℕ) : Type 0 where
+    pub place : past_continuations g.text p ≡ p
+    pub no_blank : stands_in is_blank g.text p ≡ false
+    pub token_is : token_at position g.text p ≡ n.token
+
+  reads_next : (position : Position) (p : ℕ) → Reads (next_token position) (Stands position) p
+  unfolding next_token past_blanks
+  reads_next position p = sees (moves (gives (record { place = place_same g.text _; no_blank = blanks_stop g.text p; token_is = refl })))
+
+  -- on, and then the next token
+  next_on : {X Y : Type 0} {P : Y → ℕ → Type 0} {r : Form X} {f : X → Next → Y} {p : ℕ} → ((x : X) (n : Next) (e : ℕ) → Stands Command n e → P (f x n) e)
+      → Reads (both r (λ x. both (next_token Command) (λ n. give (f x n)))) P p
+  next_on so = after (λ x e. first (reads_next Command e) (λ n d stands. gives (so x n d stands)))
+
+  reads_bang : (n : Next) (p : ℕ) → Stands Command n p → Reads (a_bang n) (λ b e. Stands Command b.1 e) p
+  unfolding a_bang
+  reads_bang n p so = picks (is_bang n.token) (λ is. next_on (λ x m e stands. stands)) (gives so)
+
+  reads_newline : (X : Type 0) (n : Next) (p : ℕ) → (X → Stands Command n p) → Reads (a_newline n) (λ l e. (X → Stands Command l.1 e) × (l.0 ≡ true → Stands Command l.1 e)) p
+  unfolding a_newline
+  reads_newline X n p so = picks (is_newline n.token) (λ is. next_on (λ x m e stands. ((λ y. stands), (λ y. stands)))) (gives (so, (λ y. absurd cc)))
+
+  reads_separator : (n : Next) (p : ℕ) → Reads (a_separator n) (λ s e. is_parted s.0 ≡ true → Stands Command s.1 e) p
+  unfolding a_separator
+  reads_separator n p = by_separator (separator_of n.token)
+    where
+      by_separator : (s : Option Separator) → Reads (separator_by n s) (λ s e. is_parted s.0 ≡ true → Stands Command s.1 e) p
+      by_separator (Some s) = next_on (λ x m e stands. λ y. stands)
+      by_separator None = gives (λ y. absurd cc)
+
+  reads_passed : (text : Spelled) (paren : Bool) (p : ℕ) → Reads (passed text paren) (λ x e. Stands Command x.1 e) p
+  unfolding passed
+  reads_passed text paren p = next_on (λ x m e stands. stands)
+
+  reads_closing : (inner : Inner) (c : Closing) (n : Next) (p : ℕ) → Reads (closing inner c n) (λ x e. Stands Command x.1 e) p
+  unfolding closing
+  reads_closing inner c n p = picks (is_closing c n.token) (λ is. reads_passed _ _ p) (stopped inner n)
+
+  -- ---- words
+
+  -- the word w was read from p up to q
+  record WordRead (room p : ℕ) (w : AWord) (q : ℕ) : Type 0 where
+    pub is_word : IsWord room g p (q - p)
+    pub bare : w ≡ word (span g.offset p q) no_subst
+
+  reads_word : (room p : ℕ) → Reads (a_word (level room)) (WordRead room p) p
+  reads_word room p =
+      let some = (is (a_word (level room)) g (standing p)).some in
+      let stays = waits (a_word (level room)) true g (standing p) in
+      let word_is = holds_by (λ w t. WordRead room p w t.at) (may (a_word (level room)) g (standing p)) _ some.0 some.1
+      (λ w t k part. record { is_word = read_word room g p w t k part; bare = no_substs room g p w t k part }) in
+      record { reads = record { told = holds_both _ _ (At (WordRead room p)) _ (λ w t so good. (state_is t so.0 so.1, good)) stays.told word_is } }
+
+-- ---- what the rows read
+
+module _ (B : List ℕ) (g : Given) (here : g.text ≡ drop g.offset B) where
+  -- ---- comments
+
+  comment_good : (p : ℕ) (c : Span) → comment_at g.text g.offset p ≡ Some c → CommentAnywhere (text_at B c)
+  comment_good p c is =
+      let start : c.start ≡ g.offset + p = ap (λ (s : Span). s.start) (comment_is g.text g.offset p c is).1 in
+      let same : drop p g.text ≡ drop c.start B = ap (drop p) here ∙ drop-drop p g.offset B ∙ ap (λ n. drop n B) (sym start) in
+      subst (λ (xs : List ℕ). CommentAnywhere (take (c.«end» - c.start) xs)) same (comment_anywhere g.text g.offset p c is)
+
+  -- the token behind a comment stands where X holds, if that before it does
+  abbrev Commented : Type 0 → Option Span × Next → ℕ → Type 0
+  Commented X c e = GoodOwnComment (option_map (shape_of_comment B) c.0) × (X → Stands g Command c.1 e)
+
+  reads_comment : (X : Type 0) (n : Next) (p : ℕ) → (X → Stands g Command n p) → Reads g (a_comment n) (Commented X) p
+  unfolding a_comment
+  reads_comment X n p so = sees g (by_comment (comment_at g.text g.offset p) refl)
+    where
+      by_comment : (c : Option Span) → comment_at g.text g.offset p ≡ c → Reads g (comment_by n c) (Commented X) p
+      by_comment (Some c) is = next_on g (λ x m e stands. (comment_good p c is, λ y. stands))
+      by_comment None is = gives g (tt, so)
+
+  -- ---- joins
+
+  abbrev Comments : Row Span → Type 0
+  Comments cs = GoodComments (shape_of_comments B cs)
+
+  reads_with : (cs : Row Span) (c : Option Span) (p : ℕ) → Comments cs → GoodOwnComment (option_map (shape_of_comment B) c) → Reads g (with_comment cs c) (λ ds e. Comments ds × (e ≡ p)) p
+  reads_with cs (Some c) p all one = record { reads = record { told = (refl, (comments_more B cs c all one, refl)) } }
+  reads_with cs None p all one = gives g (all, refl)
+
+  abbrev JoinGood : JoinSo → ℕ → Type 0
+  JoinGood j p = Comments j.join.comments × Stands g Command j.next p
+
+  reads_join_turn : (j : JoinSo) (p : ℕ) → JoinGood j p → Reads g (join_turn j) (Turned g JoinGood JoinGood) p
+  unfolding join_turn
+  reads_join_turn j p so =
+      first g (reads_comment (Unit {0}) j.next p (λ y. so.1)) (λ c e one.
+      first g (reads_with j.join.comments c.0 e so.0 one.0) (λ cs f two.
+      first g (reads_newline g (Unit {0}) c.1 f (λ y. subst (Stands g Command c.1) (sym two.1) (one.1 tt))) (λ l h three.
+      gives g (turned_if g JoinGood JoinGood l.0 _ h (λ y. (two.0, three.0 tt)) (two.0, three.0 tt)))))
+
+  reads_join : (broken : Bool) (p : ℕ) → Reads g (a_join broken) (λ x e. Comments x.0.comments × Stands g Command x.1 e) p
+  unfolding a_join
+  reads_join broken p =
+      first g (reads_next g Command p) (λ n e stands.
+      first g (repeats g join_turn JoinGood JoinGood JoinGood reads_join_turn (λ j d so. so) (λ j d so. so) _ e (tt, stands)) (λ j d so. gives g so))
+
+  module _ (room : ℕ) where
+    abbrev inner : Inner
+    inner = level room
+
+    -- ---- simple commands
+
+    abbrev items : Items → Shape ItemsOf
+    items i = shape_of_items B (items_of i.items)
+
+    -- the items so far, and the token behind them; where it begins none there is one
+    record ItemsSo (i : Items) (p : ℕ) : Type 0 where
+      pub position : Position
+      pub good : GoodItems room Command (items i) position
+      pub stands : Stands g position i.next p
+      pub begun : behind_item i.next.token ≡ None → SomeItem (items i)
+
+    abbrev ItemsOn : Items → ℕ → Type 0
+    ItemsOn i p = ItemsSo i p × SomeItem (items i)
+
+    abbrev ItemsDone : Items → ℕ → Type 0
+    ItemsDone i p = GoodSimple room (items i)
+
+    simple_is : (i : Items) (p : ℕ) → ItemsOn i p → GoodSimple room (items i)
+    simple_is i p (so, some) = record { last = so.position; items = so.good; some = some }
+
+    -- one more item, by the word that was read from p up to q
+    one_item : (i : Items) (next : Position) (p q : ℕ) (w : AWord) → behind_item i.next.token ≡ Some next → ItemsSo i p → WordRead g room p w q
+        → GoodItems room Command (shape_of_items B (items_of (i.items ++ item (breaks i) (as_item next w) ∷ []))) next
+    one_item i next p q w is so read =
+        let text = text_at B (span g.offset p q) in
+        let anywhere = item_anywhere room so.position i.next.token g p (q - p) read.is_word so.stands.place so.stands.no_blank so.stands.token_is (ap is_some is) in
+        let shape = items_last B i.items (item (breaks i) (as_item next w)) ∙ ap (with_last (items i)) (item_is B (breaks i) next w text (ap (shape_of_word B) read.bare)) in
+        subst (λ (s : Shape ItemsOf). GoodItems room Command s next) (sym shape)
+        (items_more (breaks i) so.good is (subst (λ (t : Text). ItemAnywhere room so.position i.next.token t) (raw_at B g here p q) anywhere))
+
+    some_item : (is : Row AnItem) (i : AnItem) → SomeItem (shape_of_items B (items_of (is ++ i ∷ [])))
+    some_item is i = subst SomeItem (sym (items_last B is i)) (some_last (shape_of_items B (items_of is)) (shape_of_item B i))
+
+    reads_item : (i : Items) (next : Position) (p : ℕ) → behind_item i.next.token ≡ Some next → ItemsSo i p → Reads g (an_item inner i next) (Turned g ItemsOn ItemsDone) p
+    unfolding an_item
+    reads_item i next p is so =
+        first g (reads_word g room p) (λ w q read. pushes g (first g (reads_next g next q) (λ n e stands.
+        let some = some_item i.items (item (breaks i) (as_item next w)) in
+        gives g (record { position = next; good = one_item i next p q w is so read; stands = stands; begun = λ y. some }, some))))
+
+    reads_item_turn : (i : Items) (p : ℕ) → ItemsSo i p → Reads g (item_turn inner i) (Turned g ItemsOn ItemsDone) p
+    unfolding item_turn
+    reads_item_turn i p so = by_token (behind_item i.next.token) refl
+      where
+        by_token : (next : Option Position) → behind_item i.next.token ≡ next → Reads g (item_by inner i next) (Turned g ItemsOn ItemsDone) p
+        by_token (Some next) is = reads_item i next p is so
+        by_token None is = gives g (simple_is i p (so, so.begun is))
+
+    -- a command, by its shape
+    abbrev Command_is : {X : Type 0} → ACommand × X → ℕ → Type 0
+    Command_is c e = GoodCommand room (shape_of_command B c.0)
+
+    reads_simple : (n : Next) (p : ℕ) → begins_simple n.token ≡ true → Stands g Command n p → Reads g (a_simple inner n) Command_is p
+    unfolding a_simple
+    reads_simple n p begins so =
+        first g (repeats g (item_turn inner) ItemsSo ItemsOn ItemsDone reads_item_turn (λ i e on. on.0) simple_is (so_many [] n) p
+        (record { position = Command; good = none_more; stands = so; begun = λ none. let no : false ≡ true = sym (ap is_some none) ∙ begins in absurd cc }))
+        (λ i e good. gives g good)
+
+    -- ---- pipelines
+
+    record Fine : Type 0 where
+      pub compound : (o : Opener) (p : ℕ) → Reads g (inner.compound o) Command_is p
+
+    module _ (fine : Fine) where
+      reads_command : (n : Next) (p : ℕ) → Stands g Command n p → Reads g (a_command inner n) Command_is p
+      unfolding a_command
+      reads_command n p so = picks g (begins_simple n.token) (λ begins. reads_simple n p begins so) (by_opener (opener_of n.token))
+        where
+          by_opener : (o : Option Opener) → Reads g (compound_by inner n o) Command_is p
+          by_opener (Some o) = fine.compound o p
+          by_opener None = stopped g inner n
+
+      abbrev PipesGood : Piped → ℕ → Type 0
+      PipesGood x p = GoodPipes room (shape_of_pipes B (pipeline_parts_of x.parts))
+
+      reads_one_command : (x : Piped) (p : ℕ) → PipesGood x p → Reads g (one_command inner x) (Turned g PipesGood PipesGood) p
+      unfolding one_command
+      reads_one_command x p so =
+          after g (λ y e. first g (reads_join x.next.broken e) (λ j f join. first g (reads_command j.1 f join.1) (λ c h good.
+          pushes g (gives g (pipes_more B room x.parts (record { join = j.0; command = c.0 }) so join.0 good)))))
+
+      reads_pipe_turn : (x : Piped) (p : ℕ) → PipesGood x p → Reads g (pipe_turn inner x) (Turned g PipesGood PipesGood) p
+      unfolding pipe_turn
+      reads_pipe_turn x p so = picks g (is_pipe x.next.token) (λ is. reads_one_command x p so) (gives g so)
+
+      reads_pipeline : (n : Next) (p : ℕ) → Stands g Command n p → Reads g (a_pipeline inner n) (λ x e. GoodPipeline room (shape_of_pipeline B x.0)) p
+      unfolding a_pipeline
+      reads_pipeline n p so =
+          first g (reads_bang g n p so) (λ b e stands. first g (reads_command b.1 e stands) (λ c f good.
+          first g (repeats g (pipe_turn inner) PipesGood PipesGood PipesGood reads_pipe_turn (λ x d all. all) (λ x d all. all) (piped [] c.1) f tt)
+          (λ x d all. gives g (good, all))))
+
+      -- ---- and-or lists
+
+      abbrev JoinedGood : Joined → ℕ → Type 0
+      JoinedGood a p = GoodParts room (shape_of_and_or_parts B (and_or_parts_of a.parts))
+
+      reads_one_pipeline : (a : Joined) (o : AndOrOperator) (p : ℕ) → JoinedGood a p → Reads g (one_pipeline inner a o) (Turned g JoinedGood JoinedGood) p
+      unfolding one_pipeline
+      reads_one_pipeline a o p so =
+          after g (λ y e. first g (reads_join a.next.broken e) (λ j f join. first g (reads_pipeline j.1 f join.1) (λ x h good.
+          pushes g (gives g (joined_more B room a.parts (record { operator = o; join = j.0; pipeline = x.0 }) so join.0 good)))))
+
+      reads_join_pipeline : (a : Joined) (p : ℕ) → JoinedGood a p → Reads g (join_pipeline inner a) (Turned g JoinedGood JoinedGood) p
+      unfolding join_pipeline
+      reads_join_pipeline a p so = by_operator (and_or_operator_of a.next.token)
+        where
+          by_operator : (o : Option AndOrOperator) → Reads g (joined_by inner a o) (Turned g JoinedGood JoinedGood) p
+          by_operator (Some o) = reads_one_pipeline a o p so
+          by_operator None = gives g so
+
+      reads_and_or : (n : Next) (p : ℕ) → Stands g Command n p → Reads g (an_and_or inner n) (λ a e. GoodAndOr room (shape_of_and_or B a.0)) p
+      unfolding an_and_or
+      reads_and_or n p so =
+          first g (reads_pipeline n p so) (λ x e good.
+          first g (repeats g (join_pipeline inner) JoinedGood JoinedGood JoinedGood reads_join_pipeline (λ a d all. all) (λ a d all. all) (joined_so [] x.1) e tt)
+          (λ a d all. gives g (good, all)))
+
+      reads_entry : (blank : Bool) (n : Next) (p : ℕ) → Stands g Command n p
+          → Reads g (an_entry inner blank n) (λ x e. GoodEntry room (shape_of_entry B x.entry) × (x.parted ≡ true → Stands g Command x.next e)) p
+      unfolding an_entry
+      reads_entry blank n p so =
+          first g (reads_and_or n p so) (λ a e one. first g (reads_separator g a.1 e) (λ s f two. first g (reads_comment (is_parted s.0 ≡ true) s.1 f two) (λ c h three.
+          gives g ((one, three.0), three.1))))
+
+      -- ---- lists
+
+      abbrev Listing : ListSo → ℕ → Type 0
+      Listing l p = GoodEntries room (shape_of B (entries_of l.list.entries))
+
+      -- and the token behind it stands here
+      abbrev ListOn : ListSo → ℕ → Type 0
+      ListOn l p = Listing l p × Stands g Command l.next p
+
+      entry_more : (l : ListSo) (e : AnEntry) (p : ℕ) → Listing l p → GoodEntry room (shape_of_entry B e) → GoodEntries room (shape_of B (entries_of (l.list.entries ++ e ∷ [])))
+      entry_more l e p all one = entries_join B room l.list.entries (e ∷ []) all (one, tt)
+
+      reads_one_entry : (l : ListSo) (p : ℕ) → ListOn l p → Reads g (one_entry inner l) (Turned g ListOn Listing) p
+      unfolding one_entry
+      reads_one_entry l p so =
+          first g (reads_entry (is_blank_next l.list) l.next p so.1) (λ x e one. let all = entry_more l x.entry p so.0 one.0 in
+          pushes g (gives g (turned_if g ListOn Listing x.parted _ e (λ on. (all, one.1 on)) all)))
+
+      reads_entry_turn : (l : ListSo) (p : ℕ) → ListOn l p → Reads g (entry_turn inner l) (Turned g ListOn Listing) p
+      unfolding entry_turn
+      reads_entry_turn l p so = picks g (begins_pipeline l.next.token) (λ is. reads_one_entry l p so) (gives g so.0)
+
+      reads_remark : (l : ListSo) (p : ℕ) → Listing l p → Reads g (a_remark l) Listing p
+      unfolding a_remark
+      reads_remark l p so = first g (reads_comment ⊥ l.next p (λ no. absurd no)) (λ x e one. by_comment x e one.0)
+        where
+          by_comment : (x : Option Span × Next) (e : ℕ) → GoodOwnComment (option_map (shape_of_comment B) x.0) → Reads g (remark_by l x) Listing e
+          by_comment (Some c, n) e one = pushes g (gives g (entry_more l (entry (remark c) false (is_blank_next l.list) None) p so (one, tt)))
+          by_comment (None, n) e one = gives g so
+
+      reads_on_line : (l : ListSo) (p : ℕ) → ListOn l p → Reads g (on_line inner l) Listing p
+      unfolding on_line
+      reads_on_line l p so = first g (repeats g (entry_turn inner) ListOn ListOn Listing reads_entry_turn (λ m d on. on) (λ m d on. on.0) l p so) (λ m e all. reads_remark m e all)
+
+      reads_list_turn : (l : ListSo) (p : ℕ) → ListOn l p → Reads g (list_turn inner l) (Turned g ListOn Listing) p
+      unfolding list_turn
+      reads_list_turn l p so =
+          first g (reads_on_line l p so) (λ m e all. first g (reads_newline g ⊥ m.next e (λ no. absurd no)) (λ x f more.
+          gives g (turned_if g ListOn Listing x.0 _ f (λ on. (all, more.1 on)) all)))
+
+      reads_list : (n : Next) (p : ℕ) → Stands g Command n p → Reads g (a_list inner n) (λ x e. GoodEntries room (shape_of B x.0)) p
+      unfolding a_list
+      reads_list n p so =
+          first g (repeats g (list_turn inner) ListOn ListOn Listing reads_list_turn (λ l d on. on) (λ l d on. on.0) (list_so (none_listed false) n) p (tt, so))
+          (λ l e all. picks g l.list.commands (λ is. gives g all) (stopped g inner l.next))
+
+      reads_line : (blank : Bool) (p : ℕ) → Reads g (a_line inner blank) (λ x e. GoodEntries room (shape_of B (entries_of x.0))) p
+      unfolding a_line
+      reads_line blank p =
+          first g (reads_next g Command p) (λ n e stands. first g (reads_on_line (list_so (none_listed blank) n) e (tt, stands)) (λ l f all. after g (λ newline h. gives g all)))
+
+      -- ---- compound commands
+
+      reads_group : (c : Closing) (n : Next) (p : ℕ) → Stands g Command n p → Reads g (a_group inner c n) (λ x e. GoodEntries room (shape_of B x.what)) p
+      unfolding a_group
+      reads_group c n p so = first g (reads_list n p so) (λ l e good. after g (λ k f. gives g good))
+
+      reads_branch : (n : Next) (p : ℕ) → Stands g Command n p → Reads g (a_branch inner n) (λ x e. GoodBranch room (shape_of_branch B x.0)) p
+      unfolding a_branch
+      reads_branch n p so =
+          first g (reads_list n p so) (λ c e one. first g (reads_closing g inner closings.Then c.1 e) (λ t f stands.
+          first g (reads_list t.1 f stands) (λ b h two. gives g (one, two))))
+
+      abbrev BranchesGood : Branched → ℕ → Type 0
+      BranchesGood b p = GoodBranches room (shape_of_branches B (branches_of b.branches))
+
+      reads_elif : (b : Branched) (p : ℕ) → BranchesGood b p → Reads g (elif_turn inner b) (Turned g BranchesGood BranchesGood) p
+      unfolding elif_turn
+      reads_elif b p so =
+          picks g (is_closing closings.Elif b.next.token)
+          (λ is. first g (reads_passed g _ _ p) (λ k e stands. first g (reads_branch k.1 e stands) (λ x f good. pushes g (gives g (branches_more B room b.branches x.0 so good)))))
+          (gives g so)
+
+      reads_else : (n : Next) (p : ℕ) → Reads g (an_else inner n) (λ x e. GoodElse room (shape_of_else B x.0)) p
+      unfolding an_else
+      reads_else n p =
+          picks g (is_closing closings.Else n.token) (λ is. first g (reads_passed g _ _ p) (λ k e stands. first g (reads_list k.1 e stands) (λ l f good. gives g good)))
+          (gives g tt)
+
+      abbrev FormGood : Closed AForm → ℕ → Type 0
+      FormGood f p = GoodForm room (shape_of_form B f.what)
+
+      reads_if : (n : Next) (p : ℕ) → Stands g Command n p → Reads g (an_if inner n) FormGood p
+      unfolding an_if
+      reads_if n p so =
+          first g (reads_branch n p so) (λ f e one.
+          first g (repeats g (elif_turn inner) BranchesGood BranchesGood BranchesGood reads_elif (λ b d all. all) (λ b d all. all) (branched [] f.1) e tt) (λ b d all.
+          first g (reads_else b.next d) (λ x h other. after g (λ c k. gives g (one, all, other)))))
+
+      reads_loop : (n : Next) (p : ℕ) → Stands g Command n p → Reads g (a_loop inner n) (λ x e. GoodBranch room (shape_of_branch B x.what)) p
+      unfolding a_loop
+      reads_loop n p so =
+          first g (reads_list n p so) (λ c e one. first g (reads_closing g inner closings.Do c.1 e) (λ d f stands.
+          first g (reads_list d.1 f stands) (λ b h two. after g (λ k l. gives g (one, two)))))
+
+      reads_form : (o : Opener) (n : Next) (p : ℕ) → Stands g Command n p → Reads g (a_form inner o n) FormGood p
+      reads_form openers.Brace n p so = first g (reads_group closings.Brace n p so) (λ l e good. gives g good)
+      reads_form openers.Paren n p so = first g (reads_group closings.Paren n p so) (λ l e good. gives g good)
+      reads_form openers.If n p so = reads_if n p so
+      reads_form openers.While n p so = first g (reads_loop n p so) (λ l e good. gives g good)
+      reads_form openers.Until n p so = first g (reads_loop n p so) (λ l e good. gives g good)
+
+      reads_compound : (o : Opener) (p : ℕ) → Reads g (a_compound inner o) (λ c e. GoodCommand (suc room) (shape_of_command B c.0)) p
+      unfolding a_compound
+      reads_compound o p = first g (reads_passed g _ _ p) (λ x e stands. first g (reads_form o x.1 e stands) (λ f d good. pushes g (gives g (good, tt))))
+
+  reads_level : (room : ℕ) → Fine room
+  unfolding level
+  reads_level zero = record { compound = λ o p. after g (λ q e. record { reads = record { told = tt } }) }
+  reads_level (suc room) = record { compound = λ o p. reads_compound room (reads_level room) o p }
+
+-- ---- a script
+
+module _ (B : List ℕ) where
+  line_good : (blank : Bool) (p : ℕ) (es : Row AnEntry) (newline : Bool) (t : State) (k : Row Spelled) → may (a_line (level most_open) blank) (given (drop p B) p) (standing 0) (Ok ((es, newline), t)) k
+      → GoodEntries most_open (shape_of B (entries_of es))
+  line_good blank p es newline t k part =
+      let g = given (drop p B) p in
+      let line = reads_line B g refl most_open (reads_level B g refl most_open) blank 0 in
+      (subst (Holds (At g (λ x e. GoodEntries most_open (shape_of B (entries_of x.0))))) (sym ((is (a_line (level most_open) blank) g (standing 0)).only _ _ part)) line.reads.told).1
+
+  lines_good : (so : SoFar) (p : ℕ) (s : AScript) (k : Row Spelled) → Lines B so p s k → GoodEntries most_open (shape_of B (entries_of so.entries)) → GoodEntries most_open (shape_of B s.entries)
+  lines_good so p s m (line_ended {l = l} es t k part rest) good = lines_good _ _ s l rest (entries_join B most_open so.entries es good (line_good _ p es true t k part))
+  lines_good so p s m (last_line es t k part) good = entries_join B most_open so.entries es good (line_good _ p es false t k part)
+  lines_good so p s m (faulty f k part) good = good
+
+-- what was read of a script has a good shape
+pub script_readable : (B : List ℕ) (s : AScript) → Outcome B s → GoodEntries most_open (shape_of B s.entries)
+script_readable B s is = lines_good B nothing_yet 0 s is.0 is.1 tt

@@ -1,0 +1,367 @@
+-- What is read where some bytes stand in a text: gaps, operators and reserved words, as they are printed.
+use Rattle.std.proofs.Common.{◌≡◌, ℕ, suc, ◌+◌, ◌==◌, Bool, true, false, not, ◌&&◌, List, List as Row, [], ◌∷◌, ◌++◌, length, drop, take, codes, Option, Some, None, slice_get, refl, sym, ap, subst, ◌∙◌, arith, cond}
+use Rattle.std.proofs.lemmas.Bool.{and_from, and_parts}
+use Rattle.std.proofs.lemmas.Bool.Decides.{nat_tests}
+use Rattle.std.proofs.lemmas.List.{drop-drop}
+use Rattle.shread.specs.declared.token.Position.{Position}
+use Rattle.shread.specs.declared.token.Position.TheVariants.{Command}
+use Rattle.shread.specs.declared.token.Reserved.{Reserved}
+use Rattle.shread.specs.declared.token.Reserved.TheVariants as reserved
+use Rattle.shread.specs.declared.token.Token.TheVariants as tokens
+use Rattle.shread.specs.Classes.{is_blank, is_digit, is_name}
+use Rattle.shread.specs.Standing.{is_byte, passes, raw_stands, raw_in, raw_past, continues}
+use Rattle.shread.specs.Bytes.{ends, past, past_continuations, byte_at, behind, stands, stands_in, past_blanks, is_broken_at}
+use Rattle.shread.specs.Tokens.{Spelling, is_word_at, first_of_words, reserved_words, reserved_at, past_reserved, begins_assignment, is_number, first_word, token_of, token_at, next_at}
+use Rattle.shread.proofs.Stretches.{get_drop, joined_none, joined_more, place_low, past_more, past_none, raw_more, raw_none}
+use Rattle.shread.proofs.Places.{must_fail}
+use Rattle.shread.proofs.SameBytes.{no_backslash}
+use Rattle.shread.proofs.Ahead.{behind_is, spelled_none, spelled_more, ender}
+
+-- ---- the bytes from a place on
+
+skip_front : (xs ys : List ℕ) → drop (length xs) (xs ++ ys) ≡ ys
+skip_front [] ys = refl
+skip_front (x ∷ xs) ys = skip_front xs ys
+
+take_front : (xs ys : List ℕ) → take (length xs) (xs ++ ys) ≡ xs
+take_front [] ys = refl
+take_front (x ∷ xs) ys = ap (λ z. x ∷ z) (take_front xs ys)
+
+pub skip : (T : List ℕ) (p : ℕ) (xs ys : List ℕ) → drop p T ≡ xs ++ ys → drop (p + length xs) T ≡ ys
+skip T p xs ys at = sym (drop-drop (length xs) p T) ∙ ap (drop (length xs)) at ∙ skip_front xs ys
+
+pub text_here : (T : List ℕ) (p : ℕ) (xs ys : List ℕ) → drop p T ≡ xs ++ ys → take (length xs) (drop p T) ≡ xs
+text_here T p xs ys at = ap (take (length xs)) at ∙ take_front xs ys
+
+pub first : (T : List ℕ) (p c : ℕ) (xs : List ℕ) → drop p T ≡ c ∷ xs → slice_get T p ≡ Some c
+first T p c xs at = let e : p + 0 ≡ p = omega arith in ap (slice_get T) (sym e) ∙ sym (get_drop p T 0) ∙ ap (λ z. slice_get z 0) at
+
+pub none_first : (T : List ℕ) (p : ℕ) → drop p T ≡ [] → slice_get T p ≡ None
+none_first T p at = let e : p + 0 ≡ p = omega arith in ap (slice_get T) (sym e) ∙ sym (get_drop p T 0) ∙ ap (λ (z : List ℕ). slice_get z 0) at
+
+pub next_one : (T : List ℕ) (p c : ℕ) (xs : List ℕ) → drop p T ≡ c ∷ xs → drop (p + 1) T ≡ xs
+next_one T p c xs at = skip T p (c ∷ []) xs at
+
+-- a byte that is no backslash is read where it stands
+pub record Reads (T : List ℕ) (p c : ℕ) (xs : List ℕ) : Type 0 where
+  pub raw : slice_get T p ≡ Some c
+  pub place : past_continuations T p ≡ p
+  pub byte : byte_at T p ≡ Some c
+  pub behind_it : behind T p ≡ p + 1
+  pub rest : drop (p + 1) T ≡ xs
+
+pub byte_here : (T : List ℕ) (p c : ℕ) (xs : List ℕ) → (c == 92) ≡ false → drop p T ≡ c ∷ xs → Reads T p c xs
+unfolding raw_stands
+byte_here T p c xs clear at =
+    let raw = first T p c xs at in
+    let place : past_continuations T p ≡ p = joined_none T p (no_backslash T p (ap (λ x. is_byte x 92) raw ∙ clear)) in
+    record { raw = raw; place = place; byte = ap (slice_get T) place ∙ raw; behind_it = behind_is T p ∙ ap (λ q. q + 1) place; rest = next_one T p c xs at }
+
+pub in_class : {T : List ℕ} {p c : ℕ} {xs : List ℕ} (test : ℕ → Bool) → Reads T p c xs → stands_in test T p ≡ test c
+unfolding stands_in
+in_class test r = ap (passes test) r.byte
+
+pub is_here : {T : List ℕ} {p c : ℕ} {xs : List ℕ} (x : ℕ) → Reads T p c xs → stands T p x ≡ (c == x)
+unfolding stands
+is_here x r = ap (λ b. is_byte b x) r.byte
+
+pub is_here_raw : {T : List ℕ} {p c : ℕ} {xs : List ℕ} (x : ℕ) → Reads T p c xs → raw_stands T p x ≡ (c == x)
+unfolding raw_stands
+is_here_raw x r = ap (λ b. is_byte b x) r.raw
+
+-- ---- gaps
+
+-- from e on blanks and continuations are passed up to q
+pub record Gap (T : List ℕ) (e q : ℕ) (broken : Bool) : Type 0 where
+  pub blanks : past_blanks T e ≡ q
+  pub breaks : is_broken_at T e ≡ broken
+
+-- where a token may begin
+pub record Start (T : List ℕ) (p : ℕ) : Type 0 where
+  pub place : past_continuations T p ≡ p
+  pub no_blank : stands_in is_blank T p ≡ false
+
+pub start_here : {T : List ℕ} {p c : ℕ} {xs : List ℕ} → Reads T p c xs → is_blank c ≡ false → Start T p
+start_here r e = record { place = r.place; no_blank = in_class is_blank r ∙ e }
+
+no_pair : (T : List ℕ) (p : ℕ) → past_continuations T p ≡ p → continues T p ≡ false
+no_pair T p at = must_fail (continues T p) (λ c. let more = joined_more T p c in let low = place_low T (p + 2) in absurd (omega (arith, at, more, low)))
+
+raw_read : (test : ℕ → Bool) (T : List ℕ) (p : ℕ) → past_continuations T p ≡ p → raw_in test T p ≡ stands_in test T p
+unfolding raw_in stands_in
+raw_read test T p at = ap (λ q. passes test (slice_get T q)) (sym at)
+
+raw_class : (T : List ℕ) (p c : ℕ) (test : ℕ → Bool) → slice_get T p ≡ Some c → raw_in test T p ≡ test c
+unfolding raw_in
+raw_class T p c test raw = ap (passes test) raw
+
+pub no_gap : {T : List ℕ} {p : ℕ} → Start T p → Gap T p p false
+unfolding past_blanks is_broken_at
+no_gap {T = T} {p = p} s =
+    let raw : raw_past is_blank T p ≡ p = raw_none is_blank T p (raw_read is_blank T p s.place ∙ s.no_blank) in
+    record { blanks = ap (past_continuations T) (past_none is_blank T p s.no_blank) ∙ s.place; breaks = ap (continues T) raw ∙ no_pair T p s.place }
+
+blank_clear : (b : ℕ) → is_blank b ≡ true → (b == 92) ≡ false
+blank_clear b e = grind (arith, nat_tests)
+
+-- a blank, and then a gap
+pub blank_gap : {T : List ℕ} {p q b : ℕ} {xs : List ℕ} {broken : Bool} → is_blank b ≡ true → drop p T ≡ b ∷ xs → Gap T (p + 1) q broken → Gap T p q broken
+unfolding past_blanks is_broken_at
+blank_gap {T = T} {p = p} {b = b} {xs = xs} e at gap =
+    let r = byte_here T p b xs (blank_clear b e) at in
+    let one : past is_blank T p ≡ past is_blank T (p + 1) = past_more is_blank T p (in_class is_blank r ∙ e) ∙ ap (past is_blank T) r.behind_it in
+    let raw : raw_past is_blank T p ≡ raw_past is_blank T (p + 1) = raw_more is_blank T p (raw_class T p b is_blank r.raw ∙ e) in
+    record { blanks = ap (past_continuations T) one ∙ gap.blanks; breaks = ap (continues T) raw ∙ gap.breaks }
+
+-- only blanks
+abbrev pub all_blank : List ℕ → Bool
+all_blank [] = true
+all_blank (b ∷ bs) = is_blank b && all_blank bs
+
+pub blanks_gap : (T : List ℕ) (p : ℕ) (bs xs : List ℕ) → all_blank bs ≡ true → drop p T ≡ bs ++ xs → Start T (p + length bs) → Gap T p (p + length bs) false
+blanks_gap T p [] xs all at s = let e : p + 0 ≡ p = omega arith in subst (λ q. Gap T p q false) (sym e) (no_gap (subst (Start T) e s))
+blanks_gap T p (b ∷ bs) xs all at s =
+    let parts = and_parts _ _ all in
+    let e : p + 1 + length bs ≡ p + suc (length bs) = omega arith in
+    subst (λ q. Gap T p q false) e (blank_gap parts.0 at (blanks_gap T (p + 1) bs xs parts.1 (next_one T p b (bs ++ xs) at) (subst (Start T) (sym e) s)))
+
+raw_is : (T : List ℕ) (p c x : ℕ) → slice_get T p ≡ Some c → (c == x) ≡ true → raw_stands T p x ≡ true
+unfolding raw_stands
+raw_is T p c x raw e = ap (λ b. is_byte b x) raw ∙ e
+
+-- a continuation before blanks
+joined_gap : {T : List ℕ} {p q b : ℕ} {xs : List ℕ} → is_blank b ≡ true → drop p T ≡ 92 ∷ 10 ∷ b ∷ xs → Gap T (p + 2) q false → Gap T p q true
+unfolding past_blanks is_broken_at continues stands_in
+joined_gap {T = T} {p = p} {q = q} {b = b} {xs = xs} e at gap =
+    let raw1 = first T p 92 _ at in
+    let at1 = next_one T p 92 _ at in
+    let raw2 = first T (p + 1) 10 _ at1 in
+    let at2 = next_one T (p + 1) 10 _ at1 in
+    let two : p + 1 + 1 ≡ p + 2 = omega arith in
+    let r = byte_here T (p + 2) b xs (blank_clear b e) (subst (λ r. drop r T ≡ b ∷ xs) two at2) in
+    let pair : continues T p ≡ true = and_from _ _ (raw_is T p 92 92 raw1 refl) (raw_is T (p + 1) 10 10 raw2 refl) in
+    let place : past_continuations T p ≡ p + 2 = joined_more T p pair ∙ r.place in
+    let blank : stands_in is_blank T p ≡ true = ap (λ q. passes is_blank (slice_get T q)) place ∙ ap (passes is_blank) r.raw ∙ e in
+    let behind_both : behind T p ≡ behind T (p + 2) = behind_is T p ∙ ap (λ q. q + 1) place ∙ sym r.behind_it in
+    let same : past is_blank T p ≡ past is_blank T (p + 2) = past_more is_blank T p blank ∙ ap (past is_blank T) behind_both ∙ sym (past_more is_blank T (p + 2) (in_class is_blank r ∙ e)) in
+    let raw : raw_past is_blank T p ≡ p = raw_none is_blank T p (raw_class T p 92 is_blank raw1) in
+    record { blanks = ap (past_continuations T) same ∙ gap.blanks; breaks = ap (continues T) raw ∙ pair }
+
+-- a blank, a continuation and blanks
+pub broken_gap : (T : List ℕ) (p b : ℕ) (bs xs : List ℕ) → all_blank (b ∷ bs) ≡ true → drop p T ≡ 32 ∷ 92 ∷ 10 ∷ b ∷ (bs ++ xs) → Start T (p + 3 + length (b ∷ bs))
+    → Gap T p (p + 3 + length (b ∷ bs)) true
+broken_gap T p b bs xs all at s =
+    let at1 = next_one T p 32 _ at in
+    let at3 : drop (p + 1 + 2) T ≡ b ∷ (bs ++ xs) = skip T (p + 1) (92 ∷ 10 ∷ []) _ at1 in
+    let e : p + 1 + 2 + length (b ∷ bs) ≡ p + 3 + length (b ∷ bs) = omega arith in
+    let last = blanks_gap T (p + 1 + 2) (b ∷ bs) xs all at3 (subst (Start T) (sym e) s) in
+    blank_gap refl at (joined_gap (and_parts _ _ all).0 at1 (subst (λ q. Gap T (p + 1 + 2) q false) e last))
+
+-- the next token behind a gap
+pub next_behind : {T : List ℕ} {p q : ℕ} {broken : Bool} (position : Position) → Gap T p q broken → next_at position T p ≡ record { token = token_at position T q; broken = broken }
+next_behind position gap = rw (gap.blanks, gap.breaks) refl
+
+-- ---- tokens of one byte or two
+
+pub token_here : {T : List ℕ} {p c : ℕ} {xs : List ℕ} (position : Position) → Reads T p c xs → token_at position T p ≡ token_of position T p (Some c)
+unfolding token_at
+token_here {T = T} {p = p} position r = ap (token_of position T p) r.byte
+
+pub newline_token : (position : Position) (T : List ℕ) (p : ℕ) (xs : List ℕ) → drop p T ≡ 10 ∷ xs → token_at position T p ≡ tokens.Newline
+newline_token position T p xs at = token_here position (byte_here T p 10 xs refl at)
+
+pub comment_token : (position : Position) (T : List ℕ) (p : ℕ) (xs : List ℕ) → drop p T ≡ 35 ∷ xs → token_at position T p ≡ tokens.Comment
+comment_token position T p xs at = token_here position (byte_here T p 35 xs refl at)
+
+pub open_token : (position : Position) (T : List ℕ) (p : ℕ) (xs : List ℕ) → drop p T ≡ 40 ∷ xs → token_at position T p ≡ tokens.OpenParen
+open_token position T p xs at = token_here position (byte_here T p 40 xs refl at)
+
+pub close_token : (position : Position) (T : List ℕ) (p : ℕ) (xs : List ℕ) → drop p T ≡ 41 ∷ xs → token_at position T p ≡ tokens.CloseParen
+close_token position T p xs at = token_here position (byte_here T p 41 xs refl at)
+
+-- the byte behind this one
+second : {T : List ℕ} {p c d : ℕ} {xs : List ℕ} (x : ℕ) → (d == 92) ≡ false → Reads T p c (d ∷ xs) → stands T (behind T p) x ≡ (d == x)
+second {T = T} {p = p} {d = d} {xs = xs} x clear r = ap (λ q. stands T q x) r.behind_it ∙ is_here x (byte_here T (p + 1) d xs clear r.rest)
+
+pub semicolon_token : (position : Position) (T : List ℕ) (p d : ℕ) (xs : List ℕ) → (d == 92) ≡ false → (d == 59) ≡ false → drop p T ≡ 59 ∷ d ∷ xs → token_at position T p ≡ tokens.Semicolon
+semicolon_token position T p d xs clear other at =
+    let r = byte_here T p 59 (d ∷ xs) refl at in token_here position r ∙ rw (second 59 clear r, other) refl
+
+pub ampersand_token : (position : Position) (T : List ℕ) (p d : ℕ) (xs : List ℕ) → (d == 92) ≡ false → (d == 38) ≡ false → drop p T ≡ 38 ∷ d ∷ xs → token_at position T p ≡ tokens.Ampersand
+ampersand_token position T p d xs clear other at =
+    let r = byte_here T p 38 (d ∷ xs) refl at in token_here position r ∙ rw (second 38 clear r, other) refl
+
+pub pipe_token : (position : Position) (T : List ℕ) (p d : ℕ) (xs : List ℕ) → (d == 92) ≡ false → (d == 124) ≡ false → drop p T ≡ 124 ∷ d ∷ xs → token_at position T p ≡ tokens.Pipe
+pipe_token position T p d xs clear other at =
+    let r = byte_here T p 124 (d ∷ xs) refl at in token_here position r ∙ rw (second 124 clear r, other) refl
+
+pub and_token : (position : Position) (T : List ℕ) (p : ℕ) (xs : List ℕ) → drop p T ≡ 38 ∷ 38 ∷ xs → token_at position T p ≡ tokens.AndIf
+and_token position T p xs at =
+    let r = byte_here T p 38 (38 ∷ xs) refl at in token_here position r ∙ rw (second 38 refl r) refl
+
+pub or_token : (position : Position) (T : List ℕ) (p : ℕ) (xs : List ℕ) → drop p T ≡ 124 ∷ 124 ∷ xs → token_at position T p ≡ tokens.OrIf
+or_token position T p xs at =
+    let r = byte_here T p 124 (124 ∷ xs) refl at in token_here position r ∙ rw (second 124 refl r) refl
+
+-- the end of the text
+pub record Ended (T : List ℕ) (p : ℕ) : Type 0 where
+  pub gap : Gap T p p false
+  pub token : (position : Position) → token_at position T p ≡ tokens.End
+
+pub end_here : (T : List ℕ) (p : ℕ) → drop p T ≡ [] → Ended T p
+unfolding raw_stands stands_in token_at
+end_here T p at =
+    let raw = none_first T p at in
+    let place : past_continuations T p ≡ p = joined_none T p (no_backslash T p (ap (λ x. is_byte x 92) raw)) in
+    let byte : byte_at T p ≡ None = ap (slice_get T) place ∙ raw in
+    record { gap = no_gap (record { place = place; no_blank = ap (passes is_blank) byte }); token = λ position. ap (token_of position T p) byte }
+
+-- ---- reserved words
+
+-- no byte ends a word or is a backslash
+abbrev pub is_plain : List ℕ → Bool
+is_plain [] = true
+is_plain (c ∷ cs) = not (ends (Some c)) && (not (c == 92) && is_plain cs)
+
+abbrev pub all_plain : Row Spelling → Bool
+all_plain [] = true
+all_plain (w ∷ ws) = is_plain w.0 && all_plain ws
+
+-- the same bytes
+abbrev pub same_word : List ℕ → List ℕ → Bool
+same_word [] [] = true
+same_word [] (c ∷ cs) = false
+same_word (c ∷ cs) [] = false
+same_word (c ∷ cs) (x ∷ xs) = x == c && same_word cs xs
+
+-- the first of these words that is this one
+abbrev pub first_same : List ℕ → Row Spelling → Option Reserved
+first_same w [] = None
+first_same w (v ∷ vs) = cond (same_word v.0 w) (Some v.1) (first_same w vs)
+
+not_true : (b : Bool) → not b ≡ true → b ≡ false
+not_true true e = absurd cc
+not_true false e = refl
+
+plain_parts : (c : ℕ) (cs : List ℕ) → is_plain (c ∷ cs) ≡ true → (ends (Some c) ≡ false) × ((c == 92) ≡ false) × (is_plain cs ≡ true)
+plain_parts c cs e = let one = and_parts _ _ e in let two = and_parts _ _ one.1 in (not_true _ one.0, not_true _ two.0, two.1)
+
+module _ (T : List ℕ) (x : ℕ) (xs : List ℕ) (clear : (x == 92) ≡ false) (ends_it : ends (Some x) ≡ true) where
+  pub spelled_here : (p : ℕ) (v w : List ℕ) → is_plain v ≡ true → is_plain w ≡ true → drop p T ≡ w ++ x ∷ xs → is_word_at T p v ≡ same_word v w
+  spelled_here p [] [] one two at = spelled_none T p ∙ ap ends (byte_here T p x xs clear at).byte ∙ ends_it
+  spelled_here p [] (c ∷ w) one two at = let parts = plain_parts c w two in spelled_none T p ∙ ap ends (byte_here T p c _ parts.1 at).byte ∙ parts.0
+  spelled_here p (d ∷ v) [] one two at =
+      let r = byte_here T p x xs clear at in
+      spelled_more T p d v ∙ ap (λ b. b && is_word_at T (behind T p) v) (is_here d r ∙ ender x d ends_it (plain_parts d v one).0)
+  spelled_here p (d ∷ v) (c ∷ w) one two at =
+      let parts = plain_parts c w two in
+      let r = byte_here T p c (w ++ x ∷ xs) parts.1 at in
+      spelled_more T p d v ∙ ap (λ b. b && is_word_at T (behind T p) v) (is_here d r)
+      ∙ ap (λ b. c == d && b) (ap (λ q. is_word_at T q v) r.behind_it ∙ spelled_here (p + 1) v w (plain_parts d v one).2 parts.2 r.rest)
+
+  first_here : (p : ℕ) (w : List ℕ) (vs : Row Spelling) → is_plain w ≡ true → all_plain vs ≡ true → drop p T ≡ w ++ x ∷ xs → first_of_words T p vs ≡ first_same w vs
+  unfolding first_of_words
+  first_here p w [] plain all at = refl
+  first_here p w (v ∷ vs) plain all at =
+      let parts = and_parts _ _ all in
+      ap (λ b. cond b (Some v.1) (first_of_words T p vs)) (spelled_here p v.0 w parts.0 plain at) ∙ ap (λ o. cond (same_word v.0 w) (Some v.1) o) (first_here p w vs plain parts.1 at)
+
+-- a reserved word where it may stand
+pub record Keyword (T : List ℕ) (p : ℕ) (w : List ℕ) (r : Reserved) : Type 0 where
+  pub start : Start T p
+  pub token : token_at Command T p ≡ tokens.Reserved r
+  pub past_it : past_reserved T p ≡ p + length w
+
+abbrev pub all_names : List ℕ → Bool
+all_names [] = true
+all_names (c ∷ cs) = is_name c && all_names cs
+
+name_clear : (c : ℕ) → is_name c ≡ true → (c == 92) ≡ false
+name_clear c e = grind (arith, nat_tests)
+
+ends_no_name : (x : ℕ) → ends (Some x) ≡ true → is_name x ≡ false
+ends_no_name x e = grind (arith, nat_tests)
+
+names_here : (T : List ℕ) (p x : ℕ) (cs xs : List ℕ) → (x == 92) ≡ false → ends (Some x) ≡ true → all_names cs ≡ true → drop p T ≡ cs ++ x ∷ xs → past is_name T p ≡ p + length cs
+names_here T p x [] xs clear stops all at =
+    let e : p + 0 ≡ p = omega arith in past_none is_name T p (in_class is_name (byte_here T p x xs clear at) ∙ ends_no_name x stops) ∙ sym e
+names_here T p x (c ∷ cs) xs clear stops all at =
+    let parts = and_parts _ _ all in
+    let r = byte_here T p c (cs ++ x ∷ xs) (name_clear c parts.0) at in
+    let e : p + 1 + length cs ≡ p + suc (length cs) = omega arith in
+    past_more is_name T p (in_class is_name r ∙ parts.0) ∙ ap (past is_name T) r.behind_it ∙ names_here T (p + 1) x cs xs clear stops parts.1 r.rest ∙ e
+
+all_are_plain : all_plain reserved_words ≡ true
+unfolding reserved_words
+all_are_plain = refl
+
+no_number : (T : List ℕ) (p : ℕ) → stands_in is_digit T p ≡ false → is_number T p ≡ false
+unfolding is_number
+no_number T p e = rw e refl
+
+-- the text of a byte that begins a word which is no number: what the word is in a command's place
+abbrev pub WordByte : ℕ → Type 0
+WordByte c = (T : List ℕ) (p : ℕ) → is_number T p ≡ false → token_of Command T p (Some c) ≡ first_word (begins_assignment T p) (reserved_at T p)
+
+pub keyword_here : (T : List ℕ) (p c x : ℕ) (cs xs : List ℕ) (r : Reserved) → WordByte c → is_blank c ≡ false → is_digit c ≡ false → is_plain (c ∷ cs) ≡ true → all_names cs ≡ true
+    → first_same (c ∷ cs) reserved_words ≡ Some r → (x == 92) ≡ false → ends (Some x) ≡ true → drop p T ≡ c ∷ (cs ++ x ∷ xs) → Keyword T p (c ∷ cs) r
+unfolding past_reserved
+keyword_here T p c x cs xs r byte no_blank no_digit plain names same clear stops at =
+    let here = byte_here T p c (cs ++ x ∷ xs) (plain_parts c cs plain).1 at in
+    let number = no_number T p (in_class is_digit here ∙ no_digit) in
+    let reserved_is : reserved_at T p ≡ Some r = first_here T x xs clear stops p (c ∷ cs) reserved_words plain all_are_plain at ∙ same in
+    let token_is = token_here Command here ∙ byte T p number ∙ ap (first_word (begins_assignment T p)) reserved_is in
+    let over = ap (past is_name T) here.behind_it ∙ names_here T (p + 1) x cs xs clear stops names here.rest in
+    let e : p + 1 + length cs ≡ p + suc (length cs) = omega arith in
+    record { start = start_here here no_blank; token = token_is; past_it = over ∙ e }
+
+-- ---- each reserved word before a byte that ends it
+
+module _ (T : List ℕ) (p x : ℕ) (xs : List ℕ) (clear : (x == 92) ≡ false) (stops : ends (Some x) ≡ true) where
+  pub if_here : drop p T ≡ codes "if" ++ x ∷ xs → Keyword T p (codes "if") reserved.If
+  unfolding reserved_words
+  if_here at = keyword_here T p _ x _ xs reserved.If (λ T p e. rw e refl) refl refl refl refl refl clear stops at
+
+  pub then_here : drop p T ≡ codes "then" ++ x ∷ xs → Keyword T p (codes "then") reserved.Then
+  unfolding reserved_words
+  then_here at = keyword_here T p _ x _ xs reserved.Then (λ T p e. rw e refl) refl refl refl refl refl clear stops at
+
+  pub elif_here : drop p T ≡ codes "elif" ++ x ∷ xs → Keyword T p (codes "elif") reserved.Elif
+  unfolding reserved_words
+  elif_here at = keyword_here T p _ x _ xs reserved.Elif (λ T p e. rw e refl) refl refl refl refl refl clear stops at
+
+  pub else_here : drop p T ≡ codes "else" ++ x ∷ xs → Keyword T p (codes "else") reserved.Else
+  unfolding reserved_words
+  else_here at = keyword_here T p _ x _ xs reserved.Else (λ T p e. rw e refl) refl refl refl refl refl clear stops at
+
+  pub fi_here : drop p T ≡ codes "fi" ++ x ∷ xs → Keyword T p (codes "fi") reserved.Fi
+  unfolding reserved_words
+  fi_here at = keyword_here T p _ x _ xs reserved.Fi (λ T p e. rw e refl) refl refl refl refl refl clear stops at
+
+  pub while_here : drop p T ≡ codes "while" ++ x ∷ xs → Keyword T p (codes "while") reserved.While
+  unfolding reserved_words
+  while_here at = keyword_here T p _ x _ xs reserved.While (λ T p e. rw e refl) refl refl refl refl refl clear stops at
+
+  pub until_here : drop p T ≡ codes "until" ++ x ∷ xs → Keyword T p (codes "until") reserved.Until
+  unfolding reserved_words
+  until_here at = keyword_here T p _ x _ xs reserved.Until (λ T p e. rw e refl) refl refl refl refl refl clear stops at
+
+  pub do_here : drop p T ≡ codes "do" ++ x ∷ xs → Keyword T p (codes "do") reserved.Do
+  unfolding reserved_words
+  do_here at = keyword_here T p _ x _ xs reserved.Do (λ T p e. rw e refl) refl refl refl refl refl clear stops at
+
+  pub done_here : drop p T ≡ codes "done" ++ x ∷ xs → Keyword T p (codes "done") reserved.Done
+  unfolding reserved_words
+  done_here at = keyword_here T p _ x _ xs reserved.Done (λ T p e. rw e refl) refl refl refl refl refl clear stops at
+
+  pub brace_here : drop p T ≡ codes "{" ++ x ∷ xs → Keyword T p (codes "{") reserved.OpenBrace
+  unfolding reserved_words
+  brace_here at = keyword_here T p _ x _ xs reserved.OpenBrace (λ T p e. rw e refl) refl refl refl refl refl clear stops at
+
+  pub close_brace_here : drop p T ≡ codes "}" ++ x ∷ xs → Keyword T p (codes "}") reserved.CloseBrace
+  unfolding reserved_words
+  close_brace_here at = keyword_here T p _ x _ xs reserved.CloseBrace (λ T p e. rw e refl) refl refl refl refl refl clear stops at
+
+  pub bang_here : drop p T ≡ codes "!" ++ x ∷ xs → Keyword T p (codes "!") reserved.Bang
+  unfolding reserved_words
+  bang_here at = keyword_here T p _ x _ xs reserved.Bang (λ T p e. rw e refl) refl refl refl refl refl clear stops at

@@ -1,0 +1,5 @@
+use Rattle.shprint.proofs.ReadBack.{prints_the_same}
+use Rattle.shprint.proofs.laws.printed_again.Goals as goal
+
+pub returns : goal.returns
+returns c = λ layout bytes script again outcome read. prints_the_same layout bytes script again outcome read

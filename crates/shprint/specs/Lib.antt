@@ -1,0 +1,4 @@
+pub mod Marks
+pub mod Message
+pub mod Printed
+pub mod ReadBack
