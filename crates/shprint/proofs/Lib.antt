@@ -1,6 +1,10 @@
+pub mod Copying
 pub mod Gives
 pub mod Good
 pub mod ReadBack
 pub mod PrintedRows
 pub mod Readable
+pub mod Parts
+pub mod Rows
 pub mod Tokens
+pub mod Writing

@@ -10,13 +10,13 @@ const MOST: u8 = 16;
 #[derive(Clone, Copy, Debug, PartialEq, Eq)]
 pub struct Layout {
     /// Blanks for each level; 0 stands for a tab.
-    indent: u8,
+    pub(crate) indent: u8,
     /// The items of a `case` stand one level deeper than the `case`.
-    case_indent: bool,
+    pub(crate) case_indent: bool,
     /// A space stands between the operator of a redirection and its word.
-    space_redirects: bool,
+    pub(crate) space_redirects: bool,
     /// The `{` of a function's body begins the next line.
-    func_next_line: bool,
+    pub(crate) func_next_line: bool,
 }
 
 /// Why there is no such layout.

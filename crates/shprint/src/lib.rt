@@ -1,14 +1,21 @@
 //! The printer: one layout for every script, and the line that tells a fault.
 //!
-//! Start with [`Layout`], the choices that a layout leaves, and [`message`], the line of a fault.
-//! What is printed for a tree is `printed` in `specs/Printed`, by cases, one for each rule of the layout.
+//! Start with [`print`], which prints the tree of a script by a [`Layout`]; [`message`] is the line that tells a fault.
+//! What is printed for a tree is `printed` in `specs/Printed`, by cases, one for each rule of the layout. A function of `commands`,
+//! `items` or `comments` prints what the definition of its name there says.
 #![tactic(auto)]
 
+mod commands;
+mod comments;
+mod items;
 pub mod laws;
 mod layout;
 mod messages;
+mod page;
+mod printer;
 #[cfg(test)]
 mod tests;
 
 pub use layout::{Layout, LayoutError};
 pub use messages::message;
+pub use printer::print;

@@ -1,7 +1,75 @@
 // What no clause says: what a layout refuses, that calls succeed where nothing fails, and the texts.
-use crate::{Layout, LayoutError, message};
-use shread::{Fault, FaultKind};
+use crate::{Layout, LayoutError, message, print};
+use shread::{Fault, FaultKind, Flat, Reader};
+use std::alloc::Global;
 use std::test::Fail;
+
+/// Scripts, and what is printed for each with a tab for each level.
+const SCRIPTS: [(&[u8], &[u8]); 17] = [
+    (b"", b""),
+    (b"if a;then b;fi", b"if a; then\n\tb\nfi\n"),
+    (b"i\\\nf a; then b; fi", b"if a; then\n\tb\nfi\n"),
+    (b"a \\\n  | b\n", b"a |\n\tb\n"),
+    (b"a\n\n\n\nb;c # d\n", b"a\n\nb\nc # d\n"),
+    (b"{ # x\na;}\n", b"{\n\t# x\n\ta\n}\n"),
+    (b"! { a; } &\n", b"! {\n\ta\n} &\n"),
+    (
+        b"until a # c\ndo b; done\n",
+        b"until\n\ta # c\ndo\n\tb\ndone\n",
+    ),
+    (
+        b"while a\nb\ndo c;done\n",
+        b"while\n\ta\n\tb\ndo\n\tc\ndone\n",
+    ),
+    (
+        b"a && b ||\n# why\nc & # bg\n\n\nd\n",
+        b"a && b || # why\n\tc & # bg\n\nd\n",
+    ),
+    (b"a |\nb && { c; }\n", b"a |\n\tb && {\n\tc\n}\n"),
+    (
+        b"echo \"${x:-it's}\" ${y%'}'}\n",
+        b"echo \"${x:-it's}\" ${y%'}'}\n",
+    ),
+    (b"#!/bin/sh\necho hi\r\n", b"#!/bin/sh\necho hi\r\n"),
+    (b"a \\\n b\n", b"a \\\n\tb\n"),
+    (b"a && # x\n# y\nb\n", b"a && # x\n\t# y\n\tb\n"),
+    (
+        b"if a; then b; elif c & then d; else e; fi",
+        b"if a; then\n\tb\nelif\n\tc &\nthen\n\td\nelse\n\te\nfi\n",
+    ),
+    (b"{ ( a ); }", b"{\n\t(\n\t\ta\n\t)\n}\n"),
+];
+
+/// A script's printed text.
+fn printed(alloc: Global, layout: &Layout, script: &[u8]) -> Result<Vec<u8>, Fail> {
+    let source = Flat::new(script);
+    let script = Reader::new(alloc).read_script(&source)?;
+    if script.fault.is_some() {
+        return Err(Fail::from("a fault"));
+    }
+    Ok(print(alloc, layout, &script, &source)?)
+}
+
+/// A printed text is printed again as it stands.
+#[test]
+fn scripts(rt: HostRuntime) -> Result<(), Fail> {
+    let layout = Layout::new(0, false, false, false)?;
+    for (script, wanted) in SCRIPTS {
+        let text = printed(rt.alloc(), &layout, script)?;
+        assert!(rt; text.as_slice() == wanted);
+        assert!(rt; printed(rt.alloc(), &layout, &text)?.as_slice() == wanted);
+    }
+    Ok(())
+}
+
+#[test]
+fn blanks(rt: HostRuntime) -> Result<(), Fail> {
+    let layout = Layout::new(2, false, false, false)?;
+    let script = b"a && b ||\n# why\nc & # bg\n\n\nd\n";
+    let text = printed(rt.alloc(), &layout, script)?;
+    assert!(rt; text.as_slice() == b"a && b || # why\n  c & # bg\n\nd\n".as_slice());
+    Ok(())
+}
 
 #[test]
 fn messages(rt: HostRuntime) -> Result<(), Fail> {

@@ -1,0 +1,114 @@
+-- Text that is copied from a source, stretch by stretch or byte by byte.
+use Rattle.std.proofs.Common.{◌≡◌, ℕ, zero, suc, ◌+◌, ◌-◌, ◌<◌, ◌≤◌, ◌==◌, ◌&&◌, Bool, true, false, cond, Option, Some, None, slice_get, get_or, List, [], ◌∷◌, ◌++◌, length, drop, take, refl, sym, ap, ◌∙◌, arith, length-drop}
+use Rattle.std.proofs.lemmas.List.{drop-drop, drop_all, places, take-take}
+use Rattle.std.proofs.Math.Seq.{take-add}
+use Rattle.std.specs.Option.{option_eq}
+use Rattle.std.proofs.lemmas.Grind.{same_number_lists}
+use Rattle.std.proofs.lemmas.Bool.Decides.{nat_tests}
+use Rattle.shtree.specs.Shape.{bare, text_at}
+use Rattle.shtree.specs.declared.tree.Span.{Span}
+use Rattle.shtree.specs.declared.tree.RedirectOperator.TheVariants as redirects
+use Rattle.shread.specs.Text.{IsRun}
+use Rattle.shprint.specs.Printed.{would_strip}
+
+-- ---- by stretches
+
+module _ (B : List ℕ) (at : ℕ) (run : List ℕ) (is : IsRun B at run) where
+  within : length run ≤ length (drop at B)
+  within = grind (arith, is.short, is.none, length-drop)
+
+  -- a stretch is the front of the text from where it begins
+  run_is : take (length run) (drop at B) ≡ run
+  run_is = same_number_lists _ _ (grind (arith, within, places)) (λ k lt. grind (arith, within, is.same, places))
+
+  -- it goes as far as is wanted
+  pub run_enough : (n : ℕ) → n ≤ length run → take n (drop at B) ≡ take n run
+  run_enough n le = sym (take-take n (length run) (drop at B) le) ∙ ap (take n) run_is
+
+  -- all of it is wanted, and more
+  pub run_more : (n : ℕ) → length run ≤ n → take n (drop at B) ≡ run ++ take (n - length run) (drop (at + length run) B)
+  run_more n le =
+      let parts : n ≡ length run + (n - length run) = omega (arith, le) in
+      ap (λ m. take m (drop at B)) parts ∙ take-add (length run) (n - length run) (drop at B)
+      ∙ rw (run_is, drop-drop (length run) at B) refl
+
+  -- it is empty where the text has ended
+  pub run_none : length run ≡ 0 → drop at B ≡ []
+  run_none empty = grind (arith, is.some, drop_all at B)
+
+-- ---- by the byte
+
+none_taken : (n : ℕ) → take {A = ℕ} n [] ≡ []
+none_taken zero = refl
+none_taken (suc n) = refl
+
+drop_some : (B : List ℕ) (at b : ℕ) → slice_get B at ≡ Some b → drop at B ≡ b ∷ drop (at + 1) B
+drop_some [] zero b e = absurd cc
+drop_some [] (suc at) b e = absurd cc
+drop_some (c ∷ B) zero b e = cc
+drop_some (c ∷ B) (suc at) b e =
+    let next : suc at + 1 ≡ suc (at + 1) = omega arith in
+    rw next (drop_some B at b e)
+
+pub drop_none : (B : List ℕ) (at : ℕ) → slice_get B at ≡ None → drop at B ≡ []
+drop_none [] zero e = refl
+drop_none [] (suc at) e = refl
+drop_none (c ∷ B) zero e = absurd cc
+drop_none (c ∷ B) (suc at) e = drop_none B at e
+
+pub bare_none : bare [] ≡ []
+unfolding bare
+bare_none = refl
+
+bare_pair : (X : List ℕ) → bare (92 ∷ 10 ∷ X) ≡ bare X
+unfolding bare
+bare_pair X = refl
+
+unlike : (b c : ℕ) → (b ≡ 92 → c ≡ 10 → ⊥) → (b == 92 && c == 10) ≡ false
+unlike b c unjoined = grind (arith, nat_tests)
+
+bare_two : (b c : ℕ) (X : List ℕ) → (b ≡ 92 → c ≡ 10 → ⊥) → bare (b ∷ c ∷ X) ≡ b ∷ bare (c ∷ X)
+unfolding bare
+bare_two b c X unjoined = rw (unlike b c unjoined) refl
+
+-- a byte that begins no continuation
+bare_first : (b n : ℕ) (X : List ℕ) → (b ≡ 92 → slice_get X 0 ≡ Some 10 → 0 < n → ⊥) → bare (b ∷ take n X) ≡ b ∷ bare (take n X)
+unfolding bare
+bare_first b zero X unjoined = refl
+bare_first b (suc n) [] unjoined = refl
+bare_first b (suc n) (c ∷ X) unjoined = bare_two b c (take n X) (λ e f. unjoined e (ap Some f) (omega arith))
+
+get_drop : (B : List ℕ) (at : ℕ) → slice_get (drop at B) 0 ≡ slice_get B at
+get_drop B zero = refl
+get_drop [] (suc at) = refl
+get_drop (b ∷ B) (suc at) = get_drop B at
+
+module _ (B : List ℕ) (at «end» b : ℕ) (here : slice_get B at ≡ Some b) (before : at < «end») where
+  taken : take («end» - at) (drop at B) ≡ b ∷ take («end» - (at + 1)) (drop (at + 1) B)
+  taken =
+      let n : «end» - at ≡ suc («end» - (at + 1)) = omega (arith, before) in
+      rw (n, drop_some B at b here) refl
+
+  -- no continuation begins here
+  pub bare_more : (b ≡ 92 → slice_get B (at + 1) ≡ Some 10 → at + 1 < «end» → ⊥) → bare (take («end» - at) (drop at B)) ≡ b ∷ bare (take («end» - (at + 1)) (drop (at + 1) B))
+  bare_more unjoined =
+      ap bare taken ∙ bare_first b («end» - (at + 1)) (drop (at + 1) B) (λ e f lt. unjoined e (sym (get_drop B (at + 1)) ∙ f) (omega (arith, lt)))
+
+-- a continuation begins here
+pub bare_joined : (B : List ℕ) (at «end» : ℕ) → slice_get B at ≡ Some 92 → slice_get B (at + 1) ≡ Some 10 → at + 1 < «end»
+    → bare (take («end» - at) (drop at B)) ≡ bare (take («end» - (at + 2)) (drop (at + 2) B))
+bare_joined B at «end» one two lt =
+    let both : at + 1 + 1 ≡ at + 2 = omega arith in
+    ap bare (taken B at «end» 92 one (omega (arith, lt)) ∙ ap (λ X. 92 ∷ X) (taken B (at + 1) «end» 10 two lt))
+    ∙ bare_pair _ ∙ rw both refl
+
+-- ---- a word behind `<<`
+
+module _ (B : List ℕ) (s : Span) (some : s.start < s.«end») where
+  strip_by : (o : Option ℕ) → slice_get B s.start ≡ o → would_strip redirects.Here (text_at B s) ≡ option_eq ◌==◌ o (Some 45)
+  strip_by None e = rw (drop_none B s.start e, none_taken (s.«end» - s.start)) refl
+  strip_by (Some b) e = rw (taken B s.start s.«end» b e some) refl
+
+  -- it is looked at by its first byte
+  pub strip_is : would_strip redirects.Here (text_at B s) ≡ option_eq ◌==◌ (slice_get B s.start) (Some 45)
+  strip_is = strip_by (slice_get B s.start) refl

@@ -1,0 +1,22 @@
+use Rattle.std.proofs.Common.{arith}
+use Rattle.shtree.specs.View.{view_compound}
+use Rattle.shtree.specs.Shape.{shape_of_compound}
+use Rattle.shprint.proofs.Parts.{gap_none, gap_some}
+use Rattle.shprint.proofs.Writing.{written_append, written_cons}
+use Rattle.shprint.proofs.printer.Printer.print_function_gap.Goals as goal
+use Rattle.shprint.proofs.printer.Printer.print_function_gap.Goals.{else-self-via-then-self+else-is_brace, else-self-via-else-self}
+
+pub returns-then-not-is_empty : goal.returns-then-not-is_empty
+returns-then-not-is_empty g c = grind (arith, gap_some, written_append)
+
+pub returns-then-is_brace : goal.returns-then-is_brace
+returns-then-is_brace g c =
+    let brace = c.is_brace.ensures (g.S.Source.bytes c.args.self.now.source.now) in
+    grind (arith, gap_none, brace)
+
+pub returns-else-self : goal.returns-else-self
+returns-else-self g c =
+    elim c.else-self.branch [
+      | else-self-via-then-self+else-is_brace w ↦ let brace = w.is_brace.ensures (g.S.Source.bytes c.args.self.now.source.now) in grind (arith, gap_none, brace)
+      | else-self-via-else-self w ↦ grind (arith, gap_none)
+    ]

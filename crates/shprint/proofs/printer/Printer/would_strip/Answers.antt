@@ -1,0 +1,8 @@
+use Rattle.std.proofs.Common.{arith}
+use Rattle.shprint.proofs.Copying.{strip_is}
+use Rattle.shprint.proofs.printer.Printer.would_strip.Goals as goal
+
+pub returns-then-word : goal.returns-then-word
+returns-then-word g c =
+    let strips = strip_is (g.S.Source.bytes c.args.self.now.source.now) c.args.word c.if-word.true in
+    grind (arith, strips)

@@ -1,0 +1,179 @@
+//! Words, redirections and patterns: what stands on a line behind something else.
+#![tactic(auto, using(crate::proofs::Writing::written_append, crate::proofs::Writing::written_cons, crate::proofs::Writing::written_none))]
+
+ghost use Rattle.std.specs.Prelude.{◌≡◌, ◌∷◌, ◌++◌, ◌==◌, ◌&&◌, ◌||◌, IfOk, codes, map, not, option_map};
+ghost use Rattle.shtree.specs.Shape.{bare_at, shape_of_for_words, shape_of_item, shape_of_items, shape_of_patterns, shape_of_word, text_at};
+ghost use Rattle.shtree.specs.Spelling.{redirect_text};
+ghost use Rattle.shtree.specs.Tree.{items_of, patterns_of};
+ghost use Rattle.shtree.specs.View.{view_item, view_word};
+ghost use Rattle.shprint.specs.Marks.{one, text};
+ghost use Rattle.shprint.specs.Printed.{duplicates, print_first_pattern, print_gap, print_item, print_items, print_number, print_operator, print_patterns, print_simple, print_word, would_strip};
+ghost use Rattle.shprint.specs.Written.{Prints};
+
+use crate::page::Page;
+use crate::printer::Printer;
+use shread::Source;
+use shtree::{Item, ItemContent, RedirectOperator, Span, Word};
+use std::alloc::AllocError;
+
+/// How the operator of a redirection is spelled.
+fn redirect_text(operator: RedirectOperator) -> &'static [u8]
+    ensures { result.now ≡ redirect_text operator }
+{
+    match operator {
+        RedirectOperator::Input => b"<",
+        RedirectOperator::Output => b">",
+        RedirectOperator::Here => b"<<",
+        RedirectOperator::Append => b">>",
+        RedirectOperator::DuplicateInput => b"<&",
+        RedirectOperator::DuplicateOutput => b">&",
+        RedirectOperator::ReadWrite => b"<>",
+        RedirectOperator::HereStripped => b"<<-",
+        RedirectOperator::Clobber => b">|",
+    }
+}
+
+/// Whether this operator never has a space behind it.
+fn duplicates(operator: RedirectOperator) -> bool
+    ensures { result ≡ duplicates operator }
+{
+    matches!(
+        operator,
+        RedirectOperator::DuplicateInput | RedirectOperator::DuplicateOutput
+    )
+}
+
+impl<'a, S: Source> Printer<'a, S> {
+    /// What parts an item from what stands before it: a space, or a continuation.
+    fn print_gap(&self, broken: bool, page: &mut Page) -> Result<(), AllocError>
+        ensures { IfOk result (λ _. Prints page.old page.new (print_gap self.now.layout page.old.margin.items broken)) }
+    {
+        if !broken {
+            return page.put(b" ");
+        }
+        page.put(b" \\\n")?;
+        let home = page.margin.len();
+        page.deepen(self.layout)?;
+        page.begin_line()?;
+        page.margin.truncate(home);
+        Ok(())
+    }
+
+    /// A word as it stands, with its substitutions.
+    pub(crate) fn print_word(&self, word: &Word, page: &mut Page) -> Result<(), AllocError>
+        ensures { IfOk result (λ _. Prints page.old page.new (print_word (shape_of_word (S.bytes self.now.source.now) (view_word word.now)))) }
+    {
+        self.print_text(word.span, page)
+    }
+
+    fn print_number(&self, number: Option<Span>, page: &mut Page) -> Result<(), AllocError>
+        ensures { IfOk result (λ _. Prints page.old page.new (print_number (option_map (bare_at (S.bytes self.now.source.now)) number))) }
+    {
+        match number {
+            Some(number) => self.print_bare_text(number, page),
+            None => Ok(()),
+        }
+    }
+
+    /// Whether `<<` and the word at this span would be read as `<<-`.
+    fn would_strip(&self, operator: RedirectOperator, word: Span) -> bool
+        ensures { result ≡ would_strip operator (text_at (S.bytes self.now.source.now) word) }
+    {
+        match operator {
+            RedirectOperator::Here => {
+                word.start < word.end && self.source.byte(word.start) == Some(b'-')
+            }
+            _ => false,
+        }
+    }
+
+    fn print_operator(
+        &self,
+        operator: RedirectOperator,
+        word: &Word,
+        page: &mut Page,
+    ) -> Result<(), AllocError>
+        ensures { IfOk result (λ _. Prints page.old page.new
+            (print_operator self.now.layout operator (shape_of_word (S.bytes self.now.source.now) (view_word word.now)))) }
+    {
+        page.put(redirect_text(operator))?;
+        let spaced = self.layout.space_redirects && !duplicates(operator);
+        if spaced || self.would_strip(operator, word.span) {
+            page.put(b" ")?;
+        }
+        Ok(())
+    }
+
+    fn print_item(&self, item: &Item, page: &mut Page) -> Result<(), AllocError>
+        ensures { IfOk result (λ _. Prints page.old page.new
+            (print_item self.now.layout (shape_of_item (S.bytes self.now.source.now) (view_item item.now)))) }
+    {
+        match &item.what {
+            ItemContent::Assign(word) | ItemContent::Word(word) => self.print_word(word, page),
+            ItemContent::Redirect {
+                number,
+                operator,
+                word,
+                ..
+            } => {
+                self.print_number(*number, page)?;
+                self.print_operator(*operator, word, page)?;
+                self.print_word(word, page)
+            }
+        }
+    }
+
+    /// Items behind others, or behind a closer or the `in` of a `for`.
+    #[tactic(auto, using(crate::proofs::Writing::written_append, crate::proofs::Writing::written_cons, crate::proofs::Writing::written_none, crate::proofs::Rows::from_end, crate::proofs::Rows::items_are))]
+    pub(crate) fn print_items(&self, items: &[Item], page: &mut Page) -> Result<(), AllocError>
+        ensures { IfOk result (λ _. Prints page.old page.new
+            (print_items self.now.layout page.old.margin.items (shape_of_items (S.bytes self.now.source.now) (items_of (map view_item items.now))))) }
+    {
+        for item in items {
+            self.print_gap(item.broken, page)?;
+            self.print_item(item, page)?;
+        }
+        Ok(())
+    }
+
+    /// The items of a simple command.
+    pub(crate) fn print_simple(&self, items: &[Item], page: &mut Page) -> Result<(), AllocError>
+        ensures { IfOk result (λ _. Prints page.old page.new
+            (print_simple self.now.layout page.old.margin.items (shape_of_items (S.bytes self.now.source.now) (items_of (map view_item items.now))))) }
+    {
+        let Some((first, rest)) = items.split_first() else {
+            return Ok(());
+        };
+        self.print_item(first, page)?;
+        self.print_items(rest, page)
+    }
+
+    /// The patterns of an item of a `case` behind the first one.
+    #[tactic(auto, using(crate::proofs::Writing::written_append, crate::proofs::Writing::written_cons, crate::proofs::Writing::written_none, crate::proofs::Rows::from_end, crate::proofs::Rows::patterns_are))]
+    fn print_patterns(&self, patterns: &[Word], page: &mut Page) -> Result<(), AllocError>
+        ensures { IfOk result (λ _. Prints page.old page.new
+            (print_patterns (shape_of_patterns (S.bytes self.now.source.now) (patterns_of (map view_word patterns.now))))) }
+    {
+        for pattern in patterns {
+            page.put(b" | ")?;
+            self.print_word(pattern, page)?;
+        }
+        Ok(())
+    }
+
+    /// The patterns of an item of a `case`.
+    pub(crate) fn print_first_pattern(
+        &self,
+        patterns: &[Word],
+        page: &mut Page,
+    ) -> Result<(), AllocError>
+        ensures { IfOk result (λ _. Prints page.old page.new
+            (print_first_pattern (shape_of_patterns (S.bytes self.now.source.now) (patterns_of (map view_word patterns.now))))) }
+    {
+        let Some((first, rest)) = patterns.split_first() else {
+            return Ok(());
+        };
+        self.print_word(first, page)?;
+        self.print_patterns(rest, page)
+    }
+}

@@ -1,0 +1,70 @@
+//! What is printed so far.
+#![tactic(auto, using(crate::proofs::Writing::written_append, crate::proofs::Writing::written_cons, crate::proofs::Writing::written_text, crate::proofs::Writing::written_line))]
+
+ghost use Rattle.std.specs.Prelude.{◌≡◌, [], ◌∷◌, IfOk};
+ghost use Rattle.shprint.specs.Marks.{line_end, text};
+ghost use Rattle.shprint.specs.Written.{Deepens, Prints};
+
+use crate::layout::Layout;
+use std::alloc::{AllocError, Global};
+
+/// What is printed so far, and the bytes with which a line begins.
+#[derive(Drop)]
+pub(crate) struct Page {
+    pub(crate) margin: Vec<u8>,
+    pub(crate) text: Vec<u8>,
+}
+
+impl Page {
+    /// An empty page, whose lines begin with nothing.
+    pub(crate) fn new(alloc: Global) -> Page
+        ensures { (result.margin.items ≡ []) × (result.text.items ≡ []) }
+    {
+        Page {
+            margin: Vec::new(alloc),
+            text: Vec::new(alloc),
+        }
+    }
+
+    /// Prints these bytes.
+    pub(crate) fn put(&mut self, bytes: &[u8]) -> Result<(), AllocError>
+        ensures { IfOk result (λ _. Prints self.old self.new (text bytes.now ∷ [])) }
+    {
+        self.text.extend_from_slice(bytes)
+    }
+
+    /// Ends a line.
+    pub(crate) fn end_line(&mut self) -> Result<(), AllocError>
+        ensures { IfOk result (λ _. Prints self.old self.new (line_end ∷ [])) }
+    {
+        self.text.push(b'\n')?;
+        Ok(())
+    }
+
+    /// Begins a line.
+    pub(crate) fn begin_line(&mut self) -> Result<(), AllocError>
+        ensures { IfOk result (λ _. Prints self.old self.new (text self.old.margin.items ∷ [])) }
+    {
+        self.text.extend_from_slice(&self.margin)
+    }
+
+    /// Ends a line and begins the next one.
+    pub(crate) fn next_line(&mut self) -> Result<(), AllocError>
+        ensures { IfOk result (λ _. Prints self.old self.new (line_end ∷ text self.old.margin.items ∷ [])) }
+    {
+        self.end_line()?;
+        self.begin_line()
+    }
+
+    /// From here on lines begin one level deeper, until the margin is cut to its old length.
+    pub(crate) fn deepen(&mut self, layout: Layout) -> Result<(), AllocError>
+        ensures { IfOk result (λ _. Deepens layout self.old self.new) }
+    {
+        if layout.indent == 0 {
+            self.margin.push(b'\t')?;
+            return Ok(());
+        }
+        let width = self.margin.len() + layout.indent as usize;
+        self.margin.resize(width, b' ')
+    }
+}

@@ -1,0 +1,107 @@
+//! What prints a tree, and the texts that it copies from the source.
+#![tactic(auto, using(crate::proofs::Writing::written_text, crate::proofs::Writing::written_first))]
+
+ghost use Rattle.std.specs.Prelude.{◌≡◌, [], ◌∷◌, ◌++◌, IfOk, None};
+ghost use Rattle.shread.specs.Answers.{view_script};
+ghost use Rattle.shread.specs.Scripts.{Outcome};
+ghost use Rattle.shtree.specs.Shape.{bare_at, shape_of, text_at};
+ghost use Rattle.shprint.specs.Marks.{text};
+ghost use Rattle.shprint.specs.Printed.{printed};
+ghost use Rattle.shprint.specs.ReadBack.{ReadsBack};
+ghost use Rattle.shprint.specs.Written.{Prints};
+
+use crate::layout::Layout;
+use crate::page::Page;
+use shread::{Script, Source};
+use shtree::Span;
+use std::alloc::{AllocError, Global};
+
+/// By what a tree is printed: a layout, and the source that the tree's spans tell of.
+#[derive(Drop)]
+pub(crate) struct Printer<'a, S: Source> {
+    pub(crate) layout: Layout,
+    pub(crate) source: &'a S,
+}
+
+impl<'a, S: Source> Printer<'a, S> {
+    /// Copies the bytes of a span, by the stretches in which the source tells them.
+    fn copy(&self, span: Span, text: &mut Vec<u8>) -> Result<(), AllocError>
+        ensures { IfOk result (λ _. text.new.items ≡ text.old.items ++ text_at (S.bytes self.now.source.now) span) }
+    {
+        let mut at = span.start;
+        'runs: while at < span.end {
+            let run = self.source.run(at);
+            let wanted = span.end - at;
+            if wanted <= run.len() {
+                return text.extend_from_slice(&run[..wanted]);
+            }
+            if run.is_empty() {
+                return Ok(());
+            }
+            text.extend_from_slice(run)?;
+            at += run.len();
+        }
+        Ok(())
+    }
+
+    /// Copies the bytes of a span without its continuations. Such a span is short: it is that of a number.
+    fn copy_bare(&self, span: Span, text: &mut Vec<u8>) -> Result<(), AllocError>
+        ensures { IfOk result (λ _. text.new.items ≡ text.old.items ++ bare_at (S.bytes self.now.source.now) span) }
+    {
+        let mut at = span.start;
+        'bytes: while at < span.end {
+            let Some(byte) = self.source.byte(at) else {
+                return Ok(());
+            };
+            let has_next = 1 < span.end - at;
+            if byte == b'\\' && has_next && self.source.byte(at + 1) == Some(b'\n') {
+                at += 2;
+            } else {
+                text.push(byte)?;
+                at += 1;
+            }
+        }
+        Ok(())
+    }
+
+    /// Prints the bytes of a span as they stand.
+    pub(crate) fn print_text(&self, span: Span, page: &mut Page) -> Result<(), AllocError>
+        ensures { IfOk result (λ _. Prints page.old page.new (text (text_at (S.bytes self.now.source.now) span) ∷ [])) }
+    {
+        self.copy(span, &mut page.text)
+    }
+
+    /// Prints the bytes of a span without its continuations.
+    pub(crate) fn print_bare_text(&self, span: Span, page: &mut Page) -> Result<(), AllocError>
+        ensures { IfOk result (λ _. Prints page.old page.new (text (bare_at (S.bytes self.now.source.now) span) ∷ [])) }
+    {
+        self.copy_bare(span, &mut page.text)
+    }
+}
+
+/// The printed text of a script, by the layout's rules. The script is what a reader read of the source, and has no fault.
+///
+/// # Errors
+///
+/// [`AllocError`], where memory runs out.
+pub fn print<S: Source>(
+    alloc: Global,
+    layout: &Layout,
+    script: &Script,
+    source: &S,
+) -> Result<Vec<u8>, AllocError>
+    requires outcome { Outcome (S.bytes source.now) (view_script script.now) }
+    requires faultless { script.now.fault ≡ None }
+    ensures printed { IfOk result (λ text. text.items ≡
+        printed layout.now (shape_of (S.bytes source.now) (view_script script.now).entries)) }
+    // The text is a script without a fault, of the same shape, and no other.
+    ensures reads_back { IfOk result (λ text. ReadsBack text.items (shape_of (S.bytes source.now) (view_script script.now).entries)) }
+{
+    let printer = Printer {
+        layout: *layout,
+        source,
+    };
+    let mut page = Page::new(alloc);
+    printer.print_entries(&script.list.entries, &mut page)?;
+    Ok(page.text)
+}
