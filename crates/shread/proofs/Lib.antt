@@ -4,6 +4,7 @@ pub mod OneOutcome
 pub mod Holds
 pub mod Lined
 pub mod Scripts
+pub mod LineByLine
 pub mod Alike
 pub mod FirstFault
 pub mod NormalForm

@@ -17,6 +17,6 @@ pub mod Lines
 pub mod Scripts
 pub mod Clauses
 pub mod Answers
-pub mod SoFar
+pub mod LineByLine
 pub mod Search
 pub mod Plain

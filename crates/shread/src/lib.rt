@@ -1,7 +1,7 @@
 //! The reader of shform: scripts of the Shell Command Language of POSIX, read line by line into a tree.
 //!
 //! Start with [`Reader`]: `read_line` reads one top-level line of a [`Source`], `read_script` all of them, and `first_fault` looks
-//! for the first fault alone. The tree is that of the crate `shtree`; [`Fault`] is what is wrong with a script. The definitions
+//! for the first fault alone; [`ScriptLines`] reads a script a line at a time. The tree is that of the crate `shtree`; [`Fault`] is what is wrong with a script. The definitions
 //! that the contracts cite are in `specs/`: `Words`, `Commands`, `Lists`, `Compounds` and `Lines` are the grammar's rows, and `Form`
 //! says what a row means.
 #![tactic(auto)]
@@ -38,6 +38,7 @@ mod plain;
 mod reader;
 #[cfg(test)]
 mod refused;
+mod script_lines;
 mod search;
 mod source;
 #[cfg(test)]
@@ -55,5 +56,6 @@ mod word;
 pub use fault::{Fault, FaultKind, ReadError};
 pub use line_col::line_col_of;
 pub use reader::{Line, LineKind, Reader, Script};
+pub use script_lines::{ScriptLine, ScriptLines};
 pub use source::{Flat, Source};
 pub use token::{Closing, Next, Opener, Position, Reserved, Separator, Token};

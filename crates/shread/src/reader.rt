@@ -109,6 +109,7 @@ impl Reader {
             Passes (S.bytes source.now) (view_script script) k → k ≡ spelling (shape_of (S.bytes source.now) (view_script script).entries)) }
         // No node of the list names an offset above the length.
         ensures within { IfOk result (λ script. AreWithin (length (S.bytes source.now)) (view_script script).entries) }
+        ensures fault { IfOk result (λ script. IfSome script.fault (λ f. f.at ≤ length (S.bytes source.now))) }
         ensures meter { IfOk result (λ script. meter_of self.new ≡ raised (meter_of self.old) (length (S.bytes source.now))) }
         ensures err { IfErr result (λ e. meter_of self.new ≡ meter_of self.old) }
     {

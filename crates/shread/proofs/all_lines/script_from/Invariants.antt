@@ -1,13 +1,17 @@
-use Rattle.std.proofs.Common.{◌≡◌, ◌≤◌, ◌-◌, length}
+use Rattle.std.proofs.Common.{◌≡◌, ◌≤◌, ◌-◌, length, map}
 use Rattle.shtree.specs.Nodes.{AreWithin}
-use Rattle.shread.specs.Scripts.{nothing_yet, script_on}
-use Rattle.shread.specs.SoFar.{list_so_far, view_so_far}
+use Rattle.shtree.specs.Tree.{entries_of}
+use Rattle.shtree.specs.View.{view_entry}
+use Rattle.shread.specs.LineByLine.{Rest, Stands, bytes_of, place_of}
+use Rattle.shread.specs.Scripts.{AScript, Outcome, SoFar}
 use Rattle.shread.proofs.all_lines.script_from.Given as goal
 
 abbrev pub invariant-lines : goal.invariant-lines
 invariant-lines g l =
     let bytes = g.S.Source.bytes l.source in
-    (script_on bytes (view_so_far l.so_far) l.so_far.at ≡ script_on bytes nothing_yet 0) × (l.so_far.at ≤ length bytes) × AreWithin (length bytes) (list_so_far l.so_far)
+    let so : SoFar = record { entries = map view_entry l.entries.items; gap = l.lines.gap } in
+    Stands l.lines so × ((s : AScript) → Rest bytes so (place_of l.lines) s → Outcome bytes s) × AreWithin (length bytes) (entries_of so.entries)
+    × (bytes_of g.S.Source.bytes l.lines ≡ bytes) × (place_of l.lines ≤ length bytes)
 
 abbrev pub decreases-lines : goal.decreases-lines
-decreases-lines g l = length (g.S.Source.bytes l.source) - l.so_far.at
+decreases-lines g l = length (g.S.Source.bytes l.source) - place_of l.lines
