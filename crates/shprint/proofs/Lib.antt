@@ -1,3 +1,4 @@
+pub mod ByLine
 pub mod Copying
 pub mod Gives
 pub mod Good

@@ -1,5 +1,5 @@
 -- What a part prints, by the cases that the code tells apart.
-use Rattle.std.proofs.Common.{◌≡◌, ℕ, ◌<◌, ◌≤◌, ◌&&◌, ◌||◌, Bool, true, false, List, List as Row, [], ◌∷◌, ◌++◌, Option, Some, None, length, take, map, codes, if◌then◌else◌, rules, refl, sym, ap, append_assoc, arith}
+use Rattle.std.proofs.Common.{◌≡◌, ℕ, ◌<◌, ◌&&◌, Bool, true, false, List, List as Row, [], ◌∷◌, ◌++◌, Some, None, length, take, map, codes, if◌then◌else◌, rules, refl, sym, ap, append_assoc, arith}
 use Rattle.std.proofs.Math.Seq.{take-append_seam, take-length}
 use Rattle.shtree.specs.declared.tree.Comment.{Comment}
 use Rattle.shtree.specs.declared.tree.Entry.{Entry}

@@ -6,7 +6,7 @@ use Rattle.shtree.specs.declared.tree.AndOrPart.{AndOrPart}
 use Rattle.shtree.specs.declared.tree.PipelinePart.{PipelinePart}
 use Rattle.shtree.specs.Shape.{Text, text_at, shape_of, shape_of_and_or_parts, shape_of_branch, shape_of_branches, shape_of_case, shape_of_cases, shape_of_command, shape_of_comments, shape_of_entry, shape_of_item, shape_of_items, shape_of_join, shape_of_patterns, shape_of_pipeline, shape_of_pipes, shape_of_word}
 use Rattle.shtree.specs.Spelling.{and_or_text}
-use Rattle.shtree.specs.Tree.{AJoinOf, AnEntry, AnAndOrPart, APipelinePart, ABranch, ACaseItem, AWord, AnItem, entries_of, and_or_parts_of, pipeline_parts_of, branches_of, cases_of, patterns_of, items_of}
+use Rattle.shtree.specs.Tree.{AJoinOf, AnEntry, ABranch, ACaseItem, AWord, AnItem, entries_of, and_or_parts_of, pipeline_parts_of, branches_of, cases_of, patterns_of, items_of}
 use Rattle.shtree.specs.View.{view_and_or_part, view_pipeline_part}
 use Rattle.shprint.specs.declared.layout.Layout.{Layout}
 use Rattle.shprint.specs.Marks.{Marks, text, line_end, deeper, one}

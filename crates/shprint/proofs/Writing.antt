@@ -1,5 +1,5 @@
 -- Marks printed one after the other, and what a loop has still to print.
-use Rattle.std.proofs.Common.{◌≡◌, ℕ, ◌+◌, ◌<◌, ◌≤◌, List, [], ◌∷◌, ◌++◌, length, take, refl, ap, append_assoc, arith}
+use Rattle.std.proofs.Common.{◌≡◌, List, [], ◌∷◌, ◌++◌, length, refl, ap, append_assoc, arith}
 use Rattle.std.proofs.lemmas.List.{append-nil}
 use Rattle.shtree.specs.Shape.{Text}
 use Rattle.shprint.specs.Marks.{Mark, Marks, text, line_end, laid}

@@ -1,10 +1,12 @@
 //! The printer: one layout for every script, and the line that tells a fault.
 //!
-//! Start with [`print`], which prints the tree of a script by a [`Layout`]; [`message`] is the line that tells a fault.
+//! Start with [`print`], which prints the tree of a script by a [`Layout`]; [`print_source`] reads the script too, a line at a time, and
+//! [`message`] is the line that tells a fault.
 //! What is printed for a tree is `printed` in `specs/Printed`, by cases, one for each rule of the layout. A function of `commands`,
 //! `items` or `comments` prints what the definition of its name there says.
 #![tactic(auto)]
 
+mod by_line;
 mod commands;
 mod comments;
 mod items;
@@ -14,8 +16,11 @@ mod messages;
 mod page;
 mod printer;
 #[cfg(test)]
+mod refused;
+#[cfg(test)]
 mod tests;
 
+pub use by_line::{PrintError, print_source};
 pub use layout::{Layout, LayoutError};
 pub use messages::message;
 pub use printer::print;

@@ -1,11 +1,11 @@
 // What no clause says: what a layout refuses, that calls succeed where nothing fails, and the texts.
-use crate::{Layout, LayoutError, message, print};
+use crate::{Layout, LayoutError, PrintError, message, print, print_source};
 use shread::{Fault, FaultKind, Flat, Reader};
 use std::alloc::Global;
 use std::test::Fail;
 
 /// Scripts, and what is printed for each with a tab for each level.
-const SCRIPTS: [(&[u8], &[u8]); 17] = [
+const SCRIPTS: [(&[u8], &[u8]); 19] = [
     (b"", b""),
     (b"if a;then b;fi", b"if a; then\n\tb\nfi\n"),
     (b"i\\\nf a; then b; fi", b"if a; then\n\tb\nfi\n"),
@@ -32,6 +32,8 @@ const SCRIPTS: [(&[u8], &[u8]); 17] = [
     ),
     (b"#!/bin/sh\necho hi\r\n", b"#!/bin/sh\necho hi\r\n"),
     (b"a \\\n b\n", b"a \\\n\tb\n"),
+    (b"a &&\nb && c ||\nd\n", b"a &&\n\tb && c ||\n\td\n"),
+    (b"a |\nb | c |\nd\n", b"a |\n\tb | c |\n\td\n"),
     (b"a && # x\n# y\nb\n", b"a && # x\n\t# y\n\tb\n"),
     (
         b"if a; then b; elif c & then d; else e; fi",
@@ -50,7 +52,7 @@ fn printed(alloc: Global, layout: &Layout, script: &[u8]) -> Result<Vec<u8>, Fai
     Ok(print(alloc, layout, &script, &source)?)
 }
 
-/// A printed text is printed again as it stands.
+/// A printed text is printed again as it stands. Read line by line a script has the same text.
 #[test]
 fn scripts(rt: HostRuntime) -> Result<(), Fail> {
     let layout = Layout::new(0, false, false, false)?;
@@ -58,6 +60,25 @@ fn scripts(rt: HostRuntime) -> Result<(), Fail> {
         let text = printed(rt.alloc(), &layout, script)?;
         assert!(rt; text.as_slice() == wanted);
         assert!(rt; printed(rt.alloc(), &layout, &text)?.as_slice() == wanted);
+        let source = Flat::new(script);
+        assert!(rt; print_source(rt.alloc(), &layout, &source)?.as_slice() == wanted);
+    }
+    Ok(())
+}
+
+#[test]
+fn faulty(rt: HostRuntime) -> Result<(), Fail> {
+    let layout = Layout::new(0, false, false, false)?;
+    for (script, kind, at) in [
+        (b"a\nb;;".as_slice(), FaultKind::Unexpected, 3),
+        (b"a\n\n'", FaultKind::UnclosedSingle, 3),
+        (b"a &&\n", FaultKind::UnexpectedEnd, 5),
+    ] {
+        let error = print_source(rt.alloc(), &layout, &Flat::new(script)).err();
+        assert!(rt;
+            error == Some(PrintError::Faulty(Fault { kind, at })),
+            "{at}"
+        );
     }
     Ok(())
 }

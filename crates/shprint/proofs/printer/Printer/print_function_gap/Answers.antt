@@ -1,8 +1,6 @@
 use Rattle.std.proofs.Common.{arith}
-use Rattle.shtree.specs.View.{view_compound}
-use Rattle.shtree.specs.Shape.{shape_of_compound}
 use Rattle.shprint.proofs.Parts.{gap_none, gap_some}
-use Rattle.shprint.proofs.Writing.{written_append, written_cons}
+use Rattle.shprint.proofs.Writing.{written_append}
 use Rattle.shprint.proofs.printer.Printer.print_function_gap.Goals as goal
 use Rattle.shprint.proofs.printer.Printer.print_function_gap.Goals.{else-self-via-then-self+else-is_brace, else-self-via-else-self}
 
