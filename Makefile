@@ -6,7 +6,7 @@
 
 PREFIX = /usr/local
 PROGRAM = crates/shform/out/shform
-TESTS = crates/shread/out/shread_tests crates/shform/out/shform_tests
+TESTS = crates/shread/out/shread_tests crates/shprint/out/shprint_tests crates/shform/out/shform_tests
 
 .PHONY: all test scripts bench install
 

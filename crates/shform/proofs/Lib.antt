@@ -1,2 +1,4 @@
 pub mod Known
 pub mod Told
+pub mod Options
+pub mod Reported

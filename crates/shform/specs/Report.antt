@@ -6,18 +6,21 @@ use Rattle.shread.specs.Text.{line_of, column_of}
 use Rattle.shread.specs.declared.fault.Fault.{Fault}
 use Rattle.shform.specs.Device.{Writes}
 use Rattle.shprint.specs.Message.{message_text}
+use Rattle.shprint.specs.ReadBack.{IsTextOf}
+use Rattle.shprint.specs.declared.layout.Layout.{Layout}
 use Rattle.shform.specs.declared.report.Stop.{Stop}
-use Rattle.shform.specs.declared.report.Stop.TheVariants.{Unreadable, TooLarge, Memory}
+use Rattle.shform.specs.declared.report.Stop.TheVariants.{Unreadable, TooLarge, Memory, Unwritable}
 
 -- the most bytes that a script has
 abbrev pub limit : ℕ
 limit = 16777216
 
--- what is said where the input is given up
+-- what is said where a run is given up
 abbrev pub text_of_stop : List ℕ → Stop → List ℕ
 text_of_stop name Unreadable = codes "shform: cannot read " ++ name ++ codes "\n"
 text_of_stop name TooLarge = codes "shform: " ++ name ++ codes ": too large\n"
 text_of_stop name Memory = codes "shform: out of memory\n"
+text_of_stop name Unwritable = codes "shform: cannot write\n"
 
 -- A verdict is the first fault of a script, None where it has none, or why there is no answer.
 -- Here, what is said for a verdict on the bytes that were read.
@@ -42,18 +45,20 @@ abbrev pub TellsFault : List ℕ → List ℕ → Fault → Option (List ℕ) �
 TellsFault name read fault held holds broken status =
     IsTold name read (Ok (Some fault)) held holds broken status ⊎ IsTold name read (Err Memory) held holds broken status
 
--- what was read and which ends were met where an input is given up: memory may run out at any time, before the end and after it
+-- what was read and which ends were met where an input is given up: memory may run out at any time, before the end and after it.
+-- What is written has no part in it.
 abbrev pub StopsFor : List ℕ → Bool → Bool → Stop → Type 0
 StopsFor read failed ended Unreadable = (failed ≡ true) × (ended ≡ false) × (length read ≤ limit)
 StopsFor read failed ended TooLarge = (failed ≡ false) × (ended ≡ false) × (length read ≡ limit + 1)
 StopsFor read failed ended Memory = (failed ≡ false) × (length read ≤ limit)
+StopsFor read failed ended Unwritable = ⊥
 
 -- what was read and which ends were met where a verdict stands
 abbrev pub JudgedFor : List ℕ → Bool → Bool → Result (Option Fault) Stop → Type 0
 JudgedFor read failed ended (Ok fault) = (failed ≡ false) × (ended ≡ true) × (length read ≤ limit) × FirstFault read fault
 JudgedFor read failed ended (Err stop) = StopsFor read failed ended stop
 
--- The report on an input. The bytes that the reader had and has left, whether a read failed or met the end; the bytes that
+-- The report of a check. The bytes that the reader had and has left, whether a read failed or met the end; the bytes that
 -- standard error held and holds, whether a write there failed; and the status.
 pub record IsReport (name : List ℕ) (had has : Option (List ℕ)) (failed ended : Bool) (held holds : Option (List ℕ)) (broken : Bool) (status : ℕ) : Type 0 where
   pub read : List ℕ
@@ -61,3 +66,20 @@ pub record IsReport (name : List ℕ) (had has : Option (List ℕ)) (failed ende
   pub consumed : Consumes had has read
   pub judged : JudgedFor read failed ended verdict
   pub told : IsTold name read verdict held holds broken status
+
+-- What standard output held and holds, and whether it failed, for a verdict on the bytes that were read: where they are a script
+-- without a fault, its printed text was written there; else it is as it was.
+abbrev pub PrintsFor : Layout → List ℕ → Result (Option Fault) Stop → Option (List ℕ) → Option (List ℕ) → Bool → Type 0
+PrintsFor layout read (Ok None) held holds broken = (text : List ℕ) × IsTextOf layout read text × Writes held holds broken text
+PrintsFor layout read (Ok (Some fault)) held holds broken = (holds ≡ held) × (broken ≡ false)
+PrintsFor layout read (Err stop) held holds broken = (holds ≡ held) × (broken ≡ false)
+
+-- The report of a print: as that of a check, and what was written on standard output. Where that failed, standard error says so.
+pub record IsPrintReport (layout : Layout) (name : List ℕ) (had has : Option (List ℕ)) (failed ended : Bool)
+    (printed_held printed_holds : Option (List ℕ)) (unwritable : Bool) (held holds : Option (List ℕ)) (broken : Bool) (status : ℕ) : Type 0 where
+  pub read : List ℕ
+  pub verdict : Result (Option Fault) Stop
+  pub consumed : Consumes had has read
+  pub judged : JudgedFor read failed ended verdict
+  pub prints : PrintsFor layout read verdict printed_held printed_holds unwritable
+  pub told : IsTold name read (if unwritable then Err Unwritable else verdict) held holds broken status

@@ -1,33 +1,96 @@
 -- The program's command as clap's model has it, and the settings that its matches give.
-use Rattle.std.specs.Prelude.{◌≡◌, true, List, Option, None, Some, codes, option_map, option_and_then, if◌then◌else◌}
+use Rattle.std.specs.Prelude.{◌≡◌, ℕ, Bool, true, false, [], List, Option, None, Some, Result, Ok, Err, codes, option_map, option_and_then, pos, if◌then◌else◌}
 use Rattle.std.specs.Str.{bytes_eq}
-use Rattle.clap.specs.Words.{App, Rule, Text, first_value, found_of, new_app, new_rule, rows_of, subcommand_of, with_rule, with_subcommand}
+use Rattle.std.specs.Option.{option_map_or}
+use Rattle.clap.specs.Words.{App, HasKind, Rule, Text, fault_of, first_value, found_of, new_app, new_rule, one_text, rows_of, subcommand_of, with_rule, with_subcommand}
+use Rattle.clap.specs.Walk.{byte_or_zero}
+use Rattle.clap.specs.declared.builder.action.ArgAction.TheVariants.{SetTrue}
+use Rattle.clap.specs.declared.builder.value_parser.ValueParser.TheVariants.{Signed}
 use Rattle.clap.specs.declared.parser.matches.ArgMatches.{ArgMatches}
+use Rattle.shprint.specs.declared.layout.Layout.{Layout}
 use Rattle.shform.specs.declared.asked.Settings.{Settings}
+use Rattle.shform.specs.declared.asked.Tool.{Tool}
+use Rattle.shform.specs.declared.asked.Tool.TheVariants.{Check, Print}
+use Rattle.shform.specs.declared.usage.Usage.{Usage}
+use Rattle.shform.specs.declared.usage.Usage.TheVariants.{Words, Indent}
+
+-- ---- the command
 
 -- FILE
 abbrev pub file_rule : Rule
 file_rule = new_rule (codes "FILE")
 
+-- -i N, --indent N: a number from 0 to 16
+abbrev pub indent_rule : Rule
+indent_rule = record (new_rule (codes "indent")) { short = Some 105; long = Some (codes "indent"); value_names = 1; parser = Some (Signed (pos 0) (pos 16)) }
+
+-- a flag --NAME
+abbrev pub flag_rule : Text → Rule
+flag_rule name = record (new_rule name) { long = Some name; action = Some SetTrue }
+
 -- check [FILE]
 abbrev pub check_app : App
 check_app = with_rule (new_app (codes "check")) file_rule
+
+-- print [OPTIONS] [FILE]
+abbrev pub print_app : App
+print_app = with_rule (with_rule (with_rule (with_rule (with_rule (new_app (codes "print")) indent_rule)
+    (flag_rule (codes "case-indent"))) (flag_rule (codes "space-redirects"))) (flag_rule (codes "func-next-line"))) file_rule
 
 -- what holds of the whole command: the words begin after the program's name, one of them is a subcommand, and there is a version
 abbrev pub with_settings : App → App
 with_settings a = record { top = record a.top { no_binary_name = true; subcommand_required = true; has_version = true }; subs = a.subs }
 
--- shform check [FILE]
+-- shform check
+abbrev pub first_app : App
+first_app = with_subcommand (with_settings (new_app (codes "shform"))) check_app.top
+
+-- shform check, shform print
 abbrev pub tool_app : App
-tool_app = with_subcommand (with_settings (new_app (codes "shform"))) check_app.top
+tool_app = with_subcommand first_app print_app.top
+
+-- ---- what its matches give
+
+-- the tool of a subcommand's name
+abbrev pub tool_named : Text → Tool
+tool_named name = if bytes_eq name (codes "print") then Print else Check
 
 -- FILE, where it is given and is not -
 abbrev pub file_in : Option Text → Option Text
 file_in given = option_and_then (λ t. if bytes_eq t (codes "-") then None else Some t) given
+
+-- a flag is set where clap has true for it
+pub record IsFlag (given : Option Text) (flag : Bool) : Type 0 where
+  pub absent : given ≡ None → flag ≡ false
+  pub on : given ≡ Some (codes "true") → flag ≡ true
+  pub off : given ≡ Some (codes "false") → flag ≡ false
+
+-- the number that is given, and 0 where none is
+abbrev pub indent_in : Option Text → ℕ
+indent_in given = option_map_or byte_or_zero given 0
+
+-- The layout's choices are those of print's options; a check has none.
+pub record AreOptions (own : ArgMatches) (layout : Layout) : Type 0 where
+  pub indent : layout.indent ≡ indent_in (one_text (found_of own) (codes "indent"))
+  pub case_indent : IsFlag (one_text (found_of own) (codes "case-indent")) layout.case_indent
+  pub space_redirects : IsFlag (one_text (found_of own) (codes "space-redirects")) layout.space_redirects
+  pub func_next_line : IsFlag (one_text (found_of own) (codes "func-next-line")) layout.func_next_line
+
+abbrev pub IsLayoutFor : Tool → ArgMatches → Layout → Type 0
+IsLayoutFor Check own layout = layout ≡ record { indent = 0; case_indent = false; space_redirects = false; func_next_line = false }
+IsLayoutFor Print own layout = AreOptions own layout
 
 -- The settings are those of clap's matches of the words: the name of a subcommand, and its own matches.
 pub record AreSettingsOf (words : List Text) (s : Settings) : Type 0 where
   pub name : Text
   pub own : ArgMatches
   pub matches : subcommand_of tool_app words ≡ Some (name, rows_of (found_of own))
+  pub tool : s.tool ≡ tool_named name
+  pub layout : IsLayoutFor s.tool own s.layout
   pub file : option_map (λ t. t.now) s.file ≡ file_in (first_value (found_of own) (codes "FILE"))
+
+-- What there is in place of settings: clap's answer, of a kind that its model has for the words, or an indent above 16 that clap let pass.
+abbrev pub FailsFor : List Text → Result Settings Usage → Type 0
+FailsFor words (Ok s) = fault_of tool_app words ≡ []
+FailsFor words (Err (Words e)) = HasKind (fault_of tool_app words) e
+FailsFor words (Err (Indent e)) = fault_of tool_app words ≡ []

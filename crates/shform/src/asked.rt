@@ -1,8 +1,22 @@
-//! What the words of the command line can ask for.
+//! What the words of the command line ask for.
 
-/// A run of `check`.
+use shprint::Layout;
+
+/// What is done with a script.
+#[derive(Clone, Copy, Debug, PartialEq, Eq)]
+pub enum Tool {
+    /// Its first fault is told.
+    Check,
+    /// It is printed, or its first fault told.
+    Print,
+}
+
+/// A run of the program.
 #[derive(Clone, Copy, Debug, PartialEq, Eq)]
 pub struct Settings<'a> {
+    pub tool: Tool,
+    /// The layout to print in; that of the defaults for a check.
+    pub layout: Layout,
     /// The script, or `None` for standard input.
     pub file: Option<&'a str>,
 }

@@ -1,8 +1,8 @@
-//! The program `shform`, a checker of scripts of the POSIX shell: `shform check [FILE]`.
+//! The program `shform`, which checks and prints scripts of the POSIX shell: `shform check [FILE]`, `shform print [OPTIONS] [FILE]`.
 //!
-//! Start with `run`, which takes the words, and `check_engine` in `engine`, which does the work over readers and writers: it reads
-//! the input whole, has its first fault from the reader, and tells it by `report`. `device` holds the ends that remember how
-//! their devices fared, and `words` reads the command line.
+//! Start with `run`, which takes the words, and with `check_engine` and `print_engine` in `engine`, which do the work over readers
+//! and writers: they read the input whole, have its first fault or its tree from the reader, and tell the one by `report`, or print
+//! the other. `device` holds the ends that remember how their devices fared, and `words` reads the command line.
 #![tactic(auto)]
 
 mod asked;
@@ -13,57 +13,87 @@ mod refused;
 mod report;
 #[cfg(test)]
 mod tests;
+mod usage;
 mod words;
 
-use asked::Settings;
+use asked::{Settings, Tool};
 use clap::error::ErrorKind;
 use device::{Input, Output};
-use engine::check_engine;
+use engine::{check_engine, print_engine};
 use report::{Stop, give_up};
 use std::alloc::AllocError;
 use std::io::Read;
 use std::process::ExitCode;
 use std::{env, fs, io};
+use usage::Usage;
 use words::settings;
 
-/// Checks what the reader gives, over the program's own outputs.
-fn check<R: Read + Drop>(rt: &HostRuntime, name: &str, reader: R) -> u8 {
+/// Does what the settings ask for with what the reader gives, over the program's own outputs.
+fn on_reader<R: Read + Drop>(
+    rt: &HostRuntime,
+    settings: &Settings<'_>,
+    name: &str,
+    reader: R,
+) -> u8 {
     let mut input = Input::new(reader);
     let mut output = Output::new(rt.stdout());
     let mut errors = Output::new(rt.stderr());
-    check_engine(rt.alloc(), name, &mut input, &mut output, &mut errors)
+    match settings.tool {
+        Tool::Check => check_engine(rt.alloc(), name, &mut input, &mut output, &mut errors),
+        Tool::Print => {
+            let layout = &settings.layout;
+            print_engine(
+                rt.alloc(),
+                layout,
+                name,
+                &mut input,
+                &mut output,
+                &mut errors,
+            )
+        }
+    }
 }
 
 /// Does what the settings ask for.
 fn on_settings(rt: &HostRuntime, settings: &Settings<'_>) -> u8 {
     let Some(name) = settings.file else {
-        return check(rt, "-", rt.stdin());
+        return on_reader(rt, settings, "-", rt.stdin());
     };
     match fs::open(rt, name) {
-        Ok(file) => check(rt, name, file),
-        Err(_) => give_up(name, Stop::Unreadable, &mut Output::new(rt.stderr())),
+        Ok(file) => on_reader(rt, settings, name, file),
+        Err(_) => give_up_on(rt, name, Stop::Unreadable),
     }
 }
 
 /// Prints what `clap` says of words that ask for no run. Help and the version go to standard output, with status 0.
-fn on_usage(rt: &HostRuntime, error: &clap::Error) -> u8 {
+fn on_words(rt: &HostRuntime, error: &clap::Error) -> u8 {
     if error.kind() == ErrorKind::OutOfMemory {
-        return want_of_memory(rt);
+        return give_up_on(rt, "-", Stop::Memory);
     }
     let printed = error.print(rt).is_ok();
     if error.use_stderr() {
         return 2;
     }
     if !printed {
-        let _ = rt.eprint("shform: cannot write\n");
-        return 2;
+        return give_up_on(rt, "-", Stop::Unwritable);
     }
     0
 }
 
-/// Tells that memory ran out.
-fn want_of_memory(rt: &HostRuntime) -> u8 {
-    give_up("-", Stop::Memory, &mut Output::new(rt.stderr()))
+/// Says why words ask for no run.
+fn on_usage(rt: &HostRuntime, usage: &Usage) -> u8 {
+    match usage {
+        Usage::Words(error) => on_words(rt, error),
+        Usage::Indent(_) => {
+            let _ = rt.eprint("shform: indent above 16\n");
+            2
+        }
+    }
+}
+
+/// Tells on standard error why the run was given up.
+fn give_up_on(rt: &HostRuntime, name: &str, stop: Stop) -> u8 {
+    give_up(name, stop, &mut Output::new(rt.stderr()))
 }
 
 /// Runs the program on the words after its name.
@@ -78,14 +108,18 @@ fn run(rt: &HostRuntime, all: env::Args) -> Result<u8, AllocError> {
     }
     Ok(match settings(rt.alloc(), &words) {
         Ok(settings) => on_settings(rt, &settings),
-        Err(error) => on_usage(rt, &error),
+        Err(usage) => on_usage(rt, &usage),
     })
 }
 
 fn main(rt: HostRuntime) -> ExitCode {
     let status = match env::args(&rt) {
-        Ok(all) => run(&rt, all).unwrap_or_else(|_| want_of_memory(&rt)),
-        Err(error) if error.kind() == io::ErrorKind::OutOfMemory => want_of_memory(&rt),
+        Ok(all) => run(&rt, all).unwrap_or_else(|_| give_up_on(&rt, "-", Stop::Memory)),
+        Err(error) if error.kind() == io::ErrorKind::OutOfMemory => give_up_on(
+            &rt,
+            "-",
+            Stop::Memory,
+        ),
         Err(_) => {
             let _ = rt.eprint("shform: arguments are not UTF-8\n");
             2

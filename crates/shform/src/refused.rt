@@ -1,8 +1,8 @@
 // Each growth refused in turn, as in the tests of the reader: by the library that `tests/refused-growths` loads. Without it, as in
 // the gate, each test runs once. They catch the wrong body `always_out_of_memory`, which no contract can.
 use crate::device::{Input, Output};
-use crate::engine::check_engine;
-use shprint::message;
+use crate::engine::{check_engine, print_engine};
+use shprint::{Layout, LayoutError, message};
 use shread::{Fault, FaultKind};
 use std::alloc::{AllocError, Global};
 use std::io;
@@ -126,4 +126,51 @@ fn check(rt: HostRuntime) {
         met = nth;
     }
     assert!(rt; !refuses || 0 < met && met < 99, "{met}");
+}
+
+/// The status of a print over these pages.
+fn printed<R: Read + Drop>(
+    alloc: Global,
+    reader: R,
+    written: &mut Page,
+    told: &mut Page,
+) -> Result<u8, LayoutError> {
+    let layout = Layout::new(0, false, false, false)?;
+    let mut input = Input::new(reader);
+    let mut output = Output::new(written);
+    let mut errors = Output::new(told);
+    Ok(print_engine(alloc, &layout, "-", &mut input, &mut output, &mut errors))
+}
+
+/// The status of a print with the nth growth refused, and what it wrote and told.
+fn print_refused(alloc: Global, nth: usize) -> Result<(u8, Page, Page), LayoutError> {
+    let script = [b'\n'; 20_000];
+    let reader = script
+        .as_slice()
+        .chain(b"{ if a; then b; fi; } # c\n".as_slice());
+    let mut written = Page::new();
+    let mut told = Page::new();
+    refuse(alloc, nth);
+    let status = printed(alloc, reader, &mut written, &mut told)?;
+    Ok((status, written, told))
+}
+
+/// The input is read in several growths, its tree in some, and it is printed in some more. Until all have been had, nothing is written.
+#[test]
+fn print(rt: HostRuntime) -> Result<(), Fail> {
+    let refuses = refuses(rt.alloc());
+    let mut met = 0;
+    for nth in 1..100 {
+        let (status, written, told) = print_refused(rt.alloc(), nth)?;
+        if !refuses || !was_refused(rt.alloc(), nth) {
+            assert!(rt; status == 0 && told.text().is_empty());
+            assert!(rt; written.text() == b"{\n\tif a; then\n\t\tb\n\tfi\n} # c\n".as_slice());
+            break;
+        }
+        assert!(rt; status == 2 && written.text().is_empty());
+        assert!(rt; told.text() == b"shform: out of memory\n".as_slice());
+        met = nth;
+    }
+    assert!(rt; !refuses || 0 < met && met < 99, "{met}");
+    Ok(())
 }

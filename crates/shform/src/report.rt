@@ -9,7 +9,7 @@ use shread::{Fault, Source, line_col_of};
 use std::alloc::Global;
 use std::io::Write;
 
-/// Why an input was given up.
+/// Why a run was given up.
 #[derive(Clone, Copy, Debug, PartialEq, Eq)]
 pub enum Stop {
     /// The input cannot be read.
@@ -18,15 +18,17 @@ pub enum Stop {
     TooLarge,
     /// Memory ran out.
     Memory,
+    /// Standard output cannot be written.
+    Unwritable,
 }
 
 /// Writes a text and flushes it.
-fn write_flushed<E: Write>(errors: &mut Output<E>, text: &[u8]) -> Result<(), Failed>
-    ensures bytes { Writes (held_of E.contents errors.old) (held_of E.contents errors.new) (not (is_ok result)) text.now }
-    ensures failed { output_failed errors.new ≡ (output_failed errors.old || not (is_ok result)) }
+pub fn write_flushed<W: Write>(output: &mut Output<W>, text: &[u8]) -> Result<(), Failed>
+    ensures bytes { Writes (held_of W.contents output.old) (held_of W.contents output.new) (not (is_ok result)) text.now }
+    ensures failed { output_failed output.new ≡ (output_failed output.old || not (is_ok result)) }
 {
-    errors.write_whole(text)?;
-    errors.flush()
+    output.write_whole(text)?;
+    output.flush()
 }
 
 /// Writes a text of three parts and flushes it. It takes no memory.
@@ -45,7 +47,7 @@ fn write_parts<E: Write>(
     write_flushed(errors, after)
 }
 
-/// Says why the input was given up, and answers 2. It takes no memory.
+/// Says why the run was given up, and answers 2. It takes no memory.
 pub fn give_up<E: Write>(name: &str, stop: Stop, errors: &mut Output<E>) -> u8
     requires sound { output_failed errors.old ≡ false }
     ensures answer { result ≡ 2 }
@@ -56,6 +58,7 @@ pub fn give_up<E: Write>(name: &str, stop: Stop, errors: &mut Output<E>) -> u8
         Stop::Unreadable => write_parts(errors, b"shform: cannot read ", name.as_bytes(), b"\n"),
         Stop::TooLarge => write_parts(errors, b"shform: ", name.as_bytes(), b": too large\n"),
         Stop::Memory => write_flushed(errors, b"shform: out of memory\n"),
+        Stop::Unwritable => write_flushed(errors, b"shform: cannot write\n"),
     };
     2
 }

@@ -1,8 +1,9 @@
 // What no clause says: that calls succeed where nothing fails, that a failure of a device is told, and the texts.
+mod print;
+mod words;
+
 use crate::device::{Failed, Input, Output};
 use crate::engine::{LIMIT, check_engine};
-use crate::words::settings;
-use clap::error::ErrorKind;
 use shread::{Fault, FaultKind};
 use std::alloc::Global;
 use std::io;
@@ -454,33 +455,4 @@ fn output_that_is_full(rt: HostRuntime) {
     assert!(rt; output.write(b"abc") == Ok(2));
     assert!(rt; output.flush() == Ok(()) && !output.failed());
     assert!(rt; output.write(b"c") == Err(Failed) && output.failed());
-}
-
-#[test]
-fn words(rt: HostRuntime) -> Result<(), Fail> {
-    for (words, file) in [
-        (["check", "a b.sh"].as_slice(), Some("a b.sh")),
-        (&["check", "--", "-x"], Some("-x")),
-        (&["check", ""], Some("")),
-        (&["check", "-"], None),
-        (&["check"], None),
-    ] {
-        assert!(rt; settings(rt.alloc(), words)?.file == file, "{file:?}");
-    }
-    Ok(())
-}
-
-#[test]
-fn words_that_are_refused(rt: HostRuntime) {
-    for (words, kind) in [
-        ([].as_slice(), ErrorKind::MissingSubcommand),
-        (&["chekc"], ErrorKind::InvalidSubcommand),
-        (&["check", "a", "b"], ErrorKind::UnknownArgument),
-        (&["check", "-x"], ErrorKind::UnknownArgument),
-        (&["--help"], ErrorKind::DisplayHelp),
-        (&["--version"], ErrorKind::DisplayVersion),
-    ] {
-        let error = settings(rt.alloc(), words).err();
-        assert!(rt; error.is_some_and(|e| e.kind() == kind), "{kind:?}");
-    }
 }

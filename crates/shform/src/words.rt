@@ -1,12 +1,14 @@
 //! Reading the words of the command line.
-ghost use Rattle.std.specs.Prelude.{◌≡◌, IfOk, codes, false, map, option_map, true};
+ghost use Rattle.std.specs.Prelude.{◌≡◌, ◌≤◌, IfOk, codes, false, map, option_map, true};
 ghost use Rattle.clap.specs.Matches.{has_subcommand};
-ghost use Rattle.clap.specs.Words.{FailsBy, app_of, fault_of, first_value, found_of, rule_of, subcommand_of, subcommand_rows_of};
+ghost use Rattle.clap.specs.Words.{FailsBy, app_of, fault_of, first_value, found_of, one_text, rule_of, subcommand_of, subcommand_rows_of, with_rule};
 ghost use Rattle.clap.specs.declared.builder.command.Command.TheViews.{out-Command};
-ghost use Rattle.shform.specs.Words.{AreSettingsOf, check_app, file_in, file_rule, tool_app};
+ghost use Rattle.shform.specs.Words.{AreOptions, AreSettingsOf, FailsFor, IsLayoutFor, check_app, file_in, file_rule, first_app, flag_rule, indent_in, indent_rule, print_app, tool_app, tool_named};
 
-use crate::asked::Settings;
-use clap::{Arg, ArgMatches, Command};
+use crate::asked::{Settings, Tool};
+use crate::usage::Usage;
+use clap::{Arg, ArgAction, ArgMatches, Command, value_parser};
+use shprint::{Layout, LayoutError};
 use std::alloc::{AllocError, Global};
 
 /// The argument FILE.
@@ -15,6 +17,43 @@ fn file_arg<'a>(alloc: Global) -> Arg<'a>
     ensures local { result.global ≡ false }
 {
     Arg::new(alloc, "FILE").help("The script; standard input if absent or -")
+}
+
+/// The option `-i N`.
+fn indent_arg<'a>(alloc: Global) -> Arg<'a>
+    ensures rule { rule_of result ≡ indent_rule }
+    ensures local { result.global ≡ false }
+{
+    Arg::new(alloc, "indent")
+        .short('i')
+        .long("indent")
+        .value_name("N")
+        .value_parser(value_parser!(u8).range(0..=16))
+        .help("Blanks for each level, up to 16; 0, the default, stands for a tab")
+}
+
+/// The flag `--NAME`.
+fn flag_arg<'a>(alloc: Global, name: &'a str, help: &'a str) -> Arg<'a>
+    ensures rule { rule_of result ≡ flag_rule name.entry.now }
+    ensures local { result.global ≡ false }
+{
+    Arg::new(alloc, name)
+        .long(name)
+        .action(ArgAction::SetTrue)
+        .help(help)
+}
+
+/// A command with one more flag.
+fn with_flag<'a>(
+    command: Command<'a>,
+    alloc: Global,
+    name: &'a str,
+    help: &'a str,
+) -> Result<Command<'a>, AllocError>
+    ensures app { IfOk result (λ c. app_of c ≡ with_rule (app_of command.entry) (flag_rule name.entry.now)) }
+    ensures local { (out-Command command.entry).has_globals ≡ false → IfOk result (λ c. (out-Command c).has_globals ≡ false) }
+{
+    command.arg(flag_arg(alloc, name, help))
 }
 
 /// The subcommand `check`.
@@ -27,18 +66,50 @@ fn check_command<'a>(alloc: Global) -> Result<Command<'a>, AllocError>
         .arg(file_arg(alloc))
 }
 
-/// The program's command.
-fn tool_command<'a>(alloc: Global) -> Result<Command<'a>, AllocError>
-    ensures app { IfOk result (λ c. app_of c ≡ tool_app) }
+/// The subcommand `print`.
+fn print_command<'a>(alloc: Global) -> Result<Command<'a>, AllocError>
+    ensures app { IfOk result (λ c. app_of c ≡ print_app) }
+    ensures local { IfOk result (λ c. (out-Command c).has_globals ≡ false) }
+{
+    let command = Command::new(alloc, "print")
+        .about("Prints a script in one layout")
+        .arg(indent_arg(alloc))?;
+    let command = with_flag(command, alloc, "case-indent", "Indents the items of a case")?;
+    let command = with_flag(
+        command,
+        alloc,
+        "space-redirects",
+        "Puts a space behind the operator of a redirection",
+    )?;
+    let command = with_flag(
+        command,
+        alloc,
+        "func-next-line",
+        "Puts the { of a function on a line of its own",
+    )?;
+    command.arg(file_arg(alloc))
+}
+
+/// The program's command with `check` alone.
+fn first_command<'a>(alloc: Global) -> Result<Command<'a>, AllocError>
+    ensures app { IfOk result (λ c. app_of c ≡ first_app) }
     ensures local { IfOk result (λ c. (out-Command c).has_globals ≡ false) }
 {
     Command::new(alloc, "shform")
         .bin_name("shform")?
         .version("0.1.0")
-        .about("Checks scripts of the POSIX shell")
+        .about("Checks and prints scripts of the POSIX shell")
         .no_binary_name(true)
         .subcommand_required(true)
         .subcommand(check_command(alloc)?)
+}
+
+/// The program's command.
+fn tool_command<'a>(alloc: Global) -> Result<Command<'a>, AllocError>
+    ensures app { IfOk result (λ c. app_of c ≡ tool_app) }
+    ensures local { IfOk result (λ c. (out-Command c).has_globals ≡ false) }
+{
+    first_command(alloc)?.subcommand(print_command(alloc)?)
 }
 
 /// What `clap` takes the words for. A subcommand is always among it.
@@ -48,6 +119,47 @@ fn matches_of<'a>(alloc: Global, words: &'a [&'a str]) -> Result<ArgMatches<'a>,
     ensures fails { FailsBy (fault_of tool_app (map (λ w. w.now) words.entry.now)) result }
 {
     tool_command(alloc)?.try_get_matches_from(words)
+}
+
+/// The tool of a subcommand's name.
+fn tool_of(name: &str) -> Tool
+    ensures { result ≡ tool_named name.now }
+{
+    match name {
+        "print" => Tool::Print,
+        _ => Tool::Check,
+    }
+}
+
+/// The indent that is asked for.
+fn indent_of(matches: &ArgMatches<'_>) -> u8
+    ensures { result ≡ indent_in (one_text (found_of matches.now) (codes "indent")) }
+{
+    matches.get_one::<u8>("indent").unwrap_or(0)
+}
+
+/// The layout of the options.
+fn options_of(matches: &ArgMatches<'_>) -> Result<Layout, LayoutError>
+    ensures options { IfOk result (λ layout. AreOptions matches.now layout) }
+    ensures indent { IfOk result (λ layout. layout.indent ≤ 16) }
+{
+    Layout::new(
+        indent_of(matches),
+        matches.get_flag("case-indent"),
+        matches.get_flag("space-redirects"),
+        matches.get_flag("func-next-line"),
+    )
+}
+
+/// The layout that a tool is asked to print in.
+fn layout_of(tool: Tool, matches: &ArgMatches<'_>) -> Result<Layout, LayoutError>
+    ensures layout { IfOk result (λ layout. IsLayoutFor tool matches.now layout) }
+    ensures indent { IfOk result (λ layout. layout.indent ≤ 16) }
+{
+    match tool {
+        Tool::Check => Layout::new(0, false, false, false),
+        Tool::Print => options_of(matches),
+    }
 }
 
 /// FILE, where it is given and is not `-`.
@@ -60,15 +172,24 @@ fn file_of<'a>(matches: &ArgMatches<'a>) -> Option<&'a str>
     }
 }
 
-/// What the words after the program's name ask for. An error is what `clap` answers: a wrong word, a request for help or the
-/// version, or want of memory.
-pub fn settings<'a>(alloc: Global, words: &'a [&'a str]) -> Result<Settings<'a>, clap::Error>
+/// What the words after the program's name ask for.
+///
+/// # Errors
+///
+/// [`Usage`], where they ask for no run.
+pub fn settings<'a>(alloc: Global, words: &'a [&'a str]) -> Result<Settings<'a>, Usage>
     ensures settings { IfOk result (AreSettingsOf (map (λ w. w.now) words.entry.now)) }
-    ensures fails { FailsBy (fault_of tool_app (map (λ w. w.now) words.entry.now)) result }
+    ensures indent { IfOk result (λ s. s.layout.indent ≤ 16) }
+    ensures fails { FailsFor (map (λ w. w.now) words.entry.now) result }
 {
-    let matches = matches_of(alloc, words)?;
-    let Some((_, own)) = matches.subcommand() else {
+    let matches = matches_of(alloc, words).map_err(Usage::Words)?;
+    let Some((name, own)) = matches.subcommand() else {
         unreachable!()
     };
-    Ok(Settings { file: file_of(own) })
+    let tool = tool_of(name);
+    Ok(Settings {
+        tool,
+        layout: layout_of(tool, own).map_err(Usage::Indent)?,
+        file: file_of(own),
+    })
 }

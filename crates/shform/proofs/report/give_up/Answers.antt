@@ -25,8 +25,17 @@ returns-in-TooLarge-clause-told g c read =
 pub returns-in-Memory-clause-told : goal.returns-in-Memory-clause-told
 returns-in-Memory-clause-told g c read =
     given-up c.args.name.now read (codes "shform: out of memory\n") c.args.stop
-    (g.E.Write.contents c.args.errors.now.writer) (g.E.Write.contents c.write_flushed.new.errors.writer)
-    (output_failed c.args.errors.now) (output_failed c.write_flushed.new.errors) (not (is_ok c.write_flushed.result))
+    (g.E.Write.contents c.args.errors.now.writer) (g.E.Write.contents c.write_flushed.new.output.writer)
+    (output_failed c.args.errors.now) (output_failed c.write_flushed.new.output) (not (is_ok c.write_flushed.result))
     c.requires.sound c.write_flushed.ensures.failed
     (ap (text_of_stop c.args.name.now) (sym c.in-Memory.is))
     c.write_flushed.ensures.bytes
+
+pub returns-in-Unwritable-clause-told : goal.returns-in-Unwritable-clause-told
+returns-in-Unwritable-clause-told g c read =
+    given-up c.args.name.now read (codes "shform: cannot write\n") c.args.stop
+    (g.E.Write.contents c.args.errors.now.writer) (g.E.Write.contents c.write_flushed-in-Unwritable.new.output.writer)
+    (output_failed c.args.errors.now) (output_failed c.write_flushed-in-Unwritable.new.output) (not (is_ok c.write_flushed-in-Unwritable.result))
+    c.requires.sound c.write_flushed-in-Unwritable.ensures.failed
+    (ap (text_of_stop c.args.name.now) (sym c.in-Unwritable.is))
+    c.write_flushed-in-Unwritable.ensures.bytes

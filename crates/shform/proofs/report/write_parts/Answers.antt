@@ -27,5 +27,5 @@ returns-clause-bytes g c =
     let told = g.E.Write.contents in
     let front = Appends-trans (told c.args.errors.now.writer) (told c.write_whole.new.self.writer) (told c.write_whole-2.new.self.writer) c.args.before.now c.args.name.now _
     c.in_ok-write_whole.ensures.bytes c.in_ok-write_whole-2.ensures.bytes refl in
-    Writes-after (told c.args.errors.now.writer) (told c.write_whole-2.new.self.writer) (told c.write_flushed.new.errors.writer) (not (is_ok c.write_flushed.result))
+    Writes-after (told c.args.errors.now.writer) (told c.write_whole-2.new.self.writer) (told c.write_flushed.new.output.writer) (not (is_ok c.write_flushed.result))
     (c.args.before.now ++ c.args.name.now) c.args.after.now front c.write_flushed.ensures.bytes

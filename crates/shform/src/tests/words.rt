@@ -1,0 +1,98 @@
+// The words of the command line.
+use crate::asked::Tool;
+use crate::usage::Usage;
+use crate::words::settings;
+use clap::error::ErrorKind;
+use shprint::Layout;
+use std::test::Fail;
+
+#[test]
+fn check(rt: HostRuntime) -> Result<(), Fail> {
+    let plain = Layout::new(0, false, false, false)?;
+    for (words, file) in [
+        (["check", "a b.sh"].as_slice(), Some("a b.sh")),
+        (&["check", "--", "-x"], Some("-x")),
+        (&["check", ""], Some("")),
+        (&["check", "-"], None),
+        (&["check"], None),
+    ] {
+        let settings = settings(rt.alloc(), words)?;
+        assert!(rt; settings.file == file, "{file:?}");
+        assert!(rt; settings.tool == Tool::Check && settings.layout == plain);
+    }
+    Ok(())
+}
+
+#[test]
+fn print(rt: HostRuntime) -> Result<(), Fail> {
+    let plain = Layout::new(0, false, false, false)?;
+    for (words, layout, file) in [
+        (["print"].as_slice(), plain, None),
+        (&["print", "-"], plain, None),
+        (&["print", "check"], plain, Some("check")),
+        (&["print", "-i", "0", "a"], plain, Some("a")),
+        (
+            &["print", "-i", "16"],
+            Layout::new(16, false, false, false)?,
+            None,
+        ),
+        (
+            &["print", "-i4", "a"],
+            Layout::new(4, false, false, false)?,
+            Some("a"),
+        ),
+        (
+            &["print", "a", "--indent=+2"],
+            Layout::new(2, false, false, false)?,
+            Some("a"),
+        ),
+        (
+            &["print", "--indent", "2", "--case-indent"],
+            Layout::new(2, true, false, false)?,
+            None,
+        ),
+        (
+            &["print", "--space-redirects"],
+            Layout::new(0, false, true, false)?,
+            None,
+        ),
+        (
+            &["print", "--func-next-line", "--", "-x"],
+            Layout::new(0, false, false, true)?,
+            Some("-x"),
+        ),
+    ] {
+        let settings = settings(rt.alloc(), words)?;
+        assert!(rt;
+            settings.tool == Tool::Print && settings.file == file,
+            "{file:?}"
+        );
+        assert!(rt; settings.layout == layout, "{layout:?}");
+    }
+    Ok(())
+}
+
+#[test]
+fn refused(rt: HostRuntime) {
+    for (words, kind) in [
+        ([].as_slice(), ErrorKind::MissingSubcommand),
+        (&["chekc"], ErrorKind::InvalidSubcommand),
+        (&["check", "a", "b"], ErrorKind::UnknownArgument),
+        (&["check", "-x"], ErrorKind::UnknownArgument),
+        (&["check", "-i", "2"], ErrorKind::UnknownArgument),
+        (&["print", "a", "b"], ErrorKind::UnknownArgument),
+        (&["print", "-i", "17"], ErrorKind::ValueValidation),
+        (&["print", "-i", "x"], ErrorKind::ValueValidation),
+        (&["print", "-i=-1"], ErrorKind::ValueValidation),
+        (&["print", "-i", "-1"], ErrorKind::UnknownArgument),
+        (&["print", "-i"], ErrorKind::InvalidValue),
+        (&["--help"], ErrorKind::DisplayHelp),
+        (&["--version"], ErrorKind::DisplayVersion),
+    ] {
+        let is_kind = match settings(rt.alloc(), words) {
+            Err(Usage::Words(error)) => error.kind() == kind,
+            _ => false,
+        };
+        assert!(rt; is_kind, "{kind:?}");
+    }
+}
