@@ -6,7 +6,7 @@ use Rattle.std.proofs.lemmas.List.Elements.{All-nil, All-cons, All-head, All-tai
 use Rattle.shtree.specs.declared.nodes.NodeKind.{NodeKind}
 use Rattle.shtree.specs.declared.nodes.NodeLine.{NodeLine}
 use Rattle.shtree.specs.declared.tree.Span.{Span}
-use Rattle.shtree.specs.Nodes.{AreWithin, IsSpanWithin, IsWithin, and_or_nodes, and_or_parts_nodes, and_or_span, branch_nodes, branches_nodes, command_nodes, command_span, comment_node, entries_nodes, entry_nodes, form_node, form_nodes, item_nodes, item_span, items_nodes, items_span, last_command, last_item, last_pipeline, node, pipeline_nodes, pipeline_span, pipes_nodes, subst_nodes, substs_nodes}
+use Rattle.shtree.specs.Nodes.{word_nodes, AreWithin, IsSpanWithin, IsWithin, and_or_nodes, and_or_parts_nodes, and_or_span, branch_nodes, branches_nodes, command_nodes, command_span, comment_node, entries_nodes, entry_nodes, form_node, form_nodes, item_nodes, item_span, items_nodes, items_span, last_command, last_item, last_pipeline, node, pipeline_nodes, pipeline_span, pipes_nodes, subst_nodes, substs_nodes}
 use Rattle.shtree.specs.Tree.{ABranch, ACommand, AForm, APipeline, APipelinePart, ASubst, AWord, AnAndOr, AnAndOrPart, AnEntry, AnItem, and_or, and_or_parts_of, argument, assign, brace, branches_of, case_in, command, compound, entries_of, entry, for_in, formed, if_then, item, items_of, no_item, pipeline, pipeline_parts_of, remark, simple, subshell, substs_of, until_do, while_do, word}
 
 nodes_append : (es ls : Row AnEntry) → entries_nodes (entries_of (es ++ ls)) ≡ entries_nodes (entries_of es) ++ entries_nodes (entries_of ls)
@@ -74,7 +74,7 @@ module _ (limit : ℕ) where
   fits_substs [] so = All-nil (IsWithin limit)
   fits_substs (s ∷ ss) so = both (subst_nodes s) (substs_nodes (substs_of ss)) (All-head SubstFits s ss so) (fits_substs ss (All-tail SubstFits s ss so))
 
-  fits_items : (is : Row AnItem) → All ItemFits is → Nodes (items_nodes (items_of is))
+  pub fits_items : (is : Row AnItem) → All ItemFits is → Nodes (items_nodes (items_of is))
   fits_items [] so = All-nil (IsWithin limit)
   fits_items (i ∷ is) so = both (item_nodes i) (items_nodes (items_of is)) (All-head ItemFits i is so).1 (fits_items is (All-tail ItemFits i is so))
 
@@ -125,6 +125,9 @@ module _ (limit : ℕ) where
 
   pub fits_argument : (broken : Bool) (w : AWord) → WordFits w → ItemFits (item broken (argument w))
   fits_argument broken (word s ss) so = (so.0, first (node NodeKind.Word s) (substs_nodes ss) (fits_node NodeKind.Word s so.0) so.1)
+
+  pub fits_word : (w : AWord) → WordFits w → Nodes (word_nodes w)
+  fits_word (word s ss) so = first (node NodeKind.Word s) (substs_nodes ss) (fits_node NodeKind.Word s so.0) so.1
 
   pub fits_simple : (is : Row AnItem) → All ItemFits is → CommandFits (simple (items_of is))
   fits_simple is all =

@@ -7,25 +7,25 @@ use Rattle.shtree.specs.declared.tree.CaseItem.{CaseItem}
 use Rattle.shtree.specs.declared.tree.Comment.{Comment}
 use Rattle.shtree.specs.declared.tree.Compound.{Compound}
 use Rattle.shtree.specs.declared.tree.Entry.{Entry}
-use Rattle.shtree.specs.declared.tree.HereDocument.{HereDocument}
+use Rattle.shtree.specs.declared.tree.Function.{Function}
 use Rattle.shtree.specs.declared.tree.Item.{Item}
 use Rattle.shtree.specs.declared.tree.List.{List}
 use Rattle.shtree.specs.declared.tree.Pipeline.{Pipeline}
 use Rattle.shtree.specs.declared.tree.PipelinePart.{PipelinePart}
-use Rattle.shtree.specs.declared.tree.RedirectOperator.{RedirectOperator}
+use Rattle.shtree.specs.declared.tree.Redirection.{Redirection}
 use Rattle.shtree.specs.declared.tree.Span.{Span}
 use Rattle.shtree.specs.declared.tree.Subst.{Subst}
 use Rattle.shtree.specs.declared.tree.Word.{Word}
 use Rattle.shtree.specs.declared.tree.Command as the_command
-use Rattle.shtree.specs.declared.tree.Command.TheVariants.{rolls-Simple, rolls-Function}
+use Rattle.shtree.specs.declared.tree.Command.TheVariants.{rolls-Simple}
 use Rattle.shtree.specs.declared.tree.Form.TheVariants.{rolls-If, rolls-For, rolls-Case}
-use Rattle.shtree.specs.declared.tree.ItemContent.TheVariants.{rolls-Assign, rolls-Redirect}
+use Rattle.shtree.specs.declared.tree.ItemContent.TheVariants.{rolls-Assign}
 use Rattle.shtree.specs.declared.tree.Form as the_form
 use Rattle.shtree.specs.declared.tree.ItemContent as the_item_content
-use Rattle.shtree.specs.declared.tree.Command.TheViews.{out-AndOr, out-AndOrPart, out-Branch, out-CaseItem, out-Compound, out-Entry, out-Item, out-Pipeline, out-PipelinePart, out-Subst, out-Word}
-use Rattle.shtree.specs.declared.tree.Command.TheFolds.{fold-roll-Command, fold-roll-Form, fold-roll-ItemContent, fold_out-AndOr, fold_out-AndOrPart, fold_out-Branch, fold_out-CaseItem, fold_out-Compound, fold_out-Entry, fold_out-Item, fold_out-Pipeline, fold_out-PipelinePart, fold_out-Subst, fold_out-Word}
+use Rattle.shtree.specs.declared.tree.Command.TheViews.{out-AndOr, out-AndOrPart, out-Branch, out-CaseItem, out-Compound, out-Entry, out-Function, out-Item, out-Pipeline, out-PipelinePart, out-Redirection, out-Subst, out-Word}
+use Rattle.shtree.specs.declared.tree.Command.TheFolds.{fold-roll-Command, fold-roll-Form, fold-roll-ItemContent, fold_out-AndOr, fold_out-AndOrPart, fold_out-Branch, fold_out-CaseItem, fold_out-Compound, fold_out-Entry, fold_out-Function, fold_out-Item, fold_out-Pipeline, fold_out-PipelinePart, fold_out-Redirection, fold_out-Subst, fold_out-Word}
 use Rattle.shtree.specs.Tree.{and_or, and_or_parts_of, assign, branch, branches_of, case_in, case_item, cases_of, entry, for_in, formed, function, if_then, in_words, item, items_of, no_else, no_in, otherwise, patterns_of, pipeline, pipeline_parts_of, redirect, simple, subst, substs_of, word}
-use Rattle.shtree.specs.View.{view_and_or, view_and_or_part, view_branch, view_case_item, view_command, view_comment, view_compound, view_content, view_entry, view_form, view_here, view_item, view_item_content, view_join, view_list, view_pipeline, view_pipeline_part, view_subst, view_word}
+use Rattle.shtree.specs.View.{view_and_or, view_and_or_part, view_branch, view_case_item, view_command, view_comment, view_compound, view_content, view_entry, view_form, view_function, view_here, view_item, view_item_content, view_join, view_list, view_pipeline, view_pipeline_part, view_redirection, view_subst, view_word}
 
 pub subst_seen : (s : Subst) → view_subst s ≡ subst (view_list (out-Subst s).list) (out-Subst s).span
 subst_seen s = search (rules, fold_out-Subst)
@@ -57,6 +57,13 @@ case_item_seen c = search (rules, fold_out-CaseItem)
 pub entry_seen : (e : Entry) → view_entry e ≡ entry (view_content (out-Entry e).what) (out-Entry e).background (out-Entry e).blank (option_map view_comment (out-Entry e).comment)
 entry_seen e = search (rules, fold_out-Entry)
 
+pub function_seen : (f : Function) → view_function f ≡ function (out-Function f).name (map view_comment (out-Function f).comments.items) (view_compound (out-Function f).body)
+function_seen f = search (rules, fold_out-Function)
+
+pub redirection_seen : (r : Redirection)
+    → view_redirection r ≡ redirect (out-Redirection r).number (out-Redirection r).operator (out-Redirection r).span (view_word (out-Redirection r).word) (option_map view_here (out-Redirection r).here)
+redirection_seen r = search (rules, fold_out-Redirection)
+
 pub item_seen : (i : Item) → view_item i ≡ item (out-Item i).broken (view_item_content (out-Item i).what)
 item_seen i = search (rules, fold_out-Item)
 
@@ -65,15 +72,8 @@ item_seen i = search (rules, fold_out-Item)
 pub simple_seen : (items : Vec Item Global) → view_command (the_command.TheVariants.Simple items) ≡ simple (items_of (map view_item items.items))
 simple_seen items = rw (← rolls-Simple items) (search (rules, fold-roll-Command))
 
-pub function_seen : (name : Span) (comments : Vec Comment Global) (body : Box Compound Global) → view_command (the_command.TheVariants.Function name comments body) ≡ function name (map view_comment comments.items) (view_compound body.value)
-function_seen name comments body = rw (← rolls-Function name comments body) (search (rules, fold-roll-Command))
-
 pub assign_seen : (w : Word) → view_item_content (the_item_content.TheVariants.Assign w) ≡ assign (view_word w)
 assign_seen w = rw (← rolls-Assign w) (search (rules, fold-roll-ItemContent))
-
-pub redirect_seen : (number : Option Span) (operator : RedirectOperator) (span : Span) (w : Word) (here : Option HereDocument)
-    → view_item_content (the_item_content.TheVariants.Redirect number operator span w here) ≡ redirect number operator span (view_word w) (option_map view_here here)
-redirect_seen number operator span w here = rw (← rolls-Redirect number operator span w here) (search (rules, fold-roll-ItemContent))
 
 pub if_seen : (first : Branch) (rest : Vec Branch Global) → view_form (the_form.TheVariants.If first rest None) ≡ if_then (view_branch first) (branches_of (map view_branch rest.items)) no_else
 if_seen first rest = rw (← rolls-If first rest None) (search (rules, fold-roll-Form))

@@ -5,8 +5,8 @@ use crate::make::{
 };
 use crate::tree::{
     AndOr, AndOrOperator, AndOrPart, Branch, CaseItem, Command, Comment, Compound, Entry, Form,
-    HereDocument, Item, ItemContent, Join, List, Pipeline, PipelinePart, RedirectOperator, Span,
-    Subst, Word,
+    HereDocument, Item, ItemContent, Join, List, Pipeline, PipelinePart, RedirectOperator,
+    Redirection, Span, Subst, Word,
 };
 use std::alloc::{AllocError, Global};
 
@@ -70,44 +70,50 @@ impl<'a> Script<'a> {
     }
 
     /// A redirection; `number` is empty where it has none.
-    pub(crate) fn redirect(self, number: &str, operator: &str, word: Word) -> Item {
+    pub(crate) fn redirect(
+        self,
+        number: &str,
+        operator: &str,
+        word: Word,
+    ) -> Result<Item, AllocError> {
         let number = if number.is_empty() {
             None
         } else {
             Some(self.at(number))
         };
-        Item {
+        self.redirected(Redirection {
+            number,
+            operator: RedirectOperator::Output,
+            span: self.at(operator),
+            word,
+            here: None,
+        })
+    }
+
+    fn redirected(self, redirect: Redirection) -> Result<Item, AllocError> {
+        Ok(Item {
             broken: false,
-            what: ItemContent::Redirect {
-                number,
-                operator: RedirectOperator::Output,
-                span: self.at(operator),
-                word,
-                here: None,
-            },
-        }
+            what: ItemContent::Redirect(Box::new(self.alloc, redirect)?),
+        })
     }
 
     /// A redirection of a compound command, with no number.
     pub(crate) fn output(self, operator: &str, word: &str) -> Result<Vec<Item>, AllocError> {
-        self.one(self.redirect("", operator, self.word(word)))
+        self.one(self.redirect("", operator, self.word(word))?)
     }
 
-    pub(crate) fn here(self, operator: &str, word: &str, body: &str) -> Item {
-        Item {
-            broken: false,
-            what: ItemContent::Redirect {
-                number: None,
-                operator: RedirectOperator::Here,
-                span: self.at(operator),
-                word: self.word(word),
-                here: Some(HereDocument {
-                    literal: false,
-                    strip: false,
-                    body: self.at(body),
-                }),
-            },
-        }
+    pub(crate) fn here(self, operator: &str, word: &str, body: &str) -> Result<Item, AllocError> {
+        self.redirected(Redirection {
+            number: None,
+            operator: RedirectOperator::Here,
+            span: self.at(operator),
+            word: self.word(word),
+            here: Some(HereDocument {
+                literal: false,
+                strip: false,
+                body: self.at(body),
+            }),
+        })
     }
 
     pub(crate) fn simple(self, words: &[&str]) -> Result<Command, AllocError> {

@@ -24,6 +24,6 @@ pub use nodes::{NodeKind, NodeLine, nodes_at, outline_of};
 pub use normal::is_normal;
 pub use tree::{
     AndOr, AndOrOperator, AndOrPart, Branch, CaseItem, Command, Comment, Compound, Content, Entry,
-    Form, HereDocument, Item, ItemContent, Join, List, Pipeline, PipelinePart, RedirectOperator,
-    Span, Subst, Word,
+    Form, Function, HereDocument, Item, ItemContent, Join, List, Pipeline, PipelinePart,
+    RedirectOperator, Redirection, Span, Subst, Word,
 };

@@ -1,6 +1,6 @@
 //! The nodes of a tree: one maker for each kind, which says what its node is in the definitions.
 ghost use Rattle.std.specs.Prelude.{◌≡◌, map, option_map, false, None};
-ghost use Rattle.shtree.specs.Tree.{and_or, and_or_parts_of, argument, assign, branch, branches_of, brace, command, compound, entries_of, entry, formed, if_then, item, items_of, pipeline, pipeline_parts_of, remark, simple, subshell, substs_of, until_do, while_do, word};
+ghost use Rattle.shtree.specs.Tree.{and_or, and_or_parts_of, argument, assign, branch, branches_of, brace, command, compound, entries_of, entry, for_in, for_words_of, formed, if_then, item, items_of, pipeline, pipeline_parts_of, remark, simple, subshell, substs_of, until_do, while_do, word};
 ghost use Rattle.shtree.specs.View.{view_and_or, view_and_or_part, view_branch, view_command, view_comment, view_compound, view_entry, view_form, view_item, view_join, view_list, view_otherwise, view_pipeline, view_pipeline_part, view_subst, view_word};
 
 use crate::tree::{
@@ -138,6 +138,13 @@ pub fn until_of(branch: Branch) -> Form
     ensures { view_form result ≡ until_do (view_branch branch) }
 {
     Form::Until(branch)
+}
+
+/// A `for` of this name, the words behind its `in` where that stands, and what it runs (XCU 2.9.4.2).
+pub fn for_of(name: Word, words: Option<Vec<Item>>, body: List) -> Form
+    ensures { view_form result ≡ for_in (view_word name) (for_words_of (option_map (λ v. map view_item v.items) words)) (view_list body) }
+{
+    Form::For { name, words, body }
 }
 
 /// A condition, and what is run by it.

@@ -11,7 +11,7 @@ use crate::make::{
     pipeline_of, simple_of, subshell_of, until_of, while_of,
 };
 use crate::nodes::{NodeKind, NodeLine, nodes_at, outline_of};
-use crate::tree::{CaseItem, Command, Form, List, Span};
+use crate::tree::{CaseItem, Command, Form, Function, List, Span};
 use crate::visit::{Wanted, visit_list};
 use std::alloc::{AllocError, Global};
 use std::process::Abort;
@@ -157,8 +157,8 @@ fn simple_commands(rt: HostRuntime) -> Result<(), Fail> {
     let mut items = script.one(script.assignment(assigned))?;
     let argument = script.word_with("c$(d)", "$(d)", script.run(&["d"])?)?;
     items.push(crate::make::argument_of(argument, false))?;
-    items.push(script.redirect("2", ">", target))?;
-    items.push(script.here("<<", "E", "h\n"))?;
+    items.push(script.redirect("2", ">", target)?)?;
+    items.push(script.here("<<", "E", "h\n")?)?;
     let list = script.list(simple_of(items))?;
     let rows = [
         (NodeKind::Simple, "a=$(b) c$(d) 2>e$(f) <<E", ""),
@@ -276,8 +276,8 @@ fn conditions(rt: HostRuntime) -> Result<(), Fail> {
     rest.push(branch_of(script.run(&["w5"])?, script.run(&["w6"])?))?;
     let form = if_of(first, rest, Some(script.run(&["w7"])?));
     let span = script.at("if w1; then w2; elif w3; then w4; elif w5; then w6; else w7; fi");
-    let mut redirects = script.one(script.redirect("8", ">o1", script.word("o1")))?;
-    redirects.push(script.redirect("", ">o2", script.word("o2")))?;
+    let mut redirects = script.one(script.redirect("8", ">o1", script.word("o1"))?)?;
+    redirects.push(script.redirect("", ">o2", script.word("o2"))?)?;
     let list = script.list(script.boxed(compound_of(form, span, redirects))?)?;
     let rows = [
         (
@@ -421,14 +421,12 @@ fn functions(rt: HostRuntime) -> Result<(), Fail> {
     let text = "f1() # c1\n# c2\n{ w1; } >o1 # c3\n";
     let script = Script { alloc, text };
     let form = brace_of(script.run(&["w1"])?);
-    let command = Command::Function {
+    let function = Function {
         name: script.at("f1"),
         comments: script.comments(&["# c1", "# c2"])?,
-        body: Box::new(
-            alloc,
-            compound_of(form, script.at("{ w1; }"), script.output(">", "o1")?),
-        )?,
+        body: compound_of(form, script.at("{ w1; }"), script.output(">", "o1")?),
     };
+    let command = Command::Function(Box::new(alloc, function)?);
     let comment = Some(script.comment("# c3"));
     let entry = command_entry(script.alone(command), false, false, comment);
     let list = script.only(entry)?;

@@ -160,7 +160,7 @@ fn is_normal_command(command: &Command) -> bool
     match command {
         Command::Simple { items } => first_not_broken(items) && are_normal_items(items),
         Command::Compound(compound) => is_normal_compound(compound),
-        Command::Function { body, .. } => is_normal_compound(body),
+        Command::Function(function) => is_normal_compound(&function.body),
     }
 }
 
@@ -275,8 +275,8 @@ fn is_normal_item(item: &Item) -> bool
     ensures { result ≡ is_normal_item (view_item item.now) }
 {
     match &item.what {
-        ItemContent::Assign(word) | ItemContent::Word(word) | ItemContent::Redirect { word, .. } =>
-            is_normal_word(word),
+        ItemContent::Assign(word) | ItemContent::Word(word) => is_normal_word(word),
+        ItemContent::Redirect(redirect) => is_normal_word(&redirect.word),
     }
 }
 

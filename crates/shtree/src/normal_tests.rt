@@ -2,7 +2,9 @@
 use crate::built::Script;
 use crate::make::{and_or_of, argument_of, command_entry, list_of, pipeline_of, simple_of};
 use crate::normal::is_normal;
-use crate::tree::{Branch, CaseItem, Command, Comment, Content, Entry, Form, Join, List, Word};
+use crate::tree::{
+    Branch, CaseItem, Command, Comment, Content, Entry, Form, Function, Join, List, Word,
+};
 use std::alloc::{AllocError, Global};
 use std::process::Abort;
 use std::test::Fail;
@@ -240,24 +242,25 @@ fn in_command(alloc: Global, place: Place, list: List) -> Result<Command, AllocE
             simple_of(items)
         }
         Place::Redirect => {
-            let item = script.redirect("", "", around(alloc, list)?);
+            let item = script.redirect("", "", around(alloc, list)?)?;
             simple_of(script.one(item)?)
         }
         Place::RedirectBehindCompound => {
             let mut compound = script.formed(Form::Brace(run(alloc)?), "");
             compound
                 .redirects
-                .push(script.redirect("", "", around(alloc, list)?))?;
+                .push(script.redirect("", "", around(alloc, list)?)?)?;
             script.boxed(compound)?
         }
         Place::FunctionBody => {
             let word = around(alloc, list)?;
             let body = script.list(simple(alloc, word)?)?;
-            Command::Function {
+            let function = Function {
                 name: script.at(""),
                 comments: Vec::new(alloc),
-                body: Box::new(alloc, script.formed(Form::Brace(body), ""))?,
-            }
+                body: script.formed(Form::Brace(body), ""),
+            };
+            Command::Function(Box::new(alloc, function)?)
         }
         _ => script.compound(in_form(alloc, place, list)?, "")?,
     })

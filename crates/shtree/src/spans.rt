@@ -1,11 +1,12 @@
 //! Where the parts of a script stand that have no span of their own.
-ghost use Rattle.std.specs.Prelude.{◌≡◌, map};
-ghost use Rattle.shtree.specs.Tree.{and_or_parts_of, items_of, pipeline_parts_of};
+ghost use Rattle.std.specs.Prelude.{◌≡◌, false, map};
+ghost use Rattle.shtree.specs.Tree.{and_or_parts_of, item, items_of, pipeline_parts_of};
 ghost use Rattle.shtree.specs.Nodes.{and_or_span, command_span, compound_span, item_span, items_span, last_command, last_item, last_pipeline, pipeline_span, through};
-ghost use Rattle.shtree.specs.View.{view_and_or, view_and_or_part, view_command, view_compound, view_item, view_pipeline, view_pipeline_part};
+ghost use Rattle.shtree.specs.View.{view_and_or, view_and_or_part, view_command, view_compound, view_function, view_item, view_pipeline, view_pipeline_part, view_redirection};
 
 use crate::tree::{
-    AndOr, AndOrPart, Command, Compound, Item, ItemContent, Pipeline, PipelinePart, Span,
+    AndOr, AndOrPart, Command, Compound, Function, Item, ItemContent, Pipeline, PipelinePart,
+    Redirection, Span,
 };
 
 impl Span {
@@ -20,17 +21,22 @@ impl Span {
     }
 }
 
+/// From its number, or its operator, to its word.
+pub(crate) fn redirection_span(redirect: &Redirection) -> Span
+    ensures { result ≡ item_span (item false (view_redirection redirect.now)) }
+{
+    redirect
+        .number
+        .unwrap_or(redirect.span)
+        .through(redirect.word.span)
+}
+
 pub(crate) fn item_span(item: &Item) -> Span
     ensures { result ≡ item_span (view_item item.now) }
 {
     match &item.what {
         ItemContent::Assign(word) | ItemContent::Word(word) => word.span,
-        ItemContent::Redirect {
-            number,
-            span,
-            word,
-            ..
-        } => number.unwrap_or(*span).through(word.span),
+        ItemContent::Redirect(redirect) => redirection_span(redirect),
     }
 }
 
@@ -66,13 +72,20 @@ pub(crate) fn compound_span(compound: &Compound) -> Span
         .through(last_item(compound.span, &compound.redirects))
 }
 
+/// From its name to its body.
+pub(crate) fn function_span(function: &Function) -> Span
+    ensures { result ≡ command_span (view_function function.now) }
+{
+    function.name.through(compound_span(&function.body))
+}
+
 fn command_span(command: &Command) -> Span
     ensures { result ≡ command_span (view_command command.now) }
 {
     match command {
         Command::Simple { items } => items_span(items),
         Command::Compound(compound) => compound_span(compound),
-        Command::Function { name, body, .. } => name.through(compound_span(body)),
+        Command::Function(function) => function_span(function),
     }
 }
 

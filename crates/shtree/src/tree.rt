@@ -102,17 +102,19 @@ pub struct PipelinePart {
 #[derive(Debug, Drop)]
 pub enum Command {
     /// A simple command (XCU 2.9.1). It has an item.
-    Simple {
-        items: Vec<Item>,
-    },
+    Simple { items: Vec<Item> },
     Compound(Box<Compound>),
-    /// The definition of a function (XCU 2.9.5).
-    Function {
-        name: Span,
-        /// The comments between the `)` and the body.
-        comments: Vec<Comment>,
-        body: Box<Compound>,
-    },
+    Function(Box<Function>),
+}
+
+/// The definition of a function (XCU 2.9.5).
+#[cycle(tree)]
+#[derive(Debug, Drop)]
+pub struct Function {
+    pub name: Span,
+    /// The comments between the `)` and the body.
+    pub comments: Vec<Comment>,
+    pub body: Compound,
 }
 
 /// A compound command, and the redirections behind it (XCU 2.9.4).
@@ -193,17 +195,21 @@ pub enum ItemContent {
     Assign(Word),
     /// The command's name or an argument.
     Word(Word),
-    /// A redirection (XCU 2.7).
-    Redirect {
-        /// The number before it.
-        number: Option<Span>,
-        operator: RedirectOperator,
-        /// The operator's.
-        span: Span,
-        word: Word,
-        /// What belongs to `<<` and `<<-`.
-        here: Option<HereDocument>,
-    },
+    Redirect(Box<Redirection>),
+}
+
+/// A redirection (XCU 2.7).
+#[cycle(tree)]
+#[derive(Debug, Drop)]
+pub struct Redirection {
+    /// The number before it.
+    pub number: Option<Span>,
+    pub operator: RedirectOperator,
+    /// The operator's.
+    pub span: Span,
+    pub word: Word,
+    /// What belongs to `<<` and `<<-`.
+    pub here: Option<HereDocument>,
 }
 
 /// The operators of redirections (XCU 2.7).

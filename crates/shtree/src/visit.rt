@@ -2,19 +2,21 @@
 //! from left to right.
 #![tactic(auto, using(crate::proofs::Gathering::gathered_append, crate::proofs::Gathering::gathered_none))]
 
-ghost use Rattle.std.specs.Prelude.{◌≡◌, [], ◌∷◌, ◌++◌, Bool, IfOk, map, option_map};
+ghost use Rattle.std.specs.Prelude.{◌≡◌, [], ◌∷◌, ◌++◌, Bool, IfOk, false, map, option_map};
 ghost use Rattle.std.specs.Option.{option_to_list};
 ghost use Rattle.shtree.specs.Gathered.{gathered};
 ghost use Rattle.shtree.specs.declared.nodes.NodeLine.{NodeLine};
 ghost use Rattle.shtree.specs.Nodes.{and_or_node, and_or_nodes, and_or_parts_nodes, branch_nodes, branches_nodes, case_nodes, cases_nodes, command_nodes, comment_node, compound_nodes, content_nodes, entries_nodes, entry_nodes, form_node, form_nodes, item_nodes, items_nodes, patterns_nodes, pipeline_node, pipeline_nodes, pipes_nodes, subst_nodes, substs_nodes, word_nodes};
-ghost use Rattle.shtree.specs.Tree.{and_or_parts_of, branches_of, cases_of, entries_of, items_of, patterns_of, pipeline_parts_of, substs_of};
-ghost use Rattle.shtree.specs.View.{view_and_or, view_and_or_part, view_branch, view_case_item, view_command, view_comment, view_compound, view_content, view_entry, view_form, view_item, view_list, view_pipeline, view_pipeline_part, view_subst, view_word};
+ghost use Rattle.shtree.specs.Tree.{and_or_parts_of, branches_of, cases_of, entries_of, item, items_of, patterns_of, pipeline_parts_of, substs_of};
+ghost use Rattle.shtree.specs.View.{view_and_or, view_and_or_part, view_branch, view_case_item, view_command, view_comment, view_compound, view_content, view_entry, view_form, view_function, view_item, view_list, view_pipeline, view_pipeline_part, view_redirection, view_subst, view_word};
 
 use crate::nodes::{NodeKind, NodeLine};
-use crate::spans::{and_or_span, compound_span, item_span, items_span, pipeline_span};
+use crate::spans::{
+    and_or_span, compound_span, function_span, items_span, pipeline_span, redirection_span,
+};
 use crate::tree::{
-    AndOr, AndOrPart, Branch, CaseItem, Command, Comment, Compound, Content, Entry, Form, Item,
-    ItemContent, List, Pipeline, PipelinePart, Span, Subst, Word,
+    AndOr, AndOrPart, Branch, CaseItem, Command, Comment, Compound, Content, Entry, Form, Function,
+    Item, ItemContent, List, Pipeline, PipelinePart, Redirection, Span, Subst, Word,
 };
 use std::alloc::AllocError;
 
@@ -281,21 +283,26 @@ fn visit_command<W: Wanted>(
             visit_items(items, wanted, lines)
         }
         Command::Compound(compound) => visit_compound(compound, wanted, lines),
-        Command::Function {
-            name,
-            comments,
-            body,
-        } => {
-            let span = name.through(compound_span(body));
-            add(
-                NodeLine::named(NodeKind::Function, span, *name),
-                wanted,
-                lines,
-            )?;
-            add_comments(comments, wanted, lines)?;
-            visit_compound(body, wanted, lines)
-        }
+        Command::Function(function) => visit_function(function, wanted, lines),
     }
+}
+
+#[cycle(visit)]
+fn visit_function<W: Wanted>(
+    function: &Function,
+    wanted: W,
+    lines: &mut Vec<NodeLine>,
+) -> Result<(), AllocError>
+    ensures { IfOk result (λ _. lines.new.items ≡ gathered (W.is_wanted wanted) lines.old.items (command_nodes (view_function function.now))) }
+{
+    let span = function_span(function);
+    add(
+        NodeLine::named(NodeKind::Function, span, function.name),
+        wanted,
+        lines,
+    )?;
+    add_comments(&function.comments, wanted, lines)?;
+    visit_compound(&function.body, wanted, lines)
 }
 
 #[cycle(visit)]
@@ -455,15 +462,24 @@ fn visit_item<W: Wanted>(
             visit_substs(&word.substs, wanted, lines)
         }
         ItemContent::Word(word) => visit_word(word, wanted, lines),
-        ItemContent::Redirect { word, .. } => {
-            add(
-                NodeLine::new(NodeKind::Redirect, item_span(item)),
-                wanted,
-                lines,
-            )?;
-            visit_word(word, wanted, lines)
-        }
+        ItemContent::Redirect(redirect) => visit_redirection(redirect, wanted, lines),
     }
+}
+
+#[cycle(visit)]
+fn visit_redirection<W: Wanted>(
+    redirect: &Redirection,
+    wanted: W,
+    lines: &mut Vec<NodeLine>,
+) -> Result<(), AllocError>
+    ensures { IfOk result (λ _. lines.new.items ≡ gathered (W.is_wanted wanted) lines.old.items (item_nodes (item false (view_redirection redirect.now)))) }
+{
+    add(
+        NodeLine::new(NodeKind::Redirect, redirection_span(redirect)),
+        wanted,
+        lines,
+    )?;
+    visit_word(&redirect.word, wanted, lines)
 }
 
 #[cycle(visit)]

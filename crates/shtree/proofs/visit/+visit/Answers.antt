@@ -3,7 +3,7 @@ use Rattle.std.proofs.lemmas.List.{append-nil}
 use Rattle.shtree.specs.Nodes.{branch_nodes, case_nodes, entry_nodes, item_nodes, subst_nodes, word_nodes}
 use Rattle.shtree.specs.View.{view_and_or_part, view_branch, view_case_item, view_entry, view_item, view_pipeline_part, view_subst, view_word}
 use Rattle.shtree.proofs.Gathering.{from_more, gathered_append, gathered_cons, part_nodes, pipe_nodes}
-use Rattle.shtree.proofs.Seen.{assign_seen, case_seen, entry_seen, for_seen, for_words_seen, function_seen, if_else_seen, if_seen, item_seen, redirect_seen, simple_seen, and_or_part_seen, and_or_seen, branch_seen, case_item_seen, compound_seen, pipeline_part_seen, pipeline_seen, subst_seen, word_seen}
+use Rattle.shtree.proofs.Seen.{assign_seen, case_seen, entry_seen, for_seen, for_words_seen, function_seen, if_else_seen, if_seen, item_seen, redirection_seen, simple_seen, and_or_part_seen, and_or_seen, branch_seen, case_item_seen, compound_seen, pipeline_part_seen, pipeline_seen, subst_seen, word_seen}
 use Rattle.shtree.proofs.visit.+visit.Goals as goal
 use Rattle.shtree.proofs.visit.+visit.Goals.{visit_form-in-Some-words+in_ok-visit_items-in-Some-words, visit_form-in-None-words}
 
@@ -69,8 +69,8 @@ visit_entry-returns g t c = grind (arith, gathered_append, gathered_cons, entry_
 pub visit_command-returns-in_ok-add-in-Simple : goal.visit_command-returns-in_ok-add-in-Simple
 visit_command-returns-in_ok-add-in-Simple g t c = grind (arith, gathered_append, gathered_cons, simple_seen)
 
-pub visit_command-returns-in_ok-add_comments-in-Function : goal.visit_command-returns-in_ok-add_comments-in-Function
-visit_command-returns-in_ok-add_comments-in-Function g t c = grind (arith, gathered_append, gathered_cons, function_seen)
+pub visit_function-returns : goal.visit_function-returns
+visit_function-returns g t c = grind (arith, gathered_append, gathered_cons, function_seen)
 
 pub visit_form-returns-in-Some : goal.visit_form-returns-in-Some
 visit_form-returns-in-Some g t c = grind (arith, gathered_append, gathered_cons, if_else_seen)
@@ -78,8 +78,8 @@ visit_form-returns-in-Some g t c = grind (arith, gathered_append, gathered_cons,
 pub visit_form-returns-in_ok-visit_cases-in-Case : goal.visit_form-returns-in_ok-visit_cases-in-Case
 visit_form-returns-in_ok-visit_cases-in-Case g t c = grind (arith, gathered_append, gathered_cons, case_seen)
 
-pub visit_item-returns-in_ok-add-in-Redirect : goal.visit_item-returns-in_ok-add-in-Redirect
-visit_item-returns-in_ok-add-in-Redirect g t c = grind (arith, gathered_append, gathered_cons, item_seen, redirect_seen)
+pub visit_redirection-returns : goal.visit_redirection-returns
+visit_redirection-returns g t c = grind (arith, gathered_append, gathered_cons, redirection_seen)
 
 pub visit_pipe-returns : goal.visit_pipe-returns
 visit_pipe-returns g t c = rw pipeline_part_seen (grind (arith, gathered_append))
