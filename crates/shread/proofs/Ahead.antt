@@ -8,7 +8,7 @@ use Rattle.shread.specs.Standing.{is_byte, raw_in, raw_stands, raw_past, passes,
 use Rattle.shread.specs.Bytes.{ends, ends_word, past, past_blanks, is_broken_at, past_continuations, byte_at, behind, stands, stands_in}
 use Rattle.shread.specs.declared.token.Position.{Position}
 use Rattle.shread.specs.declared.token.Position.TheVariants.{Command, Prefix, Suffix}
-use Rattle.shread.specs.Tokens.{Spelling, is_word_at, first_of_words, reserved_words, reserved_at, begins_assignment, is_number, word_by, token_of, token_at, next_at}
+use Rattle.shread.specs.Tokens.{Spelling, is_word_at, first_of_words, reserved_words, reserved_at, begins_assignment, is_name_at, is_number, word_by, token_of, token_at, next_at}
 use Rattle.shread.proofs.Stretches.{place_low, past_more, past_none, stands_in_low, joined_none, joined_more, raw_more, raw_none}
 use Rattle.shread.proofs.Places.{must_fail, behind_low, past_low}
 use Rattle.shread.proofs.SameBytes.{Kept, WordEnds, goes_on, Safe, at_limit, halts, one_byte, two_bytes, Place, inside, outside, Here, no_backslash, on_no_backslash, continued, safe_high, safe_low, safe_place, safe_behind, none_same, pair_same, place, raw_same, here_byte, here_behind}
@@ -299,6 +299,12 @@ module _ {T T2 : List ℕ} {a L : ℕ} {to : ℕ → ℕ} {c : ℕ} (E : ListEnd
   same_assignment s =
       let r = past_safe is_name (goes_name c E.ender) s in
       rw (same_stands_in s is_letter, r.1, same_stands r.0 61) refl
+
+  pub same_name : {p : ℕ} → Safe T a L p → is_name_at T2 (to p) ≡ is_name_at T p
+  unfolding is_name_at ends_word
+  same_name s =
+      let r = past_safe is_name (goes_name c E.ender) s in
+      rw (same_stands_in s is_letter, r.1, same_byte r.0) refl
 
   same_number : {p : ℕ} → Safe T a L p → is_number T2 (to p) ≡ is_number T p
   unfolding is_number

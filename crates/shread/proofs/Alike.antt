@@ -1,5 +1,5 @@
 -- A form goes the same way with its tree and without, whatever was read before.
-use Rattle.std.proofs.Common.{◌≡◌, ℕ, zero, suc, ◌+◌, ◌-◌, ◌<◌, Bool, true, false, not, cond, Ok, Err, List as Row, [], ◌∷◌, ◌++◌, length, Option, Some, None, refl, sym, ap, subst, ◌∙◌, arith}
+use Rattle.std.proofs.Common.{◌≡◌, ℕ, zero, suc, ◌+◌, ◌-◌, ◌<◌, Bool, true, false, not, ◌&&◌, ◌||◌, cond, Ok, Err, List as Row, [], ◌∷◌, ◌++◌, length, Option, Some, None, is_some, refl, sym, ap, subst, ◌∙◌, arith}
 use Rattle.std.proofs.lemmas.Bool.{ltb-true}
 use Rattle.shread.specs.declared.fault.FaultKind.{FaultKind}
 use Rattle.shread.specs.declared.mode.Mode.{Mode}
@@ -14,17 +14,17 @@ use Rattle.shread.specs.declared.token.Position.{Position}
 use Rattle.shread.specs.declared.token.Separator.{Separator}
 use Rattle.shtree.specs.declared.tree.Span.{Span}
 use Rattle.shtree.specs.declared.tree.AndOrOperator.{AndOrOperator}
-use Rattle.shtree.specs.Tree.{AJoin, ASubst, AnEntry}
+use Rattle.shtree.specs.Tree.{ASubst, AnEntry}
 use Rattle.shread.specs.Comments.{span}
 use Rattle.shread.specs.Sights.{Given, State, Sight, seen, the_piece, Move}
 use Rattle.shread.specs.Form.{Spelled, Told, Read, ◌▸◌, Form, give, see, move, push, stop, both, when, token, many, ◌>>=◌, Step, again, done, step_if, leads_on, turns, does}
 use Rattle.shread.specs.Words.{single, backquote_turn, backquoted, Inner, Held, having, opened, piece_row, a_piece, contents, a_word}
 use Rattle.shread.specs.Levels.{level}
 use Rattle.shread.specs.Tokens.{is_end}
-use Rattle.shread.specs.Commands.{pick, is_newline, is_pipe, is_bang, begins_simple, begins_pipeline, opener_of, compound_by, and_or_operator_of, next_token, Items, so_many, behind_item, an_item, item_by, item_turn, a_simple, comment_by, a_comment, a_newline, what_is_wrong, unexpected, JoinSo, join_so, with_comment, join_turn, a_join, a_command, a_bang, Piped, piped, one_command, pipe_turn, a_pipeline, Joined, joined_so, one_pipeline, joined_by, join_pipeline, an_and_or, separator_of, separator_by, a_separator, is_parted, Entered, an_entry}
+use Rattle.shread.specs.Commands.{pick, is_newline, is_semicolon, a_semicolon, a_join_of, is_pipe, is_bang, begins_simple, begins_pipeline, opener_of, compound_by, and_or_operator_of, next_token, Items, so_many, behind_item, an_item, item_by, item_turn, a_simple, comment_by, a_comment, a_newline, what_is_wrong, unexpected, JoinSo, join_so, with_comment, join_turn, a_join, a_command, a_bang, Piped, piped, one_command, pipe_turn, a_pipeline, Joined, joined_so, one_pipeline, joined_by, join_pipeline, an_and_or, separator_of, separator_by, a_separator, is_parted, Entered, an_entry}
 use Rattle.shread.specs.Lines.{end_of_line, a_line}
 use Rattle.shread.specs.Lists.{Listed, ListSo, list_so, none_listed, with_command, next_line, one_entry, entry_turn, remark_by, a_remark, on_line, list_turn, a_list}
-use Rattle.shread.specs.Compounds.{is_closing, is_open_paren, is_close_paren, passed, closing, Closed, closed, a_branch, Branched, branched, elif_turn, an_else, an_if, a_loop, a_group, a_form, a_compound}
+use Rattle.shread.specs.Compounds.{is_closing, is_open_paren, is_close_paren, passed, closing, Closed, closed, a_branch, Branched, branched, elif_turn, an_else, an_if, a_loop, a_group, a_for_name, a_linebreak, a_sequential_sep, Headed, for_words, a_for_head, a_for, a_form, a_compound}
 use Rattle.shread.proofs.Turns.{turns_on, turns_rest, turns_done, turns_fault}
 
 -- both give something, of which S holds, and end in one state; or both stop with one fault
@@ -267,6 +267,10 @@ module _ (g : Given) where
     unfolding a_newline
     alike_newline n = alike_pick (is_newline n.token) _ refl (alike_on (alike_then (alike_next _) (λ m k same. alike_give (ap (λ z. (true, z)) same)))) (alike_give refl)
 
+    alike_semicolon : (n : Next) → Alike (λ x y. x ≡ y) (a_semicolon n) (a_semicolon n)
+    unfolding a_semicolon
+    alike_semicolon n = alike_pick (is_semicolon n.token) _ refl (alike_on (alike_then (alike_next _) (λ m k same. alike_give (ap (λ z. (true, z)) same)))) (alike_give refl)
+
     alike_wrong : (n : Next) → Alike (λ x y. x ≡ y) (what_is_wrong inner n) (what_is_wrong inner n)
     unfolding what_is_wrong
     alike_wrong n =
@@ -281,25 +285,35 @@ module _ (g : Given) where
     alike_with cs ds None = alike_give tt
 
     abbrev SameJoin : JoinSo → JoinSo → Type 0
-    SameJoin j k = j.next ≡ k.next
+    SameJoin j k = (j.join.broken ≡ k.join.broken) × (j.next ≡ k.next)
 
     join_step : (p : Bool) (j k : JoinSo) → SameJoin j k → SameStep SameJoin (step_if p j) (step_if p k)
     join_step true j k same = same
     join_step false j k same = same
 
-    join_steps : (l m : Bool × Next) → l ≡ m → (i j : AJoin) → SameStep SameJoin (step_if l.0 (join_so i l.1)) (step_if m.0 (join_so j m.1))
-    join_steps l m is i j = subst (λ (z : Bool × Next). SameStep SameJoin (step_if l.0 (join_so i l.1)) (step_if z.0 (join_so j z.1))) is (join_step l.0 (join_so i l.1) (join_so j l.1) refl)
+    join_steps : (l m : Bool × Next) → l ≡ m → (broken pale : Bool) → broken ≡ pale → (cs ds : Row Span)
+        → SameStep SameJoin (step_if l.0 (join_so (a_join_of (broken || l.0) cs) l.1)) (step_if m.0 (join_so (a_join_of (pale || m.0) ds) m.1))
+    join_steps l m is broken pale same cs ds =
+        subst (λ (z : Bool × Next). SameStep SameJoin (step_if l.0 (join_so (a_join_of (broken || l.0) cs) l.1)) (step_if z.0 (join_so (a_join_of (pale || z.0) ds) z.1))) is
+        (join_step l.0 (join_so (a_join_of (broken || l.0) cs) l.1) (join_so (a_join_of (pale || l.0) ds) l.1) (ap (λ b. b || l.0) same, refl))
 
     alike_join_turn : (j k : JoinSo) → SameJoin j k → Alike (SameStep SameJoin) (join_turn j) (join_turn k)
     unfolding join_turn
     alike_join_turn j k same =
-        alike_then (alike_comment j.next k.next same) (λ c d so. rw (← so) (alike_then (alike_with j.join.comments k.join.comments c.0)
-        (λ cs ds all. alike_then (alike_newline c.1) (λ l m is. alike_give (join_steps l m is _ _)))))
+        alike_then (alike_comment j.next k.next same.1) (λ c d so. rw (← so) (alike_then (alike_with j.join.comments k.join.comments c.0)
+        (λ cs ds all. alike_then (alike_newline c.1) (λ l m is. alike_give (join_steps l m is _ _ (ap (λ b. b || is_some c.0) same.0) cs ds)))))
 
-    alike_join : (broken pale : Bool) → Alike SameNext (a_join broken) (a_join pale)
+    both_broken : (broken pale : Bool) (n m : Next) → broken ≡ pale → n ≡ m → (broken || n.broken) ≡ (pale || m.broken)
+    both_broken broken pale n m one two = rw (one, two) refl
+
+    alike_join : (broken pale : Bool) → broken ≡ pale → Alike SameNext (a_join broken) (a_join pale)
     unfolding a_join
-    alike_join broken pale =
-        alike_then (alike_next _) (λ n m same. alike_then (alike_many SameJoin join_turn join_turn alike_join_turn _ _ same) (λ j k so. alike_give so))
+    alike_join broken pale is =
+        alike_then (alike_next _) (λ n m same. alike_then (alike_many SameJoin join_turn join_turn alike_join_turn _ _ (both_broken broken pale n m is same, same)) (λ j k so. alike_give so.1))
+
+    alike_linebreak : (cs ds : Row Span) (n m : Next) → n ≡ m → Alike SameJoin (a_linebreak cs n) (a_linebreak ds m)
+    unfolding a_linebreak
+    alike_linebreak cs ds n m same = alike_many SameJoin join_turn join_turn alike_join_turn _ _ (refl, same)
 
     alike_compound_by : (n : Next) (o : Option Opener) → Alike SameNext (compound_by inner n o) (compound_by inner n o)
     alike_compound_by n (Some o) = fits.compound o
@@ -317,14 +331,14 @@ module _ (g : Given) where
     abbrev SamePiped : Piped → Piped → Type 0
     SamePiped p q = p.next ≡ q.next
 
-    alike_one_command : (p q : Piped) → Alike (SameStep SamePiped) (one_command inner p) (one_command inner q)
+    alike_one_command : (p q : Piped) → SamePiped p q → Alike (SameStep SamePiped) (one_command inner p) (one_command inner q)
     unfolding one_command
-    alike_one_command p q =
-        alike_then alike_mark (λ x y all. alike_then (alike_join p.next.broken q.next.broken) (λ j k so. alike_then (alike_at (a_command inner) alike_command j.1 k.1 so) (λ c d so'. alike_pushed (alike_give so'))))
+    alike_one_command p q same =
+        alike_then alike_mark (λ x y all. alike_then (alike_join p.next.broken q.next.broken (ap (λ (n : Next). n.broken) same)) (λ j k so. alike_then (alike_at (a_command inner) alike_command j.1 k.1 so) (λ c d so'. alike_pushed (alike_give so'))))
 
     alike_pipe_turn : (p q : Piped) → SamePiped p q → Alike (SameStep SamePiped) (pipe_turn inner p) (pipe_turn inner q)
     unfolding pipe_turn
-    alike_pipe_turn p q same = alike_pick _ _ (ap (λ (n : Next). is_pipe n.token) same) (alike_one_command p q) (alike_give same)
+    alike_pipe_turn p q same = alike_pick _ _ (ap (λ (n : Next). is_pipe n.token) same) (alike_one_command p q same) (alike_give same)
 
     alike_pipeline : (n : Next) → Alike SameNext (a_pipeline inner n) (a_pipeline inner n)
     unfolding a_pipeline
@@ -335,14 +349,14 @@ module _ (g : Given) where
     abbrev SameJoined : Joined → Joined → Type 0
     SameJoined a b = a.next ≡ b.next
 
-    alike_one_pipeline : (a b : Joined) (o : AndOrOperator) → Alike (SameStep SameJoined) (one_pipeline inner a o) (one_pipeline inner b o)
+    alike_one_pipeline : (a b : Joined) (o : AndOrOperator) → SameJoined a b → Alike (SameStep SameJoined) (one_pipeline inner a o) (one_pipeline inner b o)
     unfolding one_pipeline
-    alike_one_pipeline a b o =
-        alike_then (alike_token {R = All} (alike_on (alike_move {S = All} tt)) (λ x y z so. tt)) (λ x y all. alike_then (alike_join a.next.broken b.next.broken)
+    alike_one_pipeline a b o same =
+        alike_then (alike_token {R = All} (alike_on (alike_move {S = All} tt)) (λ x y z so. tt)) (λ x y all. alike_then (alike_join a.next.broken b.next.broken (ap (λ (n : Next). n.broken) same))
         (λ j k so. alike_then (alike_at (a_pipeline inner) alike_pipeline j.1 k.1 so) (λ p q so'. alike_pushed (alike_give so'))))
 
     alike_joined_by : (a b : Joined) (o : Option AndOrOperator) → SameJoined a b → Alike (SameStep SameJoined) (joined_by inner a o) (joined_by inner b o)
-    alike_joined_by a b (Some o) same = alike_one_pipeline a b o
+    alike_joined_by a b (Some o) same = alike_one_pipeline a b o same
     alike_joined_by a b None same = alike_give same
 
     alike_join_pipeline : (a b : Joined) → SameJoined a b → Alike (SameStep SameJoined) (join_pipeline inner a) (join_pipeline inner b)
@@ -418,14 +432,14 @@ module _ (g : Given) where
         alike_then (alike_many SameList (list_turn inner) (list_turn inner) alike_list_turn (list_so (none_listed false) n) (list_so (none_listed false) n) (refl, refl))
         (λ l m same. alike_pick _ _ same.0 (alike_give same.1) (alike_at (unexpected inner) alike_unexpected l.next m.next same.1))
 
-    alike_passed : (text : Spelled) (paren : Bool) → Alike (λ x y. x ≡ y) (passed text paren) (passed text paren)
+    alike_passed : (text : Spelled) (paren : Bool) (position : Position) → Alike (λ x y. x ≡ y) (passed text paren position) (passed text paren position)
     unfolding passed
-    alike_passed text paren =
+    alike_passed text paren position =
         alike_then (alike_token {R = λ x y. x ≡ y} (alike_move {S = All} tt) (λ a b z so. refl)) (λ x y so. rw (← so) (alike_then (alike_next _) (λ m k same. alike_give (ap (λ z. (x.1, z)) same))))
 
     alike_closing : (c : Closing) (n : Next) → Alike (λ x y. x ≡ y) (closing inner c n) (closing inner c n)
     unfolding closing
-    alike_closing c n = alike_pick (is_closing c n.token) _ refl (alike_passed _ (is_close_paren c)) (alike_unexpected n)
+    alike_closing c n = alike_pick (is_closing c n.token) _ refl (alike_passed _ (is_close_paren c) _) (alike_unexpected n)
 
     -- what was read last, and the token behind it
     abbrev SameClosed : {X : Type 0} → Closed X → Closed X → Type 0
@@ -449,14 +463,14 @@ module _ (g : Given) where
     unfolding elif_turn
     alike_elif b c same =
         alike_pick _ _ (ap (λ (n : Next). is_closing closings.Elif n.token) same)
-        (alike_then (alike_passed _ false) (λ k m so. alike_then (alike_at (a_branch inner) alike_branch k.1 m.1 (ap (λ (z : Span × Next). z.1) so)) (λ x y so'. alike_pushed (alike_give so'))))
+        (alike_then (alike_passed _ false _) (λ k m so. alike_then (alike_at (a_branch inner) alike_branch k.1 m.1 (ap (λ (z : Span × Next). z.1) so)) (λ x y so'. alike_pushed (alike_give so'))))
         (alike_give same)
 
     alike_else : (n : Next) → Alike SameNext (an_else inner n) (an_else inner n)
     unfolding an_else
     alike_else n =
         alike_pick (is_closing closings.Else n.token) _ refl
-        (alike_then (alike_passed _ false) (λ k m so. alike_then (alike_at (a_list inner) alike_list k.1 m.1 (ap (λ (z : Span × Next). z.1) so)) (λ x y so'. alike_give so')))
+        (alike_then (alike_passed _ false _) (λ k m so. alike_then (alike_at (a_list inner) alike_list k.1 m.1 (ap (λ (z : Span × Next). z.1) so)) (λ x y so'. alike_give so')))
         (alike_give refl)
 
     alike_if : (n : Next) → Alike SameClosed (an_if inner n) (an_if inner n)
@@ -475,17 +489,53 @@ module _ (g : Given) where
     unfolding a_group
     alike_group c n = alike_then (alike_list n) (λ l m same. alike_closed _ _ c l.1 m.1 same)
 
+    alike_for_name : (n : Next) → Alike SameNext (a_for_name inner n) (a_for_name inner n)
+    unfolding a_for_name
+    alike_for_name n =
+        alike_pick (begins_simple n.token) _ refl
+        (alike_see (λ p. alike_see (λ good. alike_then alike_word (λ w v so. alike_pick good _ refl (alike_then (alike_next _) (λ m k same. alike_give same)) alike_stop))))
+        (alike_unexpected n)
+
+    alike_sep : (cs ds : Row Span) (n m : Next) → n ≡ m → Alike SameJoin (a_sequential_sep inner cs n) (a_sequential_sep inner ds m)
+    unfolding a_sequential_sep
+    alike_sep cs ds n m same =
+        alike_then (alike_at a_semicolon alike_semicolon n m same) (λ s z so. rw (← so) (alike_then (alike_linebreak cs ds s.1 s.1 refl)
+        (λ l k is. alike_pick _ _ (ap (λ b. s.0 || b) is.0) (alike_give is) (alike_at (unexpected inner) alike_unexpected l.next k.next is.1))))
+
+    abbrev SameHead : Headed → Headed → Type 0
+    SameHead h k = h.next ≡ k.next
+
+    alike_for_words : (cs ds : Row Span) → Alike SameHead (for_words inner cs) (for_words inner ds)
+    unfolding for_words
+    alike_for_words cs ds =
+        alike_then (alike_passed _ false _) (λ i j so. alike_then (alike_many SameItems (item_turn inner) (item_turn inner) alike_item_turn (so_many [] i.1) (so_many [] j.1) (ap (λ (z : Span × Next). z.1) so))
+        (λ ws vs same. alike_then (alike_sep cs ds ws.next vs.next same) (λ l k is. alike_give is.1)))
+
+    alike_for_head : (n : Next) → Alike SameHead (a_for_head inner n) (a_for_head inner n)
+    unfolding a_for_head
+    alike_for_head n =
+        alike_then (alike_semicolon n) (λ s z so. rw (← so) (alike_then (alike_linebreak [] [] s.1 s.1 refl)
+        (λ l k is. alike_pick _ _ (ap (λ (m : Next). not s.0 && is_closing closings.In m.token) is.1) (alike_for_words l.join.comments k.join.comments) (alike_give is.1))))
+
+    alike_for : (n : Next) → Alike SameClosed (a_for inner n) (a_for inner n)
+    unfolding a_for
+    alike_for n =
+        alike_then (alike_for_name n) (λ x y same. alike_then (alike_at (a_for_head inner) alike_for_head x.1 y.1 same)
+        (λ h k so. alike_then (alike_at (closing inner closings.Do) (alike_closing closings.Do) h.next k.next so)
+        (λ d e so'. alike_then (alike_at (a_group inner closings.Done) (alike_group closings.Done) d.1 e.1 (ap (λ (z : Span × Next). z.1) so')) (λ b c so''. alike_give so''))))
+
     alike_form : (o : Opener) (n : Next) → Alike SameClosed (a_form inner o n) (a_form inner o n)
     alike_form openers.Brace n = alike_then (alike_group closings.Brace n) (λ l m same. alike_give same)
     alike_form openers.Paren n = alike_then (alike_group closings.Paren n) (λ l m same. alike_give same)
     alike_form openers.If n = alike_if n
     alike_form openers.While n = alike_then (alike_loop n) (λ l m same. alike_give same)
     alike_form openers.Until n = alike_then (alike_loop n) (λ l m same. alike_give same)
+    alike_form openers.For n = alike_for n
 
     pub alike_compound : (o : Opener) → Alike SameNext (a_compound inner o) (a_compound inner o)
     unfolding a_compound
     alike_compound o =
-        alike_then (alike_passed _ (is_open_paren o)) (λ x y so. alike_then (alike_at (a_form inner o) (alike_form o) x.1 y.1 (ap (λ (z : Span × Next). z.1) so)) (λ f g same. alike_pushed (alike_give same)))
+        alike_then (alike_passed _ (is_open_paren o) _) (λ x y so. alike_then (alike_at (a_form inner o) (alike_form o) x.1 y.1 (ap (λ (z : Span × Next). z.1) so)) (λ f g same. alike_pushed (alike_give same)))
 
     -- ---- lines
 

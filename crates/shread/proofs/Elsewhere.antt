@@ -14,7 +14,7 @@ use Rattle.shread.specs.Standing.{is_byte, passes, raw_stands}
 use Rattle.shread.specs.Bytes.{ends, ends_word, past, past_continuations, byte_at, behind, stands, stands_in}
 use Rattle.shread.specs.Pieces.{piece_at}
 use Rattle.shread.specs.Plain.{is_plain}
-use Rattle.shread.specs.Tokens.{Spelling, is_word_at, first_of_words, reserved_words, reserved_at, begins_assignment, is_number, word_by, token_of, token_at}
+use Rattle.shread.specs.Tokens.{Spelling, is_word_at, first_of_words, reserved_words, reserved_at, begins_assignment, is_name_at, is_number, word_by, token_of, token_at}
 use Rattle.shread.specs.Sights.{Given, given, State, standing}
 use Rattle.shread.specs.Form.{Read, again, as_it_stands, token, loop, many, leads_on, does}
 use Rattle.shread.specs.Words.{Held, having, a_piece, contents, a_word}
@@ -210,6 +210,10 @@ module _ {T U : List ℕ} {a L : ℕ} {to : ℕ → ℕ} (K : Kept T U a L to) (
   unfolding begins_assignment
   same_assignment w = let p = past_goes is_name plain_name w in rw (same_test is_letter plain_letter w, p.1, same_stands 61 refl p.0) refl
 
+  same_name : {r : ℕ} → Goes r → is_name_at U (to r) ≡ is_name_at T r
+  unfolding is_name_at ends_word
+  same_name w = let p = past_goes is_name plain_name w in rw (same_test is_letter plain_letter w, p.1, same_ends p.0) refl
+
   same_word_by : (position : Position) {r : ℕ} → Goes r → word_by position U (to r) ≡ word_by position T r
   same_word_by Command w = rw (same_assignment w, same_reserved w) refl
   same_word_by Prefix w = rw (same_assignment w) refl
@@ -346,6 +350,10 @@ pub record ItemAnywhere (room : ℕ) (position : Position) (token : Token) (w : 
   pub some : 0 < length w
   pub there : (g : Given) (q : ℕ) (zs : List ℕ) → drop q g.text ≡ w ++ zs → follows zs ≡ true → ReadAt room position token w g q
 
+-- and a NAME
+abbrev pub NameAnywhere : List ℕ → Type 0
+NameAnywhere w = (T : List ℕ) (q : ℕ) (zs : List ℕ) → drop q T ≡ w ++ zs → follows zs ≡ true → is_name_at T q ≡ true
+
 -- ---- what is an item where it stands
 
 module _ (room : ℕ) (position : Position) (g : Given) (p n : ℕ) (word : IsWord room g p n) (place : past_continuations g.text p ≡ p) (no_blank : stands_in is_blank g.text p ≡ false)
@@ -416,6 +424,9 @@ module _ (room : ℕ) (position : Position) (g : Given) (p n : ℕ) (word : IsWo
     unfolding ends_word stands
     word_there = anywhere room g h p q n word same (ap ends next_byte ∙ next.ends_it) (ap (λ x. is_byte x 40) next_byte ∙ next.no_open)
 
+    name_there : is_name_at g.text p ≡ true → is_name_at h.text q ≡ true
+    name_there name = subst (λ r. is_name_at h.text r ≡ true) begin (same_name K W g.offset room goes ∙ name)
+
     read_at : ReadAt room position (token_at position g.text p) w h q
     read_at = record {
       place = subst (λ r. past_continuations h.text r ≡ r) begin (inside.there ∙ ap (from_to p q) place);
@@ -427,6 +438,9 @@ module _ (room : ℕ) (position : Position) (g : Given) (p n : ℕ) (word : IsWo
   item_there : ItemAnywhere room position (token_at position g.text p) w
   item_there = record { some = has_byte; there = λ h q zs is_there following. read_at h q zs is_there following }
 
+  names : is_name_at g.text p ≡ true → NameAnywhere w
+  names name T q zs is_there following = name_there (given T 0) q zs is_there following name
+
 -- what is an item where it stands is one anywhere
 pub item_anywhere : (room : ℕ) (position : Position) (token : Token) (g : Given) (p n : ℕ) → IsWord room g p n
     → past_continuations g.text p ≡ p → stands_in is_blank g.text p ≡ false → token_at position g.text p ≡ token → is_some (behind_item token) ≡ true
@@ -434,3 +448,9 @@ pub item_anywhere : (room : ℕ) (position : Position) (token : Token) (g : Give
 item_anywhere room position _ g p n word place no_blank token_is item =
     subst (λ (t : Token). ItemAnywhere room position t (take n (drop p g.text))) token_is
     (item_there room position g p n word place no_blank (subst (λ (t : Token). is_some (behind_item t) ≡ true) (sym token_is) item))
+
+-- and so is a NAME
+pub name_anywhere : (room : ℕ) (position : Position) (g : Given) (p n : ℕ) → IsWord room g p n
+    → past_continuations g.text p ≡ p → stands_in is_blank g.text p ≡ false → is_some (behind_item (token_at position g.text p)) ≡ true → is_name_at g.text p ≡ true
+    → NameAnywhere (take n (drop p g.text))
+name_anywhere room position g p n word place no_blank item name = names room position g p n word place no_blank item name

@@ -19,6 +19,7 @@ pub mod Shown
 pub mod Searches
 pub mod LineKinds
 pub mod Levels
+pub mod Remarks
 pub mod PlainBytes
 pub mod PlainTable
 pub mod SameBytes

@@ -1,10 +1,10 @@
 -- What a line of a script leads on to.
-use Rattle.std.proofs.Common.{◌≡◌, ℕ, ◌+◌, ◌++◌, ◌==◌, ◌∙◌, Bool, true, false, not, Ok, Err, List as Row, [], ◌∷◌, drop, map, Vec, Global, refl, ap, sym, subst, length, None, Some, arith, append-nil}
+use Rattle.std.proofs.Common.{◌≡◌, ℕ, ◌++◌, ◌==◌, ◌∙◌, Bool, true, false, not, Err, List as Row, [], ◌∷◌, drop, map, Vec, Global, refl, ap, sym, subst, length, None, Some, arith, append-nil}
 use Rattle.shtree.specs.declared.tree.Entry.{Entry}
 use Rattle.shtree.specs.View.{view_entry}
 use Rattle.shread.specs.declared.fault.Fault.{Fault}
 use Rattle.shtree.specs.Tree.{AnEntry, entries_of}
-use Rattle.shread.specs.Sights.{State, given, standing}
+use Rattle.shread.specs.Sights.{given, standing}
 use Rattle.shread.specs.Form.{Read, Spelled, may}
 use Rattle.shread.specs.declared.fault.Stop.{Stop}
 use Rattle.shread.specs.declared.fault.Stop.TheVariants.{Wrong}
@@ -15,25 +15,43 @@ use Rattle.shread.specs.declared.script_lines.ScriptLine.{ScriptLine}
 use Rattle.shread.specs.declared.script_lines.ScriptLine.TheVariants.{Ended, Last, Faulty}
 use Rattle.shread.specs.declared.script_lines.ScriptLines.{ScriptLines}
 use Rattle.shtree.specs.Nodes.{AreWithin}
-use Rattle.shread.specs.LineByLine.{Leads, LineWithin, Rest, Stands}
+use Rattle.shread.specs.LineByLine.{IsNextLine, LineReads, LineWithin, Stands}
 use Rattle.shread.proofs.Within.{more_within}
-use Rattle.shread.specs.Scripts.{AScript, Outcome, SoFar, faulty, is_blank_line, last_line, line_ended, line_from, the_line, with_line}
+use Rattle.shread.specs.Scripts.{AScript, Lines, Outcome, SoFar, faulty, is_blank_line, last_line, line_ended, line_from, the_line, with_line}
 use Rattle.shread.proofs.OneOutcome.{is}
 
-module _ (B : Row ℕ) (so : SoFar) (p : ℕ) (blank : Bool) (is_blank : blank ≡ is_blank_line so) where
-  told : (x : Read (Row AnEntry × Bool)) → line_from B true blank p ≡ x → (k : Row Spelled) × may (the_line (is_blank_line so)) (given (drop p B) p) (standing 0) x k
-  told x read =
-      let one = (is (the_line blank) (given (drop p B) p) (standing 0)).some in
-      (one.0, subst (λ b. may (the_line b) (given (drop p B) p) (standing 0) x one.0) is_blank (subst (λ y. may (the_line blank) (given (drop p B) p) (standing 0) y one.0) read one.1))
+-- the script of lines that gave this and of the lines from p on
+abbrev pub Rest : Row ℕ → SoFar → ℕ → AScript → Type 0
+Rest B so p s = (k : Row Spelled) × Lines B so p s k
 
-  pub line_more : (es : Row AnEntry) (t : State) → line_from B true blank p ≡ Ok ((es, true), t) → (s : AScript) → Rest B (with_line so es) (p + t.at) s → Rest B so p s
-  line_more es t read s (k, rest) = let one = told _ read in (one.0 ++ k, line_ended es t one.0 one.1 rest)
+-- ---- what is read of a line, where its first entry is blank as the lines before it have it
 
-  pub line_last : (es : Row AnEntry) (t : State) → line_from B true blank p ≡ Ok ((es, false), t) → Rest B so p (record { entries = entries_of (so.entries ++ es); wrong = None })
-  line_last es t read = let one = told _ read in (one.0, last_line es t one.0 one.1)
+pub line_read : (B : Row ℕ) (so : SoFar) (p : ℕ) (blank : Bool) (x : Read (Row AnEntry × Bool)) → blank ≡ is_blank_line so → line_from B true blank p ≡ x → LineReads B so p x
+line_read B so p blank x is_blank read =
+    let one = (is (the_line blank) (given (drop p B) p) (standing 0)).some in
+    (one.0, subst (λ b. may (the_line b) (given (drop p B) p) (standing 0) x one.0) is_blank (subst (λ y. may (the_line blank) (given (drop p B) p) (standing 0) y one.0) read one.1))
 
-  pub line_faulty : (f : Fault) → line_from B true blank p ≡ Err f → Rest B so p (record { entries = entries_of so.entries; wrong = Some f })
-  line_faulty f read = let one = told _ read in (one.0, faulty f one.0 one.1)
+-- ---- what a line leads on to
+
+module _ {S : Type 0} where
+  -- Where the line ended by a newline: what the lines behind it give is what they give with it. Else it is the script's last, or its
+  -- first fault stands in it.
+  abbrev pub Leads : Row ℕ → SoFar → ScriptLines S → ScriptLine → ScriptLines S → Type 0
+  Leads B so old (Ended es) new = Stands new (with_line so (map view_entry es.items))
+      × ((s : AScript) → Rest B (with_line so (map view_entry es.items)) new.at s → Rest B so old.at s)
+  Leads B so old (Last es) new = Rest B so old.at (record { entries = entries_of (so.entries ++ map view_entry es.items); wrong = None })
+  Leads B so old (Faulty f) new = Rest B so old.at (record { entries = entries_of so.entries; wrong = Some f })
+
+  module _ (B : Row ℕ) (so : SoFar) (old new : ScriptLines S) where
+    leads : (x : ScriptLine) → IsNextLine B so old x new → Leads B so old x new
+    leads (Ended es) ((t, ends, read), stands) =
+        (stands, λ s rest. let on = subst (λ q. Rest B (with_line so (map view_entry es.items)) q s) ends rest in (read.0 ++ on.0, line_ended (map view_entry es.items) t read.0 read.1 on.1))
+    leads (Last es) ((t, ends, read), stands) = (read.0, last_line (map view_entry es.items) t read.0 read.1)
+    leads (Faulty f) (read, same) = (read.0, faulty f read.0 read.1)
+
+    -- the same, where the bytes are those of another source
+    pub leads_in : (other : Row ℕ) (x : ScriptLine) → other ≡ B → IsNextLine other so old x new → Leads B so old x new
+    leads_in other x same next = leads x (subst (λ b. IsNextLine b so old x new) same next)
 
 -- a stop for a fault tells that the reading stops there
 pub fault_told : (e : Stop) (f : Fault) (end : ℕ) (x : Read (Row AnEntry × Bool)) → e ≡ Wrong f → Fails end e x → x ≡ Err f

@@ -4,11 +4,11 @@ use Rattle.std.proofs.lemmas.Bool.{ltb-true, lt-ltb, cases_lt, cases_Bool}
 use Rattle.std.proofs.lemmas.Option.{slice_get_within}
 use Rattle.shtree.specs.declared.tree.Span.{Span}
 use Rattle.shread.specs.Comments.{span}
-use Rattle.shread.specs.Sights.{Given, given, State, Sight, here, the_byte, the_piece, the_rest, the_end, a_backquote, last_backslash, the_token, the_comment, seen, Move, one_byte, joined, one_taken, the_closer, the_parameter, a_quote_on, in_backquotes_on, blanks, a_comment_on, the_reserved, to as leads}
+use Rattle.shread.specs.Sights.{Given, given, State, Sight, here, the_byte, the_piece, the_rest, the_end, a_backquote, last_backslash, the_token, the_comment, is_a_name, seen, Move, one_byte, joined, one_taken, the_closer, the_parameter, a_quote_on, in_backquotes_on, blanks, a_comment_on, the_reserved, to as leads}
 use Rattle.shread.specs.Form.{Spelled, Told, untold, as_it_stands, by, tell, Read, Form, give, see, move, push, stop, both, when, token, loop, Step, again, done, Just, just, Halts, halted, Then, and_then, or_stops, holds, fails, raw, OneToken, whole, broken_off, leads_on, Turns, last, rests, more, halts, moved, may}
 use Rattle.shread.proofs.OneOutcome.{is}
 use Rattle.shread.proofs.Holds.{Holds, Behind, low}
-use Rattle.shread.proofs.Ahead.{ListEnds, same_place, same_next}
+use Rattle.shread.proofs.Ahead.{ListEnds, same_name, same_place, same_next}
 use Rattle.shread.proofs.Asked.{Good, high, on, moves_behind, moves_joined, moves_taken, moves_closer, moves_parameter, moves_quote, moves_backquotes, moves_blanks, moves_comment, moves_reserved, same_end_here, same_raw_stands, same_last_backslash, same_comment, same_piece, same_mode, same_raw}
 
 -- what may be read is not before where it begins
@@ -61,6 +61,7 @@ module _ {T U : List ℕ} {a M : ℕ} {to : ℕ → ℕ} (E : ListEnds T U a M t
   same_seen last_backslash s from good = same_last_backslash E s.at from good
   same_seen (the_token position) s from good = same_next E position good
   same_seen the_comment s from good = same_comment E o o2 spans s.at good
+  same_seen is_a_name s from good = same_name E good
 
   -- a move to a good place is one from a good place, and leads to the same
   abbrev Leads : Move → ℕ → Type 0

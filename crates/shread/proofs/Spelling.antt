@@ -1,5 +1,5 @@
 -- The tokens passed where a faultless script is read are those that the shape of its tree spells.
-use Rattle.std.proofs.Common.{◌≡◌, ◌∙◌, refl, sym, ap, subst, ℕ, zero, suc, ◌+◌, ◌-◌, Bool, true, false, Ok, Err, List, List as Row, [], ◌∷◌, ◌++◌, drop, take, codes, Option, Some, None, arith}
+use Rattle.std.proofs.Common.{◌≡◌, ◌∙◌, refl, sym, ap, subst, ℕ, zero, suc, ◌+◌, ◌-◌, Bool, true, false, not, ◌&&◌, ◌||◌, Ok, Err, List, List as Row, [], ◌∷◌, ◌++◌, drop, take, codes, Option, Some, None, arith}
 use Rattle.std.proofs.lemmas.List.{append-nil, append_assoc, drop-drop}
 use Rattle.shread.specs.declared.token.Closing.{Closing}
 use Rattle.shread.specs.declared.token.Closing.TheVariants as closings
@@ -12,16 +12,16 @@ use Rattle.shread.specs.declared.token.Separator.{Separator}
 use Rattle.shread.specs.declared.token.Separator.TheVariants.{Semicolon, Ampersand}
 use Rattle.shtree.specs.declared.tree.AndOrOperator.{AndOrOperator}
 use Rattle.shtree.specs.declared.tree.Span.{Span}
-use Rattle.shtree.specs.Tree.{APipelinePart, AnAndOrPart, ABranch, pipeline_parts_of, and_or_parts_of, branches_of, AnEntry, AnItem, AWord, entry, remark, item, entries_of, items_of}
-use Rattle.shtree.specs.Shape.{text_at, shape_of, shape_of_entry, shape_of_and_or, shape_of_and_or_parts, shape_of_pipeline, shape_of_bang, shape_of_pipes, shape_of_command, shape_of_form, shape_of_branch, shape_of_branches, shape_of_else, shape_of_items, shape_of_item, shape_of_word}
-use Rattle.shtree.specs.Spelling.{Tokens, and_or_text, spell_background, spell_bang, spell_word, spell_item, spell_items, spelling, spell_entry, spell_and_or, spell_and_or_parts, spell_pipeline, spell_pipes, spell_command, spell_form, spell_branch, spell_branches, spell_else, spell_loop}
+use Rattle.shtree.specs.Tree.{APipelinePart, AnAndOrPart, ABranch, pipeline_parts_of, and_or_parts_of, branches_of, AnEntry, AnItem, AWord, Entries, entry, remark, item, entries_of, items_of}
+use Rattle.shtree.specs.Shape.{text_at, shape_of, shape_of_entry, shape_of_and_or, shape_of_and_or_parts, shape_of_pipeline, shape_of_bang, shape_of_pipes, shape_of_command, shape_of_form, shape_of_branch, shape_of_branches, shape_of_else, shape_of_for_words, shape_of_items, shape_of_item, shape_of_word}
+use Rattle.shtree.specs.Spelling.{Tokens, and_or_text, spell_background, spell_bang, spell_word, spell_item, spell_items, spelling, spell_entry, spell_and_or, spell_and_or_parts, spell_pipeline, spell_pipes, spell_command, spell_form, spell_branch, spell_branches, spell_else, spell_loop, spell_for_words}
 use Rattle.shread.specs.Comments.{span}
 use Rattle.shread.specs.Sights.{Given, given, State, standing, Sight, Move}
 use Rattle.shread.specs.Form.{Spelled, Read, Step, again, done, step_if, Form, give, see, move, push, stop, both, Told, by, tell, token, many, Just, just, Halts, halted, Then, and_then, or_stops, OneToken, whole, broken_off, Turns, last, rests, more, halts, raw, may}
 use Rattle.shread.specs.Words.{Inner, a_word}
-use Rattle.shread.specs.Commands.{pick, next_token, is_newline, is_pipe, is_bang, begins_simple, begins_pipeline, opener_of, compound_by, and_or_operator_of, Items, so_many, behind_item, as_item, breaks, an_item, item_by, item_turn, a_simple, unexpected, comment_by, a_comment, a_newline, with_comment, JoinSo, join_turn, a_join, a_command, a_bang, Piped, piped, one_command, pipe_turn, a_pipeline, Joined, joined_so, one_pipeline, joined_by, join_pipeline, an_and_or, separator_of, told_separator, separator_by, a_separator, is_background, an_entry}
+use Rattle.shread.specs.Commands.{pick, next_token, is_newline, is_semicolon, a_semicolon, is_pipe, is_bang, begins_simple, begins_pipeline, opener_of, compound_by, and_or_operator_of, Items, so_many, behind_item, as_item, breaks, an_item, item_by, item_turn, a_simple, unexpected, comment_by, a_comment, a_newline, with_comment, JoinSo, join_turn, a_join, a_command, a_bang, Piped, piped, one_command, pipe_turn, a_pipeline, Joined, joined_so, one_pipeline, joined_by, join_pipeline, an_and_or, separator_of, told_separator, separator_by, a_separator, is_background, an_entry}
 use Rattle.shread.specs.Lists.{ListSo, list_so, none_listed, is_blank_next, one_entry, entry_turn, remark_by, a_remark, on_line, list_turn, a_list}
-use Rattle.shread.specs.Compounds.{Branched, branched, is_closing, opener_text, closing_text, passed, closing, a_group, a_branch, elif_turn, an_else, an_if, a_loop, a_form, a_compound}
+use Rattle.shread.specs.Compounds.{Branched, branched, is_closing, opener_text, closing_text, passed, closing, a_group, a_branch, elif_turn, an_else, an_if, a_loop, a_for_name, a_linebreak, a_sequential_sep, Headed, for_words, a_for_head, behind_remarks, a_for, a_form, a_compound}
 use Rattle.shread.specs.Levels.{most_open, level}
 use Rattle.shread.specs.Tokens.{is_end}
 use Rattle.shread.specs.Lines.{a_line, end_of_line}
@@ -57,6 +57,11 @@ module _ (B : List ℕ) where
 
   entries_last : (es : Row AnEntry) (e : AnEntry) → spelling (shape_of B (entries_of (es ++ e ∷ []))) ≡ spelling (shape_of B (entries_of es)) ++ spell_entry (shape_of_entry B e)
   entries_last es e = entries_joined es (e ∷ []) ∙ ap (λ z. spelling (shape_of B (entries_of es)) ++ z) (append-nil _)
+
+  -- a comment is no token
+  remarks_spelled : (cs : Row Span) (es : Entries) → spelling (shape_of B (behind_remarks cs es)) ≡ spelling (shape_of B es)
+  remarks_spelled [] es = refl
+  remarks_spelled (c ∷ cs) es = remarks_spelled cs es
 
 -- ---- what holds of what a form reads, and of the tokens passed
 
@@ -207,6 +212,10 @@ module _ (g : Given) where
   unfolding a_newline
   silent_newline n s = pass_pick (is_newline n.token) (pass_on pass_move (λ u v. pass_on (silent_next Command v) (λ m w. pass_give refl))) (pass_give refl)
 
+  silent_semicolon : (n : Next) (s : State) → Passing (a_semicolon n) Silent s
+  unfolding a_semicolon
+  silent_semicolon n s = pass_pick (is_semicolon n.token) (pass_on pass_move (λ u v. pass_on (silent_next Command v) (λ m w. pass_give refl))) (pass_give refl)
+
   silent_kept : (cs : Row Span) (c : Option Span) (s : State) → Passing (with_comment cs c) Silent s
   silent_kept cs (Some c) s = record { passing = just_of Silent refl }
   silent_kept cs None s = pass_give refl
@@ -214,6 +223,10 @@ module _ (g : Given) where
   silent_join_turn : (j : JoinSo) (s : State) → Passing (join_turn j) Silent s
   unfolding join_turn
   silent_join_turn j s = pass_on (silent_comment j.next s) (λ c t. pass_on (silent_kept j.join.comments c.0 t) (λ cs u. pass_on (silent_newline c.1 u) (λ l v. pass_give refl)))
+
+  silent_linebreak : (cs : Row Span) (n : Next) (s : State) → Passing (a_linebreak cs n) Silent s
+  unfolding a_linebreak
+  silent_linebreak cs n s = silent_many join_turn silent_join_turn _ s
 
   silent_join : (broken : Bool) (s : State) → Passing (a_join broken) Silent s
   unfolding a_join
@@ -399,13 +412,13 @@ module _ (B : List ℕ) (g : Given) (stands : g.text ≡ drop g.offset B) where
 
     -- ---- compound commands
 
-    pass_passed : (text : Spelled) (paren : Bool) (s : State) → Passing g (passed text paren) (OneText g text) s
+    pass_passed : (text : Spelled) (paren : Bool) (position : Position) (s : State) → Passing g (passed text paren position) (OneText g text) s
     unfolding passed
-    pass_passed text paren s = pass_then g (pass_text g) (λ x t k so. pass_on g (silent_next g Command t) (λ n u. pass_give g (append-nil k ∙ so)))
+    pass_passed text paren position s = pass_then g (pass_text g) (λ x t k so. pass_on g (silent_next g position t) (λ n u. pass_give g (append-nil k ∙ so)))
 
     pass_closing : (c : Closing) (n : Next) (s : State) → Passing g (closing inner c n) (OneText g (closing_text c)) s
     unfolding closing
-    pass_closing c n s = pass_pick g (is_closing c n.token) (pass_passed (closing_text c) _ s) (pass_unexpected g inner n s)
+    pass_closing c n s = pass_pick g (is_closing c n.token) (pass_passed (closing_text c) _ _ s) (pass_unexpected g inner n s)
 
     pass_group : (c : Closing) (n : Next) (s : State) → Passing g (a_group inner c n) (Spells (λ x. spelling (shape_of B x.what) ++ (closing_text c ∷ []))) s
     unfolding a_group
@@ -423,7 +436,7 @@ module _ (B : List ℕ) (g : Given) (stands : g.text ≡ drop g.offset B) where
     unfolding elif_turn
     pass_elif b s =
         pass_pick g (is_closing closings.Elif b.next.token)
-        (pass_then g (pass_passed (closing_text closings.Elif) false s) (λ x t k is. pass_then g (pass_branch x.1 t) (λ c u l so. pass_pushed g (λ v. pass_give g
+        (pass_then g (pass_passed (closing_text closings.Elif) false _ s) (λ x t k is. pass_then g (pass_branch x.1 t) (λ c u l so. pass_pushed g (λ v. pass_give g
         (branches_last B b.branches c.0 ∙ ap (λ z. spelled_branches b ++ z) (rw (is, so) (ap (λ z. codes "elif" ∷ z) (sym (append-nil _)))))))))
         (pass_give g (grows_none g spelled_branches b))
 
@@ -431,7 +444,7 @@ module _ (B : List ℕ) (g : Given) (stands : g.text ≡ drop g.offset B) where
     unfolding an_else
     pass_else n s =
         pass_pick g (is_closing closings.Else n.token)
-        (pass_then g (pass_passed (closing_text closings.Else) false s) (λ x t k is. pass_last g (pass_list x.1 t) (λ l m so. rw (is, so) refl)))
+        (pass_then g (pass_passed (closing_text closings.Else) false _ s) (λ x t k is. pass_last g (pass_list x.1 t) (λ l m so. rw (is, so) refl)))
         (pass_give g refl)
 
     pass_if : (n : Next) (s : State) → Passing g (an_if inner n) (λ f k. codes "if" ∷ k ≡ spell_form (shape_of_form B f.what)) s
@@ -448,17 +461,60 @@ module _ (B : List ℕ) (g : Given) (stands : g.text ≡ drop g.offset B) where
         pass_then g (pass_list n s) (λ c t k1 one. pass_then g (pass_closing closings.Do c.1 t) (λ d u k2 two. pass_then g (pass_list d.1 u) (λ b v k3 three.
         pass_last g (pass_closing closings.Done b.1 v) (λ e k4 four. rw (one, two, three, four) (sym (append_assoc (spelling (shape_of B c.0)) (codes "do" ∷ spelling (shape_of B b.0)) (codes "done" ∷ [])))))))
 
+    pass_for_name : (n : Next) (s : State) → Passing g (a_for_name inner n) (Spells (λ x. spell_word (shape_of_word B x.0))) s
+    unfolding a_for_name
+    pass_for_name n s =
+        pass_pick g (begins_simple n.token)
+        (pass_on g (pass_see g) (λ p t. pass_on g (pass_see g) (λ good u. pass_then g (pass_word inner u) (λ w v k so.
+        pass_pick g good (pass_on g (silent_next g Command v) (λ m z. pass_give g (append-nil k ∙ so))) (pass_stop g)))))
+        (pass_unexpected g inner n s)
+
+    silent_sep : (cs : Row Span) (n : Next) (s : State) → Passing g (a_sequential_sep inner cs n) (Silent g) s
+    unfolding a_sequential_sep
+    silent_sep cs n s =
+        pass_on g (silent_semicolon g n s) (λ x t. pass_on g (silent_linebreak g cs x.1 t) (λ l u. pass_pick g (x.0 || l.join.broken) (pass_give g refl) (pass_unexpected g inner l.next u)))
+
+    -- the words of a head
+    abbrev HeadSpelled : Headed → Tokens → Type 0
+    HeadSpelled h k = k ≡ spell_for_words (shape_of_for_words B h.words)
+
+    pass_for_words : (cs : Row Span) (s : State) → Passing g (for_words inner cs) HeadSpelled s
+    unfolding for_words
+    pass_for_words cs s =
+        pass_then g (pass_passed (closing_text closings.In) false _ s) (λ i t k is. pass_then g (pass_many g spelled_items (item_turn inner) pass_item_turn (so_many [] i.1) t) (λ ws u l so.
+        pass_on g (silent_sep cs ws.next u) (λ x v. pass_give g (rw (is, append-nil l, ← so) refl))))
+
+    pass_for_head : (n : Next) (s : State) → Passing g (a_for_head inner n) HeadSpelled s
+    unfolding a_for_head
+    pass_for_head n s =
+        pass_on g (silent_semicolon g n s) (λ x t. pass_on g (silent_linebreak g [] x.1 t) (λ l u.
+        pass_pick g (not x.0 && is_closing closings.In l.next.token) (pass_for_words l.join.comments u) (pass_give g refl)))
+
+    pass_for : (n : Next) (s : State) → Passing g (a_for inner n) (λ f k. codes "for" ∷ k ≡ spell_form (shape_of_form B f.what)) s
+    unfolding a_for
+    pass_for n s =
+        pass_then g (pass_for_name n s) (λ x t k1 one.
+        pass_then g (pass_for_head x.1 t) (λ h u k2 two.
+        pass_then g (pass_closing closings.Do h.next u) (λ d v k3 three.
+        pass_last g (pass_group closings.Done d.1 v) (λ b k4 four.
+        let name = spell_word (shape_of_word B x.0) in
+        let words = spell_for_words (shape_of_for_words B h.words) in
+        let body = codes "do" ∷ spelling (shape_of B b.what) in
+        rw (one, two, three, four, remarks_spelled B h.comments b.what)
+        (ap (λ z. codes "for" ∷ z) (sym (append_assoc (name ++ words) body (codes "done" ∷ []) ∙ append_assoc name words (body ++ (codes "done" ∷ [])))))))))
+
     pass_form : (o : Opener) (n : Next) (s : State) → Passing g (a_form inner o n) (λ f k. opener_text o ∷ k ≡ spell_form (shape_of_form B f.what)) s
     pass_form openers.Brace n s = pass_last g (pass_group closings.Brace n s) (λ l k so. rw so refl)
     pass_form openers.Paren n s = pass_last g (pass_group closings.Paren n s) (λ l k so. rw so refl)
     pass_form openers.If n s = pass_if n s
     pass_form openers.While n s = pass_last g (pass_loop n s) (λ l k so. rw so refl)
     pass_form openers.Until n s = pass_last g (pass_loop n s) (λ l k so. rw so refl)
+    pass_form openers.For n s = pass_for n s
 
     pass_compound : (o : Opener) (s : State) → Passing g (a_compound inner o) (Spells (λ c. spell_command (shape_of_command B c.0))) s
     unfolding a_compound
     pass_compound o s =
-        pass_then g (pass_passed (opener_text o) _ s) (λ x t k is. pass_then g (pass_form o x.1 t) (λ f u m so. pass_pushed g (λ v. pass_give g (rw (is, append-nil m) (so ∙ sym (append-nil _))))))
+        pass_then g (pass_passed (opener_text o) _ _ s) (λ x t k is. pass_then g (pass_form o x.1 t) (λ f u m so. pass_pushed g (λ v. pass_give g (rw (is, append-nil m) (so ∙ sym (append-nil _))))))
 
     -- ---- lines
 

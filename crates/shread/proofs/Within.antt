@@ -1,8 +1,8 @@
 -- No node of what was read names an offset behind the place where the reading stands then.
-use Rattle.std.proofs.Common.{◌≡◌, refl, sym, subst, ℕ, zero, suc, ◌+◌, ◌≤◌, Bool, true, false, cond, Ok, Err, List, List as Row, [], ◌∷◌, Option, Some, None, arith, ⊎_elim}
+use Rattle.std.proofs.Common.{◌≡◌, refl, sym, subst, ℕ, zero, suc, ◌+◌, ◌≤◌, Bool, true, false, cond, Ok, Err, List, List as Row, [], ◌∷◌, ◌++◌, Option, Some, None, arith, ⊎_elim}
 use Rattle.std.specs.Prelude.{All, MatchOption}
 use Rattle.std.proofs.lemmas.Bool.{cases_lt, cond_both}
-use Rattle.std.proofs.lemmas.List.Elements.{All-head, All-nil, All-push}
+use Rattle.std.proofs.lemmas.List.Elements.{All-head, All-nil, All-push, All-tail}
 use Rattle.shread.specs.declared.mode.Mode.{Mode}
 use Rattle.shread.specs.declared.mode.Piece.{Piece}
 use Rattle.shread.specs.declared.mode.Piece.TheVariants as pieces
@@ -15,9 +15,9 @@ use Rattle.shread.specs.declared.token.Position.{Position}
 use Rattle.shread.specs.declared.token.Position.TheVariants.{Command, Prefix, Suffix}
 use Rattle.shtree.specs.declared.tree.AndOrOperator.{AndOrOperator}
 use Rattle.shtree.specs.declared.tree.Span.{Span}
-use Rattle.shtree.specs.Nodes.{AreWithin, IsSpanWithin, and_or_nodes, branch_nodes, branches_nodes, else_nodes, entries_nodes, form_nodes}
-use Rattle.shtree.specs.Tree.{ACommand, AForm, ASubst, AWord, AnEntry, branches_of, entries_of, item}
-use Rattle.shtree.proofs.Reach.{Nodes, CommentFits, SubstFits, WordFits, ItemFits, CommandFits, PipelineFits, PipeFits, PartFits, EntryFits, BranchFits, both as fits_both, fits_substs, fits_entries, fits_branches, fits_assign, fits_argument, fits_simple, fits_compound, fits_pipeline, fits_and_or, fits_command, fits_remark, span_fits_more, within_append}
+use Rattle.shtree.specs.Nodes.{AreWithin, IsSpanWithin, and_or_nodes, branch_nodes, branches_nodes, else_nodes, entries_nodes, entry_nodes, for_words_nodes, form_nodes, word_nodes}
+use Rattle.shtree.specs.Tree.{ACommand, AForm, ASubst, AWord, AnEntry, Entries, branches_of, entries_of, entry, item, remark}
+use Rattle.shtree.proofs.Reach.{Nodes, CommentFits, SubstFits, WordFits, ItemFits, CommandFits, PipelineFits, PipeFits, PartFits, EntryFits, BranchFits, both as fits_both, fits_substs, fits_items, fits_word, fits_entries, fits_branches, fits_assign, fits_argument, fits_simple, fits_compound, fits_pipeline, fits_and_or, fits_command, fits_remark, span_fits_more, within_append}
 use Rattle.shread.specs.Standing.{raw_stands, raw_in, next_newline, before_blanks}
 use Rattle.shread.specs.Comments.{span, comment_at, past_comment}
 use Rattle.shread.specs.Classes.{is_blank}
@@ -26,7 +26,7 @@ use Rattle.shread.specs.Form.{Spelled, Told, Read, Form, give, push, both, many,
 use Rattle.shread.specs.Words.{Inner, Held, having, opened, piece_row, a_piece, contents, a_word}
 use Rattle.shread.specs.Commands.{pick, is_pipe, is_bang, begins_simple, begins_pipeline, opener_of, compound_by, and_or_operator_of, breaks, Items, so_many, behind_item, as_item, an_item, item_by, item_turn, a_simple, a_bang, a_comment, comment_by, unexpected, with_comment, JoinSo, join_turn, a_join, a_command, Piped, piped, one_command, pipe_turn, a_pipeline, Joined, joined_so, one_pipeline, joined_by, join_pipeline, an_and_or, is_background, an_entry}
 use Rattle.shread.specs.Lists.{ListSo, list_so, none_listed, is_blank_next, one_entry, entry_turn, remark_by, a_remark, on_line, list_turn, a_list}
-use Rattle.shread.specs.Compounds.{Branched, branched, Closed, is_closing, is_open_paren, is_close_paren, passed, closing, a_branch, elif_turn, an_else, an_if, a_loop, a_group, a_form, held_apart, a_compound}
+use Rattle.shread.specs.Compounds.{Branched, branched, Closed, is_closing, is_open_paren, is_close_paren, passed, closing, a_branch, elif_turn, an_else, an_if, a_loop, a_group, a_for_name, a_linebreak, a_sequential_sep, Headed, for_words, a_for_head, behind_remarks, a_for, a_form, held_apart, a_compound}
 use Rattle.shread.specs.Levels.{most_open, level}
 use Rattle.shread.specs.Lines.{a_line, ALine, IsLine, line_read, line_stops, kind_of}
 use Rattle.shread.specs.Scripts.{SoFar, the_line, with_line}
@@ -312,13 +312,13 @@ module _ (keep : Bool) (g : Given) (limit : ℕ) where
 
     -- ---- compound commands
 
-    passed_fits : (text : Spelled) (paren : Bool) (s : State) → R (passed text paren) (λ x. IsSpanWithin limit x.0) s
+    passed_fits : (text : Spelled) (paren : Bool) (position : Position) (s : State) → R (passed text paren position) (λ x. IsSpanWithin limit x.0) s
     unfolding passed
-    passed_fits text paren s = first (tokens {P = λ u. Unit {0}} (record { told = λ b. tt })) (λ x t so. after (λ n u. gives so.1))
+    passed_fits text paren position s = first (tokens {P = λ u. Unit {0}} (record { told = λ b. tt })) (λ x t so. after (λ n u. gives so.1))
 
     closing_fits : (c : Closing) (n : Next) (s : State) → R (closing inner c n) (λ x. IsSpanWithin limit x.0) s
     unfolding closing
-    closing_fits c n s = picks (is_closing c n.token) (passed_fits _ (is_close_paren c) s) (stopped n)
+    closing_fits c n s = picks (is_closing c n.token) (passed_fits _ (is_close_paren c) _ s) (stopped n)
 
     branch_fits : (n : Next) (s : State) → R (a_branch inner n) (λ x. BranchFits limit x.0) s
     unfolding a_branch
@@ -366,12 +366,53 @@ module _ (keep : Bool) (g : Given) (limit : ℕ) where
     unfolding a_group
     group_fits c n s = first (list_fits n s) (λ l t so. first (closing_fits c l.1 t) (λ k u last. gives (so, last)))
 
+    for_name_fits : (n : Next) (s : State) → R (a_for_name inner n) (λ x. WordFits limit x.0) s
+    unfolding a_for_name
+    for_name_fits n s =
+        picks (begins_simple n.token) (after (λ p t. after (λ good u. first (word_fits u) (λ w v one. picks good (after (λ m z. gives one)) (record { told = tt }))))) (stopped n)
+
+    linebreak_fits : (cs : Row Span) (n : Next) (s : State) → All (CommentFits limit) cs → R (a_linebreak cs n) JoinFits s
+    unfolding a_linebreak
+    linebreak_fits cs n s all = repeats JoinFits join_turn join_turn_fits _ s all
+
+    sep_fits : (cs : Row Span) (n : Next) (s : State) → All (CommentFits limit) cs → R (a_sequential_sep inner cs n) JoinFits s
+    unfolding a_sequential_sep
+    sep_fits cs n s all = after (λ x t. first (linebreak_fits cs x.1 t all) (λ l u so. picks _ (gives so) (stopped l.next)))
+
+    abbrev HeadFits : Headed → Type 0
+    HeadFits h = Nodes limit (for_words_nodes h.words) × All (CommentFits limit) h.comments
+
+    for_words_fit : (cs : Row Span) (s : State) → All (CommentFits limit) cs → R (for_words inner cs) HeadFits s
+    unfolding for_words
+    for_words_fit cs s all =
+        after (λ i t. first (repeats ItemsFit (item_turn inner) item_turn_fits (so_many [] i.1) t (All-nil (ItemFits limit)))
+        (λ ws u items. first (sep_fits cs ws.next u all) (λ l v so. gives (fits_items limit ws.items items, so))))
+
+    for_head_fits : (n : Next) (s : State) → R (a_for_head inner n) HeadFits s
+    unfolding a_for_head
+    for_head_fits n s =
+        after (λ x t. first (linebreak_fits [] x.1 t (All-nil (CommentFits limit))) (λ l u so. picks _ (for_words_fit l.join.comments u so) (gives (All-nil _, so))))
+
+    remarks_fit : (cs : Row Span) (es : Entries) → All (CommentFits limit) cs → AreWithin limit es → AreWithin limit (behind_remarks cs es)
+    remarks_fit [] es all so = so
+    remarks_fit (c ∷ cs) es all so =
+        fits_both limit (entry_nodes (entry (remark c) false false None)) (entries_nodes (behind_remarks cs es))
+        (fits_remark limit c false false (All-head (CommentFits limit) c cs all)) (remarks_fit cs es (All-tail (CommentFits limit) c cs all) so)
+
+    for_fits : (n : Next) (s : State) → R (a_for inner n) FormFits s
+    unfolding a_for
+    for_fits n s =
+        first (for_name_fits n s) (λ x t one. first (for_head_fits x.1 t) (λ h u two. after (λ d v. first (group_fits closings.Done d.1 v)
+        (λ b w body. let head = fits_both limit (word_nodes x.0) (for_words_nodes h.words) (fits_word limit x.0 one) two.0 in
+        gives (fits_both limit (word_nodes x.0 ++ for_words_nodes h.words) (entries_nodes (behind_remarks h.comments b.what)) head (remarks_fit h.comments b.what two.1 body.0), body.1)))))
+
     form_fits : (o : Opener) (n : Next) (s : State) → R (a_form inner o n) FormFits s
     form_fits openers.Brace n s = first (group_fits closings.Brace n s) (λ l t so. gives so)
     form_fits openers.Paren n s = first (group_fits closings.Paren n s) (λ l t so. gives so)
     form_fits openers.If n s = if_fits n s
     form_fits openers.While n s = first (loop_fits n s) (λ l t so. gives so)
     form_fits openers.Until n s = first (loop_fits n s) (λ l t so. gives so)
+    form_fits openers.For n s = for_fits n s
 
     -- a command held apart, or one that holds nothing
     apart_fits : (cs : Row ACommand) → All (CommandFits limit) cs → CommandFits limit (held_apart cs)
@@ -380,7 +421,7 @@ module _ (keep : Bool) (g : Given) (limit : ℕ) where
 
     compound_fits : (o : Opener) (s : State) → R (a_compound inner o) (λ c. CommandFits limit c.0) s
     unfolding a_compound
-    compound_fits o s = first (passed_fits _ (is_open_paren o) s) (λ x t begin. first (form_fits o x.1 t)
+    compound_fits o s = first (passed_fits _ (is_open_paren o) _ s) (λ x t begin. first (form_fits o x.1 t)
         (λ f u so. first (pushes (CommandFits limit) (All-nil (CommandFits limit)) (fits_compound limit f.what _ (begin.0, so.1.1) so.0)) (λ cs v all. gives (apart_fits cs all))))
 
   pub level_fits : (room : ℕ) → Fine (level room)

@@ -1,21 +1,23 @@
--- Compound commands: groups, `if` and loops (XCU 2.9.4, 2.10.2).
-use Rattle.std.specs.Prelude.{Bool, true, false, [], ◌∷◌, codes, List as Row}
+-- Compound commands: groups, `if`, loops and `for` (XCU 2.9.4, 2.10.2).
+use Rattle.std.specs.Prelude.{Bool, true, false, not, ◌&&◌, ◌||◌, [], ◌∷◌, codes, List as Row, None}
+use Rattle.shread.specs.declared.fault.FaultKind.TheVariants.{BadForName}
 use Rattle.shread.specs.declared.token.Closing.{Closing}
 use Rattle.shread.specs.declared.token.Closing.TheVariants as closings
 use Rattle.shread.specs.declared.token.Next.{Next}
 use Rattle.shread.specs.declared.token.Opener.{Opener}
 use Rattle.shread.specs.declared.token.Opener.TheVariants as openers
-use Rattle.shread.specs.declared.token.Position.TheVariants.{Command}
+use Rattle.shread.specs.declared.token.Position.{Position}
+use Rattle.shread.specs.declared.token.Position.TheVariants.{Command, Suffix}
 use Rattle.shread.specs.declared.token.Reserved.TheVariants as reserved
 use Rattle.shread.specs.declared.token.Token.{Token}
 use Rattle.shread.specs.declared.token.Token.TheVariants as tokens
 use Rattle.shtree.specs.declared.tree.Span.{Span}
 use Rattle.shtree.specs.Nodes.{through}
-use Rattle.shtree.specs.Tree.{Entries, ACommand, simple, compound, formed, AForm, brace, subshell, if_then, while_do, until_do, ABranch, branch, branches_of, Otherwise, no_else, otherwise, no_item}
-use Rattle.shread.specs.Sights.{Move, one_byte, the_reserved}
-use Rattle.shread.specs.Form.{Form, Spelled, give, move, push, by, token, many, ◌>>=◌, Step, again, done}
-use Rattle.shread.specs.Words.{Inner}
-use Rattle.shread.specs.Commands.{next_token, pick, unexpected}
+use Rattle.shtree.specs.Tree.{Entries, entry, remark, more_entries, ACommand, simple, compound, formed, AForm, brace, subshell, if_then, while_do, until_do, for_in, AWord, ForWords, no_in, in_words, items_of, ABranch, branch, branches_of, Otherwise, no_else, otherwise, no_item}
+use Rattle.shread.specs.Sights.{here, is_a_name, Move, one_byte, the_reserved}
+use Rattle.shread.specs.Form.{Form, Spelled, give, see, move, push, stop, by, token, many, ◌>>=◌, Step, again, done}
+use Rattle.shread.specs.Words.{Inner, a_word}
+use Rattle.shread.specs.Commands.{next_token, pick, begins_simple, unexpected, a_semicolon, JoinSo, join_so, a_join_of, join_turn, so_many, item_turn}
 use Rattle.shread.specs.Lists.{a_list}
 
 -- ---- what opens, parts and closes the lists of a compound command
@@ -29,6 +31,7 @@ is_closing closings.Else (tokens.Reserved reserved.Else) = true
 is_closing closings.Fi (tokens.Reserved reserved.Fi) = true
 is_closing closings.Do (tokens.Reserved reserved.Do) = true
 is_closing closings.Done (tokens.Reserved reserved.Done) = true
+is_closing closings.In (tokens.Reserved reserved.In) = true
 is_closing _ _ = false
 
 abbrev pub opener_text : Opener → Spelled
@@ -37,6 +40,7 @@ opener_text openers.Paren = codes "("
 opener_text openers.If = codes "if"
 opener_text openers.While = codes "while"
 opener_text openers.Until = codes "until"
+opener_text openers.For = codes "for"
 
 abbrev pub closing_text : Closing → Spelled
 closing_text closings.Brace = codes "}"
@@ -47,6 +51,7 @@ closing_text closings.Else = codes "else"
 closing_text closings.Fi = codes "fi"
 closing_text closings.Do = codes "do"
 closing_text closings.Done = codes "done"
+closing_text closings.In = codes "in"
 
 -- all others are reserved words
 abbrev pub is_open_paren : Opener → Bool
@@ -61,13 +66,18 @@ abbrev pub past_opener : Bool → Move
 past_opener true = one_byte
 past_opener false = the_reserved
 
--- the round bracket or the reserved word here, told by this text, and the token behind it
-unfoldable pub passed : Spelled → Bool → Form (Span × Next)
-passed text paren = token (by text) (move (past_opener paren)) >>= λ x. next_token Command >>= λ n. give (x.1, n)
+-- Behind `for` stands a word, reserved or not (XCU 2.10.2, rule 5). Behind all others a command may begin.
+abbrev pub behind_opener : Opener → Position
+behind_opener openers.For = Suffix
+behind_opener _ = Command
+
+-- the round bracket or the reserved word here, told by this text, and the token behind it, which stands in this position
+unfoldable pub passed : Spelled → Bool → Position → Form (Span × Next)
+passed text paren position = token (by text) (move (past_opener paren)) >>= λ x. next_token position >>= λ n. give (x.1, n)
 
 -- what has to stand here, and the token behind it
 unfoldable pub closing : Inner → Closing → Next → Form (Span × Next)
-closing inner c n = pick (is_closing c n.token) (passed (closing_text c) (is_close_paren c)) (unexpected inner n)
+closing inner c n = pick (is_closing c n.token) (passed (closing_text c) (is_close_paren c) Command) (unexpected inner n)
 
 -- ---- compound commands, from behind their openers
 
@@ -100,11 +110,11 @@ branched bs n = record { branches = bs; next = n }
 unfoldable pub elif_turn : Inner → Branched → Form (Step Branched)
 elif_turn inner b =
     pick (is_closing closings.Elif b.next.token)
-    (passed (closing_text closings.Elif) false >>= λ k. a_branch inner k.1 >>= λ x. push b.branches x.0 >>= λ bs. give (again (branched bs x.1)))
+    (passed (closing_text closings.Elif) false Command >>= λ k. a_branch inner k.1 >>= λ x. push b.branches x.0 >>= λ bs. give (again (branched bs x.1)))
     (give (done b))
 
 unfoldable pub an_else : Inner → Next → Form (Otherwise × Next)
-an_else inner n = pick (is_closing closings.Else n.token) (passed (closing_text closings.Else) false >>= λ k. a_list inner k.1 >>= λ l. give (otherwise l.0, l.1)) (give (no_else, n))
+an_else inner n = pick (is_closing closings.Else n.token) (passed (closing_text closings.Else) false Command >>= λ k. a_list inner k.1 >>= λ l. give (otherwise l.0, l.1)) (give (no_else, n))
 
 unfoldable pub an_if : Inner → Next → Form (Closed AForm)
 an_if inner n =
@@ -123,12 +133,69 @@ a_loop inner n =
     closing inner closings.Done b.1 >>= λ e.
     give (closed (branch c.0 b.0) e)
 
+-- ---- `for` (XCU 2.9.4.2)
+
+-- the word behind `for`, which has to be a NAME (XCU 2.10.2, rule 5), and the token behind it
+unfoldable pub a_for_name : Inner → Next → Form (AWord × Next)
+a_for_name inner n =
+    pick (begins_simple n.token)
+    (see here >>= λ p. see is_a_name >>= λ good. a_word inner >>= λ w. pick good (next_token Command >>= λ m. give (w, m)) (stop BadForName p))
+    (unexpected inner n)
+
+-- comments and newlines, behind these comments, and the token behind them
+unfoldable pub a_linebreak : Row Span → Next → Form JoinSo
+a_linebreak cs n = many join_turn (join_so (a_join_of false cs) n)
+
+-- `;` or a newline, with newlines and comments behind it
+unfoldable pub a_sequential_sep : Inner → Row Span → Next → Form JoinSo
+a_sequential_sep inner cs n =
+    a_semicolon n >>= λ s. a_linebreak cs s.1 >>= λ l. pick (s.0 || l.join.broken) (give l) (unexpected inner l.next)
+
+-- what stands between the name of a for and its `do`: words, comments, and the token behind them
+pub record Headed : Type 0 where
+  pub words : ForWords
+  pub comments : Row Span
+  pub next : Next
+
+abbrev pub headed : ForWords → JoinSo → Headed
+headed ws l = record { words = ws; comments = l.join.comments; next = l.next }
+
+-- `in`, words, and what ends them; none of the words is reserved
+unfoldable pub for_words : Inner → Row Span → Form Headed
+for_words inner cs =
+    passed (closing_text closings.In) false Suffix >>= λ i.
+    many (item_turn inner) (so_many [] i.1) >>= λ ws.
+    a_sequential_sep inner cs ws.next >>= λ l.
+    give (headed (in_words (items_of ws.items)) l)
+
+-- `in` may stand behind newlines (XCU 2.10.2, rule 6), and not behind `;`
+unfoldable pub a_for_head : Inner → Next → Form Headed
+a_for_head inner n =
+    a_semicolon n >>= λ s.
+    a_linebreak [] s.1 >>= λ l.
+    pick (not s.0 && is_closing closings.In l.next.token) (for_words inner l.join.comments) (give (headed no_in l))
+
+-- comments before a list, as its first entries
+abbrev pub behind_remarks : Row Span → Entries → Entries
+behind_remarks [] es = es
+behind_remarks (c ∷ cs) es = more_entries (entry (remark c) false false None) (behind_remarks cs es)
+
+-- the comments of the head stand in the body
+unfoldable pub a_for : Inner → Next → Form (Closed AForm)
+a_for inner n =
+    a_for_name inner n >>= λ x.
+    a_for_head inner x.1 >>= λ h.
+    closing inner closings.Do h.next >>= λ d.
+    a_group inner closings.Done d.1 >>= λ b.
+    give (closed (for_in x.0 h.words (behind_remarks h.comments b.what)) (b.closer, b.next))
+
 abbrev pub a_form : Inner → Opener → Next → Form (Closed AForm)
 a_form inner openers.Brace n = a_group inner closings.Brace n >>= λ l. give (closed (brace l.what) (l.closer, l.next))
 a_form inner openers.Paren n = a_group inner closings.Paren n >>= λ l. give (closed (subshell l.what) (l.closer, l.next))
 a_form inner openers.If n = an_if inner n
 a_form inner openers.While n = a_loop inner n >>= λ l. give (closed (while_do l.what) (l.closer, l.next))
 a_form inner openers.Until n = a_loop inner n >>= λ l. give (closed (until_do l.what) (l.closer, l.next))
+a_form inner openers.For n = a_for inner n
 
 -- ---- a compound command
 
@@ -140,7 +207,7 @@ held_apart (c ∷ cs) = c
 -- the compound command that opens here, and the token behind it
 unfoldable pub a_compound : Inner → Opener → Form (ACommand × Next)
 a_compound inner o =
-    passed (opener_text o) (is_open_paren o) >>= λ x.
+    passed (opener_text o) (is_open_paren o) (behind_opener o) >>= λ x.
     a_form inner o x.1 >>= λ f.
     push [] (compound (formed f.what (through x.0 f.closer) no_item)) >>= λ cs.
     give (held_apart cs, f.next)

@@ -1,18 +1,23 @@
 -- The lines of a script, read one after the other.
-use Rattle.std.specs.Prelude.{◌≡◌, ◌≤◌, ℕ, ◌++◌, List, map, false, not, None, Some}
+use Rattle.std.specs.Prelude.{◌≡◌, ◌≤◌, ℕ, ◌+◌, Bool, true, false, List, List as Row, Ok, Err, drop, map, not}
 use Rattle.shread.specs.declared.script_lines.ScriptLine.{ScriptLine}
 use Rattle.shread.specs.declared.script_lines.ScriptLine.TheVariants.{Ended, Last, Faulty}
 use Rattle.shread.specs.declared.script_lines.ScriptLines.{ScriptLines}
 use Rattle.shtree.specs.Nodes.{AreWithin}
-use Rattle.shtree.specs.Tree.{entries_of}
+use Rattle.shtree.specs.Tree.{AnEntry, entries_of}
 use Rattle.shtree.specs.View.{view_entry}
 use Rattle.shread.specs.Commands.{is_empty}
-use Rattle.shread.specs.Form.{Spelled}
-use Rattle.shread.specs.Scripts.{AScript, Lines, SoFar, with_line}
+use Rattle.shread.specs.Form.{Read, Spelled, may}
+use Rattle.shread.specs.Scripts.{SoFar, is_blank_line, the_line, with_line}
+use Rattle.shread.specs.Sights.{State, given, standing}
 
--- the script of lines that gave this and of the lines from p on
-abbrev pub Rest : List ℕ → SoFar → ℕ → AScript → Type 0
-Rest B so p s = (k : List Spelled) × Lines B so p s k
+-- what the grammar reads of the line at p, behind lines that gave this
+abbrev pub LineReads : List ℕ → SoFar → ℕ → Read (Row AnEntry × Bool) → Type 0
+LineReads B so p x = (k : Row Spelled) × may (the_line (is_blank_line so)) (given (drop p B) p) (standing 0) x k
+
+-- the line at p has these entries, and ends before q: by a newline, or where the script ends
+abbrev pub LineEnds : List ℕ → SoFar → ℕ → Row AnEntry → Bool → ℕ → Type 0
+LineEnds B so p es newline q = (t : State) × (q ≡ p + t.at) × LineReads B so p (Ok ((es, newline), t))
 
 module _ {S : Type 0} where
   -- the bytes of the script, where its source tells them
@@ -31,13 +36,11 @@ module _ {S : Type 0} where
   abbrev pub Stands : ScriptLines S → SoFar → Type 0
   Stands lines so = (lines.gap ≡ so.gap) × (lines.begun ≡ not (is_empty so.entries))
 
-  -- A line, behind lines that gave this, from `old` on. Where it ended: what the lines behind it give is what they give with it.
-  -- Else it is the script's last, or its first fault stands in it.
-  abbrev pub Leads : List ℕ → SoFar → ScriptLines S → ScriptLine → ScriptLines S → Type 0
-  Leads B so old (Ended es) new = Stands new (with_line so (map view_entry es.items))
-      × ((s : AScript) → Rest B (with_line so (map view_entry es.items)) new.at s → Rest B so old.at s)
-  Leads B so old (Last es) new = Rest B so old.at (record { entries = entries_of (so.entries ++ map view_entry es.items); wrong = None })
-  Leads B so old (Faulty f) new = Rest B so old.at (record { entries = entries_of so.entries; wrong = Some f })
+  -- The line, behind lines that gave this, from `old` to `new`. At a fault nothing moves.
+  abbrev pub IsNextLine : List ℕ → SoFar → ScriptLines S → ScriptLine → ScriptLines S → Type 0
+  IsNextLine B so old (Ended es) new = LineEnds B so old.at (map view_entry es.items) true new.at × Stands new (with_line so (map view_entry es.items))
+  IsNextLine B so old (Last es) new = LineEnds B so old.at (map view_entry es.items) false new.at × Stands new (with_line so (map view_entry es.items))
+  IsNextLine B so old (Faulty f) new = LineReads B so old.at (Err f) × (new ≡ old)
 
 -- another line follows
 abbrev pub GoesOn : ScriptLine → Type 0

@@ -8,7 +8,7 @@ use Rattle.shread.specs.declared.token.Position.{Position}
 use Rattle.shtree.specs.declared.tree.Span.{Span}
 use Rattle.shread.specs.Standing.{raw_stands, at_end}
 use Rattle.shread.specs.Bytes.{past_continuations, behind, past_blanks}
-use Rattle.shread.specs.Tokens.{next_at, past_reserved}
+use Rattle.shread.specs.Tokens.{next_at, past_reserved, is_name_at}
 use Rattle.shread.specs.Pieces.{piece_at, past_taken, past_closer, next_quote, next_in_backquotes, is_last_backslash, past_parameter, rest_mode}
 use Rattle.shread.specs.Comments.{comment_at, past_comment}
 
@@ -58,6 +58,8 @@ pub data Sight : Type 0 → Type 1 where
   the_token : Position → Sight Next
   -- the comment that begins here
   the_comment : Sight (Option Span)
+  -- the word that begins here is a NAME
+  is_a_name : Sight Bool
 
 abbrev pub seen : {X : Type 0} → Sight X → Given → State → X
 seen here g s = g.offset + s.at
@@ -69,6 +71,7 @@ seen a_backquote g s = raw_stands g.text s.at 96
 seen last_backslash g s = is_last_backslash g.text s.at
 seen (the_token position) g s = next_at position g.text s.at
 seen the_comment g s = comment_at g.text g.offset s.at
+seen is_a_name g s = is_name_at g.text s.at
 
 -- ---- where a reading may move to
 

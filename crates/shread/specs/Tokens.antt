@@ -44,6 +44,10 @@ past_reserved T p = past is_name T (behind T p)
 unfoldable pub begins_assignment : List ℕ → ℕ → Bool
 begins_assignment T p = stands_in is_letter T p && stands T (past is_name T p) 61
 
+-- the word that stands at p is a NAME (XBD 3.235)
+unfoldable pub is_name_at : List ℕ → ℕ → Bool
+is_name_at T p = stands_in is_letter T p && ends_word T (past is_name T p)
+
 -- digits that `<` or `>` follows stand at p (XCU 2.10.1, rule 2)
 unfoldable pub is_number : List ℕ → ℕ → Bool
 is_number T p = stands_in is_digit T p && (stands T (past is_digit T p) 60 || stands T (past is_digit T p) 62)

@@ -1,7 +1,7 @@
 //! What may stand between commands: comments, newlines, separators, and what no row takes (XCU 2.3, 2.9.3).
 ghost use Rattle.std.specs.Prelude.{◌≡◌, ◌≤◌, IfOk, Ok as Done, option_map};
 ghost use Rattle.shread.specs.Clauses.{end_of, Onward, Reads, reads, Shows, Stays, text_of};
-ghost use Rattle.shread.specs.Commands.{a_comment, a_newline, a_separator, is_parted, what_is_wrong};
+ghost use Rattle.shread.specs.Commands.{a_comment, a_newline, a_semicolon, a_separator, is_parted, what_is_wrong};
 ghost use Rattle.shread.specs.Levels.{level};
 ghost use Rattle.shread.specs.Sights.{standing};
 ghost use Rattle.shtree.specs.View.{view_comment};
@@ -46,6 +46,23 @@ impl<'a, S: Source> Cursor<'a, S> {
         ensures same { Stays self.old self.new }
     {
         let Token::Newline = next.token else {
+            return false;
+        };
+        self.step();
+        *next = self.next_token(Position::Command);
+        true
+    }
+
+    /// Passes the `;` here, if one stands. `next` is the token here, and then the one behind it.
+    #[tactic(auto, unfolding(crate::specs::Commands::a_semicolon, crate::specs::Commands::next_token))]
+    pub(crate) fn semicolon(&mut self, next: &mut Next) -> bool
+        requires shows { Shows next.old.token (text_of S.bytes self.old) self.old.at }
+        ensures value { reads S.bytes self.old (a_semicolon next.old) ≡ Done ((result, next.new), standing self.new.at) }
+        ensures shows { Shows next.new.token (text_of S.bytes self.old) self.new.at }
+        ensures onward { Onward self.old.at self.new.at result }
+        ensures same { Stays self.old self.new }
+    {
+        let Token::Semicolon = next.token else {
             return false;
         };
         self.step();

@@ -47,17 +47,24 @@ impl<'a, S: Source> Cursor<'a, S> {
         };
         let start = self.at;
         self.pass_word(room)?;
-        if self.keep {
-            let broken = !items.is_empty() && next.broken;
-            items.push(item_of(self.word_from(alloc, start), position, broken))?;
+        if !self.keep {
+            *next = self.next_token(position);
+            return Ok(true);
         }
+        let word = self.word_from(alloc, start);
+        let broken = !items.is_empty() && next.broken;
         *next = self.next_token(position);
+        // A command of one word takes room for no more.
+        if items.is_empty() && next.token.behind_item().is_none() {
+            items.reserve_exact(1)?;
+        }
+        items.push(item_of(word, position, broken))?;
         Ok(true)
     }
 
     /// The items of the simple command that the token here begins. `next` is that token, and then the one behind them.
     #[tactic(auto, using(crate::proofs::Turns::many_again, crate::proofs::Turns::many_done, crate::proofs::Turns::many_stop))]
-    fn items(
+    pub(crate) fn items(
         &mut self,
         alloc: Global,
         next: &mut Next,

@@ -1,4 +1,4 @@
-//! Compound commands: groups, `if` and loops (XCU 2.9.4).
+//! Compound commands: groups, `if` and loops (XCU 2.9.4). `for` stands in [`crate::for_loop`].
 ghost use Rattle.std.specs.Prelude.{◌≡◌, ◌<◌, ◌≤◌, [], map, IfOk, Ok as Done, false};
 ghost use Rattle.shread.specs.Clauses.{IsRead, Onward, Reads, reads, Shows, Stays, text_of};
 ghost use Rattle.shread.specs.Compounds.{a_branch, a_form, a_group, a_loop, an_else, an_if, branched, closed, closing, elif_turn, passed};
@@ -20,11 +20,11 @@ use shtree::{Branch, Command, Form, List, Span};
 use std::alloc::Global;
 
 impl<'a, S: Source> Cursor<'a, S> {
-    /// Passes the round bracket or the reserved word here. `next` is set to the token behind it.
+    /// Passes the round bracket or the reserved word here. `next` is set to the token behind it, which stands in this position.
     #[tactic(auto, unfolding(crate::specs::Compounds::passed, crate::specs::Commands::next_token))]
-    fn passed(&mut self, paren: bool, next: &mut Next) -> Span
+    pub(crate) fn passed(&mut self, paren: bool, position: Position, next: &mut Next) -> Span
         requires { IsRead (text_of S.bytes self.old) self.old.at }
-        ensures value { (text : Spelled) → reads S.bytes self.old (passed text paren) ≡ Done ((result, next.new), standing self.new.at) }
+        ensures value { (text : Spelled) → reads S.bytes self.old (passed text paren position) ≡ Done ((result, next.new), standing self.new.at) }
         ensures shows { Shows next.new.token (text_of S.bytes self.old) self.new.at }
         ensures onward { self.old.at < self.new.at }
         ensures same { Stays self.old self.new }
@@ -36,13 +36,18 @@ impl<'a, S: Source> Cursor<'a, S> {
             self.pass_reserved();
         }
         let span = self.span_from(start);
-        *next = self.next_token(Position::Command);
+        *next = self.next_token(position);
         span
     }
 
     /// Passes what has to stand here. `next` is the token here, and then the one behind it.
     #[tactic(auto, unfolding(crate::specs::Compounds::closing))]
-    fn closing(&mut self, what: Closing, next: &mut Next, room: usize) -> Result<Span, Stop>
+    pub(crate) fn closing(
+        &mut self,
+        what: Closing,
+        next: &mut Next,
+        room: usize,
+    ) -> Result<Span, Stop>
         requires shows { Shows next.old.token (text_of S.bytes self.old) self.old.at }
         ensures value { Reads S.bytes self.old (closing (level room) what next.old) result (λ span. (span, next.new)) self.new.at }
         ensures shows { IfOk result (λ span. Shows next.new.token (text_of S.bytes self.old) self.new.at) }
@@ -52,13 +57,13 @@ impl<'a, S: Source> Cursor<'a, S> {
         if !next.token.is_closing(what) {
             return Err(Stop::Wrong(self.what_is_wrong(next, room)?));
         }
-        Ok(self.passed(matches!(what, Closing::Paren), next))
+        Ok(self.passed(matches!(what, Closing::Paren), Position::Command, next))
     }
 
     /// The list of a group, and what closes it.
     #[cycle(commands)]
     #[tactic(auto, unfolding(crate::specs::Compounds::a_group))]
-    fn group(
+    pub(crate) fn group(
         &mut self,
         alloc: Global,
         what: Closing,
@@ -114,7 +119,7 @@ impl<'a, S: Source> Cursor<'a, S> {
         if !next.token.is_closing(Closing::Elif) {
             return Ok(false);
         }
-        let _ = self.passed(false, next);
+        let _ = self.passed(false, Position::Command, next);
         let branch = self.branch(alloc, next, room)?;
         if self.keep {
             branches.push(branch)?;
@@ -157,7 +162,7 @@ impl<'a, S: Source> Cursor<'a, S> {
         if !next.token.is_closing(Closing::Else) {
             return Ok(None);
         }
-        let _ = self.passed(false, next);
+        let _ = self.passed(false, Position::Command, next);
         Ok(Some(self.list(alloc, next, room)?))
     }
 
@@ -241,6 +246,7 @@ impl<'a, S: Source> Cursor<'a, S> {
                 let (branch, closer) = self.loop_command(alloc, next, room)?;
                 Ok((until_of(branch), closer))
             }
+            Opener::For => self.for_command(alloc, next, room),
         }
     }
 
@@ -264,7 +270,7 @@ impl<'a, S: Source> Cursor<'a, S> {
         if room == 0 {
             return Err(self.wrong_at(FaultKind::TooDeep, self.at));
         }
-        let opened = self.passed(matches!(opener, Opener::Paren), next);
+        let opened = self.passed(matches!(opener, Opener::Paren), opener.behind(), next);
         let (form, closer) = self.form(alloc, opener, next, room - 1)?;
         if !self.keep {
             // Nobody reads the command: it needs no box.

@@ -6,6 +6,10 @@
 //                where it is broken
 //   {S-E ..}     a group and its entries; so is (S-E ..), a subshell
 //   <S-E if .. then .. elif .. then .. else ..>, <S-E while .. do ..>, <S-E until .. do ..>
+//   <S-E for W in I I do ..>    its name, and its words where `in` stands; an item that is broken has `^` before it
+//   <S-E case W (S-E #.. P|P ..) ..>    its word, and its items: each with its span, its comments, its patterns and its entries;
+//                behind the last item the comments that follow it
+//   fS-E#..{..}  a function: its name, its comments and its body
 //   #S-E         a comment that is an entry
 //   ~            before an entry: it is blank
 //   &            behind an entry: it is in the background
@@ -18,8 +22,8 @@
 // So is a line, which is `blank` or `end` where it has no entry; then follow `to N`, the offset behind it, and `, ended`.
 use crate::{Fault, Line, LineKind, Reader, Source};
 use shtree::{
-    AndOr, AndOrOperator, Branch, Command, Compound, Content, Entry, Form, Item, ItemContent, Join,
-    List, Pipeline, Span, Word,
+    AndOr, AndOrOperator, Branch, CaseItem, Command, Comment, Compound, Content, Entry, Form, Item,
+    ItemContent, Join, List, Pipeline, Span, Word,
 };
 use std::alloc::Global;
 use std::test::Fail;
@@ -39,7 +43,13 @@ fn dump_join(text: &mut String, operator: &str, join: &Join) -> Result<(), Fail>
     if join.broken {
         text.push_str("^")?;
     }
-    for comment in &join.comments {
+    dump_comments(text, "", &join.comments)
+}
+
+/// Comments, each behind this text.
+fn dump_comments(text: &mut String, before: &str, comments: &[Comment]) -> Result<(), Fail> {
+    for comment in comments {
+        text.push_str(before)?;
         dump_span(text, "#", comment.span)?;
     }
     Ok(())
@@ -65,7 +75,7 @@ fn dump_item(text: &mut String, item: &Item) -> Result<(), Fail> {
     match &item.what {
         ItemContent::Assign(word) => dump_word(text, "=", word),
         ItemContent::Word(word) => dump_word(text, "", word),
-        ItemContent::Redirect { .. } => unread(),
+        ItemContent::Redirect(_) => unread(),
     }
 }
 
@@ -82,7 +92,11 @@ fn dump_command(text: &mut String, command: &Command) -> Result<(), Fail> {
             Ok(())
         }
         Command::Compound(compound) => dump_compound(text, compound),
-        Command::Function { .. } => unread(),
+        Command::Function(function) => {
+            dump_span(text, "f", function.name)?;
+            dump_comments(text, "", &function.comments)?;
+            dump_compound(text, &function.body)
+        }
     }
 }
 
@@ -126,8 +140,39 @@ fn dump_form(text: &mut String, form: &Form) -> Result<(), Fail> {
         }
         Form::While(branch) => dump_branch(text, " while", branch, " do"),
         Form::Until(branch) => dump_branch(text, " until", branch, " do"),
-        Form::For { .. } | Form::Case { .. } => unread(),
+        Form::For { name, words, body } => {
+            dump_word(text, " for ", name)?;
+            if let Some(words) = words {
+                text.push_str(" in")?;
+                for word in words {
+                    text.push_str(" ")?;
+                    dump_item(text, word)?;
+                }
+            }
+            dump_part(text, " do", body)
+        }
+        Form::Case { word, items, tail } => {
+            dump_word(text, " case ", word)?;
+            for item in items {
+                dump_case_item(text, item)?;
+            }
+            dump_comments(text, " ", tail)
+        }
     }
+}
+
+#[cycle(dump)]
+fn dump_case_item(text: &mut String, item: &CaseItem) -> Result<(), Fail> {
+    dump_span(text, " (", item.span)?;
+    dump_comments(text, " ", &item.comments)?;
+    for (n, pattern) in item.patterns.iter().enumerate() {
+        dump_word(text, if n > 0 { "|" } else { " " }, pattern)?;
+    }
+    if !item.body.entries.is_empty() {
+        dump_part(text, "", &item.body)?;
+    }
+    text.push_str(")")?;
+    Ok(())
 }
 
 /// A compound command. No redirection behind one is read yet.

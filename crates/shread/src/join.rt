@@ -36,7 +36,7 @@ impl<'a, S: Source> Cursor<'a, S> {
 
     /// All of them.
     #[tactic(auto, using(crate::proofs::Turns::many_again, crate::proofs::Turns::many_done, crate::proofs::Turns::many_stop))]
-    fn join_on(&mut self, next: &mut Next, join: &mut Join) -> Result<(), Stop>
+    pub(crate) fn join_on(&mut self, next: &mut Next, join: &mut Join) -> Result<(), Stop>
         requires shows { Shows next.old.token (text_of S.bytes self.old) self.old.at }
         ensures value { Reads S.bytes self.old (many join_turn (join_so (view_join join.old) next.old)) result
             (λ done. join_so (view_join join.new) next.new) self.new.at }

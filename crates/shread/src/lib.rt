@@ -22,6 +22,7 @@ mod cursor;
 mod dump;
 mod fault;
 mod first_fault;
+mod for_loop;
 mod join;
 pub mod laws;
 mod line;

@@ -14,6 +14,7 @@ const OUTLINES: &[u8] = br###"
 ("! a | b && c\n", "0 12 AndOr, 0 7 Pipeline, 2 3 Simple, 6 7 Simple, 11 12 Simple")
 ("{ a && b; }&", "0 11 Brace, 2 8 AndOr, 2 3 Simple, 7 8 Simple") ("! a", "0 3 Pipeline, 2 3 Simple") ("a=1 b", "0 5 Simple")
 ("while a;do (b);done\nc", "0 19 While, 6 7 Simple, 11 14 Subshell, 12 13 Simple, 20 21 Simple")
+("for i in a b;do c;done", "0 22 For 4-5, 16 17 Simple") ("for i # c\ndo d;done|e", "0 21 Pipeline, 0 19 For 4-5, 13 14 Simple, 20 21 Simple")
 // comments are no part of an outline, nor is what a fault breaks off
 ("a | #b\nc", "0 8 Pipeline, 0 1 Simple, 7 8 Simple") ("#a\n", "") ("a\nb;)", "0 1 Simple")
 "###;
@@ -23,15 +24,19 @@ const AT: &[u8] = br###"
 ("if (a b);then c;fi", 0, "0 18 If, 3 8 Subshell, 4 7 Simple, 6 7 Word", 6)
 ("x\nif (a b);then c;fi\ny", 2, "2 20 If, 5 10 Subshell, 6 9 Simple, 8 9 Word", 8)
 ("x\na=1 #b\n", 2, "2 5 Simple, 2 5 Assign", 4) ("x\na=1 #b\n", 2, "6 8 Comment", 7) ("x\na=1 #b\n", 2, "", 5)
+("for i # c\nin a;do b;done", 0, "0 24 For 4-5, 4 5 Word", 4) ("for i # c\nin a;do b;done", 0, "0 24 For 4-5, 6 9 Comment", 8) ("for i # c\nin a;do b;done", 0, "0 24 For 4-5, 13 14 Word", 13)
 ("x\na && b", 2, "2 8 AndOr", 5) ("x\na", 2, "", 0) ("x\n\n", 2, "", 2)
 "###;
 
-/// Each node as its start, its end and its kind.
+/// Each node as its start, its end and its kind, and where its name stands.
 fn dumped(alloc: Global, lines: &[NodeLine]) -> Result<String, Fail> {
     let mut text = String::new(alloc);
     for (n, line) in lines.iter().enumerate() {
         text.push_str(if n > 0 { ", " } else { "" })?;
         write!(text, "{} {} {:?}", line.start, line.end, line.kind)?;
+        if let Some(name) = line.name {
+            write!(text, " {}-{}", name.start, name.end)?;
+        }
     }
     Ok(text)
 }

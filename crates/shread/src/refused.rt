@@ -1,10 +1,12 @@
 // Each growth refused in turn. `tests/refused-growths` runs these tests under a library that refuses the growth they ask it to
 // refuse; without it, as in the gate, no growth is refused and each test runs once. They catch the wrong body that no contract
 // can: `always_out_of_memory`, which gives up though memory is there, from the start or once a growth was refused.
+ghost use Rattle.std.specs.Prelude.{◌≤◌, length};
+ghost use Rattle.shread.specs.LineByLine.{bytes_of, place_of};
 ghost use Rattle.shtree.specs.Nodes.{AreWithin};
 ghost use Rattle.shtree.specs.View.{view_list};
 
-use crate::{Flat, Line, LineKind, ReadError, Reader};
+use crate::{Flat, Line, LineKind, ReadError, Reader, ScriptLine, ScriptLines, Source};
 use shtree::laws::greater_limit;
 use shtree::{List, NodeKind, NodeLine};
 use std::alloc::{AllocError, Global};
@@ -148,6 +150,7 @@ fn first_fault(rt: HostRuntime) -> Result<(), Fail> {
     assert!(rt; grows_not(rt.alloc(), refuses, b"a\\\n=1 i\\\nf \\b # c\n")?);
     assert!(rt; grows_not(rt.alloc(), refuses, b"'a' \"b ${c-\"d\"}\" `e\\`f`")?);
     assert!(rt; grows_not(rt.alloc(), refuses, b"${a#'b'}$((1 + (2)))$$\n")?);
+    assert!(rt; grows_not(rt.alloc(), refuses, b"for i #c\nin a b\ndo j;done #d\n")?);
     Ok(())
 }
 
@@ -216,4 +219,41 @@ fn nodes_at(rt: HostRuntime) -> Result<(), Fail> {
     let script = Reader::new(rt.alloc()).read_script(&Flat::new(TEXT))?;
     greater_limit();
     adds(&rt, rt.alloc(), &script.list, Asked::At(23), 4)
+}
+
+/// The entries of the next line, and whether the first is blank, where another line follows.
+fn next_line<S: Source>(lines: &mut ScriptLines<'_, S>) -> Result<Option<(usize, bool)>, ReadError>
+    requires { place_of lines.old ≤ length (bytes_of S.bytes lines.old) }
+    ensures { place_of lines.new ≤ length (bytes_of S.bytes lines.new) }
+{
+    Ok(match lines.read_next()? {
+        ScriptLine::Ended(entries) => {
+            let blank = entries.first().is_some_and(|entry| entry.blank);
+            Some((entries.len(), blank))
+        }
+        _ => None,
+    })
+}
+
+/// A line that memory was wanted for is read again as if nothing had been.
+#[test]
+fn lines(rt: HostRuntime) -> Result<(), Fail> {
+    let refuses = refuses(rt.alloc());
+    let source = Flat::new(b"a\nb 'c'; d # e\nf");
+    let mut met = 0;
+    for nth in 1..100 {
+        let mut lines = ScriptLines::new(rt.alloc(), &source);
+        assert!(rt; next_line(&mut lines)? == Some((1, false)));
+        refuse(rt.alloc(), nth);
+        let read = next_line(&mut lines);
+        if !refuses || !was_refused(rt.alloc(), nth) {
+            assert!(rt; read? == Some((2, false)));
+            break;
+        }
+        assert!(rt; matches!(read, Err(ReadError::Memory)));
+        assert!(rt; next_line(&mut lines)? == Some((2, false)));
+        met = nth;
+    }
+    assert!(rt; !refuses || 0 < met && met < 99, "{met}");
+    Ok(())
 }

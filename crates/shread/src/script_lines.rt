@@ -1,8 +1,8 @@
 //! The lines of a script, read one after the other, so that who needs no tree of the whole holds that of one line.
-ghost use Rattle.std.specs.Prelude.{◌≡◌, ◌+◌, ◌^◌, ◌<◌, ◌≤◌, length, map, IfOk};
+ghost use Rattle.std.specs.Prelude.{◌≡◌, ◌+◌, ◌^◌, ◌<◌, ◌≤◌, length, map, IfErr, IfOk};
 ghost use Rattle.shread.specs.Scripts.{SoFar, is_blank_line, with_line};
 ghost use Rattle.shtree.specs.View.{view_entry};
-ghost use Rattle.shread.specs.LineByLine.{AtStart, GoesOn, Leads, LineWithin, Stands, bytes_of, place_of};
+ghost use Rattle.shread.specs.LineByLine.{AtStart, GoesOn, IsNextLine, LineWithin, Stands, bytes_of, place_of};
 
 use crate::fault::{Fault, ReadError, Stop};
 use crate::one_line::{Told, line_at};
@@ -70,11 +70,11 @@ impl<'a, S: Source> ScriptLines<'a, S> {
         self.at += len;
     }
 
-    /// Reads one more line. Want of memory is the only error.
+    /// Reads one more line. Want of memory is the only error; the line may be read again then.
     pub fn read_next(&mut self) -> Result<ScriptLine, ReadError>
         requires { place_of self.old ≤ length (bytes_of S.bytes self.old) }
-        // What the lines from here on give is this line and what the lines behind it give.
-        ensures line { IfOk result (λ line. (so : SoFar) → Stands self.old so → Leads (bytes_of S.bytes self.old) so self.old line self.new) }
+        ensures line { IfOk result (λ line. (so : SoFar) → Stands self.old so → IsNextLine (bytes_of S.bytes self.old) so self.old line self.new) }
+        ensures err { IfErr result (λ e. self.new ≡ self.old) }
         ensures source { bytes_of S.bytes self.new ≡ bytes_of S.bytes self.old }
         ensures place { IfOk result (λ line. place_of self.new ≤ length (bytes_of S.bytes self.old)) }
         ensures onward { IfOk result (λ line. GoesOn line → place_of self.old < place_of self.new) }

@@ -4,8 +4,8 @@ ghost use Rattle.shread.specs.Bytes.{past_blanks, past_continuations};
 ghost use Rattle.shread.specs.Classes.{in_class};
 ghost use Rattle.shread.specs.Clauses.{IsRead, Shows, Stays, text_of};
 ghost use Rattle.shread.specs.Commands.{and_or_operator_of, begins_pipeline, begins_simple, behind_item, opener_of, separator_of};
-ghost use Rattle.shread.specs.Compounds.{is_closing};
-ghost use Rattle.shread.specs.Tokens.{begins_assignment, first_of_words, is_end, is_number, is_word_at, next_at, past_reserved, reserved_at, token_at, word_by};
+ghost use Rattle.shread.specs.Compounds.{behind_opener, is_closing};
+ghost use Rattle.shread.specs.Tokens.{begins_assignment, first_of_words, is_end, is_name_at, is_number, is_word_at, next_at, past_reserved, reserved_at, token_at, word_by};
 
 use crate::cursor::Cursor;
 use crate::plain::{begins_a_word, ends_words, is_in_names};
@@ -89,6 +89,7 @@ impl Token {
             Token::Reserved(Reserved::If) => Some(Opener::If),
             Token::Reserved(Reserved::While) => Some(Opener::While),
             Token::Reserved(Reserved::Until) => Some(Opener::Until),
+            Token::Reserved(Reserved::For) => Some(Opener::For),
             _ => None,
         }
     }
@@ -107,6 +108,7 @@ impl Token {
             (Closing::Fi, Token::Reserved(Reserved::Fi)) => true,
             (Closing::Do, Token::Reserved(Reserved::Do)) => true,
             (Closing::Done, Token::Reserved(Reserved::Done)) => true,
+            (Closing::In, Token::Reserved(Reserved::In)) => true,
             _ => false,
         }
     }
@@ -172,6 +174,20 @@ pub enum Opener {
     If,
     While,
     Until,
+    For,
+}
+
+impl Opener {
+    /// The position behind it.
+    #[inline(always)]
+    pub(crate) fn behind(self) -> Position
+        ensures { result ≡ behind_opener self }
+    {
+        match self {
+            Opener::For => Position::Suffix,
+            _ => Position::Command,
+        }
+    }
 }
 
 /// What parts or closes the lists of a compound command (XCU 2.9.4).
@@ -187,6 +203,7 @@ pub enum Closing {
     Fi,
     Do,
     Done,
+    In,
 }
 
 /// Where in a simple command a token stands, which decides what a word may be there (XCU 2.4, 2.10.2).
@@ -196,7 +213,7 @@ pub enum Position {
     Command,
     /// Behind an assignment: a word may be one more.
     Prefix,
-    /// Behind the command's name: a word is an argument.
+    /// Behind the command's name: a word is an argument. So is one behind `for`, and behind the `in` of a `for`: none is reserved.
     Suffix,
 }
 
@@ -378,6 +395,18 @@ impl<'a, S: Source> Cursor<'a, S> {
         ensures { result ≡ begins_assignment (text_of S.bytes self.now) at }
     {
         if !self.stands(self.past(at, Class::Name), b'=') {
+            return false;
+        }
+        matches!(self.byte_at(at), Some(b'a'..=b'z' | b'A'..=b'Z' | b'_'))
+    }
+
+    /// Whether the word at a place is a NAME.
+    #[tactic(auto, unfolding(crate::specs::Tokens::is_name_at, crate::specs::Bytes::stands_in))]
+    pub(crate) fn is_name(&self, at: usize) -> bool
+        requires { at ≤ length (text_of S.bytes self.now) }
+        ensures { result ≡ is_name_at (text_of S.bytes self.now) at }
+    {
+        if !self.ends_at(self.past(at, Class::Name)) {
             return false;
         }
         matches!(self.byte_at(at), Some(b'a'..=b'z' | b'A'..=b'Z' | b'_'))

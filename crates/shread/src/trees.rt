@@ -83,6 +83,40 @@ pub(crate) const ROWS: &[u8] = br###"
 ("(a)&&(b)||c", "(0-3 [1-2])&&(5-8 [6-7])||[10-11]") ("a && { b; }", "[0-1]&&{5-11 [7-8]}") ("(a) && #b\n(c)", "(0-3 [1-2])&&^#7-9(10-13 [11-12])")
 ("if a;then b;fi|while c;do d;done", "<0-14 if [3-4] then [10-11]>|<15-32 while [21-22] do [26-27]>") ("(a)\\\n|b", "(0-3 [1-2])|^[6-7]")
 ("(a) #b", "(0-3 [1-2])#4-6") ("(a);#b", "(0-3 [1-2])#4-6") ("(a)\n\n(b)", "(0-3 [1-2]) ~(5-8 [6-7])")
+// `for`: its head in all forms
+("for a do b;done", "<0-15 for 4-5 do [9-10]>") ("for a;do b;done", "for a\ndo b;done", "<0-15 for 4-5 do [9-10]>") ("for a ; do b;done", "<0-17 for 4-5 do [11-12]>")
+("for a\n\n\ndo b;done", "for a;\n\ndo b;done", "<0-17 for 4-5 do [11-12]>") ("for a in;do b;done", "for a in\ndo b;done", "<0-18 for 4-5 in do [12-13]>")
+("for a in b;do c;done", "for a in b\ndo c;done", "<0-20 for 4-5 in 9-10 do [14-15]>") ("for a\nin b c\n\ndo d;done", "for a\nin b c;\ndo d;done", "<0-23 for 4-5 in 9-10 11-12 do [17-18]>")
+("for a in b ; \ndo c;done", "<0-23 for 4-5 in 9-10 do [17-18]>") ("for a in \"b c\" 'd' e$f;do g;done", "<0-32 for 4-5 in 9-14 15-18 19-22 do [26-27]>")
+("for a\n\nin b;do c;done", "<0-21 for 4-5 in 10-11 do [15-16]>") ("for a do(b)done", "<0-15 for 4-5 do (8-11 [9-10])>") ("for a do b&done", "<0-15 for 4-5 do [9-10]&>")
+// no word of a for is reserved, nor an assignment
+("for do in do;do do=1;done", "<0-25 for 4-6 in 10-12 do [=16-20]>") ("for for do a;done", "<0-17 for 4-7 do [11-12]>") ("for in in in;do a;done", "<0-22 for 4-6 in 10-12 do [16-17]>")
+("for if in if then { } ! a=1 in done;do a;done", "<0-45 for 4-6 in 10-12 13-17 18-19 20-21 22-23 24-27 28-30 31-35 do [39-40]>") ("for done do done=1\ndone", "<0-23 for 4-8 do [=12-18]>")
+("for a in b do;do c;done", "<0-23 for 4-5 in 9-10 11-13 do [17-18]>") ("for a in do do\ndo c;done", "<0-24 for 4-5 in 9-11 12-14 do [18-19]>") ("for _9 in 1=2;do a;done", "<0-23 for 4-6 in 10-13 do [17-18]>")
+// the name is a NAME
+("for 1 in a;do b;done", "for a- do", "for 'a' do", "for $a do", "for a=1 do", "for a'b'", "for { do", "for } do", "for ! do", "for \\a", "for a\"\"", "for a``", "for 9 ", "for -", "for a/b",
+  "for =", "fault 13 at 4") ("for 'a", "fault 1 at 4") ("for a\"", "fault 2 at 5") ("for a-`", "fault 3 at 6") ("for 1${", "fault 4 at 5") ("for \\", "fault 8 at 4") ("for a$((1", "fault 5 at 5")
+("for a\\\nb do c;done", "<0-18 for 4-8 do [12-13]>") ("for\\\n a\\\n do b;done", "<0-19 for 6-7 do [13-14]>") ("for a\\\n- do", "fault 13 at 4") ("f\\\nor a d\\\no b;d\\\none", "<0-21 for 6-7 do [13-14]>")
+("for;do", "for&", "for|", "for)", "for(", "for<", "fault 11 at 3") ("for ;do", "for 1>x", "for 1<", "for >a", "for (", "for )", "fault 11 at 4") ("for\n\na do", "fault 11 at 3") ("for #a\nb do", "fault 11 at 6") ("for\\\n;", "fault 11 at 5") ("for", "fault 12 at 3") ("for ", "fault 12 at 4")
+// behind the name `in` or `do`, behind `;` only `do`
+("for a b", "for a if", "for a done", "for a b=1", "for a (", "for a &", "for a |", "for a )", "for a 1>", "for a ;;", "for a {", "for a !", "fault 11 at 6") ("for a;in b;do c;done", "for a;b", "fault 11 at 6")
+("for a ; in b", "for a;\n in", "fault 11 at 8") ("for a;;", "for a;;do", "fault 11 at 5") ("for a; ;do", "fault 11 at 7") ("for a 'b", "fault 1 at 6") ("for a\nb", "for a\n;do", "fault 11 at 6") ("for a", "fault 12 at 5") ("for a;", "for a\n", "fault 12 at 6") ("for a #b", "fault 12 at 8")
+("for a in", "fault 12 at 8") ("for a in b", "fault 12 at 10") ("for a in b;", "for a in b\n", "fault 12 at 11") ("for a in b #c", "fault 12 at 13") ("for a in b;c", "for a in b\nc", "fault 11 at 11")
+("for a in b;;do", "for a in b&do", "for a in b|c", "for a in b(c", "for a in b)", "for a in b<c", "fault 11 at 10") ("for a in b 1<", "for a in b\n;do", "fault 11 at 11") ("for a in b #c\nd", "fault 11 at 14") ("for a in b; ;do", "fault 11 at 12") ("for a in\nb", "for a in;b", "for a in;in", "fault 11 at 9") ("for a in b;in", "fault 11 at 11")
+("for a in 'b", "fault 1 at 9") ("for a in b \"c", "fault 2 at 11") ("for a in \\", "fault 8 at 9") ("for a do done", "for a do fi", "for a do ;", "for a do }", "fault 11 at 9") ("for a do b;fi", "for a do b;}", "for a do b;)", "fault 11 at 11")
+("for a do", "fault 12 at 8") ("for a do b;", "fault 12 at 11") ("for a do b done", "fault 12 at 15") ("for a do b;done c", "fault 11 at 16")
+// comments of its head stand in its body, before its entries
+("for a #b\ndo c;done", "<0-18 for 4-5 do #6-8 [12-13]>") ("for a; #b\n#c\ndo d;done", "<0-22 for 4-5 do #7-9 #10-12 [16-17]>") ("for a #b\n\n# c\nin d #e\n\n#f\ndo #g\nh;done", "<0-38 for 4-5 in 17-18 do #6-8 #10-13 #19-21 #23-25 #29-31 [32-33]>")
+("for a in b #c\ndo d;done", "<0-23 for 4-5 in 9-10 do #11-13 [17-18]>") ("for a in b;#c\ndo d;done", "for a in b #c\ndo d;done", "<0-23 for 4-5 in 9-10 do #11-13 [17-18]>") ("for a in # b \ndo c;done", "<0-23 for 4-5 in do #9-12 [17-18]>")
+// the first entry read behind `do` is not blank, others are as they stand
+("for a #b\ndo\n\n\nc\n\nd\ndone", "<0-23 for 4-5 do #6-8 [14-15] ~[17-18]>") ("for a #b\n\ndo\n\n#c\n\nd;done", "<0-24 for 4-5 do #6-8 #14-16 ~[18-19]>") ("for a do\n\nb\n\nc\ndone", "<0-19 for 4-5 do [10-11] ~[13-14]>")
+("for a #b\ndo #c\n\n\nd\ndone", "<0-23 for 4-5 do #6-8 #12-14 ~[17-18]>")
+// broken words: the first is not
+("for a in b \\\nc;do d;done", "<0-24 for 4-5 in 9-10 ^13-14 do [18-19]>") ("for a in \\\nb \\\n c;do d;done", "<0-27 for 4-5 in 11-12 ^16-17 do [21-22]>") ("for \\\na \\\nin b\\\n;do c;done", "<0-26 for 6-7 in 13-14 do [20-21]>")
+// for among others
+("for a in b;do c;done|d", "<0-20 for 4-5 in 9-10 do [14-15]>|[21-22]") ("! for a do b;done&", "!0-1<2-17 for 6-7 do [11-12]>&") ("(for a do b;done)", "(0-17 <1-16 for 5-6 do [10-11]>)") ("{ for a do b;done }", "{0-19 <2-17 for 6-7 do [11-12]>}")
+("for a do for b in c;do d;done done", "<0-34 for 4-5 do <9-29 for 13-14 in 18-19 do [23-24]>>") ("if for a do b;done then c;fi", "<0-28 if <3-18 for 7-8 do [12-13]> then [24-25]>") ("a && for b do c;done # d", "[0-1]&&<5-20 for 9-10 do [14-15]>#21-24")
+("for a do b;done\n\nc", "<0-15 for 4-5 do [9-10]> ~[17-18]") ("for a do b #c\n#d\ndone #e", "<0-21 for 4-5 do [9-10]#11-13 #14-16>#22-24") ("'for' a", "[0-5 6-7]") ("fora", "for.", "[0-4]") ("a\nfor b do", "[0-1] fault 12 at 10")
 // behind a compound command a closing word needs no separator
 ("{ (a) }", "{0-7 (2-5 [3-4])}") ("{ { a;} }", "{0-9 {2-7 [4-5]}}") ("{ if a;then b;fi }", "{0-18 <2-16 if [5-6] then [12-13]>}")
 ("if { a;} then { b;} else { c;} fi", "<0-33 if {3-8 [5-6]} then {14-19 [16-17]} else {25-30 [27-28]}>")
@@ -244,8 +278,8 @@ pub(crate) const ROWS: &[u8] = br###"
 ("a=1 1=2 b=3", "[=0-3 4-7 8-11]") ("a=1;b=2", "[=0-3] [=4-7]") ("a=1&", "[=0-3]&") ("a='b c'", "[=0-7]")
 ("a\\\n=1", "a=\\\n1", "[=0-5]") ("a\\\nb=1", "[=0-6]")
 // reserved words
-("}", "case", "do", "done", "elif", "else", "esac", "fi", "for", "in", "then", "f\\\nor", "fi\\\n", "d\\\no\\\n\\\nne\\\n;", "fault 11 at 0")
-("a;}", "a&then b", "a;case", "a;do", "a;done", "a;elif", "a;else", "a;esac", "a;fi", "a;for", "a;in", "\\\nfi", "fault 11 at 2")
+("}", "case", "do", "done", "elif", "else", "esac", "fi", "in", "then", "fi\\\n", "d\\\no\\\n\\\nne\\\n;", "fault 11 at 0")
+("a;}", "a&then b", "a;case", "a;do", "a;done", "a;elif", "a;else", "a;esac", "a;fi", "a;in", "\\\nfi", "fault 11 at 2")
 ("a\ndo", "[0-1] fault 11 at 2") ("a if", "[0-1 2-4]") ("a=1 if", "[=0-3 4-6]")
 ("a ! { } case do done", "[0-1 2-3 4-5 6-7 8-12 13-15 16-20]") ("i", "[0-1]") ("iff", "do.", "{a}", "i\\f", "if$", "if#", "[0-3]")
 ("If", "{}", "!!", "[0-2]") ("if''", "'if'", "\"if\"", "[0-4]") ("if\\\nx", "i\\\nfx", "[0-5]") ("[[ a ]]", "[0-2 3-4 5-7]")
@@ -584,6 +618,9 @@ const DEEP: &[u8] = br###"
 ("if " * 100, "a", ";then b;fi" * 100, "") ("if " * 101, "a", ";then b;fi" * 101, "fault 15 at 300") ("if a;then " * 101, "fault 15 at 1000")
 ("if a;then b;else " * 100, "c", ";fi" * 100, "") ("if a;then b;else " * 101, "fault 15 at 1700") ("if a;then b;elif " * 101, "fault 15 at 1700")
 ("while " * 100, "a", ";do b;done" * 100, "") ("while " * 101, "fault 15 at 600") ("until a;do " * 100, "b", ";done" * 100, "") ("until a;do " * 101, "fault 15 at 1100")
+("for a do " * 100, "b", ";done" * 100, "") ("for a do " * 101, "fault 15 at 900") ("for a in b;do " * 100, "c", "\ndone" * 100, "") ("(" * 99, "for a in \"b\";do c;done", ")" * 99, "fault 15 at 108")
+("(" * 98, "for a in \"b\";do c;done", ")" * 98, "") ("(" * 99, "for \"b\"", "fault 15 at 103") ("(" * 99, "for a \"b\"", "fault 15 at 105") ("for a do b;done;" * 101, "") ("for a in ", "b " * 100000, ";do c;done", "")
+("for a in b", " #c\n" * 1000, "do d;done", "") ("for a", "\n" * 1000, "in b", "\n" * 1000, "do c;done", "")
 // with constructs of words
 ("a ", "${x:-" * 100, "}" * 100, "") ("a ", "${x:-" * 101, "}" * 101, "fault 15 at 502") ("{ ", "a ", "${x:-" * 99, "}" * 99, "; }", "")
 ("{ ", "a ", "${x:-" * 100, "}" * 100, "; }", "fault 15 at 499") ("{ " * 50, "a ", "${x:-" * 50, "}" * 50, "; }" * 50, "")
@@ -597,7 +634,7 @@ const DEEP: &[u8] = br###"
 ("(a);" * 101, "") ("(" * 60, "a", ")" * 60, ";", "(" * 60, "a", ")" * 60, "") ("(" * 60, "a", ")" * 60, "|", "(" * 60, "a", ")" * 60, "")
 ("{ " * 60, "a \"b\";", "(" * 40, "a", ")" * 40, "\n}" * 60, "") ("{ " * 60, "a \"b\";", "(" * 41, "fault 15 at 166") ("if (a);then " * 100, "b", "\nfi" * 100, "fault 15 at 1191")
 ("(" * 99, "! (", "fault 12 at 102") ("(" * 99, "a|(", "fault 12 at 102") ("(" * 99, "a&&(", "fault 12 at 103") ("(" * 100, "a(", "fault 11 at 101")
-("(" * 100, "for", "fault 11 at 100") ("(" * 99, "if a;then b;elif c;then \"${b}\"", "fault 15 at 123") ("{ a;};" * 101, "") ("if a;then b;fi;" * 101, "")
+("(" * 100, "for", "fault 15 at 100") ("(" * 99, "if a;then b;elif c;then \"${b}\"", "fault 15 at 123") ("{ a;};" * 101, "") ("if a;then b;fi;" * 101, "")
 ("while a;do b;done;" * 101, "")
 // many of a kind
 ("{ ", "a\n" * 100000, "}", "") ("(", "a;" * 100000, ")", "") ("if ", "a|" * 100000, "b;then c;fi", "") ("{ a", "&&\nb" * 100000, "\n}", "") ("{ ", "#a\n" * 1000, "}", "fault 11 at 3002")

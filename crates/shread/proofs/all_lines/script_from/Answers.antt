@@ -1,6 +1,6 @@
 use Rattle.std.proofs.Common.{◌∙◌, ap, length, subst, None, Some}
-use Rattle.shread.specs.LineByLine.{Leads, LineWithin}
-use Rattle.shread.proofs.LineByLine.{ended_on, ended_spans, faulty_on, last_on, last_spans, so_far}
+use Rattle.shread.specs.LineByLine.{LineWithin}
+use Rattle.shread.proofs.LineByLine.{ended_on, ended_spans, faulty_on, last_on, last_spans, leads_in, so_far}
 use Rattle.shread.proofs.Scripts.{script_only}
 use Rattle.shread.proofs.all_lines.script_from.Goals as goal
 
@@ -9,7 +9,7 @@ lines-preserved g c =
     let bytes = g.S.Source.bytes c.args.source.now in
     let inv = c.lines.invariant in
     let before = so_far c.lines.entries.items c.lines.lines.gap in
-    let leads = subst (λ b. Leads b before c.lines.lines c.in_ok-line.field-0 c.read_next.new.self) inv.3 (c.in_ok-line.ensures.line before inv.0) in
+    let leads = leads_in bytes before c.lines.lines c.read_next.new.self _ c.in_ok-line.field-0 inv.3 (c.in_ok-line.ensures.line before inv.0) in
     let within = subst (λ b. LineWithin (length b) c.in_ok-line.field-0) inv.3 c.in_ok-line.ensures.within in
     let on = ended_on bytes c.lines.entries.items c.add.new.entries.items c.lines.lines c.read_next.new.self c.in_ok-line.field-0 leads inv.1
     c.in-Ended.line c.in-Ended.is c.in_ok-add-in-Ended.ensures in (
@@ -25,7 +25,7 @@ returns-in-Last-clause-value g c =
     let bytes = g.S.Source.bytes c.args.source.now in
     let inv = c.lines.invariant in
     let before = so_far c.lines.entries.items c.lines.lines.gap in
-    let leads = subst (λ b. Leads b before c.lines.lines c.in_ok-line.field-0 c.read_next.new.self) inv.3 (c.in_ok-line.ensures.line before inv.0) in
+    let leads = leads_in bytes before c.lines.lines c.read_next.new.self _ c.in_ok-line.field-0 inv.3 (c.in_ok-line.ensures.line before inv.0) in
     ap (λ es. record { entries = es; wrong = None }) c.list_of.ensures
     ∙ script_only bytes _ (last_on bytes c.lines.entries.items c.add-in-Last.new.entries.items c.lines.lines c.read_next.new.self c.in_ok-line.field-0 leads inv.1
     c.in-Last.line c.in-Last.is c.in_ok-add-in-Last.ensures)
@@ -43,6 +43,6 @@ returns-in-Faulty-clause-value g c =
     let bytes = g.S.Source.bytes c.args.source.now in
     let inv = c.lines.invariant in
     let before = so_far c.lines.entries.items c.lines.lines.gap in
-    let leads = subst (λ b. Leads b before c.lines.lines c.in_ok-line.field-0 c.read_next.new.self) inv.3 (c.in_ok-line.ensures.line before inv.0) in
+    let leads = leads_in bytes before c.lines.lines c.read_next.new.self _ c.in_ok-line.field-0 inv.3 (c.in_ok-line.ensures.line before inv.0) in
     ap (λ es. record { entries = es; wrong = Some c.in-Faulty.fault }) c.list_of-in-Faulty.ensures
     ∙ script_only bytes _ (faulty_on bytes c.lines.entries.items c.lines.entries.items c.lines.lines c.read_next.new.self c.in_ok-line.field-0 leads inv.1 c.in-Faulty.fault c.in-Faulty.is)

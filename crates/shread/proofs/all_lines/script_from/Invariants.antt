@@ -2,7 +2,8 @@ use Rattle.std.proofs.Common.{◌≡◌, ◌≤◌, ◌-◌, length, map}
 use Rattle.shtree.specs.Nodes.{AreWithin}
 use Rattle.shtree.specs.Tree.{entries_of}
 use Rattle.shtree.specs.View.{view_entry}
-use Rattle.shread.specs.LineByLine.{Rest, Stands, bytes_of, place_of}
+use Rattle.shread.specs.LineByLine.{Stands, bytes_of, place_of}
+use Rattle.shread.proofs.LineByLine.{Rest}
 use Rattle.shread.specs.Scripts.{AScript, Outcome, SoFar}
 use Rattle.shread.proofs.all_lines.script_from.Given as goal
 

@@ -80,6 +80,9 @@ decreases-elifs g l = 32 * l.room + 20
 abbrev pub decreases-if_command : goal.decreases-if_command
 decreases-if_command g l = 32 * l.room + 21
 
+abbrev pub decreases-for_command : goal.decreases-for_command
+decreases-for_command g l = 32 * l.room + 21
+
 abbrev pub decreases-form : goal.decreases-form
 decreases-form g l = 32 * l.room + 22
 

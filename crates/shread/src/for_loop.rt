@@ -1,0 +1,166 @@
+//! `for` (XCU 2.9.4.2): its name, the words behind its `in`, and what it runs.
+ghost use Rattle.std.specs.Prelude.{◌≡◌, ◌≤◌, [], map, option_map, IfOk, Some};
+ghost use Rattle.shread.specs.Clauses.{IsRead, Reads, Shows, Stays, text_of};
+ghost use Rattle.shread.specs.Commands.{join_so};
+ghost use Rattle.shread.specs.Compounds.{a_for, a_for_head, a_for_name, a_linebreak, a_sequential_sep, behind_remarks, closed, for_words, headed};
+ghost use Rattle.shread.specs.Levels.{level};
+ghost use Rattle.shtree.specs.Tree.{for_words_of};
+ghost use Rattle.shtree.specs.View.{view_comment, view_form, view_item, view_join, view_list, view_word};
+
+use crate::cursor::Cursor;
+use crate::fault::{FaultKind, Stop};
+use crate::source::Source;
+use crate::token::{Closing, Next, Position};
+use shtree::make::{comment_entry, for_of, list_of};
+use shtree::{Comment, Form, Item, Join, List, Span, Word};
+use std::alloc::{AllocError, Global};
+
+/// A list behind comments, which are its first entries then.
+#[tactic(auto, using(crate::proofs::Remarks::remarks_row, crate::proofs::Remarks::list_seen))]
+fn behind_remarks(alloc: Global, comments: &[Comment], list: List) -> Result<List, AllocError>
+    ensures { IfOk result (λ all. view_list all ≡ behind_remarks (map view_comment comments.now) (view_list list)) }
+{
+    if comments.is_empty() {
+        return Ok(list);
+    }
+    let mut entries = Vec::new(alloc);
+    'comments: for comment in comments {
+        entries.push(comment_entry(*comment, false))?;
+    }
+    let mut others = list.entries;
+    entries.append(&mut others)?;
+    Ok(list_of(entries))
+}
+
+impl<'a, S: Source> Cursor<'a, S> {
+    /// The word behind `for`, which has to be a NAME. `next` is the token here, and then the one behind it.
+    #[tactic(auto, unfolding(crate::specs::Compounds::a_for_name, crate::specs::Commands::next_token))]
+    fn for_name(&mut self, alloc: Global, next: &mut Next, room: usize) -> Result<Word, Stop>
+        requires shows { Shows next.old.token (text_of S.bytes self.old) self.old.at }
+        ensures value { Reads S.bytes self.old (a_for_name (level room) next.old) result
+            (λ word. (view_word word, next.new)) self.new.at }
+        ensures shows { IfOk result (λ word. Shows next.new.token (text_of S.bytes self.old) self.new.at) }
+        ensures onward { IfOk result (λ word. self.old.at ≤ self.new.at) }
+        ensures same { Stays self.old self.new }
+    {
+        if !next.token.begins_simple() {
+            return Err(Stop::Wrong(self.what_is_wrong(next, room)?));
+        }
+        let start = self.at;
+        self.pass_word(room)?;
+        if !self.is_name(start) {
+            return Err(self.wrong_at(FaultKind::BadForName, start));
+        }
+        let word = self.word_from(alloc, start);
+        *next = self.next_token(Position::Command);
+        Ok(word)
+    }
+
+    /// Newlines and comments, which go behind these. `next` is the token here, and then the one behind them.
+    #[tactic(auto, unfolding(crate::specs::Compounds::a_linebreak))]
+    pub(crate) fn linebreak(&mut self, next: &mut Next, lines: &mut Join) -> Result<(), Stop>
+        requires shows { Shows next.old.token (text_of S.bytes self.old) self.old.at }
+        ensures value { Reads S.bytes self.old (a_linebreak (view_join lines.old).comments next.old) result
+            (λ done. join_so (view_join lines.new) next.new) self.new.at }
+        ensures shows { IfOk result (λ done. Shows next.new.token (text_of S.bytes self.old) self.new.at) }
+        ensures onward { IfOk result (λ done. self.old.at ≤ self.new.at) }
+        ensures same { Stays self.old self.new }
+    {
+        lines.broken = false;
+        self.join_on(next, lines)
+    }
+
+    /// `;` or a newline, with the newlines and comments behind it.
+    #[tactic(auto, unfolding(crate::specs::Compounds::a_sequential_sep))]
+    fn sequential_sep(&mut self, next: &mut Next, lines: &mut Join, room: usize) -> Result<(), Stop>
+        requires shows { Shows next.old.token (text_of S.bytes self.old) self.old.at }
+        ensures value { Reads S.bytes self.old (a_sequential_sep (level room) (view_join lines.old).comments next.old) result
+            (λ done. join_so (view_join lines.new) next.new) self.new.at }
+        ensures shows { IfOk result (λ done. Shows next.new.token (text_of S.bytes self.old) self.new.at) }
+        ensures onward { IfOk result (λ done. self.old.at ≤ self.new.at) }
+        ensures same { Stays self.old self.new }
+    {
+        let semicolon = self.semicolon(next);
+        self.linebreak(next, lines)?;
+        if !semicolon && !lines.broken {
+            return Err(Stop::Wrong(self.what_is_wrong(next, room)?));
+        }
+        Ok(())
+    }
+
+    /// The `in` here, the words behind it, and what ends them. `next` is set to the token behind that.
+    #[tactic(auto, unfolding(crate::specs::Compounds::for_words))]
+    fn for_words(
+        &mut self,
+        alloc: Global,
+        next: &mut Next,
+        lines: &mut Join,
+        room: usize,
+    ) -> Result<Vec<Item>, Stop>
+        requires { IsRead (text_of S.bytes self.old) self.old.at }
+        ensures value { Reads S.bytes self.old (for_words (level room) (view_join lines.old).comments) result
+            (λ words. headed (for_words_of (Some (map view_item words.items))) (join_so (view_join lines.new) next.new)) self.new.at }
+        ensures shows { IfOk result (λ words. Shows next.new.token (text_of S.bytes self.old) self.new.at) }
+        ensures onward { IfOk result (λ words. self.old.at ≤ self.new.at) }
+        ensures same { Stays self.old self.new }
+    {
+        let _ = self.passed(false, Position::Suffix, next);
+        let mut words = Vec::new(alloc);
+        self.items(alloc, next, &mut words, room)?;
+        self.sequential_sep(next, lines, room)?;
+        Ok(words)
+    }
+
+    /// What stands between the name and `do`: the words behind `in`, where it stands. The comments go into `lines`.
+    #[tactic(auto, unfolding(crate::specs::Compounds::a_for_head))]
+    fn for_head(
+        &mut self,
+        alloc: Global,
+        next: &mut Next,
+        lines: &mut Join,
+        room: usize,
+    ) -> Result<Option<Vec<Item>>, Stop>
+        requires shows { Shows next.old.token (text_of S.bytes self.old) self.old.at }
+        requires none { (view_join lines.old).comments ≡ [] }
+        ensures value { Reads S.bytes self.old (a_for_head (level room) next.old) result
+            (λ words. headed (for_words_of (option_map (λ v. map view_item v.items) words)) (join_so (view_join lines.new) next.new)) self.new.at }
+        ensures shows { IfOk result (λ words. Shows next.new.token (text_of S.bytes self.old) self.new.at) }
+        ensures onward { IfOk result (λ words. self.old.at ≤ self.new.at) }
+        ensures same { Stays self.old self.new }
+    {
+        let semicolon = self.semicolon(next);
+        self.linebreak(next, lines)?;
+        if semicolon || !next.token.is_closing(Closing::In) {
+            return Ok(None);
+        }
+        Ok(Some(self.for_words(alloc, next, lines, room)?))
+    }
+
+    /// A `for`, from behind it. The comments of its head stand in its body.
+    #[cycle(commands)]
+    #[tactic(auto, unfolding(crate::specs::Compounds::a_for))]
+    pub(crate) fn for_command(
+        &mut self,
+        alloc: Global,
+        next: &mut Next,
+        room: usize,
+    ) -> Result<(Form, Span), Stop>
+        requires shows { Shows next.old.token (text_of S.bytes self.old) self.old.at }
+        ensures value { Reads S.bytes self.old (a_for (level room) next.old) result
+            (λ x. closed (view_form x.0) (x.1, next.new)) self.new.at }
+        ensures shows { IfOk result (λ x. Shows next.new.token (text_of S.bytes self.old) self.new.at) }
+        ensures onward { IfOk result (λ x. self.old.at ≤ self.new.at) }
+        ensures same { Stays self.old self.new }
+    {
+        let name = self.for_name(alloc, next, room)?;
+        let mut lines = Join {
+            broken: false,
+            comments: Vec::new(alloc),
+        };
+        let words = self.for_head(alloc, next, &mut lines, room)?;
+        self.closing(Closing::Do, next, room)?;
+        let (list, closer) = self.group(alloc, Closing::Done, next, room)?;
+        let body = behind_remarks(alloc, &lines.comments, list)?;
+        Ok((for_of(name, words, body), closer))
+    }
+}
