@@ -4,7 +4,8 @@ use Rattle.shread.specs.declared.fault.Fault.{Fault}
 use Rattle.shread.specs.declared.script_lines.ScriptLine.{ScriptLine}
 use Rattle.shread.specs.declared.script_lines.ScriptLine.TheVariants.{Ended, Last, Faulty}
 use Rattle.shread.specs.declared.script_lines.ScriptLines.{ScriptLines}
-use Rattle.shread.specs.LineByLine.{AtStart, Leads, LineWithin, Rest, Stands, bytes_of, place_of}
+use Rattle.shread.specs.LineByLine.{AtStart, LineWithin, Stands, bytes_of, place_of}
+use Rattle.shread.proofs.LineByLine.{Leads, Rest}
 use Rattle.shread.specs.Scripts.{AScript, FirstFault, Outcome, SoFar, nothing_yet, with_line}
 use Rattle.shtree.specs.Shape.{Text, shape_of, shape_of_entry}
 use Rattle.shtree.specs.declared.tree.Entry.{Entry}

@@ -84,7 +84,7 @@ get_drop [] (suc at) = refl
 get_drop (b ∷ B) (suc at) = get_drop B at
 
 module _ (B : List ℕ) (at «end» b : ℕ) (here : slice_get B at ≡ Some b) (before : at < «end») where
-  taken : take («end» - at) (drop at B) ≡ b ∷ take («end» - (at + 1)) (drop (at + 1) B)
+  pub taken : take («end» - at) (drop at B) ≡ b ∷ take («end» - (at + 1)) (drop (at + 1) B)
   taken =
       let n : «end» - at ≡ suc («end» - (at + 1)) = omega (arith, before) in
       rw (n, drop_some B at b here) refl

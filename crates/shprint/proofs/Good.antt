@@ -1,14 +1,14 @@
 -- What a shape has so that its printed text is read back, beside its normal form: its words are words wherever they stand, its comments
 -- comments, and no more constructs are open than may be. What was read has it (proofs/Readable); what has it is read back (proofs/ReadBack).
-use Rattle.std.specs.Prelude.{◌≡◌, ℕ, zero, suc, Bool, [], ◌∷◌, List as Row, Option, None, Some}
+use Rattle.std.specs.Prelude.{◌≡◌, ℕ, zero, suc, Bool, true, [], ◌∷◌, List as Row, Option, None, Some}
 use Rattle.shread.specs.declared.token.Position.{Position}
-use Rattle.shread.specs.declared.token.Position.TheVariants.{Command, Prefix}
+use Rattle.shread.specs.declared.token.Position.TheVariants.{Command, Prefix, Suffix}
 use Rattle.shread.specs.declared.token.Token.{Token}
-use Rattle.shread.specs.Commands.{behind_item}
-use Rattle.shread.proofs.Elsewhere.{ItemAnywhere}
+use Rattle.shread.specs.Commands.{begins_simple, behind_item}
+use Rattle.shread.proofs.Elsewhere.{ItemAnywhere, NameAnywhere}
 use Rattle.shread.proofs.CommentsElsewhere.{CommentAnywhere}
 use Rattle.shtree.specs.Shape.{Text, Shape}
-use Rattle.shtree.specs.Tree.{EntriesOf, no_entry, more_entries, AnEntryOf, entry, AContentOf, command, remark, AnAndOrOf, and_or, AndOrPartsOf, no_and_or, more_and_or, APipelineOf, pipeline, PipelinePartsOf, no_pipe, more_pipes, ACommandOf, simple, compound, function, ACompoundOf, formed, AFormOf, brace, subshell, if_then, while_do, until_do, for_in, case_in, ABranchOf, branch, BranchesOf, no_branch, more_branches, OtherwiseOf, no_else, otherwise, ItemsOf, no_item, more_items, AnItemOf, item, AnItemContentOf, assign, argument, word, no_subst}
+use Rattle.shtree.specs.Tree.{ForWordsOf, no_in, in_words, AWordOf, EntriesOf, no_entry, more_entries, AnEntryOf, entry, AContentOf, command, remark, AnAndOrOf, and_or, AndOrPartsOf, no_and_or, more_and_or, APipelineOf, pipeline, PipelinePartsOf, no_pipe, more_pipes, ACommandOf, simple, compound, function, ACompoundOf, formed, AFormOf, brace, subshell, if_then, while_do, until_do, for_in, case_in, ABranchOf, branch, BranchesOf, no_branch, more_branches, OtherwiseOf, no_else, otherwise, ItemsOf, no_item, more_items, AnItemOf, item, AnItemContentOf, assign, argument, word, no_subst}
 
 abbrev pub GoodComments : Row Text → Type 0
 GoodComments [] = Unit {0}
@@ -45,6 +45,24 @@ pub record GoodSimple (room : ℕ) (is : Shape ItemsOf) : Type 0 where
   pub last : Position
   pub items : GoodItems room Command is last
   pub some : SomeItem is
+
+-- the words of a for
+pub record GoodWords (room : ℕ) (is : Shape ItemsOf) : Type 0 where
+  pub last : Position
+  pub items : GoodItems room Suffix is last
+
+abbrev pub GoodForWords : ℕ → Shape ForWordsOf → Type 0
+GoodForWords room no_in = Unit {0}
+GoodForWords room (in_words items) = GoodWords room items
+
+-- the name of a for: a word that is a NAME, wherever it stands
+pub record GoodName (room : ℕ) (name : Shape AWordOf) : Type 0 where
+  pub t : Text
+  pub is : name ≡ word t no_subst
+  pub token : Token
+  pub begins : begins_simple token ≡ true
+  pub reads : ItemAnywhere room Suffix token t
+  pub names : NameAnywhere t
 
 abbrev mutual
   pub GoodEntries : ℕ → Shape EntriesOf → Type 0
@@ -83,14 +101,14 @@ abbrev mutual
   GoodCompound zero (formed form mark redirects) = ⊥
   GoodCompound (suc room) (formed form mark redirects) = GoodForm room form × NoItems redirects
 
-  -- `for` and `case` are not read yet
+  -- `case` is not read yet
   pub GoodForm : ℕ → Shape AFormOf → Type 0
   GoodForm room (brace es) = GoodEntries room es
   GoodForm room (subshell es) = GoodEntries room es
   GoodForm room (if_then first rest other) = GoodBranch room first × GoodBranches room rest × GoodElse room other
   GoodForm room (while_do b) = GoodBranch room b
   GoodForm room (until_do b) = GoodBranch room b
-  GoodForm room (for_in name words body) = ⊥
+  GoodForm room (for_in name words body) = GoodName room name × GoodForWords room words × GoodEntries room body
   GoodForm room (case_in w items tail) = ⊥
 
   pub GoodBranch : ℕ → Shape ABranchOf → Type 0

@@ -7,5 +7,6 @@ pub mod PrintedRows
 pub mod Readable
 pub mod Parts
 pub mod Rows
+pub mod Spaced
 pub mod Tokens
 pub mod Writing

@@ -23,16 +23,16 @@ use Rattle.shread.specs.Bytes.{ends, behind, past_continuations, byte_at, past_b
 use Rattle.shread.specs.Comments.{span, comment_at}
 use Rattle.shread.specs.Standing.{is_byte, raw_stands}
 use Rattle.shread.specs.Tokens.{is_end, is_comment, past_reserved, token_of, token_at, next_at}
-use Rattle.shread.specs.Sights.{Given, given, standing, the_token, the_comment, blanks, one_byte, the_reserved, a_comment_on}
+use Rattle.shread.specs.Sights.{Given, given, standing, here as the_place, is_a_name, the_token, the_comment, blanks, one_byte, the_reserved, a_comment_on}
 use Rattle.shread.specs.Form.{Spelled, Form, ◌>>◌, by, give, move, raw, may, leads_on, again, done, many}
 use Rattle.shread.specs.Words.{Inner, a_word}
 use Rattle.shread.specs.Levels.{most_open, level}
 use Rattle.shtree.specs.Nodes.{through}
-use Rattle.shtree.specs.Normal.{is_normal_form, is_normal_else, are_normal_branches, is_normal_branch, is_whole, is_command, holds_command, is_normal_entry, first_not_blank, are_normal, is_normal_and_or, are_normal_and_ors, is_normal_pipeline, are_normal_pipes, first_not_broken, is_normal_join, is_normal_compound, is_normal_command}
-use Rattle.shread.specs.Compounds.{a_compound, is_open_paren, an_if, a_group, a_form, opener_text, Closed, a_loop, an_else, elif_turn, branched, a_branch, passed, closing, closing_text, is_closing, is_close_paren}
+use Rattle.shtree.specs.Normal.{is_normal_form, is_normal_else, are_normal_branches, is_normal_branch, is_whole, is_command, holds_command, is_normal_entry, first_not_blank, are_normal, is_normal_and_or, are_normal_and_ors, is_normal_pipeline, are_normal_pipes, first_not_broken, is_normal_join, is_normal_compound, is_normal_command, are_normal_words}
+use Rattle.shread.specs.Compounds.{a_compound, is_open_paren, behind_opener, a_for, a_for_head, a_for_name, a_linebreak, a_sequential_sep, for_words, headed, an_if, a_group, a_form, opener_text, Closed, a_loop, an_else, elif_turn, branched, a_branch, passed, closing, closing_text, is_closing, is_close_paren}
 use Rattle.shread.specs.Lines.{a_line, end_of_line}
 use Rattle.shread.specs.Lists.{Listed, list_so, none_listed, one_entry, entry_turn, a_remark, on_line, list_turn, a_list}
-use Rattle.shread.specs.Commands.{Entered, an_entry, a_separator, separator_of, told_separator, is_background, is_parted, an_and_or, one_pipeline, join_pipeline, joined_so, a_bang, a_pipeline, begins_pipeline, and_or_operator_of, is_pipe, piped, one_command, pipe_turn, a_command, a_newline, a_comment, join_turn, join_so, a_join_of, a_join, begins_simple, opener_of, is_newline, is_bang, is_empty, next_token, behind_item, so_many, breaks, as_item, an_item, item_turn, a_simple}
+use Rattle.shread.specs.Commands.{Entered, a_semicolon, is_semicolon, an_entry, a_separator, separator_of, told_separator, is_background, is_parted, an_and_or, one_pipeline, join_pipeline, joined_so, a_bang, a_pipeline, begins_pipeline, and_or_operator_of, is_pipe, piped, one_command, pipe_turn, a_command, a_newline, a_comment, join_turn, join_so, a_join_of, a_join, begins_simple, opener_of, is_newline, is_bang, is_empty, next_token, behind_item, so_many, breaks, as_item, an_item, item_turn, a_simple}
 use Rattle.shread.proofs.Places.{must_fail, blanks_low}
 use Rattle.shread.proofs.NoSubsts.{no_substs}
 use Rattle.shread.proofs.Elsewhere.{follows, ItemAnywhere}
@@ -41,14 +41,14 @@ use Rattle.shtree.specs.declared.tree.AndOrOperator.{AndOrOperator}
 use Rattle.shtree.specs.declared.tree.AndOrOperator.TheVariants.{And, Or}
 use Rattle.shtree.specs.declared.tree.Span.{Span}
 use Rattle.shtree.specs.Spelling.{and_or_text}
-use Rattle.shtree.specs.Shape.{Text, Shape, text_at, shape_of_items, shape_of_item, shape_of_command, shape_of_comments, shape_of_join, shape_of_pipes, shape_of_bang, shape_of_pipeline, shape_of_and_or, shape_of_and_or_parts, shape_of_comment, shape_of_entry, shape_of, shape_of_branch, shape_of_branches, shape_of_else, shape_of_form}
-use Rattle.shtree.specs.Tree.{AJoinOf, AJoin, AnItemOf, AnItem, AWord, ABranchOf, ABranch, branch, BranchesOf, no_branch, more_branches, branches_of, OtherwiseOf, Otherwise, no_else, otherwise, EntriesOf, Entries, no_entry, more_entries, entries_of, AContentOf, remark, AnEntryOf, AnEntry, entry, command, AnAndOr, AnAndOrOf, and_or, AnAndOrPart, and_or_parts_of, APipeline, APipelineOf, pipeline, AndOrPartsOf, no_and_or, more_and_or, PipelinePartsOf, no_pipe, more_pipes, APipelinePart, pipeline_parts_of, ACompoundOf, formed, ACommandOf, ACommand, compound, function, item, AFormOf, AForm, brace, subshell, if_then, while_do, until_do, for_in, case_in, items_of, ItemsOf, no_item, more_items, simple, word, no_subst}
+use Rattle.shtree.specs.Shape.{Text, Shape, text_at, shape_of_items, shape_of_item, shape_of_command, shape_of_comments, shape_of_join, shape_of_pipes, shape_of_bang, shape_of_pipeline, shape_of_and_or, shape_of_and_or_parts, shape_of_comment, shape_of_entry, shape_of, shape_of_branch, shape_of_branches, shape_of_else, shape_of_form, shape_of_for_words, shape_of_word}
+use Rattle.shtree.specs.Tree.{AWordOf, ForWordsOf, ForWords, no_in, in_words, AJoinOf, AJoin, AnItemOf, AnItem, AWord, ABranchOf, ABranch, branch, BranchesOf, no_branch, more_branches, branches_of, OtherwiseOf, Otherwise, no_else, otherwise, EntriesOf, Entries, no_entry, more_entries, entries_of, AContentOf, remark, AnEntryOf, AnEntry, entry, command, AnAndOr, AnAndOrOf, and_or, AnAndOrPart, and_or_parts_of, APipeline, APipelineOf, pipeline, AndOrPartsOf, no_and_or, more_and_or, PipelinePartsOf, no_pipe, more_pipes, APipelinePart, pipeline_parts_of, ACompoundOf, formed, ACommandOf, ACommand, compound, function, item, AFormOf, AForm, brace, subshell, if_then, while_do, until_do, for_in, case_in, items_of, ItemsOf, no_item, more_items, simple, word, no_subst}
 use Rattle.shprint.specs.declared.layout.Layout.{Layout}
 use Rattle.shprint.specs.Marks.{text, line_end, Marks, laid, one, step, deeper, lines_between}
-use Rattle.shprint.specs.Printed.{print_form, print_branch, print_branches, print_else, is_one_line, print_only, print_content, print_entry, print_entries, print_blank, print_background, print_own_comment, print_and_or, print_bang, print_pipeline, print_and_or_parts, print_join, print_pipes, print_compound, print_command, operand_margin, breaks_line, print_comments, print_further_comments, print_gap, print_item, print_items, print_simple}
-use Rattle.shprint.proofs.Tokens.{none_first, end_here, if_here, then_here, elif_here, else_here, fi_here, while_here, until_here, do_here, done_here, brace_here, close_brace_here, open_token, close_token, semicolon_token, Keyword, ampersand_token, bang_here, pipe_token, and_token, or_token, first, byte_here, newline_token, start_here, skip, text_here, Gap, Start, all_blank, blank_gap, blanks_gap, broken_gap, no_gap, next_behind, next_one}
+use Rattle.shprint.specs.Printed.{print_for_words, print_word, print_form, print_branch, print_branches, print_else, is_one_line, print_only, print_content, print_entry, print_entries, print_blank, print_background, print_own_comment, print_and_or, print_bang, print_pipeline, print_and_or_parts, print_join, print_pipes, print_compound, print_command, operand_margin, breaks_line, print_comments, print_further_comments, print_gap, print_item, print_items, print_simple}
+use Rattle.shprint.proofs.Tokens.{none_first, end_here, for_here, in_here, if_here, then_here, elif_here, else_here, fi_here, while_here, until_here, do_here, done_here, brace_here, close_brace_here, open_token, close_token, semicolon_token, Keyword, ampersand_token, bang_here, pipe_token, and_token, or_token, first, byte_here, newline_token, start_here, skip, text_here, Gap, Start, all_blank, blank_gap, blanks_gap, broken_gap, no_gap, next_behind, next_one}
 use Rattle.shprint.proofs.Gives.{Gives, gives, gives_on, told_here, ◌⟫◌, given_here, seen_here, moved_here, pushed_here, first_of, second_of, last_turn, one_turn}
-use Rattle.shprint.proofs.Good.{NoItems, GoodForm, GoodElse, GoodBranches, GoodBranch, GoodContent, GoodEntries, GoodOwnComment, GoodAndOr, GoodParts, GoodPipeline, GoodPipes, GoodCompound, GoodCommand, GoodComments, GoodItems, none_more, one_more, GoodSimple, SomeItem, an_item_of, as_shape}
+use Rattle.shprint.proofs.Good.{NoItems, GoodForWords, GoodName, GoodForm, GoodElse, GoodBranches, GoodBranch, GoodContent, GoodEntries, GoodOwnComment, GoodAndOr, GoodParts, GoodPipeline, GoodPipes, GoodCompound, GoodCommand, GoodComments, GoodItems, none_more, one_more, GoodSimple, SomeItem, an_item_of, as_shape}
 
 -- ---- marks
 
@@ -59,6 +59,13 @@ laid_text t ms = refl
 pub laid_line : (ms : Marks) → laid (line_end ∷ ms) ≡ 10 ∷ laid ms
 unfolding laid
 laid_line ms = refl
+
+-- marks that are laid in the same way, behind others
+laid_same : (ms a b : Marks) → laid a ≡ laid b → laid (ms ++ a) ≡ laid (ms ++ b)
+unfolding laid
+laid_same [] a b e = e
+laid_same (text t ∷ ms) a b e = ap (λ z. t ++ z) (laid_same ms a b e)
+laid_same (line_end ∷ ms) a b e = ap (λ z. 10 ∷ z) (laid_same ms a b e)
 
 -- ---- margins
 
@@ -344,9 +351,18 @@ module _ (B T : List ℕ) (o : ℕ) (here : drop o B ≡ T) where
 
     module _ (y : Layout) (m : Text) (c : ℕ) (cs : Text) (blank : all_blank (deeper y m) ≡ true) (some_margin : deeper y m ≡ c ∷ cs)
         (rest : Marks) (follow : follows (laid rest) ≡ true) (behind : (e : ℕ) → At e rest → Behind e) where
-      items_read : {position last : Position} {is : Shape ItemsOf} → GoodItems room position is last → (acc : Row AnItem) (e : ℕ) → is_empty acc ≡ false
+      first_not : (b : Bool) → not b ≡ true → b ≡ false
+      first_not true e = absurd cc
+      first_not false e = refl
+
+      -- the first item is not broken
+      breaks_by : (acc : Row AnItem) (n : Next) (b : Bool) → (is_empty acc ≡ true → not b ≡ true) → n.broken ≡ b → breaks (so_many acc n) ≡ b
+      breaks_by [] n b none is = sym (first_not b (none refl))
+      breaks_by (i ∷ is) n b none same = same
+
+      items_read : {position last : Position} {is : Shape ItemsOf} → GoodItems room position is last → (acc : Row AnItem) (e : ℕ) → (is_empty acc ≡ true → first_not_broken is ≡ true)
           → At e (print_items y m is ++ rest) → ItemsRead acc (next_at position T e) (past_blanks T e) is rest
-      items_read {position = position} none_more acc e some at =
+      items_read {position = position} none_more acc e filled at =
           let b = behind e at in
           no_items_on acc (next_at position T e) e rest at (b.seen_as Command ∙ sym (b.seen_as position)) (ap (λ (n : Next). behind_item n.token) (b.seen_as position) ∙ b.no_item)
       items_read {position = position} (one_more {next = next} {token = token} {broken = b} {t = w} {is = is} some good others) acc e filled at =
@@ -360,13 +376,10 @@ module _ (B T : List ℕ) (o : ℕ) (here : drop o B ≡ T) where
           let n = next_at position T e in
           let at_q = subst (λ r. At r ms) (sym passed.blanks) gap.at in
           let one = item_read position next token w acc n q (print_items y m is ++ rest) (ap (λ (n : Next). n.token) n_is ∙ found.token_is) some good at_q follow_it in
-          let breaks_it : breaks (so_many acc n) ≡ b = rw filled (ap (λ (n : Next). n.broken) n_is) in
-          let all = items_on one (items_read others (acc ++ one.it ∷ []) (q + length w) (not_empty acc one.it) (at_text q w (print_items y m is ++ rest) at_q)) in
+          let breaks_it : breaks (so_many acc n) ≡ b = breaks_by acc n b filled (ap (λ (n : Next). n.broken) n_is) in
+          let some_before : is_empty (acc ++ one.it ∷ []) ≡ true → first_not_broken is ≡ true = λ e. absurd (both_ways (is_empty (acc ++ one.it ∷ [])) (not_empty acc one.it) e) in
+          let all = items_on one (items_read others (acc ++ one.it ∷ []) (q + length w) some_before (at_text q w (print_items y m is ++ rest) at_q)) in
           subst (λ broken. ItemsRead acc n q (more_items (an_item_of broken next w) is) rest) breaks_it all
-
-      first_not : (b : Bool) → not b ≡ true → b ≡ false
-      first_not true e = absurd cc
-      first_not false e = refl
 
       simple_printed : (b : Bool) (position : Position) (t : Text) (is : Shape ItemsOf) → print_simple y m (more_items (an_item_of b position t) is) ++ rest ≡ text t ∷ (print_items y m is ++ rest)
       simple_printed b position t is =
@@ -381,7 +394,7 @@ module _ (B T : List ℕ) (o : ℕ) (here : drop o B ≡ T) where
           let follow_it = items_follow y m rest others follow in
           let found = good.there g p (laid (print_items y m is ++ rest)) (there ∙ laid_text w (print_items y m is ++ rest)) follow_it in
           let one = item_read Command next token w [] n p (print_items y m is ++ rest) (token_is ∙ found.token_is) is_item good there follow_it in
-          let all = items_on one (items_read others (one.it ∷ []) (p + length w) refl (at_text p w (print_items y m is ++ rest) there)) in
+          let all = items_on one (items_read others (one.it ∷ []) (p + length w) (λ e. absurd cc) (at_text p w (print_items y m is ++ rest) there)) in
           subst (λ broken. ItemsRead [] n p (more_items (an_item_of broken next w) is) rest) (sym (first_not b first)) all
 
       -- a simple command
@@ -1715,15 +1728,15 @@ module _ (B T : List ℕ) (o : ℕ) (here : drop o B ≡ T) where
           s : Span
           f : ℕ
           at : At f ms
-          reads : (label : Spelled) → Gives g (passed label false) (standing (past_blanks T e)) (s, next_at Command T f) (standing (past_blanks T f))
+          reads : (label : Spelled) (position : Position) → Gives g (passed label false position) (standing (past_blanks T e)) (s, next_at position T f) (standing (past_blanks T f))
 
-        passed_by : (label : Spelled) (q f : ℕ) → past_reserved T q ≡ f → Gives g (passed label false) (standing q) (span o q f, next_at Command T f) (standing (past_blanks T f))
+        passed_by : (label : Spelled) (position : Position) (q f : ℕ) → past_reserved T q ≡ f → Gives g (passed label false position) (standing q) (span o q f, next_at position T f) (standing (past_blanks T f))
         unfolding passed
-        passed_by label q f is =
+        passed_by label position q f is =
             let moved : Gives g (move the_reserved) (standing q) tt (standing f) = subst (λ p. Gives g (move the_reserved) (standing q) tt (standing p)) is (moved_here the_reserved) in
-            told_here (by label) moved ⟫ next_read Command f ⟫ given_here
+            told_here (by label) moved ⟫ next_read position f ⟫ given_here
 
-        passed_paren : (label : Spelled) (q : ℕ) → behind T q ≡ q + 1 → Gives g (passed label true) (standing q) (span o q (q + 1), next_at Command T (q + 1)) (standing (past_blanks T (q + 1)))
+        passed_paren : (label : Spelled) (q : ℕ) → behind T q ≡ q + 1 → Gives g (passed label true Command) (standing q) (span o q (q + 1), next_at Command T (q + 1)) (standing (past_blanks T (q + 1)))
         unfolding passed
         passed_paren label q is =
             let moved : Gives g (move one_byte) (standing q) tt (standing (q + 1)) = subst (λ p. Gives g (move one_byte) (standing q) tt (standing p)) is (moved_here one_byte) in
@@ -1743,7 +1756,7 @@ module _ (B T : List ℕ) (o : ℕ) (here : drop o B ≡ T) where
               s = span o q (q + length w);
               f = q + length w;
               at = at_text q w ms at_q;
-              reads = λ label. passed_by label q (q + length w) kq.past_it;
+              reads = λ label position. passed_by label position q (q + length w) kq.past_it;
             }
 
         -- a closing word closes
@@ -1756,7 +1769,7 @@ module _ (B T : List ℕ) (o : ℕ) (here : drop o B ≡ T) where
         closing_read : (c : Closing) (r : Reserved) (e : ℕ) (ms : Marks) → is_closing c (tokens.Reserved r) ≡ true → is_close_paren c ≡ false → (k : KeywordRead e r ms)
             → Gives g (closing inner c (next_at Command T e)) (standing (past_blanks T e)) (k.s, next_at Command T k.f) (standing (past_blanks T k.f))
         unfolding closing
-        closing_read c r e ms is_it no_paren k = first_of _ _ (ap (is_closing c) k.token_is ∙ is_it) (rw no_paren (k.reads (closing_text c)))
+        closing_read c r e ms is_it no_paren k = first_of _ _ (ap (is_closing c) k.token_is ∙ is_it) (rw no_paren (k.reads (closing_text c) Command))
 
         -- ---- conditions
 
@@ -2063,7 +2076,7 @@ module _ (B T : List ℕ) (o : ℕ) (here : drop o B ≡ T) where
               value = otherwise b.value;
               f = b.e;
               key = b.key;
-              reads = first_of _ _ (ap (is_closing closings.Else) k.token_is) (k.reads (closing_text closings.Else) ⟫ b.reads ⟫ given_here);
+              reads = first_of _ _ (ap (is_closing closings.Else) k.token_is) (k.reads (closing_text closings.Else) Command ⟫ b.reads ⟫ given_here);
               shape = ap otherwise b.shape;
             }
 
@@ -2131,7 +2144,7 @@ module _ (B T : List ℕ) (o : ℕ) (here : drop o B ≡ T) where
               f = others.f;
               at = others.at;
               reads = branches_turned acc (next_at Command T e) (past_blanks T e) b.value (next_at Command T b.e) (past_blanks T b.e) others.value (next_at Command T others.f) (past_blanks T others.f)
-                  (first_of _ _ (ap (is_closing closings.Elif) k.token_is) (k.reads (closing_text closings.Elif) ⟫ b.reads ⟫ pushed_here acc b.value ⟫ given_here))
+                  (first_of _ _ (ap (is_closing closings.Elif) k.token_is) (k.reads (closing_text closings.Elif) Command ⟫ b.reads ⟫ pushed_here acc b.value ⟫ given_here))
                   (leads (past_blanks T e) (past_blanks T b.e) (omega (arith, low, k_f, blanks_low T k.f)) within) others.reads;
               shape = branches_shape b.value others.value (branch condition body) bs b.shape others.shape;
             }
@@ -2161,6 +2174,157 @@ module _ (B T : List ℕ) (o : ℕ) (here : drop o B ≡ T) where
             if_shape : (v : ABranch) (vs : Row ABranch) (w : Otherwise) (b : Shape ABranchOf) (bs : Shape BranchesOf) (other : Shape OtherwiseOf) → shape_of_branch B v ≡ b → shape_of_branches B (branches_of vs) ≡ bs
                 → shape_of_else B w ≡ other → shape_of_form B (if_then v (branches_of vs) w) ≡ if_then b bs other
             if_shape v vs w b bs other e f h = rw (e, f, h) refl
+
+        -- ---- `for`
+
+        -- the name of a for
+        record NameRead (f : ℕ) (name : Shape AWordOf) (ms : Marks) : Type 0 where
+          value : AWord
+          e : ℕ
+          at : At e ms
+          reads : Gives g (a_for_name inner (next_at Suffix T f)) (standing (past_blanks T f)) (value, next_at Command T e) (standing (past_blanks T e))
+          shape : shape_of_word B value ≡ name
+
+        name_read : (name : Shape AWordOf) (f : ℕ) (ms : Marks) → GoodName room name → follows (laid ms) ≡ true → At f (text (codes " ") ∷ (print_word name ++ ms)) → NameRead f name ms
+        unfolding a_for_name
+        name_read name f ms good follow at =
+            let t = good.t in
+            let there = at ∙ ap (λ w. laid (text (codes " ") ∷ (print_word w ++ ms))) good.is in
+            let behind_it = at_text f (codes " ") (text t ∷ ms) there in
+            let found = good.reads.there g (f + 1) (laid ms) (behind_it ∙ laid_text t ms) follow in
+            let gap = margin_gap (codes " ") f (text t ∷ ms) refl there (record { place = found.place; no_blank = found.no_blank }) in
+            let q = past_blanks T f in
+            let e = q + length t in
+            let at_q = subst (λ r. At r (text t ∷ ms)) (sym gap.blanks) behind_it in
+            let there_q = at_q ∙ laid_text t ms in
+            let v = (good.reads.there g q (laid ms) there_q follow).word in
+            let plain = plain_word q (length t) v.0 _ v.1 in
+            let word_read : Gives g (a_word inner) (standing q) (word (span o q e) no_subst) (standing e) = gives _ (subst (λ x. may (a_word inner) g (standing q) (Ok (x, standing e)) (raw T q e ∷ [])) plain v.1) in
+            let begins = ap (λ (n : Next). begins_simple n.token) (next_behind Suffix gap) ∙ ap begins_simple found.token_is ∙ good.begins in
+            record {
+              value = word (span o q e) no_subst;
+              e = e;
+              at = at_text q t ms at_q;
+              reads = first_of _ _ begins (seen_here the_place ⟫ seen_here is_a_name ⟫ word_read ⟫ first_of _ _ (good.names T q (laid ms) there_q follow) (next_read Command e ⟫ given_here));
+              shape = ap (λ t. word t no_subst) (span_text q t (laid ms) there_q) ∙ sym good.is;
+            }
+
+        in_key : (ms : Marks) → WordEnd (laid ms) → Key (codes "in") reserved.In ms
+        in_key ms e = key_by (codes "in") reserved.In ms e (λ p x xs clear stops at. in_here T p x xs clear stops at)
+
+        -- between the name and `do`
+        abbrev head_marks : Text → Shape ForWordsOf → Marks → Marks
+        head_marks m no_in ms = text (codes " ") ∷ text (codes "do") ∷ ms
+        head_marks m (in_words items) ms = text (codes " ") ∷ text (codes "in") ∷ (print_items y m items ++ (text (codes "; ") ∷ text (codes "do") ∷ ms))
+
+        head_follows : (m : Text) (words : Shape ForWordsOf) (ms : Marks) → follows (laid (head_marks m words ms)) ≡ true
+        unfolding laid
+        head_follows m no_in ms = refl
+        head_follows m (in_words items) ms = refl
+
+        head_is : (m : Text) (words : Shape ForWordsOf) (ms : Marks) → laid (print_for_words y m words ++ ms) ≡ laid (head_marks m words ms)
+        unfolding laid
+        head_is m no_in ms = refl
+        head_is m (in_words items) ms =
+            let P = print_items y m items in
+            ap laid (append_assoc (text (codes " in") ∷ P) (one (codes "; do")) ms) ∙ ap (λ z. codes " in" ++ z) (laid_same P (text (codes "; do") ∷ ms) (text (codes "; ") ∷ text (codes "do") ∷ ms) refl)
+
+        -- no comment, and no newline
+        no_lines : (n : Next) (p : ℕ) → raw_stands T p 35 ≡ false → is_newline n.token ≡ false → Gives g (a_linebreak [] n) (standing p) (join_so (a_join_of false []) n) (standing p)
+        unfolding a_linebreak
+        no_lines n p no_comment no_newline = last_turn join_turn (last_join_turn false [] n p no_comment no_newline)
+
+        no_semicolon : (n : Next) (p : ℕ) → is_semicolon n.token ≡ false → Gives g (a_semicolon n) (standing p) (false, n) (standing p)
+        unfolding a_semicolon
+        no_semicolon n p none = second_of _ _ none given_here
+
+        record HeadRead (f : ℕ) (words : Shape ForWordsOf) (ms : Marks) : Type 0 where
+          value : ForWords
+          e : ℕ
+          key : KeywordRead e reserved.Do ms
+          reads : Gives g (a_for_head inner (next_at Command T f)) (standing (past_blanks T f)) (headed value (join_so (a_join_of false []) (next_at Command T e))) (standing (past_blanks T e))
+          shape : shape_of_for_words B value ≡ words
+
+        -- `;` and the word behind it
+        sep_read : (e : ℕ) (w : Text) (r : Reserved) (ms : Marks) → Key w r ms → At e (text (codes "; ") ∷ text w ∷ ms)
+            → (k : KeywordRead (past_blanks T e + 1) r ms) × Gives g (a_sequential_sep inner [] (next_at Command T e)) (standing (past_blanks T e)) (join_so (a_join_of false []) (next_at Command T (past_blanks T e + 1))) (standing (past_blanks T (past_blanks T e + 1)))
+        unfolding a_sequential_sep a_semicolon
+        sep_read e w r ms key at =
+            let there = at ∙ laid_text (codes "; ") (text w ∷ ms) in
+            let gap = no_gap (start_here (byte_here T e 59 (32 ∷ laid (text w ∷ ms)) refl there) refl) in
+            let q = past_blanks T e in
+            let r_q = byte_here T q 59 (32 ∷ laid (text w ∷ ms)) refl (subst (λ r. drop r T ≡ 59 ∷ 32 ∷ laid (text w ∷ ms)) (sym gap.blanks) there) in
+            let n_is = (semicolon_follower (text w ∷ ms)).seen_as e at Command in
+            let k = keyword_read (codes " ") w r (q + 1) ms refl key (r_q.rest ∙ sym (laid_text (codes " ") (text w ∷ ms))) in
+            let moved : Gives g (move one_byte) (standing q) tt (standing (q + 1)) = subst (λ p. Gives g (move one_byte) (standing q) tt (standing p)) r_q.behind_it (moved_here one_byte) in (
+              k,
+              first_of _ _ (ap (λ (n : Next). is_semicolon n.token) n_is) (moved ⟫ next_read Command (q + 1) ⟫ given_here)
+                  ⟫ no_lines (next_at Command T (q + 1)) (past_blanks T (q + 1)) k.no_comment_it (ap is_newline k.token_is) ⟫ given_here,
+            )
+
+        words_read : (m : Text) (items : Shape ItemsOf) (f : ℕ) (ms : Marks) → all_blank m ≡ true → GoodForWords room (in_words items) → are_normal_words (in_words items) ≡ true → WordEnd (laid ms)
+            → At f (head_marks m (in_words items) ms) → HeadRead f (in_words items) ms
+        unfolding a_for_head for_words
+        words_read m items f ms blank good normal stop at =
+            let X = text (codes "; ") ∷ text (codes "do") ∷ ms in
+            let P = print_items y m items in
+            let follower = semicolon_follower (text (codes "do") ∷ ms) in
+            let some_margin = deeper_some y m in
+            let stops = follows_end (laid (P ++ X)) (items_follow y m X good.items follower.follow) in
+            let k = keyword_read (codes " ") (codes "in") reserved.In f (P ++ X) refl (in_key (P ++ X) stops) at in
+            let is = items_read y m some_margin.0 some_margin.1 (deeper_blank y m blank) some_margin.2 X follower.follow (follower_behind follower refl) good.items [] k.f (λ none. (and_parts _ _ normal).0) k.at in
+            let sep = sep_read is.«end» (codes "do") reserved.Do ms (do_key ms stop) is.at in
+            let n = next_at Command T f in
+            let q = past_blanks T f in
+            record {
+              value = in_words (items_of is.more_items_read);
+              e = past_blanks T is.«end» + 1;
+              key = sep.0;
+              reads = no_semicolon n q (ap is_semicolon k.token_is) ⟫ no_lines n q k.no_comment_it (ap is_newline k.token_is)
+                  ⟫ first_of _ _ (ap (is_closing closings.In) k.token_is) (k.reads (closing_text closings.In) Suffix ⟫ is.reads ⟫ sep.1 ⟫ given_here);
+              shape = ap in_words is.shape;
+            }
+
+        head_read : (m : Text) (words : Shape ForWordsOf) (f : ℕ) (ms : Marks) → all_blank m ≡ true → GoodForWords room words → are_normal_words words ≡ true → WordEnd (laid ms)
+            → At f (head_marks m words ms) → HeadRead f words ms
+        unfolding a_for_head
+        head_read m no_in f ms blank good normal stop at =
+            let k = keyword_read (codes " ") (codes "do") reserved.Do f ms refl (do_key ms stop) at in
+            let n = next_at Command T f in
+            let q = past_blanks T f in
+            record {
+              value = no_in;
+              e = f;
+              key = k;
+              reads = no_semicolon n q (ap is_semicolon k.token_is) ⟫ no_lines n q k.no_comment_it (ap is_newline k.token_is) ⟫ second_of _ _ (ap (is_closing closings.In) k.token_is) given_here;
+              shape = refl;
+            }
+        head_read m (in_words items) f ms blank good normal stop at = words_read m items f ms blank good normal stop at
+
+        for_shape : (v : AWord) (ws : ForWords) (b : Entries) (name : Shape AWordOf) (words : Shape ForWordsOf) (body : Shape EntriesOf) → shape_of_word B v ≡ name → shape_of_for_words B ws ≡ words → shape_of B b ≡ body
+            → shape_of_form B (for_in v ws b) ≡ for_in name words body
+        for_shape v ws b name words body e f h = rw (e, f, h) refl
+
+        for_read : (m : Text) (name : Shape AWordOf) (words : Shape ForWordsOf) (body : Shape EntriesOf) (f : ℕ) (rest : Marks) → all_blank m ≡ true → GoodForm room (for_in name words body)
+            → is_normal_form (for_in name words body) ≡ true → WordEnd (laid rest) → At f (text (codes " ") ∷ (print_word name ++ head_marks m words (block_marks m body (text (codes "done") ∷ rest))))
+            → Finished AForm (a_for inner (next_at Suffix T f)) (past_blanks T f) rest (λ v. shape_of_form B v ≡ for_in name words body)
+        unfolding a_for a_group
+        for_read m name words body f rest blank good normal stop at =
+            let one_of = and_parts _ _ normal in
+            let two_of = and_parts _ _ one_of.0 in
+            let three_of = and_parts _ _ two_of.0 in
+            let X = block_marks m body (text (codes "done") ∷ rest) in
+            let n = name_read name f (head_marks m words X) good.0 (head_follows m words X) at in
+            let h = head_read m words n.e X blank good.1 three_of.1 (line_end_end _) n.at in
+            let b = body_read m body h.key.f (codes "done") reserved.Done rest blank good.2 two_of.1 one_of.1 (done_key rest stop) refl h.key.at in
+            record {
+              value = for_in n.value h.value b.value;
+              closer = b.key.s;
+              e = b.key.f;
+              at = b.key.at;
+              reads = n.reads ⟫ h.reads ⟫ closing_read closings.Do reserved.Do h.e X refl refl h.key ⟫ (b.reads ⟫ closing_read closings.Done reserved.Done b.e rest refl refl b.key ⟫ given_here) ⟫ given_here;
+              is = for_shape n.value h.value b.value name words body n.shape h.shape b.shape;
+            }
 
         -- behind a margin a `)` closes
         paren_line : (m : Text) (e : ℕ) (ms : Marks) → all_blank m ≡ true → At e (text m ∷ text (codes ")") ∷ ms) → (token_at Command T (past_blanks T e) ≡ tokens.CloseParen) × At (past_blanks T e) (text (codes ")") ∷ ms)
@@ -2220,7 +2384,7 @@ module _ (B T : List ℕ) (o : ℕ) (here : drop o B ≡ T) where
         form_rest m (if_then (branch condition body) bs other) rest = branch_marks m (codes "then") condition body (if_rest m bs other rest)
         form_rest m (while_do (branch condition body)) rest = branch_marks m (codes "do") condition body (text (codes "done") ∷ rest)
         form_rest m (until_do (branch condition body)) rest = branch_marks m (codes "do") condition body (text (codes "done") ∷ rest)
-        form_rest m (for_in name words body) rest = rest
+        form_rest m (for_in name words body) rest = text (codes " ") ∷ (print_word name ++ head_marks m words (block_marks m body (text (codes "done") ∷ rest)))
         form_rest m (case_in w items tail) rest = rest
 
         abbrev opener_for : Shape AFormOf → Opener
@@ -2229,29 +2393,37 @@ module _ (B T : List ℕ) (o : ℕ) (here : drop o B ≡ T) where
         opener_for (if_then first rest other) = openers.If
         opener_for (while_do b) = openers.While
         opener_for (until_do b) = openers.Until
-        opener_for (for_in name words body) = openers.Brace
+        opener_for (for_in name words body) = openers.For
         opener_for (case_in w items tail) = openers.Brace
 
-        form_is : (m : Text) (form : Shape AFormOf) (rest : Marks) → GoodForm room form → print_form y m form ++ rest ≡ text (opener_text (opener_for form)) ∷ form_rest m form rest
+        form_is : (m : Text) (form : Shape AFormOf) (rest : Marks) → GoodForm room form → laid (print_form y m form ++ rest) ≡ laid (text (opener_text (opener_for form)) ∷ form_rest m form rest)
+        unfolding laid
         form_is m (brace es) rest good =
-            ap (λ ks. text (codes "{") ∷ ks) (append_assoc (lines_between m (print_entries y (deeper y m) es)) (one (codes "}")) rest ∙ between_is m es (text (codes "}") ∷ rest))
+            ap (λ ks. laid (text (codes "{") ∷ ks)) (append_assoc (lines_between m (print_entries y (deeper y m) es)) (one (codes "}")) rest ∙ between_is m es (text (codes "}") ∷ rest))
         form_is m (subshell es) rest good =
-            ap (λ ks. text (codes "(") ∷ ks) (append_assoc (lines_between m (print_entries y (deeper y m) es)) (one (codes ")")) rest ∙ between_is m es (text (codes ")") ∷ rest))
+            ap (λ ks. laid (text (codes "(") ∷ ks)) (append_assoc (lines_between m (print_entries y (deeper y m) es)) (one (codes ")")) rest ∙ between_is m es (text (codes ")") ∷ rest))
         form_is m (if_then (branch condition body) bs other) rest good =
             let P = print_branch y m (codes "if") (codes "then") (branch condition body) in
             let Q = print_branches y m bs in
             let E = print_else y m other in
-            append_assoc ((P ++ Q) ++ E) (one (codes "fi")) rest ∙ append_assoc (P ++ Q) E (text (codes "fi") ∷ rest) ∙ append_assoc P Q (E ++ (text (codes "fi") ∷ rest))
-            ∙ branch_is m (codes "if") (codes "then") condition body (if_rest m bs other rest)
+            ap laid (append_assoc ((P ++ Q) ++ E) (one (codes "fi")) rest ∙ append_assoc (P ++ Q) E (text (codes "fi") ∷ rest) ∙ append_assoc P Q (E ++ (text (codes "fi") ∷ rest))
+            ∙ branch_is m (codes "if") (codes "then") condition body (if_rest m bs other rest))
         form_is m (while_do (branch condition body)) rest good =
-            append_assoc (print_branch y m (codes "while") (codes "do") (branch condition body)) (one (codes "done")) rest ∙ branch_is m (codes "while") (codes "do") condition body (text (codes "done") ∷ rest)
+            ap laid (append_assoc (print_branch y m (codes "while") (codes "do") (branch condition body)) (one (codes "done")) rest ∙ branch_is m (codes "while") (codes "do") condition body (text (codes "done") ∷ rest))
         form_is m (until_do (branch condition body)) rest good =
-            append_assoc (print_branch y m (codes "until") (codes "do") (branch condition body)) (one (codes "done")) rest ∙ branch_is m (codes "until") (codes "do") condition body (text (codes "done") ∷ rest)
-        form_is m (for_in name words body) rest good = absurd good
+            ap laid (append_assoc (print_branch y m (codes "until") (codes "do") (branch condition body)) (one (codes "done")) rest ∙ branch_is m (codes "until") (codes "do") condition body (text (codes "done") ∷ rest))
+        form_is m (for_in name words body) rest good =
+            let W = print_word name in
+            let F = print_for_words y m words in
+            let L = lines_between m (print_entries y (deeper y m) body) in
+            let X = block_marks m body (text (codes "done") ∷ rest) in
+            let parts = append_assoc (((text (codes "for ") ∷ W) ++ F) ++ L) (one (codes "done")) rest ∙ append_assoc ((text (codes "for ") ∷ W) ++ F) L (text (codes "done") ∷ rest)
+            ∙ append_assoc (text (codes "for ") ∷ W) F (L ++ (text (codes "done") ∷ rest)) ∙ ap (λ ks. text (codes "for ") ∷ (W ++ (F ++ ks))) (between_is m body (text (codes "done") ∷ rest)) in
+            ap laid parts ∙ ap (λ z. codes "for " ++ z) (laid_same W (F ++ X) (head_marks m words X) (head_is m words X))
         form_is m (case_in w items tail) rest good = absurd good
 
         form_read : (m : Text) (form : Shape AFormOf) (f : ℕ) (rest : Marks) → all_blank m ≡ true → GoodForm room form → is_normal_form form ≡ true → WordEnd (laid rest) → At f (form_rest m form rest)
-            → Finished AForm (a_form inner (opener_for form) (next_at Command T f)) (past_blanks T f) rest (λ v. shape_of_form B v ≡ form)
+            → Finished AForm (a_form inner (opener_for form) (next_at (behind_opener (opener_for form)) T f)) (past_blanks T f) rest (λ v. shape_of_form B v ≡ form)
         form_read m (brace es) f rest blank good normal stop at =
             let parts = and_parts _ _ normal in
             let r = group_read m es f rest blank good parts.0 parts.1 stop at in
@@ -2267,7 +2439,7 @@ module _ (B T : List ℕ) (o : ℕ) (here : drop o B ≡ T) where
         form_read m (until_do (branch condition body)) f rest blank good normal stop at =
             let r = loop_read m condition body f rest blank good normal stop at in
             record { value = until_do r.value; closer = r.closer; e = r.e; at = r.at; reads = r.reads ⟫ given_here; is = ap (λ b. until_do b) r.is }
-        form_read m (for_in name words body) f rest blank good normal stop at = absurd good
+        form_read m (for_in name words body) f rest blank good normal stop at = for_read m name words body f rest blank good normal stop at
         form_read m (case_in w items tail) f rest blank good normal stop at = absurd good
 
         -- ---- compound commands
@@ -2278,7 +2450,7 @@ module _ (B T : List ℕ) (o : ℕ) (here : drop o B ≡ T) where
           s : Span
           f : ℕ
           at : At f ms
-          reads : Gives g (passed (opener_text k) (is_open_paren k)) (standing p) (s, next_at Command T f) (standing (past_blanks T f))
+          reads : Gives g (passed (opener_text k) (is_open_paren k) (behind_opener k)) (standing p) (s, next_at (behind_opener k) T f) (standing (past_blanks T f))
 
         opened_by : (k : Opener) (r : Reserved) (p : ℕ) (ms : Marks) → is_open_paren k ≡ false → begins_simple (tokens.Reserved r) ≡ false → opener_of (tokens.Reserved r) ≡ Some k → Key (opener_text k) r ms
             → At p (text (opener_text k) ∷ ms) → Opened p k ms
@@ -2289,7 +2461,7 @@ module _ (B T : List ℕ) (o : ℕ) (here : drop o B ≡ T) where
               s = span o p (p + length (opener_text k));
               f = p + length (opener_text k);
               at = at_text p (opener_text k) ms at;
-              reads = rw no_paren (passed_by (opener_text k) p (p + length (opener_text k)) it.past_it);
+              reads = rw no_paren (passed_by (opener_text k) (behind_opener k) p (p + length (opener_text k)) it.past_it);
             }
 
         opened_paren : (p : ℕ) (ms : Marks) → At p (text (codes "(") ∷ ms) → Opened p openers.Paren ms
@@ -2318,18 +2490,20 @@ module _ (B T : List ℕ) (o : ℕ) (here : drop o B ≡ T) where
         form_opened m (until_do (branch condition body)) p rest good at =
             let ms = text (codes "do") ∷ block_marks m body (text (codes "done") ∷ rest) in
             opened_by openers.Until reserved.Until p (cond_marks m condition ++ ms) refl refl refl (key_by (codes "until") reserved.Until (cond_marks m condition ++ ms) (condition_end m condition ms) (λ p x xs clear stops at. until_here T p x xs clear stops at)) at
-        form_opened m (for_in name words body) p rest good at = absurd good
+        form_opened m (for_in name words body) p rest good at =
+            let ms = print_word name ++ head_marks m words (block_marks m body (text (codes "done") ∷ rest)) in
+            opened_by openers.For reserved.For p (text (codes " ") ∷ ms) refl refl refl (key_by (codes "for") reserved.For (text (codes " ") ∷ ms) (space_end ms) (λ p x xs clear stops at. for_here T p x xs clear stops at)) at
         form_opened m (case_in w items tail) p rest good at = absurd good
 
         compound_is : (m : Text) (form : Shape AFormOf) (mark : Unit {0}) (redirects : Shape ItemsOf) (rest : Marks) → GoodForm room form → NoItems redirects
-            → print_compound y m (formed form mark redirects) ++ rest ≡ text (opener_text (opener_for form)) ∷ form_rest m form rest
-        compound_is m form mark no_item rest good none = append_assoc (print_form y m form) [] rest ∙ form_is m form rest good
+            → laid (print_compound y m (formed form mark redirects) ++ rest) ≡ laid (text (opener_text (opener_for form)) ∷ form_rest m form rest)
+        compound_is m form mark no_item rest good none = ap laid (append_assoc (print_form y m form) [] rest) ∙ form_is m form rest good
         compound_is m form mark (more_items i is) rest good none = absurd none
 
         -- a compound command opens so, one level further out
         pub compound_opens : (m : Text) (c : Shape ACompoundOf) (p : ℕ) (rest : Marks) → GoodCompound (suc room) c → At p (print_compound y m c ++ rest) → (k : Opener) × Opens p k
         compound_opens m (formed form mark redirects) p rest good at =
-            (opener_for form, (form_opened m form p rest good.0 (at ∙ ap laid (compound_is m form mark redirects rest good.0 good.1))).opens)
+            (opener_for form, (form_opened m form p rest good.0 (at ∙ compound_is m form mark redirects rest good.0 good.1)).opens)
 
         opener_same : (k l : Opener) (p : ℕ) → Opens p k → Opens p l → k ≡ l
         opener_same k l p one two = let same : ◌≡◌ {A = Option Opener} (Some k) (Some l) = sym one.opener ∙ two.opener in cc
@@ -2343,7 +2517,7 @@ module _ (B T : List ℕ) (o : ℕ) (here : drop o B ≡ T) where
             → Follower rest t → behind_item t ≡ None → Opens p k → At p (print_compound y m c ++ rest) → Got (a_compound inner k) p rest (λ v. shape_of_command B v ≡ compound c)
         unfolding a_compound
         compound_read m (formed form mark redirects) p rest t k blank good normal f none opens at =
-            let there = at ∙ ap laid (compound_is m form mark redirects rest good.0 good.1) in
+            let there = at ∙ compound_is m form mark redirects rest good.0 good.1 in
             let it = form_opened m form p rest good.0 there in
             let r = form_read m form it.f rest blank good.0 (and_parts _ _ normal).0 (follows_end (laid rest) f.follow) it.at in
             let c = compound (formed r.value (through it.s r.closer) no_item) in

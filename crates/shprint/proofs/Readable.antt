@@ -1,5 +1,5 @@
 -- What was read has a good shape: its words and comments are read wherever they stand, and no more constructs are open than may be.
-use Rattle.std.proofs.Common.{◌≡◌, ◌∙◌, refl, sym, ap, subst, ℕ, zero, suc, ◌+◌, ◌-◌, Bool, true, false, Ok, Err, List, List as Row, [], ◌∷◌, ◌++◌, drop, take, Option, Some, None, is_some, option_map}
+use Rattle.std.proofs.Common.{◌≡◌, ◌∙◌, refl, sym, ap, subst, ℕ, zero, suc, ◌+◌, ◌-◌, Bool, true, false, not, ◌&&◌, ◌||◌, ◌⊎◌, inl, inr, ⊎_elim, Ok, Err, List, List as Row, [], ◌∷◌, ◌++◌, drop, take, Option, Some, None, is_some, option_map}
 use Rattle.std.proofs.lemmas.List.{drop-drop}
 use Rattle.shread.specs.declared.token.Closing.{Closing}
 use Rattle.shread.specs.declared.token.Closing.TheVariants as closings
@@ -12,18 +12,18 @@ use Rattle.shread.specs.declared.token.Separator.{Separator}
 use Rattle.shread.specs.declared.token.Token.{Token}
 use Rattle.shtree.specs.declared.tree.AndOrOperator.{AndOrOperator}
 use Rattle.shtree.specs.declared.tree.Span.{Span}
-use Rattle.shtree.specs.Tree.{APipelinePart, AnAndOrPart, ACommand, ABranch, AForm, pipeline_parts_of, and_or_parts_of, branches_of, AnEntry, AnItem, AWord, item, entry, remark, entries_of, items_of, ItemsOf, no_item, more_items, AnItemOf, word, no_subst}
-use Rattle.shtree.specs.Shape.{Text, Shape, text_at, shape_of, shape_of_comment, shape_of_comments, shape_of_entry, shape_of_and_or, shape_of_and_or_parts, shape_of_pipeline, shape_of_pipes, shape_of_command, shape_of_form, shape_of_branch, shape_of_branches, shape_of_else, shape_of_items, shape_of_item, shape_of_word}
+use Rattle.shtree.specs.Tree.{APipelinePart, AnAndOrPart, ACommand, ABranch, AForm, Entries, pipeline_parts_of, and_or_parts_of, branches_of, AnEntry, AnItem, AWord, item, entry, remark, entries_of, items_of, ItemsOf, no_item, more_items, AnItemOf, word, no_subst}
+use Rattle.shtree.specs.Shape.{Text, Shape, text_at, shape_of, shape_of_comment, shape_of_comments, shape_of_entry, shape_of_and_or, shape_of_and_or_parts, shape_of_pipeline, shape_of_pipes, shape_of_command, shape_of_form, shape_of_branch, shape_of_branches, shape_of_else, shape_of_for_words, shape_of_items, shape_of_item, shape_of_word}
 use Rattle.shread.specs.Classes.{is_blank}
 use Rattle.shread.specs.Bytes.{past_continuations, past_blanks, stands_in}
 use Rattle.shread.specs.Comments.{span, comment_at}
-use Rattle.shread.specs.Tokens.{token_at}
+use Rattle.shread.specs.Tokens.{is_name_at, token_at}
 use Rattle.shread.specs.Sights.{Given, given, State, standing, Sight, seen, Move, to}
 use Rattle.shread.specs.Form.{Spelled, Read, Form, see, move, push, give, both, many, Step, again, done, step_if, may}
 use Rattle.shread.specs.Words.{Inner, a_word}
-use Rattle.shread.specs.Commands.{pick, next_token, is_newline, is_pipe, is_bang, begins_simple, begins_pipeline, opener_of, compound_by, and_or_operator_of, Items, so_many, behind_item, as_item, breaks, an_item, item_by, item_turn, a_simple, unexpected, comment_by, a_comment, a_newline, with_comment, JoinSo, join_turn, a_join, a_command, a_bang, Piped, piped, one_command, pipe_turn, a_pipeline, Joined, joined_so, one_pipeline, joined_by, join_pipeline, an_and_or, separator_of, separator_by, a_separator, is_parted, an_entry}
+use Rattle.shread.specs.Commands.{pick, next_token, is_newline, is_semicolon, a_semicolon, is_pipe, is_bang, begins_simple, begins_pipeline, opener_of, compound_by, and_or_operator_of, Items, so_many, behind_item, as_item, breaks, an_item, item_by, item_turn, a_simple, unexpected, comment_by, a_comment, a_newline, with_comment, JoinSo, join_turn, a_join, a_command, a_bang, Piped, piped, one_command, pipe_turn, a_pipeline, Joined, joined_so, one_pipeline, joined_by, join_pipeline, an_and_or, separator_of, separator_by, a_separator, is_parted, an_entry}
 use Rattle.shread.specs.Lists.{ListSo, list_so, none_listed, is_blank_next, one_entry, entry_turn, remark_by, a_remark, on_line, list_turn, a_list}
-use Rattle.shread.specs.Compounds.{Branched, branched, Closed, is_closing, passed, closing, a_group, a_branch, elif_turn, an_else, an_if, a_loop, a_form, a_compound}
+use Rattle.shread.specs.Compounds.{Branched, branched, Closed, is_closing, passed, closing, a_group, a_branch, elif_turn, an_else, an_if, a_loop, behind_opener, a_for_name, a_linebreak, a_sequential_sep, Headed, for_words, a_for_head, behind_remarks, a_for, a_form, a_compound}
 use Rattle.shread.specs.Levels.{most_open, level, IsWord}
 use Rattle.shread.specs.Lines.{a_line}
 use Rattle.shread.specs.Scripts.{AScript, SoFar, Lines, line_ended, last_line, faulty, nothing_yet, Outcome}
@@ -33,9 +33,9 @@ use Rattle.shread.proofs.Holds.{Holds, Tells, Stepped, tells_give, tells_then, t
 use Rattle.shread.proofs.Anywhere.{waits, state_is, read_word}
 use Rattle.shread.proofs.NoSubsts.{no_substs}
 use Rattle.shread.proofs.Spelling.{raw_at}
-use Rattle.shread.proofs.Elsewhere.{ItemAnywhere, item_anywhere}
+use Rattle.shread.proofs.Elsewhere.{ItemAnywhere, NameAnywhere, item_anywhere, name_anywhere}
 use Rattle.shread.proofs.CommentsElsewhere.{CommentAnywhere, comment_is, comment_anywhere}
-use Rattle.shprint.proofs.Good.{GoodComments, GoodOwnComment, an_item_of, GoodItems, none_more, one_more, SomeItem, GoodSimple, GoodEntries, GoodEntry, GoodAndOr, GoodParts, GoodPipeline, GoodPipes, GoodCommand, GoodForm, GoodBranch, GoodBranches, GoodElse}
+use Rattle.shprint.proofs.Good.{GoodComments, GoodOwnComment, an_item_of, GoodItems, none_more, one_more, SomeItem, GoodSimple, GoodWords, GoodForWords, GoodName, GoodEntries, GoodEntry, GoodAndOr, GoodParts, GoodPipeline, GoodPipes, GoodCommand, GoodForm, GoodBranch, GoodBranches, GoodElse}
 
 -- ---- rows that grow at their end
 
@@ -185,6 +185,10 @@ module _ (g : Given) where
   unfolding a_bang
   reads_bang n p so = picks (is_bang n.token) (λ is. next_on (λ x m e stands. stands)) (gives so)
 
+  reads_semicolon : (X : Type 0) (n : Next) (p : ℕ) → (X → Stands Command n p) → Reads (a_semicolon n) (λ l e. (X → Stands Command l.1 e) × (l.0 ≡ true → Stands Command l.1 e)) p
+  unfolding a_semicolon
+  reads_semicolon X n p so = picks (is_semicolon n.token) (λ is. next_on (λ x m e stands. ((λ y. stands), (λ y. stands)))) (gives (so, (λ y. absurd cc)))
+
   reads_newline : (X : Type 0) (n : Next) (p : ℕ) → (X → Stands Command n p) → Reads (a_newline n) (λ l e. (X → Stands Command l.1 e) × (l.0 ≡ true → Stands Command l.1 e)) p
   unfolding a_newline
   reads_newline X n p so = picks (is_newline n.token) (λ is. next_on (λ x m e stands. ((λ y. stands), (λ y. stands)))) (gives (so, (λ y. absurd cc)))
@@ -197,13 +201,13 @@ module _ (g : Given) where
       by_separator (Some s) = next_on (λ x m e stands. λ y. stands)
       by_separator None = gives (λ y. absurd cc)
 
-  reads_passed : (text : Spelled) (paren : Bool) (p : ℕ) → Reads (passed text paren) (λ x e. Stands Command x.1 e) p
+  reads_passed : (text : Spelled) (paren : Bool) (position : Position) (p : ℕ) → Reads (passed text paren position) (λ x e. Stands position x.1 e) p
   unfolding passed
-  reads_passed text paren p = next_on (λ x m e stands. stands)
+  reads_passed text paren position p = after (λ x e. first (reads_next position e) (λ n d stands. gives stands))
 
   reads_closing : (inner : Inner) (c : Closing) (n : Next) (p : ℕ) → Reads (closing inner c n) (λ x e. Stands Command x.1 e) p
   unfolding closing
-  reads_closing inner c n p = picks (is_closing c n.token) (λ is. reads_passed _ _ p) (stopped inner n)
+  reads_closing inner c n p = picks (is_closing c n.token) (λ is. reads_passed _ _ _ p) (stopped inner n)
 
   -- ---- words
 
@@ -233,15 +237,15 @@ module _ (B : List ℕ) (g : Given) (here : g.text ≡ drop g.offset B) where
 
   -- the token behind a comment stands where X holds, if that before it does
   abbrev Commented : Type 0 → Option Span × Next → ℕ → Type 0
-  Commented X c e = GoodOwnComment (option_map (shape_of_comment B) c.0) × (X → Stands g Command c.1 e)
+  Commented X c e = GoodOwnComment (option_map (shape_of_comment B) c.0) × (X → Stands g Command c.1 e) × (is_some c.0 ≡ true → Stands g Command c.1 e)
 
   reads_comment : (X : Type 0) (n : Next) (p : ℕ) → (X → Stands g Command n p) → Reads g (a_comment n) (Commented X) p
   unfolding a_comment
   reads_comment X n p so = sees g (by_comment (comment_at g.text g.offset p) refl)
     where
       by_comment : (c : Option Span) → comment_at g.text g.offset p ≡ c → Reads g (comment_by n c) (Commented X) p
-      by_comment (Some c) is = next_on g (λ x m e stands. (comment_good p c is, λ y. stands))
-      by_comment None is = gives g (tt, so)
+      by_comment (Some c) is = next_on g (λ x m e stands. (comment_good p c is, (λ y. stands), (λ y. stands)))
+      by_comment None is = gives g (tt, so, (λ y. absurd cc))
 
   -- ---- joins
 
@@ -252,22 +256,34 @@ module _ (B : List ℕ) (g : Given) (here : g.text ≡ drop g.offset B) where
   reads_with cs (Some c) p all one = record { reads = record { told = (refl, (comments_more B cs c all one, refl)) } }
   reads_with cs None p all one = gives g (all, refl)
 
-  abbrev JoinGood : JoinSo → ℕ → Type 0
-  JoinGood j p = Comments j.join.comments × Stands g Command j.next p
+  -- behind a comment or a newline the next token stands where a command may begin; so it does where X holds
+  abbrev JoinGood : Type 0 → JoinSo → ℕ → Type 0
+  JoinGood X j p = Comments j.join.comments × (X ⊎ (j.join.broken ≡ true) → Stands g Command j.next p)
 
-  reads_join_turn : (j : JoinSo) (p : ℕ) → JoinGood j p → Reads g (join_turn j) (Turned g JoinGood JoinGood) p
+  or_parts : (a b : Bool) → (a || b) ≡ true → (a ≡ true) ⊎ (b ≡ true)
+  or_parts true b e = inl refl
+  or_parts false b e = inr e
+
+  reads_join_turn : (X : Type 0) (j : JoinSo) (p : ℕ) → JoinGood X j p → Reads g (join_turn j) (Turned g (JoinGood X) (JoinGood X)) p
   unfolding join_turn
-  reads_join_turn j p so =
-      first g (reads_comment (Unit {0}) j.next p (λ y. so.1)) (λ c e one.
+  reads_join_turn X j p so =
+      first g (reads_comment (X ⊎ (j.join.broken ≡ true)) j.next p so.1) (λ c e one.
       first g (reads_with j.join.comments c.0 e so.0 one.0) (λ cs f two.
-      first g (reads_newline g (Unit {0}) c.1 f (λ y. subst (Stands g Command c.1) (sym two.1) (one.1 tt))) (λ l h three.
-      gives g (turned_if g JoinGood JoinGood l.0 _ h (λ y. (two.0, three.0 tt)) (two.0, three.0 tt)))))
+      let commented : X ⊎ ((j.join.broken || is_some c.0) ≡ true) → Stands g Command c.1 e = λ y. ⊎_elim (λ x. one.1 (inl x)) (λ b. ⊎_elim (λ d. one.1 (inr d)) one.2 (or_parts _ _ b)) y in
+      first g (reads_newline g (X ⊎ ((j.join.broken || is_some c.0) ≡ true)) c.1 f (λ y. subst (Stands g Command c.1) (sym two.1) (commented y))) (λ l h three.
+      let ended : X ⊎ (((j.join.broken || is_some c.0) || l.0) ≡ true) → Stands g Command l.1 h = λ y. ⊎_elim (λ x. three.0 (inl x)) (λ b. ⊎_elim (λ d. three.0 (inr d)) three.1 (or_parts _ _ b)) y in
+      gives g (turned_if g (JoinGood X) (JoinGood X) l.0 _ h (λ y. (two.0, ended)) (two.0, ended)))))
+
+  reads_linebreak : (X : Type 0) (cs : Row Span) (n : Next) (p : ℕ) → Comments cs → (X → Stands g Command n p) → Reads g (a_linebreak cs n) (JoinGood X) p
+  unfolding a_linebreak
+  reads_linebreak X cs n p good so =
+      repeats g join_turn (JoinGood X) (JoinGood X) (JoinGood X) (reads_join_turn X) (λ j d on. on) (λ j d on. on) _ p (good, (λ y. ⊎_elim so (λ e. absurd cc) y))
 
   reads_join : (broken : Bool) (p : ℕ) → Reads g (a_join broken) (λ x e. Comments x.0.comments × Stands g Command x.1 e) p
   unfolding a_join
   reads_join broken p =
       first g (reads_next g Command p) (λ n e stands.
-      first g (repeats g join_turn JoinGood JoinGood JoinGood reads_join_turn (λ j d so. so) (λ j d so. so) _ e (tt, stands)) (λ j d so. gives g so))
+      first g (repeats g join_turn (JoinGood (Unit {0})) (JoinGood (Unit {0})) (JoinGood (Unit {0})) (reads_join_turn (Unit {0})) (λ j d so. so) (λ j d so. so) _ e (tt, (λ y. stands))) (λ j d so. gives g (so.0, so.1 (inl tt))))
 
   module _ (room : ℕ) where
     abbrev inner : Inner
@@ -295,14 +311,14 @@ module _ (B : List ℕ) (g : Given) (here : g.text ≡ drop g.offset B) where
     simple_is i p (so, some) = record { last = so.position; items = so.good; some = some }
 
     -- one more item, by the word that was read from p up to q
-    one_item : (i : Items) (next : Position) (p q : ℕ) (w : AWord) → behind_item i.next.token ≡ Some next → ItemsSo i p → WordRead g room p w q
-        → GoodItems room Command (shape_of_items B (items_of (i.items ++ item (breaks i) (as_item next w) ∷ []))) next
-    one_item i next p q w is so read =
+    one_item : (begin position : Position) (i : Items) (next : Position) (p q : ℕ) (w : AWord) → behind_item i.next.token ≡ Some next → GoodItems room begin (items i) position → Stands g position i.next p
+        → WordRead g room p w q → GoodItems room begin (shape_of_items B (items_of (i.items ++ item (breaks i) (as_item next w) ∷ []))) next
+    one_item begin position i next p q w is good stands read =
         let text = text_at B (span g.offset p q) in
-        let anywhere = item_anywhere room so.position i.next.token g p (q - p) read.is_word so.stands.place so.stands.no_blank so.stands.token_is (ap is_some is) in
+        let anywhere = item_anywhere room position i.next.token g p (q - p) read.is_word stands.place stands.no_blank stands.token_is (ap is_some is) in
         let shape = items_last B i.items (item (breaks i) (as_item next w)) ∙ ap (with_last (items i)) (item_is B (breaks i) next w text (ap (shape_of_word B) read.bare)) in
-        subst (λ (s : Shape ItemsOf). GoodItems room Command s next) (sym shape)
-        (items_more (breaks i) so.good is (subst (λ (t : Text). ItemAnywhere room so.position i.next.token t) (raw_at B g here p q) anywhere))
+        subst (λ (s : Shape ItemsOf). GoodItems room begin s next) (sym shape)
+        (items_more (breaks i) good is (subst (λ (t : Text). ItemAnywhere room position i.next.token t) (raw_at B g here p q) anywhere))
 
     some_item : (is : Row AnItem) (i : AnItem) → SomeItem (shape_of_items B (items_of (is ++ i ∷ [])))
     some_item is i = subst SomeItem (sym (items_last B is i)) (some_last (shape_of_items B (items_of is)) (shape_of_item B i))
@@ -312,7 +328,7 @@ module _ (B : List ℕ) (g : Given) (here : g.text ≡ drop g.offset B) where
     reads_item i next p is so =
         first g (reads_word g room p) (λ w q read. pushes g (first g (reads_next g next q) (λ n e stands.
         let some = some_item i.items (item (breaks i) (as_item next w)) in
-        gives g (record { position = next; good = one_item i next p q w is so read; stands = stands; begun = λ y. some }, some))))
+        gives g (record { position = next; good = one_item Command so.position i next p q w is so.good so.stands read; stands = stands; begun = λ y. some }, some))))
 
     reads_item_turn : (i : Items) (p : ℕ) → ItemsSo i p → Reads g (item_turn inner i) (Turned g ItemsOn ItemsDone) p
     unfolding item_turn
@@ -470,13 +486,13 @@ module _ (B : List ℕ) (g : Given) (here : g.text ≡ drop g.offset B) where
       unfolding elif_turn
       reads_elif b p so =
           picks g (is_closing closings.Elif b.next.token)
-          (λ is. first g (reads_passed g _ _ p) (λ k e stands. first g (reads_branch k.1 e stands) (λ x f good. pushes g (gives g (branches_more B room b.branches x.0 so good)))))
+          (λ is. first g (reads_passed g _ _ _ p) (λ k e stands. first g (reads_branch k.1 e stands) (λ x f good. pushes g (gives g (branches_more B room b.branches x.0 so good)))))
           (gives g so)
 
       reads_else : (n : Next) (p : ℕ) → Reads g (an_else inner n) (λ x e. GoodElse room (shape_of_else B x.0)) p
       unfolding an_else
       reads_else n p =
-          picks g (is_closing closings.Else n.token) (λ is. first g (reads_passed g _ _ p) (λ k e stands. first g (reads_list k.1 e stands) (λ l f good. gives g good)))
+          picks g (is_closing closings.Else n.token) (λ is. first g (reads_passed g _ _ _ p) (λ k e stands. first g (reads_list k.1 e stands) (λ l f good. gives g good)))
           (gives g tt)
 
       abbrev FormGood : Closed AForm → ℕ → Type 0
@@ -495,16 +511,95 @@ module _ (B : List ℕ) (g : Given) (here : g.text ≡ drop g.offset B) where
           first g (reads_list n p so) (λ c e one. first g (reads_closing g inner closings.Do c.1 e) (λ d f stands.
           first g (reads_list d.1 f stands) (λ b h two. after g (λ k l. gives g (one, two)))))
 
-      reads_form : (o : Opener) (n : Next) (p : ℕ) → Stands g Command n p → Reads g (a_form inner o n) FormGood p
+      -- ---- `for`
+
+      for_name : (n : Next) (p q : ℕ) (w : AWord) → Stands g Suffix n p → begins_simple n.token ≡ true → WordRead g room p w q → is_name_at g.text p ≡ true → GoodName room (shape_of_word B w)
+      for_name n p q w so begins read name =
+          let item = subst (λ (t : Token). begins_simple t ≡ true) (sym so.token_is) begins in
+          let anywhere = item_anywhere room Suffix n.token g p (q - p) read.is_word so.place so.no_blank so.token_is begins in
+          let names = name_anywhere room Suffix g p (q - p) read.is_word so.place so.no_blank item name in
+          record {
+            t = text_at B (span g.offset p q);
+            is = ap (shape_of_word B) read.bare;
+            token = n.token;
+            begins = begins;
+            reads = subst (λ (t : Text). ItemAnywhere room Suffix n.token t) (raw_at B g here p q) anywhere;
+            names = subst NameAnywhere (raw_at B g here p q) names;
+          }
+
+      reads_for_name : (n : Next) (p : ℕ) → Stands g Suffix n p → Reads g (a_for_name inner n) (λ x e. GoodName room (shape_of_word B x.0) × Stands g Command x.1 e) p
+      unfolding a_for_name
+      reads_for_name n p so =
+          picks g (begins_simple n.token)
+          (λ begins. sees g (sees g (first g (reads_word g room p) (λ w q read. picks g (is_name_at g.text p)
+          (λ name. first g (reads_next g Command q) (λ m e stands. gives g (for_name n p q w so begins read name, stands))) (record { reads = record { told = tt } })))))
+          (stopped g inner n)
+
+      reads_sep : (cs : Row Span) (n : Next) (p : ℕ) → Comments cs → Reads g (a_sequential_sep inner cs n) (λ l e. Comments l.join.comments × Stands g Command l.next e) p
+      unfolding a_sequential_sep
+      reads_sep cs n p good =
+          first g (reads_semicolon g ⊥ n p (λ no. absurd no)) (λ s e one. first g (reads_linebreak (s.0 ≡ true) cs s.1 e good (λ y. one.1 y)) (λ l f two.
+          picks g (s.0 || l.join.broken) (λ is. gives g (two.0, two.1 (or_parts _ _ is))) (stopped g inner l.next)))
+
+      -- the words so far, and the token behind them
+      record WordsSo (i : Items) (p : ℕ) : Type 0 where
+        pub position : Position
+        pub good : GoodItems room Suffix (items i) position
+        pub stands : Stands g position i.next p
+
+      abbrev WordsDone : Items → ℕ → Type 0
+      WordsDone i p = GoodWords room (items i)
+
+      words_are : (i : Items) (p : ℕ) → WordsSo i p → GoodWords room (items i)
+      words_are i p so = record { last = so.position; items = so.good }
+
+      reads_word_turn : (i : Items) (p : ℕ) → WordsSo i p → Reads g (item_turn inner i) (Turned g WordsSo WordsDone) p
+      unfolding item_turn an_item
+      reads_word_turn i p so = by_token (behind_item i.next.token) refl
+        where
+          by_token : (next : Option Position) → behind_item i.next.token ≡ next → Reads g (item_by inner i next) (Turned g WordsSo WordsDone) p
+          by_token (Some next) is =
+              first g (reads_word g room p) (λ w q read. pushes g (first g (reads_next g next q) (λ n e stands.
+              gives g (record { position = next; good = one_item Suffix so.position i next p q w is so.good so.stands read; stands = stands }))))
+          by_token None is = gives g (words_are i p so)
+
+      abbrev HeadGood : Headed → ℕ → Type 0
+      HeadGood h e = GoodForWords room (shape_of_for_words B h.words) × Comments h.comments × Stands g Command h.next e
+
+      reads_for_words : (cs : Row Span) (p : ℕ) → Comments cs → Reads g (for_words inner cs) HeadGood p
+      unfolding for_words
+      reads_for_words cs p good =
+          first g (reads_passed g _ _ _ p) (λ i e stands.
+          first g (repeats g (item_turn inner) WordsSo WordsSo WordsDone reads_word_turn (λ j d on. on) words_are (so_many [] i.1) e (record { position = Suffix; good = none_more; stands = stands })) (λ ws f words.
+          first g (reads_sep cs ws.next f good) (λ l h lines. gives g (words, lines.0, lines.1))))
+
+      reads_for_head : (n : Next) (p : ℕ) → Stands g Command n p → Reads g (a_for_head inner n) HeadGood p
+      unfolding a_for_head
+      reads_for_head n p so =
+          first g (reads_semicolon g (Unit {0}) n p (λ y. so)) (λ s e one. first g (reads_linebreak (Unit {0}) [] s.1 e tt one.0) (λ l f two.
+          picks g (not s.0 && is_closing closings.In l.next.token) (λ is. reads_for_words l.join.comments f two.0) (gives g (tt, two.0, two.1 (inl tt)))))
+
+      remarks_good : (cs : Row Span) (es : Entries) → Comments cs → GoodEntries room (shape_of B es) → GoodEntries room (shape_of B (behind_remarks cs es))
+      remarks_good [] es all so = so
+      remarks_good (c ∷ cs) es all so = ((all.0, tt), remarks_good cs es all.1 so)
+
+      reads_for : (n : Next) (p : ℕ) → Stands g Suffix n p → Reads g (a_for inner n) FormGood p
+      unfolding a_for
+      reads_for n p so =
+          first g (reads_for_name n p so) (λ x e one. first g (reads_for_head x.1 e one.1) (λ h f two. first g (reads_closing g inner closings.Do h.next f) (λ d k stands.
+          first g (reads_group closings.Done d.1 k stands) (λ b l body. gives g (one.0, two.0, remarks_good h.comments b.what two.1 body)))))
+
+      reads_form : (o : Opener) (n : Next) (p : ℕ) → Stands g (behind_opener o) n p → Reads g (a_form inner o n) FormGood p
       reads_form openers.Brace n p so = first g (reads_group closings.Brace n p so) (λ l e good. gives g good)
       reads_form openers.Paren n p so = first g (reads_group closings.Paren n p so) (λ l e good. gives g good)
       reads_form openers.If n p so = reads_if n p so
       reads_form openers.While n p so = first g (reads_loop n p so) (λ l e good. gives g good)
       reads_form openers.Until n p so = first g (reads_loop n p so) (λ l e good. gives g good)
+      reads_form openers.For n p so = reads_for n p so
 
       reads_compound : (o : Opener) (p : ℕ) → Reads g (a_compound inner o) (λ c e. GoodCommand (suc room) (shape_of_command B c.0)) p
       unfolding a_compound
-      reads_compound o p = first g (reads_passed g _ _ p) (λ x e stands. first g (reads_form o x.1 e stands) (λ f d good. pushes g (gives g (good, tt))))
+      reads_compound o p = first g (reads_passed g _ _ _ p) (λ x e stands. first g (reads_form o x.1 e stands) (λ f d good. pushes g (gives g (good, tt))))
 
   reads_level : (room : ℕ) → Fine room
   unfolding level

@@ -365,3 +365,11 @@ module _ (T : List ℕ) (p x : ℕ) (xs : List ℕ) (clear : (x == 92) ≡ false
   pub bang_here : drop p T ≡ codes "!" ++ x ∷ xs → Keyword T p (codes "!") reserved.Bang
   unfolding reserved_words
   bang_here at = keyword_here T p _ x _ xs reserved.Bang (λ T p e. rw e refl) refl refl refl refl refl clear stops at
+
+  pub for_here : drop p T ≡ codes "for" ++ x ∷ xs → Keyword T p (codes "for") reserved.For
+  unfolding reserved_words
+  for_here at = keyword_here T p _ x _ xs reserved.For (λ T p e. rw e refl) refl refl refl refl refl clear stops at
+
+  pub in_here : drop p T ≡ codes "in" ++ x ∷ xs → Keyword T p (codes "in") reserved.In
+  unfolding reserved_words
+  in_here at = keyword_here T p _ x _ xs reserved.In (λ T p e. rw e refl) refl refl refl refl refl clear stops at

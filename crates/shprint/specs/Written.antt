@@ -1,11 +1,11 @@
 -- What a printer has on its page, as the clauses of its functions say it.
-use Rattle.std.specs.Prelude.{◌≡◌, ◌++◌, ◌&&◌, [], ◌∷◌, Bool, true, false, codes, if◌then◌else◌, is_none, not}
+use Rattle.std.specs.Prelude.{◌≡◌, ℕ, ◌-◌, ◌++◌, ◌&&◌, [], ◌∷◌, Bool, true, false, codes, drop, if◌then◌else◌, is_none, not, take}
 use Rattle.shtree.specs.Shape.{Text, Shape}
-use Rattle.shtree.specs.Tree.{AContentOf, AJoinOf, AnEntryOf, AWordOf, EntriesOf, command, entry, remark}
+use Rattle.shtree.specs.Tree.{AContentOf, AJoinOf, AnEntryOf, AnItemOf, AWordOf, EntriesOf, command, entry, remark}
 use Rattle.shprint.specs.declared.layout.Layout.{Layout}
 use Rattle.shprint.specs.declared.page.Page.{Page}
 use Rattle.shprint.specs.Marks.{Marks, text, line_end, laid, deeper, lines_between, one}
-use Rattle.shprint.specs.Printed.{breaks_line, is_one_line, print_comments, print_entries, print_only, print_word}
+use Rattle.shprint.specs.Printed.{breaks_line, is_broken_item, is_one_line, print_comments, print_entries, print_gap, print_item, print_only, print_word}
 
 -- the text so far, and some marks behind it
 unfoldable pub written : Text → Marks → Text
@@ -18,6 +18,14 @@ Prints before after ms = (after.text.items ≡ written before.text.items ms) × 
 -- nothing was printed, and a line begins one level deeper
 abbrev pub Deepens : Layout → Page → Page → Type 0
 Deepens y before after = (after.margin.items ≡ deeper y before.margin.items) × (after.text.items ≡ before.text.items)
+
+-- an item behind another, and what parts them
+abbrev pub item_behind : Layout → Text → Shape AnItemOf → Marks
+item_behind y margin i = print_gap y margin (is_broken_item i) ++ print_item y i
+
+-- the bytes from one offset to another
+abbrev pub stretch : Text → ℕ → ℕ → Text
+stretch bytes start past = take (past - start) (drop start bytes)
 
 -- an operator with what stands around it, before an operand at this margin
 abbrev pub print_join_on : Text → Text → AJoinOf Text → Marks

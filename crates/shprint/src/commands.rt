@@ -5,7 +5,7 @@ ghost use Rattle.std.specs.Prelude.{◌≡◌, ◌∷◌, ◌++◌, ◌||◌, �
 ghost use Rattle.shtree.specs.Shape.{shape_of, shape_of_and_or, shape_of_and_or_parts, shape_of_bang, shape_of_branch, shape_of_branches, shape_of_case, shape_of_cases, shape_of_command, shape_of_comments, shape_of_compound, shape_of_content, shape_of_else, shape_of_entry, shape_of_for_words, shape_of_form, shape_of_items, shape_of_join, shape_of_pipeline, shape_of_pipes, shape_of_word, Text};
 ghost use Rattle.shtree.specs.Spelling.{and_or_text};
 ghost use Rattle.shtree.specs.Tree.{and_or_parts_of, branches_of, cases_of, entries_of, in_words, items_of, otherwise_of, pipeline_parts_of};
-ghost use Rattle.shtree.specs.View.{view_and_or, view_and_or_part, view_branch, view_case_item, view_command, view_comment, view_compound, view_content, view_entry, view_form, view_item, view_join, view_list, view_pipeline, view_pipeline_part, view_word};
+ghost use Rattle.shtree.specs.View.{view_and_or, view_and_or_part, view_branch, view_case_item, view_command, view_comment, view_compound, view_content, view_entry, view_form, view_function, view_item, view_join, view_list, view_pipeline, view_pipeline_part, view_word};
 ghost use Rattle.shprint.specs.Marks.{deeper, line_end, lines_between, one, text};
 ghost use Rattle.shprint.specs.Printed.{breaks_line, case_margin, is_brace, is_one_line, operand_margin, print_and_or, print_and_or_parts, print_background, print_bang, print_blank, print_body, print_branch, print_branches, print_case, print_cases, print_command, print_comment_lines, print_compound, print_content, print_else, print_entries, print_entry, print_for_words, print_form, print_function_gap, print_items, print_only, print_pipeline, print_pipes, print_word};
 ghost use Rattle.shprint.specs.Written.{Prints, is_bare, is_command, print_condition, print_case_head};
@@ -16,7 +16,7 @@ use crate::printer::Printer;
 use shread::Source;
 use shtree::{
     AndOr, AndOrOperator, AndOrPart, Branch, CaseItem, Command, Comment, Compound, Content, Entry,
-    Form, Item, Join, List, Pipeline, PipelinePart, Span, Word,
+    Form, Function, Item, Join, List, Pipeline, PipelinePart, Span, Word,
 };
 use std::alloc::AllocError;
 
@@ -177,6 +177,7 @@ impl<'a, S: Source> Printer<'a, S> {
     }
 
     #[cycle(print)]
+    #[inline(always)]
     fn print_content(&self, content: &Content, page: &mut Page) -> Result<(), AllocError>
         ensures { IfOk result (λ _. Prints page.old page.new
             (print_content self.now.layout page.old.margin.items (shape_of_content (S.bytes self.now.source.now) (view_content content.now)))) }
@@ -215,6 +216,7 @@ impl<'a, S: Source> Printer<'a, S> {
     }
 
     #[cycle(print)]
+    #[inline(always)]
     fn print_pipeline(&self, pipeline: &Pipeline, page: &mut Page) -> Result<(), AllocError>
         ensures { IfOk result (λ _. Prints page.old page.new
             (print_pipeline self.now.layout page.old.margin.items (shape_of_pipeline (S.bytes self.now.source.now) (view_pipeline pipeline.now)))) }
@@ -250,21 +252,24 @@ impl<'a, S: Source> Printer<'a, S> {
         match command {
             Command::Simple { items } => self.print_simple(items, page),
             Command::Compound(compound) => self.print_compound(compound, page),
-            Command::Function {
-                name,
-                comments,
-                body,
-            } => {
-                self.print_text(*name, page)?;
-                page.put(b"()")?;
-                self.print_function_gap(comments, body, page)?;
-                self.print_compound(body, page)
-            }
+            Command::Function(function) => self.print_function(function, page),
         }
+    }
+
+    #[cycle(print)]
+    fn print_function(&self, function: &Function, page: &mut Page) -> Result<(), AllocError>
+        ensures { IfOk result (λ _. Prints page.old page.new
+            (print_command self.now.layout page.old.margin.items (shape_of_command (S.bytes self.now.source.now) (view_function function.now)))) }
+    {
+        self.print_text(function.name, page)?;
+        page.put(b"()")?;
+        self.print_function_gap(&function.comments, &function.body, page)?;
+        self.print_compound(&function.body, page)
     }
 
     /// A compound command, and its redirections as items behind it.
     #[cycle(print)]
+    #[inline(always)]
     fn print_compound(&self, compound: &Compound, page: &mut Page) -> Result<(), AllocError>
         ensures { IfOk result (λ _. Prints page.old page.new
             (print_compound self.now.layout page.old.margin.items (shape_of_compound (S.bytes self.now.source.now) (view_compound compound.now)))) }

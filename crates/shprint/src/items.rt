@@ -1,19 +1,20 @@
 //! Words, redirections and patterns: what stands on a line behind something else.
 #![tactic(auto, using(crate::proofs::Writing::written_append, crate::proofs::Writing::written_cons, crate::proofs::Writing::written_none))]
 
-ghost use Rattle.std.specs.Prelude.{◌≡◌, ◌∷◌, ◌++◌, ◌==◌, ◌&&◌, ◌||◌, IfOk, codes, map, not, option_map};
+ghost use Rattle.std.specs.Prelude.{◌≡◌, ◌∷◌, ◌++◌, ◌==◌, ◌&&◌, ◌||◌, IfOk, codes, false, map, not, option_map};
 ghost use Rattle.shtree.specs.Shape.{bare_at, shape_of_for_words, shape_of_item, shape_of_items, shape_of_patterns, shape_of_word, text_at};
 ghost use Rattle.shtree.specs.Spelling.{redirect_text};
-ghost use Rattle.shtree.specs.Tree.{items_of, patterns_of};
-ghost use Rattle.shtree.specs.View.{view_item, view_word};
+ghost use Rattle.shtree.specs.Tree.{item, items_of, patterns_of};
+ghost use Rattle.shtree.specs.View.{view_item, view_redirection, view_word};
 ghost use Rattle.shprint.specs.Marks.{one, text};
 ghost use Rattle.shprint.specs.Printed.{duplicates, print_first_pattern, print_gap, print_item, print_items, print_number, print_operator, print_patterns, print_simple, print_word, would_strip};
 ghost use Rattle.shprint.specs.Written.{Prints};
 
 use crate::page::Page;
 use crate::printer::Printer;
+use crate::stretch::word_span;
 use shread::Source;
-use shtree::{Item, ItemContent, RedirectOperator, Span, Word};
+use shtree::{Item, ItemContent, RedirectOperator, Redirection, Span, Word};
 use std::alloc::AllocError;
 
 /// How the operator of a redirection is spelled.
@@ -110,17 +111,17 @@ impl<'a, S: Source> Printer<'a, S> {
     {
         match &item.what {
             ItemContent::Assign(word) | ItemContent::Word(word) => self.print_word(word, page),
-            ItemContent::Redirect {
-                number,
-                operator,
-                word,
-                ..
-            } => {
-                self.print_number(*number, page)?;
-                self.print_operator(*operator, word, page)?;
-                self.print_word(word, page)
-            }
+            ItemContent::Redirect(redirect) => self.print_redirection(redirect, page),
         }
+    }
+
+    fn print_redirection(&self, redirect: &Redirection, page: &mut Page) -> Result<(), AllocError>
+        ensures { IfOk result (λ _. Prints page.old page.new
+            (print_item self.now.layout (shape_of_item (S.bytes self.now.source.now) (item false (view_redirection redirect.now))))) }
+    {
+        self.print_number(redirect.number, page)?;
+        self.print_operator(redirect.operator, &redirect.word, page)?;
+        self.print_word(&redirect.word, page)
     }
 
     /// Items behind others, or behind a closer or the `in` of a `for`.
@@ -144,7 +145,16 @@ impl<'a, S: Source> Printer<'a, S> {
         let Some((first, rest)) = items.split_first() else {
             return Ok(());
         };
-        self.print_item(first, page)?;
+        let Some(span) = word_span(first) else {
+            self.print_item(first, page)?;
+            return self.print_items(rest, page);
+        };
+        let (end, rest) = self.words_behind(span.end, rest);
+        let words = Span {
+            start: span.start,
+            end,
+        };
+        self.print_text(words, page)?;
         self.print_items(rest, page)
     }
 

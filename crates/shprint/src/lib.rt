@@ -17,6 +17,7 @@ mod page;
 mod printer;
 #[cfg(test)]
 mod refused;
+mod stretch;
 #[cfg(test)]
 mod tests;
 

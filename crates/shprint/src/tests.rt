@@ -5,7 +5,7 @@ use std::alloc::Global;
 use std::test::Fail;
 
 /// Scripts, and what is printed for each with a tab for each level.
-const SCRIPTS: [(&[u8], &[u8]); 19] = [
+const SCRIPTS: [(&[u8], &[u8]); 24] = [
     (b"", b""),
     (b"if a;then b;fi", b"if a; then\n\tb\nfi\n"),
     (b"i\\\nf a; then b; fi", b"if a; then\n\tb\nfi\n"),
@@ -40,6 +40,20 @@ const SCRIPTS: [(&[u8], &[u8]); 19] = [
         b"if a; then\n\tb\nelif\n\tc &\nthen\n\td\nelse\n\te\nfi\n",
     ),
     (b"{ ( a ); }", b"{\n\t(\n\t\ta\n\t)\n}\n"),
+    (
+        b"for i in a \\\n  b # n\ndo echo \"$i\"; done\n",
+        b"for i in a \\\n\tb; do\n\t# n\n\techo \"$i\"\ndone\n",
+    ),
+    (b"for x;do a;done", b"for x do\n\ta\ndone\n"),
+    (b"for x\nin;do a;done&", b"for x in; do\n\ta\ndone &\n"),
+    (
+        b"for do in do;do do=1;done",
+        b"for do in do; do\n\tdo=1\ndone\n",
+    ),
+    (
+        b"for a\\\nb #c\n\n#d\nin 1 2 #e\n\ndo\n\n#f\n\ng;done|h",
+        b"for a\\\nb in 1 2; do\n\t#c\n\t#d\n\t#e\n\t#f\n\n\tg\ndone | h\n",
+    ),
 ];
 
 /// A script's printed text.
@@ -73,6 +87,7 @@ fn faulty(rt: HostRuntime) -> Result<(), Fail> {
         (b"a\nb;;".as_slice(), FaultKind::Unexpected, 3),
         (b"a\n\n'", FaultKind::UnclosedSingle, 3),
         (b"a &&\n", FaultKind::UnexpectedEnd, 5),
+        (b"for 1 in a; do b; done\n", FaultKind::BadForName, 4),
     ] {
         let error = print_source(rt.alloc(), &layout, &Flat::new(script)).err();
         assert!(rt;

@@ -61,8 +61,8 @@ pub print_case_items-returns : goal.print_case_items-returns
 print_case_items-returns g t c =
     grind (arith, written_append, written_cons, case_cut)
 
-pub print_command-returns-in_ok-print_function_gap-in-Function : goal.print_command-returns-in_ok-print_function_gap-in-Function
-print_command-returns-in_ok-print_function_gap-in-Function g t c =
+pub print_function-returns : goal.print_function-returns
+print_function-returns g t c =
     grind (arith, written_append, written_cons, function_seen)
 
 pub print_compound-returns : goal.print_compound-returns

@@ -1,0 +1,16 @@
+use Rattle.std.proofs.Common.{◌≡◌, ◌+◌, ◌∙◌, Some, ap, arith, false, slice_get}
+use Rattle.shtree.proofs.Seen.{item_seen}
+use Rattle.shtree.specs.Shape.{shape_of_item}
+use Rattle.shtree.specs.View.{view_item}
+use Rattle.shprint.specs.Printed.{is_broken_item}
+use Rattle.shprint.proofs.Spaced.{word_is}
+use Rattle.shprint.proofs.printer.Printer.word_behind.Goals as goal
+
+pub returns-in-Some-eq32 : goal.returns-in-Some-eq32
+returns-in-Some-eq32 g c =
+    let bytes = g.S.Source.bytes c.args.self.now.source.now in
+    let span = c.in_ok-span.span in
+    let next : span.start ≡ c.args.end + 1 = grind (arith, c.if-ne.ensures, c.checked_sub.ensures) in
+    let unbroken : is_broken_item (shape_of_item bytes (view_item c.args.item.now)) ≡ false = grind (arith, item_seen, c.if-item.false) in
+    let blank : slice_get bytes c.args.end ≡ Some 32 = grind (arith, c.byte.ensures, c.in-Some-eq32.is, c.in-Some-eq32.field-0-test) in
+    (omega (arith, next, c.in_ok-span.ensures.0), λ y m. word_is bytes y m _ c.args.end span unbroken (c.in_ok-span.ensures.1 bytes y) blank next c.in_ok-span.ensures.0)

@@ -1,0 +1,69 @@
+//! Words that stand in the source as they are printed: one blank apart. They are copied at once.
+#![tactic(auto)]
+
+ghost use Rattle.std.specs.Prelude.{◌≡◌, ◌≤◌, [], ◌∷◌, ◌++◌, IfSome, map};
+ghost use Rattle.shtree.specs.Shape.{Text, shape_of_item, shape_of_items, text_at};
+ghost use Rattle.shtree.specs.Tree.{items_of};
+ghost use Rattle.shtree.specs.View.{view_item};
+ghost use Rattle.shprint.specs.declared.layout.Layout.{Layout};
+ghost use Rattle.shprint.specs.Marks.{laid, text};
+ghost use Rattle.shprint.specs.Printed.{print_item, print_items};
+ghost use Rattle.shprint.specs.Written.{item_behind, stretch};
+
+use crate::printer::Printer;
+use shread::Source;
+use shtree::{Item, ItemContent, Span};
+
+/// The span of an item that is a word, or an assignment.
+pub(crate) fn word_span(item: &Item) -> Option<Span>
+    ensures { IfSome result (λ span. (span.start ≤ span.«end») × ((bytes : Text) (y : Layout) →
+        print_item y (shape_of_item bytes (view_item item.now)) ≡ text (text_at bytes span) ∷ [])) }
+{
+    let span = match &item.what {
+        ItemContent::Assign(word) | ItemContent::Word(word) => word.span,
+        ItemContent::Redirect(_) => return None,
+    };
+    if span.start <= span.end {
+        Some(span)
+    } else {
+        None
+    }
+}
+
+impl<'a, S: Source> Printer<'a, S> {
+    /// Where an item ends that is a word one blank behind this offset, and stands on the same line.
+    fn word_behind(&self, end: usize, item: &Item) -> Option<usize>
+        ensures { IfSome result (λ next. (end ≤ next) × ((y : Layout) (margin : Text) →
+            stretch (S.bytes self.now.source.now) end next ≡ laid (item_behind y margin (shape_of_item (S.bytes self.now.source.now) (view_item item.now))))) }
+    {
+        let span = word_span(item)?;
+        if item.broken || span.start.checked_sub(1) != Some(end) {
+            return None;
+        }
+        match self.source.byte(end) {
+            Some(b' ') => Some(span.end),
+            _ => None,
+        }
+    }
+
+    /// Takes the first of these items as long as they stand, from an offset on, as they are printed: where the last of them ends, and
+    /// the others.
+    pub(crate) fn words_behind<'b>(&self, start: usize, items: &'b [Item]) -> (usize, &'b [Item])
+        ensures onward { start ≤ result.0 }
+        ensures words { (y : Layout) (margin : Text) →
+            laid (print_items y margin (shape_of_items (S.bytes self.now.source.now) (items_of (map view_item items.now))))
+            ≡ stretch (S.bytes self.now.source.now) start result.0
+            ++ laid (print_items y margin (shape_of_items (S.bytes self.now.source.now) (items_of (map view_item result.1.now)))) }
+    {
+        let mut end = start;
+        let mut rest = items;
+        'words: while let Some((item, behind)) = rest.split_first() {
+            let Some(next) = self.word_behind(end, item) else {
+                return (end, rest);
+            };
+            end = next;
+            rest = behind;
+        }
+        (end, rest)
+    }
+}
