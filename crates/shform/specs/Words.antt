@@ -1,5 +1,5 @@
 -- The program's command as clap's model has it, and the settings that its matches give.
-use Rattle.std.specs.Prelude.{◌≡◌, ℕ, Bool, true, false, [], List, Option, None, Some, Result, Ok, Err, codes, option_map, option_and_then, pos, if◌then◌else◌}
+use Rattle.std.specs.Prelude.{◌≡◌, ◌<◌, ℕ, Bool, true, false, [], List, Option, None, Some, Result, Ok, Err, codes, option_map, option_and_then, pos, if◌then◌else◌}
 use Rattle.std.specs.Str.{bytes_eq}
 use Rattle.std.specs.Option.{option_map_or}
 use Rattle.clap.specs.Words.{App, HasKind, Rule, Text, fault_of, first_value, found_of, new_app, new_rule, one_text, rows_of, subcommand_of, with_rule, with_subcommand}
@@ -89,8 +89,16 @@ pub record AreSettingsOf (words : List Text) (s : Settings) : Type 0 where
   pub layout : IsLayoutFor s.tool own s.layout
   pub file : option_map (λ t. t.now) s.file ≡ file_in (first_value (found_of own) (codes "FILE"))
 
--- What there is in place of settings: clap's answer, of a kind that its model has for the words, or an indent above 16 that clap let pass.
+-- clap let an indent above 16 pass
+pub record HasWideIndent (words : List Text) : Type 0 where
+  pub name : Text
+  pub own : ArgMatches
+  pub matches : subcommand_of tool_app words ≡ Some (name, rows_of (found_of own))
+  pub tool : tool_named name ≡ Print
+  pub indent : 16 < indent_in (one_text (found_of own) (codes "indent"))
+
+-- What there is in place of settings: clap's answer, of a kind that its model has for the words, or an indent that clap should not let pass.
 abbrev pub FailsFor : List Text → Result Settings Usage → Type 0
 FailsFor words (Ok s) = fault_of tool_app words ≡ []
 FailsFor words (Err (Words e)) = HasKind (fault_of tool_app words) e
-FailsFor words (Err (Indent e)) = fault_of tool_app words ≡ []
+FailsFor words (Err (Indent e)) = HasWideIndent words

@@ -1,8 +1,9 @@
 //! Reading the words of the command line.
-ghost use Rattle.std.specs.Prelude.{◌≡◌, ◌≤◌, IfOk, codes, false, map, option_map, true};
+ghost use Rattle.std.specs.Prelude.{◌≡◌, ◌<◌, ◌≤◌, IfErr, IfOk, codes, false, map, option_map, true};
 ghost use Rattle.clap.specs.Matches.{has_subcommand};
 ghost use Rattle.clap.specs.Words.{FailsBy, app_of, fault_of, first_value, found_of, one_text, rule_of, subcommand_of, subcommand_rows_of, with_rule};
 ghost use Rattle.clap.specs.declared.builder.command.Command.TheViews.{out-Command};
+ghost use Rattle.shform.specs.declared.asked.Tool.TheVariants.{Print};
 ghost use Rattle.shform.specs.Words.{AreOptions, AreSettingsOf, FailsFor, IsLayoutFor, check_app, file_in, file_rule, first_app, flag_rule, indent_in, indent_rule, print_app, tool_app, tool_named};
 
 use crate::asked::{Settings, Tool};
@@ -142,6 +143,7 @@ fn indent_of(matches: &ArgMatches<'_>) -> u8
 fn options_of(matches: &ArgMatches<'_>) -> Result<Layout, LayoutError>
     ensures options { IfOk result (λ layout. AreOptions matches.now layout) }
     ensures indent { IfOk result (λ layout. layout.indent ≤ 16) }
+    ensures err { IfErr result (λ e. 16 < indent_in (one_text (found_of matches.now) (codes "indent"))) }
 {
     Layout::new(
         indent_of(matches),
@@ -155,6 +157,7 @@ fn options_of(matches: &ArgMatches<'_>) -> Result<Layout, LayoutError>
 fn layout_of(tool: Tool, matches: &ArgMatches<'_>) -> Result<Layout, LayoutError>
     ensures layout { IfOk result (λ layout. IsLayoutFor tool matches.now layout) }
     ensures indent { IfOk result (λ layout. layout.indent ≤ 16) }
+    ensures err { IfErr result (λ e. (tool ≡ Print) × (16 < indent_in (one_text (found_of matches.now) (codes "indent")))) }
 {
     match tool {
         Tool::Check => Layout::new(0, false, false, false),
