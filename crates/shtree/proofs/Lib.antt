@@ -10,3 +10,4 @@ pub mod SameForm
 pub mod Shaped
 pub mod Spelled
 pub mod Reach
+pub mod Ends

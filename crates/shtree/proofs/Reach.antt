@@ -1,13 +1,13 @@
 -- How far the offsets go that a tree names: its parts one by one.
-use Rattle.std.proofs.Common.{◌≡◌, ℕ, ◌≤◌, Bool, List as Row, [], ◌∷◌, ◌++◌, map, Option, Some, None, arith, append_assoc, refl, sym}
+use Rattle.std.proofs.Common.{◌≡◌, ℕ, ◌≤◌, Bool, List as Row, [], ◌∷◌, ◌++◌, map, Option, Some, None, arith, append_assoc, append-nil, ap, refl, sym}
 use Rattle.std.specs.Prelude.{All, MatchOption, unwrap_or}
 use Rattle.std.specs.Option.{option_to_list}
 use Rattle.std.proofs.lemmas.List.Elements.{All-nil, All-cons, All-head, All-tail, All-append, All-same, All-map, All-weaker}
 use Rattle.shtree.specs.declared.nodes.NodeKind.{NodeKind}
 use Rattle.shtree.specs.declared.nodes.NodeLine.{NodeLine}
 use Rattle.shtree.specs.declared.tree.Span.{Span}
-use Rattle.shtree.specs.Nodes.{word_nodes, AreWithin, IsSpanWithin, IsWithin, and_or_nodes, and_or_parts_nodes, and_or_span, branch_nodes, branches_nodes, command_nodes, command_span, comment_node, entries_nodes, entry_nodes, form_node, form_nodes, item_nodes, item_span, items_nodes, items_span, last_command, last_item, last_pipeline, node, pipeline_nodes, pipeline_span, pipes_nodes, subst_nodes, substs_nodes}
-use Rattle.shtree.specs.Tree.{ABranch, ACommand, AForm, APipeline, APipelinePart, ASubst, AWord, AnAndOr, AnAndOrPart, AnEntry, AnItem, and_or, and_or_parts_of, argument, assign, brace, branches_of, case_in, command, compound, entries_of, entry, for_in, formed, if_then, item, items_of, no_item, pipeline, pipeline_parts_of, remark, simple, subshell, substs_of, until_do, while_do, word}
+use Rattle.shtree.specs.Nodes.{word_nodes, AreWithin, IsSpanWithin, IsWithin, and_or_nodes, and_or_parts_nodes, and_or_span, branch_nodes, branches_nodes, command_nodes, command_span, comment_node, compound_nodes, compound_span, entries_nodes, entry_nodes, form_node, form_nodes, item_nodes, item_span, items_nodes, items_span, last_command, last_item, last_pipeline, node, pipeline_nodes, pipeline_span, pipes_nodes, subst_nodes, substs_nodes, through, case_nodes, cases_nodes, patterns_nodes, commands_end}
+use Rattle.shtree.specs.Tree.{ABranch, ACommand, ACompound, AForm, APipeline, APipelinePart, ASubst, AWord, AnAndOr, AnAndOrPart, AnEntry, AnItem, and_or, and_or_parts_of, argument, assign, brace, branches_of, case_in, command, compound, entries_of, entry, for_in, formed, function, if_then, item, items_of, no_item, pipeline, pipeline_parts_of, remark, simple, subshell, substs_of, until_do, while_do, word, ACaseItem, Entries, case_item, cases_of, patterns_of, more_and_or, more_pipes, no_and_or, no_pipe}
 
 nodes_append : (es ls : Row AnEntry) → entries_nodes (entries_of (es ++ ls)) ≡ entries_nodes (entries_of es) ++ entries_nodes (entries_of ls)
 nodes_append [] ls = refl
@@ -150,6 +150,11 @@ module _ (limit : ℕ) where
   pub fits_compound : (f : AForm) (s : Span) → IsSpanWithin limit s → Nodes (form_nodes f) → CommandFits (compound (formed f s no_item))
   fits_compound f s so all = ((so.0, so.1), first _ _ (fits_form_node f _ (so.0, so.1) all) (both (form_nodes f) [] all (All-nil (IsWithin limit))))
 
+  pub fits_function : (name : Span) (cs : Row Span) (body : ACompound) → IsSpanWithin limit name → All CommentFits cs → CommandFits (compound body) → CommandFits (function name cs body)
+  fits_function name cs body one all so =
+      let span : IsSpanWithin limit (through name (compound_span body)) = (one.0, so.0.1) in
+      (span, first _ _ (record { start = span.0; «end» = span.1; name = one }) (both (map comment_node cs) (compound_nodes body) (fits_comments cs all) so.1))
+
   bang_fits : (bang : Option Span) (s : Span) → MatchOption bang (Unit {0}) (IsSpanWithin limit) → IsSpanWithin limit s → IsSpanWithin limit (unwrap_or bang s)
   bang_fits None s none so = so
   bang_fits (Some b) s one so = one
@@ -179,6 +184,63 @@ module _ (limit : ℕ) where
 
   pub fits_remark : (c : Span) (background blank : Bool) → CommentFits c → EntryFits (entry (remark c) background blank None)
   fits_remark c background blank so = first (comment_node c) [] (fits_node NodeKind.Comment c so) (All-nil (IsWithin limit))
+
+  -- ---- items of a case
+
+  abbrev pub CaseFits : ACaseItem → Type 0
+  CaseFits c = Nodes (case_nodes c)
+
+  fits_patterns : (ws : Row AWord) → All WordFits ws → Nodes (patterns_nodes (patterns_of ws))
+  fits_patterns [] so = All-nil (IsWithin limit)
+  fits_patterns (w ∷ ws) so = both (word_nodes w) (patterns_nodes (patterns_of ws)) (fits_word w (All-head WordFits w ws so)) (fits_patterns ws (All-tail WordFits w ws so))
+
+  pub fits_case : (cs : Row Span) (ws : Row AWord) (es : Entries) (s : Span) → All CommentFits cs → All WordFits ws → AreWithin limit es → IsSpanWithin limit s
+      → CaseFits (case_item cs (patterns_of ws) es s)
+  fits_case cs ws es s comments patterns body span =
+      first (node NodeKind.Item s) _ (fits_node NodeKind.Item s span)
+      (both (map comment_node cs ++ patterns_nodes (patterns_of ws)) (entries_nodes es) (both (map comment_node cs) _ (fits_comments cs comments) (fits_patterns ws patterns)) body)
+
+  fits_cases : (cs : Row ACaseItem) → All CaseFits cs → Nodes (cases_nodes (cases_of cs))
+  fits_cases [] so = All-nil (IsWithin limit)
+  fits_cases (c ∷ cs) so = both (case_nodes c) (cases_nodes (cases_of cs)) (All-head CaseFits c cs so) (fits_cases cs (All-tail CaseFits c cs so))
+
+  pub fits_case_in : (w : AWord) (cs : Row ACaseItem) (tail : Row Span) → WordFits w → All CaseFits cs → All CommentFits tail → Nodes (form_nodes (case_in w (cases_of cs) tail))
+  fits_case_in w cs tail one items comments =
+      both (word_nodes w ++ cases_nodes (cases_of cs)) (map comment_node tail) (both (word_nodes w) _ (fits_word w one) (fits_cases cs items)) (fits_comments tail comments)
+
+  -- ---- where the last command of a list ends
+
+  head_of : (n : NodeLine) (ns : Row NodeLine) → Nodes (n ∷ ns) → n.«end» ≤ limit
+  head_of n ns so = (All-head (IsWithin limit) n ns so).«end»
+
+  form_end : (f : AForm) (s : Span) (ns : Row NodeLine) → Nodes (form_node f s ∷ ns) → s.«end» ≤ limit
+  form_end (brace es) s ns so = head_of _ ns so
+  form_end (subshell es) s ns so = head_of _ ns so
+  form_end (if_then one rest other) s ns so = head_of _ ns so
+  form_end (while_do b) s ns so = head_of _ ns so
+  form_end (until_do b) s ns so = head_of _ ns so
+  form_end (for_in name words body) s ns so = head_of _ ns so
+  form_end (case_in w items tail) s ns so = head_of _ ns so
+
+  command_end_fits : (c : ACommand) (ns : Row NodeLine) → Nodes (command_nodes c ++ ns) → (command_span c).«end» ≤ limit
+  command_end_fits (simple items) ns so = head_of _ _ so
+  command_end_fits (compound (formed form span redirects)) ns so = form_end form _ _ so
+  command_end_fits (function name comments body) ns so = head_of _ _ so
+
+  pipeline_end_fits : (p : APipeline) (ns : Row NodeLine) → Nodes (pipeline_nodes p ++ ns) → (pipeline_span p).«end» ≤ limit
+  pipeline_end_fits (pipeline None c no_pipe) ns so = command_end_fits c ns (All-same (IsWithin limit) _ _ (sym (ap (λ z. z ++ ns) (append-nil (command_nodes c)))) so)
+  pipeline_end_fits (pipeline None c (more_pipes j d ps)) ns so = head_of _ _ so
+  pipeline_end_fits (pipeline (Some b) c ps) ns so = head_of _ _ so
+
+  and_or_end_fits : (a : AnAndOr) (ns : Row NodeLine) → Nodes (and_or_nodes a ++ ns) → (and_or_span a).«end» ≤ limit
+  and_or_end_fits (and_or p no_and_or) ns so = pipeline_end_fits p ns (All-same (IsWithin limit) _ _ (sym (ap (λ z. z ++ ns) (append-nil (pipeline_nodes p)))) so)
+  and_or_end_fits (and_or p (more_and_or o j q ps)) ns so = head_of _ _ so
+
+  pub fits_end : (before : ℕ) (es : Row AnEntry) → before ≤ limit → All EntryFits es → commands_end before (entries_of es) ≤ limit
+  fits_end before [] low so = low
+  fits_end before (entry (command a) background blank comment ∷ es) low so =
+      fits_end (and_or_span a).«end» es (and_or_end_fits a _ (All-head EntryFits _ es so)) (All-tail EntryFits _ es so)
+  fits_end before (entry (remark c) background blank comment ∷ es) low so = fits_end before es low (All-tail EntryFits _ es so)
 
   -- ---- two rows of entries, one behind the other
 

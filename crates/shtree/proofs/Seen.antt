@@ -1,5 +1,5 @@
 -- What the view of a part of a tree is, by the views of what it holds.
-use Rattle.std.proofs.Common.{◌≡◌, map, option_map, rules, Box, Vec, Global, Option, Some, None}
+use Rattle.std.proofs.Common.{◌≡◌, map, option_map, rules, Vec, Global, Some, None}
 use Rattle.shtree.specs.declared.tree.AndOr.{AndOr}
 use Rattle.shtree.specs.declared.tree.AndOrPart.{AndOrPart}
 use Rattle.shtree.specs.declared.tree.Branch.{Branch}
@@ -13,7 +13,6 @@ use Rattle.shtree.specs.declared.tree.List.{List}
 use Rattle.shtree.specs.declared.tree.Pipeline.{Pipeline}
 use Rattle.shtree.specs.declared.tree.PipelinePart.{PipelinePart}
 use Rattle.shtree.specs.declared.tree.Redirection.{Redirection}
-use Rattle.shtree.specs.declared.tree.Span.{Span}
 use Rattle.shtree.specs.declared.tree.Subst.{Subst}
 use Rattle.shtree.specs.declared.tree.Word.{Word}
 use Rattle.shtree.specs.declared.tree.Command as the_command

@@ -59,6 +59,16 @@ last_pipeline before (more_and_or operator join p ps) = last_pipeline (pipeline_
 abbrev pub and_or_span : AnAndOr → Span
 and_or_span (and_or first rest) = through (pipeline_span first) (last_pipeline (pipeline_span first) rest)
 
+-- where an and-or list ends, behind what ends before it; a comment is none
+abbrev pub command_end : ℕ → AContent → ℕ
+command_end before (command a) = (and_or_span a).«end»
+command_end before (remark c) = before
+
+-- where the last and-or list of these entries ends; where there is none, what stands before them
+abbrev pub commands_end : ℕ → Entries → ℕ
+commands_end before no_entry = before
+commands_end before (more_entries (entry what background blank comment) es) = commands_end (command_end before what) es
+
 -- ---- a node
 
 abbrev pub node : NodeKind → Span → NodeLine

@@ -22,6 +22,7 @@ mod visit;
 
 pub use nodes::{NodeKind, NodeLine, nodes_at, outline_of};
 pub use normal::is_normal;
+pub use spans::commands_end;
 pub use tree::{
     AndOr, AndOrOperator, AndOrPart, Branch, CaseItem, Command, Comment, Compound, Content, Entry,
     Form, Function, HereDocument, Item, ItemContent, Join, List, Pipeline, PipelinePart,

@@ -1,11 +1,11 @@
 //! The nodes of a tree: one maker for each kind, which says what its node is in the definitions.
 ghost use Rattle.std.specs.Prelude.{◌≡◌, map, option_map, false, None};
-ghost use Rattle.shtree.specs.Tree.{and_or, and_or_parts_of, argument, assign, branch, branches_of, brace, command, compound, entries_of, entry, for_in, for_words_of, formed, if_then, item, items_of, pipeline, pipeline_parts_of, remark, simple, subshell, substs_of, until_do, while_do, word};
-ghost use Rattle.shtree.specs.View.{view_and_or, view_and_or_part, view_branch, view_command, view_comment, view_compound, view_entry, view_form, view_item, view_join, view_list, view_otherwise, view_pipeline, view_pipeline_part, view_subst, view_word};
+ghost use Rattle.shtree.specs.Tree.{and_or, and_or_parts_of, argument, assign, branch, branches_of, brace, command, compound, entries_of, entry, for_in, for_words_of, formed, function, if_then, item, items_of, pipeline, pipeline_parts_of, remark, simple, subshell, substs_of, until_do, while_do, word, case_in, case_item, cases_of, patterns_of};
+ghost use Rattle.shtree.specs.View.{view_and_or, view_and_or_part, view_branch, view_command, view_comment, view_compound, view_entry, view_form, view_function, view_item, view_join, view_list, view_otherwise, view_pipeline, view_pipeline_part, view_subst, view_word, view_case_item};
 
 use crate::tree::{
-    AndOr, AndOrOperator, AndOrPart, Branch, Command, Comment, Compound, Content, Entry, Form,
-    Item, ItemContent, Join, List, Pipeline, PipelinePart, Span, Subst, Word,
+    AndOr, AndOrOperator, AndOrPart, Branch, CaseItem, Command, Comment, Compound, Content, Entry,
+    Form, Function, Item, ItemContent, Join, List, Pipeline, PipelinePart, Span, Subst, Word,
 };
 
 /// A list of these entries (XCU 2.9.3).
@@ -101,6 +101,24 @@ pub fn compound_command(of: Box<Compound>) -> Command
     Command::Compound(of)
 }
 
+/// The definition of a function: its name, the comments before its body, and that (XCU 2.9.5).
+pub fn function_of(name: Span, comments: Vec<Comment>, body: Compound) -> Function
+    ensures { view_function result ≡ function name (map view_comment comments.items) (view_compound body) }
+{
+    Function {
+        name,
+        comments,
+        body,
+    }
+}
+
+/// The definition of a function as a command.
+pub fn function_command(of: Box<Function>) -> Command
+    ensures { view_command result ≡ view_function of.value }
+{
+    Command::Function(of)
+}
+
 /// `{ list }` (XCU 2.9.4.1).
 pub fn brace_of(list: List) -> Form
     ensures { view_form result ≡ brace (view_list list) }
@@ -145,6 +163,25 @@ pub fn for_of(name: Word, words: Option<Vec<Item>>, body: List) -> Form
     ensures { view_form result ≡ for_in (view_word name) (for_words_of (option_map (λ v. map view_item v.items) words)) (view_list body) }
 {
     Form::For { name, words, body }
+}
+
+/// A `case` of this word, its items, and the comments behind the last one (XCU 2.9.4.3).
+pub fn case_of(word: Word, items: Vec<CaseItem>, tail: Vec<Comment>) -> Form
+    ensures { view_form result ≡ case_in (view_word word) (cases_of (map view_case_item items.items)) (map view_comment tail.items) }
+{
+    Form::Case { word, items, tail }
+}
+
+/// An item of a `case`: the comments before it, its patterns, what it runs, and where it stands.
+pub fn case_item_of(comments: Vec<Comment>, patterns: Vec<Word>, body: List, span: Span) -> CaseItem
+    ensures { view_case_item result ≡ case_item (map view_comment comments.items) (patterns_of (map view_word patterns.items)) (view_list body) span }
+{
+    CaseItem {
+        comments,
+        patterns,
+        body,
+        span,
+    }
 }
 
 /// A condition, and what is run by it.

@@ -1,12 +1,12 @@
 //! Where the parts of a script stand that have no span of their own.
 ghost use Rattle.std.specs.Prelude.{◌≡◌, false, map};
-ghost use Rattle.shtree.specs.Tree.{and_or_parts_of, item, items_of, pipeline_parts_of};
-ghost use Rattle.shtree.specs.Nodes.{and_or_span, command_span, compound_span, item_span, items_span, last_command, last_item, last_pipeline, pipeline_span, through};
-ghost use Rattle.shtree.specs.View.{view_and_or, view_and_or_part, view_command, view_compound, view_function, view_item, view_pipeline, view_pipeline_part, view_redirection};
+ghost use Rattle.shtree.specs.Tree.{and_or_parts_of, entries_of, item, items_of, pipeline_parts_of};
+ghost use Rattle.shtree.specs.Nodes.{and_or_span, command_end, command_span, commands_end, compound_span, item_span, items_span, last_command, last_item, last_pipeline, pipeline_span, through};
+ghost use Rattle.shtree.specs.View.{view_and_or, view_and_or_part, view_command, view_compound, view_content, view_entry, view_function, view_item, view_pipeline, view_pipeline_part, view_redirection};
 
 use crate::tree::{
-    AndOr, AndOrPart, Command, Compound, Function, Item, ItemContent, Pipeline, PipelinePart,
-    Redirection, Span,
+    AndOr, AndOrPart, Command, Compound, Content, Entry, Function, Item, ItemContent, Pipeline,
+    PipelinePart, Redirection, Span,
 };
 
 impl Span {
@@ -126,4 +126,24 @@ pub(crate) fn and_or_span(and_or: &AndOr) -> Span
 {
     let first = pipeline_span(&and_or.first);
     first.through(last_pipeline(first, &and_or.rest))
+}
+
+fn command_end(before: usize, content: &Content) -> usize
+    ensures { result ≡ command_end before (view_content content.now) }
+{
+    match content {
+        Content::AndOr(and_or) => and_or_span(and_or).end,
+        Content::Comment(_) => before,
+    }
+}
+
+/// Where the last and-or list of these entries ends; where there is none, what stands before them.
+pub fn commands_end(before: usize, entries: &[Entry]) -> usize
+    ensures { result ≡ commands_end before (entries_of (map view_entry entries.now)) }
+{
+    let mut end = before;
+    'entries: for entry in entries {
+        end = command_end(end, &entry.what);
+    }
+    end
 }
