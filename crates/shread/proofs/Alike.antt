@@ -14,18 +14,19 @@ use Rattle.shread.specs.declared.token.Position.{Position}
 use Rattle.shread.specs.declared.token.Separator.{Separator}
 use Rattle.shtree.specs.declared.tree.Span.{Span}
 use Rattle.shtree.specs.declared.tree.AndOrOperator.{AndOrOperator}
-use Rattle.shtree.specs.Tree.{ASubst, AnEntry}
+use Rattle.shtree.specs.Tree.{ASubst, AnEntry, AWord}
 use Rattle.shread.specs.Comments.{span}
 use Rattle.shread.specs.Sights.{Given, State, Sight, seen, the_piece, Move}
 use Rattle.shread.specs.Form.{Spelled, Told, Read, ◌▸◌, Form, give, see, move, push, stop, both, when, token, many, ◌>>=◌, Step, again, done, step_if, leads_on, turns, does}
 use Rattle.shread.specs.Words.{single, backquote_turn, backquoted, Inner, Held, having, opened, piece_row, a_piece, contents, a_word}
 use Rattle.shread.specs.Levels.{level}
 use Rattle.shread.specs.Tokens.{is_end}
-use Rattle.shread.specs.Commands.{pick, is_newline, is_semicolon, a_semicolon, a_join_of, is_pipe, is_bang, begins_simple, begins_pipeline, opener_of, compound_by, and_or_operator_of, next_token, Items, so_many, behind_item, an_item, item_by, item_turn, a_simple, comment_by, a_comment, a_newline, what_is_wrong, unexpected, JoinSo, join_so, with_comment, join_turn, a_join, a_command, a_bang, Piped, piped, one_command, pipe_turn, a_pipeline, Joined, joined_so, one_pipeline, joined_by, join_pipeline, an_and_or, separator_of, separator_by, a_separator, is_parted, Entered, an_entry}
+use Rattle.shread.specs.Commands.{pick, is_newline, is_semicolon, a_semicolon, a_join_of, is_pipe, is_bang, begins_simple, begins_pipeline, opener_of, compound_by, and_or_operator_of, next_token, Items, so_many, behind_item, an_item, item_by, item_turn, a_simple, comment_by, a_comment, a_newline, what_is_wrong, unexpected, JoinSo, join_so, with_comment, join_turn, a_join, a_command, a_bang, Piped, piped, one_command, pipe_turn, a_pipeline, Joined, joined_so, one_pipeline, joined_by, join_pipeline, an_and_or, separator_of, separator_by, a_separator, Entered, an_entry, a_worded, is_word, is_paren, named, ASeparator, past_separator, is_double_semicolon}
 use Rattle.shread.specs.Lines.{end_of_line, a_line}
 use Rattle.shread.specs.Lists.{Listed, ListSo, list_so, none_listed, with_command, next_line, one_entry, entry_turn, remark_by, a_remark, on_line, list_turn, a_list}
-use Rattle.shread.specs.Compounds.{is_closing, is_open_paren, is_close_paren, passed, closing, Closed, closed, a_branch, Branched, branched, elif_turn, an_else, an_if, a_loop, a_group, a_for_name, a_linebreak, a_sequential_sep, Headed, for_words, a_for_head, a_for, a_form, a_compound}
+use Rattle.shread.specs.Compounds.{is_closing, is_open_paren, is_close_paren, passed, closing, Closed, closed, a_branch, Branched, branched, elif_turn, an_else, an_if, a_loop, a_group, a_for_name, a_linebreak, a_sequential_sep, Headed, for_words, a_for_head, a_for, a_form, a_compound, a_function, a_case_word, begins_pattern, Patterned, a_pattern, one_pattern, pattern_turn, a_pattern_list, an_open_bracket, a_body, ItemEnd, a_double_semicolon, an_item_end, CasesSo, cases_so, one_case, case_turn, a_case_head, a_case}
 use Rattle.shread.proofs.Turns.{turns_on, turns_rest, turns_done, turns_fault}
+use Rattle.shtree.specs.Nodes.{word_span}
 
 -- both give something, of which S holds, and end in one state; or both stop with one fault
 abbrev pub Like : {X Y : Type 0} → (X → Y → Type 0) → Read X → Read Y → Type 0
@@ -64,6 +65,9 @@ module _ (g : Given) where
 
   pub alike_move : {S : Unit {0} → Unit {0} → Type 0} {m : Move} → S tt tt → Alike S (move m) (move m)
   alike_move so = record { like = λ s. (refl, so) }
+
+  pub alike_stop_at : {X Y : Type 0} {S : X → Y → Type 0} {kind : FaultKind} {p q : ℕ} → p ≡ q → Alike S (stop kind p) (stop kind q)
+  alike_stop_at {kind = kind} is = record { like = λ s. ap (λ (p : ℕ). record { kind = kind; at = p }) is }
 
   pub alike_stop : {X Y : Type 0} {S : X → Y → Type 0} {kind : FaultKind} {at : ℕ} → Alike S (stop kind at) (stop kind at)
   alike_stop = record { like = λ s. refl }
@@ -189,6 +193,7 @@ module _ (g : Given) where
   pub record Fits (inner : Inner) : Type 0 where
     pub construct : (mode : Mode) (b : ℕ) (ss zs : Row ASubst) → Alike All (inner.construct mode b ss) (inner.construct mode b zs)
     pub compound : (o : Opener) → Alike SameNext (inner.compound o) (inner.compound o)
+    pub function : (name : Span) → Alike SameNext (inner.function name) (inner.function name)
 
   module _ (inner : Inner) (fits : Fits inner) where
     alike_opened : (mode : Mode) (b : ℕ) (h i : Held) → SameHeld h i → Alike (SameStep SameHeld) (opened inner mode b h) (opened inner mode b i)
@@ -221,9 +226,13 @@ module _ (g : Given) where
     unfolding contents
     alike_contents mode b ss zs = alike_then (alike_many SameHeld (a_piece inner mode b) (a_piece inner mode b) (alike_piece mode b) (having 0 ss) (having 0 zs) refl) (λ x y so. alike_give tt)
 
-    pub alike_word : Alike All (a_word inner) (a_word inner)
+    -- words that stand at the same place
+    abbrev pub SamePlace : AWord → AWord → Type 0
+    SamePlace w v = word_span w ≡ word_span v
+
+    pub alike_word : Alike SamePlace (a_word inner) (a_word inner)
     unfolding a_word
-    alike_word = alike_see (λ p. alike_then (alike_token {R = All} (alike_contents _ p [] []) (λ a b z so. tt)) (λ x y so. alike_give tt))
+    alike_word = alike_see (λ p. alike_then (alike_token {R = λ x y. x.1 ≡ y.1} (alike_contents _ p [] []) (λ a b z so. refl)) (λ x y so. alike_give so))
 
     -- ---- commands and lines
 
@@ -251,9 +260,9 @@ module _ (g : Given) where
     unfolding item_turn
     alike_item_turn i j same = subst (λ (n : Next). Alike (SameStep SameItems) (item_by inner i (behind_item i.next.token)) (item_by inner j (behind_item n.token))) same (alike_item_by i j (behind_item i.next.token) same)
 
-    alike_simple : (n : Next) → Alike SameNext (a_simple inner n) (a_simple inner n)
+    alike_simple : (i j : Items) → SameItems i j → Alike SameNext (a_simple inner i) (a_simple inner j)
     unfolding a_simple
-    alike_simple n = alike_then (alike_many SameItems (item_turn inner) (item_turn inner) alike_item_turn (so_many [] n) (so_many [] n) refl) (λ i j same. alike_give same)
+    alike_simple i j same = alike_then (alike_many SameItems (item_turn inner) (item_turn inner) alike_item_turn i j same) (λ is js so. alike_give so)
 
     alike_comment_by : (n : Next) (c : Option Span) → Alike (λ x y. x ≡ y) (comment_by n c) (comment_by n c)
     alike_comment_by n (Some c) = alike_on (alike_then (alike_next _) (λ m k same. alike_give (ap (λ z. (Some c, z)) same)))
@@ -319,9 +328,20 @@ module _ (g : Given) where
     alike_compound_by n (Some o) = fits.compound o
     alike_compound_by n None = alike_unexpected n
 
+    alike_named : (good : Bool) (w v : AWord) → SamePlace w v → Alike SameNext (named inner good w) (named inner good v)
+    alike_named good w v same = alike_pick good _ refl (subst (λ z. Alike SameNext (inner.function (word_span w)) (inner.function z)) same (fits.function (word_span w))) (alike_stop_at (ap (λ (s : Span). s.start) same))
+
+    alike_worded : Alike SameNext (a_worded inner) (a_worded inner)
+    unfolding a_worded
+    alike_worded =
+        alike_see (λ good. alike_then alike_word (λ w v so. alike_then (alike_next _) (λ n m same.
+        alike_pick _ _ (ap (λ (z : Next). is_paren z.token) same) (alike_named good w v so) (alike_pushed (alike_simple (so_many _ n) (so_many _ m) same)))))
+
     alike_command : (n : Next) → Alike SameNext (a_command inner n) (a_command inner n)
     unfolding a_command
-    alike_command n = alike_pick (begins_simple n.token) _ refl (alike_simple n) (alike_compound_by n (opener_of n.token))
+    alike_command n =
+        alike_pick (is_word n.token) _ refl alike_worded
+        (alike_pick (begins_simple n.token) _ refl (alike_simple (so_many [] n) (so_many [] n) refl) (alike_compound_by n (opener_of n.token)))
 
     alike_bang : (n : Next) → Alike SameNext (a_bang n) (a_bang n)
     unfolding a_bang
@@ -369,8 +389,12 @@ module _ (g : Given) where
     alike_and_or n =
         alike_then (alike_pipeline n) (λ p q same. alike_then (alike_many SameJoined (join_pipeline inner) (join_pipeline inner) alike_join_pipeline (joined_so [] p.1) (joined_so [] q.1) same) (λ a b so. alike_give so))
 
+    -- an operator, and where it stands
+    alike_place : {how : Told} {m : Move} → Alike (λ x y. x ≡ y) (token how (move m)) (token how (move m))
+    alike_place = alike_token {R = λ x y. x ≡ y} (alike_move {S = All} tt) (λ a b z so. refl)
+
     alike_separator_by : (n : Next) (s : Option Separator) → Alike (λ x y. x ≡ y) (separator_by n s) (separator_by n s)
-    alike_separator_by n (Some s) = alike_then alike_mark (λ x y all. alike_then (alike_next _) (λ m k same. alike_give (ap (λ z. (Some s, z)) same)))
+    alike_separator_by n (Some s) = alike_then alike_place (λ x y so. rw (← so) (alike_then (alike_next _) (λ m k same. alike_give (ap (λ z. (Some (s, x.1.«end»), z)) same))))
     alike_separator_by n None = alike_give refl
 
     alike_separator : (n m : Next) → n ≡ m → Alike (λ x y. x ≡ y) (a_separator n) (a_separator m)
@@ -384,7 +408,7 @@ module _ (g : Given) where
     unfolding an_entry
     alike_entry blank pale n =
         alike_then (alike_and_or n) (λ a b same. alike_then (alike_separator a.1 b.1 same)
-        (λ s z same'. alike_then (alike_comment s.1 z.1 (ap (λ (x : Option Separator × Next). x.1) same')) (λ c d same''. alike_give (ap (λ (x : Option Separator × Next). is_parted x.0) same', ap (λ (x : Option Span × Next). x.1) same''))))
+        (λ s z same'. alike_then (alike_comment s.1 z.1 (ap (λ (x : Option ASeparator × Next). x.1) same')) (λ c d same''. alike_give (ap (λ (x : Option ASeparator × Next). past_separator x.0) same', ap (λ (x : Option Span × Next). x.1) same''))))
 
     -- ---- lists and compound commands
 
@@ -398,7 +422,7 @@ module _ (g : Given) where
     alike_one_entry : (l m : ListSo) → SameList l m → Alike (SameStep SameList) (one_entry inner l) (one_entry inner m)
     unfolding one_entry
     alike_one_entry l m same =
-        rw (← same.1) (alike_then (alike_entry _ _ l.next) (λ e f so. alike_pushed (alike_give (rw (← so.0) (same_step e.parted (list_so (with_command l.list _) e.next) (list_so (with_command m.list _) f.next) (refl, so.1))))))
+        rw (← same.1) (alike_then (alike_entry _ _ l.next) (λ e f so. alike_pushed (alike_give (rw (← so.0) (same_step (is_some e.parted) (list_so (with_command l.list _ e.parted) e.next) (list_so (with_command m.list _ e.parted) f.next) (refl, so.1))))))
 
     alike_entry_turn : (l m : ListSo) → SameList l m → Alike (SameStep SameList) (entry_turn inner l) (entry_turn inner m)
     unfolding entry_turn
@@ -435,7 +459,7 @@ module _ (g : Given) where
     alike_passed : (text : Spelled) (paren : Bool) (position : Position) → Alike (λ x y. x ≡ y) (passed text paren position) (passed text paren position)
     unfolding passed
     alike_passed text paren position =
-        alike_then (alike_token {R = λ x y. x ≡ y} (alike_move {S = All} tt) (λ a b z so. refl)) (λ x y so. rw (← so) (alike_then (alike_next _) (λ m k same. alike_give (ap (λ z. (x.1, z)) same))))
+        alike_then alike_place (λ x y so. rw (← so) (alike_then (alike_next _) (λ m k same. alike_give (ap (λ z. (x.1, z)) same))))
 
     alike_closing : (c : Closing) (n : Next) → Alike (λ x y. x ≡ y) (closing inner c n) (closing inner c n)
     unfolding closing
@@ -524,6 +548,87 @@ module _ (g : Given) where
         (λ h k so. alike_then (alike_at (closing inner closings.Do) (alike_closing closings.Do) h.next k.next so)
         (λ d e so'. alike_then (alike_at (a_group inner closings.Done) (alike_group closings.Done) d.1 e.1 (ap (λ (z : Span × Next). z.1) so')) (λ b c so''. alike_give so''))))
 
+    alike_case_word : (n : Next) → Alike SameNext (a_case_word inner n) (a_case_word inner n)
+    unfolding a_case_word
+    alike_case_word n = alike_pick (begins_simple n.token) _ refl (alike_then alike_word (λ w v so. alike_then (alike_next _) (λ m k same. alike_give same))) (alike_unexpected n)
+
+    abbrev SamePatterned : Patterned → Patterned → Type 0
+    SamePatterned p q = p.next ≡ q.next
+
+    alike_pattern : (ws vs : Row AWord) → Alike SamePatterned (a_pattern inner ws) (a_pattern inner vs)
+    unfolding a_pattern
+    alike_pattern ws vs = alike_then alike_word (λ w v so. alike_pushed (alike_then (alike_next _) (λ n m same. alike_give same)))
+
+    alike_one_pattern : (ws vs : Row AWord) → Alike (SameStep SamePatterned) (one_pattern inner ws) (one_pattern inner vs)
+    unfolding one_pattern
+    alike_one_pattern ws vs =
+        alike_then alike_mark (λ x y all. alike_then (alike_next _) (λ n m same. rw (← same)
+        (alike_pick (begins_simple n.token) _ refl (alike_then (alike_pattern ws vs) (λ p q so. alike_give so)) (alike_unexpected n))))
+
+    alike_pattern_turn : (p q : Patterned) → SamePatterned p q → Alike (SameStep SamePatterned) (pattern_turn inner p) (pattern_turn inner q)
+    unfolding pattern_turn
+    alike_pattern_turn p q same = alike_pick _ _ (ap (λ (n : Next). is_pipe n.token) same) (alike_one_pattern p.patterns q.patterns) (alike_give same)
+
+    alike_patterns : (n : Next) → Alike SamePatterned (a_pattern_list inner n) (a_pattern_list inner n)
+    unfolding a_pattern_list
+    alike_patterns n =
+        alike_pick (begins_pattern n.token) _ refl
+        (alike_then (alike_pattern [] []) (λ p q so. alike_many SamePatterned (pattern_turn inner) (pattern_turn inner) alike_pattern_turn p q so))
+        (alike_unexpected n)
+
+    alike_bracket : (n : Next) → Alike (λ m k. m ≡ k) (an_open_bracket n) (an_open_bracket n)
+    unfolding an_open_bracket
+    alike_bracket n = alike_pick (is_paren n.token) _ refl (alike_on (alike_next _)) (alike_give refl)
+
+    alike_body : (n : Next) → Alike SameList (a_body inner n) (a_body inner n)
+    unfolding a_body
+    alike_body n = alike_many SameList (list_turn inner) (list_turn inner) alike_list_turn (list_so (none_listed false) n) (list_so (none_listed false) n) (refl, refl)
+
+    abbrev SameItemEnd : ItemEnd → ItemEnd → Type 0
+    SameItemEnd e f = e.next ≡ f.next
+
+    alike_double_semicolon : Alike SameItemEnd a_double_semicolon a_double_semicolon
+    unfolding a_double_semicolon
+    alike_double_semicolon =
+        alike_on (alike_on (alike_see (λ p. alike_then (alike_next _) (λ n m same. alike_then (alike_linebreak [] [] n m same) (λ l k is. alike_give is.1)))))
+
+    alike_item_end : (p q : ℕ) (n m : Next) → n ≡ m → Alike SameItemEnd (an_item_end inner p n) (an_item_end inner q m)
+    unfolding an_item_end
+    alike_item_end p q n m same =
+        rw (← same) (alike_pick (is_double_semicolon n.token) _ refl alike_double_semicolon (alike_pick (is_closing closings.Esac n.token) _ refl (alike_give refl) (alike_unexpected n)))
+
+    abbrev SameCases : CasesSo → CasesSo → Type 0
+    SameCases c d = c.next ≡ d.next
+
+    alike_one_case : (c d : CasesSo) → SameCases c d → Alike (SameStep SameCases) (one_case inner c) (one_case inner d)
+    unfolding one_case
+    alike_one_case c d same =
+        alike_see (λ p. alike_then (alike_at an_open_bracket alike_bracket c.next d.next same)
+        (λ n m is. alike_then (alike_at (a_pattern_list inner) alike_patterns n m is)
+        (λ ps qs so. alike_then (alike_at (closing inner closings.Paren) (alike_closing closings.Paren) ps.next qs.next so)
+        (λ k j so'. alike_then (alike_at (a_body inner) alike_body k.1 j.1 (ap (λ (z : Span × Next). z.1) so'))
+        (λ b e both. alike_then (alike_item_end _ _ b.next e.next both.1) (λ f h last. alike_pushed (alike_give last)))))))
+
+    alike_case_turn : (c d : CasesSo) → SameCases c d → Alike (SameStep SameCases) (case_turn inner c) (case_turn inner d)
+    unfolding case_turn
+    alike_case_turn c d same = alike_pick _ _ (ap (λ (n : Next). is_closing closings.Esac n.token) same) (alike_give same) (alike_one_case c d same)
+
+    abbrev SameCaseHead : AWord × Row Span × Next → AWord × Row Span × Next → Type 0
+    SameCaseHead h k = h.2 ≡ k.2
+
+    alike_case_head : (n : Next) → Alike SameCaseHead (a_case_head inner n) (a_case_head inner n)
+    unfolding a_case_head
+    alike_case_head n =
+        alike_then (alike_case_word n) (λ w v same. alike_then (alike_linebreak [] [] w.1 v.1 same)
+        (λ l k is. alike_then (alike_at (closing inner closings.In) (alike_closing closings.In) l.next k.next is.1)
+        (λ i j so. alike_then (alike_linebreak l.join.comments k.join.comments i.1 j.1 (ap (λ (z : Span × Next). z.1) so)) (λ h z last. alike_give last.1))))
+
+    alike_case : (n : Next) → Alike SameClosed (a_case inner n) (a_case inner n)
+    unfolding a_case
+    alike_case n =
+        alike_then (alike_case_head n) (λ h k same. alike_then (alike_many SameCases (case_turn inner) (case_turn inner) alike_case_turn (cases_so [] h.1 h.2) (cases_so [] k.1 k.2) same)
+        (λ c d so. alike_closed _ _ closings.Esac c.next d.next so))
+
     alike_form : (o : Opener) (n : Next) → Alike SameClosed (a_form inner o n) (a_form inner o n)
     alike_form openers.Brace n = alike_then (alike_group closings.Brace n) (λ l m same. alike_give same)
     alike_form openers.Paren n = alike_then (alike_group closings.Paren n) (λ l m same. alike_give same)
@@ -531,11 +636,19 @@ module _ (g : Given) where
     alike_form openers.While n = alike_then (alike_loop n) (λ l m same. alike_give same)
     alike_form openers.Until n = alike_then (alike_loop n) (λ l m same. alike_give same)
     alike_form openers.For n = alike_for n
+    alike_form openers.Case n = alike_case n
 
     pub alike_compound : (o : Opener) → Alike SameNext (a_compound inner o) (a_compound inner o)
     unfolding a_compound
     alike_compound o =
         alike_then (alike_passed _ (is_open_paren o) _) (λ x y so. alike_then (alike_at (a_form inner o) (alike_form o) x.1 y.1 (ap (λ (z : Span × Next). z.1) so)) (λ f g same. alike_pushed (alike_give same)))
+
+    pub alike_function : (name : Span) → Alike SameNext (a_function inner name) (a_function inner name)
+    unfolding a_function
+    alike_function name =
+        alike_then (alike_passed _ true _) (λ o p so. alike_then (alike_at (closing inner closings.Paren) (alike_closing closings.Paren) o.1 p.1 (ap (λ (z : Span × Next). z.1) so))
+        (λ c d so'. alike_then (alike_linebreak [] [] c.1 d.1 (ap (λ (z : Span × Next). z.1) so'))
+        (λ l k is. alike_then (alike_at (λ n. compound_by inner n (opener_of n.token)) (λ n. alike_compound_by n (opener_of n.token)) l.next k.next is.1) (λ b e same. alike_give same))))
 
     -- ---- lines
 
@@ -552,9 +665,10 @@ module _ (g : Given) where
   -- words within words, commands within commands
   pub alike_level : (room : ℕ) → Fits (level room)
   unfolding level
-  alike_level zero = record { construct = λ mode b ss zs. alike_stop; compound = λ o. alike_see (λ p. alike_stop) }
+  alike_level zero = record { construct = λ mode b ss zs. alike_stop; compound = λ o. alike_see (λ p. alike_stop); function = λ name. alike_stop }
   alike_level (suc room) =
       record {
         construct = λ mode b ss zs. alike_contents (level room) (alike_level room) mode b ss zs;
         compound = λ o. alike_compound (level room) (alike_level room) o;
+        function = λ name. alike_function (level room) (alike_level room) name;
       }

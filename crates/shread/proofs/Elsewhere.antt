@@ -8,6 +8,7 @@ use Rattle.shread.specs.declared.mode.Mode.TheVariants.{Plain}
 use Rattle.shread.specs.declared.token.Position.{Position}
 use Rattle.shread.specs.declared.token.Position.TheVariants.{Command, Prefix, Suffix}
 use Rattle.shread.specs.declared.token.Token.{Token}
+use Rattle.shread.specs.declared.token.Token.TheVariants as tokens
 use Rattle.shread.specs.Text.{is_newline}
 use Rattle.shread.specs.Classes.{is_blank, is_operator, is_letter, is_digit, is_name}
 use Rattle.shread.specs.Standing.{is_byte, passes, raw_stands}
@@ -65,11 +66,11 @@ unfolding stands stands_in
 stands_one T p c = byte_passes (byte_at T p) c
 
 -- words that are spelled by such bytes
-abbrev all_plain : List ℕ → Bool
+abbrev pub all_plain : List ℕ → Bool
 all_plain [] = true
 all_plain (x ∷ xs) = is_plain Plain x && all_plain xs
 
-abbrev all_spelled : Row Spelling → Bool
+abbrev pub all_spelled : Row Spelling → Bool
 all_spelled [] = true
 all_spelled (w ∷ ws) = all_plain w.0 && all_spelled ws
 
@@ -237,13 +238,39 @@ module _ {T U : List ℕ} {a L : ℕ} {to : ℕ → ℕ} (K : Kept T U a L to) (
         let p = past_goes is_digit plain_digit w in
         rw (same_test is_digit plain_digit w, p.1) (no_number_by (stands_in is_digit T r) _ _ (no_sign p.0) e)
 
--- ---- tokens that begin an item
+-- ---- tokens that are words
+
+-- a word, reserved or not, or an assignment
+abbrev pub is_a_word : Token → Bool
+is_a_word tokens.Assignment = true
+is_a_word tokens.Word = true
+is_a_word (tokens.Reserved r) = true
+is_a_word _ = false
 
 abbrev Item : Token → Type 0
-Item t = is_some (behind_item t) ≡ true
+Item t = is_a_word t ≡ true
+
+-- an item of a simple command is one
+pub item_is_word : (t : Token) → is_some (behind_item t) ≡ true → is_a_word t ≡ true
+item_is_word tokens.End e = absurd cc
+item_is_word tokens.Newline e = absurd cc
+item_is_word tokens.Semicolon e = absurd cc
+item_is_word tokens.DoubleSemicolon e = absurd cc
+item_is_word tokens.Ampersand e = absurd cc
+item_is_word tokens.AndIf e = absurd cc
+item_is_word tokens.OrIf e = absurd cc
+item_is_word tokens.Pipe e = absurd cc
+item_is_word tokens.OpenParen e = absurd cc
+item_is_word tokens.CloseParen e = absurd cc
+item_is_word tokens.Operator e = absurd cc
+item_is_word tokens.Comment e = absurd cc
+item_is_word tokens.Number e = absurd cc
+item_is_word (tokens.Reserved r) e = refl
+item_is_word tokens.Assignment e = refl
+item_is_word tokens.Word e = refl
 
 -- the first byte of an item is none of those that tell another token
-record ItemByte (b : ℕ) : Type 0 where
+pub record ItemByte (b : ℕ) : Type 0 where
   newline : is_newline b ≡ false
   semicolon : (b == 59) ≡ false
   ampersand : (b == 38) ≡ false
@@ -261,7 +288,7 @@ neither : (c : Bool) (x y : Token) → (Item x → ⊥) → (Item y → ⊥) →
 neither true x y one two so = one so
 neither false x y one two so = two so
 
-item_byte : (position : Position) (T : List ℕ) (p b : ℕ) → Item (token_of position T p (Some b)) → ItemByte b × (is_number T p ≡ false)
+pub item_byte : (position : Position) (T : List ℕ) (p b : ℕ) → Item (token_of position T p (Some b)) → ItemByte b × (is_number T p ≡ false)
 item_byte position T p b so =
     let newline = item_else (is_newline b) _ _ (λ e. absurd cc) so in
     let semicolon = item_else (b == 59) _ _ (λ e. neither (stands T (behind T p) 59) _ _ (λ f. absurd cc) (λ f. absurd cc) e) newline.1 in
@@ -285,7 +312,7 @@ item_byte position T p b so =
       number.0,
     )
 
-item_token : (position : Position) (T : List ℕ) (p b : ℕ) → ItemByte b → is_number T p ≡ false → token_of position T p (Some b) ≡ word_by position T p
+pub item_token : (position : Position) (T : List ℕ) (p b : ℕ) → ItemByte b → is_number T p ≡ false → token_of position T p (Some b) ≡ word_by position T p
 item_token position T p b i none = rw (i.newline, i.operator, i.semicolon, i.ampersand, i.bar, i.open_paren, i.close_paren, i.sharp, none) refl
 
 -- where an item begins a byte is read, and it ends no word
@@ -441,16 +468,22 @@ module _ (room : ℕ) (position : Position) (g : Given) (p n : ℕ) (word : IsWo
   names : is_name_at g.text p ≡ true → NameAnywhere w
   names name T q zs is_there following = name_there (given T 0) q zs is_there following name
 
+-- what is a word where it stands is one anywhere, and the same token
+pub token_anywhere : (room : ℕ) (position : Position) (token : Token) (g : Given) (p n : ℕ) → IsWord room g p n
+    → past_continuations g.text p ≡ p → stands_in is_blank g.text p ≡ false → token_at position g.text p ≡ token → is_a_word token ≡ true
+    → ItemAnywhere room position token (take n (drop p g.text))
+token_anywhere room position _ g p n word place no_blank token_is item =
+    subst (λ (t : Token). ItemAnywhere room position t (take n (drop p g.text))) token_is
+    (item_there room position g p n word place no_blank (subst (λ (t : Token). is_a_word t ≡ true) (sym token_is) item))
+
 -- what is an item where it stands is one anywhere
 pub item_anywhere : (room : ℕ) (position : Position) (token : Token) (g : Given) (p n : ℕ) → IsWord room g p n
     → past_continuations g.text p ≡ p → stands_in is_blank g.text p ≡ false → token_at position g.text p ≡ token → is_some (behind_item token) ≡ true
     → ItemAnywhere room position token (take n (drop p g.text))
-item_anywhere room position _ g p n word place no_blank token_is item =
-    subst (λ (t : Token). ItemAnywhere room position t (take n (drop p g.text))) token_is
-    (item_there room position g p n word place no_blank (subst (λ (t : Token). is_some (behind_item t) ≡ true) (sym token_is) item))
+item_anywhere room position t g p n word place no_blank token_is item = token_anywhere room position t g p n word place no_blank token_is (item_is_word t item)
 
 -- and so is a NAME
 pub name_anywhere : (room : ℕ) (position : Position) (g : Given) (p n : ℕ) → IsWord room g p n
     → past_continuations g.text p ≡ p → stands_in is_blank g.text p ≡ false → is_some (behind_item (token_at position g.text p)) ≡ true → is_name_at g.text p ≡ true
     → NameAnywhere (take n (drop p g.text))
-name_anywhere room position g p n word place no_blank item name = names room position g p n word place no_blank item name
+name_anywhere room position g p n word place no_blank item name = names room position g p n word place no_blank (item_is_word _ item) name

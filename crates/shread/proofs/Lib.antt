@@ -34,3 +34,4 @@ pub mod Spelling
 pub mod CommentsElsewhere
 pub mod WordsWithin
 pub mod Elsewhere
+pub mod NamesBefore

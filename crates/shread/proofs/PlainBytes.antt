@@ -90,7 +90,7 @@ closer_by T p n b end =
     let dollar : (b == 36) ≡ false = grind (arith, nat_tests) in
     rw (other, tick, dollar, end) refl
 
-closer_at : (T : List ℕ) (p n : ℕ) (a : Option ℕ) → ends a ≡ true → piece_by T p Plain n a ≡ pieces.Closer
+pub closer_at : (T : List ℕ) (p n : ℕ) (a : Option ℕ) → ends a ≡ true → piece_by T p Plain n a ≡ pieces.Closer
 closer_at T p n None end = refl
 closer_at T p n (Some b) end = closer_by T p n b end
 

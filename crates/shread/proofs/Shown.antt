@@ -33,6 +33,8 @@ Byte T p b tokens.End = is_none b ≡ true
 Byte T p b tokens.Newline = is_byte b 10 ≡ true
 Byte T p b tokens.AndIf = IsRead T (behind T p)
 Byte T p b tokens.OrIf = IsRead T (behind T p)
+Byte T p b tokens.DoubleSemicolon = IsRead T (behind T p)
+Byte T p b (tokens.Reserved r) = ends b ≡ false
 Byte T p b tokens.Assignment = ends b ≡ false
 Byte T p b tokens.Word = ends b ≡ false
 Byte T p b _ = Unit {0}
@@ -44,7 +46,7 @@ module _ (T : List ℕ) (p : ℕ) where
 
   first_is : (b : Option ℕ) (assigns : Bool) (r : Option Reserved) → ends b ≡ false → Byte T p b (first_word assigns r)
   first_is b assigns None e = word_is b assigns e
-  first_is b assigns (Some r) e = tt
+  first_is b assigns (Some r) e = e
 
   in_position : (position : Position) (b : Option ℕ) → ends b ≡ false → Byte T p b (word_by position T p)
   in_position Command b e = first_is b _ _ e
@@ -57,7 +59,7 @@ module _ (T : List ℕ) (p : ℕ) where
   token_byte position (Some b) blank =
       let P = Byte T p (Some b) in
       cond_both (is_newline b) _ _ P (λ e. e)
-      (λ n. cond_both (b == 59) _ _ P (λ e. cond_both (stands T (behind T p) 59) _ _ P (λ f. tt) (λ f. tt))
+      (λ n. cond_both (b == 59) _ _ P (λ e. cond_both (stands T (behind T p) 59) _ _ P (λ f. stands_read T (behind T p) 59 f) (λ f. tt))
       (λ e. cond_both (b == 38) _ _ P (λ f. cond_both (stands T (behind T p) 38) _ _ P (λ g. stands_read T (behind T p) 38 g) (λ g. tt))
       (λ f. cond_both (b == 124) _ _ P (λ g. cond_both (stands T (behind T p) 124) _ _ P (λ h. stands_read T (behind T p) 124 h) (λ h. tt))
       (λ i. cond_both (b == 40) _ _ P (λ g. tt)
@@ -84,21 +86,22 @@ module _ (T : List ℕ) (p : ℕ) where
 
 shows_by : (T : List ℕ) (p : ℕ) (t : Token) → past_continuations T p ≡ p → (is_end t ≡ false → IsRead T p) → Byte T p (byte_at T p) t → (is_comment t ≡ false → raw_stands T p 35 ≡ false) → Shows t T p
 unfolding ends_word raw_stands at_end
-shows_by T p tokens.End still some e none = (λ z f. absurd cc, some, λ f. absurd cc, λ f. ap (λ q. is_none (slice_get T q)) (sym still) ∙ e, λ o f. absurd cc, none, still)
-shows_by T p tokens.Newline still some e none = (λ z f. absurd cc, some, λ f. ap (λ q. is_byte (slice_get T q) 10) (sym still) ∙ e, λ f. absurd cc, λ o f. absurd cc, none, still)
-shows_by T p tokens.Semicolon still some e none = (λ z f. absurd cc, some, λ f. absurd cc, λ f. absurd cc, λ o f. absurd cc, none, still)
-shows_by T p tokens.Ampersand still some e none = (λ z f. absurd cc, some, λ f. absurd cc, λ f. absurd cc, λ o f. absurd cc, none, still)
-shows_by T p tokens.AndIf still some e none = (λ z f. absurd cc, some, λ f. absurd cc, λ f. absurd cc, λ o f. e, none, still)
-shows_by T p tokens.OrIf still some e none = (λ z f. absurd cc, some, λ f. absurd cc, λ f. absurd cc, λ o f. e, none, still)
-shows_by T p tokens.Pipe still some e none = (λ z f. absurd cc, some, λ f. absurd cc, λ f. absurd cc, λ o f. absurd cc, none, still)
-shows_by T p tokens.OpenParen still some e none = (λ z f. absurd cc, some, λ f. absurd cc, λ f. absurd cc, λ o f. absurd cc, none, still)
-shows_by T p tokens.CloseParen still some e none = (λ z f. absurd cc, some, λ f. absurd cc, λ f. absurd cc, λ o f. absurd cc, none, still)
-shows_by T p tokens.Operator still some e none = (λ z f. absurd cc, some, λ f. absurd cc, λ f. absurd cc, λ o f. absurd cc, none, still)
-shows_by T p tokens.Comment still some e none = (λ z f. absurd cc, some, λ f. absurd cc, λ f. absurd cc, λ o f. absurd cc, none, still)
-shows_by T p tokens.Number still some e none = (λ z f. absurd cc, some, λ f. absurd cc, λ f. absurd cc, λ o f. absurd cc, none, still)
-shows_by T p (tokens.Reserved r) still some e none = (λ z f. absurd cc, some, λ f. absurd cc, λ f. absurd cc, λ o f. absurd cc, none, still)
-shows_by T p tokens.Assignment still some e none = (λ z f. e, some, λ f. absurd cc, λ f. absurd cc, λ o f. absurd cc, none, still)
-shows_by T p tokens.Word still some e none = (λ z f. e, some, λ f. absurd cc, λ f. absurd cc, λ o f. absurd cc, none, still)
+shows_by T p tokens.End still some e none = (λ z f. absurd cc, some, λ f. absurd cc, λ f. ap (λ q. is_none (slice_get T q)) (sym still) ∙ e, λ o f. absurd cc, none, still, λ f. absurd cc, λ f. absurd cc)
+shows_by T p tokens.Newline still some e none = (λ z f. absurd cc, some, λ f. ap (λ q. is_byte (slice_get T q) 10) (sym still) ∙ e, λ f. absurd cc, λ o f. absurd cc, none, still, λ f. absurd cc, λ f. absurd cc)
+shows_by T p tokens.Semicolon still some e none = (λ z f. absurd cc, some, λ f. absurd cc, λ f. absurd cc, λ o f. absurd cc, none, still, λ f. absurd cc, λ f. absurd cc)
+shows_by T p tokens.DoubleSemicolon still some e none = (λ z f. absurd cc, some, λ f. absurd cc, λ f. absurd cc, λ o f. absurd cc, none, still, λ f. absurd cc, λ f. e)
+shows_by T p tokens.Ampersand still some e none = (λ z f. absurd cc, some, λ f. absurd cc, λ f. absurd cc, λ o f. absurd cc, none, still, λ f. absurd cc, λ f. absurd cc)
+shows_by T p tokens.AndIf still some e none = (λ z f. absurd cc, some, λ f. absurd cc, λ f. absurd cc, λ o f. e, none, still, λ f. absurd cc, λ f. absurd cc)
+shows_by T p tokens.OrIf still some e none = (λ z f. absurd cc, some, λ f. absurd cc, λ f. absurd cc, λ o f. e, none, still, λ f. absurd cc, λ f. absurd cc)
+shows_by T p tokens.Pipe still some e none = (λ z f. absurd cc, some, λ f. absurd cc, λ f. absurd cc, λ o f. absurd cc, none, still, λ f. absurd cc, λ f. absurd cc)
+shows_by T p tokens.OpenParen still some e none = (λ z f. absurd cc, some, λ f. absurd cc, λ f. absurd cc, λ o f. absurd cc, none, still, λ f. absurd cc, λ f. absurd cc)
+shows_by T p tokens.CloseParen still some e none = (λ z f. absurd cc, some, λ f. absurd cc, λ f. absurd cc, λ o f. absurd cc, none, still, λ f. absurd cc, λ f. absurd cc)
+shows_by T p tokens.Operator still some e none = (λ z f. absurd cc, some, λ f. absurd cc, λ f. absurd cc, λ o f. absurd cc, none, still, λ f. absurd cc, λ f. absurd cc)
+shows_by T p tokens.Comment still some e none = (λ z f. absurd cc, some, λ f. absurd cc, λ f. absurd cc, λ o f. absurd cc, none, still, λ f. absurd cc, λ f. absurd cc)
+shows_by T p tokens.Number still some e none = (λ z f. absurd cc, some, λ f. absurd cc, λ f. absurd cc, λ o f. absurd cc, none, still, λ f. absurd cc, λ f. absurd cc)
+shows_by T p (tokens.Reserved r) still some e none = (λ z f. absurd cc, some, λ f. absurd cc, λ f. absurd cc, λ o f. absurd cc, none, still, λ f. e, λ f. absurd cc)
+shows_by T p tokens.Assignment still some e none = (λ z f. e, some, λ f. absurd cc, λ f. absurd cc, λ o f. absurd cc, none, still, λ f. e, λ f. absurd cc)
+shows_by T p tokens.Word still some e none = (λ z f. e, some, λ f. absurd cc, λ f. absurd cc, λ o f. absurd cc, none, still, λ f. e, λ f. absurd cc)
 
 pub blanks_still : (T : List ℕ) (p : ℕ) → past_continuations T (past_blanks T p) ≡ past_blanks T p
 unfolding past_blanks

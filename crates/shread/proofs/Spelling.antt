@@ -1,5 +1,5 @@
 -- The tokens passed where a faultless script is read are those that the shape of its tree spells.
-use Rattle.std.proofs.Common.{◌≡◌, ◌∙◌, refl, sym, ap, subst, ℕ, zero, suc, ◌+◌, ◌-◌, Bool, true, false, not, ◌&&◌, ◌||◌, Ok, Err, List, List as Row, [], ◌∷◌, ◌++◌, drop, take, codes, Option, Some, None, arith}
+use Rattle.std.proofs.Common.{◌≡◌, ◌∙◌, refl, sym, ap, subst, ℕ, zero, suc, ◌+◌, ◌-◌, Bool, true, false, not, ◌&&◌, ◌||◌, Ok, Err, List, List as Row, [], ◌∷◌, ◌++◌, drop, take, codes, Option, Some, None, is_some, arith}
 use Rattle.std.proofs.lemmas.List.{append-nil, append_assoc, drop-drop}
 use Rattle.shread.specs.declared.token.Closing.{Closing}
 use Rattle.shread.specs.declared.token.Closing.TheVariants as closings
@@ -12,20 +12,21 @@ use Rattle.shread.specs.declared.token.Separator.{Separator}
 use Rattle.shread.specs.declared.token.Separator.TheVariants.{Semicolon, Ampersand}
 use Rattle.shtree.specs.declared.tree.AndOrOperator.{AndOrOperator}
 use Rattle.shtree.specs.declared.tree.Span.{Span}
-use Rattle.shtree.specs.Tree.{APipelinePart, AnAndOrPart, ABranch, pipeline_parts_of, and_or_parts_of, branches_of, AnEntry, AnItem, AWord, Entries, entry, remark, item, entries_of, items_of}
-use Rattle.shtree.specs.Shape.{text_at, shape_of, shape_of_entry, shape_of_and_or, shape_of_and_or_parts, shape_of_pipeline, shape_of_bang, shape_of_pipes, shape_of_command, shape_of_form, shape_of_branch, shape_of_branches, shape_of_else, shape_of_for_words, shape_of_items, shape_of_item, shape_of_word}
-use Rattle.shtree.specs.Spelling.{Tokens, and_or_text, spell_background, spell_bang, spell_word, spell_item, spell_items, spelling, spell_entry, spell_and_or, spell_and_or_parts, spell_pipeline, spell_pipes, spell_command, spell_form, spell_branch, spell_branches, spell_else, spell_loop, spell_for_words}
+use Rattle.shtree.specs.Tree.{APipelinePart, AnAndOrPart, ABranch, pipeline_parts_of, and_or_parts_of, branches_of, AnEntry, AnItem, AWord, Entries, entry, remark, item, entries_of, items_of, ACommand, compound, ACompound, word, argument, ACaseItem, cases_of, PatternsOf, no_pattern, more_patterns, patterns_of}
+use Rattle.shtree.specs.Shape.{text_at, shape_of, shape_of_entry, shape_of_and_or, shape_of_and_or_parts, shape_of_pipeline, shape_of_bang, shape_of_pipes, shape_of_command, shape_of_form, shape_of_branch, shape_of_branches, shape_of_else, shape_of_for_words, shape_of_items, shape_of_item, shape_of_word, shape_of_patterns, shape_of_cases, shape_of_case, Shape}
+use Rattle.shtree.specs.Spelling.{Tokens, and_or_text, spell_background, spell_bang, spell_word, spell_item, spell_items, spelling, spell_entry, spell_and_or, spell_and_or_parts, spell_pipeline, spell_pipes, spell_command, spell_form, spell_branch, spell_branches, spell_else, spell_loop, spell_for_words, spell_patterns, spell_first_pattern, spell_cases, spell_case}
 use Rattle.shread.specs.Comments.{span}
 use Rattle.shread.specs.Sights.{Given, given, State, standing, Sight, Move}
 use Rattle.shread.specs.Form.{Spelled, Read, Step, again, done, step_if, Form, give, see, move, push, stop, both, Told, by, tell, token, many, Just, just, Halts, halted, Then, and_then, or_stops, OneToken, whole, broken_off, Turns, last, rests, more, halts, raw, may}
 use Rattle.shread.specs.Words.{Inner, a_word}
-use Rattle.shread.specs.Commands.{pick, next_token, is_newline, is_semicolon, a_semicolon, is_pipe, is_bang, begins_simple, begins_pipeline, opener_of, compound_by, and_or_operator_of, Items, so_many, behind_item, as_item, breaks, an_item, item_by, item_turn, a_simple, unexpected, comment_by, a_comment, a_newline, with_comment, JoinSo, join_turn, a_join, a_command, a_bang, Piped, piped, one_command, pipe_turn, a_pipeline, Joined, joined_so, one_pipeline, joined_by, join_pipeline, an_and_or, separator_of, told_separator, separator_by, a_separator, is_background, an_entry}
+use Rattle.shread.specs.Commands.{pick, next_token, is_newline, is_semicolon, a_semicolon, is_pipe, is_bang, begins_simple, begins_pipeline, opener_of, compound_by, and_or_operator_of, Items, so_many, behind_item, as_item, breaks, an_item, item_by, item_turn, a_simple, unexpected, comment_by, a_comment, a_newline, with_comment, JoinSo, join_turn, a_join, a_command, a_bang, Piped, piped, one_command, pipe_turn, a_pipeline, Joined, joined_so, one_pipeline, joined_by, join_pipeline, an_and_or, separator_of, told_separator, separator_by, a_separator, is_background, an_entry, a_worded, is_word, is_paren, is_double_semicolon}
 use Rattle.shread.specs.Lists.{ListSo, list_so, none_listed, is_blank_next, one_entry, entry_turn, remark_by, a_remark, on_line, list_turn, a_list}
-use Rattle.shread.specs.Compounds.{Branched, branched, is_closing, opener_text, closing_text, passed, closing, a_group, a_branch, elif_turn, an_else, an_if, a_loop, a_for_name, a_linebreak, a_sequential_sep, Headed, for_words, a_for_head, behind_remarks, a_for, a_form, a_compound}
+use Rattle.shread.specs.Compounds.{Branched, branched, is_closing, opener_text, closing_text, passed, closing, a_group, a_branch, elif_turn, an_else, an_if, a_loop, a_for_name, a_linebreak, a_sequential_sep, Headed, for_words, a_for_head, behind_remarks, a_for, a_form, a_compound, a_function, under_name, a_case_word, begins_pattern, Patterned, a_pattern, one_pattern, pattern_turn, a_pattern_list, an_open_bracket, a_body, a_double_semicolon, an_item_end, CasesSo, cases_so, one_case, case_turn, a_case_head, a_case}
 use Rattle.shread.specs.Levels.{most_open, level}
 use Rattle.shread.specs.Tokens.{is_end}
 use Rattle.shread.specs.Lines.{a_line, end_of_line}
 use Rattle.shread.specs.Scripts.{AScript, SoFar, Lines, line_ended, last_line, faulty, Passes, nothing_yet}
+use Rattle.shtree.specs.Nodes.{word_span}
 
 -- ---- rows that grow at their end
 
@@ -57,6 +58,19 @@ module _ (B : List ℕ) where
 
   entries_last : (es : Row AnEntry) (e : AnEntry) → spelling (shape_of B (entries_of (es ++ e ∷ []))) ≡ spelling (shape_of B (entries_of es)) ++ spell_entry (shape_of_entry B e)
   entries_last es e = entries_joined es (e ∷ []) ∙ ap (λ z. spelling (shape_of B (entries_of es)) ++ z) (append-nil _)
+
+  patterns_last : (ws : Row AWord) (w : AWord) → spell_patterns (shape_of_patterns B (patterns_of (ws ++ w ∷ []))) ≡ spell_patterns (shape_of_patterns B (patterns_of ws)) ++ (codes "|" ∷ spell_word (shape_of_word B w))
+  patterns_last [] w = ap (λ z. codes "|" ∷ z) (append-nil _)
+  patterns_last (v ∷ ws) w = between (codes "|" ∷ spell_word (shape_of_word B v)) _ (spell_patterns (shape_of_patterns B (patterns_of ws))) (codes "|" ∷ spell_word (shape_of_word B w)) (patterns_last ws w)
+
+  -- no `|` stands before the first pattern
+  first_spelled : (x : Shape PatternsOf) (k : Tokens) → spell_patterns x ≡ codes "|" ∷ k → spell_first_pattern x ≡ k
+  first_spelled no_pattern k e = absurd cc
+  first_spelled (more_patterns w ws) k e = ap (drop 1) e
+
+  cases_last : (cs : Row ACaseItem) (c : ACaseItem) → spell_cases (shape_of_cases B (cases_of (cs ++ c ∷ []))) ≡ spell_cases (shape_of_cases B (cases_of cs)) ++ spell_case (shape_of_case B c)
+  cases_last [] c = append-nil _
+  cases_last (d ∷ cs) c = between (spell_case (shape_of_case B d)) _ (spell_cases (shape_of_cases B (cases_of cs))) (spell_case (shape_of_case B c)) (cases_last cs c)
 
   -- a comment is no token
   remarks_spelled : (cs : Row Span) (es : Entries) → spelling (shape_of B (behind_remarks cs es)) ≡ spelling (shape_of B es)
@@ -232,6 +246,15 @@ module _ (g : Given) where
   unfolding a_join
   silent_join broken s = pass_on (silent_next Command s) (λ n t. pass_on (silent_many join_turn silent_join_turn _ t) (λ j u. pass_give refl))
 
+  silent_bracket : (n : Next) (s : State) → Passing (an_open_bracket n) Silent s
+  unfolding an_open_bracket
+  silent_bracket n s = pass_pick (is_paren n.token) (pass_on pass_move (λ u v. silent_next Command v)) (pass_give refl)
+
+  silent_double_semicolon : (s : State) → Passing a_double_semicolon Silent s
+  unfolding a_double_semicolon
+  silent_double_semicolon s =
+      pass_on pass_move (λ u v. pass_on pass_move (λ w x. pass_on pass_see (λ p t. pass_on (silent_next Command t) (λ n z. pass_on (silent_linebreak [] n z) (λ l y. pass_give refl)))))
+
   pass_unexpected : {X : Type 0} {P : X → Row Spelled → Type 0} (inner : Inner) (n : Next) (s : State) → Passing (unexpected inner n) P s
   pass_unexpected inner n s = pass_then any (λ w t k so. pass_stop)
 
@@ -252,8 +275,13 @@ module _ (B : List ℕ) (g : Given) (stands : g.text ≡ drop g.offset B) where
   abbrev Spells : {X : Type 0} → (X → Tokens) → X → Tokens → Type 0
   Spells of x k = k ≡ of x
 
+  -- a compound command that spells these tokens
+  abbrev IsCompound : ACommand × Next → Tokens → Type 0
+  IsCompound c k = (body : ACompound) × (c.0 ≡ compound body) × (k ≡ spell_command (shape_of_command B c.0))
+
   pub record Fine (inner : Inner) : Type 0 where
-    pub compound : (o : Opener) (s : State) → Passing g (inner.compound o) (Spells (λ c. spell_command (shape_of_command B c.0))) s
+    pub compound : (o : Opener) (s : State) → Passing g (inner.compound o) IsCompound s
+    pub function : (name : Span) (s : State) → Passing g (inner.function name) (λ c k. text_at B name ∷ k ≡ spell_command (shape_of_command B c.0)) s
 
   module _ (inner : Inner) (fine : Fine inner) where
     -- ---- simple commands
@@ -280,19 +308,32 @@ module _ (B : List ℕ) (g : Given) (stands : g.text ≡ drop g.offset B) where
     unfolding item_turn
     pass_item_turn i s = pass_item_by i (behind_item i.next.token) s
 
-    pass_simple : (n : Next) (s : State) → Passing g (a_simple inner n) (Spells (λ c. spell_command (shape_of_command B c.0))) s
+    pass_simple : (i : Items) (s : State) → Passing g (a_simple inner i) (λ c k. spelled_items i ++ k ≡ spell_command (shape_of_command B c.0)) s
     unfolding a_simple
-    pass_simple n s = pass_last g (pass_many g spelled_items (item_turn inner) pass_item_turn (so_many [] n) s) (λ i k so. sym so)
+    pass_simple i s = pass_last g (pass_many g spelled_items (item_turn inner) pass_item_turn i s) (λ is k so. sym so)
 
     -- ---- pipelines
 
+    pass_compound_by : (n : Next) (o : Option Opener) (s : State) → Passing g (compound_by inner n o) IsCompound s
+    pass_compound_by n (Some o) s = fine.compound o s
+    pass_compound_by n None s = pass_unexpected g inner n s
+
+    -- a word is one token
+    word_is : (w : AWord) → spell_word (shape_of_word B w) ≡ text_at B (word_span w) ∷ []
+    word_is (word s ss) = refl
+
+    pass_worded : (s : State) → Passing g (a_worded inner) (Spells (λ c. spell_command (shape_of_command B c.0))) s
+    unfolding a_worded
+    pass_worded s =
+        pass_on g (pass_see g) (λ good t. pass_then g (pass_word inner t) (λ w u k so. pass_on g (silent_next g Suffix u) (λ n v.
+        pass_pick g (is_paren n.token) (pass_pick g good (pass_so g (fine.function (word_span w) v) (λ c l is. ap (λ z. z ++ l) (so ∙ word_is w) ∙ is)) (pass_stop g))
+        (pass_pushed g (λ x. pass_so g (pass_simple (so_many (item false (argument w) ∷ []) n) x) (λ c l is. ap (λ z. z ++ l) (so ∙ sym (append-nil _)) ∙ is))))))
+
     pass_command : (n : Next) (s : State) → Passing g (a_command inner n) (Spells (λ c. spell_command (shape_of_command B c.0))) s
     unfolding a_command
-    pass_command n s = pass_pick g (begins_simple n.token) (pass_simple n s) (by_opener (opener_of n.token))
-      where
-        by_opener : (o : Option Opener) → Passing g (compound_by inner n o) (Spells (λ c. spell_command (shape_of_command B c.0))) s
-        by_opener (Some o) = fine.compound o s
-        by_opener None = pass_unexpected g inner n s
+    pass_command n s =
+        pass_pick g (is_word n.token) (pass_worded s)
+        (pass_pick g (begins_simple n.token) (pass_simple (so_many [] n) s) (pass_so g (pass_compound_by n (opener_of n.token) s) (λ c k so. so.2)))
 
     pass_bang : (n : Next) (s : State) → Passing g (a_bang n) (Spells (λ x. spell_bang (shape_of_bang x.0))) s
     unfolding a_bang
@@ -345,9 +386,9 @@ module _ (B : List ℕ) (g : Given) (stands : g.text ≡ drop g.offset B) where
 
     -- ---- entries
 
-    told_is : (T : List ℕ) (p q : ℕ) (c : Separator) → tell (told_separator c) T p q ≡ spell_background (is_background (Some c))
-    told_is T p q Semicolon = refl
-    told_is T p q Ampersand = refl
+    told_is : (T : List ℕ) (p q : ℕ) (c : Separator) (end : ℕ) → tell (told_separator c) T p q ≡ spell_background (is_background (Some (c, end)))
+    told_is T p q Semicolon end = refl
+    told_is T p q Ampersand end = refl
 
     pass_separator : (n : Next) (s : State) → Passing g (a_separator n) (Spells (λ x. spell_background (is_background x.0))) s
     unfolding a_separator
@@ -355,7 +396,7 @@ module _ (B : List ℕ) (g : Given) (stands : g.text ≡ drop g.offset B) where
       where
         by_separator : (c : Option Separator) → Passing g (separator_by n c) (Spells (λ x. spell_background (is_background x.0))) s
         by_separator (Some c) =
-            pass_then g (pass_token g {P = λ x k. k ≡ spell_background (is_background (Some c))} (λ x t. told_is g.text s.at t.at c))
+            pass_then g (pass_token g {P = λ x k. k ≡ spell_background (is_background (Some (c, x.1.«end»)))} (λ x t. told_is g.text s.at t.at c _))
             (λ x t k so. pass_on g (silent_next g Command t) (λ m u. pass_give g (append-nil k ∙ so)))
         by_separator None = pass_give g refl
 
@@ -376,7 +417,7 @@ module _ (B : List ℕ) (g : Given) (stands : g.text ≡ drop g.offset B) where
     unfolding one_entry
     pass_one_entry l s =
         pass_then g (pass_entry _ l.next s) (λ e t k so. pass_pushed g (λ u. pass_give g
-        (step_grows l _ e.parted _ (entries_last B l.list.entries e.entry ∙ ap (λ z. spelled_list l ++ z) (sym so ∙ sym (append-nil k))))))
+        (step_grows l _ (is_some e.parted) _ (entries_last B l.list.entries e.entry ∙ ap (λ z. spelled_list l ++ z) (sym so ∙ sym (append-nil k))))))
 
     pass_entry_turn : (l : ListSo) (s : State) → Passing g (entry_turn inner l) (Grows g spelled_list l) s
     unfolding entry_turn
@@ -503,6 +544,82 @@ module _ (B : List ℕ) (g : Given) (stands : g.text ≡ drop g.offset B) where
         rw (one, two, three, four, remarks_spelled B h.comments b.what)
         (ap (λ z. codes "for" ∷ z) (sym (append_assoc (name ++ words) body (codes "done" ∷ []) ∙ append_assoc name words (body ++ (codes "done" ∷ [])))))))))
 
+    pass_case_word : (n : Next) (s : State) → Passing g (a_case_word inner n) (Spells (λ x. spell_word (shape_of_word B x.0))) s
+    unfolding a_case_word
+    pass_case_word n s =
+        pass_pick g (begins_simple n.token) (pass_then g (pass_word inner s) (λ w v k so. pass_on g (silent_next g Command v) (λ m z. pass_give g (append-nil k ∙ so)))) (pass_unexpected g inner n s)
+
+    -- with a `|` before the first
+    abbrev spelled_row : Row AWord → Tokens
+    spelled_row ws = spell_patterns (shape_of_patterns B (patterns_of ws))
+
+    abbrev spelled_patterns : Patterned → Tokens
+    spelled_patterns p = spelled_row p.patterns
+
+    pass_pattern : (ws : Row AWord) (s : State) → Passing g (a_pattern inner ws) (λ p k. spelled_patterns p ≡ spelled_row ws ++ (codes "|" ∷ k)) s
+    unfolding a_pattern
+    pass_pattern ws s =
+        pass_then g (pass_word inner s) (λ w t k so. pass_pushed g (λ u. pass_on g (silent_next g Suffix u) (λ n v. pass_give g
+        (patterns_last B ws w ∙ ap (λ z. spelled_row ws ++ (codes "|" ∷ z)) (sym so ∙ sym (append-nil k))))))
+
+    pass_one_pattern : (p : Patterned) (s : State) → Passing g (one_pattern inner p.patterns) (Grows g spelled_patterns p) s
+    unfolding one_pattern
+    pass_one_pattern p s =
+        pass_then g (pass_text g) (λ x t k is. pass_on g (silent_next g Suffix t) (λ n u.
+        pass_pick g (begins_simple n.token) (pass_last g (pass_pattern p.patterns u) (λ q l so. rw is so)) (pass_unexpected g inner n u)))
+
+    pass_pattern_turn : (p : Patterned) (s : State) → Passing g (pattern_turn inner p) (Grows g spelled_patterns p) s
+    unfolding pattern_turn
+    pass_pattern_turn p s = pass_pick g (is_pipe p.next.token) (pass_one_pattern p s) (pass_give g (grows_none g spelled_patterns p))
+
+    pass_patterns : (n : Next) (s : State) → Passing g (a_pattern_list inner n) (Spells (λ p. spell_first_pattern (shape_of_patterns B (patterns_of p.patterns)))) s
+    unfolding a_pattern_list
+    pass_patterns n s =
+        pass_pick g (begins_pattern n.token)
+        (pass_then g (pass_pattern [] s) (λ p t k one. pass_so g (pass_many g spelled_patterns (pattern_turn inner) pass_pattern_turn p t) (λ q l two. sym (first_spelled B _ (k ++ l) (two ∙ ap (λ z. z ++ l) one)))))
+        (pass_unexpected g inner n s)
+
+    pass_body : (n : Next) (s : State) → Passing g (a_body inner n) (Spells spelled_list) s
+    unfolding a_body
+    pass_body n s = pass_so g (pass_many g spelled_list (list_turn inner) pass_list_turn (list_so (none_listed false) n) s) (λ l k so. sym so)
+
+    silent_item_end : (there : ℕ) (n : Next) (s : State) → Passing g (an_item_end inner there n) (Silent g) s
+    unfolding an_item_end
+    silent_item_end there n s =
+        pass_pick g (is_double_semicolon n.token) (silent_double_semicolon g s) (pass_pick g (is_closing closings.Esac n.token) (pass_give g refl) (pass_unexpected g inner n s))
+
+    abbrev spelled_cases : CasesSo → Tokens
+    spelled_cases c = spell_cases (shape_of_cases B (cases_of c.items))
+
+    pass_one_case : (c : CasesSo) (s : State) → Passing g (one_case inner c) (Grows g spelled_cases c) s
+    unfolding one_case
+    pass_one_case c s =
+        pass_on g (pass_see g) (λ p t. pass_on g (silent_bracket g c.next t) (λ n u. pass_then g (pass_patterns n u) (λ ps v k1 one.
+        pass_then g (pass_closing closings.Paren ps.next v) (λ k w k2 two. pass_then g (pass_body k.1 w) (λ b x k3 three.
+        pass_on g (silent_item_end _ b.next x) (λ e y. pass_pushed g (λ z. pass_give g
+        (cases_last B c.items _ ∙ ap (λ q. spelled_cases c ++ q)
+        (rw (one, two, three) (ap (λ q. spell_first_pattern (shape_of_patterns B (patterns_of ps.patterns)) ++ (codes ")" ∷ q)) (sym (append-nil _))))))))))))
+
+    pass_case_turn : (c : CasesSo) (s : State) → Passing g (case_turn inner c) (Grows g spelled_cases c) s
+    unfolding case_turn
+    pass_case_turn c s = pass_pick g (is_closing closings.Esac c.next.token) (pass_give g (grows_none g spelled_cases c)) (pass_one_case c s)
+
+    pass_case_head : (n : Next) (s : State) → Passing g (a_case_head inner n) (Spells (λ h. spell_word (shape_of_word B h.0) ++ (codes "in" ∷ []))) s
+    unfolding a_case_head
+    pass_case_head n s =
+        pass_then g (pass_case_word n s) (λ w t k1 one. pass_on g (silent_linebreak g [] w.1 t) (λ l u. pass_then g (pass_closing closings.In l.next u) (λ i v k2 two.
+        pass_on g (silent_linebreak g l.join.comments i.1 v) (λ h x. pass_give g (rw (one, append-nil k2, two) refl)))))
+
+    pass_case : (n : Next) (s : State) → Passing g (a_case inner n) (λ f k. codes "case" ∷ k ≡ spell_form (shape_of_form B f.what)) s
+    unfolding a_case
+    pass_case n s =
+        pass_then g (pass_case_head n s) (λ h t k1 one.
+        pass_then g (pass_many g spelled_cases (case_turn inner) pass_case_turn (cases_so [] h.1 h.2) t) (λ c u k2 two.
+        pass_last g (pass_closing closings.Esac c.next u) (λ e k3 three.
+        let word = spell_word (shape_of_word B h.0) in
+        rw (one, ← two, three)
+        (ap (λ z. codes "case" ∷ z) (append_assoc word (codes "in" ∷ []) (spelled_cases c ++ (codes "esac" ∷ [])) ∙ sym (append_assoc word (codes "in" ∷ spelled_cases c) (codes "esac" ∷ [])))))))
+
     pass_form : (o : Opener) (n : Next) (s : State) → Passing g (a_form inner o n) (λ f k. opener_text o ∷ k ≡ spell_form (shape_of_form B f.what)) s
     pass_form openers.Brace n s = pass_last g (pass_group closings.Brace n s) (λ l k so. rw so refl)
     pass_form openers.Paren n s = pass_last g (pass_group closings.Paren n s) (λ l k so. rw so refl)
@@ -510,11 +627,24 @@ module _ (B : List ℕ) (g : Given) (stands : g.text ≡ drop g.offset B) where
     pass_form openers.While n s = pass_last g (pass_loop n s) (λ l k so. rw so refl)
     pass_form openers.Until n s = pass_last g (pass_loop n s) (λ l k so. rw so refl)
     pass_form openers.For n s = pass_for n s
+    pass_form openers.Case n s = pass_case n s
 
-    pass_compound : (o : Opener) (s : State) → Passing g (a_compound inner o) (Spells (λ c. spell_command (shape_of_command B c.0))) s
+    pass_compound : (o : Opener) (s : State) → Passing g (a_compound inner o) IsCompound s
     unfolding a_compound
     pass_compound o s =
-        pass_then g (pass_passed (opener_text o) _ _ s) (λ x t k is. pass_then g (pass_form o x.1 t) (λ f u m so. pass_pushed g (λ v. pass_give g (rw (is, append-nil m) (so ∙ sym (append-nil _))))))
+        pass_then g (pass_passed (opener_text o) _ _ s) (λ x t k is. pass_then g (pass_form o x.1 t) (λ f u m so. pass_pushed g (λ v. pass_give g (_, refl, rw (is, append-nil m) (so ∙ sym (append-nil _))))))
+
+    -- ---- functions
+
+    under_spelled : (name : Span) (cs : Row Span) (c : ACommand) (body : ACompound) → c ≡ compound body
+        → text_at B name ∷ codes "(" ∷ codes ")" ∷ spell_command (shape_of_command B c) ≡ spell_command (shape_of_command B (under_name name cs c))
+    under_spelled name cs c body is = rw is refl
+
+    pass_function : (name : Span) (s : State) → Passing g (a_function inner name) (λ c k. text_at B name ∷ k ≡ spell_command (shape_of_command B c.0)) s
+    unfolding a_function
+    pass_function name s =
+        pass_then g (pass_passed (opener_text openers.Paren) true _ s) (λ o t k1 one. pass_then g (pass_closing closings.Paren o.1 t) (λ c u k2 two. pass_on g (silent_linebreak g [] c.1 u) (λ l v.
+        pass_last g (pass_compound_by l.next (opener_of l.next.token) v) (λ b k3 three. rw (one, two, three.2) (under_spelled name l.join.comments b.0 three.0 three.1)))))
 
     -- ---- lines
 
@@ -530,8 +660,12 @@ module _ (B : List ℕ) (g : Given) (stands : g.text ≡ drop g.offset B) where
 
   pass_level : (room : ℕ) → Fine (level room)
   unfolding level
-  pass_level zero = record { compound = λ o s. pass_on g (pass_see g) (λ p t. pass_stop g) }
-  pass_level (suc room) = record { compound = λ o s. pass_compound (level room) (pass_level room) o s }
+  pass_level zero = record { compound = λ o s. pass_on g (pass_see g) (λ p t. pass_stop g); function = λ name s. pass_stop g }
+  pass_level (suc room) =
+      record {
+        compound = λ o s. pass_compound (level room) (pass_level room) o s;
+        function = λ name s. pass_function (level room) (pass_level room) name s;
+      }
 
 -- ---- a script
 

@@ -1,6 +1,6 @@
 -- No node of what was read names an offset behind the place where the reading stands then.
-use Rattle.std.proofs.Common.{◌≡◌, refl, sym, subst, ℕ, zero, suc, ◌+◌, ◌≤◌, Bool, true, false, cond, Ok, Err, List, List as Row, [], ◌∷◌, ◌++◌, Option, Some, None, arith, ⊎_elim}
-use Rattle.std.specs.Prelude.{All, MatchOption}
+use Rattle.std.proofs.Common.{◌≡◌, refl, sym, subst, ℕ, zero, suc, ◌+◌, ◌≤◌, Bool, true, false, cond, Ok, Err, List, List as Row, [], ◌∷◌, ◌++◌, Option, Some, None, is_some, arith, ⊎_elim}
+use Rattle.std.specs.Prelude.{All, MatchOption, unwrap_or}
 use Rattle.std.proofs.lemmas.Bool.{cases_lt, cond_both}
 use Rattle.std.proofs.lemmas.List.Elements.{All-head, All-nil, All-push, All-tail}
 use Rattle.shread.specs.declared.mode.Mode.{Mode}
@@ -13,20 +13,21 @@ use Rattle.shread.specs.declared.token.Opener.{Opener}
 use Rattle.shread.specs.declared.token.Opener.TheVariants as openers
 use Rattle.shread.specs.declared.token.Position.{Position}
 use Rattle.shread.specs.declared.token.Position.TheVariants.{Command, Prefix, Suffix}
+use Rattle.shread.specs.declared.token.Separator.{Separator}
 use Rattle.shtree.specs.declared.tree.AndOrOperator.{AndOrOperator}
 use Rattle.shtree.specs.declared.tree.Span.{Span}
-use Rattle.shtree.specs.Nodes.{AreWithin, IsSpanWithin, and_or_nodes, branch_nodes, branches_nodes, else_nodes, entries_nodes, entry_nodes, for_words_nodes, form_nodes, word_nodes}
-use Rattle.shtree.specs.Tree.{ACommand, AForm, ASubst, AWord, AnEntry, Entries, branches_of, entries_of, entry, item, remark}
-use Rattle.shtree.proofs.Reach.{Nodes, CommentFits, SubstFits, WordFits, ItemFits, CommandFits, PipelineFits, PipeFits, PartFits, EntryFits, BranchFits, both as fits_both, fits_substs, fits_items, fits_word, fits_entries, fits_branches, fits_assign, fits_argument, fits_simple, fits_compound, fits_pipeline, fits_and_or, fits_command, fits_remark, span_fits_more, within_append}
+use Rattle.shtree.specs.Nodes.{AreWithin, IsSpanWithin, and_or_nodes, branch_nodes, branches_nodes, else_nodes, entries_nodes, entry_nodes, for_words_nodes, form_nodes, word_nodes, word_span}
+use Rattle.shtree.specs.Tree.{ACommand, AForm, ASubst, AWord, AnEntry, Entries, branches_of, entries_of, entry, item, remark, simple, compound, function, word}
+use Rattle.shtree.proofs.Reach.{Nodes, CommentFits, SubstFits, WordFits, ItemFits, CommandFits, PipelineFits, PipeFits, PartFits, EntryFits, BranchFits, both as fits_both, fits_substs, fits_items, fits_word, fits_entries, fits_branches, fits_assign, fits_argument, fits_simple, fits_compound, fits_pipeline, fits_and_or, fits_command, fits_remark, span_fits_more, within_append, fits_function, CaseFits, fits_case, fits_case_in, fits_end}
 use Rattle.shread.specs.Standing.{raw_stands, raw_in, next_newline, before_blanks}
 use Rattle.shread.specs.Comments.{span, comment_at, past_comment}
 use Rattle.shread.specs.Classes.{is_blank}
-use Rattle.shread.specs.Sights.{Given, given, State, standing}
-use Rattle.shread.specs.Form.{Spelled, Told, Read, Form, give, push, both, many, token, does, Step, again, done, step_if, pushed}
+use Rattle.shread.specs.Sights.{here, Given, given, State, standing}
+use Rattle.shread.specs.Form.{Spelled, Told, Read, Form, give, see, push, both, many, token, does, Step, again, done, step_if, pushed}
 use Rattle.shread.specs.Words.{Inner, Held, having, opened, piece_row, a_piece, contents, a_word}
-use Rattle.shread.specs.Commands.{pick, is_pipe, is_bang, begins_simple, begins_pipeline, opener_of, compound_by, and_or_operator_of, breaks, Items, so_many, behind_item, as_item, an_item, item_by, item_turn, a_simple, a_bang, a_comment, comment_by, unexpected, with_comment, JoinSo, join_turn, a_join, a_command, Piped, piped, one_command, pipe_turn, a_pipeline, Joined, joined_so, one_pipeline, joined_by, join_pipeline, an_and_or, is_background, an_entry}
-use Rattle.shread.specs.Lists.{ListSo, list_so, none_listed, is_blank_next, one_entry, entry_turn, remark_by, a_remark, on_line, list_turn, a_list}
-use Rattle.shread.specs.Compounds.{Branched, branched, Closed, is_closing, is_open_paren, is_close_paren, passed, closing, a_branch, elif_turn, an_else, an_if, a_loop, a_group, a_for_name, a_linebreak, a_sequential_sep, Headed, for_words, a_for_head, behind_remarks, a_for, a_form, held_apart, a_compound}
+use Rattle.shread.specs.Commands.{pick, is_pipe, is_bang, begins_simple, begins_pipeline, opener_of, compound_by, and_or_operator_of, breaks, Items, so_many, behind_item, as_item, an_item, item_by, item_turn, a_simple, a_bang, a_comment, comment_by, unexpected, with_comment, JoinSo, join_turn, a_join, a_command, Piped, piped, one_command, pipe_turn, a_pipeline, Joined, joined_so, one_pipeline, joined_by, join_pipeline, an_and_or, is_background, an_entry, a_worded, is_word, is_paren, separator_of, separator_by, a_separator, past_separator, is_double_semicolon}
+use Rattle.shread.specs.Lists.{ListSo, list_so, none_listed, is_blank_next, one_entry, entry_turn, remark_by, a_remark, on_line, list_turn, a_list, Listed}
+use Rattle.shread.specs.Compounds.{Branched, branched, Closed, is_closing, is_open_paren, is_close_paren, passed, closing, a_branch, elif_turn, an_else, an_if, a_loop, a_group, a_for_name, a_linebreak, a_sequential_sep, Headed, for_words, a_for_head, behind_remarks, a_for, a_form, held_apart, a_compound, a_function, under_name, a_case_word, begins_pattern, Patterned, a_pattern, one_pattern, pattern_turn, a_pattern_list, a_body, body_end, ItemEnd, a_double_semicolon, an_item_end, CasesSo, cases_so, one_case, case_turn, a_case_head, a_case}
 use Rattle.shread.specs.Levels.{most_open, level}
 use Rattle.shread.specs.Lines.{a_line, ALine, IsLine, line_read, line_stops, kind_of}
 use Rattle.shread.specs.Scripts.{SoFar, the_line, with_line}
@@ -129,6 +130,7 @@ module _ (keep : Bool) (g : Given) (limit : ℕ) where
   pub record Fine (inner : Inner) : Type 0 where
     pub construct : (mode : Mode) (b : ℕ) (ss : Row ASubst) (s : State) → All (SubstFits limit) ss → R (inner.construct mode b ss) (All (SubstFits limit)) s
     pub compound : (o : Opener) (s : State) → R (inner.compound o) (λ c. CommandFits limit c.0) s
+    pub function : (name : Span) (s : State) → IsSpanWithin limit name → R (inner.function name) (λ c. CommandFits limit c.0) s
 
   module _ (inner : Inner) (fine : Fine inner) where
     opened_fits : (mode : Mode) (b : ℕ) (h : Held) (s : State) → SubstsFit h → R (opened inner mode b h) (Stepped SubstsFit) s
@@ -185,9 +187,9 @@ module _ (keep : Bool) (g : Given) (limit : ℕ) where
     unfolding item_turn
     item_turn_fits i s so = item_fits_by i (behind_item i.next.token) s so
 
-    simple_fits : (n : Next) (s : State) → R (a_simple inner n) (λ c. CommandFits limit c.0) s
+    simple_fits : (i : Items) (s : State) → ItemsFit i → R (a_simple inner i) (λ c. CommandFits limit c.0) s
     unfolding a_simple
-    simple_fits n s = first (repeats ItemsFit (item_turn inner) item_turn_fits (so_many [] n) s (All-nil (ItemFits limit))) (λ i t all. gives (fits_simple limit i.items all))
+    simple_fits i s so = first (repeats ItemsFit (item_turn inner) item_turn_fits i s so) (λ is t all. gives (fits_simple limit is.items all))
 
     abbrev OwnComment : Option Span × Next → Type 0
     OwnComment x = MatchOption x.0 (Unit {0}) (CommentFits limit)
@@ -224,9 +226,21 @@ module _ (keep : Bool) (g : Given) (limit : ℕ) where
     compound_fits_by n (Some o) s = fine.compound o s
     compound_fits_by n None s = stopped n
 
+    place_fits : (w : AWord) → WordFits limit w → IsSpanWithin limit (word_span w)
+    place_fits (word s ss) so = so.0
+
+    worded_fits : (s : State) → R (a_worded inner) (λ c. CommandFits limit c.0) s
+    unfolding a_worded
+    worded_fits s =
+        after (λ good t. first (word_fits t) (λ w u one. after (λ n v.
+        picks (is_paren n.token) (picks good (fine.function (word_span w) v (place_fits w one)) (record { told = tt }))
+        (first (pushes (ItemFits limit) (All-nil (ItemFits limit)) (fits_argument limit false w one)) (λ is x all. simple_fits (so_many is n) x all)))))
+
     command_fits : (n : Next) (s : State) → R (a_command inner n) (λ c. CommandFits limit c.0) s
     unfolding a_command
-    command_fits n s = picks (begins_simple n.token) (simple_fits n s) (compound_fits_by n (opener_of n.token) s)
+    command_fits n s =
+        picks (is_word n.token) (worded_fits s)
+        (picks (begins_simple n.token) (simple_fits (so_many [] n) s (All-nil (ItemFits limit))) (compound_fits_by n (opener_of n.token) s))
 
     abbrev PipesFit : Piped → Type 0
     PipesFit p = All (PipeFits limit) p.parts
@@ -270,25 +284,38 @@ module _ (keep : Bool) (g : Given) (limit : ℕ) where
     and_or_fits n s =
         first (pipeline_fits n s) (λ p t one. first (repeats PartsFit (join_pipeline inner) join_pipeline_fits (joined_so [] p.1) t (All-nil (PartFits limit))) (λ a u all. gives (fits_and_or limit p.0 a.parts one all)))
 
-    entry_fits : (blank : Bool) (n : Next) (s : State) → R (an_entry inner blank n) (λ e. EntryFits limit e.entry) s
+    -- the offset behind a separator
+    abbrev PartedFits : Option ℕ → Type 0
+    PartedFits parted = MatchOption parted (Unit {0}) (λ p. p ≤ limit)
+
+    separator_fits_by : (n : Next) (c : Option Separator) (s : State) → R (separator_by n c) (λ x. PartedFits (past_separator x.0)) s
+    separator_fits_by n (Some c) s = first (tokens {P = λ u. Unit {0}} (record { told = λ b. tt })) (λ x t so. after (λ m u. gives so.1.1))
+    separator_fits_by n None s = gives tt
+
+    separator_fits : (n : Next) (s : State) → R (a_separator n) (λ x. PartedFits (past_separator x.0)) s
+    unfolding a_separator
+    separator_fits n s = separator_fits_by n (separator_of n.token) s
+
+    entry_fits : (blank : Bool) (n : Next) (s : State) → R (an_entry inner blank n) (λ e. EntryFits limit e.entry × PartedFits e.parted) s
     unfolding an_entry
-    entry_fits blank n s = first (and_or_fits n s) (λ a t one. after (λ z u. first (comment_fits z.1 u) (λ c v two. gives (fits_command limit a.0 (is_background z.0) blank c.0 one two))))
+    entry_fits blank n s =
+        first (and_or_fits n s) (λ a t one. first (separator_fits a.1 t) (λ z u part. first (comment_fits z.1 u) (λ c v two. gives (fits_command limit a.0 (is_background z.0) blank c.0 one two, part))))
 
     -- ---- lists
 
     abbrev ListFits : ListSo → Type 0
-    ListFits l = All (EntryFits limit) l.list.entries
+    ListFits l = All (EntryFits limit) l.list.entries × PartedFits l.list.parted
 
     one_entry_fits : (l : ListSo) (s : State) → ListFits l → R (one_entry inner l) (Stepped ListFits) s
     unfolding one_entry
-    one_entry_fits l s so = first (entry_fits _ l.next s) (λ e t one. first (pushes (EntryFits limit) so one) (λ es u all. gives (stepped ListFits e.parted _ all)))
+    one_entry_fits l s so = first (entry_fits _ l.next s) (λ e t one. first (pushes (EntryFits limit) so.0 one.0) (λ es u all. gives (stepped ListFits (is_some e.parted) _ (all, one.1))))
 
     entry_turn_fits : (l : ListSo) (s : State) → ListFits l → R (entry_turn inner l) (Stepped ListFits) s
     unfolding entry_turn
     entry_turn_fits l s so = picks (begins_pipeline l.next.token) (one_entry_fits l s so) (gives so)
 
     remark_fits_by : (l : ListSo) (x : Option Span × Next) (s : State) → ListFits l → OwnComment x → R (remark_by l x) ListFits s
-    remark_fits_by l (Some c, n) s so one = first (pushes (EntryFits limit) so (fits_remark limit c false (is_blank_next l.list) one)) (λ es t all. gives all)
+    remark_fits_by l (Some c, n) s so one = first (pushes (EntryFits limit) so.0 (fits_remark limit c false (is_blank_next l.list) one)) (λ es t all. gives (all, so.1))
     remark_fits_by l (None, n) s so one = gives so
 
     on_line_fits : (l : ListSo) (s : State) → ListFits l → R (on_line inner l) ListFits s
@@ -303,12 +330,12 @@ module _ (keep : Bool) (g : Given) (limit : ℕ) where
     list_fits : (n : Next) (s : State) → R (a_list inner n) (λ l. AreWithin limit l.0) s
     unfolding a_list
     list_fits n s =
-        first (repeats ListFits (list_turn inner) list_turn_fits (list_so (none_listed false) n) s (All-nil (EntryFits limit)))
-        (λ l t all. picks l.list.commands (gives (fits_entries limit l.list.entries all)) (stopped l.next))
+        first (repeats ListFits (list_turn inner) list_turn_fits (list_so (none_listed false) n) s (All-nil (EntryFits limit), tt))
+        (λ l t all. picks l.list.commands (gives (fits_entries limit l.list.entries all.0)) (stopped l.next))
 
     pub line_fits : (blank : Bool) (s : State) → R (a_line inner blank) (λ x. All (EntryFits limit) x.0) s
     unfolding a_line
-    line_fits blank s = after (λ n t. first (on_line_fits (list_so (none_listed blank) n) t (All-nil (EntryFits limit))) (λ l u all. after (λ newline v. gives all)))
+    line_fits blank s = after (λ n t. first (on_line_fits (list_so (none_listed blank) n) t (All-nil (EntryFits limit), tt)) (λ l u all. after (λ newline v. gives all.0)))
 
     -- ---- compound commands
 
@@ -406,6 +433,86 @@ module _ (keep : Bool) (g : Given) (limit : ℕ) where
         (λ b w body. let head = fits_both limit (word_nodes x.0) (for_words_nodes h.words) (fits_word limit x.0 one) two.0 in
         gives (fits_both limit (word_nodes x.0 ++ for_words_nodes h.words) (entries_nodes (behind_remarks h.comments b.what)) head (remarks_fit h.comments b.what two.1 body.0), body.1)))))
 
+    case_word_fits : (n : Next) (s : State) → R (a_case_word inner n) (λ x. WordFits limit x.0) s
+    unfolding a_case_word
+    case_word_fits n s = picks (begins_simple n.token) (first (word_fits s) (λ w t one. after (λ m u. gives one))) (stopped n)
+
+    abbrev PatternsFit : Patterned → Type 0
+    PatternsFit p = All (WordFits limit) p.patterns
+
+    pattern_fits : (ws : Row AWord) (s : State) → All (WordFits limit) ws → R (a_pattern inner ws) PatternsFit s
+    unfolding a_pattern
+    pattern_fits ws s all = first (word_fits s) (λ w t one. first (pushes (WordFits limit) all one) (λ vs u good. after (λ n v. gives good)))
+
+    one_pattern_fits : (ws : Row AWord) (s : State) → All (WordFits limit) ws → R (one_pattern inner ws) (Stepped PatternsFit) s
+    unfolding one_pattern
+    one_pattern_fits ws s all = after (λ x t. after (λ n u. picks (begins_simple n.token) (first (pattern_fits ws u all) (λ p v so. gives so)) (stopped n)))
+
+    pattern_turn_fits : (p : Patterned) (s : State) → PatternsFit p → R (pattern_turn inner p) (Stepped PatternsFit) s
+    unfolding pattern_turn
+    pattern_turn_fits p s so = picks (is_pipe p.next.token) (one_pattern_fits p.patterns s so) (gives so)
+
+    patterns_fit : (n : Next) (s : State) → R (a_pattern_list inner n) PatternsFit s
+    unfolding a_pattern_list
+    patterns_fit n s =
+        picks (begins_pattern n.token) (first (pattern_fits [] s (All-nil (WordFits limit))) (λ p t so. repeats PatternsFit (pattern_turn inner) pattern_turn_fits p t so)) (stopped n)
+
+    body_fits : (n : Next) (s : State) → R (a_body inner n) ListFits s
+    unfolding a_body
+    body_fits n s = repeats ListFits (list_turn inner) list_turn_fits (list_so (none_listed false) n) s (All-nil (EntryFits limit), tt)
+
+    -- the offset that is seen from here
+    here_fits : (s : State) → R (see here) (λ p. p ≤ limit) s
+    here_fits s = record { told = λ b. b }
+
+    parted_or : (parted : Option ℕ) (other : ℕ) → PartedFits parted → other ≤ limit → unwrap_or parted other ≤ limit
+    parted_or (Some p) other so low = so
+    parted_or None other so low = low
+
+    body_end_fits : (before : ℕ) (l : Listed) → before ≤ limit → All (EntryFits limit) l.entries → PartedFits l.parted → body_end before l ≤ limit
+    body_end_fits before l low all part = parted_or l.parted _ part (fits_end limit before l.entries low all)
+
+    abbrev ItemEndFits : ItemEnd → Type 0
+    ItemEndFits e = (e.at ≤ limit) × All (CommentFits limit) e.comments
+
+    double_semicolon_fits : (s : State) → R a_double_semicolon ItemEndFits s
+    unfolding a_double_semicolon
+    double_semicolon_fits s =
+        after (λ x t. after (λ y u. first (here_fits u) (λ p v low. after (λ n w. first (linebreak_fits [] n w (All-nil (CommentFits limit))) (λ l z so. gives (low, so))))))
+
+    item_end_fits : (there : ℕ) (n : Next) (s : State) → there ≤ limit → R (an_item_end inner there n) ItemEndFits s
+    unfolding an_item_end
+    item_end_fits there n s low =
+        picks (is_double_semicolon n.token) (double_semicolon_fits s) (picks (is_closing closings.Esac n.token) (gives (low, All-nil (CommentFits limit))) (stopped n))
+
+    -- the items so far, and the comments behind them
+    abbrev CasesFit : CasesSo → Type 0
+    CasesFit c = All (CaseFits limit) c.items × All (CommentFits limit) c.comments
+
+    one_case_fits : (c : CasesSo) (s : State) → CasesFit c → R (one_case inner c) (Stepped CasesFit) s
+    unfolding one_case
+    one_case_fits c s so =
+        first (here_fits s) (λ p t begin. after (λ n u. first (patterns_fit n u) (λ ps v words. first (closing_fits closings.Paren ps.next v)
+        (λ k w last. first (body_fits k.1 w) (λ b x body. first (item_end_fits _ b.next x (body_end_fits k.0.«end» b.list last.1 body.0 body.1))
+        (λ e y end. let entries = fits_entries limit b.list.entries body.0 in
+        first (pushes (CaseFits limit) so.0 (fits_case limit c.comments ps.patterns (entries_of b.list.entries) _ so.1 words entries (begin, end.0))) (λ is z all. gives (all, end.1))))))))
+
+    case_turn_fits : (c : CasesSo) (s : State) → CasesFit c → R (case_turn inner c) (Stepped CasesFit) s
+    unfolding case_turn
+    case_turn_fits c s so = picks (is_closing closings.Esac c.next.token) (gives so) (one_case_fits c s so)
+
+    case_head_fits : (n : Next) (s : State) → R (a_case_head inner n) (λ h. WordFits limit h.0 × All (CommentFits limit) h.1) s
+    unfolding a_case_head
+    case_head_fits n s =
+        first (case_word_fits n s) (λ w t one. first (linebreak_fits [] w.1 t (All-nil (CommentFits limit)))
+        (λ l u all. after (λ i v. first (linebreak_fits l.join.comments i.1 v all) (λ h x more. gives (one, more)))))
+
+    case_fits : (n : Next) (s : State) → R (a_case inner n) FormFits s
+    unfolding a_case
+    case_fits n s =
+        first (case_head_fits n s) (λ h t one. first (repeats CasesFit (case_turn inner) case_turn_fits (cases_so [] h.1 h.2) t (All-nil (CaseFits limit), one.1))
+        (λ c u all. first (closing_fits closings.Esac c.next u) (λ e v last. gives (fits_case_in limit h.0 c.items c.comments one.0 all.0 all.1, last))))
+
     form_fits : (o : Opener) (n : Next) (s : State) → R (a_form inner o n) FormFits s
     form_fits openers.Brace n s = first (group_fits closings.Brace n s) (λ l t so. gives so)
     form_fits openers.Paren n s = first (group_fits closings.Paren n s) (λ l t so. gives so)
@@ -413,6 +520,7 @@ module _ (keep : Bool) (g : Given) (limit : ℕ) where
     form_fits openers.While n s = first (loop_fits n s) (λ l t so. gives so)
     form_fits openers.Until n s = first (loop_fits n s) (λ l t so. gives so)
     form_fits openers.For n s = for_fits n s
+    form_fits openers.Case n s = case_fits n s
 
     -- a command held apart, or one that holds nothing
     apart_fits : (cs : Row ACommand) → All (CommandFits limit) cs → CommandFits limit (held_apart cs)
@@ -424,13 +532,27 @@ module _ (keep : Bool) (g : Given) (limit : ℕ) where
     compound_fits o s = first (passed_fits _ (is_open_paren o) _ s) (λ x t begin. first (form_fits o x.1 t)
         (λ f u so. first (pushes (CommandFits limit) (All-nil (CommandFits limit)) (fits_compound limit f.what _ (begin.0, so.1.1) so.0)) (λ cs v all. gives (apart_fits cs all))))
 
+    -- ---- functions
+
+    under_fits : (name : Span) (cs : Row Span) (c : ACommand) → IsSpanWithin limit name → All (CommentFits limit) cs → CommandFits limit c → CommandFits limit (under_name name cs c)
+    under_fits name cs (simple is) one all so = so
+    under_fits name cs (compound body) one all so = fits_function limit name cs body one all so
+    under_fits name cs (function other ds body) one all so = so
+
+    function_fits : (name : Span) (s : State) → IsSpanWithin limit name → R (a_function inner name) (λ c. CommandFits limit c.0) s
+    unfolding a_function
+    function_fits name s one =
+        after (λ o t. after (λ c u. first (linebreak_fits [] c.1 u (All-nil (CommentFits limit)))
+        (λ l v all. first (compound_fits_by l.next (opener_of l.next.token) v) (λ b w so. gives (under_fits name l.join.comments b.0 one all so)))))
+
   pub level_fits : (room : ℕ) → Fine (level room)
   unfolding level
-  level_fits zero = record { construct = λ mode b ss s so. record { told = tt }; compound = λ o s. after (λ p t. record { told = tt }) }
+  level_fits zero = record { construct = λ mode b ss s so. record { told = tt }; compound = λ o s. after (λ p t. record { told = tt }); function = λ name s one. record { told = tt } }
   level_fits (suc room) =
       record {
         construct = λ mode b ss s so. contents_fit (level room) (level_fits room) mode b ss s so;
         compound = λ o s. compound_fits (level room) (level_fits room) o s;
+        function = λ name s one. function_fits (level room) (level_fits room) name s one;
       }
 
 -- ---- lines

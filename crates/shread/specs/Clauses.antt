@@ -11,7 +11,8 @@ use Rattle.shread.specs.Standing.{raw_stands, at_end}
 use Rattle.shread.specs.Bytes.{behind, past_continuations, ends_word}
 use Rattle.shread.specs.Sights.{State, given, standing}
 use Rattle.shread.specs.Tokens.{is_comment, is_end}
-use Rattle.shread.specs.Commands.{and_or_operator_of, behind_item}
+use Rattle.shread.specs.Commands.{and_or_operator_of, behind_item, is_double_semicolon}
+use Rattle.shread.specs.Compounds.{begins_pattern}
 use Rattle.shread.specs.Form.{Form, Read, does}
 
 -- the text of a cursor
@@ -62,3 +63,4 @@ Shows token T p =
     ((position : Position) → behind_item token ≡ Some position → ends_word T p ≡ false)
     × (is_end token ≡ false → IsRead T p) × (token ≡ tokens.Newline → raw_stands T p 10 ≡ true) × (token ≡ tokens.End → at_end T p ≡ true)
     × ((operator : AndOrOperator) → and_or_operator_of token ≡ Some operator → IsRead T (behind T p)) × (is_comment token ≡ false → raw_stands T p 35 ≡ false) × (past_continuations T p ≡ p)
+    × (begins_pattern token ≡ true → ends_word T p ≡ false) × (is_double_semicolon token ≡ true → IsRead T (behind T p))

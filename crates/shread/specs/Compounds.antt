@@ -1,5 +1,5 @@
--- Compound commands: groups, `if`, loops and `for` (XCU 2.9.4, 2.10.2).
-use Rattle.std.specs.Prelude.{Bool, true, false, not, ◌&&◌, ◌||◌, [], ◌∷◌, codes, List as Row, None}
+-- Compound commands: groups, `if`, loops, `for` and `case`; and functions, whose bodies they are (XCU 2.9.4, 2.9.5, 2.10.2).
+use Rattle.std.specs.Prelude.{ℕ, Bool, true, false, not, ◌&&◌, ◌||◌, [], ◌∷◌, codes, List as Row, None, unwrap_or}
 use Rattle.shread.specs.declared.fault.FaultKind.TheVariants.{BadForName}
 use Rattle.shread.specs.declared.token.Closing.{Closing}
 use Rattle.shread.specs.declared.token.Closing.TheVariants as closings
@@ -12,13 +12,13 @@ use Rattle.shread.specs.declared.token.Reserved.TheVariants as reserved
 use Rattle.shread.specs.declared.token.Token.{Token}
 use Rattle.shread.specs.declared.token.Token.TheVariants as tokens
 use Rattle.shtree.specs.declared.tree.Span.{Span}
-use Rattle.shtree.specs.Nodes.{through}
-use Rattle.shtree.specs.Tree.{Entries, entry, remark, more_entries, ACommand, simple, compound, formed, AForm, brace, subshell, if_then, while_do, until_do, for_in, AWord, ForWords, no_in, in_words, items_of, ABranch, branch, branches_of, Otherwise, no_else, otherwise, no_item}
+use Rattle.shtree.specs.Nodes.{through, commands_end}
+use Rattle.shtree.specs.Tree.{Entries, entry, remark, more_entries, ACommand, simple, compound, function, formed, AForm, brace, subshell, if_then, while_do, until_do, for_in, AWord, ForWords, no_in, in_words, items_of, ABranch, branch, branches_of, Otherwise, no_else, otherwise, no_item, case_in, ACaseItem, case_item, cases_of, patterns_of, entries_of}
 use Rattle.shread.specs.Sights.{here, is_a_name, Move, one_byte, the_reserved}
-use Rattle.shread.specs.Form.{Form, Spelled, give, see, move, push, stop, by, token, many, ◌>>=◌, Step, again, done}
+use Rattle.shread.specs.Form.{Form, Spelled, give, see, move, push, stop, by, token, many, ◌>>=◌, ◌>>◌, Step, again, done}
 use Rattle.shread.specs.Words.{Inner, a_word}
-use Rattle.shread.specs.Commands.{next_token, pick, begins_simple, unexpected, a_semicolon, JoinSo, join_so, a_join_of, join_turn, so_many, item_turn}
-use Rattle.shread.specs.Lists.{a_list}
+use Rattle.shread.specs.Commands.{next_token, pick, begins_simple, opener_of, compound_by, unexpected, a_semicolon, JoinSo, join_so, a_join_of, join_turn, so_many, item_turn, is_pipe, is_paren, is_double_semicolon}
+use Rattle.shread.specs.Lists.{a_list, Listed, ListSo, list_so, none_listed, list_turn}
 
 -- ---- what opens, parts and closes the lists of a compound command
 
@@ -32,6 +32,7 @@ is_closing closings.Fi (tokens.Reserved reserved.Fi) = true
 is_closing closings.Do (tokens.Reserved reserved.Do) = true
 is_closing closings.Done (tokens.Reserved reserved.Done) = true
 is_closing closings.In (tokens.Reserved reserved.In) = true
+is_closing closings.Esac (tokens.Reserved reserved.Esac) = true
 is_closing _ _ = false
 
 abbrev pub opener_text : Opener → Spelled
@@ -41,6 +42,7 @@ opener_text openers.If = codes "if"
 opener_text openers.While = codes "while"
 opener_text openers.Until = codes "until"
 opener_text openers.For = codes "for"
+opener_text openers.Case = codes "case"
 
 abbrev pub closing_text : Closing → Spelled
 closing_text closings.Brace = codes "}"
@@ -52,6 +54,7 @@ closing_text closings.Fi = codes "fi"
 closing_text closings.Do = codes "do"
 closing_text closings.Done = codes "done"
 closing_text closings.In = codes "in"
+closing_text closings.Esac = codes "esac"
 
 -- all others are reserved words
 abbrev pub is_open_paren : Opener → Bool
@@ -66,9 +69,10 @@ abbrev pub past_opener : Bool → Move
 past_opener true = one_byte
 past_opener false = the_reserved
 
--- Behind `for` stands a word, reserved or not (XCU 2.10.2, rule 5). Behind all others a command may begin.
+-- Behind `for` and `case` stands a word, reserved or not (XCU 2.10.2, rule 5). Behind all others a command may begin.
 abbrev pub behind_opener : Opener → Position
 behind_opener openers.For = Suffix
+behind_opener openers.Case = Suffix
 behind_opener _ = Command
 
 -- the round bracket or the reserved word here, told by this text, and the token behind it, which stands in this position
@@ -189,6 +193,116 @@ a_for inner n =
     a_group inner closings.Done d.1 >>= λ b.
     give (closed (for_in x.0 h.words (behind_remarks h.comments b.what)) (b.closer, b.next))
 
+-- ---- `case` (XCU 2.9.4.3)
+
+-- the word behind `case`, and the token behind it
+unfoldable pub a_case_word : Inner → Next → Form (AWord × Next)
+a_case_word inner n = pick (begins_simple n.token) (a_word inner >>= λ w. next_token Command >>= λ m. give (w, m)) (unexpected inner n)
+
+-- The first pattern of an item is any word but `esac` (XCU 2.10.2, rule 4). The others are any words.
+abbrev pub begins_pattern : Token → Bool
+begins_pattern (tokens.Reserved reserved.Esac) = false
+begins_pattern (tokens.Reserved r) = true
+begins_pattern t = begins_simple t
+
+-- the patterns so far, and the token behind them
+pub record Patterned : Type 0 where
+  pub patterns : Row AWord
+  pub next : Next
+
+abbrev pub patterned : Row AWord → Next → Patterned
+patterned ws n = record { patterns = ws; next = n }
+
+-- the pattern that begins here, behind these, and the token behind it
+unfoldable pub a_pattern : Inner → Row AWord → Form Patterned
+a_pattern inner ws = a_word inner >>= λ w. push ws w >>= λ vs. next_token Suffix >>= λ n. give (patterned vs n)
+
+-- one more pattern, behind a `|`
+unfoldable pub one_pattern : Inner → Row AWord → Form (Step Patterned)
+one_pattern inner ws =
+    token (by (codes "|")) (move one_byte) >> next_token Suffix >>= λ n. pick (begins_simple n.token) (a_pattern inner ws >>= λ p. give (again p)) (unexpected inner n)
+
+-- one more, or none
+unfoldable pub pattern_turn : Inner → Patterned → Form (Step Patterned)
+pattern_turn inner p = pick (is_pipe p.next.token) (one_pattern inner p.patterns) (give (done p))
+
+unfoldable pub a_pattern_list : Inner → Next → Form Patterned
+a_pattern_list inner n = pick (begins_pattern n.token) (a_pattern inner [] >>= λ p. many (pattern_turn inner) p) (unexpected inner n)
+
+-- the `(` before the patterns, where the token is one, and the token behind it; a tree does not tell it
+unfoldable pub an_open_bracket : Next → Form Next
+an_open_bracket n = pick (is_paren n.token) (move one_byte >> next_token Command) (give n)
+
+-- the entries of a body, which may hold no command, and the token behind them
+unfoldable pub a_body : Inner → Next → Form ListSo
+a_body inner n = many (list_turn inner) (list_so (none_listed false) n)
+
+-- the offset behind the last token of a body: a separator, or a command, or what stands before the body
+abbrev pub body_end : ℕ → Listed → ℕ
+body_end before l = unwrap_or l.parted (commands_end before (entries_of l.entries))
+
+-- where an item ends, the comments behind it, and the token behind those
+pub record ItemEnd : Type 0 where
+  pub at : ℕ
+  pub comments : Row Span
+  pub next : Next
+
+abbrev pub item_end : ℕ → Row Span → Next → ItemEnd
+item_end p cs n = record { at = p; comments = cs; next = n }
+
+-- `;;` here, with newlines and comments behind it; a tree does not tell it
+unfoldable pub a_double_semicolon : Form ItemEnd
+a_double_semicolon =
+    move one_byte >> move one_byte >> see here >>= λ p. next_token Command >>= λ n. a_linebreak [] n >>= λ l. give (item_end p l.join.comments l.next)
+
+-- An item ends behind its `;;`. The last one of a case may have none: then it ends there.
+unfoldable pub an_item_end : Inner → ℕ → Next → Form ItemEnd
+an_item_end inner there n =
+    pick (is_double_semicolon n.token) a_double_semicolon
+    (pick (is_closing closings.Esac n.token) (give (item_end there [] n)) (unexpected inner n))
+
+-- the items so far, the comments behind them, and the token behind those
+pub record CasesSo : Type 0 where
+  pub items : Row ACaseItem
+  pub comments : Row Span
+  pub next : Next
+
+abbrev pub cases_so : Row ACaseItem → Row Span → Next → CasesSo
+cases_so is cs n = record { items = is; comments = cs; next = n }
+
+-- one more item, which has the comments before it
+unfoldable pub one_case : Inner → CasesSo → Form (Step CasesSo)
+one_case inner c =
+    see here >>= λ p.
+    an_open_bracket c.next >>= λ n.
+    a_pattern_list inner n >>= λ ps.
+    closing inner closings.Paren ps.next >>= λ k.
+    a_body inner k.1 >>= λ b.
+    an_item_end inner (body_end k.0.«end» b.list) b.next >>= λ e.
+    push c.items (case_item c.comments (patterns_of ps.patterns) (entries_of b.list.entries) (record { start = p; «end» = e.at })) >>= λ is.
+    give (again (cases_so is e.comments e.next))
+
+-- one more, or none: `esac` ends them
+unfoldable pub case_turn : Inner → CasesSo → Form (Step CasesSo)
+case_turn inner c = pick (is_closing closings.Esac c.next.token) (give (done c)) (one_case inner c)
+
+-- what stands between `case` and its items: the word, comments, and the token behind them
+unfoldable pub a_case_head : Inner → Next → Form (AWord × Row Span × Next)
+a_case_head inner n =
+    a_case_word inner n >>= λ w.
+    a_linebreak [] w.1 >>= λ l.
+    closing inner closings.In l.next >>= λ i.
+    a_linebreak l.join.comments i.1 >>= λ h.
+    give (w.0, h.join.comments, h.next)
+
+-- the comments of the head stand before the first item, those behind the last item before `esac`
+unfoldable pub a_case : Inner → Next → Form (Closed AForm)
+a_case inner n =
+    a_case_head inner n >>= λ h.
+    many (case_turn inner) (cases_so [] h.1 h.2) >>= λ c.
+    closing inner closings.Esac c.next >>= λ e.
+    give (closed (case_in h.0 (cases_of c.items) c.comments) e)
+
 abbrev pub a_form : Inner → Opener → Next → Form (Closed AForm)
 a_form inner openers.Brace n = a_group inner closings.Brace n >>= λ l. give (closed (brace l.what) (l.closer, l.next))
 a_form inner openers.Paren n = a_group inner closings.Paren n >>= λ l. give (closed (subshell l.what) (l.closer, l.next))
@@ -196,6 +310,7 @@ a_form inner openers.If n = an_if inner n
 a_form inner openers.While n = a_loop inner n >>= λ l. give (closed (while_do l.what) (l.closer, l.next))
 a_form inner openers.Until n = a_loop inner n >>= λ l. give (closed (until_do l.what) (l.closer, l.next))
 a_form inner openers.For n = a_for inner n
+a_form inner openers.Case n = a_case inner n
 
 -- ---- a compound command
 
@@ -211,3 +326,19 @@ a_compound inner o =
     a_form inner o x.1 >>= λ f.
     push [] (compound (formed f.what (through x.0 f.closer) no_item)) >>= λ cs.
     give (held_apart cs, f.next)
+
+-- ---- functions (XCU 2.9.5)
+
+-- a compound command under a name; one that is not held stays so
+abbrev pub under_name : Span → Row Span → ACommand → ACommand
+under_name name comments (compound body) = function name comments body
+under_name name comments other = other
+
+-- the brackets behind a name, newlines and comments, and the body, which is a compound command
+unfoldable pub a_function : Inner → Span → Form (ACommand × Next)
+a_function inner name =
+    passed (opener_text openers.Paren) true Command >>= λ o.
+    closing inner closings.Paren o.1 >>= λ c.
+    a_linebreak [] c.1 >>= λ l.
+    compound_by inner l.next (opener_of l.next.token) >>= λ b.
+    give (under_name name l.join.comments b.0, b.1)

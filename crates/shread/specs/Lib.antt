@@ -10,8 +10,8 @@ pub mod Form
 pub mod Words
 pub mod Commands
 pub mod Lists
-pub mod Listed
 pub mod Compounds
+pub mod Listed
 pub mod Levels
 pub mod Lines
 pub mod Scripts

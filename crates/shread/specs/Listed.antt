@@ -1,8 +1,14 @@
--- What the reader has of a list, in the definitions.
+-- What the reader has of a list, and of the items of a `case`, in the definitions.
 use Rattle.std.specs.Prelude.{map}
+use Rattle.shread.specs.declared.case.Cases as the_cases
 use Rattle.shread.specs.declared.list.Listed as the_listed
-use Rattle.shtree.specs.View.{view_entry}
+use Rattle.shread.specs.declared.token.Next.{Next}
+use Rattle.shtree.specs.View.{view_case_item, view_entry, view_join}
+use Rattle.shread.specs.Compounds.{CasesSo, cases_so}
 use Rattle.shread.specs.Lists.{Listed}
 
 abbrev pub view_listed : the_listed.Listed → Listed
-view_listed l = record { entries = map view_entry l.entries.items; blank = l.blank; begun = l.begun; commands = l.commands }
+view_listed l = record { entries = map view_entry l.entries.items; blank = l.blank; begun = l.begun; commands = l.commands; parted = l.parted }
+
+abbrev pub view_cases : the_cases.Cases → Next → CasesSo
+view_cases c n = cases_so (map view_case_item c.items.items) (view_join c.lines).comments n

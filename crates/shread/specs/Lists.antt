@@ -1,5 +1,5 @@
 -- Lists: entries on one line or on many (XCU 2.9.3, 2.10.2).
-use Rattle.std.specs.Prelude.{Bool, true, false, ◌&&◌, not, [], List as Row, Option, None, Some}
+use Rattle.std.specs.Prelude.{ℕ, Bool, true, false, ◌&&◌, not, [], List as Row, Option, None, Some, is_some}
 use Rattle.shread.specs.declared.token.Next.{Next}
 use Rattle.shtree.specs.declared.tree.Span.{Span}
 use Rattle.shtree.specs.Tree.{AnEntry, Entries, entry, remark, entries_of}
@@ -16,6 +16,8 @@ pub record Listed : Type 0 where
   pub begun : Bool
   -- one of them is a command
   pub commands : Bool
+  -- the offset behind the separator of the last command, where it has one
+  pub parted : Option ℕ
 
 -- and the token behind them
 pub record ListSo : Type 0 where
@@ -27,25 +29,25 @@ list_so l n = record { list = l; next = n }
 
 -- no entry yet, on a line whose first entry may be blank
 abbrev pub none_listed : Bool → Listed
-none_listed blank = record { entries = []; blank = blank; begun = false; commands = false }
+none_listed blank = record { entries = []; blank = blank; begun = false; commands = false; parted = None }
 
 -- an entry that is not the first of its line is not blank
 abbrev pub is_blank_next : Listed → Bool
 is_blank_next l = l.blank && not l.begun
 
-abbrev pub with_command : Listed → Row AnEntry → Listed
-with_command l es = record { entries = es; blank = l.blank; begun = true; commands = true }
+abbrev pub with_command : Listed → Row AnEntry → Option ℕ → Listed
+with_command l es parted = record { entries = es; blank = l.blank; begun = true; commands = true; parted = parted }
 
 abbrev pub with_remark : Listed → Row AnEntry → Listed
-with_remark l es = record { entries = es; blank = l.blank; begun = true; commands = l.commands }
+with_remark l es = record { entries = es; blank = l.blank; begun = true; commands = l.commands; parted = l.parted }
 
 -- behind a newline: a line without entries makes the next entry blank, if one stands before it
 abbrev pub next_line : Listed → Listed
-next_line l = record { entries = l.entries; blank = not l.begun && not (is_empty l.entries); begun = false; commands = l.commands }
+next_line l = record { entries = l.entries; blank = not l.begun && not (is_empty l.entries); begun = false; commands = l.commands; parted = l.parted }
 
 unfoldable pub one_entry : Inner → ListSo → Form (Step ListSo)
 one_entry inner l =
-    an_entry inner (is_blank_next l.list) l.next >>= λ e. push l.list.entries e.entry >>= λ es. give (step_if e.parted (list_so (with_command l.list es) e.next))
+    an_entry inner (is_blank_next l.list) l.next >>= λ e. push l.list.entries e.entry >>= λ es. give (step_if (is_some e.parted) (list_so (with_command l.list es e.parted) e.next))
 
 -- one more entry, or that no more follows
 unfoldable pub entry_turn : Inner → ListSo → Form (Step ListSo)

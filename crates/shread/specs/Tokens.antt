@@ -74,7 +74,7 @@ word_by Suffix T p = tokens.Word
 abbrev pub token_of : Position → List ℕ → ℕ → Option ℕ → Token
 token_of position T p None = tokens.End
 token_of position T p (Some b) = if is_newline b then tokens.Newline
-    else (if b == 59 then (if stands T (behind T p) 59 then tokens.Operator else tokens.Semicolon)
+    else (if b == 59 then (if stands T (behind T p) 59 then tokens.DoubleSemicolon else tokens.Semicolon)
     else (if b == 38 then (if stands T (behind T p) 38 then tokens.AndIf else tokens.Ampersand)
     else (if b == 124 then (if stands T (behind T p) 124 then tokens.OrIf else tokens.Pipe)
     else (if b == 40 then tokens.OpenParen

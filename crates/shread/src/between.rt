@@ -1,7 +1,7 @@
 //! What may stand between commands: comments, newlines, separators, and what no row takes (XCU 2.3, 2.9.3).
-ghost use Rattle.std.specs.Prelude.{◌≡◌, ◌≤◌, IfOk, Ok as Done, option_map};
+ghost use Rattle.std.specs.Prelude.{◌≡◌, ◌≤◌, IfOk, Ok as Done, is_some, option_map};
 ghost use Rattle.shread.specs.Clauses.{end_of, Onward, Reads, reads, Shows, Stays, text_of};
-ghost use Rattle.shread.specs.Commands.{a_comment, a_newline, a_semicolon, a_separator, is_parted, what_is_wrong};
+ghost use Rattle.shread.specs.Commands.{a_comment, a_newline, a_semicolon, a_separator, what_is_wrong};
 ghost use Rattle.shread.specs.Levels.{level};
 ghost use Rattle.shread.specs.Sights.{standing};
 ghost use Rattle.shtree.specs.View.{view_comment};
@@ -70,20 +70,22 @@ impl<'a, S: Source> Cursor<'a, S> {
         true
     }
 
-    /// Passes `;` or `&`, if the token here is one of them. `next` is that token, and then the one behind it.
+    /// Passes `;` or `&`, if the token here is one of them, and tells the offset behind it. `next` is that token, and then the one
+    /// behind it.
     #[inline(always)]
     #[tactic(auto, unfolding(crate::specs::Commands::a_separator, crate::specs::Commands::next_token))]
-    pub(crate) fn separator(&mut self, next: &mut Next) -> Option<Separator>
+    pub(crate) fn separator(&mut self, next: &mut Next) -> Option<(Separator, usize)>
         requires shows { Shows next.old.token (text_of S.bytes self.old) self.old.at }
         ensures value { reads S.bytes self.old (a_separator next.old) ≡ Done ((result, next.new), standing self.new.at) }
         ensures shows { Shows next.new.token (text_of S.bytes self.old) self.new.at }
-        ensures onward { Onward self.old.at self.new.at (is_parted result) }
+        ensures onward { Onward self.old.at self.new.at (is_some result) }
         ensures same { Stays self.old self.new }
     {
         let separator = next.token.separator()?;
         self.step();
+        let end = self.origin + self.at;
         *next = self.next_token(Position::Command);
-        Some(separator)
+        Some((separator, end))
     }
 
     /// What is wrong where no row takes the token here. A word is read whole first; a comment goes with the token behind it.

@@ -1,7 +1,8 @@
 //! Commands, and the simple ones among them (XCU 2.9, 2.9.1).
-ghost use Rattle.std.specs.Prelude.{◌≡◌, ◌≤◌, map, IfOk};
+ghost use Rattle.std.specs.Prelude.{◌≡◌, ◌≤◌, map, IfOk, Some};
 ghost use Rattle.shread.specs.Clauses.{Onward, Reads, Shows, Stays, text_of};
-ghost use Rattle.shread.specs.Commands.{a_command, a_simple, as_item, item_turn, so_many};
+ghost use Rattle.shread.specs.Commands.{a_command, a_simple, a_worded, as_item, behind_item, item_turn, so_many};
+ghost use Rattle.shread.specs.declared.token.Position.TheVariants.{Suffix};
 ghost use Rattle.shread.specs.Form.{many, step_if};
 ghost use Rattle.shtree.specs.Tree.{item};
 ghost use Rattle.shtree.specs.View.{view_command, view_item, view_word};
@@ -10,7 +11,7 @@ ghost use Rattle.shread.specs.Levels.{level};
 use crate::cursor::Cursor;
 use crate::fault::Stop;
 use crate::source::Source;
-use crate::token::{Next, Position};
+use crate::token::{Next, Position, Token};
 use shtree::make::{argument_of, assign_of, simple_of};
 use shtree::{Command, Item, Word};
 use std::alloc::Global;
@@ -82,20 +83,55 @@ impl<'a, S: Source> Cursor<'a, S> {
         Ok(())
     }
 
-    /// The simple command that the token here begins. `next` is that token, and then the one behind it.
+    /// The simple command that has these items so far. `next` is the token behind them, and then the one behind the command.
     #[inline(always)]
     #[tactic(auto, unfolding(crate::specs::Commands::a_simple))]
-    fn simple(&mut self, alloc: Global, next: &mut Next, room: usize) -> Result<Command, Stop>
+    fn simple(
+        &mut self,
+        alloc: Global,
+        mut items: Vec<Item>,
+        next: &mut Next,
+        room: usize,
+    ) -> Result<Command, Stop>
         requires shows { Shows next.old.token (text_of S.bytes self.old) self.old.at }
-        ensures value { Reads S.bytes self.old (a_simple (level room) next.old) result
+        ensures value { Reads S.bytes self.old (a_simple (level room) (so_many (map view_item items.items) next.old)) result
             (λ command. (view_command command, next.new)) self.new.at }
         ensures shows { IfOk result (λ command. Shows next.new.token (text_of S.bytes self.old) self.new.at) }
         ensures onward { IfOk result (λ command. self.old.at ≤ self.new.at) }
         ensures same { Stays self.old self.new }
     {
-        let mut items = Vec::new(alloc);
         self.items(alloc, next, &mut items, room)?;
         Ok(simple_of(items))
+    }
+
+    /// The command that begins with the word here: a function, if `(` follows, or a simple command.
+    #[cycle(commands)]
+    #[tactic(auto, unfolding(crate::specs::Commands::a_worded, crate::specs::Commands::next_token))]
+    fn worded(&mut self, alloc: Global, next: &mut Next, room: usize) -> Result<Command, Stop>
+        requires shows { Shows next.old.token (text_of S.bytes self.old) self.old.at }
+        requires word { behind_item next.old.token ≡ Some Suffix }
+        ensures value { Reads S.bytes self.old (a_worded (level room)) result
+            (λ command. (view_command command, next.new)) self.new.at }
+        ensures shows { IfOk result (λ command. Shows next.new.token (text_of S.bytes self.old) self.new.at) }
+        ensures onward { IfOk result (λ command. self.old.at ≤ self.new.at) }
+        ensures same { Stays self.old self.new }
+    {
+        let start = self.at;
+        self.pass_word(room)?;
+        let word = self.word_from(alloc, start);
+        *next = self.next_token(Position::Suffix);
+        if let Token::OpenParen = next.token {
+            return self.named(alloc, word.span, start, next, room);
+        }
+        let mut items = Vec::new(alloc);
+        if self.keep {
+            // A command of one word takes room for no more.
+            if next.token.behind_item().is_none() {
+                items.reserve_exact(1)?;
+            }
+            items.push(argument_of(word, false))?;
+        }
+        self.simple(alloc, items, next, room)
     }
 
     /// The command that the token here begins.
@@ -115,12 +151,10 @@ impl<'a, S: Source> Cursor<'a, S> {
         ensures onward { IfOk result (λ command. self.old.at ≤ self.new.at) }
         ensures same { Stays self.old self.new }
     {
-        if next.token.begins_simple() {
-            return self.simple(alloc, next, room);
-        }
-        match next.token.opener() {
-            Some(opener) => self.compound(alloc, opener, next, room),
-            None => Err(Stop::Wrong(self.what_is_wrong(next, room)?)),
+        match next.token {
+            Token::Word => self.worded(alloc, next, room),
+            Token::Assignment => self.simple(alloc, Vec::new(alloc), next, room),
+            _ => self.compound_by(alloc, next, room),
         }
     }
 }

@@ -1,4 +1,4 @@
-//! Compound commands: groups, `if` and loops (XCU 2.9.4). `for` stands in [`crate::for_loop`].
+//! Compound commands: groups, `if` and loops (XCU 2.9.4). `for` stands in [`crate::for_loop`], `case` in [`crate::case`].
 ghost use Rattle.std.specs.Prelude.{◌≡◌, ◌<◌, ◌≤◌, [], map, IfOk, Ok as Done, false};
 ghost use Rattle.shread.specs.Clauses.{IsRead, Onward, Reads, reads, Shows, Stays, text_of};
 ghost use Rattle.shread.specs.Compounds.{a_branch, a_form, a_group, a_loop, an_else, an_if, branched, closed, closing, elif_turn, passed};
@@ -247,6 +247,7 @@ impl<'a, S: Source> Cursor<'a, S> {
                 Ok((until_of(branch), closer))
             }
             Opener::For => self.for_command(alloc, next, room),
+            Opener::Case => self.case_command(alloc, next, room),
         }
     }
 

@@ -14,6 +14,7 @@ mod between;
 #[cfg(test)]
 mod by_line;
 mod bytes;
+mod case;
 mod command;
 mod comment;
 mod compound;
@@ -23,6 +24,7 @@ mod dump;
 mod fault;
 mod first_fault;
 mod for_loop;
+mod function;
 mod join;
 pub mod laws;
 mod line;

@@ -1,6 +1,8 @@
 //! Lists: entries on one line or on many (XCU 2.9.3, 2.10.2).
 ghost use Rattle.std.specs.Prelude.{◌≡◌, ◌≤◌, IfOk, false};
 ghost use Rattle.shread.specs.Clauses.{Onward, Reads, Shows, Stays, text_of};
+ghost use Rattle.shread.specs.Commands.{past_separator};
+ghost use Rattle.shread.specs.Compounds.{a_body};
 ghost use Rattle.shread.specs.Form.{many, step_if};
 ghost use Rattle.shread.specs.Levels.{level};
 ghost use Rattle.shread.specs.Listed.{view_listed};
@@ -25,6 +27,19 @@ pub(crate) struct Listed {
     pub(crate) begun: bool,
     /// One of them is a command.
     pub(crate) commands: bool,
+    /// The offset behind the separator of the last command, where it has one.
+    pub(crate) parted: Option<usize>,
+}
+
+/// The offset behind a separator.
+#[inline(always)]
+fn past_separator(separator: Option<(Separator, usize)>) -> Option<usize>
+    ensures { result ≡ past_separator separator }
+{
+    match separator {
+        Some((_, end)) => Some(end),
+        None => None,
+    }
 }
 
 impl Listed {
@@ -37,6 +52,7 @@ impl Listed {
             blank,
             begun: false,
             commands: false,
+            parted: None,
         }
     }
 
@@ -78,8 +94,9 @@ impl<'a, S: Source> Cursor<'a, S> {
         let comment = self.remark(next);
         listed.begun = true;
         listed.commands = true;
+        listed.parted = past_separator(separator);
         if self.keep {
-            let background = matches!(separator, Some(Separator::Ampersand));
+            let background = matches!(separator, Some((Separator::Ampersand, _)));
             listed
                 .entries
                 .push(command_entry(and_or, background, blank, comment))?;
@@ -195,6 +212,27 @@ impl<'a, S: Source> Cursor<'a, S> {
     {
         'turns: while self.list_line(alloc, next, listed, room)? {}
         Ok(())
+    }
+
+    /// The entries of the body of an item of a `case`, which may hold no command.
+    #[cycle(commands)]
+    #[tactic(auto, unfolding(crate::specs::Compounds::a_body))]
+    pub(crate) fn body(
+        &mut self,
+        alloc: Global,
+        next: &mut Next,
+        room: usize,
+    ) -> Result<Listed, Stop>
+        requires shows { Shows next.old.token (text_of S.bytes self.old) self.old.at }
+        ensures value { Reads S.bytes self.old (a_body (level room) next.old) result
+            (λ listed. list_so (view_listed listed) next.new) self.new.at }
+        ensures shows { IfOk result (λ listed. Shows next.new.token (text_of S.bytes self.old) self.new.at) }
+        ensures onward { IfOk result (λ listed. self.old.at ≤ self.new.at) }
+        ensures same { Stays self.old self.new }
+    {
+        let mut listed = Listed::new(alloc, false);
+        self.list_lines(alloc, next, &mut listed, room)?;
+        Ok(listed)
     }
 
     /// A list that holds a command. It ends where no entry may begin; who reads it asks for what has to follow.

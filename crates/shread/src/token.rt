@@ -4,7 +4,7 @@ ghost use Rattle.shread.specs.Bytes.{past_blanks, past_continuations};
 ghost use Rattle.shread.specs.Classes.{in_class};
 ghost use Rattle.shread.specs.Clauses.{IsRead, Shows, Stays, text_of};
 ghost use Rattle.shread.specs.Commands.{and_or_operator_of, begins_pipeline, begins_simple, behind_item, opener_of, separator_of};
-ghost use Rattle.shread.specs.Compounds.{behind_opener, is_closing};
+ghost use Rattle.shread.specs.Compounds.{begins_pattern, behind_opener, is_closing};
 ghost use Rattle.shread.specs.Tokens.{begins_assignment, first_of_words, is_end, is_name_at, is_number, is_word_at, next_at, past_reserved, reserved_at, token_at, word_by};
 
 use crate::cursor::Cursor;
@@ -20,6 +20,8 @@ pub enum Token {
     Newline,
     /// `;`
     Semicolon,
+    /// `;;`
+    DoubleSemicolon,
     /// `&`
     Ampersand,
     /// `&&`
@@ -67,6 +69,17 @@ impl Token {
         self.behind_item().is_some()
     }
 
+    /// Whether the first pattern of an item of a `case` begins with this token.
+    pub(crate) fn begins_pattern(self) -> bool
+        ensures { result ≡ begins_pattern self }
+    {
+        match self {
+            Token::Reserved(Reserved::Esac) => false,
+            Token::Reserved(_) => true,
+            _ => self.begins_simple(),
+        }
+    }
+
     /// Whether a pipeline begins with this token.
     #[inline(always)]
     pub(crate) fn begins_pipeline(self) -> bool
@@ -90,6 +103,7 @@ impl Token {
             Token::Reserved(Reserved::While) => Some(Opener::While),
             Token::Reserved(Reserved::Until) => Some(Opener::Until),
             Token::Reserved(Reserved::For) => Some(Opener::For),
+            Token::Reserved(Reserved::Case) => Some(Opener::Case),
             _ => None,
         }
     }
@@ -109,6 +123,7 @@ impl Token {
             (Closing::Do, Token::Reserved(Reserved::Do)) => true,
             (Closing::Done, Token::Reserved(Reserved::Done)) => true,
             (Closing::In, Token::Reserved(Reserved::In)) => true,
+            (Closing::Esac, Token::Reserved(Reserved::Esac)) => true,
             _ => false,
         }
     }
@@ -175,6 +190,7 @@ pub enum Opener {
     While,
     Until,
     For,
+    Case,
 }
 
 impl Opener {
@@ -184,7 +200,7 @@ impl Opener {
         ensures { result ≡ behind_opener self }
     {
         match self {
-            Opener::For => Position::Suffix,
+            Opener::For | Opener::Case => Position::Suffix,
             _ => Position::Command,
         }
     }
@@ -204,6 +220,7 @@ pub enum Closing {
     Do,
     Done,
     In,
+    Esac,
 }
 
 /// Where in a simple command a token stands, which decides what a word may be there (XCU 2.4, 2.10.2).
@@ -213,7 +230,8 @@ pub enum Position {
     Command,
     /// Behind an assignment: a word may be one more.
     Prefix,
-    /// Behind the command's name: a word is an argument. So is one behind `for`, and behind the `in` of a `for`: none is reserved.
+    /// Behind the command's name: a word is an argument. So is one behind `for`, behind its `in`, behind `case` and behind a pattern:
+    /// none is reserved.
     Suffix,
 }
 
@@ -462,7 +480,7 @@ impl<'a, S: Source> Cursor<'a, S> {
             Some(b'\n') => Token::Newline,
             Some(b';') => {
                 if self.stands(self.behind(at), b';') {
-                    Token::Operator
+                    Token::DoubleSemicolon
                 } else {
                     Token::Semicolon
                 }

@@ -37,12 +37,12 @@ pub(crate) const ROWS: &[u8] = br###"
 // continuations in tokens and between them
 ("\\\n", "\\\n\\\n", "\\\n \\\n", "\\\n\n", "") ("a\\\n", "[0-1]") ("a\\\nb", "[0-4]") ("a\\\n\\\nb", "[0-6]")
 ("a\\\n;b", "[0-1] [4-5]") ("a\\\n&b", "[0-1]& [4-5]") ("a \\\n ;b", "[0-1] [6-7]") ("a \\\n &b", "[0-1]& [6-7]")
-("a\\\n(b", "fault 11 at 3") ("a\\\n|b", "[0-1]|^[4-5]") ("a;\\\n;b", "fault 11 at 1") ("a&\\\n&b", "[0-1]&&[5-6]") ("a\\\\\nb", "[0-3] [4-5]") ("\\\r\n", "[0-2]")
+("a\\\n(b", "fault 11 at 4") ("a\\\n|b", "[0-1]|^[4-5]") ("a;\\\n;b", "fault 11 at 1") ("a&\\\n&b", "[0-1]&&[5-6]") ("a\\\\\nb", "[0-3] [4-5]") ("\\\r\n", "[0-2]")
 // bytes in words
 ("a\x0bb", "a\x0cb", "[0-3]") ("\x0b", "\x00", "[0-1]") ("a \x0c b", "[0-1 2-3 4-5]") ("a\r", "\xff\x80", "[0-2]")
 // operators
 (";", "&", ")", "<a", ">a", "|a", "fault 11 at 0")
-("a;;b", "a<b", "a>b", "a(b", "a)b", "f()", "fault 11 at 1")
+("a;;b", "a<b", "a>b", "a)b", "fault 11 at 1")
 ("a ;; b", "a;&b", "a;&&b", "a&;b", "a&;;", "a&>f", "a=(b", "fault 11 at 2") ("a; ;b", "fault 11 at 3")
 ("a & &b", "a ; |", "fault 11 at 4")
 // joins
@@ -117,6 +117,89 @@ pub(crate) const ROWS: &[u8] = br###"
 ("for a in b;do c;done|d", "<0-20 for 4-5 in 9-10 do [14-15]>|[21-22]") ("! for a do b;done&", "!0-1<2-17 for 6-7 do [11-12]>&") ("(for a do b;done)", "(0-17 <1-16 for 5-6 do [10-11]>)") ("{ for a do b;done }", "{0-19 <2-17 for 6-7 do [11-12]>}")
 ("for a do for b in c;do d;done done", "<0-34 for 4-5 do <9-29 for 13-14 in 18-19 do [23-24]>>") ("if for a do b;done then c;fi", "<0-28 if <3-18 for 7-8 do [12-13]> then [24-25]>") ("a && for b do c;done # d", "[0-1]&&<5-20 for 9-10 do [14-15]>#21-24")
 ("for a do b;done\n\nc", "<0-15 for 4-5 do [9-10]> ~[17-18]") ("for a do b #c\n#d\ndone #e", "<0-21 for 4-5 do [9-10]#11-13 #14-16>#22-24") ("'for' a", "[0-5 6-7]") ("fora", "for.", "[0-4]") ("a\nfor b do", "[0-1] fault 12 at 10")
+// functions: a name, brackets, newlines and comments, and a compound command
+("f(){ a;}", "f0-1{3-8 [5-6]}") ("f() { a;}", "f0-1{4-9 [6-7]}") ("f ( ) { a;}", "f0-1{6-11 [8-9]}") ("f()(a)", "f0-1(3-6 [4-5])") ("f()\n\n{ a\n}", "f()\\\n{ a;}", "f0-1{5-10 [7-8]}")
+("f() if a;then b;fi", "f0-1<4-18 if [7-8] then [14-15]>") ("f() while a;do b;done", "f0-1<4-21 while [10-11] do [15-16]>") ("f() for a do b;done", "f0-1<4-19 for 8-9 do [13-14]>")
+("f() # b\n{ a;}", "f0-1#4-7{8-13 [10-11]}") ("f()#b\n# c \n\n{ a;}", "f0-1#3-5#6-9{12-17 [14-15]}") ("f\\\n(\\\n)\\\n{ a;}", "f0-1{9-14 [11-12]}") ("f\\\ng() { a;}", "f0-4{7-12 [9-10]}") ("f() { # b\na\n}", "f0-1{4-13 #6-9 [10-11]}")
+("_() (a)", "Z() (a)", "a() (a)", "f0-1(4-7 [5-6])") ("a_9() (b)", "f_Z() (b)", "f0-3(6-9 [7-8])") ("f() { g() { a;};}", "f0-1{4-17 f6-7{10-15 [12-13]}}")
+("a f;f() (b)", "[0-1 2-3] f4-5(8-11 [9-10])") ("f() (a) #b\nc", "f0-1(4-7 [5-6])#8-10 [11-12]") ("f() (a)\n\nb", "f0-1(4-7 [5-6]) ~[9-10]") ("a\n\nf() (b)", "[0-1] ~f3-4(7-10 [8-9])")
+("f(){ a;};b", "f0-1{3-8 [5-6]} [9-10]") ("f(){ a;}|b", "f0-1{3-8 [5-6]}|[9-10]") ("f(){ a;}&", "f0-1{3-8 [5-6]}&") ("! f(){ a;}", "!0-1f2-3{5-10 [7-8]}") ("f(){ a;}&&g(){ b;}", "f0-1{3-8 [5-6]}&&f10-11{13-18 [15-16]}")
+("f() case a in b) c;; esac", "f0-1<4-25 case 9-10 (14-20 14-15 [17-18])>") ("case a in b) f() { c;};; esac", "<0-29 case 5-6 (10-24 10-11 f13-14{17-22 [19-20]})>")
+("case a in b) f() (c)\nesac", "<0-25 case 5-6 (10-20 10-11 f13-14(17-20 [18-19]))>") ("{ f(){ a;} }", "{0-12 f2-3{5-10 [7-8]}}") ("(f(){ a;})", "(0-10 f1-2{4-9 [6-7]})") ("a|f() (b)", "[0-1]|f2-3(6-9 [7-8])") ("f() (a) \\\n|b", "f0-1(4-7 [5-6])|^[11-12]")
+// the name is a NAME, and neither reserved nor an assignment
+("my-f() { a;}", "my-f(\"", "1(", "'f'(", "\"f\"()", "$f()", "f.()", "f-()", "\\f()", "``()", "9a()", "-(", "[(", "a/b()", "f\\\n-()", "f\"\"()", "f''(", "${f}(", "if''()", "=()", "a,b ( ) (c)", "$((1))(", "1 (", "fault 14 at 0")
+("'f(", "fault 1 at 0") ("f${(", "fault 4 at 1") ("f-\\", "fault 8 at 2") ("a;f-(", "! f-(", "a|f-(", "{ f-(", "a&f-(", "fault 14 at 2") ("if f-(", "a&&f-(", "fault 14 at 3") ("a\nf-(", "[0-1] fault 14 at 2") ("a;\nf-(", "[0-1] fault 14 at 3")
+("if() { a; }", "for() { a;}", "a=1() { b;}", "a b() { c;}", "a b(", "fault 11 at 3") ("{() { a;}", "!() { a;}", "a=()", "fault 11 at 2") ("do() (a)", "in() (a)", "fi()", "}() (a)", "fault 11 at 0") ("a= f() (b)", "a b (", "a 1 (c)", "fault 11 at 4") ("a=1 b(", "fault 11 at 5") ("while()", "until()", "fault 11 at 6")
+// behind the name and `(`
+("f(", "fault 12 at 2") ("f(a)", "a(b", "f(;", "f((", "f(\n)", "f(if)", "f(1<", "f(b=1", "f(<", "f(|", "f(&", "f({", "fault 11 at 2") ("f( #a", "fault 12 at 5") ("f( #a\n)", "fault 11 at 5") ("f('a", "fault 1 at 2") ("f(a'", "fault 1 at 3")
+// the body is a compound command
+("f()", "fault 12 at 3") ("f() a", "f() a=1", "f() )", "f()\n;", "f() do", "f() !", "f() g() { a;}", "f() }", "f() <a", "f() 1<a", "f() ;", "fault 11 at 4") ("f();", "f()&", "f()|b", "f())", "f(){}", "f()a", "fault 11 at 3") ("f() 'a", "fault 1 at 4") ("f() a\"", "fault 2 at 5")
+("f() #a", "fault 12 at 6") ("f()\n\n", "fault 12 at 5") ("f(){", "fault 12 at 4") ("f(){ }", "f(){ fi", "fault 11 at 5") ("f() {", "fault 12 at 5") ("f()\n#a\n#b\n", "fault 12 at 10") ("f()#a\nb", "fault 11 at 6") ("f()((", "fault 12 at 5")
+("f() { a;} b", "f() { a;} {", "f() { a;} (", "f() { a;} if", "f() { a;} 1<", "fault 11 at 10") ("f(){ a;}(b)", "f(){ a;};;", "f(){ a;})", "fault 11 at 8") ("f(){ a;}b", "fault 12 at 9") ("f(){ a;} 'b", "fault 1 at 9") ("{ f(){ a;}", "fault 12 at 10")
+// `case`: its word, its items, its patterns
+("case a in b) c;; esac", "<0-21 case 5-6 (10-16 10-11 [13-14])>") ("case a in esac", "<0-14 case 5-6>") ("case a\n\n in\n\n\nesac", "<0-18 case 5-6>")
+("case a in (b) c;; esac", "<0-22 case 5-6 (10-17 11-12 [14-15])>") ("case a in ( b | c|d ) e ;;\n\nesac", "<0-32 case 5-6 (10-26 12-13|16-17|18-19 [22-23])>")
+("case a in b)c;;d)e;;esac", "<0-24 case 5-6 (10-15 10-11 [12-13]) (15-20 15-16 [17-18])>")
+("case a in\nb)\nc\n;;\n\n(d)\n\ne; f\n\n;;\nesac", "<0-37 case 5-6 (10-17 10-11 [13-14]) (19-32 20-21 [24-25] [27-28])>")
+("case \"a b\" in \"b)\"|'|') c;; esac", "<0-32 case 5-10 (14-27 14-18|19-22 [24-25])>") ("case ${a-(} in *.[ch]|?|$x) c;; esac", "<0-36 case 5-11 (15-31 15-21|22-23|24-26 [28-29])>")
+// a body may be empty, of comments alone, and in the background
+("case a in b) ;; esac", "<0-20 case 5-6 (10-15 10-11)>") ("case a in (b);;c);;esac", "<0-23 case 5-6 (10-15 11-12) (15-19 15-16)>") ("case a in b)\n\n\n;;\nesac", "<0-22 case 5-6 (10-17 10-11)>")
+("case a in b) #c\n# d \n;; esac", "<0-28 case 5-6 (10-23 10-11 #13-15 #16-19)>") ("case a in b)\n\n#c\n\nd #e\n;; esac", "<0-30 case 5-6 (10-25 10-11 #14-16 ~[18-19]#20-22)>")
+("case a in b) c&;; d) e;; esac", "<0-29 case 5-6 (10-17 10-11 [13-14]&) (18-24 18-19 [21-22])>") ("case a in b) c; ;; d) e\n\n;; esac", "<0-32 case 5-6 (10-18 10-11 [13-14]) (19-27 19-20 [22-23])>")
+("case a in b) c&&d|e;; esac", "<0-26 case 5-6 (10-21 10-11 [13-14]&&[16-17]|[18-19])>") ("case a in b) (c);; esac", "<0-23 case 5-6 (10-18 10-11 (13-16 [14-15]))>")
+// without `;;` the last item ends with its last token that is no newline
+("case a in b) c\nesac", "<0-19 case 5-6 (10-14 10-11 [13-14])>") ("case a in b) c; esac", "<0-20 case 5-6 (10-15 10-11 [13-14])>") ("case a in b) c & esac", "<0-21 case 5-6 (10-16 10-11 [13-14]&)>")
+("case a in b) c ;\n\nesac", "<0-22 case 5-6 (10-16 10-11 [13-14])>") ("case a in b) c; d \n\nesac", "<0-24 case 5-6 (10-17 10-11 [13-14] [16-17])>")
+("case a in b) (c) esac", "<0-21 case 5-6 (10-16 10-11 (13-16 [14-15]))>") ("case a in b) esac", "<0-17 case 5-6 (10-12 10-11)>") ("case a in (b )\n\nesac", "<0-20 case 5-6 (10-14 11-12)>")
+("case a in b) #c\n#d\nesac", "<0-23 case 5-6 (10-12 10-11 #13-15 #16-18)>") ("case a in b) c #d\n#e\nesac", "<0-25 case 5-6 (10-14 10-11 [13-14]#15-17 #18-20)>")
+("case a in b) c; #d\nesac", "<0-23 case 5-6 (10-15 10-11 [13-14]#16-18)>") ("case a in b) c;\nd\nesac", "<0-22 case 5-6 (10-17 10-11 [13-14] [16-17])>")
+("case a in b) c; d\n#e\nesac", "<0-25 case 5-6 (10-17 10-11 [13-14] [16-17] #18-20)>") ("case a in b) c && d | e\n esac", "<0-29 case 5-6 (10-23 10-11 [13-14]&&[18-19]|[22-23])>")
+("case a in b) c \\\n ;\\\n esac", "<0-26 case 5-6 (10-19 10-11 [13-14])>")
+// `esac` as the first pattern ends the case, behind a `|` it is a word; no other word is reserved
+("case a in x|esac) b;; esac", "<0-26 case 5-6 (10-21 10-11|12-16 [18-19])>") ("case a in case) b;; (case|case) ;; esac", "<0-39 case 5-6 (10-19 10-14 [16-17]) (20-34 21-25|26-30)>")
+("case a in in) b;; (in|in) ;; esac", "<0-33 case 5-6 (10-17 10-12 [14-15]) (18-28 19-21|22-24)>") ("case a in if) b;; (if|if) ;; esac", "<0-33 case 5-6 (10-17 10-12 [14-15]) (18-28 19-21|22-24)>")
+("case a in do) b;; (do|do) ;; esac", "<0-33 case 5-6 (10-17 10-12 [14-15]) (18-28 19-21|22-24)>") ("case a in {) b;; ({|{) ;; esac", "<0-30 case 5-6 (10-16 10-11 [13-14]) (17-25 18-19|20-21)>")
+("case a in }) b;; (}|}) ;; esac", "<0-30 case 5-6 (10-16 10-11 [13-14]) (17-25 18-19|20-21)>") ("case a in !) b;; (!|!) ;; esac", "<0-30 case 5-6 (10-16 10-11 [13-14]) (17-25 18-19|20-21)>")
+("case a in then) b;; (then|then) ;; esac", "<0-39 case 5-6 (10-19 10-14 [16-17]) (20-34 21-25|26-30)>")
+("case a in done) b;; (done|done) ;; esac", "<0-39 case 5-6 (10-19 10-14 [16-17]) (20-34 21-25|26-30)>")
+("case a in for) b;; (for|for) ;; esac", "<0-36 case 5-6 (10-18 10-13 [15-16]) (19-31 20-23|24-27)>")
+("case a in while) b;; (while|while) ;; esac", "<0-42 case 5-6 (10-20 10-15 [17-18]) (21-37 22-27|28-33)>")
+("case a in a=1) b;; (a=1|a=1) ;; esac", "<0-36 case 5-6 (10-18 10-13 [15-16]) (19-31 20-23|24-27)>") ("case a in =) b;; (=|=) ;; esac", "<0-30 case 5-6 (10-16 10-11 [13-14]) (17-25 18-19|20-21)>")
+("case a in 12) b;; (12|12) ;; esac", "<0-33 case 5-6 (10-17 10-12 [14-15]) (18-28 19-21|22-24)>") ("case a in 1a) b;; (1a|1a) ;; esac", "<0-33 case 5-6 (10-17 10-12 [14-15]) (18-28 19-21|22-24)>")
+("case in in x) b;; esac", "<0-22 case 5-7 (11-17 11-12 [14-15])>") ("case esac in x) b;; esac", "<0-24 case 5-9 (13-19 13-14 [16-17])>")
+("case case in x) b;; esac", "<0-24 case 5-9 (13-19 13-14 [16-17])>") ("case { in x) b;; esac", "<0-21 case 5-6 (10-16 10-11 [13-14])>")
+("case ! in x) b;; esac", "<0-21 case 5-6 (10-16 10-11 [13-14])>") ("case a=1 in x) b;; esac", "<0-23 case 5-8 (12-18 12-13 [15-16])>")
+("case for in x) b;; esac", "<0-23 case 5-8 (12-18 12-13 [15-16])>") ("case a in 'esac') b;; esacs);; esac", "<0-35 case 5-6 (10-21 10-16 [18-19]) (22-30 22-27)>")
+("ca\\\nse a i\\\nn b\\\nc\\\n) d;\\\n; es\\\nac", "<0-34 case 7-8 (14-27 14-18 [22-23])>") ("case a in (\\\nb \\\n| \\\nc);; esac", "<0-30 case 5-6 (10-25 13-14|21-22)>")
+("case a in (esac) b;; esac", "case a in (esac", "fault 11 at 11") ("case a in (b|c)d;;(esac) esac", "fault 11 at 19") ("case a in b) c;; () d;; esac", "fault 11 at 18")
+("case a in ) b", "case a in |b)", "case a in ;", "case a in &", "case a in ;;", "case a in <b)", "case a in 1>b)", "fault 11 at 10") ("case a in ((", "case a in (1>b)", "fault 11 at 11")
+("case a in b(", "case a in b||c)", "case a in b\n)", "case a in b&", "case a in b<c)", "case a in b;;", "fault 11 at 11") ("case a in b c)", "case a in b ;", "case a in b 1>c)", "fault 11 at 12")
+("case a in b #c\n)", "fault 11 at 14") ("case a in b|)", "case a in b|\nc)", "case a in b|(c)", "case a in b|1>c)", "fault 11 at 12") ("case a in b| |", "case a in (b|&", "fault 11 at 13")
+("case a in b| #c\nd)", "fault 11 at 15") ("case a in b | ;", "fault 11 at 14") ("case;", "case\na in", "case|", "case(a) in", "fault 11 at 4")
+("case 1>b", "case )", "case & in", "case <a in", "fault 11 at 5") ("case #a\nb in", "fault 11 at 7")
+("case a b", "case a ;", "case a do", "case a esac", "case a b=1", "case a 1>b", "case a\nb in", "case a\n;in", "fault 11 at 7") ("case a;in", "case a(", "case a|b in", "fault 11 at 6")
+("case a #b\nc in", "fault 11 at 10") ("case a 'b", "fault 1 at 7") ("case 'a", "fault 1 at 5") ("case a in 'b", "fault 1 at 10") ("case a in b|'c", "fault 1 at 12") ("case a in ('b", "fault 1 at 11")
+("case a in b) 'c", "fault 1 at 13") ("case a in \\\n\"b", "fault 2 at 12") ("case \"", "fault 2 at 5") ("case `", "fault 3 at 5") ("case a in b `", "fault 3 at 12") ("case \\", "fault 8 at 5")
+("case a in \\", "fault 8 at 10") ("case a in b|\\", "fault 8 at 12") ("case", "fault 12 at 4") ("case ", "fault 12 at 5") ("case a", "fault 12 at 6") ("case a ", "case a\n", "fault 12 at 7")
+("case a #b", "case a in", "fault 12 at 9") ("case a in ", "case a in\n", "fault 12 at 10") ("case a in b", "case a in (", "fault 12 at 11")
+("case a in b ", "case a in (b", "case a in b|", "case a in b)", "fault 12 at 12") ("case a in b)\n", "fault 12 at 13") ("case a in b) c", "case a in b);;", "fault 12 at 14")
+("case a in b) c;", "case a in b) c\n", "fault 12 at 15") ("case a in b) c #d", "case a in b);;\n#c", "case a in b) c;; ", "fault 12 at 17") ("case a in b) c;; esac;case d", "fault 12 at 28")
+("case a in b) c;;;;", "case a in b) c; )", "case a in b) c;;)", "case a in b) c; fi", "case a in b) c; ;", "fault 11 at 16")
+("case a in b) ; ;", "case a in b) )", "case a in b) do", "case a in b) & ;;", "case a in b) }", "fault 11 at 13") ("case a in b);;;", "case a in b) c)", "fault 11 at 14")
+("case a in b) (c) fi", "case a in b) c;; ;; esac", "fault 11 at 17") ("case a in b) c;; esac d", "case a in b) c;; esac ;;", "fault 11 at 22")
+("case a in esac (", "case a in esac )", "fault 11 at 15") (";;", "fault 11 at 0") ("a;;", "fault 11 at 1") ("a; ;;", "fault 11 at 3") ("(a;;)", "fault 11 at 2")
+// comments of its head stand before its first item, those behind a `;;` before the next one; where none follows they are its tail
+("case a #b\n# c \nin #d\n\n#e\nf) g;; esac", "<0-36 case 5-6 (25-31 #7-9 #10-13 #18-20 #22-24 25-26 [28-29])>") ("case a in #b\nesac", "<0-17 case 5-6 #10-12>")
+("case a #b\nin #c\nesac", "<0-20 case 5-6 #7-9 #13-15>")
+("case a in b) c;; #d\n\n#e\n(f) g;; #h\n#i\nesac #j", "<0-42 case 5-6 (10-16 10-11 [13-14]) (24-31 #17-19 #21-23 25-26 [28-29]) #32-34 #35-37>#43-45")
+("case a in b) ;; #c\nd) #e\n;;\n#f\n\nesac", "<0-36 case 5-6 (10-15 10-11) (19-27 #16-18 19-20 #22-24) #28-30>")
+("case a in b)\n\n\nc\n\nd\n\n;;\n\ne) f\n\n#g\n\n;; esac", "<0-42 case 5-6 (10-23 10-11 [15-16] ~[18-19]) (25-37 25-26 [28-29] ~#31-33)>")
+// case among others
+("case a in b) case c in d) e;; esac;; esac", "<0-41 case 5-6 (10-36 10-11 <13-34 case 18-19 (23-29 23-24 [26-27])>)>")
+("case a in b) case c in d) e\nesac\nesac", "<0-37 case 5-6 (10-32 10-11 <13-32 case 18-19 (23-27 23-24 [26-27])>)>") ("if case a in esac then b;fi", "<0-27 if <3-17 case 8-9> then [23-24]>")
+("(case a in b) c\nesac)", "(0-21 <1-20 case 6-7 (11-15 11-12 [14-15])>)") ("case a in b) c;; esac|d", "<0-21 case 5-6 (10-16 10-11 [13-14])>|[22-23]") ("! case a in esac&", "!0-1<2-16 case 7-8>&")
+("a && case b in esac\n\nc", "[0-1]&&<5-19 case 10-11> ~[21-22]") ("for a do case b in c) d;; esac done", "<0-35 for 4-5 do <9-30 case 14-15 (19-25 19-20 [22-23])>>") ("'case' a", "[0-6 7-8]")
+("case a in b) if c;then d;fi esac", "<0-32 case 5-6 (10-27 10-11 <13-27 if [16-17] then [23-24]>)>")
 // behind a compound command a closing word needs no separator
 ("{ (a) }", "{0-7 (2-5 [3-4])}") ("{ { a;} }", "{0-9 {2-7 [4-5]}}") ("{ if a;then b;fi }", "{0-18 <2-16 if [5-6] then [12-13]>}")
 ("if { a;} then { b;} else { c;} fi", "<0-33 if {3-8 [5-6]} then {14-19 [16-17]} else {25-30 [27-28]}>")
@@ -233,7 +316,7 @@ pub(crate) const ROWS: &[u8] = br###"
 ("A=\tthen", "x=\telif", "b= else", "a= done", "x= esac", "b= case", "[=0-2 3-7]")
 ("\\then", "then\r", "elif!", "else\r", "\\done", "done\r", "donec", "esac\r", "esact", "case$", "[0-5]")
 ("a\telif", "\r else", "c esac", "[0-1 2-6]") ("else\"\"", "while!", "untilc", "[0-6]") ("b= fi", "a=\tdo", "b= in", "[=0-2 3-5]")
-("\"fi\"", "[0-4]") ("\\do", "do\r", "[0-3]") ("}\r", "{\r", "!\r", "[0-2]") ("esa\\\nc", "i\\\nn", "c\\\nase", "fault 11 at 0")
+("\"fi\"", "[0-4]") ("\\do", "do\r", "[0-3]") ("}\r", "{\r", "!\r", "[0-2]") ("esa\\\nc", "i\\\nn", "fault 11 at 0") ("c\\\nase", "fault 12 at 6")
 ("a in", "[0-1 2-4]") ("a while", "\r until", "[0-1 2-7]") ("a= while", "b= until", "[=0-2 3-8]") ("a\tfor", "[0-1 2-5]")
 ("x= for", "[=0-2 3-6]") ("a|}", "fault 11 at 2") ("{ 1;}\\\n", "{0-5 [2-3]}")
 ("!(", "fault 12 at 2") ("(\"", "fault 2 at 1") ("(\\", "fault 8 at 1") ("(if)", "fault 11 at 3") ("DO", "FI", "IN", "[0-2]")
@@ -278,8 +361,8 @@ pub(crate) const ROWS: &[u8] = br###"
 ("a=1 1=2 b=3", "[=0-3 4-7 8-11]") ("a=1;b=2", "[=0-3] [=4-7]") ("a=1&", "[=0-3]&") ("a='b c'", "[=0-7]")
 ("a\\\n=1", "a=\\\n1", "[=0-5]") ("a\\\nb=1", "[=0-6]")
 // reserved words
-("}", "case", "do", "done", "elif", "else", "esac", "fi", "in", "then", "fi\\\n", "d\\\no\\\n\\\nne\\\n;", "fault 11 at 0")
-("a;}", "a&then b", "a;case", "a;do", "a;done", "a;elif", "a;else", "a;esac", "a;fi", "a;in", "\\\nfi", "fault 11 at 2")
+("}", "do", "done", "elif", "else", "esac", "fi", "in", "then", "fi\\\n", "d\\\no\\\n\\\nne\\\n;", "fault 11 at 0")
+("a;}", "a&then b", "a;do", "a;done", "a;elif", "a;else", "a;esac", "a;fi", "a;in", "\\\nfi", "fault 11 at 2")
 ("a\ndo", "[0-1] fault 11 at 2") ("a if", "[0-1 2-4]") ("a=1 if", "[=0-3 4-6]")
 ("a ! { } case do done", "[0-1 2-3 4-5 6-7 8-12 13-15 16-20]") ("i", "[0-1]") ("iff", "do.", "{a}", "i\\f", "if$", "if#", "[0-3]")
 ("If", "{}", "!!", "[0-2]") ("if''", "'if'", "\"if\"", "[0-4]") ("if\\\nx", "i\\\nfx", "[0-5]") ("[[ a ]]", "[0-2 3-4 5-7]")
@@ -293,7 +376,7 @@ pub(crate) const ROWS: &[u8] = br###"
 ("a 12b>", "fault 11 at 5") ("a 9'", "fault 1 at 3") ("a=1 9<", "9\\\n <", "9\\\na<", "fault 11 at 4")
 // escapes
 ("\\a", "\\'", "\\\"", "\\`", "\\\\\n", "[0-2]") ("\\ a", "\\${", "a\\\\", "a\\\\\n", "[0-3]") ("a\\;b", "[0-4]")
-("\\$(", "fault 11 at 2") ("\\", "fault 8 at 0") ("a\\", "fault 8 at 1") ("a\\\\\\", "a\\\n\\", " \\\n\\", "fault 8 at 3")
+("\\$(", "fault 14 at 0") ("\\", "fault 8 at 0") ("a\\", "fault 8 at 1") ("a\\\\\\", "a\\\n\\", " \\\n\\", "fault 8 at 3")
 ("a\\\n\\b;c", "[0-5] [6-7]")
 // single quotes
 ("''", "[0-2]") ("'a b'", "'a\nb'", "[0-5]") ("'a'b'c'", "[0-7]") ("'a\\'", "'\\\n'", "[0-4]") ("'\"`${$(;'", "[0-9]")
@@ -311,11 +394,11 @@ pub(crate) const ROWS: &[u8] = br###"
 // dollars that begin no piece
 ("$", "$\\\n", "[0-1]") ("$a", "a$", "$$", "[0-2]") ("$ a", "[0-1 2-3]") ("$;a", "[0-1] [2-3]") ("$$;a", "[0-2] [3-4]")
 ("$'a'", "$\"a\"", "$`a`", "$\\\na", "$\\\n$", "[0-4]") ("$`a", "fault 3 at 1") ("$\\", "fault 8 at 1") ("$\\a", "$${", "[0-3]")
-("$\\\n\\", "fault 8 at 3") ("$$(a)", "fault 11 at 2") ("$$\\\n(", "$\\\n$(", "fault 11 at 4") ("$\\\n$\\\n(", "fault 11 at 6")
-("a\\\n$$(", "fault 11 at 5")
+("$\\\n\\", "fault 8 at 3") ("$$(a)", "$$\\\n(", "$\\\n$(", "$\\\n$\\\n(", "fault 14 at 0")
+("a\\\n$$(", "fault 14 at 0")
 // command substitutions are not read yet
 ("$(a)", "$(", "$\\\n(a)", "$(\\\na)", "fault 11 at 0") ("a$(b)", "\"$(a)\"", "fault 11 at 1") ("$$$(", "fault 11 at 2")
-("$$$$(", "${a-$(b)}", "fault 11 at 4") ("a\\\n$(b)", "$(($(1)))", "fault 11 at 3") ("\"${a-$(b)}\"", "fault 11 at 5")
+("$$$$(", "fault 14 at 0") ("${a-$(b)}", "fault 11 at 4") ("a\\\n$(b)", "$(($(1)))", "fault 11 at 3") ("\"${a-$(b)}\"", "fault 11 at 5")
 // the parameter of an expansion, and where a pattern begins
 ("${}", "[0-3]") ("${a}", "[0-4]") ("${", "${a", "fault 4 at 0") ("a${b", "fault 4 at 1")
 ("\"${@%'}\"", "\"${*%'}\"", "\"${#%'}\"", "\"${?%'}\"", "\"${-%'}\"", "\"${$%'}\"", "\"${!%'}\"", "\"${##'}\"", "\"${%%'}\"",
@@ -448,8 +531,8 @@ fn trees(rt: HostRuntime) -> Result<(), Fail> {
 /// for all others.
 const BYTES: &[u8] = br###"
 // between two letters
-("a" ? "b", "\t ": "[0-1 2-3]", "\n;": "[0-1] [2-3]", "&": "[0-1]& [2-3]", "|": "[0-1]|[2-3]", "()<>": "fault 11 at 1",
-  "'": "fault 1 at 1", "\"": "fault 2 at 1", "`": "fault 3 at 1", "=": "[=0-3]", "": "[0-3]")
+("a" ? "b", "\t ": "[0-1 2-3]", "\n;": "[0-1] [2-3]", "&": "[0-1]& [2-3]", "|": "[0-1]|[2-3]", ")<>": "fault 11 at 1",
+  "(": "fault 11 at 2", "'": "fault 1 at 1", "\"": "fault 2 at 1", "`": "fault 3 at 1", "=": "[=0-3]", "": "[0-3]")
 // where a command begins
 ("" ? "b", "\t\n ": "[1-2]", "#": "#0-2", "&)<>|;": "fault 11 at 0", "(": "fault 12 at 2", "'": "fault 1 at 0", "\"": "fault 2 at 0",
   "`": "fault 3 at 0", "": "[0-2]")
@@ -460,12 +543,12 @@ const BYTES: &[u8] = br###"
 ("if" ? "", "\t\n (": "fault 12 at 3", "&)<>|;": "fault 11 at 2", "=": "[=0-3]", "'": "fault 1 at 2", "\"": "fault 2 at 2", "`": "fault 3 at 2",
   "\\": "fault 8 at 2", "": "[0-3]")
 // behind a continuation
-("a\\\n" ? "", "\t\n ;": "[0-1]", "&": "[0-1]&", "()<>": "fault 11 at 3", "|": "fault 12 at 4", "=": "[=0-4]", "'": "fault 1 at 3",
+("a\\\n" ? "", "\t\n ;": "[0-1]", "&": "[0-1]&", ")<>": "fault 11 at 3", "(|": "fault 12 at 4", "=": "[=0-4]", "'": "fault 1 at 3",
   "\"": "fault 2 at 3", "`": "fault 3 at 3", "\\": "fault 8 at 3", "": "[0-4]")
 // behind a backslash, and before a newline
 ("a\\" ? " b", "\n": "[0-1 ^4-5]", "": "[0-3 4-5]")
 ("a " ? "\nb", "\\": "[0-1 ^4-5]", "\t ;": "[0-1] [4-5]", "\n": "[0-1] ~[4-5]", "&": "[0-1]& [4-5]", "#": "[0-1]#2-3 [4-5]",
-  "|": "[0-1]|^[4-5]", "()<>": "fault 11 at 2", "'": "fault 1 at 2", "\"": "fault 2 at 2", "`": "fault 3 at 2", "": "[0-1 2-3] [4-5]")
+  "|": "[0-1]|^[4-5]", ")<>": "fault 11 at 2", "(": "fault 11 at 3", "'": "fault 1 at 2", "\"": "fault 2 at 2", "`": "fault 3 at 2", "": "[0-1 2-3] [4-5]")
 ("a \\" ? " b", "\n": "[0-1 ^5-6]", "": "[0-1 2-4 5-6]")
 // behind `;` and `&`
 ("a;" ? "b", ";": "fault 11 at 1", "\t\n ": "[0-1] [3-4]", "#": "[0-1]#2-4", "&)<>|": "fault 11 at 2", "(": "fault 12 at 4", "'": "fault 1 at 2",
@@ -475,7 +558,7 @@ const BYTES: &[u8] = br###"
 ("a&" ? "", "&!({": "fault 12 at 3", "\t\n ": "[0-1]&", "#": "[0-1]&#2-3", ";)<>|}": "fault 11 at 2", "'": "fault 1 at 2",
   "\"": "fault 2 at 2", "`": "fault 3 at 2", "\\": "fault 8 at 2", "": "[0-1]& [2-3]")
 // comments
-("a" ? "#b", "\t ;": "[0-1]#2-4", "\n": "[0-1] #2-4", "&": "[0-1]&#2-4", "=": "[=0-4]", "()<>": "fault 11 at 1", "|": "fault 12 at 4",
+("a" ? "#b", "\t ;": "[0-1]#2-4", "\n": "[0-1] #2-4", "&": "[0-1]&#2-4", "=": "[=0-4]", ")<>": "fault 11 at 1", "(|": "fault 12 at 4",
   "'": "fault 1 at 1", "\"": "fault 2 at 1", "`": "fault 3 at 1", "": "[0-4]")
 ("#a" ? "", "\t\n ": "#0-2", "": "#0-3")
 ("#" ? "b", "\n": "#0-1 [2-3]", "": "#0-3")
@@ -483,10 +566,10 @@ const BYTES: &[u8] = br###"
 ("" ? "=1", "ABCDEFGHIJKLMNOPQRSTUVWXYZ_abcdefghijklmnopqrstuvwxyz": "[=0-3]", "\t\n ": "[1-3]", "#": "#0-3",
   "&)<>|;": "fault 11 at 0", "(": "fault 12 at 3", "'": "fault 1 at 0", "\"": "fault 2 at 0", "`": "fault 3 at 0", "": "[0-3]")
 ("a" ? "=1", "ABCDEFGHIJKLMNOPQRSTUVWXYZ_abcdefghijklmnopqrstuvwxyz0123456789=": "[=0-4]", "\t ": "[0-1 2-4]",
-  "\n;": "[0-1] [2-4]", "&": "[0-1]& [2-4]", "|": "[0-1]|[2-4]", "()<>": "fault 11 at 1", "'": "fault 1 at 1", "\"": "fault 2 at 1",
+  "\n;": "[0-1] [2-4]", "&": "[0-1]& [2-4]", "|": "[0-1]|[2-4]", ")<>": "fault 11 at 1", "(": "fault 11 at 2", "'": "fault 1 at 1", "\"": "fault 2 at 1",
   "`": "fault 3 at 1", "": "[0-4]")
 // numbers
-("a " ? "<", "0123456789()<>": "fault 11 at 2", "\n": "[0-1] fault 11 at 3", "#": "[0-1]#2-4", "\\": "[0-1 2-4]",
+("a " ? "<", "0123456789)<>": "fault 11 at 2", "\n": "[0-1] fault 11 at 3", "#": "[0-1]#2-4", "\\": "[0-1 2-4]",
   "'": "fault 1 at 2", "\"": "fault 2 at 2", "`": "fault 3 at 2", "": "fault 11 at 3")
 ("a 9" ? "<", "0123456789<>": "fault 11 at 2", "()": "fault 11 at 3", "\n": "[0-1 2-3] fault 11 at 4", "\\": "[0-1 2-5]",
   "'": "fault 1 at 3", "\"": "fault 2 at 3", "`": "fault 3 at 3", "": "fault 11 at 4")
@@ -500,7 +583,7 @@ const BYTES: &[u8] = br###"
 ("\"" ? "\"", "\"": "fault 2 at 2", "\\": "fault 2 at 0", "`": "fault 3 at 1", "": "[0-3]")
 ("\"\\" ? "\"", "": "[0-4]")
 // before `{`
-("a" ? "{", "\t ": "[0-1 2-3]", "\n": "[0-1] fault 12 at 3", "&;|": "fault 12 at 3", "()<>": "fault 11 at 1", "$": "fault 4 at 1",
+("a" ? "{", "\t ": "[0-1 2-3]", "\n": "[0-1] fault 12 at 3", "&;|": "fault 12 at 3", ")<>": "fault 11 at 1", "(": "fault 11 at 2", "$": "fault 4 at 1",
   "'": "fault 1 at 1", "\"": "fault 2 at 1", "`": "fault 3 at 1", "=": "[=0-3]", "": "[0-3]")
 // behind a `$`, and behind `$(`
 ("$" ? "", "(": "fault 11 at 0", "{": "fault 4 at 0", "\t\n ;": "[0-1]", "&": "[0-1]&", ")<>": "fault 11 at 1", "|": "fault 12 at 2",
@@ -621,6 +704,14 @@ const DEEP: &[u8] = br###"
 ("for a do " * 100, "b", ";done" * 100, "") ("for a do " * 101, "fault 15 at 900") ("for a in b;do " * 100, "c", "\ndone" * 100, "") ("(" * 99, "for a in \"b\";do c;done", ")" * 99, "fault 15 at 108")
 ("(" * 98, "for a in \"b\";do c;done", ")" * 98, "") ("(" * 99, "for \"b\"", "fault 15 at 103") ("(" * 99, "for a \"b\"", "fault 15 at 105") ("for a do b;done;" * 101, "") ("for a in ", "b " * 100000, ";do c;done", "")
 ("for a in b", " #c\n" * 1000, "do d;done", "") ("for a", "\n" * 1000, "in b", "\n" * 1000, "do c;done", "")
+// a function and its body are one each
+("f(){ " * 50, "a", "; }" * 50, "") ("f(){ " * 51, "a", "; }" * 51, "fault 15 at 250") ("(" * 98, "f(){ a;}", ")" * 98, "") ("(" * 99, "f(){ a;}", "fault 15 at 102") ("(" * 99, "f() a", "fault 11 at 103") ("(" * 100, "f(", "fault 15 at 100")
+("(" * 100, "f ( )", "fault 15 at 100") ("(" * 100, "f-(", "fault 14 at 100") ("(" * 100, "f", "fault 12 at 101") ("(" * 97, "f(){ \"b\";}", ")" * 97, "") ("(" * 98, "f(){ \"b\";}", "fault 15 at 103") ("f(){ a;};" * 101, "") ("(" * 99, "f('a'", "fault 11 at 101") ("(" * 99, "f(\"a\"", "fault 15 at 101")
+("(" * 98, "f(){ a; } \"${x}\"", "fault 11 at 108") ("(" * 99, "f() \"", "fault 15 at 103") ("(" * 98, "f()", "\n#a" * 1000, "\n(b)", ")" * 98, "")
+("case a in b) " * 100, "c", ";; esac" * 100, "") ("case a in b) " * 101, "fault 15 at 1300") ("case a in (b) " * 100, "c", "\nesac" * 100, "") ("(" * 99, "case \"b\"", "fault 15 at 104")
+("(" * 98, "case \"b\" in \"c\") \"d\";; esac", ")" * 98, "") ("(" * 99, "case a in \"b\"", "fault 15 at 109") ("(" * 99, "case a in b|\"c\"", "fault 15 at 111") ("(" * 99, "case a in b) \"c\"", "fault 15 at 112")
+("(" * 100, "case", "fault 15 at 100") ("case a in b) c;; esac;" * 101, "") ("case a in ", "b) c;; " * 10000, "esac", "") ("case a in b", "|c" * 10000, ") d;; esac", "") ("case a in b)", " c;" * 10000, "esac", "")
+("case a in b);;", " #c\n" * 1000, "esac", "") ("case a in b", "\\\n" * 1000, ") c", "\n" * 1000, "esac", "")
 // with constructs of words
 ("a ", "${x:-" * 100, "}" * 100, "") ("a ", "${x:-" * 101, "}" * 101, "fault 15 at 502") ("{ ", "a ", "${x:-" * 99, "}" * 99, "; }", "")
 ("{ ", "a ", "${x:-" * 100, "}" * 100, "; }", "fault 15 at 499") ("{ " * 50, "a ", "${x:-" * 50, "}" * 50, "; }" * 50, "")
@@ -633,7 +724,7 @@ const DEEP: &[u8] = br###"
 // what was closed is open no more
 ("(a);" * 101, "") ("(" * 60, "a", ")" * 60, ";", "(" * 60, "a", ")" * 60, "") ("(" * 60, "a", ")" * 60, "|", "(" * 60, "a", ")" * 60, "")
 ("{ " * 60, "a \"b\";", "(" * 40, "a", ")" * 40, "\n}" * 60, "") ("{ " * 60, "a \"b\";", "(" * 41, "fault 15 at 166") ("if (a);then " * 100, "b", "\nfi" * 100, "fault 15 at 1191")
-("(" * 99, "! (", "fault 12 at 102") ("(" * 99, "a|(", "fault 12 at 102") ("(" * 99, "a&&(", "fault 12 at 103") ("(" * 100, "a(", "fault 11 at 101")
+("(" * 99, "! (", "fault 12 at 102") ("(" * 99, "a|(", "fault 12 at 102") ("(" * 99, "a&&(", "fault 12 at 103") ("(" * 100, "a(", "fault 15 at 100")
 ("(" * 100, "for", "fault 15 at 100") ("(" * 99, "if a;then b;elif c;then \"${b}\"", "fault 15 at 123") ("{ a;};" * 101, "") ("if a;then b;fi;" * 101, "")
 ("while a;do b;done;" * 101, "")
 // many of a kind

@@ -1,10 +1,10 @@
 use Rattle.std.proofs.Common.{◌≡◌, ◌≤◌, ◌+◌, ◌*◌, ◌-◌, [], length, map}
 use Rattle.shread.specs.Clauses.{Shows, Stays, reads, reads_at, text_of}
 use Rattle.shread.specs.Commands.{join_pipeline, joined_so, pipe_turn, piped}
-use Rattle.shread.specs.Compounds.{branched, elif_turn}
+use Rattle.shread.specs.Compounds.{branched, case_turn, elif_turn}
 use Rattle.shread.specs.Form.{many}
 use Rattle.shread.specs.Levels.{level}
-use Rattle.shread.specs.Listed.{view_listed}
+use Rattle.shread.specs.Listed.{view_cases, view_listed}
 use Rattle.shread.specs.Lists.{entry_turn, list_so, list_turn}
 use Rattle.shtree.specs.View.{view_and_or_part, view_branch, view_pipeline_part}
 use Rattle.shread.proofs.cursor.Cursor.+commands.Given as goal
@@ -14,77 +14,104 @@ use Rattle.shread.proofs.cursor.Cursor.+commands.Given as goal
 abbrev pub decreases-compound : goal.decreases-compound
 decreases-compound g l = 32 * l.room + 1
 
+abbrev pub decreases-compound_by : goal.decreases-compound_by
+decreases-compound_by g l = 32 * l.room + 2
+
+abbrev pub decreases-function : goal.decreases-function
+decreases-function g l = 32 * l.room + 3
+
+abbrev pub decreases-named : goal.decreases-named
+decreases-named g l = 32 * l.room + 4
+
+abbrev pub decreases-worded : goal.decreases-worded
+decreases-worded g l = 32 * l.room + 5
+
 abbrev pub decreases-command : goal.decreases-command
-decreases-command g l = 32 * l.room + 2
+decreases-command g l = 32 * l.room + 6
 
 abbrev pub decreases-one_command : goal.decreases-one_command
-decreases-one_command g l = 32 * l.room + 3
+decreases-one_command g l = 32 * l.room + 7
 
 abbrev pub decreases-pipe : goal.decreases-pipe
-decreases-pipe g l = 32 * l.room + 4
+decreases-pipe g l = 32 * l.room + 8
 
 abbrev pub decreases-pipes : goal.decreases-pipes
-decreases-pipes g l = 32 * l.room + 5
+decreases-pipes g l = 32 * l.room + 9
 
 abbrev pub decreases-pipeline : goal.decreases-pipeline
-decreases-pipeline g l = 32 * l.room + 6
+decreases-pipeline g l = 32 * l.room + 10
 
 abbrev pub decreases-one_pipeline : goal.decreases-one_pipeline
-decreases-one_pipeline g l = 32 * l.room + 7
+decreases-one_pipeline g l = 32 * l.room + 11
 
 abbrev pub decreases-join_pipeline : goal.decreases-join_pipeline
-decreases-join_pipeline g l = 32 * l.room + 8
+decreases-join_pipeline g l = 32 * l.room + 12
 
 abbrev pub decreases-joined_pipelines : goal.decreases-joined_pipelines
-decreases-joined_pipelines g l = 32 * l.room + 9
+decreases-joined_pipelines g l = 32 * l.room + 13
 
 abbrev pub decreases-and_or : goal.decreases-and_or
-decreases-and_or g l = 32 * l.room + 10
+decreases-and_or g l = 32 * l.room + 14
 
 abbrev pub decreases-next_entry : goal.decreases-next_entry
-decreases-next_entry g l = 32 * l.room + 12
+decreases-next_entry g l = 32 * l.room + 16
 
 abbrev pub decreases-entries : goal.decreases-entries
-decreases-entries g l = 32 * l.room + 13
+decreases-entries g l = 32 * l.room + 17
 
 abbrev pub decreases-on_line : goal.decreases-on_line
-decreases-on_line g l = 32 * l.room + 14
+decreases-on_line g l = 32 * l.room + 18
 
 abbrev pub decreases-list_line : goal.decreases-list_line
-decreases-list_line g l = 32 * l.room + 15
+decreases-list_line g l = 32 * l.room + 19
 
 abbrev pub decreases-list_lines : goal.decreases-list_lines
-decreases-list_lines g l = 32 * l.room + 16
+decreases-list_lines g l = 32 * l.room + 20
 
 abbrev pub decreases-list : goal.decreases-list
-decreases-list g l = 32 * l.room + 17
+decreases-list g l = 32 * l.room + 21
 
 abbrev pub decreases-branch : goal.decreases-branch
-decreases-branch g l = 32 * l.room + 18
+decreases-branch g l = 32 * l.room + 22
 
 abbrev pub decreases-group : goal.decreases-group
-decreases-group g l = 32 * l.room + 18
+decreases-group g l = 32 * l.room + 22
 
 abbrev pub decreases-loop_command : goal.decreases-loop_command
-decreases-loop_command g l = 32 * l.room + 18
+decreases-loop_command g l = 32 * l.room + 22
 
 abbrev pub decreases-otherwise : goal.decreases-otherwise
-decreases-otherwise g l = 32 * l.room + 18
+decreases-otherwise g l = 32 * l.room + 22
 
 abbrev pub decreases-elif : goal.decreases-elif
-decreases-elif g l = 32 * l.room + 19
+decreases-elif g l = 32 * l.room + 23
 
 abbrev pub decreases-elifs : goal.decreases-elifs
-decreases-elifs g l = 32 * l.room + 20
+decreases-elifs g l = 32 * l.room + 24
 
 abbrev pub decreases-if_command : goal.decreases-if_command
-decreases-if_command g l = 32 * l.room + 21
+decreases-if_command g l = 32 * l.room + 25
 
 abbrev pub decreases-for_command : goal.decreases-for_command
-decreases-for_command g l = 32 * l.room + 21
+decreases-for_command g l = 32 * l.room + 25
+
+abbrev pub decreases-body : goal.decreases-body
+decreases-body g l = 32 * l.room + 21
+
+abbrev pub decreases-one_case : goal.decreases-one_case
+decreases-one_case g l = 32 * l.room + 22
+
+abbrev pub decreases-case_turn : goal.decreases-case_turn
+decreases-case_turn g l = 32 * l.room + 23
+
+abbrev pub decreases-cases : goal.decreases-cases
+decreases-cases g l = 32 * l.room + 24
+
+abbrev pub decreases-case_command : goal.decreases-case_command
+decreases-case_command g l = 32 * l.room + 25
 
 abbrev pub decreases-form : goal.decreases-form
-decreases-form g l = 32 * l.room + 22
+decreases-form g l = 32 * l.room + 26
 
 -- ---- loops
 
@@ -127,3 +154,11 @@ invariant-elifs-turns g l =
 
 abbrev pub decreases-elifs-turns : goal.decreases-elifs-turns
 decreases-elifs-turns g l = length (text_of g.S.Source.bytes l.self) - l.self.at
+
+abbrev pub invariant-cases-turns : goal.invariant-cases-turns
+invariant-cases-turns g l =
+    (reads_at g.S.Source.bytes l.fn.self (many (case_turn (level l.room)) (view_cases l.cases l.next)) l.self.at ≡ reads g.S.Source.bytes l.fn.self (many (case_turn (level l.room)) (view_cases l.fn.cases l.fn.next)))
+    × Shows l.next.token (text_of g.S.Source.bytes l.fn.self) l.self.at × (l.fn.self.at ≤ l.self.at) × Stays l.fn.self l.self
+
+abbrev pub decreases-cases-turns : goal.decreases-cases-turns
+decreases-cases-turns g l = length (text_of g.S.Source.bytes l.self) - l.self.at
