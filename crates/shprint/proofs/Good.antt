@@ -5,10 +5,12 @@ use Rattle.shread.specs.declared.token.Position.{Position}
 use Rattle.shread.specs.declared.token.Position.TheVariants.{Command, Prefix, Suffix}
 use Rattle.shread.specs.declared.token.Token.{Token}
 use Rattle.shread.specs.Commands.{begins_simple, behind_item}
+use Rattle.shread.specs.Compounds.{begins_pattern}
 use Rattle.shread.proofs.Elsewhere.{ItemAnywhere, NameAnywhere}
+use Rattle.shread.proofs.NamesBefore.{NameBefore}
 use Rattle.shread.proofs.CommentsElsewhere.{CommentAnywhere}
 use Rattle.shtree.specs.Shape.{Text, Shape}
-use Rattle.shtree.specs.Tree.{ForWordsOf, no_in, in_words, AWordOf, EntriesOf, no_entry, more_entries, AnEntryOf, entry, AContentOf, command, remark, AnAndOrOf, and_or, AndOrPartsOf, no_and_or, more_and_or, APipelineOf, pipeline, PipelinePartsOf, no_pipe, more_pipes, ACommandOf, simple, compound, function, ACompoundOf, formed, AFormOf, brace, subshell, if_then, while_do, until_do, for_in, case_in, ABranchOf, branch, BranchesOf, no_branch, more_branches, OtherwiseOf, no_else, otherwise, ItemsOf, no_item, more_items, AnItemOf, item, AnItemContentOf, assign, argument, word, no_subst}
+use Rattle.shtree.specs.Tree.{ForWordsOf, no_in, in_words, AWordOf, EntriesOf, no_entry, more_entries, AnEntryOf, entry, AContentOf, command, remark, AnAndOrOf, and_or, AndOrPartsOf, no_and_or, more_and_or, APipelineOf, pipeline, PipelinePartsOf, no_pipe, more_pipes, ACommandOf, simple, compound, function, ACompoundOf, formed, AFormOf, brace, subshell, if_then, while_do, until_do, for_in, case_in, CaseItemsOf, no_case, more_cases, ACaseItemOf, case_item, PatternsOf, no_pattern, more_patterns, ABranchOf, branch, BranchesOf, no_branch, more_branches, OtherwiseOf, no_else, otherwise, ItemsOf, no_item, more_items, AnItemOf, item, AnItemContentOf, assign, argument, word, no_subst}
 
 abbrev pub GoodComments : Row Text → Type 0
 GoodComments [] = Unit {0}
@@ -55,6 +57,23 @@ abbrev pub GoodForWords : ℕ → Shape ForWordsOf → Type 0
 GoodForWords room no_in = Unit {0}
 GoodForWords room (in_words items) = GoodWords room items
 
+-- a word that begins with such a token in this position, wherever it stands
+pub record GoodWord (room : ℕ) (position : Position) (begins : Token → Bool) (w : Shape AWordOf) : Type 0 where
+  pub t : Text
+  pub is : w ≡ word t no_subst
+  pub token : Token
+  pub begin : begins token ≡ true
+  pub reads : ItemAnywhere room position token t
+
+-- the patterns behind the first one
+abbrev pub GoodMorePatterns : ℕ → Shape PatternsOf → Type 0
+GoodMorePatterns room no_pattern = Unit {0}
+GoodMorePatterns room (more_patterns w ws) = GoodWord room Suffix begins_simple w × GoodMorePatterns room ws
+
+abbrev pub GoodPatterns : ℕ → Shape PatternsOf → Type 0
+GoodPatterns room no_pattern = ⊥
+GoodPatterns room (more_patterns w ws) = GoodWord room Command begins_pattern w × GoodMorePatterns room ws
+
 -- the name of a for: a word that is a NAME, wherever it stands
 pub record GoodName (room : ℕ) (name : Shape AWordOf) : Type 0 where
   pub t : Text
@@ -90,18 +109,18 @@ abbrev mutual
   GoodPipes room no_pipe = Unit {0}
   GoodPipes room (more_pipes j c cs) = GoodComments j.comments × GoodCommand room c × GoodPipes room cs
 
-  -- a function is not read yet
+  -- a function is open while its body is read
   pub GoodCommand : ℕ → Shape ACommandOf → Type 0
   GoodCommand room (simple items) = GoodSimple room items
   GoodCommand room (compound c) = GoodCompound room c
-  GoodCommand room (function name comments body) = ⊥
+  GoodCommand zero (function name comments body) = ⊥
+  GoodCommand (suc room) (function name comments body) = NameBefore (suc room) name × GoodComments comments × GoodCompound room body
 
   -- a compound command is open while what it holds is read; redirections are not read yet
   pub GoodCompound : ℕ → Shape ACompoundOf → Type 0
   GoodCompound zero (formed form mark redirects) = ⊥
   GoodCompound (suc room) (formed form mark redirects) = GoodForm room form × NoItems redirects
 
-  -- `case` is not read yet
   pub GoodForm : ℕ → Shape AFormOf → Type 0
   GoodForm room (brace es) = GoodEntries room es
   GoodForm room (subshell es) = GoodEntries room es
@@ -109,7 +128,14 @@ abbrev mutual
   GoodForm room (while_do b) = GoodBranch room b
   GoodForm room (until_do b) = GoodBranch room b
   GoodForm room (for_in name words body) = GoodName room name × GoodForWords room words × GoodEntries room body
-  GoodForm room (case_in w items tail) = ⊥
+  GoodForm room (case_in w items tail) = GoodWord room Suffix begins_simple w × GoodCases room items × GoodComments tail
+
+  pub GoodCases : ℕ → Shape CaseItemsOf → Type 0
+  GoodCases room no_case = Unit {0}
+  GoodCases room (more_cases c cs) = GoodCase room c × GoodCases room cs
+
+  pub GoodCase : ℕ → Shape ACaseItemOf → Type 0
+  GoodCase room (case_item comments patterns body mark) = GoodComments comments × GoodPatterns room patterns × GoodEntries room body
 
   pub GoodBranch : ℕ → Shape ABranchOf → Type 0
   GoodBranch room (branch condition body) = GoodEntries room condition × GoodEntries room body
@@ -121,3 +147,18 @@ abbrev mutual
   pub GoodElse : ℕ → Shape OtherwiseOf → Type 0
   GoodElse room no_else = Unit {0}
   GoodElse room (otherwise es) = GoodEntries room es
+
+-- the body of a function, where so many constructs may be open before it
+abbrev pub GoodBody : ℕ → Shape ACompoundOf → Type 0
+GoodBody zero body = ⊥
+GoodBody (suc room) body = GoodCompound room body
+
+-- a function, by its parts
+pub record GoodFunction (room : ℕ) (name : Text) (comments : Row Text) (body : Shape ACompoundOf) : Type 0 where
+  pub before : NameBefore room name
+  pub own : GoodComments comments
+  pub inside : GoodBody room body
+
+pub parts_of_function : (room : ℕ) (name : Text) (comments : Row Text) (body : Shape ACompoundOf) → GoodCommand room (function name comments body) → GoodFunction room name comments body
+parts_of_function zero name comments body good = absurd good
+parts_of_function (suc room) name comments body good = record { before = good.0; own = good.1; inside = good.2 }

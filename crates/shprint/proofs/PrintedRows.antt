@@ -24,15 +24,15 @@ use Rattle.shread.specs.Comments.{span, comment_at}
 use Rattle.shread.specs.Standing.{is_byte, raw_stands}
 use Rattle.shread.specs.Tokens.{is_end, is_comment, past_reserved, token_of, token_at, next_at}
 use Rattle.shread.specs.Sights.{Given, given, standing, here as the_place, is_a_name, the_token, the_comment, blanks, one_byte, the_reserved, a_comment_on}
-use Rattle.shread.specs.Form.{Spelled, Form, ◌>>◌, by, give, move, raw, may, leads_on, again, done, many}
+use Rattle.shread.specs.Form.{Spelled, Form, ◌>>◌, by, give, move, raw, may, leads_on, step_if, again, done, many}
 use Rattle.shread.specs.Words.{Inner, a_word}
-use Rattle.shread.specs.Levels.{most_open, level}
+use Rattle.shread.specs.Levels.{most_open, level, IsWord}
 use Rattle.shtree.specs.Nodes.{through}
-use Rattle.shtree.specs.Normal.{is_normal_form, is_normal_else, are_normal_branches, is_normal_branch, is_whole, is_command, holds_command, is_normal_entry, first_not_blank, are_normal, is_normal_and_or, are_normal_and_ors, is_normal_pipeline, are_normal_pipes, first_not_broken, is_normal_join, is_normal_compound, is_normal_command, are_normal_words}
-use Rattle.shread.specs.Compounds.{a_compound, is_open_paren, behind_opener, a_for, a_for_head, a_for_name, a_linebreak, a_sequential_sep, for_words, headed, an_if, a_group, a_form, opener_text, Closed, a_loop, an_else, elif_turn, branched, a_branch, passed, closing, closing_text, is_closing, is_close_paren}
+use Rattle.shtree.specs.Normal.{is_normal_form, is_normal_else, are_normal_branches, is_normal_branch, is_whole, is_command, holds_command, is_normal_entry, first_not_blank, are_normal, is_normal_and_or, are_normal_and_ors, is_normal_pipeline, are_normal_pipes, first_not_broken, is_normal_join, is_normal_compound, is_normal_command, are_normal_words, are_normal_cases, is_normal_case, are_normal_patterns}
+use Rattle.shread.specs.Compounds.{a_compound, is_open_paren, behind_opener, a_for, a_for_head, a_for_name, a_linebreak, a_sequential_sep, for_words, headed, an_if, a_group, a_form, opener_text, Closed, a_loop, an_else, elif_turn, branched, a_branch, passed, closing, closing_text, is_closing, is_close_paren, under_name, a_function, a_case, a_case_head, a_case_word, begins_pattern, patterned, a_pattern, one_pattern, pattern_turn, a_pattern_list, an_open_bracket, a_body, body_end, item_end, an_item_end, a_double_semicolon, cases_so, one_case, case_turn}
 use Rattle.shread.specs.Lines.{a_line, end_of_line}
 use Rattle.shread.specs.Lists.{Listed, list_so, none_listed, one_entry, entry_turn, a_remark, on_line, list_turn, a_list}
-use Rattle.shread.specs.Commands.{Entered, a_semicolon, is_semicolon, an_entry, a_separator, separator_of, told_separator, is_background, is_parted, an_and_or, one_pipeline, join_pipeline, joined_so, a_bang, a_pipeline, begins_pipeline, and_or_operator_of, is_pipe, piped, one_command, pipe_turn, a_command, a_newline, a_comment, join_turn, join_so, a_join_of, a_join, begins_simple, opener_of, is_newline, is_bang, is_empty, next_token, behind_item, so_many, breaks, as_item, an_item, item_turn, a_simple}
+use Rattle.shread.specs.Commands.{Entered, a_semicolon, is_semicolon, an_entry, a_separator, separator_of, told_separator, is_background, an_and_or, one_pipeline, join_pipeline, joined_so, a_bang, a_pipeline, begins_pipeline, and_or_operator_of, is_pipe, piped, one_command, pipe_turn, a_command, a_newline, a_comment, join_turn, join_so, a_join_of, a_join, begins_simple, opener_of, is_newline, is_bang, is_empty, next_token, behind_item, so_many, breaks, as_item, an_item, item_turn, a_simple, is_word, is_paren, a_worded, compound_by, ASeparator, past_separator, is_double_semicolon}
 use Rattle.shread.proofs.Places.{must_fail, blanks_low}
 use Rattle.shread.proofs.NoSubsts.{no_substs}
 use Rattle.shread.proofs.Elsewhere.{follows, ItemAnywhere}
@@ -41,14 +41,14 @@ use Rattle.shtree.specs.declared.tree.AndOrOperator.{AndOrOperator}
 use Rattle.shtree.specs.declared.tree.AndOrOperator.TheVariants.{And, Or}
 use Rattle.shtree.specs.declared.tree.Span.{Span}
 use Rattle.shtree.specs.Spelling.{and_or_text}
-use Rattle.shtree.specs.Shape.{Text, Shape, text_at, shape_of_items, shape_of_item, shape_of_command, shape_of_comments, shape_of_join, shape_of_pipes, shape_of_bang, shape_of_pipeline, shape_of_and_or, shape_of_and_or_parts, shape_of_comment, shape_of_entry, shape_of, shape_of_branch, shape_of_branches, shape_of_else, shape_of_form, shape_of_for_words, shape_of_word}
-use Rattle.shtree.specs.Tree.{AWordOf, ForWordsOf, ForWords, no_in, in_words, AJoinOf, AJoin, AnItemOf, AnItem, AWord, ABranchOf, ABranch, branch, BranchesOf, no_branch, more_branches, branches_of, OtherwiseOf, Otherwise, no_else, otherwise, EntriesOf, Entries, no_entry, more_entries, entries_of, AContentOf, remark, AnEntryOf, AnEntry, entry, command, AnAndOr, AnAndOrOf, and_or, AnAndOrPart, and_or_parts_of, APipeline, APipelineOf, pipeline, AndOrPartsOf, no_and_or, more_and_or, PipelinePartsOf, no_pipe, more_pipes, APipelinePart, pipeline_parts_of, ACompoundOf, formed, ACommandOf, ACommand, compound, function, item, AFormOf, AForm, brace, subshell, if_then, while_do, until_do, for_in, case_in, items_of, ItemsOf, no_item, more_items, simple, word, no_subst}
+use Rattle.shtree.specs.Shape.{Text, Shape, text_at, shape_of_items, shape_of_item, shape_of_command, shape_of_comments, shape_of_join, shape_of_pipes, shape_of_bang, shape_of_pipeline, shape_of_and_or, shape_of_and_or_parts, shape_of_comment, shape_of_entry, shape_of, shape_of_branch, shape_of_branches, shape_of_else, shape_of_form, shape_of_for_words, shape_of_word, shape_of_compound, shape_of_patterns, shape_of_case, shape_of_cases}
+use Rattle.shtree.specs.Tree.{AWordOf, ForWordsOf, ForWords, no_in, in_words, AJoinOf, AJoin, AnItemOf, AnItem, AWord, ABranchOf, ABranch, branch, BranchesOf, no_branch, more_branches, branches_of, OtherwiseOf, Otherwise, no_else, otherwise, EntriesOf, Entries, no_entry, more_entries, entries_of, AContentOf, remark, AnEntryOf, AnEntry, entry, command, AnAndOr, AnAndOrOf, and_or, AnAndOrPart, and_or_parts_of, APipeline, APipelineOf, pipeline, AndOrPartsOf, no_and_or, more_and_or, PipelinePartsOf, no_pipe, more_pipes, APipelinePart, pipeline_parts_of, ACompoundOf, formed, ACommandOf, ACommand, compound, function, item, AFormOf, AForm, brace, subshell, if_then, while_do, until_do, for_in, case_in, items_of, ItemsOf, no_item, more_items, simple, word, no_subst, argument, PatternsOf, no_pattern, more_patterns, patterns_of, CaseItemsOf, no_case, more_cases, cases_of, ACaseItemOf, ACaseItem, case_item}
 use Rattle.shprint.specs.declared.layout.Layout.{Layout}
 use Rattle.shprint.specs.Marks.{text, line_end, Marks, laid, one, step, deeper, lines_between}
-use Rattle.shprint.specs.Printed.{print_for_words, print_word, print_form, print_branch, print_branches, print_else, is_one_line, print_only, print_content, print_entry, print_entries, print_blank, print_background, print_own_comment, print_and_or, print_bang, print_pipeline, print_and_or_parts, print_join, print_pipes, print_compound, print_command, operand_margin, breaks_line, print_comments, print_further_comments, print_gap, print_item, print_items, print_simple}
-use Rattle.shprint.proofs.Tokens.{none_first, end_here, for_here, in_here, if_here, then_here, elif_here, else_here, fi_here, while_here, until_here, do_here, done_here, brace_here, close_brace_here, open_token, close_token, semicolon_token, Keyword, ampersand_token, bang_here, pipe_token, and_token, or_token, first, byte_here, newline_token, start_here, skip, text_here, Gap, Start, all_blank, blank_gap, blanks_gap, broken_gap, no_gap, next_behind, next_one}
+use Rattle.shprint.specs.Printed.{print_for_words, print_word, print_form, print_branch, print_branches, print_else, is_one_line, print_only, print_content, print_entry, print_entries, print_blank, print_background, print_own_comment, print_and_or, print_bang, print_pipeline, print_and_or_parts, print_join, print_pipes, print_compound, print_command, operand_margin, breaks_line, print_comments, print_further_comments, print_gap, print_item, print_items, print_simple, print_function_gap, is_brace, print_cases, print_patterns, print_first_pattern, print_body, print_comment_lines, case_margin}
+use Rattle.shprint.proofs.Tokens.{none_first, end_here, for_here, in_here, if_here, then_here, elif_here, else_here, fi_here, while_here, until_here, do_here, done_here, brace_here, close_brace_here, open_token, close_token, semicolon_token, Keyword, ampersand_token, bang_here, pipe_token, and_token, or_token, first, byte_here, newline_token, start_here, skip, text_here, Gap, Start, all_blank, blank_gap, blanks_gap, broken_gap, no_gap, next_behind, next_one, kind_of, item_no_round, no_word, double_semicolon_token, case_here, esac_here}
 use Rattle.shprint.proofs.Gives.{Gives, gives, gives_on, told_here, ◌⟫◌, given_here, seen_here, moved_here, pushed_here, first_of, second_of, last_turn, one_turn}
-use Rattle.shprint.proofs.Good.{NoItems, GoodForWords, GoodName, GoodForm, GoodElse, GoodBranches, GoodBranch, GoodContent, GoodEntries, GoodOwnComment, GoodAndOr, GoodParts, GoodPipeline, GoodPipes, GoodCompound, GoodCommand, GoodComments, GoodItems, none_more, one_more, GoodSimple, SomeItem, an_item_of, as_shape}
+use Rattle.shprint.proofs.Good.{NoItems, GoodForWords, GoodName, GoodForm, GoodElse, GoodBranches, GoodBranch, GoodContent, GoodEntries, GoodOwnComment, GoodAndOr, GoodParts, GoodPipeline, GoodPipes, GoodCompound, GoodCommand, GoodComments, GoodItems, none_more, one_more, GoodSimple, SomeItem, an_item_of, as_shape, GoodBody, GoodFunction, parts_of_function, GoodWord, GoodMorePatterns, GoodCases}
 
 -- ---- marks
 
@@ -118,6 +118,7 @@ pub no_other : (t : Token) → begins_command t ≡ true → NoOther t
 no_other tokens.End e = absurd cc
 no_other tokens.Newline e = absurd cc
 no_other tokens.Semicolon e = absurd cc
+no_other tokens.DoubleSemicolon e = absurd cc
 no_other tokens.AndIf e = absurd cc
 no_other tokens.Ampersand e = absurd cc
 no_other tokens.OrIf e = absurd cc
@@ -192,6 +193,7 @@ module _ (B T : List ℕ) (o : ℕ) (here : drop o B ≡ T) where
     pub token : Token
     pub seen_as : (position : Position) → next_at position T e ≡ record { token = token; broken = false }
     pub no_item : behind_item token ≡ None
+    pub no_round : is_paren token ≡ false
 
   -- a row of the grammar that reads something and hands on the next token: what is read, and where it ends
   pub record Got {X : Type 0} (r : Form (X × Next)) (p : ℕ) (rest : Marks) (Is : X → Type 0) : Type 0 where
@@ -204,6 +206,7 @@ module _ (B T : List ℕ) (o : ℕ) (here : drop o B ≡ T) where
   -- What follows begins with this token, whatever is asked for, with no continuation before it.
   pub record Follower (rest : Marks) (t : Token) : Type 0 where
     pub follow : follows (laid rest) ≡ true
+    pub no_round : is_paren t ≡ false
     pub seen_as : (e : ℕ) → At e rest → (position : Position) → next_at position T e ≡ record { token = t; broken = false }
 
   -- what a compound command opens with
@@ -232,17 +235,21 @@ module _ (B T : List ℕ) (o : ℕ) (here : drop o B ≡ T) where
     some_word p [] zs some at = absurd (omega (arith, some))
     some_word p (c ∷ w) zs some at = some_here p c (w ++ zs) at
 
+    -- a word that is printed here
+    printed_word : (w : Text) (p : ℕ) → IsWord room g p (length w) → Gives g (a_word inner) (standing p) (word (span o p (p + length w)) no_subst) (standing (p + length w))
+    printed_word w p v =
+        let e = p + length w in
+        gives _ (subst (λ x. may (a_word inner) g (standing p) (Ok (x, standing e)) (raw T p e ∷ [])) (plain_word p (length w) v.0 _ v.1) v.1)
+
     pub item_read : (position next : Position) (token : Token) (w : Text) (acc : Row AnItem) (n : Next) (p : ℕ) (rest : Marks) → n.token ≡ token → behind_item token ≡ Some next
         → ItemAnywhere room position token w → At p (text w ∷ rest) → follows (laid rest) ≡ true → ItemRead acc n p next w
     unfolding item_turn an_item
     item_read position next token w acc n p rest is some good at follow =
         let there = at ∙ laid_text w rest in
         let found = good.there g p (laid rest) there follow in
-        let v = found.word in
         let e = p + length w in
-        let plain = plain_word p (length w) v.0 _ v.1 in
         let it = item (breaks (so_many acc n)) (as_item next (word (span o p e) no_subst)) in
-        let read : Gives g (a_word inner) (standing p) (word (span o p e) no_subst) (standing e) = gives _ (subst (λ x. may (a_word inner) g (standing p) (Ok (x, standing e)) (raw T p e ∷ [])) plain v.1) in
+        let read = printed_word w p found.word in
         let low = blanks_low T e in
         record {
           it = it;
@@ -399,11 +406,63 @@ module _ (B T : List ℕ) (o : ℕ) (here : drop o B ≡ T) where
 
       -- a simple command
       pub simple_read : (is : Shape ItemsOf) (n : Next) (p : ℕ) → GoodSimple room is → first_not_broken is ≡ true → n.token ≡ token_at Command T p → At p (print_simple y m is ++ rest)
-          → Got (a_simple inner n) p rest (λ c. shape_of_command B c ≡ simple is)
+          → Got (a_simple inner (so_many [] n)) p rest (λ c. shape_of_command B c ≡ simple is)
       unfolding a_simple
       simple_read is n p good first token_is at =
           let r = simple_items n p good.items good.some first token_is at in
           record { value = simple (items_of r.more_items_read); «end» = r.«end»; at = r.at; reads = r.reads ⟫ given_here; is = ap (λ is. simple is) r.shape }
+
+      -- no `(` stands behind a word
+      next_round : {position last : Position} {is : Shape ItemsOf} → GoodItems room position is last → (e : ℕ) → At e (print_items y m is ++ rest) → is_paren (next_at position T e).token ≡ false
+      next_round {position = position} none_more e at = let b = behind e at in ap (λ (n : Next). is_paren n.token) (b.seen_as position) ∙ b.no_round
+      next_round {position = position} (one_more {next = next} {token = token} {broken = b} {t = w} {is = is} some good others) e at =
+          let ms = text w ∷ (print_items y m is ++ rest) in
+          let gap = gap_read y m b e ms blank c cs some_margin (at ∙ ap laid (more_printed y m b next w is rest)) in
+          let found = good.there g gap.p (laid (print_items y m is ++ rest)) (gap.at ∙ laid_text w (print_items y m is ++ rest)) (items_follow y m rest others follow) in
+          let passed = gap.gap (record { place = found.place; no_blank = found.no_blank }) in
+          ap (λ (n : Next). is_paren n.token) (next_behind position passed) ∙ ap is_paren found.token_is ∙ item_no_round token next some
+
+      -- a simple command that begins with a word
+      worded_read : {last : Position} {w : Text} {is : Shape ItemsOf} (p : ℕ) → ItemAnywhere room Command tokens.Word w → GoodItems room Suffix is last → At p (text w ∷ (print_items y m is ++ rest))
+          → Got (a_worded inner) p rest (λ c. shape_of_command B c ≡ simple (more_items (an_item_of false Suffix w) is))
+      unfolding a_worded a_simple
+      worded_read {w = w} {is = is} p good others at =
+          let ms = print_items y m is ++ rest in
+          let there = at ∙ laid_text w ms in
+          let found = good.there g p (laid ms) there (items_follow y m rest others follow) in
+          let e = p + length w in
+          let at_e = at_text p w ms at in
+          let it : AnItem = item false (argument (word (span o p e) no_subst)) in
+          let r = items_read others (it ∷ []) e (λ e. absurd cc) at_e in
+          record {
+            value = simple (items_of (it ∷ r.more_items_read));
+            «end» = r.«end»;
+            at = r.at;
+            reads = seen_here is_a_name ⟫ printed_word w p found.word ⟫ next_read Suffix e ⟫ second_of _ _ (next_round others e at_e) (pushed_here [] it ⟫ (r.reads ⟫ given_here));
+            is = rw (item_shape Suffix false p w (laid ms) there, r.shape) refl;
+          }
+
+      -- a simple command, by what it begins with
+      pub simple_command : (is : Shape ItemsOf) (n : Next) (p : ℕ) → GoodSimple room is → first_not_broken is ≡ true → n.token ≡ token_at Command T p → At p (print_simple y m is ++ rest)
+          → Got (a_command inner n) p rest (λ c. shape_of_command B c ≡ simple is)
+      unfolding a_command
+      simple_command all n p good first token_is at = by_items good.items good.some first at
+        where
+          by_items : {last : Position} {is : Shape ItemsOf} → GoodItems room Command is last → SomeItem is → first_not_broken is ≡ true → At p (print_simple y m is ++ rest)
+              → Got (a_command inner n) p rest (λ c. shape_of_command B c ≡ simple is)
+          by_items none_more some first at = absurd some
+          by_items {last = last} (one_more {next = next} {token = token} {broken = b} {t = w} {is = is} is_item one others) some first at =
+              let there = at ∙ ap laid (simple_printed b next w is) in
+              let found = one.there g p (laid (print_items y m is ++ rest)) (there ∙ laid_text w (print_items y m is ++ rest)) (items_follow y m rest others follow) in
+              let token_here : n.token ≡ token = token_is ∙ found.token_is in
+              ⊎_elim
+              (λ (k : (token ≡ tokens.Word) × (next ≡ Suffix)).
+              let r = worded_read p (subst (λ (t : Token). ItemAnywhere room Command t w) k.0 one) (subst (λ (q : Position). GoodItems room q is last) k.1 others) there in
+              record { value = r.value; «end» = r.«end»; at = r.at; reads = first_of _ _ (ap is_word (token_here ∙ k.0)) r.reads; is = r.is ∙ rw (first_not b first, k.1) refl })
+              (λ (k : (token ≡ tokens.Assignment) × (next ≡ Prefix)).
+              let r = simple_read (more_items (an_item_of b next w) is) n p (record { last = last; items = one_more is_item one others; some = tt }) first token_is at in
+              record { value = r.value; «end» = r.«end»; at = r.at; reads = second_of _ _ (ap is_word (token_here ∙ k.0)) (first_of _ _ (ap begins_simple (token_here ∙ k.0)) r.reads); is = r.is })
+              (kind_of token next is_item)
 
     -- ---- comments and newlines
 
@@ -670,7 +729,7 @@ module _ (B T : List ℕ) (o : ℕ) (here : drop o B ≡ T) where
     -- ---- what follows a command
 
     follower_behind : {rest : Marks} {t : Token} → Follower rest t → behind_item t ≡ None → (e : ℕ) → At e rest → Behind e
-    follower_behind {t = t} f none e at = record { token = t; seen_as = f.seen_as e at; no_item = none }
+    follower_behind {t = t} f none e at = record { token = t; seen_as = f.seen_as e at; no_item = none; no_round = f.no_round }
 
     -- a byte behind an operator that makes no longer one of it
     pub record Parted (t : Text) : Type 0 where
@@ -698,6 +757,7 @@ module _ (B T : List ℕ) (o : ℕ) (here : drop o B ≡ T) where
     unfolding laid
     pipe_follower ms parted = record {
       follow = refl;
+      no_round = refl;
       seen_as = λ e at position.
           let gap = space_then e 124 [] ms refl refl at in
           let there = at_text e (codes " ") (text (codes "|") ∷ ms) at ∙ laid_text (codes "|") ms ∙ ap (λ z. 124 ∷ z) parted.is in
@@ -712,12 +772,14 @@ module _ (B T : List ℕ) (o : ℕ) (here : drop o B ≡ T) where
     unfolding laid
     operator_follower And ms = record {
       follow = refl;
+      no_round = refl;
       seen_as = λ e at position.
           let there = at_text e (codes " ") (text (codes "&&") ∷ ms) at ∙ laid_text (codes "&&") ms in
           next_behind position (space_then e 38 (38 ∷ []) ms refl refl at) ∙ ap (λ t. record { token = t; broken = false }) (and_token position T (e + 1) (laid ms) there);
     }
     operator_follower Or ms = record {
       follow = refl;
+      no_round = refl;
       seen_as = λ e at position.
           let there = at_text e (codes " ") (text (codes "||") ∷ ms) at ∙ laid_text (codes "||") ms in
           next_behind position (space_then e 124 (124 ∷ []) ms refl refl at) ∙ ap (λ t. record { token = t; broken = false }) (or_token position T (e + 1) (laid ms) there);
@@ -749,6 +811,9 @@ module _ (B T : List ℕ) (o : ℕ) (here : drop o B ≡ T) where
         pub opens : (m : Text) (c : Shape ACompoundOf) (p : ℕ) (rest : Marks) → GoodCompound room c → At p (print_compound y m c ++ rest) → (o : Opener) × Opens p o
         pub back : (m : Text) (c : Shape ACompoundOf) (p : ℕ) (rest : Marks) (t : Token) (o : Opener) → all_blank m ≡ true → GoodCompound room c → is_normal_compound c ≡ true
             → Follower rest t → behind_item t ≡ None → Opens p o → At p (print_compound y m c ++ rest) → Got (inner.compound o) p rest (λ v. shape_of_command B v ≡ compound c)
+        pub function_back : (m : Text) (name : Span) (cs : Row Text) (body : Shape ACompoundOf) (p : ℕ) (rest : Marks) (t : Token) → all_blank m ≡ true → GoodComments cs → GoodBody room body
+            → is_normal_compound body ≡ true → Follower rest t → behind_item t ≡ None → At p (text (codes "()") ∷ (print_function_gap y m cs body ++ (print_compound y m body ++ rest)))
+            → Got (inner.function name) p rest (λ v. shape_of_command B v ≡ function (text_at B name) cs body)
 
       module _ (fine : Fine) where
         begins_by : (t : Token) → begins_simple t ≡ true → begins_command t ≡ true
@@ -769,27 +834,64 @@ module _ (B T : List ℕ) (o : ℕ) (here : drop o B ≡ T) where
             let found = good.there g p (laid (print_items y m is ++ rest)) there (items_follow y m rest others follow) in
             (record { place = found.place; no_blank = found.no_blank }, ap begins_simple found.token_is ∙ item_begins token next is_item)
 
+        -- the name of a function, and what stands behind it
+        abbrev function_rest : Text → Row Text → Shape ACompoundOf → Marks → Marks
+        function_rest m cs body rest = print_function_gap y m cs body ++ (print_compound y m body ++ rest)
+
+        function_is : (m name : Text) (cs : Row Text) (body : Shape ACompoundOf) (rest : Marks)
+            → print_command y m (function name cs body) ++ rest ≡ text name ∷ text (codes "()") ∷ function_rest m cs body rest
+        function_is m name cs body rest = ap (λ ks. text name ∷ text (codes "()") ∷ ks) (append_assoc (print_function_gap y m cs body) (print_compound y m body) rest)
+
+        name_there : (m name : Text) (cs : Row Text) (body : Shape ACompoundOf) (p : ℕ) (rest : Marks) → At p (print_command y m (function name cs body) ++ rest)
+            → drop p T ≡ name ++ 40 ∷ 41 ∷ laid (function_rest m cs body rest)
+        name_there m name cs body p rest at =
+            at ∙ ap laid (function_is m name cs body rest) ∙ laid_text name (text (codes "()") ∷ function_rest m cs body rest) ∙ ap (λ z. name ++ z) (laid_text (codes "()") (function_rest m cs body rest))
+
         pub command_begins : (m : Text) (c : Shape ACommandOf) (p : ℕ) (rest : Marks) → GoodCommand room c → follows (laid rest) ≡ true → At p (print_command y m c ++ rest) → Begins p
         command_begins m (simple is) p rest good follow at =
             let b = simple_begins m p rest good.items good.some follow at in record { start = b.0; command = begins_by (token_at Command T p) b.1 }
         command_begins m (compound c) p rest good follow at =
             let b = fine.opens m c p rest good at in record { start = b.1.start; command = opens_by (token_at Command T p) b.0 b.1.opener }
-        command_begins m (function name comments body) p rest good follow at = absurd good
+        command_begins m (function name comments body) p rest good follow at =
+            let before = (parts_of_function room name comments body good).before in
+            let found = before.there g p _ (name_there m name comments body p rest at) in
+            record { start = record { place = found.place; no_blank = found.no_blank }; command = begins_by (token_at Command T p) (ap begins_simple found.token_is) }
+
+        function_command : (m name : Text) (cs : Row Text) (body : Shape ACompoundOf) (n : Next) (p : ℕ) (rest : Marks) (t : Token) → all_blank m ≡ true → GoodFunction room name cs body → is_normal_compound body ≡ true
+            → Follower rest t → behind_item t ≡ None → n.token ≡ token_at Command T p → At p (print_command y m (function name cs body) ++ rest) → Got (a_command inner n) p rest (λ v. shape_of_command B v ≡ function name cs body)
+        unfolding a_command a_worded
+        function_command m name cs body n p rest t blank good normal f none token_is at =
+            let there = name_there m name cs body p rest at in
+            let found = good.before.there g p _ there in
+            let e = p + length name in
+            let X = function_rest m cs body rest in
+            let at_e = at_text p name (text (codes "()") ∷ X) (at ∙ ap laid (function_is m name cs body rest)) in
+            let head = at_e ∙ laid_text (codes "()") X in
+            let gap = no_gap (start_here (byte_here T e 40 (41 ∷ laid X) refl head) refl) in
+            let paren = ap (λ (n : Next). is_paren n.token) (next_behind Suffix gap) ∙ ap is_paren (open_token Suffix T e (41 ∷ laid X) head) in
+            let r = fine.function_back m (span o p e) cs body e rest t blank good.own good.inside normal f none at_e in
+            let name_is = good.before.names T p _ there in
+            let behind_name = subst (λ q. Gives g (inner.function (span o p e)) (standing q) (r.value, next_at Command T r.«end») (standing (past_blanks T r.«end»))) (sym gap.blanks) r.reads in
+            record {
+              value = r.value;
+              «end» = r.«end»;
+              at = r.at;
+              reads = first_of _ _ (ap is_word (token_is ∙ found.token_is)) (seen_here is_a_name ⟫ printed_word name p found.word ⟫ next_read Suffix e ⟫ first_of _ _ paren (first_of _ _ name_is behind_name));
+              is = r.is ∙ ap (λ z. function z cs body) (span_text p name (40 ∷ 41 ∷ laid X) there);
+            }
 
         pub command_read : (m : Text) (c : Shape ACommandOf) (n : Next) (p : ℕ) (rest : Marks) (t : Token) → all_blank m ≡ true → GoodCommand room c → is_normal_command c ≡ true
             → Follower rest t → behind_item t ≡ None → n.token ≡ token_at Command T p → At p (print_command y m c ++ rest) → Got (a_command inner n) p rest (λ v. shape_of_command B v ≡ c)
         unfolding a_command
         command_read m (simple is) n p rest t blank good normal f none token_is at =
             let d = deeper_some y m in
-            let b = simple_begins m p rest good.items good.some f.follow at in
-            let r = simple_read y m d.0 d.1 (deeper_blank y m blank) d.2 rest f.follow (follower_behind f none) is n p good (and_parts _ _ normal).0 token_is at in
-            record { value = r.value; «end» = r.«end»; at = r.at; reads = first_of _ _ (ap begins_simple token_is ∙ b.1) r.reads; is = r.is }
+            simple_command y m d.0 d.1 (deeper_blank y m blank) d.2 rest f.follow (follower_behind f none) is n p good (and_parts _ _ normal).0 token_is at
         command_read m (compound c) n p rest t blank good normal f none token_is at =
             let b = fine.opens m c p rest good at in
             let r = fine.back m c p rest t b.0 blank good normal f none b.1 at in
             let opener_is : opener_of n.token ≡ Some b.0 = ap opener_of token_is ∙ b.1.opener in
-            record { value = r.value; «end» = r.«end»; at = r.at; reads = second_of _ _ (ap begins_simple token_is ∙ b.1.no_item) (rw opener_is r.reads); is = r.is }
-        command_read m (function name comments body) n p rest t blank good normal f none token_is at = absurd good
+            record { value = r.value; «end» = r.«end»; at = r.at; reads = second_of _ _ (ap is_word token_is ∙ no_word (token_at Command T p) b.1.no_item) (second_of _ _ (ap begins_simple token_is ∙ b.1.no_item) (rw opener_is r.reads)); is = r.is }
+        command_read m (function name comments body) n p rest t blank good normal f none token_is at = function_command m name comments body n p rest t blank (parts_of_function room name comments body good) normal f none token_is at
 
         -- ---- pipelines
 
@@ -1209,7 +1311,7 @@ module _ (B T : List ℕ) (o : ℕ) (here : drop o B ≡ T) where
 
         line_follower : (rest : Marks) → Follower (line_end ∷ rest) tokens.Newline
         unfolding laid
-        line_follower rest = record { follow = refl; seen_as = λ e at position. (newline_next position e rest at).0 }
+        line_follower rest = record { follow = refl; no_round = refl; seen_as = λ e at position. (newline_next position e rest at).0 }
 
         sharp_token : (position : Position) (q : ℕ) → byte_at T q ≡ Some 35 → token_at position T q ≡ tokens.Comment
         unfolding token_at
@@ -1219,6 +1321,7 @@ module _ (B T : List ℕ) (o : ℕ) (here : drop o B ≡ T) where
         unfolding laid
         comment_follower c rest good = record {
           follow = refl;
+          no_round = refl;
           seen_as = λ e at position.
               let behind_it = at_text e (codes " ") (text c ∷ line_end ∷ rest) at in
               let found = good.there T o (e + 1) (laid rest) (behind_it ∙ laid_text c (line_end ∷ rest) ∙ ap (λ z. c ++ z) (laid_line rest)) in
@@ -1230,6 +1333,7 @@ module _ (B T : List ℕ) (o : ℕ) (here : drop o B ≡ T) where
         unfolding laid
         background_follower ms parted = record {
           follow = refl;
+          no_round = refl;
           seen_as = λ e at position.
               let there = at ∙ laid_text (codes " &") ms in
               let amp = next_one T e 32 (38 ∷ laid ms) there in
@@ -1251,19 +1355,19 @@ module _ (B T : List ℕ) (o : ℕ) (here : drop o B ≡ T) where
 
         -- the separator
         record SeparatorRead (e : ℕ) (background : Bool) (ms : Marks) : Type 0 where
-          separator : Option Separator
+          separator : Option ASeparator
           f : ℕ
           at : At f ms
           reads : Gives g (a_separator (next_at Command T e)) (standing (past_blanks T e)) (separator, next_at Command T f) (standing (past_blanks T f))
           is_it : is_background separator ≡ background
-          parted_is : is_parted separator ≡ background
+          parted_is : is_some (past_separator separator) ≡ background
 
         no_separator : (n : Next) (q : ℕ) → separator_of n.token ≡ None → Gives g (a_separator n) (standing q) (None, n) (standing q)
         unfolding a_separator
         no_separator n q e = rw e given_here
 
         some_separator : (n : Next) (q : ℕ) (k : Separator) → separator_of n.token ≡ Some k → behind T q ≡ q + 1
-            → Gives g (a_separator n) (standing q) (Some k, next_at Command T (q + 1)) (standing (past_blanks T (q + 1)))
+            → Gives g (a_separator n) (standing q) (Some (k, o + (q + 1)), next_at Command T (q + 1)) (standing (past_blanks T (q + 1)))
         unfolding a_separator
         some_separator n q k e behind_is =
             let moved : Gives g (move one_byte) (standing q) tt (standing (q + 1)) = subst (λ p. Gives g (move one_byte) (standing q) tt (standing p)) behind_is (moved_here one_byte) in
@@ -1281,7 +1385,7 @@ module _ (B T : List ℕ) (o : ℕ) (here : drop o B ≡ T) where
             let r_q = byte_here T q 38 (laid ms) refl (subst (λ p. drop p T ≡ 38 ∷ laid ms) (sym gap.blanks) amp) in
             let n_is = (background_follower ms (own_parted comment rest)).seen_as e at Command in
             record {
-              separator = Some Ampersand;
+              separator = Some (Ampersand, o + (q + 1));
               f = q + 1;
               at = r_q.rest;
               reads = some_separator (next_at Command T e) q Ampersand (ap (λ (n : Next). separator_of n.token) n_is) r_q.behind_it;
@@ -1342,12 +1446,14 @@ module _ (B T : List ℕ) (o : ℕ) (here : drop o B ≡ T) where
           pub value : AnEntry
           pub «end» : ℕ
           pub at : At «end» (line_end ∷ rest)
-          pub reads : Gives g (an_entry inner blank n) (standing p) (record { entry = value; parted = background; next = next_at Command T «end» }) (standing (past_blanks T «end»))
+          pub parted : Option ℕ
+          pub reads : Gives g (an_entry inner blank n) (standing p) (record { entry = value; parted = parted; next = next_at Command T «end» }) (standing (past_blanks T «end»))
+          pub parted_is : is_some parted ≡ background
           pub shape : shape_of_entry B value ≡ entry (command a) background blank comment
 
-        entered_is : (blank : Bool) (a : AnAndOr) (s : Option Separator) (c : Option Span) (n : Next) (background : Bool) → is_background s ≡ background → is_parted s ≡ background
-            → ◌≡◌ {A = Entered} (record { entry = entry (command a) (is_background s) blank c; parted = is_parted s; next = n }) (record { entry = entry (command a) background blank c; parted = background; next = n })
-        entered_is blank a s c n background e f = rw (e, f) refl
+        entered_is : (blank : Bool) (a : AnAndOr) (s : Option ASeparator) (c : Option Span) (n : Next) (background : Bool) → is_background s ≡ background
+            → ◌≡◌ {A = Entered} (record { entry = entry (command a) (is_background s) blank c; parted = past_separator s; next = n }) (record { entry = entry (command a) background blank c; parted = past_separator s; next = n })
+        entered_is blank a s c n background e = rw e refl
 
         entry_shape : (blank background : Bool) (a : AnAndOr) (c : Option Span) (x : Shape AnAndOrOf) (comment : Option Text) → shape_of_and_or B a ≡ x → option_map (shape_of_comment B) c ≡ comment
             → shape_of_entry B (entry (command a) background blank c) ≡ entry (command x) background blank comment
@@ -1363,24 +1469,26 @@ module _ (B T : List ℕ) (o : ℕ) (here : drop o B ≡ T) where
             let cr = own_read comment rest sr.f good_c sr.at in
             let last_state = standing (past_blanks T cr.«end») in
             let n_end = next_at Command T cr.«end» in
-            let is_entered = entered_is blank ar.value sr.separator cr.own n_end background sr.is_it sr.parted_is in
+            let is_entered = entered_is blank ar.value sr.separator cr.own n_end background sr.is_it in
             record {
               value = entry (command ar.value) background blank cr.own;
               «end» = cr.«end»;
               at = cr.at;
-              reads = ar.reads ⟫ sr.reads ⟫ cr.reads ⟫ subst (λ z. Gives g (give (record { entry = entry (command ar.value) (is_background sr.separator) blank cr.own; parted = is_parted sr.separator; next = n_end })) last_state z last_state) is_entered given_here;
+              parted = past_separator sr.separator;
+              parted_is = sr.parted_is;
+              reads = ar.reads ⟫ sr.reads ⟫ cr.reads ⟫ subst (λ z. Gives g (give (record { entry = entry (command ar.value) (is_background sr.separator) blank cr.own; parted = past_separator sr.separator; next = n_end })) last_state z last_state) is_entered given_here;
               shape = entry_shape blank background ar.value cr.own a comment ar.is cr.shape;
             }
 
         -- ---- lines of a list
 
         -- the entries so far, at the beginning of a line
-        abbrev pub at_line_start : Row AnEntry → Bool → Bool → Listed
-        at_line_start es blank commands = record { entries = es; blank = blank; begun = false; commands = commands }
+        abbrev pub at_line_start : Row AnEntry → Bool → Bool → Option ℕ → Listed
+        at_line_start es blank commands parted = record { entries = es; blank = blank; begun = false; commands = commands; parted = parted }
 
         -- behind an entry of a line
-        abbrev pub on_this_line : Row AnEntry → Bool → Bool → Listed
-        on_this_line es blank commands = record { entries = es; blank = blank; begun = true; commands = commands }
+        abbrev pub on_this_line : Row AnEntry → Bool → Bool → Option ℕ → Listed
+        on_this_line es blank commands parted = record { entries = es; blank = blank; begun = true; commands = commands; parted = parted }
 
         and_true : (b : Bool) → (b && true) ≡ b
         and_true true = refl
@@ -1414,24 +1522,30 @@ module _ (B T : List ℕ) (o : ℕ) (here : drop o B ≡ T) where
             record { n_is = line.0; q_is = line.1; at_q = at_q; no_comment_q = no_byte (past_blanks T e) 10 (laid rest) 35 refl (at_q ∙ laid_line rest) }
 
         -- an entry on its line
-        pub record OnLine (acc : Row AnEntry) (blank commands : Bool) (n : Next) (p : ℕ) (e : Shape AnEntryOf) (is_a_command : Bool) (rest : Marks) : Type 0 where
+        pub record OnLine (acc : Row AnEntry) (blank commands : Bool) (before : Option ℕ) (n : Next) (p : ℕ) (e : Shape AnEntryOf) (is_a_command : Bool) (rest : Marks) : Type 0 where
           pub value : AnEntry
           pub «end» : ℕ
+          pub parted : Option ℕ
           pub at : At «end» (line_end ∷ rest)
-          pub reads : Gives g (on_line inner (list_so (at_line_start acc blank commands) n)) (standing p) (list_so (on_this_line (acc ++ value ∷ []) blank (commands || is_a_command)) (next_at Command T «end»)) (standing (past_blanks T «end»))
+          pub reads : Gives g (on_line inner (list_so (at_line_start acc blank commands before) n)) (standing p) (list_so (on_this_line (acc ++ value ∷ []) blank (commands || is_a_command) parted) (next_at Command T «end»)) (standing (past_blanks T «end»))
           pub shape : shape_of_entry B value ≡ e
 
-        one_entry_by : (acc : Row AnEntry) (blank commands : Bool) (n : Next) (p : ℕ) (a : Shape AnAndOrOf) (background : Bool) (comment : Option Text) (rest : Marks)
+        one_entry_by : (acc : Row AnEntry) (blank commands : Bool) (before : Option ℕ) (n : Next) (p : ℕ) (a : Shape AnAndOrOf) (background : Bool) (comment : Option Text) (rest : Marks)
             → begins_pipeline n.token ≡ true → p < length T → (r : EntryRead (blank && true) n p a background comment rest) → p < past_blanks T r.«end»
-            → Gives g (many (entry_turn inner) (list_so (at_line_start acc blank commands) n)) (standing p) (list_so (on_this_line (acc ++ r.value ∷ []) blank true) (next_at Command T r.«end»)) (standing (past_blanks T r.«end»))
+            → Gives g (many (entry_turn inner) (list_so (at_line_start acc blank commands before) n)) (standing p) (list_so (on_this_line (acc ++ r.value ∷ []) blank true r.parted) (next_at Command T r.«end»)) (standing (past_blanks T r.«end»))
         unfolding entry_turn one_entry
-        one_entry_by acc blank commands n p a true comment rest begins within r on =
+        one_entry_by acc blank commands before n p a true comment rest begins within r on =
             let line = line_end_here r.«end» rest r.at in
-            let read_one = first_of _ _ begins (r.reads ⟫ pushed_here acc r.value ⟫ given_here) in
+            let more = list_so (on_this_line (acc ++ r.value ∷ []) blank true r.parted) (next_at Command T r.«end») in
+            let turned = first_of _ _ begins (r.reads ⟫ pushed_here acc r.value ⟫ given_here) in
+            let read_one = subst (λ b. Gives g (entry_turn inner (list_so (at_line_start acc blank commands before) n)) (standing p) (step_if b more) (standing (past_blanks T r.«end»))) r.parted_is turned in
             one_turn (entry_turn inner) read_one (leads p (past_blanks T r.«end») on within)
-            (last_turn (entry_turn inner) (no_entry_turn (on_this_line (acc ++ r.value ∷ []) blank true) (next_at Command T r.«end») (past_blanks T r.«end») (ap (λ (n : Next). begins_pipeline n.token) line.n_is)))
-        one_entry_by acc blank commands n p a false comment rest begins within r on =
-            last_turn (entry_turn inner) (first_of _ _ begins (r.reads ⟫ pushed_here acc r.value ⟫ given_here))
+            (last_turn (entry_turn inner) (no_entry_turn (on_this_line (acc ++ r.value ∷ []) blank true r.parted) (next_at Command T r.«end») (past_blanks T r.«end») (ap (λ (n : Next). begins_pipeline n.token) line.n_is)))
+        one_entry_by acc blank commands before n p a false comment rest begins within r on =
+            let more = list_so (on_this_line (acc ++ r.value ∷ []) blank true r.parted) (next_at Command T r.«end») in
+            let turned = first_of _ _ begins (r.reads ⟫ pushed_here acc r.value ⟫ given_here) in
+            last_turn (entry_turn inner)
+            (subst (λ b. Gives g (entry_turn inner (list_so (at_line_start acc blank commands before) n)) (standing p) (step_if b more) (standing (past_blanks T r.«end»))) r.parted_is turned)
 
         pipeline_within : (p : ℕ) → PipelineBegins p → p < length T
         unfolding token_at
@@ -1442,24 +1556,25 @@ module _ (B T : List ℕ) (o : ℕ) (here : drop o B ≡ T) where
             by_byte (Some c) e = slice_get_within T p c (ap (slice_get T) (sym b.operand.start.place) ∙ e)
 
         -- a command on its line
-        command_on_line : (m : Text) (acc : Row AnEntry) (blank commands : Bool) (a : Shape AnAndOrOf) (background : Bool) (comment : Option Text) (n : Next) (p : ℕ) (rest : Marks) → all_blank m ≡ true
+        command_on_line : (m : Text) (acc : Row AnEntry) (blank commands : Bool) (before : Option ℕ) (a : Shape AnAndOrOf) (background : Bool) (comment : Option Text) (n : Next) (p : ℕ) (rest : Marks) → all_blank m ≡ true
             → GoodAndOr room a → GoodOwnComment comment → is_normal_and_or a ≡ true → n.token ≡ token_at Command T p → At p (print_and_or y m a ++ entry_rest background comment rest)
-            → OnLine acc blank commands n p (entry (command a) background blank comment) true rest
+            → OnLine acc blank commands before n p (entry (command a) background blank comment) true rest
         unfolding on_line
-        command_on_line m acc blank commands a background comment n p rest blank_m good good_c normal token_is at =
+        command_on_line m acc blank commands before a background comment n p rest blank_m good good_c normal token_is at =
             let r = entry_read m (blank && true) a background comment n p rest blank_m good good_c normal token_is at in
             let follow = entry_follow background comment rest good_c in
             let b = and_or_begins m a p (entry_rest background comment rest) follow.token good follow.follower follow.no_item follow.no_pipe_it at in
             let line = line_end_here r.«end» rest r.at in
             let low = gives_on (an_entry inner (blank && true) n) _ _ _ r.reads in
             let on : p < past_blanks T r.«end» = must_move p (past_blanks T r.«end») low b line.at_q in
-            let turns = one_entry_by acc blank commands n p a background comment rest (ap begins_pipeline token_is ∙ b.begins) (pipeline_within p b) r on in
+            let turns = one_entry_by acc blank commands before n p a background comment rest (ap begins_pipeline token_is ∙ b.begins) (pipeline_within p b) r on in
             record {
               value = r.value;
               «end» = r.«end»;
+              parted = r.parted;
               at = r.at;
-              reads = subst (λ c. Gives g (on_line inner (list_so (at_line_start acc blank commands) n)) (standing p) (list_so (on_this_line (acc ++ r.value ∷ []) blank c) (next_at Command T r.«end»)) (standing (past_blanks T r.«end»)))
-                  (sym (or_true commands)) (turns ⟫ no_remark (on_this_line (acc ++ r.value ∷ []) blank true) (next_at Command T r.«end») (past_blanks T r.«end») line.no_comment_q);
+              reads = subst (λ c. Gives g (on_line inner (list_so (at_line_start acc blank commands before) n)) (standing p) (list_so (on_this_line (acc ++ r.value ∷ []) blank c r.parted) (next_at Command T r.«end»)) (standing (past_blanks T r.«end»)))
+                  (sym (or_true commands)) (turns ⟫ no_remark (on_this_line (acc ++ r.value ∷ []) blank true r.parted) (next_at Command T r.«end») (past_blanks T r.«end») line.no_comment_q);
               shape = r.shape ∙ ap (λ b. entry (command a) background b comment) (and_true blank);
             }
           where
@@ -1467,10 +1582,10 @@ module _ (B T : List ℕ) (o : ℕ) (here : drop o B ≡ T) where
             must_move p q low b at_q = ⊎_elim (λ lt. lt) (λ ge. let same : p ≡ q = omega (arith, low, ge) in absurd (both_ways (is_newline (token_at Command T p)) b.operand.no_newline (ap is_newline (newline_token Command T p (laid rest) (subst (λ r. drop r T ≡ 10 ∷ laid rest) (sym same) (at_q ∙ laid_line rest)))))) (cases_lt p q)
 
         -- a comment on a line of its own
-        remark_on_line : (acc : Row AnEntry) (blank commands : Bool) (c : Text) (n : Next) (p : ℕ) (rest : Marks) → CommentAnywhere c → n.token ≡ token_at Command T p → At p (text c ∷ line_end ∷ rest)
-            → OnLine acc blank commands n p (entry (remark c) false blank None) false rest
+        remark_on_line : (acc : Row AnEntry) (blank commands : Bool) (before : Option ℕ) (c : Text) (n : Next) (p : ℕ) (rest : Marks) → CommentAnywhere c → n.token ≡ token_at Command T p → At p (text c ∷ line_end ∷ rest)
+            → OnLine acc blank commands before n p (entry (remark c) false blank None) false rest
         unfolding on_line a_remark
-        remark_on_line acc blank commands c n p rest good token_is at =
+        remark_on_line acc blank commands before c n p rest good token_is at =
             let found = good.there T o p (laid rest) (at ∙ laid_text c (line_end ∷ rest) ∙ ap (λ z. c ++ z) (laid_line rest)) in
             let is_sharp = token_is ∙ sharp_token Command p found.4 in
             let e = p + length c in
@@ -1478,24 +1593,25 @@ module _ (B T : List ℕ) (o : ℕ) (here : drop o B ≡ T) where
             record {
               value = v;
               «end» = e;
+              parted = before;
               at = at_text p c (line_end ∷ rest) at;
-              reads = subst (λ k. Gives g (on_line inner (list_so (at_line_start acc blank commands) n)) (standing p) (list_so (on_this_line (acc ++ v ∷ []) blank k) (next_at Command T e)) (standing (past_blanks T e)))
+              reads = subst (λ k. Gives g (on_line inner (list_so (at_line_start acc blank commands before) n)) (standing p) (list_so (on_this_line (acc ++ v ∷ []) blank k before) (next_at Command T e)) (standing (past_blanks T e)))
                   (sym (or_false commands))
-                  (last_turn (entry_turn inner) (no_entry_turn (at_line_start acc blank commands) n p (ap begins_pipeline is_sharp)) ⟫ (comment_read c n p rest good at ⟫ (pushed_here acc v ⟫ given_here)));
+                  (last_turn (entry_turn inner) (no_entry_turn (at_line_start acc blank commands before) n p (ap begins_pipeline is_sharp)) ⟫ (comment_read c n p rest good at ⟫ (pushed_here acc v ⟫ given_here)));
               shape = remark_shape blank c p at;
             }
           where
             remark_shape : (blank : Bool) (c : Text) (p : ℕ) → At p (text c ∷ line_end ∷ rest) → shape_of_entry B (entry (remark (span o p (p + length c))) false (blank && true) None) ≡ entry (remark c) false blank None
             remark_shape blank c p at = rw (comment_shape c p (line_end ∷ rest) at, and_true blank) refl
 
-        entry_on_line : (m : Text) (acc : Row AnEntry) (blank commands : Bool) (what : Shape AContentOf) (background : Bool) (comment : Option Text) (n : Next) (p : ℕ) (rest : Marks) → all_blank m ≡ true
+        entry_on_line : (m : Text) (acc : Row AnEntry) (blank commands : Bool) (before : Option ℕ) (what : Shape AContentOf) (background : Bool) (comment : Option Text) (n : Next) (p : ℕ) (rest : Marks) → all_blank m ≡ true
             → GoodContent room what → GoodOwnComment comment → is_normal_entry (entry what background blank comment) ≡ true → n.token ≡ token_at Command T p
-            → At p (print_content y m what ++ entry_rest background comment rest) → OnLine acc blank commands n p (entry what background blank comment) (is_command (entry what background blank comment)) rest
-        entry_on_line m acc blank commands (command a) background comment n p rest blank_m good good_c normal token_is at =
-            command_on_line m acc blank commands a background comment n p rest blank_m good good_c normal token_is at
-        entry_on_line m acc blank commands (remark c) false None n p rest blank_m good good_c normal token_is at = remark_on_line acc blank commands c n p rest good token_is at
-        entry_on_line m acc blank commands (remark c) true comment n p rest blank_m good good_c normal token_is at = absurd cc
-        entry_on_line m acc blank commands (remark c) false (Some d) n p rest blank_m good good_c normal token_is at = absurd cc
+            → At p (print_content y m what ++ entry_rest background comment rest) → OnLine acc blank commands before n p (entry what background blank comment) (is_command (entry what background blank comment)) rest
+        entry_on_line m acc blank commands before (command a) background comment n p rest blank_m good good_c normal token_is at =
+            command_on_line m acc blank commands before a background comment n p rest blank_m good good_c normal token_is at
+        entry_on_line m acc blank commands before (remark c) false None n p rest blank_m good good_c normal token_is at = remark_on_line acc blank commands before c n p rest good token_is at
+        entry_on_line m acc blank commands before (remark c) true comment n p rest blank_m good good_c normal token_is at = absurd cc
+        entry_on_line m acc blank commands before (remark c) false (Some d) n p rest blank_m good good_c normal token_is at = absurd cc
 
         content_start : (m : Text) (what : Shape AContentOf) (background blank : Bool) (comment : Option Text) (p : ℕ) (rest : Marks) → GoodContent room what → GoodOwnComment comment
             → is_normal_entry (entry what background blank comment) ≡ true → At p (print_content y m what ++ entry_rest background comment rest) → Start T p
@@ -1507,24 +1623,26 @@ module _ (B T : List ℕ) (o : ℕ) (here : drop o B ≡ T) where
         content_start m (remark c) false blank (Some d) p rest good good_c normal at = absurd cc
 
         -- an entry and the newline behind it
-        record LineRead (acc : Row AnEntry) (blank commands : Bool) (n : Next) (p : ℕ) (x : Shape AnEntryOf) (rest : Marks) : Type 0 where
+        record LineRead (acc : Row AnEntry) (blank commands : Bool) (before : Option ℕ) (n : Next) (p : ℕ) (x : Shape AnEntryOf) (rest : Marks) : Type 0 where
           value : AnEntry
           f : ℕ
+          parted : Option ℕ
           at : At f rest
-          reads : Gives g (list_turn inner (list_so (at_line_start acc blank commands) n)) (standing p) (again (list_so (at_line_start (acc ++ value ∷ []) false (commands || is_command x)) (next_at Command T f))) (standing (past_blanks T f))
+          reads : Gives g (list_turn inner (list_so (at_line_start acc blank commands before) n)) (standing p) (again (list_so (at_line_start (acc ++ value ∷ []) false (commands || is_command x) parted) (next_at Command T f))) (standing (past_blanks T f))
           on : leads_on g (standing p) (standing (past_blanks T f)) ≡ true
           shape : shape_of_entry B value ≡ x
 
-        line_by : (acc : Row AnEntry) (blank commands : Bool) (n : Next) (p : ℕ) (x : Shape AnEntryOf) (rest : Marks) → OnLine acc blank commands n p x (is_command x) rest → LineRead acc blank commands n p x rest
+        line_by : (acc : Row AnEntry) (blank commands : Bool) (before : Option ℕ) (n : Next) (p : ℕ) (x : Shape AnEntryOf) (rest : Marks) → OnLine acc blank commands before n p x (is_command x) rest → LineRead acc blank commands before n p x rest
         unfolding list_turn
-        line_by acc blank commands n p x rest r =
+        line_by acc blank commands before n p x rest r =
             let line = line_end_here r.«end» rest r.at in
             let q = past_blanks T r.«end» in
-            let low = gives_on (on_line inner (list_so (at_line_start acc blank commands) n)) _ _ _ r.reads in
+            let low = gives_on (on_line inner (list_so (at_line_start acc blank commands before) n)) _ _ _ r.reads in
             let within = some_here q 10 (laid rest) (line.at_q ∙ laid_line rest) in
             record {
               value = r.value;
               f = q + 1;
+              parted = r.parted;
               at = at_line q rest line.at_q;
               reads = r.reads ⟫ newline_read (next_at Command T r.«end») q rest (ap (λ (n : Next). is_newline n.token) line.n_is) line.at_q ⟫ given_here;
               on = leads p (past_blanks T (q + 1)) (omega (arith, low, blanks_low T (q + 1))) (omega (arith, low, within));
@@ -1532,13 +1650,13 @@ module _ (B T : List ℕ) (o : ℕ) (here : drop o B ≡ T) where
             }
 
         -- a line without entries
-        empty_line : (acc : Row AnEntry) (blank commands : Bool) (e : ℕ) (rest : Marks) → At e (line_end ∷ rest)
-            → Gives g (list_turn inner (list_so (at_line_start acc blank commands) (next_at Command T e))) (standing (past_blanks T e))
-            (again (list_so (at_line_start acc (not (is_empty acc)) commands) (next_at Command T (past_blanks T e + 1)))) (standing (past_blanks T (past_blanks T e + 1)))
+        empty_line : (acc : Row AnEntry) (blank commands : Bool) (before : Option ℕ) (e : ℕ) (rest : Marks) → At e (line_end ∷ rest)
+            → Gives g (list_turn inner (list_so (at_line_start acc blank commands before) (next_at Command T e))) (standing (past_blanks T e))
+            (again (list_so (at_line_start acc (not (is_empty acc)) commands before) (next_at Command T (past_blanks T e + 1)))) (standing (past_blanks T (past_blanks T e + 1)))
         unfolding list_turn
-        empty_line acc blank commands e rest at =
+        empty_line acc blank commands before e rest at =
             let line = line_end_here e rest at in
-            nothing_on_line (at_line_start acc blank commands) (next_at Command T e) (past_blanks T e) (ap (λ (n : Next). begins_pipeline n.token) line.n_is) line.no_comment_q
+            nothing_on_line (at_line_start acc blank commands before) (next_at Command T e) (past_blanks T e) (ap (λ (n : Next). begins_pipeline n.token) line.n_is) line.no_comment_q
             ⟫ newline_read (next_at Command T e) (past_blanks T e) rest (ap (λ (n : Next). is_newline n.token) line.n_is) line.at_q ⟫ given_here
 
         empty_on : (e : ℕ) (rest : Marks) → At e (line_end ∷ rest) → leads_on g (standing (past_blanks T e)) (standing (past_blanks T (past_blanks T e + 1))) ≡ true
@@ -1553,19 +1671,20 @@ module _ (B T : List ℕ) (o : ℕ) (here : drop o B ≡ T) where
           pub no_newline_it : is_newline (token_at Command T (past_blanks T e)) ≡ false
           pub no_comment_it : raw_stands T (past_blanks T e) 35 ≡ false
 
-        pub record ListRead (acc : Row AnEntry) (commands : Bool) (n : Next) (p : ℕ) (es : Shape EntriesOf) (rest : Marks) : Type 0 where
+        pub record ListRead (acc : Row AnEntry) (commands : Bool) (before : Option ℕ) (n : Next) (p : ℕ) (es : Shape EntriesOf) (rest : Marks) : Type 0 where
           pub value : Row AnEntry
           pub «end» : ℕ
           pub blank : Bool
+          pub parted : Option ℕ
           pub at : At «end» rest
-          pub reads : Gives g (many (list_turn inner) (list_so (at_line_start acc false commands) n)) (standing p) (list_so (at_line_start (acc ++ value) blank (commands || holds_command es)) (next_at Command T «end»)) (standing (past_blanks T «end»))
+          pub reads : Gives g (many (list_turn inner) (list_so (at_line_start acc false commands before) n)) (standing p) (list_so (at_line_start (acc ++ value) blank (commands || holds_command es) parted) (next_at Command T «end»)) (standing (past_blanks T «end»))
           pub shape : shape_of B (entries_of value) ≡ es
 
-        list_ends : (acc : Row AnEntry) (blank commands : Bool) (e : ℕ) → Closes e
-            → Gives g (list_turn inner (list_so (at_line_start acc blank commands) (next_at Command T e))) (standing (past_blanks T e)) (done (list_so (at_line_start acc (not (is_empty acc)) commands) (next_at Command T e))) (standing (past_blanks T e))
+        list_ends : (acc : Row AnEntry) (blank commands : Bool) (before : Option ℕ) (e : ℕ) → Closes e
+            → Gives g (list_turn inner (list_so (at_line_start acc blank commands before) (next_at Command T e))) (standing (past_blanks T e)) (done (list_so (at_line_start acc (not (is_empty acc)) commands before) (next_at Command T e))) (standing (past_blanks T e))
         unfolding list_turn
-        list_ends acc blank commands e c =
-            nothing_on_line (at_line_start acc blank commands) (next_at Command T e) (past_blanks T e) c.no_entry_it c.no_comment_it ⟫ no_newline_read (next_at Command T e) (past_blanks T e) c.no_newline_it ⟫ given_here
+        list_ends acc blank commands before e c =
+            nothing_on_line (at_line_start acc blank commands before) (next_at Command T e) (past_blanks T e) c.no_entry_it c.no_comment_it ⟫ no_newline_read (next_at Command T e) (past_blanks T e) c.no_newline_it ⟫ given_here
 
         pub entry_marks : (d : Text) (what : Shape AContentOf) (background blank : Bool) (comment : Option Text) (es : Shape EntriesOf) (rest : Marks)
             → print_entries y d (more_entries (entry what background blank comment) es) ++ rest
@@ -1585,91 +1704,95 @@ module _ (B T : List ℕ) (o : ℕ) (here : drop o B ≡ T) where
         or_three false b c = refl
 
         -- a row of lines of which the first entry is blank or not
-        record ListBy (acc : Row AnEntry) (first_blank commands : Bool) (e : ℕ) (es : Shape EntriesOf) (rest : Marks) : Type 0 where
+        record ListBy (acc : Row AnEntry) (first_blank commands : Bool) (before : Option ℕ) (e : ℕ) (es : Shape EntriesOf) (rest : Marks) : Type 0 where
           value : Row AnEntry
           «end» : ℕ
           blank : Bool
+          parted : Option ℕ
           at : At «end» rest
-          reads : Gives g (many (list_turn inner) (list_so (at_line_start acc first_blank commands) (next_at Command T e))) (standing (past_blanks T e))
-              (list_so (at_line_start (acc ++ value) blank (commands || holds_command es)) (next_at Command T «end»)) (standing (past_blanks T «end»))
+          reads : Gives g (many (list_turn inner) (list_so (at_line_start acc first_blank commands before) (next_at Command T e))) (standing (past_blanks T e))
+              (list_so (at_line_start (acc ++ value) blank (commands || holds_command es) parted) (next_at Command T «end»)) (standing (past_blanks T «end»))
           shape : shape_of B (entries_of value) ≡ es
 
         -- one line more in front
-        list_turned : (acc : Row AnEntry) (b commands : Bool) (n : Next) (p : ℕ) (v : AnEntry) (c : Bool) (next : Next) (r : ℕ) (vs : Row AnEntry) (blank k : Bool) (z : Next) (f : ℕ)
-            → Gives g (list_turn inner (list_so (at_line_start acc b commands) n)) (standing p) (again (list_so (at_line_start (acc ++ v ∷ []) false (commands || c)) next)) (standing r) → leads_on g (standing p) (standing r) ≡ true
-            → Gives g (many (list_turn inner) (list_so (at_line_start (acc ++ v ∷ []) false (commands || c)) next)) (standing r) (list_so (at_line_start ((acc ++ v ∷ []) ++ vs) blank ((commands || c) || k)) z) (standing f)
-            → Gives g (many (list_turn inner) (list_so (at_line_start acc b commands) n)) (standing p) (list_so (at_line_start (acc ++ (v ∷ vs)) blank (commands || (c || k))) z) (standing f)
-        list_turned acc b commands n p v c next r vs blank k z f one on rest =
+        list_turned : (acc : Row AnEntry) (b commands : Bool) (before between last : Option ℕ) (n : Next) (p : ℕ) (v : AnEntry) (c : Bool) (next : Next) (r : ℕ) (vs : Row AnEntry) (blank k : Bool) (z : Next) (f : ℕ)
+            → Gives g (list_turn inner (list_so (at_line_start acc b commands before) n)) (standing p) (again (list_so (at_line_start (acc ++ v ∷ []) false (commands || c) between) next)) (standing r) → leads_on g (standing p) (standing r) ≡ true
+            → Gives g (many (list_turn inner) (list_so (at_line_start (acc ++ v ∷ []) false (commands || c) between) next)) (standing r) (list_so (at_line_start ((acc ++ v ∷ []) ++ vs) blank ((commands || c) || k) last) z) (standing f)
+            → Gives g (many (list_turn inner) (list_so (at_line_start acc b commands before) n)) (standing p) (list_so (at_line_start (acc ++ (v ∷ vs)) blank (commands || (c || k)) last) z) (standing f)
+        list_turned acc b commands before between last n p v c next r vs blank k z f one on rest =
             let all = one_turn (list_turn inner) one on rest in
-            let entries_are = subst (λ es. Gives g (many (list_turn inner) (list_so (at_line_start acc b commands) n)) (standing p) (list_so (at_line_start es blank ((commands || c) || k)) z) (standing f)) (append_assoc acc (v ∷ []) vs) all in
-            subst (λ q. Gives g (many (list_turn inner) (list_so (at_line_start acc b commands) n)) (standing p) (list_so (at_line_start (acc ++ (v ∷ vs)) blank q) z) (standing f)) (or_three commands c k) entries_are
+            let entries_are = subst (λ es. Gives g (many (list_turn inner) (list_so (at_line_start acc b commands before) n)) (standing p) (list_so (at_line_start es blank ((commands || c) || k) last) z) (standing f)) (append_assoc acc (v ∷ []) vs) all in
+            subst (λ q. Gives g (many (list_turn inner) (list_so (at_line_start acc b commands before) n)) (standing p) (list_so (at_line_start (acc ++ (v ∷ vs)) blank q last) z) (standing f)) (or_three commands c k) entries_are
 
         entries_shape : (v : AnEntry) (vs : Row AnEntry) (x : Shape AnEntryOf) (es : Shape EntriesOf) → shape_of_entry B v ≡ x → shape_of B (entries_of vs) ≡ es → shape_of B (entries_of (v ∷ vs)) ≡ more_entries x es
         entries_shape v vs x es e f = rw (e, f) refl
 
         -- the first line of a row of them, from where its margin begins
-        first_line : (d : Text) (acc : Row AnEntry) (blank commands : Bool) (what : Shape AContentOf) (background : Bool) (comment : Option Text) (e : ℕ) (rest : Marks) → all_blank d ≡ true
+        first_line : (d : Text) (acc : Row AnEntry) (blank commands : Bool) (before : Option ℕ) (what : Shape AContentOf) (background : Bool) (comment : Option Text) (e : ℕ) (rest : Marks) → all_blank d ≡ true
             → GoodContent room what → GoodOwnComment comment → is_normal_entry (entry what background blank comment) ≡ true → At e (text d ∷ (print_content y d what ++ entry_rest background comment rest))
-            → LineRead acc blank commands (next_at Command T e) (past_blanks T e) (entry what background blank comment) rest
-        first_line d acc blank commands what background comment e rest blank_d good good_c normal at =
+            → LineRead acc blank commands before (next_at Command T e) (past_blanks T e) (entry what background blank comment) rest
+        first_line d acc blank commands before what background comment e rest blank_d good good_c normal at =
             let ms = print_content y d what ++ entry_rest background comment rest in
             let behind_it = at_text e d ms at in
             let gap = margin_gap d e ms blank_d at (content_start d what background blank comment (e + length d) rest good good_c normal behind_it) in
             let q = past_blanks T e in
             let at_q = subst (λ r. At r ms) (sym gap.blanks) behind_it in
-            line_by acc blank commands (next_at Command T e) q (entry what background blank comment) rest (entry_on_line d acc blank commands what background comment (next_at Command T e) q rest blank_d good good_c normal refl at_q)
+            line_by acc blank commands before (next_at Command T e) q (entry what background blank comment) rest (entry_on_line d acc blank commands before what background comment (next_at Command T e) q rest blank_d good good_c normal refl at_q)
 
         blank_first : (acc : Row AnEntry) → (is_empty acc ≡ true → false ≡ true) → is_empty acc ≡ false
         blank_first [] e = absurd (both_ways false refl (e refl))
         blank_first (x ∷ xs) e = refl
 
-        list_by : (d : Text) (what : Shape AContentOf) (background blank : Bool) (comment : Option Text) (es : Shape EntriesOf) (acc : Row AnEntry) (commands : Bool) (e : ℕ) (rest : Marks) → all_blank d ≡ true
-            → GoodEntries room (more_entries (entry what background blank comment) es) → are_normal (more_entries (entry what background blank comment) es) ≡ true → ((acc : Row AnEntry) (commands : Bool) (f : ℕ) → is_empty acc ≡ false → At f (print_entries y d es ++ rest) → ListRead acc commands (next_at Command T f) (past_blanks T f) es rest)
-            → At e (text d ∷ (print_content y d what ++ entry_rest background comment (print_entries y d es ++ rest))) → ListBy acc blank commands e (more_entries (entry what background blank comment) es) rest
-        list_by d what background blank comment es acc commands e rest blank_d good normal others_by at =
+        list_by : (d : Text) (what : Shape AContentOf) (background blank : Bool) (comment : Option Text) (es : Shape EntriesOf) (acc : Row AnEntry) (commands : Bool) (before : Option ℕ) (e : ℕ) (rest : Marks) → all_blank d ≡ true
+            → GoodEntries room (more_entries (entry what background blank comment) es) → are_normal (more_entries (entry what background blank comment) es) ≡ true → ((acc : Row AnEntry) (commands : Bool) (before : Option ℕ) (f : ℕ) → is_empty acc ≡ false → At f (print_entries y d es ++ rest) → ListRead acc commands before (next_at Command T f) (past_blanks T f) es rest)
+            → At e (text d ∷ (print_content y d what ++ entry_rest background comment (print_entries y d es ++ rest))) → ListBy acc blank commands before e (more_entries (entry what background blank comment) es) rest
+        list_by d what background blank comment es acc commands before e rest blank_d good normal others_by at =
             let x = entry what background blank comment in
             let parts = and_parts _ _ normal in
-            let one_line = first_line d acc blank commands what background comment e (print_entries y d es ++ rest) blank_d good.0.0 good.0.1 parts.0 at in
-            let others = others_by (acc ++ one_line.value ∷ []) (commands || is_command x) one_line.f (not_empty acc one_line.value) one_line.at in
+            let one_line = first_line d acc blank commands before what background comment e (print_entries y d es ++ rest) blank_d good.0.0 good.0.1 parts.0 at in
+            let others = others_by (acc ++ one_line.value ∷ []) (commands || is_command x) one_line.parted one_line.f (not_empty acc one_line.value) one_line.at in
             record {
               value = one_line.value ∷ others.value;
               «end» = others.«end»;
               blank = others.blank;
+              parted = others.parted;
               at = others.at;
-              reads = list_turned acc blank commands (next_at Command T e) (past_blanks T e) one_line.value (is_command x) (next_at Command T one_line.f) (past_blanks T one_line.f) others.value others.blank (holds_command es)
+              reads = list_turned acc blank commands before one_line.parted others.parted (next_at Command T e) (past_blanks T e) one_line.value (is_command x) (next_at Command T one_line.f) (past_blanks T one_line.f) others.value others.blank (holds_command es)
                   (next_at Command T others.«end») (past_blanks T others.«end») one_line.reads one_line.on others.reads;
               shape = entries_shape one_line.value others.value x es one_line.shape others.shape;
             }
 
-        pub list_read : (d : Text) (es : Shape EntriesOf) (acc : Row AnEntry) (commands : Bool) (e : ℕ) (rest : Marks) → all_blank d ≡ true → GoodEntries room es → are_normal es ≡ true
-            → (is_empty acc ≡ true → first_not_blank es ≡ true) → ((f : ℕ) → At f rest → Closes f) → At e (print_entries y d es ++ rest) → ListRead acc commands (next_at Command T e) (past_blanks T e) es rest
-        list_read d no_entry acc commands e rest blank_d good normal first closes at =
+        pub list_read : (d : Text) (es : Shape EntriesOf) (acc : Row AnEntry) (commands : Bool) (before : Option ℕ) (e : ℕ) (rest : Marks) → all_blank d ≡ true → GoodEntries room es → are_normal es ≡ true
+            → (is_empty acc ≡ true → first_not_blank es ≡ true) → ((f : ℕ) → At f rest → Closes f) → At e (print_entries y d es ++ rest) → ListRead acc commands before (next_at Command T e) (past_blanks T e) es rest
+        list_read d no_entry acc commands before e rest blank_d good normal first closes at =
             let c = closes e at in
             record {
               value = [];
               «end» = e;
               blank = not (is_empty acc);
+              parted = before;
               at = at;
-              reads = subst (λ k. Gives g (many (list_turn inner) (list_so (at_line_start acc false commands) (next_at Command T e))) (standing (past_blanks T e)) (list_so (at_line_start (acc ++ []) (not (is_empty acc)) k) (next_at Command T e)) (standing (past_blanks T e))) (sym (or_false commands))
-                  (subst (λ es. Gives g (many (list_turn inner) (list_so (at_line_start acc false commands) (next_at Command T e))) (standing (past_blanks T e)) (list_so (at_line_start es (not (is_empty acc)) commands) (next_at Command T e)) (standing (past_blanks T e))) (sym (append-nil acc))
-                  (last_turn (list_turn inner) (list_ends acc false commands e c)));
+              reads = subst (λ k. Gives g (many (list_turn inner) (list_so (at_line_start acc false commands before) (next_at Command T e))) (standing (past_blanks T e)) (list_so (at_line_start (acc ++ []) (not (is_empty acc)) k before) (next_at Command T e)) (standing (past_blanks T e))) (sym (or_false commands))
+                  (subst (λ es. Gives g (many (list_turn inner) (list_so (at_line_start acc false commands before) (next_at Command T e))) (standing (past_blanks T e)) (list_so (at_line_start es (not (is_empty acc)) commands before) (next_at Command T e)) (standing (past_blanks T e))) (sym (append-nil acc))
+                  (last_turn (list_turn inner) (list_ends acc false commands before e c)));
               shape = refl;
             }
-        list_read d (more_entries (entry what background false comment) es) acc commands e rest blank_d good normal first closes at =
-            let r = list_by d what background false comment es acc commands e rest blank_d good normal (λ more_acc k f filled there. list_read d es more_acc k f rest blank_d good.1 (and_parts _ _ normal).1 (λ none. absurd (both_ways (is_empty more_acc) filled none)) closes there) (at ∙ ap laid (entry_marks d what background false comment es rest)) in
-            record { value = r.value; «end» = r.«end»; blank = r.blank; at = r.at; reads = r.reads; shape = r.shape }
-        list_read d (more_entries (entry what background true comment) es) acc commands e rest blank_d good normal first closes at =
+        list_read d (more_entries (entry what background false comment) es) acc commands before e rest blank_d good normal first closes at =
+            let r = list_by d what background false comment es acc commands before e rest blank_d good normal (λ more_acc k past f filled there. list_read d es more_acc k past f rest blank_d good.1 (and_parts _ _ normal).1 (λ none. absurd (both_ways (is_empty more_acc) filled none)) closes there) (at ∙ ap laid (entry_marks d what background false comment es rest)) in
+            record { value = r.value; «end» = r.«end»; blank = r.blank; parted = r.parted; at = r.at; reads = r.reads; shape = r.shape }
+        list_read d (more_entries (entry what background true comment) es) acc commands before e rest blank_d good normal first closes at =
             let more = text d ∷ (print_content y d what ++ entry_rest background comment (print_entries y d es ++ rest)) in
             let there = at ∙ ap laid (entry_marks d what background true comment es rest) in
             let line = line_end_here e more there in
             let filled = blank_first acc first in
-            let others = list_by d what background true comment es acc commands (past_blanks T e + 1) rest blank_d good normal (λ more_acc k f filled there. list_read d es more_acc k f rest blank_d good.1 (and_parts _ _ normal).1 (λ none. absurd (both_ways (is_empty more_acc) filled none)) closes there) (at_line (past_blanks T e) more line.at_q) in
+            let others = list_by d what background true comment es acc commands before (past_blanks T e + 1) rest blank_d good normal (λ more_acc k past f filled there. list_read d es more_acc k past f rest blank_d good.1 (and_parts _ _ normal).1 (λ none. absurd (both_ways (is_empty more_acc) filled none)) closes there) (at_line (past_blanks T e) more line.at_q) in
             let flag : not (is_empty acc) ≡ true = ap not filled in
-            let one_line = subst (λ b. Gives g (list_turn inner (list_so (at_line_start acc false commands) (next_at Command T e))) (standing (past_blanks T e)) (again (list_so (at_line_start acc b commands) (next_at Command T (past_blanks T e + 1)))) (standing (past_blanks T (past_blanks T e + 1)))) flag (empty_line acc false commands e more there) in
+            let one_line = subst (λ b. Gives g (list_turn inner (list_so (at_line_start acc false commands before) (next_at Command T e))) (standing (past_blanks T e)) (again (list_so (at_line_start acc b commands before) (next_at Command T (past_blanks T e + 1)))) (standing (past_blanks T (past_blanks T e + 1)))) flag (empty_line acc false commands before e more there) in
             record {
               value = others.value;
               «end» = others.«end»;
               blank = others.blank;
+              parted = others.parted;
               at = others.at;
               reads = one_turn (list_turn inner) one_line (empty_on e more there) others.reads;
               shape = others.shape;
@@ -1677,11 +1800,11 @@ module _ (B T : List ℕ) (o : ℕ) (here : drop o B ≡ T) where
 
         -- ---- lists
 
-        list_of : (es : Shape EntriesOf) (n : Next) (p : ℕ) (rest : Marks) (acc : Row AnEntry) (blank : Bool) (e : ℕ)
-            → Gives g (many (list_turn inner) (list_so (none_listed false) n)) (standing p) (list_so (at_line_start acc blank (holds_command es)) (next_at Command T e)) (standing (past_blanks T e))
+        list_of : (es : Shape EntriesOf) (n : Next) (p : ℕ) (rest : Marks) (acc : Row AnEntry) (blank : Bool) (parted : Option ℕ) (e : ℕ)
+            → Gives g (many (list_turn inner) (list_so (none_listed false) n)) (standing p) (list_so (at_line_start acc blank (holds_command es) parted) (next_at Command T e)) (standing (past_blanks T e))
             → holds_command es ≡ true → At e rest → shape_of B (entries_of acc) ≡ es → Got (a_list inner n) p rest (λ v. shape_of B v ≡ es)
         unfolding a_list
-        list_of es n p rest acc blank e turns holds_it at shape =
+        list_of es n p rest acc blank parted e turns holds_it at shape =
             record { value = entries_of acc; «end» = e; at = at; reads = turns ⟫ first_of _ _ holds_it given_here; is = shape }
 
         -- a list on lines of its own, from the end of the line before it
@@ -1691,9 +1814,9 @@ module _ (B T : List ℕ) (o : ℕ) (here : drop o B ≡ T) where
             let line = line_end_here e (print_entries y d es ++ rest) at in
             let q = past_blanks T e in
             let parts = and_parts _ _ whole in
-            let r = list_read d es [] false (q + 1) rest blank_d good normal (λ none. parts.1) closes (at_line q (print_entries y d es ++ rest) line.at_q) in
-            let turns = one_turn (list_turn inner) (empty_line [] false false e (print_entries y d es ++ rest) at) (empty_on e (print_entries y d es ++ rest) at) r.reads in
-            list_of es (next_at Command T e) q rest r.value r.blank r.«end» turns parts.0 r.at r.shape
+            let r = list_read d es [] false None (q + 1) rest blank_d good normal (λ none. parts.1) closes (at_line q (print_entries y d es ++ rest) line.at_q) in
+            let turns = one_turn (list_turn inner) (empty_line [] false false None e (print_entries y d es ++ rest) at) (empty_on e (print_entries y d es ++ rest) at) r.reads in
+            list_of es (next_at Command T e) q rest r.value r.blank r.parted r.«end» turns parts.0 r.at r.shape
 
         -- ---- words that open, part and close
 
@@ -1777,6 +1900,7 @@ module _ (B T : List ℕ) (o : ℕ) (here : drop o B ≡ T) where
         unfolding laid
         semicolon_follower ms = record {
           follow = refl;
+          no_round = refl;
           seen_as = λ e at position.
               let there = at ∙ laid_text (codes "; ") ms in
               next_behind position (no_gap (start_here (byte_here T e 59 (32 ∷ laid ms) refl there) refl)) ∙ ap (λ t. record { token = t; broken = false }) (semicolon_token position T e 32 (laid ms) refl refl there);
@@ -1798,7 +1922,7 @@ module _ (B T : List ℕ) (o : ℕ) (here : drop o B ≡ T) where
           value : AnEntry
           f : ℕ
           at : At f (text (codes " ") ∷ ms)
-          reads : Gives g (an_entry inner false n) (standing p) (record { entry = value; parted = true; next = next_at Command T f }) (standing (past_blanks T f))
+          reads : Gives g (an_entry inner false n) (standing p) (record { entry = value; parted = Some (o + f); next = next_at Command T f }) (standing (past_blanks T f))
           on : p < past_blanks T f
           shape : shape_of_entry B value ≡ entry (command a) false false None
 
@@ -1844,12 +1968,13 @@ module _ (B T : List ℕ) (o : ℕ) (here : drop o B ≡ T) where
             let v = one_read.value in
             let z = next_at Command T one_read.f in
             let q = past_blanks T one_read.f in
-            let l = on_this_line (v ∷ []) false true in
+            let past = Some (o + one_read.f) in
+            let l = on_this_line (v ∷ []) false true past in
             let one_entry_read : Gives g (entry_turn inner (list_so (none_listed false) n)) (standing p) (again (list_so l z)) (standing q) = first_of _ _ b.begins (one_read.reads ⟫ pushed_here [] v ⟫ given_here) in
             let entries_read = one_turn (entry_turn inner) one_entry_read (leads p q one_read.on (pipeline_within p b)) (last_turn (entry_turn inner) (no_entry_turn l z q c.no_entry_it)) in
-            let line_read : Gives g (list_turn inner (list_so (none_listed false) n)) (standing p) (done (list_so (at_line_start (v ∷ []) false true) z)) (standing q) =
+            let line_read : Gives g (list_turn inner (list_so (none_listed false) n)) (standing p) (done (list_so (at_line_start (v ∷ []) false true past) z)) (standing q) =
             (entries_read ⟫ no_remark l z q c.no_comment_it) ⟫ no_newline_read z q c.no_newline_it ⟫ given_here in
-            let got = list_of (one_command_list a) n p (text (codes " ") ∷ text w ∷ ms) (v ∷ []) false one_read.f (last_turn (list_turn inner) line_read) refl one_read.at (ap (λ x. more_entries x no_entry) one_read.shape) in
+            let got = list_of (one_command_list a) n p (text (codes " ") ∷ text w ∷ ms) (v ∷ []) false past one_read.f (last_turn (list_turn inner) line_read) refl one_read.at (ap (λ x. more_entries x no_entry) one_read.shape) in
             record { value = got.value; e = got.«end»; key = keyword_read (codes " ") w r got.«end» ms refl key got.at; reads = got.reads; shape = got.is }
 
         -- a condition stands on one line, or it does not
@@ -2377,6 +2502,492 @@ module _ (B T : List ℕ) (o : ℕ) (here : drop o B ≡ T) where
               is = b.is;
             }
 
+        -- ---- `case`
+
+        esac_key : (ms : Marks) → WordEnd (laid ms) → Key (codes "esac") reserved.Esac ms
+        esac_key ms e = key_by (codes "esac") reserved.Esac ms e (λ p x xs clear stops at. esac_here T p x xs clear stops at)
+
+        key_operand : (w : Text) (r : Reserved) (ms : Marks) → Key w r ms → (p : ℕ) → At p (text w ∷ ms) → Operand p
+        key_operand w r ms key p at =
+            let k = key p (at ∙ laid_text w ms) in
+            record { start = k.start; no_comment = no_sharp p k.start.place (ap is_comment k.token); no_newline = ap is_newline k.token }
+
+        -- a word behind a margin
+        record WordAt (position : Position) (begins : Token → Bool) (f : ℕ) (w : Shape AWordOf) (ms : Marks) : Type 0 where
+          value : AWord
+          e : ℕ
+          at : At e ms
+          begin : begins (token_at position T (past_blanks T f)) ≡ true
+          reads : Gives g (a_word inner) (standing (past_blanks T f)) value (standing e)
+          on : past_blanks T f < e
+          within : past_blanks T f < length T
+          shape : shape_of_word B value ≡ w
+
+        word_at : (position : Position) (begins : Token → Bool) (m : Text) (w : Shape AWordOf) (f : ℕ) (ms : Marks) → all_blank m ≡ true → GoodWord room position begins w → follows (laid ms) ≡ true
+            → At f (text m ∷ (print_word w ++ ms)) → WordAt position begins f w ms
+        word_at position begins m w f ms blank good follow at =
+            let t = good.t in
+            let there = at ∙ ap (λ w. laid (text m ∷ (print_word w ++ ms))) good.is in
+            let behind_it = at_text f m (text t ∷ ms) there in
+            let found = good.reads.there g (f + length m) (laid ms) (behind_it ∙ laid_text t ms) follow in
+            let gap = margin_gap m f (text t ∷ ms) blank there (record { place = found.place; no_blank = found.no_blank }) in
+            let q = past_blanks T f in
+            let e = q + length t in
+            let at_q = subst (λ r. At r (text t ∷ ms)) (sym gap.blanks) behind_it in
+            let there_q = at_q ∙ laid_text t ms in
+            let again_there = good.reads.there g q (laid ms) there_q follow in
+            let plain = plain_word q (length t) again_there.word.0 _ again_there.word.1 in
+            let some = good.reads.some in
+            record {
+              value = word (span o q e) no_subst;
+              e = e;
+              at = at_text q t ms at_q;
+              begin = ap begins again_there.token_is ∙ good.begin;
+              reads = gives _ (subst (λ x. may (a_word inner) g (standing q) (Ok (x, standing e)) (raw T q e ∷ [])) plain again_there.word.1);
+              on = omega (arith, some);
+              within = some_word q t (laid ms) some there_q;
+              shape = ap (λ t. word t no_subst) (span_text q t (laid ms) there_q) ∙ sym good.is;
+            }
+
+        -- ---- the patterns of an item
+
+        -- behind a pattern
+        abbrev more_marks : Shape PatternsOf → Marks → Marks
+        more_marks no_pattern ms = text (codes ")") ∷ ms
+        more_marks (more_patterns w ws) ms = text (codes " ") ∷ text (codes "|") ∷ text (codes " ") ∷ (print_word w ++ more_marks ws ms)
+
+        more_are : (ws : Shape PatternsOf) (ms : Marks) → laid (print_patterns ws ++ (text (codes ")") ∷ ms)) ≡ laid (more_marks ws ms)
+        unfolding laid
+        more_are no_pattern ms = refl
+        more_are (more_patterns w ws) ms =
+            ap laid (append_assoc (text (codes " | ") ∷ print_word w) (print_patterns ws) (text (codes ")") ∷ ms)) ∙ ap (λ z. codes " | " ++ z) (laid_same (print_word w) _ _ (more_are ws ms))
+
+        more_follows : (ws : Shape PatternsOf) (ms : Marks) → follows (laid (more_marks ws ms)) ≡ true
+        unfolding laid
+        more_follows no_pattern ms = refl
+        more_follows (more_patterns w ws) ms = refl
+
+        -- a `)` stands here
+        bracket_next : (position : Position) (e : ℕ) (ms : Marks) → At e (text (codes ")") ∷ ms) → (next_at position T e ≡ record { token = tokens.CloseParen; broken = false }) × (past_blanks T e ≡ e)
+        bracket_next position e ms at =
+            let there = at ∙ laid_text (codes ")") ms in
+            let gap = no_gap (start_here (byte_here T e 41 (laid ms) refl there) refl) in
+            (next_behind position gap ∙ ap (λ t. record { token = t; broken = false }) (close_token position T e (laid ms) there), gap.blanks)
+
+        record PatternsRead (acc : Row AWord) (f : ℕ) (ws : Shape PatternsOf) (ms : Marks) : Type 0 where
+          value : Row AWord
+          e : ℕ
+          at : At e (text (codes ")") ∷ ms)
+          reads : Gives g (many (pattern_turn inner) (patterned acc (next_at Suffix T f))) (standing (past_blanks T f)) (patterned (acc ++ value) (next_at Suffix T e)) (standing (past_blanks T e))
+          shape : shape_of_patterns B (patterns_of value) ≡ ws
+
+        patterns_shape : (v : AWord) (vs : Row AWord) (w : Shape AWordOf) (ws : Shape PatternsOf) → shape_of_word B v ≡ w → shape_of_patterns B (patterns_of vs) ≡ ws
+            → shape_of_patterns B (patterns_of (v ∷ vs)) ≡ more_patterns w ws
+        patterns_shape v vs w ws e f = rw (e, f) refl
+
+        patterns_read : (ws : Shape PatternsOf) (acc : Row AWord) (f : ℕ) (ms : Marks) → GoodMorePatterns room ws → At f (more_marks ws ms) → PatternsRead acc f ws ms
+        unfolding pattern_turn one_pattern a_pattern
+        patterns_read no_pattern acc f ms good at = record {
+          value = [];
+          e = f;
+          at = at;
+          reads = rw (append-nil acc) (last_turn (pattern_turn inner) (second_of _ _ (ap (λ (n : Next). is_pipe n.token) (bracket_next Suffix f ms at).0) given_here));
+          shape = refl;
+        }
+        patterns_read (more_patterns w ws) acc f ms good at =
+            let Y = print_word w ++ more_marks ws ms in
+            let X = text (codes " ") ∷ Y in
+            let parted : Parted (laid X) = record { c = 32; cs = laid Y; is = laid_text (codes " ") Y; no_backslash = refl; no_bar = refl; no_ampersand = refl } in
+            let n_is = (pipe_follower X parted).seen_as f at Suffix in
+            let gap = space_then f 124 [] X refl refl at in
+            let q = past_blanks T f in
+            let at_q = subst (λ r. At r (text (codes "|") ∷ X)) (sym gap.blanks) (at_text f (codes " ") (text (codes "|") ∷ X) at) in
+            let there_q = at_q ∙ laid_text (codes "|") X in
+            let r_q = byte_here T q 124 (laid X) refl there_q in
+            let moved : Gives g (move one_byte) (standing q) tt (standing (q + 1)) = subst (λ p. Gives g (move one_byte) (standing q) tt (standing p)) r_q.behind_it (moved_here one_byte) in
+            let v = word_at Suffix begins_simple (codes " ") w (q + 1) (more_marks ws ms) refl good.0 (more_follows ws ms) r_q.rest in
+            let others = patterns_read ws (acc ++ v.value ∷ []) v.e ms good.1 v.at in
+            let n = next_at Suffix T f in
+            let turned : Gives g (pattern_turn inner (patterned acc n)) (standing q) (again (patterned (acc ++ v.value ∷ []) (next_at Suffix T v.e))) (standing (past_blanks T v.e)) =
+            first_of _ _ (ap (λ (n : Next). is_pipe n.token) n_is)
+            (told_here (by (codes "|")) moved ⟫ next_read Suffix (q + 1) ⟫ first_of _ _ v.begin ((v.reads ⟫ pushed_here acc v.value ⟫ next_read Suffix v.e ⟫ given_here) ⟫ given_here)) in
+            let on = leads q (past_blanks T v.e) (omega (arith, v.on, blanks_low T (q + 1), blanks_low T v.e)) (some_here q 124 (laid X) there_q) in
+            record {
+              value = v.value ∷ others.value;
+              e = others.e;
+              at = others.at;
+              reads = subst (λ all. Gives g (many (pattern_turn inner) (patterned acc n)) (standing q) (patterned all (next_at Suffix T others.e)) (standing (past_blanks T others.e)))
+                  (append_assoc acc (v.value ∷ []) others.value) (one_turn (pattern_turn inner) turned on others.reads);
+              shape = patterns_shape v.value others.value w ws v.shape others.shape;
+            }
+
+        -- what a first pattern is not
+        record FirstPattern (t : Token) : Type 0 where
+          bracket : is_paren t ≡ false
+          esac : is_closing closings.Esac t ≡ false
+          newline : is_newline t ≡ false
+          comment : is_comment t ≡ false
+
+        first_pattern : (t : Token) → begins_pattern t ≡ true → FirstPattern t
+        first_pattern tokens.End e = absurd cc
+        first_pattern tokens.Newline e = absurd cc
+        first_pattern tokens.Semicolon e = absurd cc
+        first_pattern tokens.DoubleSemicolon e = absurd cc
+        first_pattern tokens.Ampersand e = absurd cc
+        first_pattern tokens.AndIf e = absurd cc
+        first_pattern tokens.OrIf e = absurd cc
+        first_pattern tokens.Pipe e = absurd cc
+        first_pattern tokens.OpenParen e = absurd cc
+        first_pattern tokens.CloseParen e = absurd cc
+        first_pattern tokens.Operator e = absurd cc
+        first_pattern tokens.Comment e = absurd cc
+        first_pattern tokens.Number e = absurd cc
+        first_pattern (tokens.Reserved r) e = record { bracket = refl; esac = no_esac r e; newline = refl; comment = refl }
+          where
+            no_esac : (r : Reserved) → begins_pattern (tokens.Reserved r) ≡ true → is_closing closings.Esac (tokens.Reserved r) ≡ false
+            no_esac reserved.Bang e = refl
+            no_esac reserved.OpenBrace e = refl
+            no_esac reserved.CloseBrace e = refl
+            no_esac reserved.Case e = refl
+            no_esac reserved.Do e = refl
+            no_esac reserved.Done e = refl
+            no_esac reserved.Elif e = refl
+            no_esac reserved.Else e = refl
+            no_esac reserved.Esac e = absurd cc
+            no_esac reserved.Fi e = refl
+            no_esac reserved.For e = refl
+            no_esac reserved.If e = refl
+            no_esac reserved.In e = refl
+            no_esac reserved.Then e = refl
+            no_esac reserved.Until e = refl
+            no_esac reserved.While e = refl
+        first_pattern tokens.Assignment e = record { bracket = refl; esac = refl; newline = refl; comment = refl }
+        first_pattern tokens.Word e = record { bracket = refl; esac = refl; newline = refl; comment = refl }
+
+        pattern_operand : (w : Shape AWordOf) (ms : Marks) → GoodWord room Command begins_pattern w → follows (laid ms) ≡ true → (p : ℕ) → At p (print_word w ++ ms) → Operand p
+        pattern_operand w ms good follow p at =
+            let there = at ∙ ap (λ w. laid (print_word w ++ ms)) good.is ∙ laid_text good.t ms in
+            let found = good.reads.there g p (laid ms) there follow in
+            let other = first_pattern _ (ap begins_pattern found.token_is ∙ good.begin) in
+            record { start = record { place = found.place; no_blank = found.no_blank }; no_comment = no_sharp p found.place other.comment; no_newline = other.newline }
+
+        -- ---- comments before an item
+
+        -- newlines and comments up to what stands behind them
+        record LinesRead (b : Bool) (acc : Row Span) (n : Next) (p : ℕ) (cs : Row Text) (m : Text) (ms : Marks) : Type 0 where
+          comments : Row Span
+          e : ℕ
+          at : At e (text m ∷ ms)
+          reads : Gives g (many join_turn (join_so (a_join_of b acc) n)) (standing p) (join_so (a_join_of true (acc ++ comments)) (next_at Command T e)) (standing (past_blanks T e))
+          shape : shape_of_comments B comments ≡ cs
+
+        module _ (d m : Text) (blank_d : all_blank d ≡ true) (blank_m : all_blank m ≡ true) (ms : Marks) (operand : (p : ℕ) → At p ms → Operand p) where
+          line_start : (cs : Row Text) (e : ℕ) → GoodComments cs → At e (print_comment_lines d cs ++ (text m ∷ ms)) → Gap T e (past_blanks T e) false
+          line_start [] e good at =
+              let gap = margin_gap m e ms blank_m at (operand (e + length m) (at_text e m ms at)).start in
+              subst (λ q. Gap T e q false) (sym gap.blanks) gap
+          line_start (c ∷ cs) e good at =
+              let more = line_end ∷ (print_comment_lines d cs ++ (text m ∷ ms)) in
+              let gap = margin_gap d e (text c ∷ more) blank_d at (comment_start c (e + length d) _ good.0 (at_text e d (text c ∷ more) at)) in
+              subst (λ q. Gap T e q false) (sym gap.blanks) gap
+
+          lines_read : (cs : Row Text) (acc : Row Span) (e : ℕ) → GoodComments cs → At e (print_comment_lines d cs ++ (text m ∷ ms)) → LinesRead true acc (next_at Command T e) (past_blanks T e) cs m ms
+          lines_read [] acc e good at =
+              let behind_it = at_text e m ms at in
+              let gap = margin_gap m e ms blank_m at (operand (e + length m) behind_it).start in
+              let q = past_blanks T e in
+              let it = operand q (subst (λ r. At r ms) (sym gap.blanks) behind_it) in
+              record {
+                comments = [];
+                e = e;
+                at = at;
+                reads = rw (append-nil acc) (last_turn join_turn (last_join_turn true acc (next_at Command T e) q it.no_comment it.no_newline));
+                shape = refl;
+              }
+          lines_read (c ∷ cs) acc e good at =
+              let others_marks = print_comment_lines d cs ++ (text m ∷ ms) in
+              let more = line_end ∷ others_marks in
+              let behind_it = at_text e d (text c ∷ more) at in
+              let gap = margin_gap d e (text c ∷ more) blank_d at (comment_start c (e + length d) others_marks good.0 behind_it) in
+              let q = past_blanks T e in
+              let at_q = subst (λ r. At r (text c ∷ more)) (sym gap.blanks) behind_it in
+              let s = span o q (q + length c) in
+              let f = q + length c + 1 in
+              let rest = lines_read cs (acc ++ s ∷ []) f good.1 (at_line (q + length c) others_marks (at_text q c more at_q)) in
+              let on = leads q (past_blanks T f) (omega (arith, blanks_low T f)) (comment_within c q _ good.0 at_q) in
+              record {
+                comments = s ∷ rest.comments;
+                e = rest.e;
+                at = rest.at;
+                reads = joined true (next_at Command T e) q acc s rest.comments (past_blanks T rest.e) (next_at Command T rest.e)
+                    (one_turn join_turn (comment_join_turn c true acc (next_at Command T e) q others_marks good.0 at_q) on rest.reads);
+                shape = cons_shape s rest.comments c cs (comment_shape c q more at_q) rest.shape;
+              }
+
+          -- from the end of the line before them
+          break_read : (cs : Row Text) (e : ℕ) → GoodComments cs → At e (line_end ∷ (print_comment_lines d cs ++ (text m ∷ ms))) → LinesRead false [] (next_at Command T e) (past_blanks T e) cs m ms
+          break_read cs e good at =
+              let X = print_comment_lines d cs ++ (text m ∷ ms) in
+              let line = line_end_here e X at in
+              let q = past_blanks T e in
+              let rest = lines_read cs [] (q + 1) good (at_line q X line.at_q) in
+              let on = leads q (past_blanks T (q + 1)) (omega (arith, blanks_low T (q + 1))) (some_here q 10 (laid X) (line.at_q ∙ laid_line X)) in
+              record {
+                comments = rest.comments;
+                e = rest.e;
+                at = rest.at;
+                reads = one_turn join_turn (newline_join_turn false [] (next_at Command T e) q X (ap (λ (n : Next). is_newline n.token) line.n_is) line.at_q) on rest.reads;
+                shape = rest.shape;
+              }
+
+        -- ---- `;;`
+
+        record DoubleRead (e : ℕ) (ms : Marks) : Type 0 where
+          token_is : token_at Command T (past_blanks T e) ≡ tokens.DoubleSemicolon
+          no_comment_it : raw_stands T (past_blanks T e) 35 ≡ false
+          f : ℕ
+          at : At f ms
+          low : past_blanks T e < f
+          one_on : Gives g (move one_byte) (standing (past_blanks T e)) tt (standing (past_blanks T e + 1))
+          two_on : Gives g (move one_byte) (standing (past_blanks T e + 1)) tt (standing f)
+
+        double_read : (m : Text) (e : ℕ) (ms : Marks) → all_blank m ≡ true → At e (text m ∷ text (codes ";;") ∷ ms) → DoubleRead e ms
+        double_read m e ms blank at =
+            let there = at_text e m (text (codes ";;") ∷ ms) at ∙ laid_text (codes ";;") ms in
+            let gap = margin_gap m e (text (codes ";;") ∷ ms) blank at (start_here (byte_here T (e + length m) 59 (59 ∷ laid ms) refl there) refl) in
+            let q = past_blanks T e in
+            let at_q : drop q T ≡ 59 ∷ 59 ∷ laid ms = subst (λ r. drop r T ≡ 59 ∷ 59 ∷ laid ms) (sym gap.blanks) there in
+            let one_byte_on = byte_here T q 59 (59 ∷ laid ms) refl at_q in
+            let two_bytes_on = byte_here T (q + 1) 59 (laid ms) refl one_byte_on.rest in
+            record {
+              token_is = double_semicolon_token Command T q (laid ms) at_q;
+              no_comment_it = no_byte q 59 (59 ∷ laid ms) 35 refl at_q;
+              f = q + 1 + 1;
+              at = two_bytes_on.rest;
+              low = omega arith;
+              one_on = subst (λ p. Gives g (move one_byte) (standing q) tt (standing p)) one_byte_on.behind_it (moved_here one_byte);
+              two_on = subst (λ p. Gives g (move one_byte) (standing (q + 1)) tt (standing p)) two_bytes_on.behind_it (moved_here one_byte);
+            }
+
+        double_closes : (m : Text) (ms : Marks) → all_blank m ≡ true → (e : ℕ) → At e (text m ∷ text (codes ";;") ∷ ms) → Closes e
+        double_closes m ms blank e at =
+            let d = double_read m e ms blank at in
+            record { no_entry_it = ap begins_pipeline d.token_is; no_newline_it = ap is_newline d.token_is; no_comment_it = d.no_comment_it }
+
+        -- ---- bodies
+
+        record BodyRead (f : ℕ) (body : Shape EntriesOf) (ms : Marks) : Type 0 where
+          list : Listed
+          e : ℕ
+          ended : DoubleRead e (line_end ∷ ms)
+          reads : Gives g (a_body inner (next_at Command T f)) (standing (past_blanks T f)) (list_so list (next_at Command T e)) (standing (past_blanks T e))
+          shape : shape_of B (entries_of list.entries) ≡ body
+
+        item_body_read : (m : Text) (body : Shape EntriesOf) (f : ℕ) (ms : Marks) → all_blank m ≡ true → GoodEntries room body → first_not_blank body ≡ true → are_normal body ≡ true
+            → At f (print_body y m body ++ (line_end ∷ ms)) → BodyRead f body ms
+        unfolding a_body
+        item_body_read m no_entry f ms blank good first normal at =
+            let X = line_end ∷ ms in
+            let there = at ∙ laid_text (codes " ;;") X ∙ sym (laid_text (codes " ") (text (codes ";;") ∷ X) ∙ ap (λ z. 32 ∷ z) (laid_text (codes ";;") X)) in
+            record {
+              list = at_line_start [] false false None;
+              e = f;
+              ended = double_read (codes " ") f X refl there;
+              reads = last_turn (list_turn inner) (list_ends [] false false None f (double_closes (codes " ") X refl f there));
+              shape = refl;
+            }
+        item_body_read m (more_entries x es) f ms blank good first normal at =
+            let d = deeper y m in
+            let E = print_entries y d (more_entries x es) in
+            let Z = text d ∷ text (codes ";;") ∷ line_end ∷ ms in
+            let there : At f (line_end ∷ (E ++ Z)) = at ∙ ap laid (append_assoc (line_end ∷ E) (text d ∷ text (codes ";;") ∷ []) (line_end ∷ ms)) in
+            let line = line_end_here f (E ++ Z) there in
+            let q = past_blanks T f in
+            let closes = double_closes d (line_end ∷ ms) (deeper_blank y m blank) in
+            let r = list_read d (more_entries x es) [] false None (q + 1) Z (deeper_blank y m blank) good normal (λ none. first) closes (at_line q (E ++ Z) line.at_q) in
+            record {
+              list = at_line_start r.value r.blank (holds_command (more_entries x es)) r.parted;
+              e = r.«end»;
+              ended = double_read d r.«end» (line_end ∷ ms) (deeper_blank y m blank) r.at;
+              reads = one_turn (list_turn inner) (empty_line [] false false None f (E ++ Z) there) (empty_on f (E ++ Z) there) r.reads;
+              shape = r.shape;
+            }
+
+        -- ---- items
+
+        -- the comments before the first of these items, or before `esac`
+        abbrev first_comments : Shape CaseItemsOf → Row Text → Row Text
+        first_comments no_case tail = tail
+        first_comments (more_cases (case_item cs ps body mark) items) tail = cs
+
+        -- the margin behind them, and what stands there
+        abbrev items_margin : Text → Shape CaseItemsOf → Text
+        items_margin m no_case = m
+        items_margin m (more_cases c items) = case_margin y m
+
+        abbrev items_marks : Text → Shape CaseItemsOf → Row Text → Marks → Marks
+        items_marks m no_case tail rest = text (codes "esac") ∷ rest
+        items_marks m (more_cases (case_item cs no_pattern body mark) items) tail rest = []
+        items_marks m (more_cases (case_item cs (more_patterns w ws) body mark) items) tail rest =
+            print_word w ++ more_marks ws (print_body y (case_margin y m) body
+            ++ (line_end ∷ (print_comment_lines (case_margin y m) (first_comments items tail) ++ (text (items_margin m items) ∷ items_marks m items tail rest))))
+
+        -- with the comments before them
+        abbrev next_marks : Text → Shape CaseItemsOf → Row Text → Marks → Marks
+        next_marks m items tail rest = print_comment_lines (case_margin y m) (first_comments items tail) ++ (text (items_margin m items) ∷ items_marks m items tail rest)
+
+        items_are : (m : Text) (items : Shape CaseItemsOf) (tail : Row Text) (rest : Marks) → GoodCases room items
+            → laid (print_cases y (case_margin y m) items ++ (print_comment_lines (case_margin y m) tail ++ (text m ∷ text (codes "esac") ∷ rest))) ≡ laid (next_marks m items tail rest)
+        unfolding laid
+        items_are m no_case tail rest good = refl
+        items_are m (more_cases (case_item cs no_pattern body mark) items) tail rest good = absurd good.0.1
+        items_are m (more_cases (case_item cs (more_patterns w ws) body mark) items) tail rest good =
+            let P = case_margin y m in
+            let C = print_comment_lines P cs in
+            let F = text P ∷ print_first_pattern (more_patterns w ws) in
+            let D = text (codes ")") ∷ print_body y P body in
+            let L = line_end ∷ [] in
+            let I = print_cases y P items in
+            let R = print_comment_lines P tail ++ (text m ∷ text (codes "esac") ∷ rest) in
+            let N = next_marks m items tail rest in
+            let parts = append_assoc (C ++ (F ++ (D ++ L))) I R ∙ append_assoc C (F ++ (D ++ L)) (I ++ R)
+            ∙ ap (λ ks. C ++ ks) (append_assoc F (D ++ L) (I ++ R) ∙ ap (λ ks. F ++ ks) (append_assoc D L (I ++ R)) ∙ ap (λ ks. text P ∷ ks) (append_assoc (print_word w) (print_patterns ws) (D ++ (line_end ∷ (I ++ R))))) in
+            let ended = laid_same (print_body y P body) (line_end ∷ (I ++ R)) (line_end ∷ N) (ap (λ z. 10 ∷ z) (items_are m items tail rest good.1)) in
+            let behind_patterns = laid_same (print_patterns ws) (D ++ (line_end ∷ (I ++ R))) (D ++ (line_end ∷ N)) (ap (λ z. 41 ∷ z) ended) ∙ more_are ws (print_body y P body ++ (line_end ∷ N)) in
+            ap laid parts ∙ laid_same C _ _ (ap (λ z. P ++ z) (laid_same (print_word w) _ _ behind_patterns))
+
+        items_operand : (m : Text) (items : Shape CaseItemsOf) (tail : Row Text) (rest : Marks) → GoodCases room items → WordEnd (laid rest) → (p : ℕ) → At p (items_marks m items tail rest) → Operand p
+        items_operand m no_case tail rest good stop p at = key_operand (codes "esac") reserved.Esac rest (esac_key rest stop) p at
+        items_operand m (more_cases (case_item cs no_pattern body mark) items) tail rest good stop p at = absurd good.0.1
+        items_operand m (more_cases (case_item cs (more_patterns w ws) body mark) items) tail rest good stop p at =
+            pattern_operand w (more_marks ws (print_body y (case_margin y m) body ++ (line_end ∷ next_marks m items tail rest))) good.0.1.0 (more_follows ws _) p at
+
+        margin_blank : (m : Text) → all_blank m ≡ true → all_blank (case_margin y m) ≡ true
+        margin_blank m blank = cond_both y.case_indent (deeper y m) m (λ t. all_blank t ≡ true) (λ e. deeper_blank y m blank) (λ e. blank)
+
+        items_blank : (m : Text) (items : Shape CaseItemsOf) → all_blank m ≡ true → all_blank (items_margin m items) ≡ true
+        items_blank m no_case blank = blank
+        items_blank m (more_cases c items) blank = margin_blank m blank
+
+        first_good : (items : Shape CaseItemsOf) (tail : Row Text) → GoodCases room items → GoodComments tail → GoodComments (first_comments items tail)
+        first_good no_case tail good comments = comments
+        first_good (more_cases (case_item cs ps body mark) items) tail good comments = good.0.0
+
+        -- the items, and the comments behind them
+        record CasesRead (acc : Row ACaseItem) (before : Row Span) (e : ℕ) (items : Shape CaseItemsOf) (tail : Row Text) (rest : Marks) : Type 0 where
+          value : Row ACaseItem
+          comments : Row Span
+          f : ℕ
+          key : KeywordRead f reserved.Esac rest
+          reads : Gives g (many (case_turn inner) (cases_so acc before (next_at Command T e))) (standing (past_blanks T e)) (cases_so (acc ++ value) comments (next_at Command T f)) (standing (past_blanks T f))
+          shape : shape_of_cases B (cases_of value) ≡ items
+          tail_shape : shape_of_comments B comments ≡ tail
+
+        item_shape_of : (cs : Row Span) (v : AWord) (vs : Row AWord) (es : Row AnEntry) (s : Span) (comments : Row Text) (w : Shape AWordOf) (ws : Shape PatternsOf) (body : Shape EntriesOf) (mark : Unit {0})
+            → shape_of_comments B cs ≡ comments → shape_of_word B v ≡ w → shape_of_patterns B (patterns_of vs) ≡ ws → shape_of B (entries_of es) ≡ body
+            → shape_of_case B (case_item cs (patterns_of (v ∷ vs)) (entries_of es) s) ≡ case_item comments (more_patterns w ws) body mark
+        item_shape_of cs v vs es s comments w ws body mark e f h i = rw (e, f, h, i) refl
+
+        cases_shape : (v : ACaseItem) (vs : Row ACaseItem) (c : Shape ACaseItemOf) (cs : Shape CaseItemsOf) → shape_of_case B v ≡ c → shape_of_cases B (cases_of vs) ≡ cs → shape_of_cases B (cases_of (v ∷ vs)) ≡ more_cases c cs
+        cases_shape v vs c cs e f = rw (e, f) refl
+
+        cases_read : (m : Text) (items : Shape CaseItemsOf) (tail : Row Text) (acc : Row ACaseItem) (before : Row Span) (e : ℕ) (rest : Marks) → all_blank m ≡ true → GoodCases room items → GoodComments tail
+            → are_normal_cases items ≡ true → WordEnd (laid rest) → shape_of_comments B before ≡ first_comments items tail → At e (text (items_margin m items) ∷ items_marks m items tail rest)
+            → CasesRead acc before e items tail rest
+        unfolding case_turn one_case an_open_bracket a_pattern_list a_pattern closing an_item_end a_double_semicolon a_linebreak
+        cases_read m no_case tail acc before e rest blank good comments normal stop same at =
+            let k = keyword_read m (codes "esac") reserved.Esac e rest blank (esac_key rest stop) at in
+            record {
+              value = [];
+              comments = before;
+              f = e;
+              key = k;
+              reads = rw (append-nil acc) (last_turn (case_turn inner) (first_of _ _ (ap (is_closing closings.Esac) k.token_is) given_here));
+              shape = refl;
+              tail_shape = same;
+            }
+        cases_read m (more_cases (case_item cs no_pattern body mark) items) tail acc before e rest blank good comments normal stop same at = absurd good.0.1
+        cases_read m (more_cases (case_item cs (more_patterns w ws) body mark) items) tail acc before e rest blank good comments normal stop same at =
+            let P = case_margin y m in
+            let blank_p = margin_blank m blank in
+            let N = next_marks m items tail rest in
+            let D = print_body y P body ++ (line_end ∷ N) in
+            let parts = and_parts (is_normal_case (case_item cs (more_patterns w ws) body mark)) (are_normal_cases items) normal in
+            let one_of = and_parts (are_normal_patterns (more_patterns w ws) && first_not_blank body) (are_normal body) parts.0 in
+            let two_of = and_parts (are_normal_patterns (more_patterns w ws)) (first_not_blank body) one_of.0 in
+            let v = word_at Command begins_pattern P w e (more_marks ws D) blank_p good.0.1.0 (more_follows ws D) at in
+            let q = past_blanks T e in
+            let n = next_at Command T e in
+            let other = first_pattern (token_at Command T q) v.begin in
+            let vs = patterns_read ws (v.value ∷ []) v.e D good.0.1.1 v.at in
+            let bracket = bracket_next Suffix vs.e D vs.at in
+            let z = past_blanks T vs.e in
+            let r_z = byte_here T z 41 (laid D) refl (subst (λ p. drop p T ≡ 41 ∷ laid D) (sym bracket.1) (vs.at ∙ laid_text (codes ")") D)) in
+            let b = item_body_read P body (z + 1) N blank_p good.0.2 two_of.1 one_of.1 r_z.rest in
+            let d = b.ended in
+            let l = break_read P (items_margin m items) blank_p (items_blank m items blank) (items_marks m items tail rest) (items_operand m items tail rest good.1 stop) (first_comments items tail) d.f (first_good items tail good.1 comments) d.at in
+            let s = span o q d.f in
+            let it = case_item before (patterns_of (v.value ∷ vs.value)) (entries_of b.list.entries) s in
+            let others = cases_read m items tail (acc ++ it ∷ []) l.comments l.e rest blank good.1 comments parts.1 stop l.shape l.at in
+            let body_low = gives_on (a_body inner (next_at Command T (z + 1))) _ _ _ b.reads in
+            let patterns_low = gives_on (many (pattern_turn inner) (patterned (v.value ∷ []) (next_at Suffix T v.e))) _ _ _ vs.reads in
+            let lines_low = gives_on (many join_turn (join_so (a_join_of false []) (next_at Command T d.f))) _ _ _ l.reads in
+            let ended : Gives g (an_item_end inner (body_end (o + (z + 1)) b.list) (next_at Command T b.e)) (standing (past_blanks T b.e)) (item_end (o + d.f) l.comments (next_at Command T l.e)) (standing (past_blanks T l.e)) =
+            first_of _ _ (ap is_double_semicolon d.token_is) (d.one_on ⟫ d.two_on ⟫ seen_here the_place ⟫ next_read Command d.f ⟫ l.reads ⟫ given_here) in
+            let listed : Gives g (a_pattern_list inner n) (standing q) (patterned (v.value ∷ vs.value) (next_at Suffix T vs.e)) (standing z) =
+            first_of _ _ v.begin ((v.reads ⟫ pushed_here [] v.value ⟫ next_read Suffix v.e ⟫ given_here) ⟫ vs.reads) in
+            let turned : Gives g (case_turn inner (cases_so acc before n)) (standing q) (again (cases_so (acc ++ it ∷ []) l.comments (next_at Command T l.e))) (standing (past_blanks T l.e)) =
+            second_of _ _ other.esac
+            (seen_here the_place ⟫ second_of _ _ other.bracket given_here ⟫ listed
+            ⟫ first_of _ _ (ap (λ (n : Next). is_closing closings.Paren n.token) bracket.0) (passed_paren (closing_text closings.Paren) z r_z.behind_it)
+            ⟫ b.reads ⟫ ended ⟫ pushed_here acc it ⟫ given_here) in
+            let onward : q < past_blanks T l.e = omega (arith, v.on, blanks_low T v.e, patterns_low, blanks_low T (z + 1), body_low, d.low, blanks_low T d.f, lines_low) in
+            let on = leads q (past_blanks T l.e) onward v.within in
+            record {
+              value = it ∷ others.value;
+              comments = others.comments;
+              f = others.f;
+              key = others.key;
+              reads = subst (λ all. Gives g (many (case_turn inner) (cases_so acc before n)) (standing q) (cases_so all others.comments (next_at Command T others.f)) (standing (past_blanks T others.f)))
+                  (append_assoc acc (it ∷ []) others.value) (one_turn (case_turn inner) turned on others.reads);
+              shape = cases_shape it others.value (case_item cs (more_patterns w ws) body mark) items (item_shape_of before v.value vs.value b.list.entries s cs w ws body mark same v.shape vs.shape b.shape) others.shape;
+              tail_shape = others.tail_shape;
+            }
+
+        -- between `case` and its items
+        abbrev case_marks : Text → Shape CaseItemsOf → Row Text → Marks → Marks
+        case_marks m items tail rest = text (codes " ") ∷ text (codes "in") ∷ line_end ∷ next_marks m items tail rest
+
+        case_follows : (m : Text) (items : Shape CaseItemsOf) (tail : Row Text) (rest : Marks) → follows (laid (case_marks m items tail rest)) ≡ true
+        unfolding laid
+        case_follows m items tail rest = refl
+
+        case_shape : (v : AWord) (vs : Row ACaseItem) (cs : Row Span) (w : Shape AWordOf) (items : Shape CaseItemsOf) (tail : Row Text) → shape_of_word B v ≡ w → shape_of_cases B (cases_of vs) ≡ items
+            → shape_of_comments B cs ≡ tail → shape_of_form B (case_in v (cases_of vs) cs) ≡ case_in w items tail
+        case_shape v vs cs w items tail e f h = rw (e, f, h) refl
+
+        case_read : (m : Text) (w : Shape AWordOf) (items : Shape CaseItemsOf) (tail : Row Text) (f : ℕ) (rest : Marks) → all_blank m ≡ true → GoodForm room (case_in w items tail)
+            → is_normal_form (case_in w items tail) ≡ true → WordEnd (laid rest) → At f (text (codes " ") ∷ (print_word w ++ case_marks m items tail rest))
+            → Finished AForm (a_case inner (next_at Suffix T f)) (past_blanks T f) rest (λ v. shape_of_form B v ≡ case_in w items tail)
+        unfolding a_case a_case_head a_case_word a_linebreak
+        case_read m w items tail f rest blank good normal stop at =
+            let parts = and_parts _ _ normal in
+            let X = line_end ∷ next_marks m items tail rest in
+            let v = word_at Suffix begins_simple (codes " ") w f (case_marks m items tail rest) refl good.0 (case_follows m items tail rest) at in
+            let k = keyword_read (codes " ") (codes "in") reserved.In v.e X refl (in_key X (line_end_end _)) v.at in
+            let l = break_read (case_margin y m) (items_margin m items) (margin_blank m blank) (items_blank m items blank) (items_marks m items tail rest) (items_operand m items tail rest good.1 stop)
+            (first_comments items tail) k.f (first_good items tail good.1 good.2) k.at in
+            let c = cases_read m items tail [] l.comments l.e rest blank good.1 good.2 parts.1 stop l.shape l.at in
+            record {
+              value = case_in v.value (cases_of c.value) c.comments;
+              closer = c.key.s;
+              e = c.key.f;
+              at = c.key.at;
+              reads = (first_of _ _ v.begin (v.reads ⟫ next_read Command v.e ⟫ given_here) ⟫ no_lines (next_at Command T v.e) (past_blanks T v.e) k.no_comment_it (ap is_newline k.token_is)
+                  ⟫ closing_read closings.In reserved.In v.e X refl refl k ⟫ l.reads ⟫ given_here) ⟫ c.reads ⟫ closing_read closings.Esac reserved.Esac c.f rest refl refl c.key ⟫ given_here;
+              is = case_shape v.value c.value c.comments w items tail v.shape c.shape c.tail_shape;
+            }
+
         -- what stands behind the opener of a form
         abbrev form_rest : Text → Shape AFormOf → Marks → Marks
         form_rest m (brace es) rest = block_marks m es (text (codes "}") ∷ rest)
@@ -2385,7 +2996,7 @@ module _ (B T : List ℕ) (o : ℕ) (here : drop o B ≡ T) where
         form_rest m (while_do (branch condition body)) rest = branch_marks m (codes "do") condition body (text (codes "done") ∷ rest)
         form_rest m (until_do (branch condition body)) rest = branch_marks m (codes "do") condition body (text (codes "done") ∷ rest)
         form_rest m (for_in name words body) rest = text (codes " ") ∷ (print_word name ++ head_marks m words (block_marks m body (text (codes "done") ∷ rest)))
-        form_rest m (case_in w items tail) rest = rest
+        form_rest m (case_in w items tail) rest = text (codes " ") ∷ (print_word w ++ case_marks m items tail rest)
 
         abbrev opener_for : Shape AFormOf → Opener
         opener_for (brace es) = openers.Brace
@@ -2394,7 +3005,7 @@ module _ (B T : List ℕ) (o : ℕ) (here : drop o B ≡ T) where
         opener_for (while_do b) = openers.While
         opener_for (until_do b) = openers.Until
         opener_for (for_in name words body) = openers.For
-        opener_for (case_in w items tail) = openers.Brace
+        opener_for (case_in w items tail) = openers.Case
 
         form_is : (m : Text) (form : Shape AFormOf) (rest : Marks) → GoodForm room form → laid (print_form y m form ++ rest) ≡ laid (text (opener_text (opener_for form)) ∷ form_rest m form rest)
         unfolding laid
@@ -2420,7 +3031,15 @@ module _ (B T : List ℕ) (o : ℕ) (here : drop o B ≡ T) where
             let parts = append_assoc (((text (codes "for ") ∷ W) ++ F) ++ L) (one (codes "done")) rest ∙ append_assoc ((text (codes "for ") ∷ W) ++ F) L (text (codes "done") ∷ rest)
             ∙ append_assoc (text (codes "for ") ∷ W) F (L ++ (text (codes "done") ∷ rest)) ∙ ap (λ ks. text (codes "for ") ∷ (W ++ (F ++ ks))) (between_is m body (text (codes "done") ∷ rest)) in
             ap laid parts ∙ ap (λ z. codes "for " ++ z) (laid_same W (F ++ X) (head_marks m words X) (head_is m words X))
-        form_is m (case_in w items tail) rest good = absurd good
+        form_is m (case_in w items tail) rest good =
+            let P = case_margin y m in
+            let W = text (codes "case ") ∷ print_word w in
+            let I = print_cases y P items in
+            let C = print_comment_lines P tail in
+            let E = text m ∷ text (codes "esac") ∷ [] in
+            let H = text (codes " in") ∷ line_end ∷ I in
+            let parts = append_assoc W ((H ++ C) ++ E) rest ∙ ap (λ ks. W ++ ks) (append_assoc (H ++ C) E rest ∙ append_assoc H C (E ++ rest)) in
+            ap laid parts ∙ ap (λ z. codes "case " ++ z) (laid_same (print_word w) _ (case_marks m items tail rest) (ap (λ z. codes " in" ++ (10 ∷ z)) (items_are m items tail rest good.1)))
 
         form_read : (m : Text) (form : Shape AFormOf) (f : ℕ) (rest : Marks) → all_blank m ≡ true → GoodForm room form → is_normal_form form ≡ true → WordEnd (laid rest) → At f (form_rest m form rest)
             → Finished AForm (a_form inner (opener_for form) (next_at (behind_opener (opener_for form)) T f)) (past_blanks T f) rest (λ v. shape_of_form B v ≡ form)
@@ -2440,7 +3059,7 @@ module _ (B T : List ℕ) (o : ℕ) (here : drop o B ≡ T) where
             let r = loop_read m condition body f rest blank good normal stop at in
             record { value = until_do r.value; closer = r.closer; e = r.e; at = r.at; reads = r.reads ⟫ given_here; is = ap (λ b. until_do b) r.is }
         form_read m (for_in name words body) f rest blank good normal stop at = for_read m name words body f rest blank good normal stop at
-        form_read m (case_in w items tail) f rest blank good normal stop at = absurd good
+        form_read m (case_in w items tail) f rest blank good normal stop at = case_read m w items tail f rest blank good normal stop at
 
         -- ---- compound commands
 
@@ -2493,7 +3112,9 @@ module _ (B T : List ℕ) (o : ℕ) (here : drop o B ≡ T) where
         form_opened m (for_in name words body) p rest good at =
             let ms = print_word name ++ head_marks m words (block_marks m body (text (codes "done") ∷ rest)) in
             opened_by openers.For reserved.For p (text (codes " ") ∷ ms) refl refl refl (key_by (codes "for") reserved.For (text (codes " ") ∷ ms) (space_end ms) (λ p x xs clear stops at. for_here T p x xs clear stops at)) at
-        form_opened m (case_in w items tail) p rest good at = absurd good
+        form_opened m (case_in w items tail) p rest good at =
+            let ms = print_word w ++ case_marks m items tail rest in
+            opened_by openers.Case reserved.Case p (text (codes " ") ∷ ms) refl refl refl (key_by (codes "case") reserved.Case (text (codes " ") ∷ ms) (space_end ms) (λ p x xs clear stops at. case_here T p x xs clear stops at)) at
 
         compound_is : (m : Text) (form : Shape AFormOf) (mark : Unit {0}) (redirects : Shape ItemsOf) (rest : Marks) → GoodForm room form → NoItems redirects
             → laid (print_compound y m (formed form mark redirects) ++ rest) ≡ laid (text (opener_text (opener_for form)) ∷ form_rest m form rest)
@@ -2530,6 +3151,84 @@ module _ (B T : List ℕ) (o : ℕ) (here : drop o B ≡ T) where
             } in
             subst (λ k. Got (a_compound inner k) p rest (λ v. shape_of_command B v ≡ compound (formed form mark redirects))) (opener_same (opener_for form) k p it.opens opens) got
 
+        -- ---- functions
+
+        -- what stands between the brackets behind a name and the body
+        record GapLines (e : ℕ) (cs : Row Text) (ms : Marks) : Type 0 where
+          comments : Row Span
+          broken : Bool
+          next : Next
+          q : ℕ
+          reads : Gives g (a_linebreak [] (next_at Command T e)) (standing (past_blanks T e)) (join_so (a_join_of broken comments) next) (standing q)
+          at : At q ms
+          token_is : next.token ≡ token_at Command T q
+          shape : shape_of_comments B comments ≡ cs
+
+        broken_lines : (e : ℕ) (cs : Row Text) (ms : Marks) → JoinLines false [] (next_at Command T e) (past_blanks T e) cs ms → GapLines e cs ms
+        unfolding a_linebreak
+        broken_lines e cs ms r = record { comments = r.comments; broken = true; next = r.next; q = r.q; reads = r.reads; at = r.at; token_is = r.token_is; shape = r.shape }
+
+        module _ (m : Text) (blank : all_blank m ≡ true) (ms : Marks) (operand : (p : ℕ) → At p ms → Operand p) where
+          -- on the line of the name, or on the next one
+          bare_gap : (on_next : Bool) (e : ℕ) → At e ((if on_next then line_end ∷ text m ∷ [] else one (codes " ")) ++ ms) → GapLines e [] ms
+          unfolding a_linebreak
+          bare_gap true e at = broken_lines e [] ms (newline_lines m blank ms operand false e at)
+          bare_gap false e at =
+              let behind_it = at_text e (codes " ") ms at in
+              let gap = margin_gap (codes " ") e ms refl at (operand (e + 1) behind_it).start in
+              let q = past_blanks T e in
+              let at_q = subst (λ r. At r ms) (sym gap.blanks) behind_it in
+              let it = operand q at_q in
+              record {
+                comments = [];
+                broken = false;
+                next = next_at Command T e;
+                q = q;
+                reads = last_turn join_turn (last_join_turn false [] (next_at Command T e) q it.no_comment it.no_newline);
+                at = at_q;
+                token_is = refl;
+                shape = refl;
+              }
+
+          function_gap : (cs : Row Text) (body : Shape ACompoundOf) (e : ℕ) → GoodComments cs → At e (print_function_gap y m cs body ++ ms) → GapLines e cs ms
+          function_gap [] body e good at = bare_gap (y.func_next_line && is_brace body) e at
+          function_gap (c ∷ cs) body e good at =
+              let same = append_assoc (print_further_comments m cs) (line_end ∷ text m ∷ []) ms in
+              broken_lines e (c ∷ cs) ms (commented m blank ms operand false c cs e good (at ∙ ap (λ ks. laid (text (codes " ") ∷ text c ∷ ks)) same))
+
+        under_shape : (name : Span) (ss : Row Span) (v : ACommand) (c : Shape ACompoundOf) (cs : Row Text) → shape_of_command B v ≡ compound c → shape_of_comments B ss ≡ cs
+            → shape_of_command B (under_name name ss v) ≡ function (text_at B name) cs c
+        under_shape name ss (simple is) c cs e f = absurd cc
+        under_shape name ss (compound body) c cs e f = let same : shape_of_compound B body ≡ c = cc in rw (same, f) refl
+        under_shape name ss (function other ds body) c cs e f = absurd cc
+
+        -- the brackets behind a name, and the body, one level further out
+        pub function_read : (m : Text) (name : Span) (cs : Row Text) (body : Shape ACompoundOf) (p : ℕ) (rest : Marks) (t : Token) → all_blank m ≡ true → GoodComments cs → GoodCompound room body
+            → is_normal_compound body ≡ true → Follower rest t → behind_item t ≡ None → At p (text (codes "()") ∷ function_rest m cs body rest)
+            → Got (a_function inner name) p rest (λ v. shape_of_command B v ≡ function (text_at B name) cs body)
+        unfolding a_function closing
+        function_read m name cs body p rest t blank own good normal f none at =
+            let ms = print_compound y m body ++ rest in
+            let X = function_rest m cs body rest in
+            let r = byte_here T p 40 (41 ∷ laid X) refl (at ∙ laid_text (codes "()") X) in
+            let r2 = byte_here T (p + 1) 41 (laid X) refl r.rest in
+            let gap = no_gap (start_here r2 refl) in
+            let closes = ap (λ (n : Next). is_closing closings.Paren n.token) (next_behind Command gap) ∙ ap (is_closing closings.Paren) (close_token Command T (p + 1) (laid X) r.rest) in
+            let closed = subst (λ q. Gives g (passed (closing_text closings.Paren) true Command) (standing q) (span o (p + 1) (p + 1 + 1), next_at Command T (p + 1 + 1)) (standing (past_blanks T (p + 1 + 1)))) (sym gap.blanks) (passed_paren (closing_text closings.Paren) (p + 1) r2.behind_it) in
+            let operand : (q : ℕ) → At q ms → Operand q = λ q at. let b = fine.opens m body q rest good at in begins_operand q (record { start = b.1.start; command = opens_by (token_at Command T q) b.0 b.1.opener }) in
+            let lines = function_gap m blank ms operand cs body (p + 1 + 1) own r2.rest in
+            let b = fine.opens m body lines.q rest good lines.at in
+            let back = fine.back m body lines.q rest t b.0 blank good normal f none b.1 lines.at in
+            let opener_is : opener_of lines.next.token ≡ Some b.0 = ap opener_of lines.token_is ∙ b.1.opener in
+            let body_read : Gives g (compound_by inner lines.next (opener_of lines.next.token)) (standing lines.q) (back.value, next_at Command T back.«end») (standing (past_blanks T back.«end»)) = rw opener_is back.reads in
+            record {
+              value = under_name name lines.comments back.value;
+              «end» = back.«end»;
+              at = back.at;
+              reads = passed_paren (opener_text openers.Paren) p r.behind_it ⟫ first_of _ _ closes closed ⟫ lines.reads ⟫ body_read ⟫ given_here;
+              is = under_shape name lines.comments back.value body cs back.is lines.shape;
+            }
+
   -- ---- at every level
 
   pub no_substs_here : (room p n : ℕ) (w : AWord) (k : Row Spelled) → may (a_word (level room)) g (standing p) (Ok (w, standing (p + n))) k → w ≡ word (span o p (p + n)) no_subst
@@ -2543,10 +3242,12 @@ module _ (B T : List ℕ) (o : ℕ) (here : drop o B ≡ T) where
   fine y zero = record {
     opens = λ m c p rest good at. absurd (none_at_all c good);
     back = λ m c p rest t k blank good normal f none opens at. absurd (none_at_all c good);
+    function_back = λ m name cs body p rest t blank own good normal f none at. absurd good;
   }
   fine y (suc room) = record {
     opens = λ m c p rest good at. compound_opens room (no_substs_here room) y (fine y room) m c p rest good at;
     back = λ m c p rest t k blank good normal f none opens at. compound_read room (no_substs_here room) y (fine y room) m c p rest t k blank good normal f none opens at;
+    function_back = λ m name cs body p rest t blank own good normal f none at. function_read room (no_substs_here room) y (fine y room) m name cs body p rest t blank own good normal f none at;
   }
 
   -- ---- a line of the script
@@ -2585,7 +3286,7 @@ module _ (B T : List ℕ) (o : ℕ) (here : drop o B ≡ T) where
         let p = past_blanks T 0 in
         let at_p = subst (λ q. At q ms) (sym gap.blanks) behind_it in
         let n = next_at Command T 0 in
-        let r = entry_on_line most_open (no_substs_here most_open) y (fine y most_open) [] [] blank false what background comment n p rest refl good good_c normal refl at_p in
+        let r = entry_on_line most_open (no_substs_here most_open) y (fine y most_open) [] [] blank false None what background comment n p rest refl good good_c normal refl at_p in
         let line = line_end_here most_open (no_substs_here most_open) y (fine y most_open) r.«end» rest r.at in
         let q = past_blanks T r.«end» in
         record {

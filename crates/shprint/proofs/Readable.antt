@@ -1,5 +1,6 @@
 -- What was read has a good shape: its words and comments are read wherever they stand, and no more constructs are open than may be.
 use Rattle.std.proofs.Common.{◌≡◌, ◌∙◌, refl, sym, ap, subst, ℕ, zero, suc, ◌+◌, ◌-◌, Bool, true, false, not, ◌&&◌, ◌||◌, ◌⊎◌, inl, inr, ⊎_elim, Ok, Err, List, List as Row, [], ◌∷◌, ◌++◌, drop, take, Option, Some, None, is_some, option_map}
+use Rattle.std.proofs.lemmas.Bool.{both_ways}
 use Rattle.std.proofs.lemmas.List.{drop-drop}
 use Rattle.shread.specs.declared.token.Closing.{Closing}
 use Rattle.shread.specs.declared.token.Closing.TheVariants as closings
@@ -10,10 +11,11 @@ use Rattle.shread.specs.declared.token.Position.{Position}
 use Rattle.shread.specs.declared.token.Position.TheVariants.{Command, Prefix, Suffix}
 use Rattle.shread.specs.declared.token.Separator.{Separator}
 use Rattle.shread.specs.declared.token.Token.{Token}
+use Rattle.shread.specs.declared.token.Token.TheVariants as tokens
 use Rattle.shtree.specs.declared.tree.AndOrOperator.{AndOrOperator}
 use Rattle.shtree.specs.declared.tree.Span.{Span}
-use Rattle.shtree.specs.Tree.{APipelinePart, AnAndOrPart, ACommand, ABranch, AForm, Entries, pipeline_parts_of, and_or_parts_of, branches_of, AnEntry, AnItem, AWord, item, entry, remark, entries_of, items_of, ItemsOf, no_item, more_items, AnItemOf, word, no_subst}
-use Rattle.shtree.specs.Shape.{Text, Shape, text_at, shape_of, shape_of_comment, shape_of_comments, shape_of_entry, shape_of_and_or, shape_of_and_or_parts, shape_of_pipeline, shape_of_pipes, shape_of_command, shape_of_form, shape_of_branch, shape_of_branches, shape_of_else, shape_of_for_words, shape_of_items, shape_of_item, shape_of_word}
+use Rattle.shtree.specs.Tree.{APipelinePart, AnAndOrPart, ACommand, ABranch, AForm, Entries, pipeline_parts_of, and_or_parts_of, branches_of, AnEntry, AnItem, AWord, item, entry, remark, entries_of, items_of, ItemsOf, no_item, more_items, AnItemOf, word, no_subst, ACompound, compound, argument, ACaseItem, cases_of, patterns_of}
+use Rattle.shtree.specs.Shape.{Text, Shape, text_at, shape_of, shape_of_comment, shape_of_comments, shape_of_entry, shape_of_and_or, shape_of_and_or_parts, shape_of_pipeline, shape_of_pipes, shape_of_command, shape_of_form, shape_of_branch, shape_of_branches, shape_of_else, shape_of_for_words, shape_of_items, shape_of_item, shape_of_word, shape_of_compound, shape_of_patterns, shape_of_cases, shape_of_case}
 use Rattle.shread.specs.Classes.{is_blank}
 use Rattle.shread.specs.Bytes.{past_continuations, past_blanks, stands_in}
 use Rattle.shread.specs.Comments.{span, comment_at}
@@ -21,9 +23,9 @@ use Rattle.shread.specs.Tokens.{is_name_at, token_at}
 use Rattle.shread.specs.Sights.{Given, given, State, standing, Sight, seen, Move, to}
 use Rattle.shread.specs.Form.{Spelled, Read, Form, see, move, push, give, both, many, Step, again, done, step_if, may}
 use Rattle.shread.specs.Words.{Inner, a_word}
-use Rattle.shread.specs.Commands.{pick, next_token, is_newline, is_semicolon, a_semicolon, is_pipe, is_bang, begins_simple, begins_pipeline, opener_of, compound_by, and_or_operator_of, Items, so_many, behind_item, as_item, breaks, an_item, item_by, item_turn, a_simple, unexpected, comment_by, a_comment, a_newline, with_comment, JoinSo, join_turn, a_join, a_command, a_bang, Piped, piped, one_command, pipe_turn, a_pipeline, Joined, joined_so, one_pipeline, joined_by, join_pipeline, an_and_or, separator_of, separator_by, a_separator, is_parted, an_entry}
+use Rattle.shread.specs.Commands.{pick, next_token, is_newline, is_semicolon, a_semicolon, is_pipe, is_bang, begins_simple, begins_pipeline, opener_of, compound_by, and_or_operator_of, Items, so_many, behind_item, as_item, breaks, an_item, item_by, item_turn, a_simple, unexpected, comment_by, a_comment, a_newline, with_comment, JoinSo, join_turn, a_join, a_command, a_bang, Piped, piped, one_command, pipe_turn, a_pipeline, Joined, joined_so, one_pipeline, joined_by, join_pipeline, an_and_or, separator_of, separator_by, a_separator, an_entry, is_word, is_paren, a_worded, ASeparator, past_separator, is_double_semicolon}
 use Rattle.shread.specs.Lists.{ListSo, list_so, none_listed, is_blank_next, one_entry, entry_turn, remark_by, a_remark, on_line, list_turn, a_list}
-use Rattle.shread.specs.Compounds.{Branched, branched, Closed, is_closing, passed, closing, a_group, a_branch, elif_turn, an_else, an_if, a_loop, behind_opener, a_for_name, a_linebreak, a_sequential_sep, Headed, for_words, a_for_head, behind_remarks, a_for, a_form, a_compound}
+use Rattle.shread.specs.Compounds.{Branched, branched, Closed, is_closing, passed, closing, a_group, a_branch, elif_turn, an_else, an_if, a_loop, behind_opener, a_for_name, a_linebreak, a_sequential_sep, Headed, for_words, a_for_head, behind_remarks, a_for, a_form, a_compound, under_name, a_function, a_case_word, begins_pattern, Patterned, a_pattern, one_pattern, pattern_turn, a_pattern_list, an_open_bracket, a_body, ItemEnd, a_double_semicolon, an_item_end, CasesSo, cases_so, one_case, case_turn, a_case_head, a_case}
 use Rattle.shread.specs.Levels.{most_open, level, IsWord}
 use Rattle.shread.specs.Lines.{a_line}
 use Rattle.shread.specs.Scripts.{AScript, SoFar, Lines, line_ended, last_line, faulty, nothing_yet, Outcome}
@@ -33,9 +35,12 @@ use Rattle.shread.proofs.Holds.{Holds, Tells, Stepped, tells_give, tells_then, t
 use Rattle.shread.proofs.Anywhere.{waits, state_is, read_word}
 use Rattle.shread.proofs.NoSubsts.{no_substs}
 use Rattle.shread.proofs.Spelling.{raw_at}
-use Rattle.shread.proofs.Elsewhere.{ItemAnywhere, NameAnywhere, item_anywhere, name_anywhere}
+use Rattle.shread.proofs.Elsewhere.{ItemAnywhere, NameAnywhere, is_a_word, item_is_word, token_anywhere, item_anywhere, name_anywhere}
 use Rattle.shread.proofs.CommentsElsewhere.{CommentAnywhere, comment_is, comment_anywhere}
-use Rattle.shprint.proofs.Good.{GoodComments, GoodOwnComment, an_item_of, GoodItems, none_more, one_more, SomeItem, GoodSimple, GoodWords, GoodForWords, GoodName, GoodEntries, GoodEntry, GoodAndOr, GoodParts, GoodPipeline, GoodPipes, GoodCommand, GoodForm, GoodBranch, GoodBranches, GoodElse}
+use Rattle.shprint.proofs.Tokens.{word_token}
+use Rattle.shprint.proofs.Good.{GoodComments, GoodOwnComment, an_item_of, GoodItems, none_more, one_more, SomeItem, GoodSimple, GoodWords, GoodForWords, GoodName, GoodEntries, GoodEntry, GoodAndOr, GoodParts, GoodPipeline, GoodPipes, GoodCommand, GoodForm, GoodBranch, GoodBranches, GoodElse, GoodCompound, GoodWord, GoodMorePatterns, GoodPatterns, GoodCases, GoodCase}
+use Rattle.shtree.specs.Nodes.{word_span}
+use Rattle.shread.proofs.NamesBefore.{NameBefore, name_before}
 
 -- ---- rows that grow at their end
 
@@ -84,9 +89,43 @@ module _ (B : List ℕ) where
     branches_more [] b all one = (one, tt)
     branches_more (c ∷ bs) b all one = (all.0, branches_more bs b all.1 one)
 
+    patterns_more : (ws : Row AWord) (w : AWord) → GoodMorePatterns room (shape_of_patterns B (patterns_of ws)) → GoodWord room Suffix begins_simple (shape_of_word B w)
+        → GoodMorePatterns room (shape_of_patterns B (patterns_of (ws ++ w ∷ [])))
+    patterns_more [] w all one = (one, tt)
+    patterns_more (v ∷ ws) w all one = (all.0, patterns_more ws w all.1 one)
+
+    -- one more pattern, behind others
+    patterns_last : (ws : Row AWord) (w : AWord) → GoodPatterns room (shape_of_patterns B (patterns_of ws)) → GoodWord room Suffix begins_simple (shape_of_word B w)
+        → GoodPatterns room (shape_of_patterns B (patterns_of (ws ++ w ∷ [])))
+    patterns_last [] w all one = absurd all
+    patterns_last (v ∷ ws) w all one = (all.0, patterns_more ws w all.1 one)
+
+    cases_more : (cs : Row ACaseItem) (c : ACaseItem) → GoodCases room (shape_of_cases B (cases_of cs)) → GoodCase room (shape_of_case B c) → GoodCases room (shape_of_cases B (cases_of (cs ++ c ∷ [])))
+    cases_more [] c all one = (one, tt)
+    cases_more (d ∷ cs) c all one = (all.0, cases_more cs c all.1 one)
+
     entries_join : (es ls : Row AnEntry) → GoodEntries room (shape_of B (entries_of es)) → GoodEntries room (shape_of B (entries_of ls)) → GoodEntries room (shape_of B (entries_of (es ++ ls)))
     entries_join [] ls all more = more
     entries_join (e ∷ es) ls all more = (all.0, entries_join es ls all.1 more)
+
+-- the first pattern of an item of a case is a word
+pattern_is_word : (t : Token) → begins_pattern t ≡ true → is_a_word t ≡ true
+pattern_is_word tokens.End e = absurd cc
+pattern_is_word tokens.Newline e = absurd cc
+pattern_is_word tokens.Semicolon e = absurd cc
+pattern_is_word tokens.DoubleSemicolon e = absurd cc
+pattern_is_word tokens.Ampersand e = absurd cc
+pattern_is_word tokens.AndIf e = absurd cc
+pattern_is_word tokens.OrIf e = absurd cc
+pattern_is_word tokens.Pipe e = absurd cc
+pattern_is_word tokens.OpenParen e = absurd cc
+pattern_is_word tokens.CloseParen e = absurd cc
+pattern_is_word tokens.Operator e = absurd cc
+pattern_is_word tokens.Comment e = absurd cc
+pattern_is_word tokens.Number e = absurd cc
+pattern_is_word (tokens.Reserved r) e = refl
+pattern_is_word tokens.Assignment e = refl
+pattern_is_word tokens.Word e = refl
 
 -- ---- what a form reads from a place on, where nothing waits
 
@@ -119,6 +158,10 @@ module _ (g : Given) where
   first : {X Y : Type 0} {P : X → ℕ → Type 0} {Q : Y → ℕ → Type 0} {r : Form X} {q : X → Form Y} {p : ℕ} → Reads r P p → ((x : X) (e : ℕ) → P x e → Reads (q x) Q e)
       → Reads (both r q) Q p
   first {P = P} {Q = Q} one rest = record { reads = tells_then true g {P = At P} {Q = At Q} one.reads (λ x t so. from_place t so.0 (rest x t.at so.1)) }
+
+  -- what follows from it
+  so_reads : {X : Type 0} {P Q : X → ℕ → Type 0} {r : Form X} {p : ℕ} → Reads r P p → ((x : X) (e : ℕ) → P x e → Q x e) → Reads r Q p
+  so_reads one so = record { reads = tells_so true g one.reads (λ x t good. (good.0, so x t.at good.1)) }
 
   any : {X : Type 0} {r : Form X} {p : ℕ} → Reads r (λ x e. Unit {0}) p
   any {r = r} {p = p} = record { reads = tells_so true g (waits r true g (standing p)) (λ x t so. (state_is t so.0 so.1, tt)) }
@@ -193,11 +236,11 @@ module _ (g : Given) where
   unfolding a_newline
   reads_newline X n p so = picks (is_newline n.token) (λ is. next_on (λ x m e stands. ((λ y. stands), (λ y. stands)))) (gives (so, (λ y. absurd cc)))
 
-  reads_separator : (n : Next) (p : ℕ) → Reads (a_separator n) (λ s e. is_parted s.0 ≡ true → Stands Command s.1 e) p
+  reads_separator : (n : Next) (p : ℕ) → Reads (a_separator n) (λ s e. is_some s.0 ≡ true → Stands Command s.1 e) p
   unfolding a_separator
   reads_separator n p = by_separator (separator_of n.token)
     where
-      by_separator : (s : Option Separator) → Reads (separator_by n s) (λ s e. is_parted s.0 ≡ true → Stands Command s.1 e) p
+      by_separator : (s : Option Separator) → Reads (separator_by n s) (λ s e. is_some s.0 ≡ true → Stands Command s.1 e) p
       by_separator (Some s) = next_on (λ x m e stands. λ y. stands)
       by_separator None = gives (λ y. absurd cc)
 
@@ -342,26 +385,60 @@ module _ (B : List ℕ) (g : Given) (here : g.text ≡ drop g.offset B) where
     abbrev Command_is : {X : Type 0} → ACommand × X → ℕ → Type 0
     Command_is c e = GoodCommand room (shape_of_command B c.0)
 
-    reads_simple : (n : Next) (p : ℕ) → begins_simple n.token ≡ true → Stands g Command n p → Reads g (a_simple inner n) Command_is p
+    reads_simple : (i : Items) (p : ℕ) → ItemsSo i p → Reads g (a_simple inner i) Command_is p
     unfolding a_simple
-    reads_simple n p begins so =
-        first g (repeats g (item_turn inner) ItemsSo ItemsOn ItemsDone reads_item_turn (λ i e on. on.0) simple_is (so_many [] n) p
-        (record { position = Command; good = none_more; stands = so; begun = λ none. let no : false ≡ true = sym (ap is_some none) ∙ begins in absurd cc }))
-        (λ i e good. gives g good)
+    reads_simple i p so = first g (repeats g (item_turn inner) ItemsSo ItemsOn ItemsDone reads_item_turn (λ i e on. on.0) simple_is i p so) (λ i e good. gives g good)
 
-    -- ---- pipelines
+    -- where the first item begins
+    no_items_so : (n : Next) (p : ℕ) → begins_simple n.token ≡ true → Stands g Command n p → ItemsSo (so_many [] n) p
+    no_items_so n p begins so = record { position = Command; good = none_more; stands = so; begun = λ none. let no : false ≡ true = sym (ap is_some none) ∙ begins in absurd cc }
+
+    -- ---- commands
+
+    -- a compound command, by its shape
+    abbrev Compound_is : {X : Type 0} → ACommand × X → ℕ → Type 0
+    Compound_is c e = (body : ACompound) × (c.0 ≡ compound body) × GoodCompound room (shape_of_compound B body)
 
     record Fine : Type 0 where
-      pub compound : (o : Opener) (p : ℕ) → Reads g (inner.compound o) Command_is p
+      pub compound : (o : Opener) (p : ℕ) → Reads g (inner.compound o) Compound_is p
+      pub function : (name : Span) (p : ℕ) → NameBefore room (text_at B name) → Reads g (inner.function name) Command_is p
 
     module _ (fine : Fine) where
+      reads_compound_by : (n : Next) (o : Option Opener) (p : ℕ) → Reads g (compound_by inner n o) Compound_is p
+      reads_compound_by n (Some o) p = fine.compound o p
+      reads_compound_by n None p = stopped g inner n
+
+      compound_good : (c : ACommand) (body : ACompound) → c ≡ compound body → GoodCompound room (shape_of_compound B body) → GoodCommand room (shape_of_command B c)
+      compound_good c body is good = subst (λ (x : ACommand). GoodCommand room (shape_of_command B x)) (sym is) good
+
+      -- a word that is a NAME is one before `(`
+      named_before : (n : Next) (p q : ℕ) (w : AWord) → n.token ≡ tokens.Word → Stands g Command n p → WordRead g room p w q → is_name_at g.text p ≡ true → NameBefore room (text_at B (word_span w))
+      named_before n p q w is so read name =
+          let before = name_before room g p (q - p) read.is_word so.place (so.token_is ∙ is) name in
+          let place : word_span w ≡ span g.offset p q = ap word_span read.bare in
+          subst (NameBefore room) (raw_at B g here p q ∙ ap (text_at B) (sym place)) before
+
+      reads_worded : (n : Next) (p : ℕ) → n.token ≡ tokens.Word → Stands g Command n p → Reads g (a_worded inner) Command_is p
+      unfolding a_worded
+      reads_worded n p is so =
+          let item_is : behind_item n.token ≡ Some Suffix = ap behind_item is in
+          sees g (first g (reads_word g room p) (λ w q read. first g (reads_next g Suffix q) (λ m e stands.
+          picks g (is_paren m.token)
+          (λ paren. picks g (is_name_at g.text p) (λ name. fine.function (word_span w) e (named_before n p q w is so read name)) (record { reads = record { told = tt } }))
+          (pushes g (reads_simple (so_many (item false (argument w) ∷ []) m) e
+          (record { position = Suffix; good = one_item Command Command (so_many [] n) Suffix p q w item_is none_more so read; stands = stands; begun = λ y. some_item [] (item false (argument w)) }))))))
+
       reads_command : (n : Next) (p : ℕ) → Stands g Command n p → Reads g (a_command inner n) Command_is p
       unfolding a_command
-      reads_command n p so = picks g (begins_simple n.token) (λ begins. reads_simple n p begins so) (by_opener (opener_of n.token))
+      reads_command n p so =
+          picks g (is_word n.token) (λ is. reads_worded n p (word_token n.token is) so)
+          (picks g (begins_simple n.token) (λ begins. reads_simple (so_many [] n) p (no_items_so n p begins so))
+          (first_so (reads_compound_by n (opener_of n.token) p)))
         where
-          by_opener : (o : Option Opener) → Reads g (compound_by inner n o) Command_is p
-          by_opener (Some o) = fine.compound o p
-          by_opener None = stopped g inner n
+          first_so : Reads g (compound_by inner n (opener_of n.token)) Compound_is p → Reads g (compound_by inner n (opener_of n.token)) Command_is p
+          first_so one = so_reads g one (λ c e good. compound_good c.0 good.0 good.1 good.2)
+
+      -- ---- pipelines
 
       abbrev PipesGood : Piped → ℕ → Type 0
       PipesGood x p = GoodPipes room (shape_of_pipes B (pipeline_parts_of x.parts))
@@ -409,12 +486,16 @@ module _ (B : List ℕ) (g : Given) (here : g.text ≡ drop g.offset B) where
           first g (repeats g (join_pipeline inner) JoinedGood JoinedGood JoinedGood reads_join_pipeline (λ a d all. all) (λ a d all. all) (joined_so [] x.1) e tt)
           (λ a d all. gives g (good, all)))
 
+      still_parted : (s : Option ASeparator) → is_some (past_separator s) ≡ true → is_some s ≡ true
+      still_parted (Some s) e = refl
+      still_parted None e = absurd cc
+
       reads_entry : (blank : Bool) (n : Next) (p : ℕ) → Stands g Command n p
-          → Reads g (an_entry inner blank n) (λ x e. GoodEntry room (shape_of_entry B x.entry) × (x.parted ≡ true → Stands g Command x.next e)) p
+          → Reads g (an_entry inner blank n) (λ x e. GoodEntry room (shape_of_entry B x.entry) × (is_some x.parted ≡ true → Stands g Command x.next e)) p
       unfolding an_entry
       reads_entry blank n p so =
-          first g (reads_and_or n p so) (λ a e one. first g (reads_separator g a.1 e) (λ s f two. first g (reads_comment (is_parted s.0 ≡ true) s.1 f two) (λ c h three.
-          gives g ((one, three.0), three.1))))
+          first g (reads_and_or n p so) (λ a e one. first g (reads_separator g a.1 e) (λ s f two. first g (reads_comment (is_some s.0 ≡ true) s.1 f two) (λ c h three.
+          gives g ((one, three.0), (λ on. three.1 (still_parted s.0 on))))))
 
       -- ---- lists
 
@@ -432,7 +513,7 @@ module _ (B : List ℕ) (g : Given) (here : g.text ≡ drop g.offset B) where
       unfolding one_entry
       reads_one_entry l p so =
           first g (reads_entry (is_blank_next l.list) l.next p so.1) (λ x e one. let all = entry_more l x.entry p so.0 one.0 in
-          pushes g (gives g (turned_if g ListOn Listing x.parted _ e (λ on. (all, one.1 on)) all)))
+          pushes g (gives g (turned_if g ListOn Listing (is_some x.parted) _ e (λ on. (all, one.1 on)) all)))
 
       reads_entry_turn : (l : ListSo) (p : ℕ) → ListOn l p → Reads g (entry_turn inner l) (Turned g ListOn Listing) p
       unfolding entry_turn
@@ -589,6 +670,119 @@ module _ (B : List ℕ) (g : Given) (here : g.text ≡ drop g.offset B) where
           first g (reads_for_name n p so) (λ x e one. first g (reads_for_head x.1 e one.1) (λ h f two. first g (reads_closing g inner closings.Do h.next f) (λ d k stands.
           first g (reads_group closings.Done d.1 k stands) (λ b l body. gives g (one.0, two.0, remarks_good h.comments b.what two.1 body)))))
 
+      -- ---- `case`
+
+      good_word : (position : Position) (begins : Token → Bool) (n : Next) (p q : ℕ) (w : AWord) → Stands g position n p → begins n.token ≡ true → is_a_word n.token ≡ true → WordRead g room p w q
+          → GoodWord room position begins (shape_of_word B w)
+      good_word position begins n p q w so begin is_word read =
+          let anywhere = token_anywhere room position n.token g p (q - p) read.is_word so.place so.no_blank so.token_is is_word in
+          record {
+            t = text_at B (span g.offset p q);
+            is = ap (shape_of_word B) read.bare;
+            token = n.token;
+            begin = begin;
+            reads = subst (λ (t : Text). ItemAnywhere room position n.token t) (raw_at B g here p q) anywhere;
+          }
+
+      reads_case_word : (n : Next) (p : ℕ) → Stands g Suffix n p → Reads g (a_case_word inner n) (λ x e. GoodWord room Suffix begins_simple (shape_of_word B x.0) × Stands g Command x.1 e) p
+      unfolding a_case_word
+      reads_case_word n p so =
+          picks g (begins_simple n.token)
+          (λ begins. first g (reads_word g room p) (λ w q read. first g (reads_next g Command q) (λ m e stands.
+          gives g (good_word Suffix begins_simple n p q w so begins (item_is_word n.token begins) read, stands))))
+          (stopped g inner n)
+
+      abbrev PatternsGood : Patterned → ℕ → Type 0
+      PatternsGood x p = GoodPatterns room (shape_of_patterns B (patterns_of x.patterns))
+
+      reads_pattern : (position : Position) (begins : Token → Bool) (ws : Row AWord) (n : Next) (p : ℕ) → Stands g position n p → begins n.token ≡ true → is_a_word n.token ≡ true
+          → ((w : AWord) → GoodWord room position begins (shape_of_word B w) → GoodPatterns room (shape_of_patterns B (patterns_of (ws ++ w ∷ [])))) → Reads g (a_pattern inner ws) PatternsGood p
+      unfolding a_pattern
+      reads_pattern position begins ws n p so begin is_word all =
+          first g (reads_word g room p) (λ w q read. pushes g (first g (reads_next g Suffix q) (λ m e stands. gives g (all w (good_word position begins n p q w so begin is_word read)))))
+
+      reads_one_pattern : (x : Patterned) (p : ℕ) → PatternsGood x p → Reads g (one_pattern inner x.patterns) (Turned g PatternsGood PatternsGood) p
+      unfolding one_pattern
+      reads_one_pattern x p so =
+          after g (λ y e. first g (reads_next g Suffix e) (λ n f stands. picks g (begins_simple n.token)
+          (λ begins. first g (reads_pattern Suffix begins_simple x.patterns n f stands begins (item_is_word n.token begins) (λ w one. patterns_last B room x.patterns w so one)) (λ y h good. gives g good))
+          (stopped g inner n)))
+
+      reads_pattern_turn : (x : Patterned) (p : ℕ) → PatternsGood x p → Reads g (pattern_turn inner x) (Turned g PatternsGood PatternsGood) p
+      unfolding pattern_turn
+      reads_pattern_turn x p so = picks g (is_pipe x.next.token) (λ is. reads_one_pattern x p so) (gives g so)
+
+      reads_patterns : (n : Next) (p : ℕ) → Stands g Command n p → Reads g (a_pattern_list inner n) PatternsGood p
+      unfolding a_pattern_list
+      reads_patterns n p so =
+          picks g (begins_pattern n.token)
+          (λ begins. first g (reads_pattern Command begins_pattern [] n p so begins (pattern_is_word n.token begins) (λ w one. (one, tt)))
+          (λ x e good. repeats g (pattern_turn inner) PatternsGood PatternsGood PatternsGood reads_pattern_turn (λ y d all. all) (λ y d all. all) x e good))
+          (stopped g inner n)
+
+      reads_bracket : (n : Next) (p : ℕ) → Stands g Command n p → Reads g (an_open_bracket n) (λ m e. Stands g Command m e) p
+      unfolding an_open_bracket
+      reads_bracket n p so = picks g (is_paren n.token) (λ is. after g (λ u e. reads_next g Command e)) (gives g so)
+
+      reads_body : (n : Next) (p : ℕ) → Stands g Command n p → Reads g (a_body inner n) Listing p
+      unfolding a_body
+      reads_body n p so = repeats g (list_turn inner) ListOn ListOn Listing reads_list_turn (λ l d on. on) (λ l d on. on.0) (list_so (none_listed false) n) p (tt, so)
+
+      -- before another item the next token stands where a command may begin
+      abbrev Onward : Next → ℕ → Type 0
+      Onward n e = is_closing closings.Esac n.token ≡ false → Stands g Command n e
+
+      abbrev EndGood : ItemEnd → ℕ → Type 0
+      EndGood x e = Comments x.comments × Onward x.next e
+
+      reads_double_semicolon : (p : ℕ) → Reads g a_double_semicolon EndGood p
+      unfolding a_double_semicolon
+      reads_double_semicolon p =
+          after g (λ x e. after g (λ y f. after g (λ q h. first g (reads_next g Command h) (λ n i stands.
+          first g (reads_linebreak (Unit {0}) [] n i tt (λ y. stands)) (λ l j so. gives g (so.0, (λ no. so.1 (inl tt))))))))
+
+      reads_item_end : (there : ℕ) (n : Next) (p : ℕ) → Reads g (an_item_end inner there n) EndGood p
+      unfolding an_item_end
+      reads_item_end there n p =
+          picks g (is_double_semicolon n.token) (λ is. reads_double_semicolon p)
+          (picks g (is_closing closings.Esac n.token) (λ is. gives g (tt, (λ no. absurd (both_ways (is_closing closings.Esac n.token) no is)))) (stopped g inner n))
+
+      abbrev CasesDone : CasesSo → ℕ → Type 0
+      CasesDone c p = GoodCases room (shape_of_cases B (cases_of c.items)) × Comments c.comments
+
+      abbrev CasesOn : CasesSo → ℕ → Type 0
+      CasesOn c p = GoodCases room (shape_of_cases B (cases_of c.items)) × Comments c.comments × Onward c.next p
+
+      reads_one_case : (c : CasesSo) (p : ℕ) → CasesOn c p → Stands g Command c.next p → Reads g (one_case inner c) (Turned g CasesOn CasesDone) p
+      unfolding one_case
+      reads_one_case c p so stands =
+          sees g (first g (reads_bracket c.next p stands) (λ n e begin. first g (reads_patterns n e begin) (λ ps f words.
+          first g (reads_closing g inner closings.Paren ps.next f) (λ k h behind. first g (reads_body k.1 h behind) (λ b i body.
+          first g (reads_item_end _ b.next i) (λ e j end. pushes g (gives g (cases_more B room c.items _ so.0 (so.1, words, body), end.0, end.1))))))))
+
+      reads_case_turn : (c : CasesSo) (p : ℕ) → CasesOn c p → Reads g (case_turn inner c) (Turned g CasesOn CasesDone) p
+      unfolding case_turn
+      reads_case_turn c p so = by_end (is_closing closings.Esac c.next.token) refl
+        where
+          by_end : (last : Bool) → is_closing closings.Esac c.next.token ≡ last → Reads g (pick last (give (done c)) (one_case inner c)) (Turned g CasesOn CasesDone) p
+          by_end true is = gives g (so.0, so.1)
+          by_end false is = reads_one_case c p so (so.2 is)
+
+      reads_case_head : (n : Next) (p : ℕ) → Stands g Suffix n p
+          → Reads g (a_case_head inner n) (λ h e. GoodWord room Suffix begins_simple (shape_of_word B h.0) × Comments h.1 × Stands g Command h.2 e) p
+      unfolding a_case_head
+      reads_case_head n p so =
+          first g (reads_case_word n p so) (λ w e one. first g (reads_linebreak (Unit {0}) [] w.1 e tt (λ y. one.1)) (λ l f two.
+          first g (reads_closing g inner closings.In l.next f) (λ i h stands. first g (reads_linebreak (Unit {0}) l.join.comments i.1 h two.0 (λ y. stands)) (λ k j three.
+          gives g (one.0, three.0, three.1 (inl tt))))))
+
+      reads_case : (n : Next) (p : ℕ) → Stands g Suffix n p → Reads g (a_case inner n) FormGood p
+      unfolding a_case
+      reads_case n p so =
+          first g (reads_case_head n p so) (λ h e one.
+          first g (repeats g (case_turn inner) CasesOn CasesOn CasesDone reads_case_turn (λ c d on. on) (λ c d on. (on.0, on.1)) (cases_so [] h.1 h.2) e (tt, one.1, (λ no. one.2))) (λ c f all.
+          after g (λ k j. gives g (one.0, all.0, all.1))))
+
       reads_form : (o : Opener) (n : Next) (p : ℕ) → Stands g (behind_opener o) n p → Reads g (a_form inner o n) FormGood p
       reads_form openers.Brace n p so = first g (reads_group closings.Brace n p so) (λ l e good. gives g good)
       reads_form openers.Paren n p so = first g (reads_group closings.Paren n p so) (λ l e good. gives g good)
@@ -596,15 +790,32 @@ module _ (B : List ℕ) (g : Given) (here : g.text ≡ drop g.offset B) where
       reads_form openers.While n p so = first g (reads_loop n p so) (λ l e good. gives g good)
       reads_form openers.Until n p so = first g (reads_loop n p so) (λ l e good. gives g good)
       reads_form openers.For n p so = reads_for n p so
+      reads_form openers.Case n p so = reads_case n p so
 
-      reads_compound : (o : Opener) (p : ℕ) → Reads g (a_compound inner o) (λ c e. GoodCommand (suc room) (shape_of_command B c.0)) p
+      reads_compound : (o : Opener) (p : ℕ) → Reads g (a_compound inner o) (λ c e. (body : ACompound) × (c.0 ≡ compound body) × GoodCompound (suc room) (shape_of_compound B body)) p
       unfolding a_compound
-      reads_compound o p = first g (reads_passed g _ _ _ p) (λ x e stands. first g (reads_form o x.1 e stands) (λ f d good. pushes g (gives g (good, tt))))
+      reads_compound o p = first g (reads_passed g _ _ _ p) (λ x e stands. first g (reads_form o x.1 e stands) (λ f d good. pushes g (gives g (_, refl, (good, tt)))))
+
+      -- ---- functions
+
+      under_good : (name : Span) (cs : Row Span) (c : ACommand) (body : ACompound) → c ≡ compound body → NameBefore (suc room) (text_at B name) → Comments cs → GoodCompound room (shape_of_compound B body)
+          → GoodCommand (suc room) (shape_of_command B (under_name name cs c))
+      under_good name cs c body is before own good = subst (λ (x : ACommand). GoodCommand (suc room) (shape_of_command B (under_name name cs x))) (sym is) (before, own, good)
+
+      reads_function : (name : Span) (p : ℕ) → NameBefore (suc room) (text_at B name) → Reads g (a_function inner name) (λ c e. GoodCommand (suc room) (shape_of_command B c.0)) p
+      unfolding a_function
+      reads_function name p before =
+          first g (reads_passed g _ true Command p) (λ o e stands. first g (reads_closing g inner closings.Paren o.1 e) (λ c f behind.
+          first g (reads_linebreak (Unit {0}) [] c.1 f tt (λ y. behind)) (λ l h lines.
+          first g (reads_compound_by l.next (opener_of l.next.token) h) (λ b k one. gives g (under_good name l.join.comments b.0 one.0 one.1 before lines.0 one.2)))))
 
   reads_level : (room : ℕ) → Fine room
   unfolding level
-  reads_level zero = record { compound = λ o p. after g (λ q e. record { reads = record { told = tt } }) }
-  reads_level (suc room) = record { compound = λ o p. reads_compound room (reads_level room) o p }
+  reads_level zero = record { compound = λ o p. after g (λ q e. record { reads = record { told = tt } }); function = λ name p before. record { reads = record { told = tt } } }
+  reads_level (suc room) = record {
+    compound = λ o p. reads_compound room (reads_level room) o p;
+    function = λ name p before. reads_function room (reads_level room) name p before;
+  }
 
 -- ---- a script
 

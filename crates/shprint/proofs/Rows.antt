@@ -10,7 +10,7 @@ use Rattle.shtree.specs.Tree.{AJoinOf, AnEntry, ABranch, ACaseItem, AWord, AnIte
 use Rattle.shtree.specs.View.{view_and_or_part, view_pipeline_part}
 use Rattle.shprint.specs.declared.layout.Layout.{Layout}
 use Rattle.shprint.specs.Marks.{Marks, text, line_end, deeper, one}
-use Rattle.shprint.specs.Printed.{breaks_line, is_broken_item, operand_margin, print_and_or_parts, print_branch, print_branches, print_case, print_cases, print_command, print_comment_lines, print_comments, print_entries, print_entry, print_further_comments, print_gap, print_item, print_items, print_join, print_patterns, print_pipeline, print_pipes, print_word}
+use Rattle.shprint.specs.Printed.{breaks_line, operand_margin, print_and_or_parts, print_branch, print_branches, print_case, print_cases, print_command, print_comment_lines, print_comments, print_entries, print_entry, print_further_comments, print_items, print_join, print_patterns, print_pipeline, print_pipes, print_word}
 use Rattle.shprint.specs.Written.{item_behind, print_join_on}
 
 module _ {A : Type 0} (f : A → Marks) where

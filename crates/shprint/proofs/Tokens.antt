@@ -1,12 +1,13 @@
 -- What is read where some bytes stand in a text: gaps, operators and reserved words, as they are printed.
-use Rattle.std.proofs.Common.{◌≡◌, ℕ, suc, ◌+◌, ◌==◌, Bool, true, false, not, ◌&&◌, List, List as Row, [], ◌∷◌, ◌++◌, length, drop, take, codes, Option, Some, None, slice_get, refl, sym, ap, subst, ◌∙◌, arith, cond}
-use Rattle.std.proofs.lemmas.Bool.{and_from, and_parts}
+use Rattle.std.proofs.Common.{◌≡◌, ℕ, suc, ◌+◌, ◌==◌, Bool, true, false, not, ◌&&◌, ◌⊎◌, inl, inr, ⊎_elim, List, List as Row, [], ◌∷◌, ◌++◌, length, drop, take, codes, Option, Some, None, slice_get, refl, sym, ap, subst, ◌∙◌, arith, cond}
+use Rattle.std.proofs.lemmas.Bool.{and_from, and_parts, both_ways}
 use Rattle.std.proofs.lemmas.Bool.Decides.{nat_tests}
 use Rattle.std.proofs.lemmas.List.{drop-drop}
 use Rattle.shread.specs.declared.token.Position.{Position}
-use Rattle.shread.specs.declared.token.Position.TheVariants.{Command}
+use Rattle.shread.specs.declared.token.Position.TheVariants.{Command, Prefix, Suffix}
 use Rattle.shread.specs.declared.token.Reserved.{Reserved}
 use Rattle.shread.specs.declared.token.Reserved.TheVariants as reserved
+use Rattle.shread.specs.declared.token.Token.{Token}
 use Rattle.shread.specs.declared.token.Token.TheVariants as tokens
 use Rattle.shread.specs.Classes.{is_blank, is_digit, is_name}
 use Rattle.shread.specs.Standing.{is_byte, passes, raw_stands, raw_in, raw_past, continues}
@@ -16,6 +17,7 @@ use Rattle.shread.proofs.Stretches.{get_drop, joined_none, joined_more, place_lo
 use Rattle.shread.proofs.Places.{must_fail}
 use Rattle.shread.proofs.SameBytes.{no_backslash}
 use Rattle.shread.proofs.Ahead.{behind_is, spelled_none, spelled_more, ender}
+use Rattle.shread.specs.Commands.{is_word, is_paren, begins_simple, behind_item}
 
 -- ---- the bytes from a place on
 
@@ -203,6 +205,10 @@ pub or_token : (position : Position) (T : List ℕ) (p : ℕ) (xs : List ℕ) �
 or_token position T p xs at =
     let r = byte_here T p 124 (124 ∷ xs) refl at in token_here position r ∙ rw (second 124 refl r) refl
 
+pub double_semicolon_token : (position : Position) (T : List ℕ) (p : ℕ) (xs : List ℕ) → drop p T ≡ 59 ∷ 59 ∷ xs → token_at position T p ≡ tokens.DoubleSemicolon
+double_semicolon_token position T p xs at =
+    let r = byte_here T p 59 (59 ∷ xs) refl at in token_here position r ∙ rw (second 59 refl r) refl
+
 -- the end of the text
 pub record Ended (T : List ℕ) (p : ℕ) : Type 0 where
   pub gap : Gap T p p false
@@ -370,6 +376,61 @@ module _ (T : List ℕ) (p x : ℕ) (xs : List ℕ) (clear : (x == 92) ≡ false
   unfolding reserved_words
   for_here at = keyword_here T p _ x _ xs reserved.For (λ T p e. rw e refl) refl refl refl refl refl clear stops at
 
+  pub case_here : drop p T ≡ codes "case" ++ x ∷ xs → Keyword T p (codes "case") reserved.Case
+  unfolding reserved_words
+  case_here at = keyword_here T p _ x _ xs reserved.Case (λ T p e. rw e refl) refl refl refl refl refl clear stops at
+
+  pub esac_here : drop p T ≡ codes "esac" ++ x ∷ xs → Keyword T p (codes "esac") reserved.Esac
+  unfolding reserved_words
+  esac_here at = keyword_here T p _ x _ xs reserved.Esac (λ T p e. rw e refl) refl refl refl refl refl clear stops at
+
   pub in_here : drop p T ≡ codes "in" ++ x ∷ xs → Keyword T p (codes "in") reserved.In
   unfolding reserved_words
   in_here at = keyword_here T p _ x _ xs reserved.In (λ T p e. rw e refl) refl refl refl refl refl clear stops at
+
+-- ---- words and assignments
+
+-- an item of a simple command is a word or an assignment
+pub kind_of : (t : Token) (next : Position) → behind_item t ≡ Some next → ((t ≡ tokens.Word) × (next ≡ Suffix)) ⊎ ((t ≡ tokens.Assignment) × (next ≡ Prefix))
+kind_of tokens.End next e = absurd cc
+kind_of tokens.Newline next e = absurd cc
+kind_of tokens.Semicolon next e = absurd cc
+kind_of tokens.DoubleSemicolon next e = absurd cc
+kind_of tokens.Ampersand next e = absurd cc
+kind_of tokens.AndIf next e = absurd cc
+kind_of tokens.OrIf next e = absurd cc
+kind_of tokens.Pipe next e = absurd cc
+kind_of tokens.OpenParen next e = absurd cc
+kind_of tokens.CloseParen next e = absurd cc
+kind_of tokens.Operator next e = absurd cc
+kind_of tokens.Comment next e = absurd cc
+kind_of tokens.Number next e = absurd cc
+kind_of (tokens.Reserved r) next e = absurd cc
+kind_of tokens.Assignment next e = inr (refl, let same : ◌≡◌ {A = Option Position} (Some Prefix) (Some next) = e in cc)
+kind_of tokens.Word next e = inl (refl, let same : ◌≡◌ {A = Option Position} (Some Suffix) (Some next) = e in cc)
+
+pub word_token : (t : Token) → is_word t ≡ true → t ≡ tokens.Word
+word_token tokens.End e = absurd cc
+word_token tokens.Newline e = absurd cc
+word_token tokens.Semicolon e = absurd cc
+word_token tokens.DoubleSemicolon e = absurd cc
+word_token tokens.Ampersand e = absurd cc
+word_token tokens.AndIf e = absurd cc
+word_token tokens.OrIf e = absurd cc
+word_token tokens.Pipe e = absurd cc
+word_token tokens.OpenParen e = absurd cc
+word_token tokens.CloseParen e = absurd cc
+word_token tokens.Operator e = absurd cc
+word_token tokens.Comment e = absurd cc
+word_token tokens.Number e = absurd cc
+word_token (tokens.Reserved r) e = absurd cc
+word_token tokens.Assignment e = absurd cc
+word_token tokens.Word e = refl
+
+-- it is no `(`
+pub item_no_round : (t : Token) (next : Position) → behind_item t ≡ Some next → is_paren t ≡ false
+item_no_round t next e = ⊎_elim (λ k. ap is_paren k.0) (λ k. ap is_paren k.0) (kind_of t next e)
+
+-- what begins no simple command is no word
+pub no_word : (t : Token) → begins_simple t ≡ false → is_word t ≡ false
+no_word t none = must_fail (is_word t) (λ e. both_ways (begins_simple t) none (ap begins_simple (word_token t e)))

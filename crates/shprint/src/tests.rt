@@ -5,7 +5,7 @@ use std::alloc::Global;
 use std::test::Fail;
 
 /// Scripts, and what is printed for each with a tab for each level.
-const SCRIPTS: [(&[u8], &[u8]); 24] = [
+const SCRIPTS: [(&[u8], &[u8]); 32] = [
     (b"", b""),
     (b"if a;then b;fi", b"if a; then\n\tb\nfi\n"),
     (b"i\\\nf a; then b; fi", b"if a; then\n\tb\nfi\n"),
@@ -54,6 +54,35 @@ const SCRIPTS: [(&[u8], &[u8]); 24] = [
         b"for a\\\nb #c\n\n#d\nin 1 2 #e\n\ndo\n\n#f\n\ng;done|h",
         b"for a\\\nb in 1 2; do\n\t#c\n\t#d\n\t#e\n\t#f\n\n\tg\ndone | h\n",
     ),
+    (b"f ( )\n\n{ a;}", b"f() {\n\ta\n}\n"),
+    (
+        b"f()\n# x\n\n# y\n( a b ) & # z",
+        b"f() # x\n# y\n(\n\ta b\n) & # z\n",
+    ),
+    (
+        b"{ f\\\ng() if a;then b;fi; }|g() { h() (i);}",
+        b"{\n\tf\\\ng() if a; then\n\t\tb\n\tfi\n} | g() {\n\th() (\n\t\ti\n\t)\n}\n",
+    ),
+    (
+        b"a |\nf() # x\n# y\n{ b; }",
+        b"a |\n\tf() # x\n\t# y\n\t{\n\t\tb\n\t}\n",
+    ),
+    (
+        b"case $1 in # k\n-h|--help) usage;;\n(*) ;; # rest\nesac\n",
+        b"case $1 in\n# k\n-h | --help)\n\tusage\n\t;;\n*) ;;\n# rest\nesac\n",
+    ),
+    (
+        b"case a in (case|esac) b&;; if)\nc\n\n#d\nesac|e",
+        b"case a in\ncase | esac)\n\tb &\n\t;;\nif)\n\tc\n\n\t#d\n\t;;\nesac | e\n",
+    ),
+    (
+        b"case a #b\nin #c\n\nesac #d",
+        b"case a in\n#b\n#c\nesac #d\n",
+    ),
+    (
+        b"case a in b) case c in d) ;; esac ;; esac",
+        b"case a in\nb)\n\tcase c in\n\td) ;;\n\tesac\n\t;;\nesac\n",
+    ),
 ];
 
 /// A script's printed text.
@@ -88,6 +117,7 @@ fn faulty(rt: HostRuntime) -> Result<(), Fail> {
         (b"a\n\n'", FaultKind::UnclosedSingle, 3),
         (b"a &&\n", FaultKind::UnexpectedEnd, 5),
         (b"for 1 in a; do b; done\n", FaultKind::BadForName, 4),
+        (b"my-f() { a; }\n", FaultKind::BadFunctionName, 0),
     ] {
         let error = print_source(rt.alloc(), &layout, &Flat::new(script)).err();
         assert!(rt;
@@ -104,6 +134,24 @@ fn blanks(rt: HostRuntime) -> Result<(), Fail> {
     let script = b"a && b ||\n# why\nc & # bg\n\n\nd\n";
     let text = printed(rt.alloc(), &layout, script)?;
     assert!(rt; text.as_slice() == b"a && b || # why\n  c & # bg\n\nd\n".as_slice());
+    Ok(())
+}
+
+/// The `{` of a function on a line of its own; other bodies, and those behind comments, stand as without the option.
+#[test]
+fn brace_of_a_function(rt: HostRuntime) -> Result<(), Fail> {
+    let layout = Layout::new(0, false, false, true)?;
+    for (script, wanted) in [
+        (b"f() { a;}".as_slice(), b"f()\n{\n\ta\n}\n".as_slice()),
+        (b"{ f()\n{ a;};}", b"{\n\tf()\n\t{\n\t\ta\n\t}\n}\n"),
+        (b"f()\n( a )", b"f() (\n\ta\n)\n"),
+        (b"f()\nwhile a;do b;done", b"f() while a; do\n\tb\ndone\n"),
+        (b"f() # x\n{ a;}", b"f() # x\n{\n\ta\n}\n"),
+    ] {
+        let text = printed(rt.alloc(), &layout, script)?;
+        assert!(rt; text.as_slice() == wanted);
+        assert!(rt; printed(rt.alloc(), &layout, &text)?.as_slice() == wanted);
+    }
     Ok(())
 }
 

@@ -1,4 +1,4 @@
-use Rattle.std.proofs.Common.{◌≡◌, ◌+◌, ◌∙◌, Some, ap, arith, false, slice_get}
+use Rattle.std.proofs.Common.{◌≡◌, ◌+◌, Some, arith, false, slice_get}
 use Rattle.shtree.proofs.Seen.{item_seen}
 use Rattle.shtree.specs.Shape.{shape_of_item}
 use Rattle.shtree.specs.View.{view_item}

@@ -1,5 +1,5 @@
 use Rattle.std.proofs.Common.{◌≡◌, ◌∷◌, arith}
-use Rattle.shprint.proofs.Spaced.{one_passed, none_passed}
+use Rattle.shprint.proofs.Spaced.{one_passed}
 use Rattle.shprint.proofs.printer.Printer.words_behind.Goals as goal
 
 pub words-preserved : goal.words-preserved
