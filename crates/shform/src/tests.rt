@@ -157,7 +157,7 @@ fn verdicts(rt: HostRuntime) {
             1,
             b"-:1:4: unclosed parameter expansion\n",
         ),
-        (b"a\n\nb # c |\n \t d(\n|", 1, b"-:4:5: unexpected token\n"),
+        (b"a\n\nb # c |\n \t d(\n|", 1, b"-:4:6: unexpected token\n"),
     ] {
         for step in [1, 2, 99] {
             let tape = Tape::new(script, step);
