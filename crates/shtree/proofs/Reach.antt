@@ -6,8 +6,8 @@ use Rattle.std.proofs.lemmas.List.Elements.{All-nil, All-cons, All-head, All-tai
 use Rattle.shtree.specs.declared.nodes.NodeKind.{NodeKind}
 use Rattle.shtree.specs.declared.nodes.NodeLine.{NodeLine}
 use Rattle.shtree.specs.declared.tree.Span.{Span}
-use Rattle.shtree.specs.Nodes.{word_nodes, AreWithin, IsSpanWithin, IsWithin, and_or_nodes, and_or_parts_nodes, and_or_span, branch_nodes, branches_nodes, command_nodes, command_span, comment_node, compound_nodes, compound_span, entries_nodes, entry_nodes, form_node, form_nodes, item_nodes, item_span, items_nodes, items_span, last_command, last_item, last_pipeline, node, pipeline_nodes, pipeline_span, pipes_nodes, subst_nodes, substs_nodes, through, case_nodes, cases_nodes, patterns_nodes, commands_end}
-use Rattle.shtree.specs.Tree.{ABranch, ACommand, ACompound, AForm, APipeline, APipelinePart, ASubst, AWord, AnAndOr, AnAndOrPart, AnEntry, AnItem, and_or, and_or_parts_of, argument, assign, brace, branches_of, case_in, command, compound, entries_of, entry, for_in, formed, function, if_then, item, items_of, no_item, pipeline, pipeline_parts_of, remark, simple, subshell, substs_of, until_do, while_do, word, ACaseItem, Entries, case_item, cases_of, patterns_of, more_and_or, more_pipes, no_and_or, no_pipe}
+use Rattle.shtree.specs.Nodes.{word_nodes, AreWithin, IsSpanWithin, IsWithin, and_or_nodes, and_or_parts_nodes, and_or_span, branch_nodes, branches_nodes, command_nodes, command_span, comment_node, entries_nodes, entry_nodes, form_node, form_nodes, item_nodes, item_span, items_nodes, items_span, last_command, last_item, last_pipeline, node, pipeline_nodes, pipeline_span, pipes_nodes, subst_nodes, substs_nodes, compound_nodes, compound_span, through, case_nodes, cases_nodes, patterns_nodes, commands_end}
+use Rattle.shtree.specs.Tree.{ABranch, ACommand, AForm, APipeline, APipelinePart, ASubst, AWord, AnAndOr, AnAndOrPart, AnEntry, AnItem, Entries, and_or, and_or_parts_of, argument, assign, brace, branches_of, case_in, command, compound, entries_of, entry, for_in, formed, if_then, item, items_of, no_item, pipeline, pipeline_parts_of, remark, simple, subshell, subst, substs_of, until_do, while_do, word, ACompound, function, ACaseItem, case_item, cases_of, patterns_of, more_and_or, more_pipes, no_and_or, no_pipe}
 
 nodes_append : (es ls : Row AnEntry) → entries_nodes (entries_of (es ++ ls)) ≡ entries_nodes (entries_of es) ++ entries_nodes (entries_of ls)
 nodes_append [] ls = refl
@@ -128,6 +128,9 @@ module _ (limit : ℕ) where
 
   pub fits_word : (w : AWord) → WordFits w → Nodes (word_nodes w)
   fits_word (word s ss) so = first (node NodeKind.Word s) (substs_nodes ss) (fits_node NodeKind.Word s so.0) so.1
+
+  pub fits_subst : (es : Entries) (s : Span) → IsSpanWithin limit s → AreWithin limit es → SubstFits (subst es s)
+  fits_subst es s one all = first (node NodeKind.Subst s) (entries_nodes es) (fits_node NodeKind.Subst s one) all
 
   pub fits_simple : (is : Row AnItem) → All ItemFits is → CommandFits (simple (items_of is))
   fits_simple is all =

@@ -1,7 +1,7 @@
 //! The nodes of a tree: one maker for each kind, which says what its node is in the definitions.
 ghost use Rattle.std.specs.Prelude.{◌≡◌, map, option_map, false, None};
-ghost use Rattle.shtree.specs.Tree.{and_or, and_or_parts_of, argument, assign, branch, branches_of, brace, command, compound, entries_of, entry, for_in, for_words_of, formed, function, if_then, item, items_of, pipeline, pipeline_parts_of, remark, simple, subshell, substs_of, until_do, while_do, word, case_in, case_item, cases_of, patterns_of};
-ghost use Rattle.shtree.specs.View.{view_and_or, view_and_or_part, view_branch, view_command, view_comment, view_compound, view_entry, view_form, view_function, view_item, view_join, view_list, view_otherwise, view_pipeline, view_pipeline_part, view_subst, view_word, view_case_item};
+ghost use Rattle.shtree.specs.Tree.{and_or, and_or_parts_of, argument, assign, branch, branches_of, brace, command, compound, entries_of, entry, for_in, for_words_of, formed, if_then, item, items_of, pipeline, pipeline_parts_of, remark, simple, subshell, subst, substs_of, until_do, while_do, word, function, case_in, case_item, cases_of, patterns_of};
+ghost use Rattle.shtree.specs.View.{view_and_or, view_and_or_part, view_branch, view_command, view_comment, view_compound, view_entry, view_form, view_item, view_join, view_list, view_otherwise, view_pipeline, view_pipeline_part, view_subst, view_word, view_function, view_case_item};
 
 use crate::tree::{
     AndOr, AndOrOperator, AndOrPart, Branch, CaseItem, Command, Comment, Compound, Content, Entry,
@@ -209,6 +209,13 @@ pub fn argument_of(word: Word, broken: bool) -> Item
         broken,
         what: ItemContent::Word(word),
     }
+}
+
+/// A command substitution with the list in it, from its `$` to behind its `)` (XCU 2.6.3).
+pub fn subst_of(list: List, span: Span) -> Subst
+    ensures { view_subst result ≡ subst (view_list list) span }
+{
+    Subst { list, span }
 }
 
 /// A word with the substitutions in it.
