@@ -103,7 +103,7 @@ pub record ListEnds (T T2 : List ℕ) (a L : ℕ) (to : ℕ → ℕ) (c : ℕ) :
   pub byte : slice_get T L ≡ Some c
   pub ender : Ender c
 
-not_backslash : (c : ℕ) → Ender c → (c == 92) ≡ false
+pub not_backslash : (c : ℕ) → Ender c → (c == 92) ≡ false
 not_backslash c e = let f = e.ends_it in grind (arith, nat_tests)
 
 module _ {T T2 : List ℕ} {a L : ℕ} {to : ℕ → ℕ} {c : ℕ} (E : ListEnds T T2 a L to c) where
@@ -132,13 +132,17 @@ module _ {T T2 : List ℕ} {a L : ℕ} {to : ℕ → ℕ} {c : ℕ} (E : ListEnd
   pub W : WordEnds T T2 L to
   W = record { here = ap ends limit_byte ∙ E.ender.ends_it; there = ap ends limit_byte_there ∙ E.ender.ends_it; closed = ap (λ b. is_byte b 40) limit_byte_there ∙ E.ender.no_open }
 
+  -- where no continuation begins in the first text none begins in the second
+  at_limit_same : (p : ℕ) → a ≤ p → p < L → continues T p ≡ false → continues T2 (to p) ≡ false
+  at_limit_same p low lt none = none_same E.kept p low (omega (arith, lt)) none (λ e. omega (arith, lt))
+
   -- where it is safe the same byte is read, up to the limit
   seen_by : {p : ℕ} → a ≤ p → Place T T2 L to p → Here T T2 a (L + 1) to p
   seen_by low (inside lt there) = record { low = low; inside = omega (arith, lt); there = there }
   seen_by low (outside one two) = record { low = low; inside = omega (arith, one, limit_place); there = two ∙ limit_place_there ∙ ap to (sym (one ∙ limit_place)) }
 
   pub seen : {p : ℕ} → Safe T a L p → Here T T2 a (L + 1) to p
-  seen s = seen_by (safe_low K s) (place K s)
+  seen s = seen_by (safe_low K s) (place K at_limit_same s)
 
   module _ {p : ℕ} (s : Safe T a L p) where
     pub same_byte : byte_at T2 (to p) ≡ byte_at T p
@@ -163,14 +167,14 @@ module _ {T T2 : List ℕ} {a L : ℕ} {to : ℕ → ℕ} {c : ℕ} (E : ListEnd
   -- past continuations
   pub place_safe : {p : ℕ} → Safe T a L p → Safe T a L (past_continuations T p)
   place_safe at_limit = subst (Safe T a L) (sym limit_place) at_limit
-  place_safe (halts {p = p} low lt none next stop) = subst (Safe T a L) (sym (joined_none T p none)) (halts low lt none next stop)
+  place_safe (halts {p = p} low lt none stop) = subst (Safe T a L) (sym (joined_none T p none)) (halts low lt none stop)
   place_safe (one_byte {p = p} low on rest) = subst (Safe T a L) (sym (joined_none T p (no_backslash T p (on_no_backslash T p on)))) (one_byte low on rest)
   place_safe (two_bytes {p = p} low c rest) = subst (Safe T a L) (sym (joined_more T p c)) (place_safe rest)
 
   -- behind a byte as it stands
   raw_safe : {p : ℕ} → Safe T a L p → raw_in goes_on T p ≡ true → (p ≡ L → ⊥) → Safe T a L (p + 1)
   raw_safe at_limit on other = absurd (other refl)
-  raw_safe (halts low lt none next stop) on other = absurd (both_ways _ stop on)
+  raw_safe (halts low lt none stop) on other = absurd (both_ways _ stop on)
   raw_safe (one_byte low on rest) also other = rest
   raw_safe (two_bytes {p = p} low c rest) on other = absurd (both_ways (raw_stands T p 92) (on_no_backslash T p on) (continued T p c).0)
 
@@ -257,7 +261,7 @@ module _ {T T2 : List ℕ} {a L : ℕ} {to : ℕ → ℕ} {c : ℕ} (E : ListEnd
 
   same_continues : {p : ℕ} → Safe T a L p → continues T2 (to p) ≡ continues T p
   same_continues at_limit = no_backslash T2 (to L) limit_clear_there ∙ sym (no_backslash T L limit_clear)
-  same_continues (halts {p = p} low lt none next stop) = none_same K p low lt none next ∙ sym none
+  same_continues (halts {p = p} low lt none stop) = at_limit_same p low lt none ∙ sym none
   same_continues (one_byte {p = p} low on rest) =
       let e = on_no_backslash T p on in
       no_backslash T2 (to p) (raw_same K p 92 low (omega (arith, safe_high K rest)) ∙ e) ∙ sym (no_backslash T p e)

@@ -17,7 +17,7 @@ use Rattle.shtree.specs.declared.tree.AndOrOperator.{AndOrOperator}
 use Rattle.shtree.specs.Tree.{ASubst, AnEntry, AWord}
 use Rattle.shread.specs.Comments.{span}
 use Rattle.shread.specs.Sights.{Given, State, Sight, seen, the_piece, Move}
-use Rattle.shread.specs.Form.{Spelled, Told, Read, ◌▸◌, Form, give, see, move, push, stop, both, when, token, many, ◌>>=◌, Step, again, done, step_if, leads_on, turns, does}
+use Rattle.shread.specs.Form.{Spelled, Told, Read, ◌▸◌, Form, give, see, move, push, stop, both, when, token, many, ends_as, with_end, ◌>>=◌, Step, again, done, step_if, leads_on, turns, does}
 use Rattle.shread.specs.Words.{single, backquote_turn, backquoted, Inner, Held, having, opened, piece_row, a_piece, contents, a_word}
 use Rattle.shread.specs.Levels.{level}
 use Rattle.shread.specs.Tokens.{is_end}
@@ -25,6 +25,7 @@ use Rattle.shread.specs.Commands.{pick, is_newline, is_semicolon, a_semicolon, a
 use Rattle.shread.specs.Lines.{end_of_line, a_line}
 use Rattle.shread.specs.Lists.{Listed, ListSo, list_so, none_listed, with_command, next_line, one_entry, entry_turn, remark_by, a_remark, on_line, list_turn, a_list}
 use Rattle.shread.specs.Compounds.{is_closing, is_open_paren, is_close_paren, passed, closing, Closed, closed, a_branch, Branched, branched, elif_turn, an_else, an_if, a_loop, a_group, a_for_name, a_linebreak, a_sequential_sep, Headed, for_words, a_for_head, a_for, a_form, a_compound, a_function, a_case_word, begins_pattern, Patterned, a_pattern, one_pattern, pattern_turn, a_pattern_list, an_open_bracket, a_body, ItemEnd, a_double_semicolon, an_item_end, CasesSo, cases_so, one_case, case_turn, a_case_head, a_case}
+use Rattle.shread.specs.Substitutions.{substituted, a_substitution}
 use Rattle.shread.proofs.Turns.{turns_on, turns_rest, turns_done, turns_fault}
 use Rattle.shtree.specs.Nodes.{word_span}
 
@@ -164,6 +165,15 @@ module _ (g : Given) where
     unfolding many one two
     alike_many a b so = record { like = λ s. loop_like (suc (length g.text - s.at)) a b s (omega arith) so }
 
+  ending_like : {X Y : Type 0} (S : X → Y → Type 0) (kind : FaultKind) (at : ℕ) (x : Read X) (y : Read Y) → Like S x y → Like S (with_end kind at x) (with_end kind at y)
+  ending_like S kind at (Ok (x, s)) (Ok (y, t)) like = like
+  ending_like S kind at (Ok (x, s)) (Err e) like = absurd like
+  ending_like S kind at (Err e) (Ok (y, t)) like = absurd like
+  ending_like S kind at (Err e) (Err f) like = rw like refl
+
+  pub alike_ending : {X Y : Type 0} {S : X → Y → Type 0} {kind : FaultKind} {at : ℕ} {r : Form X} {q : Form Y} → Alike S r q → Alike S (ends_as kind at r) (ends_as kind at q)
+  alike_ending {S = S} {kind = kind} {at = at} {r = r} {q = q} one = record { like = λ s. ending_like S kind at (does r true g s) (does q false g s) (one.like s) }
+
   -- ---- the rows
 
   -- whatever was read
@@ -192,6 +202,7 @@ module _ (g : Given) where
 
   pub record Fits (inner : Inner) : Type 0 where
     pub construct : (mode : Mode) (b : ℕ) (ss zs : Row ASubst) → Alike All (inner.construct mode b ss) (inner.construct mode b zs)
+    pub substitution : (b : ℕ) (ss zs : Row ASubst) → Alike All (inner.substitution b ss) (inner.substitution b zs)
     pub compound : (o : Opener) → Alike SameNext (inner.compound o) (inner.compound o)
     pub function : (name : Span) → Alike SameNext (inner.function name) (inner.function name)
 
@@ -208,7 +219,8 @@ module _ (g : Given) where
     alike_piece_by mode b h i pieces.Double same = alike_see (λ q. alike_on (alike_opened _ q h i same))
     alike_piece_by mode b h i pieces.Backquote same = alike_then alike_backquoted (λ x y so. alike_give same)
     alike_piece_by mode b h i pieces.Pid same = alike_on (alike_on (alike_give same))
-    alike_piece_by mode b h i pieces.Subst same = alike_see (λ q. alike_stop)
+    alike_piece_by mode b h i pieces.Subst same =
+        alike_see (λ q. alike_on (alike_on (alike_then (fits.substitution q h.substs i.substs) (λ x y so. alike_give same))))
     alike_piece_by mode b h i pieces.Arith same =
         alike_see (λ q. alike_on (alike_on (alike_on (alike_opened _ q h i same))))
     alike_piece_by mode b h i pieces.Param same =
@@ -328,7 +340,7 @@ module _ (g : Given) where
     alike_compound_by n (Some o) = fits.compound o
     alike_compound_by n None = alike_unexpected n
 
-    alike_named : (good : Bool) (w v : AWord) → SamePlace w v → Alike SameNext (named inner good w) (named inner good v)
+    alike_named : (good : Bool) (w v : AWord) → SamePlace w v → Alike SameNext (named inner good (word_span w)) (named inner good (word_span v))
     alike_named good w v same = alike_pick good _ refl (subst (λ z. Alike SameNext (inner.function (word_span w)) (inner.function z)) same (fits.function (word_span w))) (alike_stop_at (ap (λ (s : Span). s.start) same))
 
     alike_worded : Alike SameNext (a_worded inner) (a_worded inner)
@@ -643,6 +655,18 @@ module _ (g : Given) where
     alike_compound o =
         alike_then (alike_passed _ (is_open_paren o) _) (λ x y so. alike_then (alike_at (a_form inner o) (alike_form o) x.1 y.1 (ap (λ (z : Span × Next). z.1) so)) (λ f g same. alike_pushed (alike_give same)))
 
+    -- ---- substitutions
+
+    alike_substituted : Alike All (substituted inner) (substituted inner)
+    unfolding substituted
+    alike_substituted =
+        alike_then (alike_next _) (λ n m same. alike_then (alike_many SameList (list_turn inner) (list_turn inner) alike_list_turn (list_so (none_listed false) n) (list_so (none_listed false) m) (refl, same))
+        (λ l k so. alike_pick _ _ (ap (λ (x : Next). is_closing closings.Paren x.token) so.1) (alike_on (alike_give tt)) (alike_at (unexpected inner) alike_unexpected l.next k.next so.1)))
+
+    pub alike_substitution : (b : ℕ) (ss zs : Row ASubst) → Alike All (a_substitution inner b ss) (a_substitution inner b zs)
+    unfolding a_substitution
+    alike_substitution b ss zs = alike_then (alike_ending alike_substituted) (λ x y so. alike_see (λ q. alike_push tt))
+
     pub alike_function : (name : Span) → Alike SameNext (a_function inner name) (a_function inner name)
     unfolding a_function
     alike_function name =
@@ -665,10 +689,11 @@ module _ (g : Given) where
   -- words within words, commands within commands
   pub alike_level : (room : ℕ) → Fits (level room)
   unfolding level
-  alike_level zero = record { construct = λ mode b ss zs. alike_stop; compound = λ o. alike_see (λ p. alike_stop); function = λ name. alike_stop }
+  alike_level zero = record { construct = λ mode b ss zs. alike_stop; substitution = λ b ss zs. alike_stop; compound = λ o. alike_see (λ p. alike_stop); function = λ name. alike_stop }
   alike_level (suc room) =
       record {
         construct = λ mode b ss zs. alike_contents (level room) (alike_level room) mode b ss zs;
+        substitution = λ b ss zs. alike_substitution (level room) (alike_level room) b ss zs;
         compound = λ o. alike_compound (level room) (alike_level room) o;
         function = λ name. alike_function (level room) (alike_level room) name;
       }

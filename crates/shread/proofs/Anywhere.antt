@@ -1,20 +1,23 @@
 -- A word is read wherever its bytes stand, before a byte that ends words and is no `(`.
-use Rattle.std.proofs.Common.{◌≡◌, ℕ, ◌+◌, ◌-◌, ◌<◌, Bool, true, false, Ok, List, List as Row, [], ◌∷◌, ◌++◌, take, drop, slice_get, refl, sym, ap, subst, ◌∙◌, arith}
+use Rattle.std.proofs.Common.{◌≡◌, ℕ, zero, suc, ◌+◌, ◌-◌, ◌<◌, Bool, true, false, Ok, Err, List, List as Row, [], ◌∷◌, ◌++◌, map, take, drop, slice_get, refl, sym, ap, subst, ◌∙◌, arith}
 use Rattle.shread.specs.declared.mode.Mode.TheVariants.{Plain}
 use Rattle.shtree.specs.declared.tree.Span.{Span}
+use Rattle.shtree.specs.Shape.{Shape, text_at, shape_of_subst, shape_of_word}
 use Rattle.shread.specs.Comments.{span}
 use Rattle.shread.specs.Standing.{is_byte}
 use Rattle.shread.specs.Bytes.{ends, ends_word, byte_at, stands}
-use Rattle.shtree.specs.Tree.{ASubst, AWord, word, substs_of}
+use Rattle.shtree.specs.Tree.{ASubst, AWord, AWordOf, word, substs_of}
 use Rattle.shread.specs.Sights.{Given, State, standing}
-use Rattle.shread.specs.Form.{Spelled, as_it_stands, Read, Form, give, see, move, push, stop, both, when, token, loop, Step, again, done, does, Comes, may, raw, Just, just, Then, and_then, or_stops, OneToken, whole, broken_off}
+use Rattle.shread.specs.Form.{Spelled, as_it_stands, Read, ◌▸◌, Form, give, see, move, push, stop, both, when, token, loop, ends_as, Step, again, done, does, Comes, may, raw, Just, just, Then, and_then, or_stops, OneToken, whole, broken_off}
 use Rattle.shread.specs.Words.{Inner, contents, a_word}
 use Rattle.shread.specs.Levels.{level, IsWord}
 use Rattle.shread.proofs.Stretches.{get_drop}
-use Rattle.shread.proofs.Holds.{Holds, holds_then, Tells, Turned, tells_so, tells_then, tells_when, tells_token, tells_loop, Behind, low}
+use Rattle.shread.proofs.Holds.{Holds, holds_then, Tells, Turned, tells_so, tells_then, tells_when, tells_token, tells_loop, tells_ending, Behind, low}
 use Rattle.shread.proofs.SameBytes.{Kept}
 use Rattle.shread.proofs.Inside.{there}
-use Rattle.shread.proofs.PiecesInside.{word_in, local}
+use Rattle.shread.proofs.PiecesInside.{word_in}
+use Rattle.shread.proofs.WordsElsewhere.{everywhere, substs_shape}
+use Rattle.shread.proofs.Spelling.{raw_at}
 use Rattle.shread.proofs.OneOutcome.{is}
 use Rattle.shread.proofs.SameLine.{same_front}
 
@@ -30,6 +33,18 @@ then_is : {X Y : Type 0} {r : Comes X} {q : X → Comes Y} {s : State} (P : Row 
     → ((x : X) (t : State) (m l : Row Spelled) → r s (Ok (x, t)) m → q x t (Ok (c, u)) l → P (m ++ l)) → P k
 then_is {Y = Y} {q = q} P c u y k (and_then {x = x} {t = t} {k = m} {l = l} one two) is so = so x t m l one (subst (λ (z : Read Y). q x t z l) is two)
 then_is P c u y k (or_stops one) is so = absurd cc
+
+-- a word has its span
+pub word_span : (inner : Inner) (g : Given) (s t : State) (w : AWord) (k : Row Spelled) → may (a_word inner) g s (Ok (w, t)) k → (ss : Row ASubst) × (w ≡ word (span g.offset s.at t.at) (substs_of ss))
+unfolding a_word
+word_span inner g s t w k part =
+    spanned (does (contents inner Plain (g.offset + s.at) []) true g s) (sym ((is (a_word inner) g s).only _ _ part))
+  where
+    spanned : (x : Read (Row ASubst)) → ◌▸◌ {Y = AWord} (◌▸◌ {Y = Row ASubst × Span} x (λ b u. Ok ((b, span g.offset s.at u.at), u))) (λ z u. Ok (word z.1 (substs_of z.0), u)) ≡ Ok (w, t) → (ss : Row ASubst) × (w ≡ word (span g.offset s.at t.at) (substs_of ss))
+    spanned (Ok (ss, u)) read =
+        let same : ◌≡◌ {A = AWord × State} (word (span g.offset s.at u.at) (substs_of ss), u) (w, t) = cc in
+        (ss, sym (ap (λ (z : AWord × State). z.0) same) ∙ ap (λ (z : AWord × State). word (span g.offset s.at z.1.at) (substs_of ss)) same)
+    spanned (Err f) read = absurd cc
 
 -- what a word tells is its bytes as they stand
 word_told : (inner : Inner) (g : Given) (s t : State) (w : AWord) (k : Row Spelled) → may (a_word inner) g s (Ok (w, t)) k → k ≡ raw g.text s.at t.at ∷ []
@@ -60,7 +75,17 @@ kept T U p q n same = record {
   same = λ r from lt. let is : p + (r - p) ≡ r = omega (arith, from) in same_front_of T U p q n (r - p) same (omega (arith, lt, from)) ∙ ap (slice_get T) is;
 }
 
-module _ (room : ℕ) (g h : Given) (p q n : ℕ) (same : take n (drop q h.text) ≡ take n (drop p g.text)) (ender : ends (byte_at h.text (q + n)) ≡ true) (no_open : is_byte (byte_at h.text (q + n)) 40 ≡ false) where
+-- the bytes of a text, from an offset on
+abbrev pub padded : ℕ → List ℕ → List ℕ
+padded zero T = T
+padded (suc o) T = 0 ∷ padded o T
+
+pub padded_is : (o : ℕ) (T : List ℕ) → T ≡ drop o (padded o T)
+padded_is zero T = refl
+padded_is (suc o) T = padded_is o T
+
+module _ (room : ℕ) (g h : Given) (p q n : ℕ) (same : take n (drop q h.text) ≡ take n (drop p g.text)) (ender : ends (byte_at h.text (q + n)) ≡ true) (no_open : is_byte (byte_at h.text (q + n)) 40 ≡ false)
+    (B C : List ℕ) (stands_in : g.text ≡ drop g.offset B) (stands_there : h.text ≡ drop h.offset C) where
   K : Kept g.text h.text p (p + n) (from_to p q)
   K = kept g.text h.text p q n same
 
@@ -70,8 +95,17 @@ module _ (room : ℕ) (g h : Given) (p q n : ℕ) (same : take n (drop q h.text)
   end_there : from_to p q (p + n) ≡ q + n
   end_there = omega arith
 
-  abbrev there_is : {X : Type 0} → Form X → X → State → Type 0
-  there_is {X = X} r x t = t.at ≡ p + n → (y : X) × (does r true h (there K g.offset h.offset (standing p)) ≡ Ok (y, there K g.offset h.offset t))
+  here_ends : ends (byte_at h.text (from_to p q (p + n))) ≡ true
+  here_ends = subst (λ r. ends (byte_at h.text r) ≡ true) (sym end_there) ender
+
+  here_no_open : is_byte (byte_at g.text (p + n)) 40 ≡ false → is_byte (byte_at h.text (from_to p q (p + n))) 40 ≡ false
+  here_no_open e = subst (λ r. is_byte (byte_at h.text r) 40 ≡ false) (sym end_there) no_open
+
+  abbrev over : State → State
+  over s = there K g.offset h.offset s
+
+  abbrev there_is : {X : Type 0} → (X → X → Type 0) → Form X → X → State → Type 0
+  there_is {X = X} S r x t = t.at ≡ p + n → (y : X) × ((does r true h (over (standing p)) ≡ Ok (y, over t)) × S x y)
 
   abbrev inner : Inner
   inner = level room
@@ -79,36 +113,77 @@ module _ (room : ℕ) (g h : Given) (p q n : ℕ) (same : take n (drop q h.text)
   abbrev holds_there : Form (Row ASubst)
   holds_there = contents inner Plain (h.offset + from_to p q p) []
 
-  contents_by : Holds (there_is holds_there) (does (contents inner Plain (g.offset + p) []) true g (standing p))
-  contents_by =
-      let here_ends = subst (λ r. ends (byte_at h.text r) ≡ true) (sym end_there) ender in
-      let here_no_open = subst (λ r. is_byte (byte_at h.text r) 40 ≡ false) (sym end_there) no_open in
-      word_in K g.offset h.offset here_ends here_no_open inner (local K g.offset h.offset here_ends here_no_open room) (g.offset + p) (h.offset + from_to p q p) [] (standing p) (omega arith)
+  abbrev SameSubsts : Row ASubst → Row ASubst → Type 0
+  SameSubsts ss zs = map (shape_of_subst B) ss ≡ map (shape_of_subst C) zs
 
-  word_by : Holds (there_is (a_word inner)) (does (a_word inner) true g (standing p))
+  contents_by : Holds (there_is SameSubsts holds_there) (does (contents inner Plain (g.offset + p) []) true g (standing p))
+  contents_by =
+      let local = (everywhere room).local g.text h.text p (p + n) (from_to p q) K g.offset h.offset B C stands_in stands_there here_ends here_no_open in
+      word_in K g.offset h.offset B C here_ends here_no_open inner local (g.offset + p) (h.offset + from_to p q p) (standing p) (omega arith)
+
+  -- the bytes of a span
+  raw_same : raw g.text p (p + n) ≡ raw h.text q (q + n)
+  raw_same =
+      let here : p + n - p ≡ n = omega arith in
+      let there : q + n - q ≡ n = omega arith in
+      ap (λ m. take m (drop p g.text)) here ∙ sym same ∙ ap (λ m. take m (drop q h.text)) (sym there)
+
+  texts_same : (e : ℕ) → e ≡ p + n → text_at B (span g.offset p e) ≡ text_at C (span h.offset (from_to p q p) (from_to p q e))
+  texts_same e is =
+      ap (λ r. text_at B (span g.offset p r)) is ∙ sym (raw_at B g stands_in p (p + n)) ∙ raw_same ∙ raw_at C h stands_there q (q + n)
+      ∙ ap (λ r. text_at C (span h.offset r (q + n))) (sym begin_there) ∙ ap (λ r. text_at C (span h.offset (from_to p q p) r)) (sym end_there ∙ ap (from_to p q) (sym is))
+
+  abbrev SameToken : Row ASubst × Span → Row ASubst × Span → Type 0
+  SameToken x y = SameSubsts x.0 y.0 × (text_at B x.1 ≡ text_at C y.1)
+
+  abbrev SameShape : AWord → AWord → Type 0
+  SameShape w v = shape_of_word B w ≡ shape_of_word C v
+
+  words_same : (x y : Row ASubst × Span) → SameToken x y → SameShape (word x.1 (substs_of x.0)) (word y.1 (substs_of y.0))
+  words_same x y so = rw (so.1, substs_shape B x.0, so.0, sym (substs_shape C y.0)) refl
+
+  word_by : Holds (there_is SameShape (a_word inner)) (does (a_word inner) true g (standing p))
   unfolding a_word
   word_by =
-      holds_then (there_is (token as_it_stands holds_there)) (there_is (a_word inner)) (does (token as_it_stands (contents inner Plain (g.offset + p) [])) true g (standing p)) _
-      (holds_then (there_is holds_there) (there_is (token as_it_stands holds_there)) (does (contents inner Plain (g.offset + p) []) true g (standing p)) _ contents_by
-      (λ x t found is. let f = found is in ((f.0, span h.offset (from_to p q p) (from_to p q t.at)), rw f.1 refl)))
-      (λ x t found is. let f = found is in (word f.0.1 (substs_of f.0.0), rw f.1 refl))
+      holds_then (there_is SameToken (token as_it_stands holds_there)) (there_is SameShape (a_word inner)) (does (token as_it_stands (contents inner Plain (g.offset + p) [])) true g (standing p)) _
+      (holds_then (there_is SameSubsts holds_there) (there_is SameToken (token as_it_stands holds_there)) (does (contents inner Plain (g.offset + p) []) true g (standing p)) _ contents_by
+      (λ x t found is. let f = found is in ((f.0, span h.offset (from_to p q p) (from_to p q t.at)), (rw f.1.0 refl, (f.1.1, texts_same t.at is)))))
+      (λ x t found is. let f = found is in (word f.0.1 (substs_of f.0.0), (rw f.1.0 refl, words_same x f.0 f.1.1)))
 
-  word_there : (w : AWord) → does (a_word (level room)) true g (standing p) ≡ Ok (w, standing (p + n)) → (v : AWord) × (does (a_word (level room)) true h (standing q) ≡ Ok (v, standing (q + n)))
+  word_there : (w : AWord) → does (a_word (level room)) true g (standing p) ≡ Ok (w, standing (p + n)) → (v : AWord) × ((does (a_word (level room)) true h (standing q) ≡ Ok (v, standing (q + n))) × SameShape w v)
   word_there w is =
-      let found = subst (Holds (there_is (a_word inner))) is word_by refl in
-      (found.0, subst (λ r. does (a_word (level room)) true h (standing r) ≡ Ok (found.0, standing (q + n))) begin_there (subst (λ r. does (a_word (level room)) true h (standing (from_to p q p)) ≡ Ok (found.0, standing r)) end_there found.1))
+      let found = subst (Holds (there_is SameShape (a_word inner))) is word_by refl in (
+        found.0,
+        (
+          subst (λ r. does (a_word (level room)) true h (standing r) ≡ Ok (found.0, standing (q + n))) begin_there (subst (λ r. does (a_word (level room)) true h (standing (from_to p q p)) ≡ Ok (found.0, standing r)) end_there found.1.0),
+          found.1.1,
+        ),
+      )
 
-  word_may : (v : AWord) → does (a_word (level room)) true h (standing q) ≡ Ok (v, standing (q + n)) → IsWord room h q n
-  word_may v e =
-      let some = (is (a_word (level room)) h (standing q)).some in
-      let part = subst (λ (x : Read AWord). may (a_word (level room)) h (standing q) x some.0) e some.1 in
-      (v, subst (λ (k : Row Spelled). may (a_word (level room)) h (standing q) (Ok (v, standing (q + n))) k) (word_told (level room) h (standing q) (standing (q + n)) v some.0 part) part)
+-- a word of this shape, where the text stands in the bytes B from its offset on
+abbrev pub WordOf : ℕ → Given → ℕ → ℕ → List ℕ → Shape AWordOf → Type 0
+WordOf room g p n B shape = (w : AWord) × (may (a_word (level room)) g (standing p) (Ok (w, standing (p + n))) (raw g.text p (p + n) ∷ []) × (shape_of_word B w ≡ shape))
+
+-- what is read is a word that tells its bytes
+pub word_may : (room : ℕ) (h : Given) (q n : ℕ) (v : AWord) → does (a_word (level room)) true h (standing q) ≡ Ok (v, standing (q + n)) → may (a_word (level room)) h (standing q) (Ok (v, standing (q + n))) (raw h.text q (q + n) ∷ [])
+word_may room h q n v e =
+    let some = (is (a_word (level room)) h (standing q)).some in
+    let part = subst (λ (x : Read AWord). may (a_word (level room)) h (standing q) x some.0) e some.1 in
+    subst (λ (k : Row Spelled). may (a_word (level room)) h (standing q) (Ok (v, standing (q + n))) k) (word_told (level room) h (standing q) (standing (q + n)) v some.0 part) part
+
+-- the word that is read there, and that its shape is the same
+pub same_word : (room : ℕ) (g h : Given) (p q n : ℕ) (w : AWord) (told : Row Spelled) → may (a_word (level room)) g (standing p) (Ok (w, standing (p + n))) told → take n (drop q h.text) ≡ take n (drop p g.text)
+    → ends_word h.text (q + n) ≡ true → stands h.text (q + n) 40 ≡ false → (B C : List ℕ) → g.text ≡ drop g.offset B → h.text ≡ drop h.offset C
+    → WordOf room h q n C (shape_of_word B w)
+unfolding ends_word stands
+same_word room g h p q n w told part same ender no_open B C stands_in stands_there =
+    let v = word_there room g h p q n same ender no_open B C stands_in stands_there w (sym ((is (a_word (level room)) g (standing p)).only _ _ part)) in
+    (v.0, (word_may room h q n v.0 v.1.0, sym v.1.1))
 
 pub anywhere : (room : ℕ) (g h : Given) (p q n : ℕ) → IsWord room g p n → take n (drop q h.text) ≡ take n (drop p g.text) → ends_word h.text (q + n) ≡ true → stands h.text (q + n) 40 ≡ false → IsWord room h q n
-unfolding ends_word stands
 anywhere room g h p q n (w, part) same ender no_open =
-    let v = word_there room g h p q n same ender no_open w (sym ((is (a_word (level room)) g (standing p)).only _ _ part)) in
-    word_may room g h p q n same ender no_open v.0 v.1
+    let v = same_word room g h p q n w _ part same ender no_open (padded g.offset g.text) (padded h.offset h.text) (padded_is g.offset g.text) (padded_is h.offset h.text) in
+    (v.0, v.1.0)
 
 -- what waits, and the bodies, stay as they are
 abbrev pub Still : State → State → Type 0
@@ -131,20 +206,25 @@ waits {X = X} (loop turn a) keep g s = tells_loop keep g turn (Waits s) (λ b t 
     turned : (t : State) → Still s t → (c : Step X) (u : State) → Still t u → Turned keep g (Waits s) c u
     turned t one (again c) u two = (two.0 ∙ one.0, two.1 ∙ one.1)
     turned t one (done c) u two = (two.0 ∙ one.0, two.1 ∙ one.1)
+waits (ends_as kind at r) keep g s = tells_ending keep g (waits r keep g s)
 
 pub state_is : (t : State) → t.waiting ≡ [] → t.bodies ≡ [] → t ≡ standing t.at
 state_is t one two = rw (← one, ← two) refl
 
 -- whatever the row of a word reads is a word
-pub read_word : (room : ℕ) (g : Given) (p : ℕ) (w : AWord) (t : State) (told : Row Spelled) → may (a_word (level room)) g (standing p) (Ok (w, t)) told → IsWord room g p (t.at - p)
-read_word room g p w t told part =
+pub word_read : (room : ℕ) (g : Given) (p : ℕ) (w : AWord) (t : State) (told : Row Spelled) → may (a_word (level room)) g (standing p) (Ok (w, t)) told
+    → may (a_word (level room)) g (standing p) (Ok (w, standing (p + (t.at - p)))) (raw g.text p (p + (t.at - p)) ∷ [])
+word_read room g p w t told part =
     let is_read = (is (a_word (level room)) g (standing p)).only _ _ part in
     let on = subst (Holds (Behind (standing p))) (sym is_read) (low (a_word (level room)) true g (standing p)).told in
     let stays = subst (Holds (Waits (standing p))) (sym is_read) (waits (a_word (level room)) true g (standing p)).told in
     let told_is = word_told (level room) g (standing p) t w told part in
     let end : t.at ≡ p + (t.at - p) = omega (arith, on) in
     let same = state_is t stays.0 stays.1 ∙ ap standing end in
-    (w, subst (λ k. may (a_word (level room)) g (standing p) (Ok (w, standing (p + (t.at - p)))) k) (told_is ∙ ap (λ q. raw g.text p q ∷ []) end) (subst (λ u. may (a_word (level room)) g (standing p) (Ok (w, u)) told) same part))
+    subst (λ k. may (a_word (level room)) g (standing p) (Ok (w, standing (p + (t.at - p)))) k) (told_is ∙ ap (λ q. raw g.text p q ∷ []) end) (subst (λ u. may (a_word (level room)) g (standing p) (Ok (w, u)) told) same part)
+
+pub read_word : (room : ℕ) (g : Given) (p : ℕ) (w : AWord) (t : State) (told : Row Spelled) → may (a_word (level room)) g (standing p) (Ok (w, t)) told → IsWord room g p (t.at - p)
+read_word room g p w t told part = (w, word_read room g p w t told part)
 
 -- at a place no two words are read
 pub one_word : (room : ℕ) (g : Given) (p m n : ℕ) → IsWord room g p m → IsWord room g p n → m ≡ n

@@ -1,4 +1,4 @@
--- What a row may see of a text, and where it may move to: the same in each text that has its bytes up to a newline.
+-- What a row may see of a text, and where it may move to: the same in each text that has its bytes up to a newline, or to a `)`.
 use Rattle.std.proofs.Common.{◌≡◌, ℕ, zero, suc, ◌+◌, ◌-◌, ◌≤◌, ◌<◌, ◌==◌, Bool, true, false, not, cond, ◌||◌, List, [], ◌∷◌, take, drop, Option, Some, None, slice_get, refl, sym, ap, subst, ◌∙◌, arith, ⊎_elim}
 use Rattle.std.proofs.lemmas.Bool.{both_ways, cases_lt, cases_Bool}
 use Rattle.std.proofs.lemmas.Bool.Decides.{nat_tests}
@@ -10,13 +10,14 @@ use Rattle.shread.specs.Bytes.{past, past_blanks, past_continuations, byte_at, b
 use Rattle.shread.specs.Comments.{span, comment_at, past_comment}
 use Rattle.shread.specs.Pieces.{dollar_by, dollar_at, byte_by, piece_by, piece_at, past_taken, next_quote, next_in_backquotes, is_last_backslash, past_parameter, rest_mode, past_closer}
 use Rattle.shread.specs.Tokens.{past_reserved}
+use Rattle.shread.specs.Sights.{Move, joined, one_taken, the_closer, the_parameter, a_quote_on, in_backquotes_on, blanks, a_comment_on, the_reserved, one_byte as byte_on, to as leads}
 use Rattle.shread.specs.Form.{raw}
 use Rattle.shread.proofs.Stretches.{place_low, joined_more, raw_more, get_drop, blanks_before, no_blanks_before}
 use Rattle.shread.proofs.Places.{must_fail, place_same, behind_low, raw_past_low, raw_past_stops, raw_past_all, next_in_backquotes_low, next_of_low, next_newline_low, parameter_low, reserved_low, blanks_low}
 use Rattle.shread.proofs.SameBytes.{Safe, halts, one_byte, two_bytes, goes_on, safe_high, safe_low, safe_escape, safe_place, no_backslash, continued, raw_there, byte_other}
-use Rattle.shread.proofs.Ahead.{ListEnds, newline_ends, K, Goes, goes_name, goes_digit, goes_one, behind_is, same_if, same_and, seen, same_byte, same_behind, same_stands, same_stands_in, same_place, next_safe, past_safe, past_back, blanks_safe, blanks_back, same_raw_in}
+use Rattle.shread.proofs.Ahead.{ListEnds, ender, not_backslash, K, Goes, goes_name, goes_digit, goes_one, behind_is, same_if, same_and, seen, same_byte, same_behind, same_stands, same_stands_in, same_place, next_safe, past_safe, past_back, blanks_safe, blanks_back, same_raw_in}
 
--- what is looked for ahead from p on is found before the newline at M, or at it
+-- what is looked for ahead from p on is found before the newline, or the `)`, at M, or at it
 abbrev pub Good : List ℕ → ℕ → ℕ → ℕ → Type 0
 Good T a M p = Safe T a M p
 
@@ -24,8 +25,8 @@ Good T a M p = Safe T a M p
 none_there : (T : List ℕ) (p : ℕ) → continues T (past_continuations T p) ≡ false
 none_there T p = must_fail _ (λ c. let is = place_same T p in let more = joined_more T (past_continuations T p) c in let low = place_low T (past_continuations T p + 2) in absurd (omega (arith, is, more, low)))
 
--- U has the bytes of T from a up to the place M, where a newline is; `to` says where
-module _ {T U : List ℕ} {a M : ℕ} {to : ℕ → ℕ} (E : ListEnds T U a M to 10) where
+-- U has the bytes of T from a up to the place M, where the same byte ends what is looked for in both; `to` says where
+module _ {T U : List ℕ} {a M : ℕ} {to : ℕ → ℕ} {limit : ℕ} (E : ListEnds T U a M to limit) where
   abbrev G : ℕ → Type 0
   G p = Good T a M p
 
@@ -38,14 +39,8 @@ module _ {T U : List ℕ} {a M : ℕ} {to : ℕ → ℕ} (E : ListEnds T U a M t
   pub on : (p k : ℕ) → a ≤ p → to (p + k) ≡ to p + k
   on p k low = E.kept.on p k low
 
-  newline_next : (q : ℕ) → q + 1 ≡ M → raw_stands T q 92 ≡ true → continues T q ≡ true
-  unfolding continues raw_stands
-  newline_next q is e = rw (e, is, E.byte) refl
-
   good_halt : (q : ℕ) → a ≤ q → q < M → continues T q ≡ false → raw_in goes_on T q ≡ false → G q
-  good_halt q low lt none off =
-      halts low lt none
-      (λ e. ⊎_elim (λ l. l) (λ g. let is : q + 1 ≡ M = omega (arith, g, lt) in absurd (both_ways (continues T q) none (newline_next q is e))) (cases_lt (q + 1) M)) off
+  good_halt q low lt none off = halts low lt none off
 
   good_back : (q : ℕ) → a ≤ q → continues T q ≡ false → G (q + 1) → G q
   good_back q low none s =
@@ -100,7 +95,7 @@ module _ {T U : List ℕ} {a M : ℕ} {to : ℕ → ℕ} (E : ListEnds T U a M t
   moves_closer DoubleBrace p = moves_behind p
   moves_closer Arith p = moves_twice p
 
-  moves_past : (test : ℕ → Bool) → Goes 10 test → (p : ℕ) → a ≤ p → G (past test T p) → G p × (past test U (to p) ≡ to (past test T p))
+  moves_past : (test : ℕ → Bool) → Goes limit test → (p : ℕ) → a ≤ p → G (past test T p) → G p × (past test U (to p) ≡ to (past test T p))
   moves_past test goes p low s = let g = past_back E test goes p low s in (g, (past_safe E test goes g).1)
 
   pub moves_reserved : (p : ℕ) → Moves past_reserved p
@@ -108,7 +103,7 @@ module _ {T U : List ℕ} {a M : ℕ} {to : ℕ → ℕ} (E : ListEnds T U a M t
   moves_reserved p = (
     reserved_low T p,
     λ low s.
-        let w = moves_past is_name (goes_name 10 newline_ends) (behind T p) (omega (arith, low, behind_low T p)) s in
+        let w = moves_past is_name (goes_name limit E.ender) (behind T p) (omega (arith, low, behind_low T p)) s in
         let v = (moves_behind p).1 low w.0 in (v.0, ap (past is_name U) v.1 ∙ w.1),
   )
 
@@ -118,9 +113,9 @@ module _ {T U : List ℕ} {a M : ℕ} {to : ℕ → ℕ} (E : ListEnds T U a M t
     parameter_low T p,
     λ low s.
         ⊎_elim
-        (λ (e : stands_in is_letter T p ≡ true). let w = moves_past is_name (goes_name 10 newline_ends) p low (rw e at s) in (w.0, rw (same_stands_in E w.0 is_letter, e) w.1))
+        (λ (e : stands_in is_letter T p ≡ true). let w = moves_past is_name (goes_name limit E.ender) p low (rw e at s) in (w.0, rw (same_stands_in E w.0 is_letter, e) w.1))
         (λ (e : stands_in is_letter T p ≡ false). ⊎_elim
-        (λ (f : stands_in is_digit T p ≡ true). let w = moves_past is_digit (goes_digit 10 newline_ends) p low (rw (e, f) at s) in (w.0, rw (same_stands_in E w.0 is_letter, e, same_stands_in E w.0 is_digit, f) w.1))
+        (λ (f : stands_in is_digit T p ≡ true). let w = moves_past is_digit (goes_digit limit E.ender) p low (rw (e, f) at s) in (w.0, rw (same_stands_in E w.0 is_letter, e, same_stands_in E w.0 is_digit, f) w.1))
         (λ (f : stands_in is_digit T p ≡ false). ⊎_elim
         (λ (g : stands_in is_special T p ≡ true). let w = (moves_behind p).1 low (rw (e, f, g) at s) in (w.0, rw (same_stands_in E w.0 is_letter, e, same_stands_in E w.0 is_digit, f, same_stands_in E w.0 is_special, g) w.1))
         (λ (g : stands_in is_special T p ≡ false). let w : G p = rw (e, f, g) at s in (w, rw (same_stands_in E w is_letter, e, same_stands_in E w is_digit, f, same_stands_in E w is_special, g) refl))
@@ -166,7 +161,7 @@ module _ {T U : List ℕ} {a M : ℕ} {to : ℕ → ℕ} (E : ListEnds T U a M t
   unfolding raw_stands
   same_taken p e low s =
       ap (at_end U) (sym (on p 1 low))
-      ∙ same_end (p + 1) (omega (arith, low)) (⊎_elim (λ lt. omega (arith, lt)) (λ ge. let is : p ≡ M = omega (arith, ge, high s) in absurd (both_ways (is_byte (slice_get T M) 92) (rw E.byte refl) (rw (sym is) e))) (cases_lt p M))
+      ∙ same_end (p + 1) (omega (arith, low)) (⊎_elim (λ lt. omega (arith, lt)) (λ ge. let is : p ≡ M = omega (arith, ge, high s) in absurd (both_ways (is_byte (slice_get T M) 92) (rw E.byte (not_backslash limit E.ender)) (rw (sym is) e))) (cases_lt p M))
 
   pub same_raw_stands : (p c : ℕ) → a ≤ p → p ≤ M → raw_stands U (to p) c ≡ raw_stands T p c
   unfolding raw_stands
@@ -175,13 +170,14 @@ module _ {T U : List ℕ} {a M : ℕ} {to : ℕ → ℕ} (E : ListEnds T U a M t
   newline_by : (x : Option ℕ) → x ≡ Some 10 → passes (λ b. not (b == 10)) x ≡ false
   newline_by x is = rw is refl
 
-  pub newline_near : (p : ℕ) → p ≤ M → next_newline T p ≤ M
+  -- a newline at the limit is the next one, or behind it
+  pub newline_near : limit ≡ 10 → (p : ℕ) → p ≤ M → next_newline T p ≤ M
   unfolding raw_in
-  newline_near p le =
-      ⊎_elim (λ lt. absurd (both_ways _ (newline_by (slice_get T M) E.byte) (raw_past_all (λ b. not (b == 10)) T p M le lt))) (λ ge. ge) (cases_lt M (next_newline T p))
+  newline_near ten p le =
+      ⊎_elim (λ lt. absurd (both_ways _ (newline_by (slice_get T M) (E.byte ∙ ap Some ten)) (raw_past_all (λ b. not (b == 10)) T p M le lt))) (λ ge. ge) (cases_lt M (next_newline T p))
 
-  pub same_newline : (p : ℕ) → a ≤ p → p ≤ M → next_newline U (to p) ≡ to (next_newline T p)
-  same_newline p low le = raw_there E.kept (λ b. not (b == 10)) p low (omega (arith, newline_near p le))
+  pub same_newline : (p : ℕ) → a ≤ p → next_newline T p ≤ M → next_newline U (to p) ≡ to (next_newline T p)
+  same_newline p low near = raw_there E.kept (λ b. not (b == 10)) p low (omega (arith, near))
 
   -- before q, behind a byte at p that is no blank
   before_there : (n p q : ℕ) → q ≤ p + n → a ≤ p → p < q → q ≤ M → raw_in is_blank T p ≡ false → (before_blanks U (to q) ≡ to (before_blanks T q)) × (p ≤ before_blanks T q)
@@ -207,10 +203,13 @@ module _ {T U : List ℕ} {a M : ℕ} {to : ℕ → ℕ} (E : ListEnds T U a M t
   hash_goes None e = absurd cc
   hash_goes (Some b) e = (grind (arith, nat_tests), grind (arith, nat_tests), grind (arith, nat_tests))
 
+  no_hash : (limit == 35) ≡ false
+  no_hash = ender limit 35 E.ender.ends_it refl
+
   at_hash : (p : ℕ) → a ≤ p → p ≤ M → raw_stands T p 35 ≡ true → G p
   unfolding raw_stands raw_in
   at_hash p low le e =
-      let lt : p < M = ⊎_elim (λ l. l) (λ g. let is : M ≡ p = omega (arith, g, le) in absurd (both_ways (is_byte (slice_get T M) 35) (rw E.byte refl) (rw is e))) (cases_lt p M) in
+      let lt : p < M = ⊎_elim (λ l. l) (λ g. let is : M ≡ p = omega (arith, g, le) in absurd (both_ways (is_byte (slice_get T M) 35) (rw E.byte no_hash) (rw is e))) (cases_lt p M) in
       good_halt p low lt (no_backslash T p (byte_other (slice_get T p) 35 92 refl e)) (hash_goes (slice_get T p) e).0
 
   same_take : (n : ℕ) (A B : List ℕ) → ((i : ℕ) → i < n → slice_get A i ≡ slice_get B i) → take n A ≡ take n B
@@ -237,54 +236,59 @@ module _ {T U : List ℕ} {a M : ℕ} {to : ℕ → ℕ} (E : ListEnds T U a M t
   place_in : {p : ℕ} → G p → past_continuations T p ≤ M
   place_in s = let h = seen E s in omega (arith, h.inside)
 
-  -- behind a byte that is no newline
-  escape_in : (p b : ℕ) → G p → byte_at T p ≡ Some b → (b == 10) ≡ false → behind T p ≤ M
+  -- behind a byte that is not that of the limit
+  escape_in : (p b : ℕ) → G p → byte_at T p ≡ Some b → (b == limit) ≡ false → behind T p ≤ M
   escape_in p b s is other =
       ⊎_elim (λ lt. omega (arith, behind_is T p, lt))
       (λ ge. let at : M ≡ past_continuations T p = omega (arith, ge, place_in s) in
-      let e : Some 10 ≡ Some b = sym E.byte ∙ ap (slice_get T) at ∙ is in
-      let f : 10 ≡ b = cc in
-      absurd (both_ways (b == 10) other (rw (sym f) refl))) (cases_lt (past_continuations T p) M)
+      let e : Some limit ≡ Some b = sym E.byte ∙ ap (slice_get T) at ∙ is in
+      let f : limit ≡ b = cc in
+      absurd (both_ways (b == limit) other (grind (arith, nat_tests, f)))) (cases_lt (past_continuations T p) M)
 
   -- where this byte is read, and behind it
-  next_byte : (p b c : ℕ) → G p → byte_at T p ≡ Some b → (b == c) ≡ true → goes_on c ≡ true → (10 == c) ≡ false → G (behind T p)
+  next_byte : (p b c : ℕ) → G p → byte_at T p ≡ Some b → (b == c) ≡ true → goes_on c ≡ true → (limit == c) ≡ false → G (behind T p)
   unfolding stands_in
-  next_byte p b c s is e on other = next_safe E (λ x. x == c) (goes_one 10 c on other) s (rw is e)
+  next_byte p b c s is e on other = next_safe E (λ x. x == c) (goes_one limit c on other) s (rw is e)
 
-  same_next : (p b c x : ℕ) → G p → byte_at T p ≡ Some b → (b == c) ≡ true → goes_on c ≡ true → (10 == c) ≡ false → stands U (behind U (to p)) x ≡ stands T (behind T p) x
+  same_next : (p b c x : ℕ) → G p → byte_at T p ≡ Some b → (b == c) ≡ true → goes_on c ≡ true → (limit == c) ≡ false → stands U (behind U (to p)) x ≡ stands T (behind T p) x
   same_next p b c x s is e on other = rw (same_behind E s) (same_stands E (next_byte p b c s is e on other) x)
+
+  -- a bracket that may close arithmetic is not at the limit
+  abbrev pub NoBracket : Mode → Type 0
+  NoBracket Arith = (limit == 41) ≡ false
+  NoBracket _ = Unit {0}
 
   dollar_by_same : (q : ℕ) (x : Option ℕ) → G q → byte_at T q ≡ x → dollar_by U (to q) x ≡ dollar_by T q x
   dollar_by_same q None s is = refl
   dollar_by_same q (Some b) s is =
       same_if (b == 36) _ _ _ _ (λ e. refl)
-      (λ e. same_if (b == 40) _ _ _ _ (λ f. rw (same_next q b 40 40 s is f refl refl) refl) (λ f. refl))
+      (λ e. same_if (b == 40) _ _ _ _ (λ f. rw (same_next q b 40 40 s is f refl E.ender.no_open) refl) (λ f. refl))
 
   dollar_same : (p b : ℕ) → G p → byte_at T p ≡ Some b → (b == 36) ≡ true → dollar_at U (to p) ≡ dollar_at T p
   unfolding dollar_at
   dollar_same p b s is e =
-      let next = next_byte p b 36 s is e refl refl in
+      let next = next_byte p b 36 s is e refl (ender limit 36 E.ender.ends_it refl) in
       rw (same_behind E s, same_byte E next) (dollar_by_same (behind T p) (byte_at T (behind T p)) next refl)
 
-  byte_same : (mode : Mode) (p n b : ℕ) → G p → byte_at T p ≡ Some b → byte_by U (to p) mode n b ≡ byte_by T p mode n b
-  byte_same Plain p n b s is = refl
-  byte_same Double p n b s is = refl
-  byte_same Brace p n b s is = refl
-  byte_same DoubleBrace p n b s is = refl
-  byte_same Arith p n b s is = same_if (b == 41) _ _ _ _ (λ e. rw (same_next p b 41 41 s is e refl refl) refl) (λ e. refl)
+  byte_same : (mode : Mode) (p n b : ℕ) → NoBracket mode → G p → byte_at T p ≡ Some b → byte_by U (to p) mode n b ≡ byte_by T p mode n b
+  byte_same Plain p n b other s is = refl
+  byte_same Double p n b other s is = refl
+  byte_same Brace p n b other s is = refl
+  byte_same DoubleBrace p n b other s is = refl
+  byte_same Arith p n b other s is = same_if (b == 41) _ _ _ _ (λ e. rw (same_next p b 41 41 s is e refl other) refl) (λ e. refl)
 
-  piece_same : (mode : Mode) (p n : ℕ) (x : Option ℕ) → G p → byte_at T p ≡ x → piece_by U (to p) mode n x ≡ piece_by T p mode n x
-  piece_same mode p n None s is = refl
-  piece_same mode p n (Some b) s is =
+  piece_same : (mode : Mode) (p n : ℕ) (x : Option ℕ) → NoBracket mode → G p → byte_at T p ≡ x → piece_by U (to p) mode n x ≡ piece_by T p mode n x
+  piece_same mode p n None free s is = refl
+  piece_same mode p n (Some b) free s is =
       same_if (b == 92) _ _ _ _
-      (λ e. let other : (b == 10) ≡ false = grind (arith, nat_tests) in
+      (λ e. let clear = not_backslash limit E.ender in let other : (b == limit) ≡ false = grind (arith, nat_tests) in
       rw (same_behind E s, same_end (behind T p) (omega (arith, low_of s, behind_low T p)) (escape_in p b s is other)) refl)
       (λ e. same_if (b == 96) _ _ _ _ (λ f. refl)
-      (λ f. same_if (b == 36) _ _ _ _ (λ g. dollar_same p b s is g) (λ g. byte_same mode p n b s is)))
+      (λ f. same_if (b == 36) _ _ _ _ (λ g. dollar_same p b s is g) (λ g. byte_same mode p n b free s is)))
 
-  pub same_piece : (mode : Mode) (n p : ℕ) → G p → piece_at U mode n (to p) ≡ piece_at T mode n p
+  pub same_piece : (mode : Mode) (n p : ℕ) → NoBracket mode → G p → piece_at U mode n (to p) ≡ piece_at T mode n p
   unfolding piece_at
-  same_piece mode n p s = rw (same_byte E s) (piece_same mode p n (byte_at T p) s refl)
+  same_piece mode n p free s = rw (same_byte E s) (piece_same mode p n (byte_at T p) free s refl)
 
   pub same_mode : (mode : Mode) (p : ℕ) → G p → rest_mode U mode (to p) ≡ rest_mode T mode p
   unfolding rest_mode
@@ -333,7 +337,7 @@ module _ {T U : List ℕ} {a M : ℕ} {to : ℕ → ℕ} (E : ListEnds T U a M t
         (λ (e : raw_stands T p 35 ≡ true). let t : G (next_newline T p) = rw e at s in
         let le : p ≤ M = omega (arith, next_newline_low T p, high t) in
         let g : G p = at_hash p low le e in
-        (g, rw (same_raw_stands p 35 low le, e) (same_newline p low le)))
+        (g, rw (same_raw_stands p 35 low le, e) (same_newline p low (high t))))
         (λ (e : raw_stands T p 35 ≡ false). let g : G p = rw e at s in (g, rw (same_raw_stands p 35 low (high g), e) refl)) (cases_Bool (raw_stands T p 35)),
   )
     where
@@ -349,16 +353,39 @@ module _ {T U : List ℕ} {a M : ℕ} {to : ℕ → ℕ} (E : ListEnds T U a M t
   pub same_last_backslash : (p : ℕ) → a ≤ p → G p → is_last_backslash U (to p) ≡ is_last_backslash T p
   same_last_backslash p low s = rw (same_raw_stands p 92 low (high s)) (same_and (raw_stands T p 92) _ _ (λ e. same_taken p e low s))
 
-  pub same_comment : (o o2 : ℕ) → ((p q : ℕ) → a ≤ p → a ≤ q → span o2 (to p) (to q) ≡ span o p q) → (p : ℕ) → G p → comment_at U o2 (to p) ≡ comment_at T o p
-  unfolding comment_at raw_in raw_stands
-  same_comment o o2 spans p s =
+  -- where a comment ends
+  pub comment_end : (p : ℕ) → G p → raw_stands T p 35 ≡ true → next_newline T p ≤ M
+      → (before_blanks U (next_newline U (to p)) ≡ to (before_blanks T (next_newline T p))) × (p ≤ before_blanks T (next_newline T p))
+  unfolding raw_in raw_stands
+  comment_end p s e near =
       let low = low_of s in
-      ⊎_elim
-      (λ (e : raw_stands T p 35 ≡ true).
       let bytes = hash_goes (slice_get T p) e in
       let q = next_newline T p in
       let more : q ≡ next_newline T (p + 1) = raw_more (λ b. not (b == 10)) T p bytes.2 in
       let lt : p < q = omega (arith, more, next_newline_low T (p + 1)) in
-      let w = before_there q p q (omega arith) low lt (newline_near p (high s)) bytes.1 in
-      rw (same_raw_stands p 35 low (high s), e, same_newline p low (high s), w.0) (ap Some (spans p (before_blanks T q) low (omega (arith, low, w.1)))))
+      let w = before_there q p q (omega arith) low lt near bytes.1 in
+      (rw (same_newline p low near) w.0, w.1)
+
+  pub same_comment : (o o2 : ℕ) → ((p q : ℕ) → a ≤ p → a ≤ q → span o2 (to p) (to q) ≡ span o p q) → (p : ℕ) → G p → (raw_stands T p 35 ≡ true → next_newline T p ≤ M) → comment_at U o2 (to p) ≡ comment_at T o p
+  unfolding comment_at
+  same_comment o o2 spans p s near =
+      let low = low_of s in
+      ⊎_elim
+      (λ (e : raw_stands T p 35 ≡ true). let w = comment_end p s e (near e) in
+      rw (same_raw_stands p 35 low (high s), e, w.0) (ap Some (spans p (before_blanks T (next_newline T p)) low (omega (arith, low, w.1)))))
       (λ (e : raw_stands T p 35 ≡ false). rw (same_raw_stands p 35 low (high s), e) refl) (cases_Bool (raw_stands T p 35))
+
+  -- ---- all moves
+
+  -- a move to a good place is one from a good place, and leads to the same
+  pub moves : (m : Move) (p : ℕ) → a ≤ p → G (leads m T p) → G p × (leads m U (to p) ≡ to (leads m T p))
+  moves byte_on p = (moves_behind p).1
+  moves joined p = (moves_joined p).1
+  moves one_taken p = (moves_taken p).1
+  moves (the_closer mode) p = (moves_closer mode p).1
+  moves the_parameter p = (moves_parameter p).1
+  moves a_quote_on p = (moves_quote p).1
+  moves in_backquotes_on p = (moves_backquotes p).1
+  moves blanks p = (moves_blanks p).1
+  moves a_comment_on p = (moves_comment p).1
+  moves the_reserved p = (moves_reserved p).1

@@ -27,10 +27,13 @@ use Rattle.shread.proofs.Turns.{turns_on}
 use Rattle.shread.proofs.Holds.{Holds, holds_then}
 use Rattle.shread.proofs.SameBytes.{Kept, WordEnds, Here, here_byte, here_behind, here_stands_in}
 use Rattle.shread.proofs.Ahead.{same_and, spelled_none, spelled_more, behind_is}
-use Rattle.shread.proofs.PiecesInside.{From, local, word_from}
+use Rattle.shread.proofs.PiecesInside.{From, word_from}
+use Rattle.shread.proofs.WordsElsewhere.{everywhere}
 use Rattle.shread.proofs.PlainBytes.{plain_stays, ordinary_by}
 use Rattle.shread.proofs.OneOutcome.{is}
-use Rattle.shread.proofs.Anywhere.{from_to, kept, anywhere}
+use Rattle.shread.proofs.Anywhere.{WordOf, from_to, kept, padded, padded_is, same_word}
+use Rattle.shtree.specs.Shape.{Shape, shape_of_word}
+use Rattle.shtree.specs.Tree.{SubstsOf, word as shape_word}
 use Rattle.shread.proofs.CommentsElsewhere.{byte_behind, stretch_length}
 use Rattle.shread.proofs.WordsWithin.{word_ends}
 
@@ -86,6 +89,12 @@ held P y x t is so = subst (Holds P) is so
 -- ---- a word that ends at the limit, in a text and in another one that has its bytes
 
 module _ {T U : List ℕ} {a L : ℕ} {to : ℕ → ℕ} (K : Kept T U a L to) (W : WordEnds T U L to) (o room : ℕ) where
+  abbrev B : List ℕ
+  B = padded o T
+
+  abbrev C : List ℕ
+  C = padded o U
+
   -- from r on the pieces of the word go on up to the limit
   record Goes (r : ℕ) : Type 0 where
     low : a ≤ r
@@ -121,8 +130,9 @@ module _ {T U : List ℕ} {a L : ℕ} {to : ℕ → ℕ} (K : Kept T U a L to) (
   place_of : {r : ℕ} → Goes r → Here T U a L to r ⊎ (r ≡ L)
   place_of {r = r} w =
       ⊎_elim inl (λ e. inr e.1)
-      (held (λ x t. t.at ≡ L → From K o o Plain r) (does (loop (a_piece (level room) Plain w.opener) w.start) true (given T o) (standing r)) w.found w.last w.goes
-      (word_from K o o W.there W.closed (level room) (local K o o W.there W.closed room) w.opener w.start (standing r) w.low) w.there)
+      (held (λ x t. t.at ≡ L → From K o o B C Plain r) (does (loop (a_piece (level room) Plain w.opener) w.start) true (given T o) (standing r)) w.found w.last w.goes
+      (word_from K o o B C W.there (λ e. W.closed) (level room)
+      ((everywhere room).local T U a L to K o o B C (padded_is o T) (padded_is o U) W.there (λ e. W.closed)) w.opener w.start (standing r) w.low) w.there)
 
   inside_of : {r : ℕ} → Goes r → ends (byte_at T r) ≡ false → Here T U a L to r
   inside_of w e = ⊎_elim (λ i. i) (λ at. absurd (both_ways (ends (byte_at T L)) (subst (λ r. ends (byte_at T r) ≡ false) at e) W.here)) (place_of w)
@@ -366,16 +376,17 @@ follower (c ∷ cs) e =
     }
 
 -- what is read where an item begins
-pub record ReadAt (room : ℕ) (position : Position) (token : Token) (w : List ℕ) (g : Given) (q : ℕ) : Type 0 where
+pub record ReadAt (room : ℕ) (position : Position) (token : Token) (w : List ℕ) (ss : Shape SubstsOf) (g : Given) (q : ℕ) : Type 0 where
   pub place : past_continuations g.text q ≡ q
   pub no_blank : stands_in is_blank g.text q ≡ false
   pub token_is : token_at position g.text q ≡ token
-  pub word : IsWord room g q (length w)
+  pub word : (B : List ℕ) → g.text ≡ drop g.offset B → WordOf room g q (length w) B (shape_word w ss)
 
--- wherever these bytes stand, before what may follow an item, they are a word, and this token in this position
-pub record ItemAnywhere (room : ℕ) (position : Position) (token : Token) (w : List ℕ) : Type 0 where
+-- wherever these bytes stand, before what may follow an item, they are a word with substitutions of these shapes, and this token in
+-- this position
+pub record ItemAnywhere (room : ℕ) (position : Position) (token : Token) (w : List ℕ) (ss : Shape SubstsOf) : Type 0 where
   pub some : 0 < length w
-  pub there : (g : Given) (q : ℕ) (zs : List ℕ) → drop q g.text ≡ w ++ zs → follows zs ≡ true → ReadAt room position token w g q
+  pub there : (g : Given) (q : ℕ) (zs : List ℕ) → drop q g.text ≡ w ++ zs → follows zs ≡ true → ReadAt room position token w ss g q
 
 -- and a NAME
 abbrev pub NameAnywhere : List ℕ → Type 0
@@ -447,39 +458,43 @@ module _ (room : ℕ) (position : Position) (g : Given) (p n : ℕ) (word : IsWo
     begin : from_to p q p ≡ q
     begin = omega arith
 
-    word_there : IsWord room h q n
-    unfolding ends_word stands
-    word_there = anywhere room g h p q n word same (ap ends next_byte ∙ next.ends_it) (ap (λ x. is_byte x 40) next_byte ∙ next.no_open)
-
     name_there : is_name_at g.text p ≡ true → is_name_at h.text q ≡ true
     name_there name = subst (λ r. is_name_at h.text r ≡ true) begin (same_name K W g.offset room goes ∙ name)
 
-    read_at : ReadAt room position (token_at position g.text p) w h q
-    read_at = record {
-      place = subst (λ r. past_continuations h.text r ≡ r) begin (inside.there ∙ ap (from_to p q) place);
-      no_blank = subst (λ r. stands_in is_blank h.text r ≡ false) begin (here_stands_in K inside is_blank ∙ no_blank);
-      token_is = subst (λ r. token_at position h.text r ≡ token_at position g.text p) begin same_token;
-      word = subst (λ m. IsWord room h q m) (sym size) word_there;
-    }
+    -- over the bytes B it has this shape
+    module _ (B : List ℕ) (stands_in_B : g.text ≡ drop g.offset B) (ss : Shape SubstsOf) (shape : shape_of_word B word.0 ≡ shape_word w ss) where
+      word_there : (C : List ℕ) → h.text ≡ drop h.offset C → WordOf room h q n C (shape_word w ss)
+      unfolding ends_word stands
+      word_there C stands_in_C =
+          let v = same_word room g h p q n word.0 _ word.1 same (ap ends next_byte ∙ next.ends_it) (ap (λ x. is_byte x 40) next_byte ∙ next.no_open) B C stands_in_B stands_in_C in
+          (v.0, (v.1.0, v.1.1 ∙ shape))
 
-  item_there : ItemAnywhere room position (token_at position g.text p) w
-  item_there = record { some = has_byte; there = λ h q zs is_there following. read_at h q zs is_there following }
+      read_at : ReadAt room position (token_at position g.text p) w ss h q
+      read_at = record {
+        place = subst (λ r. past_continuations h.text r ≡ r) begin (inside.there ∙ ap (from_to p q) place);
+        no_blank = subst (λ r. stands_in is_blank h.text r ≡ false) begin (here_stands_in K inside is_blank ∙ no_blank);
+        token_is = subst (λ r. token_at position h.text r ≡ token_at position g.text p) begin same_token;
+        word = λ C stands_in_C. subst (λ m. WordOf room h q m C (shape_word w ss)) (sym size) (word_there C stands_in_C);
+      }
+
+  item_there : (B : List ℕ) → g.text ≡ drop g.offset B → (ss : Shape SubstsOf) → shape_of_word B word.0 ≡ shape_word w ss → ItemAnywhere room position (token_at position g.text p) w ss
+  item_there B stands_in_B ss shape = record { some = has_byte; there = λ h q zs is_there following. read_at h q zs is_there following B stands_in_B ss shape }
 
   names : is_name_at g.text p ≡ true → NameAnywhere w
   names name T q zs is_there following = name_there (given T 0) q zs is_there following name
 
 -- what is a word where it stands is one anywhere, and the same token
-pub token_anywhere : (room : ℕ) (position : Position) (token : Token) (g : Given) (p n : ℕ) → IsWord room g p n
+pub token_anywhere : (room : ℕ) (position : Position) (token : Token) (g : Given) (p n : ℕ) (word : IsWord room g p n)
     → past_continuations g.text p ≡ p → stands_in is_blank g.text p ≡ false → token_at position g.text p ≡ token → is_a_word token ≡ true
-    → ItemAnywhere room position token (take n (drop p g.text))
-token_anywhere room position _ g p n word place no_blank token_is item =
-    subst (λ (t : Token). ItemAnywhere room position t (take n (drop p g.text))) token_is
-    (item_there room position g p n word place no_blank (subst (λ (t : Token). is_a_word t ≡ true) (sym token_is) item))
+    → (B : List ℕ) → g.text ≡ drop g.offset B → (ss : Shape SubstsOf) → shape_of_word B word.0 ≡ shape_word (take n (drop p g.text)) ss → ItemAnywhere room position token (take n (drop p g.text)) ss
+token_anywhere room position _ g p n word place no_blank token_is item B stands_in_B ss shape =
+    subst (λ (t : Token). ItemAnywhere room position t (take n (drop p g.text)) ss) token_is
+    (item_there room position g p n word place no_blank (subst (λ (t : Token). is_a_word t ≡ true) (sym token_is) item) B stands_in_B ss shape)
 
 -- what is an item where it stands is one anywhere
-pub item_anywhere : (room : ℕ) (position : Position) (token : Token) (g : Given) (p n : ℕ) → IsWord room g p n
+pub item_anywhere : (room : ℕ) (position : Position) (token : Token) (g : Given) (p n : ℕ) (word : IsWord room g p n)
     → past_continuations g.text p ≡ p → stands_in is_blank g.text p ≡ false → token_at position g.text p ≡ token → is_some (behind_item token) ≡ true
-    → ItemAnywhere room position token (take n (drop p g.text))
+    → (B : List ℕ) → g.text ≡ drop g.offset B → (ss : Shape SubstsOf) → shape_of_word B word.0 ≡ shape_word (take n (drop p g.text)) ss → ItemAnywhere room position token (take n (drop p g.text)) ss
 item_anywhere room position t g p n word place no_blank token_is item = token_anywhere room position t g p n word place no_blank token_is (item_is_word t item)
 
 -- and so is a NAME

@@ -1,6 +1,7 @@
 -- What holds of whatever a form gives: the laws of forms, and that no form goes back.
 use Rattle.std.proofs.Common.{◌≡◌, ℕ, zero, suc, ◌+◌, ◌-◌, ◌≤◌, ◌<◌, Bool, true, false, cond, Ok, Err, List, List as Row, [], ◌∷◌, ◌++◌, length, refl, arith}
 use Rattle.std.proofs.lemmas.Bool.{ltb-true, cond_both}
+use Rattle.shread.specs.declared.fault.FaultKind.{FaultKind}
 use Rattle.shread.specs.declared.mode.Mode.{Mode}
 use Rattle.shread.specs.declared.mode.Mode.TheVariants.{Plain, Double, Brace, DoubleBrace, Arith}
 use Rattle.shtree.specs.declared.tree.Span.{Span}
@@ -9,7 +10,7 @@ use Rattle.shread.specs.Bytes.{behind}
 use Rattle.shread.specs.Comments.{span, past_comment}
 use Rattle.shread.specs.Pieces.{past_taken, past_closer}
 use Rattle.shread.specs.Sights.{Given, State, Sight, seen, Move, one_byte, joined, one_taken, the_closer, the_parameter, a_quote_on, in_backquotes_on, blanks, a_comment_on, the_reserved, to}
-use Rattle.shread.specs.Form.{Read, ◌▸◌, Form, give, see, move, push, stop, both, when, Told, token, loop, many, Step, again, done, leads_on, moved, turns, does}
+use Rattle.shread.specs.Form.{Read, ◌▸◌, Form, give, see, move, push, stop, both, when, Told, token, loop, many, ends_as, with_end, Step, again, done, leads_on, moved, turns, does}
 use Rattle.shread.proofs.Stretches.{place_low}
 use Rattle.shread.proofs.Places.{behind_low, blanks_low, next_in_backquotes_low, next_newline_low, next_of_low, parameter_low, reserved_low}
 use Rattle.shread.proofs.Turns.{turns_on, turns_rest, turns_done, turns_fault}
@@ -61,6 +62,14 @@ module _ (keep : Bool) (g : Given) where
   pub tells_token : {X : Type 0} {P : X → State → Type 0} {Q : X × Span → State → Type 0} {how : Told} {r : Form X} {s : State} → Tells r P s
       → ((a : X) (t : State) → P a t → Q (a, span g.offset s.at t.at) t) → Tells (token how r) Q s
   tells_token {P = P} {Q = Q} {r = r} {s = s} one so = record { told = token_by P Q s (does r keep g s) one.told so }
+
+  -- where the text ends in it, the fault is another one
+  ending_by : {X : Type 0} (P : X → State → Type 0) (kind : FaultKind) (at : ℕ) (x : Read X) → Holds P x → Holds P (with_end kind at x)
+  ending_by P kind at (Ok (a, t)) one = one
+  ending_by P kind at (Err f) one = tt
+
+  pub tells_ending : {X : Type 0} {P : X → State → Type 0} {kind : FaultKind} {at : ℕ} {r : Form X} {s : State} → Tells r P s → Tells (ends_as kind at r) P s
+  tells_ending {P = P} {kind = kind} {at = at} {r = r} {s = s} one = record { told = ending_by P kind at (does r keep g s) one.told }
 
   -- what a turn gives: R where it goes on, and Q where it was the last
   abbrev pub Stepped : {A : Type 0} → (A → State → Type 0) → (A → State → Type 0) → Step A → State → Type 0
@@ -181,3 +190,4 @@ low {X = X} (loop turn a) keep g s = tells_loop keep g turn (Behind s) (λ b t o
     turned : (t : State) → s.at ≤ t.at → (c : Step X) (u : State) → t.at ≤ u.at → Turned keep g (Behind s) c u
     turned t on (again c) u more = omega (arith, on, more)
     turned t on (done c) u more = omega (arith, on, more)
+low (ends_as kind at r) keep g s = tells_ending keep g (low r keep g s)

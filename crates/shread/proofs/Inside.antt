@@ -135,7 +135,7 @@ module _ {T U : List ℕ} {a L : ℕ} {to : ℕ → ℕ} (K : Kept T U a L to) (
   within_back : (r : ℕ) → a ≤ r → r < L → to r < length U → r < length T
   within_back r from lt some = slice_get_within T r _ (sym (K.same r from lt) ∙ slice_get-get_or U (to r) 0 some)
 
-  same_leads : (s t : State) → a ≤ s.at → s.at ≤ t.at → t.at ≤ L → leads_on h (there s) (there t) ≡ leads_on g s t
+  pub same_leads : (s t : State) → a ≤ s.at → s.at ≤ t.at → t.at ≤ L → leads_on h (there s) (there t) ≡ leads_on g s t
   same_leads s t from onward le =
       let apart : to t.at ≡ to s.at + (t.at - s.at) = (let is : s.at + (t.at - s.at) ≡ t.at = omega (arith, onward) in ap to (sym is) ∙ K.on s.at (t.at - s.at) from) in
       less_same (length T - t.at) (length T - s.at) (length U - to t.at) (length U - to s.at)

@@ -8,7 +8,6 @@ pub mod LineByLine
 pub mod Alike
 pub mod FirstFault
 pub mod NormalForm
-pub mod NoSubsts
 pub mod Within
 pub mod Answered
 pub mod Stretches
@@ -16,6 +15,7 @@ pub mod Runs
 pub mod Places
 pub mod Unbroken
 pub mod Shown
+pub mod TokensShown
 pub mod Searches
 pub mod LineKinds
 pub mod Levels
@@ -29,6 +29,9 @@ pub mod NoFurther
 pub mod SameLine
 pub mod Inside
 pub mod PiecesInside
+pub mod GoingOn
+pub mod ListsElsewhere
+pub mod WordsElsewhere
 pub mod Anywhere
 pub mod Spelling
 pub mod CommentsElsewhere

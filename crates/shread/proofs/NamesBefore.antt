@@ -16,7 +16,7 @@ use Rattle.shread.specs.Pieces.{piece_at}
 use Rattle.shread.specs.Plain.{is_plain}
 use Rattle.shread.specs.Tokens.{Spelling, is_word_at, first_of_words, reserved_words, reserved_at, begins_assignment, is_name_at, is_number, first_word, token_of, token_at}
 use Rattle.shread.specs.Sights.{Given, given, standing}
-use Rattle.shread.specs.Form.{Read, again, done, many, does, may}
+use Rattle.shread.specs.Form.{Read, again, done, many, does}
 use Rattle.shread.specs.Words.{Held, having, a_piece, contents, a_word}
 use Rattle.shread.specs.Levels.{level, IsWord}
 use Rattle.shtree.specs.Tree.{AWord, word, no_subst}
@@ -29,7 +29,9 @@ use Rattle.shread.proofs.PlainBytes.{plain_stays, ordinary_by, closer_at}
 use Rattle.shread.proofs.WordsWithin.{word_ends}
 use Rattle.shread.proofs.Elsewhere.{ReadAt, is_a_word, ItemByte, all_plain, all_spelled, item_byte, item_token}
 use Rattle.shread.proofs.OneOutcome.{is}
-use Rattle.shread.proofs.Anywhere.{from_to, kept, read_word}
+use Rattle.shread.proofs.Anywhere.{WordOf, from_to, kept, word_may}
+use Rattle.shread.proofs.Spelling.{raw_at}
+use Rattle.shtree.specs.Shape.{text_at}
 use Rattle.shread.proofs.CommentsElsewhere.{byte_behind, stretch_length}
 
 -- ---- the word that a NAME is
@@ -105,7 +107,7 @@ no_digit b e = grind (arith, nat_tests)
 -- where these bytes stand before `(`, they are a word with which a command may begin, and a NAME
 pub record NameBefore (room : ℕ) (w : List ℕ) : Type 0 where
   pub some : 0 < length w
-  pub there : (g : Given) (q : ℕ) (zs : List ℕ) → drop q g.text ≡ w ++ 40 ∷ zs → ReadAt room Command tokens.Word w g q
+  pub there : (g : Given) (q : ℕ) (zs : List ℕ) → drop q g.text ≡ w ++ 40 ∷ zs → ReadAt room Command tokens.Word w no_subst g q
   pub names : (T : List ℕ) (q : ℕ) (zs : List ℕ) → drop q T ≡ w ++ 40 ∷ zs → is_name_at T q ≡ true
 
 module _ (room : ℕ) (g : Given) (p n : ℕ) (read : IsWord room g p n) (still : past_continuations g.text p ≡ p) (token : token_at Command g.text p ≡ tokens.Word) (name : is_name_at g.text p ≡ true) where
@@ -311,23 +313,27 @@ module _ (room : ℕ) (g : Given) (p n : ℕ) (read : IsWord room g p n) (still 
     end_there : past is_name U q ≡ q + n
     end_there = ap (past is_name U) (sym begin_is) ∙ past_name ∙ limit_is
 
-    word_there : (o : ℕ) → IsWord room (given U o) q n
-    word_there o =
-        let h = given U o in
-        let reads = name_is_word room U o q ends_there ∙ ap (λ (x : ℕ). Ok (word (span o q (past is_name U q)) no_subst, standing x)) end_there in
-        let some = (is (a_word (level room)) h (standing q)).some in
-        let part = subst (λ (y : Read AWord). may (a_word (level room)) h (standing q) y some.0) reads some.1 in
-        let less : q + n - q ≡ n = omega arith in
-        subst (λ m. IsWord room h q m) less (read_word room h q _ (standing (q + n)) some.0 part)
+    word_there : (o : ℕ) → does (a_word (level room)) true (given U o) (standing q) ≡ Ok (word (span o q (q + n)) no_subst, standing (q + n))
+    word_there o = name_is_word room U o q ends_there ∙ ap (λ (x : ℕ). Ok (word (span o q x) no_subst, standing x)) end_there
 
-  before_there : (h : Given) (q : ℕ) (zs : List ℕ) → drop q h.text ≡ w ++ 40 ∷ zs → ReadAt room Command tokens.Word w h q
+    text_there : (o : ℕ) (C : List ℕ) → U ≡ drop o C → text_at C (span o q (q + n)) ≡ w
+    text_there o C stands =
+        let less : q + n - q ≡ n = omega arith in
+        sym (raw_at C (given U o) stands q (q + n)) ∙ ap (λ m. take m (drop q U)) less ∙ ap (take n) is_there ∙ take_at w (40 ∷ zs) n size
+
+    shape_there : (o : ℕ) (C : List ℕ) → U ≡ drop o C → WordOf room (given U o) q n C (word w no_subst)
+    shape_there o C stands =
+        let v = word (span o q (q + n)) no_subst in
+        (v, (word_may room (given U o) q n v (word_there o), ap (λ t. word t no_subst) (text_there o C stands)))
+
+  before_there : (h : Given) (q : ℕ) (zs : List ℕ) → drop q h.text ≡ w ++ 40 ∷ zs → ReadAt room Command tokens.Word w no_subst h q
   before_there h q zs is_there =
       let begin = begin_is h.text q zs is_there in
       record {
         place = subst (λ r. past_continuations h.text r ≡ r) begin ((begins h.text q zs is_there).there ∙ ap (from_to p q) still);
         no_blank = subst (λ r. stands_in is_blank h.text r ≡ false) begin (blank_there h.text q zs is_there);
         token_is = subst (λ r. token_at Command h.text r ≡ tokens.Word) begin (token_there h.text q zs is_there);
-        word = subst (λ m. IsWord room h q m) (sym size) (word_there h.text q zs is_there h.offset);
+        word = λ C stands. subst (λ m. WordOf room h q m C (word w no_subst)) (sym size) (shape_there h.text q zs is_there h.offset C stands);
       }
 
   names_there : (U : List ℕ) (q : ℕ) (zs : List ℕ) → drop q U ≡ w ++ 40 ∷ zs → is_name_at U q ≡ true

@@ -2,14 +2,17 @@
 use Rattle.std.proofs.Common.{◌≡◌, ℕ, ◌+◌, ◌-◌, ◌≤◌, ◌<◌, true, false, ltb, Ok, Err, List, List as Row, [], ◌∷◌, length, refl, sym, ap, subst, ◌∙◌, arith, ⊎_elim}
 use Rattle.std.proofs.lemmas.Bool.{ltb-true, lt-ltb, cases_lt, cases_Bool}
 use Rattle.std.proofs.lemmas.Option.{slice_get_within}
+use Rattle.shread.specs.declared.fault.FaultKind.{FaultKind}
+use Rattle.shread.specs.declared.mode.Mode.{Mode}
+use Rattle.shread.specs.declared.mode.Mode.TheVariants.{Plain, Double, Brace, DoubleBrace, Arith}
 use Rattle.shtree.specs.declared.tree.Span.{Span}
 use Rattle.shread.specs.Comments.{span}
-use Rattle.shread.specs.Sights.{Given, given, State, Sight, here, the_byte, the_piece, the_rest, the_end, a_backquote, last_backslash, the_token, the_comment, is_a_name, seen, Move, one_byte, joined, one_taken, the_closer, the_parameter, a_quote_on, in_backquotes_on, blanks, a_comment_on, the_reserved, to as leads}
-use Rattle.shread.specs.Form.{Spelled, Told, untold, as_it_stands, by, tell, Read, Form, give, see, move, push, stop, both, when, token, loop, Step, again, done, Just, just, Halts, halted, Then, and_then, or_stops, holds, fails, raw, OneToken, whole, broken_off, leads_on, Turns, last, rests, more, halts, moved, may}
+use Rattle.shread.specs.Sights.{Given, given, State, Sight, here, the_byte, the_piece, the_rest, the_end, a_backquote, last_backslash, the_token, the_comment, is_a_name, seen}
+use Rattle.shread.specs.Form.{Spelled, Told, untold, as_it_stands, by, tell, Read, Form, give, see, move, push, stop, both, when, token, loop, ends_as, Step, again, done, Just, just, Halts, halted, Then, and_then, or_stops, holds, fails, raw, OneToken, whole, broken_off, leads_on, Turns, last, rests, more, halts, Ending, goes_through, stops_inside, moved, may}
 use Rattle.shread.proofs.OneOutcome.{is}
 use Rattle.shread.proofs.Holds.{Holds, Behind, low}
 use Rattle.shread.proofs.Ahead.{ListEnds, same_name, same_place, same_next}
-use Rattle.shread.proofs.Asked.{Good, high, on, moves_behind, moves_joined, moves_taken, moves_closer, moves_parameter, moves_quote, moves_backquotes, moves_blanks, moves_comment, moves_reserved, same_end_here, same_raw_stands, same_last_backslash, same_comment, same_piece, same_mode, same_raw}
+use Rattle.shread.proofs.Asked.{Good, NoBracket, newline_near, high, on, moves, same_end_here, same_raw_stands, same_last_backslash, same_comment, same_piece, same_mode, same_raw}
 
 -- what may be read is not before where it begins
 pub behind : {X : Type 0} (r : Form X) (g : Given) (s : State) (y : Read X) (k : Row Spelled) → may r g s y k → Holds (Behind s) y
@@ -50,34 +53,25 @@ module _ {T U : List ℕ} {a M : ℕ} {to : ℕ → ℕ} (E : ListEnds T U a M t
   spans : (p q : ℕ) → a ≤ p → a ≤ q → span o2 (to p) (to q) ≡ span o p q
   spans p q low_p low_q = rw (off p low_p, off q low_q) refl
 
+  no_bracket : (mode : Mode) → NoBracket E mode
+  no_bracket Plain = tt
+  no_bracket Double = tt
+  no_bracket Brace = tt
+  no_bracket DoubleBrace = tt
+  no_bracket Arith = refl
+
   -- what may be seen is the same
   same_seen : {X : Type 0} (l : Sight X) (s : State) → a ≤ s.at → G s.at → seen l h (there s) ≡ seen l g s
   same_seen here s from good = off s.at from
   same_seen the_byte s from good = rw (same_place E good) (off _ (omega (arith, from, Rattle.shread.proofs.Stretches.place_low T s.at)))
-  same_seen (the_piece mode n) s from good = same_piece E mode n s.at good
+  same_seen (the_piece mode n) s from good = same_piece E mode n s.at (no_bracket mode) good
   same_seen (the_rest mode) s from good = same_mode E mode s.at good
   same_seen the_end s from good = same_end_here E s.at from good
   same_seen a_backquote s from good = same_raw_stands E s.at 96 from (high E good)
   same_seen last_backslash s from good = same_last_backslash E s.at from good
   same_seen (the_token position) s from good = same_next E position good
-  same_seen the_comment s from good = same_comment E o o2 spans s.at good
+  same_seen the_comment s from good = same_comment E o o2 spans s.at good (λ e. newline_near E refl s.at (high E good))
   same_seen is_a_name s from good = same_name E good
-
-  -- a move to a good place is one from a good place, and leads to the same
-  abbrev Leads : Move → ℕ → Type 0
-  Leads m p = a ≤ p → G (leads m T p) → G p × (leads m U (to p) ≡ to (leads m T p))
-
-  same_move : (m : Move) (p : ℕ) → Leads m p
-  same_move one_byte p = (moves_behind E p).1
-  same_move joined p = (moves_joined E p).1
-  same_move one_taken p = (moves_taken E p).1
-  same_move (the_closer mode) p = (moves_closer E mode p).1
-  same_move the_parameter p = (moves_parameter E p).1
-  same_move a_quote_on p = (moves_quote E p).1
-  same_move in_backquotes_on p = (moves_backquotes E p).1
-  same_move blanks p = (moves_blanks E p).1
-  same_move a_comment_on p = (moves_comment E p).1
-  same_move the_reserved p = (moves_reserved E p).1
 
   -- ---- whether a turn leads on
 
@@ -137,6 +131,11 @@ module _ {T U : List ℕ} {a M : ℕ} {to : ℕ → ℕ} (E : ListEnds T U a M t
       )
   token_back how r s first from y k (broken_off part) good = absurd good
 
+  ending_back : {X : Type 0} (kind : FaultKind) (at : ℕ) (r : Form X) (s : State) → ((y : Read X) (k : Row Spelled) → may r g s y k → Back r s y k) → (y : Read X) (k : Row Spelled)
+      → Ending kind at (may r g) s y k → Back (ends_as kind at r) s y k
+  ending_back kind at r s first y k (goes_through {x = x} {t = t} part) good = let w = first (Ok (x, t)) k part good in (w.0, goes_through w.1)
+  ending_back kind at r s first y k (stops_inside part) good = absurd good
+
   module _ {A : Type 0} (turn : A → Form (Step A)) (each : (b : A) (s : State) → a ≤ s.at → (y : Read (Step A)) (k : Row Spelled) → may (turn b) g s y k → Back (turn b) s y k) where
     loop_back : (b : A) (s : State) (y : Read A) (k : Row Spelled) → Turns g (λ c. may (turn c) g) b s y k → a ≤ s.at → Ends y → G s.at × Turns h (λ c. may (turn c) h) b (there s) (elsewhere y) k
     loop_back b s y k (last {b = c} {t = t} part) from good = let w = each b s from (Ok (done c, t)) k part good in (w.0, last w.1)
@@ -156,7 +155,7 @@ module _ {T U : List ℕ} {a M : ℕ} {to : ℕ → ℕ} (E : ListEnds T U a M t
   back {X = X} (see l) s from y k part =
       just_in (Back (see l) s) (λ good. (good, subst (λ (z : X). Just (seen l h (there s)) (there s) (Ok (z, there s)) []) (same_seen l s from good) just)) y k part
   back (move m) s from y k part =
-      just_in (Back (move m) s) (λ good. let w = same_move m s.at from good in (w.0, subst (λ (z : ℕ). Just tt (moved m h (there s)) (Ok (tt, record { at = z; waiting = s.waiting; bodies = s.bodies })) []) w.1 just)) y k part
+      just_in (Back (move m) s) (λ good. let w = moves E m s.at from good in (w.0, subst (λ (z : ℕ). Just tt (moved m h (there s)) (Ok (tt, record { at = z; waiting = s.waiting; bodies = s.bodies })) []) w.1 just)) y k part
   back (push xs x) s from y k part = just_in (Back (push xs x) s) (λ good. (good, just)) y k part
   back (stop kind at) s from y k part = halts_in (Back (stop kind at) s) _ (λ good. absurd good) y k part
   back (both r q) s from y k part = both_back r q s (back r s from) (λ x t. back (q x) t) from y k part
@@ -164,3 +163,4 @@ module _ {T U : List ℕ} {a M : ℕ} {to : ℕ → ℕ} (E : ListEnds T U a M t
   back (when l r q) s from y k (fails e part) = λ good. let w = back q s from y k part good in (w.0, fails (same_seen l s from w.0 ∙ e) w.1)
   back (token how r) s from y k part = token_back how r s (back r s from) from y k part
   back (loop turn b) s from y k part = loop_back turn (λ c t. back (turn c) t) b s y k part from
+  back (ends_as kind at r) s from y k part = ending_back kind at r s (back r s from) y k part

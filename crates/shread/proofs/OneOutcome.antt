@@ -1,11 +1,12 @@
 -- Each form has one outcome, the one that is computed: one induction, for every row of the grammar.
-use Rattle.std.proofs.Common.{◌≡◌, ℕ, zero, suc, ◌-◌, ◌<◌, Bool, true, false, cond, Ok, Err, List as Row, [], ◌∷◌, ◌++◌, length, refl, sym, subst, ◌∙◌, arith}
+use Rattle.std.proofs.Common.{◌≡◌, ℕ, zero, suc, ◌-◌, ◌<◌, Bool, true, false, cond, Ok, Err, List as Row, [], ◌∷◌, ◌++◌, length, refl, sym, ap, subst, ◌∙◌, arith}
 use Rattle.std.proofs.lemmas.Bool.{ltb-true}
 use Rattle.shtree.specs.declared.tree.Span.{Span}
 use Rattle.shread.specs.declared.fault.Fault.{Fault}
+use Rattle.shread.specs.declared.fault.FaultKind.{FaultKind}
 use Rattle.shread.specs.Comments.{span}
 use Rattle.shread.specs.Sights.{Given, State, seen}
-use Rattle.shread.specs.Form.{Spelled, Read, Comes, Step, again, done, Form, give, see, move, push, stop, both, when, token, loop, Just, just, Halts, halted, Then, and_then, or_stops, Either, holds, fails, Told, tell, OneToken, whole, broken_off, leads_on, Turns, last, rests, more, halts, moved, may, ◌▸◌, turns, does}
+use Rattle.shread.specs.Form.{Spelled, Read, Comes, Step, again, done, Form, give, see, move, push, stop, both, when, token, loop, ends_as, Just, just, Halts, halted, Then, and_then, or_stops, Either, holds, fails, Told, tell, OneToken, whole, broken_off, leads_on, Turns, last, rests, more, halts, Ending, goes_through, stops_inside, with_end, moved, may, ◌▸◌, turns, does}
 use Rattle.shread.proofs.Turns.{turns_on, turns_rest, turns_done, turns_fault}
 
 -- x is what may be read, and nothing else
@@ -100,6 +101,20 @@ module _ {A : Type 0} (g : Given) (turn : A → Comes (Step A)) (f : A → State
   is_many : (a : A) (s : State) → Is (Turns g turn a s) (turns g f a s)
   is_many a s = record { some = turns_some (suc (length g.text - s.at)) a s (omega arith); only = turns_only a s }
 
+-- ---- the fault at the end
+
+module _ {X : Type 0} (kind : FaultKind) (at : ℕ) (r : Comes X) (s : State) where
+  ending_some : (x : Read X) (k : Row Spelled) → r s x k → Ending kind at r s (with_end kind at x) k
+  ending_some (Ok (x, t)) k part = goes_through part
+  ending_some (Err f) k part = stops_inside part
+
+  ending_only : (x : Read X) → ((y : Read X) (k : Row Spelled) → r s y k → y ≡ x) → (y : Read X) (l : Row Spelled) → Ending kind at r s y l → y ≡ with_end kind at x
+  ending_only x one y l (goes_through {x = b} {t = u} part) = ap (with_end kind at) (one (Ok (b, u)) l part)
+  ending_only x one y l (stops_inside {f = f} part) = ap (with_end kind at) (one (Err f) l part)
+
+  is_ending : (x : Read X) → Is (r s) x → Is (Ending kind at r s) (with_end kind at x)
+  is_ending x one = record { some = (one.some.0, ending_some x one.some.0 one.some.1); only = ending_only x one.only }
+
 -- ---- every form
 
 pub is : {X : Type 0} (r : Form X) (g : Given) (s : State) → Is (may r g s) (does r true g s)
@@ -112,3 +127,4 @@ is (both r q) g s = is_then (may r g) (λ x. may (q x) g) (λ x t. does (q x) tr
 is (when f r q) g s = is_either (may r g) (may q g) s (does r true g s) (does q true g s) (is r g s) (is q g s) (seen f g s)
 is (token how r) g s = is_token how g (may r g) s (does r true g s) (is r g s)
 is (loop turn a) g s = is_many g (λ b. may (turn b) g) (λ b t. does (turn b) true g t) (λ b t. is (turn b) g t) a s
+is (ends_as kind at r) g s = is_ending kind at (may r g) s (does r true g s) (is r g s)

@@ -1,6 +1,6 @@
 -- The pieces of a word that ends at a limit: the same in another text that has its bytes up to there, where a byte that ends words and
 -- is no `(` follows. Nothing but the end of the word, and a `$` before it, look as far as the limit.
-use Rattle.std.proofs.Common.{◌≡◌, ℕ, zero, suc, ◌+◌, ◌-◌, ◌≤◌, ◌<◌, ◌==◌, Bool, true, false, ◌||◌, ◌⊎◌, inl, inr, Ok, List, List as Row, length, Option, Some, None, slice_get, refl, sym, ap, subst, ◌∙◌, arith, ⊎_elim}
+use Rattle.std.proofs.Common.{◌≡◌, ℕ, zero, suc, ◌+◌, ◌-◌, ◌≤◌, ◌<◌, ◌==◌, Bool, true, false, ◌||◌, ◌⊎◌, inl, inr, Ok, List, List as Row, [], length, map, Option, Some, None, slice_get, refl, sym, ap, subst, ◌∙◌, arith, ⊎_elim}
 use Rattle.std.proofs.lemmas.Bool.{cond_both, lt-ltb}
 use Rattle.std.proofs.lemmas.Bool.Decides.{nat_tests}
 use Rattle.std.proofs.lemmas.Option.{slice_get_within}
@@ -11,11 +11,11 @@ use Rattle.shread.specs.declared.mode.Piece.TheVariants as pieces
 use Rattle.shread.specs.Standing.{is_byte, at_end, raw_stands}
 use Rattle.shread.specs.Bytes.{ends, past_continuations, byte_at, behind, stands}
 use Rattle.shread.specs.Pieces.{dollar_by, dollar_at, bracket_by, byte_by, piece_by, piece_at, past_taken, past_closer, past_parameter, braces_in, rest_mode}
+use Rattle.shtree.specs.Shape.{shape_of_subst}
 use Rattle.shtree.specs.Tree.{ASubst}
 use Rattle.shread.specs.Sights.{Given, given, State}
 use Rattle.shread.specs.Form.{Read, ◌▸◌, Form, Step, again, done, loop, many, leads_on, does}
 use Rattle.shread.specs.Words.{single, backquoted, Inner, Held, having, opened, piece_row, a_piece, contents}
-use Rattle.shread.specs.Levels.{level}
 use Rattle.shread.proofs.Stretches.{place_low}
 use Rattle.shread.proofs.Places.{behind_low, parameter_low}
 use Rattle.shread.proofs.Holds.{Holds, holds_then, holds_so}
@@ -33,7 +33,7 @@ Closed _ = Unit {0}
 not_plain : (mode : Mode) → Closed mode → mode ≡ Plain → ⊥
 not_plain mode closed is = subst Closed is closed
 
-module _ {T U : List ℕ} {a L : ℕ} {to : ℕ → ℕ} (K : Kept T U a L to) (o o2 : ℕ) where
+module _ {T U : List ℕ} {a L : ℕ} {to : ℕ → ℕ} (K : Kept T U a L to) (o o2 : ℕ) (B B2 : List ℕ) where
   abbrev Inside : ℕ → Type 0
   Inside p = Here T U a L to p
 
@@ -51,22 +51,31 @@ module _ {T U : List ℕ} {a L : ℕ} {to : ℕ → ℕ} (K : Kept T U a L to) (
 
   -- ---- constructs
 
-  -- what a construct holds is the same elsewhere, wherever its opener stands and whatever was read before it
-  abbrev Holding : (Row ASubst → Form (Row ASubst)) → State → Row ASubst → State → Type 0
-  Holding r s x t = t.at ≤ L → Inside s.at × ((zs : Row ASubst) → (y : Row ASubst) × (does (r zs) true h (over s) ≡ Ok (y, over t)))
+  -- substitutions of one shape, over the bytes B and B2
+  abbrev pub SameSubsts : Row ASubst → Row ASubst → Type 0
+  SameSubsts ss zs = map (shape_of_subst B) ss ≡ map (shape_of_subst B2) zs
+
+  -- and as many brackets are open
+  abbrev pub Agree : Held → Held → Type 0
+  Agree c d = SameHeld c d × SameSubsts c.substs d.substs
+
+  -- what a construct holds is the same elsewhere, wherever its opener stands and behind substitutions of the same shape
+  abbrev pub Holding : (Row ASubst → Form (Row ASubst)) → Row ASubst → State → Row ASubst → State → Type 0
+  Holding r ss s x t = t.at ≤ L → Inside s.at × ((zs : Row ASubst) → SameSubsts ss zs → (y : Row ASubst) × ((does (r zs) true h (over s) ≡ Ok (y, over t)) × SameSubsts x y))
 
   pub record Local (inner : Inner) : Type 0 where
-    pub construct : (mode : Mode) → Closed mode → (b b2 : ℕ) (ss : Row ASubst) (s : State) → a ≤ s.at → Holds (Holding (inner.construct mode b2) s) (does (inner.construct mode b ss) true g s)
+    pub construct : (mode : Mode) → Closed mode → (b b2 : ℕ) (ss : Row ASubst) (s : State) → a ≤ s.at → Holds (Holding (inner.construct mode b2) ss s) (does (inner.construct mode b ss) true g s)
+    pub substitution : (b b2 : ℕ) (ss : Row ASubst) (s : State) → a ≤ s.at → Holds (Holding (inner.substitution b2) ss s) (does (inner.substitution b ss) true g s)
 
   module _ (inner : Inner) (local : Local inner) where
     -- a construct as a piece
     abbrev Opens : Mode → ℕ → Held → State → Step Held → State → Type 0
-    Opens mode b2 c s x t = t.at ≤ L → Inside s.at × ((d : Held) → SameHeld c d → (y : Step Held) × ((does (opened inner mode b2 d) true h (over s) ≡ Ok (y, over t)) × SameStep SameHeld x y))
+    Opens mode b2 c s x t = t.at ≤ L → Inside s.at × ((d : Held) → Agree c d → (y : Step Held) × ((does (opened inner mode b2 d) true h (over s) ≡ Ok (y, over t)) × SameStep Agree x y))
 
     opens : (mode : Mode) → Closed mode → (b b2 : ℕ) (c : Held) (s : State) → a ≤ s.at → Holds (Opens mode b2 c s) (does (opened inner mode b c) true g s)
     opens mode closed b b2 c s from =
-        holds_then (Holding (inner.construct mode b2) s) (Opens mode b2 c s) (does (inner.construct mode b c.substs) true g s) (λ x t. Ok (again (having c.nested x), t)) (local.construct mode closed b b2 c.substs s from)
-        (λ x t inside le. let w = inside le in (w.0, λ d so. let v = w.1 d.substs in (again (having d.nested v.0), (rw v.1 refl, so))))
+        holds_then (Holding (inner.construct mode b2) c.substs s) (Opens mode b2 c s) (does (inner.construct mode b c.substs) true g s) (λ x t. Ok (again (having c.nested x), t)) (local.construct mode closed b b2 c.substs s from)
+        (λ x t inside le. let w = inside le in (w.0, λ d so. let v = w.1 d.substs so.1 in (again (having d.nested v.0), (rw v.1.0 refl, (so.0, v.1.1)))))
 
   -- from where a word or a construct may go on, and where it ends
   abbrev pub From : Mode → ℕ → Type 0
@@ -96,8 +105,8 @@ module _ {T U : List ℕ} {a L : ℕ} {to : ℕ → ℕ} (K : Kept T U a L to) (
   unfolding piece_at dollar_at
   dollar_piece mode n p b is e f d i = rw (here_byte K i, is, e, f, d, here_behind K i) refl
 
-  -- before the limit, where the next byte is no `(`
-  module _ (ender : ends (byte_at U (to L)) ≡ true) (no_open : is_byte (byte_at U (to L)) 40 ≡ false) where
+  -- before the limit, where the next byte is no `(`, unless it is one in the first text
+  module _ (ender : ends (byte_at U (to L)) ≡ true) (no_open : is_byte (byte_at T L) 40 ≡ false → is_byte (byte_at U (to L)) 40 ≡ false) where
     -- a `$` before the limit begins nothing
     limit_dollar : (q : ℕ) (x : Option ℕ) → ends x ≡ true → is_byte x 40 ≡ false → dollar_by U q x ≡ pieces.Ordinary
     limit_dollar q None e f = refl
@@ -130,7 +139,7 @@ module _ {T U : List ℕ} {a L : ℕ} {to : ℕ → ℕ} (K : Kept T U a L to) (
 
       -- a turn, as it is elsewhere
       abbrev Turn : Step Held → State → Type 0
-      Turn x t = Turned K o o2 SameHeld (a_piece inner mode b) (a_piece inner mode b2) (From mode) (Last mode) c s x t
+      Turn x t = Turned K o o2 Agree (a_piece inner mode b) (a_piece inner mode b2) (From mode) (Last mode) c s x t
 
       abbrev Again : Piece → Type 0
       Again x = Holds Turn (does (piece_row inner mode b c x) true g s)
@@ -142,30 +151,30 @@ module _ {T U : List ℕ} {a L : ℕ} {to : ℕ → ℕ} (K : Kept T U a L to) (
       Found P t d x = (y : Step Held) × ((x ≡ Ok (y, over t)) × P y)
 
       -- the row of the piece that is there
-      row_there : (x : Piece) → Told x → (d : Held) → SameHeld c d → (P : Step Held → Type 0) (t : State) → Found P t d (does (piece_row inner mode b2 d x) true h (over s)) → Found P t d (does (a_piece inner mode b2 d) true h (over s))
+      row_there : (x : Piece) → Told x → (d : Held) → Agree c d → (P : Step Held → Type 0) (t : State) → Found P t d (does (piece_row inner mode b2 d x) true h (over s)) → Found P t d (does (a_piece inner mode b2 d) true h (over s))
       unfolding a_piece
       row_there x told d so P t found =
-          (found.0, (subst (λ (z : Piece). does (piece_row inner mode b2 d z) true h (over s) ≡ Ok (found.0, over t)) (sym told ∙ ap (λ m. piece_at U mode m (to p)) so) found.1.0, found.1.1))
+          (found.0, (subst (λ (z : Piece). does (piece_row inner mode b2 d z) true h (over s) ≡ Ok (found.0, over t)) (sym told ∙ ap (λ m. piece_at U mode m (to p)) so.0) found.1.0, found.1.1))
 
       leads_byte : past_continuations T p < length T → leads_on g s (placed q s) ≡ true
       leads_byte lt = lt-ltb _ _ (omega (arith, lt, behind_is T p, place_low T p))
 
       -- one byte
-      one_byte_row : (is_byte (byte_at T p) 92 ≡ false) → past_continuations T p < length T → (w : Held → Held) → ((d : Held) → SameHeld c d → SameHeld (w c) (w d)) → (x : Piece) → (Inside p → From mode q → Told x)
+      one_byte_row : (is_byte (byte_at T p) 92 ≡ false) → past_continuations T p < length T → (w : Held → Held) → ((d : Held) → Agree c d → Agree (w c) (w d)) → (x : Piece) → (Inside p → From mode q → Told x)
           → ((d : Held) → does (piece_row inner mode b2 d x) true h (over s) ≡ Ok (again (w d), placed (behind U (to p)) s)) → Turn (again (w c)) (placed q s)
       one_byte_row e lt w same x told row goal =
           let i = clear K p from (omega (arith, goal.0, behind_is T p)) e in
           let next = goal.1 (leads_byte lt) in
-          (inl i, λ d so. row_there x (told i next) d so (SameStep SameHeld (again (w c))) (placed q s) (again (w d), (row d ∙ rw (here_behind K i) refl, same d so)))
+          (inl i, λ d so. row_there x (told i next) d so (SameStep Agree (again (w c))) (placed q s) (again (w d), (row d ∙ rw (here_behind K i) refl, same d so)))
 
       ordinary : is_byte (byte_at T p) 92 ≡ false → past_continuations T p < length T → (Inside p → From mode q → Told pieces.Ordinary) → Again pieces.Ordinary
       ordinary e lt told = one_byte_row e lt (λ d. d) (λ d so. so) pieces.Ordinary told (λ d. refl)
 
       opening : is_byte (byte_at T p) 92 ≡ false → past_continuations T p < length T → (Inside p → From mode q → Told pieces.Open) → Again pieces.Open
-      opening e lt told = one_byte_row e lt (λ d. having (d.nested + 1) d.substs) (λ d so. ap (λ m. m + 1) so) pieces.Open told (λ d. refl)
+      opening e lt told = one_byte_row e lt (λ d. having (d.nested + 1) d.substs) (λ d so. (ap (λ m. m + 1) so.0, so.1)) pieces.Open told (λ d. refl)
 
       closing : is_byte (byte_at T p) 92 ≡ false → past_continuations T p < length T → (Inside p → From mode q → Told pieces.Close) → Again pieces.Close
-      closing e lt told = one_byte_row e lt (λ d. having (d.nested - 1) d.substs) (λ d so. ap (λ m. m - 1) so) pieces.Close told (λ d. refl)
+      closing e lt told = one_byte_row e lt (λ d. having (d.nested - 1) d.substs) (λ d so. (ap (λ m. m - 1) so.0, so.1)) pieces.Close told (λ d. refl)
 
       -- a backslash and what it takes
       escape : (v : ℕ) → byte_at T p ≡ Some v → (v == 92) ≡ true → at_end T q ≡ false → Again pieces.Escape
@@ -177,7 +186,7 @@ module _ {T U : List ℕ} {a L : ℕ} {to : ℕ → ℕ} (K : Kept T U a L to) (
           let told : Told pieces.Escape = escape_told v is e i some (omega (arith, le, behind_is T p)) in
           let low_there : a ≤ past_continuations T p = omega (arith, from, place_low T p) in (
             inl i,
-            λ d so. row_there pieces.Escape told d so (SameStep SameHeld (again c)) (placed (past_taken T (past_continuations T p)) s)
+            λ d so. row_there pieces.Escape told d so (SameStep Agree (again c)) (placed (past_taken T (past_continuations T p)) s)
                 (again d, (rw (i.there, same_taken K (past_continuations T p) low_there i.inside) refl, so)),
           )
         where
@@ -193,7 +202,7 @@ module _ {T U : List ℕ} {a L : ℕ} {to : ℕ → ℕ} (K : Kept T U a L to) (
       text_row x r ended told row =
           holds_then (Ends K o o2 r Inside s) Turn (does r true g s) (λ u v. Ok (again c, v)) ended
           (λ u t ends goal. let w = ends goal.0 in
-          (inl w.0, λ d so. row_there x (told w.0) d so (SameStep SameHeld (again c)) t (again d, (row d ∙ rw w.1.1 refl, so))))
+          (inl w.0, λ d so. row_there x (told w.0) d so (SameStep Agree (again c)) t (again d, (row d ∙ rw w.1.1 refl, so))))
 
       quoted : is_byte (byte_at T p) 92 ≡ false → (Inside p → Told pieces.Single) → Again pieces.Single
       quoted e told = text_row pieces.Single single (quote_in K o o2 s from e) told (λ d. refl)
@@ -201,7 +210,7 @@ module _ {T U : List ℕ} {a L : ℕ} {to : ℕ → ℕ} (K : Kept T U a L to) (
       backquote : is_byte (byte_at T p) 92 ≡ false → (Inside p → Told pieces.Backquote) → Again pieces.Backquote
       backquote e told = text_row pieces.Backquote backquoted (backquotes_in K o o2 s from e) told (λ d. refl)
 
-      goal_high : (x : Step Held) (t : State) → Goal K o o2 SameHeld (a_piece inner mode b) (a_piece inner mode b2) (From mode) (Last mode) s x t → t.at ≤ L
+      goal_high : (x : Step Held) (t : State) → Goal K o o2 Agree (a_piece inner mode b) (a_piece inner mode b2) (From mode) (Last mode) s x t → t.at ≤ L
       goal_high (again d) t goal = goal.0
       goal_high (done d) t goal = goal.0
 
@@ -212,7 +221,7 @@ module _ {T U : List ℕ} {a L : ℕ} {to : ℕ → ℕ} (K : Kept T U a L to) (
           holds_so (Opens inner local m k2 c (placed r s)) Turn (does (opened inner m k c) true g (placed r s)) (opens inner local m closed k k2 c (placed r s) low_r)
           (λ y t inside goal. let w = inside (goal_high y t goal) in
           let u = start w.0 in
-          (inl u.0, λ d so. let f = w.1 d so in row_there x u.1.0 d so (SameStep SameHeld y) t (f.0, (u.1.1 d ∙ f.1.0, f.1.1))))
+          (inl u.0, λ d so. let f = w.1 d so in row_there x u.1.0 d so (SameStep Agree y) t (f.0, (u.1.1 d ∙ f.1.0, f.1.1))))
 
       string : (Inside p → Told pieces.Double) → Again pieces.Double
       string told = open_row pieces.Double Double tt _ (o2 + past_continuations U (to p)) q q_low (λ i. let j = before K p from i in (j, (told j, λ d. rw (here_behind K j) refl)))
@@ -248,31 +257,46 @@ module _ {T U : List ℕ} {a L : ℕ} {to : ℕ → ℕ} (K : Kept T U a L to) (
           let j = before K p from k in
           (j, (told j k, λ d. rw (here_behind K j, here_behind K k, w.1, rest_in K mode r i) refl)))
 
+      -- a substitution, from behind its opener on
+      substitution : (Inside p → Inside q → Inside (behind T q) → Told pieces.Subst) → Again pieces.Subst
+      substitution told =
+          let k2 = o2 + past_continuations U (to p) in
+          let inside = placed (behind T q) s in
+          holds_then (Holding (inner.substitution k2) c.substs inside) Turn (does (inner.substitution (o + past_continuations T p) c.substs) true g inside) (λ x t. Ok (again (having c.nested x), t))
+          (local.substitution (o + past_continuations T p) k2 c.substs inside q2_low)
+          (λ x t holding goal. let w = holding goal.0 in
+          let k = before K q q_low w.0 in
+          let j = before K p from k in (
+            inl j,
+            λ d so. let v = w.1 d.substs so.1 in
+                row_there pieces.Subst (told j k w.0) d so (SameStep Agree (again (having c.nested x))) t (again (having d.nested v.0), (rw (here_behind K j, here_behind K k, v.1.0) refl, (so.0, v.1.1))),
+          ))
+
       twice : is_byte (byte_at T q) 92 ≡ false → (Inside p → Inside q → Told pieces.Pid) → Again pieces.Pid
       twice e told goal =
           let j = clear K q q_low (omega (arith, goal.0, behind_is T q)) e in
           let i = before K p from j in
-          (inl i, λ d so. row_there pieces.Pid (told i j) d so (SameStep SameHeld (again c)) (placed (behind T q) s) (again d, (rw (here_behind K i, here_behind K j) refl, so)))
+          (inl i, λ d so. row_there pieces.Pid (told i j) d so (SameStep Agree (again c)) (placed (behind T q) s) (again d, (rw (here_behind K i, here_behind K j) refl, so)))
 
       -- what closes a construct
       closer : ((V : List ℕ) (r : ℕ) → past_closer V mode r ≡ behind V r) → is_byte (byte_at T p) 92 ≡ false → (Inside p → Told pieces.Closer) → Again pieces.Closer
       closer one e told goal =
           let le = goal.0 in
           let i = clear K p from (omega (arith, le, one T p, behind_is T p)) e in
-          (inl i, λ d so. row_there pieces.Closer (told i) d so (SameStep SameHeld (done c)) (placed (past_closer T mode p) s) (done d, (rw (one U (to p), one T p, here_behind K i) refl, so)))
+          (inl i, λ d so. row_there pieces.Closer (told i) d so (SameStep Agree (done c)) (placed (past_closer T mode p) s) (done d, (rw (one U (to p), one T p, here_behind K i) refl, so)))
 
       closer_two : ((V : List ℕ) (r : ℕ) → past_closer V mode r ≡ behind V (behind V r)) → is_byte (byte_at T q) 92 ≡ false → (Inside p → Inside q → Told pieces.Closer) → Again pieces.Closer
       closer_two two e told goal =
           let le = goal.0 in
           let j = clear K q q_low (omega (arith, le, two T p, behind_is T q)) e in
           let i = before K p from j in
-          (inl i, λ d so. row_there pieces.Closer (told i j) d so (SameStep SameHeld (done c)) (placed (past_closer T mode p) s) (done d, (rw (two U (to p), two T p, here_behind K i, here_behind K j) refl, so)))
+          (inl i, λ d so. row_there pieces.Closer (told i j) d so (SameStep Agree (done c)) (placed (past_closer T mode p) s) (done d, (rw (two U (to p), two T p, here_behind K i, here_behind K j) refl, so)))
 
       -- ---- by the byte
 
       -- a `$` that begins nothing
-      lone_dollar : From mode q → (Inside q → dollar_by U (to q) (byte_at U (to q)) ≡ pieces.Ordinary) → dollar_by U (to q) (byte_at U (to q)) ≡ pieces.Ordinary
-      lone_dollar next inside = ⊎_elim inside (λ end. limit_dollar (to q) (byte_at U (to q)) (subst (λ r. ends (byte_at U (to r)) ≡ true) (sym end.1) ender) (subst (λ r. is_byte (byte_at U (to r)) 40 ≡ false) (sym end.1) no_open)) next
+      lone_dollar : is_byte (byte_at T q) 40 ≡ false → From mode q → (Inside q → dollar_by U (to q) (byte_at U (to q)) ≡ pieces.Ordinary) → dollar_by U (to q) (byte_at U (to q)) ≡ pieces.Ordinary
+      lone_dollar none next inside = ⊎_elim inside (λ end. limit_dollar (to q) (byte_at U (to q)) (subst (λ r. ends (byte_at U (to r)) ≡ true) (sym end.1) ender) (subst (λ r. is_byte (byte_at U (to r)) 40 ≡ false) (sym end.1) (no_open (subst (λ r. is_byte (byte_at T r) 40 ≡ false) end.1 none)))) next
 
       module _ (v : ℕ) (is : byte_at T p ≡ Some v) where
         lt : past_continuations T p < length T
@@ -283,16 +307,17 @@ module _ {T U : List ℕ} {a L : ℕ} {to : ℕ → ℕ} (K : Kept T U a L to) (
           no_backslash = rw is e
 
           dollar_row : (v == 96) ≡ false → (v == 36) ≡ true → (y : Option ℕ) → byte_at T q ≡ y → Again (dollar_by T q y)
-          dollar_row f d None is2 = ordinary no_backslash lt (λ i next. dollar_piece mode n p v is e f d i ∙ lone_dollar next (λ j. rw (here_byte K j, is2) refl))
+          dollar_row f d None is2 = ordinary no_backslash lt (λ i next. dollar_piece mode n p v is e f d i ∙ lone_dollar (rw is2 refl) next (λ j. rw (here_byte K j, is2) refl))
           dollar_row f d (Some w) is2 =
               cond_both (w == 36) _ _ Again
               (λ m. twice (rw is2 (grind (arith, nat_tests))) (λ i j. dollar_piece mode n p v is e f d i ∙ rw (here_byte K j, is2, m) refl))
               (λ m. cond_both (w == 40) _ _ Again
               (λ k. cond_both (stands T (behind T q) 40) _ _ Again
-              (λ z. arithmetic (λ i j l. dollar_piece mode n p v is e f d i ∙ rw (here_byte K j, is2, m, k, here_behind K j, here_stands K l 40, z) refl)) (λ z. tt))
+              (λ z. arithmetic (λ i j l. dollar_piece mode n p v is e f d i ∙ rw (here_byte K j, is2, m, k, here_behind K j, here_stands K l 40, z) refl))
+              (λ z. substitution (λ i j l. dollar_piece mode n p v is e f d i ∙ rw (here_byte K j, is2, m, k, here_behind K j, here_stands K l 40, z) refl)))
               (λ k. cond_both (w == 123) _ _ Again
               (λ z. parameter (λ i j. dollar_piece mode n p v is e f d i ∙ rw (here_byte K j, is2, m, k, z) refl))
-              (λ z. ordinary no_backslash lt (λ i next. dollar_piece mode n p v is e f d i ∙ lone_dollar next (λ j. rw (here_byte K j, is2, m, k, z) refl)))))
+              (λ z. ordinary no_backslash lt (λ i next. dollar_piece mode n p v is e f d i ∙ lone_dollar (rw is2 k) next (λ j. rw (here_byte K j, is2, m, k, z) refl)))))
 
           backquote_told : (v == 96) ≡ true → Inside p → Told pieces.Backquote
           unfolding piece_at
@@ -314,7 +339,7 @@ module _ {T U : List ℕ} {a L : ℕ} {to : ℕ → ℕ} (K : Kept T U a L to) (
       word_end : AgainIn Plain pieces.Closer
       unfolding piece_at
       word_end goal =
-          (inr (refl, goal.1 refl), λ d so. row_there inner local Plain b b2 c s from pieces.Closer (ended (goal.1 refl)) d so (SameStep SameHeld (done c)) (placed s.at s) (done d, (refl, so)))
+          (inr (refl, goal.1 refl), λ d so. row_there inner local Plain b b2 c s from pieces.Closer (ended (goal.1 refl)) d so (SameStep Agree (done c)) (placed s.at s) (done d, (refl, so)))
         where
           ended : s.at ≡ L → piece_at U Plain c.nested (to s.at) ≡ pieces.Closer
           ended is = subst (λ r. piece_by U (to r) Plain c.nested (byte_at U (to r)) ≡ pieces.Closer) (sym is) (limit_piece (byte_at U (to L)) c.nested ender)
@@ -382,9 +407,9 @@ module _ {T U : List ℕ} {a L : ℕ} {to : ℕ → ℕ} (K : Kept T U a L to) (
 
     module _ (inner : Inner) (local : Local inner) where
       pieces_in : (mode : Mode) (b b2 : ℕ) (c : Held) (s : State) → a ≤ s.at
-          → Holds (Looped K o o2 SameHeld (a_piece inner mode b) (a_piece inner mode b2) (From mode) (Last mode) c s) (does (loop (a_piece inner mode b) c) true g s)
+          → Holds (Looped K o o2 Agree (a_piece inner mode b) (a_piece inner mode b2) (From mode) (Last mode) c s) (does (loop (a_piece inner mode b) c) true g s)
       pieces_in mode b b2 c s from =
-          looped K o o2 SameHeld (a_piece inner mode b) (a_piece inner mode b2) (From mode) (Last mode) (from_high mode) (last_high mode) (λ d t low. piece_turn inner local b b2 d t low mode) c s from
+          looped K o o2 Agree (a_piece inner mode b) (a_piece inner mode b2) (From mode) (Last mode) (from_high mode) (last_high mode) (λ d t low. piece_turn inner local b b2 d t low mode) c s from
 
       -- where the pieces of a word that ends at the limit begin
       pub word_from : (b : ℕ) (c : Held) (s : State) → a ≤ s.at → Holds (λ x t. t.at ≡ L → From Plain s.at) (does (loop (a_piece inner Plain b) c) true g s)
@@ -396,22 +421,18 @@ module _ {T U : List ℕ} {a L : ℕ} {to : ℕ → ℕ} (K : Kept T U a L to) (
       in_of : (mode : Mode) → Closed mode → (r : ℕ) → From mode r → Inside r
       in_of mode closed r from = ⊎_elim (λ i. i) (λ e. absurd (not_plain mode closed e.0)) from
 
-      construct_in : (mode : Mode) → Closed mode → (b b2 : ℕ) (ss : Row ASubst) (s : State) → a ≤ s.at → Holds (Holding (contents inner mode b2) s) (does (contents inner mode b ss) true g s)
+      pub construct_in : (mode : Mode) → Closed mode → (b b2 : ℕ) (ss : Row ASubst) (s : State) → a ≤ s.at → Holds (Holding (contents inner mode b2) ss s) (does (contents inner mode b ss) true g s)
       unfolding contents many
       construct_in mode closed b b2 ss s from =
-          holds_then _ (Holding (contents inner mode b2) s) (does (loop (a_piece inner mode b) (having 0 ss)) true g s) (λ c t. Ok (c.substs, t)) (pieces_in mode b b2 (having 0 ss) s from)
-          (λ c t ends le. let w = ends (last_of mode closed t.at le) in (in_of mode closed s.at w.0, λ zs. let f = w.1 (having 0 zs) refl in (f.0.substs, rw f.1.0 refl)))
+          holds_then _ (Holding (contents inner mode b2) ss s) (does (loop (a_piece inner mode b) (having 0 ss)) true g s) (λ c t. Ok (c.substs, t)) (pieces_in mode b b2 (having 0 ss) s from)
+          (λ c t ends le. let w = ends (last_of mode closed t.at le) in (in_of mode closed s.at w.0, λ zs same. let f = w.1 (having 0 zs) (refl, same) in (f.0.substs, (rw f.1.0 refl, f.1.1.1))))
 
       -- a word that ends at the limit
-      pub word_in : (b b2 : ℕ) (ss : Row ASubst) (s : State) → a ≤ s.at
-          → Holds (λ x t. t.at ≡ L → (y : Row ASubst) × (does (contents inner Plain b2 ss) true h (over s) ≡ Ok (y, over t))) (does (contents inner Plain b ss) true g s)
-      unfolding contents many
-      word_in b b2 ss s from =
-          holds_then _ (λ x t. t.at ≡ L → (y : Row ASubst) × (does (contents inner Plain b2 ss) true h (over s) ≡ Ok (y, over t)))
-          (does (loop (a_piece inner Plain b) (having 0 ss)) true g s) (λ c t. Ok (c.substs, t)) (pieces_in Plain b b2 (having 0 ss) s from)
-          (λ c t ends is. let f = (ends (omega (arith, is), λ e. is)).1 (having 0 ss) refl in (f.0.substs, rw f.1.0 refl))
+      abbrev pub Ended : ℕ → State → Row ASubst → State → Type 0
+      Ended b2 s x t = t.at ≡ L → (y : Row ASubst) × ((does (contents inner Plain b2 []) true h (over s) ≡ Ok (y, over t)) × SameSubsts x y)
 
-    pub local : (room : ℕ) → Local (level room)
-    unfolding level
-    local zero = record { construct = λ mode closed b b2 ss s from. tt }
-    local (suc room) = record { construct = λ mode closed b b2 ss s from. construct_in (level room) (local room) mode closed b b2 ss s from }
+      pub word_in : (b b2 : ℕ) (s : State) → a ≤ s.at → Holds (Ended b2 s) (does (contents inner Plain b []) true g s)
+      unfolding contents many
+      word_in b b2 s from =
+          holds_then _ (Ended b2 s) (does (loop (a_piece inner Plain b) (having 0 [])) true g s) (λ c t. Ok (c.substs, t)) (pieces_in Plain b b2 (having 0 []) s from)
+          (λ c t ends is. let f = (ends (omega (arith, is), λ e. is)).1 (having 0 []) (refl, refl) in (f.0.substs, (rw f.1.0 refl, f.1.1.1)))

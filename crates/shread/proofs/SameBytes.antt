@@ -26,7 +26,7 @@ goes_on b = not (b == 92 || b == 10 || b == 35)
 -- What is looked for ahead from p on is found, or not, before the limit, or at it.
 pub data Safe (T : List ℕ) (a L : ℕ) : ℕ → Type 0 where
   at_limit : Safe T a L L
-  halts : {p : ℕ} → a ≤ p → p < L → continues T p ≡ false → (raw_stands T p 92 ≡ true → p + 1 < L) → raw_in goes_on T p ≡ false → Safe T a L p
+  halts : {p : ℕ} → a ≤ p → p < L → continues T p ≡ false → raw_in goes_on T p ≡ false → Safe T a L p
   one_byte : {p : ℕ} → a ≤ p → raw_in goes_on T p ≡ true → Safe T a L (p + 1) → Safe T a L p
   two_bytes : {p : ℕ} → a ≤ p → continues T p ≡ true → Safe T a L (p + 2) → Safe T a L p
 
@@ -78,7 +78,7 @@ module _ {T T2 : List ℕ} {a L : ℕ} {to : ℕ → ℕ} (K : Kept T T2 a L to)
 
   pub safe_high : {p : ℕ} → Safe T a L p → p ≤ L
   safe_high at_limit = omega arith
-  safe_high (halts low lt none next stop) = omega (arith, lt)
+  safe_high (halts low lt none stop) = omega (arith, lt)
   safe_high (one_byte low on rest) = omega (arith, safe_high rest)
   safe_high (two_bytes low c rest) = omega (arith, safe_high rest)
 
@@ -86,12 +86,12 @@ module _ {T T2 : List ℕ} {a L : ℕ} {to : ℕ → ℕ} (K : Kept T T2 a L to)
   pub safe_byte : (p : ℕ) → a ≤ p → raw_stands T p 92 ≡ false → Safe T a L (p + 1) → Safe T a L p
   safe_byte p low e rest =
       ⊎_elim (λ on. one_byte low on rest)
-      (λ off. halts low (omega (arith, safe_high rest)) (no_backslash T p e) (λ f. absurd (both_ways (raw_stands T p 92) e f)) off)
+      (λ off. halts low (omega (arith, safe_high rest)) (no_backslash T p e) off)
       (cases_Bool (raw_in goes_on T p))
 
   -- a backslash that begins no continuation
   pub safe_escape : (p : ℕ) → a ≤ p → continues T p ≡ false → raw_stands T p 92 ≡ true → p + 2 ≤ L → Safe T a L p
-  safe_escape p low none e lt = halts low (omega (arith, lt)) none (λ f. omega (arith, lt)) (backslash_stops T p e)
+  safe_escape p low none e lt = halts low (omega (arith, lt)) none (backslash_stops T p e)
 
   -- before continuations
   safe_place_below : (n p : ℕ) → L - p < n → a ≤ p → past_continuations T p ≤ L → Safe T a L (past_continuations T p) → Safe T a L p
@@ -165,7 +165,7 @@ module _ {T T2 : List ℕ} {a L : ℕ} {to : ℕ → ℕ} (K : Kept T T2 a L to)
 
   pub safe_low : {p : ℕ} → Safe T a L p → a ≤ p
   safe_low at_limit = K.under
-  safe_low (halts low lt none next stop) = low
+  safe_low (halts low lt none stop) = low
   safe_low (one_byte low on rest) = low
   safe_low (two_bytes low c rest) = low
 
@@ -177,17 +177,21 @@ module _ {T T2 : List ℕ} {a L : ℕ} {to : ℕ → ℕ} (K : Kept T T2 a L to)
   two_bytes_place p low high c (outside one two) =
       outside (joined_more T p c ∙ one) (joined_more T2 (to p) (pair_same p low (omega (arith, high)) ∙ c) ∙ ap (past_continuations T2) (sym (K.on p 2 low)) ∙ two)
 
-  pub place : {p : ℕ} → Safe T a L p → Place T T2 L to p
-  place at_limit = outside refl refl
-  place (halts {p = p} low lt none next stop) =
+  -- the byte at the limit is the same, if none before it begins a continuation with it
+  abbrev pub AtLimit : Type 0
+  AtLimit = (p : ℕ) → a ≤ p → p < L → continues T p ≡ false → continues T2 (to p) ≡ false
+
+  pub place : AtLimit → {p : ℕ} → Safe T a L p → Place T T2 L to p
+  place end at_limit = outside refl refl
+  place end (halts {p = p} low lt none stop) =
       let is = joined_none T p none in
-      inside (omega (arith, is, lt)) (joined_none T2 (to p) (none_same p low lt none next) ∙ ap to (sym is))
-  place (one_byte {p = p} low on rest) =
+      inside (omega (arith, is, lt)) (joined_none T2 (to p) (end p low lt none) ∙ ap to (sym is))
+  place end (one_byte {p = p} low on rest) =
       let e = on_no_backslash T p on in
       let is = joined_none T p (no_backslash T p e) in
       let lt : p < L = omega (arith, safe_high rest) in
       inside (omega (arith, is, lt)) (joined_none T2 (to p) (no_backslash T2 (to p) (raw_same p 92 low lt ∙ e)) ∙ ap to (sym is))
-  place (two_bytes {p = p} low c rest) = two_bytes_place p low (safe_high rest) c (place rest)
+  place end (two_bytes {p = p} low c rest) = two_bytes_place p low (safe_high rest) c (place end rest)
 
   -- ---- the byte that is read
 

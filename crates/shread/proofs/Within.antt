@@ -3,6 +3,7 @@ use Rattle.std.proofs.Common.{◌≡◌, refl, sym, subst, ℕ, zero, suc, ◌+�
 use Rattle.std.specs.Prelude.{All, MatchOption, unwrap_or}
 use Rattle.std.proofs.lemmas.Bool.{cases_lt, cond_both}
 use Rattle.std.proofs.lemmas.List.Elements.{All-head, All-nil, All-push, All-tail}
+use Rattle.shread.specs.declared.fault.FaultKind.TheVariants.{UnclosedSubst}
 use Rattle.shread.specs.declared.mode.Mode.{Mode}
 use Rattle.shread.specs.declared.mode.Piece.{Piece}
 use Rattle.shread.specs.declared.mode.Piece.TheVariants as pieces
@@ -18,27 +19,30 @@ use Rattle.shtree.specs.declared.tree.AndOrOperator.{AndOrOperator}
 use Rattle.shtree.specs.declared.tree.Span.{Span}
 use Rattle.shtree.specs.Nodes.{AreWithin, IsSpanWithin, and_or_nodes, branch_nodes, branches_nodes, else_nodes, entries_nodes, entry_nodes, for_words_nodes, form_nodes, word_nodes, word_span}
 use Rattle.shtree.specs.Tree.{ACommand, AForm, ASubst, AWord, AnEntry, Entries, branches_of, entries_of, entry, item, remark, simple, compound, function, word}
-use Rattle.shtree.proofs.Reach.{Nodes, CommentFits, SubstFits, WordFits, ItemFits, CommandFits, PipelineFits, PipeFits, PartFits, EntryFits, BranchFits, both as fits_both, fits_substs, fits_items, fits_word, fits_entries, fits_branches, fits_assign, fits_argument, fits_simple, fits_compound, fits_pipeline, fits_and_or, fits_command, fits_remark, span_fits_more, within_append, fits_function, CaseFits, fits_case, fits_case_in, fits_end}
+use Rattle.shtree.proofs.Reach.{Nodes, CommentFits, SubstFits, WordFits, ItemFits, CommandFits, PipelineFits, PipeFits, PartFits, EntryFits, BranchFits, both as fits_both, fits_subst, fits_substs, fits_items, fits_word, fits_entries, fits_branches, fits_assign, fits_argument, fits_simple, fits_compound, fits_pipeline, fits_and_or, fits_command, fits_remark, span_fits_more, within_append, fits_function, CaseFits, fits_case, fits_case_in, fits_end}
 use Rattle.shread.specs.Standing.{raw_stands, raw_in, next_newline, before_blanks}
+use Rattle.shread.specs.Bytes.{past_continuations, behind}
 use Rattle.shread.specs.Comments.{span, comment_at, past_comment}
 use Rattle.shread.specs.Classes.{is_blank}
-use Rattle.shread.specs.Sights.{here, Given, given, State, standing}
-use Rattle.shread.specs.Form.{Spelled, Told, Read, Form, give, see, push, both, many, token, does, Step, again, done, step_if, pushed}
+use Rattle.shread.specs.Sights.{Given, given, State, standing, here}
+use Rattle.shread.specs.Form.{Spelled, Told, Read, Form, give, push, both, many, token, ends_as, does, Step, again, done, step_if, pushed, see}
 use Rattle.shread.specs.Words.{Inner, Held, having, opened, piece_row, a_piece, contents, a_word}
 use Rattle.shread.specs.Commands.{pick, is_pipe, is_bang, begins_simple, begins_pipeline, opener_of, compound_by, and_or_operator_of, breaks, Items, so_many, behind_item, as_item, an_item, item_by, item_turn, a_simple, a_bang, a_comment, comment_by, unexpected, with_comment, JoinSo, join_turn, a_join, a_command, Piped, piped, one_command, pipe_turn, a_pipeline, Joined, joined_so, one_pipeline, joined_by, join_pipeline, an_and_or, is_background, an_entry, a_worded, is_word, is_paren, separator_of, separator_by, a_separator, past_separator, is_double_semicolon}
 use Rattle.shread.specs.Lists.{ListSo, list_so, none_listed, is_blank_next, one_entry, entry_turn, remark_by, a_remark, on_line, list_turn, a_list, Listed}
 use Rattle.shread.specs.Compounds.{Branched, branched, Closed, is_closing, is_open_paren, is_close_paren, passed, closing, a_branch, elif_turn, an_else, an_if, a_loop, a_group, a_for_name, a_linebreak, a_sequential_sep, Headed, for_words, a_for_head, behind_remarks, a_for, a_form, held_apart, a_compound, a_function, under_name, a_case_word, begins_pattern, Patterned, a_pattern, one_pattern, pattern_turn, a_pattern_list, a_body, body_end, ItemEnd, a_double_semicolon, an_item_end, CasesSo, cases_so, one_case, case_turn, a_case_head, a_case}
+use Rattle.shread.specs.Substitutions.{substituted, a_substitution}
 use Rattle.shread.specs.Levels.{most_open, level}
 use Rattle.shread.specs.Lines.{a_line, ALine, IsLine, line_read, line_stops, kind_of}
 use Rattle.shread.specs.Scripts.{SoFar, the_line, with_line}
 use Rattle.shread.specs.Answers.{EntriesWithin}
 use Rattle.shread.proofs.OneOutcome.{is}
-use Rattle.shread.proofs.Places.{next_newline_low}
-use Rattle.shread.proofs.Holds.{Holds, Tells, Turned, tells_give, tells_then, tells_token, tells_many, tells_so, low}
+use Rattle.shread.proofs.Ahead.{behind_is}
+use Rattle.shread.proofs.Places.{behind_low, next_newline_low}
+use Rattle.shread.proofs.Holds.{Holds, Tells, Turned, tells_give, tells_then, tells_token, tells_many, tells_so, tells_ending, tells_seen, tells_moved, low}
 
 -- ---- comments
 
-before_blanks_low : (T : List ℕ) (q : ℕ) → before_blanks T q ≤ q
+pub before_blanks_low : (T : List ℕ) (q : ℕ) → before_blanks T q ≤ q
 unfolding before_blanks
 before_blanks_low T zero = omega arith
 before_blanks_low T (suc q) = cond_both (raw_in is_blank T q) _ _ (λ n. n ≤ suc q) (λ e. omega (arith, before_blanks_low T q)) (λ e. omega arith)
@@ -129,6 +133,7 @@ module _ (keep : Bool) (g : Given) (limit : ℕ) where
 
   pub record Fine (inner : Inner) : Type 0 where
     pub construct : (mode : Mode) (b : ℕ) (ss : Row ASubst) (s : State) → All (SubstFits limit) ss → R (inner.construct mode b ss) (All (SubstFits limit)) s
+    pub substitution : (b : ℕ) (ss : Row ASubst) (s : State) → b ≤ g.offset + s.at → All (SubstFits limit) ss → R (inner.substitution b ss) (All (SubstFits limit)) s
     pub compound : (o : Opener) (s : State) → R (inner.compound o) (λ c. CommandFits limit c.0) s
     pub function : (name : Span) (s : State) → IsSpanWithin limit name → R (inner.function name) (λ c. CommandFits limit c.0) s
 
@@ -145,7 +150,10 @@ module _ (keep : Bool) (g : Given) (limit : ℕ) where
     piece_fits_by mode b h pieces.Double s so = after (λ q t. after (λ x u. opened_fits _ q h u so))
     piece_fits_by mode b h pieces.Backquote s so = after (λ x t. gives so)
     piece_fits_by mode b h pieces.Pid s so = after (λ x t. after (λ y u. gives so))
-    piece_fits_by mode b h pieces.Subst s so = record { told = tt }
+    piece_fits_by mode b h pieces.Subst s so =
+        let p = s.at in
+        let low_p : g.offset + past_continuations g.text p ≤ g.offset + behind g.text (behind g.text p) = omega (arith, behind_is g.text p, behind_low g.text (behind g.text p)) in
+        tells_seen keep g (tells_moved keep g (tells_moved keep g (first (fine.substitution (g.offset + past_continuations g.text p) h.substs _ low_p so) (λ zs t good. gives good))))
     piece_fits_by mode b h pieces.Arith s so = after (λ q t. after (λ x u. after (λ y v. after (λ z w. opened_fits _ q h w so))))
     piece_fits_by mode b h pieces.Param s so = after (λ q t. after (λ x u. after (λ y v. after (λ z w. after (λ m a. opened_fits m q h a so)))))
     piece_fits_by mode b h pieces.Open s so = after (λ x t. gives so)
@@ -532,6 +540,22 @@ module _ (keep : Bool) (g : Given) (limit : ℕ) where
     compound_fits o s = first (passed_fits _ (is_open_paren o) _ s) (λ x t begin. first (form_fits o x.1 t)
         (λ f u so. first (pushes (CommandFits limit) (All-nil (CommandFits limit)) (fits_compound limit f.what _ (begin.0, so.1.1) so.0)) (λ cs v all. gives (apart_fits cs all))))
 
+    -- ---- substitutions
+
+    substituted_fits : (s : State) → R (substituted inner) (AreWithin limit) s
+    unfolding substituted
+    substituted_fits s =
+        after (λ n t. first (repeats ListFits (list_turn inner) list_turn_fits (list_so (none_listed false) n) t (All-nil (EntryFits limit), tt))
+        (λ l u all. picks (is_closing closings.Paren l.next.token) (after (λ x v. gives (fits_entries limit l.list.entries all.0))) (stopped l.next)))
+
+    substitution_fits : (b : ℕ) (ss : Row ASubst) (s : State) → b ≤ g.offset + s.at → All (SubstFits limit) ss → R (a_substitution inner b ss) (All (SubstFits limit)) s
+    unfolding a_substitution
+    substitution_fits b ss s from so =
+        let body = ends_as UnclosedSubst b (substituted inner) in
+        tells_then keep g {P = λ es t. (Before t → AreWithin limit es) × (s.at ≤ t.at)}
+        (record { told = holds_and (λ es t. Before t → AreWithin limit es) (λ es t. s.at ≤ t.at) (does body keep g s) (tells_ending keep g (substituted_fits s)).told (low body keep g s).told })
+        (λ es t one. tells_seen keep g (record { told = λ before. pushed_all (SubstFits limit) keep ss _ so (fits_subst limit es _ (omega (arith, from, one.1, before), before) (one.0 before)) }))
+
     -- ---- functions
 
     under_fits : (name : Span) (cs : Row Span) (c : ACommand) → IsSpanWithin limit name → All (CommentFits limit) cs → CommandFits limit c → CommandFits limit (under_name name cs c)
@@ -547,10 +571,16 @@ module _ (keep : Bool) (g : Given) (limit : ℕ) where
 
   pub level_fits : (room : ℕ) → Fine (level room)
   unfolding level
-  level_fits zero = record { construct = λ mode b ss s so. record { told = tt }; compound = λ o s. after (λ p t. record { told = tt }); function = λ name s one. record { told = tt } }
+  level_fits zero = record {
+    construct = λ mode b ss s so. record { told = tt };
+    substitution = λ b ss s from so. record { told = tt };
+    compound = λ o s. after (λ p t. record { told = tt });
+    function = λ name s one. record { told = tt };
+  }
   level_fits (suc room) =
       record {
         construct = λ mode b ss s so. contents_fit (level room) (level_fits room) mode b ss s so;
+        substitution = λ b ss s from so. substitution_fits (level room) (level_fits room) b ss s from so;
         compound = λ o s. compound_fits (level room) (level_fits room) o s;
         function = λ name s one. function_fits (level room) (level_fits room) name s one;
       }

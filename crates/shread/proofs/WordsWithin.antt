@@ -6,18 +6,25 @@ use Rattle.shread.specs.declared.mode.Mode.{Mode}
 use Rattle.shread.specs.declared.mode.Mode.TheVariants.{Plain, Double, Brace, DoubleBrace, Arith}
 use Rattle.shread.specs.declared.mode.Piece.{Piece}
 use Rattle.shread.specs.declared.mode.Piece.TheVariants as pieces
+use Rattle.shread.specs.declared.token.Closing.TheVariants as closings
+use Rattle.shread.specs.declared.token.Position.TheVariants.{Command}
 use Rattle.shread.specs.Standing.{raw_stands, at_end}
 use Rattle.shread.specs.Bytes.{ends, ends_word, past_continuations, byte_at, behind, stands}
 use Rattle.shread.specs.Pieces.{dollar_by, dollar_at, bracket_by, byte_by, piece_by, piece_at, end_by, past_taken, past_closer, past_parameter, next_quote, next_in_backquotes, is_last_backslash, rest_mode}
-use Rattle.shtree.specs.Tree.{ASubst}
-use Rattle.shread.specs.Sights.{Given, State, standing}
-use Rattle.shread.specs.Form.{Read, Form, Step, again, done, step_if, as_it_stands, token, many, does}
+use Rattle.shtree.specs.Tree.{ASubst, entries_of}
+use Rattle.shread.specs.Sights.{Given, State, standing, one_byte}
+use Rattle.shread.specs.Form.{Read, Form, give, move, ◌>>◌, Step, again, done, step_if, as_it_stands, token, many, does}
 use Rattle.shread.specs.Words.{single, backquote_turn, backquoted, Inner, Held, having, opened, piece_row, a_piece, contents, a_word}
+use Rattle.shread.specs.Commands.{pick, unexpected}
+use Rattle.shread.specs.Lists.{ListSo}
+use Rattle.shread.specs.Compounds.{is_closing}
+use Rattle.shread.specs.Substitutions.{substituted, a_substitution}
 use Rattle.shread.specs.Levels.{level, IsWord}
 use Rattle.shread.proofs.Stretches.{place_low}
 use Rattle.shread.proofs.Places.{behind_low, behind_high, stands_low, not_end_low, next_of_low, next_in_backquotes_low, parameter_low, parameter_high, quote_clear}
 use Rattle.shread.proofs.Turns.{turns_fault, many_again, many_done}
-use Rattle.shread.proofs.Holds.{Holds, holds_then, Tells, Turned, tells_many, Behind, low}
+use Rattle.shread.proofs.Holds.{Holds, holds_then, Tells, Turned, tells_then, tells_many, tells_after, tells_seen, tells_ending, Behind, low}
+use Rattle.shread.proofs.TokensShown.{Begins, Fine, paren_here, shown_level, shown_lines, shown_next}
 use Rattle.shread.proofs.Ahead.{behind_is}
 use Rattle.shread.proofs.OneOutcome.{is}
 
@@ -110,11 +117,12 @@ module _ (g : Given) where
   -- ---- pieces
 
   -- behind a construct of this mode, or a word
-  abbrev Last : Mode → State → Type 0
+  abbrev pub Last : Mode → State → Type 0
   Last mode t = (t.at ≤ length T) × (mode ≡ Plain → ends_word T t.at ≡ true)
 
-  record Stays (inner : Inner) : Type 0 where
-    construct : (mode : Mode) (b : ℕ) (ss : Row ASubst) (s : State) → s.at ≤ length T → Holds (λ x t. (s.at ≤ t.at) × (t.at ≤ length T)) (does (inner.construct mode b ss) true g s)
+  pub record Stays (inner : Inner) : Type 0 where
+    pub construct : (mode : Mode) (b : ℕ) (ss : Row ASubst) (s : State) → s.at ≤ length T → Holds (λ x t. (s.at ≤ t.at) × (t.at ≤ length T)) (does (inner.construct mode b ss) true g s)
+    pub substitution : (b : ℕ) (ss : Row ASubst) (s : State) → Holds (λ x t. (s.at ≤ t.at) × (t.at ≤ length T)) (does (inner.substitution b ss) true g s)
 
   -- what is there where something closes
   abbrev Closes : Mode → ℕ → Type 0
@@ -217,7 +225,9 @@ module _ (g : Given) where
     row pieces.Double so = opens Double _ (placed (behind T p) s) (behind_low T p) (behind_high T p so)
     row pieces.Backquote so = holds_then (On s) Turn (does backquoted true g s) (λ u t. Ok (again c, t)) (backquoted_on s so) (λ u t on. on)
     row pieces.Pid so = (omega (arith, behind_low T p, behind_low T (behind T p)), behind_high T (behind T p) so)
-    row pieces.Subst so = tt
+    row pieces.Subst so =
+        holds_then (λ x t. (behind T (behind T p) ≤ t.at) × (t.at ≤ length T)) Turn (does (inner.substitution _ c.substs) true g (placed (behind T (behind T p)) s)) (λ x t. Ok (again (having c.nested x), t))
+        (stays.substitution _ c.substs (placed (behind T (behind T p)) s)) (λ x t on. (omega (arith, on.0, behind_low T p, behind_low T (behind T p)), on.1))
     row pieces.Arith so =
         opens Arith _ (placed (behind T (behind T (behind T p))) s)
         (omega (arith, behind_low T p, behind_low T (behind T p), behind_low T (behind T (behind T p)))) (behind_high T (behind T (behind T p)) so)
@@ -236,7 +246,7 @@ module _ (g : Given) where
   -- ---- constructs in constructs, and words
 
   module _ (inner : Inner) (stays : Stays inner) (mode : Mode) (b : ℕ) (ss : Row ASubst) (s : State) (le : s.at ≤ length T) where
-    contents_end : Holds (λ x t. Last mode t) (does (contents inner mode b ss) true g s)
+    pub contents_end : Holds (λ x t. Last mode t) (does (contents inner mode b ss) true g s)
     unfolding contents
     contents_end =
         holds_then (λ x t. Last mode t) (λ x t. Last mode t) (does (many (a_piece inner mode b) (having 0 ss)) true g s) (λ h t. Ok (h.substs, t))
@@ -249,10 +259,39 @@ module _ (g : Given) where
         holds_both (Ok (x, t)) one two = (one, two.0)
         holds_both (Err f) one two = tt
 
-  stays_in : (room : ℕ) → Stays (level room)
+  -- ---- substitutions
+
+  module _ (inner : Inner) (fine : Fine g inner) where
+    -- a list, and the `)` behind it
+    substituted_end : (s : State) → Tells true g (substituted inner) (λ x t. t.at ≤ length T) s
+    unfolding substituted
+    substituted_end s =
+        tells_then true g (shown_next g Command s) (λ n t one. tells_then true g (shown_lines g inner fine n t one) (λ l u two. closed_by (is_closing closings.Paren l.next.token) l u refl two))
+      where
+        closed_by : (b : Bool) → (l : ListSo) (u : State) → is_closing closings.Paren l.next.token ≡ b → Begins g l.next u
+            → Tells true g (pick b (move one_byte >> give (entries_of l.list.entries)) (unexpected inner l.next)) (λ x t. t.at ≤ length T) u
+        closed_by true l u e so = record { told = behind_high T u.at (slice_get_within T (past_continuations T u.at) 41 (paren_here g l.next u so e).0) }
+        closed_by false l u e so = tells_after true g (λ w t. record { told = tt })
+
+    substitution_high : (b : ℕ) (ss : Row ASubst) (s : State) → Tells true g (a_substitution inner b ss) (λ x t. t.at ≤ length T) s
+    unfolding a_substitution
+    substitution_high b ss s = tells_then true g (tells_ending true g (substituted_end s)) (λ x t so. tells_seen true g (record { told = so }))
+
+    substitution_end : (b : ℕ) (ss : Row ASubst) (s : State) → Holds (λ x t. (s.at ≤ t.at) × (t.at ≤ length T)) (does (a_substitution inner b ss) true g s)
+    substitution_end b ss s = holds_also (does (a_substitution inner b ss) true g s) (low (a_substitution inner b ss) true g s).told (substitution_high b ss s).told
+      where
+        holds_also : (x : Read (Row ASubst)) → Holds (Behind s) x → Holds (λ x t. t.at ≤ length T) x → Holds (λ x t. (s.at ≤ t.at) × (t.at ≤ length T)) x
+        holds_also (Ok (x, t)) one two = (one, two)
+        holds_also (Err f) one two = tt
+
+  pub stays_in : (room : ℕ) → Stays (level room)
   unfolding level
-  stays_in zero = record { construct = λ mode b ss s le. tt }
-  stays_in (suc room) = record { construct = λ mode b ss s le. contents_on (level room) (stays_in room) mode b ss s le }
+  stays_in zero = record { construct = λ mode b ss s le. tt; substitution = λ b ss s. tt }
+  stays_in (suc room) =
+      record {
+        construct = λ mode b ss s le. contents_on (level room) (stays_in room) mode b ss s le;
+        substitution = λ b ss s. substitution_end (level room) (shown_level g room) b ss s;
+      }
 
   word_last : (room p : ℕ) → p ≤ length T → Holds (λ x t. Last Plain t) (does (a_word (level room)) true g (standing p))
   unfolding a_word

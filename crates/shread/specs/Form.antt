@@ -7,6 +7,7 @@ use Rattle.std.specs.Prelude.{◌≡◌, ℕ, zero, suc, ◌-◌, Bool, true, fa
 use Rattle.shtree.specs.declared.tree.Span.{Span}
 use Rattle.shread.specs.declared.fault.Fault.{Fault}
 use Rattle.shread.specs.declared.fault.FaultKind.{FaultKind}
+use Rattle.shread.specs.declared.fault.FaultKind.TheVariants.{UnexpectedEnd}
 use Rattle.shread.specs.Comments.{span}
 use Rattle.shread.specs.Sights.{Given, State, Sight, seen, Move, to}
 
@@ -52,6 +53,8 @@ pub data Form : Type 0 → Type 1 where
   token : {X : Type 0} → Told → Form X → Form (X × Span)
   -- turns until one is the last
   loop : {A : Type 0} → (A → Form (Step A)) → A → Form A
+  -- where the text ends in it, the fault is this one, at this offset
+  ends_as : {X : Type 0} → FaultKind → ℕ → Form X → Form X
 
 -- the same, as rows write it: it does not unfold by itself
 unfoldable pub many : {A : Type 0} → (A → Form (Step A)) → A → Form A
@@ -111,6 +114,18 @@ pub data Turns {A : Type 0} (g : Given) (turn : A → Comes (Step A)) : A → St
   more : {a b : A} {s t : State} {x : Read A} {k l : Row Spelled} → turn a s (Ok (again b, t)) k → leads_on g s t ≡ true → Turns g turn b t x l → Turns g turn a s x (k ++ l)
   halts : {a : A} {s : State} {f : Fault} {k : Row Spelled} → turn a s (Err f) k → Turns g turn a s (Err f) k
 
+-- a fault of this kind, which stands at p; that of a text that ends is another one
+abbrev pub ended_by : FaultKind → ℕ → ℕ → FaultKind → Fault
+ended_by kind at p UnexpectedEnd = record { kind = kind; at = at }
+ended_by kind at p other = record { kind = other; at = p }
+
+abbrev pub ended : FaultKind → ℕ → Fault → Fault
+ended kind at f = ended_by kind at f.at f.kind
+
+pub data Ending {X : Type 0} (kind : FaultKind) (at : ℕ) (r : Comes X) (s : State) : Read X → Row Spelled → Type 0 where
+  goes_through : {x : X} {t : State} {k : Row Spelled} → r s (Ok (x, t)) k → Ending kind at r s (Ok (x, t)) k
+  stops_inside : {f : Fault} {k : Row Spelled} → r s (Err f) k → Ending kind at r s (Err (ended kind at f)) k
+
 abbrev pub moved : Move → Given → State → State
 moved m g s = record s { at = to m g.text s.at }
 
@@ -124,6 +139,7 @@ may (both r q) g s = Then (may r g) (λ x. may (q x) g) s
 may (when f r q) g s = Either (seen f g s) (may r g) (may q g) s
 may (token told r) g s = OneToken told g (may r g) s
 may (loop turn a) g s = Turns g (λ b. may (turn b) g) a s
+may (ends_as kind at r) g s = Ending kind at (may r g) s
 
 -- ---- what is computed
 
@@ -147,6 +163,10 @@ abbrev pub pushed : {A : Type 0} → Bool → Row A → A → Row A
 pushed true xs x = xs ++ x ∷ []
 pushed false xs x = xs
 
+abbrev pub with_end : {X : Type 0} → FaultKind → ℕ → Read X → Read X
+with_end kind at (Ok x) = Ok x
+with_end kind at (Err f) = Err (ended kind at f)
+
 -- without `keep` no row of the tree grows, and what is read is only how far it goes
 abbrev pub does : {X : Type 0} → Form X → Bool → Given → State → Read X
 does (give x) keep g s = Ok (x, s)
@@ -158,3 +178,4 @@ does (both r q) keep g s = does r keep g s ▸ λ x t. does (q x) keep g t
 does (when f r q) keep g s = if seen f g s then does r keep g s else does q keep g s
 does (token told r) keep g s = does r keep g s ▸ λ x t. Ok ((x, span g.offset s.at t.at), t)
 does (loop turn a) keep g s = turns g (λ b t. does (turn b) keep g t) a s
+does (ends_as kind at r) keep g s = with_end kind at (does r keep g s)

@@ -6,6 +6,7 @@ use Rattle.shread.specs.Sights.{Given, here, standing}
 use Rattle.shread.specs.Form.{see, stop, ◌>>=◌, may, raw}
 use Rattle.shread.specs.Words.{Inner, contents, a_word}
 use Rattle.shread.specs.Compounds.{a_compound, a_function}
+use Rattle.shread.specs.Substitutions.{a_substitution}
 
 -- how many constructs may be open
 abbrev pub most_open : ℕ
@@ -13,13 +14,18 @@ most_open = 100
 
 -- where no more may be opened, an opener is a fault
 unfoldable pub level : ℕ → Inner
-level zero = record { construct = λ mode b ss. stop TooDeep b; compound = λ o. see here >>= λ p. stop TooDeep p; function = λ name. stop TooDeep name.start }
-level (suc room) =
-    record {
-      construct = λ mode b ss. contents (level room) mode b ss;
-      compound = λ o. a_compound (level room) o;
-      function = λ name. a_function (level room) name;
-    }
+level zero = record {
+  construct = λ mode b ss. stop TooDeep b;
+  substitution = λ b ss. stop TooDeep b;
+  compound = λ o. see here >>= λ p. stop TooDeep p;
+  function = λ name. stop TooDeep name.start;
+}
+level (suc room) = record {
+  construct = λ mode b ss. contents (level room) mode b ss;
+  substitution = λ b ss. a_substitution (level room) b ss;
+  compound = λ o. a_compound (level room) o;
+  function = λ name. a_function (level room) name;
+}
 
 -- the n bytes from p on are a word, where so many constructs may be open
 abbrev pub IsWord : ℕ → Given → ℕ → ℕ → Type 0

@@ -11,6 +11,7 @@ pub mod Words
 pub mod Commands
 pub mod Lists
 pub mod Compounds
+pub mod Substitutions
 pub mod Listed
 pub mod Levels
 pub mod Lines

@@ -35,8 +35,8 @@ u
 const FAULTS: &[u8] = br###"
 ("" * 24) ("end" * 7) ("fault 2 at 30" * 5) ("end" * 26) ("fault 2 at 61" * 5) ("end" * 21) ("fault 2 at 87" * 2)
 ("fault 4 at 88" * 5) ("fault 2 at 87" * 1) ("end" * 45) ("fault 1 at 140" * 4) ("end" * 9) ("fault 8 at 153" * 1) ("end" * 13)
-("fault 2 at 167" * 3) ("fault 3 at 170" * 2) ("fault 2 at 167" * 1) ("end" * 23) ("fault 11 at 195" * 1) ("fault 5 at 195" * 8)
-("fault 6 at 205" * 1) ("end" * 29) ("fault 11 at 234" * 1) ("fault 5 at 234" * 6) ("fault 6 at 242" * 1) ("end" * 7)
+("fault 2 at 167" * 3) ("fault 3 at 170" * 2) ("fault 2 at 167" * 1) ("end" * 23) ("fault 7 at 195" * 1) ("fault 5 at 195" * 8)
+("fault 6 at 205" * 1) ("end" * 29) ("fault 7 at 234" * 1) ("fault 5 at 234" * 6) ("fault 6 at 242" * 1) ("end" * 7)
 ("fault 11 at 249" * 1) ("end" * 13) ("fault 8 at 264" * 1) ("end" * 31) ("fault 11 at 295" * 1) ("end" * 28) ("" * 10)
 ("fault 8 at 335" * 1) ("" * 3)
 "###;

@@ -11,6 +11,7 @@ use crate::fault::{Fault, FaultKind, Stop};
 use crate::source::Source;
 use crate::token::{Next, Position, Separator, Token};
 use shtree::Comment;
+use std::alloc::Global;
 
 impl<'a, S: Source> Cursor<'a, S> {
     /// Passes the comment here, if one stands. `next` is the token here, and then the one behind it.
@@ -89,8 +90,14 @@ impl<'a, S: Source> Cursor<'a, S> {
     }
 
     /// What is wrong where no row takes the token here. A word is read whole first; a comment goes with the token behind it.
+    #[cycle(commands)]
     #[tactic(auto, unfolding(crate::specs::Commands::what_is_wrong))]
-    pub(crate) fn what_is_wrong(&mut self, next: &mut Next, room: usize) -> Result<Fault, Stop>
+    pub(crate) fn what_is_wrong(
+        &mut self,
+        alloc: Global,
+        next: &mut Next,
+        room: usize,
+    ) -> Result<Fault, Stop>
         requires { Shows next.old.token (text_of S.bytes self.old) self.old.at }
         ensures value { Reads S.bytes self.old (what_is_wrong (level room) next.old) result
             (λ fault. (fault.kind, fault.at)) self.new.at }
@@ -99,7 +106,7 @@ impl<'a, S: Source> Cursor<'a, S> {
     {
         if let Some(_) = next.token.behind_item() {
             let at = self.origin + self.at;
-            self.pass_word(room)?;
+            self.pass_word(alloc, room)?;
             return Ok(Fault {
                 kind: FaultKind::Unexpected,
                 at,

@@ -47,6 +47,7 @@ fn body_end(before: usize, body: &Listed) -> usize
 
 impl<'a, S: Source> Cursor<'a, S> {
     /// The word behind `case`. `next` is the token here, and then the one behind it.
+    #[cycle(commands)]
     #[tactic(auto, unfolding(crate::specs::Compounds::a_case_word, crate::specs::Commands::next_token))]
     fn case_word(&mut self, alloc: Global, next: &mut Next, room: usize) -> Result<Word, Stop>
         requires shows { Shows next.old.token (text_of S.bytes self.old) self.old.at }
@@ -57,16 +58,17 @@ impl<'a, S: Source> Cursor<'a, S> {
         ensures same { Stays self.old self.new }
     {
         if !next.token.begins_simple() {
-            return Err(Stop::Wrong(self.what_is_wrong(next, room)?));
+            return Err(Stop::Wrong(self.what_is_wrong(alloc, next, room)?));
         }
         let start = self.at;
-        self.pass_word(room)?;
-        let word = self.word_from(alloc, start);
+        let substs = self.pass_word(alloc, room)?;
+        let word = self.word_from(start, substs);
         *next = self.next_token(Position::Command);
         Ok(word)
     }
 
     /// The pattern that begins here. `next` is set to the token behind it.
+    #[cycle(commands)]
     #[tactic(auto, unfolding(crate::specs::Compounds::a_pattern, crate::specs::Commands::next_token))]
     fn pattern(
         &mut self,
@@ -83,15 +85,16 @@ impl<'a, S: Source> Cursor<'a, S> {
         ensures same { Stays self.old self.new }
     {
         let start = self.at;
-        self.pass_word(room)?;
+        let substs = self.pass_word(alloc, room)?;
         if self.keep {
-            patterns.push(self.word_from(alloc, start))?;
+            patterns.push(self.word_from(start, substs))?;
         }
         *next = self.next_token(Position::Suffix);
         Ok(())
     }
 
     /// One more pattern, behind the `|` here.
+    #[cycle(commands)]
     #[tactic(auto, unfolding(crate::specs::Compounds::one_pattern, crate::specs::Commands::next_token))]
     fn one_pattern(
         &mut self,
@@ -110,12 +113,13 @@ impl<'a, S: Source> Cursor<'a, S> {
         self.bump();
         *next = self.next_token(Position::Suffix);
         if !next.token.begins_simple() {
-            return Err(Stop::Wrong(self.what_is_wrong(next, room)?));
+            return Err(Stop::Wrong(self.what_is_wrong(alloc, next, room)?));
         }
         self.pattern(alloc, next, patterns, room)
     }
 
     /// One more, if a `|` stands here. Answers whether there was one.
+    #[cycle(commands)]
     #[tactic(auto, unfolding(crate::specs::Compounds::pattern_turn))]
     fn pattern_turn(
         &mut self,
@@ -139,6 +143,7 @@ impl<'a, S: Source> Cursor<'a, S> {
     }
 
     /// The patterns behind the first one.
+    #[cycle(commands)]
     #[tactic(auto, using(crate::proofs::Turns::many_again, crate::proofs::Turns::many_done, crate::proofs::Turns::many_stop))]
     fn more_patterns(
         &mut self,
@@ -159,6 +164,7 @@ impl<'a, S: Source> Cursor<'a, S> {
     }
 
     /// The patterns of an item. `next` is the token here, and then the one behind them.
+    #[cycle(commands)]
     #[tactic(auto, unfolding(crate::specs::Compounds::a_pattern_list))]
     fn patterns(&mut self, alloc: Global, next: &mut Next, room: usize) -> Result<Vec<Word>, Stop>
         requires shows { Shows next.old.token (text_of S.bytes self.old) self.old.at }
@@ -169,7 +175,7 @@ impl<'a, S: Source> Cursor<'a, S> {
         ensures same { Stays self.old self.new }
     {
         if !next.token.begins_pattern() {
-            return Err(Stop::Wrong(self.what_is_wrong(next, room)?));
+            return Err(Stop::Wrong(self.what_is_wrong(alloc, next, room)?));
         }
         let mut patterns = Vec::new(alloc);
         self.pattern(alloc, next, &mut patterns, room)?;
@@ -215,9 +221,11 @@ impl<'a, S: Source> Cursor<'a, S> {
 
     /// The end of an item: behind its `;;`, whose comments go into `lines`, or at `there` before `esac`. `next` is the token here, and
     /// then the one behind it.
+    #[cycle(commands)]
     #[tactic(auto, unfolding(crate::specs::Compounds::an_item_end))]
     fn item_end(
         &mut self,
+        alloc: Global,
         there: usize,
         next: &mut Next,
         lines: &mut Join,
@@ -235,7 +243,7 @@ impl<'a, S: Source> Cursor<'a, S> {
             return self.double_semicolon(next, lines);
         }
         if !next.token.is_closing(Closing::Esac) {
-            return Err(Stop::Wrong(self.what_is_wrong(next, room)?));
+            return Err(Stop::Wrong(self.what_is_wrong(alloc, next, room)?));
         }
         Ok(there)
     }
@@ -260,11 +268,11 @@ impl<'a, S: Source> Cursor<'a, S> {
         let start = self.origin + self.at;
         self.open_bracket(next);
         let patterns = self.patterns(alloc, next, room)?;
-        let closer = self.closing(Closing::Paren, next, room)?;
+        let closer = self.closing(alloc, Closing::Paren, next, room)?;
         let body = self.body(alloc, next, room)?;
         let there = body_end(closer.end, &body);
         let lines = std::mem::replace(&mut cases.lines, no_lines(alloc));
-        let end = self.item_end(there, next, &mut cases.lines, room)?;
+        let end = self.item_end(alloc, there, next, &mut cases.lines, room)?;
         if self.keep {
             let list = list_of(body.entries);
             let span = Span { start, end };
@@ -321,6 +329,7 @@ impl<'a, S: Source> Cursor<'a, S> {
     }
 
     /// What stands between `case` and its items. The comments go into `lines`.
+    #[cycle(commands)]
     #[tactic(auto, unfolding(crate::specs::Compounds::a_case_head))]
     fn case_head(
         &mut self,
@@ -339,7 +348,7 @@ impl<'a, S: Source> Cursor<'a, S> {
     {
         let word = self.case_word(alloc, next, room)?;
         self.linebreak(next, lines)?;
-        self.closing(Closing::In, next, room)?;
+        self.closing(alloc, Closing::In, next, room)?;
         self.linebreak(next, lines)?;
         Ok(word)
     }
@@ -366,7 +375,7 @@ impl<'a, S: Source> Cursor<'a, S> {
         };
         let word = self.case_head(alloc, next, &mut cases.lines, room)?;
         self.cases(alloc, next, &mut cases, room)?;
-        let closer = self.closing(Closing::Esac, next, room)?;
+        let closer = self.closing(alloc, Closing::Esac, next, room)?;
         Ok((case_of(word, cases.items, cases.lines.comments), closer))
     }
 }

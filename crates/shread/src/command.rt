@@ -28,6 +28,7 @@ fn item_of(word: Word, position: Position, broken: bool) -> Item
 
 impl<'a, S: Source> Cursor<'a, S> {
     /// One more item of a simple command, if the token here begins one, and the token behind it. Answers whether there was one.
+    #[cycle(commands)]
     #[tactic(auto, unfolding(crate::specs::Commands::item_turn, crate::specs::Commands::an_item, crate::specs::Commands::next_token))]
     fn item(
         &mut self,
@@ -47,12 +48,12 @@ impl<'a, S: Source> Cursor<'a, S> {
             return Ok(false);
         };
         let start = self.at;
-        self.pass_word(room)?;
+        let substs = self.pass_word(alloc, room)?;
         if !self.keep {
             *next = self.next_token(position);
             return Ok(true);
         }
-        let word = self.word_from(alloc, start);
+        let word = self.word_from(start, substs);
         let broken = !items.is_empty() && next.broken;
         *next = self.next_token(position);
         // A command of one word takes room for no more.
@@ -64,6 +65,7 @@ impl<'a, S: Source> Cursor<'a, S> {
     }
 
     /// The items of the simple command that the token here begins. `next` is that token, and then the one behind them.
+    #[cycle(commands)]
     #[tactic(auto, using(crate::proofs::Turns::many_again, crate::proofs::Turns::many_done, crate::proofs::Turns::many_stop))]
     pub(crate) fn items(
         &mut self,
@@ -84,6 +86,7 @@ impl<'a, S: Source> Cursor<'a, S> {
     }
 
     /// The simple command that has these items so far. `next` is the token behind them, and then the one behind the command.
+    #[cycle(commands)]
     #[inline(always)]
     #[tactic(auto, unfolding(crate::specs::Commands::a_simple))]
     fn simple(
@@ -117,8 +120,8 @@ impl<'a, S: Source> Cursor<'a, S> {
         ensures same { Stays self.old self.new }
     {
         let start = self.at;
-        self.pass_word(room)?;
-        let word = self.word_from(alloc, start);
+        let substs = self.pass_word(alloc, room)?;
+        let word = self.word_from(start, substs);
         *next = self.next_token(Position::Suffix);
         if let Token::OpenParen = next.token {
             return self.named(alloc, word.span, start, next, room);

@@ -41,9 +41,11 @@ impl<'a, S: Source> Cursor<'a, S> {
     }
 
     /// Passes what has to stand here. `next` is the token here, and then the one behind it.
+    #[cycle(commands)]
     #[tactic(auto, unfolding(crate::specs::Compounds::closing))]
     pub(crate) fn closing(
         &mut self,
+        alloc: Global,
         what: Closing,
         next: &mut Next,
         room: usize,
@@ -55,7 +57,7 @@ impl<'a, S: Source> Cursor<'a, S> {
         ensures same { Stays self.old self.new }
     {
         if !next.token.is_closing(what) {
-            return Err(Stop::Wrong(self.what_is_wrong(next, room)?));
+            return Err(Stop::Wrong(self.what_is_wrong(alloc, next, room)?));
         }
         Ok(self.passed(matches!(what, Closing::Paren), Position::Command, next))
     }
@@ -78,7 +80,7 @@ impl<'a, S: Source> Cursor<'a, S> {
         ensures same { Stays self.old self.new }
     {
         let list = self.list(alloc, next, room)?;
-        let closer = self.closing(what, next, room)?;
+        let closer = self.closing(alloc, what, next, room)?;
         Ok((list, closer))
     }
 
@@ -94,7 +96,7 @@ impl<'a, S: Source> Cursor<'a, S> {
         ensures same { Stays self.old self.new }
     {
         let condition = self.list(alloc, next, room)?;
-        self.closing(Closing::Then, next, room)?;
+        self.closing(alloc, Closing::Then, next, room)?;
         let body = self.list(alloc, next, room)?;
         Ok(branch_of(condition, body))
     }
@@ -185,7 +187,7 @@ impl<'a, S: Source> Cursor<'a, S> {
         let first = self.branch(alloc, next, room)?;
         let rest = self.elifs(alloc, next, room)?;
         let otherwise = self.otherwise(alloc, next, room)?;
-        let closer = self.closing(Closing::Fi, next, room)?;
+        let closer = self.closing(alloc, Closing::Fi, next, room)?;
         Ok((if_of(first, rest, otherwise), closer))
     }
 
@@ -206,9 +208,9 @@ impl<'a, S: Source> Cursor<'a, S> {
         ensures same { Stays self.old self.new }
     {
         let condition = self.list(alloc, next, room)?;
-        self.closing(Closing::Do, next, room)?;
+        self.closing(alloc, Closing::Do, next, room)?;
         let body = self.list(alloc, next, room)?;
-        let closer = self.closing(Closing::Done, next, room)?;
+        let closer = self.closing(alloc, Closing::Done, next, room)?;
         Ok((branch_of(condition, body), closer))
     }
 

@@ -34,6 +34,7 @@ fn behind_remarks(alloc: Global, comments: &[Comment], list: List) -> Result<Lis
 
 impl<'a, S: Source> Cursor<'a, S> {
     /// The word behind `for`, which has to be a NAME. `next` is the token here, and then the one behind it.
+    #[cycle(commands)]
     #[tactic(auto, unfolding(crate::specs::Compounds::a_for_name, crate::specs::Commands::next_token))]
     fn for_name(&mut self, alloc: Global, next: &mut Next, room: usize) -> Result<Word, Stop>
         requires shows { Shows next.old.token (text_of S.bytes self.old) self.old.at }
@@ -44,14 +45,14 @@ impl<'a, S: Source> Cursor<'a, S> {
         ensures same { Stays self.old self.new }
     {
         if !next.token.begins_simple() {
-            return Err(Stop::Wrong(self.what_is_wrong(next, room)?));
+            return Err(Stop::Wrong(self.what_is_wrong(alloc, next, room)?));
         }
         let start = self.at;
-        self.pass_word(room)?;
+        let substs = self.pass_word(alloc, room)?;
         if !self.is_name(start) {
             return Err(self.wrong_at(FaultKind::BadForName, start));
         }
-        let word = self.word_from(alloc, start);
+        let word = self.word_from(start, substs);
         *next = self.next_token(Position::Command);
         Ok(word)
     }
@@ -71,8 +72,15 @@ impl<'a, S: Source> Cursor<'a, S> {
     }
 
     /// `;` or a newline, with the newlines and comments behind it.
+    #[cycle(commands)]
     #[tactic(auto, unfolding(crate::specs::Compounds::a_sequential_sep))]
-    fn sequential_sep(&mut self, next: &mut Next, lines: &mut Join, room: usize) -> Result<(), Stop>
+    fn sequential_sep(
+        &mut self,
+        alloc: Global,
+        next: &mut Next,
+        lines: &mut Join,
+        room: usize,
+    ) -> Result<(), Stop>
         requires shows { Shows next.old.token (text_of S.bytes self.old) self.old.at }
         ensures value { Reads S.bytes self.old (a_sequential_sep (level room) (view_join lines.old).comments next.old) result
             (λ done. join_so (view_join lines.new) next.new) self.new.at }
@@ -83,12 +91,13 @@ impl<'a, S: Source> Cursor<'a, S> {
         let semicolon = self.semicolon(next);
         self.linebreak(next, lines)?;
         if !semicolon && !lines.broken {
-            return Err(Stop::Wrong(self.what_is_wrong(next, room)?));
+            return Err(Stop::Wrong(self.what_is_wrong(alloc, next, room)?));
         }
         Ok(())
     }
 
     /// The `in` here, the words behind it, and what ends them. `next` is set to the token behind that.
+    #[cycle(commands)]
     #[tactic(auto, unfolding(crate::specs::Compounds::for_words))]
     fn for_words(
         &mut self,
@@ -107,11 +116,12 @@ impl<'a, S: Source> Cursor<'a, S> {
         let _ = self.passed(false, Position::Suffix, next);
         let mut words = Vec::new(alloc);
         self.items(alloc, next, &mut words, room)?;
-        self.sequential_sep(next, lines, room)?;
+        self.sequential_sep(alloc, next, lines, room)?;
         Ok(words)
     }
 
     /// What stands between the name and `do`: the words behind `in`, where it stands. The comments go into `lines`.
+    #[cycle(commands)]
     #[tactic(auto, unfolding(crate::specs::Compounds::a_for_head))]
     fn for_head(
         &mut self,
@@ -158,7 +168,7 @@ impl<'a, S: Source> Cursor<'a, S> {
             comments: Vec::new(alloc),
         };
         let words = self.for_head(alloc, next, &mut lines, room)?;
-        self.closing(Closing::Do, next, room)?;
+        self.closing(alloc, Closing::Do, next, room)?;
         let (list, closer) = self.group(alloc, Closing::Done, next, room)?;
         let body = behind_remarks(alloc, &lines.comments, list)?;
         Ok((for_of(name, words, body), closer))

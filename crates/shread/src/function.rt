@@ -5,7 +5,6 @@ ghost use Rattle.shread.specs.Commands.{compound_by, named, opener_of};
 ghost use Rattle.shread.specs.Compounds.{a_function, under_name};
 ghost use Rattle.shread.specs.Levels.{level};
 ghost use Rattle.shread.specs.Tokens.{is_name_at};
-ghost use Rattle.shtree.specs.Tree.{no_subst, word};
 ghost use Rattle.shtree.specs.View.{view_command, view_comment};
 
 use crate::cursor::Cursor;
@@ -52,7 +51,7 @@ impl<'a, S: Source> Cursor<'a, S> {
     {
         match next.token.opener() {
             Some(opener) => self.compound(alloc, opener, next, room),
-            None => Err(Stop::Wrong(self.what_is_wrong(next, room)?)),
+            None => Err(Stop::Wrong(self.what_is_wrong(alloc, next, room)?)),
         }
     }
 
@@ -74,7 +73,7 @@ impl<'a, S: Source> Cursor<'a, S> {
         ensures same { Stays self.old self.new }
     {
         let _ = self.passed(true, Position::Command, next);
-        self.closing(Closing::Paren, next, room)?;
+        self.closing(alloc, Closing::Paren, next, room)?;
         let mut lines = Join {
             broken: false,
             comments: Vec::new(alloc),
@@ -98,7 +97,7 @@ impl<'a, S: Source> Cursor<'a, S> {
         requires here { IsRead (text_of S.bytes self.old) self.old.at }
         requires before { start ≤ self.old.at }
         requires begin { name.start ≡ self.old.origin + start }
-        ensures value { Reads S.bytes self.old (named (level room) (is_name_at (text_of S.bytes self.old) start) (word name no_subst)) result
+        ensures value { Reads S.bytes self.old (named (level room) (is_name_at (text_of S.bytes self.old) start) name) result
             (λ command. (view_command command, next.new)) self.new.at }
         ensures shows { IfOk result (λ command. Shows next.new.token (text_of S.bytes self.old) self.new.at) }
         ensures onward { IfOk result (λ command. self.old.at ≤ self.new.at) }

@@ -1,10 +1,11 @@
 //! Laws of the definitions alone, which no code stands behind.
-ghost use Rattle.std.specs.Prelude.{◌≡◌, ◌+◌, ◌-◌, ℕ, List, List as Row, Ok, false, drop, take, true};
+ghost use Rattle.std.specs.Prelude.{◌≡◌, ◌+◌, ◌-◌, [], ◌∷◌, ℕ, List, List as Row, Ok, false, drop, take, true};
 ghost use Rattle.shread.specs.Lines.{ALine, IsLine};
 ghost use Rattle.shread.specs.Scripts.{AScript, Outcome};
 ghost use Rattle.shread.specs.Bytes.{ends_word, stands};
-ghost use Rattle.shread.specs.Form.{Spelled, may};
+ghost use Rattle.shread.specs.Form.{Spelled, may, raw};
 ghost use Rattle.shread.specs.Sights.{Given, State, standing};
+ghost use Rattle.shtree.specs.Shape.{shape_of_word};
 ghost use Rattle.shtree.specs.Tree.{AWord};
 ghost use Rattle.shread.specs.Words.{a_word};
 ghost use Rattle.shread.specs.Levels.{IsWord, level};
@@ -18,12 +19,20 @@ pub fn one_outcome()
 {}
 
 /// A word, which is whatever the row of a word reads, is read wherever its bytes stand, before a byte that ends words and is no `(`,
-/// and no other word is. Before a `(` it may not be: `a$` is a word, and in `a$(` a substitution begins.
+/// and no other word is. Before a `(` it may not be: `a$` is a word, and in `a$(` a substitution begins. The word that is read there has
+/// the same shape: the same bytes, and substitutions of the same shapes.
 pub fn word_anywhere()
     ensures read { (room p : ℕ) (g : Given) (w : AWord) (t : State) (told : Row Spelled) →
         may (a_word (level room)) g (standing p) (Ok (w, t)) told → IsWord room g p (t.at - p) }
     ensures word { (room p q n : ℕ) (g h : Given) → IsWord room g p n →
         take n (drop q h.text) ≡ take n (drop p g.text) →
         ends_word h.text (q + n) ≡ true → stands h.text (q + n) 40 ≡ false → IsWord room h q n }
+    ensures shape { (room p q n : ℕ) (g h : Given) (w : AWord) (told : Row Spelled) (B C : List ℕ) →
+        may (a_word (level room)) g (standing p) (Ok (w, standing (p + n))) told →
+        take n (drop q h.text) ≡ take n (drop p g.text) →
+        ends_word h.text (q + n) ≡ true → stands h.text (q + n) 40 ≡ false →
+        g.text ≡ drop g.offset B → h.text ≡ drop h.offset C →
+        (v : AWord) × (may (a_word (level room)) h (standing q) (Ok (v, standing (q + n))) (raw h.text q (q + n) ∷ []) ×
+        (shape_of_word C v ≡ shape_of_word B w)) }
     ensures only { (room p m n : ℕ) (g : Given) → IsWord room g p m → IsWord room g p n → m ≡ n }
 {}

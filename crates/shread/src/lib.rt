@@ -47,6 +47,7 @@ mod source;
 #[cfg(test)]
 mod sources;
 mod standing;
+mod substitution;
 #[cfg(test)]
 mod table;
 mod token;

@@ -18,7 +18,7 @@ impl<'a, S: Source> Cursor<'a, S> {
     /// The newline or the end behind the entries of a line. Answers whether it was a newline.
     #[inline(always)]
     #[tactic(auto, unfolding(crate::specs::Lines::end_of_line, crate::specs::Bytes::behind))]
-    fn end_of_line(&mut self, next: &mut Next, room: usize) -> Result<bool, Stop>
+    fn end_of_line(&mut self, alloc: Global, next: &mut Next, room: usize) -> Result<bool, Stop>
         requires shows { Shows next.old.token (text_of S.bytes self.old) self.old.at }
         ensures value { Reads S.bytes self.old (end_of_line (level room) next.old) result (λ newline. newline) self.new.at }
         ensures onward { IfOk result (Onward self.old.at self.new.at) }
@@ -33,7 +33,7 @@ impl<'a, S: Source> Cursor<'a, S> {
                 Ok(true)
             }
             Token::End => Ok(false),
-            _ => Err(Stop::Wrong(self.what_is_wrong(next, room)?)),
+            _ => Err(Stop::Wrong(self.what_is_wrong(alloc, next, room)?)),
         }
     }
 
@@ -55,7 +55,7 @@ impl<'a, S: Source> Cursor<'a, S> {
         let mut next = self.next_token(Position::Command);
         let mut listed = Listed::new(alloc, blank);
         self.on_line(alloc, &mut next, &mut listed, room)?;
-        let newline = self.end_of_line(&mut next, room)?;
+        let newline = self.end_of_line(alloc, &mut next, room)?;
         Ok((listed.entries, newline))
     }
 }

@@ -196,7 +196,7 @@ impl<'a, S: Source> Cursor<'a, S> {
     /// All of them.
     #[cycle(commands)]
     #[tactic(auto, using(crate::proofs::Turns::many_again, crate::proofs::Turns::many_done, crate::proofs::Turns::many_stop))]
-    fn list_lines(
+    pub(crate) fn list_lines(
         &mut self,
         alloc: Global,
         next: &mut Next,
@@ -248,7 +248,7 @@ impl<'a, S: Source> Cursor<'a, S> {
         let mut listed = Listed::new(alloc, false);
         self.list_lines(alloc, next, &mut listed, room)?;
         if !listed.commands {
-            return Err(Stop::Wrong(self.what_is_wrong(next, room)?));
+            return Err(Stop::Wrong(self.what_is_wrong(alloc, next, room)?));
         }
         Ok(list_of(listed.entries))
     }

@@ -38,7 +38,7 @@ pub(crate) enum Piece {
     Backquote,
     /// The special parameter `$$`: the second `$` begins nothing.
     Pid,
-    /// A command substitution `$(`. It is not read yet.
+    /// A command substitution `$(`.
     Subst,
     /// An arithmetic expansion `$((`.
     Arith,

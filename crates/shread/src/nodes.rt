@@ -16,6 +16,8 @@ const OUTLINES: &[u8] = br###"
 ("while a;do (b);done\nc", "0 19 While, 6 7 Simple, 11 14 Subshell, 12 13 Simple, 20 21 Simple")
 ("f() # b\n{ a;}", "0 13 Function 0-1, 8 13 Brace, 10 11 Simple") ("f\\\ng()(a)|b", "0 11 Pipeline, 0 9 Function 0-4, 6 9 Subshell, 7 8 Simple, 10 11 Simple")
 ("for i in a b;do c;done", "0 22 For 4-5, 16 17 Simple") ("for i # c\ndo d;done|e", "0 21 Pipeline, 0 19 For 4-5, 13 14 Simple, 20 21 Simple")
+("echo $(a | b)\n", "0 13 Simple, 5 13 Subst, 7 12 Pipeline, 7 8 Simple, 11 12 Simple") ("a=\"$(b;c)$(d)\"", "0 14 Simple, 3 9 Subst, 5 6 Simple, 7 8 Simple, 9 13 Subst, 11 12 Simple") ("$()", "0 3 Simple, 0 3 Subst")
+("f() { echo $(a | b); }\n", "0 22 Function 0-1, 4 22 Brace, 6 19 Simple, 11 19 Subst, 13 18 Pipeline, 13 14 Simple, 17 18 Simple")
 ("case a in (x) b;; y) c\nesac\n", "0 27 Case, 10 17 Item, 14 15 Simple, 18 22 Item, 21 22 Simple") ("case a in x)# c\nesac", "0 20 Case, 10 12 Item")
 ("case a in x) b&\nesac|c", "0 22 Pipeline, 0 20 Case, 10 15 Item, 13 14 Simple, 21 22 Simple") ("case a in x) b; (c) # d\nesac", "0 28 Case, 10 19 Item, 13 14 Simple, 16 19 Subshell, 17 18 Simple") ("case a in # b\nesac", "0 18 Case")
 // comments are no part of an outline, nor is what a fault breaks off
@@ -28,6 +30,9 @@ const AT: &[u8] = br###"
 ("x\nif (a b);then c;fi\ny", 2, "2 20 If, 5 10 Subshell, 6 9 Simple, 8 9 Word", 8)
 ("x\na=1 #b\n", 2, "2 5 Simple, 2 5 Assign", 4) ("x\na=1 #b\n", 2, "6 8 Comment", 7) ("x\na=1 #b\n", 2, "", 5)
 ("for i # c\nin a;do b;done", 0, "0 24 For 4-5, 4 5 Word", 4) ("for i # c\nin a;do b;done", 0, "0 24 For 4-5, 6 9 Comment", 8) ("for i # c\nin a;do b;done", 0, "0 24 For 4-5, 13 14 Word", 13)
+("echo $(a | b)\n", 0, "0 13 Simple, 5 13 Word, 5 13 Subst, 7 12 Pipeline, 11 12 Simple, 11 12 Word", 11) ("x\na=1$(b #c\n)d", 2, "2 14 Simple, 2 14 Assign, 5 13 Subst, 9 11 Comment", 10) ("x\na=1$(b #c\n)d", 2, "2 14 Simple, 2 14 Assign", 13)
+("f() { echo $(a | b); }\n", 0, "0 22 Function 0-1, 4 22 Brace, 6 19 Simple, 11 19 Word, 11 19 Subst, 13 18 Pipeline, 17 18 Simple, 17 18 Word", 17)
+("f() { echo $(a | b); }\n", 0, "", 23) ("f() { echo $(a | b); }\n", 0, "0 22 Function 0-1, 4 22 Brace", 20)
 ("f() # b\n{ a b;}", 0, "0 15 Function 0-1, 8 15 Brace, 10 13 Simple, 12 13 Word", 12) ("f() # b\n{ a;}", 0, "0 13 Function 0-1, 4 7 Comment", 5) ("f() # b\n{ a;}", 0, "0 13 Function 0-1", 0)
 ("x\ncase a in # b\nc) d;; # e\nesac", 2, "2 31 Case, 7 8 Word", 7) ("x\ncase a in # b\nc) d;; # e\nesac", 2, "2 31 Case, 12 15 Comment", 13) ("x\ncase a in # b\nc) d;; # e\nesac", 2, "2 31 Case, 16 22 Item", 21)
 ("x\ncase a in # b\nc) d;; # e\nesac", 2, "2 31 Case, 16 22 Item, 16 17 Word", 16) ("x\ncase a in # b\nc) d;; # e\nesac", 2, "2 31 Case, 16 22 Item, 19 20 Simple, 19 20 Word", 19) ("x\ncase a in # b\nc) d;; # e\nesac", 2, "2 31 Case, 23 26 Comment", 24)

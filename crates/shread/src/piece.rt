@@ -23,7 +23,7 @@ impl<'a, S: Source> Cursor<'a, S> {
         requires here { here ≡ past_continuations (text_of S.bytes self.now) self.now.at }
         requires some { here < length (text_of S.bytes self.now) }
         ensures value { result ≡ dollar_at (text_of S.bytes self.now) self.now.at }
-        ensures two { (result ≡ Piece.Pid) ⊎ (result ≡ Piece.Arith) ⊎ (result ≡ Piece.Param) →
+        ensures two { (result ≡ Piece.Pid) ⊎ (result ≡ Piece.Subst) ⊎ (result ≡ Piece.Arith) ⊎ (result ≡ Piece.Param) →
             IsRead (text_of S.bytes self.now) (here + 1) }
         ensures three { result ≡ Piece.Arith → IsRead (text_of S.bytes self.now) (behind (text_of S.bytes self.now) (here + 1)) }
         ensures kinds { (result ≢ Piece.Closer) × (result ≢ Piece.Missing) × (result ≢ Piece.Escape) × (result ≢ Piece.Close) }
@@ -75,7 +75,7 @@ impl<'a, S: Source> Cursor<'a, S> {
         ensures close { result ≡ Piece.Close → 0 < nested }
         ensures word { mode ≡ Mode.Plain → ends (Some byte) ≡ false → result ≢ Piece.Closer }
         ensures kinds { (result ≢ Piece.Missing) × (result ≢ Piece.Escape)
-            × (result ≢ Piece.Pid) × (result ≢ Piece.Arith) × (result ≢ Piece.Param) }
+            × (result ≢ Piece.Pid) × (result ≢ Piece.Subst) × (result ≢ Piece.Arith) × (result ≢ Piece.Param) }
     {
         match byte {
             b'"' => match mode {
@@ -109,7 +109,7 @@ impl<'a, S: Source> Cursor<'a, S> {
             here < length (text_of S.bytes self.now) }
         ensures escape { result ≡ Piece.Escape → (here + 2 ≤ length (text_of S.bytes self.now)) ×
             (raw_stands (text_of S.bytes self.now) here 92 ≡ true) }
-        ensures two { (result ≡ Piece.Pid) ⊎ (result ≡ Piece.Arith) ⊎ (result ≡ Piece.Param) →
+        ensures two { (result ≡ Piece.Pid) ⊎ (result ≡ Piece.Subst) ⊎ (result ≡ Piece.Arith) ⊎ (result ≡ Piece.Param) →
             IsRead (text_of S.bytes self.now) (here + 1) }
         ensures three { result ≡ Piece.Arith → IsRead (text_of S.bytes self.now) (behind (text_of S.bytes self.now) (here + 1)) }
         ensures closer { mode ≡ Mode.Arith → result ≡ Piece.Closer → IsRead (text_of S.bytes self.now) (here + 1) }

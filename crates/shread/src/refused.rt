@@ -14,7 +14,8 @@ use std::process::Abort;
 use std::test::Fail;
 
 /// A line that the reader grows for in several places: its second command and its comment come late.
-const TEXT: &[u8] = b"\na=1 'b' $c \"\" d e; if f|g;then h;elif i&&n() { j;};then k;fi & # l\nm\n";
+const TEXT: &[u8] =
+    b"\na=1 'b' $c \"\" d$(n) e; if f|g;then case o in p|v) q;;esac;elif i&&n() { j;};then for r in s;do t;done;fi & # l\nm\n";
 
 /// Asks for the refusal of the nth growth from here on, by a request that no allocator grants.
 fn refuse(alloc: Global, nth: usize) {
@@ -59,8 +60,8 @@ fn begun(alloc: Global) -> Result<Reader, Fail> {
 /// Whether the second line is read as it stands there, and counted.
 fn reads_line(reader: &mut Reader) -> Result<bool, ReadError> {
     let line = reader.read_line(&Flat::new(TEXT), 1)?;
-    let is_whole = count(&line) == 2 && line.next == 68 && line.ended;
-    Ok(is_whole && reader.meter() == 68)
+    let is_whole = count(&line) == 2 && line.next == 112 && line.ended;
+    Ok(is_whole && reader.meter() == 112)
 }
 
 #[test]
@@ -87,7 +88,7 @@ fn read_line(rt: HostRuntime) -> Result<(), Fail> {
 fn reads_script(reader: &mut Reader) -> Result<bool, ReadError> {
     let script = reader.read_script(&Flat::new(TEXT))?;
     let is_whole = script.list.entries.len() == 3 && script.fault.is_none();
-    Ok(is_whole && reader.meter() == 71)
+    Ok(is_whole && reader.meter() == 115)
 }
 
 #[test]
@@ -150,6 +151,7 @@ fn first_fault(rt: HostRuntime) -> Result<(), Fail> {
     assert!(rt; grows_not(rt.alloc(), refuses, b"a\\\n=1 i\\\nf \\b # c\n")?);
     assert!(rt; grows_not(rt.alloc(), refuses, b"'a' \"b ${c-\"d\"}\" `e\\`f`")?);
     assert!(rt; grows_not(rt.alloc(), refuses, b"${a#'b'}$((1 + (2)))$$\n")?);
+    assert!(rt; grows_not(rt.alloc(), refuses, b"a $(b \"$(c)\" # d\n) e$()\n")?);
     assert!(rt; grows_not(rt.alloc(), refuses, b"for i #c\nin a b\ndo j;done #d\n")?);
     assert!(rt; grows_not(rt.alloc(), refuses, b"f() #a\n{ b; }\ng()(c)\n")?);
     assert!(rt;
@@ -218,7 +220,7 @@ fn adds(rt: &impl Abort, alloc: Global, list: &List, asked: Asked, count: usize)
 fn outline_of(rt: HostRuntime) -> Result<(), Fail> {
     let script = Reader::new(rt.alloc()).read_script(&Flat::new(TEXT))?;
     greater_limit();
-    adds(&rt, rt.alloc(), &script.list, Asked::Outline, 13)
+    adds(&rt, rt.alloc(), &script.list, Asked::Outline, 18)
 }
 
 /// The byte is that of `f`.
@@ -226,7 +228,7 @@ fn outline_of(rt: HostRuntime) -> Result<(), Fail> {
 fn nodes_at(rt: HostRuntime) -> Result<(), Fail> {
     let script = Reader::new(rt.alloc()).read_script(&Flat::new(TEXT))?;
     greater_limit();
-    adds(&rt, rt.alloc(), &script.list, Asked::At(23), 4)
+    adds(&rt, rt.alloc(), &script.list, Asked::At(27), 4)
 }
 
 /// The entries of the next line, and whether the first is blank, where another line follows.

@@ -1,12 +1,12 @@
 //! Words (XCU 2.3), and how far they go: their pieces in the five modes (XCU 2.2, 2.6).
-ghost use Rattle.std.specs.Prelude.{◌≡◌, ◌≢◌, ◌+◌, ◌<◌, ◌≤◌, [], length, IfOk, false, true};
+ghost use Rattle.std.specs.Prelude.{◌≡◌, ◌≢◌, ◌+◌, ◌<◌, ◌≤◌, length, map, IfOk, List as Row, false, true};
 ghost use Rattle.shread.specs.Bytes.{ends_word, past_continuations};
 ghost use Rattle.shread.specs.Clauses.{IsRead, Onward, Reads, Stays, text_of};
 ghost use Rattle.shread.specs.Comments.{span};
 ghost use Rattle.shread.specs.Form.{again, step_if};
 ghost use Rattle.shread.specs.Pieces.{past_closer};
-ghost use Rattle.shtree.specs.Tree.{no_subst, word};
-ghost use Rattle.shtree.specs.View.{view_word};
+ghost use Rattle.shtree.specs.Tree.{ASubst, substs_of, word};
+ghost use Rattle.shtree.specs.View.{view_subst, view_word};
 ghost use Rattle.shread.specs.Standing.{raw_stands};
 ghost use Rattle.shread.specs.Words.{a_piece, a_word, contents, having, holds_others, piece_row};
 ghost use Rattle.shread.specs.Levels.{level};
@@ -15,8 +15,8 @@ use crate::cursor::Cursor;
 use crate::fault::{FaultKind, Stop};
 use crate::mode::{Mode, Piece};
 use crate::source::Source;
-use shtree::Word;
 use shtree::make::word_of;
+use shtree::{Subst, Word};
 use std::alloc::Global;
 
 impl<'a, S: Source> Cursor<'a, S> {
@@ -39,13 +39,21 @@ impl<'a, S: Source> Cursor<'a, S> {
 
     /// A construct, from behind its opener to behind its closer. Most often it holds plain bytes alone, and in double
     /// quotes a `$` before a name, which is ordinary: what takes every piece is called for the others.
-    #[cycle(words)]
+    #[cycle(commands)]
     #[inline(always)]
     #[tactic(auto, unfolding(crate::specs::Bytes::behind), using(crate::proofs::Levels::level_closed, crate::proofs::PlainBytes::plain_begin, crate::proofs::PlainBytes::closed_here, crate::proofs::PlainBytes::ordinary_here, crate::proofs::Stretches::place_low))]
-    fn construct(&mut self, mode: Mode, opener: usize, room: usize) -> Result<(), Stop>
+    fn construct(
+        &mut self,
+        alloc: Global,
+        mode: Mode,
+        opener: usize,
+        substs: &mut Vec<Subst>,
+        room: usize,
+    ) -> Result<(), Stop>
         requires { opener ≤ self.old.at }
-        ensures value { Reads S.bytes self.old ((level room).construct mode (self.old.origin + opener) []) result
-            (λ done. []) self.new.at }
+        ensures value { Reads S.bytes self.old
+            ((level room).construct mode (self.old.origin + opener) (map view_subst substs.old.items)) result
+            (λ done. map view_subst substs.new.items) self.new.at }
         ensures onward { IfOk result (λ done. self.old.at ≤ self.new.at) }
         ensures same { Stays self.old self.new }
     {
@@ -64,7 +72,7 @@ impl<'a, S: Source> Cursor<'a, S> {
                     self.at = here + 1;
                     self.skip_plain(mode);
                 }
-                _ => return self.contents(mode, opener, room - 1),
+                _ => return self.contents(alloc, mode, opener, substs, room - 1),
             }
         }
     }
@@ -89,8 +97,9 @@ impl<'a, S: Source> Cursor<'a, S> {
         requires opener { opener ≤ self.old.at }
         requires nested { nested.old ≤ self.old.at }
         requires close { piece ≡ Piece.Close → 0 < nested.old }
-        ensures value { Reads S.bytes self.old (piece_row (level 0) mode (self.old.origin + opener) (having nested.old []) piece)
-            result (λ done. again (having nested.new [])) self.new.at }
+        ensures value { (ss : Row ASubst) →
+            Reads S.bytes self.old (piece_row (level 0) mode (self.old.origin + opener) (having nested.old ss) piece)
+            result (λ done. again (having nested.new ss)) self.new.at }
         ensures onward { IfOk result (λ done. self.old.at < self.new.at) }
         ensures nested { IfOk result (λ done. nested.new ≤ self.new.at) }
         ensures same { Stays self.old self.new }
@@ -98,7 +107,6 @@ impl<'a, S: Source> Cursor<'a, S> {
         match piece {
             Piece::Missing => return Err(self.wrong_at(mode.unclosed(), opener)),
             Piece::LoneBackslash => return Err(self.wrong_at(FaultKind::LoneBackslash, here)),
-            Piece::Subst => return Err(self.wrong_at(FaultKind::Unexpected, here)),
             Piece::BadClose => return Err(self.wrong_at(FaultKind::BadArithClose, here)),
             Piece::Escape => self.at = here + 2,
             Piece::Single => self.single(here)?,
@@ -119,20 +127,22 @@ impl<'a, S: Source> Cursor<'a, S> {
     }
 
     /// One piece, with so many brackets open in arithmetic. Answers whether there was one: if not, the construct ends here.
-    #[cycle(words)]
+    #[cycle(commands)]
     #[tactic(auto, unfolding(crate::specs::Words::a_piece, crate::specs::Pieces::past_taken, crate::specs::Bytes::behind), using(crate::proofs::Stretches::place_low))]
     fn take_piece(
         &mut self,
+        alloc: Global,
         mode: Mode,
         opener: usize,
         nested: &mut usize,
+        substs: &mut Vec<Subst>,
         room: usize,
     ) -> Result<bool, Stop>
         requires opener { opener ≤ self.old.at }
         requires nested { nested.old ≤ self.old.at }
         ensures value { Reads S.bytes self.old
-            (a_piece (level room) mode (self.old.origin + opener) (having nested.old [])) result
-            (λ more. step_if more (having nested.new [])) self.new.at }
+            (a_piece (level room) mode (self.old.origin + opener) (having nested.old (map view_subst substs.old.items))) result
+            (λ more. step_if more (having nested.new (map view_subst substs.new.items))) self.new.at }
         ensures onward { IfOk result (Onward self.old.at self.new.at) }
         ensures nested { IfOk result (λ more. nested.new ≤ self.new.at) }
         ensures some { mode ≡ Mode.Plain → ends_word (text_of S.bytes self.old) self.old.at ≡ false →
@@ -148,17 +158,21 @@ impl<'a, S: Source> Cursor<'a, S> {
             }
             Piece::Double => {
                 self.at = here + 1;
-                self.construct(Mode::Double, here, room)?;
+                self.construct(alloc, Mode::Double, here, substs, room)?;
+            }
+            Piece::Subst => {
+                self.at = self.behind(here + 1);
+                self.substitution(alloc, here, substs, room)?;
             }
             Piece::Arith => {
                 self.at = self.behind(self.behind(here + 1));
-                self.construct(Mode::Arith, here, room)?;
+                self.construct(alloc, Mode::Arith, here, substs, room)?;
             }
             Piece::Param => {
                 self.at = self.behind(here + 1);
                 self.parameter();
                 let rest = self.rest_mode(mode);
-                self.construct(rest, here, room)?;
+                self.construct(alloc, rest, here, substs, room)?;
             }
             _ => self.closed_piece(piece, mode, opener, nested, here)?,
         }
@@ -166,47 +180,57 @@ impl<'a, S: Source> Cursor<'a, S> {
     }
 
     /// What a construct holds, up to its end.
-    #[cycle(words)]
+    #[cycle(commands)]
     #[tactic(auto, unfolding(crate::specs::Words::contents), using(crate::proofs::Turns::many_done, crate::proofs::PlainBytes::contents_stop, crate::proofs::PlainBytes::piece_and_plain))]
-    fn contents(&mut self, mode: Mode, opener: usize, room: usize) -> Result<(), Stop>
+    fn contents(
+        &mut self,
+        alloc: Global,
+        mode: Mode,
+        opener: usize,
+        substs: &mut Vec<Subst>,
+        room: usize,
+    ) -> Result<(), Stop>
         requires { opener ≤ self.old.at }
-        ensures value { Reads S.bytes self.old (contents (level room) mode (self.old.origin + opener) []) result
-            (λ done. []) self.new.at }
+        ensures value { Reads S.bytes self.old
+            (contents (level room) mode (self.old.origin + opener) (map view_subst substs.old.items)) result
+            (λ done. map view_subst substs.new.items) self.new.at }
         ensures onward { IfOk result (λ done. self.old.at ≤ self.new.at) }
         ensures some { mode ≡ Mode.Plain → ends_word (text_of S.bytes self.old) self.old.at ≡ false →
             IfOk result (λ done. self.old.at < self.new.at) }
         ensures same { Stays self.old self.new }
     {
         let mut nested = 0;
-        'pieces: while self.take_piece(mode, opener, &mut nested, room)? {
+        'pieces: while self.take_piece(alloc, mode, opener, &mut nested, substs, room)? {
             self.skip_plain(mode);
         }
         Ok(())
     }
 
-    /// Passes the word that begins here. Most words are plain bytes alone.
+    /// Passes the word that begins here, and answers its substitutions. Most words are plain bytes alone.
+    #[cycle(commands)]
     #[inline(always)]
     #[tactic(auto, using(crate::proofs::PlainBytes::plain_word, crate::proofs::PlainBytes::word_rest, crate::proofs::PlainBytes::word_stops, crate::proofs::PlainBytes::some_plain))]
-    pub(crate) fn pass_word(&mut self, room: usize) -> Result<(), Stop>
+    pub(crate) fn pass_word(&mut self, alloc: Global, room: usize) -> Result<Vec<Subst>, Stop>
         requires { ends_word (text_of S.bytes self.old) self.old.at ≡ false }
         ensures value { Reads S.bytes self.old (a_word (level room)) result
-            (λ done. word (span self.old.origin self.old.at self.new.at) no_subst) self.new.at }
-        ensures onward { IfOk result (λ done. self.old.at < self.new.at) }
+            (λ substs. word (span self.old.origin self.old.at self.new.at) (substs_of (map view_subst substs.items))) self.new.at }
+        ensures onward { IfOk result (λ substs. self.old.at < self.new.at) }
         ensures same { Stays self.old self.new }
     {
         let start = self.at;
+        let mut substs = Vec::new(alloc);
         self.skip_plain(Mode::Plain);
         if !self.ends_word() {
-            self.contents(Mode::Plain, start, room)?;
+            self.contents(alloc, Mode::Plain, start, &mut substs, room)?;
         }
-        Ok(())
+        Ok(substs)
     }
 
-    /// The word from a place to this one.
-    pub(crate) fn word_from(&self, alloc: Global, start: usize) -> Word
+    /// The word from a place to this one, with these substitutions.
+    pub(crate) fn word_from(&self, start: usize, substs: Vec<Subst>) -> Word
         requires { start ≤ self.now.at }
-        ensures { view_word result ≡ word (span self.now.origin start self.now.at) no_subst }
+        ensures { view_word result ≡ word (span self.now.origin start self.now.at) (substs_of (map view_subst substs.items)) }
     {
-        word_of(self.span_from(start), Vec::new(alloc))
+        word_of(self.span_from(start), substs)
     }
 }

@@ -1,119 +1,215 @@
 use Rattle.std.proofs.Common.{◌≡◌, ◌≤◌, ◌+◌, ◌*◌, ◌-◌, [], length, map}
 use Rattle.shread.specs.Clauses.{Shows, Stays, reads, reads_at, text_of}
-use Rattle.shread.specs.Commands.{join_pipeline, joined_so, pipe_turn, piped}
-use Rattle.shread.specs.Compounds.{branched, case_turn, elif_turn}
+use Rattle.shread.specs.Commands.{item_turn, join_pipeline, joined_so, pipe_turn, piped, so_many}
+use Rattle.shread.specs.Compounds.{branched, elif_turn, pattern_turn, patterned, case_turn}
 use Rattle.shread.specs.Form.{many}
 use Rattle.shread.specs.Levels.{level}
 use Rattle.shread.specs.Listed.{view_cases, view_listed}
 use Rattle.shread.specs.Lists.{entry_turn, list_so, list_turn}
-use Rattle.shtree.specs.View.{view_and_or_part, view_branch, view_pipeline_part}
+use Rattle.shread.specs.Words.{a_piece, contents, having}
+use Rattle.shtree.specs.View.{view_and_or_part, view_branch, view_item, view_pipeline_part, view_subst, view_word}
 use Rattle.shread.proofs.cursor.Cursor.+commands.Given as goal
 
 -- ---- the way down: to what is read inside, and at last to fewer that may be opened
 
+abbrev pub decreases-construct : goal.decreases-construct
+decreases-construct g l = 64 * l.room + 1
+
+abbrev pub decreases-substitution : goal.decreases-substitution
+decreases-substitution g l = 64 * l.room + 1
+
+abbrev pub decreases-take_piece : goal.decreases-take_piece
+decreases-take_piece g l = 64 * l.room + 2
+
+abbrev pub decreases-contents : goal.decreases-contents
+decreases-contents g l = 64 * l.room + 3
+
+abbrev pub decreases-pass_word : goal.decreases-pass_word
+decreases-pass_word g l = 64 * l.room + 4
+
+abbrev pub decreases-what_is_wrong : goal.decreases-what_is_wrong
+decreases-what_is_wrong g l = 64 * l.room + 5
+
+abbrev pub decreases-item : goal.decreases-item
+decreases-item g l = 64 * l.room + 5
+
+abbrev pub decreases-pattern : goal.decreases-pattern
+decreases-pattern g l = 64 * l.room + 5
+
+abbrev pub decreases-closing : goal.decreases-closing
+decreases-closing g l = 64 * l.room + 6
+
+abbrev pub decreases-items : goal.decreases-items
+decreases-items g l = 64 * l.room + 6
+
+abbrev pub decreases-for_name : goal.decreases-for_name
+decreases-for_name g l = 64 * l.room + 6
+
+abbrev pub decreases-sequential_sep : goal.decreases-sequential_sep
+decreases-sequential_sep g l = 64 * l.room + 6
+
+abbrev pub decreases-case_word : goal.decreases-case_word
+decreases-case_word g l = 64 * l.room + 6
+
+abbrev pub decreases-one_pattern : goal.decreases-one_pattern
+decreases-one_pattern g l = 64 * l.room + 6
+
+abbrev pub decreases-item_end : goal.decreases-item_end
+decreases-item_end g l = 64 * l.room + 6
+
+abbrev pub decreases-simple : goal.decreases-simple
+decreases-simple g l = 64 * l.room + 7
+
+abbrev pub decreases-for_words : goal.decreases-for_words
+decreases-for_words g l = 64 * l.room + 7
+
+abbrev pub decreases-pattern_turn : goal.decreases-pattern_turn
+decreases-pattern_turn g l = 64 * l.room + 7
+
+abbrev pub decreases-case_head : goal.decreases-case_head
+decreases-case_head g l = 64 * l.room + 7
+
+abbrev pub decreases-for_head : goal.decreases-for_head
+decreases-for_head g l = 64 * l.room + 8
+
+abbrev pub decreases-more_patterns : goal.decreases-more_patterns
+decreases-more_patterns g l = 64 * l.room + 8
+
+abbrev pub decreases-patterns : goal.decreases-patterns
+decreases-patterns g l = 64 * l.room + 9
+
 abbrev pub decreases-compound : goal.decreases-compound
-decreases-compound g l = 32 * l.room + 1
+decreases-compound g l = 64 * l.room + 10
 
 abbrev pub decreases-compound_by : goal.decreases-compound_by
-decreases-compound_by g l = 32 * l.room + 2
+decreases-compound_by g l = 64 * l.room + 11
 
 abbrev pub decreases-function : goal.decreases-function
-decreases-function g l = 32 * l.room + 3
+decreases-function g l = 64 * l.room + 12
 
 abbrev pub decreases-named : goal.decreases-named
-decreases-named g l = 32 * l.room + 4
+decreases-named g l = 64 * l.room + 13
 
 abbrev pub decreases-worded : goal.decreases-worded
-decreases-worded g l = 32 * l.room + 5
+decreases-worded g l = 64 * l.room + 14
 
 abbrev pub decreases-command : goal.decreases-command
-decreases-command g l = 32 * l.room + 6
+decreases-command g l = 64 * l.room + 15
 
 abbrev pub decreases-one_command : goal.decreases-one_command
-decreases-one_command g l = 32 * l.room + 7
+decreases-one_command g l = 64 * l.room + 16
 
 abbrev pub decreases-pipe : goal.decreases-pipe
-decreases-pipe g l = 32 * l.room + 8
+decreases-pipe g l = 64 * l.room + 17
 
 abbrev pub decreases-pipes : goal.decreases-pipes
-decreases-pipes g l = 32 * l.room + 9
+decreases-pipes g l = 64 * l.room + 18
 
 abbrev pub decreases-pipeline : goal.decreases-pipeline
-decreases-pipeline g l = 32 * l.room + 10
+decreases-pipeline g l = 64 * l.room + 19
 
 abbrev pub decreases-one_pipeline : goal.decreases-one_pipeline
-decreases-one_pipeline g l = 32 * l.room + 11
+decreases-one_pipeline g l = 64 * l.room + 20
 
 abbrev pub decreases-join_pipeline : goal.decreases-join_pipeline
-decreases-join_pipeline g l = 32 * l.room + 12
+decreases-join_pipeline g l = 64 * l.room + 21
 
 abbrev pub decreases-joined_pipelines : goal.decreases-joined_pipelines
-decreases-joined_pipelines g l = 32 * l.room + 13
+decreases-joined_pipelines g l = 64 * l.room + 22
 
 abbrev pub decreases-and_or : goal.decreases-and_or
-decreases-and_or g l = 32 * l.room + 14
+decreases-and_or g l = 64 * l.room + 23
 
 abbrev pub decreases-next_entry : goal.decreases-next_entry
-decreases-next_entry g l = 32 * l.room + 16
+decreases-next_entry g l = 64 * l.room + 25
 
 abbrev pub decreases-entries : goal.decreases-entries
-decreases-entries g l = 32 * l.room + 17
+decreases-entries g l = 64 * l.room + 26
 
 abbrev pub decreases-on_line : goal.decreases-on_line
-decreases-on_line g l = 32 * l.room + 18
+decreases-on_line g l = 64 * l.room + 27
 
 abbrev pub decreases-list_line : goal.decreases-list_line
-decreases-list_line g l = 32 * l.room + 19
+decreases-list_line g l = 64 * l.room + 28
 
 abbrev pub decreases-list_lines : goal.decreases-list_lines
-decreases-list_lines g l = 32 * l.room + 20
+decreases-list_lines g l = 64 * l.room + 29
 
 abbrev pub decreases-list : goal.decreases-list
-decreases-list g l = 32 * l.room + 21
+decreases-list g l = 64 * l.room + 30
 
-abbrev pub decreases-branch : goal.decreases-branch
-decreases-branch g l = 32 * l.room + 22
-
-abbrev pub decreases-group : goal.decreases-group
-decreases-group g l = 32 * l.room + 22
-
-abbrev pub decreases-loop_command : goal.decreases-loop_command
-decreases-loop_command g l = 32 * l.room + 22
-
-abbrev pub decreases-otherwise : goal.decreases-otherwise
-decreases-otherwise g l = 32 * l.room + 22
-
-abbrev pub decreases-elif : goal.decreases-elif
-decreases-elif g l = 32 * l.room + 23
-
-abbrev pub decreases-elifs : goal.decreases-elifs
-decreases-elifs g l = 32 * l.room + 24
-
-abbrev pub decreases-if_command : goal.decreases-if_command
-decreases-if_command g l = 32 * l.room + 25
-
-abbrev pub decreases-for_command : goal.decreases-for_command
-decreases-for_command g l = 32 * l.room + 25
+abbrev pub decreases-substituted : goal.decreases-substituted
+decreases-substituted g l = 64 * l.room + 30
 
 abbrev pub decreases-body : goal.decreases-body
-decreases-body g l = 32 * l.room + 21
+decreases-body g l = 64 * l.room + 30
+
+abbrev pub decreases-branch : goal.decreases-branch
+decreases-branch g l = 64 * l.room + 31
+
+abbrev pub decreases-group : goal.decreases-group
+decreases-group g l = 64 * l.room + 31
+
+abbrev pub decreases-loop_command : goal.decreases-loop_command
+decreases-loop_command g l = 64 * l.room + 31
+
+abbrev pub decreases-otherwise : goal.decreases-otherwise
+decreases-otherwise g l = 64 * l.room + 31
 
 abbrev pub decreases-one_case : goal.decreases-one_case
-decreases-one_case g l = 32 * l.room + 22
+decreases-one_case g l = 64 * l.room + 31
 
 abbrev pub decreases-case_turn : goal.decreases-case_turn
-decreases-case_turn g l = 32 * l.room + 23
+decreases-case_turn g l = 64 * l.room + 32
+
+abbrev pub decreases-elif : goal.decreases-elif
+decreases-elif g l = 64 * l.room + 32
+
+abbrev pub decreases-elifs : goal.decreases-elifs
+decreases-elifs g l = 64 * l.room + 33
 
 abbrev pub decreases-cases : goal.decreases-cases
-decreases-cases g l = 32 * l.room + 24
+decreases-cases g l = 64 * l.room + 33
+
+abbrev pub decreases-if_command : goal.decreases-if_command
+decreases-if_command g l = 64 * l.room + 34
+
+abbrev pub decreases-for_command : goal.decreases-for_command
+decreases-for_command g l = 64 * l.room + 34
 
 abbrev pub decreases-case_command : goal.decreases-case_command
-decreases-case_command g l = 32 * l.room + 25
+decreases-case_command g l = 64 * l.room + 34
 
 abbrev pub decreases-form : goal.decreases-form
-decreases-form g l = 32 * l.room + 26
+decreases-form g l = 64 * l.room + 35
 
 -- ---- loops
+
+abbrev pub invariant-construct-ordinary : goal.invariant-construct-ordinary
+invariant-construct-ordinary g l =
+    (reads_at g.S.Source.bytes l.fn.self (contents (level (l.room - 1)) l.mode (l.fn.self.origin + l.opener) (map view_subst l.substs.items)) l.self.at
+    ≡ reads g.S.Source.bytes l.fn.self ((level l.room).construct l.mode (l.fn.self.origin + l.opener) (map view_subst l.fn.substs.items)))
+    × (l.fn.self.at ≤ l.self.at) × (l.opener ≤ l.self.at) × (l.substs ≡ l.fn.substs) × Stays l.fn.self l.self
+
+abbrev pub decreases-construct-ordinary : goal.decreases-construct-ordinary
+decreases-construct-ordinary g l = length (text_of g.S.Source.bytes l.self) - l.self.at
+
+abbrev pub invariant-contents-pieces : goal.invariant-contents-pieces
+invariant-contents-pieces g l =
+    (reads_at g.S.Source.bytes l.fn.self (many (a_piece (level l.room) l.mode (l.fn.self.origin + l.opener)) (having l.nested (map view_subst l.substs.items))) l.self.at
+    ≡ reads g.S.Source.bytes l.fn.self (many (a_piece (level l.room) l.mode (l.fn.self.origin + l.opener)) (having 0 (map view_subst l.fn.substs.items))))
+    × (l.fn.self.at ≤ l.self.at) × (l.nested ≤ l.self.at) × (l.opener ≤ l.self.at) × Stays l.fn.self l.self
+
+abbrev pub decreases-contents-pieces : goal.decreases-contents-pieces
+decreases-contents-pieces g l = length (text_of g.S.Source.bytes l.self) - l.self.at
+
+abbrev pub invariant-items-turns : goal.invariant-items-turns
+invariant-items-turns g l =
+    (reads_at g.S.Source.bytes l.fn.self (many (item_turn (level l.room)) (so_many (map view_item l.items.items) l.next)) l.self.at ≡ reads g.S.Source.bytes l.fn.self (many (item_turn (level l.room)) (so_many (map view_item l.fn.items.items) l.fn.next)))
+    × Shows l.next.token (text_of g.S.Source.bytes l.fn.self) l.self.at × (l.fn.self.at ≤ l.self.at) × Stays l.fn.self l.self
+
+abbrev pub decreases-items-turns : goal.decreases-items-turns
+decreases-items-turns g l = length (text_of g.S.Source.bytes l.self) - l.self.at
 
 abbrev pub invariant-pipes-turns : goal.invariant-pipes-turns
 invariant-pipes-turns g l =
@@ -154,6 +250,14 @@ invariant-elifs-turns g l =
 
 abbrev pub decreases-elifs-turns : goal.decreases-elifs-turns
 decreases-elifs-turns g l = length (text_of g.S.Source.bytes l.self) - l.self.at
+
+abbrev pub invariant-more_patterns-turns : goal.invariant-more_patterns-turns
+invariant-more_patterns-turns g l =
+    (reads_at g.S.Source.bytes l.fn.self (many (pattern_turn (level l.room)) (patterned (map view_word l.patterns.items) l.next)) l.self.at ≡ reads g.S.Source.bytes l.fn.self (many (pattern_turn (level l.room)) (patterned (map view_word l.fn.patterns.items) l.fn.next)))
+    × Shows l.next.token (text_of g.S.Source.bytes l.fn.self) l.self.at × (l.fn.self.at ≤ l.self.at) × Stays l.fn.self l.self
+
+abbrev pub decreases-more_patterns-turns : goal.decreases-more_patterns-turns
+decreases-more_patterns-turns g l = length (text_of g.S.Source.bytes l.self) - l.self.at
 
 abbrev pub invariant-cases-turns : goal.invariant-cases-turns
 invariant-cases-turns g l =
