@@ -10,7 +10,7 @@ use Rattle.shread.proofs.Elsewhere.{ItemAnywhere, NameAnywhere}
 use Rattle.shread.proofs.NamesBefore.{NameBefore}
 use Rattle.shread.proofs.CommentsElsewhere.{CommentAnywhere}
 use Rattle.shtree.specs.Shape.{Text, Shape}
-use Rattle.shtree.specs.Tree.{ForWordsOf, no_in, in_words, AWordOf, EntriesOf, no_entry, more_entries, AnEntryOf, entry, AContentOf, command, remark, AnAndOrOf, and_or, AndOrPartsOf, no_and_or, more_and_or, APipelineOf, pipeline, PipelinePartsOf, no_pipe, more_pipes, ACommandOf, simple, compound, function, ACompoundOf, formed, AFormOf, brace, subshell, if_then, while_do, until_do, for_in, case_in, CaseItemsOf, no_case, more_cases, ACaseItemOf, case_item, PatternsOf, no_pattern, more_patterns, ABranchOf, branch, BranchesOf, no_branch, more_branches, OtherwiseOf, no_else, otherwise, ItemsOf, no_item, more_items, AnItemOf, item, AnItemContentOf, assign, argument, word, no_subst}
+use Rattle.shtree.specs.Tree.{ForWordsOf, no_in, in_words, AWordOf, EntriesOf, no_entry, more_entries, AnEntryOf, entry, AContentOf, command, remark, AnAndOrOf, and_or, AndOrPartsOf, no_and_or, more_and_or, APipelineOf, pipeline, PipelinePartsOf, no_pipe, more_pipes, ACommandOf, simple, compound, function, ACompoundOf, formed, AFormOf, brace, subshell, if_then, while_do, until_do, for_in, case_in, ABranchOf, branch, BranchesOf, no_branch, more_branches, OtherwiseOf, no_else, otherwise, ItemsOf, no_item, more_items, AnItemOf, item, AnItemContentOf, assign, argument, word, SubstsOf, CaseItemsOf, no_case, more_cases, ACaseItemOf, case_item, PatternsOf, no_pattern, more_patterns}
 
 abbrev pub GoodComments : Row Text → Type 0
 GoodComments [] = Unit {0}
@@ -21,18 +21,18 @@ GoodOwnComment None = Unit {0}
 GoodOwnComment (Some c) = CommentAnywhere c
 
 -- what a word is, by the position behind it
-abbrev pub as_shape : Position → Text → Shape AnItemContentOf
-as_shape Prefix t = assign (word t no_subst)
-as_shape _ t = argument (word t no_subst)
+abbrev pub as_shape : Position → Shape AWordOf → Shape AnItemContentOf
+as_shape Prefix w = assign w
+as_shape _ w = argument w
 
-abbrev pub an_item_of : Bool → Position → Text → Shape AnItemOf
-an_item_of broken position t = item broken (as_shape position t)
+abbrev pub an_item_of : Bool → Position → Shape AWordOf → Shape AnItemOf
+an_item_of broken position w = item broken (as_shape position w)
 
 -- the items of a simple command from one position to another, where so many constructs may be open
 pub data GoodItems (room : ℕ) : Position → Shape ItemsOf → Position → Type 0 where
   none_more : {position : Position} → GoodItems room position no_item position
-  one_more : {position next last : Position} {token : Token} {broken : Bool} {t : Text} {is : Shape ItemsOf} → behind_item token ≡ Some next → ItemAnywhere room position token t
-      → GoodItems room next is last → GoodItems room position (more_items (an_item_of broken next t) is) last
+  one_more : {position next last : Position} {token : Token} {broken : Bool} {t : Text} {ss : Shape SubstsOf} {is : Shape ItemsOf} → behind_item token ≡ Some next → ItemAnywhere room position token t ss
+      → GoodItems room next is last → GoodItems room position (more_items (an_item_of broken next (word t ss)) is) last
 
 abbrev pub SomeItem : Shape ItemsOf → Type 0
 SomeItem no_item = ⊥
@@ -60,10 +60,11 @@ GoodForWords room (in_words items) = GoodWords room items
 -- a word that begins with such a token in this position, wherever it stands
 pub record GoodWord (room : ℕ) (position : Position) (begins : Token → Bool) (w : Shape AWordOf) : Type 0 where
   pub t : Text
-  pub is : w ≡ word t no_subst
+  pub ss : Shape SubstsOf
+  pub is : w ≡ word t ss
   pub token : Token
   pub begin : begins token ≡ true
-  pub reads : ItemAnywhere room position token t
+  pub reads : ItemAnywhere room position token t ss
 
 -- the patterns behind the first one
 abbrev pub GoodMorePatterns : ℕ → Shape PatternsOf → Type 0
@@ -77,10 +78,11 @@ GoodPatterns room (more_patterns w ws) = GoodWord room Command begins_pattern w 
 -- the name of a for: a word that is a NAME, wherever it stands
 pub record GoodName (room : ℕ) (name : Shape AWordOf) : Type 0 where
   pub t : Text
-  pub is : name ≡ word t no_subst
+  pub ss : Shape SubstsOf
+  pub is : name ≡ word t ss
   pub token : Token
   pub begins : begins_simple token ≡ true
-  pub reads : ItemAnywhere room Suffix token t
+  pub reads : ItemAnywhere room Suffix token t ss
   pub names : NameAnywhere t
 
 abbrev mutual

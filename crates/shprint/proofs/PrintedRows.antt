@@ -1,5 +1,5 @@
 -- The rows of the grammar over a printed text: what is printed for a good shape is read as a tree of that shape.
-use Rattle.std.proofs.Common.{◌≡◌, ℕ, zero, suc, ◌+◌, ◌-◌, ◌<◌, ◌≤◌, ⊎_elim, ◌==◌, Bool, true, false, not, ◌&&◌, ◌||◌, List, List as Row, [], ◌∷◌, ◌++◌, length, drop, take, codes, if◌then◌else◌, cond, Ok, Option, Some, None, is_some, option_map, slice_get, refl, sym, ap, subst, ◌∙◌, arith, append_assoc, append-nil}
+use Rattle.std.proofs.Common.{◌≡◌, ℕ, zero, suc, ◌+◌, ◌-◌, ◌<◌, ◌≤◌, ⊎_elim, ◌==◌, Bool, true, false, not, ◌&&◌, ◌||◌, List, List as Row, [], ◌∷◌, ◌++◌, length, drop, take, codes, if◌then◌else◌, cond, Option, Some, None, is_some, option_map, slice_get, refl, sym, ap, subst, ◌∙◌, arith, append_assoc, append-nil}
 use Rattle.std.proofs.Math.ListN.{replicate}
 use Rattle.std.proofs.lemmas.Bool.{both_ways, cases_lt, lt-ltb, and_from, and_parts, cond_both}
 use Rattle.std.proofs.lemmas.Bool.Decides.{nat_tests}
@@ -24,17 +24,17 @@ use Rattle.shread.specs.Comments.{span, comment_at}
 use Rattle.shread.specs.Standing.{is_byte, raw_stands}
 use Rattle.shread.specs.Tokens.{is_end, is_comment, past_reserved, token_of, token_at, next_at}
 use Rattle.shread.specs.Sights.{Given, given, standing, here as the_place, is_a_name, the_token, the_comment, blanks, one_byte, the_reserved, a_comment_on}
-use Rattle.shread.specs.Form.{Spelled, Form, ◌>>◌, by, give, move, raw, may, leads_on, step_if, again, done, many}
+use Rattle.shread.specs.Form.{Spelled, Form, ◌>>◌, by, give, move, leads_on, again, done, many, step_if}
 use Rattle.shread.specs.Words.{Inner, a_word}
-use Rattle.shread.specs.Levels.{most_open, level, IsWord}
-use Rattle.shtree.specs.Nodes.{through}
+use Rattle.shread.specs.Levels.{most_open, level}
+use Rattle.shtree.specs.Nodes.{through, word_span}
 use Rattle.shtree.specs.Normal.{is_normal_form, is_normal_else, are_normal_branches, is_normal_branch, is_whole, is_command, holds_command, is_normal_entry, first_not_blank, are_normal, is_normal_and_or, are_normal_and_ors, is_normal_pipeline, are_normal_pipes, first_not_broken, is_normal_join, is_normal_compound, is_normal_command, are_normal_words, are_normal_cases, is_normal_case, are_normal_patterns}
 use Rattle.shread.specs.Compounds.{a_compound, is_open_paren, behind_opener, a_for, a_for_head, a_for_name, a_linebreak, a_sequential_sep, for_words, headed, an_if, a_group, a_form, opener_text, Closed, a_loop, an_else, elif_turn, branched, a_branch, passed, closing, closing_text, is_closing, is_close_paren, under_name, a_function, a_case, a_case_head, a_case_word, begins_pattern, patterned, a_pattern, one_pattern, pattern_turn, a_pattern_list, an_open_bracket, a_body, body_end, item_end, an_item_end, a_double_semicolon, cases_so, one_case, case_turn}
 use Rattle.shread.specs.Lines.{a_line, end_of_line}
 use Rattle.shread.specs.Lists.{Listed, list_so, none_listed, one_entry, entry_turn, a_remark, on_line, list_turn, a_list}
 use Rattle.shread.specs.Commands.{Entered, a_semicolon, is_semicolon, an_entry, a_separator, separator_of, told_separator, is_background, an_and_or, one_pipeline, join_pipeline, joined_so, a_bang, a_pipeline, begins_pipeline, and_or_operator_of, is_pipe, piped, one_command, pipe_turn, a_command, a_newline, a_comment, join_turn, join_so, a_join_of, a_join, begins_simple, opener_of, is_newline, is_bang, is_empty, next_token, behind_item, so_many, breaks, as_item, an_item, item_turn, a_simple, is_word, is_paren, a_worded, compound_by, ASeparator, past_separator, is_double_semicolon}
 use Rattle.shread.proofs.Places.{must_fail, blanks_low}
-use Rattle.shread.proofs.NoSubsts.{no_substs}
+use Rattle.shread.proofs.Anywhere.{WordOf, word_span as spanned}
 use Rattle.shread.proofs.Elsewhere.{follows, ItemAnywhere}
 use Rattle.shread.proofs.CommentsElsewhere.{CommentAnywhere}
 use Rattle.shtree.specs.declared.tree.AndOrOperator.{AndOrOperator}
@@ -42,13 +42,13 @@ use Rattle.shtree.specs.declared.tree.AndOrOperator.TheVariants.{And, Or}
 use Rattle.shtree.specs.declared.tree.Span.{Span}
 use Rattle.shtree.specs.Spelling.{and_or_text}
 use Rattle.shtree.specs.Shape.{Text, Shape, text_at, shape_of_items, shape_of_item, shape_of_command, shape_of_comments, shape_of_join, shape_of_pipes, shape_of_bang, shape_of_pipeline, shape_of_and_or, shape_of_and_or_parts, shape_of_comment, shape_of_entry, shape_of, shape_of_branch, shape_of_branches, shape_of_else, shape_of_form, shape_of_for_words, shape_of_word, shape_of_compound, shape_of_patterns, shape_of_case, shape_of_cases}
-use Rattle.shtree.specs.Tree.{AWordOf, ForWordsOf, ForWords, no_in, in_words, AJoinOf, AJoin, AnItemOf, AnItem, AWord, ABranchOf, ABranch, branch, BranchesOf, no_branch, more_branches, branches_of, OtherwiseOf, Otherwise, no_else, otherwise, EntriesOf, Entries, no_entry, more_entries, entries_of, AContentOf, remark, AnEntryOf, AnEntry, entry, command, AnAndOr, AnAndOrOf, and_or, AnAndOrPart, and_or_parts_of, APipeline, APipelineOf, pipeline, AndOrPartsOf, no_and_or, more_and_or, PipelinePartsOf, no_pipe, more_pipes, APipelinePart, pipeline_parts_of, ACompoundOf, formed, ACommandOf, ACommand, compound, function, item, AFormOf, AForm, brace, subshell, if_then, while_do, until_do, for_in, case_in, items_of, ItemsOf, no_item, more_items, simple, word, no_subst, argument, PatternsOf, no_pattern, more_patterns, patterns_of, CaseItemsOf, no_case, more_cases, cases_of, ACaseItemOf, ACaseItem, case_item}
+use Rattle.shtree.specs.Tree.{AWordOf, ForWordsOf, ForWords, no_in, in_words, AJoinOf, AJoin, AnItemOf, AnItem, AWord, ABranchOf, ABranch, branch, BranchesOf, no_branch, more_branches, branches_of, OtherwiseOf, Otherwise, no_else, otherwise, EntriesOf, Entries, no_entry, more_entries, entries_of, AContentOf, remark, AnEntryOf, AnEntry, entry, command, AnAndOr, AnAndOrOf, and_or, AnAndOrPart, and_or_parts_of, APipeline, APipelineOf, pipeline, AndOrPartsOf, no_and_or, more_and_or, PipelinePartsOf, no_pipe, more_pipes, APipelinePart, pipeline_parts_of, ACompoundOf, formed, ACommandOf, ACommand, compound, function, item, AFormOf, AForm, brace, subshell, if_then, while_do, until_do, for_in, case_in, items_of, ItemsOf, no_item, more_items, simple, SubstsOf, no_subst, word, argument, PatternsOf, no_pattern, more_patterns, patterns_of, CaseItemsOf, no_case, more_cases, cases_of, ACaseItemOf, ACaseItem, case_item}
 use Rattle.shprint.specs.declared.layout.Layout.{Layout}
 use Rattle.shprint.specs.Marks.{text, line_end, Marks, laid, one, step, deeper, lines_between}
 use Rattle.shprint.specs.Printed.{print_for_words, print_word, print_form, print_branch, print_branches, print_else, is_one_line, print_only, print_content, print_entry, print_entries, print_blank, print_background, print_own_comment, print_and_or, print_bang, print_pipeline, print_and_or_parts, print_join, print_pipes, print_compound, print_command, operand_margin, breaks_line, print_comments, print_further_comments, print_gap, print_item, print_items, print_simple, print_function_gap, is_brace, print_cases, print_patterns, print_first_pattern, print_body, print_comment_lines, case_margin}
 use Rattle.shprint.proofs.Tokens.{none_first, end_here, for_here, in_here, if_here, then_here, elif_here, else_here, fi_here, while_here, until_here, do_here, done_here, brace_here, close_brace_here, open_token, close_token, semicolon_token, Keyword, ampersand_token, bang_here, pipe_token, and_token, or_token, first, byte_here, newline_token, start_here, skip, text_here, Gap, Start, all_blank, blank_gap, blanks_gap, broken_gap, no_gap, next_behind, next_one, kind_of, item_no_round, no_word, double_semicolon_token, case_here, esac_here}
 use Rattle.shprint.proofs.Gives.{Gives, gives, gives_on, told_here, ◌⟫◌, given_here, seen_here, moved_here, pushed_here, first_of, second_of, last_turn, one_turn}
-use Rattle.shprint.proofs.Good.{NoItems, GoodForWords, GoodName, GoodForm, GoodElse, GoodBranches, GoodBranch, GoodContent, GoodEntries, GoodOwnComment, GoodAndOr, GoodParts, GoodPipeline, GoodPipes, GoodCompound, GoodCommand, GoodComments, GoodItems, none_more, one_more, GoodSimple, SomeItem, an_item_of, as_shape, GoodBody, GoodFunction, parts_of_function, GoodWord, GoodMorePatterns, GoodCases}
+use Rattle.shprint.proofs.Good.{NoItems, GoodForWords, GoodName, GoodForm, GoodElse, GoodBranches, GoodBranch, GoodContent, GoodEntries, GoodOwnComment, GoodAndOr, GoodParts, GoodPipeline, GoodPipes, GoodCompound, GoodCommand, GoodComments, GoodItems, none_more, one_more, GoodSimple, SomeItem, an_item_of, GoodBody, GoodFunction, parts_of_function, GoodWord, GoodMorePatterns, GoodCases}
 
 -- ---- marks
 
@@ -215,47 +215,46 @@ module _ (B T : List ℕ) (o : ℕ) (here : drop o B ≡ T) where
     pub no_item : begins_simple (token_at Command T p) ≡ false
     pub opener : opener_of (token_at Command T p) ≡ Some opener_is
 
-  module _ (room : ℕ) (plain_word : (p n : ℕ) (w : AWord) (k : Row Spelled) → may (a_word (level room)) g (standing p) (Ok (w, standing (p + n))) k → w ≡ word (span o p (p + n)) no_subst) where
+  module _ (room : ℕ) where
     abbrev inner : Inner
     inner = level room
 
     -- one item
-    pub record ItemRead (acc : Row AnItem) (n : Next) (p : ℕ) (position : Position) (w : Text) : Type 0 where
+    pub record ItemRead (acc : Row AnItem) (n : Next) (p : ℕ) (position : Position) (w : Text) (ss : Shape SubstsOf) : Type 0 where
       pub it : AnItem
       pub reads : Gives g (item_turn inner (so_many acc n)) (standing p) (again (so_many (acc ++ it ∷ []) (next_at position T (p + length w)))) (standing (past_blanks T (p + length w)))
       pub on : leads_on g (standing p) (standing (past_blanks T (p + length w))) ≡ true
-      pub is : shape_of_item B it ≡ an_item_of (breaks (so_many acc n)) position w
+      pub is : shape_of_item B it ≡ an_item_of (breaks (so_many acc n)) position (word w ss)
 
-    item_shape : (position : Position) (b : Bool) (p : ℕ) (w zs : Text) → drop p T ≡ w ++ zs → shape_of_item B (item b (as_item position (word (span o p (p + length w)) no_subst))) ≡ an_item_of b position w
-    item_shape Command b p w zs at = ap (λ t. item b (as_shape Command t)) (span_text p w zs at)
-    item_shape Prefix b p w zs at = ap (λ t. item b (as_shape Prefix t)) (span_text p w zs at)
-    item_shape Suffix b p w zs at = ap (λ t. item b (as_shape Suffix t)) (span_text p w zs at)
+    item_shape : (position : Position) (b : Bool) (v : AWord) (w : Shape AWordOf) → shape_of_word B v ≡ w → shape_of_item B (item b (as_item position v)) ≡ an_item_of b position w
+    item_shape Command b v w is = rw is refl
+    item_shape Prefix b v w is = rw is refl
+    item_shape Suffix b v w is = rw is refl
 
     some_word : (p : ℕ) (w zs : Text) → 0 < length w → drop p T ≡ w ++ zs → p < length T
     some_word p [] zs some at = absurd (omega (arith, some))
     some_word p (c ∷ w) zs some at = some_here p c (w ++ zs) at
 
     -- a word that is printed here
-    printed_word : (w : Text) (p : ℕ) → IsWord room g p (length w) → Gives g (a_word inner) (standing p) (word (span o p (p + length w)) no_subst) (standing (p + length w))
-    printed_word w p v =
-        let e = p + length w in
-        gives _ (subst (λ x. may (a_word inner) g (standing p) (Ok (x, standing e)) (raw T p e ∷ [])) (plain_word p (length w) v.0 _ v.1) v.1)
+    printed_word : (w : Text) (ss : Shape SubstsOf) (p : ℕ) (v : WordOf room g p (length w) B (word w ss)) → Gives g (a_word inner) (standing p) v.0 (standing (p + length w))
+    printed_word w ss p v = gives _ v.1.0
 
-    pub item_read : (position next : Position) (token : Token) (w : Text) (acc : Row AnItem) (n : Next) (p : ℕ) (rest : Marks) → n.token ≡ token → behind_item token ≡ Some next
-        → ItemAnywhere room position token w → At p (text w ∷ rest) → follows (laid rest) ≡ true → ItemRead acc n p next w
+    pub item_read : (position next : Position) (token : Token) (w : Text) (ss : Shape SubstsOf) (acc : Row AnItem) (n : Next) (p : ℕ) (rest : Marks) → n.token ≡ token → behind_item token ≡ Some next
+        → ItemAnywhere room position token w ss → At p (text w ∷ rest) → follows (laid rest) ≡ true → ItemRead acc n p next w ss
     unfolding item_turn an_item
-    item_read position next token w acc n p rest is some good at follow =
+    item_read position next token w ss acc n p rest is some good at follow =
         let there = at ∙ laid_text w rest in
         let found = good.there g p (laid rest) there follow in
+        let v = found.word B (sym here) in
         let e = p + length w in
-        let it = item (breaks (so_many acc n)) (as_item next (word (span o p e) no_subst)) in
-        let read = printed_word w p found.word in
+        let it = item (breaks (so_many acc n)) (as_item next v.0) in
+        let read = printed_word w ss p v in
         let low = blanks_low T e in
         record {
           it = it;
           reads = rw (is, some) (read ⟫ pushed_here acc it ⟫ next_read next e ⟫ given_here);
           on = leads p (past_blanks T e) (omega (arith, good.some, low)) (some_word p w (laid rest) good.some there);
-          is = item_shape next _ p w (laid rest) there;
+          is = item_shape next _ v.0 (word w ss) v.1.1;
         }
 
     abbrev Shapes : Row AnItem → Shape ItemsOf
@@ -271,9 +270,9 @@ module _ (B T : List ℕ) (o : ℕ) (here : drop o B ≡ T) where
       pub shape : Shapes more_items_read ≡ is
 
     -- one more item before others
-    items_on : {acc : Row AnItem} {n : Next} {p : ℕ} {position : Position} {w : Text} {is : Shape ItemsOf} {rest : Marks} (one : ItemRead acc n p position w)
+    items_on : {acc : Row AnItem} {n : Next} {p : ℕ} {position : Position} {w : Text} {ss : Shape SubstsOf} {is : Shape ItemsOf} {rest : Marks} (one : ItemRead acc n p position w ss)
         → ItemsRead (acc ++ one.it ∷ []) (next_at position T (p + length w)) (past_blanks T (p + length w)) is rest
-        → ItemsRead acc n p (more_items (an_item_of (breaks (so_many acc n)) position w) is) rest
+        → ItemsRead acc n p (more_items (an_item_of (breaks (so_many acc n)) position (word w ss)) is) rest
     items_on {acc = acc} {n = n} {p = p} one others = record {
       more_items_read = one.it ∷ others.more_items_read;
       «end» = others.«end»;
@@ -327,19 +326,19 @@ module _ (B T : List ℕ) (o : ℕ) (here : drop o B ≡ T) where
 
     -- ---- all items
 
-    item_printed : (y : Layout) (b : Bool) (position : Position) (t : Text) → print_item y (an_item_of b position t) ≡ text t ∷ []
-    item_printed y b Command t = refl
-    item_printed y b Prefix t = refl
-    item_printed y b Suffix t = refl
+    item_printed : (y : Layout) (b : Bool) (position : Position) (t : Text) (ss : Shape SubstsOf) → print_item y (an_item_of b position (word t ss)) ≡ text t ∷ []
+    item_printed y b Command t ss = refl
+    item_printed y b Prefix t ss = refl
+    item_printed y b Suffix t ss = refl
 
-    more_printed : (y : Layout) (m : Text) (b : Bool) (position : Position) (t : Text) (is : Shape ItemsOf) (rest : Marks)
-        → print_items y m (more_items (an_item_of b position t) is) ++ rest ≡ print_gap y m b ++ (text t ∷ (print_items y m is ++ rest))
-    more_printed y m b position t is rest =
-        let one = item_printed y b position t in
+    more_printed : (y : Layout) (m : Text) (b : Bool) (position : Position) (t : Text) (ss : Shape SubstsOf) (is : Shape ItemsOf) (rest : Marks)
+        → print_items y m (more_items (an_item_of b position (word t ss)) is) ++ rest ≡ print_gap y m b ++ (text t ∷ (print_items y m is ++ rest))
+    more_printed y m b position t ss is rest =
+        let one = item_printed y b position t ss in
         let gap = print_gap y m b in
         let others = print_items y m is in
-        append_assoc (gap ++ print_item y (an_item_of b position t)) others rest
-        ∙ append_assoc gap (print_item y (an_item_of b position t)) (others ++ rest) ∙ ap (λ i. gap ++ (i ++ (others ++ rest))) one
+        append_assoc (gap ++ print_item y (an_item_of b position (word t ss))) others rest
+        ∙ append_assoc gap (print_item y (an_item_of b position (word t ss))) (others ++ rest) ∙ ap (λ i. gap ++ (i ++ (others ++ rest))) one
 
     gap_follows : (y : Layout) (m : Text) (b : Bool) (ms : Marks) → follows (laid (print_gap y m b ++ ms)) ≡ true
     unfolding laid
@@ -349,8 +348,8 @@ module _ (B T : List ℕ) (o : ℕ) (here : drop o B ≡ T) where
     items_follow : {position last : Position} {is : Shape ItemsOf} (y : Layout) (m : Text) (rest : Marks) → GoodItems room position is last → follows (laid rest) ≡ true
         → follows (laid (print_items y m is ++ rest)) ≡ true
     items_follow y m rest none_more follow = follow
-    items_follow y m rest (one_more {next = next} {broken = b} {t = t} {is = is} some good others) follow =
-        ap (λ ms. follows (laid ms)) (more_printed y m b next t is rest) ∙ gap_follows y m b (text t ∷ (print_items y m is ++ rest))
+    items_follow y m rest (one_more {next = next} {broken = b} {t = t} {ss = ss} {is = is} some good others) follow =
+        ap (λ ms. follows (laid ms)) (more_printed y m b next t ss is rest) ∙ gap_follows y m b (text t ∷ (print_items y m is ++ rest))
 
     not_empty : {A : Type 0} (xs : Row A) (x : A) → is_empty (xs ++ x ∷ []) ≡ false
     not_empty [] x = refl
@@ -372,9 +371,9 @@ module _ (B T : List ℕ) (o : ℕ) (here : drop o B ≡ T) where
       items_read {position = position} none_more acc e filled at =
           let b = behind e at in
           no_items_on acc (next_at position T e) e rest at (b.seen_as Command ∙ sym (b.seen_as position)) (ap (λ (n : Next). behind_item n.token) (b.seen_as position) ∙ b.no_item)
-      items_read {position = position} (one_more {next = next} {token = token} {broken = b} {t = w} {is = is} some good others) acc e filled at =
+      items_read {position = position} (one_more {next = next} {token = token} {broken = b} {t = w} {ss = ss} {is = is} some good others) acc e filled at =
           let ms = text w ∷ (print_items y m is ++ rest) in
-          let gap = gap_read y m b e ms blank c cs some_margin (at ∙ ap laid (more_printed y m b next w is rest)) in
+          let gap = gap_read y m b e ms blank c cs some_margin (at ∙ ap laid (more_printed y m b next w ss is rest)) in
           let follow_it = items_follow y m rest others follow in
           let found = good.there g gap.p (laid (print_items y m is ++ rest)) (gap.at ∙ laid_text w (print_items y m is ++ rest)) follow_it in
           let passed = gap.gap (record { place = found.place; no_blank = found.no_blank }) in
@@ -382,27 +381,27 @@ module _ (B T : List ℕ) (o : ℕ) (here : drop o B ≡ T) where
           let q = past_blanks T e in
           let n = next_at position T e in
           let at_q = subst (λ r. At r ms) (sym passed.blanks) gap.at in
-          let one = item_read position next token w acc n q (print_items y m is ++ rest) (ap (λ (n : Next). n.token) n_is ∙ found.token_is) some good at_q follow_it in
+          let one = item_read position next token w ss acc n q (print_items y m is ++ rest) (ap (λ (n : Next). n.token) n_is ∙ found.token_is) some good at_q follow_it in
           let breaks_it : breaks (so_many acc n) ≡ b = breaks_by acc n b filled (ap (λ (n : Next). n.broken) n_is) in
           let some_before : is_empty (acc ++ one.it ∷ []) ≡ true → first_not_broken is ≡ true = λ e. absurd (both_ways (is_empty (acc ++ one.it ∷ [])) (not_empty acc one.it) e) in
           let all = items_on one (items_read others (acc ++ one.it ∷ []) (q + length w) some_before (at_text q w (print_items y m is ++ rest) at_q)) in
-          subst (λ broken. ItemsRead acc n q (more_items (an_item_of broken next w) is) rest) breaks_it all
+          subst (λ broken. ItemsRead acc n q (more_items (an_item_of broken next (word w ss)) is) rest) breaks_it all
 
-      simple_printed : (b : Bool) (position : Position) (t : Text) (is : Shape ItemsOf) → print_simple y m (more_items (an_item_of b position t) is) ++ rest ≡ text t ∷ (print_items y m is ++ rest)
-      simple_printed b position t is =
-          append_assoc (print_item y (an_item_of b position t)) (print_items y m is) rest ∙ ap (λ i. i ++ (print_items y m is ++ rest)) (item_printed y b position t)
+      simple_printed : (b : Bool) (position : Position) (t : Text) (ss : Shape SubstsOf) (is : Shape ItemsOf) → print_simple y m (more_items (an_item_of b position (word t ss)) is) ++ rest ≡ text t ∷ (print_items y m is ++ rest)
+      simple_printed b position t ss is =
+          append_assoc (print_item y (an_item_of b position (word t ss))) (print_items y m is) rest ∙ ap (λ i. i ++ (print_items y m is ++ rest)) (item_printed y b position t ss)
 
       -- all items of a simple command, and the token behind them
       simple_items : {last : Position} {is : Shape ItemsOf} (n : Next) (p : ℕ) → GoodItems room Command is last → SomeItem is → first_not_broken is ≡ true → n.token ≡ token_at Command T p
           → At p (print_simple y m is ++ rest) → ItemsRead [] n p is rest
       simple_items n p none_more some first token_is at = absurd some
-      simple_items n p (one_more {next = next} {token = token} {broken = b} {t = w} {is = is} is_item good others) some first token_is at =
-          let there = at ∙ ap laid (simple_printed b next w is) in
+      simple_items n p (one_more {next = next} {token = token} {broken = b} {t = w} {ss = ss} {is = is} is_item good others) some first token_is at =
+          let there = at ∙ ap laid (simple_printed b next w ss is) in
           let follow_it = items_follow y m rest others follow in
           let found = good.there g p (laid (print_items y m is ++ rest)) (there ∙ laid_text w (print_items y m is ++ rest)) follow_it in
-          let one = item_read Command next token w [] n p (print_items y m is ++ rest) (token_is ∙ found.token_is) is_item good there follow_it in
+          let one = item_read Command next token w ss [] n p (print_items y m is ++ rest) (token_is ∙ found.token_is) is_item good there follow_it in
           let all = items_on one (items_read others (one.it ∷ []) (p + length w) (λ e. absurd cc) (at_text p w (print_items y m is ++ rest) there)) in
-          subst (λ broken. ItemsRead [] n p (more_items (an_item_of broken next w) is) rest) (sym (first_not b first)) all
+          subst (λ broken. ItemsRead [] n p (more_items (an_item_of broken next (word w ss)) is) rest) (sym (first_not b first)) all
 
       -- a simple command
       pub simple_read : (is : Shape ItemsOf) (n : Next) (p : ℕ) → GoodSimple room is → first_not_broken is ≡ true → n.token ≡ token_at Command T p → At p (print_simple y m is ++ rest)
@@ -415,31 +414,32 @@ module _ (B T : List ℕ) (o : ℕ) (here : drop o B ≡ T) where
       -- no `(` stands behind a word
       next_round : {position last : Position} {is : Shape ItemsOf} → GoodItems room position is last → (e : ℕ) → At e (print_items y m is ++ rest) → is_paren (next_at position T e).token ≡ false
       next_round {position = position} none_more e at = let b = behind e at in ap (λ (n : Next). is_paren n.token) (b.seen_as position) ∙ b.no_round
-      next_round {position = position} (one_more {next = next} {token = token} {broken = b} {t = w} {is = is} some good others) e at =
+      next_round {position = position} (one_more {next = next} {token = token} {broken = b} {t = w} {ss = ss} {is = is} some good others) e at =
           let ms = text w ∷ (print_items y m is ++ rest) in
-          let gap = gap_read y m b e ms blank c cs some_margin (at ∙ ap laid (more_printed y m b next w is rest)) in
+          let gap = gap_read y m b e ms blank c cs some_margin (at ∙ ap laid (more_printed y m b next w ss is rest)) in
           let found = good.there g gap.p (laid (print_items y m is ++ rest)) (gap.at ∙ laid_text w (print_items y m is ++ rest)) (items_follow y m rest others follow) in
           let passed = gap.gap (record { place = found.place; no_blank = found.no_blank }) in
           ap (λ (n : Next). is_paren n.token) (next_behind position passed) ∙ ap is_paren found.token_is ∙ item_no_round token next some
 
       -- a simple command that begins with a word
-      worded_read : {last : Position} {w : Text} {is : Shape ItemsOf} (p : ℕ) → ItemAnywhere room Command tokens.Word w → GoodItems room Suffix is last → At p (text w ∷ (print_items y m is ++ rest))
-          → Got (a_worded inner) p rest (λ c. shape_of_command B c ≡ simple (more_items (an_item_of false Suffix w) is))
+      worded_read : {last : Position} {w : Text} {ss : Shape SubstsOf} {is : Shape ItemsOf} (p : ℕ) → ItemAnywhere room Command tokens.Word w ss → GoodItems room Suffix is last → At p (text w ∷ (print_items y m is ++ rest))
+          → Got (a_worded inner) p rest (λ c. shape_of_command B c ≡ simple (more_items (an_item_of false Suffix (word w ss)) is))
       unfolding a_worded a_simple
-      worded_read {w = w} {is = is} p good others at =
+      worded_read {w = w} {ss = ss} {is = is} p good others at =
           let ms = print_items y m is ++ rest in
           let there = at ∙ laid_text w ms in
           let found = good.there g p (laid ms) there (items_follow y m rest others follow) in
+          let v = found.word B (sym here) in
           let e = p + length w in
           let at_e = at_text p w ms at in
-          let it : AnItem = item false (argument (word (span o p e) no_subst)) in
+          let it : AnItem = item false (argument v.0) in
           let r = items_read others (it ∷ []) e (λ e. absurd cc) at_e in
           record {
             value = simple (items_of (it ∷ r.more_items_read));
             «end» = r.«end»;
             at = r.at;
-            reads = seen_here is_a_name ⟫ printed_word w p found.word ⟫ next_read Suffix e ⟫ second_of _ _ (next_round others e at_e) (pushed_here [] it ⟫ (r.reads ⟫ given_here));
-            is = rw (item_shape Suffix false p w (laid ms) there, r.shape) refl;
+            reads = seen_here is_a_name ⟫ printed_word w ss p v ⟫ next_read Suffix e ⟫ second_of _ _ (next_round others e at_e) (pushed_here [] it ⟫ (r.reads ⟫ given_here));
+            is = rw (item_shape Suffix false v.0 (word w ss) v.1.1, r.shape) refl;
           }
 
       -- a simple command, by what it begins with
@@ -451,16 +451,16 @@ module _ (B T : List ℕ) (o : ℕ) (here : drop o B ≡ T) where
           by_items : {last : Position} {is : Shape ItemsOf} → GoodItems room Command is last → SomeItem is → first_not_broken is ≡ true → At p (print_simple y m is ++ rest)
               → Got (a_command inner n) p rest (λ c. shape_of_command B c ≡ simple is)
           by_items none_more some first at = absurd some
-          by_items {last = last} (one_more {next = next} {token = token} {broken = b} {t = w} {is = is} is_item one others) some first at =
-              let there = at ∙ ap laid (simple_printed b next w is) in
+          by_items {last = last} (one_more {next = next} {token = token} {broken = b} {t = w} {ss = ss} {is = is} is_item one others) some first at =
+              let there = at ∙ ap laid (simple_printed b next w ss is) in
               let found = one.there g p (laid (print_items y m is ++ rest)) (there ∙ laid_text w (print_items y m is ++ rest)) (items_follow y m rest others follow) in
               let token_here : n.token ≡ token = token_is ∙ found.token_is in
               ⊎_elim
               (λ (k : (token ≡ tokens.Word) × (next ≡ Suffix)).
-              let r = worded_read p (subst (λ (t : Token). ItemAnywhere room Command t w) k.0 one) (subst (λ (q : Position). GoodItems room q is last) k.1 others) there in
+              let r = worded_read p (subst (λ (t : Token). ItemAnywhere room Command t w ss) k.0 one) (subst (λ (q : Position). GoodItems room q is last) k.1 others) there in
               record { value = r.value; «end» = r.«end»; at = r.at; reads = first_of _ _ (ap is_word (token_here ∙ k.0)) r.reads; is = r.is ∙ rw (first_not b first, k.1) refl })
               (λ (k : (token ≡ tokens.Assignment) × (next ≡ Prefix)).
-              let r = simple_read (more_items (an_item_of b next w) is) n p (record { last = last; items = one_more is_item one others; some = tt }) first token_is at in
+              let r = simple_read (more_items (an_item_of b next (word w ss)) is) n p (record { last = last; items = one_more is_item one others; some = tt }) first token_is at in
               record { value = r.value; «end» = r.«end»; at = r.at; reads = second_of _ _ (ap is_word (token_here ∙ k.0)) (first_of _ _ (ap begins_simple (token_here ∙ k.0)) r.reads); is = r.is })
               (kind_of token next is_item)
 
@@ -828,8 +828,8 @@ module _ (B T : List ℕ) (o : ℕ) (here : drop o B ≡ T) where
         simple_begins : (m : Text) {last : Position} {is : Shape ItemsOf} (p : ℕ) (rest : Marks) → GoodItems room Command is last → SomeItem is → follows (laid rest) ≡ true
             → At p (print_simple y m is ++ rest) → Start T p × (begins_simple (token_at Command T p) ≡ true)
         simple_begins m p rest none_more some follow at = absurd some
-        simple_begins m p rest (one_more {next = next} {token = token} {broken = b} {t = w} {is = is} is_item good others) some follow at =
-            let printed_is = append_assoc (print_item y (an_item_of b next w)) (print_items y m is) rest ∙ ap (λ i. i ++ (print_items y m is ++ rest)) (item_printed y b next w) in
+        simple_begins m p rest (one_more {next = next} {token = token} {broken = b} {t = w} {ss = ss} {is = is} is_item good others) some follow at =
+            let printed_is = append_assoc (print_item y (an_item_of b next (word w ss))) (print_items y m is) rest ∙ ap (λ i. i ++ (print_items y m is ++ rest)) (item_printed y b next w ss) in
             let there = at ∙ ap laid printed_is ∙ laid_text w (print_items y m is ++ rest) in
             let found = good.there g p (laid (print_items y m is ++ rest)) there (items_follow y m rest others follow) in
             (record { place = found.place; no_blank = found.no_blank }, ap begins_simple found.token_is ∙ item_begins token next is_item)
@@ -863,6 +863,7 @@ module _ (B T : List ℕ) (o : ℕ) (here : drop o B ≡ T) where
         function_command m name cs body n p rest t blank good normal f none token_is at =
             let there = name_there m name cs body p rest at in
             let found = good.before.there g p _ there in
+            let v = found.word B (sym here) in
             let e = p + length name in
             let X = function_rest m cs body rest in
             let at_e = at_text p name (text (codes "()") ∷ X) (at ∙ ap laid (function_is m name cs body rest)) in
@@ -871,12 +872,14 @@ module _ (B T : List ℕ) (o : ℕ) (here : drop o B ≡ T) where
             let paren = ap (λ (n : Next). is_paren n.token) (next_behind Suffix gap) ∙ ap is_paren (open_token Suffix T e (41 ∷ laid X) head) in
             let r = fine.function_back m (span o p e) cs body e rest t blank good.own good.inside normal f none at_e in
             let name_is = good.before.names T p _ there in
-            let behind_name = subst (λ q. Gives g (inner.function (span o p e)) (standing q) (r.value, next_at Command T r.«end») (standing (past_blanks T r.«end»))) (sym gap.blanks) r.reads in
+            let place : word_span v.0 ≡ span o p e = ap word_span (spanned inner g (standing p) (standing e) v.0 _ v.1.0).1 in
+            let on_blank = subst (λ q. Gives g (inner.function (span o p e)) (standing q) (r.value, next_at Command T r.«end») (standing (past_blanks T r.«end»))) (sym gap.blanks) r.reads in
+            let behind_name = subst (λ z. Gives g (inner.function z) (standing (past_blanks T e)) (r.value, next_at Command T r.«end») (standing (past_blanks T r.«end»))) (sym place) on_blank in
             record {
               value = r.value;
               «end» = r.«end»;
               at = r.at;
-              reads = first_of _ _ (ap is_word (token_is ∙ found.token_is)) (seen_here is_a_name ⟫ printed_word name p found.word ⟫ next_read Suffix e ⟫ first_of _ _ paren (first_of _ _ name_is behind_name));
+              reads = first_of _ _ (ap is_word (token_is ∙ found.token_is)) (seen_here is_a_name ⟫ printed_word name no_subst p v ⟫ next_read Suffix e ⟫ first_of _ _ paren (first_of _ _ name_is behind_name));
               is = r.is ∙ ap (λ z. function z cs body) (span_text p name (40 ∷ 41 ∷ laid X) there);
             }
 
@@ -2322,16 +2325,15 @@ module _ (B T : List ℕ) (o : ℕ) (here : drop o B ≡ T) where
             let e = q + length t in
             let at_q = subst (λ r. At r (text t ∷ ms)) (sym gap.blanks) behind_it in
             let there_q = at_q ∙ laid_text t ms in
-            let v = (good.reads.there g q (laid ms) there_q follow).word in
-            let plain = plain_word q (length t) v.0 _ v.1 in
-            let word_read : Gives g (a_word inner) (standing q) (word (span o q e) no_subst) (standing e) = gives _ (subst (λ x. may (a_word inner) g (standing q) (Ok (x, standing e)) (raw T q e ∷ [])) plain v.1) in
+            let v = (good.reads.there g q (laid ms) there_q follow).word B (sym here) in
+            let word_read : Gives g (a_word inner) (standing q) v.0 (standing e) = gives _ v.1.0 in
             let begins = ap (λ (n : Next). begins_simple n.token) (next_behind Suffix gap) ∙ ap begins_simple found.token_is ∙ good.begins in
             record {
-              value = word (span o q e) no_subst;
+              value = v.0;
               e = e;
               at = at_text q t ms at_q;
               reads = first_of _ _ begins (seen_here the_place ⟫ seen_here is_a_name ⟫ word_read ⟫ first_of _ _ (good.names T q (laid ms) there_q follow) (next_read Command e ⟫ given_here));
-              shape = ap (λ t. word t no_subst) (span_text q t (laid ms) there_q) ∙ sym good.is;
+              shape = v.1.1 ∙ sym good.is;
             }
 
         in_key : (ms : Marks) → WordEnd (laid ms) → Key (codes "in") reserved.In ms
@@ -2536,17 +2538,17 @@ module _ (B T : List ℕ) (o : ℕ) (here : drop o B ≡ T) where
             let at_q = subst (λ r. At r (text t ∷ ms)) (sym gap.blanks) behind_it in
             let there_q = at_q ∙ laid_text t ms in
             let again_there = good.reads.there g q (laid ms) there_q follow in
-            let plain = plain_word q (length t) again_there.word.0 _ again_there.word.1 in
+            let v = again_there.word B (sym here) in
             let some = good.reads.some in
             record {
-              value = word (span o q e) no_subst;
+              value = v.0;
               e = e;
               at = at_text q t ms at_q;
               begin = ap begins again_there.token_is ∙ good.begin;
-              reads = gives _ (subst (λ x. may (a_word inner) g (standing q) (Ok (x, standing e)) (raw T q e ∷ [])) plain again_there.word.1);
+              reads = printed_word t good.ss q v;
               on = omega (arith, some);
               within = some_word q t (laid ms) some there_q;
-              shape = ap (λ t. word t no_subst) (span_text q t (laid ms) there_q) ∙ sym good.is;
+              shape = v.1.1 ∙ sym good.is;
             }
 
         -- ---- the patterns of an item
@@ -3231,13 +3233,10 @@ module _ (B T : List ℕ) (o : ℕ) (here : drop o B ≡ T) where
 
   -- ---- at every level
 
-  pub no_substs_here : (room p n : ℕ) (w : AWord) (k : Row Spelled) → may (a_word (level room)) g (standing p) (Ok (w, standing (p + n))) k → w ≡ word (span o p (p + n)) no_subst
-  no_substs_here room p n w k part = no_substs room g p w (standing (p + n)) k part
-
   none_at_all : (c : Shape ACompoundOf) → GoodCompound zero c → ⊥
   none_at_all (formed form mark redirects) good = good
 
-  pub fine : (y : Layout) (room : ℕ) → Fine room (no_substs_here room) y
+  pub fine : (y : Layout) (room : ℕ) → Fine room y
   unfolding level
   fine y zero = record {
     opens = λ m c p rest good at. absurd (none_at_all c good);
@@ -3245,9 +3244,9 @@ module _ (B T : List ℕ) (o : ℕ) (here : drop o B ≡ T) where
     function_back = λ m name cs body p rest t blank own good normal f none at. absurd good;
   }
   fine y (suc room) = record {
-    opens = λ m c p rest good at. compound_opens room (no_substs_here room) y (fine y room) m c p rest good at;
-    back = λ m c p rest t k blank good normal f none opens at. compound_read room (no_substs_here room) y (fine y room) m c p rest t k blank good normal f none opens at;
-    function_back = λ m name cs body p rest t blank own good normal f none at. function_read room (no_substs_here room) y (fine y room) m name cs body p rest t blank own good normal f none at;
+    opens = λ m c p rest good at. compound_opens room y (fine y room) m c p rest good at;
+    back = λ m c p rest t k blank good normal f none opens at. compound_read room y (fine y room) m c p rest t k blank good normal f none opens at;
+    function_back = λ m name cs body p rest t blank own good normal f none at. function_read room y (fine y room) m name cs body p rest t blank own good normal f none at;
   }
 
   -- ---- a line of the script
@@ -3276,18 +3275,18 @@ module _ (B T : List ℕ) (o : ℕ) (here : drop o B ≡ T) where
         first_of _ _ is (moved ⟫ given_here)
 
     pub entry_line : (blank : Bool) (what : Shape AContentOf) (background : Bool) (comment : Option Text) (rest : Marks) → GoodContent most_open what → GoodOwnComment comment
-        → is_normal_entry (entry what background blank comment) ≡ true → At 0 (text [] ∷ (print_content y [] what ++ entry_rest most_open (no_substs_here most_open) y (fine y most_open) background comment rest))
+        → is_normal_entry (entry what background blank comment) ≡ true → At 0 (text [] ∷ (print_content y [] what ++ entry_rest most_open y (fine y most_open) background comment rest))
         → EntryLine blank (entry what background blank comment) rest
     unfolding a_line
     entry_line blank what background comment rest good good_c normal at =
-        let ms = print_content y [] what ++ entry_rest most_open (no_substs_here most_open) y (fine y most_open) background comment rest in
+        let ms = print_content y [] what ++ entry_rest most_open y (fine y most_open) background comment rest in
         let behind_it = at_text 0 [] ms at in
-        let gap = margin_gap most_open (no_substs_here most_open) [] 0 ms refl at (content_start most_open (no_substs_here most_open) y (fine y most_open) [] what background blank comment 0 rest good good_c normal behind_it) in
+        let gap = margin_gap most_open [] 0 ms refl at (content_start most_open y (fine y most_open) [] what background blank comment 0 rest good good_c normal behind_it) in
         let p = past_blanks T 0 in
         let at_p = subst (λ q. At q ms) (sym gap.blanks) behind_it in
         let n = next_at Command T 0 in
-        let r = entry_on_line most_open (no_substs_here most_open) y (fine y most_open) [] [] blank false None what background comment n p rest refl good good_c normal refl at_p in
-        let line = line_end_here most_open (no_substs_here most_open) y (fine y most_open) r.«end» rest r.at in
+        let r = entry_on_line most_open y (fine y most_open) [] [] blank false None what background comment n p rest refl good good_c normal refl at_p in
+        let line = line_end_here most_open y (fine y most_open) r.«end» rest r.at in
         let q = past_blanks T r.«end» in
         record {
           value = r.value;
@@ -3302,13 +3301,13 @@ module _ (B T : List ℕ) (o : ℕ) (here : drop o B ≡ T) where
     pub blank_line_read : (blank : Bool) (rest : Marks) → At 0 (line_end ∷ rest) → ScriptLine blank [] true rest
     unfolding a_line
     blank_line_read blank rest at =
-        let line = line_end_here most_open (no_substs_here most_open) y (fine y most_open) 0 rest at in
+        let line = line_end_here most_open y (fine y most_open) 0 rest at in
         let q = past_blanks T 0 in
         let n = next_at Command T 0 in
         record {
           f = q + 1;
           at = at_line q rest line.at_q;
-          reads = next_read Command 0 ⟫ nothing_on_line most_open (no_substs_here most_open) y (fine y most_open) (none_listed blank) n q (ap (λ (n : Next). begins_pipeline n.token) line.n_is) line.no_comment_q
+          reads = next_read Command 0 ⟫ nothing_on_line most_open y (fine y most_open) (none_listed blank) n q (ap (λ (n : Next). begins_pipeline n.token) line.n_is) line.no_comment_q
               ⟫ ended_by n q rest (ap (λ (n : Next). is_newline n.token) line.n_is) line.at_q ⟫ given_here;
         }
 
@@ -3323,7 +3322,7 @@ module _ (B T : List ℕ) (o : ℕ) (here : drop o B ≡ T) where
         record {
           f = q;
           at = at_q;
-          reads = next_read Command 0 ⟫ nothing_on_line most_open (no_substs_here most_open) y (fine y most_open) (none_listed blank) n q (ap begins_pipeline token_is) (no_sharp_end q at_q)
+          reads = next_read Command 0 ⟫ nothing_on_line most_open y (fine y most_open) (none_listed blank) n q (ap begins_pipeline token_is) (no_sharp_end q at_q)
               ⟫ second_of _ _ (ap is_newline token_is) (first_of _ _ (ap is_end token_is) given_here) ⟫ given_here;
         }
       where

@@ -18,7 +18,7 @@ use Rattle.shprint.specs.Printed.{print_blank, print_content, print_entries, pri
 use Rattle.shprint.specs.ReadBack.{ReadsBack}
 use Rattle.shprint.proofs.Good.{GoodEntries}
 use Rattle.shprint.proofs.Readable.{script_readable}
-use Rattle.shprint.proofs.PrintedRows.{ScriptLine, EntryLine, entry_rest, entry_marks, no_substs_here, fine, entry_line, blank_line_read, end_line_read}
+use Rattle.shprint.proofs.PrintedRows.{ScriptLine, EntryLine, entry_rest, entry_marks, fine, entry_line, blank_line_read, end_line_read}
 
 module _ (y : Layout) (B : List ℕ) where
   -- these entries are read from p on, behind what was read so far
@@ -70,7 +70,7 @@ module _ (y : Layout) (B : List ℕ) where
   -- an entry from the beginning of its line on
   from_margin : (so : SoFar) (p : ℕ) (what : Shape AContentOf) (background blank : Bool) (comment : Option Text) (es : Shape EntriesOf) → GoodEntries most_open (more_entries (entry what background blank comment) es)
       → are_normal (more_entries (entry what background blank comment) es) ≡ true → is_blank_line so ≡ blank
-      → At p (text [] ∷ (print_content y [] what ++ entry_rest B (drop p B) p refl most_open (no_substs_here B (drop p B) p refl most_open) y (fine B (drop p B) p refl y most_open) background comment (print_entries y [] es)))
+      → At p (text [] ∷ (print_content y [] what ++ entry_rest B (drop p B) p refl most_open y (fine B (drop p B) p refl y most_open) background comment (print_entries y [] es)))
       → ((to : SoFar) (q : ℕ) → to.gap ≡ false → is_empty to.entries ≡ false → At q (print_entries y [] es) → ScriptRead to q es)
       → ScriptRead so p (more_entries (entry what background blank comment) es)
   from_margin so p what background blank comment es good normal blank_is at others =
@@ -82,11 +82,11 @@ module _ (y : Layout) (B : List ℕ) where
   -- what is printed for a list, from its first entry on
   marks_are : (p : ℕ) (what : Shape AContentOf) (background blank : Bool) (comment : Option Text) (es : Shape EntriesOf)
       → print_entries y [] (more_entries (entry what background blank comment) es)
-      ≡ print_blank blank ++ (text [] ∷ (print_content y [] what ++ entry_rest B (drop p B) p refl most_open (no_substs_here B (drop p B) p refl most_open) y (fine B (drop p B) p refl y most_open) background comment (print_entries y [] es)))
+      ≡ print_blank blank ++ (text [] ∷ (print_content y [] what ++ entry_rest B (drop p B) p refl most_open y (fine B (drop p B) p refl y most_open) background comment (print_entries y [] es)))
   marks_are p what background blank comment es =
       let all = print_entries y [] (more_entries (entry what background blank comment) es) in
-      let one = entry_marks B (drop p B) p refl most_open (no_substs_here B (drop p B) p refl most_open) y (fine B (drop p B) p refl y most_open) [] what background blank comment es [] in
-      sym (append-nil all) ∙ one ∙ ap (λ more. print_blank blank ++ (text [] ∷ (print_content y [] what ++ entry_rest B (drop p B) p refl most_open (no_substs_here B (drop p B) p refl most_open) y (fine B (drop p B) p refl y most_open) background comment more))) (append-nil (print_entries y [] es))
+      let one = entry_marks B (drop p B) p refl most_open y (fine B (drop p B) p refl y most_open) [] what background blank comment es [] in
+      sym (append-nil all) ∙ one ∙ ap (λ more. print_blank blank ++ (text [] ∷ (print_content y [] what ++ entry_rest B (drop p B) p refl most_open y (fine B (drop p B) p refl y most_open) background comment more))) (append-nil (print_entries y [] es))
 
   -- behind an empty line
   blank_read : (so : SoFar) (p : ℕ) (es : Shape EntriesOf) (rest : Marks) (line : ScriptLine B (drop p B) p refl (is_blank_line so) [] true rest) → ScriptRead (with_line so []) (p + line.f) es → ScriptRead so p es

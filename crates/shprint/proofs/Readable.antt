@@ -14,26 +14,25 @@ use Rattle.shread.specs.declared.token.Token.{Token}
 use Rattle.shread.specs.declared.token.Token.TheVariants as tokens
 use Rattle.shtree.specs.declared.tree.AndOrOperator.{AndOrOperator}
 use Rattle.shtree.specs.declared.tree.Span.{Span}
-use Rattle.shtree.specs.Tree.{APipelinePart, AnAndOrPart, ACommand, ABranch, AForm, Entries, pipeline_parts_of, and_or_parts_of, branches_of, AnEntry, AnItem, AWord, item, entry, remark, entries_of, items_of, ItemsOf, no_item, more_items, AnItemOf, word, no_subst, ACompound, compound, argument, ACaseItem, cases_of, patterns_of}
-use Rattle.shtree.specs.Shape.{Text, Shape, text_at, shape_of, shape_of_comment, shape_of_comments, shape_of_entry, shape_of_and_or, shape_of_and_or_parts, shape_of_pipeline, shape_of_pipes, shape_of_command, shape_of_form, shape_of_branch, shape_of_branches, shape_of_else, shape_of_for_words, shape_of_items, shape_of_item, shape_of_word, shape_of_compound, shape_of_patterns, shape_of_cases, shape_of_case}
+use Rattle.shtree.specs.Tree.{APipelinePart, AnAndOrPart, ACommand, ABranch, AForm, Entries, pipeline_parts_of, and_or_parts_of, branches_of, AnEntry, AnItem, AWord, item, entry, remark, entries_of, items_of, ItemsOf, no_item, more_items, AnItemOf, AWordOf, ASubst, SubstsOf, word, substs_of, ACompound, compound, argument, ACaseItem, cases_of, patterns_of}
+use Rattle.shtree.specs.Shape.{Text, Shape, text_at, shape_of, shape_of_comment, shape_of_comments, shape_of_entry, shape_of_and_or, shape_of_and_or_parts, shape_of_pipeline, shape_of_pipes, shape_of_command, shape_of_form, shape_of_branch, shape_of_branches, shape_of_else, shape_of_for_words, shape_of_items, shape_of_item, shape_of_word, shape_of_substs, shape_of_compound, shape_of_patterns, shape_of_cases, shape_of_case}
 use Rattle.shread.specs.Classes.{is_blank}
 use Rattle.shread.specs.Bytes.{past_continuations, past_blanks, stands_in}
 use Rattle.shread.specs.Comments.{span, comment_at}
 use Rattle.shread.specs.Tokens.{is_name_at, token_at}
 use Rattle.shread.specs.Sights.{Given, given, State, standing, Sight, seen, Move, to}
-use Rattle.shread.specs.Form.{Spelled, Read, Form, see, move, push, give, both, many, Step, again, done, step_if, may}
+use Rattle.shread.specs.Form.{Spelled, Read, Form, see, move, push, give, both, many, Step, again, done, step_if, may, raw}
 use Rattle.shread.specs.Words.{Inner, a_word}
 use Rattle.shread.specs.Commands.{pick, next_token, is_newline, is_semicolon, a_semicolon, is_pipe, is_bang, begins_simple, begins_pipeline, opener_of, compound_by, and_or_operator_of, Items, so_many, behind_item, as_item, breaks, an_item, item_by, item_turn, a_simple, unexpected, comment_by, a_comment, a_newline, with_comment, JoinSo, join_turn, a_join, a_command, a_bang, Piped, piped, one_command, pipe_turn, a_pipeline, Joined, joined_so, one_pipeline, joined_by, join_pipeline, an_and_or, separator_of, separator_by, a_separator, an_entry, is_word, is_paren, a_worded, ASeparator, past_separator, is_double_semicolon}
 use Rattle.shread.specs.Lists.{ListSo, list_so, none_listed, is_blank_next, one_entry, entry_turn, remark_by, a_remark, on_line, list_turn, a_list}
 use Rattle.shread.specs.Compounds.{Branched, branched, Closed, is_closing, passed, closing, a_group, a_branch, elif_turn, an_else, an_if, a_loop, behind_opener, a_for_name, a_linebreak, a_sequential_sep, Headed, for_words, a_for_head, behind_remarks, a_for, a_form, a_compound, under_name, a_function, a_case_word, begins_pattern, Patterned, a_pattern, one_pattern, pattern_turn, a_pattern_list, an_open_bracket, a_body, ItemEnd, a_double_semicolon, an_item_end, CasesSo, cases_so, one_case, case_turn, a_case_head, a_case}
-use Rattle.shread.specs.Levels.{most_open, level, IsWord}
+use Rattle.shread.specs.Levels.{most_open, level}
 use Rattle.shread.specs.Lines.{a_line}
 use Rattle.shread.specs.Scripts.{AScript, SoFar, Lines, line_ended, last_line, faulty, nothing_yet, Outcome}
 use Rattle.shread.proofs.Places.{place_same, blanks_stop}
 use Rattle.shread.proofs.OneOutcome.{is}
 use Rattle.shread.proofs.Holds.{Holds, Tells, Stepped, tells_give, tells_then, tells_so, tells_until, tells_seen, tells_moved, tells_pushed}
-use Rattle.shread.proofs.Anywhere.{waits, state_is, read_word}
-use Rattle.shread.proofs.NoSubsts.{no_substs}
+use Rattle.shread.proofs.Anywhere.{waits, state_is, word_read, word_span as spanned}
 use Rattle.shread.proofs.Spelling.{raw_at}
 use Rattle.shread.proofs.Elsewhere.{ItemAnywhere, NameAnywhere, is_a_word, item_is_word, token_anywhere, item_anywhere, name_anywhere}
 use Rattle.shread.proofs.CommentsElsewhere.{CommentAnywhere, comment_is, comment_anywhere}
@@ -53,8 +52,8 @@ some_last : (is : Shape ItemsOf) (i : Shape AnItemOf) → SomeItem (with_last is
 some_last no_item i = tt
 some_last (more_items j is) i = tt
 
-items_more : {room : ℕ} {first position next : Position} {token : Token} {t : Text} {is : Shape ItemsOf} (broken : Bool) → GoodItems room first is position → behind_item token ≡ Some next
-    → ItemAnywhere room position token t → GoodItems room first (with_last is (an_item_of broken next t)) next
+items_more : {room : ℕ} {first position next : Position} {token : Token} {t : Text} {ss : Shape SubstsOf} {is : Shape ItemsOf} (broken : Bool) → GoodItems room first is position → behind_item token ≡ Some next
+    → ItemAnywhere room position token t ss → GoodItems room first (with_last is (an_item_of broken next (word t ss))) next
 items_more broken none_more e one = one_more e one none_more
 items_more broken (one_more f other rest) e one = one_more f other (items_more broken rest e one)
 
@@ -64,7 +63,7 @@ module _ (B : List ℕ) where
   items_last (j ∷ is) i = ap (more_items (shape_of_item B j)) (items_last is i)
 
   -- an item, by its word
-  item_is : (broken : Bool) (position : Position) (w : AWord) (t : Text) → shape_of_word B w ≡ word t no_subst → shape_of_item B (item broken (as_item position w)) ≡ an_item_of broken position t
+  item_is : (broken : Bool) (position : Position) (w : AWord) (t : Shape AWordOf) → shape_of_word B w ≡ t → shape_of_item B (item broken (as_item position w)) ≡ an_item_of broken position t
   item_is broken Command w t e = rw e refl
   item_is broken Prefix w t e = rw e refl
   item_is broken Suffix w t e = rw e refl
@@ -256,15 +255,16 @@ module _ (g : Given) where
 
   -- the word w was read from p up to q
   record WordRead (room p : ℕ) (w : AWord) (q : ℕ) : Type 0 where
-    pub is_word : IsWord room g p (q - p)
-    pub bare : w ≡ word (span g.offset p q) no_subst
+    pub part : may (a_word (level room)) g (standing p) (Ok (w, standing (p + (q - p)))) (raw g.text p (p + (q - p)) ∷ [])
+    pub substs : Row ASubst
+    pub is : w ≡ word (span g.offset p q) (substs_of substs)
 
   reads_word : (room p : ℕ) → Reads (a_word (level room)) (WordRead room p) p
   reads_word room p =
       let some = (is (a_word (level room)) g (standing p)).some in
       let stays = waits (a_word (level room)) true g (standing p) in
       let word_is = holds_by (λ w t. WordRead room p w t.at) (may (a_word (level room)) g (standing p)) _ some.0 some.1
-      (λ w t k part. record { is_word = read_word room g p w t k part; bare = no_substs room g p w t k part }) in
+      (λ w t k part. let spans = spanned (level room) g (standing p) t w k part in record { part = word_read room g p w t k part; substs = spans.0; is = spans.1 }) in
       record { reads = record { told = holds_both _ _ (At (WordRead room p)) _ (λ w t so good. (state_is t so.0 so.1, good)) stays.told word_is } }
 
 -- ---- what the rows read
@@ -353,15 +353,20 @@ module _ (B : List ℕ) (g : Given) (here : g.text ≡ drop g.offset B) where
     simple_is : (i : Items) (p : ℕ) → ItemsOn i p → GoodSimple room (items i)
     simple_is i p (so, some) = record { last = so.position; items = so.good; some = some }
 
+    -- the shape of the word that was read from p up to q
+    word_shape : (p q : ℕ) (w : AWord) (read : WordRead g room p w q) → shape_of_word B w ≡ word (take (q - p) (drop p g.text)) (shape_of_substs B (substs_of read.substs))
+    word_shape p q w read = ap (shape_of_word B) read.is ∙ ap (λ t. word t (shape_of_substs B (substs_of read.substs))) (sym (raw_at B g here p q))
+
     -- one more item, by the word that was read from p up to q
     one_item : (begin position : Position) (i : Items) (next : Position) (p q : ℕ) (w : AWord) → behind_item i.next.token ≡ Some next → GoodItems room begin (items i) position → Stands g position i.next p
         → WordRead g room p w q → GoodItems room begin (shape_of_items B (items_of (i.items ++ item (breaks i) (as_item next w) ∷ []))) next
     one_item begin position i next p q w is good stands read =
         let text = text_at B (span g.offset p q) in
-        let anywhere = item_anywhere room position i.next.token g p (q - p) read.is_word stands.place stands.no_blank stands.token_is (ap is_some is) in
-        let shape = items_last B i.items (item (breaks i) (as_item next w)) ∙ ap (with_last (items i)) (item_is B (breaks i) next w text (ap (shape_of_word B) read.bare)) in
+        let ss = shape_of_substs B (substs_of read.substs) in
+        let anywhere = item_anywhere room position i.next.token g p (q - p) (w, read.part) stands.place stands.no_blank stands.token_is (ap is_some is) B here ss (word_shape p q w read) in
+        let shape = items_last B i.items (item (breaks i) (as_item next w)) ∙ ap (with_last (items i)) (item_is B (breaks i) next w (word text ss) (ap (shape_of_word B) read.is)) in
         subst (λ (s : Shape ItemsOf). GoodItems room begin s next) (sym shape)
-        (items_more (breaks i) good is (subst (λ (t : Text). ItemAnywhere room position i.next.token t) (raw_at B g here p q) anywhere))
+        (items_more (breaks i) good is (subst (λ (t : Text). ItemAnywhere room position i.next.token t ss) (raw_at B g here p q) anywhere))
 
     some_item : (is : Row AnItem) (i : AnItem) → SomeItem (shape_of_items B (items_of (is ++ i ∷ [])))
     some_item is i = subst SomeItem (sym (items_last B is i)) (some_last (shape_of_items B (items_of is)) (shape_of_item B i))
@@ -414,8 +419,8 @@ module _ (B : List ℕ) (g : Given) (here : g.text ≡ drop g.offset B) where
       -- a word that is a NAME is one before `(`
       named_before : (n : Next) (p q : ℕ) (w : AWord) → n.token ≡ tokens.Word → Stands g Command n p → WordRead g room p w q → is_name_at g.text p ≡ true → NameBefore room (text_at B (word_span w))
       named_before n p q w is so read name =
-          let before = name_before room g p (q - p) read.is_word so.place (so.token_is ∙ is) name in
-          let place : word_span w ≡ span g.offset p q = ap word_span read.bare in
+          let before = name_before room g p (q - p) (w, read.part) so.place (so.token_is ∙ is) name in
+          let place : word_span w ≡ span g.offset p q = ap word_span read.is in
           subst (NameBefore room) (raw_at B g here p q ∙ ap (text_at B) (sym place)) before
 
       reads_worded : (n : Next) (p : ℕ) → n.token ≡ tokens.Word → Stands g Command n p → Reads g (a_worded inner) Command_is p
@@ -597,14 +602,16 @@ module _ (B : List ℕ) (g : Given) (here : g.text ≡ drop g.offset B) where
       for_name : (n : Next) (p q : ℕ) (w : AWord) → Stands g Suffix n p → begins_simple n.token ≡ true → WordRead g room p w q → is_name_at g.text p ≡ true → GoodName room (shape_of_word B w)
       for_name n p q w so begins read name =
           let item = subst (λ (t : Token). begins_simple t ≡ true) (sym so.token_is) begins in
-          let anywhere = item_anywhere room Suffix n.token g p (q - p) read.is_word so.place so.no_blank so.token_is begins in
-          let names = name_anywhere room Suffix g p (q - p) read.is_word so.place so.no_blank item name in
+          let ss = shape_of_substs B (substs_of read.substs) in
+          let anywhere = item_anywhere room Suffix n.token g p (q - p) (w, read.part) so.place so.no_blank so.token_is begins B here ss (word_shape p q w read) in
+          let names = name_anywhere room Suffix g p (q - p) (w, read.part) so.place so.no_blank item name in
           record {
             t = text_at B (span g.offset p q);
-            is = ap (shape_of_word B) read.bare;
+            ss = ss;
+            is = ap (shape_of_word B) read.is;
             token = n.token;
             begins = begins;
-            reads = subst (λ (t : Text). ItemAnywhere room Suffix n.token t) (raw_at B g here p q) anywhere;
+            reads = subst (λ (t : Text). ItemAnywhere room Suffix n.token t ss) (raw_at B g here p q) anywhere;
             names = subst NameAnywhere (raw_at B g here p q) names;
           }
 
@@ -675,13 +682,15 @@ module _ (B : List ℕ) (g : Given) (here : g.text ≡ drop g.offset B) where
       good_word : (position : Position) (begins : Token → Bool) (n : Next) (p q : ℕ) (w : AWord) → Stands g position n p → begins n.token ≡ true → is_a_word n.token ≡ true → WordRead g room p w q
           → GoodWord room position begins (shape_of_word B w)
       good_word position begins n p q w so begin is_word read =
-          let anywhere = token_anywhere room position n.token g p (q - p) read.is_word so.place so.no_blank so.token_is is_word in
+          let ss = shape_of_substs B (substs_of read.substs) in
+          let anywhere = token_anywhere room position n.token g p (q - p) (w, read.part) so.place so.no_blank so.token_is is_word B here ss (word_shape p q w read) in
           record {
             t = text_at B (span g.offset p q);
-            is = ap (shape_of_word B) read.bare;
+            ss = ss;
+            is = ap (shape_of_word B) read.is;
             token = n.token;
             begin = begin;
-            reads = subst (λ (t : Text). ItemAnywhere room position n.token t) (raw_at B g here p q) anywhere;
+            reads = subst (λ (t : Text). ItemAnywhere room position n.token t ss) (raw_at B g here p q) anywhere;
           }
 
       reads_case_word : (n : Next) (p : ℕ) → Stands g Suffix n p → Reads g (a_case_word inner n) (λ x e. GoodWord room Suffix begins_simple (shape_of_word B x.0) × Stands g Command x.1 e) p

@@ -5,9 +5,11 @@ use shread::{Flat, Reader};
 use std::alloc::{AllocError, Global};
 use std::test::Fail;
 
-const SCRIPT: &[u8] = b"\n\n{ if a && b |\nc; then d; fi; } # e\n\n\nf";
+const SCRIPT: &[u8] =
+    b"\n\n{ if a && b |\nc; then d; fi; } # e\n\n\nf() { case g in $(h)) i;; esac; }";
 
-const TEXT: &[u8] = b"{\n\tif a && b |\n\t\tc; then\n\t\td\n\tfi\n} # e\n\nf\n";
+const TEXT: &[u8] =
+    b"{\n\tif a && b |\n\t\tc; then\n\t\td\n\tfi\n} # e\n\nf() {\n\tcase g in\n\t$(h))\n\t\ti\n\t\t;;\n\tesac\n}\n";
 
 /// Asks for the refusal of the nth growth from here on, by a request that no allocator grants.
 fn refuse(alloc: Global, nth: usize) {
