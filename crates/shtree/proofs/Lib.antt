@@ -11,3 +11,4 @@ pub mod Shaped
 pub mod Spelled
 pub mod Reach
 pub mod Ends
+pub mod Redirected

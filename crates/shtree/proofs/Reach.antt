@@ -5,9 +5,10 @@ use Rattle.std.specs.Option.{option_to_list}
 use Rattle.std.proofs.lemmas.List.Elements.{All-nil, All-cons, All-head, All-tail, All-append, All-same, All-map, All-weaker}
 use Rattle.shtree.specs.declared.nodes.NodeKind.{NodeKind}
 use Rattle.shtree.specs.declared.nodes.NodeLine.{NodeLine}
+use Rattle.shtree.specs.declared.tree.RedirectOperator.{RedirectOperator}
 use Rattle.shtree.specs.declared.tree.Span.{Span}
 use Rattle.shtree.specs.Nodes.{word_nodes, AreWithin, IsSpanWithin, IsWithin, and_or_nodes, and_or_parts_nodes, and_or_span, branch_nodes, branches_nodes, command_nodes, command_span, comment_node, entries_nodes, entry_nodes, form_node, form_nodes, item_nodes, item_span, items_nodes, items_span, last_command, last_item, last_pipeline, node, pipeline_nodes, pipeline_span, pipes_nodes, subst_nodes, substs_nodes, compound_nodes, compound_span, through, case_nodes, cases_nodes, patterns_nodes, commands_end}
-use Rattle.shtree.specs.Tree.{ABranch, ACommand, AForm, APipeline, APipelinePart, ASubst, AWord, AnAndOr, AnAndOrPart, AnEntry, AnItem, Entries, and_or, and_or_parts_of, argument, assign, brace, branches_of, case_in, command, compound, entries_of, entry, for_in, formed, if_then, item, items_of, no_item, pipeline, pipeline_parts_of, remark, simple, subshell, subst, substs_of, until_do, while_do, word, ACompound, function, ACaseItem, case_item, cases_of, patterns_of, more_and_or, more_pipes, no_and_or, no_pipe}
+use Rattle.shtree.specs.Tree.{ABranch, ACommand, AForm, APipeline, APipelinePart, ASubst, AWord, AnAndOr, AnAndOrPart, AnEntry, AnItem, Entries, and_or, and_or_parts_of, argument, assign, brace, branches_of, case_in, command, compound, entries_of, entry, for_in, formed, if_then, item, items_of, pipeline, pipeline_parts_of, redirect, remark, simple, subshell, subst, substs_of, until_do, while_do, word, ACompound, function, ACaseItem, case_item, cases_of, patterns_of, more_and_or, more_pipes, no_and_or, no_pipe}
 
 nodes_append : (es ls : Row AnEntry) → entries_nodes (entries_of (es ++ ls)) ≡ entries_nodes (entries_of es) ++ entries_nodes (entries_of ls)
 nodes_append [] ls = refl
@@ -137,6 +138,17 @@ module _ (limit : ℕ) where
       let span = items_span_fits is all in
       (span, first (node NodeKind.Simple (items_span (items_of is))) _ (fits_node NodeKind.Simple _ span) (fits_items is all))
 
+  begin_fits : (begin : Option Span) (s : Span) → MatchOption begin (Unit {0}) (IsSpanWithin limit) → IsSpanWithin limit s → IsSpanWithin limit (unwrap_or begin s)
+  begin_fits None s none so = so
+  begin_fits (Some b) s one so = one
+
+  -- a redirection without a here-document
+  pub fits_redirect : (broken : Bool) (number : Option Span) (o : RedirectOperator) (s : Span) (w : AWord) → MatchOption number (Unit {0}) (IsSpanWithin limit) → IsSpanWithin limit s → WordFits w
+      → ItemFits (item broken (redirect number o s w None))
+  fits_redirect broken number o s (word z zs) one two so =
+      let span : IsSpanWithin limit (through (unwrap_or number s) z) = ((begin_fits number s one two).0, so.0.1) in
+      (span, first (node NodeKind.Redirect (through (unwrap_or number s) z)) (word_nodes (word z zs)) (fits_node NodeKind.Redirect _ span) (fits_word (word z zs) so))
+
   -- a for has the name of its variable
   fits_form_node : (f : AForm) (s : Span) → IsSpanWithin limit s → Nodes (form_nodes f) → IsWithin limit (form_node f s)
   fits_form_node (brace es) s so all = fits_node NodeKind.Brace s so
@@ -149,22 +161,19 @@ module _ (limit : ℕ) where
       record { start = so.0; «end» = so.1; name = (one.start, one.«end») }
   fits_form_node (case_in w items tail) s so all = fits_node NodeKind.Case s so
 
-  -- with no redirection
-  pub fits_compound : (f : AForm) (s : Span) → IsSpanWithin limit s → Nodes (form_nodes f) → CommandFits (compound (formed f s no_item))
-  fits_compound f s so all = ((so.0, so.1), first _ _ (fits_form_node f _ (so.0, so.1) all) (both (form_nodes f) [] all (All-nil (IsWithin limit))))
+  pub fits_compound : (f : AForm) (s : Span) (is : Row AnItem) → IsSpanWithin limit s → Nodes (form_nodes f) → All ItemFits is → CommandFits (compound (formed f s (items_of is)))
+  fits_compound f s is so all items =
+      let last = last_item_fits s is so items in
+      ((so.0, last.1), first _ _ (fits_form_node f _ (so.0, last.1) all) (both (form_nodes f) (items_nodes (items_of is)) all (fits_items is items)))
 
   pub fits_function : (name : Span) (cs : Row Span) (body : ACompound) → IsSpanWithin limit name → All CommentFits cs → CommandFits (compound body) → CommandFits (function name cs body)
   fits_function name cs body one all so =
       let span : IsSpanWithin limit (through name (compound_span body)) = (one.0, so.0.1) in
       (span, first _ _ (record { start = span.0; «end» = span.1; name = one }) (both (map comment_node cs) (compound_nodes body) (fits_comments cs all) so.1))
 
-  bang_fits : (bang : Option Span) (s : Span) → MatchOption bang (Unit {0}) (IsSpanWithin limit) → IsSpanWithin limit s → IsSpanWithin limit (unwrap_or bang s)
-  bang_fits None s none so = so
-  bang_fits (Some b) s one so = one
-
   pipeline_span_fits : (bang : Option Span) (c : ACommand) (ps : Row APipelinePart) → MatchOption bang (Unit {0}) (IsSpanWithin limit) → IsSpanWithin limit (command_span c) → All PipeFits ps
       → IsSpanWithin limit (pipeline_span (pipeline bang c (pipeline_parts_of ps)))
-  pipeline_span_fits bang c ps one so all = ((bang_fits bang (command_span c) one so).0, (last_command_fits (command_span c) ps so all).1)
+  pipeline_span_fits bang c ps one so all = ((begin_fits bang (command_span c) one so).0, (last_command_fits (command_span c) ps so all).1)
 
   pub fits_pipeline : (bang : Option Span) (c : ACommand) (ps : Row APipelinePart) → MatchOption bang (Unit {0}) (IsSpanWithin limit) → CommandFits c → All PipeFits ps
       → PipelineFits (pipeline bang c (pipeline_parts_of ps))

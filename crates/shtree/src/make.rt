@@ -1,11 +1,12 @@
 //! The nodes of a tree: one maker for each kind, which says what its node is in the definitions.
 ghost use Rattle.std.specs.Prelude.{◌≡◌, map, option_map, false, None};
-ghost use Rattle.shtree.specs.Tree.{and_or, and_or_parts_of, argument, assign, branch, branches_of, brace, command, compound, entries_of, entry, for_in, for_words_of, formed, if_then, item, items_of, pipeline, pipeline_parts_of, remark, simple, subshell, subst, substs_of, until_do, while_do, word, function, case_in, case_item, cases_of, patterns_of};
-ghost use Rattle.shtree.specs.View.{view_and_or, view_and_or_part, view_branch, view_command, view_comment, view_compound, view_entry, view_form, view_item, view_join, view_list, view_otherwise, view_pipeline, view_pipeline_part, view_subst, view_word, view_function, view_case_item};
+ghost use Rattle.shtree.specs.Tree.{and_or, and_or_parts_of, argument, assign, branch, branches_of, brace, command, compound, entries_of, entry, for_in, for_words_of, formed, if_then, item, items_of, pipeline, pipeline_parts_of, redirect, redirected, remark, simple, subshell, subst, substs_of, until_do, while_do, with_redirects, word, function, case_in, case_item, cases_of, patterns_of};
+ghost use Rattle.shtree.specs.View.{view_and_or, view_and_or_part, view_branch, view_command, view_comment, view_compound, view_entry, view_form, view_item, view_join, view_list, view_otherwise, view_pipeline, view_pipeline_part, view_redirection, view_subst, view_word, view_function, view_case_item};
 
 use crate::tree::{
     AndOr, AndOrOperator, AndOrPart, Branch, CaseItem, Command, Comment, Compound, Content, Entry,
-    Form, Function, Item, ItemContent, Join, List, Pipeline, PipelinePart, Span, Subst, Word,
+    Form, Function, Item, ItemContent, Join, List, Pipeline, PipelinePart, RedirectOperator,
+    Redirection, Span, Subst, Word,
 };
 
 /// A list of these entries (XCU 2.9.3).
@@ -99,6 +100,27 @@ pub fn compound_command(of: Box<Compound>) -> Command
     ensures { view_command result ≡ compound (view_compound of.value) }
 {
     Command::Compound(of)
+}
+
+/// Puts these redirections in the place of its own.
+#[tactic(auto, using(crate::proofs::Redirected::compound_redirected))]
+fn redirect_to(compound: &mut Compound, redirects: Vec<Item>)
+    ensures { view_compound compound.new ≡ redirected (view_compound compound.old) (items_of (map view_item redirects.items)) }
+{
+    compound.redirects = redirects;
+}
+
+/// A compound command with these redirections in the place of its own. A command of another kind stays as it is.
+pub fn with_redirects(command: Command, redirects: Vec<Item>) -> Command
+    ensures { view_command result ≡ with_redirects (view_command command) (items_of (map view_item redirects.items)) }
+{
+    match command {
+        Command::Compound(mut compound) => {
+            redirect_to(&mut compound, redirects);
+            compound_command(compound)
+        }
+        other => other,
+    }
 }
 
 /// The definition of a function: its name, the comments before its body, and that (XCU 2.9.5).
@@ -208,6 +230,34 @@ pub fn argument_of(word: Word, broken: bool) -> Item
     Item {
         broken,
         what: ItemContent::Word(word),
+    }
+}
+
+/// A redirection without a here-document: the number before its operator, that and where it stands, and its word (XCU 2.7).
+pub fn redirection_of(
+    number: Option<Span>,
+    operator: RedirectOperator,
+    span: Span,
+    word: Word,
+) -> Redirection
+    ensures { view_redirection result ≡ redirect number operator span (view_word word) None }
+{
+    Redirection {
+        number,
+        operator,
+        span,
+        word,
+        here: None,
+    }
+}
+
+/// A redirection as an item; whether a continuation stands before it.
+pub fn redirect_of(redirection: Box<Redirection>, broken: bool) -> Item
+    ensures { view_item result ≡ item broken (view_redirection redirection.value) }
+{
+    Item {
+        broken,
+        what: ItemContent::Redirect(redirection),
     }
 }
 
