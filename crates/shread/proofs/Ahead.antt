@@ -8,7 +8,8 @@ use Rattle.shread.specs.Standing.{is_byte, raw_in, raw_stands, raw_past, passes,
 use Rattle.shread.specs.Bytes.{ends, ends_word, past, past_blanks, is_broken_at, past_continuations, byte_at, behind, stands, stands_in}
 use Rattle.shread.specs.declared.token.Position.{Position}
 use Rattle.shread.specs.declared.token.Position.TheVariants.{Command, Prefix, Suffix}
-use Rattle.shread.specs.Tokens.{Spelling, is_word_at, first_of_words, reserved_words, reserved_at, begins_assignment, is_name_at, is_number, word_by, token_of, token_at, next_at}
+use Rattle.shread.specs.declared.token.Token.TheVariants as tokens
+use Rattle.shread.specs.Tokens.{Spelling, is_word_at, first_of_words, reserved_words, reserved_at, begins_assignment, greater_at, is_name_at, is_number, less_at, word_by, token_of, token_at, next_at}
 use Rattle.shread.proofs.Stretches.{place_low, past_more, past_none, stands_in_low, joined_none, joined_more, raw_more, raw_none}
 use Rattle.shread.proofs.Places.{must_fail, behind_low, past_low}
 use Rattle.shread.proofs.SameBytes.{Kept, WordEnds, goes_on, Safe, at_limit, halts, one_byte, two_bytes, Place, inside, outside, Here, no_backslash, on_no_backslash, continued, safe_high, safe_low, safe_place, safe_behind, none_same, pair_same, place, raw_same, here_byte, here_behind}
@@ -29,12 +30,14 @@ pub record Ender (c : ℕ) : Type 0 where
   pub no_semicolon : (c == 59) ≡ false
   pub no_ampersand : (c == 38) ≡ false
   pub no_bar : (c == 124) ≡ false
+  pub no_less : (c == 60) ≡ false
+  pub no_greater : (c == 62) ≡ false
 
 pub newline_ends : Ender 10
-newline_ends = record { ends_it = refl; no_open = refl; no_blank = refl; no_semicolon = refl; no_ampersand = refl; no_bar = refl }
+newline_ends = record { ends_it = refl; no_open = refl; no_blank = refl; no_semicolon = refl; no_ampersand = refl; no_bar = refl; no_less = refl; no_greater = refl }
 
 pub bracket_ends : Ender 41
-bracket_ends = record { ends_it = refl; no_open = refl; no_blank = refl; no_semicolon = refl; no_ampersand = refl; no_bar = refl }
+bracket_ends = record { ends_it = refl; no_open = refl; no_blank = refl; no_semicolon = refl; no_ampersand = refl; no_bar = refl; no_less = refl; no_greater = refl }
 
 -- a test that holds only of bytes over which it goes on, and not of the one at the limit
 pub record Goes (c : ℕ) (test : ℕ → Bool) : Type 0 where
@@ -321,6 +324,18 @@ module _ {T T2 : List ℕ} {a L : ℕ} {to : ℕ → ℕ} {c : ℕ} (E : ListEnd
   same_in_position Prefix s = rw (same_assignment s) refl
   same_in_position Suffix s = refl
 
+  same_less : {q : ℕ} → Safe T a L q → less_at T2 (to q) ≡ less_at T q
+  unfolding less_at
+  same_less {q = q} s =
+      rw (same_stands s 60, same_stands s 38, same_stands s 62)
+      (same_if (stands T q 60) _ _ _ _
+      (λ e. let next = next_safe (λ x. x == 60) (goes_one c 60 refl E.ender.no_less) s (stands_is q 60 e) in rw (same_behind s, same_stands next 45) refl)
+      (λ e. refl))
+
+  same_greater : {q : ℕ} → Safe T a L q → greater_at T2 (to q) ≡ greater_at T q
+  unfolding greater_at
+  same_greater s = rw (same_stands s 62, same_stands s 38, same_stands s 124) refl
+
   token_by : (position : Position) {p : ℕ} (x : Option ℕ) → Safe T a L p → byte_at T p ≡ x → token_of position T2 (to p) x ≡ token_of position T p x
   unfolding stands_in
   token_by position None s is = refl
@@ -332,7 +347,13 @@ module _ {T T2 : List ℕ} {a L : ℕ} {to : ℕ → ℕ} {c : ℕ} (E : ListEnd
       (λ g. let next = next_safe (λ x. x == 38) (goes_one c 38 refl E.ender.no_ampersand) s (rw is g) in rw (same_behind s, same_stands next 38) refl)
       (λ g. same_if (b == 124) _ _ _ _
       (λ h. let next = next_safe (λ x. x == 124) (goes_one c 124 refl E.ender.no_bar) s (rw is h) in rw (same_behind s, same_stands next 124) refl)
-      (λ h. rw (same_number s, same_in_position position s) refl))))
+      (λ h. same_if (b == 40) _ _ _ _ (λ i. refl)
+      (λ i. same_if (b == 41) _ _ _ _ (λ j. refl)
+      (λ j. same_if (b == 60) _ _ _ _
+      (λ k. let next = next_safe (λ x. x == 60) (goes_one c 60 refl E.ender.no_less) s (rw is k) in ap tokens.Redirect (ap (less_at T2) (same_behind s) ∙ same_less next))
+      (λ k. same_if (b == 62) _ _ _ _
+      (λ l. let next = next_safe (λ x. x == 62) (goes_one c 62 refl E.ender.no_greater) s (rw is l) in ap tokens.Redirect (ap (greater_at T2) (same_behind s) ∙ same_greater next))
+      (λ l. rw (same_number s, same_in_position position s) refl))))))))
 
   pub same_token : (position : Position) {p : ℕ} → Safe T a L p → token_at position T2 (to p) ≡ token_at position T p
   unfolding token_at

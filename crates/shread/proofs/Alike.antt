@@ -11,20 +11,22 @@ use Rattle.shread.specs.declared.token.Next.{Next}
 use Rattle.shread.specs.declared.token.Opener.{Opener}
 use Rattle.shread.specs.declared.token.Opener.TheVariants as openers
 use Rattle.shread.specs.declared.token.Position.{Position}
+use Rattle.shread.specs.declared.token.Position.TheVariants.{Command, Suffix}
 use Rattle.shread.specs.declared.token.Separator.{Separator}
 use Rattle.shtree.specs.declared.tree.Span.{Span}
 use Rattle.shtree.specs.declared.tree.AndOrOperator.{AndOrOperator}
-use Rattle.shtree.specs.Tree.{ASubst, AnEntry, AWord}
+use Rattle.shtree.specs.declared.tree.RedirectOperator.{RedirectOperator}
+use Rattle.shtree.specs.Tree.{ACommand, ASubst, AnEntry, AnItem, AWord}
 use Rattle.shread.specs.Comments.{span}
 use Rattle.shread.specs.Sights.{Given, State, Sight, seen, the_piece, Move}
 use Rattle.shread.specs.Form.{Spelled, Told, Read, ◌▸◌, Form, give, see, move, push, stop, both, when, token, many, ends_as, with_end, ◌>>=◌, Step, again, done, step_if, leads_on, turns, does}
 use Rattle.shread.specs.Words.{single, backquote_turn, backquoted, Inner, Held, having, opened, piece_row, a_piece, contents, a_word}
 use Rattle.shread.specs.Levels.{level}
 use Rattle.shread.specs.Tokens.{is_end}
-use Rattle.shread.specs.Commands.{pick, is_newline, is_semicolon, a_semicolon, a_join_of, is_pipe, is_bang, begins_simple, begins_pipeline, opener_of, compound_by, and_or_operator_of, next_token, Items, so_many, behind_item, an_item, item_by, item_turn, a_simple, comment_by, a_comment, a_newline, what_is_wrong, unexpected, JoinSo, join_so, with_comment, join_turn, a_join, a_command, a_bang, Piped, piped, one_command, pipe_turn, a_pipeline, Joined, joined_so, one_pipeline, joined_by, join_pipeline, an_and_or, separator_of, separator_by, a_separator, Entered, an_entry, a_worded, is_word, is_paren, named, ASeparator, past_separator, is_double_semicolon}
+use Rattle.shread.specs.Commands.{pick, is_newline, is_semicolon, a_semicolon, a_join_of, is_pipe, is_bang, begins_simple, begins_word, begins_redirect, begins_pipeline, opener_of, compound_by, and_or_operator_of, next_token, Items, so_many, breaks, behind_word, is_number, redirect_operator_of, takes_here, is_long, a_number, an_operator, operator_by, a_target, one_redirect, behind_redirect, redirect_turn, redirected, an_item, item_by, item_turn, a_simple, comment_by, a_comment, a_newline, what_is_wrong, unexpected, JoinSo, join_so, with_comment, join_turn, a_join, a_command, a_bang, Piped, piped, one_command, pipe_turn, a_pipeline, Joined, joined_so, one_pipeline, joined_by, join_pipeline, an_and_or, separator_of, separator_by, a_separator, Entered, an_entry, a_worded, is_word, is_paren, named, ASeparator, past_separator, is_double_semicolon}
 use Rattle.shread.specs.Lines.{end_of_line, a_line}
 use Rattle.shread.specs.Lists.{Listed, ListSo, list_so, none_listed, with_command, next_line, one_entry, entry_turn, remark_by, a_remark, on_line, list_turn, a_list}
-use Rattle.shread.specs.Compounds.{is_closing, is_open_paren, is_close_paren, passed, closing, Closed, closed, a_branch, Branched, branched, elif_turn, an_else, an_if, a_loop, a_group, a_for_name, a_linebreak, a_sequential_sep, Headed, for_words, a_for_head, a_for, a_form, a_compound, a_function, a_case_word, begins_pattern, Patterned, a_pattern, one_pattern, pattern_turn, a_pattern_list, an_open_bracket, a_body, ItemEnd, a_double_semicolon, an_item_end, CasesSo, cases_so, one_case, case_turn, a_case_head, a_case}
+use Rattle.shread.specs.Compounds.{is_closing, is_open_paren, is_close_paren, passed, closing, Closed, closed, a_branch, Branched, branched, elif_turn, an_else, an_if, a_loop, a_group, a_for_name, a_linebreak, a_sequential_sep, Headed, word_turn, for_words, a_for_head, a_for, a_form, a_compound, a_function, a_case_word, begins_pattern, Patterned, a_pattern, one_pattern, pattern_turn, a_pattern_list, an_open_bracket, a_body, ItemEnd, a_double_semicolon, an_item_end, CasesSo, cases_so, one_case, case_turn, a_case_head, a_case}
 use Rattle.shread.specs.Substitutions.{substituted, a_substitution}
 use Rattle.shread.proofs.Turns.{turns_on, turns_rest, turns_done, turns_fault}
 use Rattle.shtree.specs.Nodes.{word_span}
@@ -256,26 +258,6 @@ module _ (g : Given) where
     unfolding next_token
     alike_next position = alike_see (λ n. alike_on (alike_give refl))
 
-    abbrev SameItems : Items → Items → Type 0
-    SameItems i j = i.next ≡ j.next
-
-    alike_item : (i j : Items) (position : Position) → Alike (SameStep SameItems) (an_item inner i position) (an_item inner j position)
-    unfolding an_item
-    alike_item i j position =
-        alike_then alike_word (λ w v so. alike_pushed (alike_then (alike_next position) (λ n m same. alike_give same)))
-
-    alike_item_by : (i j : Items) (position : Option Position) → SameItems i j → Alike (SameStep SameItems) (item_by inner i position) (item_by inner j position)
-    alike_item_by i j (Some position) same = alike_item i j position
-    alike_item_by i j None same = alike_give same
-
-    alike_item_turn : (i j : Items) → SameItems i j → Alike (SameStep SameItems) (item_turn inner i) (item_turn inner j)
-    unfolding item_turn
-    alike_item_turn i j same = subst (λ (n : Next). Alike (SameStep SameItems) (item_by inner i (behind_item i.next.token)) (item_by inner j (behind_item n.token))) same (alike_item_by i j (behind_item i.next.token) same)
-
-    alike_simple : (i j : Items) → SameItems i j → Alike SameNext (a_simple inner i) (a_simple inner j)
-    unfolding a_simple
-    alike_simple i j same = alike_then (alike_many SameItems (item_turn inner) (item_turn inner) alike_item_turn i j same) (λ is js so. alike_give so)
-
     alike_comment_by : (n : Next) (c : Option Span) → Alike (λ x y. x ≡ y) (comment_by n c) (comment_by n c)
     alike_comment_by n (Some c) = alike_on (alike_then (alike_next _) (λ m k same. alike_give (ap (λ z. (Some c, z)) same)))
     alike_comment_by n None = alike_give refl
@@ -284,6 +266,67 @@ module _ (g : Given) where
     unfolding a_comment
     alike_comment n m same = rw (← same) (alike_see (λ c. alike_comment_by n c))
 
+    alike_wrong : (n : Next) → Alike (λ x y. x ≡ y) (what_is_wrong inner n) (what_is_wrong inner n)
+    unfolding what_is_wrong
+    alike_wrong n =
+        alike_pick (begins_word n.token) _ refl (alike_see (λ p. alike_then alike_word (λ w v so. alike_give refl)))
+        (alike_then (alike_comment n n refl) (λ c d so. rw (← so) (alike_see (λ p. alike_give refl))))
+
+    alike_unexpected : {X : Type 0} {S : X → X → Type 0} (n : Next) → Alike S (unexpected inner n) (unexpected inner n)
+    alike_unexpected n = alike_then (alike_wrong n) (λ w v so. rw (← so) alike_stop)
+
+    abbrev SameItems : Items → Items → Type 0
+    SameItems i j = (i.place ≡ j.place) × (i.next ≡ j.next)
+
+    alike_item : (i j : Items) (position : Position) → Alike (SameStep SameItems) (an_item inner i position) (an_item inner j position)
+    unfolding an_item
+    alike_item i j position =
+        alike_then alike_word (λ w v so. alike_pushed (alike_then (alike_next position) (λ n m same. alike_give (refl, same))))
+
+    alike_number : (n : Next) → Alike (λ x y. x ≡ y) (a_number n) (a_number n)
+    unfolding a_number
+    alike_number n =
+        alike_pick (is_number n.token) _ refl
+        (alike_then (alike_token {S = All} {R = λ x y. x.1 ≡ y.1} (alike_move {S = All} tt) (λ a b z so. refl)) (λ x y so. alike_then (alike_next _) (λ m k same. alike_give (rw (so, same) refl))))
+        (alike_give refl)
+
+    alike_operator : (o : RedirectOperator) → Alike (λ x y. x.1 ≡ y.1) (an_operator o) (an_operator o)
+    unfolding an_operator
+    alike_operator o = alike_token {S = All} {R = λ x y. x.1 ≡ y.1} (alike_on (alike_pick (is_long o) _ refl (alike_move tt) (alike_give tt))) (λ a b z so. refl)
+
+    alike_operator_by : (p : ℕ) (o : Option RedirectOperator) → Alike (λ x y. x ≡ y) (operator_by p o) (operator_by p o)
+    alike_operator_by p (Some o) = alike_pick (takes_here o) _ refl alike_stop (alike_then (alike_operator o) (λ x y so. alike_give (ap (λ z. (o, z)) so)))
+    alike_operator_by p None = alike_stop
+
+    alike_target : Alike SamePlace (a_target inner) (a_target inner)
+    unfolding a_target
+    alike_target = alike_then (alike_next _) (λ n m same. rw (← same) (alike_pick (is_word n.token) _ refl alike_word (alike_unexpected n)))
+
+    alike_redirect : (broken pale : Bool) (position : Position) (is js : Row AnItem) (n : Next)
+        → Alike (SameStep SameItems) (one_redirect inner broken position is n) (one_redirect inner pale position js n)
+    unfolding one_redirect
+    alike_redirect broken pale position is js n =
+        alike_see (λ p. alike_then (alike_number n) (λ d e so. rw (← so) (alike_then (alike_operator_by p (redirect_operator_of d.1.token))
+        (λ o q same. alike_then alike_target (λ w v all. alike_pushed (alike_then (alike_next position) (λ m k is_next. alike_give (refl, is_next))))))))
+
+    alike_redirect_at : (broken pale : Bool) (p q : Position) (is js : Row AnItem) (n m : Next) → p ≡ q → n ≡ m
+        → Alike (SameStep SameItems) (one_redirect inner broken p is n) (one_redirect inner pale q js m)
+    alike_redirect_at broken pale p q is js n m one two = rw (← one, ← two) (alike_redirect broken pale p is js n)
+
+    alike_item_by : (i j : Items) (position : Option Position) → SameItems i j → Alike (SameStep SameItems) (item_by inner i position) (item_by inner j position)
+    alike_item_by i j (Some position) same = alike_item i j position
+    alike_item_by i j None same =
+        alike_pick _ _ (ap (λ (n : Next). begins_redirect n.token) same.1)
+        (alike_redirect_at (breaks i) (breaks j) (behind_redirect i.place) (behind_redirect j.place) i.items j.items i.next j.next (ap behind_redirect same.0) same.1) (alike_give same)
+
+    alike_item_turn : (i j : Items) → SameItems i j → Alike (SameStep SameItems) (item_turn inner i) (item_turn inner j)
+    unfolding item_turn
+    alike_item_turn i j same = subst (λ (n : Next). Alike (SameStep SameItems) (item_by inner i (behind_word i.next.token)) (item_by inner j (behind_word n.token))) same.1 (alike_item_by i j (behind_word i.next.token) same)
+
+    alike_simple : (i j : Items) → SameItems i j → Alike SameNext (a_simple inner i) (a_simple inner j)
+    unfolding a_simple
+    alike_simple i j same = alike_then (alike_many SameItems (item_turn inner) (item_turn inner) alike_item_turn i j same) (λ is js so. alike_give so.1)
+
     alike_newline : (n : Next) → Alike (λ x y. x ≡ y) (a_newline n) (a_newline n)
     unfolding a_newline
     alike_newline n = alike_pick (is_newline n.token) _ refl (alike_on (alike_then (alike_next _) (λ m k same. alike_give (ap (λ z. (true, z)) same)))) (alike_give refl)
@@ -291,15 +334,6 @@ module _ (g : Given) where
     alike_semicolon : (n : Next) → Alike (λ x y. x ≡ y) (a_semicolon n) (a_semicolon n)
     unfolding a_semicolon
     alike_semicolon n = alike_pick (is_semicolon n.token) _ refl (alike_on (alike_then (alike_next _) (λ m k same. alike_give (ap (λ z. (true, z)) same)))) (alike_give refl)
-
-    alike_wrong : (n : Next) → Alike (λ x y. x ≡ y) (what_is_wrong inner n) (what_is_wrong inner n)
-    unfolding what_is_wrong
-    alike_wrong n =
-        alike_pick (begins_simple n.token) _ refl (alike_see (λ p. alike_then alike_word (λ w v so. alike_give refl)))
-        (alike_then (alike_comment n n refl) (λ c d so. rw (← so) (alike_see (λ p. alike_give refl))))
-
-    alike_unexpected : {X : Type 0} {S : X → X → Type 0} (n : Next) → Alike S (unexpected inner n) (unexpected inner n)
-    alike_unexpected n = alike_then (alike_wrong n) (λ w v so. rw (← so) alike_stop)
 
     alike_with : (cs ds : Row Span) (c : Option Span) → Alike All (with_comment cs c) (with_comment ds c)
     alike_with cs ds (Some c) = alike_push tt
@@ -336,8 +370,18 @@ module _ (g : Given) where
     unfolding a_linebreak
     alike_linebreak cs ds n m same = alike_many SameJoin join_turn join_turn alike_join_turn _ _ (refl, same)
 
+    alike_redirect_turn : (i j : Items) → SameItems i j → Alike (SameStep SameItems) (redirect_turn inner i) (redirect_turn inner j)
+    unfolding redirect_turn
+    alike_redirect_turn i j same =
+        alike_pick _ _ (ap (λ (n : Next). begins_redirect n.token) same.1) (alike_redirect_at _ _ Command Command i.items j.items i.next j.next refl same.1) (alike_give same)
+
+    alike_redirected : (c d : ACommand × Next) → SameNext c d → Alike SameNext (redirected inner c) (redirected inner d)
+    unfolding redirected
+    alike_redirected c d same =
+        alike_then (alike_many SameItems (redirect_turn inner) (redirect_turn inner) alike_redirect_turn (so_many [] Command c.1) (so_many [] Command d.1) (refl, same)) (λ i j so. alike_give so.1)
+
     alike_compound_by : (n : Next) (o : Option Opener) → Alike SameNext (compound_by inner n o) (compound_by inner n o)
-    alike_compound_by n (Some o) = fits.compound o
+    alike_compound_by n (Some o) = alike_then (fits.compound o) alike_redirected
     alike_compound_by n None = alike_unexpected n
 
     alike_named : (good : Bool) (w v : AWord) → SamePlace w v → Alike SameNext (named inner good (word_span w)) (named inner good (word_span v))
@@ -347,13 +391,13 @@ module _ (g : Given) where
     unfolding a_worded
     alike_worded =
         alike_see (λ good. alike_then alike_word (λ w v so. alike_then (alike_next _) (λ n m same.
-        alike_pick _ _ (ap (λ (z : Next). is_paren z.token) same) (alike_named good w v so) (alike_pushed (alike_simple (so_many _ n) (so_many _ m) same)))))
+        alike_pick _ _ (ap (λ (z : Next). is_paren z.token) same) (alike_named good w v so) (alike_pushed (alike_simple (so_many _ Suffix n) (so_many _ Suffix m) (refl, same))))))
 
     alike_command : (n : Next) → Alike SameNext (a_command inner n) (a_command inner n)
     unfolding a_command
     alike_command n =
         alike_pick (is_word n.token) _ refl alike_worded
-        (alike_pick (begins_simple n.token) _ refl (alike_simple (so_many [] n) (so_many [] n) refl) (alike_compound_by n (opener_of n.token)))
+        (alike_pick (begins_simple n.token) _ refl (alike_simple (so_many [] Command n) (so_many [] Command n) (refl, refl)) (alike_compound_by n (opener_of n.token)))
 
     alike_bang : (n : Next) → Alike SameNext (a_bang n) (a_bang n)
     unfolding a_bang
@@ -528,7 +572,7 @@ module _ (g : Given) where
     alike_for_name : (n : Next) → Alike SameNext (a_for_name inner n) (a_for_name inner n)
     unfolding a_for_name
     alike_for_name n =
-        alike_pick (begins_simple n.token) _ refl
+        alike_pick (begins_word n.token) _ refl
         (alike_see (λ p. alike_see (λ good. alike_then alike_word (λ w v so. alike_pick good _ refl (alike_then (alike_next _) (λ m k same. alike_give same)) alike_stop))))
         (alike_unexpected n)
 
@@ -541,11 +585,15 @@ module _ (g : Given) where
     abbrev SameHead : Headed → Headed → Type 0
     SameHead h k = h.next ≡ k.next
 
+    alike_word_turn : (i j : Items) → SameItems i j → Alike (SameStep SameItems) (word_turn inner i) (word_turn inner j)
+    unfolding word_turn
+    alike_word_turn i j same = alike_pick _ _ (ap (λ (n : Next). is_word n.token) same.1) (alike_item i j Suffix) (alike_give same)
+
     alike_for_words : (cs ds : Row Span) → Alike SameHead (for_words inner cs) (for_words inner ds)
     unfolding for_words
     alike_for_words cs ds =
-        alike_then (alike_passed _ false _) (λ i j so. alike_then (alike_many SameItems (item_turn inner) (item_turn inner) alike_item_turn (so_many [] i.1) (so_many [] j.1) (ap (λ (z : Span × Next). z.1) so))
-        (λ ws vs same. alike_then (alike_sep cs ds ws.next vs.next same) (λ l k is. alike_give is.1)))
+        alike_then (alike_passed _ false _) (λ i j so. alike_then (alike_many SameItems (word_turn inner) (word_turn inner) alike_word_turn (so_many [] Suffix i.1) (so_many [] Suffix j.1) (refl, ap (λ (z : Span × Next). z.1) so))
+        (λ ws vs same. alike_then (alike_sep cs ds ws.next vs.next same.1) (λ l k is. alike_give is.1)))
 
     alike_for_head : (n : Next) → Alike SameHead (a_for_head inner n) (a_for_head inner n)
     unfolding a_for_head
@@ -562,7 +610,7 @@ module _ (g : Given) where
 
     alike_case_word : (n : Next) → Alike SameNext (a_case_word inner n) (a_case_word inner n)
     unfolding a_case_word
-    alike_case_word n = alike_pick (begins_simple n.token) _ refl (alike_then alike_word (λ w v so. alike_then (alike_next _) (λ m k same. alike_give same))) (alike_unexpected n)
+    alike_case_word n = alike_pick (begins_word n.token) _ refl (alike_then alike_word (λ w v so. alike_then (alike_next _) (λ m k same. alike_give same))) (alike_unexpected n)
 
     abbrev SamePatterned : Patterned → Patterned → Type 0
     SamePatterned p q = p.next ≡ q.next
@@ -575,7 +623,7 @@ module _ (g : Given) where
     unfolding one_pattern
     alike_one_pattern ws vs =
         alike_then alike_mark (λ x y all. alike_then (alike_next _) (λ n m same. rw (← same)
-        (alike_pick (begins_simple n.token) _ refl (alike_then (alike_pattern ws vs) (λ p q so. alike_give so)) (alike_unexpected n))))
+        (alike_pick (begins_word n.token) _ refl (alike_then (alike_pattern ws vs) (λ p q so. alike_give so)) (alike_unexpected n))))
 
     alike_pattern_turn : (p q : Patterned) → SamePatterned p q → Alike (SameStep SamePatterned) (pattern_turn inner p) (pattern_turn inner q)
     unfolding pattern_turn

@@ -9,11 +9,11 @@ use Rattle.shread.specs.Standing.{is_byte, is_none, at_end, raw_in, raw_stands, 
 use Rattle.shread.specs.Bytes.{past, past_blanks, past_continuations, byte_at, behind, stands, stands_in}
 use Rattle.shread.specs.Comments.{span, comment_at, past_comment}
 use Rattle.shread.specs.Pieces.{dollar_by, dollar_at, byte_by, piece_by, piece_at, past_taken, next_quote, next_in_backquotes, is_last_backslash, past_parameter, rest_mode, past_closer}
-use Rattle.shread.specs.Tokens.{past_reserved}
-use Rattle.shread.specs.Sights.{Move, joined, one_taken, the_closer, the_parameter, a_quote_on, in_backquotes_on, blanks, a_comment_on, the_reserved, one_byte as byte_on, to as leads}
+use Rattle.shread.specs.Tokens.{past_digits, past_reserved}
+use Rattle.shread.specs.Sights.{Move, joined, one_taken, the_closer, the_parameter, a_quote_on, in_backquotes_on, blanks, a_comment_on, the_reserved, the_digits, one_byte as byte_on, to as leads}
 use Rattle.shread.specs.Form.{raw}
 use Rattle.shread.proofs.Stretches.{place_low, joined_more, raw_more, get_drop, blanks_before, no_blanks_before}
-use Rattle.shread.proofs.Places.{must_fail, place_same, behind_low, raw_past_low, raw_past_stops, raw_past_all, next_in_backquotes_low, next_of_low, next_newline_low, parameter_low, reserved_low, blanks_low}
+use Rattle.shread.proofs.Places.{must_fail, place_same, behind_low, raw_past_low, raw_past_stops, raw_past_all, next_in_backquotes_low, next_of_low, next_newline_low, parameter_low, reserved_low, digits_low, blanks_low}
 use Rattle.shread.proofs.SameBytes.{Safe, halts, one_byte, two_bytes, goes_on, safe_high, safe_low, safe_escape, safe_place, no_backslash, continued, raw_there, byte_other}
 use Rattle.shread.proofs.Ahead.{ListEnds, ender, not_backslash, K, Goes, goes_name, goes_digit, goes_one, behind_is, same_if, same_and, seen, same_byte, same_behind, same_stands, same_stands_in, same_place, next_safe, past_safe, past_back, blanks_safe, blanks_back, same_raw_in}
 
@@ -106,6 +106,10 @@ module _ {T U : List ℕ} {a M : ℕ} {to : ℕ → ℕ} {limit : ℕ} (E : List
         let w = moves_past is_name (goes_name limit E.ender) (behind T p) (omega (arith, low, behind_low T p)) s in
         let v = (moves_behind p).1 low w.0 in (v.0, ap (past is_name U) v.1 ∙ w.1),
   )
+
+  pub moves_digits : (p : ℕ) → Moves past_digits p
+  unfolding past_digits
+  moves_digits p = (digits_low T p, λ low s. moves_past is_digit (goes_digit limit E.ender) p low s)
 
   pub moves_parameter : (p : ℕ) → Moves past_parameter p
   unfolding past_parameter
@@ -389,3 +393,4 @@ module _ {T U : List ℕ} {a M : ℕ} {to : ℕ → ℕ} {limit : ℕ} (E : List
   moves blanks p = (moves_blanks p).1
   moves a_comment_on p = (moves_comment p).1
   moves the_reserved p = (moves_reserved p).1
+  moves the_digits p = (moves_digits p).1

@@ -10,7 +10,7 @@ use Rattle.shread.specs.declared.token.Position.TheVariants.{Command, Prefix, Su
 use Rattle.shread.specs.declared.token.Token.{Token}
 use Rattle.shread.specs.declared.token.Token.TheVariants as tokens
 use Rattle.shread.specs.Text.{is_newline}
-use Rattle.shread.specs.Classes.{is_blank, is_operator, is_letter, is_digit, is_name}
+use Rattle.shread.specs.Classes.{is_blank, is_letter, is_digit, is_name}
 use Rattle.shread.specs.Standing.{is_byte, passes, raw_stands}
 use Rattle.shread.specs.Bytes.{ends, ends_word, past, past_continuations, byte_at, behind, stands, stands_in}
 use Rattle.shread.specs.Pieces.{piece_at}
@@ -20,7 +20,7 @@ use Rattle.shread.specs.Sights.{Given, given, State, standing}
 use Rattle.shread.specs.Form.{Read, again, as_it_stands, token, loop, many, leads_on, does}
 use Rattle.shread.specs.Words.{Held, having, a_piece, contents, a_word}
 use Rattle.shread.specs.Levels.{level, IsWord}
-use Rattle.shread.specs.Commands.{behind_item}
+use Rattle.shread.specs.Commands.{behind_word}
 use Rattle.shread.proofs.Stretches.{place_low, past_more, past_none, stands_in_low, raw_stays}
 use Rattle.shread.proofs.Places.{must_fail, behind_low, word_longer}
 use Rattle.shread.proofs.Turns.{turns_on}
@@ -261,7 +261,7 @@ abbrev Item : Token → Type 0
 Item t = is_a_word t ≡ true
 
 -- an item of a simple command is one
-pub item_is_word : (t : Token) → is_some (behind_item t) ≡ true → is_a_word t ≡ true
+pub item_is_word : (t : Token) → is_some (behind_word t) ≡ true → is_a_word t ≡ true
 item_is_word tokens.End e = absurd cc
 item_is_word tokens.Newline e = absurd cc
 item_is_word tokens.Semicolon e = absurd cc
@@ -272,7 +272,7 @@ item_is_word tokens.OrIf e = absurd cc
 item_is_word tokens.Pipe e = absurd cc
 item_is_word tokens.OpenParen e = absurd cc
 item_is_word tokens.CloseParen e = absurd cc
-item_is_word tokens.Operator e = absurd cc
+item_is_word (tokens.Redirect o) e = absurd cc
 item_is_word tokens.Comment e = absurd cc
 item_is_word tokens.Number e = absurd cc
 item_is_word (tokens.Reserved r) e = refl
@@ -287,7 +287,8 @@ pub record ItemByte (b : ℕ) : Type 0 where
   bar : (b == 124) ≡ false
   open_paren : (b == 40) ≡ false
   close_paren : (b == 41) ≡ false
-  operator : is_operator b ≡ false
+  less : (b == 60) ≡ false
+  greater : (b == 62) ≡ false
   sharp : (b == 35) ≡ false
 
 item_else : (c : Bool) (x y : Token) → (Item x → ⊥) → Item (cond c x y) → (c ≡ false) × Item y
@@ -306,8 +307,9 @@ item_byte position T p b so =
     let bar = item_else (b == 124) _ _ (λ e. neither (stands T (behind T p) 124) _ _ (λ f. absurd cc) (λ f. absurd cc) e) ampersand.1 in
     let open_paren = item_else (b == 40) _ _ (λ e. absurd cc) bar.1 in
     let close_paren = item_else (b == 41) _ _ (λ e. absurd cc) open_paren.1 in
-    let operator = item_else (is_operator b) _ _ (λ e. absurd cc) close_paren.1 in
-    let sharp = item_else (b == 35) _ _ (λ e. absurd cc) operator.1 in
+    let less = item_else (b == 60) _ _ (λ e. absurd cc) close_paren.1 in
+    let greater = item_else (b == 62) _ _ (λ e. absurd cc) less.1 in
+    let sharp = item_else (b == 35) _ _ (λ e. absurd cc) greater.1 in
     let number = item_else (is_number T p) _ _ (λ e. absurd cc) sharp.1 in (
       record {
         newline = newline.0;
@@ -316,14 +318,15 @@ item_byte position T p b so =
         bar = bar.0;
         open_paren = open_paren.0;
         close_paren = close_paren.0;
-        operator = operator.0;
+        less = less.0;
+        greater = greater.0;
         sharp = sharp.0;
       },
       number.0,
     )
 
 pub item_token : (position : Position) (T : List ℕ) (p b : ℕ) → ItemByte b → is_number T p ≡ false → token_of position T p (Some b) ≡ word_by position T p
-item_token position T p b i none = rw (i.newline, i.operator, i.semicolon, i.ampersand, i.bar, i.open_paren, i.close_paren, i.sharp, none) refl
+item_token position T p b i none = rw (i.newline, i.semicolon, i.ampersand, i.bar, i.open_paren, i.close_paren, i.less, i.greater, i.sharp, none) refl
 
 -- where an item begins a byte is read, and it ends no word
 record Begun (T : List ℕ) (p : ℕ) : Type 0 where
@@ -337,9 +340,8 @@ begun_by : (position : Position) (T : List ℕ) (p : ℕ) (x : Option ℕ) → b
 begun_by position T p None is so no_blank = absurd cc
 begun_by position T p (Some b) is so no_blank =
     let i = item_byte position T p b so in
-    let newline = i.0.newline in
-    let operator = i.0.operator in
-    record { byte = b; is = is; first = i.0; no_number = i.1; no_end = rw (no_blank, newline, operator) refl }
+    let f = i.0 in
+    record { byte = b; is = is; first = f; no_number = i.1; no_end = rw (no_blank, f.newline, f.semicolon, f.ampersand, f.bar, f.open_paren, f.close_paren, f.less, f.greater) refl }
 
 begun : (position : Position) (T : List ℕ) (p : ℕ) → Item (token_at position T p) → stands_in is_blank T p ≡ false → Begun T p
 unfolding token_at stands_in
@@ -493,12 +495,12 @@ token_anywhere room position _ g p n word place no_blank token_is item B stands_
 
 -- what is an item where it stands is one anywhere
 pub item_anywhere : (room : ℕ) (position : Position) (token : Token) (g : Given) (p n : ℕ) (word : IsWord room g p n)
-    → past_continuations g.text p ≡ p → stands_in is_blank g.text p ≡ false → token_at position g.text p ≡ token → is_some (behind_item token) ≡ true
+    → past_continuations g.text p ≡ p → stands_in is_blank g.text p ≡ false → token_at position g.text p ≡ token → is_some (behind_word token) ≡ true
     → (B : List ℕ) → g.text ≡ drop g.offset B → (ss : Shape SubstsOf) → shape_of_word B word.0 ≡ shape_word (take n (drop p g.text)) ss → ItemAnywhere room position token (take n (drop p g.text)) ss
 item_anywhere room position t g p n word place no_blank token_is item = token_anywhere room position t g p n word place no_blank token_is (item_is_word t item)
 
 -- and so is a NAME
 pub name_anywhere : (room : ℕ) (position : Position) (g : Given) (p n : ℕ) → IsWord room g p n
-    → past_continuations g.text p ≡ p → stands_in is_blank g.text p ≡ false → is_some (behind_item (token_at position g.text p)) ≡ true → is_name_at g.text p ≡ true
+    → past_continuations g.text p ≡ p → stands_in is_blank g.text p ≡ false → is_some (behind_word (token_at position g.text p)) ≡ true → is_name_at g.text p ≡ true
     → NameAnywhere (take n (drop p g.text))
 name_anywhere room position g p n word place no_blank item name = names room position g p n word place no_blank (item_is_word _ item) name

@@ -9,10 +9,10 @@ use Rattle.shread.specs.Standing.{raw_stands}
 use Rattle.shread.specs.Bytes.{behind}
 use Rattle.shread.specs.Comments.{span, past_comment}
 use Rattle.shread.specs.Pieces.{past_taken, past_closer}
-use Rattle.shread.specs.Sights.{Given, State, Sight, seen, Move, one_byte, joined, one_taken, the_closer, the_parameter, a_quote_on, in_backquotes_on, blanks, a_comment_on, the_reserved, to}
+use Rattle.shread.specs.Sights.{Given, State, Sight, seen, Move, one_byte, joined, one_taken, the_closer, the_parameter, a_quote_on, in_backquotes_on, blanks, a_comment_on, the_reserved, the_digits, to}
 use Rattle.shread.specs.Form.{Read, ◌▸◌, Form, give, see, move, push, stop, both, when, Told, token, loop, many, ends_as, with_end, Step, again, done, leads_on, moved, turns, does}
 use Rattle.shread.proofs.Stretches.{place_low}
-use Rattle.shread.proofs.Places.{behind_low, blanks_low, next_in_backquotes_low, next_newline_low, next_of_low, parameter_low, reserved_low}
+use Rattle.shread.proofs.Places.{behind_low, blanks_low, next_in_backquotes_low, next_newline_low, next_of_low, parameter_low, reserved_low, digits_low}
 use Rattle.shread.proofs.Turns.{turns_on, turns_rest, turns_done, turns_fault}
 
 -- P holds of what is read and of the state behind it; of a fault nothing is said
@@ -171,6 +171,7 @@ move_low in_backquotes_on T p = next_in_backquotes_low T p
 move_low blanks T p = blanks_low T p
 move_low a_comment_on T p = comment_low T p
 move_low the_reserved T p = reserved_low T p
+move_low the_digits T p = digits_low T p
 
 -- behind a state
 abbrev pub Behind : {X : Type 0} → State → X → State → Type 0

@@ -11,18 +11,19 @@ use Rattle.shread.specs.declared.token.Closing.{Closing}
 use Rattle.shread.specs.declared.token.Closing.TheVariants as closings
 use Rattle.shread.specs.declared.token.Opener.TheVariants as openers
 use Rattle.shtree.specs.declared.tree.AndOrOperator.{AndOrOperator}
+use Rattle.shtree.specs.declared.tree.RedirectOperator.{RedirectOperator}
 use Rattle.shtree.specs.declared.tree.Span.{Span}
-use Rattle.shtree.specs.Tree.{AnAndOrPartOf, AJoinOf, APipelinePartOf, ABranch, ACommand, AForm, AWord, AnAndOrPart, APipelinePart, AnEntry, AnItem, Entries, and_or_parts_of, branches_of, entries_of, entry, item, items_of, pipeline_parts_of, remark, compound, formed, no_item, simple, function, word, ACaseItem, case_item, cases_of, patterns_of}
+use Rattle.shtree.specs.Tree.{AnAndOrPartOf, AJoinOf, APipelinePartOf, ABranch, ACommand, AForm, AWord, AnAndOrPart, APipelinePart, AnEntry, AnItem, Entries, and_or_parts_of, branches_of, entries_of, entry, item, items_of, ItemsOf, pipeline_parts_of, redirect, with_redirects, remark, compound, formed, no_item, simple, function, word, ACaseItem, case_item, cases_of, patterns_of}
 use Rattle.shtree.specs.Nodes.{through, word_span}
-use Rattle.shtree.specs.Shape.{text_at, shape_of, shape_of_entry, shape_of_and_or, shape_of_and_or_parts, shape_of_pipeline, shape_of_bang, shape_of_pipes, shape_of_command, shape_of_branch, shape_of_branches, shape_of_items, shape_of_item, shape_of_join, shape_of_word, Text, shape_of_form, shape_of_else, shape_of_for_words, shape_of_compound, shape_of_case, shape_of_cases, shape_of_patterns}
+use Rattle.shtree.specs.Shape.{bare, bare_at, text_at, shape_of, shape_of_entry, shape_of_and_or, shape_of_and_or_parts, shape_of_pipeline, shape_of_bang, shape_of_pipes, shape_of_command, shape_of_branch, shape_of_branches, shape_of_items, shape_of_item, shape_of_join, shape_of_word, Text, shape_of_form, shape_of_else, shape_of_for_words, shape_of_compound, shape_of_case, shape_of_cases, shape_of_patterns}
 use Rattle.shread.specs.Standing.{raw_stands, next_newline, before_blanks}
 use Rattle.shread.specs.Comments.{span, comment_at, past_comment}
 use Rattle.shread.specs.Sights.{Given, given, State, Move, a_comment_on, here, is_a_name}
 use Rattle.shread.specs.Form.{Told, Read, Form, give, move, push, token, many, ◌>>=◌, ◌>>◌, Step, step_if, does, Spelled}
 use Rattle.shread.specs.Words.{Inner, a_word}
-use Rattle.shread.specs.Commands.{is_empty, pick, next_token, is_newline, is_semicolon, a_semicolon, a_join_of, is_pipe, is_bang, begins_simple, begins_pipeline, opener_of, compound_by, and_or_operator_of, Items, so_many, breaks, behind_item, as_item, an_item, item_by, item_turn, a_simple, comment_by, a_comment, a_newline, unexpected, JoinSo, join_so, with_comment, join_turn, a_join, a_command, a_bang, Piped, piped, one_command, pipe_turn, a_pipeline, Joined, joined_so, one_pipeline, joined_by, join_pipeline, an_and_or, separator_of, separator_by, a_separator, is_background, ASeparator, past_separator, Entered, an_entry, is_word, is_paren, is_double_semicolon, named, a_worded}
+use Rattle.shread.specs.Commands.{is_empty, pick, next_token, is_newline, is_semicolon, a_semicolon, a_join_of, is_pipe, is_bang, begins_simple, begins_word, begins_redirect, begins_pipeline, opener_of, compound_by, and_or_operator_of, Items, so_many, breaks, behind_word, is_number, redirect_operator_of, takes_here, is_long, a_number, an_operator, operator_by, a_target, one_redirect, behind_redirect, redirect_turn, redirected, as_item, an_item, item_by, item_turn, a_simple, comment_by, a_comment, a_newline, unexpected, JoinSo, join_so, with_comment, join_turn, a_join, a_command, a_bang, Piped, piped, one_command, pipe_turn, a_pipeline, Joined, joined_so, one_pipeline, joined_by, join_pipeline, an_and_or, separator_of, separator_by, a_separator, is_background, ASeparator, past_separator, Entered, an_entry, is_word, is_paren, is_double_semicolon, named, a_worded}
 use Rattle.shread.specs.Lists.{Listed, ListSo, list_so, none_listed, is_blank_next, with_command, next_line, one_entry, entry_turn, remark_by, a_remark, on_line, list_turn, a_list}
-use Rattle.shread.specs.Compounds.{a_linebreak, is_closing, is_open_paren, is_close_paren, passed, closing, Closed, a_branch, Branched, branched, elif_turn, an_else, an_if, a_loop, a_group, a_for_name, a_sequential_sep, Headed, for_words, a_for_head, behind_remarks, a_for, a_form, held_apart, a_compound, under_name, a_function, a_case_word, begins_pattern, Patterned, a_pattern, one_pattern, pattern_turn, a_pattern_list, an_open_bracket, a_body, ItemEnd, a_double_semicolon, an_item_end, CasesSo, cases_so, one_case, case_turn, a_case_head, a_case}
+use Rattle.shread.specs.Compounds.{a_linebreak, is_closing, is_open_paren, is_close_paren, passed, closing, Closed, a_branch, Branched, branched, elif_turn, an_else, an_if, a_loop, a_group, a_for_name, a_sequential_sep, Headed, word_turn, for_words, a_for_head, behind_remarks, a_for, a_form, held_apart, a_compound, under_name, a_function, a_case_word, begins_pattern, Patterned, a_pattern, one_pattern, pattern_turn, a_pattern_list, an_open_bracket, a_body, ItemEnd, a_double_semicolon, an_item_end, CasesSo, cases_so, one_case, case_turn, a_case_head, a_case}
 use Rattle.shread.proofs.Holds.{Holds, move_low}
 use Rattle.shread.proofs.Within.{before_blanks_low}
 use Rattle.shread.proofs.Alike.{SameStep}
@@ -313,7 +314,7 @@ module _ {T U : List ℕ} {a M : ℕ} {to : ℕ → ℕ} {limit : ℕ} (E : List
     stopped n = go_stopped E o o2 B B2 stands stands_there
 
     abbrev SameItems : Items → Items → Type 0
-    SameItems i j = (map (shape_of_item B) i.items ≡ map (shape_of_item B2) j.items) × (i.next ≡ j.next)
+    SameItems i j = (map (shape_of_item B) i.items ≡ map (shape_of_item B2) j.items) × ((i.place ≡ j.place) × (i.next ≡ j.next))
 
     item_same : (position : Position) (b c : Bool) (w v : AWord) → b ≡ c → SameWord w v → shape_of_item B (item b (as_item position w)) ≡ shape_of_item B2 (item c (as_item position v))
     item_same Command b c w v one two = rw (one, two) refl
@@ -321,33 +322,108 @@ module _ {T U : List ℕ} {a M : ℕ} {to : ℕ → ℕ} {limit : ℕ} (E : List
     item_same Suffix b c w v one two = rw (one, two) refl
 
     breaks_same : (i j : Items) → SameItems i j → breaks i ≡ breaks j
-    breaks_same i j same = rw (rows_empty (shape_of_item B) (shape_of_item B2) i.items j.items same.0, same.1) refl
+    breaks_same i j same = rw (rows_empty (shape_of_item B) (shape_of_item B2) i.items j.items same.0, same.1.1) refl
 
     one_item : (i j : Items) (position : Position) → SameItems i j → Goes2 (SameStep SameItems) (an_item inner i position) (an_item inner j position)
     unfolding an_item
     one_item i j position same =
         then fine.word (λ w v so. then (pushes {S = λ is js. map (shape_of_item B) is ≡ map (shape_of_item B2) js}
         (rows_more (shape_of_item B) (shape_of_item B2) i.items _ j.items _ same.0 (item_same position (breaks i) (breaks j) w v (breaks_same i j same) so)))
-        (λ is js all. then (next position) (λ n m is_next. gives (all, is_next))))
+        (λ is js all. then (next position) (λ n m is_next. gives (all, (refl, is_next)))))
+
+    abbrev SameRow : Row AnItem → Row AnItem → Type 0
+    SameRow is js = map (shape_of_item B) is ≡ map (shape_of_item B2) js
+
+    number_same : (n : Next) → Goes2 SameRemark (a_number n) (a_number n)
+    unfolding a_number
+    number_same n =
+        picks (is_number n.token) _ refl (then (go_token E o o2 B B2 stands stands_there moves_on) (λ x y text. then (next Suffix) (λ m k same. gives (ap Some text.1, same)))) (gives (refl, refl))
+
+    operator_same : (z : RedirectOperator) → Goes2 (λ x y. Unit {0}) (an_operator z) (an_operator z)
+    unfolding an_operator
+    operator_same z =
+        go_so E o o2 B B2 stands stands_there (go_token E o o2 B B2 stands stands_there {S = λ x y. Unit {0}} (then moves_on (λ u v all. picks (is_long z) _ refl moves_on (gives tt)))) (λ x y so. tt)
+
+    operator_by_same : (p q : ℕ) (z : Option RedirectOperator) → Goes2 (λ x y. x.0 ≡ y.0) (operator_by p z) (operator_by q z)
+    operator_by_same p q (Some z) = picks (takes_here z) _ refl (go_stop E o o2 B B2 stands stands_there) (then (operator_same z) (λ x y all. gives refl))
+    operator_by_same p q None = go_stop E o o2 B B2 stands stands_there
+
+    operator_at : (p q : ℕ) (n m : Next) → n ≡ m → Goes2 (λ x y. x.0 ≡ y.0) (operator_by p (redirect_operator_of n.token)) (operator_by q (redirect_operator_of m.token))
+    operator_at p q n m same = at_same (of p) (of q) (λ k. operator_by_same p q (redirect_operator_of k.token)) n m same
+      where
+        of : ℕ → Next → Form (RedirectOperator × Span)
+        of r k = operator_by r (redirect_operator_of k.token)
+
+    target_same : Goes2 SameWord (a_target inner) (a_target inner)
+    unfolding a_target
+    target_same = then (next Suffix) (λ n m same. picks _ _ (ap (λ (k : Next). is_word k.token) same) fine.word (stopped n))
+
+    bare_same : (c d : Option Span) → SameText c d → option_map (bare_at B) c ≡ option_map (bare_at B2) d
+    bare_same None None same = refl
+    bare_same None (Some d) same = absurd cc
+    bare_same (Some c) None same = absurd cc
+    bare_same (Some c) (Some d) same = let text : text_at B c ≡ text_at B2 d = cc in ap (λ z. Some (bare z)) text
+
+    redirect_shape : (broken pale : Bool) (c d : Option Span) (z y : RedirectOperator) (s t : Span) (w v : AWord) → broken ≡ pale → SameText c d → z ≡ y → SameWord w v
+        → shape_of_item B (item broken (redirect c z s w None)) ≡ shape_of_item B2 (item pale (redirect d y t v None))
+    redirect_shape broken pale c d z y s t w v one two three four = rw (one, bare_same c d two, three, four) refl
+
+    redirect_same : (broken pale : Bool) (position : Position) (is js : Row AnItem) (n : Next) → broken ≡ pale → SameRow is js
+        → Goes2 (SameStep SameItems) (one_redirect inner broken position is n) (one_redirect inner pale position js n)
+    unfolding one_redirect
+    redirect_same broken pale position is js n one two =
+        then (go_any E o o2 B B2 stands stands_there {l = here}) (λ p q any. then (number_same n) (λ d e three. then (operator_at p q d.1 e.1 three.1) (λ x y four. then target_same (λ w v five.
+        then (pushes {S = SameRow} (rows_more (shape_of_item B) (shape_of_item B2) is _ js _ two (redirect_shape broken pale d.0 e.0 x.0 y.0 x.1 y.1 w v one three.0 four five)))
+        (λ ks ls all. then (next position) (λ m k is_next. gives (all, (refl, is_next))))))))
+
+    redirect_at : (broken pale : Bool) (p q : Position) (is js : Row AnItem) (n m : Next) → broken ≡ pale → SameRow is js → p ≡ q → n ≡ m
+        → Goes2 (SameStep SameItems) (one_redirect inner broken p is n) (one_redirect inner pale q js m)
+    redirect_at broken pale p q is js n m one two three four = rw (← three, ← four) (redirect_same broken pale p is js n one two)
 
     item_by_same : (i j : Items) (position : Option Position) → SameItems i j → Goes2 (SameStep SameItems) (item_by inner i position) (item_by inner j position)
     item_by_same i j (Some position) same = one_item i j position same
-    item_by_same i j None same = gives same
+    item_by_same i j None same =
+        picks _ _ (ap (λ (k : Next). begins_redirect k.token) same.1.1)
+        (redirect_at (breaks i) (breaks j) (behind_redirect i.place) (behind_redirect j.place) i.items j.items i.next j.next (breaks_same i j same) same.0 (ap behind_redirect same.1.0) same.1.1) (gives same)
 
     item_on : (i j : Items) → SameItems i j → Goes2 (SameStep SameItems) (item_turn inner i) (item_turn inner j)
     unfolding item_turn
     item_on i j same =
-        subst (λ (n : Next). Goes2 (SameStep SameItems) (item_by inner i (behind_item i.next.token)) (item_by inner j (behind_item n.token))) same.1 (item_by_same i j (behind_item i.next.token) same)
+        subst (λ (n : Next). Goes2 (SameStep SameItems) (item_by inner i (behind_word i.next.token)) (item_by inner j (behind_word n.token))) same.1.1 (item_by_same i j (behind_word i.next.token) same)
 
     items_same : (i j : Items) → SameItems i j → shape_of_items B (items_of i.items) ≡ shape_of_items B2 (items_of j.items)
     items_same i j same = items_shape B i.items ∙ ap items_of same.0 ∙ sym (items_shape B2 j.items)
 
     simple_same : (i j : Items) → SameItems i j → Goes2 SameCommand (a_simple inner i) (a_simple inner j)
     unfolding a_simple
-    simple_same i j same = then (repeats SameItems (item_turn inner) (item_turn inner) item_on i j same) (λ k l so. gives (rw (items_same k l so) refl, so.1))
+    simple_same i j same = then (repeats SameItems (item_turn inner) (item_turn inner) item_on i j same) (λ k l so. gives (rw (items_same k l so) refl, so.1.1))
+
+    redirect_on : (i j : Items) → SameItems i j → Goes2 (SameStep SameItems) (redirect_turn inner i) (redirect_turn inner j)
+    unfolding redirect_turn
+    redirect_on i j same =
+        picks _ _ (ap (λ (k : Next). begins_redirect k.token) same.1.1)
+        (redirect_at _ _ Command Command i.items j.items i.next j.next (ap (λ (k : Next). k.broken) same.1.1) same.0 refl same.1.1) (gives same)
+
+    with_same : (c d : ACommand) (is js : ItemsOf Span Span) → shape_of_command B c ≡ shape_of_command B2 d → shape_of_items B is ≡ shape_of_items B2 js
+        → shape_of_command B (with_redirects c is) ≡ shape_of_command B2 (with_redirects d js)
+    with_same (compound (formed f s xs)) (compound (formed k t ys)) is js one two = let form : shape_of_form B f ≡ shape_of_form B2 k = cc in rw (form, two) refl
+    with_same (simple xs) (simple ys) is js one two = one
+    with_same (function f es b) (function k fs e) is js one two = one
+    with_same (compound b) (simple ys) is js one two = absurd cc
+    with_same (compound b) (function k fs e) is js one two = absurd cc
+    with_same (simple xs) (compound e) is js one two = absurd cc
+    with_same (simple xs) (function k fs e) is js one two = absurd cc
+    with_same (function f es b) (compound e) is js one two = absurd cc
+    with_same (function f es b) (simple ys) is js one two = absurd cc
+
+    redirected_same : (c d : ACommand × Next) → SameCommand c d → Goes2 SameCommand (redirected inner c) (redirected inner d)
+    unfolding redirected
+    redirected_same c d same =
+        then (repeats SameItems (redirect_turn inner) (redirect_turn inner) redirect_on (so_many [] Command c.1) (so_many [] Command d.1) (refl, (refl, same.1)))
+        (λ k l so. gives (with_same c.0 d.0 (items_of k.items) (items_of l.items) same.0 (items_same k l so), so.1.1))
 
     compound_by_same : (n : Next) (c : Option Opener) → Goes2 SameCommand (compound_by inner n c) (compound_by inner n c)
-    compound_by_same n (Some c) = fine.compound c
+    compound_by_same n (Some c) = then (fine.compound c) redirected_same
     compound_by_same n None = stopped n
 
     name_same : (w v : AWord) → SameWord w v → text_at B (word_span w) ≡ text_at B2 (word_span v)
@@ -362,7 +438,7 @@ module _ {T U : List ℕ} {a M : ℕ} {to : ℕ → ℕ} {limit : ℕ} (E : List
         then (go_see E o o2 B B2 stands stands_there {l = is_a_name} (λ s from e. same_name E e)) (λ good pure is. then fine.word (λ w v so. then (next Suffix)
         (λ n m same. picks _ _ (ap (λ (k : Next). is_paren k.token) same) (named_same good pure w v is so)
         (then (pushes {S = λ is js. map (shape_of_item B) is ≡ map (shape_of_item B2) js} (rows_more (shape_of_item B) (shape_of_item B2) [] (item false (as_item Suffix w)) [] (item false (as_item Suffix v)) refl (item_same Suffix false false w v refl so)))
-        (λ is js all. simple_same (so_many is n) (so_many js m) (all, same))))))
+        (λ is js all. simple_same (so_many is Suffix n) (so_many js Suffix m) (all, (refl, same)))))))
 
     command : (n m : Next) → n ≡ m → Goes2 SameCommand (a_command inner n) (a_command inner m)
     unfolding a_command
@@ -371,7 +447,7 @@ module _ {T U : List ℕ} {a M : ℕ} {to : ℕ → ℕ} {limit : ℕ} (E : List
         one : (n : Next) → Goes2 SameCommand (a_command inner n) (a_command inner n)
         one n =
             picks (is_word n.token) _ refl worded_same
-            (picks (begins_simple n.token) _ refl (simple_same (so_many [] n) (so_many [] n) (refl, refl)) (compound_by_same n (opener_of n.token)))
+            (picks (begins_simple n.token) _ refl (simple_same (so_many [] Command n) (so_many [] Command n) (refl, (refl, refl))) (compound_by_same n (opener_of n.token)))
 
     bang : (n : Next) → Goes2 (λ x y. (shape_of_bang x.0 ≡ shape_of_bang y.0) × (x.1 ≡ y.1)) (a_bang n) (a_bang n)
     unfolding a_bang
@@ -581,7 +657,7 @@ module _ {T U : List ℕ} {a M : ℕ} {to : ℕ → ℕ} {limit : ℕ} (E : List
     for_name_same : (n : Next) → Goes2 (λ x y. SameWord x.0 y.0 × (x.1 ≡ y.1)) (a_for_name inner n) (a_for_name inner n)
     unfolding a_for_name
     for_name_same n =
-        picks (begins_simple n.token) _ refl
+        picks (begins_word n.token) _ refl
         (then (go_any E o o2 B B2 stands stands_there {l = here}) (λ p q all. then (go_see E o o2 B B2 stands stands_there {l = is_a_name} (λ s from e. same_name E e))
         (λ good fine_too is. then fine.word (λ w v so. picks good fine_too is (then (next Command) (λ m k same. gives (so, same))) (go_stop E o o2 B B2 stands stands_there)))))
         (stopped n)
@@ -595,11 +671,15 @@ module _ {T U : List ℕ} {a M : ℕ} {to : ℕ → ℕ} {limit : ℕ} (E : List
     abbrev SameHead : Headed → Headed → Type 0
     SameHead x y = (shape_of_for_words B x.words ≡ shape_of_for_words B2 y.words) × (SameComments x.comments y.comments × (x.next ≡ y.next))
 
+    word_on : (i j : Items) → SameItems i j → Goes2 (SameStep SameItems) (word_turn inner i) (word_turn inner j)
+    unfolding word_turn
+    word_on i j same = picks _ _ (ap (λ (k : Next). is_word k.token) same.1.1) (one_item i j Suffix same) (gives same)
+
     for_words_same : (cs ds : Row Span) → SameComments cs ds → Goes2 SameHead (for_words inner cs) (for_words inner ds)
     unfolding for_words
     for_words_same cs ds all =
-        then (passed_same _ false _) (λ i j so. then (repeats SameItems (item_turn inner) (item_turn inner) item_on (so_many [] i.1) (so_many [] j.1) (refl, so))
-        (λ ws vs same. then (sep_same cs ds ws.next vs.next all same.1) (λ l k is. gives (rw (items_same ws vs same) refl, is.1))))
+        then (passed_same _ false _) (λ i j so. then (repeats SameItems (word_turn inner) (word_turn inner) word_on (so_many [] Suffix i.1) (so_many [] Suffix j.1) (refl, (refl, so)))
+        (λ ws vs same. then (sep_same cs ds ws.next vs.next all same.1.1) (λ l k is. gives (rw (items_same ws vs same) refl, is.1))))
 
     for_head_same : (n m : Next) → n ≡ m → Goes2 SameHead (a_for_head inner n) (a_for_head inner m)
     unfolding a_for_head
@@ -626,7 +706,7 @@ module _ {T U : List ℕ} {a M : ℕ} {to : ℕ → ℕ} {limit : ℕ} (E : List
 
     case_word_same : (n : Next) → Goes2 (λ x y. SameWord x.0 y.0 × (x.1 ≡ y.1)) (a_case_word inner n) (a_case_word inner n)
     unfolding a_case_word
-    case_word_same n = picks (begins_simple n.token) _ refl (then fine.word (λ w v so. then (next Command) (λ m k same. gives (so, same)))) (stopped n)
+    case_word_same n = picks (begins_word n.token) _ refl (then fine.word (λ w v so. then (next Command) (λ m k same. gives (so, same)))) (stopped n)
 
     abbrev SameWords : Row AWord → Row AWord → Type 0
     SameWords ws vs = map (shape_of_word B) ws ≡ map (shape_of_word B2) vs
@@ -643,7 +723,7 @@ module _ {T U : List ℕ} {a M : ℕ} {to : ℕ → ℕ} {limit : ℕ} (E : List
     unfolding one_pattern
     one_more_pattern ws vs same =
         then marks (λ x y all. then (next Suffix)
-        (λ n m is. picks _ _ (ap (λ (k : Next). begins_simple k.token) is) (then (pattern_same ws vs same) (λ p q so. gives so)) (stopped n)))
+        (λ n m is. picks _ _ (ap (λ (k : Next). begins_word k.token) is) (then (pattern_same ws vs same) (λ p q so. gives so)) (stopped n)))
 
     pattern_on : (p q : Patterned) → SamePatterned p q → Goes2 (SameStep SamePatterned) (pattern_turn inner p) (pattern_turn inner q)
     unfolding pattern_turn

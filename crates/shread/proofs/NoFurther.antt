@@ -6,9 +6,10 @@ use Rattle.shread.specs.declared.fault.FaultKind.{FaultKind}
 use Rattle.shread.specs.declared.mode.Mode.{Mode}
 use Rattle.shread.specs.declared.mode.Mode.TheVariants.{Plain, Double, Brace, DoubleBrace, Arith}
 use Rattle.shtree.specs.declared.tree.Span.{Span}
+use Rattle.shtree.specs.Shape.{bare}
 use Rattle.shread.specs.Comments.{span}
 use Rattle.shread.specs.Sights.{Given, given, State, Sight, here, the_byte, the_piece, the_rest, the_end, a_backquote, last_backslash, the_token, the_comment, is_a_name, seen}
-use Rattle.shread.specs.Form.{Spelled, Told, untold, as_it_stands, by, tell, Read, Form, give, see, move, push, stop, both, when, token, loop, ends_as, Step, again, done, Just, just, Halts, halted, Then, and_then, or_stops, holds, fails, raw, OneToken, whole, broken_off, leads_on, Turns, last, rests, more, halts, Ending, goes_through, stops_inside, moved, may}
+use Rattle.shread.specs.Form.{Spelled, Told, untold, as_it_stands, bared, by, tell, Read, Form, give, see, move, push, stop, both, when, token, loop, ends_as, Step, again, done, Just, just, Halts, halted, Then, and_then, or_stops, holds, fails, raw, OneToken, whole, broken_off, leads_on, Turns, last, rests, more, halts, Ending, goes_through, stops_inside, moved, may}
 use Rattle.shread.proofs.OneOutcome.{is}
 use Rattle.shread.proofs.Holds.{Holds, Behind, low}
 use Rattle.shread.proofs.Ahead.{ListEnds, same_name, same_place, same_next}
@@ -117,6 +118,7 @@ module _ {T U : List ℕ} {a M : ℕ} {to : ℕ → ℕ} (E : ListEnds T U a M t
   same_tell : (how : Told) (p q u v : ℕ) → raw U u v ≡ raw T p q → tell how U u v ≡ tell how T p q
   same_tell untold p q u v same = refl
   same_tell as_it_stands p q u v same = ap (λ z. z ∷ []) same
+  same_tell bared p q u v same = ap (λ z. bare z ∷ []) same
   same_tell (by text) p q u v same = refl
 
   token_back : {X : Type 0} (how : Told) (r : Form X) (s : State) → ((y : Read X) (k : Row Spelled) → may r g s y k → Back r s y k) → a ≤ s.at → (y : Read (X × Span)) (k : Row Spelled) → OneToken how g (may r g) s y k → Back (token how r) s y k

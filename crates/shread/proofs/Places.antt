@@ -8,7 +8,7 @@ use Rattle.shread.specs.Classes.{is_blank, is_digit, is_name, is_letter, is_spec
 use Rattle.shread.specs.Standing.{is_byte, is_none, raw_stands, raw_in, at_end, raw_past, next_of, passes, count_front, next_newline}
 use Rattle.shread.specs.Bytes.{stands, ends_word, stands_in, past, past_below, past_blanks, count_joined, past_continuations, byte_at, behind}
 use Rattle.shread.specs.Pieces.{next_in_backquotes, past_parameter}
-use Rattle.shread.specs.Tokens.{past_reserved}
+use Rattle.shread.specs.Tokens.{past_digits, past_reserved}
 use Rattle.shread.proofs.Stretches.{get_drop, place_low, stands_in_low}
 
 -- a test that cannot hold fails
@@ -230,6 +230,11 @@ blanks_stop T p = stands_in_past is_blank T (past is_blank T p) ∙ past_stops i
 pub reserved_low : (T : List ℕ) (p : ℕ) → p ≤ past_reserved T p
 unfolding past_reserved
 reserved_low T p = omega (arith, behind_low T p, past_low is_name T (behind T p))
+
+-- behind digits
+pub digits_low : (T : List ℕ) (p : ℕ) → p ≤ past_digits T p
+unfolding past_digits
+digits_low T p = past_low is_digit T p
 
 -- behind a parameter
 pub parameter_low : (T : List ℕ) (p : ℕ) → p ≤ past_parameter T p

@@ -11,7 +11,9 @@ use Rattle.shread.specs.Text.{is_newline}
 use Rattle.shread.specs.Classes.{is_blank, is_operator}
 use Rattle.shread.specs.Standing.{is_byte, is_none, passes, raw_stands, at_end}
 use Rattle.shread.specs.Bytes.{byte_at, behind, ends, ends_word, past_blanks, past_continuations, stands, stands_in}
-use Rattle.shread.specs.Tokens.{first_word, is_comment, is_end, is_number, token_at, token_of, word_by, word_of}
+use Rattle.shtree.specs.declared.tree.RedirectOperator.{RedirectOperator}
+use Rattle.shread.specs.Commands.{is_long, redirect_operator_of}
+use Rattle.shread.specs.Tokens.{first_word, greater_at, is_comment, is_end, is_number, less_at, token_at, token_of, word_by, word_of}
 use Rattle.shread.specs.Clauses.{IsRead, Shows}
 use Rattle.shread.proofs.Places.{blanks_stop, place_same}
 
@@ -27,6 +29,10 @@ some_read : (T : List ℕ) (q : ℕ) (b : Option ℕ) → slice_get T q ≡ b �
 some_read T q None is e = absurd cc
 some_read T q (Some b) is e = slice_get_within T q b is
 
+-- a byte that is none of these is no operator
+no_operator : (b : ℕ) → (b == 38) ≡ false → (b == 124) ≡ false → (b == 59) ≡ false → (b == 40) ≡ false → (b == 41) ≡ false → (b == 60) ≡ false → (b == 62) ≡ false → is_operator b ≡ false
+no_operator b one two three four five six seven = rw (one, two, three, four, five, six, seven) refl
+
 -- what the bytes at p are, by the token
 abbrev Byte : List ℕ → ℕ → Option ℕ → Token → Type 0
 Byte T p b tokens.End = is_none b ≡ true
@@ -34,6 +40,7 @@ Byte T p b tokens.Newline = is_byte b 10 ≡ true
 Byte T p b tokens.AndIf = IsRead T (behind T p)
 Byte T p b tokens.OrIf = IsRead T (behind T p)
 Byte T p b tokens.DoubleSemicolon = IsRead T (behind T p)
+Byte T p b (tokens.Redirect o) = is_long o ≡ true → IsRead T (behind T p)
 Byte T p b (tokens.Reserved r) = ends b ≡ false
 Byte T p b tokens.Assignment = ends b ≡ false
 Byte T p b tokens.Word = ends b ≡ false
@@ -53,6 +60,24 @@ module _ (T : List ℕ) (p : ℕ) where
   in_position Prefix b e = word_is b _ e
   in_position Suffix b e = e
 
+  -- an operator of two bytes or more has a second one
+  abbrev Long : RedirectOperator → Type 0
+  Long o = is_long o ≡ true → IsRead T (behind T p)
+
+  less_long : Long (less_at T (behind T p))
+  unfolding less_at
+  less_long =
+      cond_both (stands T (behind T p) 60) _ _ Long (λ e. cond_both (stands T (behind T (behind T p)) 45) _ _ Long (λ f l. stands_read T (behind T p) 60 e) (λ f l. stands_read T (behind T p) 60 e))
+      (λ e. cond_both (stands T (behind T p) 38) _ _ Long (λ f l. stands_read T (behind T p) 38 f)
+      (λ f. cond_both (stands T (behind T p) 62) _ _ Long (λ g l. stands_read T (behind T p) 62 g) (λ g l. absurd cc)))
+
+  greater_long : Long (greater_at T (behind T p))
+  unfolding greater_at
+  greater_long =
+      cond_both (stands T (behind T p) 62) _ _ Long (λ e l. stands_read T (behind T p) 62 e)
+      (λ e. cond_both (stands T (behind T p) 38) _ _ Long (λ f l. stands_read T (behind T p) 38 f)
+      (λ f. cond_both (stands T (behind T p) 124) _ _ Long (λ g l. stands_read T (behind T p) 124 g) (λ g l. absurd cc)))
+
   -- by the byte
   token_byte : (position : Position) (b : Option ℕ) → passes is_blank b ≡ false → Byte T p b (token_of position T p b)
   token_byte position None blank = refl
@@ -64,9 +89,10 @@ module _ (T : List ℕ) (p : ℕ) where
       (λ f. cond_both (b == 124) _ _ P (λ g. cond_both (stands T (behind T p) 124) _ _ P (λ h. stands_read T (behind T p) 124 h) (λ h. tt))
       (λ i. cond_both (b == 40) _ _ P (λ g. tt)
       (λ j. cond_both (b == 41) _ _ P (λ g. tt)
-      (λ k. cond_both (is_operator b) _ _ P (λ g. tt)
-      (λ o. cond_both (b == 35) _ _ P (λ g. tt)
-      (λ g. cond_both (is_number T p) _ _ P (λ h. tt) (λ h. in_position position (Some b) (or_from _ _ (or_from _ _ blank n) o))))))))))
+      (λ k. cond_both (b == 60) _ _ P (λ g. less_long)
+      (λ l. cond_both (b == 62) _ _ P (λ g. greater_long)
+      (λ m. cond_both (b == 35) _ _ P (λ g. tt)
+      (λ g. cond_both (is_number T p) _ _ P (λ h. tt) (λ h. in_position position (Some b) (or_from _ _ (or_from _ _ blank n) (no_operator b f i e j k l m))))))))))))
 
   -- a token that is not the end has a byte
   some_byte : (position : Position) (b : Option ℕ) → is_end (token_of position T p b) ≡ false → is_none b ≡ false
@@ -84,24 +110,27 @@ module _ (T : List ℕ) (p : ℕ) where
       absurd cc
   no_hash position b false is e = is
 
+redirect_read : (T : List ℕ) (p : ℕ) (o : RedirectOperator) → (is_long o ≡ true → IsRead T (behind T p)) → (z : RedirectOperator) → redirect_operator_of (tokens.Redirect o) ≡ Some z → is_long z ≡ true → IsRead T (behind T p)
+redirect_read T p o so z is long = let same : o ≡ z = cc in so (rw same long)
+
 shows_by : (T : List ℕ) (p : ℕ) (t : Token) → past_continuations T p ≡ p → (is_end t ≡ false → IsRead T p) → Byte T p (byte_at T p) t → (is_comment t ≡ false → raw_stands T p 35 ≡ false) → Shows t T p
 unfolding ends_word raw_stands at_end
-shows_by T p tokens.End still some e none = (λ z f. absurd cc, some, λ f. absurd cc, λ f. ap (λ q. is_none (slice_get T q)) (sym still) ∙ e, λ o f. absurd cc, none, still, λ f. absurd cc, λ f. absurd cc)
-shows_by T p tokens.Newline still some e none = (λ z f. absurd cc, some, λ f. ap (λ q. is_byte (slice_get T q) 10) (sym still) ∙ e, λ f. absurd cc, λ o f. absurd cc, none, still, λ f. absurd cc, λ f. absurd cc)
-shows_by T p tokens.Semicolon still some e none = (λ z f. absurd cc, some, λ f. absurd cc, λ f. absurd cc, λ o f. absurd cc, none, still, λ f. absurd cc, λ f. absurd cc)
-shows_by T p tokens.DoubleSemicolon still some e none = (λ z f. absurd cc, some, λ f. absurd cc, λ f. absurd cc, λ o f. absurd cc, none, still, λ f. absurd cc, λ f. e)
-shows_by T p tokens.Ampersand still some e none = (λ z f. absurd cc, some, λ f. absurd cc, λ f. absurd cc, λ o f. absurd cc, none, still, λ f. absurd cc, λ f. absurd cc)
-shows_by T p tokens.AndIf still some e none = (λ z f. absurd cc, some, λ f. absurd cc, λ f. absurd cc, λ o f. e, none, still, λ f. absurd cc, λ f. absurd cc)
-shows_by T p tokens.OrIf still some e none = (λ z f. absurd cc, some, λ f. absurd cc, λ f. absurd cc, λ o f. e, none, still, λ f. absurd cc, λ f. absurd cc)
-shows_by T p tokens.Pipe still some e none = (λ z f. absurd cc, some, λ f. absurd cc, λ f. absurd cc, λ o f. absurd cc, none, still, λ f. absurd cc, λ f. absurd cc)
-shows_by T p tokens.OpenParen still some e none = (λ z f. absurd cc, some, λ f. absurd cc, λ f. absurd cc, λ o f. absurd cc, none, still, λ f. absurd cc, λ f. absurd cc)
-shows_by T p tokens.CloseParen still some e none = (λ z f. absurd cc, some, λ f. absurd cc, λ f. absurd cc, λ o f. absurd cc, none, still, λ f. absurd cc, λ f. absurd cc)
-shows_by T p tokens.Operator still some e none = (λ z f. absurd cc, some, λ f. absurd cc, λ f. absurd cc, λ o f. absurd cc, none, still, λ f. absurd cc, λ f. absurd cc)
-shows_by T p tokens.Comment still some e none = (λ z f. absurd cc, some, λ f. absurd cc, λ f. absurd cc, λ o f. absurd cc, none, still, λ f. absurd cc, λ f. absurd cc)
-shows_by T p tokens.Number still some e none = (λ z f. absurd cc, some, λ f. absurd cc, λ f. absurd cc, λ o f. absurd cc, none, still, λ f. absurd cc, λ f. absurd cc)
-shows_by T p (tokens.Reserved r) still some e none = (λ z f. absurd cc, some, λ f. absurd cc, λ f. absurd cc, λ o f. absurd cc, none, still, λ f. e, λ f. absurd cc)
-shows_by T p tokens.Assignment still some e none = (λ z f. e, some, λ f. absurd cc, λ f. absurd cc, λ o f. absurd cc, none, still, λ f. e, λ f. absurd cc)
-shows_by T p tokens.Word still some e none = (λ z f. e, some, λ f. absurd cc, λ f. absurd cc, λ o f. absurd cc, none, still, λ f. e, λ f. absurd cc)
+shows_by T p tokens.End still some e none = (λ f. absurd cc, some, λ f. absurd cc, λ f. ap (λ q. is_none (slice_get T q)) (sym still) ∙ e, λ o f. absurd cc, none, still, λ f. absurd cc, λ f. absurd cc, λ o f. absurd cc)
+shows_by T p tokens.Newline still some e none = (λ f. absurd cc, some, λ f. ap (λ q. is_byte (slice_get T q) 10) (sym still) ∙ e, λ f. absurd cc, λ o f. absurd cc, none, still, λ f. absurd cc, λ f. absurd cc, λ o f. absurd cc)
+shows_by T p tokens.Semicolon still some e none = (λ f. absurd cc, some, λ f. absurd cc, λ f. absurd cc, λ o f. absurd cc, none, still, λ f. absurd cc, λ f. absurd cc, λ o f. absurd cc)
+shows_by T p tokens.DoubleSemicolon still some e none = (λ f. absurd cc, some, λ f. absurd cc, λ f. absurd cc, λ o f. absurd cc, none, still, λ f. absurd cc, λ f. e, λ o f. absurd cc)
+shows_by T p tokens.Ampersand still some e none = (λ f. absurd cc, some, λ f. absurd cc, λ f. absurd cc, λ o f. absurd cc, none, still, λ f. absurd cc, λ f. absurd cc, λ o f. absurd cc)
+shows_by T p tokens.AndIf still some e none = (λ f. absurd cc, some, λ f. absurd cc, λ f. absurd cc, λ o f. e, none, still, λ f. absurd cc, λ f. absurd cc, λ o f. absurd cc)
+shows_by T p tokens.OrIf still some e none = (λ f. absurd cc, some, λ f. absurd cc, λ f. absurd cc, λ o f. e, none, still, λ f. absurd cc, λ f. absurd cc, λ o f. absurd cc)
+shows_by T p tokens.Pipe still some e none = (λ f. absurd cc, some, λ f. absurd cc, λ f. absurd cc, λ o f. absurd cc, none, still, λ f. absurd cc, λ f. absurd cc, λ o f. absurd cc)
+shows_by T p tokens.OpenParen still some e none = (λ f. absurd cc, some, λ f. absurd cc, λ f. absurd cc, λ o f. absurd cc, none, still, λ f. absurd cc, λ f. absurd cc, λ o f. absurd cc)
+shows_by T p tokens.CloseParen still some e none = (λ f. absurd cc, some, λ f. absurd cc, λ f. absurd cc, λ o f. absurd cc, none, still, λ f. absurd cc, λ f. absurd cc, λ o f. absurd cc)
+shows_by T p (tokens.Redirect z) still some e none = (λ f. absurd cc, some, λ f. absurd cc, λ f. absurd cc, λ o f. absurd cc, none, still, λ f. absurd cc, λ f. absurd cc, redirect_read T p z e)
+shows_by T p tokens.Comment still some e none = (λ f. absurd cc, some, λ f. absurd cc, λ f. absurd cc, λ o f. absurd cc, none, still, λ f. absurd cc, λ f. absurd cc, λ o f. absurd cc)
+shows_by T p tokens.Number still some e none = (λ f. absurd cc, some, λ f. absurd cc, λ f. absurd cc, λ o f. absurd cc, none, still, λ f. absurd cc, λ f. absurd cc, λ o f. absurd cc)
+shows_by T p (tokens.Reserved r) still some e none = (λ f. absurd cc, some, λ f. absurd cc, λ f. absurd cc, λ o f. absurd cc, none, still, λ f. e, λ f. absurd cc, λ o f. absurd cc)
+shows_by T p tokens.Assignment still some e none = (λ f. e, some, λ f. absurd cc, λ f. absurd cc, λ o f. absurd cc, none, still, λ f. e, λ f. absurd cc, λ o f. absurd cc)
+shows_by T p tokens.Word still some e none = (λ f. e, some, λ f. absurd cc, λ f. absurd cc, λ o f. absurd cc, none, still, λ f. e, λ f. absurd cc, λ o f. absurd cc)
 
 pub blanks_still : (T : List ℕ) (p : ℕ) → past_continuations T (past_blanks T p) ≡ past_blanks T p
 unfolding past_blanks

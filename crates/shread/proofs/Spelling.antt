@@ -1,5 +1,5 @@
 -- The tokens passed where a faultless script is read are those that the shape of its tree spells.
-use Rattle.std.proofs.Common.{◌≡◌, ◌∙◌, refl, sym, ap, subst, ℕ, zero, suc, ◌+◌, ◌-◌, Bool, true, false, not, ◌&&◌, ◌||◌, Ok, Err, List, List as Row, [], ◌∷◌, ◌++◌, drop, take, codes, Option, Some, None, is_some, arith}
+use Rattle.std.proofs.Common.{◌≡◌, ◌∙◌, refl, sym, ap, subst, ℕ, zero, suc, ◌+◌, ◌-◌, Bool, true, false, not, ◌&&◌, ◌||◌, Ok, Err, List, List as Row, [], ◌∷◌, ◌++◌, drop, take, codes, Option, Some, None, is_some, option_map, arith}
 use Rattle.std.proofs.lemmas.List.{append-nil, append_assoc, drop-drop}
 use Rattle.shread.specs.declared.token.Closing.{Closing}
 use Rattle.shread.specs.declared.token.Closing.TheVariants as closings
@@ -11,17 +11,18 @@ use Rattle.shread.specs.declared.token.Position.TheVariants.{Command, Prefix, Su
 use Rattle.shread.specs.declared.token.Separator.{Separator}
 use Rattle.shread.specs.declared.token.Separator.TheVariants.{Semicolon, Ampersand}
 use Rattle.shtree.specs.declared.tree.AndOrOperator.{AndOrOperator}
+use Rattle.shtree.specs.declared.tree.RedirectOperator.{RedirectOperator}
 use Rattle.shtree.specs.declared.tree.Span.{Span}
-use Rattle.shtree.specs.Tree.{APipelinePart, AnAndOrPart, ABranch, pipeline_parts_of, and_or_parts_of, branches_of, AnEntry, AnItem, AWord, Entries, entry, remark, item, entries_of, items_of, ACommand, compound, ACompound, word, argument, ACaseItem, cases_of, PatternsOf, no_pattern, more_patterns, patterns_of}
-use Rattle.shtree.specs.Shape.{text_at, shape_of, shape_of_entry, shape_of_and_or, shape_of_and_or_parts, shape_of_pipeline, shape_of_bang, shape_of_pipes, shape_of_command, shape_of_form, shape_of_branch, shape_of_branches, shape_of_else, shape_of_for_words, shape_of_items, shape_of_item, shape_of_word, shape_of_patterns, shape_of_cases, shape_of_case, Shape}
-use Rattle.shtree.specs.Spelling.{Tokens, and_or_text, spell_background, spell_bang, spell_word, spell_item, spell_items, spelling, spell_entry, spell_and_or, spell_and_or_parts, spell_pipeline, spell_pipes, spell_command, spell_form, spell_branch, spell_branches, spell_else, spell_loop, spell_for_words, spell_patterns, spell_first_pattern, spell_cases, spell_case}
+use Rattle.shtree.specs.Tree.{APipelinePart, AnAndOrPart, ABranch, pipeline_parts_of, and_or_parts_of, branches_of, AnEntry, AnItem, AWord, Entries, entry, remark, item, entries_of, items_of, ACommand, AForm, ItemsOf, redirect, with_redirects, formed, no_item, compound, ACompound, word, argument, ACaseItem, cases_of, PatternsOf, no_pattern, more_patterns, patterns_of}
+use Rattle.shtree.specs.Shape.{bare, bare_at, text_at, shape_of, shape_of_entry, shape_of_and_or, shape_of_and_or_parts, shape_of_pipeline, shape_of_bang, shape_of_pipes, shape_of_command, shape_of_form, shape_of_branch, shape_of_branches, shape_of_else, shape_of_for_words, shape_of_items, shape_of_item, shape_of_word, shape_of_patterns, shape_of_cases, shape_of_case, Shape}
+use Rattle.shtree.specs.Spelling.{Tokens, and_or_text, redirect_text, spell_number, spell_background, spell_bang, spell_word, spell_item, spell_items, spelling, spell_entry, spell_and_or, spell_and_or_parts, spell_pipeline, spell_pipes, spell_command, spell_form, spell_branch, spell_branches, spell_else, spell_loop, spell_for_words, spell_patterns, spell_first_pattern, spell_cases, spell_case}
 use Rattle.shread.specs.Comments.{span}
 use Rattle.shread.specs.Sights.{Given, given, State, standing, Sight, Move}
 use Rattle.shread.specs.Form.{Spelled, Read, Step, again, done, step_if, Form, give, see, move, push, stop, both, Told, by, tell, token, many, Just, just, Halts, halted, Then, and_then, or_stops, OneToken, whole, broken_off, Turns, last, rests, more, halts, raw, may}
 use Rattle.shread.specs.Words.{Inner, a_word}
-use Rattle.shread.specs.Commands.{pick, next_token, is_newline, is_semicolon, a_semicolon, is_pipe, is_bang, begins_simple, begins_pipeline, opener_of, compound_by, and_or_operator_of, Items, so_many, behind_item, as_item, breaks, an_item, item_by, item_turn, a_simple, unexpected, comment_by, a_comment, a_newline, with_comment, JoinSo, join_turn, a_join, a_command, a_bang, Piped, piped, one_command, pipe_turn, a_pipeline, Joined, joined_so, one_pipeline, joined_by, join_pipeline, an_and_or, separator_of, told_separator, separator_by, a_separator, is_background, an_entry, a_worded, is_word, is_paren, is_double_semicolon}
+use Rattle.shread.specs.Commands.{pick, next_token, is_newline, is_semicolon, a_semicolon, is_pipe, is_bang, begins_simple, begins_word, begins_redirect, begins_pipeline, opener_of, compound_by, and_or_operator_of, Items, so_many, behind_word, is_number, redirect_operator_of, takes_here, a_number, an_operator, operator_by, a_target, one_redirect, behind_redirect, redirect_turn, redirected, as_item, breaks, an_item, item_by, item_turn, a_simple, unexpected, comment_by, a_comment, a_newline, with_comment, JoinSo, join_turn, a_join, a_command, a_bang, Piped, piped, one_command, pipe_turn, a_pipeline, Joined, joined_so, one_pipeline, joined_by, join_pipeline, an_and_or, separator_of, told_separator, separator_by, a_separator, is_background, an_entry, a_worded, is_word, is_paren, is_double_semicolon}
 use Rattle.shread.specs.Lists.{ListSo, list_so, none_listed, is_blank_next, one_entry, entry_turn, remark_by, a_remark, on_line, list_turn, a_list}
-use Rattle.shread.specs.Compounds.{Branched, branched, is_closing, opener_text, closing_text, passed, closing, a_group, a_branch, elif_turn, an_else, an_if, a_loop, a_for_name, a_linebreak, a_sequential_sep, Headed, for_words, a_for_head, behind_remarks, a_for, a_form, a_compound, a_function, under_name, a_case_word, begins_pattern, Patterned, a_pattern, one_pattern, pattern_turn, a_pattern_list, an_open_bracket, a_body, a_double_semicolon, an_item_end, CasesSo, cases_so, one_case, case_turn, a_case_head, a_case}
+use Rattle.shread.specs.Compounds.{Branched, branched, is_closing, opener_text, closing_text, passed, closing, a_group, a_branch, elif_turn, an_else, an_if, a_loop, a_for_name, a_linebreak, a_sequential_sep, Headed, word_turn, for_words, a_for_head, behind_remarks, a_for, a_form, a_compound, a_function, under_name, a_case_word, begins_pattern, Patterned, a_pattern, one_pattern, pattern_turn, a_pattern_list, an_open_bracket, a_body, a_double_semicolon, an_item_end, CasesSo, cases_so, one_case, case_turn, a_case_head, a_case}
 use Rattle.shread.specs.Levels.{most_open, level}
 use Rattle.shread.specs.Tokens.{is_end}
 use Rattle.shread.specs.Lines.{a_line, end_of_line}
@@ -279,8 +280,12 @@ module _ (B : List ℕ) (g : Given) (stands : g.text ≡ drop g.offset B) where
   abbrev IsCompound : ACommand × Next → Tokens → Type 0
   IsCompound c k = (body : ACompound) × (c.0 ≡ compound body) × (k ≡ spell_command (shape_of_command B c.0))
 
+  -- one without redirections
+  abbrev IsBare : ACommand × Next → Tokens → Type 0
+  IsBare c k = (form : AForm) × (mark : Span) × (c.0 ≡ compound (formed form mark no_item)) × (k ≡ spell_command (shape_of_command B c.0))
+
   pub record Fine (inner : Inner) : Type 0 where
-    pub compound : (o : Opener) (s : State) → Passing g (inner.compound o) IsCompound s
+    pub compound : (o : Opener) (s : State) → Passing g (inner.compound o) IsBare s
     pub function : (name : Span) (s : State) → Passing g (inner.function name) (λ c k. text_at B name ∷ k ≡ spell_command (shape_of_command B c.0)) s
 
   module _ (inner : Inner) (fine : Fine inner) where
@@ -300,13 +305,38 @@ module _ (B : List ℕ) (g : Given) (stands : g.text ≡ drop g.offset B) where
         pass_then g (pass_word inner s) (λ w t k so. pass_pushed g (λ u. pass_on g (silent_next g position u) (λ n v. pass_give g
         (items_last B i.items (item (breaks i) (as_item position w)) ∙ ap (λ z. spelled_items i ++ z) (item_word position (breaks i) w ∙ sym so ∙ sym (append-nil k))))))
 
+    pass_number : (n : Next) (s : State) → Passing g (a_number n) (λ x k. k ≡ spell_number (option_map (bare_at B) x.0)) s
+    unfolding a_number
+    pass_number n s =
+        pass_pick g (is_number n.token)
+        (pass_then g (pass_token g {P = λ x k. k ≡ bare_at B x.1 ∷ []} (λ x u. ap (λ z. bare z ∷ []) (raw_at s.at u.at))) (λ x t k so. pass_on g (silent_next g Suffix t) (λ m u. pass_give g (append-nil k ∙ so))))
+        (pass_give g refl)
+
+    pass_operator : (o : RedirectOperator) (s : State) → Passing g (an_operator o) (OneText g (redirect_text o)) s
+    unfolding an_operator
+    pass_operator o s = pass_text g
+
+    pass_operator_by : (p : ℕ) (o : Option RedirectOperator) (s : State) → Passing g (operator_by p o) (λ x k. k ≡ redirect_text x.0 ∷ []) s
+    pass_operator_by p (Some o) s = pass_pick g (takes_here o) (pass_stop g) (pass_last g (pass_operator o s) (λ x k so. so))
+    pass_operator_by p None s = pass_stop g
+
+    pass_target : (s : State) → Passing g (a_target inner) (λ w k. k ≡ spell_word (shape_of_word B w)) s
+    unfolding a_target
+    pass_target s = pass_on g (silent_next g Suffix s) (λ n t. pass_pick g (is_word n.token) (pass_word inner t) (pass_unexpected g inner n t))
+
+    pass_redirect : (i : Items) (broken : Bool) (position : Position) (n : Next) (s : State) → Passing g (one_redirect inner broken position i.items n) (Grows g spelled_items i) s
+    unfolding one_redirect
+    pass_redirect i broken position n s =
+        pass_on g (pass_see g) (λ p t. pass_then g (pass_number n t) (λ d u k1 one. pass_then g (pass_operator_by p (redirect_operator_of d.1.token) u) (λ o v k2 two. pass_then g (pass_target v) (λ w x k3 three.
+        pass_pushed g (λ y. pass_on g (silent_next g position y) (λ m z. pass_give g (rw (one, two, append-nil k3, three) (items_last B i.items (item broken (redirect d.0 o.0 o.1 w None))))))))))
+
     pass_item_by : (i : Items) (o : Option Position) (s : State) → Passing g (item_by inner i o) (Grows g spelled_items i) s
     pass_item_by i (Some position) s = pass_item i position s
-    pass_item_by i None s = pass_give g (grows_none g spelled_items i)
+    pass_item_by i None s = pass_pick g (begins_redirect i.next.token) (pass_redirect i (breaks i) (behind_redirect i.place) i.next s) (pass_give g (grows_none g spelled_items i))
 
     pass_item_turn : (i : Items) (s : State) → Passing g (item_turn inner i) (Grows g spelled_items i) s
     unfolding item_turn
-    pass_item_turn i s = pass_item_by i (behind_item i.next.token) s
+    pass_item_turn i s = pass_item_by i (behind_word i.next.token) s
 
     pass_simple : (i : Items) (s : State) → Passing g (a_simple inner i) (λ c k. spelled_items i ++ k ≡ spell_command (shape_of_command B c.0)) s
     unfolding a_simple
@@ -314,8 +344,23 @@ module _ (B : List ℕ) (g : Given) (stands : g.text ≡ drop g.offset B) where
 
     -- ---- pipelines
 
+    pass_redirect_turn : (i : Items) (s : State) → Passing g (redirect_turn inner i) (Grows g spelled_items i) s
+    unfolding redirect_turn
+    pass_redirect_turn i s = pass_pick g (begins_redirect i.next.token) (pass_redirect i i.next.broken Command i.next s) (pass_give g (grows_none g spelled_items i))
+
+    with_spelled : (c : ACommand) (form : AForm) (mark : Span) (is : ItemsOf Span Span) (k l : Tokens) → c ≡ compound (formed form mark no_item) → k ≡ spell_command (shape_of_command B c) → spell_items (shape_of_items B is) ≡ l
+        → (body : ACompound) × (with_redirects c is ≡ compound body) × (k ++ l ≡ spell_command (shape_of_command B (with_redirects c is)))
+    with_spelled c form mark is k l one two three =
+        let first : k ≡ spell_form (shape_of_form B form) ++ [] = rw one at two in
+        (formed form mark is, rw one refl, rw (one, first, ← three) (ap (λ z. z ++ spell_items (shape_of_items B is)) (append-nil _)))
+
+    pass_redirected : (c : ACommand × Next) (k : Tokens) (s : State) → IsBare c k → Passing g (redirected inner c) (λ d l. IsCompound d (k ++ l)) s
+    unfolding redirected
+    pass_redirected c k s so =
+        pass_last g (pass_many g spelled_items (redirect_turn inner) pass_redirect_turn (so_many [] Command c.1) s) (λ r l is. with_spelled c.0 so.0 so.1 (items_of r.items) k l so.2 so.3 is)
+
     pass_compound_by : (n : Next) (o : Option Opener) (s : State) → Passing g (compound_by inner n o) IsCompound s
-    pass_compound_by n (Some o) s = fine.compound o s
+    pass_compound_by n (Some o) s = pass_then g (fine.compound o s) (λ c t k so. pass_redirected c k t so)
     pass_compound_by n None s = pass_unexpected g inner n s
 
     -- a word is one token
@@ -327,13 +372,13 @@ module _ (B : List ℕ) (g : Given) (stands : g.text ≡ drop g.offset B) where
     pass_worded s =
         pass_on g (pass_see g) (λ good t. pass_then g (pass_word inner t) (λ w u k so. pass_on g (silent_next g Suffix u) (λ n v.
         pass_pick g (is_paren n.token) (pass_pick g good (pass_so g (fine.function (word_span w) v) (λ c l is. ap (λ z. z ++ l) (so ∙ word_is w) ∙ is)) (pass_stop g))
-        (pass_pushed g (λ x. pass_so g (pass_simple (so_many (item false (argument w) ∷ []) n) x) (λ c l is. ap (λ z. z ++ l) (so ∙ sym (append-nil _)) ∙ is))))))
+        (pass_pushed g (λ x. pass_so g (pass_simple (so_many (item false (argument w) ∷ []) Suffix n) x) (λ c l is. ap (λ z. z ++ l) (so ∙ sym (append-nil _)) ∙ is))))))
 
     pass_command : (n : Next) (s : State) → Passing g (a_command inner n) (Spells (λ c. spell_command (shape_of_command B c.0))) s
     unfolding a_command
     pass_command n s =
         pass_pick g (is_word n.token) (pass_worded s)
-        (pass_pick g (begins_simple n.token) (pass_simple (so_many [] n) s) (pass_so g (pass_compound_by n (opener_of n.token) s) (λ c k so. so.2)))
+        (pass_pick g (begins_simple n.token) (pass_simple (so_many [] Command n) s) (pass_so g (pass_compound_by n (opener_of n.token) s) (λ c k so. so.2)))
 
     pass_bang : (n : Next) (s : State) → Passing g (a_bang n) (Spells (λ x. spell_bang (shape_of_bang x.0))) s
     unfolding a_bang
@@ -505,7 +550,7 @@ module _ (B : List ℕ) (g : Given) (stands : g.text ≡ drop g.offset B) where
     pass_for_name : (n : Next) (s : State) → Passing g (a_for_name inner n) (Spells (λ x. spell_word (shape_of_word B x.0))) s
     unfolding a_for_name
     pass_for_name n s =
-        pass_pick g (begins_simple n.token)
+        pass_pick g (begins_word n.token)
         (pass_on g (pass_see g) (λ p t. pass_on g (pass_see g) (λ good u. pass_then g (pass_word inner u) (λ w v k so.
         pass_pick g good (pass_on g (silent_next g Command v) (λ m z. pass_give g (append-nil k ∙ so))) (pass_stop g)))))
         (pass_unexpected g inner n s)
@@ -519,10 +564,14 @@ module _ (B : List ℕ) (g : Given) (stands : g.text ≡ drop g.offset B) where
     abbrev HeadSpelled : Headed → Tokens → Type 0
     HeadSpelled h k = k ≡ spell_for_words (shape_of_for_words B h.words)
 
+    pass_word_turn : (i : Items) (s : State) → Passing g (word_turn inner i) (Grows g spelled_items i) s
+    unfolding word_turn
+    pass_word_turn i s = pass_pick g (is_word i.next.token) (pass_item i Suffix s) (pass_give g (grows_none g spelled_items i))
+
     pass_for_words : (cs : Row Span) (s : State) → Passing g (for_words inner cs) HeadSpelled s
     unfolding for_words
     pass_for_words cs s =
-        pass_then g (pass_passed (closing_text closings.In) false _ s) (λ i t k is. pass_then g (pass_many g spelled_items (item_turn inner) pass_item_turn (so_many [] i.1) t) (λ ws u l so.
+        pass_then g (pass_passed (closing_text closings.In) false _ s) (λ i t k is. pass_then g (pass_many g spelled_items (word_turn inner) pass_word_turn (so_many [] Suffix i.1) t) (λ ws u l so.
         pass_on g (silent_sep cs ws.next u) (λ x v. pass_give g (rw (is, append-nil l, ← so) refl))))
 
     pass_for_head : (n : Next) (s : State) → Passing g (a_for_head inner n) HeadSpelled s
@@ -547,7 +596,7 @@ module _ (B : List ℕ) (g : Given) (stands : g.text ≡ drop g.offset B) where
     pass_case_word : (n : Next) (s : State) → Passing g (a_case_word inner n) (Spells (λ x. spell_word (shape_of_word B x.0))) s
     unfolding a_case_word
     pass_case_word n s =
-        pass_pick g (begins_simple n.token) (pass_then g (pass_word inner s) (λ w v k so. pass_on g (silent_next g Command v) (λ m z. pass_give g (append-nil k ∙ so)))) (pass_unexpected g inner n s)
+        pass_pick g (begins_word n.token) (pass_then g (pass_word inner s) (λ w v k so. pass_on g (silent_next g Command v) (λ m z. pass_give g (append-nil k ∙ so)))) (pass_unexpected g inner n s)
 
     -- with a `|` before the first
     abbrev spelled_row : Row AWord → Tokens
@@ -566,7 +615,7 @@ module _ (B : List ℕ) (g : Given) (stands : g.text ≡ drop g.offset B) where
     unfolding one_pattern
     pass_one_pattern p s =
         pass_then g (pass_text g) (λ x t k is. pass_on g (silent_next g Suffix t) (λ n u.
-        pass_pick g (begins_simple n.token) (pass_last g (pass_pattern p.patterns u) (λ q l so. rw is so)) (pass_unexpected g inner n u)))
+        pass_pick g (begins_word n.token) (pass_last g (pass_pattern p.patterns u) (λ q l so. rw is so)) (pass_unexpected g inner n u)))
 
     pass_pattern_turn : (p : Patterned) (s : State) → Passing g (pattern_turn inner p) (Grows g spelled_patterns p) s
     unfolding pattern_turn
@@ -629,10 +678,10 @@ module _ (B : List ℕ) (g : Given) (stands : g.text ≡ drop g.offset B) where
     pass_form openers.For n s = pass_for n s
     pass_form openers.Case n s = pass_case n s
 
-    pass_compound : (o : Opener) (s : State) → Passing g (a_compound inner o) IsCompound s
+    pass_compound : (o : Opener) (s : State) → Passing g (a_compound inner o) IsBare s
     unfolding a_compound
     pass_compound o s =
-        pass_then g (pass_passed (opener_text o) _ _ s) (λ x t k is. pass_then g (pass_form o x.1 t) (λ f u m so. pass_pushed g (λ v. pass_give g (_, refl, rw (is, append-nil m) (so ∙ sym (append-nil _))))))
+        pass_then g (pass_passed (opener_text o) _ _ s) (λ x t k is. pass_then g (pass_form o x.1 t) (λ f u m so. pass_pushed g (λ v. pass_give g (f.what, _, refl, rw (is, append-nil m) (so ∙ sym (append-nil _))))))
 
     -- ---- functions
 

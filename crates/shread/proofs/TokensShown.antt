@@ -15,18 +15,17 @@ use Rattle.shread.specs.declared.token.Token.TheVariants as tokens
 use Rattle.shtree.specs.declared.tree.AndOrOperator.{AndOrOperator}
 use Rattle.shtree.specs.declared.tree.Span.{Span}
 use Rattle.shtree.specs.Nodes.{word_span}
-use Rattle.shtree.specs.Tree.{AWord}
+use Rattle.shtree.specs.Tree.{ACommand, AnItem, AWord}
 use Rattle.shread.specs.Text.{is_newline as is_newline_byte}
-use Rattle.shread.specs.Classes.{is_operator}
 use Rattle.shread.specs.Bytes.{byte_at, behind, past_continuations, stands}
 use Rattle.shread.specs.Comments.{comment_at}
 use Rattle.shread.specs.Tokens.{begins_assignment, first_word, is_number, reserved_at, token_at, token_of, word_by, word_of}
 use Rattle.shread.specs.Sights.{Given, State}
 use Rattle.shread.specs.Form.{Spelled, Form, push, both, many, step_if}
 use Rattle.shread.specs.Words.{Inner}
-use Rattle.shread.specs.Commands.{pick, next_token, is_newline, is_semicolon, a_semicolon, is_pipe, is_bang, begins_simple, begins_pipeline, opener_of, compound_by, and_or_operator_of, Items, so_many, behind_item, an_item, item_by, item_turn, a_simple, unexpected, comment_by, a_comment, a_newline, with_comment, JoinSo, join_turn, a_join, a_command, a_bang, Piped, piped, one_command, pipe_turn, a_pipeline, Joined, joined_so, one_pipeline, joined_by, join_pipeline, an_and_or, separator_of, separator_by, a_separator, an_entry, is_paren, is_word, a_worded, is_double_semicolon}
+use Rattle.shread.specs.Commands.{pick, next_token, is_newline, is_semicolon, a_semicolon, is_pipe, is_bang, begins_simple, begins_word, begins_redirect, begins_pipeline, opener_of, compound_by, and_or_operator_of, Items, so_many, breaks, behind_word, one_redirect, behind_redirect, redirect_turn, redirected, an_item, item_by, item_turn, a_simple, unexpected, comment_by, a_comment, a_newline, with_comment, JoinSo, join_turn, a_join, a_command, a_bang, Piped, piped, one_command, pipe_turn, a_pipeline, Joined, joined_so, one_pipeline, joined_by, join_pipeline, an_and_or, separator_of, separator_by, a_separator, an_entry, is_paren, is_word, named, a_worded, is_double_semicolon}
 use Rattle.shread.specs.Lists.{ListSo, list_so, none_listed, one_entry, entry_turn, remark_by, a_remark, on_line, list_turn, a_list}
-use Rattle.shread.specs.Compounds.{Branched, branched, Closed, is_closing, is_open_paren, is_close_paren, passed, closing, a_branch, elif_turn, an_else, an_if, a_loop, a_group, a_for_name, a_linebreak, a_sequential_sep, Headed, for_words, a_for_head, a_for, a_form, a_compound, a_function, a_case_word, begins_pattern, Patterned, a_pattern, one_pattern, pattern_turn, a_pattern_list, a_body, ItemEnd, a_double_semicolon, an_item_end, CasesSo, cases_so, one_case, case_turn, a_case_head, a_case}
+use Rattle.shread.specs.Compounds.{Branched, branched, Closed, is_closing, is_open_paren, is_close_paren, passed, closing, a_branch, elif_turn, an_else, an_if, a_loop, a_group, a_for_name, a_linebreak, a_sequential_sep, Headed, word_turn, for_words, a_for_head, a_for, a_form, a_compound, a_function, a_case_word, begins_pattern, Patterned, a_pattern, one_pattern, pattern_turn, a_pattern_list, an_open_bracket, a_body, ItemEnd, a_double_semicolon, an_item_end, CasesSo, cases_so, one_case, case_turn, a_case_head, a_case}
 use Rattle.shread.specs.Levels.{level}
 use Rattle.shread.proofs.Shown.{blanks_still}
 use Rattle.shread.proofs.Holds.{Tells, Turned, tells_give, tells_then, tells_many, tells_after, tells_seen, tells_pushed}
@@ -122,33 +121,47 @@ module _ (g : Given) where
     abbrev ItemsShown : Items → State → Type 0
     ItemsShown i t = Begins i.next t
 
+    shown_redirect : (broken : Bool) (position : Position) (is : Row AnItem) (n : Next) (s : State) → N (one_redirect inner broken position is n) (Turned true g ItemsShown) s
+    unfolding one_redirect
+    shown_redirect broken position is n s =
+        after (λ p t. after (λ d u. after (λ o v. after (λ w x. after (λ js y. tells_then true g (shown_next position y) (λ m z good. tells_give true g good))))))
+
     shown_item_by : (i : Items) (o : Option Position) (s : State) → Begins i.next s → N (item_by inner i o) (Turned true g ItemsShown) s
     unfolding an_item
     shown_item_by i (Some position) s so = after (λ w t. after (λ is u. tells_then true g (shown_next position u) (λ n v good. tells_give true g good)))
-    shown_item_by i None s so = tells_give true g so
+    shown_item_by i None s so = picked (begins_redirect i.next.token) (shown_redirect (breaks i) (behind_redirect i.place) i.items i.next s) (tells_give true g so)
 
     shown_item_turn : (i : Items) (s : State) → Begins i.next s → N (item_turn inner i) (Turned true g ItemsShown) s
     unfolding item_turn
-    shown_item_turn i s so = shown_item_by i (behind_item i.next.token) s so
+    shown_item_turn i s so = shown_item_by i (behind_word i.next.token) s so
 
     shown_simple : (i : Items) (s : State) → Begins i.next s → N (a_simple inner i) Behind s
     unfolding a_simple
     shown_simple i s so = tells_then true g (tells_many true g (item_turn inner) ItemsShown shown_item_turn i s so) (λ j t good. tells_give true g good)
 
+    shown_redirect_turn : (i : Items) (s : State) → Begins i.next s → N (redirect_turn inner i) (Turned true g ItemsShown) s
+    unfolding redirect_turn
+    shown_redirect_turn i s so = picked (begins_redirect i.next.token) (shown_redirect i.next.broken Command i.items i.next s) (tells_give true g so)
+
+    shown_redirected : (c : ACommand × Next) (s : State) → Begins c.1 s → N (redirected inner c) Behind s
+    unfolding redirected
+    shown_redirected c s so =
+        tells_then true g (tells_many true g (redirect_turn inner) ItemsShown shown_redirect_turn (so_many [] Command c.1) s so) (λ r t good. tells_give true g good)
+
     shown_compound_by : (n : Next) (o : Option Opener) (s : State) → N (compound_by inner n o) Behind s
-    shown_compound_by n (Some o) s = fine.compound o s
+    shown_compound_by n (Some o) s = tells_then true g (fine.compound o s) shown_redirected
     shown_compound_by n None s = stopped n
 
     shown_worded : (s : State) → N (a_worded inner) Behind s
     unfolding a_worded
     shown_worded s =
         after (λ good t. after (λ w u. tells_then true g (shown_next Suffix u)
-        (λ n v so. picked (is_paren n.token) (picked good (fine.function (word_span w) v) (record { told = tt })) (pushed_on (shown_simple (so_many _ n) v so)))))
+        (λ n v so. picked (is_paren n.token) (picked good (fine.function (word_span w) v) (record { told = tt })) (pushed_on (shown_simple (so_many _ Suffix n) v so)))))
 
     shown_command : (n : Next) (s : State) → Begins n s → N (a_command inner n) Behind s
     unfolding a_command
     shown_command n s so =
-        picked (is_word n.token) (shown_worded s) (picked (begins_simple n.token) (shown_simple (so_many [] n) s so) (shown_compound_by n (opener_of n.token) s))
+        picked (is_word n.token) (shown_worded s) (picked (begins_simple n.token) (shown_simple (so_many [] Command n) s so) (shown_compound_by n (opener_of n.token) s))
 
     shown_bang : (n : Next) (s : State) → Begins n s → N (a_bang n) Behind s
     unfolding a_bang
@@ -287,7 +300,7 @@ module _ (g : Given) where
     shown_for_name : (n : Next) (s : State) → N (a_for_name inner n) Behind s
     unfolding a_for_name
     shown_for_name n s =
-        picked (begins_simple n.token)
+        picked (begins_word n.token)
         (after (λ p t. after (λ good u. after (λ w v. picked good (tells_then true g (shown_next Command v) (λ m z so. tells_give true g so)) (record { told = tt })))))
         (stopped n)
 
@@ -298,10 +311,14 @@ module _ (g : Given) where
     abbrev HeadShown : Headed → State → Type 0
     HeadShown h t = Begins h.next t
 
+    shown_word_turn : (i : Items) (s : State) → Begins i.next s → N (word_turn inner i) (Turned true g ItemsShown) s
+    unfolding word_turn an_item
+    shown_word_turn i s so = picked (is_word i.next.token) (after (λ w t. after (λ is u. tells_then true g (shown_next Suffix u) (λ n v good. tells_give true g good)))) (tells_give true g so)
+
     shown_for_words : (cs : Row Span) (s : State) → N (for_words inner cs) HeadShown s
     unfolding for_words
     shown_for_words cs s =
-        tells_then true g (shown_passed _ false _ s) (λ i t one. tells_then true g (tells_many true g (item_turn inner) ItemsShown shown_item_turn (so_many [] i.1) t one)
+        tells_then true g (shown_passed _ false _ s) (λ i t one. tells_then true g (tells_many true g (word_turn inner) ItemsShown shown_word_turn (so_many [] Suffix i.1) t one)
         (λ ws u two. tells_then true g (shown_sep cs ws.next u two) (λ l v good. tells_give true g good)))
 
     shown_for_head : (n : Next) (s : State) → Begins n s → N (a_for_head inner n) HeadShown s
@@ -317,7 +334,7 @@ module _ (g : Given) where
 
     shown_case_word : (n : Next) (s : State) → N (a_case_word inner n) Behind s
     unfolding a_case_word
-    shown_case_word n s = picked (begins_simple n.token) (after (λ w t. tells_then true g (shown_next Command t) (λ m u good. tells_give true g good))) (stopped n)
+    shown_case_word n s = picked (begins_word n.token) (after (λ w t. tells_then true g (shown_next Command t) (λ m u good. tells_give true g good))) (stopped n)
 
     abbrev PatternedShown : Patterned → State → Type 0
     PatternedShown p t = Begins p.next t
@@ -329,7 +346,7 @@ module _ (g : Given) where
     shown_one_pattern : (ws : Row AWord) (s : State) → N (one_pattern inner ws) (Turned true g PatternedShown) s
     unfolding one_pattern
     shown_one_pattern ws s =
-        after (λ x t. after (λ n u. picked (begins_simple n.token) (tells_then true g (shown_pattern ws u) (λ p v good. tells_give true g good)) (stopped n)))
+        after (λ x t. after (λ n u. picked (begins_word n.token) (tells_then true g (shown_pattern ws u) (λ p v good. tells_give true g good)) (stopped n)))
 
     shown_pattern_turn : (p : Patterned) (s : State) → Begins p.next s → N (pattern_turn inner p) (Turned true g PatternedShown) s
     unfolding pattern_turn
@@ -447,8 +464,8 @@ close_byte position T p (Some b) is =
     let ampersand = paren_else (b == 38) _ _ (λ e. paren_both (stands T (behind T p) 38) _ _ (λ f. absurd cc) (λ f. absurd cc) e) semicolon.1 in
     let bar = paren_else (b == 124) _ _ (λ e. paren_both (stands T (behind T p) 124) _ _ (λ f. absurd cc) (λ f. absurd cc) e) ampersand.1 in
     let open_paren = paren_else (b == 40) _ _ (λ e. absurd cc) bar.1 in
-    let here = paren_by (b == 41) _ (λ e. paren_both (is_operator b) _ _ (λ f. absurd cc)
-    (λ f. paren_both (b == 35) _ _ (λ d. absurd cc) (λ d. paren_both (is_number T p) _ _ (λ k. absurd cc) (λ k. no_paren position T p k) d) f) e) open_paren.1 in
+    let here = paren_by (b == 41) _ (λ e. paren_both (b == 60) _ _ (λ f. absurd cc) (λ f. paren_both (b == 62) _ _ (λ h. absurd cc)
+    (λ h. paren_both (b == 35) _ _ (λ d. absurd cc) (λ d. paren_both (is_number T p) _ _ (λ k. absurd cc) (λ k. no_paren position T p k) d) h) f) e) open_paren.1 in
     let same : b ≡ 41 = grind (arith, nat_tests) in
     rw same refl
 

@@ -16,20 +16,21 @@ use Rattle.shread.specs.declared.token.Position.{Position}
 use Rattle.shread.specs.declared.token.Position.TheVariants.{Command, Prefix, Suffix}
 use Rattle.shread.specs.declared.token.Separator.{Separator}
 use Rattle.shtree.specs.declared.tree.AndOrOperator.{AndOrOperator}
+use Rattle.shtree.specs.declared.tree.RedirectOperator.{RedirectOperator}
 use Rattle.shtree.specs.declared.tree.Span.{Span}
 use Rattle.shtree.specs.Nodes.{AreWithin, IsSpanWithin, and_or_nodes, branch_nodes, branches_nodes, else_nodes, entries_nodes, entry_nodes, for_words_nodes, form_nodes, word_nodes, word_span}
-use Rattle.shtree.specs.Tree.{ACommand, AForm, ASubst, AWord, AnEntry, Entries, branches_of, entries_of, entry, item, remark, simple, compound, function, word}
-use Rattle.shtree.proofs.Reach.{Nodes, CommentFits, SubstFits, WordFits, ItemFits, CommandFits, PipelineFits, PipeFits, PartFits, EntryFits, BranchFits, both as fits_both, fits_subst, fits_substs, fits_items, fits_word, fits_entries, fits_branches, fits_assign, fits_argument, fits_simple, fits_compound, fits_pipeline, fits_and_or, fits_command, fits_remark, span_fits_more, within_append, fits_function, CaseFits, fits_case, fits_case_in, fits_end}
+use Rattle.shtree.specs.Tree.{ACommand, AForm, ASubst, AWord, AnEntry, AnItem, Entries, branches_of, entries_of, entry, formed, item, items_of, redirect, remark, simple, compound, function, with_redirects, word}
+use Rattle.shtree.proofs.Reach.{Nodes, CommentFits, SubstFits, WordFits, ItemFits, CommandFits, PipelineFits, PipeFits, PartFits, EntryFits, BranchFits, both as fits_both, fits_subst, fits_substs, fits_items, fits_word, fits_entries, fits_branches, fits_assign, fits_argument, fits_simple, fits_redirect, fits_compound, fits_pipeline, fits_and_or, fits_command, fits_remark, span_fits_more, within_append, fits_function, CaseFits, fits_case, fits_case_in, fits_end}
 use Rattle.shread.specs.Standing.{raw_stands, raw_in, next_newline, before_blanks}
 use Rattle.shread.specs.Bytes.{past_continuations, behind}
 use Rattle.shread.specs.Comments.{span, comment_at, past_comment}
 use Rattle.shread.specs.Classes.{is_blank}
-use Rattle.shread.specs.Sights.{Given, given, State, standing, here}
-use Rattle.shread.specs.Form.{Spelled, Told, Read, Form, give, push, both, many, token, ends_as, does, Step, again, done, step_if, pushed, see}
+use Rattle.shread.specs.Sights.{Given, given, State, standing, here, one_byte, the_digits}
+use Rattle.shread.specs.Form.{Spelled, Told, Read, Form, give, move, push, both, many, token, ends_as, does, Step, again, done, step_if, pushed, see}
 use Rattle.shread.specs.Words.{Inner, Held, having, opened, piece_row, a_piece, contents, a_word}
-use Rattle.shread.specs.Commands.{pick, is_pipe, is_bang, begins_simple, begins_pipeline, opener_of, compound_by, and_or_operator_of, breaks, Items, so_many, behind_item, as_item, an_item, item_by, item_turn, a_simple, a_bang, a_comment, comment_by, unexpected, with_comment, JoinSo, join_turn, a_join, a_command, Piped, piped, one_command, pipe_turn, a_pipeline, Joined, joined_so, one_pipeline, joined_by, join_pipeline, an_and_or, is_background, an_entry, a_worded, is_word, is_paren, separator_of, separator_by, a_separator, past_separator, is_double_semicolon}
+use Rattle.shread.specs.Commands.{pick, is_pipe, is_bang, begins_simple, begins_word, begins_redirect, begins_pipeline, opener_of, compound_by, and_or_operator_of, breaks, Items, so_many, behind_word, is_number, redirect_operator_of, takes_here, is_long, a_number, an_operator, operator_by, a_target, one_redirect, behind_redirect, redirect_turn, redirected, as_item, an_item, item_by, item_turn, a_simple, a_bang, a_comment, comment_by, unexpected, with_comment, JoinSo, join_turn, a_join, a_command, Piped, piped, one_command, pipe_turn, a_pipeline, Joined, joined_so, one_pipeline, joined_by, join_pipeline, an_and_or, is_background, an_entry, a_worded, is_word, is_paren, separator_of, separator_by, a_separator, past_separator, is_double_semicolon}
 use Rattle.shread.specs.Lists.{ListSo, list_so, none_listed, is_blank_next, one_entry, entry_turn, remark_by, a_remark, on_line, list_turn, a_list, Listed}
-use Rattle.shread.specs.Compounds.{Branched, branched, Closed, is_closing, is_open_paren, is_close_paren, passed, closing, a_branch, elif_turn, an_else, an_if, a_loop, a_group, a_for_name, a_linebreak, a_sequential_sep, Headed, for_words, a_for_head, behind_remarks, a_for, a_form, held_apart, a_compound, a_function, under_name, a_case_word, begins_pattern, Patterned, a_pattern, one_pattern, pattern_turn, a_pattern_list, a_body, body_end, ItemEnd, a_double_semicolon, an_item_end, CasesSo, cases_so, one_case, case_turn, a_case_head, a_case}
+use Rattle.shread.specs.Compounds.{Branched, branched, Closed, is_closing, is_open_paren, is_close_paren, passed, closing, a_branch, elif_turn, an_else, an_if, a_loop, a_group, a_for_name, a_linebreak, a_sequential_sep, Headed, word_turn, for_words, a_for_head, behind_remarks, a_for, a_form, held_apart, a_compound, a_function, under_name, a_case_word, begins_pattern, Patterned, a_pattern, one_pattern, pattern_turn, a_pattern_list, a_body, body_end, ItemEnd, a_double_semicolon, an_item_end, CasesSo, cases_so, one_case, case_turn, a_case_head, a_case}
 use Rattle.shread.specs.Substitutions.{substituted, a_substitution}
 use Rattle.shread.specs.Levels.{most_open, level}
 use Rattle.shread.specs.Lines.{a_line, ALine, IsLine, line_read, line_stops, kind_of}
@@ -131,10 +132,16 @@ module _ (keep : Bool) (g : Given) (limit : ℕ) where
   abbrev SubstsFit : Held → Type 0
   SubstsFit h = All (SubstFits limit) h.substs
 
+  -- a command, but for the redirections of a compound one
+  abbrev BareFits : ACommand → Type 0
+  BareFits (simple items) = CommandFits limit (simple items)
+  BareFits (compound (formed form span redirects)) = IsSpanWithin limit span × Nodes limit (form_nodes form)
+  BareFits (function name comments body) = CommandFits limit (function name comments body)
+
   pub record Fine (inner : Inner) : Type 0 where
     pub construct : (mode : Mode) (b : ℕ) (ss : Row ASubst) (s : State) → All (SubstFits limit) ss → R (inner.construct mode b ss) (All (SubstFits limit)) s
     pub substitution : (b : ℕ) (ss : Row ASubst) (s : State) → b ≤ g.offset + s.at → All (SubstFits limit) ss → R (inner.substitution b ss) (All (SubstFits limit)) s
-    pub compound : (o : Opener) (s : State) → R (inner.compound o) (λ c. CommandFits limit c.0) s
+    pub compound : (o : Opener) (s : State) → R (inner.compound o) (λ c. BareFits c.0) s
     pub function : (name : Span) (s : State) → IsSpanWithin limit name → R (inner.function name) (λ c. CommandFits limit c.0) s
 
   module _ (inner : Inner) (fine : Fine inner) where
@@ -187,13 +194,42 @@ module _ (keep : Bool) (g : Given) (limit : ℕ) where
     unfolding an_item
     one_item_fits i position s so = first (word_fits s) (λ w t good. first (pushes (ItemFits limit) so (item_fits position (breaks i) w good)) (λ is u all. after (λ n v. gives all)))
 
+    stopped : {X : Type 0} {P : X → Type 0} (n : Next) {s : State} → R (unexpected {X = X} inner n) P s
+    stopped n = after (λ w t. record { told = tt })
+
+    abbrev NumberFits : Option Span × Next → Type 0
+    NumberFits x = MatchOption x.0 (Unit {0}) (IsSpanWithin limit)
+
+    number_fits : (n : Next) (s : State) → R (a_number n) NumberFits s
+    unfolding a_number
+    number_fits n s =
+        picks (is_number n.token) (first (tokens {P = λ x. Unit {0}} (tells_so keep g (low (move the_digits) keep g s) (λ x t on. λ b. tt))) (λ x t one. after (λ m u. gives one.1))) (gives tt)
+
+    operator_fits : (o : RedirectOperator) (s : State) → R (an_operator o) (λ x. Unit {0} × IsSpanWithin limit x.1) s
+    unfolding an_operator
+    operator_fits o s = tokens {P = λ x. Unit {0}} (after (λ x t. picks (is_long o) (tells_so keep g (low (move one_byte) keep g t) (λ y u on. λ b. tt)) (gives tt)))
+
+    operator_fits_by : (p : ℕ) (o : Option RedirectOperator) (s : State) → R (operator_by p o) (λ x. IsSpanWithin limit x.1) s
+    operator_fits_by p (Some o) s = picks (takes_here o) (record { told = tt }) (first (operator_fits o s) (λ x t one. gives one.1))
+    operator_fits_by p None s = record { told = tt }
+
+    target_fits : (s : State) → R (a_target inner) (WordFits limit) s
+    unfolding a_target
+    target_fits s = after (λ n t. picks (is_word n.token) (word_fits t) (stopped n))
+
+    redirect_fits : (broken : Bool) (position : Position) (is : Row AnItem) (n : Next) (s : State) → All (ItemFits limit) is → R (one_redirect inner broken position is n) (Stepped ItemsFit) s
+    unfolding one_redirect
+    redirect_fits broken position is n s so =
+        after (λ p t. first (number_fits n t) (λ d u one. first (operator_fits_by p (redirect_operator_of d.1.token) u) (λ o v two. first (target_fits v) (λ w x three.
+        first (pushes (ItemFits limit) so (fits_redirect limit broken d.0 o.0 o.1 w one two three)) (λ js y all. after (λ m z. gives all))))))
+
     item_fits_by : (i : Items) (position : Option Position) (s : State) → ItemsFit i → R (item_by inner i position) (Stepped ItemsFit) s
     item_fits_by i (Some position) s so = one_item_fits i position s so
-    item_fits_by i None s so = gives so
+    item_fits_by i None s so = picks (begins_redirect i.next.token) (redirect_fits (breaks i) (behind_redirect i.place) i.items i.next s so) (gives so)
 
     item_turn_fits : (i : Items) (s : State) → ItemsFit i → R (item_turn inner i) (Stepped ItemsFit) s
     unfolding item_turn
-    item_turn_fits i s so = item_fits_by i (behind_item i.next.token) s so
+    item_turn_fits i s so = item_fits_by i (behind_word i.next.token) s so
 
     simple_fits : (i : Items) (s : State) → ItemsFit i → R (a_simple inner i) (λ c. CommandFits limit c.0) s
     unfolding a_simple
@@ -227,11 +263,22 @@ module _ (keep : Bool) (g : Given) (limit : ℕ) where
     unfolding a_join
     join_fits broken s = after (λ n t. first (repeats JoinFits join_turn join_turn_fits _ t (All-nil (CommentFits limit))) (λ j u all. gives all))
 
-    stopped : {X : Type 0} {P : X → Type 0} (n : Next) {s : State} → R (unexpected {X = X} inner n) P s
-    stopped n = after (λ w t. record { told = tt })
+    redirect_turn_fits : (i : Items) (s : State) → ItemsFit i → R (redirect_turn inner i) (Stepped ItemsFit) s
+    unfolding redirect_turn
+    redirect_turn_fits i s so = picks (begins_redirect i.next.token) (redirect_fits i.next.broken Command i.items i.next s so) (gives so)
+
+    with_redirects_fits : (c : ACommand) (is : Row AnItem) → BareFits c → All (ItemFits limit) is → CommandFits limit (with_redirects c (items_of is))
+    with_redirects_fits (simple items) is so all = so
+    with_redirects_fits (compound (formed form span others)) is so all = fits_compound limit form span is so.0 so.1 all
+    with_redirects_fits (function name comments body) is so all = so
+
+    redirected_fits : (c : ACommand × Next) (s : State) → BareFits c.0 → R (redirected inner c) (λ d. CommandFits limit d.0) s
+    unfolding redirected
+    redirected_fits c s so =
+        first (repeats ItemsFit (redirect_turn inner) redirect_turn_fits (so_many [] Command c.1) s (All-nil (ItemFits limit))) (λ r t all. gives (with_redirects_fits c.0 r.items so all))
 
     compound_fits_by : (n : Next) (o : Option Opener) (s : State) → R (compound_by inner n o) (λ c. CommandFits limit c.0) s
-    compound_fits_by n (Some o) s = fine.compound o s
+    compound_fits_by n (Some o) s = first (fine.compound o s) redirected_fits
     compound_fits_by n None s = stopped n
 
     place_fits : (w : AWord) → WordFits limit w → IsSpanWithin limit (word_span w)
@@ -242,13 +289,13 @@ module _ (keep : Bool) (g : Given) (limit : ℕ) where
     worded_fits s =
         after (λ good t. first (word_fits t) (λ w u one. after (λ n v.
         picks (is_paren n.token) (picks good (fine.function (word_span w) v (place_fits w one)) (record { told = tt }))
-        (first (pushes (ItemFits limit) (All-nil (ItemFits limit)) (fits_argument limit false w one)) (λ is x all. simple_fits (so_many is n) x all)))))
+        (first (pushes (ItemFits limit) (All-nil (ItemFits limit)) (fits_argument limit false w one)) (λ is x all. simple_fits (so_many is Suffix n) x all)))))
 
     command_fits : (n : Next) (s : State) → R (a_command inner n) (λ c. CommandFits limit c.0) s
     unfolding a_command
     command_fits n s =
         picks (is_word n.token) (worded_fits s)
-        (picks (begins_simple n.token) (simple_fits (so_many [] n) s (All-nil (ItemFits limit))) (compound_fits_by n (opener_of n.token) s))
+        (picks (begins_simple n.token) (simple_fits (so_many [] Command n) s (All-nil (ItemFits limit))) (compound_fits_by n (opener_of n.token) s))
 
     abbrev PipesFit : Piped → Type 0
     PipesFit p = All (PipeFits limit) p.parts
@@ -404,7 +451,7 @@ module _ (keep : Bool) (g : Given) (limit : ℕ) where
     for_name_fits : (n : Next) (s : State) → R (a_for_name inner n) (λ x. WordFits limit x.0) s
     unfolding a_for_name
     for_name_fits n s =
-        picks (begins_simple n.token) (after (λ p t. after (λ good u. first (word_fits u) (λ w v one. picks good (after (λ m z. gives one)) (record { told = tt }))))) (stopped n)
+        picks (begins_word n.token) (after (λ p t. after (λ good u. first (word_fits u) (λ w v one. picks good (after (λ m z. gives one)) (record { told = tt }))))) (stopped n)
 
     linebreak_fits : (cs : Row Span) (n : Next) (s : State) → All (CommentFits limit) cs → R (a_linebreak cs n) JoinFits s
     unfolding a_linebreak
@@ -417,10 +464,14 @@ module _ (keep : Bool) (g : Given) (limit : ℕ) where
     abbrev HeadFits : Headed → Type 0
     HeadFits h = Nodes limit (for_words_nodes h.words) × All (CommentFits limit) h.comments
 
+    word_turn_fits : (i : Items) (s : State) → ItemsFit i → R (word_turn inner i) (Stepped ItemsFit) s
+    unfolding word_turn
+    word_turn_fits i s so = picks (is_word i.next.token) (one_item_fits i Suffix s so) (gives so)
+
     for_words_fit : (cs : Row Span) (s : State) → All (CommentFits limit) cs → R (for_words inner cs) HeadFits s
     unfolding for_words
     for_words_fit cs s all =
-        after (λ i t. first (repeats ItemsFit (item_turn inner) item_turn_fits (so_many [] i.1) t (All-nil (ItemFits limit)))
+        after (λ i t. first (repeats ItemsFit (word_turn inner) word_turn_fits (so_many [] Suffix i.1) t (All-nil (ItemFits limit)))
         (λ ws u items. first (sep_fits cs ws.next u all) (λ l v so. gives (fits_items limit ws.items items, so))))
 
     for_head_fits : (n : Next) (s : State) → R (a_for_head inner n) HeadFits s
@@ -443,7 +494,7 @@ module _ (keep : Bool) (g : Given) (limit : ℕ) where
 
     case_word_fits : (n : Next) (s : State) → R (a_case_word inner n) (λ x. WordFits limit x.0) s
     unfolding a_case_word
-    case_word_fits n s = picks (begins_simple n.token) (first (word_fits s) (λ w t one. after (λ m u. gives one))) (stopped n)
+    case_word_fits n s = picks (begins_word n.token) (first (word_fits s) (λ w t one. after (λ m u. gives one))) (stopped n)
 
     abbrev PatternsFit : Patterned → Type 0
     PatternsFit p = All (WordFits limit) p.patterns
@@ -454,7 +505,7 @@ module _ (keep : Bool) (g : Given) (limit : ℕ) where
 
     one_pattern_fits : (ws : Row AWord) (s : State) → All (WordFits limit) ws → R (one_pattern inner ws) (Stepped PatternsFit) s
     unfolding one_pattern
-    one_pattern_fits ws s all = after (λ x t. after (λ n u. picks (begins_simple n.token) (first (pattern_fits ws u all) (λ p v so. gives so)) (stopped n)))
+    one_pattern_fits ws s all = after (λ x t. after (λ n u. picks (begins_word n.token) (first (pattern_fits ws u all) (λ p v so. gives so)) (stopped n)))
 
     pattern_turn_fits : (p : Patterned) (s : State) → PatternsFit p → R (pattern_turn inner p) (Stepped PatternsFit) s
     unfolding pattern_turn
@@ -531,14 +582,14 @@ module _ (keep : Bool) (g : Given) (limit : ℕ) where
     form_fits openers.Case n s = case_fits n s
 
     -- a command held apart, or one that holds nothing
-    apart_fits : (cs : Row ACommand) → All (CommandFits limit) cs → CommandFits limit (held_apart cs)
+    apart_fits : (cs : Row ACommand) → All BareFits cs → BareFits (held_apart cs)
     apart_fits [] all = fits_simple limit [] (All-nil (ItemFits limit))
-    apart_fits (c ∷ cs) all = All-head (CommandFits limit) c cs all
+    apart_fits (c ∷ cs) all = All-head BareFits c cs all
 
-    compound_fits : (o : Opener) (s : State) → R (a_compound inner o) (λ c. CommandFits limit c.0) s
+    compound_fits : (o : Opener) (s : State) → R (a_compound inner o) (λ c. BareFits c.0) s
     unfolding a_compound
     compound_fits o s = first (passed_fits _ (is_open_paren o) _ s) (λ x t begin. first (form_fits o x.1 t)
-        (λ f u so. first (pushes (CommandFits limit) (All-nil (CommandFits limit)) (fits_compound limit f.what _ (begin.0, so.1.1) so.0)) (λ cs v all. gives (apart_fits cs all))))
+        (λ f u so. first (pushes BareFits (All-nil BareFits) ((begin.0, so.1.1), so.0)) (λ cs v all. gives (apart_fits cs all))))
 
     -- ---- substitutions
 

@@ -3,15 +3,15 @@ use Rattle.std.specs.Prelude.{◌≡◌, ℕ, ◌+◌, ◌<◌, ◌≤◌, Bool,
 use Rattle.shread.specs.declared.cursor.Cursor.{Cursor}
 use Rattle.shread.specs.declared.fault.Stop.{Stop}
 use Rattle.shread.specs.declared.fault.Stop.TheVariants.{Memory, Wrong}
-use Rattle.shread.specs.declared.token.Position.{Position}
 use Rattle.shread.specs.declared.token.Token.{Token}
 use Rattle.shread.specs.declared.token.Token.TheVariants as tokens
 use Rattle.shtree.specs.declared.tree.AndOrOperator.{AndOrOperator}
+use Rattle.shtree.specs.declared.tree.RedirectOperator.{RedirectOperator}
 use Rattle.shread.specs.Standing.{raw_stands, at_end}
 use Rattle.shread.specs.Bytes.{behind, past_continuations, ends_word}
 use Rattle.shread.specs.Sights.{State, given, standing}
 use Rattle.shread.specs.Tokens.{is_comment, is_end}
-use Rattle.shread.specs.Commands.{and_or_operator_of, behind_item, is_double_semicolon}
+use Rattle.shread.specs.Commands.{and_or_operator_of, begins_word, is_double_semicolon, is_long, redirect_operator_of}
 use Rattle.shread.specs.Compounds.{begins_pattern}
 use Rattle.shread.specs.Form.{Form, Read, does}
 
@@ -60,7 +60,8 @@ Onward p q false = p ≤ q
 -- what a token says of the bytes from its first one on
 abbrev pub Shows : Token → List ℕ → ℕ → Type 0
 Shows token T p =
-    ((position : Position) → behind_item token ≡ Some position → ends_word T p ≡ false)
+    (begins_word token ≡ true → ends_word T p ≡ false)
     × (is_end token ≡ false → IsRead T p) × (token ≡ tokens.Newline → raw_stands T p 10 ≡ true) × (token ≡ tokens.End → at_end T p ≡ true)
     × ((operator : AndOrOperator) → and_or_operator_of token ≡ Some operator → IsRead T (behind T p)) × (is_comment token ≡ false → raw_stands T p 35 ≡ false) × (past_continuations T p ≡ p)
     × (begins_pattern token ≡ true → ends_word T p ≡ false) × (is_double_semicolon token ≡ true → IsRead T (behind T p))
+    × ((operator : RedirectOperator) → redirect_operator_of token ≡ Some operator → is_long operator ≡ true → IsRead T (behind T p))

@@ -17,7 +17,7 @@ use Rattle.shtree.specs.Tree.{Entries, entry, remark, more_entries, ACommand, si
 use Rattle.shread.specs.Sights.{here, is_a_name, Move, one_byte, the_reserved}
 use Rattle.shread.specs.Form.{Form, Spelled, give, see, move, push, stop, by, token, many, ◌>>=◌, ◌>>◌, Step, again, done}
 use Rattle.shread.specs.Words.{Inner, a_word}
-use Rattle.shread.specs.Commands.{next_token, pick, begins_simple, opener_of, compound_by, unexpected, a_semicolon, JoinSo, join_so, a_join_of, join_turn, so_many, item_turn, is_pipe, is_paren, is_double_semicolon}
+use Rattle.shread.specs.Commands.{next_token, pick, begins_word, opener_of, compound_by, unexpected, a_semicolon, JoinSo, join_so, a_join_of, join_turn, Items, so_many, an_item, is_word, is_pipe, is_paren, is_double_semicolon}
 use Rattle.shread.specs.Lists.{a_list, Listed, ListSo, list_so, none_listed, list_turn}
 
 -- ---- what opens, parts and closes the lists of a compound command
@@ -142,7 +142,7 @@ a_loop inner n =
 -- the word behind `for`, which has to be a NAME (XCU 2.10.2, rule 5), and the token behind it
 unfoldable pub a_for_name : Inner → Next → Form (AWord × Next)
 a_for_name inner n =
-    pick (begins_simple n.token)
+    pick (begins_word n.token)
     (see here >>= λ p. see is_a_name >>= λ good. a_word inner >>= λ w. pick good (next_token Command >>= λ m. give (w, m)) (stop BadForName p))
     (unexpected inner n)
 
@@ -164,11 +164,15 @@ pub record Headed : Type 0 where
 abbrev pub headed : ForWords → JoinSo → Headed
 headed ws l = record { words = ws; comments = l.join.comments; next = l.next }
 
+-- one more word behind `in`, or none; a redirection is none
+unfoldable pub word_turn : Inner → Items → Form (Step Items)
+word_turn inner i = pick (is_word i.next.token) (an_item inner i Suffix) (give (done i))
+
 -- `in`, words, and what ends them; none of the words is reserved
 unfoldable pub for_words : Inner → Row Span → Form Headed
 for_words inner cs =
     passed (closing_text closings.In) false Suffix >>= λ i.
-    many (item_turn inner) (so_many [] i.1) >>= λ ws.
+    many (word_turn inner) (so_many [] Suffix i.1) >>= λ ws.
     a_sequential_sep inner cs ws.next >>= λ l.
     give (headed (in_words (items_of ws.items)) l)
 
@@ -197,13 +201,13 @@ a_for inner n =
 
 -- the word behind `case`, and the token behind it
 unfoldable pub a_case_word : Inner → Next → Form (AWord × Next)
-a_case_word inner n = pick (begins_simple n.token) (a_word inner >>= λ w. next_token Command >>= λ m. give (w, m)) (unexpected inner n)
+a_case_word inner n = pick (begins_word n.token) (a_word inner >>= λ w. next_token Command >>= λ m. give (w, m)) (unexpected inner n)
 
 -- The first pattern of an item is any word but `esac` (XCU 2.10.2, rule 4). The others are any words.
 abbrev pub begins_pattern : Token → Bool
 begins_pattern (tokens.Reserved reserved.Esac) = false
 begins_pattern (tokens.Reserved r) = true
-begins_pattern t = begins_simple t
+begins_pattern t = begins_word t
 
 -- the patterns so far, and the token behind them
 pub record Patterned : Type 0 where
@@ -220,7 +224,7 @@ a_pattern inner ws = a_word inner >>= λ w. push ws w >>= λ vs. next_token Suff
 -- one more pattern, behind a `|`
 unfoldable pub one_pattern : Inner → Row AWord → Form (Step Patterned)
 one_pattern inner ws =
-    token (by (codes "|")) (move one_byte) >> next_token Suffix >>= λ n. pick (begins_simple n.token) (a_pattern inner ws >>= λ p. give (again p)) (unexpected inner n)
+    token (by (codes "|")) (move one_byte) >> next_token Suffix >>= λ n. pick (begins_word n.token) (a_pattern inner ws >>= λ p. give (again p)) (unexpected inner n)
 
 -- one more, or none
 unfoldable pub pattern_turn : Inner → Patterned → Form (Step Patterned)

@@ -5,6 +5,7 @@
 -- state and the tokens passed are handed on here: no row names them.
 use Rattle.std.specs.Prelude.{◌≡◌, ℕ, zero, suc, ◌-◌, Bool, true, false, Result, Ok, Err, List, [], ◌∷◌, ◌++◌, List as Row, length, nat_lt, take, drop, if◌then◌else◌}
 use Rattle.shtree.specs.declared.tree.Span.{Span}
+use Rattle.shtree.specs.Shape.{bare}
 use Rattle.shread.specs.declared.fault.Fault.{Fault}
 use Rattle.shread.specs.declared.fault.FaultKind.{FaultKind}
 use Rattle.shread.specs.declared.fault.FaultKind.TheVariants.{UnexpectedEnd}
@@ -15,10 +16,11 @@ use Rattle.shread.specs.Sights.{Given, State, Sight, seen, Move, to}
 abbrev pub Spelled : Type 0
 Spelled = List ℕ
 
--- how what was passed is told: not at all, as it stands, or by a text
+-- how what was passed is told: not at all, as it stands, without its continuations, or by a text
 pub data Told : Type 0 where
   untold : Told
   as_it_stands : Told
+  bared : Told
   by : Spelled → Told
 
 -- what was read, and the state behind it; or the fault that stopped the reading
@@ -96,6 +98,7 @@ raw T p q = take (q - p) (drop p T)
 abbrev pub tell : Told → List ℕ → ℕ → ℕ → Row Spelled
 tell untold T p q = []
 tell as_it_stands T p q = raw T p q ∷ []
+tell bared T p q = bare (raw T p q) ∷ []
 tell (by text) T p q = text ∷ []
 
 -- the tokens passed inside are not told

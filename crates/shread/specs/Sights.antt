@@ -8,7 +8,7 @@ use Rattle.shread.specs.declared.token.Position.{Position}
 use Rattle.shtree.specs.declared.tree.Span.{Span}
 use Rattle.shread.specs.Standing.{raw_stands, at_end}
 use Rattle.shread.specs.Bytes.{past_continuations, behind, past_blanks}
-use Rattle.shread.specs.Tokens.{next_at, past_reserved, is_name_at}
+use Rattle.shread.specs.Tokens.{next_at, past_reserved, past_digits, is_name_at}
 use Rattle.shread.specs.Pieces.{piece_at, past_taken, past_closer, next_quote, next_in_backquotes, is_last_backslash, past_parameter, rest_mode}
 use Rattle.shread.specs.Comments.{comment_at, past_comment}
 
@@ -94,6 +94,8 @@ pub data Move : Type 0 where
   a_comment_on : Move
   -- behind the reserved word here
   the_reserved : Move
+  -- behind the digits here
+  the_digits : Move
 
 abbrev pub to : Move → List ℕ → ℕ → ℕ
 to one_byte T p = behind T p
@@ -106,3 +108,4 @@ to in_backquotes_on T p = next_in_backquotes T p
 to blanks T p = past_blanks T p
 to a_comment_on T p = past_comment T p
 to the_reserved T p = past_reserved T p
+to the_digits T p = past_digits T p

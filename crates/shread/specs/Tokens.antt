@@ -7,8 +7,10 @@ use Rattle.shread.specs.declared.token.Reserved.{Reserved}
 use Rattle.shread.specs.declared.token.Reserved.TheVariants as reserved
 use Rattle.shread.specs.declared.token.Token.{Token}
 use Rattle.shread.specs.declared.token.Token.TheVariants as tokens
+use Rattle.shtree.specs.declared.tree.RedirectOperator.{RedirectOperator}
+use Rattle.shtree.specs.declared.tree.RedirectOperator.TheVariants as redirects
 use Rattle.shread.specs.Text.{is_newline}
-use Rattle.shread.specs.Classes.{is_operator, is_digit, is_letter, is_name}
+use Rattle.shread.specs.Classes.{is_digit, is_letter, is_name}
 use Rattle.shread.specs.Bytes.{byte_at, behind, stands, stands_in, ends_word, past, past_blanks, is_broken_at}
 
 -- ---- words
@@ -48,6 +50,10 @@ begins_assignment T p = stands_in is_letter T p && stands T (past is_name T p) 6
 unfoldable pub is_name_at : List ℕ → ℕ → Bool
 is_name_at T p = stands_in is_letter T p && ends_word T (past is_name T p)
 
+-- the place behind the digits that stand at p
+unfoldable pub past_digits : List ℕ → ℕ → ℕ
+past_digits T p = past is_digit T p
+
 -- digits that `<` or `>` follows stand at p (XCU 2.10.1, rule 2)
 unfoldable pub is_number : List ℕ → ℕ → Bool
 is_number T p = stands_in is_digit T p && (stands T (past is_digit T p) 60 || stands T (past is_digit T p) 62)
@@ -70,7 +76,18 @@ word_by Command T p = first_word (begins_assignment T p) (reserved_at T p)
 word_by Prefix T p = word_of (begins_assignment T p)
 word_by Suffix T p = tokens.Word
 
--- by the byte at p, or none; of two operators the longer one
+-- The operator of a redirection that begins with `<`, or with `>`; what stands behind that byte stands at p (XCU 2.7).
+unfoldable pub less_at : List ℕ → ℕ → RedirectOperator
+less_at T p = if stands T p 60 then (if stands T (behind T p) 45 then redirects.HereStripped else redirects.Here)
+    else (if stands T p 38 then redirects.DuplicateInput
+    else (if stands T p 62 then redirects.ReadWrite else redirects.Input))
+
+unfoldable pub greater_at : List ℕ → ℕ → RedirectOperator
+greater_at T p = if stands T p 62 then redirects.Append
+    else (if stands T p 38 then redirects.DuplicateOutput
+    else (if stands T p 124 then redirects.Clobber else redirects.Output))
+
+-- by the byte at p, or none; of several operators the longest one
 abbrev pub token_of : Position → List ℕ → ℕ → Option ℕ → Token
 token_of position T p None = tokens.End
 token_of position T p (Some b) = if is_newline b then tokens.Newline
@@ -79,9 +96,10 @@ token_of position T p (Some b) = if is_newline b then tokens.Newline
     else (if b == 124 then (if stands T (behind T p) 124 then tokens.OrIf else tokens.Pipe)
     else (if b == 40 then tokens.OpenParen
     else (if b == 41 then tokens.CloseParen
-    else (if is_operator b then tokens.Operator
+    else (if b == 60 then tokens.Redirect (less_at T (behind T p))
+    else (if b == 62 then tokens.Redirect (greater_at T (behind T p))
     else (if b == 35 then tokens.Comment
-    else (if is_number T p then tokens.Number else word_by position T p))))))))
+    else (if is_number T p then tokens.Number else word_by position T p)))))))))
 
 -- no token begins here
 abbrev pub is_end : Token → Bool

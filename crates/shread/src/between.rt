@@ -104,7 +104,7 @@ impl<'a, S: Source> Cursor<'a, S> {
         ensures within { IfOk result (λ fault. fault.at ≤ end_of S.bytes self.old) }
         ensures same { Stays self.old self.new }
     {
-        if let Some(_) = next.token.behind_item() {
+        if next.token.begins_word() {
             let at = self.origin + self.at;
             self.pass_word(alloc, room)?;
             return Ok(Fault {

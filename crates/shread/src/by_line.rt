@@ -33,7 +33,7 @@ const LINES: &[u8] = br###"
 // any place begins a line: what stands before it counts nothing
 ("a\n;b", 3, "[0-1] to 4") ("a b", 1, "[1-2] to 3") ("a \\\nb", 2, "[2-3] to 5") ("a \\\nb", 3, "blank to 4, ended")
 ("ab=1", 1, "[=0-3] to 4") ("a=1 b", 2, "[0-1 2-3] to 5") ("xfi", 1, "fault 11 at 0 to 3") ("a fi", 2, "fault 11 at 0 to 4")
-("a#b", 1, "#0-2 to 3") ("a9<", 1, "fault 11 at 0 to 3") ("\\;", 1, "fault 11 at 0 to 2") ("'a;b'", 3, "fault 1 at 1 to 5")
+("a#b", 1, "#0-2 to 3") ("a9<", 1, "fault 12 at 2 to 3") ("\\;", 1, "fault 11 at 0 to 2") ("'a;b'", 3, "fault 1 at 1 to 5")
 ("$$(a)", 1, "[0-4$0-4([2-3])] to 5") ("$(a\nb)\nc", 0, "[0-6$0-6([2-3] [4-5])] to 7, ended") ("x\n$(a\n#b\n)", 2, "[0-8$0-8([2-3] #4-6)] to 10") ("x\na $(b", 2, "fault 7 at 2 to 7") ("xif", 1, "fault 12 at 2 to 3") ("{ a\n}\nb", 0, "{0-5 [2-3]} to 6, ended")
 ("{ a\n}\nb", 2, "[0-1] to 4, ended") ("{ a\n}\nb", 4, "fault 11 at 0 to 7") ("a;(b\n\nc)\nd", 0, "[0-1] (2-8 [3-4] ~[6-7]) to 9, ended") ("#a;b\nc", 3, "[0-1] to 5, ended")
 // all lines of a script

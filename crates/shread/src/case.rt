@@ -57,7 +57,7 @@ impl<'a, S: Source> Cursor<'a, S> {
         ensures onward { IfOk result (λ word. self.old.at ≤ self.new.at) }
         ensures same { Stays self.old self.new }
     {
-        if !next.token.begins_simple() {
+        if !next.token.begins_word() {
             return Err(Stop::Wrong(self.what_is_wrong(alloc, next, room)?));
         }
         let start = self.at;
@@ -112,7 +112,7 @@ impl<'a, S: Source> Cursor<'a, S> {
     {
         self.bump();
         *next = self.next_token(Position::Suffix);
-        if !next.token.begins_simple() {
+        if !next.token.begins_word() {
             return Err(Stop::Wrong(self.what_is_wrong(alloc, next, room)?));
         }
         self.pattern(alloc, next, patterns, room)

@@ -1,9 +1,11 @@
 //! Commands, and the simple ones among them (XCU 2.9, 2.9.1).
-ghost use Rattle.std.specs.Prelude.{◌≡◌, ◌≤◌, map, IfOk, Some};
+ghost use Rattle.std.specs.Prelude.{◌≡◌, ◌<◌, ◌≤◌, false, map, IfOk, Some};
+ghost use Rattle.shread.specs.Bytes.{ends_word};
 ghost use Rattle.shread.specs.Clauses.{Onward, Reads, Shows, Stays, text_of};
-ghost use Rattle.shread.specs.Commands.{a_command, a_simple, a_worded, as_item, behind_item, item_turn, so_many};
+ghost use Rattle.shread.specs.Commands.{a_command, a_simple, a_worded, an_item, as_item, behind_word, item_turn, so_many};
 ghost use Rattle.shread.specs.declared.token.Position.TheVariants.{Suffix};
-ghost use Rattle.shread.specs.Form.{many, step_if};
+ghost use Rattle.shread.specs.declared.token.Position.{Position};
+ghost use Rattle.shread.specs.Form.{again, many, step_if};
 ghost use Rattle.shtree.specs.Tree.{item};
 ghost use Rattle.shtree.specs.View.{view_command, view_item, view_word};
 ghost use Rattle.shread.specs.Levels.{level};
@@ -27,65 +29,99 @@ fn item_of(word: Word, position: Position, broken: bool) -> Item
 }
 
 impl<'a, S: Source> Cursor<'a, S> {
-    /// One more item of a simple command, if the token here begins one, and the token behind it. Answers whether there was one.
+    /// One more item, which is the word here, and the token behind it, which stands in this position.
     #[cycle(commands)]
-    #[tactic(auto, unfolding(crate::specs::Commands::item_turn, crate::specs::Commands::an_item, crate::specs::Commands::next_token))]
-    fn item(
+    #[tactic(auto, unfolding(crate::specs::Commands::an_item, crate::specs::Commands::next_token))]
+    pub(crate) fn item(
         &mut self,
         alloc: Global,
         next: &mut Next,
         items: &mut Vec<Item>,
+        position: Position,
         room: usize,
-    ) -> Result<bool, Stop>
-        requires shows { Shows next.old.token (text_of S.bytes self.old) self.old.at }
-        ensures value { Reads S.bytes self.old (item_turn (level room) (so_many (map view_item items.old.items) next.old)) result
-            (λ more. step_if more (so_many (map view_item items.new.items) next.new)) self.new.at }
-        ensures shows { IfOk result (λ more. Shows next.new.token (text_of S.bytes self.old) self.new.at) }
-        ensures onward { IfOk result (Onward self.old.at self.new.at) }
+    ) -> Result<(), Stop>
+        requires { ends_word (text_of S.bytes self.old) self.old.at ≡ false }
+        ensures value { (place : Position) → Reads S.bytes self.old (an_item (level room) (so_many (map view_item items.old.items) place next.old) position) result
+            (λ done. again (so_many (map view_item items.new.items) position next.new)) self.new.at }
+        ensures shows { IfOk result (λ done. Shows next.new.token (text_of S.bytes self.old) self.new.at) }
+        ensures onward { IfOk result (λ done. self.old.at < self.new.at) }
         ensures same { Stays self.old self.new }
     {
-        let Some(position) = next.token.behind_item() else {
-            return Ok(false);
-        };
         let start = self.at;
         let substs = self.pass_word(alloc, room)?;
         if !self.keep {
             *next = self.next_token(position);
-            return Ok(true);
+            return Ok(());
         }
         let word = self.word_from(start, substs);
         let broken = !items.is_empty() && next.broken;
         *next = self.next_token(position);
         // A command of one word takes room for no more.
-        if items.is_empty() && next.token.behind_item().is_none() {
+        if items.is_empty() && !next.token.begins_simple() {
             items.reserve_exact(1)?;
         }
         items.push(item_of(word, position, broken))?;
-        Ok(true)
+        Ok(())
     }
 
-    /// The items of the simple command that the token here begins. `next` is that token, and then the one behind them.
+    /// One more item of a simple command, if the token here, which stands in this position, begins one, and the token behind it.
+    /// Answers whether there was one.
     #[cycle(commands)]
-    #[tactic(auto, using(crate::proofs::Turns::many_again, crate::proofs::Turns::many_done, crate::proofs::Turns::many_stop))]
-    pub(crate) fn items(
+    #[tactic(auto, unfolding(crate::specs::Commands::item_turn))]
+    fn next_item(
         &mut self,
         alloc: Global,
         next: &mut Next,
         items: &mut Vec<Item>,
+        place: &mut Position,
+        room: usize,
+    ) -> Result<bool, Stop>
+        requires shows { Shows next.old.token (text_of S.bytes self.old) self.old.at }
+        ensures value { Reads S.bytes self.old (item_turn (level room) (so_many (map view_item items.old.items) place.old next.old)) result
+            (λ more. step_if more (so_many (map view_item items.new.items) place.new next.new)) self.new.at }
+        ensures shows { IfOk result (λ more. Shows next.new.token (text_of S.bytes self.old) self.new.at) }
+        ensures onward { IfOk result (Onward self.old.at self.new.at) }
+        ensures same { Stays self.old self.new }
+    {
+        if let Some(position) = next.token.behind_word() {
+            *place = position;
+            self.item(alloc, next, items, position, room)?;
+            return Ok(true);
+        }
+        if !next.token.begins_redirect() {
+            return Ok(false);
+        }
+        let broken = !items.is_empty() && next.broken;
+        *place = place.behind_redirect();
+        self.redirect(alloc, next, items, broken, *place, room)?;
+        Ok(true)
+    }
+
+    /// The items of a simple command behind these. `next` is the token here, which stands in the position `place`, and then the one
+    /// behind them.
+    #[cycle(commands)]
+    #[tactic(auto, using(crate::proofs::Turns::many_again, crate::proofs::Turns::many_done, crate::proofs::Turns::many_stop))]
+    fn items(
+        &mut self,
+        alloc: Global,
+        next: &mut Next,
+        items: &mut Vec<Item>,
+        place: &mut Position,
         room: usize,
     ) -> Result<(), Stop>
         requires shows { Shows next.old.token (text_of S.bytes self.old) self.old.at }
-        ensures value { Reads S.bytes self.old (many (item_turn (level room)) (so_many (map view_item items.old.items) next.old)) result
-            (λ done. so_many (map view_item items.new.items) next.new) self.new.at }
+        ensures value { Reads S.bytes self.old (many (item_turn (level room)) (so_many (map view_item items.old.items) place.old next.old)) result
+            (λ done. so_many (map view_item items.new.items) place.new next.new) self.new.at }
         ensures shows { IfOk result (λ done. Shows next.new.token (text_of S.bytes self.old) self.new.at) }
         ensures onward { IfOk result (λ done. self.old.at ≤ self.new.at) }
         ensures same { Stays self.old self.new }
     {
-        'turns: while self.item(alloc, next, items, room)? {}
+        'turns: while self.next_item(alloc, next, items, place, room)? {}
         Ok(())
     }
 
-    /// The simple command that has these items so far. `next` is the token behind them, and then the one behind the command.
+    /// The simple command that has these items so far. `next` is the token behind them, which stands in the position `place`, and then
+    /// the one behind the command.
     #[cycle(commands)]
     #[inline(always)]
     #[tactic(auto, unfolding(crate::specs::Commands::a_simple))]
@@ -93,17 +129,18 @@ impl<'a, S: Source> Cursor<'a, S> {
         &mut self,
         alloc: Global,
         mut items: Vec<Item>,
+        mut place: Position,
         next: &mut Next,
         room: usize,
     ) -> Result<Command, Stop>
         requires shows { Shows next.old.token (text_of S.bytes self.old) self.old.at }
-        ensures value { Reads S.bytes self.old (a_simple (level room) (so_many (map view_item items.items) next.old)) result
+        ensures value { Reads S.bytes self.old (a_simple (level room) (so_many (map view_item items.items) place next.old)) result
             (λ command. (view_command command, next.new)) self.new.at }
         ensures shows { IfOk result (λ command. Shows next.new.token (text_of S.bytes self.old) self.new.at) }
         ensures onward { IfOk result (λ command. self.old.at ≤ self.new.at) }
         ensures same { Stays self.old self.new }
     {
-        self.items(alloc, next, &mut items, room)?;
+        self.items(alloc, next, &mut items, &mut place, room)?;
         Ok(simple_of(items))
     }
 
@@ -112,7 +149,7 @@ impl<'a, S: Source> Cursor<'a, S> {
     #[tactic(auto, unfolding(crate::specs::Commands::a_worded, crate::specs::Commands::next_token))]
     fn worded(&mut self, alloc: Global, next: &mut Next, room: usize) -> Result<Command, Stop>
         requires shows { Shows next.old.token (text_of S.bytes self.old) self.old.at }
-        requires word { behind_item next.old.token ≡ Some Suffix }
+        requires word { behind_word next.old.token ≡ Some Suffix }
         ensures value { Reads S.bytes self.old (a_worded (level room)) result
             (λ command. (view_command command, next.new)) self.new.at }
         ensures shows { IfOk result (λ command. Shows next.new.token (text_of S.bytes self.old) self.new.at) }
@@ -129,12 +166,12 @@ impl<'a, S: Source> Cursor<'a, S> {
         let mut items = Vec::new(alloc);
         if self.keep {
             // A command of one word takes room for no more.
-            if next.token.behind_item().is_none() {
+            if !next.token.begins_simple() {
                 items.reserve_exact(1)?;
             }
             items.push(argument_of(word, false))?;
         }
-        self.simple(alloc, items, next, room)
+        self.simple(alloc, items, Position::Suffix, next, room)
     }
 
     /// The command that the token here begins.
@@ -156,7 +193,9 @@ impl<'a, S: Source> Cursor<'a, S> {
     {
         match next.token {
             Token::Word => self.worded(alloc, next, room),
-            Token::Assignment => self.simple(alloc, Vec::new(alloc), next, room),
+            Token::Assignment | Token::Number | Token::Redirect(_) => {
+                self.simple(alloc, Vec::new(alloc), Position::Command, next, room)
+            }
             _ => self.compound_by(alloc, next, room),
         }
     }

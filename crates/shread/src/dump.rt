@@ -4,6 +4,8 @@
 //
 //   [S-E S-E]    a simple command and its items; an item has `=` before it where it is an assignment, and `^` before that
 //                where it is broken
+//   S-E>S-E:W    an item that is a redirection: the number, where it has one, the text and the span of its operator, and its word;
+//                those of a compound command stand behind it
 //   {S-E ..}     a group and its entries; so is (S-E ..), a subshell
 //   <S-E if .. then .. elif .. then .. else ..>, <S-E while .. do ..>, <S-E until .. do ..>
 //   <S-E for W in I I do ..>    its name, and its words where `in` stands; an item that is broken has `^` before it
@@ -23,7 +25,7 @@
 use crate::{Fault, Line, LineKind, Reader, Source};
 use shtree::{
     AndOr, AndOrOperator, Branch, CaseItem, Command, Comment, Compound, Content, Entry, Form, Item,
-    ItemContent, Join, List, Pipeline, Span, Word,
+    ItemContent, Join, List, Pipeline, RedirectOperator, Span, Word,
 };
 use std::alloc::Global;
 use std::test::Fail;
@@ -33,9 +35,18 @@ fn dump_span(text: &mut String, before: &str, span: Span) -> Result<(), Fail> {
     Ok(())
 }
 
-/// What no row of the grammar reads yet.
-fn unread() -> Result<(), Fail> {
-    Err(Fail::new("a node that is not read yet"))
+fn operator_text(operator: RedirectOperator) -> &'static str {
+    match operator {
+        RedirectOperator::Input => "<",
+        RedirectOperator::Output => ">",
+        RedirectOperator::Here => "<<",
+        RedirectOperator::Append => ">>",
+        RedirectOperator::DuplicateInput => "<&",
+        RedirectOperator::DuplicateOutput => ">&",
+        RedirectOperator::ReadWrite => "<>",
+        RedirectOperator::HereStripped => "<<-",
+        RedirectOperator::Clobber => ">|",
+    }
 }
 
 fn dump_join(text: &mut String, operator: &str, join: &Join) -> Result<(), Fail> {
@@ -75,7 +86,14 @@ fn dump_item(text: &mut String, item: &Item) -> Result<(), Fail> {
     match &item.what {
         ItemContent::Assign(word) => dump_word(text, "=", word),
         ItemContent::Word(word) => dump_word(text, "", word),
-        ItemContent::Redirect(_) => unread(),
+        ItemContent::Redirect(redirect) => {
+            if let Some(number) = redirect.number {
+                dump_span(text, "", number)?;
+            }
+            text.push_str(operator_text(redirect.operator))?;
+            dump_span(text, "", redirect.span)?;
+            dump_word(text, ":", &redirect.word)
+        }
     }
 }
 
@@ -175,7 +193,7 @@ fn dump_case_item(text: &mut String, item: &CaseItem) -> Result<(), Fail> {
     Ok(())
 }
 
-/// A compound command. No redirection behind one is read yet.
+/// A compound command, and the redirections behind it.
 #[cycle(dump)]
 fn dump_compound(text: &mut String, compound: &Compound) -> Result<(), Fail> {
     let (opener, closer) = match &compound.form {
@@ -185,10 +203,11 @@ fn dump_compound(text: &mut String, compound: &Compound) -> Result<(), Fail> {
     };
     dump_span(text, opener, compound.span)?;
     dump_form(text, &compound.form)?;
-    if !compound.redirects.is_empty() {
-        return unread();
-    }
     text.push_str(closer)?;
+    for redirect in &compound.redirects {
+        text.push_str(" ")?;
+        dump_item(text, redirect)?;
+    }
     Ok(())
 }
 

@@ -1,8 +1,10 @@
 //! `for` (XCU 2.9.4.2): its name, the words behind its `in`, and what it runs.
 ghost use Rattle.std.specs.Prelude.{◌≡◌, ◌≤◌, [], map, option_map, IfOk, Some};
-ghost use Rattle.shread.specs.Clauses.{IsRead, Reads, Shows, Stays, text_of};
-ghost use Rattle.shread.specs.Commands.{join_so};
-ghost use Rattle.shread.specs.Compounds.{a_for, a_for_head, a_for_name, a_linebreak, a_sequential_sep, behind_remarks, closed, for_words, headed};
+ghost use Rattle.shread.specs.Clauses.{IsRead, Onward, Reads, Shows, Stays, text_of};
+ghost use Rattle.shread.specs.Commands.{join_so, so_many};
+ghost use Rattle.shread.specs.Compounds.{a_for, a_for_head, a_for_name, a_linebreak, a_sequential_sep, behind_remarks, closed, for_words, headed, word_turn};
+ghost use Rattle.shread.specs.declared.token.Position.TheVariants.{Suffix};
+ghost use Rattle.shread.specs.Form.{many, step_if};
 ghost use Rattle.shread.specs.Levels.{level};
 ghost use Rattle.shtree.specs.Tree.{for_words_of};
 ghost use Rattle.shtree.specs.View.{view_comment, view_form, view_item, view_join, view_list, view_word};
@@ -10,7 +12,7 @@ ghost use Rattle.shtree.specs.View.{view_comment, view_form, view_item, view_joi
 use crate::cursor::Cursor;
 use crate::fault::{FaultKind, Stop};
 use crate::source::Source;
-use crate::token::{Closing, Next, Position};
+use crate::token::{Closing, Next, Position, Token};
 use shtree::make::{comment_entry, for_of, list_of};
 use shtree::{Comment, Form, Item, Join, List, Span, Word};
 use std::alloc::{AllocError, Global};
@@ -44,7 +46,7 @@ impl<'a, S: Source> Cursor<'a, S> {
         ensures onward { IfOk result (λ word. self.old.at ≤ self.new.at) }
         ensures same { Stays self.old self.new }
     {
-        if !next.token.begins_simple() {
+        if !next.token.begins_word() {
             return Err(Stop::Wrong(self.what_is_wrong(alloc, next, room)?));
         }
         let start = self.at;
@@ -96,6 +98,46 @@ impl<'a, S: Source> Cursor<'a, S> {
         Ok(())
     }
 
+    /// One more word behind `in`, if the token here begins one, and the token behind it. Answers whether there was one.
+    #[cycle(commands)]
+    #[tactic(auto, unfolding(crate::specs::Compounds::word_turn))]
+    fn for_word(
+        &mut self,
+        alloc: Global,
+        next: &mut Next,
+        words: &mut Vec<Item>,
+        room: usize,
+    ) -> Result<bool, Stop>
+        requires shows { Shows next.old.token (text_of S.bytes self.old) self.old.at }
+        ensures value { Reads S.bytes self.old (word_turn (level room) (so_many (map view_item words.old.items) Suffix next.old)) result
+            (λ more. step_if more (so_many (map view_item words.new.items) Suffix next.new)) self.new.at }
+        ensures shows { IfOk result (λ more. Shows next.new.token (text_of S.bytes self.old) self.new.at) }
+        ensures onward { IfOk result (Onward self.old.at self.new.at) }
+        ensures same { Stays self.old self.new }
+    {
+        let Token::Word = next.token else {
+            return Ok(false);
+        };
+        self.item(alloc, next, words, Position::Suffix, room)?;
+        Ok(true)
+    }
+
+    /// All of them.
+    #[cycle(commands)]
+    #[tactic(auto, using(crate::proofs::Turns::many_again, crate::proofs::Turns::many_done, crate::proofs::Turns::many_stop))]
+    fn words(&mut self, alloc: Global, next: &mut Next, room: usize) -> Result<Vec<Item>, Stop>
+        requires shows { Shows next.old.token (text_of S.bytes self.old) self.old.at }
+        ensures value { Reads S.bytes self.old (many (word_turn (level room)) (so_many [] Suffix next.old)) result
+            (λ words. so_many (map view_item words.items) Suffix next.new) self.new.at }
+        ensures shows { IfOk result (λ words. Shows next.new.token (text_of S.bytes self.old) self.new.at) }
+        ensures onward { IfOk result (λ words. self.old.at ≤ self.new.at) }
+        ensures same { Stays self.old self.new }
+    {
+        let mut words = Vec::new(alloc);
+        'turns: while self.for_word(alloc, next, &mut words, room)? {}
+        Ok(words)
+    }
+
     /// The `in` here, the words behind it, and what ends them. `next` is set to the token behind that.
     #[cycle(commands)]
     #[tactic(auto, unfolding(crate::specs::Compounds::for_words))]
@@ -114,8 +156,7 @@ impl<'a, S: Source> Cursor<'a, S> {
         ensures same { Stays self.old self.new }
     {
         let _ = self.passed(false, Position::Suffix, next);
-        let mut words = Vec::new(alloc);
-        self.items(alloc, next, &mut words, room)?;
+        let words = self.words(alloc, next, room)?;
         self.sequential_sep(alloc, next, lines, room)?;
         Ok(words)
     }

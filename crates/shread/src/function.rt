@@ -34,7 +34,7 @@ fn under_name(
 }
 
 impl<'a, S: Source> Cursor<'a, S> {
-    /// The compound command that the token here has to open. `next` is that token, and then the one behind it.
+    /// The compound command that the token here has to open, and the redirections behind it. `next` is that token, and then the one behind it.
     #[cycle(commands)]
     pub(crate) fn compound_by(
         &mut self,
@@ -50,7 +50,10 @@ impl<'a, S: Source> Cursor<'a, S> {
         ensures same { Stays self.old self.new }
     {
         match next.token.opener() {
-            Some(opener) => self.compound(alloc, opener, next, room),
+            Some(opener) => {
+                let command = self.compound(alloc, opener, next, room)?;
+                self.redirected(alloc, command, next, room)
+            }
             None => Err(Stop::Wrong(self.what_is_wrong(alloc, next, room)?)),
         }
     }

@@ -39,6 +39,7 @@ mod piece;
 mod pipeline;
 mod plain;
 mod reader;
+mod redirect;
 #[cfg(test)]
 mod refused;
 mod script_lines;

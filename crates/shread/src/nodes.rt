@@ -21,6 +21,7 @@ const OUTLINES: &[u8] = br###"
 ("case a in (x) b;; y) c\nesac\n", "0 27 Case, 10 17 Item, 14 15 Simple, 18 22 Item, 21 22 Simple") ("case a in x)# c\nesac", "0 20 Case, 10 12 Item")
 ("case a in x) b&\nesac|c", "0 22 Pipeline, 0 20 Case, 10 15 Item, 13 14 Simple, 21 22 Simple") ("case a in x) b; (c) # d\nesac", "0 28 Case, 10 19 Item, 13 14 Simple, 16 19 Subshell, 17 18 Simple") ("case a in # b\nesac", "0 18 Case")
 // comments are no part of an outline, nor is what a fault breaks off
+("a >f|{ b; } <g", "0 14 Pipeline, 0 4 Simple, 5 14 Brace, 7 8 Simple") ("f(){ a;} >b", "0 11 Function 0-1, 3 11 Brace, 5 6 Simple") ("2>a", "0 3 Simple")
 ("a | #b\nc", "0 8 Pipeline, 0 1 Simple, 7 8 Simple") ("#a\n", "") ("a\nb;)", "0 1 Simple")
 "###;
 
@@ -36,6 +37,7 @@ const AT: &[u8] = br###"
 ("f() # b\n{ a b;}", 0, "0 15 Function 0-1, 8 15 Brace, 10 13 Simple, 12 13 Word", 12) ("f() # b\n{ a;}", 0, "0 13 Function 0-1, 4 7 Comment", 5) ("f() # b\n{ a;}", 0, "0 13 Function 0-1", 0)
 ("x\ncase a in # b\nc) d;; # e\nesac", 2, "2 31 Case, 7 8 Word", 7) ("x\ncase a in # b\nc) d;; # e\nesac", 2, "2 31 Case, 12 15 Comment", 13) ("x\ncase a in # b\nc) d;; # e\nesac", 2, "2 31 Case, 16 22 Item", 21)
 ("x\ncase a in # b\nc) d;; # e\nesac", 2, "2 31 Case, 16 22 Item, 16 17 Word", 16) ("x\ncase a in # b\nc) d;; # e\nesac", 2, "2 31 Case, 16 22 Item, 19 20 Simple, 19 20 Word", 19) ("x\ncase a in # b\nc) d;; # e\nesac", 2, "2 31 Case, 23 26 Comment", 24)
+("x\na 2>\\\nb c\n", 2, "2 11 Simple, 4 9 Redirect, 8 9 Word", 8) ("x\na 2>\\\nb c\n", 2, "2 11 Simple, 4 9 Redirect", 5) ("(a) >b", 0, "0 6 Subshell, 4 6 Redirect", 4) ("f() (a) >b", 0, "0 10 Function 0-1, 4 10 Subshell, 8 10 Redirect, 9 10 Word", 9)
 ("x\na && b", 2, "2 8 AndOr", 5) ("x\na", 2, "", 0) ("x\n\n", 2, "", 2)
 "###;
 

@@ -15,7 +15,7 @@ use std::test::Fail;
 
 /// A line that the reader grows for in several places: its second command and its comment come late.
 const TEXT: &[u8] =
-    b"\na=1 'b' $c \"\" d$(n) e; if f|g;then case o in p|v) q;;esac;elif i&&n() { j;};then for r in s;do t;done;fi & # l\nm\n";
+    b"\na=1 'b' $c \"\" d$(n) e; if f|g;then case o in p|v) q;;esac;elif i&&n() { j;};then for r in s;do t;done >o;fi 2>p >q & # l\nm\n";
 
 /// Asks for the refusal of the nth growth from here on, by a request that no allocator grants.
 fn refuse(alloc: Global, nth: usize) {
@@ -60,8 +60,8 @@ fn begun(alloc: Global) -> Result<Reader, Fail> {
 /// Whether the second line is read as it stands there, and counted.
 fn reads_line(reader: &mut Reader) -> Result<bool, ReadError> {
     let line = reader.read_line(&Flat::new(TEXT), 1)?;
-    let is_whole = count(&line) == 2 && line.next == 112 && line.ended;
-    Ok(is_whole && reader.meter() == 112)
+    let is_whole = count(&line) == 2 && line.next == 122 && line.ended;
+    Ok(is_whole && reader.meter() == 122)
 }
 
 #[test]
@@ -88,7 +88,7 @@ fn read_line(rt: HostRuntime) -> Result<(), Fail> {
 fn reads_script(reader: &mut Reader) -> Result<bool, ReadError> {
     let script = reader.read_script(&Flat::new(TEXT))?;
     let is_whole = script.list.entries.len() == 3 && script.fault.is_none();
-    Ok(is_whole && reader.meter() == 115)
+    Ok(is_whole && reader.meter() == 125)
 }
 
 #[test]

@@ -3,14 +3,14 @@ ghost use Rattle.std.specs.Prelude.{◌≡◌, ◌<◌, ◌≤◌, [], ◌∷◌
 ghost use Rattle.shread.specs.Bytes.{past_blanks, past_continuations};
 ghost use Rattle.shread.specs.Classes.{in_class};
 ghost use Rattle.shread.specs.Clauses.{IsRead, Shows, Stays, text_of};
-ghost use Rattle.shread.specs.Commands.{and_or_operator_of, begins_pipeline, begins_simple, behind_item, opener_of, separator_of};
+ghost use Rattle.shread.specs.Commands.{and_or_operator_of, begins_pipeline, begins_redirect, begins_simple, begins_word, behind_redirect, behind_word, opener_of, redirect_operator_of, separator_of};
 ghost use Rattle.shread.specs.Compounds.{begins_pattern, behind_opener, is_closing};
-ghost use Rattle.shread.specs.Tokens.{begins_assignment, first_of_words, is_end, is_name_at, is_number, is_word_at, next_at, past_reserved, reserved_at, token_at, word_by};
+ghost use Rattle.shread.specs.Tokens.{begins_assignment, first_of_words, greater_at, is_end, is_name_at, is_number, is_word_at, less_at, next_at, past_digits, past_reserved, reserved_at, token_at, word_by};
 
 use crate::cursor::Cursor;
 use crate::plain::{begins_a_word, ends_words, is_in_names};
 use crate::source::Source;
-use shtree::AndOrOperator;
+use shtree::{AndOrOperator, RedirectOperator};
 
 /// What begins at a place that no blank stands at (XCU 2.3, 2.10.1).
 #[derive(Clone, Copy)]
@@ -34,8 +34,8 @@ pub enum Token {
     OpenParen,
     /// `)`
     CloseParen,
-    /// Any other operator. No row of the grammar takes one yet.
-    Operator,
+    /// The operator of a redirection.
+    Redirect(RedirectOperator),
     /// A `#` and what follows it on its line; it belongs to the newline, or the end, behind it.
     Comment,
     /// Digits before `<` or `>`: the number of a redirection.
@@ -49,10 +49,10 @@ pub enum Token {
 }
 
 impl Token {
-    /// The position behind the item of a simple command that this token begins, if it begins one.
+    /// The position behind the word that this token begins, if it begins one.
     #[inline(always)]
-    pub(crate) fn behind_item(self) -> Option<Position>
-        ensures { result ≡ behind_item self }
+    pub(crate) fn behind_word(self) -> Option<Position>
+        ensures { result ≡ behind_word self }
     {
         match self {
             Token::Assignment => Some(Position::Prefix),
@@ -61,12 +61,39 @@ impl Token {
         }
     }
 
+    /// Whether a word begins with this token, an assignment among them.
+    #[inline(always)]
+    pub(crate) fn begins_word(self) -> bool
+        ensures { result ≡ begins_word self }
+    {
+        self.behind_word().is_some()
+    }
+
+    /// The operator of a redirection that this token is, if it is one.
+    #[inline(always)]
+    pub(crate) fn redirect_operator(self) -> Option<RedirectOperator>
+        ensures { result ≡ redirect_operator_of self }
+    {
+        match self {
+            Token::Redirect(operator) => Some(operator),
+            _ => None,
+        }
+    }
+
+    /// Whether a redirection begins with this token: its number or its operator.
+    #[inline(always)]
+    pub(crate) fn begins_redirect(self) -> bool
+        ensures { result ≡ begins_redirect self }
+    {
+        matches!(self, Token::Number | Token::Redirect(_))
+    }
+
     /// Whether a simple command begins with this token.
     #[inline(always)]
     pub(crate) fn begins_simple(self) -> bool
         ensures { result ≡ begins_simple self }
     {
-        self.behind_item().is_some()
+        self.begins_word() || self.begins_redirect()
     }
 
     /// Whether the first pattern of an item of a `case` begins with this token.
@@ -76,7 +103,7 @@ impl Token {
         match self {
             Token::Reserved(Reserved::Esac) => false,
             Token::Reserved(_) => true,
-            _ => self.begins_simple(),
+            _ => self.begins_word(),
         }
     }
 
@@ -228,10 +255,10 @@ pub enum Closing {
 pub enum Position {
     /// Where a command may begin: a word may be reserved, or an assignment.
     Command,
-    /// Behind an assignment: a word may be one more.
+    /// Behind an assignment, or a redirection, before the command's name: a word may be one more assignment.
     Prefix,
-    /// Behind the command's name: a word is an argument. So is one behind `for`, behind its `in`, behind `case` and behind a pattern:
-    /// none is reserved.
+    /// Behind the command's name: a word is an argument. So is one behind the operator of a redirection, behind `for`, behind its `in`,
+    /// behind `case` and behind a pattern: none is reserved.
     Suffix,
 }
 
@@ -267,6 +294,18 @@ impl Class {
             Class::Blank => byte == b' ' || byte == b'\t',
             Class::Digit => byte.is_ascii_digit(),
             Class::Name => is_in_names(byte),
+        }
+    }
+}
+
+impl Position {
+    /// The position behind a redirection that stands here.
+    pub(crate) fn behind_redirect(self) -> Position
+        ensures { result ≡ behind_redirect self }
+    {
+        match self {
+            Position::Suffix => Position::Suffix,
+            Position::Command | Position::Prefix => Position::Prefix,
         }
     }
 }
@@ -405,6 +444,17 @@ impl<'a, S: Source> Cursor<'a, S> {
         self.at = self.past(self.behind(self.at), Class::Name);
     }
 
+    /// Passes the digits here.
+    #[tactic(auto, unfolding(crate::specs::Tokens::past_digits))]
+    pub(crate) fn pass_digits(&mut self)
+        requires { self.old.at ≤ length (text_of S.bytes self.old) }
+        ensures value { self.new.at ≡ past_digits (text_of S.bytes self.old) self.old.at }
+        ensures onward { self.old.at ≤ self.new.at }
+        ensures same { Stays self.old self.new }
+    {
+        self.at = self.past(self.at, Class::Digit);
+    }
+
     /// Whether a NAME and `=` stand at a place. The `=` is asked for first, since most words have none.
     #[inline(always)]
     #[tactic(auto, unfolding(crate::specs::Tokens::begins_assignment, crate::specs::Bytes::stands_in))]
@@ -442,6 +492,44 @@ impl<'a, S: Source> Cursor<'a, S> {
         }
         let end = self.past(at, Class::Digit);
         self.stands(end, b'<') || self.stands(end, b'>')
+    }
+
+    /// The operator of a redirection that begins with `<`; what stands behind that is at a place.
+    #[tactic(auto, unfolding(crate::specs::Tokens::less_at))]
+    fn less(&self, at: usize) -> RedirectOperator
+        requires { at ≤ length (text_of S.bytes self.now) }
+        ensures { result ≡ less_at (text_of S.bytes self.now) at }
+    {
+        if self.stands(at, b'<') {
+            if self.stands(self.behind(at), b'-') {
+                RedirectOperator::HereStripped
+            } else {
+                RedirectOperator::Here
+            }
+        } else if self.stands(at, b'&') {
+            RedirectOperator::DuplicateInput
+        } else if self.stands(at, b'>') {
+            RedirectOperator::ReadWrite
+        } else {
+            RedirectOperator::Input
+        }
+    }
+
+    /// The same of one that begins with `>`.
+    #[tactic(auto, unfolding(crate::specs::Tokens::greater_at))]
+    fn greater(&self, at: usize) -> RedirectOperator
+        requires { at ≤ length (text_of S.bytes self.now) }
+        ensures { result ≡ greater_at (text_of S.bytes self.now) at }
+    {
+        if self.stands(at, b'>') {
+            RedirectOperator::Append
+        } else if self.stands(at, b'&') {
+            RedirectOperator::DuplicateOutput
+        } else if self.stands(at, b'|') {
+            RedirectOperator::Clobber
+        } else {
+            RedirectOperator::Output
+        }
     }
 
     /// What the word at a place is in this position of a command.
@@ -501,7 +589,8 @@ impl<'a, S: Source> Cursor<'a, S> {
             }
             Some(b'(') => Token::OpenParen,
             Some(b')') => Token::CloseParen,
-            Some(b'<' | b'>') => Token::Operator,
+            Some(b'<') => Token::Redirect(self.less(self.behind(at))),
+            Some(b'>') => Token::Redirect(self.greater(self.behind(at))),
             Some(b'#') => Token::Comment,
             Some(b'0'..=b'9') if self.is_number(at) => Token::Number,
             Some(_) => self.word_token(at, position),

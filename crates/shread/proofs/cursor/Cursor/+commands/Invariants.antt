@@ -1,7 +1,8 @@
 use Rattle.std.proofs.Common.{◌≡◌, ◌≤◌, ◌+◌, ◌*◌, ◌-◌, [], length, map}
+use Rattle.shread.specs.declared.token.Position.TheVariants.{Suffix, Command as AsCommand}
 use Rattle.shread.specs.Clauses.{Shows, Stays, reads, reads_at, text_of}
-use Rattle.shread.specs.Commands.{item_turn, join_pipeline, joined_so, pipe_turn, piped, so_many}
-use Rattle.shread.specs.Compounds.{branched, elif_turn, pattern_turn, patterned, case_turn}
+use Rattle.shread.specs.Commands.{item_turn, join_pipeline, joined_so, pipe_turn, piped, redirect_turn, so_many}
+use Rattle.shread.specs.Compounds.{branched, elif_turn, pattern_turn, patterned, case_turn, word_turn}
 use Rattle.shread.specs.Form.{many}
 use Rattle.shread.specs.Levels.{level}
 use Rattle.shread.specs.Listed.{view_cases, view_listed}
@@ -36,11 +37,35 @@ decreases-item g l = 64 * l.room + 5
 abbrev pub decreases-pattern : goal.decreases-pattern
 decreases-pattern g l = 64 * l.room + 5
 
+abbrev pub decreases-target : goal.decreases-target
+decreases-target g l = 64 * l.room + 6
+
+abbrev pub decreases-redirect : goal.decreases-redirect
+decreases-redirect g l = 64 * l.room + 7
+
+abbrev pub decreases-next_redirect : goal.decreases-next_redirect
+decreases-next_redirect g l = 64 * l.room + 8
+
+abbrev pub decreases-redirects : goal.decreases-redirects
+decreases-redirects g l = 64 * l.room + 9
+
+abbrev pub decreases-redirected : goal.decreases-redirected
+decreases-redirected g l = 64 * l.room + 10
+
+abbrev pub decreases-next_item : goal.decreases-next_item
+decreases-next_item g l = 64 * l.room + 8
+
+abbrev pub decreases-for_word : goal.decreases-for_word
+decreases-for_word g l = 64 * l.room + 6
+
+abbrev pub decreases-words : goal.decreases-words
+decreases-words g l = 64 * l.room + 7
+
 abbrev pub decreases-closing : goal.decreases-closing
 decreases-closing g l = 64 * l.room + 6
 
 abbrev pub decreases-items : goal.decreases-items
-decreases-items g l = 64 * l.room + 6
+decreases-items g l = 64 * l.room + 9
 
 abbrev pub decreases-for_name : goal.decreases-for_name
 decreases-for_name g l = 64 * l.room + 6
@@ -58,10 +83,10 @@ abbrev pub decreases-item_end : goal.decreases-item_end
 decreases-item_end g l = 64 * l.room + 6
 
 abbrev pub decreases-simple : goal.decreases-simple
-decreases-simple g l = 64 * l.room + 7
+decreases-simple g l = 64 * l.room + 10
 
 abbrev pub decreases-for_words : goal.decreases-for_words
-decreases-for_words g l = 64 * l.room + 7
+decreases-for_words g l = 64 * l.room + 8
 
 abbrev pub decreases-pattern_turn : goal.decreases-pattern_turn
 decreases-pattern_turn g l = 64 * l.room + 7
@@ -70,7 +95,7 @@ abbrev pub decreases-case_head : goal.decreases-case_head
 decreases-case_head g l = 64 * l.room + 7
 
 abbrev pub decreases-for_head : goal.decreases-for_head
-decreases-for_head g l = 64 * l.room + 8
+decreases-for_head g l = 64 * l.room + 9
 
 abbrev pub decreases-more_patterns : goal.decreases-more_patterns
 decreases-more_patterns g l = 64 * l.room + 8
@@ -205,11 +230,27 @@ decreases-contents-pieces g l = length (text_of g.S.Source.bytes l.self) - l.sel
 
 abbrev pub invariant-items-turns : goal.invariant-items-turns
 invariant-items-turns g l =
-    (reads_at g.S.Source.bytes l.fn.self (many (item_turn (level l.room)) (so_many (map view_item l.items.items) l.next)) l.self.at ≡ reads g.S.Source.bytes l.fn.self (many (item_turn (level l.room)) (so_many (map view_item l.fn.items.items) l.fn.next)))
+    (reads_at g.S.Source.bytes l.fn.self (many (item_turn (level l.room)) (so_many (map view_item l.items.items) l.place l.next)) l.self.at ≡ reads g.S.Source.bytes l.fn.self (many (item_turn (level l.room)) (so_many (map view_item l.fn.items.items) l.fn.place l.fn.next)))
     × Shows l.next.token (text_of g.S.Source.bytes l.fn.self) l.self.at × (l.fn.self.at ≤ l.self.at) × Stays l.fn.self l.self
 
 abbrev pub decreases-items-turns : goal.decreases-items-turns
 decreases-items-turns g l = length (text_of g.S.Source.bytes l.self) - l.self.at
+
+abbrev pub invariant-words-turns : goal.invariant-words-turns
+invariant-words-turns g l =
+    (reads_at g.S.Source.bytes l.fn.self (many (word_turn (level l.room)) (so_many (map view_item l.words.items) Suffix l.next)) l.self.at ≡ reads g.S.Source.bytes l.fn.self (many (word_turn (level l.room)) (so_many [] Suffix l.fn.next)))
+    × Shows l.next.token (text_of g.S.Source.bytes l.fn.self) l.self.at × (l.fn.self.at ≤ l.self.at) × Stays l.fn.self l.self
+
+abbrev pub decreases-words-turns : goal.decreases-words-turns
+decreases-words-turns g l = length (text_of g.S.Source.bytes l.self) - l.self.at
+
+abbrev pub invariant-redirects-turns : goal.invariant-redirects-turns
+invariant-redirects-turns g l =
+    (reads_at g.S.Source.bytes l.fn.self (many (redirect_turn (level l.room)) (so_many (map view_item l.redirects.items) AsCommand l.next)) l.self.at ≡ reads g.S.Source.bytes l.fn.self (many (redirect_turn (level l.room)) (so_many [] AsCommand l.fn.next)))
+    × Shows l.next.token (text_of g.S.Source.bytes l.fn.self) l.self.at × (l.fn.self.at ≤ l.self.at) × Stays l.fn.self l.self
+
+abbrev pub decreases-redirects-turns : goal.decreases-redirects-turns
+decreases-redirects-turns g l = length (text_of g.S.Source.bytes l.self) - l.self.at
 
 abbrev pub invariant-pipes-turns : goal.invariant-pipes-turns
 invariant-pipes-turns g l =

@@ -1,0 +1,188 @@
+//! Redirections (XCU 2.7): among the items of a simple command, and behind a compound command.
+ghost use Rattle.std.specs.Prelude.{◌≡◌, ◌<◌, ◌≤◌, [], false, map, IfOk, Ok as Done, true};
+ghost use Rattle.shread.specs.Bytes.{behind};
+ghost use Rattle.shread.specs.Clauses.{IsRead, Onward, Reads, reads, Shows, Stays, text_of};
+ghost use Rattle.shread.specs.Commands.{a_number, a_target, an_operator, is_long, one_redirect, redirect_turn, redirected, so_many, takes_here};
+ghost use Rattle.shread.specs.declared.token.Position.TheVariants.{Command as AsCommand};
+ghost use Rattle.shread.specs.Form.{again, many, step_if};
+ghost use Rattle.shread.specs.Levels.{level};
+ghost use Rattle.shread.specs.Sights.{standing};
+ghost use Rattle.shtree.specs.View.{view_command, view_item, view_word};
+
+use crate::cursor::Cursor;
+use crate::fault::{FaultKind, Stop};
+use crate::source::Source;
+use crate::token::{Next, Position, Token};
+use shtree::make::{redirect_of, redirection_of, with_redirects};
+use shtree::{Command, Item, RedirectOperator, Span, Word};
+use std::alloc::Global;
+
+/// Whether a here-document belongs to it.
+fn takes_here(operator: RedirectOperator) -> bool
+    ensures { result ≡ takes_here operator }
+{
+    matches!(
+        operator,
+        RedirectOperator::Here | RedirectOperator::HereStripped
+    )
+}
+
+/// Whether it has two bytes, or more.
+fn is_long(operator: RedirectOperator) -> bool
+    ensures { result ≡ is_long operator }
+{
+    !matches!(operator, RedirectOperator::Input | RedirectOperator::Output)
+}
+
+impl<'a, S: Source> Cursor<'a, S> {
+    /// Passes the number here, if one stands. `next` is the token here, and then the one behind it.
+    #[tactic(auto, unfolding(crate::specs::Commands::a_number, crate::specs::Commands::next_token))]
+    fn number(&mut self, next: &mut Next) -> Option<Span>
+        requires shows { Shows next.old.token (text_of S.bytes self.old) self.old.at }
+        ensures value { reads S.bytes self.old (a_number next.old) ≡ Done ((result, next.new), standing self.new.at) }
+        ensures shows { Shows next.new.token (text_of S.bytes self.old) self.new.at }
+        ensures onward { self.old.at ≤ self.new.at }
+        ensures same { Stays self.old self.new }
+    {
+        let Token::Number = next.token else {
+            return None;
+        };
+        let start = self.at;
+        self.pass_digits();
+        let span = self.span_from(start);
+        *next = self.next_token(Position::Suffix);
+        Some(span)
+    }
+
+    /// Passes the operator here, which takes no here-document.
+    #[tactic(auto, unfolding(crate::specs::Commands::an_operator))]
+    fn operator(&mut self, operator: RedirectOperator) -> Span
+        requires one { IsRead (text_of S.bytes self.old) self.old.at }
+        requires two { is_long operator ≡ true → IsRead (text_of S.bytes self.old) (behind (text_of S.bytes self.old) self.old.at) }
+        ensures value { reads S.bytes self.old (an_operator operator) ≡ Done ((tt, result), standing self.new.at) }
+        ensures onward { self.old.at < self.new.at }
+        ensures same { Stays self.old self.new }
+    {
+        let start = self.at;
+        self.bump();
+        if is_long(operator) {
+            self.bump();
+        }
+        self.span_from(start)
+    }
+
+    /// The word of a redirection, from behind its operator.
+    #[cycle(commands)]
+    #[tactic(auto, unfolding(crate::specs::Commands::a_target, crate::specs::Commands::next_token))]
+    fn target(&mut self, alloc: Global, room: usize) -> Result<Word, Stop>
+        ensures value { Reads S.bytes self.old (a_target (level room)) result view_word self.new.at }
+        ensures onward { IfOk result (λ word. self.old.at ≤ self.new.at) }
+        ensures same { Stays self.old self.new }
+    {
+        let mut next = self.next_token(Position::Suffix);
+        let Token::Word = next.token else {
+            return Err(Stop::Wrong(self.what_is_wrong(alloc, &mut next, room)?));
+        };
+        let start = self.at;
+        let substs = self.pass_word(alloc, room)?;
+        Ok(self.word_from(start, substs))
+    }
+
+    /// The redirection that begins here, as one more of these items, and the token behind it, which stands in this position.
+    #[cycle(commands)]
+    #[tactic(auto, unfolding(crate::specs::Commands::one_redirect, crate::specs::Commands::next_token))]
+    pub(crate) fn redirect(
+        &mut self,
+        alloc: Global,
+        next: &mut Next,
+        items: &mut Vec<Item>,
+        broken: bool,
+        position: Position,
+        room: usize,
+    ) -> Result<(), Stop>
+        requires shows { Shows next.old.token (text_of S.bytes self.old) self.old.at }
+        ensures value { Reads S.bytes self.old (one_redirect (level room) broken position (map view_item items.old.items) next.old) result
+            (λ done. again (so_many (map view_item items.new.items) position next.new)) self.new.at }
+        ensures shows { IfOk result (λ done. Shows next.new.token (text_of S.bytes self.old) self.new.at) }
+        ensures onward { IfOk result (λ done. self.old.at < self.new.at) }
+        ensures same { Stays self.old self.new }
+    {
+        let start = self.at;
+        let number = self.number(next);
+        // Here-documents are not read yet.
+        let operator = match next.token.redirect_operator() {
+            Some(operator) if !takes_here(operator) => operator,
+            _ => return Err(self.wrong_at(FaultKind::Unexpected, start)),
+        };
+        let span = self.operator(operator);
+        let word = self.target(alloc, room)?;
+        if self.keep {
+            let redirection = redirection_of(number, operator, span, word);
+            items.push(redirect_of(Box::new(alloc, redirection)?, broken))?;
+        }
+        *next = self.next_token(position);
+        Ok(())
+    }
+
+    /// One more redirection behind a compound command, if the token here begins one. Answers whether there was one.
+    #[cycle(commands)]
+    #[tactic(auto, unfolding(crate::specs::Commands::redirect_turn))]
+    fn next_redirect(
+        &mut self,
+        alloc: Global,
+        next: &mut Next,
+        redirects: &mut Vec<Item>,
+        room: usize,
+    ) -> Result<bool, Stop>
+        requires shows { Shows next.old.token (text_of S.bytes self.old) self.old.at }
+        ensures value { Reads S.bytes self.old (redirect_turn (level room) (so_many (map view_item redirects.old.items) AsCommand next.old)) result
+            (λ more. step_if more (so_many (map view_item redirects.new.items) AsCommand next.new)) self.new.at }
+        ensures shows { IfOk result (λ more. Shows next.new.token (text_of S.bytes self.old) self.new.at) }
+        ensures onward { IfOk result (Onward self.old.at self.new.at) }
+        ensures same { Stays self.old self.new }
+    {
+        if !next.token.begins_redirect() {
+            return Ok(false);
+        }
+        let broken = next.broken;
+        self.redirect(alloc, next, redirects, broken, Position::Command, room)?;
+        Ok(true)
+    }
+
+    /// All of them.
+    #[cycle(commands)]
+    #[tactic(auto, using(crate::proofs::Turns::many_again, crate::proofs::Turns::many_done, crate::proofs::Turns::many_stop))]
+    fn redirects(&mut self, alloc: Global, next: &mut Next, room: usize) -> Result<Vec<Item>, Stop>
+        requires shows { Shows next.old.token (text_of S.bytes self.old) self.old.at }
+        ensures value { Reads S.bytes self.old (many (redirect_turn (level room)) (so_many [] AsCommand next.old)) result
+            (λ redirects. so_many (map view_item redirects.items) AsCommand next.new) self.new.at }
+        ensures shows { IfOk result (λ redirects. Shows next.new.token (text_of S.bytes self.old) self.new.at) }
+        ensures onward { IfOk result (λ redirects. self.old.at ≤ self.new.at) }
+        ensures same { Stays self.old self.new }
+    {
+        let mut redirects = Vec::new(alloc);
+        'turns: while self.next_redirect(alloc, next, &mut redirects, room)? {}
+        Ok(redirects)
+    }
+
+    /// A compound command with the redirections behind it.
+    #[cycle(commands)]
+    #[tactic(auto, unfolding(crate::specs::Commands::redirected))]
+    pub(crate) fn redirected(
+        &mut self,
+        alloc: Global,
+        command: Command,
+        next: &mut Next,
+        room: usize,
+    ) -> Result<Command, Stop>
+        requires shows { Shows next.old.token (text_of S.bytes self.old) self.old.at }
+        ensures value { Reads S.bytes self.old (redirected (level room) (view_command command, next.old)) result
+            (λ whole. (view_command whole, next.new)) self.new.at }
+        ensures shows { IfOk result (λ whole. Shows next.new.token (text_of S.bytes self.old) self.new.at) }
+        ensures onward { IfOk result (λ whole. self.old.at ≤ self.new.at) }
+        ensures same { Stays self.old self.new }
+    {
+        let redirects = self.redirects(alloc, next, room)?;
+        Ok(with_redirects(command, redirects))
+    }
+}
