@@ -1,16 +1,19 @@
 -- What a shape has so that its printed text is read back, beside its normal form: its words are words wherever they stand, its comments
 -- comments, and no more constructs are open than may be. What was read has it (proofs/Readable); what has it is read back (proofs/ReadBack).
-use Rattle.std.specs.Prelude.{◌≡◌, ℕ, zero, suc, Bool, true, [], ◌∷◌, List as Row, Option, None, Some}
+use Rattle.std.specs.Prelude.{◌≡◌, ℕ, zero, suc, Bool, true, false, ◌&&◌, [], ◌∷◌, List as Row, Option, None, Some}
 use Rattle.shread.specs.declared.token.Position.{Position}
 use Rattle.shread.specs.declared.token.Position.TheVariants.{Command, Prefix, Suffix}
 use Rattle.shread.specs.declared.token.Token.{Token}
-use Rattle.shread.specs.Commands.{begins_simple, behind_item}
+use Rattle.shread.specs.declared.token.Token.TheVariants as tokens
+use Rattle.shread.specs.Classes.{is_digit}
+use Rattle.shread.specs.Commands.{begins_word, behind_redirect, behind_word, takes_here}
 use Rattle.shread.specs.Compounds.{begins_pattern}
 use Rattle.shread.proofs.Elsewhere.{ItemAnywhere, NameAnywhere}
 use Rattle.shread.proofs.NamesBefore.{NameBefore}
 use Rattle.shread.proofs.CommentsElsewhere.{CommentAnywhere}
+use Rattle.shtree.specs.declared.tree.RedirectOperator.{RedirectOperator}
 use Rattle.shtree.specs.Shape.{Text, Shape}
-use Rattle.shtree.specs.Tree.{ForWordsOf, no_in, in_words, AWordOf, EntriesOf, no_entry, more_entries, AnEntryOf, entry, AContentOf, command, remark, AnAndOrOf, and_or, AndOrPartsOf, no_and_or, more_and_or, APipelineOf, pipeline, PipelinePartsOf, no_pipe, more_pipes, ACommandOf, simple, compound, function, ACompoundOf, formed, AFormOf, brace, subshell, if_then, while_do, until_do, for_in, case_in, ABranchOf, branch, BranchesOf, no_branch, more_branches, OtherwiseOf, no_else, otherwise, ItemsOf, no_item, more_items, AnItemOf, item, AnItemContentOf, assign, argument, word, SubstsOf, CaseItemsOf, no_case, more_cases, ACaseItemOf, case_item, PatternsOf, no_pattern, more_patterns}
+use Rattle.shtree.specs.Tree.{ForWordsOf, no_in, in_words, AWordOf, EntriesOf, no_entry, more_entries, AnEntryOf, entry, AContentOf, command, remark, AnAndOrOf, and_or, AndOrPartsOf, no_and_or, more_and_or, APipelineOf, pipeline, PipelinePartsOf, no_pipe, more_pipes, ACommandOf, simple, compound, function, ACompoundOf, formed, AFormOf, brace, subshell, if_then, while_do, until_do, for_in, case_in, ABranchOf, branch, BranchesOf, no_branch, more_branches, OtherwiseOf, no_else, otherwise, ItemsOf, no_item, more_items, AnItemOf, item, AnItemContentOf, assign, argument, redirect, word, SubstsOf, CaseItemsOf, no_case, more_cases, ACaseItemOf, case_item, PatternsOf, no_pattern, more_patterns}
 
 abbrev pub GoodComments : Row Text → Type 0
 GoodComments [] = Unit {0}
@@ -28,30 +31,65 @@ as_shape _ w = argument w
 abbrev pub an_item_of : Bool → Position → Shape AWordOf → Shape AnItemOf
 an_item_of broken position w = item broken (as_shape position w)
 
--- the items of a simple command from one position to another, where so many constructs may be open
-pub data GoodItems (room : ℕ) : Position → Shape ItemsOf → Position → Type 0 where
-  none_more : {position : Position} → GoodItems room position no_item position
-  one_more : {position next last : Position} {token : Token} {broken : Bool} {t : Text} {ss : Shape SubstsOf} {is : Shape ItemsOf} → behind_item token ≡ Some next → ItemAnywhere room position token t ss
-      → GoodItems room next is last → GoodItems room position (more_items (an_item_of broken next (word t ss)) is) last
+-- the number of a redirection: digits
+abbrev pub all_digits : Text → Bool
+all_digits [] = true
+all_digits (b ∷ bs) = is_digit b && all_digits bs
+
+abbrev pub GoodNumber : Option Text → Type 0
+GoodNumber None = Unit {0}
+GoodNumber (Some []) = ⊥
+GoodNumber (Some (b ∷ bs)) = all_digits (b ∷ bs) ≡ true
+
+-- a redirection without a here-document, by its parts
+pub record GoodRedirect (room : ℕ) (number : Option Text) (o : RedirectOperator) (t : Text) (ss : Shape SubstsOf) : Type 0 where
+  pub digits : GoodNumber number
+  pub no_here : takes_here o ≡ false
+  pub reads : ItemAnywhere room Suffix tokens.Word t ss
+
+abbrev pub a_redirect_of : Bool → Option Text → RedirectOperator → Text → Shape SubstsOf → Shape AnItemOf
+a_redirect_of broken number o t ss = item broken (redirect number o tt (word t ss) None)
+
+-- what items are: those of a simple command, the words of a for, the redirections behind a compound command
+pub data Kind : Type 0 where
+  of_command : Kind
+  of_for : Kind
+  of_compound : Kind
+
+-- an item from one position to another, where so many constructs may be open
+pub data GoodItem (room : ℕ) : Kind → Position → Shape AnItemOf → Position → Type 0 where
+  of_word : {position next : Position} {token : Token} {broken : Bool} {t : Text} {ss : Shape SubstsOf} → behind_word token ≡ Some next → ItemAnywhere room position token t ss
+      → GoodItem room of_command position (an_item_of broken next (word t ss)) next
+  of_argument : {broken : Bool} {t : Text} {ss : Shape SubstsOf} → ItemAnywhere room Suffix tokens.Word t ss → GoodItem room of_for Suffix (an_item_of broken Suffix (word t ss)) Suffix
+  of_redirect : {position : Position} {broken : Bool} {number : Option Text} {o : RedirectOperator} {t : Text} {ss : Shape SubstsOf} → GoodRedirect room number o t ss
+      → GoodItem room of_command position (a_redirect_of broken number o t ss) (behind_redirect position)
+  of_redirect_behind : {broken : Bool} {number : Option Text} {o : RedirectOperator} {t : Text} {ss : Shape SubstsOf} → GoodRedirect room number o t ss
+      → GoodItem room of_compound Command (a_redirect_of broken number o t ss) Command
+
+-- items of one kind, from one position to another
+pub data GoodItems (room : ℕ) (kind : Kind) : Position → Shape ItemsOf → Position → Type 0 where
+  none_more : {position : Position} → GoodItems room kind position no_item position
+  one_more : {position next last : Position} {i : Shape AnItemOf} {is : Shape ItemsOf} → GoodItem room kind position i next → GoodItems room kind next is last → GoodItems room kind position (more_items i is) last
 
 abbrev pub SomeItem : Shape ItemsOf → Type 0
 SomeItem no_item = ⊥
 SomeItem (more_items i is) = Unit {0}
 
-abbrev pub NoItems : Shape ItemsOf → Type 0
-NoItems no_item = Unit {0}
-NoItems (more_items i is) = ⊥
-
 -- a simple command
 pub record GoodSimple (room : ℕ) (is : Shape ItemsOf) : Type 0 where
   pub last : Position
-  pub items : GoodItems room Command is last
+  pub items : GoodItems room of_command Command is last
   pub some : SomeItem is
 
 -- the words of a for
 pub record GoodWords (room : ℕ) (is : Shape ItemsOf) : Type 0 where
   pub last : Position
-  pub items : GoodItems room Suffix is last
+  pub items : GoodItems room of_for Suffix is last
+
+-- the redirections behind a compound command
+pub record GoodRedirects (room : ℕ) (is : Shape ItemsOf) : Type 0 where
+  pub last : Position
+  pub items : GoodItems room of_compound Command is last
 
 abbrev pub GoodForWords : ℕ → Shape ForWordsOf → Type 0
 GoodForWords room no_in = Unit {0}
@@ -69,7 +107,7 @@ pub record GoodWord (room : ℕ) (position : Position) (begins : Token → Bool)
 -- the patterns behind the first one
 abbrev pub GoodMorePatterns : ℕ → Shape PatternsOf → Type 0
 GoodMorePatterns room no_pattern = Unit {0}
-GoodMorePatterns room (more_patterns w ws) = GoodWord room Suffix begins_simple w × GoodMorePatterns room ws
+GoodMorePatterns room (more_patterns w ws) = GoodWord room Suffix begins_word w × GoodMorePatterns room ws
 
 abbrev pub GoodPatterns : ℕ → Shape PatternsOf → Type 0
 GoodPatterns room no_pattern = ⊥
@@ -81,7 +119,7 @@ pub record GoodName (room : ℕ) (name : Shape AWordOf) : Type 0 where
   pub ss : Shape SubstsOf
   pub is : name ≡ word t ss
   pub token : Token
-  pub begins : begins_simple token ≡ true
+  pub begins : begins_word token ≡ true
   pub reads : ItemAnywhere room Suffix token t ss
   pub names : NameAnywhere t
 
@@ -118,10 +156,10 @@ abbrev mutual
   GoodCommand zero (function name comments body) = ⊥
   GoodCommand (suc room) (function name comments body) = NameBefore (suc room) name × GoodComments comments × GoodCompound room body
 
-  -- a compound command is open while what it holds is read; redirections are not read yet
+  -- a compound command is open while what it holds is read, and not while its redirections are
   pub GoodCompound : ℕ → Shape ACompoundOf → Type 0
   GoodCompound zero (formed form mark redirects) = ⊥
-  GoodCompound (suc room) (formed form mark redirects) = GoodForm room form × NoItems redirects
+  GoodCompound (suc room) (formed form mark redirects) = GoodForm room form × GoodRedirects (suc room) redirects
 
   pub GoodForm : ℕ → Shape AFormOf → Type 0
   GoodForm room (brace es) = GoodEntries room es
@@ -130,7 +168,7 @@ abbrev mutual
   GoodForm room (while_do b) = GoodBranch room b
   GoodForm room (until_do b) = GoodBranch room b
   GoodForm room (for_in name words body) = GoodName room name × GoodForWords room words × GoodEntries room body
-  GoodForm room (case_in w items tail) = GoodWord room Suffix begins_simple w × GoodCases room items × GoodComments tail
+  GoodForm room (case_in w items tail) = GoodWord room Suffix begins_word w × GoodCases room items × GoodComments tail
 
   pub GoodCases : ℕ → Shape CaseItemsOf → Type 0
   GoodCases room no_case = Unit {0}

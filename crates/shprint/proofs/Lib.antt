@@ -1,5 +1,6 @@
 pub mod ByLine
 pub mod Copying
+pub mod Digits
 pub mod Gives
 pub mod Good
 pub mod ReadBack

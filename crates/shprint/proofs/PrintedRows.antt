@@ -23,32 +23,35 @@ use Rattle.shread.specs.Bytes.{ends, behind, past_continuations, byte_at, past_b
 use Rattle.shread.specs.Comments.{span, comment_at}
 use Rattle.shread.specs.Standing.{is_byte, raw_stands}
 use Rattle.shread.specs.Tokens.{is_end, is_comment, past_reserved, token_of, token_at, next_at}
-use Rattle.shread.specs.Sights.{Given, given, standing, here as the_place, is_a_name, the_token, the_comment, blanks, one_byte, the_reserved, a_comment_on}
-use Rattle.shread.specs.Form.{Spelled, Form, ◌>>◌, by, give, move, leads_on, again, done, many, step_if}
+use Rattle.shread.specs.Sights.{Given, given, standing, here as the_place, is_a_name, the_token, the_comment, blanks, one_byte, the_reserved, the_digits, a_comment_on}
+use Rattle.shread.specs.Form.{Spelled, Form, ◌>>=◌, ◌>>◌, by, bared, Step, give, move, leads_on, again, done, many, step_if}
 use Rattle.shread.specs.Words.{Inner, a_word}
 use Rattle.shread.specs.Levels.{most_open, level}
 use Rattle.shtree.specs.Nodes.{through, word_span}
 use Rattle.shtree.specs.Normal.{is_normal_form, is_normal_else, are_normal_branches, is_normal_branch, is_whole, is_command, holds_command, is_normal_entry, first_not_blank, are_normal, is_normal_and_or, are_normal_and_ors, is_normal_pipeline, are_normal_pipes, first_not_broken, is_normal_join, is_normal_compound, is_normal_command, are_normal_words, are_normal_cases, is_normal_case, are_normal_patterns}
-use Rattle.shread.specs.Compounds.{a_compound, is_open_paren, behind_opener, a_for, a_for_head, a_for_name, a_linebreak, a_sequential_sep, for_words, headed, an_if, a_group, a_form, opener_text, Closed, a_loop, an_else, elif_turn, branched, a_branch, passed, closing, closing_text, is_closing, is_close_paren, under_name, a_function, a_case, a_case_head, a_case_word, begins_pattern, patterned, a_pattern, one_pattern, pattern_turn, a_pattern_list, an_open_bracket, a_body, body_end, item_end, an_item_end, a_double_semicolon, cases_so, one_case, case_turn}
+use Rattle.shread.specs.Compounds.{a_compound, is_open_paren, behind_opener, a_for, a_for_head, a_for_name, a_linebreak, a_sequential_sep, for_words, word_turn, headed, an_if, a_group, a_form, opener_text, Closed, a_loop, an_else, elif_turn, branched, a_branch, passed, closing, closing_text, is_closing, is_close_paren, under_name, a_function, a_case, a_case_head, a_case_word, begins_pattern, patterned, a_pattern, one_pattern, pattern_turn, a_pattern_list, an_open_bracket, a_body, body_end, item_end, an_item_end, a_double_semicolon, cases_so, one_case, case_turn}
 use Rattle.shread.specs.Lines.{a_line, end_of_line}
 use Rattle.shread.specs.Lists.{Listed, list_so, none_listed, one_entry, entry_turn, a_remark, on_line, list_turn, a_list}
-use Rattle.shread.specs.Commands.{Entered, a_semicolon, is_semicolon, an_entry, a_separator, separator_of, told_separator, is_background, an_and_or, one_pipeline, join_pipeline, joined_so, a_bang, a_pipeline, begins_pipeline, and_or_operator_of, is_pipe, piped, one_command, pipe_turn, a_command, a_newline, a_comment, join_turn, join_so, a_join_of, a_join, begins_simple, opener_of, is_newline, is_bang, is_empty, next_token, behind_item, so_many, breaks, as_item, an_item, item_turn, a_simple, is_word, is_paren, a_worded, compound_by, ASeparator, past_separator, is_double_semicolon}
+use Rattle.shread.specs.Commands.{Entered, a_semicolon, is_semicolon, an_entry, a_separator, separator_of, told_separator, is_background, an_and_or, one_pipeline, join_pipeline, joined_so, a_bang, a_pipeline, begins_pipeline, and_or_operator_of, is_pipe, piped, one_command, pipe_turn, a_command, a_newline, a_comment, join_turn, join_so, a_join_of, a_join, begins_simple, opener_of, is_newline, is_bang, is_empty, next_token, pick, Items, behind_word, begins_word, begins_redirect, is_number, redirect_operator_of, takes_here, is_long, a_number, an_operator, operator_by, a_target, one_redirect, behind_redirect, redirect_turn, redirected, so_many, breaks, as_item, an_item, item_turn, a_simple, is_word, is_paren, a_worded, compound_by, ASeparator, past_separator, is_double_semicolon}
 use Rattle.shread.proofs.Places.{must_fail, blanks_low}
 use Rattle.shread.proofs.Anywhere.{WordOf, word_span as spanned}
 use Rattle.shread.proofs.Elsewhere.{follows, ItemAnywhere}
 use Rattle.shread.proofs.CommentsElsewhere.{CommentAnywhere}
 use Rattle.shtree.specs.declared.tree.AndOrOperator.{AndOrOperator}
 use Rattle.shtree.specs.declared.tree.AndOrOperator.TheVariants.{And, Or}
+use Rattle.shtree.specs.declared.tree.RedirectOperator.{RedirectOperator}
+use Rattle.shtree.specs.declared.tree.RedirectOperator.TheVariants as redirects
 use Rattle.shtree.specs.declared.tree.Span.{Span}
-use Rattle.shtree.specs.Spelling.{and_or_text}
-use Rattle.shtree.specs.Shape.{Text, Shape, text_at, shape_of_items, shape_of_item, shape_of_command, shape_of_comments, shape_of_join, shape_of_pipes, shape_of_bang, shape_of_pipeline, shape_of_and_or, shape_of_and_or_parts, shape_of_comment, shape_of_entry, shape_of, shape_of_branch, shape_of_branches, shape_of_else, shape_of_form, shape_of_for_words, shape_of_word, shape_of_compound, shape_of_patterns, shape_of_case, shape_of_cases}
-use Rattle.shtree.specs.Tree.{AWordOf, ForWordsOf, ForWords, no_in, in_words, AJoinOf, AJoin, AnItemOf, AnItem, AWord, ABranchOf, ABranch, branch, BranchesOf, no_branch, more_branches, branches_of, OtherwiseOf, Otherwise, no_else, otherwise, EntriesOf, Entries, no_entry, more_entries, entries_of, AContentOf, remark, AnEntryOf, AnEntry, entry, command, AnAndOr, AnAndOrOf, and_or, AnAndOrPart, and_or_parts_of, APipeline, APipelineOf, pipeline, AndOrPartsOf, no_and_or, more_and_or, PipelinePartsOf, no_pipe, more_pipes, APipelinePart, pipeline_parts_of, ACompoundOf, formed, ACommandOf, ACommand, compound, function, item, AFormOf, AForm, brace, subshell, if_then, while_do, until_do, for_in, case_in, items_of, ItemsOf, no_item, more_items, simple, SubstsOf, no_subst, word, argument, PatternsOf, no_pattern, more_patterns, patterns_of, CaseItemsOf, no_case, more_cases, cases_of, ACaseItemOf, ACaseItem, case_item}
+use Rattle.shtree.specs.Spelling.{and_or_text, redirect_text}
+use Rattle.shtree.specs.Shape.{Text, Shape, bare, bare_at, text_at, shape_of_items, shape_of_item, shape_of_command, shape_of_comments, shape_of_join, shape_of_pipes, shape_of_bang, shape_of_pipeline, shape_of_and_or, shape_of_and_or_parts, shape_of_comment, shape_of_entry, shape_of, shape_of_branch, shape_of_branches, shape_of_else, shape_of_form, shape_of_for_words, shape_of_word, shape_of_compound, shape_of_patterns, shape_of_case, shape_of_cases}
+use Rattle.shtree.specs.Tree.{AWordOf, ForWordsOf, ForWords, no_in, in_words, AJoinOf, AJoin, AnItemOf, AnItem, AWord, ABranchOf, ABranch, branch, BranchesOf, no_branch, more_branches, branches_of, OtherwiseOf, Otherwise, no_else, otherwise, EntriesOf, Entries, no_entry, more_entries, entries_of, AContentOf, remark, AnEntryOf, AnEntry, entry, command, AnAndOr, AnAndOrOf, and_or, AnAndOrPart, and_or_parts_of, APipeline, APipelineOf, pipeline, AndOrPartsOf, no_and_or, more_and_or, PipelinePartsOf, no_pipe, more_pipes, APipelinePart, pipeline_parts_of, ACompoundOf, formed, ACommandOf, ACommand, compound, function, item, AFormOf, AForm, brace, subshell, if_then, while_do, until_do, for_in, case_in, items_of, ItemsOf, no_item, more_items, redirect, with_redirects, simple, SubstsOf, no_subst, word, argument, PatternsOf, no_pattern, more_patterns, patterns_of, CaseItemsOf, no_case, more_cases, cases_of, ACaseItemOf, ACaseItem, case_item}
 use Rattle.shprint.specs.declared.layout.Layout.{Layout}
 use Rattle.shprint.specs.Marks.{text, line_end, Marks, laid, one, step, deeper, lines_between}
-use Rattle.shprint.specs.Printed.{print_for_words, print_word, print_form, print_branch, print_branches, print_else, is_one_line, print_only, print_content, print_entry, print_entries, print_blank, print_background, print_own_comment, print_and_or, print_bang, print_pipeline, print_and_or_parts, print_join, print_pipes, print_compound, print_command, operand_margin, breaks_line, print_comments, print_further_comments, print_gap, print_item, print_items, print_simple, print_function_gap, is_brace, print_cases, print_patterns, print_first_pattern, print_body, print_comment_lines, case_margin}
-use Rattle.shprint.proofs.Tokens.{none_first, end_here, for_here, in_here, if_here, then_here, elif_here, else_here, fi_here, while_here, until_here, do_here, done_here, brace_here, close_brace_here, open_token, close_token, semicolon_token, Keyword, ampersand_token, bang_here, pipe_token, and_token, or_token, first, byte_here, newline_token, start_here, skip, text_here, Gap, Start, all_blank, blank_gap, blanks_gap, broken_gap, no_gap, next_behind, next_one, kind_of, item_no_round, no_word, double_semicolon_token, case_here, esac_here}
+use Rattle.shprint.specs.Printed.{print_for_words, print_word, print_form, print_branch, print_branches, print_else, is_one_line, print_only, print_content, print_entry, print_entries, print_blank, print_background, print_own_comment, print_and_or, print_bang, print_pipeline, print_and_or_parts, print_join, print_pipes, print_compound, print_command, operand_margin, breaks_line, print_comments, print_further_comments, print_gap, print_number, duplicates, would_strip, is_broken_item, print_item, print_items, print_simple, print_function_gap, is_brace, print_cases, print_patterns, print_first_pattern, print_body, print_comment_lines, case_margin}
+use Rattle.shprint.proofs.Tokens.{none_first, end_here, for_here, in_here, if_here, then_here, elif_here, else_here, fi_here, while_here, until_here, do_here, done_here, brace_here, close_brace_here, open_token, close_token, semicolon_token, Keyword, ampersand_token, bang_here, pipe_token, and_token, or_token, first, byte_here, newline_token, start_here, skip, text_here, Gap, Start, all_blank, blank_gap, blanks_gap, broken_gap, no_gap, next_behind, next_one, kind_of, item_no_round, no_word, no_item_token, NoLonger, space_no_longer, word_no_longer, redirect_token, NumberHere, number_token, angle_first, angle_clear, angle_no_blank, RedirectThere, redirect_is_item, redirect_no_word, double_semicolon_token, case_here, esac_here}
+use Rattle.shprint.proofs.Digits.{bare_of_digits}
 use Rattle.shprint.proofs.Gives.{Gives, gives, gives_on, told_here, ◌⟫◌, given_here, seen_here, moved_here, pushed_here, first_of, second_of, last_turn, one_turn}
-use Rattle.shprint.proofs.Good.{NoItems, GoodForWords, GoodName, GoodForm, GoodElse, GoodBranches, GoodBranch, GoodContent, GoodEntries, GoodOwnComment, GoodAndOr, GoodParts, GoodPipeline, GoodPipes, GoodCompound, GoodCommand, GoodComments, GoodItems, none_more, one_more, GoodSimple, SomeItem, an_item_of, GoodBody, GoodFunction, parts_of_function, GoodWord, GoodMorePatterns, GoodCases}
+use Rattle.shprint.proofs.Good.{Kind, of_command, of_for, of_compound, GoodItem, of_word, of_argument, of_redirect, of_redirect_behind, GoodNumber, GoodRedirect, GoodRedirects, a_redirect_of, GoodForWords, GoodName, GoodForm, GoodElse, GoodBranches, GoodBranch, GoodContent, GoodEntries, GoodOwnComment, GoodAndOr, GoodParts, GoodPipeline, GoodPipes, GoodCompound, GoodCommand, GoodComments, GoodItems, none_more, one_more, GoodSimple, SomeItem, an_item_of, GoodBody, GoodFunction, parts_of_function, GoodWord, GoodMorePatterns, GoodCases}
 
 -- ---- marks
 
@@ -125,9 +128,9 @@ no_other tokens.OrIf e = absurd cc
 no_other tokens.Pipe e = absurd cc
 no_other tokens.OpenParen e = record { newline = refl; comment = refl; bang = refl }
 no_other tokens.CloseParen e = absurd cc
-no_other tokens.Operator e = absurd cc
+no_other (tokens.Redirect k) e = record { newline = refl; comment = refl; bang = refl }
 no_other tokens.Comment e = absurd cc
-no_other tokens.Number e = absurd cc
+no_other tokens.Number e = record { newline = refl; comment = refl; bang = refl }
 no_other (tokens.Reserved r) e = record { newline = refl; comment = refl; bang = no_bang r e }
   where
     no_bang : (r : Reserved) → begins_command (tokens.Reserved r) ≡ true → is_bang (tokens.Reserved r) ≡ false
@@ -192,7 +195,7 @@ module _ (B T : List ℕ) (o : ℕ) (here : drop o B ≡ T) where
   pub record Behind (e : ℕ) : Type 0 where
     pub token : Token
     pub seen_as : (position : Position) → next_at position T e ≡ record { token = token; broken = false }
-    pub no_item : behind_item token ≡ None
+    pub no_item : begins_simple token ≡ false
     pub no_round : is_paren token ≡ false
 
   -- a row of the grammar that reads something and hands on the next token: what is read, and where it ends
@@ -219,17 +222,48 @@ module _ (B T : List ℕ) (o : ℕ) (here : drop o B ≡ T) where
     abbrev inner : Inner
     inner = level room
 
-    -- one item
-    pub record ItemRead (acc : Row AnItem) (n : Next) (p : ℕ) (position : Position) (w : Text) (ss : Shape SubstsOf) : Type 0 where
+    -- ---- one item
+
+    -- the turn that reads one more item of a kind
+    abbrev turn_of : Kind → Items → Form (Step Items)
+    turn_of of_command = item_turn inner
+    turn_of of_for = word_turn inner
+    turn_of of_compound = redirect_turn inner
+
+    -- whether that item is broken
+    abbrev broken_by : Kind → Items → Bool
+    broken_by of_command i = breaks i
+    broken_by of_for i = breaks i
+    broken_by of_compound i = i.next.broken
+
+    abbrev with_broken : Bool → Shape AnItemOf → Shape AnItemOf
+    with_broken broken (item b what) = item broken what
+
+    same_broken : (i : Shape AnItemOf) → with_broken (is_broken_item i) i ≡ i
+    same_broken (item b what) = refl
+
+    pub record ItemRead (kind : Kind) (acc : Row AnItem) (position : Position) (n : Next) (p : ℕ) (next : Position) (i : Shape AnItemOf) (rest : Marks) : Type 0 where
       pub it : AnItem
-      pub reads : Gives g (item_turn inner (so_many acc n)) (standing p) (again (so_many (acc ++ it ∷ []) (next_at position T (p + length w)))) (standing (past_blanks T (p + length w)))
-      pub on : leads_on g (standing p) (standing (past_blanks T (p + length w))) ≡ true
-      pub is : shape_of_item B it ≡ an_item_of (breaks (so_many acc n)) position (word w ss)
+      pub «end» : ℕ
+      pub at : At «end» rest
+      pub reads : Gives g (turn_of kind (so_many acc position n)) (standing p) (again (so_many (acc ++ it ∷ []) next (next_at next T «end»))) (standing (past_blanks T «end»))
+      pub on : leads_on g (standing p) (standing (past_blanks T «end»)) ≡ true
+      pub is : shape_of_item B it ≡ with_broken (broken_by kind (so_many acc position n)) i
 
     item_shape : (position : Position) (b : Bool) (v : AWord) (w : Shape AWordOf) → shape_of_word B v ≡ w → shape_of_item B (item b (as_item position v)) ≡ an_item_of b position w
     item_shape Command b v w is = rw is refl
     item_shape Prefix b v w is = rw is refl
     item_shape Suffix b v w is = rw is refl
+
+    item_printed : (y : Layout) (b : Bool) (position : Position) (t : Text) (ss : Shape SubstsOf) → print_item y (an_item_of b position (word t ss)) ≡ text t ∷ []
+    item_printed y b Command t ss = refl
+    item_printed y b Prefix t ss = refl
+    item_printed y b Suffix t ss = refl
+
+    broken_item : (b c : Bool) (position : Position) (w : Shape AWordOf) → an_item_of b position w ≡ with_broken b (an_item_of c position w)
+    broken_item b c Command w = refl
+    broken_item b c Prefix w = refl
+    broken_item b c Suffix w = refl
 
     some_word : (p : ℕ) (w zs : Text) → 0 < length w → drop p T ≡ w ++ zs → p < length T
     some_word p [] zs some at = absurd (omega (arith, some))
@@ -239,70 +273,299 @@ module _ (B T : List ℕ) (o : ℕ) (here : drop o B ≡ T) where
     printed_word : (w : Text) (ss : Shape SubstsOf) (p : ℕ) (v : WordOf room g p (length w) B (word w ss)) → Gives g (a_word inner) (standing p) v.0 (standing (p + length w))
     printed_word w ss p v = gives _ v.1.0
 
-    pub item_read : (position next : Position) (token : Token) (w : Text) (ss : Shape SubstsOf) (acc : Row AnItem) (n : Next) (p : ℕ) (rest : Marks) → n.token ≡ token → behind_item token ≡ Some next
-        → ItemAnywhere room position token w ss → At p (text w ∷ rest) → follows (laid rest) ≡ true → ItemRead acc n p next w ss
-    unfolding item_turn an_item
-    item_read position next token w ss acc n p rest is some good at follow =
-        let there = at ∙ laid_text w rest in
-        let found = good.there g p (laid rest) there follow in
-        let v = found.word B (sym here) in
-        let e = p + length w in
-        let it = item (breaks (so_many acc n)) (as_item next v.0) in
-        let read = printed_word w ss p v in
-        let low = blanks_low T e in
+    -- a word as an item
+    word_item : (next : Position) (w : Text) (ss : Shape SubstsOf) (acc : Row AnItem) (place : Position) (n : Next) (p : ℕ) (v : WordOf room g p (length w) B (word w ss))
+        → Gives g (an_item inner (so_many acc place n) next) (standing p) (again (so_many (acc ++ item (breaks (so_many acc place n)) (as_item next v.0) ∷ []) next (next_at next T (p + length w)))) (standing (past_blanks T (p + length w)))
+    unfolding an_item
+    word_item next w ss acc place n p v = printed_word w ss p v ⟫ pushed_here acc _ ⟫ next_read next (p + length w) ⟫ given_here
+
+    word_on : (w : Text) (p : ℕ) (rest : Marks) → 0 < length w → At p (text w ∷ rest) → leads_on g (standing p) (standing (past_blanks T (p + length w))) ≡ true
+    word_on w p rest some at =
+        let low = blanks_low T (p + length w) in leads p (past_blanks T (p + length w)) (omega (arith, some, low)) (some_word p w (laid rest) some (at ∙ laid_text w rest))
+
+    -- ---- redirections
+
+    one_moved : (p : ℕ) → behind T p ≡ p + 1 → Gives g (move one_byte) (standing p) tt (standing (p + 1))
+    one_moved p on = subst (λ q. Gives g (move one_byte) (standing p) tt (standing q)) on (moved_here one_byte)
+
+    two_moved : (p c d : ℕ) (xs : Text) → (c == 92) ≡ false → (d == 92) ≡ false → drop p T ≡ c ∷ d ∷ xs → Gives g (move one_byte >> move one_byte) (standing p) tt (standing (p + 2))
+    two_moved p c d xs clear clear_too at =
+        let r = byte_here T p c (d ∷ xs) clear at in
+        let s = byte_here T (p + 1) d xs clear_too r.rest in
+        let two : p + 1 + 1 ≡ p + 2 = omega arith in
+        one_moved p r.behind_it ⟫ subst (λ q. Gives g (move one_byte) (standing (p + 1)) tt (standing q)) two (one_moved (p + 1) s.behind_it)
+
+    operator_moves : (k : RedirectOperator) (p : ℕ) (xs : Text) → takes_here k ≡ false → drop p T ≡ redirect_text k ++ xs
+        → Gives g (move one_byte >> pick (is_long k) (move one_byte) (give tt)) (standing p) tt (standing (p + length (redirect_text k)))
+    operator_moves redirects.Input p xs none at = one_moved p (byte_here T p 60 xs refl at).behind_it ⟫ given_here
+    operator_moves redirects.Output p xs none at = one_moved p (byte_here T p 62 xs refl at).behind_it ⟫ given_here
+    operator_moves redirects.Here p xs none at = absurd cc
+    operator_moves redirects.Append p xs none at = two_moved p 62 62 xs refl refl at
+    operator_moves redirects.DuplicateInput p xs none at = two_moved p 60 38 xs refl refl at
+    operator_moves redirects.DuplicateOutput p xs none at = two_moved p 62 38 xs refl refl at
+    operator_moves redirects.ReadWrite p xs none at = two_moved p 60 62 xs refl refl at
+    operator_moves redirects.HereStripped p xs none at = absurd cc
+    operator_moves redirects.Clobber p xs none at = two_moved p 62 124 xs refl refl at
+
+    -- the number before an operator, or none
+    record NumberRead (number : Option Text) (k : RedirectOperator) (n : Next) (p : ℕ) (ms : Marks) : Type 0 where
+      value : Option Span
+      next : Next
+      q : ℕ
+      reads : Gives g (a_number n) (standing p) (value, next) (standing q)
+      token_is : next.token ≡ tokens.Redirect k
+      at : At q (text (redirect_text k) ∷ ms)
+      low : p ≤ q
+      shape : option_map (bare_at B) value ≡ number
+
+    module _ (k : RedirectOperator) (ms : Marks) (no_here : takes_here k ≡ false) (longer : (q : ℕ) → At q ms → NoLonger T q) where
+      operator_there : (position : Position) (p : ℕ) → At p (text (redirect_text k) ∷ ms) → token_at position T p ≡ tokens.Redirect k
+      operator_there position p at =
+          redirect_token position k T p (laid ms) no_here (longer (p + length (redirect_text k)) (at_text p (redirect_text k) ms at)) (at ∙ laid_text (redirect_text k) ms)
+
+      -- the digits of a number, and what stands behind them
+      number_there : (position : Position) (d : ℕ) (ds : Text) (p : ℕ) → GoodNumber (Some (d ∷ ds)) → At p (text (d ∷ ds) ∷ text (redirect_text k) ∷ ms) → NumberHere position T p (d ∷ ds)
+      number_there position d ds p digits at =
+          let a = angle_first k in
+          number_token position T p a.0 d ds (a.1 ++ laid ms) digits a.3
+          (at ∙ laid_text (d ∷ ds) (text (redirect_text k) ∷ ms) ∙ ap (λ z. (d ∷ ds) ++ z) (laid_text (redirect_text k) ms ∙ ap (λ z. z ++ laid ms) a.2))
+
+      operator_start : (p : ℕ) → At p (text (redirect_text k) ∷ ms) → Start T p
+      operator_start p at =
+          let a = angle_first k in
+          start_here (byte_here T p a.0 (a.1 ++ laid ms) (angle_clear a.0 a.3) (at ∙ laid_text (redirect_text k) ms ∙ ap (λ z. z ++ laid ms) a.2)) (angle_no_blank a.0 a.3)
+
+      number_read : (position : Position) (number : Option Text) (n : Next) (p : ℕ) → GoodNumber number → n.token ≡ token_at position T p → At p (print_number number ++ (text (redirect_text k) ∷ ms)) → NumberRead number k n p ms
+      unfolding a_number
+      number_read position None n p digits token_is at =
+          let is = token_is ∙ operator_there position p at in
+          record { value = None; next = n; q = p; reads = second_of _ _ (ap is_number is) given_here; token_is = is; at = at; low = omega arith; shape = refl }
+      number_read position (Some []) n p digits token_is at = absurd digits
+      number_read position (Some (d ∷ ds)) n p digits token_is at =
+          let number = number_there position d ds p digits at in
+          let q = p + length (d ∷ ds) in
+          let at_q = at_text p (d ∷ ds) (text (redirect_text k) ∷ ms) at in
+          let gap = no_gap (operator_start q at_q) in
+          let moved : Gives g (move the_digits) (standing p) tt (standing q) = subst (λ r. Gives g (move the_digits) (standing p) tt (standing r)) number.past_it (moved_here the_digits) in
+          let read : Gives g (a_number n) (standing p) (Some (span o p q), next_at Suffix T q) (standing (past_blanks T q)) =
+          first_of _ _ (ap is_number (token_is ∙ number.token)) (told_here bared moved ⟫ next_read Suffix q ⟫ given_here) in
+          record {
+            value = Some (span o p q);
+            next = next_at Suffix T q;
+            q = q;
+            reads = subst (λ r. Gives g (a_number n) (standing p) (Some (span o p q), next_at Suffix T q) (standing r)) gap.blanks read;
+            token_is = ap (λ (n : Next). n.token) (next_behind Suffix gap) ∙ operator_there Suffix q at_q;
+            at = at_q;
+            low = omega arith;
+            shape = ap (λ t. Some (bare t)) (span_text p (d ∷ ds) _ (at ∙ laid_text (d ∷ ds) (text (redirect_text k) ∷ ms))) ∙ ap Some (bare_of_digits (d ∷ ds) digits);
+          }
+
+      -- the token with which a redirection begins
+      redirect_begins : (position : Position) (number : Option Text) (p : ℕ) → GoodNumber number → At p (print_number number ++ (text (redirect_text k) ∷ ms)) → RedirectThere position T p
+      redirect_begins position None p digits at =
+          let is = operator_there position p at in record { start = operator_start p at; redirect = ap begins_redirect is; no_word = ap behind_word is }
+      redirect_begins position (Some []) p digits at = absurd digits
+      redirect_begins position (Some (d ∷ ds)) p digits at =
+          let number = number_there position d ds p digits at in record { start = number.start; redirect = ap begins_redirect number.token; no_word = ap behind_word number.token }
+
+    -- the word of a redirection, behind its operator
+    record TargetThere (e : ℕ) (t : Text) (rest : Marks) : Type 0 where
+      f : ℕ
+      at : At f (text t ∷ rest)
+      gap : Gap T e f false
+      no_longer : NoLonger T e
+
+    target_there : (spaced : Bool) (e : ℕ) (t : Text) (ss : Shape SubstsOf) (rest : Marks) → ItemAnywhere room Suffix tokens.Word t ss → follows (laid rest) ≡ true
+        → At e ((if spaced then one (codes " ") else []) ++ (text t ∷ rest)) → TargetThere e t rest
+    target_there true e t ss rest good follow at =
+        let there = at ∙ laid_text (codes " ") (text t ∷ rest) in
+        let behind_it = at_text e (codes " ") (text t ∷ rest) at in
+        let found = good.there g (e + 1) (laid rest) (behind_it ∙ laid_text t rest) follow in
         record {
-          it = it;
-          reads = rw (is, some) (read ⟫ pushed_here acc it ⟫ next_read next e ⟫ given_here);
-          on = leads p (past_blanks T e) (omega (arith, good.some, low)) (some_word p w (laid rest) good.some there);
-          is = item_shape next _ v.0 (word w ss) v.1.1;
+          f = e + 1;
+          at = behind_it;
+          gap = blank_gap refl there (no_gap (record { place = found.place; no_blank = found.no_blank }));
+          no_longer = space_no_longer T e (laid (text t ∷ rest)) there;
         }
+    target_there false e t ss rest good follow at =
+        let found = good.there g e (laid rest) (at ∙ laid_text t rest) follow in
+        record { f = e; at = at; gap = no_gap (record { place = found.place; no_blank = found.no_blank }); no_longer = word_no_longer T e found.token_is }
+
+    record RedirectRead (broken : Bool) (acc : Row AnItem) (next : Position) (n : Next) (p : ℕ) (i : Shape AnItemOf) (rest : Marks) : Type 0 where
+      it : AnItem
+      «end» : ℕ
+      at : At «end» rest
+      reads : Gives g (one_redirect inner broken next acc n) (standing p) (again (so_many (acc ++ it ∷ []) next (next_at next T «end»))) (standing (past_blanks T «end»))
+      on : leads_on g (standing p) (standing (past_blanks T «end»)) ≡ true
+      is : shape_of_item B it ≡ i
+
+    -- one redirection
+    module _ (y : Layout) (number : Option Text) (k : RedirectOperator) (t : Text) (ss : Shape SubstsOf) (good : GoodRedirect room number k t ss) (rest : Marks) (follow : follows (laid rest) ≡ true) where
+      abbrev spaced : Bool
+      spaced = (y.space_redirects && not (duplicates k)) || would_strip k t
+
+      abbrev behind_operator : Marks
+      behind_operator = (if spaced then one (codes " ") else []) ++ (text t ∷ rest)
+
+      redirect_printed : (b : Bool) → print_item y (a_redirect_of b number k t ss) ++ rest ≡ print_number number ++ (text (redirect_text k) ∷ behind_operator)
+      redirect_printed b =
+          let O = text (redirect_text k) ∷ (if spaced then one (codes " ") else []) in
+          append_assoc (print_number number ++ O) (one t) rest ∙ append_assoc (print_number number) O (text t ∷ rest)
+          ∙ ap (λ ms. print_number number ++ (text (redirect_text k) ∷ ms)) refl
+
+      target_at : (e : ℕ) → At e behind_operator → TargetThere e t rest
+      target_at e at = target_there spaced e t ss rest good.reads follow at
+
+      no_longer_at : (e : ℕ) → At e behind_operator → NoLonger T e
+      no_longer_at e at = (target_at e at).no_longer
+
+      redirect_there : (position : Position) (b : Bool) (p : ℕ) → At p (print_item y (a_redirect_of b number k t ss) ++ rest) → RedirectThere position T p
+      redirect_there position b p at = redirect_begins k behind_operator good.no_here no_longer_at position number p good.digits (at ∙ ap laid (redirect_printed b))
+
+      redirect_shape : (broken : Bool) (d : Option Span) (s : Span) (w : AWord) → option_map (bare_at B) d ≡ number → shape_of_word B w ≡ word t ss
+          → shape_of_item B (item broken (redirect d k s w None)) ≡ a_redirect_of broken number k t ss
+      redirect_shape broken d s w digits is = rw (digits, is) refl
+
+      redirect_read : (position : Position) (broken b : Bool) (acc : Row AnItem) (next : Position) (n : Next) (p : ℕ) → n.token ≡ token_at position T p → At p (print_item y (a_redirect_of b number k t ss) ++ rest)
+          → RedirectRead broken acc next n p (a_redirect_of broken number k t ss) rest
+      unfolding one_redirect a_target an_operator
+      redirect_read position broken b acc next n p token_is at =
+          let d = number_read k behind_operator good.no_here no_longer_at position number n p good.digits token_is (at ∙ ap laid (redirect_printed b)) in
+          let e = d.q + length (redirect_text k) in
+          let w = target_at e (at_text d.q (redirect_text k) behind_operator d.at) in
+          let q = past_blanks T e in
+          let at_q = subst (λ r. At r (text t ∷ rest)) (sym w.gap.blanks) w.at in
+          let v = (good.reads.there g q (laid rest) (at_q ∙ laid_text t rest) follow).word B (sym here) in
+          let f = q + length t in
+          let it = item broken (redirect d.value k (span o d.q e) v.0 None) in
+          let found = good.reads.there g w.f (laid rest) (w.at ∙ laid_text t rest) follow in
+          let word_is : is_word (next_at Suffix T e).token ≡ true = ap (λ (n : Next). is_word n.token) (next_behind Suffix w.gap) ∙ ap is_word found.token_is in
+          let moves = operator_moves k d.q (laid behind_operator) good.no_here (d.at ∙ laid_text (redirect_text k) behind_operator) in
+          let operator : Gives g (operator_by (o + p) (redirect_operator_of d.next.token)) (standing d.q) (k, span o d.q e) (standing e) =
+          rw d.token_is (second_of _ _ good.no_here (told_here (by (redirect_text k)) moves ⟫ given_here)) in
+          let within = some_word q t (laid rest) good.reads.some (at_q ∙ laid_text t rest) in
+          let low : e ≤ q = blanks_low T e in
+          let low_f : f ≤ past_blanks T f = blanks_low T f in
+          record {
+            it = it;
+            «end» = f;
+            at = at_text q t rest at_q;
+            reads = seen_here the_place ⟫ d.reads ⟫ operator ⟫ (next_read Suffix e ⟫ first_of _ _ word_is (printed_word t ss q v)) ⟫ pushed_here acc it ⟫ next_read next f ⟫ given_here;
+            on = leads p (past_blanks T f) (omega (arith, good.reads.some, low, low_f, d.low)) (omega (arith, within, low, d.low));
+            is = redirect_shape broken d.value (span o d.q e) v.0 d.shape v.1.1;
+          }
+
+    -- ---- items of each kind
+
+    item_begins : (t : Token) (position : Position) → behind_word t ≡ Some position → begins_simple t ≡ true
+    item_begins t position e = rw e refl
+
+    -- where an item is printed
+    pub record ItemThere (position : Position) (p : ℕ) : Type 0 where
+      pub start : Start T p
+      pub begins : begins_simple (token_at position T p) ≡ true
+
+    word_there : (position next : Position) (token : Token) (w : Text) (ss : Shape SubstsOf) → behind_word token ≡ Some next → ItemAnywhere room position token w ss → (p : ℕ) (rest : Marks) → follows (laid rest) ≡ true
+        → At p (text w ∷ rest) → ItemThere position p
+    word_there position next token w ss some good p rest follow at =
+        let found = good.there g p (laid rest) (at ∙ laid_text w rest) follow in
+        record { start = record { place = found.place; no_blank = found.no_blank }; begins = ap begins_simple found.token_is ∙ item_begins token next some }
+
+    pub item_there : {kind : Kind} {position next : Position} {i : Shape AnItemOf} (y : Layout) → GoodItem room kind position i next → (p : ℕ) (rest : Marks) → follows (laid rest) ≡ true → At p (print_item y i ++ rest)
+        → ItemThere position p
+    item_there y (of_word {position = position} {next = next} {token = token} {broken = b} {t = t} {ss = ss} some good) p rest follow at =
+        word_there position next token t ss some good p rest follow (at ∙ ap (λ ms. laid (ms ++ rest)) (item_printed y b next t ss))
+    item_there y (of_argument {broken = b} {t = t} {ss = ss} good) p rest follow at = word_there Suffix Suffix tokens.Word t ss refl good p rest follow at
+    item_there y (of_redirect {position = position} {broken = b} {number = number} {o = k} {t = t} {ss = ss} good) p rest follow at =
+        let r = redirect_there y number k t ss good rest follow position b p at in record { start = r.start; begins = redirect_is_item (token_at position T p) r.redirect }
+    item_there y (of_redirect_behind {broken = b} {number = number} {o = k} {t = t} {ss = ss} good) p rest follow at =
+        let r = redirect_there y number k t ss good rest follow Command b p at in record { start = r.start; begins = redirect_is_item (token_at Command T p) r.redirect }
+
+    pub item_read : {kind : Kind} {position next : Position} {i : Shape AnItemOf} (y : Layout) → GoodItem room kind position i next → (acc : Row AnItem) (n : Next) (p : ℕ) (rest : Marks) → n.token ≡ token_at position T p
+        → follows (laid rest) ≡ true → At p (print_item y i ++ rest) → ItemRead kind acc position n p next i rest
+    unfolding item_turn word_turn redirect_turn an_item
+    item_read y (of_word {position = position} {next = next} {token = token} {broken = b} {t = w} {ss = ss} some good) acc n p rest token_is follow at =
+        let at_p = at ∙ ap (λ ms. laid (ms ++ rest)) (item_printed y b next w ss) in
+        let found = good.there g p (laid rest) (at_p ∙ laid_text w rest) follow in
+        let v = found.word B (sym here) in
+        let is_here : n.token ≡ token = token_is ∙ found.token_is in
+        record {
+          it = item (breaks (so_many acc position n)) (as_item next v.0);
+          «end» = p + length w;
+          at = at_text p w rest at_p;
+          reads = rw (is_here, some) (word_item next w ss acc position n p v);
+          on = word_on w p rest good.some at_p;
+          is = item_shape next _ v.0 (word w ss) v.1.1 ∙ broken_item (breaks (so_many acc position n)) b next (word w ss);
+        }
+    item_read y (of_argument {broken = b} {t = w} {ss = ss} good) acc n p rest token_is follow at =
+        let found = good.there g p (laid rest) (at ∙ laid_text w rest) follow in
+        let v = found.word B (sym here) in
+        record {
+          it = item (breaks (so_many acc Suffix n)) (as_item Suffix v.0);
+          «end» = p + length w;
+          at = at_text p w rest at;
+          reads = first_of _ _ (ap is_word (token_is ∙ found.token_is)) (word_item Suffix w ss acc Suffix n p v);
+          on = word_on w p rest good.some at;
+          is = item_shape Suffix _ v.0 (word w ss) v.1.1;
+        }
+    item_read y (of_redirect {position = position} {broken = b} {number = number} {o = k} {t = t} {ss = ss} good) acc n p rest token_is follow at =
+        let there = redirect_there y number k t ss good rest follow position b p at in
+        let r = redirect_read y number k t ss good rest follow position (breaks (so_many acc position n)) b acc (behind_redirect position) n p token_is at in
+        let none : behind_word n.token ≡ None = ap behind_word token_is ∙ there.no_word in
+        let begins : begins_redirect n.token ≡ true = ap begins_redirect token_is ∙ there.redirect in
+        record { it = r.it; «end» = r.«end»; at = r.at; reads = rw none (first_of _ _ begins r.reads); on = r.on; is = r.is }
+    item_read y (of_redirect_behind {broken = b} {number = number} {o = k} {t = t} {ss = ss} good) acc n p rest token_is follow at =
+        let there = redirect_there y number k t ss good rest follow Command b p at in
+        let r = redirect_read y number k t ss good rest follow Command n.broken b acc Command n p token_is at in
+        let begins : begins_redirect n.token ≡ true = ap begins_redirect token_is ∙ there.redirect in
+        record { it = r.it; «end» = r.«end»; at = r.at; reads = first_of _ _ begins r.reads; on = r.on; is = r.is }
 
     abbrev Shapes : Row AnItem → Shape ItemsOf
     Shapes is = shape_of_items B (items_of is)
 
-    -- ---- the items behind the first
+    -- ---- items behind others
 
-    pub record ItemsRead (acc : Row AnItem) (n : Next) (p : ℕ) (is : Shape ItemsOf) (rest : Marks) : Type 0 where
+    pub record ItemsRead (kind : Kind) (acc : Row AnItem) (position : Position) (n : Next) (p : ℕ) (last : Position) (is : Shape ItemsOf) (rest : Marks) : Type 0 where
       pub more_items_read : Row AnItem
       pub «end» : ℕ
       pub at : At «end» rest
-      pub reads : Gives g (many (item_turn inner) (so_many acc n)) (standing p) (so_many (acc ++ more_items_read) (next_at Command T «end»)) (standing (past_blanks T «end»))
+      pub reads : Gives g (many (turn_of kind) (so_many acc position n)) (standing p) (so_many (acc ++ more_items_read) last (next_at Command T «end»)) (standing (past_blanks T «end»))
       pub shape : Shapes more_items_read ≡ is
 
     -- one more item before others
-    items_on : {acc : Row AnItem} {n : Next} {p : ℕ} {position : Position} {w : Text} {ss : Shape SubstsOf} {is : Shape ItemsOf} {rest : Marks} (one : ItemRead acc n p position w ss)
-        → ItemsRead (acc ++ one.it ∷ []) (next_at position T (p + length w)) (past_blanks T (p + length w)) is rest
-        → ItemsRead acc n p (more_items (an_item_of (breaks (so_many acc n)) position (word w ss)) is) rest
-    items_on {acc = acc} {n = n} {p = p} one others = record {
+    items_on : {kind : Kind} {acc : Row AnItem} {position : Position} {n : Next} {p : ℕ} {next last : Position} {i : Shape AnItemOf} {is : Shape ItemsOf} {ms rest : Marks} (one : ItemRead kind acc position n p next i ms)
+        → broken_by kind (so_many acc position n) ≡ is_broken_item i → ItemsRead kind (acc ++ one.it ∷ []) next (next_at next T one.«end») (past_blanks T one.«end») last is rest
+        → ItemsRead kind acc position n p last (more_items i is) rest
+    items_on {kind = kind} {acc = acc} {position = position} {n = n} {p = p} {last = last} {i = i} one same others = record {
       more_items_read = one.it ∷ others.more_items_read;
       «end» = others.«end»;
       at = others.at;
-      reads = subst (λ is. Gives g (many (item_turn inner) (so_many acc n)) (standing p) (so_many is (next_at Command T others.«end»)) (standing (past_blanks T others.«end»)))
-          (append_assoc acc (one.it ∷ []) others.more_items_read) (one_turn (item_turn inner) one.reads one.on others.reads);
-      shape = ap2 one.is others.shape;
+      reads = subst (λ is. Gives g (many (turn_of kind) (so_many acc position n)) (standing p) (so_many is last (next_at Command T others.«end»)) (standing (past_blanks T others.«end»)))
+          (append_assoc acc (one.it ∷ []) others.more_items_read) (one_turn (turn_of kind) one.reads one.on others.reads);
+      shape = ap2 (one.is ∙ ap (λ b. with_broken b i) same ∙ same_broken i) others.shape;
     }
       where
         ap2 : {i j : Shape AnItemOf} {is js : Shape ItemsOf} → i ≡ j → is ≡ js → more_items i is ≡ more_items j js
         ap2 e f = rw (e, f) refl
 
     -- no more item
-    item_stops : (acc : Row AnItem) (n : Next) (p : ℕ) → behind_item n.token ≡ None → Gives g (item_turn inner (so_many acc n)) (standing p) (done (so_many acc n)) (standing p)
-    unfolding item_turn
-    item_stops acc n p none = rw none given_here
+    item_stops : (kind : Kind) (acc : Row AnItem) (position : Position) (n : Next) (p : ℕ) → begins_simple n.token ≡ false → Gives g (turn_of kind (so_many acc position n)) (standing p) (done (so_many acc position n)) (standing p)
+    unfolding item_turn word_turn redirect_turn
+    item_stops of_command acc position n p none = let no = no_item_token n.token none in rw (no.behind, no.redirect) given_here
+    item_stops of_for acc position n p none = second_of _ _ (no_item_token n.token none).word given_here
+    item_stops of_compound acc position n p none = second_of _ _ (no_item_token n.token none).redirect given_here
 
-    no_items_on : (acc : Row AnItem) (n : Next) (e : ℕ) (rest : Marks) → At e rest → next_at Command T e ≡ n → behind_item n.token ≡ None → ItemsRead acc n (past_blanks T e) no_item rest
-    no_items_on acc n e rest at same none = record {
+    no_items_on : (kind : Kind) (acc : Row AnItem) (position : Position) (n : Next) (e : ℕ) (rest : Marks) → At e rest → next_at Command T e ≡ n → begins_simple n.token ≡ false
+        → ItemsRead kind acc position n (past_blanks T e) position no_item rest
+    no_items_on kind acc position n e rest at same none = record {
       more_items_read = [];
       «end» = e;
       at = at;
-      reads = rw (append-nil acc, same) (last_turn (item_turn inner) (item_stops acc n (past_blanks T e) none));
+      reads = rw (append-nil acc, same) (last_turn (turn_of kind) (item_stops kind acc position n (past_blanks T e) none));
       shape = refl;
     }
 
     -- ---- gaps between items
-
-    gap_marks : (y : Layout) (m : Text) (broken : Bool) → Marks
-    gap_marks y m broken = print_gap y m broken
 
     -- behind a printed gap an item may begin
     pub record GapRead (e : ℕ) (broken : Bool) (ms : Marks) : Type 0 where
@@ -326,109 +589,124 @@ module _ (B T : List ℕ) (o : ℕ) (here : drop o B ≡ T) where
 
     -- ---- all items
 
-    item_printed : (y : Layout) (b : Bool) (position : Position) (t : Text) (ss : Shape SubstsOf) → print_item y (an_item_of b position (word t ss)) ≡ text t ∷ []
-    item_printed y b Command t ss = refl
-    item_printed y b Prefix t ss = refl
-    item_printed y b Suffix t ss = refl
-
-    more_printed : (y : Layout) (m : Text) (b : Bool) (position : Position) (t : Text) (ss : Shape SubstsOf) (is : Shape ItemsOf) (rest : Marks)
-        → print_items y m (more_items (an_item_of b position (word t ss)) is) ++ rest ≡ print_gap y m b ++ (text t ∷ (print_items y m is ++ rest))
-    more_printed y m b position t ss is rest =
-        let one = item_printed y b position t ss in
-        let gap = print_gap y m b in
+    more_printed : (y : Layout) (m : Text) (i : Shape AnItemOf) (is : Shape ItemsOf) (rest : Marks)
+        → print_items y m (more_items i is) ++ rest ≡ print_gap y m (is_broken_item i) ++ (print_item y i ++ (print_items y m is ++ rest))
+    more_printed y m i is rest =
+        let gap = print_gap y m (is_broken_item i) in
         let others = print_items y m is in
-        append_assoc (gap ++ print_item y (an_item_of b position (word t ss))) others rest
-        ∙ append_assoc gap (print_item y (an_item_of b position (word t ss))) (others ++ rest) ∙ ap (λ i. gap ++ (i ++ (others ++ rest))) one
+        append_assoc (gap ++ print_item y i) others rest ∙ append_assoc gap (print_item y i) (others ++ rest)
 
     gap_follows : (y : Layout) (m : Text) (b : Bool) (ms : Marks) → follows (laid (print_gap y m b ++ ms)) ≡ true
     unfolding laid
     gap_follows y m true ms = refl
     gap_follows y m false ms = refl
 
-    items_follow : {position last : Position} {is : Shape ItemsOf} (y : Layout) (m : Text) (rest : Marks) → GoodItems room position is last → follows (laid rest) ≡ true
-        → follows (laid (print_items y m is ++ rest)) ≡ true
-    items_follow y m rest none_more follow = follow
-    items_follow y m rest (one_more {next = next} {broken = b} {t = t} {ss = ss} {is = is} some good others) follow =
-        ap (λ ms. follows (laid ms)) (more_printed y m b next t ss is rest) ∙ gap_follows y m b (text t ∷ (print_items y m is ++ rest))
+    items_follow : (y : Layout) (m : Text) (is : Shape ItemsOf) (rest : Marks) → follows (laid rest) ≡ true → follows (laid (print_items y m is ++ rest)) ≡ true
+    items_follow y m no_item rest follow = follow
+    items_follow y m (more_items i is) rest follow =
+        ap (λ ms. follows (laid ms)) (more_printed y m i is rest) ∙ gap_follows y m (is_broken_item i) (print_item y i ++ (print_items y m is ++ rest))
 
     not_empty : {A : Type 0} (xs : Row A) (x : A) → is_empty (xs ++ x ∷ []) ≡ false
     not_empty [] x = refl
     not_empty (x ∷ xs) y = refl
 
+    -- the first item is not broken, where it stands behind no other one
+    abbrev Unbroken : Kind → Row AnItem → Shape ItemsOf → Type 0
+    Unbroken of_command acc is = is_empty acc ≡ true → first_not_broken is ≡ true
+    Unbroken of_for acc is = is_empty acc ≡ true → first_not_broken is ≡ true
+    Unbroken of_compound acc is = Unit {0}
+
+    first_not : (b : Bool) → not b ≡ true → b ≡ false
+    first_not true e = absurd cc
+    first_not false e = refl
+
+    breaks_by : (acc : Row AnItem) (position : Position) (n : Next) (b : Bool) → (is_empty acc ≡ true → not b ≡ true) → n.broken ≡ b → breaks (so_many acc position n) ≡ b
+    breaks_by [] position n b none is = sym (first_not b (none refl))
+    breaks_by (i ∷ is) position n b none same = same
+
+    broken_is : (kind : Kind) (acc : Row AnItem) (position : Position) (n : Next) (i : Shape AnItemOf) (is : Shape ItemsOf) → Unbroken kind acc (more_items i is) → n.broken ≡ is_broken_item i
+        → broken_by kind (so_many acc position n) ≡ is_broken_item i
+    broken_is of_command acc position n (item b what) is first same = breaks_by acc position n b first same
+    broken_is of_for acc position n (item b what) is first same = breaks_by acc position n b first same
+    broken_is of_compound acc position n (item b what) is first same = same
+
+    unbroken_on : (kind : Kind) (acc : Row AnItem) (i : AnItem) (is : Shape ItemsOf) → Unbroken kind (acc ++ i ∷ []) is
+    unbroken_on of_command acc i is = λ e. absurd (both_ways (is_empty (acc ++ i ∷ [])) (not_empty acc i) e)
+    unbroken_on of_for acc i is = λ e. absurd (both_ways (is_empty (acc ++ i ∷ [])) (not_empty acc i) e)
+    unbroken_on of_compound acc i is = tt
+
+    first_item : (b : Bool) (position : Position) (w : Shape AWordOf) (is : Shape ItemsOf) → first_not_broken (more_items (an_item_of b position w) is) ≡ true → b ≡ false
+    first_item b Command w is first = first_not b first
+    first_item b Prefix w is first = first_not b first
+    first_item b Suffix w is first = first_not b first
+
     module _ (y : Layout) (m : Text) (c : ℕ) (cs : Text) (blank : all_blank (deeper y m) ≡ true) (some_margin : deeper y m ≡ c ∷ cs)
         (rest : Marks) (follow : follows (laid rest) ≡ true) (behind : (e : ℕ) → At e rest → Behind e) where
-      first_not : (b : Bool) → not b ≡ true → b ≡ false
-      first_not true e = absurd cc
-      first_not false e = refl
+      -- the next item, behind a gap
+      record NextItem (position : Position) (i : Shape AnItemOf) (is : Shape ItemsOf) (e : ℕ) : Type 0 where
+        at : At (past_blanks T e) (print_item y i ++ (print_items y m is ++ rest))
+        broken : (next_at position T e).broken ≡ is_broken_item i
+        begins : begins_simple (next_at position T e).token ≡ true
 
-      -- the first item is not broken
-      breaks_by : (acc : Row AnItem) (n : Next) (b : Bool) → (is_empty acc ≡ true → not b ≡ true) → n.broken ≡ b → breaks (so_many acc n) ≡ b
-      breaks_by [] n b none is = sym (first_not b (none refl))
-      breaks_by (i ∷ is) n b none same = same
+      next_item : {kind : Kind} {position next : Position} {i : Shape AnItemOf} (is : Shape ItemsOf) (e : ℕ) → GoodItem room kind position i next → At e (print_items y m (more_items i is) ++ rest) → NextItem position i is e
+      next_item {position = position} {i = i} is e one at =
+          let ms = print_item y i ++ (print_items y m is ++ rest) in
+          let gap = gap_read y m (is_broken_item i) e ms blank c cs some_margin (at ∙ ap laid (more_printed y m i is rest)) in
+          let there = item_there y one gap.p (print_items y m is ++ rest) (items_follow y m is rest follow) gap.at in
+          let passed = gap.gap there.start in
+          record {
+            at = subst (λ q. At q ms) (sym passed.blanks) gap.at;
+            broken = passed.breaks;
+            begins = ap (λ (n : Next). begins_simple n.token) (next_behind position passed) ∙ there.begins;
+          }
 
-      items_read : {position last : Position} {is : Shape ItemsOf} → GoodItems room position is last → (acc : Row AnItem) (e : ℕ) → (is_empty acc ≡ true → first_not_broken is ≡ true)
-          → At e (print_items y m is ++ rest) → ItemsRead acc (next_at position T e) (past_blanks T e) is rest
-      items_read {position = position} none_more acc e filled at =
+      items_read : {kind : Kind} {position last : Position} {is : Shape ItemsOf} → GoodItems room kind position is last → (acc : Row AnItem) (e : ℕ) → Unbroken kind acc is
+          → At e (print_items y m is ++ rest) → ItemsRead kind acc position (next_at position T e) (past_blanks T e) last is rest
+      items_read {kind = kind} {position = position} none_more acc e first at =
           let b = behind e at in
-          no_items_on acc (next_at position T e) e rest at (b.seen_as Command ∙ sym (b.seen_as position)) (ap (λ (n : Next). behind_item n.token) (b.seen_as position) ∙ b.no_item)
-      items_read {position = position} (one_more {next = next} {token = token} {broken = b} {t = w} {ss = ss} {is = is} some good others) acc e filled at =
-          let ms = text w ∷ (print_items y m is ++ rest) in
-          let gap = gap_read y m b e ms blank c cs some_margin (at ∙ ap laid (more_printed y m b next w ss is rest)) in
-          let follow_it = items_follow y m rest others follow in
-          let found = good.there g gap.p (laid (print_items y m is ++ rest)) (gap.at ∙ laid_text w (print_items y m is ++ rest)) follow_it in
-          let passed = gap.gap (record { place = found.place; no_blank = found.no_blank }) in
-          let n_is = next_behind position passed in
-          let q = past_blanks T e in
+          no_items_on kind acc position (next_at position T e) e rest at (b.seen_as Command ∙ sym (b.seen_as position)) (ap (λ (n : Next). begins_simple n.token) (b.seen_as position) ∙ b.no_item)
+      items_read {kind = kind} {position = position} (one_more {i = i} {is = is} good others) acc e first at =
+          let it = next_item is e good at in
           let n = next_at position T e in
-          let at_q = subst (λ r. At r ms) (sym passed.blanks) gap.at in
-          let one = item_read position next token w ss acc n q (print_items y m is ++ rest) (ap (λ (n : Next). n.token) n_is ∙ found.token_is) some good at_q follow_it in
-          let breaks_it : breaks (so_many acc n) ≡ b = breaks_by acc n b filled (ap (λ (n : Next). n.broken) n_is) in
-          let some_before : is_empty (acc ++ one.it ∷ []) ≡ true → first_not_broken is ≡ true = λ e. absurd (both_ways (is_empty (acc ++ one.it ∷ [])) (not_empty acc one.it) e) in
-          let all = items_on one (items_read others (acc ++ one.it ∷ []) (q + length w) some_before (at_text q w (print_items y m is ++ rest) at_q)) in
-          subst (λ broken. ItemsRead acc n q (more_items (an_item_of broken next (word w ss)) is) rest) breaks_it all
+          let one = item_read y good acc n (past_blanks T e) (print_items y m is ++ rest) refl (items_follow y m is rest follow) it.at in
+          items_on one (broken_is kind acc position n i is first it.broken) (items_read others (acc ++ one.it ∷ []) one.«end» (unbroken_on kind acc one.it is) one.at)
 
-      simple_printed : (b : Bool) (position : Position) (t : Text) (ss : Shape SubstsOf) (is : Shape ItemsOf) → print_simple y m (more_items (an_item_of b position (word t ss)) is) ++ rest ≡ text t ∷ (print_items y m is ++ rest)
-      simple_printed b position t ss is =
-          append_assoc (print_item y (an_item_of b position (word t ss))) (print_items y m is) rest ∙ ap (λ i. i ++ (print_items y m is ++ rest)) (item_printed y b position t ss)
+      simple_printed : (i : Shape AnItemOf) (is : Shape ItemsOf) → print_simple y m (more_items i is) ++ rest ≡ print_item y i ++ (print_items y m is ++ rest)
+      simple_printed i is = append_assoc (print_item y i) (print_items y m is) rest
+
+      first_unbroken : (n : Next) (i : Shape AnItemOf) (is : Shape ItemsOf) → first_not_broken (more_items i is) ≡ true → broken_by of_command (so_many [] Command n) ≡ is_broken_item i
+      first_unbroken n (item b what) is first = sym (first_not b first)
 
       -- all items of a simple command, and the token behind them
-      simple_items : {last : Position} {is : Shape ItemsOf} (n : Next) (p : ℕ) → GoodItems room Command is last → SomeItem is → first_not_broken is ≡ true → n.token ≡ token_at Command T p
-          → At p (print_simple y m is ++ rest) → ItemsRead [] n p is rest
+      simple_items : {last : Position} {is : Shape ItemsOf} (n : Next) (p : ℕ) → GoodItems room of_command Command is last → SomeItem is → first_not_broken is ≡ true → n.token ≡ token_at Command T p
+          → At p (print_simple y m is ++ rest) → ItemsRead of_command [] Command n p last is rest
       simple_items n p none_more some first token_is at = absurd some
-      simple_items n p (one_more {next = next} {token = token} {broken = b} {t = w} {ss = ss} {is = is} is_item good others) some first token_is at =
-          let there = at ∙ ap laid (simple_printed b next w ss is) in
-          let follow_it = items_follow y m rest others follow in
-          let found = good.there g p (laid (print_items y m is ++ rest)) (there ∙ laid_text w (print_items y m is ++ rest)) follow_it in
-          let one = item_read Command next token w ss [] n p (print_items y m is ++ rest) (token_is ∙ found.token_is) is_item good there follow_it in
-          let all = items_on one (items_read others (one.it ∷ []) (p + length w) (λ e. absurd cc) (at_text p w (print_items y m is ++ rest) there)) in
-          subst (λ broken. ItemsRead [] n p (more_items (an_item_of broken next (word w ss)) is) rest) (sym (first_not b first)) all
+      simple_items n p (one_more {i = i} {is = is} good others) some first token_is at =
+          let there = at ∙ ap laid (simple_printed i is) in
+          let one = item_read y good [] n p (print_items y m is ++ rest) token_is (items_follow y m is rest follow) there in
+          items_on one (first_unbroken n i is first) (items_read others (one.it ∷ []) one.«end» (λ e. absurd cc) one.at)
 
       -- a simple command
       pub simple_read : (is : Shape ItemsOf) (n : Next) (p : ℕ) → GoodSimple room is → first_not_broken is ≡ true → n.token ≡ token_at Command T p → At p (print_simple y m is ++ rest)
-          → Got (a_simple inner (so_many [] n)) p rest (λ c. shape_of_command B c ≡ simple is)
+          → Got (a_simple inner (so_many [] Command n)) p rest (λ c. shape_of_command B c ≡ simple is)
       unfolding a_simple
       simple_read is n p good first token_is at =
           let r = simple_items n p good.items good.some first token_is at in
           record { value = simple (items_of r.more_items_read); «end» = r.«end»; at = r.at; reads = r.reads ⟫ given_here; is = ap (λ is. simple is) r.shape }
 
       -- no `(` stands behind a word
-      next_round : {position last : Position} {is : Shape ItemsOf} → GoodItems room position is last → (e : ℕ) → At e (print_items y m is ++ rest) → is_paren (next_at position T e).token ≡ false
+      next_round : {position last : Position} {is : Shape ItemsOf} → GoodItems room of_command position is last → (e : ℕ) → At e (print_items y m is ++ rest) → is_paren (next_at position T e).token ≡ false
       next_round {position = position} none_more e at = let b = behind e at in ap (λ (n : Next). is_paren n.token) (b.seen_as position) ∙ b.no_round
-      next_round {position = position} (one_more {next = next} {token = token} {broken = b} {t = w} {ss = ss} {is = is} some good others) e at =
-          let ms = text w ∷ (print_items y m is ++ rest) in
-          let gap = gap_read y m b e ms blank c cs some_margin (at ∙ ap laid (more_printed y m b next w ss is rest)) in
-          let found = good.there g gap.p (laid (print_items y m is ++ rest)) (gap.at ∙ laid_text w (print_items y m is ++ rest)) (items_follow y m rest others follow) in
-          let passed = gap.gap (record { place = found.place; no_blank = found.no_blank }) in
-          ap (λ (n : Next). is_paren n.token) (next_behind position passed) ∙ ap is_paren found.token_is ∙ item_no_round token next some
+      next_round {position = position} (one_more {is = is} good others) e at = item_no_round (next_at position T e).token (next_item is e good at).begins
 
       -- a simple command that begins with a word
-      worded_read : {last : Position} {w : Text} {ss : Shape SubstsOf} {is : Shape ItemsOf} (p : ℕ) → ItemAnywhere room Command tokens.Word w ss → GoodItems room Suffix is last → At p (text w ∷ (print_items y m is ++ rest))
+      worded_read : {last : Position} {w : Text} {ss : Shape SubstsOf} {is : Shape ItemsOf} (p : ℕ) → ItemAnywhere room Command tokens.Word w ss → GoodItems room of_command Suffix is last → At p (text w ∷ (print_items y m is ++ rest))
           → Got (a_worded inner) p rest (λ c. shape_of_command B c ≡ simple (more_items (an_item_of false Suffix (word w ss)) is))
       unfolding a_worded a_simple
       worded_read {w = w} {ss = ss} {is = is} p good others at =
           let ms = print_items y m is ++ rest in
           let there = at ∙ laid_text w ms in
-          let found = good.there g p (laid ms) there (items_follow y m rest others follow) in
+          let found = good.there g p (laid ms) there (items_follow y m is rest follow) in
           let v = found.word B (sym here) in
           let e = p + length w in
           let at_e = at_text p w ms at in
@@ -442,27 +720,40 @@ module _ (B T : List ℕ) (o : ℕ) (here : drop o B ≡ T) where
             is = rw (item_shape Suffix false v.0 (word w ss) v.1.1, r.shape) refl;
           }
 
+      -- one that begins with another item
+      other_read : (is : Shape ItemsOf) (n : Next) (p : ℕ) → GoodSimple room is → first_not_broken is ≡ true → n.token ≡ token_at Command T p → At p (print_simple y m is ++ rest) → is_word n.token ≡ false → begins_simple n.token ≡ true
+          → Got (a_command inner n) p rest (λ c. shape_of_command B c ≡ simple is)
+      unfolding a_command
+      other_read is n p good first token_is at no_word begins =
+          let r = simple_read is n p good first token_is at in
+          record { value = r.value; «end» = r.«end»; at = r.at; reads = second_of _ _ no_word (first_of _ _ begins r.reads); is = r.is }
+
       -- a simple command, by what it begins with
       pub simple_command : (is : Shape ItemsOf) (n : Next) (p : ℕ) → GoodSimple room is → first_not_broken is ≡ true → n.token ≡ token_at Command T p → At p (print_simple y m is ++ rest)
           → Got (a_command inner n) p rest (λ c. shape_of_command B c ≡ simple is)
       unfolding a_command
       simple_command all n p good first token_is at = by_items good.items good.some first at
         where
-          by_items : {last : Position} {is : Shape ItemsOf} → GoodItems room Command is last → SomeItem is → first_not_broken is ≡ true → At p (print_simple y m is ++ rest)
+          by_items : {last : Position} {is : Shape ItemsOf} → GoodItems room of_command Command is last → SomeItem is → first_not_broken is ≡ true → At p (print_simple y m is ++ rest)
               → Got (a_command inner n) p rest (λ c. shape_of_command B c ≡ simple is)
           by_items none_more some first at = absurd some
-          by_items {last = last} (one_more {next = next} {token = token} {broken = b} {t = w} {ss = ss} {is = is} is_item one others) some first at =
-              let there = at ∙ ap laid (simple_printed b next w ss is) in
-              let found = one.there g p (laid (print_items y m is ++ rest)) (there ∙ laid_text w (print_items y m is ++ rest)) (items_follow y m rest others follow) in
+          by_items {last = last} (one_more {is = is} (of_word {next = next} {token = token} {broken = b} {t = w} {ss = ss} is_item one) others) some first at =
+              let there = at ∙ ap laid (simple_printed (an_item_of b next (word w ss)) is) ∙ ap (λ ms. laid (ms ++ (print_items y m is ++ rest))) (item_printed y b next w ss) in
+              let found = one.there g p (laid (print_items y m is ++ rest)) (there ∙ laid_text w (print_items y m is ++ rest)) (items_follow y m is rest follow) in
               let token_here : n.token ≡ token = token_is ∙ found.token_is in
               ⊎_elim
               (λ (k : (token ≡ tokens.Word) × (next ≡ Suffix)).
-              let r = worded_read p (subst (λ (t : Token). ItemAnywhere room Command t w ss) k.0 one) (subst (λ (q : Position). GoodItems room q is last) k.1 others) there in
-              record { value = r.value; «end» = r.«end»; at = r.at; reads = first_of _ _ (ap is_word (token_here ∙ k.0)) r.reads; is = r.is ∙ rw (first_not b first, k.1) refl })
+              let r = worded_read p (subst (λ (t : Token). ItemAnywhere room Command t w ss) k.0 one) (subst (λ (q : Position). GoodItems room of_command q is last) k.1 others) there in
+              record { value = r.value; «end» = r.«end»; at = r.at; reads = first_of _ _ (ap is_word (token_here ∙ k.0)) r.reads; is = r.is ∙ rw (first_item b next (word w ss) is first, k.1) refl })
               (λ (k : (token ≡ tokens.Assignment) × (next ≡ Prefix)).
-              let r = simple_read (more_items (an_item_of b next (word w ss)) is) n p (record { last = last; items = one_more is_item one others; some = tt }) first token_is at in
-              record { value = r.value; «end» = r.«end»; at = r.at; reads = second_of _ _ (ap is_word (token_here ∙ k.0)) (first_of _ _ (ap begins_simple (token_here ∙ k.0)) r.reads); is = r.is })
+              other_read (more_items (an_item_of b next (word w ss)) is) n p (record { last = last; items = one_more (of_word is_item one) others; some = tt }) first token_is at
+              (ap is_word (token_here ∙ k.0)) (ap begins_simple (token_here ∙ k.0)))
               (kind_of token next is_item)
+          by_items {last = last} (one_more {is = is} (of_redirect {broken = b} {number = number} {o = k} {t = t} {ss = ss} one) others) some first at =
+              let there = redirect_there y number k t ss one (print_items y m is ++ rest) (items_follow y m is rest follow) Command b p (at ∙ ap laid (simple_printed (a_redirect_of b number k t ss) is)) in
+              let redirect_is = ap begins_redirect token_is ∙ there.redirect in
+              other_read (more_items (a_redirect_of b number k t ss) is) n p (record { last = last; items = one_more (of_redirect one) others; some = tt }) first token_is at
+              (redirect_no_word n.token redirect_is) (redirect_is_item n.token redirect_is)
 
     -- ---- comments and newlines
 
@@ -728,7 +1019,7 @@ module _ (B T : List ℕ) (o : ℕ) (here : drop o B ≡ T) where
 
     -- ---- what follows a command
 
-    follower_behind : {rest : Marks} {t : Token} → Follower rest t → behind_item t ≡ None → (e : ℕ) → At e rest → Behind e
+    follower_behind : {rest : Marks} {t : Token} → Follower rest t → begins_simple t ≡ false → (e : ℕ) → At e rest → Behind e
     follower_behind {t = t} f none e at = record { token = t; seen_as = f.seen_as e at; no_item = none; no_round = f.no_round }
 
     -- a byte behind an operator that makes no longer one of it
@@ -805,14 +1096,39 @@ module _ (B T : List ℕ) (o : ℕ) (here : drop o B ≡ T) where
         let other = no_other (token_at Command T p) b.command in
         record { start = b.start; no_comment = no_sharp p b.start.place other.comment; no_newline = other.newline }
 
+    -- a compound command and the redirections behind it
+    abbrev bare_compound : Shape ACompoundOf → Shape ACompoundOf
+    bare_compound (formed form mark redirects) = formed form mark no_item
+
+    abbrev redirects_of : Shape ACompoundOf → Shape ItemsOf
+    redirects_of (formed form mark redirects) = redirects
+
+    good_redirects : (c : Shape ACompoundOf) → GoodCompound room c → GoodRedirects room (redirects_of c)
+    good_redirects c good = by_room room c good
+      where
+        by_room : (room : ℕ) (c : Shape ACompoundOf) → GoodCompound room c → GoodRedirects room (redirects_of c)
+        by_room zero (formed form mark redirects) good = absurd good
+        by_room (suc room) (formed form mark redirects) good = good.1
+
+    with_shape : (v : ACommand) (is : Row AnItem) (c : Shape ACompoundOf) → shape_of_command B v ≡ compound (bare_compound c) → Shapes is ≡ redirects_of c → shape_of_command B (with_redirects v (items_of is)) ≡ compound c
+    with_shape (simple items) is (formed form mark redirects) e f = absurd cc
+    with_shape (compound (formed own span others)) is (formed form mark redirects) e f =
+        let same : shape_of_form B own ≡ form = cc in rw (same, f) refl
+    with_shape (function name ds body) is (formed form mark redirects) e f = absurd cc
+
     module _ (y : Layout) where
+      compound_printed : (m : Text) (c : Shape ACompoundOf) (rest : Marks)
+          → print_compound y m c ++ rest ≡ print_compound y m (bare_compound c) ++ (print_items y m (redirects_of c) ++ rest)
+      compound_printed m (formed form mark redirects) rest =
+          append_assoc (print_form y m form) (print_items y m redirects) rest ∙ sym (append_assoc (print_form y m form) [] (print_items y m redirects ++ rest))
+
       -- what is known of the compound commands at this level
       pub record Fine : Type 0 where
         pub opens : (m : Text) (c : Shape ACompoundOf) (p : ℕ) (rest : Marks) → GoodCompound room c → At p (print_compound y m c ++ rest) → (o : Opener) × Opens p o
-        pub back : (m : Text) (c : Shape ACompoundOf) (p : ℕ) (rest : Marks) (t : Token) (o : Opener) → all_blank m ≡ true → GoodCompound room c → is_normal_compound c ≡ true
-            → Follower rest t → behind_item t ≡ None → Opens p o → At p (print_compound y m c ++ rest) → Got (inner.compound o) p rest (λ v. shape_of_command B v ≡ compound c)
+        pub back : (m : Text) (c : Shape ACompoundOf) (p : ℕ) (rest : Marks) (o : Opener) → all_blank m ≡ true → GoodCompound room c → is_normal_compound c ≡ true
+            → follows (laid rest) ≡ true → Opens p o → At p (print_compound y m (bare_compound c) ++ rest) → Got (inner.compound o) p rest (λ v. shape_of_command B v ≡ compound (bare_compound c))
         pub function_back : (m : Text) (name : Span) (cs : Row Text) (body : Shape ACompoundOf) (p : ℕ) (rest : Marks) (t : Token) → all_blank m ≡ true → GoodComments cs → GoodBody room body
-            → is_normal_compound body ≡ true → Follower rest t → behind_item t ≡ None → At p (text (codes "()") ∷ (print_function_gap y m cs body ++ (print_compound y m body ++ rest)))
+            → is_normal_compound body ≡ true → Follower rest t → begins_simple t ≡ false → At p (text (codes "()") ∷ (print_function_gap y m cs body ++ (print_compound y m body ++ rest)))
             → Got (inner.function name) p rest (λ v. shape_of_command B v ≡ function (text_at B name) cs body)
 
       module _ (fine : Fine) where
@@ -822,17 +1138,11 @@ module _ (B T : List ℕ) (o : ℕ) (here : drop o B ≡ T) where
         opens_by : (t : Token) (o : Opener) → opener_of t ≡ Some o → begins_command t ≡ true
         opens_by t o e = rw e (or_true (begins_simple t))
 
-        item_begins : (t : Token) (position : Position) → behind_item t ≡ Some position → begins_simple t ≡ true
-        item_begins t position e = rw e refl
-
-        simple_begins : (m : Text) {last : Position} {is : Shape ItemsOf} (p : ℕ) (rest : Marks) → GoodItems room Command is last → SomeItem is → follows (laid rest) ≡ true
-            → At p (print_simple y m is ++ rest) → Start T p × (begins_simple (token_at Command T p) ≡ true)
+        simple_begins : (m : Text) {last : Position} {is : Shape ItemsOf} (p : ℕ) (rest : Marks) → GoodItems room of_command Command is last → SomeItem is → follows (laid rest) ≡ true
+            → At p (print_simple y m is ++ rest) → ItemThere Command p
         simple_begins m p rest none_more some follow at = absurd some
-        simple_begins m p rest (one_more {next = next} {token = token} {broken = b} {t = w} {ss = ss} {is = is} is_item good others) some follow at =
-            let printed_is = append_assoc (print_item y (an_item_of b next (word w ss))) (print_items y m is) rest ∙ ap (λ i. i ++ (print_items y m is ++ rest)) (item_printed y b next w ss) in
-            let there = at ∙ ap laid printed_is ∙ laid_text w (print_items y m is ++ rest) in
-            let found = good.there g p (laid (print_items y m is ++ rest)) there (items_follow y m rest others follow) in
-            (record { place = found.place; no_blank = found.no_blank }, ap begins_simple found.token_is ∙ item_begins token next is_item)
+        simple_begins m p rest (one_more {i = i} {is = is} good others) some follow at =
+            item_there y good p (print_items y m is ++ rest) (items_follow y m is rest follow) (at ∙ ap laid (append_assoc (print_item y i) (print_items y m is) rest))
 
         -- the name of a function, and what stands behind it
         abbrev function_rest : Text → Row Text → Shape ACompoundOf → Marks → Marks
@@ -849,7 +1159,7 @@ module _ (B T : List ℕ) (o : ℕ) (here : drop o B ≡ T) where
 
         pub command_begins : (m : Text) (c : Shape ACommandOf) (p : ℕ) (rest : Marks) → GoodCommand room c → follows (laid rest) ≡ true → At p (print_command y m c ++ rest) → Begins p
         command_begins m (simple is) p rest good follow at =
-            let b = simple_begins m p rest good.items good.some follow at in record { start = b.0; command = begins_by (token_at Command T p) b.1 }
+            let b = simple_begins m p rest good.items good.some follow at in record { start = b.start; command = begins_by (token_at Command T p) b.begins }
         command_begins m (compound c) p rest good follow at =
             let b = fine.opens m c p rest good at in record { start = b.1.start; command = opens_by (token_at Command T p) b.0 b.1.opener }
         command_begins m (function name comments body) p rest good follow at =
@@ -858,7 +1168,7 @@ module _ (B T : List ℕ) (o : ℕ) (here : drop o B ≡ T) where
             record { start = record { place = found.place; no_blank = found.no_blank }; command = begins_by (token_at Command T p) (ap begins_simple found.token_is) }
 
         function_command : (m name : Text) (cs : Row Text) (body : Shape ACompoundOf) (n : Next) (p : ℕ) (rest : Marks) (t : Token) → all_blank m ≡ true → GoodFunction room name cs body → is_normal_compound body ≡ true
-            → Follower rest t → behind_item t ≡ None → n.token ≡ token_at Command T p → At p (print_command y m (function name cs body) ++ rest) → Got (a_command inner n) p rest (λ v. shape_of_command B v ≡ function name cs body)
+            → Follower rest t → begins_simple t ≡ false → n.token ≡ token_at Command T p → At p (print_command y m (function name cs body) ++ rest) → Got (a_command inner n) p rest (λ v. shape_of_command B v ≡ function name cs body)
         unfolding a_command a_worded
         function_command m name cs body n p rest t blank good normal f none token_is at =
             let there = name_there m name cs body p rest at in
@@ -883,17 +1193,37 @@ module _ (B T : List ℕ) (o : ℕ) (here : drop o B ≡ T) where
               is = r.is ∙ ap (λ z. function z cs body) (span_text p name (40 ∷ 41 ∷ laid X) there);
             }
 
+        -- a compound command with the redirections behind it
+        pub whole_compound : (m : Text) (c : Shape ACompoundOf) (n : Next) (p : ℕ) (rest : Marks) (t : Token) → all_blank m ≡ true → GoodCompound room c → is_normal_compound c ≡ true
+            → Follower rest t → begins_simple t ≡ false → n.token ≡ token_at Command T p → At p (print_compound y m c ++ rest) → Got (compound_by inner n (opener_of n.token)) p rest (λ v. shape_of_command B v ≡ compound c)
+        unfolding redirected
+        whole_compound m c n p rest t blank good normal f none token_is at =
+            let P = print_items y m (redirects_of c) in
+            let b = fine.opens m c p rest good at in
+            let opener_is : opener_of n.token ≡ Some b.0 = ap opener_of token_is ∙ b.1.opener in
+            let d = deeper_some y m in
+            let r = fine.back m c p (P ++ rest) b.0 blank good normal (items_follow y m (redirects_of c) rest f.follow) b.1 (at ∙ ap laid (compound_printed m c rest)) in
+            let is = items_read y m d.0 d.1 (deeper_blank y m blank) d.2 rest f.follow (follower_behind f none) (good_redirects c good).items [] r.«end» tt r.at in
+            let read : Gives g (inner.compound b.0 >>= redirected inner) (standing p) (with_redirects r.value (items_of is.more_items_read), next_at Command T is.«end») (standing (past_blanks T is.«end»)) =
+            r.reads ⟫ (is.reads ⟫ given_here) in
+            record {
+              value = with_redirects r.value (items_of is.more_items_read);
+              «end» = is.«end»;
+              at = is.at;
+              reads = rw opener_is read;
+              is = with_shape r.value is.more_items_read c r.is is.shape;
+            }
+
         pub command_read : (m : Text) (c : Shape ACommandOf) (n : Next) (p : ℕ) (rest : Marks) (t : Token) → all_blank m ≡ true → GoodCommand room c → is_normal_command c ≡ true
-            → Follower rest t → behind_item t ≡ None → n.token ≡ token_at Command T p → At p (print_command y m c ++ rest) → Got (a_command inner n) p rest (λ v. shape_of_command B v ≡ c)
+            → Follower rest t → begins_simple t ≡ false → n.token ≡ token_at Command T p → At p (print_command y m c ++ rest) → Got (a_command inner n) p rest (λ v. shape_of_command B v ≡ c)
         unfolding a_command
         command_read m (simple is) n p rest t blank good normal f none token_is at =
             let d = deeper_some y m in
             simple_command y m d.0 d.1 (deeper_blank y m blank) d.2 rest f.follow (follower_behind f none) is n p good (and_parts _ _ normal).0 token_is at
         command_read m (compound c) n p rest t blank good normal f none token_is at =
             let b = fine.opens m c p rest good at in
-            let r = fine.back m c p rest t b.0 blank good normal f none b.1 at in
-            let opener_is : opener_of n.token ≡ Some b.0 = ap opener_of token_is ∙ b.1.opener in
-            record { value = r.value; «end» = r.«end»; at = r.at; reads = second_of _ _ (ap is_word token_is ∙ no_word (token_at Command T p) b.1.no_item) (second_of _ _ (ap begins_simple token_is ∙ b.1.no_item) (rw opener_is r.reads)); is = r.is }
+            let r = whole_compound m c n p rest t blank good normal f none token_is at in
+            record { value = r.value; «end» = r.«end»; at = r.at; reads = second_of _ _ (ap is_word token_is ∙ no_word (token_at Command T p) b.1.no_item) (second_of _ _ (ap begins_simple token_is ∙ b.1.no_item) r.reads); is = r.is }
         command_read m (function name comments body) n p rest t blank good normal f none token_is at = function_command m name comments body n p rest t blank (parts_of_function room name comments body good) normal f none token_is at
 
         -- ---- pipelines
@@ -914,9 +1244,9 @@ module _ (B T : List ℕ) (o : ℕ) (here : drop o B ≡ T) where
         record PipesFollow (ms : Marks) : Type 0 where
           token : Token
           follower : Follower ms token
-          no_item : behind_item token ≡ None
+          no_item : begins_simple token ≡ false
 
-        pipes_follow : (m : Text) (b : Bool) (cs : Shape PipelinePartsOf) (rest : Marks) (t : Token) → Follower rest t → behind_item t ≡ None → PipesFollow (print_pipes y m b cs ++ rest)
+        pipes_follow : (m : Text) (b : Bool) (cs : Shape PipelinePartsOf) (rest : Marks) (t : Token) → Follower rest t → begins_simple t ≡ false → PipesFollow (print_pipes y m b cs ++ rest)
         pipes_follow m b no_pipe rest t f none = record { token = t; follower = f; no_item = none }
         pipes_follow m b (more_pipes j c cs) rest t f none =
             let ms = print_command y (operand_margin y m (b || breaks_line j)) c ++ (print_pipes y m (b || breaks_line j) cs ++ rest) in
@@ -955,7 +1285,7 @@ module _ (B T : List ℕ) (o : ℕ) (here : drop o B ≡ T) where
           command_is : shape_of_command B part.command ≡ c
 
         one_pipe : (m : Text) (d : Text) (j : AJoinOf Text) (c : Shape ACommandOf) (acc : Row APipelinePart) (n : Next) (q : ℕ) (ms : Marks) (t : Token) → all_blank m ≡ true → all_blank d ≡ true
-            → is_normal_join j ≡ true → GoodComments j.comments → GoodCommand room c → is_normal_command c ≡ true → Follower ms t → behind_item t ≡ None
+            → is_normal_join j ≡ true → GoodComments j.comments → GoodCommand room c → is_normal_command c ≡ true → Follower ms t → begins_simple t ≡ false
             → is_pipe n.token ≡ true → n.broken ≡ false → At q (text (codes "|") ∷ (join_rest y m j ++ (print_command y d c ++ ms))) → PipeRead acc n q j c ms
         unfolding pipe_turn one_command
         one_pipe m d j c acc n q ms t blank blank_d normal_j good_j good normal f none is_it unbroken at =
@@ -980,7 +1310,7 @@ module _ (B T : List ℕ) (o : ℕ) (here : drop o B ≡ T) where
             }
 
         pipes_read : (m : Text) (b : Bool) (cs : Shape PipelinePartsOf) (acc : Row APipelinePart) (e : ℕ) (rest : Marks) (t : Token) → all_blank m ≡ true → GoodPipes room cs → are_normal_pipes cs ≡ true
-            → Follower rest t → behind_item t ≡ None → is_pipe t ≡ false → At e (print_pipes y m b cs ++ rest) → PipesRead acc (next_at Command T e) (past_blanks T e) cs rest
+            → Follower rest t → begins_simple t ≡ false → is_pipe t ≡ false → At e (print_pipes y m b cs ++ rest) → PipesRead acc (next_at Command T e) (past_blanks T e) cs rest
         unfolding pipe_turn
         pipes_read m b no_pipe acc e rest t blank good normal f none no_pipe_it at = record {
           parts = [];
@@ -1044,7 +1374,7 @@ module _ (B T : List ℕ) (o : ℕ) (here : drop o B ≡ T) where
             let P = print_pipes y m false cs in
             append_assoc (print_bang bang ++ C) P rest ∙ append_assoc (print_bang bang) C (P ++ rest)
 
-        pub pipeline_begins : (m : Text) (x : Shape APipelineOf) (p : ℕ) (rest : Marks) (t : Token) → GoodPipeline room x → Follower rest t → behind_item t ≡ None
+        pub pipeline_begins : (m : Text) (x : Shape APipelineOf) (p : ℕ) (rest : Marks) (t : Token) → GoodPipeline room x → Follower rest t → begins_simple t ≡ false
             → At p (print_pipeline y m x ++ rest) → PipelineBegins p
         pipeline_begins m (pipeline None c cs) p rest t good f none at =
             command_pipeline p (command_begins m c p (print_pipes y m false cs ++ rest) good.0 (pipes_follow m false cs rest t f none).follower.follow (at ∙ ap laid (pipeline_marks m None c cs rest)))
@@ -1088,7 +1418,7 @@ module _ (B T : List ℕ) (o : ℕ) (here : drop o B ≡ T) where
         pipeline_shape b c ps bang d cs e f h = rw (e, f, h) refl
 
         pub pipeline_read : (m : Text) (x : Shape APipelineOf) (n : Next) (p : ℕ) (rest : Marks) (t : Token) → all_blank m ≡ true → GoodPipeline room x → is_normal_pipeline x ≡ true
-            → Follower rest t → behind_item t ≡ None → is_pipe t ≡ false → n.token ≡ token_at Command T p → At p (print_pipeline y m x ++ rest)
+            → Follower rest t → begins_simple t ≡ false → is_pipe t ≡ false → n.token ≡ token_at Command T p → At p (print_pipeline y m x ++ rest)
             → Got (a_pipeline inner n) p rest (λ v. shape_of_pipeline B v ≡ x)
         unfolding a_pipeline
         pipeline_read m (pipeline bang c cs) n p rest t blank good normal f none no_pipe_it token_is at =
@@ -1117,7 +1447,7 @@ module _ (B T : List ℕ) (o : ℕ) (here : drop o B ≡ T) where
             let P = print_and_or_parts y m (b || breaks_line j) xs in
             append_assoc (J ++ X) P rest ∙ append_assoc J X (P ++ rest)
 
-        operator_no_item : (k : AndOrOperator) → (behind_item (operator_token k) ≡ None) × (is_pipe (operator_token k) ≡ false) × (and_or_operator_of (operator_token k) ≡ Some k)
+        operator_no_item : (k : AndOrOperator) → (begins_simple (operator_token k) ≡ false) × (is_pipe (operator_token k) ≡ false) × (and_or_operator_of (operator_token k) ≡ Some k)
         operator_no_item And = (refl, refl, refl)
         operator_no_item Or = (refl, refl, refl)
 
@@ -1125,10 +1455,10 @@ module _ (B T : List ℕ) (o : ℕ) (here : drop o B ≡ T) where
         record PartsFollow (ms : Marks) : Type 0 where
           token : Token
           follower : Follower ms token
-          no_item : behind_item token ≡ None
+          no_item : begins_simple token ≡ false
           no_pipe_it : is_pipe token ≡ false
 
-        parts_follow : (m : Text) (b : Bool) (xs : Shape AndOrPartsOf) (rest : Marks) (t : Token) → Follower rest t → behind_item t ≡ None → is_pipe t ≡ false → PartsFollow (print_and_or_parts y m b xs ++ rest)
+        parts_follow : (m : Text) (b : Bool) (xs : Shape AndOrPartsOf) (rest : Marks) (t : Token) → Follower rest t → begins_simple t ≡ false → is_pipe t ≡ false → PartsFollow (print_and_or_parts y m b xs ++ rest)
         parts_follow m b no_and_or rest t f none no_pipe_it = record { token = t; follower = f; no_item = none; no_pipe_it = no_pipe_it }
         parts_follow m b (more_and_or k j x xs) rest t f none no_pipe_it =
             let ms = print_pipeline y (operand_margin y m (b || breaks_line j)) x ++ (print_and_or_parts y m (b || breaks_line j) xs ++ rest) in
@@ -1184,7 +1514,7 @@ module _ (B T : List ℕ) (o : ℕ) (here : drop o B ≡ T) where
         operator_here Or q ms at = some_here q 124 (124 ∷ laid ms) (at ∙ laid_text (codes "||") ms)
 
         one_part : (m : Text) (d : Text) (k : AndOrOperator) (j : AJoinOf Text) (x : Shape APipelineOf) (acc : Row AnAndOrPart) (n : Next) (q : ℕ) (ms : Marks) (t : Token)
-            → all_blank m ≡ true → all_blank d ≡ true → is_normal_join j ≡ true → GoodComments j.comments → GoodPipeline room x → is_normal_pipeline x ≡ true → Follower ms t → behind_item t ≡ None
+            → all_blank m ≡ true → all_blank d ≡ true → is_normal_join j ≡ true → GoodComments j.comments → GoodPipeline room x → is_normal_pipeline x ≡ true → Follower ms t → begins_simple t ≡ false
             → is_pipe t ≡ false → and_or_operator_of n.token ≡ Some k → n.broken ≡ false → At q (text (and_or_text k) ∷ (join_rest y m j ++ (print_pipeline y d x ++ ms))) → PartRead acc n q k j x ms
         unfolding join_pipeline one_pipeline
         one_part m d k j x acc n q ms t blank blank_d normal_j good_j good normal f none no_pipe_it is_it unbroken at =
@@ -1232,7 +1562,7 @@ module _ (B T : List ℕ) (o : ℕ) (here : drop o B ≡ T) where
         operator_gap Or e ms at = space_then e 124 (124 ∷ []) ms refl refl at
 
         parts_read : (m : Text) (b : Bool) (xs : Shape AndOrPartsOf) (acc : Row AnAndOrPart) (e : ℕ) (rest : Marks) (t : Token) → all_blank m ≡ true → GoodParts room xs → are_normal_and_ors xs ≡ true
-            → Follower rest t → behind_item t ≡ None → is_pipe t ≡ false → and_or_operator_of t ≡ None → At e (print_and_or_parts y m b xs ++ rest) → PartsRead acc (next_at Command T e) (past_blanks T e) xs rest
+            → Follower rest t → begins_simple t ≡ false → is_pipe t ≡ false → and_or_operator_of t ≡ None → At e (print_and_or_parts y m b xs ++ rest) → PartsRead acc (next_at Command T e) (past_blanks T e) xs rest
         parts_read m b no_and_or acc e rest t blank good normal f none no_pipe_it no_operator at = record {
           parts = [];
           «end» = e;
@@ -1266,7 +1596,7 @@ module _ (B T : List ℕ) (o : ℕ) (here : drop o B ≡ T) where
         and_or_marks : (m : Text) (x : Shape APipelineOf) (xs : Shape AndOrPartsOf) (rest : Marks) → print_and_or y m (and_or x xs) ++ rest ≡ print_pipeline y m x ++ (print_and_or_parts y m false xs ++ rest)
         and_or_marks m x xs rest = append_assoc (print_pipeline y m x) (print_and_or_parts y m false xs) rest
 
-        pub and_or_begins : (m : Text) (a : Shape AnAndOrOf) (p : ℕ) (rest : Marks) (t : Token) → GoodAndOr room a → Follower rest t → behind_item t ≡ None → is_pipe t ≡ false
+        pub and_or_begins : (m : Text) (a : Shape AnAndOrOf) (p : ℕ) (rest : Marks) (t : Token) → GoodAndOr room a → Follower rest t → begins_simple t ≡ false → is_pipe t ≡ false
             → At p (print_and_or y m a ++ rest) → PipelineBegins p
         and_or_begins m (and_or x xs) p rest t good f none no_pipe_it at =
             let follow = parts_follow m false xs rest t f none no_pipe_it in
@@ -1277,7 +1607,7 @@ module _ (B T : List ℕ) (o : ℕ) (here : drop o B ≡ T) where
         and_or_shape p ps x xs e f = rw (e, f) refl
 
         pub and_or_read : (m : Text) (a : Shape AnAndOrOf) (n : Next) (p : ℕ) (rest : Marks) (t : Token) → all_blank m ≡ true → GoodAndOr room a → is_normal_and_or a ≡ true
-            → Follower rest t → behind_item t ≡ None → is_pipe t ≡ false → and_or_operator_of t ≡ None → n.token ≡ token_at Command T p → At p (print_and_or y m a ++ rest)
+            → Follower rest t → begins_simple t ≡ false → is_pipe t ≡ false → and_or_operator_of t ≡ None → n.token ≡ token_at Command T p → At p (print_and_or y m a ++ rest)
             → Got (an_and_or inner n) p rest (λ v. shape_of_and_or B v ≡ a)
         unfolding an_and_or
         and_or_read m (and_or x xs) n p rest t blank good normal f none no_pipe_it no_operator token_is at =
@@ -1308,7 +1638,7 @@ module _ (B T : List ℕ) (o : ℕ) (here : drop o B ≡ T) where
         record EntryFollow (ms : Marks) : Type 0 where
           token : Token
           follower : Follower ms token
-          no_item : behind_item token ≡ None
+          no_item : begins_simple token ≡ false
           no_pipe_it : is_pipe token ≡ false
           no_operator : and_or_operator_of token ≡ None
 
@@ -2327,7 +2657,7 @@ module _ (B T : List ℕ) (o : ℕ) (here : drop o B ≡ T) where
             let there_q = at_q ∙ laid_text t ms in
             let v = (good.reads.there g q (laid ms) there_q follow).word B (sym here) in
             let word_read : Gives g (a_word inner) (standing q) v.0 (standing e) = gives _ v.1.0 in
-            let begins = ap (λ (n : Next). begins_simple n.token) (next_behind Suffix gap) ∙ ap begins_simple found.token_is ∙ good.begins in
+            let begins = ap (λ (n : Next). begins_word n.token) (next_behind Suffix gap) ∙ ap begins_word found.token_is ∙ good.begins in
             record {
               value = v.0;
               e = e;
@@ -2397,7 +2727,7 @@ module _ (B T : List ℕ) (o : ℕ) (here : drop o B ≡ T) where
             let P = print_items y m items in
             let follower = semicolon_follower (text (codes "do") ∷ ms) in
             let some_margin = deeper_some y m in
-            let stops = follows_end (laid (P ++ X)) (items_follow y m X good.items follower.follow) in
+            let stops = follows_end (laid (P ++ X)) (items_follow y m items X follower.follow) in
             let k = keyword_read (codes " ") (codes "in") reserved.In f (P ++ X) refl (in_key (P ++ X) stops) at in
             let is = items_read y m some_margin.0 some_margin.1 (deeper_blank y m blank) some_margin.2 X follower.follow (follower_behind follower refl) good.items [] k.f (λ none. (and_parts _ _ normal).0) k.at in
             let sep = sep_read is.«end» (codes "do") reserved.Do ms (do_key ms stop) is.at in
@@ -2607,7 +2937,7 @@ module _ (B T : List ℕ) (o : ℕ) (here : drop o B ≡ T) where
             let there_q = at_q ∙ laid_text (codes "|") X in
             let r_q = byte_here T q 124 (laid X) refl there_q in
             let moved : Gives g (move one_byte) (standing q) tt (standing (q + 1)) = subst (λ p. Gives g (move one_byte) (standing q) tt (standing p)) r_q.behind_it (moved_here one_byte) in
-            let v = word_at Suffix begins_simple (codes " ") w (q + 1) (more_marks ws ms) refl good.0 (more_follows ws ms) r_q.rest in
+            let v = word_at Suffix begins_word (codes " ") w (q + 1) (more_marks ws ms) refl good.0 (more_follows ws ms) r_q.rest in
             let others = patterns_read ws (acc ++ v.value ∷ []) v.e ms good.1 v.at in
             let n = next_at Suffix T f in
             let turned : Gives g (pattern_turn inner (patterned acc n)) (standing q) (again (patterned (acc ++ v.value ∷ []) (next_at Suffix T v.e))) (standing (past_blanks T v.e)) =
@@ -2641,7 +2971,7 @@ module _ (B T : List ℕ) (o : ℕ) (here : drop o B ≡ T) where
         first_pattern tokens.Pipe e = absurd cc
         first_pattern tokens.OpenParen e = absurd cc
         first_pattern tokens.CloseParen e = absurd cc
-        first_pattern tokens.Operator e = absurd cc
+        first_pattern (tokens.Redirect k) e = absurd cc
         first_pattern tokens.Comment e = absurd cc
         first_pattern tokens.Number e = absurd cc
         first_pattern (tokens.Reserved r) e = record { bracket = refl; esac = no_esac r e; newline = refl; comment = refl }
@@ -2975,7 +3305,7 @@ module _ (B T : List ℕ) (o : ℕ) (here : drop o B ≡ T) where
         case_read m w items tail f rest blank good normal stop at =
             let parts = and_parts _ _ normal in
             let X = line_end ∷ next_marks m items tail rest in
-            let v = word_at Suffix begins_simple (codes " ") w f (case_marks m items tail rest) refl good.0 (case_follows m items tail rest) at in
+            let v = word_at Suffix begins_word (codes " ") w f (case_marks m items tail rest) refl good.0 (case_follows m items tail rest) at in
             let k = keyword_read (codes " ") (codes "in") reserved.In v.e X refl (in_key X (line_end_end _)) v.at in
             let l = break_read (case_margin y m) (items_margin m items) (margin_blank m blank) (items_blank m items blank) (items_marks m items tail rest) (items_operand m items tail rest good.1 stop)
             (first_comments items tail) k.f (first_good items tail good.1 good.2) k.at in
@@ -3118,40 +3448,34 @@ module _ (B T : List ℕ) (o : ℕ) (here : drop o B ≡ T) where
             let ms = print_word w ++ case_marks m items tail rest in
             opened_by openers.Case reserved.Case p (text (codes " ") ∷ ms) refl refl refl (key_by (codes "case") reserved.Case (text (codes " ") ∷ ms) (space_end ms) (λ p x xs clear stops at. case_here T p x xs clear stops at)) at
 
-        compound_is : (m : Text) (form : Shape AFormOf) (mark : Unit {0}) (redirects : Shape ItemsOf) (rest : Marks) → GoodForm room form → NoItems redirects
-            → laid (print_compound y m (formed form mark redirects) ++ rest) ≡ laid (text (opener_text (opener_for form)) ∷ form_rest m form rest)
-        compound_is m form mark no_item rest good none = ap laid (append_assoc (print_form y m form) [] rest) ∙ form_is m form rest good
-        compound_is m form mark (more_items i is) rest good none = absurd none
+        compound_is : (m : Text) (form : Shape AFormOf) (mark : Unit {0}) (redirects : Shape ItemsOf) (rest : Marks) → GoodForm room form
+            → laid (print_compound y m (formed form mark redirects) ++ rest) ≡ laid (text (opener_text (opener_for form)) ∷ form_rest m form (print_items y m redirects ++ rest))
+        compound_is m form mark redirects rest good = ap laid (append_assoc (print_form y m form) (print_items y m redirects) rest) ∙ form_is m form (print_items y m redirects ++ rest) good
 
         -- a compound command opens so, one level further out
         pub compound_opens : (m : Text) (c : Shape ACompoundOf) (p : ℕ) (rest : Marks) → GoodCompound (suc room) c → At p (print_compound y m c ++ rest) → (k : Opener) × Opens p k
         compound_opens m (formed form mark redirects) p rest good at =
-            (opener_for form, (form_opened m form p rest good.0 (at ∙ compound_is m form mark redirects rest good.0 good.1)).opens)
+            (opener_for form, (form_opened m form p (print_items y m redirects ++ rest) good.0 (at ∙ compound_is m form mark redirects rest good.0)).opens)
 
         opener_same : (k l : Opener) (p : ℕ) → Opens p k → Opens p l → k ≡ l
         opener_same k l p one two = let same : ◌≡◌ {A = Option Opener} (Some k) (Some l) = sym one.opener ∙ two.opener in cc
 
-        compound_shape : (v : AForm) (s : Span) (form : Shape AFormOf) (mark : Unit {0}) (redirects : Shape ItemsOf) → NoItems redirects → shape_of_form B v ≡ form
-            → shape_of_command B (compound (formed v s no_item)) ≡ compound (formed form mark redirects)
-        compound_shape v s form mark no_item none e = ap (λ form. compound (formed form tt no_item)) e
-        compound_shape v s form mark (more_items i is) none e = absurd none
-
-        pub compound_read : (m : Text) (c : Shape ACompoundOf) (p : ℕ) (rest : Marks) (t : Token) (k : Opener) → all_blank m ≡ true → GoodCompound (suc room) c → is_normal_compound c ≡ true
-            → Follower rest t → behind_item t ≡ None → Opens p k → At p (print_compound y m c ++ rest) → Got (a_compound inner k) p rest (λ v. shape_of_command B v ≡ compound c)
+        pub compound_read : (m : Text) (c : Shape ACompoundOf) (p : ℕ) (rest : Marks) (k : Opener) → all_blank m ≡ true → GoodCompound (suc room) c → is_normal_compound c ≡ true
+            → follows (laid rest) ≡ true → Opens p k → At p (print_compound y m (bare_compound c) ++ rest) → Got (a_compound inner k) p rest (λ v. shape_of_command B v ≡ compound (bare_compound c))
         unfolding a_compound
-        compound_read m (formed form mark redirects) p rest t k blank good normal f none opens at =
-            let there = at ∙ compound_is m form mark redirects rest good.0 good.1 in
+        compound_read m (formed form mark redirects) p rest k blank good normal follow opens at =
+            let there = at ∙ compound_is m form mark no_item rest good.0 in
             let it = form_opened m form p rest good.0 there in
-            let r = form_read m form it.f rest blank good.0 (and_parts _ _ normal).0 (follows_end (laid rest) f.follow) it.at in
+            let r = form_read m form it.f rest blank good.0 (and_parts _ _ normal).0 (follows_end (laid rest) follow) it.at in
             let c = compound (formed r.value (through it.s r.closer) no_item) in
-            let got : Got (a_compound inner (opener_for form)) p rest (λ v. shape_of_command B v ≡ compound (formed form mark redirects)) = record {
+            let got : Got (a_compound inner (opener_for form)) p rest (λ v. shape_of_command B v ≡ compound (formed form mark no_item)) = record {
               value = c;
               «end» = r.e;
               at = r.at;
               reads = it.reads ⟫ r.reads ⟫ pushed_here [] c ⟫ given_here;
-              is = compound_shape r.value (through it.s r.closer) form mark redirects good.1 r.is;
+              is = ap (λ form. compound (formed form tt no_item)) r.is;
             } in
-            subst (λ k. Got (a_compound inner k) p rest (λ v. shape_of_command B v ≡ compound (formed form mark redirects))) (opener_same (opener_for form) k p it.opens opens) got
+            subst (λ k. Got (a_compound inner k) p rest (λ v. shape_of_command B v ≡ compound (formed form mark no_item))) (opener_same (opener_for form) k p it.opens opens) got
 
         -- ---- functions
 
@@ -3206,7 +3530,7 @@ module _ (B T : List ℕ) (o : ℕ) (here : drop o B ≡ T) where
 
         -- the brackets behind a name, and the body, one level further out
         pub function_read : (m : Text) (name : Span) (cs : Row Text) (body : Shape ACompoundOf) (p : ℕ) (rest : Marks) (t : Token) → all_blank m ≡ true → GoodComments cs → GoodCompound room body
-            → is_normal_compound body ≡ true → Follower rest t → behind_item t ≡ None → At p (text (codes "()") ∷ function_rest m cs body rest)
+            → is_normal_compound body ≡ true → Follower rest t → begins_simple t ≡ false → At p (text (codes "()") ∷ function_rest m cs body rest)
             → Got (a_function inner name) p rest (λ v. shape_of_command B v ≡ function (text_at B name) cs body)
         unfolding a_function closing
         function_read m name cs body p rest t blank own good normal f none at =
@@ -3219,15 +3543,12 @@ module _ (B T : List ℕ) (o : ℕ) (here : drop o B ≡ T) where
             let closed = subst (λ q. Gives g (passed (closing_text closings.Paren) true Command) (standing q) (span o (p + 1) (p + 1 + 1), next_at Command T (p + 1 + 1)) (standing (past_blanks T (p + 1 + 1)))) (sym gap.blanks) (passed_paren (closing_text closings.Paren) (p + 1) r2.behind_it) in
             let operand : (q : ℕ) → At q ms → Operand q = λ q at. let b = fine.opens m body q rest good at in begins_operand q (record { start = b.1.start; command = opens_by (token_at Command T q) b.0 b.1.opener }) in
             let lines = function_gap m blank ms operand cs body (p + 1 + 1) own r2.rest in
-            let b = fine.opens m body lines.q rest good lines.at in
-            let back = fine.back m body lines.q rest t b.0 blank good normal f none b.1 lines.at in
-            let opener_is : opener_of lines.next.token ≡ Some b.0 = ap opener_of lines.token_is ∙ b.1.opener in
-            let body_read : Gives g (compound_by inner lines.next (opener_of lines.next.token)) (standing lines.q) (back.value, next_at Command T back.«end») (standing (past_blanks T back.«end»)) = rw opener_is back.reads in
+            let back = whole_compound m body lines.next lines.q rest t blank good normal f none lines.token_is lines.at in
             record {
               value = under_name name lines.comments back.value;
               «end» = back.«end»;
               at = back.at;
-              reads = passed_paren (opener_text openers.Paren) p r.behind_it ⟫ first_of _ _ closes closed ⟫ lines.reads ⟫ body_read ⟫ given_here;
+              reads = passed_paren (opener_text openers.Paren) p r.behind_it ⟫ first_of _ _ closes closed ⟫ lines.reads ⟫ back.reads ⟫ given_here;
               is = under_shape name lines.comments back.value body cs back.is lines.shape;
             }
 
@@ -3240,12 +3561,12 @@ module _ (B T : List ℕ) (o : ℕ) (here : drop o B ≡ T) where
   unfolding level
   fine y zero = record {
     opens = λ m c p rest good at. absurd (none_at_all c good);
-    back = λ m c p rest t k blank good normal f none opens at. absurd (none_at_all c good);
+    back = λ m c p rest k blank good normal follow opens at. absurd (none_at_all c good);
     function_back = λ m name cs body p rest t blank own good normal f none at. absurd good;
   }
   fine y (suc room) = record {
     opens = λ m c p rest good at. compound_opens room y (fine y room) m c p rest good at;
-    back = λ m c p rest t k blank good normal f none opens at. compound_read room y (fine y room) m c p rest t k blank good normal f none opens at;
+    back = λ m c p rest k blank good normal follow opens at. compound_read room y (fine y room) m c p rest k blank good normal follow opens at;
     function_back = λ m name cs body p rest t blank own good normal f none at. function_read room y (fine y room) m name cs body p rest t blank own good normal f none at;
   }
 

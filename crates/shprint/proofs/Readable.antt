@@ -10,22 +10,24 @@ use Rattle.shread.specs.declared.token.Opener.TheVariants as openers
 use Rattle.shread.specs.declared.token.Position.{Position}
 use Rattle.shread.specs.declared.token.Position.TheVariants.{Command, Prefix, Suffix}
 use Rattle.shread.specs.declared.token.Separator.{Separator}
+use Rattle.shread.specs.declared.fault.FaultKind.TheVariants.{Unexpected}
+use Rattle.shtree.specs.declared.tree.RedirectOperator.{RedirectOperator}
 use Rattle.shread.specs.declared.token.Token.{Token}
 use Rattle.shread.specs.declared.token.Token.TheVariants as tokens
 use Rattle.shtree.specs.declared.tree.AndOrOperator.{AndOrOperator}
 use Rattle.shtree.specs.declared.tree.Span.{Span}
-use Rattle.shtree.specs.Tree.{APipelinePart, AnAndOrPart, ACommand, ABranch, AForm, Entries, pipeline_parts_of, and_or_parts_of, branches_of, AnEntry, AnItem, AWord, item, entry, remark, entries_of, items_of, ItemsOf, no_item, more_items, AnItemOf, AWordOf, ASubst, SubstsOf, word, substs_of, ACompound, compound, argument, ACaseItem, cases_of, patterns_of}
-use Rattle.shtree.specs.Shape.{Text, Shape, text_at, shape_of, shape_of_comment, shape_of_comments, shape_of_entry, shape_of_and_or, shape_of_and_or_parts, shape_of_pipeline, shape_of_pipes, shape_of_command, shape_of_form, shape_of_branch, shape_of_branches, shape_of_else, shape_of_for_words, shape_of_items, shape_of_item, shape_of_word, shape_of_substs, shape_of_compound, shape_of_patterns, shape_of_cases, shape_of_case}
+use Rattle.shtree.specs.Tree.{APipelinePart, AnAndOrPart, ACommand, ABranch, AForm, Entries, pipeline_parts_of, and_or_parts_of, branches_of, AnEntry, AnItem, AWord, item, entry, remark, entries_of, items_of, ItemsOf, no_item, more_items, AnItemOf, AWordOf, ASubst, SubstsOf, word, substs_of, ACompound, compound, argument, ACaseItem, cases_of, patterns_of, AFormOf, formed, redirect, with_redirects}
+use Rattle.shtree.specs.Shape.{Text, Shape, bare_at, text_at, shape_of, shape_of_comment, shape_of_comments, shape_of_entry, shape_of_and_or, shape_of_and_or_parts, shape_of_pipeline, shape_of_pipes, shape_of_command, shape_of_form, shape_of_branch, shape_of_branches, shape_of_else, shape_of_for_words, shape_of_items, shape_of_item, shape_of_word, shape_of_substs, shape_of_compound, shape_of_patterns, shape_of_cases, shape_of_case}
 use Rattle.shread.specs.Classes.{is_blank}
 use Rattle.shread.specs.Bytes.{past_continuations, past_blanks, stands_in}
 use Rattle.shread.specs.Comments.{span, comment_at}
 use Rattle.shread.specs.Tokens.{is_name_at, token_at}
 use Rattle.shread.specs.Sights.{Given, given, State, standing, Sight, seen, Move, to}
-use Rattle.shread.specs.Form.{Spelled, Read, Form, see, move, push, give, both, many, Step, again, done, step_if, may, raw}
+use Rattle.shread.specs.Form.{Spelled, Read, Form, see, move, push, stop, give, ◌>>=◌, both, many, Step, again, done, step_if, may, raw}
 use Rattle.shread.specs.Words.{Inner, a_word}
-use Rattle.shread.specs.Commands.{pick, next_token, is_newline, is_semicolon, a_semicolon, is_pipe, is_bang, begins_simple, begins_pipeline, opener_of, compound_by, and_or_operator_of, Items, so_many, behind_item, as_item, breaks, an_item, item_by, item_turn, a_simple, unexpected, comment_by, a_comment, a_newline, with_comment, JoinSo, join_turn, a_join, a_command, a_bang, Piped, piped, one_command, pipe_turn, a_pipeline, Joined, joined_so, one_pipeline, joined_by, join_pipeline, an_and_or, separator_of, separator_by, a_separator, an_entry, is_word, is_paren, a_worded, ASeparator, past_separator, is_double_semicolon}
+use Rattle.shread.specs.Commands.{pick, next_token, is_newline, is_semicolon, a_semicolon, is_pipe, is_bang, begins_simple, begins_word, begins_redirect, begins_pipeline, opener_of, compound_by, and_or_operator_of, Items, so_many, behind_word, is_number, redirect_operator_of, takes_here, a_number, an_operator, operator_by, a_target, one_redirect, behind_redirect, redirect_turn, redirected, as_item, breaks, an_item, item_by, item_turn, a_simple, unexpected, comment_by, a_comment, a_newline, with_comment, JoinSo, join_turn, a_join, a_command, a_bang, Piped, piped, one_command, pipe_turn, a_pipeline, Joined, joined_so, one_pipeline, joined_by, join_pipeline, an_and_or, separator_of, separator_by, a_separator, an_entry, is_word, is_paren, a_worded, ASeparator, past_separator, is_double_semicolon}
 use Rattle.shread.specs.Lists.{ListSo, list_so, none_listed, is_blank_next, one_entry, entry_turn, remark_by, a_remark, on_line, list_turn, a_list}
-use Rattle.shread.specs.Compounds.{Branched, branched, Closed, is_closing, passed, closing, a_group, a_branch, elif_turn, an_else, an_if, a_loop, behind_opener, a_for_name, a_linebreak, a_sequential_sep, Headed, for_words, a_for_head, behind_remarks, a_for, a_form, a_compound, under_name, a_function, a_case_word, begins_pattern, Patterned, a_pattern, one_pattern, pattern_turn, a_pattern_list, an_open_bracket, a_body, ItemEnd, a_double_semicolon, an_item_end, CasesSo, cases_so, one_case, case_turn, a_case_head, a_case}
+use Rattle.shread.specs.Compounds.{Branched, branched, Closed, is_closing, passed, closing, a_group, a_branch, elif_turn, an_else, an_if, a_loop, behind_opener, a_for_name, a_linebreak, a_sequential_sep, Headed, word_turn, for_words, a_for_head, behind_remarks, a_for, a_form, a_compound, under_name, a_function, a_case_word, begins_pattern, Patterned, a_pattern, one_pattern, pattern_turn, a_pattern_list, an_open_bracket, a_body, ItemEnd, a_double_semicolon, an_item_end, CasesSo, cases_so, one_case, case_turn, a_case_head, a_case}
 use Rattle.shread.specs.Levels.{most_open, level}
 use Rattle.shread.specs.Lines.{a_line}
 use Rattle.shread.specs.Scripts.{AScript, SoFar, Lines, line_ended, last_line, faulty, nothing_yet, Outcome}
@@ -37,7 +39,8 @@ use Rattle.shread.proofs.Spelling.{raw_at}
 use Rattle.shread.proofs.Elsewhere.{ItemAnywhere, NameAnywhere, is_a_word, item_is_word, token_anywhere, item_anywhere, name_anywhere}
 use Rattle.shread.proofs.CommentsElsewhere.{CommentAnywhere, comment_is, comment_anywhere}
 use Rattle.shprint.proofs.Tokens.{word_token}
-use Rattle.shprint.proofs.Good.{GoodComments, GoodOwnComment, an_item_of, GoodItems, none_more, one_more, SomeItem, GoodSimple, GoodWords, GoodForWords, GoodName, GoodEntries, GoodEntry, GoodAndOr, GoodParts, GoodPipeline, GoodPipes, GoodCommand, GoodForm, GoodBranch, GoodBranches, GoodElse, GoodCompound, GoodWord, GoodMorePatterns, GoodPatterns, GoodCases, GoodCase}
+use Rattle.shprint.proofs.Digits.{digits_good, number_here}
+use Rattle.shprint.proofs.Good.{GoodComments, GoodOwnComment, an_item_of, a_redirect_of, GoodNumber, GoodRedirect, GoodRedirects, Kind, of_command, of_for, of_compound, GoodItem, of_word, of_argument, of_redirect, of_redirect_behind, GoodItems, none_more, one_more, SomeItem, GoodSimple, GoodWords, GoodForWords, GoodName, GoodEntries, GoodEntry, GoodAndOr, GoodParts, GoodPipeline, GoodPipes, GoodCommand, GoodForm, GoodBranch, GoodBranches, GoodElse, GoodCompound, GoodWord, GoodMorePatterns, GoodPatterns, GoodCases, GoodCase}
 use Rattle.shtree.specs.Nodes.{word_span}
 use Rattle.shread.proofs.NamesBefore.{NameBefore, name_before}
 
@@ -52,10 +55,15 @@ some_last : (is : Shape ItemsOf) (i : Shape AnItemOf) → SomeItem (with_last is
 some_last no_item i = tt
 some_last (more_items j is) i = tt
 
-items_more : {room : ℕ} {first position next : Position} {token : Token} {t : Text} {ss : Shape SubstsOf} {is : Shape ItemsOf} (broken : Bool) → GoodItems room first is position → behind_item token ≡ Some next
-    → ItemAnywhere room position token t ss → GoodItems room first (with_last is (an_item_of broken next (word t ss))) next
-items_more broken none_more e one = one_more e one none_more
-items_more broken (one_more f other rest) e one = one_more f other (items_more broken rest e one)
+-- with other redirections
+compound_with : (room : ℕ) (form : Shape AFormOf) (others more : Shape ItemsOf) → GoodCompound room (formed form tt others) → GoodRedirects room more → GoodCompound room (formed form tt more)
+compound_with zero form others more good redirects = absurd good
+compound_with (suc room) form others more good redirects = (good.0, redirects)
+
+items_more : {room : ℕ} {kind : Kind} {first position next : Position} {i : Shape AnItemOf} {is : Shape ItemsOf} → GoodItems room kind first is position → GoodItem room kind position i next
+    → GoodItems room kind first (with_last is i) next
+items_more none_more one = one_more one none_more
+items_more (one_more other rest) one = one_more other (items_more rest one)
 
 module _ (B : List ℕ) where
   items_last : (is : Row AnItem) (i : AnItem) → shape_of_items B (items_of (is ++ i ∷ [])) ≡ with_last (shape_of_items B (items_of is)) (shape_of_item B i)
@@ -88,13 +96,13 @@ module _ (B : List ℕ) where
     branches_more [] b all one = (one, tt)
     branches_more (c ∷ bs) b all one = (all.0, branches_more bs b all.1 one)
 
-    patterns_more : (ws : Row AWord) (w : AWord) → GoodMorePatterns room (shape_of_patterns B (patterns_of ws)) → GoodWord room Suffix begins_simple (shape_of_word B w)
+    patterns_more : (ws : Row AWord) (w : AWord) → GoodMorePatterns room (shape_of_patterns B (patterns_of ws)) → GoodWord room Suffix begins_word (shape_of_word B w)
         → GoodMorePatterns room (shape_of_patterns B (patterns_of (ws ++ w ∷ [])))
     patterns_more [] w all one = (one, tt)
     patterns_more (v ∷ ws) w all one = (all.0, patterns_more ws w all.1 one)
 
     -- one more pattern, behind others
-    patterns_last : (ws : Row AWord) (w : AWord) → GoodPatterns room (shape_of_patterns B (patterns_of ws)) → GoodWord room Suffix begins_simple (shape_of_word B w)
+    patterns_last : (ws : Row AWord) (w : AWord) → GoodPatterns room (shape_of_patterns B (patterns_of ws)) → GoodWord room Suffix begins_word (shape_of_word B w)
         → GoodPatterns room (shape_of_patterns B (patterns_of (ws ++ w ∷ [])))
     patterns_last [] w all one = absurd all
     patterns_last (v ∷ ws) w all one = (all.0, patterns_more ws w all.1 one)
@@ -119,7 +127,7 @@ pattern_is_word tokens.OrIf e = absurd cc
 pattern_is_word tokens.Pipe e = absurd cc
 pattern_is_word tokens.OpenParen e = absurd cc
 pattern_is_word tokens.CloseParen e = absurd cc
-pattern_is_word tokens.Operator e = absurd cc
+pattern_is_word (tokens.Redirect o) e = absurd cc
 pattern_is_word tokens.Comment e = absurd cc
 pattern_is_word tokens.Number e = absurd cc
 pattern_is_word (tokens.Reserved r) e = refl
@@ -339,10 +347,9 @@ module _ (B : List ℕ) (g : Given) (here : g.text ≡ drop g.offset B) where
 
     -- the items so far, and the token behind them; where it begins none there is one
     record ItemsSo (i : Items) (p : ℕ) : Type 0 where
-      pub position : Position
-      pub good : GoodItems room Command (items i) position
-      pub stands : Stands g position i.next p
-      pub begun : behind_item i.next.token ≡ None → SomeItem (items i)
+      pub good : GoodItems room of_command Command (items i) i.place
+      pub stands : Stands g i.place i.next p
+      pub begun : begins_simple i.next.token ≡ false → SomeItem (items i)
 
     abbrev ItemsOn : Items → ℕ → Type 0
     ItemsOn i p = ItemsSo i p × SomeItem (items i)
@@ -351,40 +358,123 @@ module _ (B : List ℕ) (g : Given) (here : g.text ≡ drop g.offset B) where
     ItemsDone i p = GoodSimple room (items i)
 
     simple_is : (i : Items) (p : ℕ) → ItemsOn i p → GoodSimple room (items i)
-    simple_is i p (so, some) = record { last = so.position; items = so.good; some = some }
+    simple_is i p (so, some) = record { last = i.place; items = so.good; some = some }
 
     -- the shape of the word that was read from p up to q
     word_shape : (p q : ℕ) (w : AWord) (read : WordRead g room p w q) → shape_of_word B w ≡ word (take (q - p) (drop p g.text)) (shape_of_substs B (substs_of read.substs))
     word_shape p q w read = ap (shape_of_word B) read.is ∙ ap (λ t. word t (shape_of_substs B (substs_of read.substs))) (sym (raw_at B g here p q))
 
-    -- one more item, by the word that was read from p up to q
-    one_item : (begin position : Position) (i : Items) (next : Position) (p q : ℕ) (w : AWord) → behind_item i.next.token ≡ Some next → GoodItems room begin (items i) position → Stands g position i.next p
-        → WordRead g room p w q → GoodItems room begin (shape_of_items B (items_of (i.items ++ item (breaks i) (as_item next w) ∷ []))) next
-    one_item begin position i next p q w is good stands read =
-        let text = text_at B (span g.offset p q) in
-        let ss = shape_of_substs B (substs_of read.substs) in
-        let anywhere = item_anywhere room position i.next.token g p (q - p) (w, read.part) stands.place stands.no_blank stands.token_is (ap is_some is) B here ss (word_shape p q w read) in
-        let shape = items_last B i.items (item (breaks i) (as_item next w)) ∙ ap (with_last (items i)) (item_is B (breaks i) next w (word text ss) (ap (shape_of_word B) read.is)) in
-        subst (λ (s : Shape ItemsOf). GoodItems room begin s next) (sym shape)
-        (items_more (breaks i) good is (subst (λ (t : Text). ItemAnywhere room position i.next.token t ss) (raw_at B g here p q) anywhere))
+    -- the text and the substitutions of a word that was read from p up to q
+    abbrev text_of : (p q : ℕ) → Text
+    text_of p q = text_at B (span g.offset p q)
+
+    abbrev substs_in : {p q : ℕ} {w : AWord} → WordRead g room p w q → Shape SubstsOf
+    substs_in read = shape_of_substs B (substs_of read.substs)
+
+    reads_anywhere : (position : Position) (n : Next) (p q : ℕ) (w : AWord) → begins_word n.token ≡ true → Stands g position n p → (read : WordRead g room p w q)
+        → ItemAnywhere room position n.token (text_of p q) (substs_in read)
+    reads_anywhere position n p q w is stands read =
+        let anywhere = item_anywhere room position n.token g p (q - p) (w, read.part) stands.place stands.no_blank stands.token_is is B here (substs_in read) (word_shape p q w read) in
+        subst (λ (t : Text). ItemAnywhere room position n.token t (substs_in read)) (raw_at B g here p q) anywhere
+
+    -- one more item of this shape
+    one_more_good : (kind : Kind) (begin position next : Position) (is : Row AnItem) (i : AnItem) (j : Shape AnItemOf) → shape_of_item B i ≡ j → GoodItem room kind position j next
+        → GoodItems room kind begin (shape_of_items B (items_of is)) position → GoodItems room kind begin (shape_of_items B (items_of (is ++ i ∷ []))) next
+    one_more_good kind begin position next is i j shape one good =
+        subst (λ (s : Shape ItemsOf). GoodItems room kind begin s next) (sym (items_last B is i ∙ ap (with_last (shape_of_items B (items_of is))) shape)) (items_more good one)
+
+    -- one more word of a simple command, which was read from p up to q
+    one_item : (begin position : Position) (is : Row AnItem) (broken : Bool) (n : Next) (next : Position) (p q : ℕ) (w : AWord) → behind_word n.token ≡ Some next
+        → GoodItems room of_command begin (shape_of_items B (items_of is)) position → Stands g position n p → WordRead g room p w q
+        → GoodItems room of_command begin (shape_of_items B (items_of (is ++ item broken (as_item next w) ∷ []))) next
+    one_item begin position is broken n next p q w some good stands read =
+        one_more_good of_command begin position next is (item broken (as_item next w)) (an_item_of broken next (word (text_of p q) (substs_in read)))
+        (item_is B broken next w (word (text_of p q) (substs_in read)) (ap (shape_of_word B) read.is)) (of_word some (reads_anywhere position n p q w (ap is_some some) stands read)) good
 
     some_item : (is : Row AnItem) (i : AnItem) → SomeItem (shape_of_items B (items_of (is ++ i ∷ [])))
     some_item is i = subst SomeItem (sym (items_last B is i)) (some_last (shape_of_items B (items_of is)) (shape_of_item B i))
 
-    reads_item : (i : Items) (next : Position) (p : ℕ) → behind_item i.next.token ≡ Some next → ItemsSo i p → Reads g (an_item inner i next) (Turned g ItemsOn ItemsDone) p
+    reads_item : (i : Items) (next : Position) (p : ℕ) → behind_word i.next.token ≡ Some next → ItemsSo i p → Reads g (an_item inner i next) (Turned g ItemsOn ItemsDone) p
     unfolding an_item
     reads_item i next p is so =
         first g (reads_word g room p) (λ w q read. pushes g (first g (reads_next g next q) (λ n e stands.
         let some = some_item i.items (item (breaks i) (as_item next w)) in
-        gives g (record { position = next; good = one_item Command so.position i next p q w is so.good so.stands read; stands = stands; begun = λ y. some }, some))))
+        gives g (record { good = one_item Command i.place i.items (breaks i) i.next next p q w is so.good so.stands read; stands = stands; begun = λ y. some }, some))))
+
+    -- ---- redirections
+
+    abbrev bare_number : Option Span → Option Text
+    bare_number d = option_map (bare_at B) d
+
+    -- the number before an operator is digits
+    reads_number : (position : Position) (n : Next) (p : ℕ) → Stands g position n p → Reads g (a_number n) (λ x e. GoodNumber (bare_number x.0)) p
+    unfolding a_number
+    reads_number position n p so =
+        picks g (is_number n.token)
+        (λ is. first g (record { reads = record { told = (refl, digits_good B g here p (number_here position g.text p n.token so.token_is is)) } }) (λ x e good. first g (reads_next g Suffix e) (λ m f stands. gives g good)))
+        (gives g tt)
+
+    -- the word of a redirection
+    abbrev TargetGood : AWord → ℕ → Type 0
+    TargetGood w e = (t : Text) × (ss : Shape SubstsOf) × (shape_of_word B w ≡ word t ss) × ItemAnywhere room Suffix tokens.Word t ss
+
+    reads_target : (p : ℕ) → Reads g (a_target inner) TargetGood p
+    unfolding a_target
+    reads_target p =
+        first g (reads_next g Suffix p) (λ n e stands. picks g (is_word n.token)
+        (λ is. first_so n e (word_token n.token is) stands) (stopped g inner n))
+      where
+        first_so : (n : Next) (e : ℕ) → n.token ≡ tokens.Word → Stands g Suffix n e → Reads g (a_word inner) TargetGood e
+        first_so n e is stands =
+            so_reads g (reads_word g room e) (λ w q read. (
+              text_of e q,
+              substs_in read,
+              ap (shape_of_word B) read.is,
+              subst (λ (t : Token). ItemAnywhere room Suffix t (text_of e q) (substs_in read)) is (reads_anywhere Suffix n e q w (ap begins_word is) stands read),
+            ))
+
+    -- whatever holds behind a good redirection
+    reads_redirect : (Q : Items → ℕ → Type 0) (broken : Bool) (place next : Position) (is : Row AnItem) (n : Next) (p : ℕ) → Stands g place n p
+        → ((i : AnItem) (number : Option Text) (o : RedirectOperator) (t : Text) (ss : Shape SubstsOf) (m : Next) (e : ℕ) → shape_of_item B i ≡ a_redirect_of broken number o t ss → GoodRedirect room number o t ss
+        → Stands g next m e → Q (so_many (is ++ i ∷ []) next m) e) → Reads g (one_redirect inner broken next is n) (Turned g Q Q) p
+    unfolding one_redirect
+    reads_redirect Q broken place next is n p so all =
+        sees g (first g (reads_number place n p so) (λ d e one. first g (reads_operator (g.offset + p) (redirect_operator_of d.1.token) e) (λ o f two. first g (reads_target f) (λ w h three.
+        pushes g (first g (reads_next g next h) (λ m k stands.
+        gives g (all (item broken (redirect d.0 o.0 o.1 w None)) (bare_number d.0) o.0 three.0 three.1 m k (redirect_shape broken d.0 o.0 o.1 w three.0 three.1 three.2)
+        (record { digits = one; no_here = two; reads = three.3 }) stands)))))))
+      where
+        reads_operator : (at : ℕ) (o : Option RedirectOperator) (e : ℕ) → Reads g (operator_by at o) (λ x f. takes_here x.0 ≡ false) e
+        reads_operator at (Some o) e = by_here (takes_here o) refl
+          where
+            by_here : (b : Bool) → takes_here o ≡ b → Reads g {X = RedirectOperator × Span} (pick b (stop Unexpected at) (an_operator o >>= λ x. give (o, x.1))) (λ x f. takes_here x.0 ≡ false) e
+            by_here true is = record { reads = record { told = tt } }
+            by_here false is = after g (λ x f. gives g is)
+        reads_operator at None e = record { reads = record { told = tt } }
+
+        redirect_shape : (broken : Bool) (d : Option Span) (o : RedirectOperator) (s : Span) (w : AWord) (t : Text) (ss : Shape SubstsOf) → shape_of_word B w ≡ word t ss
+            → shape_of_item B (item broken (redirect d o s w None)) ≡ a_redirect_of broken (bare_number d) o t ss
+        redirect_shape broken d o s w t ss is = rw is refl
 
     reads_item_turn : (i : Items) (p : ℕ) → ItemsSo i p → Reads g (item_turn inner i) (Turned g ItemsOn ItemsDone) p
     unfolding item_turn
-    reads_item_turn i p so = by_token (behind_item i.next.token) refl
+    reads_item_turn i p so = by_token (behind_word i.next.token) refl
       where
-        by_token : (next : Option Position) → behind_item i.next.token ≡ next → Reads g (item_by inner i next) (Turned g ItemsOn ItemsDone) p
+        on_done : (c : Step Items) (e : ℕ) → Turned g ItemsOn ItemsOn c e → Turned g ItemsOn ItemsDone c e
+        on_done (again j) e on = on
+        on_done (done j) e on = simple_is j e on
+
+        by_redirect : (b : Bool) → begins_redirect i.next.token ≡ b → behind_word i.next.token ≡ None
+            → Reads g (pick b (one_redirect inner (breaks i) (behind_redirect i.place) i.items i.next) (give (done i))) (Turned g ItemsOn ItemsDone) p
+        by_redirect true is none =
+            so_reads g (reads_redirect ItemsOn (breaks i) i.place (behind_redirect i.place) i.items i.next p so.stands (λ j number o t ss m e shape good stands.
+            let some = some_item i.items j in
+            (record { good = one_more_good of_command Command i.place (behind_redirect i.place) i.items j _ shape (of_redirect good) so.good; stands = stands; begun = λ y. some }, some))) on_done
+        by_redirect false is none = gives g (simple_is i p (so, so.begun (rw (none, is) refl)))
+
+        by_token : (next : Option Position) → behind_word i.next.token ≡ next → Reads g (item_by inner i next) (Turned g ItemsOn ItemsDone) p
         by_token (Some next) is = reads_item i next p is so
-        by_token None is = gives g (simple_is i p (so, so.begun is))
+        by_token None is = by_redirect (begins_redirect i.next.token) refl is
 
     -- a command, by its shape
     abbrev Command_is : {X : Type 0} → ACommand × X → ℕ → Type 0
@@ -395,8 +485,8 @@ module _ (B : List ℕ) (g : Given) (here : g.text ≡ drop g.offset B) where
     reads_simple i p so = first g (repeats g (item_turn inner) ItemsSo ItemsOn ItemsDone reads_item_turn (λ i e on. on.0) simple_is i p so) (λ i e good. gives g good)
 
     -- where the first item begins
-    no_items_so : (n : Next) (p : ℕ) → begins_simple n.token ≡ true → Stands g Command n p → ItemsSo (so_many [] n) p
-    no_items_so n p begins so = record { position = Command; good = none_more; stands = so; begun = λ none. let no : false ≡ true = sym (ap is_some none) ∙ begins in absurd cc }
+    no_items_so : (n : Next) (p : ℕ) → begins_simple n.token ≡ true → Stands g Command n p → ItemsSo (so_many [] Command n) p
+    no_items_so n p begins so = record { good = none_more; stands = so; begun = λ none. absurd (both_ways (begins_simple n.token) none begins) }
 
     -- ---- commands
 
@@ -404,13 +494,41 @@ module _ (B : List ℕ) (g : Given) (here : g.text ≡ drop g.offset B) where
     abbrev Compound_is : {X : Type 0} → ACommand × X → ℕ → Type 0
     Compound_is c e = (body : ACompound) × (c.0 ≡ compound body) × GoodCompound room (shape_of_compound B body)
 
+    -- one without redirections, and the token behind it
+    abbrev Bare_is : ACommand × Next → ℕ → Type 0
+    Bare_is c e = (body : ACompound) × (c.0 ≡ compound body) × GoodCompound room (shape_of_compound B body) × Stands g Command c.1 e
+
     record Fine : Type 0 where
-      pub compound : (o : Opener) (p : ℕ) → Reads g (inner.compound o) Compound_is p
+      pub compound : (o : Opener) (p : ℕ) → Reads g (inner.compound o) Bare_is p
       pub function : (name : Span) (p : ℕ) → NameBefore room (text_at B name) → Reads g (inner.function name) Command_is p
 
     module _ (fine : Fine) where
+      -- the redirections behind a compound command
+      record RedirectsSo (r : Items) (p : ℕ) : Type 0 where
+        pub place : r.place ≡ Command
+        pub good : GoodItems room of_compound Command (items r) Command
+        pub stands : Stands g Command r.next p
+
+      reads_redirect_turn : (r : Items) (p : ℕ) → RedirectsSo r p → Reads g (redirect_turn inner r) (Turned g RedirectsSo RedirectsSo) p
+      unfolding redirect_turn
+      reads_redirect_turn r p so =
+          picks g (begins_redirect r.next.token)
+          (λ is. reads_redirect RedirectsSo r.next.broken Command Command r.items r.next p so.stands (λ j number o t ss m e shape good stands.
+          record { place = refl; good = one_more_good of_compound Command Command Command r.items j _ shape (of_redirect_behind good) so.good; stands = stands }))
+          (gives g so)
+
+      with_good : (c : ACommand) (body : ACompound) (is : ItemsOf Span Span) → c ≡ compound body → GoodCompound room (shape_of_compound B body) → GoodRedirects room (shape_of_items B is)
+          → (whole : ACompound) × (with_redirects c is ≡ compound whole) × GoodCompound room (shape_of_compound B whole)
+      with_good c (formed form mark others) is same good more = (formed form mark is, rw same refl, compound_with room (shape_of_form B form) (shape_of_items B others) (shape_of_items B is) good more)
+
+      reads_redirected : (c : ACommand × Next) (p : ℕ) → Bare_is c p → Reads g (redirected inner c) Compound_is p
+      unfolding redirected
+      reads_redirected c p so =
+          first g (repeats g (redirect_turn inner) RedirectsSo RedirectsSo RedirectsSo reads_redirect_turn (λ r e on. on) (λ r e on. on) (so_many [] Command c.1) p (record { place = refl; good = none_more; stands = so.3 }))
+          (λ r e all. gives g (with_good c.0 so.0 (items_of r.items) so.1 so.2 (record { last = Command; items = all.good })))
+
       reads_compound_by : (n : Next) (o : Option Opener) (p : ℕ) → Reads g (compound_by inner n o) Compound_is p
-      reads_compound_by n (Some o) p = fine.compound o p
+      reads_compound_by n (Some o) p = first g (fine.compound o p) (λ c e so. reads_redirected c e so)
       reads_compound_by n None p = stopped g inner n
 
       compound_good : (c : ACommand) (body : ACompound) → c ≡ compound body → GoodCompound room (shape_of_compound B body) → GoodCommand room (shape_of_command B c)
@@ -426,18 +544,18 @@ module _ (B : List ℕ) (g : Given) (here : g.text ≡ drop g.offset B) where
       reads_worded : (n : Next) (p : ℕ) → n.token ≡ tokens.Word → Stands g Command n p → Reads g (a_worded inner) Command_is p
       unfolding a_worded
       reads_worded n p is so =
-          let item_is : behind_item n.token ≡ Some Suffix = ap behind_item is in
+          let item_is : behind_word n.token ≡ Some Suffix = ap behind_word is in
           sees g (first g (reads_word g room p) (λ w q read. first g (reads_next g Suffix q) (λ m e stands.
           picks g (is_paren m.token)
           (λ paren. picks g (is_name_at g.text p) (λ name. fine.function (word_span w) e (named_before n p q w is so read name)) (record { reads = record { told = tt } }))
-          (pushes g (reads_simple (so_many (item false (argument w) ∷ []) m) e
-          (record { position = Suffix; good = one_item Command Command (so_many [] n) Suffix p q w item_is none_more so read; stands = stands; begun = λ y. some_item [] (item false (argument w)) }))))))
+          (pushes g (reads_simple (so_many (item false (argument w) ∷ []) Suffix m) e
+          (record { good = one_item Command Command [] false n Suffix p q w item_is none_more so read; stands = stands; begun = λ y. some_item [] (item false (argument w)) }))))))
 
       reads_command : (n : Next) (p : ℕ) → Stands g Command n p → Reads g (a_command inner n) Command_is p
       unfolding a_command
       reads_command n p so =
           picks g (is_word n.token) (λ is. reads_worded n p (word_token n.token is) so)
-          (picks g (begins_simple n.token) (λ begins. reads_simple (so_many [] n) p (no_items_so n p begins so))
+          (picks g (begins_simple n.token) (λ begins. reads_simple (so_many [] Command n) p (no_items_so n p begins so))
           (first_so (reads_compound_by n (opener_of n.token) p)))
         where
           first_so : Reads g (compound_by inner n (opener_of n.token)) Compound_is p → Reads g (compound_by inner n (opener_of n.token)) Command_is p
@@ -555,9 +673,9 @@ module _ (B : List ℕ) (g : Given) (here : g.text ≡ drop g.offset B) where
 
       -- ---- compound commands
 
-      reads_group : (c : Closing) (n : Next) (p : ℕ) → Stands g Command n p → Reads g (a_group inner c n) (λ x e. GoodEntries room (shape_of B x.what)) p
+      reads_group : (c : Closing) (n : Next) (p : ℕ) → Stands g Command n p → Reads g (a_group inner c n) (λ x e. GoodEntries room (shape_of B x.what) × Stands g Command x.next e) p
       unfolding a_group
-      reads_group c n p so = first g (reads_list n p so) (λ l e good. after g (λ k f. gives g good))
+      reads_group c n p so = first g (reads_list n p so) (λ l e good. first g (reads_closing g inner c l.1 e) (λ k f stands. gives g (good, stands)))
 
       reads_branch : (n : Next) (p : ℕ) → Stands g Command n p → Reads g (a_branch inner n) (λ x e. GoodBranch room (shape_of_branch B x.0)) p
       unfolding a_branch
@@ -582,26 +700,26 @@ module _ (B : List ℕ) (g : Given) (here : g.text ≡ drop g.offset B) where
           (gives g tt)
 
       abbrev FormGood : Closed AForm → ℕ → Type 0
-      FormGood f p = GoodForm room (shape_of_form B f.what)
+      FormGood f p = GoodForm room (shape_of_form B f.what) × Stands g Command f.next p
 
       reads_if : (n : Next) (p : ℕ) → Stands g Command n p → Reads g (an_if inner n) FormGood p
       unfolding an_if
       reads_if n p so =
           first g (reads_branch n p so) (λ f e one.
           first g (repeats g (elif_turn inner) BranchesGood BranchesGood BranchesGood reads_elif (λ b d all. all) (λ b d all. all) (branched [] f.1) e tt) (λ b d all.
-          first g (reads_else b.next d) (λ x h other. after g (λ c k. gives g (one, all, other)))))
+          first g (reads_else b.next d) (λ x h other. first g (reads_closing g inner closings.Fi x.1 h) (λ c k stands. gives g ((one, all, other), stands)))))
 
-      reads_loop : (n : Next) (p : ℕ) → Stands g Command n p → Reads g (a_loop inner n) (λ x e. GoodBranch room (shape_of_branch B x.what)) p
+      reads_loop : (n : Next) (p : ℕ) → Stands g Command n p → Reads g (a_loop inner n) (λ x e. GoodBranch room (shape_of_branch B x.what) × Stands g Command x.next e) p
       unfolding a_loop
       reads_loop n p so =
           first g (reads_list n p so) (λ c e one. first g (reads_closing g inner closings.Do c.1 e) (λ d f stands.
-          first g (reads_list d.1 f stands) (λ b h two. after g (λ k l. gives g (one, two)))))
+          first g (reads_list d.1 f stands) (λ b h two. first g (reads_closing g inner closings.Done b.1 h) (λ k l behind. gives g ((one, two), behind)))))
 
       -- ---- `for`
 
-      for_name : (n : Next) (p q : ℕ) (w : AWord) → Stands g Suffix n p → begins_simple n.token ≡ true → WordRead g room p w q → is_name_at g.text p ≡ true → GoodName room (shape_of_word B w)
+      for_name : (n : Next) (p q : ℕ) (w : AWord) → Stands g Suffix n p → begins_word n.token ≡ true → WordRead g room p w q → is_name_at g.text p ≡ true → GoodName room (shape_of_word B w)
       for_name n p q w so begins read name =
-          let item = subst (λ (t : Token). begins_simple t ≡ true) (sym so.token_is) begins in
+          let item = subst (λ (t : Token). begins_word t ≡ true) (sym so.token_is) begins in
           let ss = shape_of_substs B (substs_of read.substs) in
           let anywhere = item_anywhere room Suffix n.token g p (q - p) (w, read.part) so.place so.no_blank so.token_is begins B here ss (word_shape p q w read) in
           let names = name_anywhere room Suffix g p (q - p) (w, read.part) so.place so.no_blank item name in
@@ -618,7 +736,7 @@ module _ (B : List ℕ) (g : Given) (here : g.text ≡ drop g.offset B) where
       reads_for_name : (n : Next) (p : ℕ) → Stands g Suffix n p → Reads g (a_for_name inner n) (λ x e. GoodName room (shape_of_word B x.0) × Stands g Command x.1 e) p
       unfolding a_for_name
       reads_for_name n p so =
-          picks g (begins_simple n.token)
+          picks g (begins_word n.token)
           (λ begins. sees g (sees g (first g (reads_word g room p) (λ w q read. picks g (is_name_at g.text p)
           (λ name. first g (reads_next g Command q) (λ m e stands. gives g (for_name n p q w so begins read name, stands))) (record { reads = record { told = tt } })))))
           (stopped g inner n)
@@ -631,25 +749,28 @@ module _ (B : List ℕ) (g : Given) (here : g.text ≡ drop g.offset B) where
 
       -- the words so far, and the token behind them
       record WordsSo (i : Items) (p : ℕ) : Type 0 where
-        pub position : Position
-        pub good : GoodItems room Suffix (items i) position
-        pub stands : Stands g position i.next p
+        pub good : GoodItems room of_for Suffix (items i) Suffix
+        pub stands : Stands g Suffix i.next p
 
       abbrev WordsDone : Items → ℕ → Type 0
       WordsDone i p = GoodWords room (items i)
 
       words_are : (i : Items) (p : ℕ) → WordsSo i p → GoodWords room (items i)
-      words_are i p so = record { last = so.position; items = so.good }
+      words_are i p so = record { last = Suffix; items = so.good }
 
-      reads_word_turn : (i : Items) (p : ℕ) → WordsSo i p → Reads g (item_turn inner i) (Turned g WordsSo WordsDone) p
-      unfolding item_turn an_item
-      reads_word_turn i p so = by_token (behind_item i.next.token) refl
-        where
-          by_token : (next : Option Position) → behind_item i.next.token ≡ next → Reads g (item_by inner i next) (Turned g WordsSo WordsDone) p
-          by_token (Some next) is =
-              first g (reads_word g room p) (λ w q read. pushes g (first g (reads_next g next q) (λ n e stands.
-              gives g (record { position = next; good = one_item Suffix so.position i next p q w is so.good so.stands read; stands = stands }))))
-          by_token None is = gives g (words_are i p so)
+      reads_word_turn : (i : Items) (p : ℕ) → WordsSo i p → Reads g (word_turn inner i) (Turned g WordsSo WordsDone) p
+      unfolding word_turn an_item
+      reads_word_turn i p so =
+          picks g (is_word i.next.token)
+          (λ is. first g (reads_word g room p) (λ w q read. pushes g (first g (reads_next g Suffix q) (λ n e stands.
+          let same = word_token i.next.token is in
+          let anywhere = subst (λ (t : Token). ItemAnywhere room Suffix t (text_of p q) (substs_in read)) same (reads_anywhere Suffix i.next p q w (ap begins_word same) so.stands read) in
+          gives g (record {
+            good = one_more_good of_for Suffix Suffix Suffix i.items (item (breaks i) (argument w)) (an_item_of (breaks i) Suffix (word (text_of p q) (substs_in read)))
+                (item_is B (breaks i) Suffix w (word (text_of p q) (substs_in read)) (ap (shape_of_word B) read.is)) (of_argument anywhere) so.good;
+            stands = stands;
+          })))))
+          (gives g (words_are i p so))
 
       abbrev HeadGood : Headed → ℕ → Type 0
       HeadGood h e = GoodForWords room (shape_of_for_words B h.words) × Comments h.comments × Stands g Command h.next e
@@ -658,7 +779,7 @@ module _ (B : List ℕ) (g : Given) (here : g.text ≡ drop g.offset B) where
       unfolding for_words
       reads_for_words cs p good =
           first g (reads_passed g _ _ _ p) (λ i e stands.
-          first g (repeats g (item_turn inner) WordsSo WordsSo WordsDone reads_word_turn (λ j d on. on) words_are (so_many [] i.1) e (record { position = Suffix; good = none_more; stands = stands })) (λ ws f words.
+          first g (repeats g (word_turn inner) WordsSo WordsSo WordsDone reads_word_turn (λ j d on. on) words_are (so_many [] Suffix i.1) e (record { good = none_more; stands = stands })) (λ ws f words.
           first g (reads_sep cs ws.next f good) (λ l h lines. gives g (words, lines.0, lines.1))))
 
       reads_for_head : (n : Next) (p : ℕ) → Stands g Command n p → Reads g (a_for_head inner n) HeadGood p
@@ -675,7 +796,7 @@ module _ (B : List ℕ) (g : Given) (here : g.text ≡ drop g.offset B) where
       unfolding a_for
       reads_for n p so =
           first g (reads_for_name n p so) (λ x e one. first g (reads_for_head x.1 e one.1) (λ h f two. first g (reads_closing g inner closings.Do h.next f) (λ d k stands.
-          first g (reads_group closings.Done d.1 k stands) (λ b l body. gives g (one.0, two.0, remarks_good h.comments b.what two.1 body)))))
+          first g (reads_group closings.Done d.1 k stands) (λ b l body. gives g ((one.0, two.0, remarks_good h.comments b.what two.1 body.0), body.1)))))
 
       -- ---- `case`
 
@@ -693,12 +814,12 @@ module _ (B : List ℕ) (g : Given) (here : g.text ≡ drop g.offset B) where
             reads = subst (λ (t : Text). ItemAnywhere room position n.token t ss) (raw_at B g here p q) anywhere;
           }
 
-      reads_case_word : (n : Next) (p : ℕ) → Stands g Suffix n p → Reads g (a_case_word inner n) (λ x e. GoodWord room Suffix begins_simple (shape_of_word B x.0) × Stands g Command x.1 e) p
+      reads_case_word : (n : Next) (p : ℕ) → Stands g Suffix n p → Reads g (a_case_word inner n) (λ x e. GoodWord room Suffix begins_word (shape_of_word B x.0) × Stands g Command x.1 e) p
       unfolding a_case_word
       reads_case_word n p so =
-          picks g (begins_simple n.token)
+          picks g (begins_word n.token)
           (λ begins. first g (reads_word g room p) (λ w q read. first g (reads_next g Command q) (λ m e stands.
-          gives g (good_word Suffix begins_simple n p q w so begins (item_is_word n.token begins) read, stands))))
+          gives g (good_word Suffix begins_word n p q w so begins (item_is_word n.token begins) read, stands))))
           (stopped g inner n)
 
       abbrev PatternsGood : Patterned → ℕ → Type 0
@@ -713,8 +834,8 @@ module _ (B : List ℕ) (g : Given) (here : g.text ≡ drop g.offset B) where
       reads_one_pattern : (x : Patterned) (p : ℕ) → PatternsGood x p → Reads g (one_pattern inner x.patterns) (Turned g PatternsGood PatternsGood) p
       unfolding one_pattern
       reads_one_pattern x p so =
-          after g (λ y e. first g (reads_next g Suffix e) (λ n f stands. picks g (begins_simple n.token)
-          (λ begins. first g (reads_pattern Suffix begins_simple x.patterns n f stands begins (item_is_word n.token begins) (λ w one. patterns_last B room x.patterns w so one)) (λ y h good. gives g good))
+          after g (λ y e. first g (reads_next g Suffix e) (λ n f stands. picks g (begins_word n.token)
+          (λ begins. first g (reads_pattern Suffix begins_word x.patterns n f stands begins (item_is_word n.token begins) (λ w one. patterns_last B room x.patterns w so one)) (λ y h good. gives g good))
           (stopped g inner n)))
 
       reads_pattern_turn : (x : Patterned) (p : ℕ) → PatternsGood x p → Reads g (pattern_turn inner x) (Turned g PatternsGood PatternsGood) p
@@ -778,7 +899,7 @@ module _ (B : List ℕ) (g : Given) (here : g.text ≡ drop g.offset B) where
           by_end false is = reads_one_case c p so (so.2 is)
 
       reads_case_head : (n : Next) (p : ℕ) → Stands g Suffix n p
-          → Reads g (a_case_head inner n) (λ h e. GoodWord room Suffix begins_simple (shape_of_word B h.0) × Comments h.1 × Stands g Command h.2 e) p
+          → Reads g (a_case_head inner n) (λ h e. GoodWord room Suffix begins_word (shape_of_word B h.0) × Comments h.1 × Stands g Command h.2 e) p
       unfolding a_case_head
       reads_case_head n p so =
           first g (reads_case_word n p so) (λ w e one. first g (reads_linebreak (Unit {0}) [] w.1 e tt (λ y. one.1)) (λ l f two.
@@ -790,7 +911,7 @@ module _ (B : List ℕ) (g : Given) (here : g.text ≡ drop g.offset B) where
       reads_case n p so =
           first g (reads_case_head n p so) (λ h e one.
           first g (repeats g (case_turn inner) CasesOn CasesOn CasesDone reads_case_turn (λ c d on. on) (λ c d on. (on.0, on.1)) (cases_so [] h.1 h.2) e (tt, one.1, (λ no. one.2))) (λ c f all.
-          after g (λ k j. gives g (one.0, all.0, all.1))))
+          first g (reads_closing g inner closings.Esac c.next f) (λ k j stands. gives g ((one.0, all.0, all.1), stands))))
 
       reads_form : (o : Opener) (n : Next) (p : ℕ) → Stands g (behind_opener o) n p → Reads g (a_form inner o n) FormGood p
       reads_form openers.Brace n p so = first g (reads_group closings.Brace n p so) (λ l e good. gives g good)
@@ -801,9 +922,9 @@ module _ (B : List ℕ) (g : Given) (here : g.text ≡ drop g.offset B) where
       reads_form openers.For n p so = reads_for n p so
       reads_form openers.Case n p so = reads_case n p so
 
-      reads_compound : (o : Opener) (p : ℕ) → Reads g (a_compound inner o) (λ c e. (body : ACompound) × (c.0 ≡ compound body) × GoodCompound (suc room) (shape_of_compound B body)) p
+      reads_compound : (o : Opener) (p : ℕ) → Reads g (a_compound inner o) (λ c e. (body : ACompound) × (c.0 ≡ compound body) × GoodCompound (suc room) (shape_of_compound B body) × Stands g Command c.1 e) p
       unfolding a_compound
-      reads_compound o p = first g (reads_passed g _ _ _ p) (λ x e stands. first g (reads_form o x.1 e stands) (λ f d good. pushes g (gives g (_, refl, (good, tt)))))
+      reads_compound o p = first g (reads_passed g _ _ _ p) (λ x e stands. first g (reads_form o x.1 e stands) (λ f d good. pushes g (gives g (_, refl, (good.0, record { last = Command; items = none_more }), good.1))))
 
       -- ---- functions
 

@@ -1,5 +1,5 @@
 -- What is read where some bytes stand in a text: gaps, operators and reserved words, as they are printed.
-use Rattle.std.proofs.Common.{◌≡◌, ℕ, suc, ◌+◌, ◌==◌, Bool, true, false, not, ◌&&◌, ◌⊎◌, inl, inr, ⊎_elim, List, List as Row, [], ◌∷◌, ◌++◌, length, drop, take, codes, Option, Some, None, slice_get, refl, sym, ap, subst, ◌∙◌, arith, cond}
+use Rattle.std.proofs.Common.{◌≡◌, ℕ, suc, ◌+◌, ◌==◌, Bool, true, false, not, ◌&&◌, ◌||◌, ◌⊎◌, inl, inr, List, List as Row, [], ◌∷◌, ◌++◌, length, drop, take, codes, Option, Some, None, is_some, slice_get, refl, sym, ap, subst, ◌∙◌, arith, cond}
 use Rattle.std.proofs.lemmas.Bool.{and_from, and_parts, both_ways}
 use Rattle.std.proofs.lemmas.Bool.Decides.{nat_tests}
 use Rattle.std.proofs.lemmas.List.{drop-drop}
@@ -12,12 +12,17 @@ use Rattle.shread.specs.declared.token.Token.TheVariants as tokens
 use Rattle.shread.specs.Classes.{is_blank, is_digit, is_name}
 use Rattle.shread.specs.Standing.{is_byte, passes, raw_stands, raw_in, raw_past, continues}
 use Rattle.shread.specs.Bytes.{ends, past, past_continuations, byte_at, behind, stands, stands_in, past_blanks, is_broken_at}
-use Rattle.shread.specs.Tokens.{Spelling, is_word_at, first_of_words, reserved_words, reserved_at, past_reserved, begins_assignment, is_number, first_word, token_of, token_at, next_at}
+use Rattle.shread.specs.Tokens.{Spelling, is_word_at, first_of_words, reserved_words, reserved_at, past_reserved, past_digits, begins_assignment, is_number, first_word, less_at, greater_at, token_of, token_at, next_at}
+use Rattle.shread.specs.Text.{is_newline}
 use Rattle.shread.proofs.Stretches.{get_drop, joined_none, joined_more, place_low, past_more, past_none, raw_more, raw_none}
 use Rattle.shread.proofs.Places.{must_fail}
 use Rattle.shread.proofs.SameBytes.{no_backslash}
 use Rattle.shread.proofs.Ahead.{behind_is, spelled_none, spelled_more, ender}
-use Rattle.shread.specs.Commands.{is_word, is_paren, begins_simple, behind_item}
+use Rattle.shread.specs.Commands.{is_word, is_paren, begins_redirect, begins_simple, begins_word, behind_word, takes_here}
+use Rattle.shtree.specs.declared.tree.RedirectOperator.{RedirectOperator}
+use Rattle.shtree.specs.declared.tree.RedirectOperator.TheVariants as redirects
+use Rattle.shtree.specs.Spelling.{redirect_text}
+use Rattle.shprint.proofs.Good.{all_digits}
 
 -- ---- the bytes from a place on
 
@@ -391,7 +396,7 @@ module _ (T : List ℕ) (p x : ℕ) (xs : List ℕ) (clear : (x == 92) ≡ false
 -- ---- words and assignments
 
 -- an item of a simple command is a word or an assignment
-pub kind_of : (t : Token) (next : Position) → behind_item t ≡ Some next → ((t ≡ tokens.Word) × (next ≡ Suffix)) ⊎ ((t ≡ tokens.Assignment) × (next ≡ Prefix))
+pub kind_of : (t : Token) (next : Position) → behind_word t ≡ Some next → ((t ≡ tokens.Word) × (next ≡ Suffix)) ⊎ ((t ≡ tokens.Assignment) × (next ≡ Prefix))
 kind_of tokens.End next e = absurd cc
 kind_of tokens.Newline next e = absurd cc
 kind_of tokens.Semicolon next e = absurd cc
@@ -402,7 +407,7 @@ kind_of tokens.OrIf next e = absurd cc
 kind_of tokens.Pipe next e = absurd cc
 kind_of tokens.OpenParen next e = absurd cc
 kind_of tokens.CloseParen next e = absurd cc
-kind_of tokens.Operator next e = absurd cc
+kind_of (tokens.Redirect o) next e = absurd cc
 kind_of tokens.Comment next e = absurd cc
 kind_of tokens.Number next e = absurd cc
 kind_of (tokens.Reserved r) next e = absurd cc
@@ -420,7 +425,7 @@ word_token tokens.OrIf e = absurd cc
 word_token tokens.Pipe e = absurd cc
 word_token tokens.OpenParen e = absurd cc
 word_token tokens.CloseParen e = absurd cc
-word_token tokens.Operator e = absurd cc
+word_token (tokens.Redirect o) e = absurd cc
 word_token tokens.Comment e = absurd cc
 word_token tokens.Number e = absurd cc
 word_token (tokens.Reserved r) e = absurd cc
@@ -428,9 +433,175 @@ word_token tokens.Assignment e = absurd cc
 word_token tokens.Word e = refl
 
 -- it is no `(`
-pub item_no_round : (t : Token) (next : Position) → behind_item t ≡ Some next → is_paren t ≡ false
-item_no_round t next e = ⊎_elim (λ k. ap is_paren k.0) (λ k. ap is_paren k.0) (kind_of t next e)
+paren_token : (t : Token) → is_paren t ≡ true → t ≡ tokens.OpenParen
+paren_token tokens.OpenParen e = refl
+paren_token _ e = absurd cc
+
+pub item_no_round : (t : Token) → begins_simple t ≡ true → is_paren t ≡ false
+item_no_round t begins = must_fail (is_paren t) (λ e. both_ways (begins_simple t) (ap begins_simple (paren_token t e)) begins)
 
 -- what begins no simple command is no word
 pub no_word : (t : Token) → begins_simple t ≡ false → is_word t ≡ false
 no_word t none = must_fail (is_word t) (λ e. both_ways (begins_simple t) none (ap begins_simple (word_token t e)))
+
+or_parts : (a b : Bool) → (a || b) ≡ false → (a ≡ false) × (b ≡ false)
+or_parts true b e = absurd cc
+or_parts false b e = (refl, e)
+
+none_of : (x : Option Position) → is_some x ≡ false → x ≡ None
+none_of None e = refl
+none_of (Some x) e = absurd cc
+
+-- and begins neither an item that is a word nor a redirection
+pub record NoItem (t : Token) : Type 0 where
+  pub behind : behind_word t ≡ None
+  pub redirect : begins_redirect t ≡ false
+  pub word : is_word t ≡ false
+
+pub no_item_token : (t : Token) → begins_simple t ≡ false → NoItem t
+no_item_token t none =
+    let parts = or_parts (begins_word t) (begins_redirect t) none in
+    record { behind = none_of (behind_word t) parts.0; redirect = parts.1; word = no_word t none }
+
+-- ---- redirections
+
+pub redirect_is_item : (t : Token) → begins_redirect t ≡ true → begins_simple t ≡ true
+redirect_is_item t e = must_hold (begins_word t) (begins_redirect t) e
+  where
+    must_hold : (a b : Bool) → b ≡ true → (a || b) ≡ true
+    must_hold true b e = refl
+    must_hold false b e = e
+
+pub redirect_no_word : (t : Token) → begins_redirect t ≡ true → is_word t ≡ false
+redirect_no_word t redirect = must_fail (is_word t) (λ e. both_ways (begins_redirect t) (ap begins_redirect (word_token t e)) redirect)
+
+-- where a redirection begins
+pub record RedirectThere (position : Position) (T : List ℕ) (p : ℕ) : Type 0 where
+  pub start : Start T p
+  pub redirect : begins_redirect (token_at position T p) ≡ true
+  pub no_word : behind_word (token_at position T p) ≡ None
+
+-- no byte that would make an operator longer is read here
+pub record NoLonger (T : List ℕ) (q : ℕ) : Type 0 where
+  pub less : stands T q 60 ≡ false
+  pub greater : stands T q 62 ≡ false
+  pub ampersand : stands T q 38 ≡ false
+  pub bar : stands T q 124 ≡ false
+
+pub space_no_longer : (T : List ℕ) (q : ℕ) (xs : List ℕ) → drop q T ≡ 32 ∷ xs → NoLonger T q
+space_no_longer T q xs at =
+    let r = byte_here T q 32 xs refl at in
+    record { less = is_here 60 r; greater = is_here 62 r; ampersand = is_here 38 r; bar = is_here 124 r }
+
+that_byte : (x : Option ℕ) (c : ℕ) → is_byte x c ≡ true → x ≡ Some c
+that_byte None c e = absurd cc
+that_byte (Some b) c e = let same : b ≡ c = grind (arith, nat_tests) in ap Some same
+
+no_such_byte : (T : List ℕ) (q x : ℕ) → token_at Suffix T q ≡ tokens.Word → is_word (token_of Suffix T q (Some x)) ≡ false → stands T q x ≡ false
+unfolding stands token_at
+no_such_byte T q x word other =
+    must_fail (is_byte (byte_at T q) x)
+    (λ e. both_ways (is_word (token_of Suffix T q (byte_at T q))) (ap (λ b. is_word (token_of Suffix T q b)) (that_byte (byte_at T q) x e) ∙ other) (ap is_word word))
+
+-- a word begins with no byte of an operator
+pub word_no_longer : (T : List ℕ) (q : ℕ) → token_at Suffix T q ≡ tokens.Word → NoLonger T q
+word_no_longer T q word = record {
+  less = no_such_byte T q 60 word refl;
+  greater = no_such_byte T q 62 word refl;
+  ampersand = no_such_byte T q 38 word (no_word_of (stands T (behind T q) 38) tokens.AndIf tokens.Ampersand refl refl);
+  bar = no_such_byte T q 124 word (no_word_of (stands T (behind T q) 124) tokens.OrIf tokens.Pipe refl refl);
+}
+  where
+    no_word_of : (b : Bool) (t u : Token) → is_word t ≡ false → is_word u ≡ false → is_word (cond b t u) ≡ false
+    no_word_of true t u one two = one
+    no_word_of false t u one two = two
+
+pub redirect_token : (position : Position) (k : RedirectOperator) (T : List ℕ) (p : ℕ) (xs : List ℕ) → takes_here k ≡ false → NoLonger T (p + length (redirect_text k)) → drop p T ≡ redirect_text k ++ xs
+    → token_at position T p ≡ tokens.Redirect k
+unfolding less_at greater_at
+redirect_token position redirects.Input T p xs none n at =
+    let r = byte_here T p 60 xs refl at in token_here position r ∙ rw (r.behind_it, n.less, n.ampersand, n.greater) refl
+redirect_token position redirects.Output T p xs none n at =
+    let r = byte_here T p 62 xs refl at in token_here position r ∙ rw (r.behind_it, n.greater, n.ampersand, n.bar) refl
+redirect_token position redirects.Here T p xs none n at = absurd cc
+redirect_token position redirects.Append T p xs none n at =
+    let r = byte_here T p 62 (62 ∷ xs) refl at in token_here position r ∙ rw (second 62 refl r) refl
+redirect_token position redirects.DuplicateInput T p xs none n at =
+    let r = byte_here T p 60 (38 ∷ xs) refl at in token_here position r ∙ rw (second 60 refl r, second 38 refl r) refl
+redirect_token position redirects.DuplicateOutput T p xs none n at =
+    let r = byte_here T p 62 (38 ∷ xs) refl at in token_here position r ∙ rw (second 62 refl r, second 38 refl r) refl
+redirect_token position redirects.ReadWrite T p xs none n at =
+    let r = byte_here T p 60 (62 ∷ xs) refl at in token_here position r ∙ rw (second 60 refl r, second 38 refl r, second 62 refl r) refl
+redirect_token position redirects.HereStripped T p xs none n at = absurd cc
+redirect_token position redirects.Clobber T p xs none n at =
+    let r = byte_here T p 62 (124 ∷ xs) refl at in token_here position r ∙ rw (second 62 refl r, second 38 refl r, second 124 refl r) refl
+
+-- `<` or `>`
+abbrev pub is_angle : ℕ → Bool
+is_angle b = b == 60 || b == 62
+
+pub angle_clear : (b : ℕ) → is_angle b ≡ true → (b == 92) ≡ false
+angle_clear b e = grind (arith, nat_tests)
+
+pub angle_no_blank : (b : ℕ) → is_angle b ≡ true → is_blank b ≡ false
+angle_no_blank b e = grind (arith, nat_tests)
+
+angle_no_digit : (b : ℕ) → is_angle b ≡ true → is_digit b ≡ false
+angle_no_digit b e = grind (arith, nat_tests)
+
+-- with which each operator begins
+pub angle_first : (k : RedirectOperator) → (b : ℕ) × (bs : List ℕ) × (redirect_text k ≡ b ∷ bs) × (is_angle b ≡ true)
+angle_first redirects.Input = (60, [], refl, refl)
+angle_first redirects.Output = (62, [], refl, refl)
+angle_first redirects.Here = (60, 60 ∷ [], refl, refl)
+angle_first redirects.Append = (62, 62 ∷ [], refl, refl)
+angle_first redirects.DuplicateInput = (60, 38 ∷ [], refl, refl)
+angle_first redirects.DuplicateOutput = (62, 38 ∷ [], refl, refl)
+angle_first redirects.ReadWrite = (60, 62 ∷ [], refl, refl)
+angle_first redirects.HereStripped = (60, 60 ∷ 45 ∷ [], refl, refl)
+angle_first redirects.Clobber = (62, 124 ∷ [], refl, refl)
+
+-- the number before an operator
+pub record NumberHere (position : Position) (T : List ℕ) (p : ℕ) (t : List ℕ) : Type 0 where
+  pub start : Start T p
+  pub token : token_at position T p ≡ tokens.Number
+  pub past_it : past_digits T p ≡ p + length t
+
+digit_clear : (c : ℕ) → is_digit c ≡ true → (c == 92) ≡ false
+digit_clear c e = grind (arith, nat_tests)
+
+digit_no_blank : (c : ℕ) → is_digit c ≡ true → is_blank c ≡ false
+digit_no_blank c e = grind (arith, nat_tests)
+
+digits_here : (T : List ℕ) (p x : ℕ) (cs xs : List ℕ) → is_angle x ≡ true → all_digits cs ≡ true → drop p T ≡ cs ++ x ∷ xs → past is_digit T p ≡ p + length cs
+digits_here T p x [] xs angle all at =
+    let e : p + 0 ≡ p = omega arith in past_none is_digit T p (in_class is_digit (byte_here T p x xs (angle_clear x angle) at) ∙ angle_no_digit x angle) ∙ sym e
+digits_here T p x (c ∷ cs) xs angle all at =
+    let parts = and_parts _ _ all in
+    let r = byte_here T p c (cs ++ x ∷ xs) (digit_clear c parts.0) at in
+    let e : p + 1 + length cs ≡ p + suc (length cs) = omega arith in
+    past_more is_digit T p (in_class is_digit r ∙ parts.0) ∙ ap (past is_digit T) r.behind_it ∙ digits_here T (p + 1) x cs xs angle parts.1 r.rest ∙ e
+
+digit_token : (position : Position) (T : List ℕ) (p c : ℕ) → is_digit c ≡ true → is_number T p ≡ true → token_of position T p (Some c) ≡ tokens.Number
+digit_token position T p c digit number =
+    let newline : is_newline c ≡ false = grind (arith, nat_tests) in
+    let semicolon : (c == 59) ≡ false = grind (arith, nat_tests) in
+    let ampersand : (c == 38) ≡ false = grind (arith, nat_tests) in
+    let bar : (c == 124) ≡ false = grind (arith, nat_tests) in
+    let opener : (c == 40) ≡ false = grind (arith, nat_tests) in
+    let closer : (c == 41) ≡ false = grind (arith, nat_tests) in
+    let less : (c == 60) ≡ false = grind (arith, nat_tests) in
+    let greater : (c == 62) ≡ false = grind (arith, nat_tests) in
+    let sharp : (c == 35) ≡ false = grind (arith, nat_tests) in
+    rw (newline, semicolon, ampersand, bar, opener, closer, less, greater, sharp, number) refl
+
+pub number_token : (position : Position) (T : List ℕ) (p x d : ℕ) (ds xs : List ℕ) → all_digits (d ∷ ds) ≡ true → is_angle x ≡ true → drop p T ≡ (d ∷ ds) ++ x ∷ xs → NumberHere position T p (d ∷ ds)
+unfolding is_number past_digits
+number_token position T p x d ds xs all angle at =
+    let digit = (and_parts _ _ all).0 in
+    let r = byte_here T p d (ds ++ x ∷ xs) (digit_clear d digit) at in
+    let q = p + length (d ∷ ds) in
+    let past_it = digits_here T p x (d ∷ ds) xs angle all at in
+    let s = byte_here T q x xs (angle_clear x angle) (skip T p (d ∷ ds) (x ∷ xs) at) in
+    let number : is_number T p ≡ true = and_from _ _ (in_class is_digit r ∙ digit) (rw (past_it, is_here 60 s, is_here 62 s) angle) in
+    record { start = start_here r (digit_no_blank d digit); token = token_here position r ∙ digit_token position T p d digit number; past_it = past_it }
