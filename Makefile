@@ -6,7 +6,7 @@
 
 PREFIX = /usr/local
 PROGRAM = crates/shform/out/shform
-TESTS = crates/shread/out/shread_tests crates/shprint/out/shprint_tests crates/shform/out/shform_tests
+TESTS = crates/shtext/out/shtext_tests crates/shread/out/shread_tests crates/shprint/out/shprint_tests crates/shlive/out/shlive_tests crates/shform/out/shform_tests
 
 .PHONY: all test scripts bench install
 
@@ -19,6 +19,7 @@ test:
 
 scripts: $(PROGRAM) $(TESTS)
 	tests/run
+	tests/session
 	tests/refused-growths
 	tests/launcher
 	tests/install

@@ -1,4 +1,3 @@
-pub mod Known
 pub mod Told
 pub mod Options
 pub mod Reported

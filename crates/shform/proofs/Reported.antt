@@ -5,11 +5,12 @@ use Rattle.shread.specs.Scripts.{FirstFault, Outcome}
 use Rattle.shread.specs.declared.fault.Fault.{Fault}
 use Rattle.shprint.specs.ReadBack.{IsTextOf}
 use Rattle.shprint.specs.declared.layout.Layout.{Layout}
-use Rattle.shform.specs.Device.{Writes}
-use Rattle.shform.specs.Report.{IsPrintReport, IsTold, StopsFor, TellsFault, limit}
+use Rattle.shtext.specs.Device.{Writes}
+use Rattle.shform.specs.Report.{IsPrintReport, IsTold, StopsFor, TellsFault}
+use Rattle.shtext.specs.Edit.{limit}
 use Rattle.shform.specs.declared.report.Stop.{Stop}
 use Rattle.shform.specs.declared.report.Stop.TheVariants.{Memory, Unwritable}
-use Rattle.shform.proofs.Known.{Writes-nothing}
+use Rattle.shtext.proofs.Known.{Writes-nothing}
 
 module _ (layout : Layout) (name : List ℕ) (had has : Option (List ℕ)) (failed ended : Bool) (read : List ℕ) (consumed : Consumes had has read) where
   -- a run that was given up before anything was printed

@@ -1,9 +1,9 @@
 -- What was told of an input.
 use Rattle.std.proofs.Common.{◌≡◌, ℕ, ◌||◌, Bool, true, false, List, Option, Err, cond, refl}
-use Rattle.shform.specs.Device.{Writes}
+use Rattle.shtext.specs.Device.{Writes}
 use Rattle.shform.specs.Report.{IsTold, text_of_stop}
 use Rattle.shform.specs.declared.report.Stop.{Stop}
-use Rattle.shform.proofs.Known.{Writes-marked}
+use Rattle.shtext.proofs.Known.{Writes-marked}
 
 -- the answer is 2, whether the device failed or not
 two : (broken : Bool) (status : ℕ) → status ≡ 2 → status ≡ cond broken 2 2

@@ -2,18 +2,15 @@
 use Rattle.std.specs.Prelude.{◌≡◌, ◌⊎◌, ℕ, ◌+◌, ◌≤◌, ◌++◌, [], Bool, true, false, List, Option, None, Some, Result, Ok, Err, length, codes, if◌then◌else◌}
 use Rattle.std.specs.Io.KnownBytes.{Consumes}
 use Rattle.shread.specs.Scripts.{FirstFault}
-use Rattle.shread.specs.Text.{line_of, column_of}
+use Rattle.shtext.specs.Text.{line_of, column_of}
 use Rattle.shread.specs.declared.fault.Fault.{Fault}
-use Rattle.shform.specs.Device.{Writes}
+use Rattle.shtext.specs.Device.{Writes}
+use Rattle.shtext.specs.Edit.{limit}
 use Rattle.shprint.specs.Message.{message_text}
 use Rattle.shprint.specs.ReadBack.{IsTextOf}
 use Rattle.shprint.specs.declared.layout.Layout.{Layout}
 use Rattle.shform.specs.declared.report.Stop.{Stop}
 use Rattle.shform.specs.declared.report.Stop.TheVariants.{Unreadable, TooLarge, Memory, Unwritable}
-
--- the most bytes that a script has
-abbrev pub limit : ℕ
-limit = 16777216
 
 -- what is said where a run is given up
 abbrev pub text_of_stop : List ℕ → Stop → List ℕ

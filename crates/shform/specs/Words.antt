@@ -1,5 +1,5 @@
 -- The program's command as clap's model has it, and the settings that its matches give.
-use Rattle.std.specs.Prelude.{◌≡◌, ◌<◌, ℕ, Bool, true, false, [], List, Option, None, Some, Result, Ok, Err, codes, option_map, option_and_then, pos, if◌then◌else◌}
+use Rattle.std.specs.Prelude.{◌≡◌, ◌≢◌, ◌<◌, ℕ, Bool, true, false, [], List, Option, None, Some, Result, Ok, Err, codes, option_map, option_and_then, pos, if◌then◌else◌}
 use Rattle.std.specs.Str.{bytes_eq}
 use Rattle.std.specs.Option.{option_map_or}
 use Rattle.clap.specs.Words.{App, HasKind, Rule, Text, fault_of, first_value, found_of, new_app, new_rule, one_text, rows_of, subcommand_of, with_rule, with_subcommand}
@@ -10,7 +10,7 @@ use Rattle.clap.specs.declared.parser.matches.ArgMatches.{ArgMatches}
 use Rattle.shprint.specs.declared.layout.Layout.{Layout}
 use Rattle.shform.specs.declared.asked.Settings.{Settings}
 use Rattle.shform.specs.declared.asked.Tool.{Tool}
-use Rattle.shform.specs.declared.asked.Tool.TheVariants.{Check, Print}
+use Rattle.shform.specs.declared.asked.Tool.TheVariants.{Check, Print, Session}
 use Rattle.shform.specs.declared.usage.Usage.{Usage}
 use Rattle.shform.specs.declared.usage.Usage.TheVariants.{Words, Indent}
 
@@ -32,10 +32,18 @@ flag_rule name = record (new_rule name) { long = Some name; action = Some SetTru
 abbrev pub check_app : App
 check_app = with_rule (new_app (codes "check")) file_rule
 
+-- NAME [OPTIONS] [FILE]
+abbrev pub printing_app : Text → App
+printing_app name = with_rule (with_rule (with_rule (with_rule (with_rule (new_app name) indent_rule)
+    (flag_rule (codes "case-indent"))) (flag_rule (codes "space-redirects"))) (flag_rule (codes "func-next-line"))) file_rule
+
 -- print [OPTIONS] [FILE]
 abbrev pub print_app : App
-print_app = with_rule (with_rule (with_rule (with_rule (with_rule (new_app (codes "print")) indent_rule)
-    (flag_rule (codes "case-indent"))) (flag_rule (codes "space-redirects"))) (flag_rule (codes "func-next-line"))) file_rule
+print_app = printing_app (codes "print")
+
+-- session [OPTIONS] [FILE]
+abbrev pub session_app : App
+session_app = printing_app (codes "session")
 
 -- what holds of the whole command: the words begin after the program's name, one of them is a subcommand, and there is a version
 abbrev pub with_settings : App → App
@@ -46,14 +54,18 @@ abbrev pub first_app : App
 first_app = with_subcommand (with_settings (new_app (codes "shform"))) check_app.top
 
 -- shform check, shform print
+abbrev pub second_app : App
+second_app = with_subcommand first_app print_app.top
+
+-- shform check, shform print, shform session
 abbrev pub tool_app : App
-tool_app = with_subcommand first_app print_app.top
+tool_app = with_subcommand second_app session_app.top
 
 -- ---- what its matches give
 
 -- the tool of a subcommand's name
 abbrev pub tool_named : Text → Tool
-tool_named name = if bytes_eq name (codes "print") then Print else Check
+tool_named name = if bytes_eq name (codes "print") then Print else if bytes_eq name (codes "session") then Session else Check
 
 -- FILE, where it is given and is not -
 abbrev pub file_in : Option Text → Option Text
@@ -69,7 +81,7 @@ pub record IsFlag (given : Option Text) (flag : Bool) : Type 0 where
 abbrev pub indent_in : Option Text → ℕ
 indent_in given = option_map_or byte_or_zero given 0
 
--- The layout's choices are those of print's options; a check has none.
+-- The layout's choices are those of the options of print and session; a check has none.
 pub record AreOptions (own : ArgMatches) (layout : Layout) : Type 0 where
   pub indent : layout.indent ≡ indent_in (one_text (found_of own) (codes "indent"))
   pub case_indent : IsFlag (one_text (found_of own) (codes "case-indent")) layout.case_indent
@@ -79,6 +91,7 @@ pub record AreOptions (own : ArgMatches) (layout : Layout) : Type 0 where
 abbrev pub IsLayoutFor : Tool → ArgMatches → Layout → Type 0
 IsLayoutFor Check own layout = layout ≡ record { indent = 0; case_indent = false; space_redirects = false; func_next_line = false }
 IsLayoutFor Print own layout = AreOptions own layout
+IsLayoutFor Session own layout = AreOptions own layout
 
 -- The settings are those of clap's matches of the words: the name of a subcommand, and its own matches.
 pub record AreSettingsOf (words : List Text) (s : Settings) : Type 0 where
@@ -94,7 +107,7 @@ pub record HasWideIndent (words : List Text) : Type 0 where
   pub name : Text
   pub own : ArgMatches
   pub matches : subcommand_of tool_app words ≡ Some (name, rows_of (found_of own))
-  pub tool : tool_named name ≡ Print
+  pub tool : tool_named name ≢ Check
   pub indent : 16 < indent_in (one_text (found_of own) (codes "indent"))
 
 -- What there is in place of settings: clap's answer, of a kind that its model has for the words, or an indent that clap should not let pass.

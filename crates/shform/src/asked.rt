@@ -9,6 +9,8 @@ pub enum Tool {
     Check,
     /// It is printed, or its first fault told.
     Print,
+    /// It stays open, and requests are answered.
+    Session,
 }
 
 /// A run of the program.
@@ -17,6 +19,6 @@ pub struct Settings<'a> {
     pub tool: Tool,
     /// The layout to print in; that of the defaults for a check.
     pub layout: Layout,
-    /// The script, or `None` for standard input.
+    /// The script, or `None` for standard input; for a session, where it begins, or `None` for an empty script.
     pub file: Option<&'a str>,
 }

@@ -1,24 +1,22 @@
 //! The two tools over readers and writers: an input is read whole, under the limit, and reported on.
 ghost use Rattle.std.specs.Prelude.{◌≡◌, ◌≢◌, ◌≤◌, ℕ, List, IfErr, IfOk, false, length, true};
 ghost use Rattle.std.specs.Io.KnownBytes.{Consumes, IsAtEnd};
-ghost use Rattle.shform.specs.Device.{held_of, input_ended, input_failed, left_of, output_failed};
-ghost use Rattle.shform.specs.Report.{IsPrintReport, IsReport, StopsFor, limit};
+ghost use Rattle.shtext.specs.Device.{held_of, input_ended, input_failed, left_of, output_failed};
+ghost use Rattle.shtext.specs.Edit.{limit};
+ghost use Rattle.shform.specs.Report.{IsPrintReport, IsReport, StopsFor};
 
-use crate::device::{Failed, Input, Output};
 use crate::report::{Stop, give_up, tell, write_flushed};
 use shprint::{Layout, PrintError, print_source};
-use shread::{Flat, ReadError, Reader};
+use shread::{ReadError, Reader};
+use shtext::{Failed, Flat, Input, LIMIT, Output};
 use std::alloc::Global;
 use std::io::{Read, Write};
-
-/// The most bytes that a script has.
-pub const LIMIT: usize = 16_777_216;
 
 /// The most bytes that are read at once.
 const PIECE: usize = 65_536;
 
 /// The whole input. It reads to the end, but never past the first byte beyond the limit, and memory grows with what was read.
-fn read_whole<R: Read>(alloc: Global, input: &mut Input<R>) -> Result<Vec<u8>, Stop>
+pub fn read_whole<R: Read>(alloc: Global, input: &mut Input<R>) -> Result<Vec<u8>, Stop>
     requires sound { input_failed input.old ≡ false }
     requires open { input_ended input.old ≡ false }
     ensures ok { IfOk result (λ text. Consumes (left_of R.remaining input.old) (left_of R.remaining input.new) text.items

@@ -1,12 +1,12 @@
-//! The program `shform`, which checks and prints scripts of the POSIX shell: `shform check [FILE]`, `shform print [OPTIONS] [FILE]`.
+//! The program `shform`, which checks and prints scripts of the POSIX shell: `shform check [FILE]`, `shform print [OPTIONS] [FILE]`,
+//! `shform session [OPTIONS] [FILE]`.
 //!
 //! Start with `run`, which takes the words, and with `check_engine` and `print_engine` in `engine`, which do the work over readers
 //! and writers: they read the input whole, have its first fault or its tree from the reader, and tell the one by `report`, or print
-//! the other. `device` holds the ends that remember how their devices fared, and `words` reads the command line.
+//! the other. A session is that of `shlive`. `words` reads the command line. The ends, which remember how their devices fared, are those of `shtext`.
 #![tactic(auto)]
 
 mod asked;
-mod device;
 mod engine;
 #[cfg(test)]
 mod refused;
@@ -18,9 +18,11 @@ mod words;
 
 use asked::{Settings, Tool};
 use clap::error::ErrorKind;
-use device::{Input, Output};
-use engine::{check_engine, print_engine};
+use engine::{check_engine, print_engine, read_whole};
 use report::{Stop, give_up};
+use shlive::{LiveError, Session};
+use shread::Reader;
+use shtext::{Input, Output};
 use std::alloc::AllocError;
 use std::io::Read;
 use std::process::ExitCode;
@@ -28,7 +30,7 @@ use std::{env, fs, io};
 use usage::Usage;
 use words::settings;
 
-/// Does what the settings ask for with what the reader gives, over the program's own outputs.
+/// Checks or prints what the reader gives, over the program's own outputs.
 fn on_reader<R: Read + Drop>(
     rt: &HostRuntime,
     settings: &Settings<'_>,
@@ -38,24 +40,48 @@ fn on_reader<R: Read + Drop>(
     let mut input = Input::new(reader);
     let mut output = Output::new(rt.stdout());
     let mut errors = Output::new(rt.stderr());
-    match settings.tool {
-        Tool::Check => check_engine(rt.alloc(), name, &mut input, &mut output, &mut errors),
-        Tool::Print => {
-            let layout = &settings.layout;
-            print_engine(
-                rt.alloc(),
-                layout,
-                name,
-                &mut input,
-                &mut output,
-                &mut errors,
-            )
+    let errors = &mut errors;
+    if settings.tool == Tool::Check {
+        check_engine(rt.alloc(), name, &mut input, &mut output, errors)
+    } else {
+        let layout = &settings.layout;
+        print_engine(rt.alloc(), layout, name, &mut input, &mut output, errors)
+    }
+}
+
+/// Answers requests on standard input for a script of these bytes.
+fn on_script(rt: &HostRuntime, settings: &Settings<'_>, name: &str, bytes: &[u8]) -> u8 {
+    let reader = Reader::new(rt.alloc());
+    match Session::open(rt.alloc(), reader, settings.layout, bytes) {
+        Ok(mut session) => {
+            let mut input = Input::new(rt.stdin());
+            let mut output = Output::new(rt.stdout());
+            shlive::run(rt.alloc(), &mut session, &mut input, &mut output)
         }
+        Err(LiveError::TooLarge) => give_up_on(rt, name, Stop::TooLarge),
+        Err(_) => give_up_on(rt, name, Stop::Memory),
+    }
+}
+
+/// Opens FILE, or an empty script, and answers requests on standard input.
+fn on_session(rt: &HostRuntime, settings: &Settings<'_>) -> u8 {
+    let Some(name) = settings.file else {
+        return on_script(rt, settings, "-", b"");
+    };
+    let Ok(file) = fs::open(rt, name) else {
+        return give_up_on(rt, name, Stop::Unreadable);
+    };
+    match read_whole(rt.alloc(), &mut Input::new(file)) {
+        Ok(bytes) => on_script(rt, settings, name, &bytes),
+        Err(stop) => give_up_on(rt, name, stop),
     }
 }
 
 /// Does what the settings ask for.
 fn on_settings(rt: &HostRuntime, settings: &Settings<'_>) -> u8 {
+    if settings.tool == Tool::Session {
+        return on_session(rt, settings);
+    }
     let Some(name) = settings.file else {
         return on_reader(rt, settings, "-", rt.stdin());
     };

@@ -1,9 +1,9 @@
 // Each growth refused in turn, as in the tests of the reader: by the library that `tests/refused-growths` loads. Without it, as in
 // the gate, each test runs once. They catch the wrong body `always_out_of_memory`, which no contract can.
-use crate::device::{Input, Output};
 use crate::engine::{check_engine, print_engine};
 use shprint::{Layout, LayoutError, message};
 use shread::{Fault, FaultKind};
+use shtext::{Input, Output};
 use std::alloc::{AllocError, Global};
 use std::io;
 use std::io::{Read, Write};

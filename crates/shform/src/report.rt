@@ -1,11 +1,11 @@
 //! What the program says of an input, and the status that it answers.
 ghost use Rattle.std.specs.Prelude.{◌≡◌, ◌||◌, ◌++◌, ◌<◌, ◌≤◌, ℕ, List, Err, false, is_ok, length, not};
-ghost use Rattle.shform.specs.Device.{Writes, held_of, output_failed};
+ghost use Rattle.shtext.specs.Device.{Writes, held_of, output_failed};
 ghost use Rattle.shform.specs.Report.{IsTold, TellsFault};
 
-use crate::device::{Failed, Output};
 use shprint::message;
-use shread::{Fault, Source, line_col_of};
+use shread::Fault;
+use shtext::{Failed, Output, Source, line_col_of};
 use std::alloc::Global;
 use std::io::Write;
 

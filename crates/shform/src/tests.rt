@@ -2,9 +2,9 @@
 mod print;
 mod words;
 
-use crate::device::{Failed, Input, Output};
-use crate::engine::{LIMIT, check_engine};
+use crate::engine::check_engine;
 use shread::{Fault, FaultKind};
+use shtext::{Failed, Input, LIMIT, Output};
 use std::alloc::Global;
 use std::io;
 use std::io::{Error, Read, Write};

@@ -1,10 +1,10 @@
 //! Reading the words of the command line.
-ghost use Rattle.std.specs.Prelude.{◌≡◌, ◌<◌, ◌≤◌, IfErr, IfOk, codes, false, map, option_map, true};
+ghost use Rattle.std.specs.Prelude.{◌≡◌, ◌≢◌, ◌<◌, ◌≤◌, IfErr, IfOk, codes, false, map, option_map, true};
 ghost use Rattle.clap.specs.Matches.{has_subcommand};
 ghost use Rattle.clap.specs.Words.{FailsBy, app_of, fault_of, first_value, found_of, one_text, rule_of, subcommand_of, subcommand_rows_of, with_rule};
 ghost use Rattle.clap.specs.declared.builder.command.Command.TheViews.{out-Command};
-ghost use Rattle.shform.specs.declared.asked.Tool.TheVariants.{Print};
-ghost use Rattle.shform.specs.Words.{AreOptions, AreSettingsOf, FailsFor, IsLayoutFor, check_app, file_in, file_rule, first_app, flag_rule, indent_in, indent_rule, print_app, tool_app, tool_named};
+ghost use Rattle.shform.specs.declared.asked.Tool.TheVariants.{Check};
+ghost use Rattle.shform.specs.Words.{AreOptions, AreSettingsOf, FailsFor, IsLayoutFor, check_app, file_in, file_rule, first_app, flag_rule, indent_in, indent_rule, print_app, printing_app, second_app, session_app, tool_app, tool_named};
 
 use crate::asked::{Settings, Tool};
 use crate::usage::Usage;
@@ -12,12 +12,15 @@ use clap::{Arg, ArgAction, ArgMatches, Command, value_parser};
 use shprint::{Layout, LayoutError};
 use std::alloc::{AllocError, Global};
 
-/// The argument FILE.
-fn file_arg<'a>(alloc: Global) -> Arg<'a>
+/// What is said of FILE by the tools that read a script once.
+const STANDARD_INPUT: &str = "The script; standard input if absent or -";
+
+/// The argument FILE, with what is said of it where it is absent.
+fn file_arg<'a>(alloc: Global, help: &'a str) -> Arg<'a>
     ensures rule { rule_of result ≡ file_rule }
     ensures local { result.global ≡ false }
 {
-    Arg::new(alloc, "FILE").help("The script; standard input if absent or -")
+    Arg::new(alloc, "FILE").help(help)
 }
 
 /// The option `-i N`.
@@ -64,16 +67,21 @@ fn check_command<'a>(alloc: Global) -> Result<Command<'a>, AllocError>
 {
     Command::new(alloc, "check")
         .about("Tells the first fault of a script")
-        .arg(file_arg(alloc))
+        .arg(file_arg(alloc, STANDARD_INPUT))
 }
 
-/// The subcommand `print`.
-fn print_command<'a>(alloc: Global) -> Result<Command<'a>, AllocError>
-    ensures app { IfOk result (λ c. app_of c ≡ print_app) }
+/// A subcommand that prints: its options, and FILE.
+fn printing_command<'a>(
+    alloc: Global,
+    name: &'a str,
+    about: &'a str,
+    file: &'a str,
+) -> Result<Command<'a>, AllocError>
+    ensures app { IfOk result (λ c. app_of c ≡ printing_app name.entry.now) }
     ensures local { IfOk result (λ c. (out-Command c).has_globals ≡ false) }
 {
-    let command = Command::new(alloc, "print")
-        .about("Prints a script in one layout")
+    let command = Command::new(alloc, name)
+        .about(about)
         .arg(indent_arg(alloc))?;
     let command = with_flag(command, alloc, "case-indent", "Indents the items of a case")?;
     let command = with_flag(
@@ -88,7 +96,33 @@ fn print_command<'a>(alloc: Global) -> Result<Command<'a>, AllocError>
         "func-next-line",
         "Puts the { of a function on a line of its own",
     )?;
-    command.arg(file_arg(alloc))
+    command.arg(file_arg(alloc, file))
+}
+
+/// The subcommand `print`.
+fn print_command<'a>(alloc: Global) -> Result<Command<'a>, AllocError>
+    ensures app { IfOk result (λ c. app_of c ≡ print_app) }
+    ensures local { IfOk result (λ c. (out-Command c).has_globals ≡ false) }
+{
+    printing_command(
+        alloc,
+        "print",
+        "Prints a script in one layout",
+        STANDARD_INPUT,
+    )
+}
+
+/// The subcommand `session`.
+fn session_command<'a>(alloc: Global) -> Result<Command<'a>, AllocError>
+    ensures app { IfOk result (λ c. app_of c ≡ session_app) }
+    ensures local { IfOk result (λ c. (out-Command c).has_globals ≡ false) }
+{
+    printing_command(
+        alloc,
+        "session",
+        "Keeps a script open and answers requests while it is edited",
+        "The script; empty if absent or -",
+    )
 }
 
 /// The program's command with `check` alone.
@@ -105,12 +139,20 @@ fn first_command<'a>(alloc: Global) -> Result<Command<'a>, AllocError>
         .subcommand(check_command(alloc)?)
 }
 
+/// The program's command with `check` and `print`.
+fn second_command<'a>(alloc: Global) -> Result<Command<'a>, AllocError>
+    ensures app { IfOk result (λ c. app_of c ≡ second_app) }
+    ensures local { IfOk result (λ c. (out-Command c).has_globals ≡ false) }
+{
+    first_command(alloc)?.subcommand(print_command(alloc)?)
+}
+
 /// The program's command.
 fn tool_command<'a>(alloc: Global) -> Result<Command<'a>, AllocError>
     ensures app { IfOk result (λ c. app_of c ≡ tool_app) }
     ensures local { IfOk result (λ c. (out-Command c).has_globals ≡ false) }
 {
-    first_command(alloc)?.subcommand(print_command(alloc)?)
+    second_command(alloc)?.subcommand(session_command(alloc)?)
 }
 
 /// What `clap` takes the words for. A subcommand is always among it.
@@ -128,6 +170,7 @@ fn tool_of(name: &str) -> Tool
 {
     match name {
         "print" => Tool::Print,
+        "session" => Tool::Session,
         _ => Tool::Check,
     }
 }
@@ -157,11 +200,11 @@ fn options_of(matches: &ArgMatches<'_>) -> Result<Layout, LayoutError>
 fn layout_of(tool: Tool, matches: &ArgMatches<'_>) -> Result<Layout, LayoutError>
     ensures layout { IfOk result (λ layout. IsLayoutFor tool matches.now layout) }
     ensures indent { IfOk result (λ layout. layout.indent ≤ 16) }
-    ensures err { IfErr result (λ e. (tool ≡ Print) × (16 < indent_in (one_text (found_of matches.now) (codes "indent")))) }
+    ensures err { IfErr result (λ e. (tool ≢ Check) × (16 < indent_in (one_text (found_of matches.now) (codes "indent")))) }
 {
     match tool {
         Tool::Check => Layout::new(0, false, false, false),
-        Tool::Print => options_of(matches),
+        Tool::Print | Tool::Session => options_of(matches),
     }
 }
 

@@ -8,7 +8,7 @@ use Rattle.std.proofs.lemmas.Bool.Decides.{nat_tests}
 use Rattle.shtree.specs.Shape.{bare, text_at}
 use Rattle.shtree.specs.declared.tree.Span.{Span}
 use Rattle.shtree.specs.declared.tree.RedirectOperator.TheVariants as redirects
-use Rattle.shread.specs.Text.{IsRun}
+use Rattle.shtext.specs.Text.{IsRun}
 use Rattle.shprint.specs.Printed.{would_strip}
 
 -- ---- by stretches

@@ -9,7 +9,7 @@ use Rattle.shread.specs.declared.token.Position.TheVariants.{Command, Prefix, Su
 use Rattle.shread.specs.declared.token.Reserved.{Reserved}
 use Rattle.shread.specs.declared.token.Token.{Token}
 use Rattle.shread.specs.declared.token.Token.TheVariants as tokens
-use Rattle.shread.specs.Text.{is_newline as is_newline_byte}
+use Rattle.shtext.specs.Text.{is_newline as is_newline_byte}
 use Rattle.shread.specs.Classes.{is_digit}
 use Rattle.shread.specs.Standing.{continues, is_byte, passes, raw_stands}
 use Rattle.shread.specs.Bytes.{behind, byte_at, past, past_continuations, stands, stands_in}

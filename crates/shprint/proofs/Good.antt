@@ -6,14 +6,16 @@ use Rattle.shread.specs.declared.token.Position.TheVariants.{Command, Prefix, Su
 use Rattle.shread.specs.declared.token.Token.{Token}
 use Rattle.shread.specs.declared.token.Token.TheVariants as tokens
 use Rattle.shread.specs.Classes.{is_digit}
-use Rattle.shread.specs.Commands.{begins_word, behind_redirect, behind_word, takes_here}
+use Rattle.shread.specs.Commands.{begins_word, behind_redirect, behind_word, is_strip, takes_here}
+use Rattle.shread.specs.HereDocuments.{ADelimiter, delimiter_of}
+use Rattle.shread.proofs.BodiesAnywhere.{DocumentAnywhere}
 use Rattle.shread.specs.Compounds.{begins_pattern}
 use Rattle.shread.proofs.Elsewhere.{ItemAnywhere, NameAnywhere}
 use Rattle.shread.proofs.NamesBefore.{NameBefore}
 use Rattle.shread.proofs.CommentsElsewhere.{CommentAnywhere}
 use Rattle.shtree.specs.declared.tree.RedirectOperator.{RedirectOperator}
 use Rattle.shtree.specs.Shape.{Text, Shape}
-use Rattle.shtree.specs.Tree.{ForWordsOf, no_in, in_words, AWordOf, EntriesOf, no_entry, more_entries, AnEntryOf, entry, AContentOf, command, remark, AnAndOrOf, and_or, AndOrPartsOf, no_and_or, more_and_or, APipelineOf, pipeline, PipelinePartsOf, no_pipe, more_pipes, ACommandOf, simple, compound, function, ACompoundOf, formed, AFormOf, brace, subshell, if_then, while_do, until_do, for_in, case_in, ABranchOf, branch, BranchesOf, no_branch, more_branches, OtherwiseOf, no_else, otherwise, ItemsOf, no_item, more_items, AnItemOf, item, AnItemContentOf, assign, argument, redirect, word, SubstsOf, CaseItemsOf, no_case, more_cases, ACaseItemOf, case_item, PatternsOf, no_pattern, more_patterns}
+use Rattle.shtree.specs.Tree.{AHereOf, ForWordsOf, no_in, in_words, AWordOf, EntriesOf, no_entry, more_entries, AnEntryOf, entry, AContentOf, command, remark, AnAndOrOf, and_or, AndOrPartsOf, no_and_or, more_and_or, APipelineOf, pipeline, PipelinePartsOf, no_pipe, more_pipes, ACommandOf, simple, compound, function, ACompoundOf, formed, AFormOf, brace, subshell, if_then, while_do, until_do, for_in, case_in, ABranchOf, branch, BranchesOf, no_branch, more_branches, OtherwiseOf, no_else, otherwise, ItemsOf, no_item, more_items, AnItemOf, item, AnItemContentOf, assign, argument, redirect, word, SubstsOf, CaseItemsOf, no_case, more_cases, ACaseItemOf, case_item, PatternsOf, no_pattern, more_patterns}
 
 abbrev pub GoodComments : Row Text → Type 0
 GoodComments [] = Unit {0}
@@ -41,14 +43,27 @@ GoodNumber None = Unit {0}
 GoodNumber (Some []) = ⊥
 GoodNumber (Some (b ∷ bs)) = all_digits (b ∷ bs) ≡ true
 
--- a redirection without a here-document, by its parts
-pub record GoodRedirect (room : ℕ) (number : Option Text) (o : RedirectOperator) (t : Text) (ss : Shape SubstsOf) : Type 0 where
+-- a here-document of an operator and a word with these bytes: its body ends where the delimiter's line begins, wherever they stand
+pub record GoodDocument (o : RedirectOperator) (t : Text) (h : AHereOf Text) : Type 0 where
+  pub takes : takes_here o ≡ true
+  pub d : ADelimiter
+  pub delimits : delimiter_of t ≡ Some d
+  pub literal : h.literal ≡ d.literal
+  pub strip : h.strip ≡ is_strip o
+  pub reads : DocumentAnywhere (is_strip o) d h.body
+
+abbrev pub GoodHere : RedirectOperator → Text → Option (AHereOf Text) → Type 0
+GoodHere o t None = takes_here o ≡ false
+GoodHere o t (Some h) = GoodDocument o t h
+
+-- a redirection, by its parts
+pub record GoodRedirect (room : ℕ) (number : Option Text) (o : RedirectOperator) (t : Text) (ss : Shape SubstsOf) (h : Option (AHereOf Text)) : Type 0 where
   pub digits : GoodNumber number
-  pub no_here : takes_here o ≡ false
+  pub document : GoodHere o t h
   pub reads : ItemAnywhere room Suffix tokens.Word t ss
 
-abbrev pub a_redirect_of : Bool → Option Text → RedirectOperator → Text → Shape SubstsOf → Shape AnItemOf
-a_redirect_of broken number o t ss = item broken (redirect number o tt (word t ss) None)
+abbrev pub a_redirect_of : Bool → Option Text → RedirectOperator → Text → Shape SubstsOf → Option (AHereOf Text) → Shape AnItemOf
+a_redirect_of broken number o t ss h = item broken (redirect number o tt (word t ss) h)
 
 -- what items are: those of a simple command, the words of a for, the redirections behind a compound command
 pub data Kind : Type 0 where
@@ -61,10 +76,10 @@ pub data GoodItem (room : ℕ) : Kind → Position → Shape AnItemOf → Positi
   of_word : {position next : Position} {token : Token} {broken : Bool} {t : Text} {ss : Shape SubstsOf} → behind_word token ≡ Some next → ItemAnywhere room position token t ss
       → GoodItem room of_command position (an_item_of broken next (word t ss)) next
   of_argument : {broken : Bool} {t : Text} {ss : Shape SubstsOf} → ItemAnywhere room Suffix tokens.Word t ss → GoodItem room of_for Suffix (an_item_of broken Suffix (word t ss)) Suffix
-  of_redirect : {position : Position} {broken : Bool} {number : Option Text} {o : RedirectOperator} {t : Text} {ss : Shape SubstsOf} → GoodRedirect room number o t ss
-      → GoodItem room of_command position (a_redirect_of broken number o t ss) (behind_redirect position)
-  of_redirect_behind : {broken : Bool} {number : Option Text} {o : RedirectOperator} {t : Text} {ss : Shape SubstsOf} → GoodRedirect room number o t ss
-      → GoodItem room of_compound Command (a_redirect_of broken number o t ss) Command
+  of_redirect : {position : Position} {broken : Bool} {number : Option Text} {o : RedirectOperator} {t : Text} {ss : Shape SubstsOf} {h : Option (AHereOf Text)} → GoodRedirect room number o t ss h
+      → GoodItem room of_command position (a_redirect_of broken number o t ss h) (behind_redirect position)
+  of_redirect_behind : {broken : Bool} {number : Option Text} {o : RedirectOperator} {t : Text} {ss : Shape SubstsOf} {h : Option (AHereOf Text)} → GoodRedirect room number o t ss h
+      → GoodItem room of_compound Command (a_redirect_of broken number o t ss h) Command
 
 -- items of one kind, from one position to another
 pub data GoodItems (room : ℕ) (kind : Kind) : Position → Shape ItemsOf → Position → Type 0 where

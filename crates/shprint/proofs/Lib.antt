@@ -1,8 +1,11 @@
+pub mod BodiesOfParts
 pub mod ByLine
 pub mod Copying
 pub mod Digits
+pub mod Due
 pub mod Gives
 pub mod Good
+pub mod Held
 pub mod ReadBack
 pub mod PrintedRows
 pub mod Readable

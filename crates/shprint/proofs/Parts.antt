@@ -1,5 +1,5 @@
 -- What a part prints, by the cases that the code tells apart.
-use Rattle.std.proofs.Common.{◌≡◌, ℕ, ◌<◌, ◌&&◌, Bool, true, false, List, List as Row, [], ◌∷◌, ◌++◌, Some, None, length, take, map, codes, if◌then◌else◌, rules, refl, sym, ap, append_assoc, arith}
+use Rattle.std.proofs.Common.{◌≡◌, ◌∙◌, ℕ, ◌<◌, ◌&&◌, Bool, true, false, List, List as Row, [], ◌∷◌, ◌++◌, Some, None, length, take, map, codes, if◌then◌else◌, rules, refl, sym, ap, append_assoc, arith}
 use Rattle.std.proofs.Math.Seq.{take-append_seam, take-length}
 use Rattle.shtree.specs.declared.tree.Comment.{Comment}
 use Rattle.shtree.specs.declared.tree.Entry.{Entry}
@@ -7,12 +7,12 @@ use Rattle.shtree.specs.declared.tree.List as the_list
 use Rattle.shtree.specs.declared.tree.Command.TheViews.{out-List}
 use Rattle.shtree.specs.declared.tree.Command.TheFolds.{fold_out-List}
 use Rattle.shtree.specs.Shape.{Text, Shape, shape_of, shape_of_comments}
-use Rattle.shtree.specs.Tree.{ACompoundOf, AnEntryOf, EntriesOf, command, entries_of, entry, more_entries, no_entry, remark}
+use Rattle.shtree.specs.Tree.{ACompoundOf, AWordOf, AnEntryOf, EntriesOf, command, entries_of, entry, more_entries, no_entry, remark, word}
 use Rattle.shtree.specs.View.{view_comment, view_entry, view_list}
 use Rattle.shprint.specs.declared.layout.Layout.{Layout}
 use Rattle.shprint.specs.Marks.{Marks, text, line_end, deeper, one}
-use Rattle.shprint.specs.Printed.{case_margin, is_brace, is_one_line, operand_margin, print_body, print_comments, print_entries, print_function_gap, print_only}
-use Rattle.shprint.specs.Written.{is_bare, written}
+use Rattle.shprint.specs.Printed.{case_margin, is_brace, is_one_line, operand_margin, print_body, print_comments, print_entries, print_function_gap, print_here, print_only}
+use Rattle.shprint.specs.Written.{Sheet, is_bare, written}
 use Rattle.shprint.proofs.Writing.{written_append, written_cons}
 
 pub list_seen : (l : the_list.List) → view_list l ≡ entries_of (map view_entry (out-List l).entries.items)
@@ -21,14 +21,30 @@ list_seen l = search (rules, fold_out-List)
 -- ---- parts printed one after the other
 
 -- three parts, of which the last has two
-pub written_parts : (t : Text) (ms ns os ps : Marks) → written (written (written t ms) ns) (os ++ ps) ≡ written t (ms ++ ns ++ os ++ ps)
+pub written_parts : (t : Sheet) (ms ns os ps : Marks) → written (written (written t ms) ns) (os ++ ps) ≡ written t (ms ++ ns ++ os ++ ps)
 written_parts t ms ns os ps = rw (written_append t ms ns, written_append t (ms ++ ns) (os ++ ps)) (ap (written t) (sym (append_assoc (ms ++ ns) os ps)))
 
 -- the parts of an item of a `case`
-pub written_case : (t m closer : Text) (comments patterns body : Marks)
+pub written_case : (t : Sheet) (m closer : Text) (comments patterns body : Marks)
     → written (written (written (written (written (written t comments) (text m ∷ [])) patterns) (text closer ∷ [])) body) (line_end ∷ [])
     ≡ written t (comments ++ (text m ∷ patterns ++ (text closer ∷ body ++ (line_end ∷ []))))
 written_case t m closer comments patterns body = grind (arith, written_append, written_cons)
+
+-- where no here-document is
+pub here_none : (w : Shape AWordOf) → print_here w None ≡ []
+here_none (word t substs) = refl
+
+-- the parts of a `case`
+pub written_esac : (t : Sheet) (a b m e : Text) (ws cases tail : Marks)
+    → written (written (written (written t (text a ∷ ws ++ (text b ∷ line_end ∷ []))) (cases ++ tail)) (text m ∷ [])) (text e ∷ [])
+    ≡ written t (text a ∷ ws ++ (text b ∷ line_end ∷ cases ++ tail ++ (text m ∷ text e ∷ [])))
+written_esac t a b m e ws cases tail =
+    let head = text a ∷ ws ++ (text b ∷ line_end ∷ []) in
+    let ends = text m ∷ text e ∷ [] in
+    written_append (written (written t head) (cases ++ tail)) (text m ∷ []) (text e ∷ [])
+    ∙ ap (λ s. written s ends) (written_append t head (cases ++ tail))
+    ∙ written_append t (head ++ (cases ++ tail)) ends
+    ∙ ap (written t) (append_assoc head (cases ++ tail) ends ∙ ap (λ r. text a ∷ r) (append_assoc ws (text b ∷ line_end ∷ []) ((cases ++ tail) ++ ends)))
 
 -- ---- margins that are cut to what they were
 

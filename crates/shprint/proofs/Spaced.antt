@@ -1,5 +1,5 @@
 -- Words that stand in the source as they are printed.
-use Rattle.std.proofs.Common.{◌≡◌, ◌∙◌, ℕ, ◌+◌, ◌-◌, ◌≤◌, ◌<◌, false, Some, slice_get, List, [], ◌∷◌, ◌++◌, drop, map, refl, sym, ap, arith, append-nil, append_assoc}
+use Rattle.std.proofs.Common.{◌≡◌, ◌∙◌, ℕ, ◌+◌, ◌-◌, ◌≤◌, ◌<◌, false, Some, slice_get, List, [], ◌∷◌, ◌++◌, drop, map, refl, sym, ap, arith, append_assoc}
 use Rattle.std.proofs.lemmas.List.{drop-drop}
 use Rattle.std.proofs.Math.Seq.{take-add}
 use Rattle.std.proofs.Common.{take}
@@ -9,11 +9,11 @@ use Rattle.shtree.specs.Shape.{Text, Shape, shape_of_item, shape_of_items, text_
 use Rattle.shtree.specs.Tree.{AnItemOf, items_of}
 use Rattle.shtree.specs.View.{view_item}
 use Rattle.shprint.specs.declared.layout.Layout.{Layout}
-use Rattle.shprint.specs.Marks.{laid, text}
+use Rattle.shprint.specs.Marks.{Marks, laid_behind, held_behind, one, text}
 use Rattle.shprint.specs.Printed.{is_broken_item, print_item, print_items}
-use Rattle.shprint.specs.Written.{item_behind, stretch, written}
+use Rattle.shprint.specs.Written.{Sheet, item_behind, stretch, written}
 use Rattle.shprint.proofs.Copying.{taken}
-use Rattle.shprint.proofs.Writing.{laid_append}
+use Rattle.shprint.proofs.Writing.{written_append, written_cons}
 
 module _ (B : Text) where
   none_more : (a : ℕ) → stretch B a a ≡ []
@@ -31,34 +31,52 @@ module _ (B : Text) where
   module _ (y : Layout) (m : Text) where
     -- a word one blank behind another
     pub word_is : (i : Shape AnItemOf) (at : ℕ) (s : Span) → is_broken_item i ≡ false → print_item y i ≡ text (text_at B s) ∷ [] → slice_get B at ≡ Some 32 → s.start ≡ at + 1
-        → s.start ≤ s.«end» → stretch B at s.«end» ≡ laid (item_behind y m i)
-    unfolding laid
-    word_is i at s unbroken printed blank next some =
+        → s.start ≤ s.«end» → (t : Sheet) → written t (item_behind y m i) ≡ written t (one (stretch B at s.«end»))
+    unfolding written laid_behind held_behind
+    word_is i at s unbroken printed blank next some t =
         let before : at < s.«end» = omega (arith, next, some) in
-        rw (unbroken, printed) (taken B at s.«end» 32 blank before ∙ ap (λ t. 32 ∷ t) (rw (← next, append-nil) refl))
+        let told : stretch B at s.«end» ≡ 32 ∷ text_at B s = taken B at s.«end» 32 blank before ∙ ap (λ r. 32 ∷ r) (rw (← next) refl) in
+        rw (unbroken, printed, told) refl
 
-    abbrev items_laid : List Item → Text
-    items_laid is = laid (print_items y m (shape_of_items B (items_of (map view_item is))))
+    abbrev items_marks : List Item → Marks
+    items_marks is = print_items y m (shape_of_items B (items_of (map view_item is)))
 
-    pub none_passed : (a : ℕ) (is : List Item) → items_laid is ≡ stretch B a a ++ items_laid is
-    none_passed a is = rw (none_more a) refl
+    pub none_passed : (a : ℕ) (is : List Item) (t : Sheet) → written t (items_marks is) ≡ written t (text (stretch B a a) ∷ items_marks is)
+    unfolding written laid_behind held_behind
+    none_passed a is t = rw (none_more a) refl
+
+    -- two texts, one behind the other, are one
+    texts_join : (t : Sheet) (x z : Text) (ms : Marks) → written t (text x ∷ text z ∷ ms) ≡ written t (text (x ++ z) ∷ ms)
+    unfolding written laid_behind held_behind
+    texts_join t x z ms = rw append_assoc refl
 
     -- one word more
-    pub one_passed : (a b c : ℕ) (before : Text) (i : Item) (is : List Item) → a ≤ b → b ≤ c → before ≡ stretch B a b ++ items_laid (i ∷ is)
-        → stretch B b c ≡ laid (item_behind y m (shape_of_item B (view_item i))) → before ≡ stretch B a c ++ items_laid is
-    one_passed a b c before i is ab bc so_far word =
-        let rest = print_items y m (shape_of_items B (items_of (map view_item is))) in
-        let split : items_laid (i ∷ is) ≡ stretch B b c ++ items_laid is = laid_append (item_behind y m (shape_of_item B (view_item i))) rest ∙ ap (λ t. t ++ laid rest) (sym word) in
-        so_far ∙ ap (λ t. stretch B a b ++ t) split ∙ sym (append_assoc (stretch B a b) (stretch B b c) (items_laid is)) ∙ ap (λ t. t ++ items_laid is) (sym (stretches a b c ab bc))
+    pub one_passed : (a b c : ℕ) (before : Marks) (i : Item) (is : List Item) → a ≤ b → b ≤ c → ((t : Sheet) → written t before ≡ written t (text (stretch B a b) ∷ items_marks (i ∷ is)))
+        → ((t : Sheet) → written t (item_behind y m (shape_of_item B (view_item i))) ≡ written t (one (stretch B b c))) → (t : Sheet) → written t before ≡ written t (text (stretch B a c) ∷ items_marks is)
+    one_passed a b c before i is ab bc so_far word t =
+        let behind = item_behind y m (shape_of_item B (view_item i)) in
+        let from = written t (one (stretch B a b)) in
+        so_far t
+        ∙ sym (written_cons t (behind ++ items_marks is) (text (stretch B a b)))
+        ∙ sym (written_append from behind (items_marks is))
+        ∙ ap (λ s. written s (items_marks is)) (word from)
+        ∙ written_append from (one (stretch B b c)) (items_marks is)
+        ∙ written_cons t (text (stretch B b c) ∷ items_marks is) (text (stretch B a b))
+        ∙ texts_join t (stretch B a b) (stretch B b c) (items_marks is)
+        ∙ ap (λ r. written t (text r ∷ items_marks is)) (sym (stretches a b c ab bc))
 
     -- words, and the items behind them
-    pub simple_printed : (t : Text) (s : Span) (past : ℕ) (i : Item) (is others : List Item) → print_item y (shape_of_item B (view_item i)) ≡ text (text_at B s) ∷ []
-        → s.start ≤ s.«end» → s.«end» ≤ past → items_laid is ≡ stretch B s.«end» past ++ items_laid others
+    pub simple_printed : (t : Sheet) (s : Span) (past : ℕ) (i : Item) (is others : List Item) → print_item y (shape_of_item B (view_item i)) ≡ text (text_at B s) ∷ []
+        → s.start ≤ s.«end» → s.«end» ≤ past → ((t : Sheet) → written t (items_marks is) ≡ written t (text (stretch B s.«end» past) ∷ items_marks others))
         → written (written t (text (stretch B s.start past) ∷ [])) (print_items y m (shape_of_items B (items_of (map view_item others))))
         ≡ written t (print_item y (shape_of_item B (view_item i)) ++ print_items y m (shape_of_items B (items_of (map view_item is))))
-    unfolding laid written
     simple_printed t s past i is others printed some on passed =
         let first = text_at B s in
-        let all : stretch B s.start past ++ items_laid others ≡ first ++ items_laid is =
-        ap (λ r. r ++ items_laid others) (stretches s.start s.«end» past some on) ∙ append_assoc first (stretch B s.«end» past) (items_laid others) ∙ ap (λ r. first ++ r) (sym passed) in
-        rw (printed, append-nil, append_assoc) (ap (λ r. t ++ r) all)
+        let from = written t (one first) in
+        written_cons t (items_marks others) (text (stretch B s.start past))
+        ∙ ap (λ r. written t (text r ∷ items_marks others)) (stretches s.start s.«end» past some on)
+        ∙ sym (texts_join t first (stretch B s.«end» past) (items_marks others))
+        ∙ sym (written_cons t (text (stretch B s.«end» past) ∷ items_marks others) (text first))
+        ∙ sym (passed from)
+        ∙ written_append t (one first) (items_marks is)
+        ∙ ap (λ ms. written t (ms ++ items_marks is)) (sym printed)

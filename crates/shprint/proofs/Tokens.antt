@@ -13,12 +13,12 @@ use Rattle.shread.specs.Classes.{is_blank, is_digit, is_name}
 use Rattle.shread.specs.Standing.{is_byte, passes, raw_stands, raw_in, raw_past, continues}
 use Rattle.shread.specs.Bytes.{ends, past, past_continuations, byte_at, behind, stands, stands_in, past_blanks, is_broken_at}
 use Rattle.shread.specs.Tokens.{Spelling, is_word_at, first_of_words, reserved_words, reserved_at, past_reserved, past_digits, begins_assignment, is_number, first_word, less_at, greater_at, token_of, token_at, next_at}
-use Rattle.shread.specs.Text.{is_newline}
+use Rattle.shtext.specs.Text.{is_newline}
 use Rattle.shread.proofs.Stretches.{get_drop, joined_none, joined_more, place_low, past_more, past_none, raw_more, raw_none}
 use Rattle.shread.proofs.Places.{must_fail}
 use Rattle.shread.proofs.SameBytes.{no_backslash}
 use Rattle.shread.proofs.Ahead.{behind_is, spelled_none, spelled_more, ender}
-use Rattle.shread.specs.Commands.{is_word, is_paren, begins_redirect, begins_simple, begins_word, behind_word, takes_here}
+use Rattle.shread.specs.Commands.{is_word, is_paren, begins_redirect, begins_simple, begins_word, behind_word}
 use Rattle.shtree.specs.declared.tree.RedirectOperator.{RedirectOperator}
 use Rattle.shtree.specs.declared.tree.RedirectOperator.TheVariants as redirects
 use Rattle.shtree.specs.Spelling.{redirect_text}
@@ -516,14 +516,24 @@ word_no_longer T q word = record {
     no_word_of true t u one two = one
     no_word_of false t u one two = two
 
-pub redirect_token : (position : Position) (k : RedirectOperator) (T : List ℕ) (p : ℕ) (xs : List ℕ) → takes_here k ≡ false → NoLonger T (p + length (redirect_text k)) → drop p T ≡ redirect_text k ++ xs
+-- behind `<<` no `-` is read
+abbrev pub NoDash : RedirectOperator → List ℕ → ℕ → Type 0
+NoDash redirects.Here T q = stands T q 45 ≡ false
+NoDash _ T q = Unit {0}
+
+pub redirect_token : (position : Position) (k : RedirectOperator) (T : List ℕ) (p : ℕ) (xs : List ℕ) → NoDash k T (p + length (redirect_text k)) → NoLonger T (p + length (redirect_text k)) → drop p T ≡ redirect_text k ++ xs
     → token_at position T p ≡ tokens.Redirect k
 unfolding less_at greater_at
 redirect_token position redirects.Input T p xs none n at =
     let r = byte_here T p 60 xs refl at in token_here position r ∙ rw (r.behind_it, n.less, n.ampersand, n.greater) refl
 redirect_token position redirects.Output T p xs none n at =
     let r = byte_here T p 62 xs refl at in token_here position r ∙ rw (r.behind_it, n.greater, n.ampersand, n.bar) refl
-redirect_token position redirects.Here T p xs none n at = absurd cc
+redirect_token position redirects.Here T p xs none n at =
+    let r = byte_here T p 60 (60 ∷ xs) refl at in
+    let s = byte_here T (p + 1) 60 xs refl r.rest in
+    let two : p + 2 ≡ p + 1 + 1 = omega arith in
+    let no_dash : stands T (p + 1 + 1) 45 ≡ false = subst (λ q. stands T q 45 ≡ false) two none in
+    token_here position r ∙ rw (second 60 refl r, r.behind_it, s.behind_it, no_dash) refl
 redirect_token position redirects.Append T p xs none n at =
     let r = byte_here T p 62 (62 ∷ xs) refl at in token_here position r ∙ rw (second 62 refl r) refl
 redirect_token position redirects.DuplicateInput T p xs none n at =
@@ -532,7 +542,10 @@ redirect_token position redirects.DuplicateOutput T p xs none n at =
     let r = byte_here T p 62 (38 ∷ xs) refl at in token_here position r ∙ rw (second 62 refl r, second 38 refl r) refl
 redirect_token position redirects.ReadWrite T p xs none n at =
     let r = byte_here T p 60 (62 ∷ xs) refl at in token_here position r ∙ rw (second 60 refl r, second 38 refl r, second 62 refl r) refl
-redirect_token position redirects.HereStripped T p xs none n at = absurd cc
+redirect_token position redirects.HereStripped T p xs none n at =
+    let r = byte_here T p 60 (60 ∷ 45 ∷ xs) refl at in
+    let s = byte_here T (p + 1) 60 (45 ∷ xs) refl r.rest in
+    token_here position r ∙ rw (second 60 refl r, r.behind_it, second 45 refl s) refl
 redirect_token position redirects.Clobber T p xs none n at =
     let r = byte_here T p 62 (124 ∷ xs) refl at in token_here position r ∙ rw (second 62 refl r, second 38 refl r, second 124 refl r) refl
 

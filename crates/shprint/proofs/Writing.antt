@@ -2,37 +2,54 @@
 use Rattle.std.proofs.Common.{◌≡◌, List, [], ◌∷◌, ◌++◌, length, refl, ap, append_assoc, arith}
 use Rattle.std.proofs.lemmas.List.{append-nil}
 use Rattle.shtree.specs.Shape.{Text}
-use Rattle.shprint.specs.Marks.{Mark, Marks, text, line_end, laid}
-use Rattle.shprint.specs.Written.{written}
+use Rattle.shprint.specs.Marks.{Mark, Marks, text, line_end, document, laid, laid_behind, held_behind}
+use Rattle.shprint.specs.Written.{Sheet, sheet_of, written}
 
-pub laid_append : (ms ns : Marks) → laid (ms ++ ns) ≡ laid ms ++ laid ns
-unfolding laid
-laid_append [] ns = refl
-laid_append (text t ∷ ms) ns = rw (laid_append ms ns, append_assoc) refl
-laid_append (line_end ∷ ms) ns = ap (λ r. 10 ∷ r) (laid_append ms ns)
+-- ---- marks, and others behind them
 
-pub written_none : (t : Text) → written t [] ≡ t
-unfolding written laid
-written_none t = append-nil t
+pub laid_append : (h : Text) (ms ns : Marks) → laid_behind h (ms ++ ns) ≡ laid_behind h ms ++ laid_behind (held_behind h ms) ns
+unfolding laid_behind held_behind
+laid_append h [] ns = refl
+laid_append h (text t ∷ ms) ns = rw (laid_append h ms ns, append_assoc) refl
+laid_append h (line_end ∷ ms) ns = rw (laid_append [] ms ns, append_assoc) refl
+laid_append h (document t ∷ ms) ns = laid_append (h ++ t) ms ns
+
+pub held_append : (h : Text) (ms ns : Marks) → held_behind h (ms ++ ns) ≡ held_behind (held_behind h ms) ns
+unfolding held_behind
+held_append h [] ns = refl
+held_append h (text t ∷ ms) ns = held_append h ms ns
+held_append h (line_end ∷ ms) ns = held_append [] ms ns
+held_append h (document t ∷ ms) ns = held_append (h ++ t) ms ns
+
+-- ---- on a sheet
+
+pub written_none : (s : Sheet) → written s [] ≡ s
+unfolding written laid_behind held_behind
+written_none s = ap (λ t. sheet_of t s.held) (append-nil s.so_far)
 
 -- some marks and then others
-pub written_append : (t : Text) (ms ns : Marks) → written (written t ms) ns ≡ written t (ms ++ ns)
+pub written_append : (s : Sheet) (ms ns : Marks) → written (written s ms) ns ≡ written s (ms ++ ns)
 unfolding written
-written_append t ms ns = rw (laid_append ms ns, append_assoc) refl
+written_append s ms ns = rw (laid_append s.held ms ns, held_append s.held ms ns, append_assoc) refl
 
 -- a mark and then others
-pub written_cons : (t : Text) (ms : Marks) (m : Mark) → written (written t (m ∷ [])) ms ≡ written t (m ∷ ms)
-written_cons t ms m = written_append t (m ∷ []) ms
+pub written_cons : (s : Sheet) (ms : Marks) (m : Mark) → written (written s (m ∷ [])) ms ≡ written s (m ∷ ms)
+written_cons s ms m = written_append s (m ∷ []) ms
 
-pub written_text : (t x : Text) → written t (text x ∷ []) ≡ t ++ x
-unfolding written laid
-written_text t x = ap (λ r. t ++ r) (append-nil x)
+pub written_text : (s : Sheet) (x : Text) → written s (text x ∷ []) ≡ sheet_of (s.so_far ++ x) s.held
+unfolding written laid_behind held_behind
+written_text s x = ap (λ r. sheet_of (s.so_far ++ r) s.held) (append-nil x)
 
-pub written_line : (t : Text) → written t (line_end ∷ []) ≡ t ++ 10 ∷ []
-unfolding written laid
-written_line t = refl
+pub written_line : (s : Sheet) → written s (line_end ∷ []) ≡ sheet_of ((s.so_far ++ 10 ∷ []) ++ s.held) []
+unfolding written laid_behind held_behind
+written_line s = rw (append_assoc, append-nil) refl
 
-pub written_first : (ms : Marks) → written [] ms ≡ laid ms
+pub written_document : (s : Sheet) (x : Text) → written s (document x ∷ []) ≡ sheet_of s.so_far (s.held ++ x)
+unfolding written laid_behind held_behind
+written_document s x = ap (λ r. sheet_of r (s.held ++ x)) (append-nil s.so_far)
+
+-- on an empty sheet
+pub written_first : (ms : Marks) → written (sheet_of [] []) ms ≡ sheet_of (laid ms) (held_behind [] ms)
 unfolding written
 written_first ms = refl
 

@@ -9,15 +9,29 @@ pub data Mark : Type 0 where
   text : Text → Mark
   -- the end of a line
   line_end : Mark
+  -- the body of a here-document and the line of its delimiter, which wait for the end of the line
+  document : Text → Mark
 
 abbrev pub Marks : Type 0
 Marks = Row Mark
 
+-- the text of some marks, where this waits for the end of the line
+unfoldable pub laid_behind : Text → Marks → Text
+laid_behind held [] = []
+laid_behind held (text t ∷ ms) = t ++ laid_behind held ms
+laid_behind held (line_end ∷ ms) = 10 ∷ held ++ laid_behind [] ms
+laid_behind held (document t ∷ ms) = laid_behind (held ++ t) ms
+
+-- what waits behind them
+unfoldable pub held_behind : Text → Marks → Text
+held_behind held [] = held
+held_behind held (text t ∷ ms) = held_behind held ms
+held_behind held (line_end ∷ ms) = held_behind [] ms
+held_behind held (document t ∷ ms) = held_behind (held ++ t) ms
+
 -- the text of some marks
-unfoldable pub laid : Marks → Text
-laid [] = []
-laid (text t ∷ ms) = t ++ laid ms
-laid (line_end ∷ ms) = 10 ∷ laid ms
+abbrev pub laid : Marks → Text
+laid ms = laid_behind [] ms
 
 -- ---- margins
 

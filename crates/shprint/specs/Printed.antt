@@ -2,11 +2,12 @@
 use Rattle.std.specs.Prelude.{◌==◌, ◌&&◌, ◌||◌, not, ◌++◌, Bool, true, false, [], ◌∷◌, List as Row, codes, Option, None, Some, if◌then◌else◌}
 use Rattle.shtree.specs.declared.tree.RedirectOperator.{RedirectOperator}
 use Rattle.shtree.specs.declared.tree.RedirectOperator.TheVariants as redirects
-use Rattle.shtree.specs.Tree.{AJoinOf, EntriesOf, no_entry, more_entries, AnEntryOf, entry, AContentOf, command, remark, AnAndOrOf, and_or, AndOrPartsOf, no_and_or, more_and_or, APipelineOf, pipeline, PipelinePartsOf, no_pipe, more_pipes, ACommandOf, simple, compound, function, ACompoundOf, formed, AFormOf, brace, subshell, if_then, while_do, until_do, for_in, case_in, ABranchOf, branch, BranchesOf, no_branch, more_branches, OtherwiseOf, no_else, otherwise, ForWordsOf, no_in, in_words, CaseItemsOf, no_case, more_cases, ACaseItemOf, case_item, PatternsOf, no_pattern, more_patterns, ItemsOf, no_item, more_items, AnItemOf, item, assign, argument, redirect, AWordOf, word}
+use Rattle.shtree.specs.Tree.{AHereOf, AJoinOf, EntriesOf, no_entry, more_entries, AnEntryOf, entry, AContentOf, command, remark, AnAndOrOf, and_or, AndOrPartsOf, no_and_or, more_and_or, APipelineOf, pipeline, PipelinePartsOf, no_pipe, more_pipes, ACommandOf, simple, compound, function, ACompoundOf, formed, AFormOf, brace, subshell, if_then, while_do, until_do, for_in, case_in, ABranchOf, branch, BranchesOf, no_branch, more_branches, OtherwiseOf, no_else, otherwise, ForWordsOf, no_in, in_words, CaseItemsOf, no_case, more_cases, ACaseItemOf, case_item, PatternsOf, no_pattern, more_patterns, ItemsOf, no_item, more_items, AnItemOf, item, assign, argument, redirect, AWordOf, word}
 use Rattle.shtree.specs.Shape.{Text, Shape}
 use Rattle.shtree.specs.Spelling.{and_or_text, redirect_text}
+use Rattle.shread.specs.HereDocuments.{ADelimiter, delimiter_of}
 use Rattle.shprint.specs.declared.layout.Layout.{Layout}
-use Rattle.shprint.specs.Marks.{text, line_end, Marks, laid, deeper, one, lines_between}
+use Rattle.shprint.specs.Marks.{text, line_end, document, Marks, laid, deeper, one, lines_between}
 
 -- ---- comments
 
@@ -77,10 +78,20 @@ abbrev pub print_operator : Layout → RedirectOperator → Shape AWordOf → Ma
 print_operator y operator (word t substs) =
     text (redirect_text operator) ∷ (if (y.space_redirects && not (duplicates operator)) || would_strip operator t then one (codes " ") else [])
 
+-- the line of a delimiter
+abbrev pub delimiter_line : Option ADelimiter → Text
+delimiter_line None = []
+delimiter_line (Some d) = d.text ++ 10 ∷ []
+
+-- the bytes of a body as they stand, and the line of the delimiter that the word is
+abbrev pub print_here : Shape AWordOf → Option (AHereOf Text) → Marks
+print_here w None = []
+print_here (word t substs) (Some h) = document (h.body ++ delimiter_line (delimiter_of t)) ∷ []
+
 abbrev pub print_item : Layout → Shape AnItemOf → Marks
 print_item y (item broken (assign w)) = print_word w
 print_item y (item broken (argument w)) = print_word w
-print_item y (item broken (redirect number operator mark w here)) = print_number number ++ print_operator y operator w ++ print_word w
+print_item y (item broken (redirect number operator mark w here)) = print_number number ++ print_operator y operator w ++ print_word w ++ print_here w here
 
 abbrev pub is_broken_item : Shape AnItemOf → Bool
 is_broken_item (item broken what) = broken

@@ -4,20 +4,31 @@ use Rattle.shtree.specs.Shape.{Text, Shape}
 use Rattle.shtree.specs.Tree.{AContentOf, AJoinOf, AnEntryOf, AnItemOf, AWordOf, EntriesOf, command, entry, remark}
 use Rattle.shprint.specs.declared.layout.Layout.{Layout}
 use Rattle.shprint.specs.declared.page.Page.{Page}
-use Rattle.shprint.specs.Marks.{Marks, text, line_end, laid, deeper, lines_between, one}
+use Rattle.shprint.specs.Marks.{Marks, text, line_end, laid_behind, held_behind, deeper, lines_between, one}
 use Rattle.shprint.specs.Printed.{breaks_line, is_broken_item, is_one_line, print_comments, print_entries, print_gap, print_item, print_only, print_word}
 
--- the text so far, and some marks behind it
-unfoldable pub written : Text → Marks → Text
-written so_far ms = so_far ++ laid ms
+-- the text so far, and what waits for the end of the line
+pub record Sheet : Type 0 where
+  pub so_far : Text
+  pub held : Text
+
+abbrev pub sheet_of : Text → Text → Sheet
+sheet_of so_far held = record { so_far = so_far; held = held }
+
+abbrev pub sheet : Page → Sheet
+sheet page = sheet_of page.text.items page.held.items
+
+-- the same, and some marks behind it
+unfoldable pub written : Sheet → Marks → Sheet
+written s ms = sheet_of (s.so_far ++ laid_behind s.held ms) (held_behind s.held ms)
 
 -- these marks were printed, and a line begins as before
 abbrev pub Prints : Page → Page → Marks → Type 0
-Prints before after ms = (after.text.items ≡ written before.text.items ms) × (after.margin.items ≡ before.margin.items)
+Prints before after ms = (sheet after ≡ written (sheet before) ms) × (after.margin.items ≡ before.margin.items)
 
 -- nothing was printed, and a line begins one level deeper
 abbrev pub Deepens : Layout → Page → Page → Type 0
-Deepens y before after = (after.margin.items ≡ deeper y before.margin.items) × (after.text.items ≡ before.text.items)
+Deepens y before after = (after.margin.items ≡ deeper y before.margin.items) × (sheet after ≡ sheet before)
 
 -- an item behind another, and what parts them
 abbrev pub item_behind : Layout → Text → Shape AnItemOf → Marks

@@ -5,7 +5,8 @@ ghost use Rattle.shprint.specs.ReadBack.{Answers, IsNoText, IsTextOf};
 use crate::layout::Layout;
 use crate::page::Page;
 use crate::printer::Printer;
-use shread::{Fault, ScriptLine, ScriptLines, Source};
+use shread::{Fault, ScriptLine, ScriptLines};
+use shtext::Source;
 use std::alloc::{AllocError, Global};
 use thiserror::Error;
 
@@ -26,7 +27,7 @@ fn print_lines<S: Source>(
     printer: &Printer<'_, S>,
     page: &mut Page,
 ) -> Result<Option<Fault>, AllocError>
-    requires { (page.old.margin.items ≡ []) × (page.old.text.items ≡ []) }
+    requires { (page.old.margin.items ≡ []) × (page.old.text.items ≡ []) × (page.old.held.items ≡ []) }
     ensures { IfOk result (Answers printer.now.layout (S.bytes printer.now.source.now) page.new.text.items) }
 {
     let mut lines = ScriptLines::new(alloc, printer.source);
@@ -59,6 +60,7 @@ pub fn print_source<S: Source>(
     ensures err { IfErr result (IsNoText (S.bytes source.now)) }
 {
     let printer = Printer {
+        alloc,
         layout: *layout,
         source,
     };

@@ -8,12 +8,12 @@ ghost use Rattle.shtree.specs.Tree.{and_or_parts_of, branches_of, cases_of, entr
 ghost use Rattle.shtree.specs.View.{view_and_or, view_and_or_part, view_branch, view_case_item, view_command, view_comment, view_compound, view_content, view_entry, view_form, view_function, view_item, view_join, view_list, view_pipeline, view_pipeline_part, view_word};
 ghost use Rattle.shprint.specs.Marks.{deeper, line_end, lines_between, one, text};
 ghost use Rattle.shprint.specs.Printed.{breaks_line, case_margin, is_brace, is_one_line, operand_margin, print_and_or, print_and_or_parts, print_background, print_bang, print_blank, print_body, print_branch, print_branches, print_case, print_cases, print_command, print_comment_lines, print_compound, print_content, print_else, print_entries, print_entry, print_for_words, print_form, print_function_gap, print_items, print_only, print_pipeline, print_pipes, print_word};
-ghost use Rattle.shprint.specs.Written.{Prints, is_bare, is_command, print_condition, print_case_head};
+ghost use Rattle.shprint.specs.Written.{Prints, sheet, is_bare, is_command, print_condition, print_case_head};
 
 use crate::comments::breaks_line;
 use crate::page::Page;
 use crate::printer::Printer;
-use shread::Source;
+use shtext::Source;
 use shtree::{
     AndOr, AndOrOperator, AndOrPart, Branch, CaseItem, Command, Comment, Compound, Content, Entry,
     Form, Function, Item, Join, List, Pipeline, PipelinePart, Span, Word,
@@ -88,7 +88,7 @@ impl<'a, S: Source> Printer<'a, S> {
         ensures now { IfOk result (λ now. now ≡ (broken || breaks_line (shape_of_join (S.bytes self.now.source.now) (view_join join.now)))) }
         ensures margin { IfOk result (λ now. (margin : Text) → page.old.margin.items ≡ operand_margin self.now.layout margin broken →
             page.new.margin.items ≡ operand_margin self.now.layout margin now) }
-        ensures text { IfOk result (λ now. page.new.text.items ≡ page.old.text.items) }
+        ensures sheet { IfOk result (λ now. sheet page.new ≡ sheet page.old) }
     {
         if broken || !breaks_line(join) {
             return Ok(broken);
@@ -100,7 +100,7 @@ impl<'a, S: Source> Printer<'a, S> {
     /// Before the items of a `case`.
     fn enter_case(&self, page: &mut Page) -> Result<(), AllocError>
         ensures { IfOk result (λ _. (page.new.margin.items ≡ case_margin self.now.layout page.old.margin.items)
-            × (page.new.text.items ≡ page.old.text.items)) }
+            × (sheet page.new ≡ sheet page.old)) }
     {
         if self.layout.case_indent {
             page.deepen(self.layout)?;

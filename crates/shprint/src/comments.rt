@@ -9,7 +9,7 @@ ghost use Rattle.shprint.specs.Written.{Prints, print_join_on};
 
 use crate::page::Page;
 use crate::printer::Printer;
-use shread::Source;
+use shtext::Source;
 use shtree::{Comment, Join};
 use std::alloc::AllocError;
 

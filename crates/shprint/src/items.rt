@@ -1,20 +1,22 @@
 //! Words, redirections and patterns: what stands on a line behind something else.
 #![tactic(auto, using(crate::proofs::Writing::written_append, crate::proofs::Writing::written_cons, crate::proofs::Writing::written_none))]
 
-ghost use Rattle.std.specs.Prelude.{◌≡◌, ◌∷◌, ◌++◌, ◌==◌, ◌&&◌, ◌||◌, IfOk, codes, false, map, not, option_map};
-ghost use Rattle.shtree.specs.Shape.{bare_at, shape_of_for_words, shape_of_item, shape_of_items, shape_of_patterns, shape_of_word, text_at};
+ghost use Rattle.std.specs.Prelude.{◌≡◌, ◌∷◌, ◌++◌, ◌==◌, ◌&&◌, ◌||◌, IfOk, Some, codes, false, map, not, option_map};
+ghost use Rattle.shtree.specs.Shape.{bare_at, shape_of_for_words, shape_of_here, shape_of_item, shape_of_items, shape_of_patterns, shape_of_word, text_at};
 ghost use Rattle.shtree.specs.Spelling.{redirect_text};
 ghost use Rattle.shtree.specs.Tree.{item, items_of, patterns_of};
-ghost use Rattle.shtree.specs.View.{view_item, view_redirection, view_word};
-ghost use Rattle.shprint.specs.Marks.{one, text};
-ghost use Rattle.shprint.specs.Printed.{duplicates, print_first_pattern, print_gap, print_item, print_items, print_number, print_operator, print_patterns, print_simple, print_word, would_strip};
+ghost use Rattle.shtree.specs.View.{view_here, view_item, view_redirection, view_word};
+ghost use Rattle.shread.specs.HereDocuments.{delimiter_of};
+ghost use Rattle.shprint.specs.Marks.{document, one, text};
+ghost use Rattle.shprint.specs.Printed.{delimiter_line, duplicates, print_first_pattern, print_gap, print_here, print_item, print_items, print_number, print_operator, print_patterns, print_simple, print_word, would_strip};
 ghost use Rattle.shprint.specs.Written.{Prints};
 
 use crate::page::Page;
 use crate::printer::Printer;
 use crate::stretch::word_span;
-use shread::Source;
-use shtree::{Item, ItemContent, RedirectOperator, Redirection, Span, Word};
+use shread::delimiter_of;
+use shtext::Source;
+use shtree::{HereDocument, Item, ItemContent, RedirectOperator, Redirection, Span, Word};
 use std::alloc::AllocError;
 
 /// How the operator of a redirection is spelled.
@@ -121,7 +123,39 @@ impl<'a, S: Source> Printer<'a, S> {
     {
         self.print_number(redirect.number, page)?;
         self.print_operator(redirect.operator, &redirect.word, page)?;
-        self.print_word(&redirect.word, page)
+        self.print_word(&redirect.word, page)?;
+        match redirect.here {
+            Some(here) => self.hold_document(&redirect.word, here, page),
+            None => Ok(()),
+        }
+    }
+
+    /// Holds the body of a here-document, and the line of its delimiter, for the end of the line.
+    fn hold_document(
+        &self,
+        word: &Word,
+        here: HereDocument,
+        page: &mut Page,
+    ) -> Result<(), AllocError>
+        ensures { IfOk result (λ _. Prints page.old page.new
+            (print_here (shape_of_word (S.bytes self.now.source.now) (view_word word.now)) (Some (shape_of_here (S.bytes self.now.source.now) (view_here here))))) }
+    {
+        self.copy(here.body, &mut page.held)?;
+        self.copy_delimiter(word.span, &mut page.held)
+    }
+
+    /// The line of the delimiter that the word at this span is.
+    fn copy_delimiter(&self, word: Span, text: &mut Vec<u8>) -> Result<(), AllocError>
+        ensures { IfOk result (λ _. text.new.items ≡ text.old.items ++ delimiter_line (delimiter_of (text_at (S.bytes self.now.source.now) word))) }
+    {
+        let mut bytes = Vec::new(self.alloc);
+        self.copy(word, &mut bytes)?;
+        let Some(delimiter) = delimiter_of(self.alloc, &bytes)? else {
+            return Ok(());
+        };
+        text.extend_from_slice(&delimiter.text)?;
+        text.push(b'\n')?;
+        Ok(())
     }
 
     /// Items behind others, or behind a closer or the `in` of a `for`.

@@ -1,5 +1,5 @@
 //! What is printed so far.
-#![tactic(auto, using(crate::proofs::Writing::written_append, crate::proofs::Writing::written_cons, crate::proofs::Writing::written_text, crate::proofs::Writing::written_line))]
+#![tactic(auto, using(crate::proofs::Writing::written_append, crate::proofs::Writing::written_cons, crate::proofs::Writing::written_text, crate::proofs::Writing::written_line, crate::proofs::Writing::written_document))]
 
 ghost use Rattle.std.specs.Prelude.{◌≡◌, [], ◌∷◌, IfOk};
 ghost use Rattle.shprint.specs.Marks.{line_end, text};
@@ -8,21 +8,24 @@ ghost use Rattle.shprint.specs.Written.{Deepens, Prints};
 use crate::layout::Layout;
 use std::alloc::{AllocError, Global};
 
-/// What is printed so far, and the bytes with which a line begins.
+/// What is printed so far, what waits for the end of the line (the bodies of its here-documents), and the bytes with which a line
+/// begins.
 #[derive(Drop)]
 pub(crate) struct Page {
     pub(crate) margin: Vec<u8>,
     pub(crate) text: Vec<u8>,
+    pub(crate) held: Vec<u8>,
 }
 
 impl Page {
     /// An empty page, whose lines begin with nothing.
     pub(crate) fn new(alloc: Global) -> Page
-        ensures { (result.margin.items ≡ []) × (result.text.items ≡ []) }
+        ensures { (result.margin.items ≡ []) × (result.text.items ≡ []) × (result.held.items ≡ []) }
     {
         Page {
             margin: Vec::new(alloc),
             text: Vec::new(alloc),
+            held: Vec::new(alloc),
         }
     }
 
@@ -33,11 +36,13 @@ impl Page {
         self.text.extend_from_slice(bytes)
     }
 
-    /// Ends a line.
+    /// Ends a line. What waited for this stands behind it.
     pub(crate) fn end_line(&mut self) -> Result<(), AllocError>
         ensures { IfOk result (λ _. Prints self.old self.new (line_end ∷ [])) }
     {
         self.text.push(b'\n')?;
+        self.text.extend_from_slice(&self.held)?;
+        self.held.clear();
         Ok(())
     }
 

@@ -10,22 +10,25 @@ ghost use Rattle.shprint.specs.Printed.{printed};
 ghost use Rattle.shprint.specs.ReadBack.{ReadsBack};
 ghost use Rattle.shprint.specs.Written.{Prints};
 
+use crate::bare::add_bare;
 use crate::layout::Layout;
 use crate::page::Page;
-use shread::{Script, Source};
+use shread::Script;
+use shtext::Source;
 use shtree::Span;
 use std::alloc::{AllocError, Global};
 
-/// By what a tree is printed: a layout, and the source that the tree's spans tell of.
+/// By what a tree is printed: an allocator, a layout, and the source that the tree's spans tell of.
 #[derive(Drop)]
 pub(crate) struct Printer<'a, S: Source> {
+    pub(crate) alloc: Global,
     pub(crate) layout: Layout,
     pub(crate) source: &'a S,
 }
 
 impl<'a, S: Source> Printer<'a, S> {
     /// Copies the bytes of a span, by the stretches in which the source tells them.
-    fn copy(&self, span: Span, text: &mut Vec<u8>) -> Result<(), AllocError>
+    pub(crate) fn copy(&self, span: Span, text: &mut Vec<u8>) -> Result<(), AllocError>
         ensures { IfOk result (λ _. text.new.items ≡ text.old.items ++ text_at (S.bytes self.now.source.now) span) }
     {
         let mut at = span.start;
@@ -44,26 +47,6 @@ impl<'a, S: Source> Printer<'a, S> {
         Ok(())
     }
 
-    /// Copies the bytes of a span without its continuations. Such a span is short: it is that of a number.
-    fn copy_bare(&self, span: Span, text: &mut Vec<u8>) -> Result<(), AllocError>
-        ensures { IfOk result (λ _. text.new.items ≡ text.old.items ++ bare_at (S.bytes self.now.source.now) span) }
-    {
-        let mut at = span.start;
-        'bytes: while at < span.end {
-            let Some(byte) = self.source.byte(at) else {
-                return Ok(());
-            };
-            let has_next = 1 < span.end - at;
-            if byte == b'\\' && has_next && self.source.byte(at + 1) == Some(b'\n') {
-                at += 2;
-            } else {
-                text.push(byte)?;
-                at += 1;
-            }
-        }
-        Ok(())
-    }
-
     /// Prints the bytes of a span as they stand.
     pub(crate) fn print_text(&self, span: Span, page: &mut Page) -> Result<(), AllocError>
         ensures { IfOk result (λ _. Prints page.old page.new (text (text_at (S.bytes self.now.source.now) span) ∷ [])) }
@@ -75,7 +58,7 @@ impl<'a, S: Source> Printer<'a, S> {
     pub(crate) fn print_bare_text(&self, span: Span, page: &mut Page) -> Result<(), AllocError>
         ensures { IfOk result (λ _. Prints page.old page.new (text (bare_at (S.bytes self.now.source.now) span) ∷ [])) }
     {
-        self.copy_bare(span, &mut page.text)
+        add_bare(&mut page.text, self.source, span)
     }
 }
 
@@ -98,6 +81,7 @@ pub fn print<S: Source>(
     ensures reads_back { IfOk result (λ text. ReadsBack text.items (shape_of (S.bytes source.now) (view_script script.now).entries)) }
 {
     let printer = Printer {
+        alloc,
         layout: *layout,
         source,
     };

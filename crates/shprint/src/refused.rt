@@ -1,7 +1,8 @@
 // Each growth refused in turn, as in the tests of the reader: by the library that `tests/refused-growths` loads. Without it, as in
 // the gate, each test runs once. They catch the wrong body `always_out_of_memory`, which no contract can.
 use crate::{Layout, PrintError, print, print_source};
-use shread::{Flat, Reader};
+use shread::Reader;
+use shtext::Flat;
 use std::alloc::{AllocError, Global};
 use std::test::Fail;
 

@@ -1,17 +1,17 @@
 //! Words that stand in the source as they are printed: one blank apart. They are copied at once.
 #![tactic(auto)]
 
-ghost use Rattle.std.specs.Prelude.{◌≡◌, ◌≤◌, [], ◌∷◌, ◌++◌, IfSome, map};
+ghost use Rattle.std.specs.Prelude.{◌≡◌, ◌≤◌, [], ◌∷◌, IfSome, map};
 ghost use Rattle.shtree.specs.Shape.{Text, shape_of_item, shape_of_items, text_at};
 ghost use Rattle.shtree.specs.Tree.{items_of};
 ghost use Rattle.shtree.specs.View.{view_item};
 ghost use Rattle.shprint.specs.declared.layout.Layout.{Layout};
-ghost use Rattle.shprint.specs.Marks.{laid, text};
+ghost use Rattle.shprint.specs.Marks.{one, text};
 ghost use Rattle.shprint.specs.Printed.{print_item, print_items};
-ghost use Rattle.shprint.specs.Written.{item_behind, stretch};
+ghost use Rattle.shprint.specs.Written.{Sheet, item_behind, stretch, written};
 
 use crate::printer::Printer;
-use shread::Source;
+use shtext::Source;
 use shtree::{Item, ItemContent, Span};
 
 /// The span of an item that is a word, or an assignment.
@@ -33,8 +33,8 @@ pub(crate) fn word_span(item: &Item) -> Option<Span>
 impl<'a, S: Source> Printer<'a, S> {
     /// Where an item ends that is a word one blank behind this offset, and stands on the same line.
     fn word_behind(&self, end: usize, item: &Item) -> Option<usize>
-        ensures { IfSome result (λ next. (end ≤ next) × ((y : Layout) (margin : Text) →
-            stretch (S.bytes self.now.source.now) end next ≡ laid (item_behind y margin (shape_of_item (S.bytes self.now.source.now) (view_item item.now))))) }
+        ensures { IfSome result (λ next. (end ≤ next) × ((y : Layout) (margin : Text) (s : Sheet) →
+            written s (item_behind y margin (shape_of_item (S.bytes self.now.source.now) (view_item item.now))) ≡ written s (one (stretch (S.bytes self.now.source.now) end next)))) }
     {
         let span = word_span(item)?;
         if item.broken || span.start.checked_sub(1) != Some(end) {
@@ -50,10 +50,10 @@ impl<'a, S: Source> Printer<'a, S> {
     /// the others.
     pub(crate) fn words_behind<'b>(&self, start: usize, items: &'b [Item]) -> (usize, &'b [Item])
         ensures onward { start ≤ result.0 }
-        ensures words { (y : Layout) (margin : Text) →
-            laid (print_items y margin (shape_of_items (S.bytes self.now.source.now) (items_of (map view_item items.now))))
-            ≡ stretch (S.bytes self.now.source.now) start result.0
-            ++ laid (print_items y margin (shape_of_items (S.bytes self.now.source.now) (items_of (map view_item result.1.now)))) }
+        ensures words { (y : Layout) (margin : Text) (s : Sheet) →
+            written s (print_items y margin (shape_of_items (S.bytes self.now.source.now) (items_of (map view_item items.now))))
+            ≡ written s (text (stretch (S.bytes self.now.source.now) start result.0)
+            ∷ print_items y margin (shape_of_items (S.bytes self.now.source.now) (items_of (map view_item result.1.now)))) }
     {
         let mut end = start;
         let mut rest = items;

@@ -1,11 +1,12 @@
 // What no clause says: what a layout refuses, that calls succeed where nothing fails, and the texts.
 use crate::{Layout, LayoutError, PrintError, message, print, print_source};
-use shread::{Fault, FaultKind, Flat, Reader};
+use shread::{Fault, FaultKind, Reader};
+use shtext::Flat;
 use std::alloc::Global;
 use std::test::Fail;
 
 /// Scripts, and what is printed for each with a tab for each level.
-const SCRIPTS: [(&[u8], &[u8]); 32] = [
+const SCRIPTS: [(&[u8], &[u8]); 38] = [
     (b"", b""),
     (b"if a;then b;fi", b"if a; then\n\tb\nfi\n"),
     (b"i\\\nf a; then b; fi", b"if a; then\n\tb\nfi\n"),
@@ -83,6 +84,18 @@ const SCRIPTS: [(&[u8], &[u8]); 32] = [
         b"case a in b) case c in d) ;; esac ;; esac",
         b"case a in\nb)\n\tcase c in\n\td) ;;\n\tesac\n\t;;\nesac\n",
     ),
+    (b"cat<<E\nx\nE", b"cat <<E\nx\nE\n"),
+    (b"cat << -E\nx\n-E\n", b"cat << -E\nx\n-E\n"),
+    (
+        b"cat <<A <<'B' && c\n1\nA\n2\nB\n",
+        b"cat <<A <<'B' && c\n1\nA\n2\nB\n",
+    ),
+    (
+        b"if cat <<-E; then x; fi\n\thi\n\tE\n",
+        b"if cat <<-E; then\n\thi\nE\n\tx\nfi\n",
+    ),
+    (b"a <<E \\\nb\nx\nE\n", b"a <<E \\\n\tb\nx\nE\n"),
+    (b"cat <<E |\nx\nE\nb\n", b"cat <<E |\nx\nE\n\tb\n"),
 ];
 
 /// A script's printed text.

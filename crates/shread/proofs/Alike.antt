@@ -1,6 +1,7 @@
 -- A form goes the same way with its tree and without, whatever was read before.
-use Rattle.std.proofs.Common.{◌≡◌, ℕ, zero, suc, ◌+◌, ◌-◌, ◌<◌, Bool, true, false, not, ◌&&◌, ◌||◌, cond, Ok, Err, List as Row, [], ◌∷◌, ◌++◌, length, Option, Some, None, is_some, refl, sym, ap, subst, ◌∙◌, arith}
+use Rattle.std.proofs.Common.{◌≡◌, ℕ, zero, suc, ◌+◌, ◌-◌, ◌<◌, Bool, true, false, not, ◌&&◌, ◌||◌, cond, Result, Ok, Err, List as Row, [], ◌∷◌, ◌++◌, length, Option, Some, None, is_some, refl, sym, ap, subst, ◌∙◌, arith}
 use Rattle.std.proofs.lemmas.Bool.{ltb-true}
+use Rattle.shread.specs.declared.fault.Fault.{Fault}
 use Rattle.shread.specs.declared.fault.FaultKind.{FaultKind}
 use Rattle.shread.specs.declared.mode.Mode.{Mode}
 use Rattle.shread.specs.declared.mode.Piece.{Piece}
@@ -16,15 +17,16 @@ use Rattle.shread.specs.declared.token.Separator.{Separator}
 use Rattle.shtree.specs.declared.tree.Span.{Span}
 use Rattle.shtree.specs.declared.tree.AndOrOperator.{AndOrOperator}
 use Rattle.shtree.specs.declared.tree.RedirectOperator.{RedirectOperator}
-use Rattle.shtree.specs.Tree.{ACommand, ASubst, AnEntry, AnItem, AWord}
+use Rattle.shtree.specs.Tree.{ACommand, ASubst, AnEntry, AHere, AnItem, AWord}
 use Rattle.shread.specs.Comments.{span}
 use Rattle.shread.specs.Sights.{Given, State, Sight, seen, the_piece, Move}
-use Rattle.shread.specs.Form.{Spelled, Told, Read, ◌▸◌, Form, give, see, move, push, stop, both, when, token, many, ends_as, with_end, ◌>>=◌, Step, again, done, step_if, leads_on, turns, does}
+use Rattle.shread.specs.HereDocuments.{ADelimiter, delimiter_of, Change, changed, own_level, outer_level}
+use Rattle.shread.specs.Form.{raw, nothing_read, change, with_bytes, a_level, Spelled, Told, Read, ◌▸◌, Form, give, see, move, push, stop, both, when, token, many, ends_as, with_end, ◌>>=◌, Step, again, done, step_if, leads_on, turns, does}
 use Rattle.shread.specs.Words.{single, backquote_turn, backquoted, Inner, Held, having, opened, piece_row, a_piece, contents, a_word}
 use Rattle.shread.specs.Levels.{level}
 use Rattle.shread.specs.Tokens.{is_end}
-use Rattle.shread.specs.Commands.{pick, is_newline, is_semicolon, a_semicolon, a_join_of, is_pipe, is_bang, begins_simple, begins_word, begins_redirect, begins_pipeline, opener_of, compound_by, and_or_operator_of, next_token, Items, so_many, breaks, behind_word, is_number, redirect_operator_of, takes_here, is_long, a_number, an_operator, operator_by, a_target, one_redirect, behind_redirect, redirect_turn, redirected, an_item, item_by, item_turn, a_simple, comment_by, a_comment, a_newline, what_is_wrong, unexpected, JoinSo, join_so, with_comment, join_turn, a_join, a_command, a_bang, Piped, piped, one_command, pipe_turn, a_pipeline, Joined, joined_so, one_pipeline, joined_by, join_pipeline, an_and_or, separator_of, separator_by, a_separator, Entered, an_entry, a_worded, is_word, is_paren, named, ASeparator, past_separator, is_double_semicolon}
-use Rattle.shread.specs.Lines.{end_of_line, a_line}
+use Rattle.shread.specs.Commands.{pick, is_newline, is_semicolon, a_semicolon, a_join_of, is_pipe, is_bang, begins_simple, begins_word, begins_redirect, begins_pipeline, opener_of, compound_by, and_or_operator_of, next_token, Items, so_many, breaks, behind_word, is_number, redirect_operator_of, takes_here, is_long, is_strip, document_by, a_document, none_waits, nothing_waits, a_number, an_operator, operator_by, a_target, one_redirect, behind_redirect, redirect_turn, redirected, an_item, item_by, item_turn, a_simple, comment_by, a_comment, a_newline, what_is_wrong, unexpected, JoinSo, join_so, with_comment, join_turn, a_join, a_command, a_bang, Piped, piped, one_command, pipe_turn, a_pipeline, Joined, joined_so, one_pipeline, joined_by, join_pipeline, an_and_or, separator_of, separator_by, a_separator, Entered, an_entry, a_worded, is_word, is_paren, named, ASeparator, past_separator, is_double_semicolon}
+use Rattle.shread.specs.Lines.{end_of_line, an_open_line, a_line}
 use Rattle.shread.specs.Lists.{Listed, ListSo, list_so, none_listed, with_command, next_line, one_entry, entry_turn, remark_by, a_remark, on_line, list_turn, a_list}
 use Rattle.shread.specs.Compounds.{is_closing, is_open_paren, is_close_paren, passed, closing, Closed, closed, a_branch, Branched, branched, elif_turn, an_else, an_if, a_loop, a_group, a_for_name, a_linebreak, a_sequential_sep, Headed, word_turn, for_words, a_for_head, a_for, a_form, a_compound, a_function, a_case_word, begins_pattern, Patterned, a_pattern, one_pattern, pattern_turn, a_pattern_list, an_open_bracket, a_body, ItemEnd, a_double_semicolon, an_item_end, CasesSo, cases_so, one_case, case_turn, a_case_head, a_case}
 use Rattle.shread.specs.Substitutions.{substituted, a_substitution}
@@ -176,6 +178,41 @@ module _ (g : Given) where
   pub alike_ending : {X Y : Type 0} {S : X → Y → Type 0} {kind : FaultKind} {at : ℕ} {r : Form X} {q : Form Y} → Alike S r q → Alike S (ends_as kind at r) (ends_as kind at q)
   alike_ending {S = S} {kind = kind} {at = at} {r = r} {q = q} one = record { like = λ s. ending_like S kind at (does r true g s) (does q false g s) (one.like s) }
 
+  change_like : (S : Unit {0} → Unit {0} → Type 0) (x : Result State Fault) → S tt tt → Like S (nothing_read x) (nothing_read x)
+  change_like S (Ok t) so = (refl, so)
+  change_like S (Err f) so = refl
+
+  -- the same waits, and the same bodies are read
+  pub alike_change_at : {S : Unit {0} → Unit {0} → Type 0} {c d : Change} → c ≡ d → S tt tt → Alike S (change c) (change d)
+  alike_change_at {S = S} {c = c} is so = record { like = λ s. subst (λ z. Like S (nothing_read (changed c g s)) (nothing_read (changed z g s))) is (change_like S (changed c g s) so) }
+
+  pub alike_change : {S : Unit {0} → Unit {0} → Type 0} {c : Change} → S tt tt → Alike S (change c) (change c)
+  alike_change {S = S} {c = c} so = record { like = λ s. change_like S (changed c g s) so }
+
+  bytes_like : {X Y : Type 0} (S : X → Y → Type 0) (R : X × Spelled → Y × Spelled → Type 0) (s : State) (x : Read X) (y : Read Y) → Like S x y → ((a : X) (b : Y) (k : Spelled) → S a b → R (a, k) (b, k))
+      → Like R (x ▸ λ a t. Ok ((a, raw g.text s.at t.at), t)) (y ▸ λ b t. Ok ((b, raw g.text s.at t.at), t))
+  bytes_like S R s (Ok (x, t)) (Ok (y, u)) like so = rw (← like.0) (refl, so x y _ like.1)
+  bytes_like S R s (Ok (x, t)) (Err e) like so = absurd like
+  bytes_like S R s (Err e) (Ok (y, t)) like so = absurd like
+  bytes_like S R s (Err e) (Err e') like so = like
+
+  -- what is read, with the same bytes
+  pub alike_with_bytes : {X Y : Type 0} {S : X → Y → Type 0} {R : X × Spelled → Y × Spelled → Type 0} {r : Form X} {q : Form Y} → Alike S r q → ((a : X) (b : Y) (k : Spelled) → S a b → R (a, k) (b, k))
+      → Alike R (with_bytes r) (with_bytes q)
+  alike_with_bytes {S = S} {R = R} {r = r} {q = q} one so = record { like = λ s. bytes_like S R s (does r true g s) (does q false g s) (one.like s) so }
+
+  level_like : {X Y : Type 0} (S : X → Y → Type 0) (R : X × Row Span → Y × Row Span → Type 0) (s : State) (x : Read X) (y : Read Y) → Like S x y → ((a : X) (b : Y) (k : Row Span) → S a b → R (a, k) (b, k))
+      → Like R (x ▸ λ a t. Ok ((a, t.bodies), outer_level s t)) (y ▸ λ b t. Ok ((b, t.bodies), outer_level s t))
+  level_like S R s (Ok (x, t)) (Ok (y, u)) like so = rw (← like.0) (refl, so x y _ like.1)
+  level_like S R s (Ok (x, t)) (Err e) like so = absurd like
+  level_like S R s (Err e) (Ok (y, t)) like so = absurd like
+  level_like S R s (Err e) (Err e') like so = like
+
+  -- a level of its own, with the same bodies
+  pub alike_level_of : {X Y : Type 0} {S : X → Y → Type 0} {R : X × Row Span → Y × Row Span → Type 0} {r : Form X} {q : Form Y} → Alike S r q → ((a : X) (b : Y) (k : Row Span) → S a b → R (a, k) (b, k))
+      → Alike R (a_level r) (a_level q)
+  alike_level_of {S = S} {R = R} {r = r} {q = q} one so = record { like = λ s. level_like S R s (does r true g (own_level s)) (does q false g (own_level s)) (one.like (own_level s)) so }
+
   -- ---- the rows
 
   -- whatever was read
@@ -270,7 +307,7 @@ module _ (g : Given) where
     unfolding what_is_wrong
     alike_wrong n =
         alike_pick (begins_word n.token) _ refl (alike_see (λ p. alike_then alike_word (λ w v so. alike_give refl)))
-        (alike_then (alike_comment n n refl) (λ c d so. rw (← so) (alike_see (λ p. alike_give refl))))
+        (alike_then (alike_comment n n refl) (λ c d so. rw (← so) (alike_see (λ p. alike_see (λ w. alike_give refl)))))
 
     alike_unexpected : {X : Type 0} {S : X → X → Type 0} (n : Next) → Alike S (unexpected inner n) (unexpected inner n)
     alike_unexpected n = alike_then (alike_wrong n) (λ w v so. rw (← so) alike_stop)
@@ -292,22 +329,38 @@ module _ (g : Given) where
 
     alike_operator : (o : RedirectOperator) → Alike (λ x y. x.1 ≡ y.1) (an_operator o) (an_operator o)
     unfolding an_operator
-    alike_operator o = alike_token {S = All} {R = λ x y. x.1 ≡ y.1} (alike_on (alike_pick (is_long o) _ refl (alike_move tt) (alike_give tt))) (λ a b z so. refl)
+    alike_operator o = alike_token {S = All} {R = λ x y. x.1 ≡ y.1}
+        (alike_on (alike_then {S = All} (alike_pick (is_long o) _ refl (alike_move tt) (alike_give tt)) (λ u v so. alike_pick (is_strip o) _ refl (alike_move tt) (alike_give tt)))) (λ a b z so. refl)
 
     alike_operator_by : (p : ℕ) (o : Option RedirectOperator) → Alike (λ x y. x ≡ y) (operator_by p o) (operator_by p o)
-    alike_operator_by p (Some o) = alike_pick (takes_here o) _ refl alike_stop (alike_then (alike_operator o) (λ x y so. alike_give (ap (λ z. (o, z)) so)))
+    alike_operator_by p (Some o) = alike_then (alike_operator o) (λ x y so. alike_give (ap (λ z. (o, z)) so))
     alike_operator_by p None = alike_stop
 
-    alike_target : Alike SamePlace (a_target inner) (a_target inner)
+    abbrev SameTarget : AWord × Spelled → AWord × Spelled → Type 0
+    SameTarget x y = SamePlace x.0 y.0 × (x.1 ≡ y.1)
+
+    alike_target : Alike SameTarget (a_target inner) (a_target inner)
     unfolding a_target
-    alike_target = alike_then (alike_next _) (λ n m same. rw (← same) (alike_pick (is_word n.token) _ refl alike_word (alike_unexpected n)))
+    alike_target = alike_then (alike_next _) (λ n m same. rw (← same) (alike_pick (is_word n.token) _ refl (alike_with_bytes alike_word (λ a b k so. (so, refl))) (alike_unexpected n)))
+
+    alike_document_by : (b p : ℕ) (strip : Bool) (d : Option ADelimiter) → Alike (λ x y. x ≡ y) (document_by b p strip d) (document_by b p strip d)
+    alike_document_by b p strip (Some d) = alike_then {S = All} (alike_change tt) (λ u v so. alike_give refl)
+    alike_document_by b p strip None = alike_stop
+
+    alike_document : (o : RedirectOperator) (b p : ℕ) (k : Spelled) → Alike (λ x y. x ≡ y) (a_document o b p k) (a_document o b p k)
+    unfolding a_document
+    alike_document o b p k = alike_pick (takes_here o) _ refl (alike_document_by b p (is_strip o) (delimiter_of k)) (alike_give refl)
+
+    alike_document_at : (o q : RedirectOperator × Span) (x y : AWord × Spelled) → o ≡ q → SameTarget x y
+        → Alike (λ h i. h ≡ i) (a_document o.0 o.1.start (word_span x.0).start x.1) (a_document q.0 q.1.start (word_span y.0).start y.1)
+    alike_document_at o q x y same so = rw (← same, ← so.0, ← so.1) (alike_document o.0 o.1.start (word_span x.0).start x.1)
 
     alike_redirect : (broken pale : Bool) (position : Position) (is js : Row AnItem) (n : Next)
         → Alike (SameStep SameItems) (one_redirect inner broken position is n) (one_redirect inner pale position js n)
     unfolding one_redirect
     alike_redirect broken pale position is js n =
         alike_see (λ p. alike_then (alike_number n) (λ d e so. rw (← so) (alike_then (alike_operator_by p (redirect_operator_of d.1.token))
-        (λ o q same. alike_then alike_target (λ w v all. alike_pushed (alike_then (alike_next position) (λ m k is_next. alike_give (refl, is_next))))))))
+        (λ o q same. alike_then alike_target (λ w v all. alike_then (alike_document_at o q w v same all) (λ h i docs. alike_pushed (alike_then (alike_next position) (λ m k is_next. alike_give (refl, is_next)))))))))
 
     alike_redirect_at : (broken pale : Bool) (p q : Position) (is js : Row AnItem) (n m : Next) → p ≡ q → n ≡ m
         → Alike (SameStep SameItems) (one_redirect inner broken p is n) (one_redirect inner pale q js m)
@@ -329,7 +382,15 @@ module _ (g : Given) where
 
     alike_newline : (n : Next) → Alike (λ x y. x ≡ y) (a_newline n) (a_newline n)
     unfolding a_newline
-    alike_newline n = alike_pick (is_newline n.token) _ refl (alike_on (alike_then (alike_next _) (λ m k same. alike_give (ap (λ z. (true, z)) same)))) (alike_give refl)
+    alike_newline n = alike_pick (is_newline n.token) _ refl (alike_on (alike_then {S = All} (alike_change tt) (λ u v so. alike_then (alike_next _) (λ m k same. alike_give (ap (λ z. (true, z)) same))))) (alike_give refl)
+
+    alike_none_waits : (w : Option ℕ) → Alike All (none_waits w) (none_waits w)
+    alike_none_waits (Some b) = alike_stop
+    alike_none_waits None = alike_give tt
+
+    alike_nothing_waits : Alike All nothing_waits nothing_waits
+    unfolding nothing_waits
+    alike_nothing_waits = alike_see (λ w. alike_none_waits w)
 
     alike_semicolon : (n : Next) → Alike (λ x y. x ≡ y) (a_semicolon n) (a_semicolon n)
     unfolding a_semicolon
@@ -709,11 +770,11 @@ module _ (g : Given) where
     unfolding substituted
     alike_substituted =
         alike_then (alike_next _) (λ n m same. alike_then (alike_many SameList (list_turn inner) (list_turn inner) alike_list_turn (list_so (none_listed false) n) (list_so (none_listed false) m) (refl, same))
-        (λ l k so. alike_pick _ _ (ap (λ (x : Next). is_closing closings.Paren x.token) so.1) (alike_on (alike_give tt)) (alike_at (unexpected inner) alike_unexpected l.next k.next so.1)))
+        (λ l k so. alike_pick _ _ (ap (λ (x : Next). is_closing closings.Paren x.token) so.1) (alike_then alike_nothing_waits (λ u v so. alike_on (alike_give tt))) (alike_at (unexpected inner) alike_unexpected l.next k.next so.1)))
 
     pub alike_substitution : (b : ℕ) (ss zs : Row ASubst) → Alike All (a_substitution inner b ss) (a_substitution inner b zs)
     unfolding a_substitution
-    alike_substitution b ss zs = alike_then (alike_ending alike_substituted) (λ x y so. alike_see (λ q. alike_push tt))
+    alike_substitution b ss zs = alike_then (alike_level_of {S = All} {R = All} (alike_ending alike_substituted) (λ a b k so. tt)) (λ x y so. alike_see (λ q. alike_push tt))
 
     pub alike_function : (name : Span) → Alike SameNext (a_function inner name) (a_function inner name)
     unfolding a_function
@@ -726,13 +787,18 @@ module _ (g : Given) where
 
     alike_end : (n : Next) → Alike (λ x y. x ≡ y) (end_of_line inner n) (end_of_line inner n)
     unfolding end_of_line
-    alike_end n = alike_pick (is_newline n.token) _ refl (alike_on (alike_give refl)) (alike_pick (is_end n.token) _ refl (alike_give refl) (alike_unexpected n))
+    alike_end n = alike_pick (is_newline n.token) _ refl (alike_on (alike_then {S = All} (alike_change tt) (λ u v so. alike_give refl)))
+        (alike_pick (is_end n.token) _ refl (alike_then alike_nothing_waits (λ u v so. alike_give refl)) (alike_unexpected n))
+
+    alike_open_line : (blank pale : Bool) → Alike SameEnd (an_open_line inner blank) (an_open_line inner pale)
+    unfolding an_open_line
+    alike_open_line blank pale =
+        alike_then (alike_next _) (λ n m same. alike_then (alike_on_line (list_so (none_listed blank) n) (list_so (none_listed pale) m) (refl, same))
+        (λ j i so. alike_then (alike_at (end_of_line inner) alike_end j.next i.next so.1) (λ x y so'. alike_give so')))
 
     pub alike_line : (blank pale : Bool) → Alike SameEnd (a_line inner blank) (a_line inner pale)
     unfolding a_line
-    alike_line blank pale =
-        alike_then (alike_next _) (λ n m same. alike_then (alike_on_line (list_so (none_listed blank) n) (list_so (none_listed pale) m) (refl, same))
-        (λ j i so. alike_then (alike_at (end_of_line inner) alike_end j.next i.next so.1) (λ x y so'. alike_give so')))
+    alike_line blank pale = alike_then (alike_level_of {S = SameEnd} {R = λ x y. SameEnd x.0 y.0} (alike_open_line blank pale) (λ a b k so. so)) (λ x y so. alike_give so)
 
   -- words within words, commands within commands
   pub alike_level : (room : ℕ) → Fits (level room)

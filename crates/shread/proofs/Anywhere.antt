@@ -1,18 +1,22 @@
 -- A word is read wherever its bytes stand, before a byte that ends words and is no `(`.
 use Rattle.std.proofs.Common.{◌≡◌, ℕ, zero, suc, ◌+◌, ◌-◌, ◌<◌, Bool, true, false, Ok, Err, List, List as Row, [], ◌∷◌, ◌++◌, map, take, drop, slice_get, refl, sym, ap, subst, ◌∙◌, arith}
+use Rattle.shread.specs.declared.mode.Mode.{Mode}
 use Rattle.shread.specs.declared.mode.Mode.TheVariants.{Plain}
+use Rattle.shread.specs.declared.mode.Piece.{Piece}
+use Rattle.shread.specs.declared.mode.Piece.TheVariants as pieces
+use Rattle.shread.specs.Substitutions.{a_substitution}
 use Rattle.shtree.specs.declared.tree.Span.{Span}
 use Rattle.shtree.specs.Shape.{Shape, text_at, shape_of_subst, shape_of_word}
 use Rattle.shread.specs.Comments.{span}
 use Rattle.shread.specs.Standing.{is_byte}
 use Rattle.shread.specs.Bytes.{ends, ends_word, byte_at, stands}
 use Rattle.shtree.specs.Tree.{ASubst, AWord, AWordOf, word, substs_of}
-use Rattle.shread.specs.Sights.{Given, State, standing}
-use Rattle.shread.specs.Form.{Spelled, as_it_stands, Read, ◌▸◌, Form, give, see, move, push, stop, both, when, token, loop, ends_as, Step, again, done, does, Comes, may, raw, Just, just, Then, and_then, or_stops, OneToken, whole, broken_off}
-use Rattle.shread.specs.Words.{Inner, contents, a_word}
+use Rattle.shread.specs.Sights.{Sight, seen, Move, Given, State, standing}
+use Rattle.shread.specs.Form.{moved, many, Spelled, as_it_stands, Read, ◌▸◌, Form, give, see, move, push, stop, both, when, token, loop, ends_as, Step, again, done, does, Comes, may, raw, Just, just, Then, and_then, or_stops, OneToken, whole, broken_off}
+use Rattle.shread.specs.Words.{Held, having, opened, piece_row, a_piece, single, backquote_turn, backquoted, Inner, contents, a_word}
 use Rattle.shread.specs.Levels.{level, IsWord}
 use Rattle.shread.proofs.Stretches.{get_drop}
-use Rattle.shread.proofs.Holds.{Holds, holds_then, Tells, Turned, tells_so, tells_then, tells_when, tells_token, tells_loop, tells_ending, Behind, low}
+use Rattle.shread.proofs.Holds.{tells_seen, tells_many, tells_level, tells_any, Holds, holds_then, Tells, Turned, tells_so, tells_then, tells_when, tells_token, tells_loop, tells_ending, Behind, low}
 use Rattle.shread.proofs.SameBytes.{Kept}
 use Rattle.shread.proofs.Inside.{there}
 use Rattle.shread.proofs.PiecesInside.{word_in}
@@ -47,7 +51,7 @@ word_span inner g s t w k part =
     spanned (Err f) read = absurd cc
 
 -- what a word tells is its bytes as they stand
-word_told : (inner : Inner) (g : Given) (s t : State) (w : AWord) (k : Row Spelled) → may (a_word inner) g s (Ok (w, t)) k → k ≡ raw g.text s.at t.at ∷ []
+pub word_told : (inner : Inner) (g : Given) (s t : State) (w : AWord) (k : Row Spelled) → may (a_word inner) g s (Ok (w, t)) k → k ≡ raw g.text s.at t.at ∷ []
 unfolding a_word
 word_told inner g s t w k part =
     then_is (λ k. k ≡ raw g.text s.at t.at ∷ []) w t (Ok (w, t)) k part refl
@@ -192,21 +196,91 @@ Still s t = (t.waiting ≡ s.waiting) × (t.bodies ≡ s.bodies)
 abbrev pub Waits : {X : Type 0} → State → X → State → Type 0
 Waits s x t = Still s t
 
-pub waits : {X : Type 0} (r : Form X) (keep : Bool) (g : Given) (s : State) → Tells keep g r (Waits s) s
-waits (give x) keep g s = record { told = (refl, refl) }
-waits (see f) keep g s = record { told = (refl, refl) }
-waits (move m) keep g s = record { told = (refl, refl) }
-waits (push xs x) keep g s = record { told = (refl, refl) }
-waits (stop kind at) keep g s = record { told = tt }
-waits (both r q) keep g s = tells_then keep g (waits r keep g s) (λ a t one. tells_so keep g (waits (q a) keep g t) (λ b u two. (two.0 ∙ one.0, two.1 ∙ one.1)))
-waits (when f r q) keep g s = tells_when keep g (waits r keep g s) (waits q keep g s)
-waits (token how r) keep g s = tells_token keep g (waits r keep g s) (λ a t one. one)
-waits {X = X} (loop turn a) keep g s = tells_loop keep g turn (Waits s) (λ b t one. tells_so keep g (waits (turn b) keep g t) (turned t one)) a s (refl, refl)
-  where
-    turned : (t : State) → Still s t → (c : Step X) (u : State) → Still t u → Turned keep g (Waits s) c u
-    turned t one (again c) u two = (two.0 ∙ one.0, two.1 ∙ one.1)
-    turned t one (done c) u two = (two.0 ∙ one.0, two.1 ∙ one.1)
-waits (ends_as kind at r) keep g s = tells_ending keep g (waits r keep g s)
+module _ (keep : Bool) (g : Given) where
+  abbrev W : {X : Type 0} → Form X → State → Type 0
+  W r s = Tells keep g r (Waits s) s
+
+  same : {X : Type 0} {r : Form X} {s : State} → Holds (Waits s) (does r keep g s) → W r s
+  same so = record { told = so }
+
+  still : {X : Type 0} {x : X} {s : State} → W (give x) s
+  still = same (refl, refl)
+
+  sees : {X Y : Type 0} {l : Sight X} {q : X → Form Y} {s : State} → W (q (seen l g s)) s → W (both (see l) q) s
+  sees rest = tells_seen keep g rest
+
+  moves : {Y : Type 0} {m : Move} {q : Unit {0} → Form Y} {s : State} → W (q tt) (moved m g s) → W (both (move m) q) s
+  moves rest = same rest.told
+
+  goes : {X Y : Type 0} {r : Form X} {q : X → Form Y} {s : State} → W r s → ((x : X) (t : State) → W (q x) t) → W (both r q) s
+  goes {q = q} one rest = tells_then keep g one (λ x t so. tells_so keep g (rest x t) (λ y u more. (more.0 ∙ so.0, more.1 ∙ so.1)))
+
+  turns_still : {A : Type 0} (turn : A → Form (Step A)) → ((a : A) (s : State) → W (turn a) s) → (a : A) (s : State) → W (many turn a) s
+  turns_still {A = A} turn each a s = tells_many keep g turn (Waits s) (λ b t one. tells_so keep g (each b t) (turned t one)) a s (refl, refl)
+    where
+      turned : (t : State) → Still s t → (c : Step A) (u : State) → Still t u → Turned keep g (Waits s) c u
+      turned t one (again c) u two = (two.0 ∙ one.0, two.1 ∙ one.1)
+      turned t one (done c) u two = (two.0 ∙ one.0, two.1 ∙ one.1)
+
+  single_still : (s : State) → W single s
+  unfolding single
+  single_still s = sees (moves (moves (tells_when keep g (same tt) (same (refl, refl)))))
+
+  backquoted_still : (s : State) → W backquoted s
+  unfolding backquoted backquote_turn
+  backquoted_still s =
+      sees (moves (turns_still _ (λ u t. moves (tells_when keep g (same tt) (tells_when keep g (same tt) (sees (moves still))))) tt _))
+
+  -- what may be opened leaves it so
+  record Quiet (inner : Inner) : Type 0 where
+    construct : (mode : Mode) (b : ℕ) (ss : Row ASubst) (s : State) → W (inner.construct mode b ss) s
+    substitution : (b : ℕ) (ss : Row ASubst) (s : State) → W (inner.substitution b ss) s
+
+  module _ (inner : Inner) (quiet : Quiet inner) where
+    opened_still : (mode : Mode) (b : ℕ) (h : Held) (s : State) → W (opened inner mode b h) s
+    opened_still mode b h s = goes (quiet.construct mode b h.substs s) (λ x t. still)
+
+    piece_still : (mode : Mode) (b : ℕ) (h : Held) (piece : Piece) (s : State) → W (piece_row inner mode b h piece) s
+    piece_still mode b h pieces.Closer s = moves still
+    piece_still mode b h pieces.Missing s = same tt
+    piece_still mode b h pieces.LoneBackslash s = sees (same tt)
+    piece_still mode b h pieces.Escape s = moves (moves still)
+    piece_still mode b h pieces.Single s = goes (single_still s) (λ x t. still)
+    piece_still mode b h pieces.Double s = sees (moves (opened_still _ _ h _))
+    piece_still mode b h pieces.Backquote s = goes (backquoted_still s) (λ x t. still)
+    piece_still mode b h pieces.Pid s = moves (moves still)
+    piece_still mode b h pieces.Subst s = sees (moves (moves (goes (quiet.substitution _ h.substs _) (λ x t. still))))
+    piece_still mode b h pieces.Arith s = sees (moves (moves (moves (opened_still _ _ h _))))
+    piece_still mode b h pieces.Param s = sees (moves (moves (moves (sees (opened_still _ _ h _)))))
+    piece_still mode b h pieces.Open s = moves still
+    piece_still mode b h pieces.Close s = moves still
+    piece_still mode b h pieces.BadClose s = sees (same tt)
+    piece_still mode b h pieces.Ordinary s = moves still
+
+    contents_still : (mode : Mode) (b : ℕ) (ss : Row ASubst) (s : State) → W (contents inner mode b ss) s
+    unfolding contents a_piece
+    contents_still mode b ss s = goes (turns_still _ (λ h t. sees (piece_still mode b h _ t)) (having 0 ss) s) (λ h t. still)
+
+    word_still : (s : State) → W (a_word inner) s
+    unfolding a_word
+    word_still s = sees (goes (tells_token keep g (contents_still Plain _ [] s) (λ x t so. so)) (λ x t. still))
+
+    -- a substitution is a level of its own
+    substitution_still : (b : ℕ) (ss : Row ASubst) (s : State) → W (a_substitution inner b ss) s
+    unfolding a_substitution
+    substitution_still b ss s = goes (tells_level keep g (tells_any keep g) (λ x t so. (refl, refl))) (λ x t. sees (same (refl, refl)))
+
+  quiet_level : (room : ℕ) → Quiet (level room)
+  unfolding level
+  quiet_level zero = record { construct = λ mode b ss s. same tt; substitution = λ b ss s. same tt }
+  quiet_level (suc room) =
+      record {
+        construct = λ mode b ss s. contents_still (level room) (quiet_level room) mode b ss s;
+        substitution = λ b ss s. substitution_still (level room) (quiet_level room) b ss s;
+      }
+
+  pub waits : (room : ℕ) (s : State) → Tells keep g (a_word (level room)) (Waits s) s
+  waits room s = word_still (level room) (quiet_level room) s
 
 pub state_is : (t : State) → t.waiting ≡ [] → t.bodies ≡ [] → t ≡ standing t.at
 state_is t one two = rw (← one, ← two) refl
@@ -217,7 +291,7 @@ pub word_read : (room : ℕ) (g : Given) (p : ℕ) (w : AWord) (t : State) (told
 word_read room g p w t told part =
     let is_read = (is (a_word (level room)) g (standing p)).only _ _ part in
     let on = subst (Holds (Behind (standing p))) (sym is_read) (low (a_word (level room)) true g (standing p)).told in
-    let stays = subst (Holds (Waits (standing p))) (sym is_read) (waits (a_word (level room)) true g (standing p)).told in
+    let stays = subst (Holds (Waits (standing p))) (sym is_read) (waits true g room (standing p)).told in
     let told_is = word_told (level room) g (standing p) t w told part in
     let end : t.at ≡ p + (t.at - p) = omega (arith, on) in
     let same = state_is t stays.0 stays.1 ∙ ap standing end in

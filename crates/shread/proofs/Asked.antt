@@ -232,10 +232,14 @@ module _ {T U : List ℕ} {a M : ℕ} {to : ℕ → ℕ} {limit : ℕ} (E : List
       (λ lt. let far : to q ≡ to p + (q - p) = let is : p + (q - p) ≡ q = omega (arith, lt) in ap to (sym is) ∙ on p (q - p) low in omega (arith, far))
       (λ ge. let far : to p ≡ to q + (p - q) = let is : q + (p - q) ≡ p = omega (arith, ge) in ap to (sym is) ∙ on q (p - q) from in omega (arith, far, ge)) (cases_lt p q)
 
-  pub same_raw : (p q : ℕ) → a ≤ p → a ≤ q → q ≤ M → raw U (to p) (to q) ≡ raw T p q
-  same_raw p q low from le =
+  -- up to the limit, and with it
+  pub same_raw_to : (p q : ℕ) → a ≤ p → a ≤ q → q ≤ M + 1 → raw U (to p) (to q) ≡ raw T p q
+  same_raw_to p q low from le =
       rw (long_there p q low from) (same_take (q - p) (drop (to p) U) (drop p T)
       (λ i lt. get_drop (to p) U i ∙ ap (slice_get U) (sym (on p i low)) ∙ E.kept.same (p + i) (omega (arith, low)) (omega (arith, lt, le)) ∙ sym (get_drop p T i)))
+
+  pub same_raw : (p q : ℕ) → a ≤ p → a ≤ q → q ≤ M → raw U (to p) (to q) ≡ raw T p q
+  same_raw p q low from le = same_raw_to p q low from (omega (arith, le))
 
   place_in : {p : ℕ} → G p → past_continuations T p ≤ M
   place_in s = let h = seen E s in omega (arith, h.inside)

@@ -9,7 +9,7 @@ use Rattle.shread.specs.declared.token.Position.{Position}
 use Rattle.shread.specs.declared.token.Position.TheVariants.{Command, Prefix, Suffix}
 use Rattle.shread.specs.declared.token.Token.{Token}
 use Rattle.shread.specs.declared.token.Token.TheVariants as tokens
-use Rattle.shread.specs.Text.{is_newline}
+use Rattle.shtext.specs.Text.{is_newline}
 use Rattle.shread.specs.Classes.{is_blank, is_letter, is_digit, is_name}
 use Rattle.shread.specs.Standing.{is_byte, passes, raw_stands}
 use Rattle.shread.specs.Bytes.{ends, ends_word, past, past_continuations, byte_at, behind, stands, stands_in}

@@ -1,20 +1,27 @@
 -- What a form reads up to a good place it reads in another text that has the bytes up to there: the laws of forms, for what is of
 -- the same shape.
-use Rattle.std.proofs.Common.{◌≡◌, ℕ, zero, suc, ◌-◌, ◌≤◌, ◌<◌, Bool, true, false, Ok, Err, List, List as Row, [], ◌∷◌, ◌++◌, length, drop, refl, sym, ap, subst, ◌∙◌, arith}
+use Rattle.std.proofs.Common.{◌≡◌, ℕ, zero, suc, ◌+◌, ◌-◌, ◌≤◌, ◌<◌, Bool, true, false, Ok, Err, Option, Some, None, option_map, Result, List, List as Row, [], ◌∷◌, ◌++◌, length, map, drop, refl, sym, ap, subst, ◌∙◌, arith}
 use Rattle.std.proofs.lemmas.Bool.{ltb-true}
+use Rattle.std.proofs.lemmas.List.{map-append}
+use Rattle.shread.specs.declared.fault.Fault.{Fault}
 use Rattle.shread.specs.declared.fault.FaultKind.{FaultKind}
 use Rattle.shtree.specs.declared.tree.Span.{Span}
 use Rattle.shtree.specs.Shape.{text_at}
 use Rattle.shread.specs.Comments.{span}
-use Rattle.shread.specs.Sights.{Given, given, State, Sight, seen, Move}
-use Rattle.shread.specs.Form.{Told, Read, ◌▸◌, Form, give, see, move, push, stop, both, when, token, loop, many, ends_as, Step, again, done, leads_on, turns, does}
+use Rattle.shread.specs.Sights.{Given, given, State, Waiting, Sight, a_document_waits, seen, Move}
+use Rattle.shread.specs.HereDocuments.{Change, waits, bodies_here, changed, past_line, delimiter_from, body_by, bodies_from, state_by, with_waiting, own_level}
+use Rattle.shread.specs.Form.{change, with_bytes, a_level, nothing_read, raw, Spelled, Told, Read, ◌▸◌, Form, give, see, move, push, stop, both, when, token, loop, many, ends_as, Step, again, done, leads_on, turns, does}
 use Rattle.shread.specs.Commands.{pick}
 use Rattle.shread.proofs.Turns.{turns_on, turns_rest, turns_done, turns_fault}
-use Rattle.shread.proofs.Holds.{Holds, Tells, Turned, tells_so, tells_then, tells_when, tells_token, tells_loop, tells_ending, Behind, low, move_low}
+use Rattle.shread.proofs.Holds.{Holds, Tells, Turned, tells_so, tells_then, tells_when, tells_token, tells_loop, tells_ending, tells_change, tells_with_bytes, tells_level, change_low, Behind, low, move_low}
 use Rattle.shread.proofs.Alike.{SameStep}
 use Rattle.shread.proofs.Ahead.{ListEnds}
-use Rattle.shread.proofs.Asked.{Good, high, moves, same_raw}
+use Rattle.shread.proofs.Asked.{Good, high, moves, on, same_raw}
 use Rattle.shread.proofs.Inside.{same_leads}
+use Rattle.shread.proofs.Places.{next_newline_low}
+use Rattle.shread.proofs.Delimiters.{between, bodies_low}
+use Rattle.shread.proofs.Shifted.{shifted, from_to, state_from}
+use Rattle.shread.proofs.BodiesThere.{move_span, move_waiting, moved_to, bodies_over, waits_over, first_over, change_good}
 use Rattle.shread.proofs.Spelling.{raw_at}
 
 module _ {T U : List ℕ} {a M : ℕ} {to : ℕ → ℕ} {limit : ℕ} (E : ListEnds T U a M to limit) (o o2 : ℕ) (B B2 : List ℕ) (stands : T ≡ drop o B) (stands_there : U ≡ drop o2 B2) where
@@ -29,28 +36,83 @@ module _ {T U : List ℕ} {a M : ℕ} {to : ℕ → ℕ} {limit : ℕ} (E : List
 
   -- the state, elsewhere
   abbrev pub over : State → State
-  over s = record { at = to s.at; waiting = s.waiting; bodies = s.bodies }
+  over s = moved_to E o o2 s
+
+  -- the bytes of a span
+  pub same_texts : (p q : ℕ) → a ≤ p → a ≤ q → q ≤ M → text_at B (span o p q) ≡ text_at B2 (span o2 (to p) (to q))
+  same_texts p q low from le = sym (raw_at B g stands p q) ∙ sym (same_raw E p q low from le) ∙ raw_at B2 h stands_there (to p) (to q)
+
+  apart : (p q : ℕ) → a ≤ p → p ≤ q → to q ≡ to p + (q - p)
+  apart p q from le = let is : p + (q - p) ≡ q = omega (arith, le) in ap to (sym is) ∙ on E p (q - p) from
+
+  -- the texts of the bodies are the same
+  abbrev pub SameBodies : Row Span → Type 0
+  SameBodies bs = map (text_at B) bs ≡ map (text_at B2) (map (move_span E o o2) bs)
 
   -- ---- what ends at a good place began at one
 
   abbrev pub Back : {X : Type 0} → State → X → State → Type 0
-  Back s x t = (a ≤ t.at) × (G t.at → G s.at)
+  Back s x t = (a ≤ t.at) × (G t.at → G s.at) × (G t.at → SameBodies s.bodies → SameBodies t.bodies)
+
+  span_there : (p q : ℕ) → a ≤ p → p ≤ q → move_span E o o2 (span o p q) ≡ span o2 (to p) (to q)
+  span_there p q from le =
+      let one : to p ≡ to a + (p - a) = apart a p (omega arith) from in
+      let two : to q ≡ to a + (q - a) = apart a q (omega arith) (omega (arith, from, le)) in
+      let first : shifted (o + a) (o2 + to a) (o + p) ≡ o2 + to p = omega (arith, one, from) in
+      let last : shifted (o + a) (o2 + to a) (o + q) ≡ o2 + to q = omega (arith, two, from, le) in
+      ap (λ (x : ℕ). from_to x (shifted (o + a) (o2 + to a) (o + q))) first ∙ ap (λ (x : ℕ). from_to (o2 + to p) x) last
+
+  -- one more body
+  more_same : (bs : Row Span) (p q : ℕ) → a ≤ p → p ≤ q → q ≤ M → SameBodies bs → SameBodies (bs ++ span o p q ∷ [])
+  more_same bs p q from le high_q same =
+      let text : text_at B (span o p q) ≡ text_at B2 (move_span E o o2 (span o p q)) = same_texts p q from (omega (arith, from, le)) high_q ∙ ap (text_at B2) (sym (span_there p q from le)) in
+      map-append (text_at B) bs (span o p q ∷ []) ∙ ap (λ l. l ++ text_at B (span o p q) ∷ []) same ∙ ap (λ z. map (text_at B2) (map (move_span E o o2) bs) ++ z ∷ []) text
+      ∙ sym (ap (map (text_at B2)) (map-append (move_span E o o2) bs (span o p q ∷ [])) ∙ map-append (text_at B2) (map (move_span E o o2) bs) (move_span E o o2 (span o p q) ∷ []))
+
+  one_same : (w : Waiting) (ws : Row Waiting) (bodies : Row Span) (p : ℕ) (x : Row Span × ℕ) → a ≤ p → x.1 ≤ M → ((bs : Row Span) (q : ℕ) → a ≤ q → bodies_from g ws bs q ≡ Ok x → SameBodies bs → SameBodies x.0)
+      → (d : Option ℕ) → delimiter_from T w p ≡ d → body_by (bodies_from g ws) g w bodies p d ≡ Ok x → SameBodies bodies → SameBodies x.0
+  one_same w ws bodies p x from high_x more None found read same = absurd cc
+  one_same w ws bodies p x from high_x more (Some q) found read same =
+      let one = between T w false p q found in
+      let onward = bodies_low g ws (bodies ++ span o p q ∷ []) (past_line T q) x read in
+      let le : q ≤ past_line T q = omega (arith, one.1, next_newline_low T q) in
+      more (bodies ++ span o p q ∷ []) (past_line T q) (omega (arith, from, one.0, le)) read (more_same bodies p q from one.0 (omega (arith, le, onward, high_x)) same)
+
+  bodies_same : (ws : Row Waiting) (bodies : Row Span) (p : ℕ) (x : Row Span × ℕ) → a ≤ p → x.1 ≤ M → bodies_from g ws bodies p ≡ Ok x → SameBodies bodies → SameBodies x.0
+  unfolding bodies_from
+  bodies_same [] bodies p x from high_x read same = let is : (bodies, p) ≡ x = cc in subst (λ (y : Row Span × ℕ). SameBodies y.0) is same
+  bodies_same (w ∷ ws) bodies p x from high_x read same = one_same w ws bodies p x from high_x (λ bs q low more all. bodies_same ws bs q x low high_x more all) (delimiter_from T w p) refl read same
+
+  state_same : (s t : State) → a ≤ s.at → t.at ≤ M → (x : Result (Row Span × ℕ) Fault) → bodies_from g s.waiting s.bodies s.at ≡ x → state_by x ≡ Ok t → SameBodies s.bodies → SameBodies t.bodies
+  state_same s t from high_t (Ok x) read is same =
+      let there : record { at = x.1; waiting = []; bodies = x.0 } ≡ t = cc in
+      let at : x.1 ≡ t.at = ap (λ (v : State). v.at) there in
+      subst (λ (v : State). SameBodies v.bodies) there (bodies_same s.waiting s.bodies s.at x from (omega (arith, at, high_t)) read same)
+  state_same s t from high_t (Err f) read is same = absurd cc
+
+  change_same : (c : Change) (s t : State) → a ≤ s.at → changed c g s ≡ Ok t → t.at ≤ M → SameBodies s.bodies → SameBodies t.bodies
+  change_same (waits w) s t from is high_t same = let there : with_waiting w s ≡ t = cc in subst (λ (v : State). SameBodies v.bodies) there same
+  change_same bodies_here s t from is high_t same = state_same s t from high_t (bodies_from g s.waiting s.bodies s.at) refl is same
 
   pub good : {X : Type 0} (r : Form X) (s : State) → a ≤ s.at → Tells true g r (Back s) s
-  good (give x) s from = record { told = (from, λ e. e) }
-  good (see l) s from = record { told = (from, λ e. e) }
-  good (move m) s from = record { told = (omega (arith, from, move_low m T s.at), λ e. (moves E m s.at from e).0) }
-  good (push xs x) s from = record { told = (from, λ e. e) }
+  good (give x) s from = record { told = (from, λ e. e, λ e same. same) }
+  good (see l) s from = record { told = (from, λ e. e, λ e same. same) }
+  good (move m) s from = record { told = (omega (arith, from, move_low m T s.at), λ e. (moves E m s.at from e).0, λ e same. same) }
+  good (push xs x) s from = record { told = (from, λ e. e, λ e same. same) }
   good (stop kind at) s from = record { told = tt }
-  good (both r q) s from = tells_then true g (good r s from) (λ x t one. tells_so true g (good (q x) t one.0) (λ y u two. (two.0, λ e. one.1 (two.1 e))))
+  good (both r q) s from = tells_then true g (good r s from) (λ x t one. tells_so true g (good (q x) t one.0) (λ y u two. (two.0, λ e. one.1 (two.1 e), λ e same. two.2 e (one.2 (two.1 e) same))))
   good (when l r q) s from = tells_when true g (good r s from) (good q s from)
   good (token how r) s from = tells_token true g (good r s from) (λ x t one. one)
-  good {X = X} (loop turn b) s from = tells_loop true g turn (Back s) (λ c t one. tells_so true g (good (turn c) t one.0) (turned t one)) b s (from, λ e. e)
+  good {X = X} (loop turn b) s from = tells_loop true g turn (Back s) (λ c t one. tells_so true g (good (turn c) t one.0) (turned t one)) b s (from, λ e. e, λ e same. same)
     where
-      turned : (t : State) → (a ≤ t.at) × (G t.at → G s.at) → (c : Step X) (u : State) → (a ≤ u.at) × (G u.at → G t.at) → Turned true g (Back s) c u
-      turned t one (again c) u two = (two.0, λ e. one.1 (two.1 e))
-      turned t one (done c) u two = (two.0, λ e. one.1 (two.1 e))
+      turned : (t : State) → (a ≤ t.at) × (G t.at → G s.at) × (G t.at → SameBodies s.bodies → SameBodies t.bodies) → (c : Step X) (u : State)
+          → (a ≤ u.at) × (G u.at → G t.at) × (G u.at → SameBodies t.bodies → SameBodies u.bodies) → Turned true g (Back s) c u
+      turned t one (again c) u two = (two.0, λ e. one.1 (two.1 e), λ e same. two.2 e (one.2 (two.1 e) same))
+      turned t one (done c) u two = (two.0, λ e. one.1 (two.1 e), λ e same. two.2 e (one.2 (two.1 e) same))
   good (ends_as kind at r) s from = tells_ending true g (good r s from)
+  good (change c) s from = tells_change true g (λ t is. (omega (arith, from, change_low c g s t is), λ e. change_good E o c s t from is e, λ e same. change_same c s t from is (high E e) same))
+  good (with_bytes r) s from = tells_with_bytes true g (good r s from) (λ x t one. one)
+  good (a_level r) s from = tells_level true g (good r (own_level s) from) (λ x t one. (one.0, one.1, λ e same. same))
 
   -- ---- what is read there
 
@@ -82,7 +144,23 @@ module _ {T U : List ℕ} {a M : ℕ} {to : ℕ → ℕ} {limit : ℕ} (E : List
   go_any {l = l} = record { go = λ s from. λ e. (seen l h (over s), (refl, tt)) }
 
   pub go_move : {m : Move} → Goes All (move m) (move m)
-  go_move {m = m} = record { go = λ s from. λ e. (tt, (ap (λ (p : ℕ). Ok (tt, record { at = p; waiting = s.waiting; bodies = s.bodies })) (moves E m s.at from e).1, tt)) }
+  go_move {m = m} = record { go = λ s from. λ e. (tt, (ap (λ (p : ℕ). Ok (tt, state_from (o + a) (o2 + to a) p s)) (moves E m s.at from e).1, tt)) }
+
+  -- the bodies that follow a newline
+  pub go_bodies : Goes All (change bodies_here) (change bodies_here)
+  go_bodies = record { go = λ s from. bodies_by s from (changed bodies_here g s) refl }
+    where
+      bodies_by : (s : State) → a ≤ s.at → (x : Result State Fault) → changed bodies_here g s ≡ x → Holds (Found All (change bodies_here) s) (nothing_read x)
+      bodies_by s from (Ok t) is = λ e. (tt, (ap nothing_read (bodies_over E o o2 s t from e is), tt))
+      bodies_by s from (Err f) is = tt
+
+  -- one more document waits
+  pub go_waits : {w : Waiting} → Goes All (change (waits w)) (change (waits (move_waiting E o o2 w)))
+  go_waits {w = w} = record { go = λ s from. λ e. (tt, (ap nothing_read (waits_over E o o2 w s (with_waiting w s) refl), tt)) }
+
+  -- whether one waits
+  pub go_first : Goes (λ (x y : Option ℕ). y ≡ option_map (λ (n : ℕ). shifted (o + a) (o2 + to a) n) x) (see a_document_waits) (see a_document_waits)
+  go_first = record { go = λ s from. λ e. (seen a_document_waits h (over s), (refl, first_over E o o2 s)) }
 
   module _ {X Y V W : Type 0} {S : X → Y → Type 0} {R : V → W → Type 0} {r : Form X} {q : Form Y} {f : X → Form V} {k : Y → Form W} (first : Goes S r q) (rest : (x : X) (y : Y) → S x y → Goes R (f x) (k y))
       (s : State) (from : a ≤ s.at) where
@@ -131,9 +209,6 @@ module _ {T U : List ℕ} {a M : ℕ} {to : ℕ → ℕ} {limit : ℕ} (E : List
   go_at {S = S} r q each n m same = subst (λ z. Goes S (r n) (q z)) same (each n)
 
   -- a token, and its bytes
-  pub same_texts : (p q : ℕ) → a ≤ p → a ≤ q → q ≤ M → text_at B (span o p q) ≡ text_at B2 (span o2 (to p) (to q))
-  same_texts p q low from le = sym (raw_at B g stands p q) ∙ sym (same_raw E p q low from le) ∙ raw_at B2 h stands_there (to p) (to q)
-
   abbrev pub WithText : {X Y : Type 0} → (X → Y → Type 0) → X × Span → Y × Span → Type 0
   WithText S x y = S x.0 y.0 × (text_at B x.1 ≡ text_at B2 y.1)
 
@@ -147,6 +222,36 @@ module _ {T U : List ℕ} {a M : ℕ} {to : ℕ → ℕ} {limit : ℕ} (E : List
 
   pub go_token : {X Y : Type 0} {S : X → Y → Type 0} {how : Told} {r : Form X} {q : Form Y} → Goes S r q → Goes (WithText S) (token how r) (token how q)
   go_token {S = S} {how = how} {r = r} {q = q} one = record { go = λ s from. token_by S how q s from (does r true g s) (good r s from).told (one.go s from) }
+
+  -- a token, where it stands
+  abbrev pub WithSpan : {X Y : Type 0} → (X → Y → Type 0) → X × Span → Y × Span → Type 0
+  WithSpan S x y = S x.0 y.0 × (move_span E o o2 x.1 ≡ y.1)
+
+  place_by : {X Y : Type 0} (S : X → Y → Type 0) (how : Told) (q : Form Y) (s : State) → a ≤ s.at → (x : Read X) → Holds (Behind s) x → Holds (Found S q s) x
+      → Holds (Found (WithSpan S) (token how q) s) (x ▸ λ b t. Ok ((b, span o s.at t.at), t))
+  place_by {Y = Y} S how q s from (Ok (x, t)) onward one =
+      λ e. let w = one e in
+      let there : Y × Span = (w.0, span o2 (to s.at) (to t.at)) in
+      (there, (ap (λ (v : Read Y). ◌▸◌ {Y = Y × Span} v (λ b u. Ok ((b, span o2 (to s.at) u.at), u))) w.1.0, (w.1.1, span_there s.at t.at from onward)))
+  place_by S how q s from (Err f) onward one = tt
+
+  pub go_place : {X Y : Type 0} {S : X → Y → Type 0} {how : Told} {r : Form X} {q : Form Y} → Goes S r q → Goes (WithSpan S) (token how r) (token how q)
+  go_place {S = S} {how = how} {r = r} {q = q} one = record { go = λ s from. place_by S how q s from (does r true g s) (low r true g s).told (one.go s from) }
+
+  -- what is read, with the same bytes
+  abbrev pub WithBytes : {X Y : Type 0} → (X → Y → Type 0) → X × Spelled → Y × Spelled → Type 0
+  WithBytes S x y = S x.0 y.0 × (x.1 ≡ y.1)
+
+  bytes_by : {X Y : Type 0} (S : X → Y → Type 0) (q : Form Y) (s : State) → a ≤ s.at → (x : Read X) → Holds (Back s) x → Holds (Found S q s) x
+      → Holds (Found (WithBytes S) (with_bytes q) s) (x ▸ λ b t. Ok ((b, raw T s.at t.at), t))
+  bytes_by {Y = Y} S q s from (Ok (x, t)) back one =
+      λ e. let w = one e in
+      let there : Y × Spelled = (w.0, raw U (to s.at) (to t.at)) in
+      (there, (ap (λ (v : Read Y). ◌▸◌ {Y = Y × Spelled} v (λ b u. Ok ((b, raw U (to s.at) u.at), u))) w.1.0, (w.1.1, sym (same_raw E s.at t.at from back.0 (high E e)))))
+  bytes_by S q s from (Err f) back one = tt
+
+  pub go_with_bytes : {X Y : Type 0} {S : X → Y → Type 0} {r : Form X} {q : Form Y} → Goes S r q → Goes (WithBytes S) (with_bytes r) (with_bytes q)
+  go_with_bytes {S = S} {r = r} {q = q} one = record { go = λ s from. bytes_by S q s from (does r true g s) (good r s from).told (one.go s from) }
 
   -- ---- repetitions
 

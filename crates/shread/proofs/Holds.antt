@@ -1,5 +1,5 @@
 -- What holds of whatever a form gives: the laws of forms, and that no form goes back.
-use Rattle.std.proofs.Common.{◌≡◌, ℕ, zero, suc, ◌+◌, ◌-◌, ◌≤◌, ◌<◌, Bool, true, false, cond, Ok, Err, List, List as Row, [], ◌∷◌, ◌++◌, length, refl, arith}
+use Rattle.std.proofs.Common.{◌≡◌, ℕ, zero, suc, ◌+◌, ◌-◌, ◌≤◌, ◌<◌, Bool, true, false, cond, Result, Ok, Err, List, List as Row, [], ◌∷◌, ◌++◌, length, refl, subst, arith}
 use Rattle.std.proofs.lemmas.Bool.{ltb-true, cond_both}
 use Rattle.shread.specs.declared.fault.FaultKind.{FaultKind}
 use Rattle.shread.specs.declared.mode.Mode.{Mode}
@@ -10,9 +10,12 @@ use Rattle.shread.specs.Bytes.{behind}
 use Rattle.shread.specs.Comments.{span, past_comment}
 use Rattle.shread.specs.Pieces.{past_taken, past_closer}
 use Rattle.shread.specs.Sights.{Given, State, Sight, seen, Move, one_byte, joined, one_taken, the_closer, the_parameter, a_quote_on, in_backquotes_on, blanks, a_comment_on, the_reserved, the_digits, to}
-use Rattle.shread.specs.Form.{Read, ◌▸◌, Form, give, see, move, push, stop, both, when, Told, token, loop, many, ends_as, with_end, Step, again, done, leads_on, moved, turns, does}
+use Rattle.shread.specs.HereDocuments.{Change, waits, bodies_here, changed, bodies_from, state_by, own_level, outer_level}
+use Rattle.shread.specs.declared.fault.Fault.{Fault}
+use Rattle.shread.specs.Form.{Spelled, raw, nothing_read, change, with_bytes, a_level, Read, ◌▸◌, Form, give, see, move, push, stop, both, when, Told, token, loop, many, ends_as, with_end, Step, again, done, leads_on, moved, turns, does}
 use Rattle.shread.proofs.Stretches.{place_low}
 use Rattle.shread.proofs.Places.{behind_low, blanks_low, next_in_backquotes_low, next_newline_low, next_of_low, parameter_low, reserved_low, digits_low}
+use Rattle.shread.proofs.Delimiters.{bodies_low}
 use Rattle.shread.proofs.Turns.{turns_on, turns_rest, turns_done, turns_fault}
 
 -- P holds of what is read and of the state behind it; of a fault nothing is said
@@ -70,6 +73,34 @@ module _ (keep : Bool) (g : Given) where
 
   pub tells_ending : {X : Type 0} {P : X → State → Type 0} {kind : FaultKind} {at : ℕ} {r : Form X} {s : State} → Tells r P s → Tells (ends_as kind at r) P s
   tells_ending {P = P} {kind = kind} {at = at} {r = r} {s = s} one = record { told = ending_by P kind at (does r keep g s) one.told }
+
+  -- what waits changes, or the bodies are read
+  change_by : (P : Unit {0} → State → Type 0) (x : Result State Fault) → ((t : State) → x ≡ Ok t → P tt t) → Holds P (nothing_read x)
+  change_by P (Ok t) so = so t refl
+  change_by P (Err f) so = tt
+
+  pub tells_change : {P : Unit {0} → State → Type 0} {c : Change} {s : State} → ((t : State) → changed c g s ≡ Ok t → P tt t) → Tells (change c) P s
+  tells_change {P = P} {c = c} {s = s} so = record { told = change_by P (changed c g s) so }
+
+  -- what is read, with its bytes
+  bytes_by : {X : Type 0} (P : X → State → Type 0) (Q : X × Spelled → State → Type 0) (s : State) (x : Read X) → Holds P x
+      → ((a : X) (t : State) → P a t → Q (a, raw g.text s.at t.at) t) → Holds Q (x ▸ λ a t. Ok ((a, raw g.text s.at t.at), t))
+  bytes_by P Q s (Ok (a, t)) one so = so a t one
+  bytes_by P Q s (Err f) one so = tt
+
+  pub tells_with_bytes : {X : Type 0} {P : X → State → Type 0} {Q : X × Spelled → State → Type 0} {r : Form X} {s : State} → Tells r P s
+      → ((a : X) (t : State) → P a t → Q (a, raw g.text s.at t.at) t) → Tells (with_bytes r) Q s
+  tells_with_bytes {P = P} {Q = Q} {r = r} {s = s} one so = record { told = bytes_by P Q s (does r keep g s) one.told so }
+
+  -- a level of its own
+  level_by : {X : Type 0} (P : X → State → Type 0) (Q : X × Row Span → State → Type 0) (s : State) (x : Read X) → Holds P x
+      → ((a : X) (t : State) → P a t → Q (a, t.bodies) (outer_level s t)) → Holds Q (x ▸ λ a t. Ok ((a, t.bodies), outer_level s t))
+  level_by P Q s (Ok (a, t)) one so = so a t one
+  level_by P Q s (Err f) one so = tt
+
+  pub tells_level : {X : Type 0} {P : X → State → Type 0} {Q : X × Row Span → State → Type 0} {r : Form X} {s : State} → Tells r P (own_level s)
+      → ((a : X) (t : State) → P a t → Q (a, t.bodies) (outer_level s t)) → Tells (a_level r) Q s
+  tells_level {P = P} {Q = Q} {r = r} {s = s} one so = record { told = level_by P Q s (does r keep g (own_level s)) one.told so }
 
   -- what a turn gives: R where it goes on, and Q where it was the last
   abbrev pub Stepped : {A : Type 0} → (A → State → Type 0) → (A → State → Type 0) → Step A → State → Type 0
@@ -173,6 +204,15 @@ move_low a_comment_on T p = comment_low T p
 move_low the_reserved T p = reserved_low T p
 move_low the_digits T p = digits_low T p
 
+state_low : (s t : State) (x : Result (Row Span × ℕ) Fault) → ((y : Row Span × ℕ) → x ≡ Ok y → s.at ≤ y.1) → state_by x ≡ Ok t → s.at ≤ t.at
+state_low s t (Ok y) low is = let same : record { at = y.1; waiting = []; bodies = y.0 } ≡ t = cc in subst (λ (u : State). s.at ≤ u.at) same (low y refl)
+state_low s t (Err f) low is = absurd cc
+
+-- nor does the newline before bodies
+pub change_low : (c : Change) (g : Given) (s t : State) → changed c g s ≡ Ok t → s.at ≤ t.at
+change_low (waits w) g s t is = let same : record { at = s.at; waiting = s.waiting ++ w ∷ []; bodies = s.bodies } ≡ t = cc in subst (λ (u : State). s.at ≤ u.at) same (omega arith)
+change_low bodies_here g s t is = state_low s t (bodies_from g s.waiting s.bodies s.at) (λ y read. bodies_low g s.waiting s.bodies s.at y read) is
+
 -- behind a state
 abbrev pub Behind : {X : Type 0} → State → X → State → Type 0
 Behind s x t = s.at ≤ t.at
@@ -192,3 +232,6 @@ low {X = X} (loop turn a) keep g s = tells_loop keep g turn (Behind s) (λ b t o
     turned t on (again c) u more = omega (arith, on, more)
     turned t on (done c) u more = omega (arith, on, more)
 low (ends_as kind at r) keep g s = tells_ending keep g (low r keep g s)
+low (change c) keep g s = tells_change keep g (λ t is. change_low c g s t is)
+low (with_bytes r) keep g s = tells_with_bytes keep g (low r keep g s) (λ a t on. on)
+low (a_level r) keep g s = tells_level keep g (low r keep g (own_level s)) (λ a t on. on)

@@ -13,6 +13,7 @@ use Rattle.shread.specs.Form.{Read, Form, Step, again, done, step_if, loop, many
 use Rattle.shread.specs.Words.{single, backquote_turn, backquoted}
 use Rattle.shread.proofs.Stretches.{place_low, past_more, past_none, stands_in_low}
 use Rattle.shread.proofs.Places.{behind_low, next_of_low, next_in_backquotes_low}
+use Rattle.shread.proofs.Shifted.{state_from}
 use Rattle.shread.proofs.Turns.{turns_on, turns_rest, turns_done, turns_fault}
 use Rattle.shread.proofs.Holds.{Holds, Behind, low, holds_so}
 use Rattle.shread.proofs.Alike.{SameStep}
@@ -122,7 +123,11 @@ module _ {T U : List ℕ} {a L : ℕ} {to : ℕ → ℕ} (K : Kept T U a L to) (
 
   -- the state, elsewhere
   abbrev pub there : State → State
-  there s = record { at = to s.at; waiting = s.waiting; bodies = s.bodies }
+  there s = state_from (o + a) (o2 + to a) (to s.at) s
+
+  -- and at another place
+  abbrev pub there_at : ℕ → State → State
+  there_at p s = state_from (o + a) (o2 + to a) p s
 
   abbrev pub at : ℕ → State → State
   at p s = record { at = p; waiting = s.waiting; bodies = s.bodies }
@@ -275,7 +280,7 @@ module _ {T U : List ℕ} {a L : ℕ} {to : ℕ → ℕ} (K : Kept T U a L to) (
       (λ x t ends le. let w = ends le in
       let i = clear K s.at from (omega (arith, w.0, behind_is T s.at)) e in
       let f = w.1 tt tt in
-      (i, (f.0, subst (λ (p : ℕ). turns h (λ u v. does (backquote_turn b2 u) true h v) tt (at p s) ≡ Ok (f.0, there t)) (sym (here_behind K i)) f.1.0)))
+      (i, (f.0, subst (λ (p : ℕ). turns h (λ u v. does (backquote_turn b2 u) true h v) tt (there_at p s) ≡ Ok (f.0, there t)) (sym (here_behind K i)) f.1.0)))
     where
       b : ℕ
       b = o + past_continuations T s.at

@@ -1,4 +1,3 @@
-pub mod Newlines
 pub mod Turns
 pub mod OneOutcome
 pub mod Holds
@@ -35,6 +34,15 @@ pub mod WordsElsewhere
 pub mod Anywhere
 pub mod Spelling
 pub mod CommentsElsewhere
+pub mod WordsWaiting
 pub mod WordsWithin
 pub mod Elsewhere
 pub mod NamesBefore
+pub mod HereDocuments
+pub mod Delimiters
+pub mod BodiesAlone
+pub mod BodiesAnywhere
+pub mod BodiesThere
+pub mod Awaited
+pub mod Shifted
+pub mod Unquoted

@@ -1,5 +1,5 @@
 -- The lines of a script, one after the other.
-use Rattle.std.proofs.Common.{◌≡◌, ℕ, zero, suc, ◌+◌, ◌-◌, ◌≤◌, ◌<◌, Bool, true, false, Ok, Err, List, List as Row, [], length, drop, None, Some, refl, sym, ap, subst, ◌∙◌, arith, ⊎_elim}
+use Rattle.std.proofs.Common.{◌≡◌, ℕ, zero, suc, ◌+◌, ◌-◌, ◌≤◌, ◌<◌, Bool, true, false, Option, Result, Ok, Err, List, List as Row, [], length, drop, None, Some, refl, sym, ap, subst, ◌∙◌, arith, ⊎_elim}
 use Rattle.std.proofs.lemmas.Bool.{cases_lt}
 use Rattle.std.proofs.lemmas.List.{drop_all}
 use Rattle.shread.specs.declared.fault.Fault.{Fault}
@@ -7,20 +7,22 @@ use Rattle.shread.specs.declared.token.Next.{Next}
 use Rattle.shread.specs.declared.token.Position.TheVariants.{Command}
 use Rattle.shtree.specs.Tree.{AnEntry, entries_of}
 use Rattle.shread.specs.Standing.{count_front, raw_stands}
-use Rattle.shread.specs.Bytes.{past, past_below, past_blanks, past_continuations, count_joined}
+use Rattle.shread.specs.Bytes.{behind, past, past_below, past_blanks, past_continuations, count_joined}
 use Rattle.shread.specs.Comments.{comment_at}
 use Rattle.shread.specs.Tokens.{is_end, token_at}
 use Rattle.shread.specs.Sights.{Given, given, State, standing}
-use Rattle.shread.specs.Form.{Form, Read, does, many, turns, turns_below}
+use Rattle.shread.specs.HereDocuments.{bodies_here, changed, first_waiting, own_level}
+use Rattle.shtree.specs.Bodies.{filled_row}
+use Rattle.shread.specs.Form.{nothing_read, ◌▸◌, Form, Read, does, many, turns, turns_below}
 use Rattle.shread.specs.Words.{Inner}
 use Rattle.shread.specs.Levels.{level}
-use Rattle.shread.specs.Commands.{is_newline, next_token, a_comment, what_is_wrong}
-use Rattle.shread.specs.Lines.{end_by, end_of_line, a_line}
+use Rattle.shread.specs.Commands.{is_newline, next_token, a_comment, none_waits, nothing_waits, what_is_wrong}
+use Rattle.shread.specs.Lines.{end_by, end_of_line, an_open_line, a_line}
 use Rattle.shread.specs.Levels.{most_open}
 use Rattle.shread.specs.Lists.{list_so, none_listed, entry_turn, a_remark, on_line}
 use Rattle.shread.specs.Scripts.{AScript, SoFar, is_blank_line, with_line, the_line, line_from, script_by, script_below, script_on}
 use Rattle.shread.proofs.Places.{behind_low}
-use Rattle.shread.proofs.Holds.{Holds, holds_then, holds_so, Tells, Behind, tells_give, tells_then, tells_so, low}
+use Rattle.shread.proofs.Holds.{Holds, holds_then, holds_so, Tells, Behind, change_low, tells_give, tells_level, tells_then, tells_so, low}
 
 -- ---- a line that a newline ends
 
@@ -29,8 +31,20 @@ abbrev Ended : State → Bool → State → Type 0
 Ended s newline t = newline ≡ true → s.at < t.at
 
 ended_by : (inner : Inner) (keep : Bool) (g : Given) (s : State) (newline end : Bool) (n : Next) → Holds (Ended s) (does (end_by inner newline end n) keep g s)
-ended_by inner keep g s true end n = λ e. behind_low g.text s.at
-ended_by inner keep g s false true n = λ e. absurd cc
+unfolding nothing_waits
+ended_by inner keep g s true end n = by_change (changed bodies_here g (past s)) (λ t is. omega (arith, behind_low g.text s.at, change_low bodies_here g (past s) t is))
+  where
+    past : State → State
+    past u = record { at = behind g.text u.at; waiting = u.waiting; bodies = u.bodies }
+
+    by_change : (x : Result State Fault) → ((t : State) → x ≡ Ok t → s.at < t.at) → Holds (Ended s) (nothing_read x ▸ λ u t. Ok (true, t))
+    by_change (Ok t) so = λ e. so t refl
+    by_change (Err f) so = tt
+ended_by inner keep g s false true n = by_waiting (first_waiting s)
+  where
+    by_waiting : (w : Option ℕ) → Holds (Ended s) (does (none_waits w) keep g s ▸ λ u t. Ok (false, t))
+    by_waiting None = λ e. absurd cc
+    by_waiting (Some b) = tt
 ended_by inner keep g s false false n =
     holds_then (λ w t. Unit {0}) (Ended s) (does (what_is_wrong inner n) keep g s) _ (holds_so (Behind s) (λ w t. Unit {0}) _ (low (what_is_wrong inner n) keep g s).told (λ c t on. tt)) (λ w t so. tt)
 
@@ -45,17 +59,22 @@ LineEnded s x t = x.1 ≡ true → s.at < t.at
 further : (keep : Bool) (g : Given) {X : Type 0} (r : Form X) (s t : State) → s.at ≤ t.at → Tells keep g r (Behind s) t
 further keep g r s t on = tells_so keep g (low r keep g t) (λ x u more. omega (arith, on, more))
 
-pub line_ended_low : (inner : Inner) (blank keep : Bool) (g : Given) (s : State) → Tells keep g (a_line inner blank) (LineEnded s) s
-unfolding a_line
-line_ended_low inner blank keep g s =
+open_ended_low : (inner : Inner) (blank keep : Bool) (g : Given) (s : State) → Tells keep g (an_open_line inner blank) (LineEnded s) s
+unfolding an_open_line
+open_ended_low inner blank keep g s =
     tells_then keep g (further keep g (next_token Command) s s (omega arith))
     (λ n t one. tells_then keep g (further keep g (on_line inner (list_so (none_listed blank) n)) s t one)
     (λ l u two. tells_then keep g (end_ended inner keep g u l.next)
     (λ newline w more. tells_give keep g (λ e. omega (arith, two, more e)))))
 
+pub line_ended_low : (inner : Inner) (blank keep : Bool) (g : Given) (s : State) → Tells keep g (a_line inner blank) (LineEnded s) s
+unfolding a_line
+line_ended_low inner blank keep g s =
+    tells_then keep g {P = λ l t. l.0.1 ≡ true → s.at < t.at} (tells_level keep g (open_ended_low inner blank keep g (own_level s)) (λ x t so. so)) (λ l t so. tells_give keep g so)
+
 -- at the end of the text there is none
 nothing : (blank keep : Bool) (o : ℕ) → does (the_line blank) keep (given [] o) (standing 0) ≡ Ok (([], false), standing 0)
-unfolding a_line next_token on_line many turns turns_below entry_turn a_remark a_comment end_of_line token_at comment_at raw_stands past count_front past_blanks past_continuations count_joined past_below
+unfolding a_line an_open_line nothing_waits filled_row next_token on_line many turns turns_below entry_turn a_remark a_comment end_of_line token_at comment_at raw_stands past count_front past_blanks past_continuations count_joined past_below
 nothing blank keep o = refl
 
 flag : Read (Row AnEntry × Bool) → Bool

@@ -1,5 +1,5 @@
 -- A list that ends by a `)` is read wherever its bytes stand up to that `)`, with the same shape: one term a row.
-use Rattle.std.proofs.Common.{not, ◌&&◌, ◌≡◌, ℕ, ◌≤◌, Bool, true, false, ◌||◌, Ok, Err, List, List as Row, [], ◌∷◌, ◌++◌, drop, map, option_map, Option, Some, None, is_some, refl, sym, ap, subst, ◌∙◌, arith}
+use Rattle.std.proofs.Common.{◌+◌, not, ◌&&◌, ◌≡◌, ℕ, ◌≤◌, Bool, true, false, ◌||◌, Ok, Err, List, List as Row, [], ◌∷◌, ◌++◌, drop, map, option_map, Option, Some, None, is_some, refl, sym, ap, subst, ◌∙◌, arith}
 use Rattle.std.proofs.lemmas.List.{map-append}
 use Rattle.shread.specs.declared.token.Next.{Next}
 use Rattle.shread.specs.declared.token.Opener.{Opener}
@@ -13,15 +13,15 @@ use Rattle.shread.specs.declared.token.Opener.TheVariants as openers
 use Rattle.shtree.specs.declared.tree.AndOrOperator.{AndOrOperator}
 use Rattle.shtree.specs.declared.tree.RedirectOperator.{RedirectOperator}
 use Rattle.shtree.specs.declared.tree.Span.{Span}
-use Rattle.shtree.specs.Tree.{AnAndOrPartOf, AJoinOf, APipelinePartOf, ABranch, ACommand, AForm, AWord, AnAndOrPart, APipelinePart, AnEntry, AnItem, Entries, and_or_parts_of, branches_of, entries_of, entry, item, items_of, ItemsOf, pipeline_parts_of, redirect, with_redirects, remark, compound, formed, no_item, simple, function, word, ACaseItem, case_item, cases_of, patterns_of}
+use Rattle.shtree.specs.Tree.{AHere, AnAndOrPartOf, AJoinOf, APipelinePartOf, ABranch, ACommand, AForm, AWord, AnAndOrPart, APipelinePart, AnEntry, AnItem, Entries, and_or_parts_of, branches_of, entries_of, entry, item, items_of, ItemsOf, pipeline_parts_of, redirect, with_redirects, remark, compound, formed, no_item, simple, function, word, ACaseItem, case_item, cases_of, patterns_of}
 use Rattle.shtree.specs.Nodes.{through, word_span}
-use Rattle.shtree.specs.Shape.{bare, bare_at, text_at, shape_of, shape_of_entry, shape_of_and_or, shape_of_and_or_parts, shape_of_pipeline, shape_of_bang, shape_of_pipes, shape_of_command, shape_of_branch, shape_of_branches, shape_of_items, shape_of_item, shape_of_join, shape_of_word, Text, shape_of_form, shape_of_else, shape_of_for_words, shape_of_compound, shape_of_case, shape_of_cases, shape_of_patterns}
+use Rattle.shtree.specs.Shape.{shape_of_here, bare, bare_at, text_at, shape_of, shape_of_entry, shape_of_and_or, shape_of_and_or_parts, shape_of_pipeline, shape_of_bang, shape_of_pipes, shape_of_command, shape_of_branch, shape_of_branches, shape_of_items, shape_of_item, shape_of_join, shape_of_word, Text, shape_of_form, shape_of_else, shape_of_for_words, shape_of_compound, shape_of_case, shape_of_cases, shape_of_patterns}
 use Rattle.shread.specs.Standing.{raw_stands, next_newline, before_blanks}
 use Rattle.shread.specs.Comments.{span, comment_at, past_comment}
 use Rattle.shread.specs.Sights.{Given, given, State, Move, a_comment_on, here, is_a_name}
-use Rattle.shread.specs.Form.{Told, Read, Form, give, move, push, token, many, ◌>>=◌, ◌>>◌, Step, step_if, does, Spelled}
+use Rattle.shread.specs.Form.{change, with_bytes, Told, Read, Form, give, move, push, token, many, ◌>>=◌, ◌>>◌, Step, step_if, does, Spelled}
 use Rattle.shread.specs.Words.{Inner, a_word}
-use Rattle.shread.specs.Commands.{is_empty, pick, next_token, is_newline, is_semicolon, a_semicolon, a_join_of, is_pipe, is_bang, begins_simple, begins_word, begins_redirect, begins_pipeline, opener_of, compound_by, and_or_operator_of, Items, so_many, breaks, behind_word, is_number, redirect_operator_of, takes_here, is_long, a_number, an_operator, operator_by, a_target, one_redirect, behind_redirect, redirect_turn, redirected, as_item, an_item, item_by, item_turn, a_simple, comment_by, a_comment, a_newline, unexpected, JoinSo, join_so, with_comment, join_turn, a_join, a_command, a_bang, Piped, piped, one_command, pipe_turn, a_pipeline, Joined, joined_so, one_pipeline, joined_by, join_pipeline, an_and_or, separator_of, separator_by, a_separator, is_background, ASeparator, past_separator, Entered, an_entry, is_word, is_paren, is_double_semicolon, named, a_worded}
+use Rattle.shread.specs.Commands.{is_strip, document, document_by, a_document, is_empty, pick, next_token, is_newline, is_semicolon, a_semicolon, a_join_of, is_pipe, is_bang, begins_simple, begins_word, begins_redirect, begins_pipeline, opener_of, compound_by, and_or_operator_of, Items, so_many, breaks, behind_word, is_number, redirect_operator_of, takes_here, is_long, a_number, an_operator, operator_by, a_target, one_redirect, behind_redirect, redirect_turn, redirected, as_item, an_item, item_by, item_turn, a_simple, comment_by, a_comment, a_newline, unexpected, JoinSo, join_so, with_comment, join_turn, a_join, a_command, a_bang, Piped, piped, one_command, pipe_turn, a_pipeline, Joined, joined_so, one_pipeline, joined_by, join_pipeline, an_and_or, separator_of, separator_by, a_separator, is_background, ASeparator, past_separator, Entered, an_entry, is_word, is_paren, is_double_semicolon, named, a_worded}
 use Rattle.shread.specs.Lists.{Listed, ListSo, list_so, none_listed, is_blank_next, with_command, next_line, one_entry, entry_turn, remark_by, a_remark, on_line, list_turn, a_list}
 use Rattle.shread.specs.Compounds.{a_linebreak, is_closing, is_open_paren, is_close_paren, passed, closing, Closed, a_branch, Branched, branched, elif_turn, an_else, an_if, a_loop, a_group, a_for_name, a_sequential_sep, Headed, word_turn, for_words, a_for_head, behind_remarks, a_for, a_form, held_apart, a_compound, under_name, a_function, a_case_word, begins_pattern, Patterned, a_pattern, one_pattern, pattern_turn, a_pattern_list, an_open_bracket, a_body, ItemEnd, a_double_semicolon, an_item_end, CasesSo, cases_so, one_case, case_turn, a_case_head, a_case}
 use Rattle.shread.proofs.Holds.{Holds, move_low}
@@ -29,7 +29,10 @@ use Rattle.shread.proofs.Within.{before_blanks_low}
 use Rattle.shread.proofs.Alike.{SameStep}
 use Rattle.shread.proofs.Ahead.{ListEnds, same_next, same_name}
 use Rattle.shread.proofs.Asked.{Good, high, comment_end, same_raw_stands}
-use Rattle.shread.proofs.GoingOn.{over, Back, good, Found, Goes, go_give, go_push, go_see, go_move, go_then, go_so, go_stopped, go_pick, go_at, go_token, go_many, same_texts, go_any, go_stop}
+use Rattle.shread.specs.HereDocuments.{ADelimiter, delimiter_of, waits}
+use Rattle.shread.proofs.Shifted.{shifted}
+use Rattle.shread.proofs.BodiesThere.{move_span}
+use Rattle.shread.proofs.GoingOn.{go_bodies, go_waits, go_place, go_with_bytes, over, Back, good, Found, Goes, go_give, go_push, go_see, go_move, go_then, go_so, go_stopped, go_pick, go_at, go_token, go_many, same_texts, go_any, go_stop}
 
 -- ---- rows of the same shapes
 
@@ -218,7 +221,8 @@ module _ {T U : List ℕ} {a M : ℕ} {to : ℕ → ℕ} {limit : ℕ} (E : List
   newline n m same = at_same a_newline a_newline one n m same
     where
       one : (n : Next) → Goes2 (λ x y. x ≡ y) (a_newline n) (a_newline n)
-      one n = picks (is_newline n.token) _ refl (then moves_on (λ x y all. then (next Command) (λ m k same. gives (ap (λ z. (true, z)) same)))) (gives refl)
+      one n =
+          picks (is_newline n.token) _ refl (then moves_on (λ x y all. then (go_bodies E o o2 B B2 stands stands_there) (λ u v any. then (next Command) (λ m k same. gives (ap (λ z. (true, z)) same))))) (gives refl)
 
   semicolon : (n m : Next) → n ≡ m → Goes2 (λ x y. x ≡ y) (a_semicolon n) (a_semicolon m)
   unfolding a_semicolon
@@ -339,24 +343,50 @@ module _ {T U : List ℕ} {a M : ℕ} {to : ℕ → ℕ} {limit : ℕ} (E : List
     number_same n =
         picks (is_number n.token) _ refl (then (go_token E o o2 B B2 stands stands_there moves_on) (λ x y text. then (next Suffix) (λ m k same. gives (ap Some text.1, same)))) (gives (refl, refl))
 
-    operator_same : (z : RedirectOperator) → Goes2 (λ x y. Unit {0}) (an_operator z) (an_operator z)
+    -- it stands at the place that is meant
+    operator_same : (z : RedirectOperator) → Goes2 (λ x y. move_span E o o2 x.1 ≡ y.1) (an_operator z) (an_operator z)
     unfolding an_operator
     operator_same z =
-        go_so E o o2 B B2 stands stands_there (go_token E o o2 B B2 stands stands_there {S = λ x y. Unit {0}} (then moves_on (λ u v all. picks (is_long z) _ refl moves_on (gives tt)))) (λ x y so. tt)
+        go_so E o o2 B B2 stands stands_there
+        (go_place E o o2 B B2 stands stands_there {S = λ x y. Unit {0}}
+        (then moves_on (λ u v all. then {S = λ x y. Unit {0}} (picks (is_long z) _ refl moves_on (gives tt)) (λ x y any. picks (is_strip z) _ refl moves_on (gives tt))))) (λ x y so. so.1)
 
-    operator_by_same : (p q : ℕ) (z : Option RedirectOperator) → Goes2 (λ x y. x.0 ≡ y.0) (operator_by p z) (operator_by q z)
-    operator_by_same p q (Some z) = picks (takes_here z) _ refl (go_stop E o o2 B B2 stands stands_there) (then (operator_same z) (λ x y all. gives refl))
+    abbrev SameOperator : RedirectOperator × Span → RedirectOperator × Span → Type 0
+    SameOperator x y = (x.0 ≡ y.0) × (move_span E o o2 x.1 ≡ y.1)
+
+    operator_by_same : (p q : ℕ) (z : Option RedirectOperator) → Goes2 SameOperator (operator_by p z) (operator_by q z)
+    operator_by_same p q (Some z) = then (operator_same z) (λ x y so. gives (refl, so))
     operator_by_same p q None = go_stop E o o2 B B2 stands stands_there
 
-    operator_at : (p q : ℕ) (n m : Next) → n ≡ m → Goes2 (λ x y. x.0 ≡ y.0) (operator_by p (redirect_operator_of n.token)) (operator_by q (redirect_operator_of m.token))
+    operator_at : (p q : ℕ) (n m : Next) → n ≡ m → Goes2 SameOperator (operator_by p (redirect_operator_of n.token)) (operator_by q (redirect_operator_of m.token))
     operator_at p q n m same = at_same (of p) (of q) (λ k. operator_by_same p q (redirect_operator_of k.token)) n m same
       where
         of : ℕ → Next → Form (RedirectOperator × Span)
         of r k = operator_by r (redirect_operator_of k.token)
 
-    target_same : Goes2 SameWord (a_target inner) (a_target inner)
+    abbrev SameTarget : AWord × Spelled → AWord × Spelled → Type 0
+    SameTarget x y = SameWord x.0 y.0 × (x.1 ≡ y.1)
+
+    target_same : Goes2 SameTarget (a_target inner) (a_target inner)
     unfolding a_target
-    target_same = then (next Suffix) (λ n m same. picks _ _ (ap (λ (k : Next). is_word k.token) same) fine.word (stopped n))
+    target_same = then (next Suffix) (λ n m same. picks _ _ (ap (λ (k : Next). is_word k.token) same) (go_with_bytes E o o2 B B2 stands stands_there fine.word) (stopped n))
+
+    -- its body is not known yet
+    abbrev SameHere : Option AHere → Option AHere → Type 0
+    SameHere x y = option_map (shape_of_here B) x ≡ option_map (shape_of_here B2) y
+
+    document_by_same : (b c p q : ℕ) (strip : Bool) (d : Option ADelimiter) → shifted (o + a) (o2 + to a) b ≡ c → Goes2 SameHere (document_by b p strip d) (document_by c q strip d)
+    document_by_same b c p q strip (Some d) is =
+        then (subst (λ (n : ℕ). Goes2 (λ x y. Unit {0}) (change (waits (document b strip d))) (change (waits (document n strip d)))) is (go_waits E o o2 B B2 stands stands_there)) (λ u v any. gives refl)
+    document_by_same b c p q strip None is = go_stop E o o2 B B2 stands stands_there
+
+    document_same : (z : RedirectOperator) (b c p q : ℕ) (k : Spelled) → shifted (o + a) (o2 + to a) b ≡ c → Goes2 SameHere (a_document z b p k) (a_document z c q k)
+    unfolding a_document
+    document_same z b c p q k is = picks (takes_here z) _ refl (document_by_same b c p q (is_strip z) (delimiter_of k) is) (gives refl)
+
+    document_at : (x y : RedirectOperator × Span) (w v : AWord × Spelled) → SameOperator x y → SameTarget w v
+        → Goes2 SameHere (a_document x.0 x.1.start (word_span w.0).start w.1) (a_document y.0 y.1.start (word_span v.0).start v.1)
+    document_at x y w v four five = rw (← four.0, ← five.1) (document_same x.0 x.1.start y.1.start (word_span w.0).start (word_span v.0).start w.1 (ap (λ (z : Span). z.start) four.1))
 
     bare_same : (c d : Option Span) → SameText c d → option_map (bare_at B) c ≡ option_map (bare_at B2) d
     bare_same None None same = refl
@@ -364,17 +394,18 @@ module _ {T U : List ℕ} {a M : ℕ} {to : ℕ → ℕ} {limit : ℕ} (E : List
     bare_same (Some c) None same = absurd cc
     bare_same (Some c) (Some d) same = let text : text_at B c ≡ text_at B2 d = cc in ap (λ z. Some (bare z)) text
 
-    redirect_shape : (broken pale : Bool) (c d : Option Span) (z y : RedirectOperator) (s t : Span) (w v : AWord) → broken ≡ pale → SameText c d → z ≡ y → SameWord w v
-        → shape_of_item B (item broken (redirect c z s w None)) ≡ shape_of_item B2 (item pale (redirect d y t v None))
-    redirect_shape broken pale c d z y s t w v one two three four = rw (one, bare_same c d two, three, four) refl
+    redirect_shape : (broken pale : Bool) (c d : Option Span) (z y : RedirectOperator) (s t : Span) (w v : AWord) (h i : Option AHere) → broken ≡ pale → SameText c d → z ≡ y → SameWord w v → SameHere h i
+        → shape_of_item B (item broken (redirect c z s w h)) ≡ shape_of_item B2 (item pale (redirect d y t v i))
+    redirect_shape broken pale c d z y s t w v h i one two three four five = rw (one, bare_same c d two, three, four, five) refl
 
     redirect_same : (broken pale : Bool) (position : Position) (is js : Row AnItem) (n : Next) → broken ≡ pale → SameRow is js
         → Goes2 (SameStep SameItems) (one_redirect inner broken position is n) (one_redirect inner pale position js n)
     unfolding one_redirect
     redirect_same broken pale position is js n one two =
         then (go_any E o o2 B B2 stands stands_there {l = here}) (λ p q any. then (number_same n) (λ d e three. then (operator_at p q d.1 e.1 three.1) (λ x y four. then target_same (λ w v five.
-        then (pushes {S = SameRow} (rows_more (shape_of_item B) (shape_of_item B2) is _ js _ two (redirect_shape broken pale d.0 e.0 x.0 y.0 x.1 y.1 w v one three.0 four five)))
-        (λ ks ls all. then (next position) (λ m k is_next. gives (all, (refl, is_next))))))))
+        then (document_at x y w v four five) (λ h i six.
+        then (pushes {S = SameRow} (rows_more (shape_of_item B) (shape_of_item B2) is _ js _ two (redirect_shape broken pale d.0 e.0 x.0 y.0 x.1 y.1 w.0 v.0 h i one three.0 four.0 five.0 six)))
+        (λ ks ls all. then (next position) (λ m k is_next. gives (all, (refl, is_next)))))))))
 
     redirect_at : (broken pale : Bool) (p q : Position) (is js : Row AnItem) (n m : Next) → broken ≡ pale → SameRow is js → p ≡ q → n ≡ m
         → Goes2 (SameStep SameItems) (one_redirect inner broken p is n) (one_redirect inner pale q js m)

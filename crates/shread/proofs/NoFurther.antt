@@ -8,11 +8,14 @@ use Rattle.shread.specs.declared.mode.Mode.TheVariants.{Plain, Double, Brace, Do
 use Rattle.shtree.specs.declared.tree.Span.{Span}
 use Rattle.shtree.specs.Shape.{bare}
 use Rattle.shread.specs.Comments.{span}
-use Rattle.shread.specs.Sights.{Given, given, State, Sight, here, the_byte, the_piece, the_rest, the_end, a_backquote, last_backslash, the_token, the_comment, is_a_name, seen}
-use Rattle.shread.specs.Form.{Spelled, Told, untold, as_it_stands, bared, by, tell, Read, Form, give, see, move, push, stop, both, when, token, loop, ends_as, Step, again, done, Just, just, Halts, halted, Then, and_then, or_stops, holds, fails, raw, OneToken, whole, broken_off, leads_on, Turns, last, rests, more, halts, Ending, goes_through, stops_inside, moved, may}
+use Rattle.shread.specs.Sights.{Given, given, State, Sight, here, the_byte, the_piece, the_rest, the_end, a_backquote, last_backslash, the_token, the_comment, is_a_name, a_document_waits, seen}
+use Rattle.shread.specs.HereDocuments.{Change, changed, own_level, outer_level}
+use Rattle.shread.specs.declared.fault.Fault.{Fault}
+use Rattle.shread.specs.Form.{change, with_bytes, a_level, Changed, changes, cannot, nothing_read, WithBytes, with_its_bytes, without_bytes, OwnLevel, level_read, level_stops, Spelled, Told, untold, as_it_stands, bared, by, tell, Read, Form, give, see, move, push, stop, both, when, token, loop, ends_as, Step, again, done, Just, just, Halts, halted, Then, and_then, or_stops, holds, fails, raw, OneToken, whole, broken_off, leads_on, Turns, last, rests, more, halts, Ending, goes_through, stops_inside, moved, may}
 use Rattle.shread.proofs.OneOutcome.{is}
 use Rattle.shread.proofs.Holds.{Holds, Behind, low}
 use Rattle.shread.proofs.Ahead.{ListEnds, same_name, same_place, same_next}
+use Rattle.shread.proofs.BodiesThere.{change_there}
 use Rattle.shread.proofs.Asked.{Good, NoBracket, newline_near, high, on, moves, same_end_here, same_raw_stands, same_last_backslash, same_comment, same_piece, same_mode, same_raw}
 
 -- what may be read is not before where it begins
@@ -73,6 +76,7 @@ module _ {T U : List ℕ} {a M : ℕ} {to : ℕ → ℕ} (E : ListEnds T U a M t
   same_seen (the_token position) s from good = same_next E position good
   same_seen the_comment s from good = same_comment E o o2 spans s.at good (λ e. newline_near E refl s.at (high E good))
   same_seen is_a_name s from good = same_name E good
+  same_seen a_document_waits s from good = refl
 
   -- ---- whether a turn leads on
 
@@ -138,6 +142,23 @@ module _ {T U : List ℕ} {a M : ℕ} {to : ℕ → ℕ} (E : ListEnds T U a M t
   ending_back kind at r s first y k (goes_through {x = x} {t = t} part) good = let w = first (Ok (x, t)) k part good in (w.0, goes_through w.1)
   ending_back kind at r s first y k (stops_inside part) good = absurd good
 
+  change_back : (c : Change) (s : State) → a ≤ s.at → (y : Read (Unit {0})) (k : Row Spelled) → Changed (changed c g s) y k → Back (change c) s y k
+  change_back c s from y k (changes {t = t} is) good = let w = change_there E o o2 off c s t from good is in (w.0, changes w.1)
+  change_back c s from y k (cannot is) good = absurd good
+
+  bytes_back : {X : Type 0} (r : Form X) (s : State) → ((y : Read X) (k : Row Spelled) → may r g s y k → Back r s y k) → a ≤ s.at → (y : Read (X × Spelled)) (k : Row Spelled) → WithBytes g (may r g) s y k
+      → Back (with_bytes r) s y k
+  bytes_back {X = X} r s first from y k (with_its_bytes {x = x} {t = t} {k = k1} part) good =
+      let w = first (Ok (x, t)) k1 part good in
+      let onward = behind r g s (Ok (x, t)) k1 part in
+      (w.0, subst (λ (z : Spelled). WithBytes h (may r h) (there s) (Ok ((x, z), there t)) k1) (same_raw E s.at t.at from (omega (arith, from, onward)) (high E good)) (with_its_bytes w.1))
+  bytes_back r s first from y k (without_bytes part) good = absurd good
+
+  level_back : {X : Type 0} (r : Form X) (s : State) → ((y : Read X) (k : Row Spelled) → may r g (own_level s) y k → Back r (own_level s) y k) → (y : Read (X × Row Span)) (k : Row Spelled) → OwnLevel (may r g) s y k
+      → Back (a_level r) s y k
+  level_back r s first y k (level_read {x = x} {t = t} part) good = let w = first (Ok (x, t)) k part good in (w.0, level_read w.1)
+  level_back r s first y k (level_stops part) good = absurd good
+
   module _ {A : Type 0} (turn : A → Form (Step A)) (each : (b : A) (s : State) → a ≤ s.at → (y : Read (Step A)) (k : Row Spelled) → may (turn b) g s y k → Back (turn b) s y k) where
     loop_back : (b : A) (s : State) (y : Read A) (k : Row Spelled) → Turns g (λ c. may (turn c) g) b s y k → a ≤ s.at → Ends y → G s.at × Turns h (λ c. may (turn c) h) b (there s) (elsewhere y) k
     loop_back b s y k (last {b = c} {t = t} part) from good = let w = each b s from (Ok (done c, t)) k part good in (w.0, last w.1)
@@ -166,3 +187,6 @@ module _ {T U : List ℕ} {a M : ℕ} {to : ℕ → ℕ} (E : ListEnds T U a M t
   back (token how r) s from y k part = token_back how r s (back r s from) from y k part
   back (loop turn b) s from y k part = loop_back turn (λ c t. back (turn c) t) b s y k part from
   back (ends_as kind at r) s from y k part = ending_back kind at r s (back r s from) y k part
+  back (change c) s from y k part = change_back c s from y k part
+  back (with_bytes r) s from y k part = bytes_back r s (back r s from) from y k part
+  back (a_level r) s from y k part = level_back r s (back r (own_level s) from) y k part

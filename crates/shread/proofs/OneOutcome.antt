@@ -1,12 +1,13 @@
 -- Each form has one outcome, the one that is computed: one induction, for every row of the grammar.
-use Rattle.std.proofs.Common.{◌≡◌, ℕ, zero, suc, ◌-◌, ◌<◌, Bool, true, false, cond, Ok, Err, List as Row, [], ◌∷◌, ◌++◌, length, refl, sym, ap, subst, ◌∙◌, arith}
+use Rattle.std.proofs.Common.{◌≡◌, ℕ, zero, suc, ◌-◌, ◌<◌, Bool, true, false, cond, Result, Ok, Err, List as Row, [], ◌∷◌, ◌++◌, length, refl, sym, ap, subst, ◌∙◌, arith}
 use Rattle.std.proofs.lemmas.Bool.{ltb-true}
 use Rattle.shtree.specs.declared.tree.Span.{Span}
 use Rattle.shread.specs.declared.fault.Fault.{Fault}
 use Rattle.shread.specs.declared.fault.FaultKind.{FaultKind}
 use Rattle.shread.specs.Comments.{span}
 use Rattle.shread.specs.Sights.{Given, State, seen}
-use Rattle.shread.specs.Form.{Spelled, Read, Comes, Step, again, done, Form, give, see, move, push, stop, both, when, token, loop, ends_as, Just, just, Halts, halted, Then, and_then, or_stops, Either, holds, fails, Told, tell, OneToken, whole, broken_off, leads_on, Turns, last, rests, more, halts, Ending, goes_through, stops_inside, with_end, moved, may, ◌▸◌, turns, does}
+use Rattle.shread.specs.HereDocuments.{changed, own_level, outer_level}
+use Rattle.shread.specs.Form.{Spelled, Read, Comes, Step, again, done, Form, give, see, move, push, stop, both, when, token, loop, ends_as, change, with_bytes, a_level, Just, just, Halts, halted, Then, and_then, or_stops, Either, holds, fails, Told, tell, OneToken, whole, broken_off, leads_on, Turns, last, rests, more, halts, Ending, goes_through, stops_inside, with_end, Changed, changes, cannot, nothing_read, WithBytes, with_its_bytes, without_bytes, OwnLevel, level_read, level_stops, raw, moved, may, ◌▸◌, turns, does}
 use Rattle.shread.proofs.Turns.{turns_on, turns_rest, turns_done, turns_fault}
 
 -- x is what may be read, and nothing else
@@ -115,6 +116,49 @@ module _ {X : Type 0} (kind : FaultKind) (at : ℕ) (r : Comes X) (s : State) wh
   is_ending : (x : Read X) → Is (r s) x → Is (Ending kind at r s) (with_end kind at x)
   is_ending x one = record { some = (one.some.0, ending_some x one.some.0 one.some.1); only = ending_only x one.only }
 
+-- ---- what waits, bytes, and levels
+
+changed_some : (x : Result State Fault) → Changed x (nothing_read x) []
+changed_some (Ok t) = changes refl
+changed_some (Err f) = cannot refl
+
+changed_only : (x : Result State Fault) (y : Read (Unit {0})) (k : Row Spelled) → Changed x y k → y ≡ nothing_read x
+changed_only x y k (changes part) = rw part refl
+changed_only x y k (cannot part) = rw part refl
+
+is_changed : (x : Result State Fault) → Is (Changed x) (nothing_read x)
+is_changed x = record { some = ([], changed_some x); only = changed_only x }
+
+module _ {X : Type 0} (g : Given) (r : Comes X) (s : State) where
+  abbrev with_raw : Read X → Read (X × Spelled)
+  with_raw x = x ▸ λ a t. Ok ((a, raw g.text s.at t.at), t)
+
+  bytes_some : (x : Read X) (k : Row Spelled) → r s x k → WithBytes g r s (with_raw x) k
+  bytes_some (Ok (x, t)) k part = with_its_bytes part
+  bytes_some (Err f) k part = without_bytes part
+
+  bytes_only : (x : Read X) → ((y : Read X) (k : Row Spelled) → r s y k → y ≡ x) → (y : Read (X × Spelled)) (l : Row Spelled) → WithBytes g r s y l → y ≡ with_raw x
+  bytes_only x one y l (with_its_bytes {x = b} {t = u} {k = k} part) = rw (← one (Ok (b, u)) k part) refl
+  bytes_only x one y l (without_bytes {f = e} {k = k} part) = rw (← one (Err e) k part) refl
+
+  is_with_bytes : (x : Read X) → Is (r s) x → Is (WithBytes g r s) (with_raw x)
+  is_with_bytes x one = record { some = (one.some.0, bytes_some x one.some.0 one.some.1); only = bytes_only x one.only }
+
+module _ {X : Type 0} (r : Comes X) (s : State) where
+  abbrev with_bodies_of : Read X → Read (X × Row Span)
+  with_bodies_of x = x ▸ λ a t. Ok ((a, t.bodies), outer_level s t)
+
+  level_some : (x : Read X) (k : Row Spelled) → r (own_level s) x k → OwnLevel r s (with_bodies_of x) k
+  level_some (Ok (x, t)) k part = level_read part
+  level_some (Err f) k part = level_stops part
+
+  level_only : (x : Read X) → ((y : Read X) (k : Row Spelled) → r (own_level s) y k → y ≡ x) → (y : Read (X × Row Span)) (l : Row Spelled) → OwnLevel r s y l → y ≡ with_bodies_of x
+  level_only x one y l (level_read {x = b} {t = u} {k = k} part) = rw (← one (Ok (b, u)) k part) refl
+  level_only x one y l (level_stops {f = e} {k = k} part) = rw (← one (Err e) k part) refl
+
+  is_own_level : (x : Read X) → Is (r (own_level s)) x → Is (OwnLevel r s) (with_bodies_of x)
+  is_own_level x one = record { some = (one.some.0, level_some x one.some.0 one.some.1); only = level_only x one.only }
+
 -- ---- every form
 
 pub is : {X : Type 0} (r : Form X) (g : Given) (s : State) → Is (may r g s) (does r true g s)
@@ -128,3 +172,6 @@ is (when f r q) g s = is_either (may r g) (may q g) s (does r true g s) (does q 
 is (token how r) g s = is_token how g (may r g) s (does r true g s) (is r g s)
 is (loop turn a) g s = is_many g (λ b. may (turn b) g) (λ b t. does (turn b) true g t) (λ b t. is (turn b) g t) a s
 is (ends_as kind at r) g s = is_ending kind at (may r g) s (does r true g s) (is r g s)
+is (change c) g s = is_changed (changed c g s)
+is (with_bytes r) g s = is_with_bytes g (may r g) s (does r true g s) (is r g s)
+is (a_level r) g s = is_own_level (may r g) s (does r true g (own_level s)) (is r g (own_level s))

@@ -22,7 +22,7 @@ use Rattle.shread.proofs.Holds.{Holds, holds_then, holds_so}
 use Rattle.shread.proofs.Alike.{SameStep, SameHeld}
 use Rattle.shread.proofs.SameBytes.{Kept, Here, here, here_byte, here_behind, here_stands, byte_other}
 use Rattle.shread.proofs.Ahead.{behind_is}
-use Rattle.shread.proofs.Inside.{clear, before, high, taken_two, same_taken, same_end, parameter_in, rest_in, there, at, Ends, quote_in, backquotes_in, Turned, Looped, Goal, looped}
+use Rattle.shread.proofs.Inside.{there_at, clear, before, high, taken_two, same_taken, same_end, parameter_in, rest_in, there, at, Ends, quote_in, backquotes_in, Turned, Looped, Goal, looped}
 use Rattle.shread.proofs.OneOutcome.{is}
 
 -- it does not end a word
@@ -161,7 +161,7 @@ module _ {T U : List ℕ} {a L : ℕ} {to : ℕ → ℕ} (K : Kept T U a L to) (
 
       -- one byte
       one_byte_row : (is_byte (byte_at T p) 92 ≡ false) → past_continuations T p < length T → (w : Held → Held) → ((d : Held) → Agree c d → Agree (w c) (w d)) → (x : Piece) → (Inside p → From mode q → Told x)
-          → ((d : Held) → does (piece_row inner mode b2 d x) true h (over s) ≡ Ok (again (w d), placed (behind U (to p)) s)) → Turn (again (w c)) (placed q s)
+          → ((d : Held) → does (piece_row inner mode b2 d x) true h (over s) ≡ Ok (again (w d), there_at K o o2 (behind U (to p)) s)) → Turn (again (w c)) (placed q s)
       one_byte_row e lt w same x told row goal =
           let i = clear K p from (omega (arith, goal.0, behind_is T p)) e in
           let next = goal.1 (leads_byte lt) in
@@ -216,7 +216,7 @@ module _ {T U : List ℕ} {a L : ℕ} {to : ℕ → ℕ} (K : Kept T U a L to) (
 
       -- a construct, from behind its opener on
       open_row : (x : Piece) (m : Mode) → Closed m → (k k2 r : ℕ) → a ≤ r
-          → (Inside r → Inside p × (Told x × ((d : Held) → does (piece_row inner mode b2 d x) true h (over s) ≡ does (opened inner m k2 d) true h (placed (to r) s)))) → Holds Turn (does (opened inner m k c) true g (placed r s))
+          → (Inside r → Inside p × (Told x × ((d : Held) → does (piece_row inner mode b2 d x) true h (over s) ≡ does (opened inner m k2 d) true h (there_at K o o2 (to r) s)))) → Holds Turn (does (opened inner m k c) true g (placed r s))
       open_row x m closed k k2 r low_r start =
           holds_so (Opens inner local m k2 c (placed r s)) Turn (does (opened inner m k c) true g (placed r s)) (opens inner local m closed k k2 c (placed r s) low_r)
           (λ y t inside goal. let w = inside (goal_high y t goal) in

@@ -1,5 +1,5 @@
 -- Where something is read there is a byte, and how far the stretches of a text reach.
-use Rattle.std.proofs.Common.{◌≡◌, ℕ, zero, suc, ◌+◌, ◌-◌, ◌≤◌, ◌<◌, ◌==◌, Bool, true, false, not, cond, ◌&&◌, ◌||◌, List, [], ◌∷◌, length, drop, Option, Some, None, slice_get, refl, sym, ap, ◌∙◌, arith, ⊎_elim}
+use Rattle.std.proofs.Common.{◌≡◌, ℕ, zero, suc, ◌+◌, ◌-◌, ◌≤◌, ◌<◌, ◌==◌, Bool, true, false, not, cond, ◌&&◌, ◌||◌, List, [], ◌∷◌, length, drop, Option, Some, None, slice_get, get_or, refl, sym, ap, ◌∙◌, arith, ⊎_elim}
 use Rattle.std.proofs.lemmas.Bool.{cond_both, both_ways, cases_lt}
 use Rattle.std.proofs.lemmas.Bool.Decides.{nat_tests}
 use Rattle.std.proofs.lemmas.List.{length-drop, drop-drop}
@@ -79,6 +79,18 @@ some_low T p (Some b) is e = slice_get_within T p b is
 pub not_end_low : (T : List ℕ) (p : ℕ) → at_end T p ≡ false → p < length T
 unfolding at_end
 not_end_low T p e = some_low T p (slice_get T p) refl e
+
+none_high : (T : List ℕ) (p : ℕ) → slice_get T p ≡ None → length T ≤ p
+none_high T p is = ⊎_elim (λ lt. let some : None ≡ Some (get_or T p 0) = sym is ∙ slice_get-get_or T p 0 lt in absurd cc) (λ ge. ge) (cases_lt p (length T))
+
+-- where the text ends there is none
+pub end_high : (T : List ℕ) (p : ℕ) → at_end T p ≡ true → length T ≤ p
+unfolding at_end
+end_high T p e = high (slice_get T p) refl e
+  where
+    high : (x : Option ℕ) → slice_get T p ≡ x → is_none x ≡ true → length T ≤ p
+    high None is end = none_high T p is
+    high (Some b) is end = absurd cc
 
 -- behind a byte is to the right of it
 pub behind_low : (T : List ℕ) (p : ℕ) → p < behind T p

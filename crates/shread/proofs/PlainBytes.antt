@@ -10,7 +10,8 @@ use Rattle.shread.specs.Bytes.{ends, ends_word, byte_at, behind, past_continuati
 use Rattle.shread.specs.Pieces.{piece_by, piece_at, past_closer}
 use Rattle.shread.specs.Comments.{span}
 use Rattle.shread.specs.Clauses.{Fails}
-use Rattle.shread.specs.Sights.{Given, State, given, standing}
+use Rattle.shread.specs.Sights.{Given, State, Waiting, given}
+use Rattle.shtree.specs.declared.tree.Span.{Span}
 use Rattle.shread.specs.Form.{Read, ◌▸◌, again, done, does, many}
 use Rattle.shread.specs.Words.{Inner, Held, having, a_piece, contents, a_word}
 use Rattle.shread.specs.Levels.{level}
@@ -105,15 +106,22 @@ some_plain T p q low here there = word_longer T p q low here there
 
 -- ---- the pieces of a construct that opened at b
 
-module _ (inner : Inner) (keep : Bool) (g : Given) (mode : Mode) (b : ℕ) where
+-- a place, with what waits there and the bodies so far
+abbrev placed : Row Waiting → Row Span → ℕ → State
+placed ws ds p = record { at = p; waiting = ws; bodies = ds }
+
+module _ (inner : Inner) (keep : Bool) (g : Given) (mode : Mode) (b : ℕ) (ws : Row Waiting) (ds : Row Span) where
   -- one turn, and all
   abbrev turn : Held → State → Read (Rattle.shread.specs.Form.Step Held)
   turn h s = does (a_piece inner mode b h) keep g s
 
   abbrev all : Held → ℕ → Read Held
-  all h p = does (many (a_piece inner mode b) h) keep g (standing p)
+  all h p = does (many (a_piece inner mode b) h) keep g (placed ws ds p)
 
-  plain_piece : (h : Held) (p : ℕ) → raw_in (is_plain mode) g.text p ≡ true → turn h (standing p) ≡ Ok (again h, standing (p + 1))
+  abbrev all_from : Row Waiting → Row Span → Held → ℕ → Read Held
+  all_from vs es h p = does (many (a_piece inner mode b) h) keep g (placed vs es p)
+
+  plain_piece : (h : Held) (p : ℕ) → raw_in (is_plain mode) g.text p ≡ true → turn h (placed ws ds p) ≡ Ok (again h, placed ws ds (p + 1))
   unfolding a_piece piece_at behind
   plain_piece h p plain =
       let same = stays (is_plain mode) g.text p (no_backslash mode) plain in
@@ -127,7 +135,7 @@ module _ (inner : Inner) (keep : Bool) (g : Given) (mode : Mode) (b : ℕ) where
       ap (all h) (sym same)
   plain_run h p (suc m) plain high =
       let next : p + 1 + m ≡ p + suc m = omega arith in
-      many_again (a_piece inner mode b) keep g h h (standing p) (standing (p + 1)) (plain_piece h p (plain p (omega arith) (omega arith))) (omega arith) (omega arith)
+      many_again (a_piece inner mode b) keep g h h (placed ws ds p) (placed ws ds (p + 1)) (plain_piece h p (plain p (omega arith) (omega arith))) (omega arith) (omega arith)
       ∙ plain_run h (p + 1) m (λ k low below. plain k (omega arith) (omega arith)) (omega arith)
       ∙ ap (all h) next
 
@@ -137,10 +145,10 @@ module _ (inner : Inner) (keep : Bool) (g : Given) (mode : Mode) (b : ℕ) where
       plain_run h p (q - p) (λ k k_low k_high. plain k k_low (omega (arith, k_high))) (omega arith) ∙ ap (all h) there
 
   -- one piece, and the plain bytes behind it
-  pub piece_and_plain : (h i : Held) (p q r : ℕ) (x : Read Held) → all h p ≡ x → turn h (standing p) ≡ Ok (again i, standing q) → p < q → q ≤ length g.text
+  pub piece_and_plain : (h i : Held) (vs : Row Waiting) (es : Row Span) (p q r : ℕ) (x : Read Held) → all_from vs es h p ≡ x → turn h (placed vs es p) ≡ Ok (again i, placed ws ds q) → p < q → q ≤ length g.text
       → ArePlain mode g.text q r → q ≤ r → r ≤ length g.text → all i r ≡ x
-  piece_and_plain h i p q r x before piece onward within plain low high =
-      sym (plain_turns i q r plain low high) ∙ sym (many_again (a_piece inner mode b) keep g h i (standing p) (standing q) piece onward within) ∙ before
+  piece_and_plain h i vs es p q r x before piece onward within plain low high =
+      sym (plain_turns i q r plain low high) ∙ sym (many_again (a_piece inner mode b) keep g h i (placed vs es p) (placed ws ds q) piece onward within) ∙ before
 
   -- what pieces give is the substitutions, and where they end
   abbrev given_by : Read Held → Read (Row ASubst)
@@ -151,77 +159,77 @@ module _ (inner : Inner) (keep : Bool) (g : Given) (mode : Mode) (b : ℕ) where
   stops end (Wrong f) x stop = (rw (stop.0) refl, stop.1)
 
   -- a piece that stops, stops all
-  pub contents_stop : (h : Held) (ss : Row ASubst) (p s : ℕ) (end : ℕ) (e : Stop) → all h p ≡ all (having 0 ss) s → Fails end e (turn h (standing p))
-      → Fails end e (does (contents inner mode b ss) keep g (standing s))
+  pub contents_stop : (h : Held) (ss : Row ASubst) (vs : Row Waiting) (es : Row Span) (p s : ℕ) (end : ℕ) (e : Stop) → all h p ≡ all_from vs es (having 0 ss) s → Fails end e (turn h (placed ws ds p))
+      → Fails end e (does (contents inner mode b ss) keep g (placed vs es s))
   unfolding contents
-  contents_stop h ss p s end e so stop = stops end e _ (subst (Fails end e) so (many_stop (a_piece inner mode b) keep g h (standing p) end e stop))
+  contents_stop h ss vs es p s end e so stop = stops end e _ (subst (Fails end e) so (many_stop (a_piece inner mode b) keep g h (placed ws ds p) end e stop))
 
   -- the last piece
-  pub contents_done : (h : Held) (ss : Row ASubst) (p s q : ℕ) → all h p ≡ all (having 0 ss) s → turn h (standing p) ≡ Ok (done h, standing q)
-      → does (contents inner mode b ss) keep g (standing s) ≡ Ok (h.substs, standing q)
+  pub contents_done : (h : Held) (ss : Row ASubst) (vs : Row Waiting) (es : Row Span) (p s q : ℕ) → all h p ≡ all_from vs es (having 0 ss) s → turn h (placed ws ds p) ≡ Ok (done h, placed ws ds q)
+      → does (contents inner mode b ss) keep g (placed vs es s) ≡ Ok (h.substs, placed ws ds q)
   unfolding contents
-  contents_done h ss p s q so last = ap given_by (sym so ∙ many_done (a_piece inner mode b) keep g h h (standing p) (standing q) last)
+  contents_done h ss vs es p s q so last = ap given_by (sym so ∙ many_done (a_piece inner mode b) keep g h h (placed ws ds p) (placed ws ds q) last)
 
   -- plain bytes, and what closes behind them
   pub plain_closed : (ss : Row ASubst) (p q : ℕ) → ArePlain mode g.text p q → p ≤ q → q ≤ length g.text → piece_at g.text mode 0 q ≡ pieces.Closer
-      → does (contents inner mode b ss) keep g (standing p) ≡ Ok (ss, standing (past_closer g.text mode q))
+      → does (contents inner mode b ss) keep g (placed ws ds p) ≡ Ok (ss, placed ws ds (past_closer g.text mode q))
   unfolding contents a_piece
   plain_closed ss p q plain low high end =
-      ap given_by (plain_turns (having 0 ss) p q plain low high ∙ many_done (a_piece inner mode b) keep g (having 0 ss) (having 0 ss) (standing q) (standing (past_closer g.text mode q)) (rw end refl))
+      ap given_by (plain_turns (having 0 ss) p q plain low high ∙ many_done (a_piece inner mode b) keep g (having 0 ss) (having 0 ss) (placed ws ds q) (placed ws ds (past_closer g.text mode q)) (rw end refl))
 
-  ordinary_piece : (h : Held) (p : ℕ) → piece_at g.text mode h.nested p ≡ pieces.Ordinary → turn h (standing p) ≡ Ok (again h, standing (past_continuations g.text p + 1))
+  ordinary_piece : (h : Held) (p : ℕ) → piece_at g.text mode h.nested p ≡ pieces.Ordinary → turn h (placed ws ds p) ≡ Ok (again h, placed ws ds (past_continuations g.text p + 1))
   unfolding a_piece behind
   ordinary_piece h p ordinary = rw ordinary refl
 
   -- an ordinary byte, and the plain ones behind it
   pub ordinary_contents : (ss : Row ASubst) (p q : ℕ) → piece_at g.text mode 0 p ≡ pieces.Ordinary → ArePlain mode g.text (past_continuations g.text p + 1) q
-      → past_continuations g.text p + 1 ≤ q → q ≤ length g.text → does (contents inner mode b ss) keep g (standing p) ≡ does (contents inner mode b ss) keep g (standing q)
+      → past_continuations g.text p + 1 ≤ q → q ≤ length g.text → does (contents inner mode b ss) keep g (placed ws ds p) ≡ does (contents inner mode b ss) keep g (placed ws ds q)
   unfolding contents
   ordinary_contents ss p q ordinary plain low high =
       let h = having 0 ss in
       let r = past_continuations g.text p + 1 in
-      ap given_by (many_again (a_piece inner mode b) keep g h h (standing p) (standing r) (ordinary_piece h p ordinary) (omega (arith, place_low g.text p)) (omega (arith, low, high))
+      ap given_by (many_again (a_piece inner mode b) keep g h h (placed ws ds p) (placed ws ds r) (ordinary_piece h p ordinary) (omega (arith, place_low g.text p)) (omega (arith, low, high))
       ∙ plain_turns h r q plain low high)
 
   -- plain bytes, and what stands behind them
   pub plain_contents : (ss : Row ASubst) (p q : ℕ) → ArePlain mode g.text p q → p ≤ q → q ≤ length g.text
-      → does (contents inner mode b ss) keep g (standing p) ≡ does (contents inner mode b ss) keep g (standing q)
+      → does (contents inner mode b ss) keep g (placed ws ds p) ≡ does (contents inner mode b ss) keep g (placed ws ds q)
   unfolding contents
   plain_contents ss p q plain low high = ap given_by (plain_turns (having 0 ss) p q plain low high)
 
 -- what closes a construct
-pub closed_here : (inner : Inner) (keep : Bool) (T : List ℕ) (o : ℕ) (mode : Mode) (b : ℕ) (ss : Row ASubst) (q : ℕ) → q ≤ length T → piece_at T mode 0 q ≡ pieces.Closer
-    → does (contents inner mode b ss) keep (given T o) (standing q) ≡ Ok (ss, standing (past_closer T mode q))
-closed_here inner keep T o mode b ss q high end =
-    plain_closed inner keep (given T o) mode b ss q q (λ k low below. absurd (omega (arith, low, below))) (omega arith) high end
+pub closed_here : (inner : Inner) (keep : Bool) (ws : Row Waiting) (ds : Row Span) (T : List ℕ) (o : ℕ) (mode : Mode) (b : ℕ) (ss : Row ASubst) (q : ℕ) → q ≤ length T → piece_at T mode 0 q ≡ pieces.Closer
+    → does (contents inner mode b ss) keep (given T o) (placed ws ds q) ≡ Ok (ss, placed ws ds (past_closer T mode q))
+closed_here inner keep ws ds T o mode b ss q high end =
+    plain_closed inner keep (given T o) mode b ws ds ss q q (λ k low below. absurd (omega (arith, low, below))) (omega arith) high end
 
 -- an ordinary byte, and the plain ones behind it
-pub ordinary_here : (inner : Inner) (keep : Bool) (T : List ℕ) (o : ℕ) (mode : Mode) (b : ℕ) (ss : Row ASubst) (p q : ℕ) → piece_at T mode 0 p ≡ pieces.Ordinary
+pub ordinary_here : (inner : Inner) (keep : Bool) (ws : Row Waiting) (ds : Row Span) (T : List ℕ) (o : ℕ) (mode : Mode) (b : ℕ) (ss : Row ASubst) (p q : ℕ) → piece_at T mode 0 p ≡ pieces.Ordinary
     → ArePlain mode T (past_continuations T p + 1) q → past_continuations T p + 1 ≤ q → q ≤ length T
-    → does (contents inner mode b ss) keep (given T o) (standing p) ≡ does (contents inner mode b ss) keep (given T o) (standing q)
-ordinary_here inner keep T o mode b ss p q piece plain low high =
-    ordinary_contents inner keep (given T o) mode b ss p q piece plain low high
+    → does (contents inner mode b ss) keep (given T o) (placed ws ds p) ≡ does (contents inner mode b ss) keep (given T o) (placed ws ds q)
+ordinary_here inner keep ws ds T o mode b ss p q piece plain low high =
+    ordinary_contents inner keep (given T o) mode b ws ds ss p q piece plain low high
 
 -- plain bytes at the begin of a construct, by how many more may be opened
-pub plain_begin : (room : ℕ) (keep : Bool) (T : List ℕ) (o : ℕ) (mode : Mode) (b : ℕ) (ss : Row ASubst) (p q : ℕ) → 0 < room → ArePlain mode T p q → p ≤ q → q ≤ length T
-    → does ((level room).construct mode b ss) keep (given T o) (standing p) ≡ does (contents (level (room - 1)) mode b ss) keep (given T o) (standing q)
-plain_begin room keep T o mode b ss p q some plain low high =
-    level_below keep (given T o) (standing p) room mode b ss some ∙ plain_contents (level (room - 1)) keep (given T o) mode b ss p q plain low high
+pub plain_begin : (room : ℕ) (keep : Bool) (ws : Row Waiting) (ds : Row Span) (T : List ℕ) (o : ℕ) (mode : Mode) (b : ℕ) (ss : Row ASubst) (p q : ℕ) → 0 < room → ArePlain mode T p q → p ≤ q → q ≤ length T
+    → does ((level room).construct mode b ss) keep (given T o) (placed ws ds p) ≡ does (contents (level (room - 1)) mode b ss) keep (given T o) (placed ws ds q)
+plain_begin room keep ws ds T o mode b ss p q some plain low high =
+    level_below keep (given T o) (placed ws ds p) room mode b ss some ∙ plain_contents (level (room - 1)) keep (given T o) mode b ws ds ss p q plain low high
 
 -- a word of plain bytes
-pub plain_word : (inner : Inner) (keep : Bool) (T : List ℕ) (o p q : ℕ) → ArePlain Plain T p q → p ≤ q → q ≤ length T → ends_word T q ≡ true
-    → does (a_word inner) keep (given T o) (standing p) ≡ Ok (word (span o p q) no_subst, standing q)
+pub plain_word : (inner : Inner) (keep : Bool) (ws : Row Waiting) (ds : Row Span) (T : List ℕ) (o p q : ℕ) → ArePlain Plain T p q → p ≤ q → q ≤ length T → ends_word T q ≡ true
+    → does (a_word inner) keep (given T o) (placed ws ds p) ≡ Ok (word (span o p q) no_subst, placed ws ds q)
 unfolding a_word
-plain_word inner keep T o p q plain low high end = rw (plain_closed inner keep (given T o) Plain (o + p) [] p q plain low high (word_closes T q end)) refl
+plain_word inner keep ws ds T o p q plain low high end = rw (plain_closed inner keep (given T o) Plain (o + p) ws ds [] p q plain low high (word_closes T q end)) refl
 
 -- plain bytes at the begin of a word, and what follows them
-pub word_rest : (inner : Inner) (keep : Bool) (T : List ℕ) (o p q : ℕ) (ss : Row ASubst) (t : State) → ArePlain Plain T p q → p ≤ q → q ≤ length T
-    → does (contents inner Plain (o + p) []) keep (given T o) (standing q) ≡ Ok (ss, t) → does (a_word inner) keep (given T o) (standing p) ≡ Ok (word (span o p t.at) (substs_of ss), t)
+pub word_rest : (inner : Inner) (keep : Bool) (ws : Row Waiting) (ds : Row Span) (T : List ℕ) (o p q : ℕ) (ss : Row ASubst) (t : State) → ArePlain Plain T p q → p ≤ q → q ≤ length T
+    → does (contents inner Plain (o + p) []) keep (given T o) (placed ws ds q) ≡ Ok (ss, t) → does (a_word inner) keep (given T o) (placed ws ds p) ≡ Ok (word (span o p t.at) (substs_of ss), t)
 unfolding a_word
-word_rest inner keep T o p q ss t plain low high rest = rw (plain_contents inner keep (given T o) Plain (o + p) [] p q plain low high ∙ rest) refl
+word_rest inner keep ws ds T o p q ss t plain low high rest = rw (plain_contents inner keep (given T o) Plain (o + p) ws ds [] p q plain low high ∙ rest) refl
 
-pub word_stops : (inner : Inner) (keep : Bool) (T : List ℕ) (o p q end : ℕ) (e : Stop) → ArePlain Plain T p q → p ≤ q → q ≤ length T
-    → Fails end e (does (contents inner Plain (o + p) []) keep (given T o) (standing q)) → Fails end e (does (a_word inner) keep (given T o) (standing p))
+pub word_stops : (inner : Inner) (keep : Bool) (ws : Row Waiting) (ds : Row Span) (T : List ℕ) (o p q end : ℕ) (e : Stop) → ArePlain Plain T p q → p ≤ q → q ≤ length T
+    → Fails end e (does (contents inner Plain (o + p) []) keep (given T o) (placed ws ds q)) → Fails end e (does (a_word inner) keep (given T o) (placed ws ds p))
 unfolding a_word
-word_stops inner keep T o p q end Memory plain low high rest = tt
-word_stops inner keep T o p q end (Wrong f) plain low high rest = (rw (plain_contents inner keep (given T o) Plain (o + p) [] p q plain low high ∙ rest.0) refl, rest.1)
+word_stops inner keep ws ds T o p q end Memory plain low high rest = tt
+word_stops inner keep ws ds T o p q end (Wrong f) plain low high rest = (rw (plain_contents inner keep (given T o) Plain (o + p) ws ds [] p q plain low high ∙ rest.0) refl, rest.1)

@@ -1,7 +1,7 @@
 -- A stretch of a source, and the text from a place on that it is part of.
 use Rattle.std.proofs.Common.{◌≡◌, ℕ, ◌+◌, ◌-◌, ◌<◌, ◌≤◌, ◌==◌, Bool, true, false, Some, slice_get, slice_index, get_or, List, length, drop, refl, sym, ap, ◌∙◌, arith, length-drop}
 use Rattle.std.proofs.lemmas.Option.{slice_get-get_or}
-use Rattle.shread.specs.Text.{IsRun}
+use Rattle.shtext.specs.Text.{IsRun}
 use Rattle.shread.specs.Standing.{raw_in, raw_stands}
 use Rattle.shread.specs.Bytes.{ends, ends_word, past_continuations}
 use Rattle.shread.specs.Tokens.{is_word_at}

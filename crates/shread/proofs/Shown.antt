@@ -7,12 +7,12 @@ use Rattle.shread.specs.declared.token.Position.TheVariants.{Command, Prefix, Su
 use Rattle.shread.specs.declared.token.Reserved.{Reserved}
 use Rattle.shread.specs.declared.token.Token.{Token}
 use Rattle.shread.specs.declared.token.Token.TheVariants as tokens
-use Rattle.shread.specs.Text.{is_newline}
+use Rattle.shtext.specs.Text.{is_newline}
 use Rattle.shread.specs.Classes.{is_blank, is_operator}
 use Rattle.shread.specs.Standing.{is_byte, is_none, passes, raw_stands, at_end}
 use Rattle.shread.specs.Bytes.{byte_at, behind, ends, ends_word, past_blanks, past_continuations, stands, stands_in}
 use Rattle.shtree.specs.declared.tree.RedirectOperator.{RedirectOperator}
-use Rattle.shread.specs.Commands.{is_long, redirect_operator_of}
+use Rattle.shread.specs.Commands.{is_long, is_strip, redirect_operator_of}
 use Rattle.shread.specs.Tokens.{first_word, greater_at, is_comment, is_end, is_number, less_at, token_at, token_of, word_by, word_of}
 use Rattle.shread.specs.Clauses.{IsRead, Shows}
 use Rattle.shread.proofs.Places.{blanks_stop, place_same}
@@ -40,7 +40,7 @@ Byte T p b tokens.Newline = is_byte b 10 ≡ true
 Byte T p b tokens.AndIf = IsRead T (behind T p)
 Byte T p b tokens.OrIf = IsRead T (behind T p)
 Byte T p b tokens.DoubleSemicolon = IsRead T (behind T p)
-Byte T p b (tokens.Redirect o) = is_long o ≡ true → IsRead T (behind T p)
+Byte T p b (tokens.Redirect o) = (is_long o ≡ true → IsRead T (behind T p)) × (is_strip o ≡ true → IsRead T (behind T (behind T p)))
 Byte T p b (tokens.Reserved r) = ends b ≡ false
 Byte T p b tokens.Assignment = ends b ≡ false
 Byte T p b tokens.Word = ends b ≡ false
@@ -71,6 +71,22 @@ module _ (T : List ℕ) (p : ℕ) where
       (λ e. cond_both (stands T (behind T p) 38) _ _ Long (λ f l. stands_read T (behind T p) 38 f)
       (λ f. cond_both (stands T (behind T p) 62) _ _ Long (λ g l. stands_read T (behind T p) 62 g) (λ g l. absurd cc)))
 
+  -- `<<-` has a third one
+  abbrev Strip : RedirectOperator → Type 0
+  Strip o = is_strip o ≡ true → IsRead T (behind T (behind T p))
+
+  less_strip : Strip (less_at T (behind T p))
+  unfolding less_at
+  less_strip =
+      cond_both (stands T (behind T p) 60) _ _ Strip (λ e. cond_both (stands T (behind T (behind T p)) 45) _ _ Strip (λ f l. stands_read T (behind T (behind T p)) 45 f) (λ f l. absurd cc))
+      (λ e. cond_both (stands T (behind T p) 38) _ _ Strip (λ f l. absurd cc) (λ f. cond_both (stands T (behind T p) 62) _ _ Strip (λ g l. absurd cc) (λ g l. absurd cc)))
+
+  greater_strip : Strip (greater_at T (behind T p))
+  unfolding greater_at
+  greater_strip =
+      cond_both (stands T (behind T p) 62) _ _ Strip (λ e l. absurd cc)
+      (λ e. cond_both (stands T (behind T p) 38) _ _ Strip (λ f l. absurd cc) (λ f. cond_both (stands T (behind T p) 124) _ _ Strip (λ g l. absurd cc) (λ g l. absurd cc)))
+
   greater_long : Long (greater_at T (behind T p))
   unfolding greater_at
   greater_long =
@@ -89,8 +105,8 @@ module _ (T : List ℕ) (p : ℕ) where
       (λ f. cond_both (b == 124) _ _ P (λ g. cond_both (stands T (behind T p) 124) _ _ P (λ h. stands_read T (behind T p) 124 h) (λ h. tt))
       (λ i. cond_both (b == 40) _ _ P (λ g. tt)
       (λ j. cond_both (b == 41) _ _ P (λ g. tt)
-      (λ k. cond_both (b == 60) _ _ P (λ g. less_long)
-      (λ l. cond_both (b == 62) _ _ P (λ g. greater_long)
+      (λ k. cond_both (b == 60) _ _ P (λ g. (less_long, less_strip))
+      (λ l. cond_both (b == 62) _ _ P (λ g. (greater_long, greater_strip))
       (λ m. cond_both (b == 35) _ _ P (λ g. tt)
       (λ g. cond_both (is_number T p) _ _ P (λ h. tt) (λ h. in_position position (Some b) (or_from _ _ (or_from _ _ blank n) (no_operator b f i e j k l m))))))))))))
 
@@ -113,24 +129,27 @@ module _ (T : List ℕ) (p : ℕ) where
 redirect_read : (T : List ℕ) (p : ℕ) (o : RedirectOperator) → (is_long o ≡ true → IsRead T (behind T p)) → (z : RedirectOperator) → redirect_operator_of (tokens.Redirect o) ≡ Some z → is_long z ≡ true → IsRead T (behind T p)
 redirect_read T p o so z is long = let same : o ≡ z = cc in so (rw same long)
 
+strip_read : (T : List ℕ) (p : ℕ) (o : RedirectOperator) → (is_strip o ≡ true → IsRead T (behind T (behind T p))) → (z : RedirectOperator) → redirect_operator_of (tokens.Redirect o) ≡ Some z → is_strip z ≡ true → IsRead T (behind T (behind T p))
+strip_read T p o so z is strip = let same : o ≡ z = cc in so (rw same strip)
+
 shows_by : (T : List ℕ) (p : ℕ) (t : Token) → past_continuations T p ≡ p → (is_end t ≡ false → IsRead T p) → Byte T p (byte_at T p) t → (is_comment t ≡ false → raw_stands T p 35 ≡ false) → Shows t T p
 unfolding ends_word raw_stands at_end
-shows_by T p tokens.End still some e none = (λ f. absurd cc, some, λ f. absurd cc, λ f. ap (λ q. is_none (slice_get T q)) (sym still) ∙ e, λ o f. absurd cc, none, still, λ f. absurd cc, λ f. absurd cc, λ o f. absurd cc)
-shows_by T p tokens.Newline still some e none = (λ f. absurd cc, some, λ f. ap (λ q. is_byte (slice_get T q) 10) (sym still) ∙ e, λ f. absurd cc, λ o f. absurd cc, none, still, λ f. absurd cc, λ f. absurd cc, λ o f. absurd cc)
-shows_by T p tokens.Semicolon still some e none = (λ f. absurd cc, some, λ f. absurd cc, λ f. absurd cc, λ o f. absurd cc, none, still, λ f. absurd cc, λ f. absurd cc, λ o f. absurd cc)
-shows_by T p tokens.DoubleSemicolon still some e none = (λ f. absurd cc, some, λ f. absurd cc, λ f. absurd cc, λ o f. absurd cc, none, still, λ f. absurd cc, λ f. e, λ o f. absurd cc)
-shows_by T p tokens.Ampersand still some e none = (λ f. absurd cc, some, λ f. absurd cc, λ f. absurd cc, λ o f. absurd cc, none, still, λ f. absurd cc, λ f. absurd cc, λ o f. absurd cc)
-shows_by T p tokens.AndIf still some e none = (λ f. absurd cc, some, λ f. absurd cc, λ f. absurd cc, λ o f. e, none, still, λ f. absurd cc, λ f. absurd cc, λ o f. absurd cc)
-shows_by T p tokens.OrIf still some e none = (λ f. absurd cc, some, λ f. absurd cc, λ f. absurd cc, λ o f. e, none, still, λ f. absurd cc, λ f. absurd cc, λ o f. absurd cc)
-shows_by T p tokens.Pipe still some e none = (λ f. absurd cc, some, λ f. absurd cc, λ f. absurd cc, λ o f. absurd cc, none, still, λ f. absurd cc, λ f. absurd cc, λ o f. absurd cc)
-shows_by T p tokens.OpenParen still some e none = (λ f. absurd cc, some, λ f. absurd cc, λ f. absurd cc, λ o f. absurd cc, none, still, λ f. absurd cc, λ f. absurd cc, λ o f. absurd cc)
-shows_by T p tokens.CloseParen still some e none = (λ f. absurd cc, some, λ f. absurd cc, λ f. absurd cc, λ o f. absurd cc, none, still, λ f. absurd cc, λ f. absurd cc, λ o f. absurd cc)
-shows_by T p (tokens.Redirect z) still some e none = (λ f. absurd cc, some, λ f. absurd cc, λ f. absurd cc, λ o f. absurd cc, none, still, λ f. absurd cc, λ f. absurd cc, redirect_read T p z e)
-shows_by T p tokens.Comment still some e none = (λ f. absurd cc, some, λ f. absurd cc, λ f. absurd cc, λ o f. absurd cc, none, still, λ f. absurd cc, λ f. absurd cc, λ o f. absurd cc)
-shows_by T p tokens.Number still some e none = (λ f. absurd cc, some, λ f. absurd cc, λ f. absurd cc, λ o f. absurd cc, none, still, λ f. absurd cc, λ f. absurd cc, λ o f. absurd cc)
-shows_by T p (tokens.Reserved r) still some e none = (λ f. absurd cc, some, λ f. absurd cc, λ f. absurd cc, λ o f. absurd cc, none, still, λ f. e, λ f. absurd cc, λ o f. absurd cc)
-shows_by T p tokens.Assignment still some e none = (λ f. e, some, λ f. absurd cc, λ f. absurd cc, λ o f. absurd cc, none, still, λ f. e, λ f. absurd cc, λ o f. absurd cc)
-shows_by T p tokens.Word still some e none = (λ f. e, some, λ f. absurd cc, λ f. absurd cc, λ o f. absurd cc, none, still, λ f. e, λ f. absurd cc, λ o f. absurd cc)
+shows_by T p tokens.End still some e none = (λ f. absurd cc, some, λ f. absurd cc, λ f. ap (λ q. is_none (slice_get T q)) (sym still) ∙ e, λ o f. absurd cc, none, still, λ f. absurd cc, λ f. absurd cc, λ o f. absurd cc, λ o f. absurd cc)
+shows_by T p tokens.Newline still some e none = (λ f. absurd cc, some, λ f. ap (λ q. is_byte (slice_get T q) 10) (sym still) ∙ e, λ f. absurd cc, λ o f. absurd cc, none, still, λ f. absurd cc, λ f. absurd cc, λ o f. absurd cc, λ o f. absurd cc)
+shows_by T p tokens.Semicolon still some e none = (λ f. absurd cc, some, λ f. absurd cc, λ f. absurd cc, λ o f. absurd cc, none, still, λ f. absurd cc, λ f. absurd cc, λ o f. absurd cc, λ o f. absurd cc)
+shows_by T p tokens.DoubleSemicolon still some e none = (λ f. absurd cc, some, λ f. absurd cc, λ f. absurd cc, λ o f. absurd cc, none, still, λ f. absurd cc, λ f. e, λ o f. absurd cc, λ o f. absurd cc)
+shows_by T p tokens.Ampersand still some e none = (λ f. absurd cc, some, λ f. absurd cc, λ f. absurd cc, λ o f. absurd cc, none, still, λ f. absurd cc, λ f. absurd cc, λ o f. absurd cc, λ o f. absurd cc)
+shows_by T p tokens.AndIf still some e none = (λ f. absurd cc, some, λ f. absurd cc, λ f. absurd cc, λ o f. e, none, still, λ f. absurd cc, λ f. absurd cc, λ o f. absurd cc, λ o f. absurd cc)
+shows_by T p tokens.OrIf still some e none = (λ f. absurd cc, some, λ f. absurd cc, λ f. absurd cc, λ o f. e, none, still, λ f. absurd cc, λ f. absurd cc, λ o f. absurd cc, λ o f. absurd cc)
+shows_by T p tokens.Pipe still some e none = (λ f. absurd cc, some, λ f. absurd cc, λ f. absurd cc, λ o f. absurd cc, none, still, λ f. absurd cc, λ f. absurd cc, λ o f. absurd cc, λ o f. absurd cc)
+shows_by T p tokens.OpenParen still some e none = (λ f. absurd cc, some, λ f. absurd cc, λ f. absurd cc, λ o f. absurd cc, none, still, λ f. absurd cc, λ f. absurd cc, λ o f. absurd cc, λ o f. absurd cc)
+shows_by T p tokens.CloseParen still some e none = (λ f. absurd cc, some, λ f. absurd cc, λ f. absurd cc, λ o f. absurd cc, none, still, λ f. absurd cc, λ f. absurd cc, λ o f. absurd cc, λ o f. absurd cc)
+shows_by T p (tokens.Redirect z) still some e none = (λ f. absurd cc, some, λ f. absurd cc, λ f. absurd cc, λ o f. absurd cc, none, still, λ f. absurd cc, λ f. absurd cc, redirect_read T p z e.0, strip_read T p z e.1)
+shows_by T p tokens.Comment still some e none = (λ f. absurd cc, some, λ f. absurd cc, λ f. absurd cc, λ o f. absurd cc, none, still, λ f. absurd cc, λ f. absurd cc, λ o f. absurd cc, λ o f. absurd cc)
+shows_by T p tokens.Number still some e none = (λ f. absurd cc, some, λ f. absurd cc, λ f. absurd cc, λ o f. absurd cc, none, still, λ f. absurd cc, λ f. absurd cc, λ o f. absurd cc, λ o f. absurd cc)
+shows_by T p (tokens.Reserved r) still some e none = (λ f. absurd cc, some, λ f. absurd cc, λ f. absurd cc, λ o f. absurd cc, none, still, λ f. e, λ f. absurd cc, λ o f. absurd cc, λ o f. absurd cc)
+shows_by T p tokens.Assignment still some e none = (λ f. e, some, λ f. absurd cc, λ f. absurd cc, λ o f. absurd cc, none, still, λ f. e, λ f. absurd cc, λ o f. absurd cc, λ o f. absurd cc)
+shows_by T p tokens.Word still some e none = (λ f. e, some, λ f. absurd cc, λ f. absurd cc, λ o f. absurd cc, none, still, λ f. e, λ f. absurd cc, λ o f. absurd cc, λ o f. absurd cc)
 
 pub blanks_still : (T : List ℕ) (p : ℕ) → past_continuations T (past_blanks T p) ≡ past_blanks T p
 unfolding past_blanks

@@ -1,5 +1,5 @@
 -- The tokens passed where a faultless script is read are those that the shape of its tree spells.
-use Rattle.std.proofs.Common.{◌≡◌, ◌∙◌, refl, sym, ap, subst, ℕ, zero, suc, ◌+◌, ◌-◌, Bool, true, false, not, ◌&&◌, ◌||◌, Ok, Err, List, List as Row, [], ◌∷◌, ◌++◌, drop, take, codes, Option, Some, None, is_some, option_map, arith}
+use Rattle.std.proofs.Common.{◌≡◌, ◌∙◌, refl, sym, ap, subst, ℕ, zero, suc, ◌+◌, ◌-◌, Bool, true, false, not, ◌&&◌, ◌||◌, Result, Ok, Err, List, List as Row, [], ◌∷◌, ◌++◌, drop, take, codes, Option, Some, None, is_some, option_map, arith}
 use Rattle.std.proofs.lemmas.List.{append-nil, append_assoc, drop-drop}
 use Rattle.shread.specs.declared.token.Closing.{Closing}
 use Rattle.shread.specs.declared.token.Closing.TheVariants as closings
@@ -18,14 +18,20 @@ use Rattle.shtree.specs.Shape.{bare, bare_at, text_at, shape_of, shape_of_entry,
 use Rattle.shtree.specs.Spelling.{Tokens, and_or_text, redirect_text, spell_number, spell_background, spell_bang, spell_word, spell_item, spell_items, spelling, spell_entry, spell_and_or, spell_and_or_parts, spell_pipeline, spell_pipes, spell_command, spell_form, spell_branch, spell_branches, spell_else, spell_loop, spell_for_words, spell_patterns, spell_first_pattern, spell_cases, spell_case}
 use Rattle.shread.specs.Comments.{span}
 use Rattle.shread.specs.Sights.{Given, given, State, standing, Sight, Move}
-use Rattle.shread.specs.Form.{Spelled, Read, Step, again, done, step_if, Form, give, see, move, push, stop, both, Told, by, tell, token, many, Just, just, Halts, halted, Then, and_then, or_stops, OneToken, whole, broken_off, Turns, last, rests, more, halts, raw, may}
+use Rattle.shread.specs.Form.{change, with_bytes, a_level, Changed, changes, cannot, WithBytes, with_its_bytes, without_bytes, OwnLevel, level_read, level_stops, Spelled, Read, Step, again, done, step_if, Form, give, see, move, push, stop, both, Told, by, tell, token, many, Just, just, Halts, halted, Then, and_then, or_stops, OneToken, whole, broken_off, Turns, last, rests, more, halts, raw, may}
 use Rattle.shread.specs.Words.{Inner, a_word}
-use Rattle.shread.specs.Commands.{pick, next_token, is_newline, is_semicolon, a_semicolon, is_pipe, is_bang, begins_simple, begins_word, begins_redirect, begins_pipeline, opener_of, compound_by, and_or_operator_of, Items, so_many, behind_word, is_number, redirect_operator_of, takes_here, a_number, an_operator, operator_by, a_target, one_redirect, behind_redirect, redirect_turn, redirected, as_item, breaks, an_item, item_by, item_turn, a_simple, unexpected, comment_by, a_comment, a_newline, with_comment, JoinSo, join_turn, a_join, a_command, a_bang, Piped, piped, one_command, pipe_turn, a_pipeline, Joined, joined_so, one_pipeline, joined_by, join_pipeline, an_and_or, separator_of, told_separator, separator_by, a_separator, is_background, an_entry, a_worded, is_word, is_paren, is_double_semicolon}
+use Rattle.shread.specs.Commands.{pick, next_token, is_newline, is_semicolon, a_semicolon, is_pipe, is_bang, begins_simple, begins_word, begins_redirect, begins_pipeline, opener_of, compound_by, and_or_operator_of, Items, so_many, behind_word, is_number, redirect_operator_of, takes_here, is_strip, document_by, a_document, none_waits, nothing_waits, a_number, an_operator, operator_by, a_target, one_redirect, behind_redirect, redirect_turn, redirected, as_item, breaks, an_item, item_by, item_turn, a_simple, unexpected, comment_by, a_comment, a_newline, with_comment, JoinSo, join_turn, a_join, a_command, a_bang, Piped, piped, one_command, pipe_turn, a_pipeline, Joined, joined_so, one_pipeline, joined_by, join_pipeline, an_and_or, separator_of, told_separator, separator_by, a_separator, is_background, an_entry, a_worded, is_word, is_paren, is_double_semicolon}
 use Rattle.shread.specs.Lists.{ListSo, list_so, none_listed, is_blank_next, one_entry, entry_turn, remark_by, a_remark, on_line, list_turn, a_list}
 use Rattle.shread.specs.Compounds.{Branched, branched, is_closing, opener_text, closing_text, passed, closing, a_group, a_branch, elif_turn, an_else, an_if, a_loop, a_for_name, a_linebreak, a_sequential_sep, Headed, word_turn, for_words, a_for_head, behind_remarks, a_for, a_form, a_compound, a_function, under_name, a_case_word, begins_pattern, Patterned, a_pattern, one_pattern, pattern_turn, a_pattern_list, an_open_bracket, a_body, a_double_semicolon, an_item_end, CasesSo, cases_so, one_case, case_turn, a_case_head, a_case}
 use Rattle.shread.specs.Levels.{most_open, level}
 use Rattle.shread.specs.Tokens.{is_end}
-use Rattle.shread.specs.Lines.{a_line, end_of_line}
+use Rattle.shread.specs.Lines.{an_open_line, a_line, end_of_line}
+use Rattle.shread.specs.declared.fault.Fault.{Fault}
+use Rattle.shread.specs.HereDocuments.{ADelimiter, delimiter_of, Change, changed, own_level}
+use Rattle.shtree.specs.Bodies.{filled_row}
+use Rattle.shtree.proofs.Going.{row_filled}
+use Rattle.shtree.proofs.FilledShape.{shape_filled}
+use Rattle.shtree.proofs.OpenSame.{filled_spelling}
 use Rattle.shread.specs.Scripts.{AScript, SoFar, Lines, line_ended, last_line, faulty, Passes, nothing_yet}
 use Rattle.shtree.specs.Nodes.{word_span}
 
@@ -164,6 +170,28 @@ module _ (g : Given) where
   pass_token : {X : Type 0} {P : X × Span → Row Spelled → Type 0} {how : Told} {r : Form X} {s : State} → ((x : X) (t : State) → P (x, span g.offset s.at t.at) (tell how g.text s.at t.at)) → Passing (token how r) P s
   pass_token {P = P} {how = how} {r = r} {s = s} so = record { passing = token_of P how r s so }
 
+  -- what is read, with its bytes, and as a level of its own
+  bytes_of : {X : Type 0} (P : X → Row Spelled → Type 0) (r : Form X) (s : State) → Passing r P s → (y : Read (X × Spelled)) (k : Row Spelled) → WithBytes g (may r g) s y k → Of (λ x m. P x.0 m) y k
+  bytes_of P r s one y k (with_its_bytes {x = x} {t = t} part) = one.passing (Ok (x, t)) k part
+  bytes_of P r s one y k (without_bytes part) = tt
+
+  pass_with_bytes : {X : Type 0} {P : X → Row Spelled → Type 0} {r : Form X} {s : State} → Passing r P s → Passing (with_bytes r) (λ x k. P x.0 k) s
+  pass_with_bytes {P = P} {r = r} {s = s} one = record { passing = bytes_of P r s one }
+
+  level_of : {X : Type 0} (P : X → Row Spelled → Type 0) (r : Form X) (s : State) → Passing r P (own_level s) → (y : Read (X × Row Span)) (k : Row Spelled) → OwnLevel (may r g) s y k → Of (λ x m. P x.0 m) y k
+  level_of P r s one y k (level_read {x = x} {t = t} part) = one.passing (Ok (x, t)) k part
+  level_of P r s one y k (level_stops part) = tt
+
+  pass_in_level : {X : Type 0} {P : X → Row Spelled → Type 0} {r : Form X} {s : State} → Passing r P (own_level s) → Passing (a_level r) (λ x k. P x.0 k) s
+  pass_in_level {P = P} {r = r} {s = s} one = record { passing = level_of P r s one }
+
+  change_of : (x : Result State Fault) (y : Read (Unit {0})) (k : Row Spelled) → Changed x y k → Of Silent y k
+  change_of x y k (changes is) = refl
+  change_of x y k (cannot is) = tt
+
+  pass_change : {c : Change} {s : State} → Passing (change c) Silent s
+  pass_change {c = c} {s = s} = record { passing = change_of (changed c g s) }
+
   -- a token that is told by this text
   abbrev OneText : {X : Type 0} → Spelled → X → Row Spelled → Type 0
   OneText text x k = k ≡ text ∷ []
@@ -225,7 +253,7 @@ module _ (g : Given) where
 
   silent_newline : (n : Next) (s : State) → Passing (a_newline n) Silent s
   unfolding a_newline
-  silent_newline n s = pass_pick (is_newline n.token) (pass_on pass_move (λ u v. pass_on (silent_next Command v) (λ m w. pass_give refl))) (pass_give refl)
+  silent_newline n s = pass_pick (is_newline n.token) (pass_on pass_move (λ u v. pass_on pass_change (λ x t. pass_on (silent_next Command t) (λ m w. pass_give refl)))) (pass_give refl)
 
   silent_semicolon : (n : Next) (s : State) → Passing (a_semicolon n) Silent s
   unfolding a_semicolon
@@ -317,18 +345,27 @@ module _ (B : List ℕ) (g : Given) (stands : g.text ≡ drop g.offset B) where
     pass_operator o s = pass_text g
 
     pass_operator_by : (p : ℕ) (o : Option RedirectOperator) (s : State) → Passing g (operator_by p o) (λ x k. k ≡ redirect_text x.0 ∷ []) s
-    pass_operator_by p (Some o) s = pass_pick g (takes_here o) (pass_stop g) (pass_last g (pass_operator o s) (λ x k so. so))
+    pass_operator_by p (Some o) s = pass_last g (pass_operator o s) (λ x k so. so)
     pass_operator_by p None s = pass_stop g
 
-    pass_target : (s : State) → Passing g (a_target inner) (λ w k. k ≡ spell_word (shape_of_word B w)) s
+    pass_target : (s : State) → Passing g (a_target inner) (λ w k. k ≡ spell_word (shape_of_word B w.0)) s
     unfolding a_target
-    pass_target s = pass_on g (silent_next g Suffix s) (λ n t. pass_pick g (is_word n.token) (pass_word inner t) (pass_unexpected g inner n t))
+    pass_target s = pass_on g (silent_next g Suffix s) (λ n t. pass_pick g (is_word n.token) (pass_with_bytes g (pass_word inner t)) (pass_unexpected g inner n t))
+
+    silent_document_by : (b p : ℕ) (strip : Bool) (d : Option ADelimiter) (s : State) → Passing g (document_by b p strip d) (Silent g) s
+    silent_document_by b p strip (Some d) s = pass_on g (pass_change g) (λ u t. pass_give g refl)
+    silent_document_by b p strip None s = pass_stop g
+
+    silent_document : (o : RedirectOperator) (b p : ℕ) (bytes : Spelled) (s : State) → Passing g (a_document o b p bytes) (Silent g) s
+    unfolding a_document
+    silent_document o b p bytes s = pass_pick g (takes_here o) (silent_document_by b p (is_strip o) (delimiter_of bytes) s) (pass_give g refl)
 
     pass_redirect : (i : Items) (broken : Bool) (position : Position) (n : Next) (s : State) → Passing g (one_redirect inner broken position i.items n) (Grows g spelled_items i) s
     unfolding one_redirect
     pass_redirect i broken position n s =
         pass_on g (pass_see g) (λ p t. pass_then g (pass_number n t) (λ d u k1 one. pass_then g (pass_operator_by p (redirect_operator_of d.1.token) u) (λ o v k2 two. pass_then g (pass_target v) (λ w x k3 three.
-        pass_pushed g (λ y. pass_on g (silent_next g position y) (λ m z. pass_give g (rw (one, two, append-nil k3, three) (items_last B i.items (item broken (redirect d.0 o.0 o.1 w None))))))))))
+        pass_on g (silent_document o.0 o.1.start (word_span w.0).start w.1 x) (λ h a.
+        pass_pushed g (λ y. pass_on g (silent_next g position y) (λ m z. pass_give g (rw (one, two, append-nil k3, three) (items_last B i.items (item broken (redirect d.0 o.0 o.1 w.0 h)))))))))))
 
     pass_item_by : (i : Items) (o : Option Position) (s : State) → Passing g (item_by inner i o) (Grows g spelled_items i) s
     pass_item_by i (Some position) s = pass_item i position s
@@ -698,14 +735,27 @@ module _ (B : List ℕ) (g : Given) (stands : g.text ≡ drop g.offset B) where
     -- ---- lines
 
     silent_end : (n : Next) (s : State) → Passing g (end_of_line inner n) (Silent g) s
-    unfolding end_of_line
-    silent_end n s = pass_pick g (is_newline n.token) (pass_on g (pass_move g) (λ u v. pass_give g refl)) (pass_pick g (is_end n.token) (pass_give g refl) (pass_unexpected g inner n s))
+    unfolding end_of_line nothing_waits
+    silent_end n s = pass_pick g (is_newline n.token) (pass_on g (pass_move g) (λ u v. pass_on g (pass_change g) (λ x t. pass_give g refl)))
+        (pass_pick g (is_end n.token) (pass_on g (pass_on g (pass_see g) (λ w t. none_waiting w t)) (λ u v. pass_give g refl)) (pass_unexpected g inner n s))
+      where
+        none_waiting : (w : Option ℕ) (t : State) → Passing g (none_waits w) (Silent g) t
+        none_waiting (Some b) t = pass_stop g
+        none_waiting None t = pass_give g refl
+
+    pass_open_line : (blank : Bool) (s : State) → Passing g (an_open_line inner blank) (Spells (λ x. spelling (shape_of B (entries_of x.0)))) s
+    unfolding an_open_line
+    pass_open_line blank s =
+        pass_on g (silent_next g Command s) (λ n t. pass_then g (pass_on_line (list_so (none_listed blank) n) t)
+        (λ l u k so. pass_on g (silent_end l.next u) (λ newline v. pass_give g (append-nil k ∙ sym so))))
+
+    -- bodies are no tokens
+    bodies_spelled : (bs : Row Span) (es : Row AnEntry) → spelling (shape_of B (entries_of (filled_row bs es))) ≡ spelling (shape_of B (entries_of es))
+    bodies_spelled bs es = ap (λ (l : Entries). spelling (shape_of B l)) (row_filled bs es) ∙ ap spelling (shape_filled B bs (entries_of es)) ∙ filled_spelling _ (shape_of B (entries_of es))
 
     pass_line : (blank : Bool) (s : State) → Passing g (a_line inner blank) (Spells (λ x. spelling (shape_of B (entries_of x.0)))) s
     unfolding a_line
-    pass_line blank s =
-        pass_on g (silent_next g Command s) (λ n t. pass_then g (pass_on_line (list_so (none_listed blank) n) t)
-        (λ l u k so. pass_on g (silent_end l.next u) (λ newline v. pass_give g (append-nil k ∙ sym so))))
+    pass_line blank s = pass_last g (pass_in_level g (pass_open_line blank (own_level s))) (λ l k so. so ∙ sym (bodies_spelled l.1 l.0.0))
 
   pass_level : (room : ℕ) → Fine (level room)
   unfolding level

@@ -16,7 +16,7 @@ use Rattle.shtree.specs.declared.tree.AndOrOperator.{AndOrOperator}
 use Rattle.shtree.specs.declared.tree.Span.{Span}
 use Rattle.shtree.specs.Nodes.{word_span}
 use Rattle.shtree.specs.Tree.{ACommand, AnItem, AWord}
-use Rattle.shread.specs.Text.{is_newline as is_newline_byte}
+use Rattle.shtext.specs.Text.{is_newline as is_newline_byte}
 use Rattle.shread.specs.Bytes.{byte_at, behind, past_continuations, stands}
 use Rattle.shread.specs.Comments.{comment_at}
 use Rattle.shread.specs.Tokens.{begins_assignment, first_word, is_number, reserved_at, token_at, token_of, word_by, word_of}
@@ -65,7 +65,7 @@ module _ (g : Given) where
 
   shown_newline : (n : Next) (s : State) → Begins n s → N (a_newline n) Behind s
   unfolding a_newline
-  shown_newline n s so = picked (is_newline n.token) (after (λ x t. tells_then true g (shown_next Command t) (λ m u good. tells_give true g good))) (tells_give true g so)
+  shown_newline n s so = picked (is_newline n.token) (after (λ x t. after (λ y v. tells_then true g (shown_next Command v) (λ m u good. tells_give true g good)))) (tells_give true g so)
 
   shown_semicolon : (n : Next) (s : State) → Begins n s → N (a_semicolon n) Behind s
   unfolding a_semicolon
@@ -124,7 +124,7 @@ module _ (g : Given) where
     shown_redirect : (broken : Bool) (position : Position) (is : Row AnItem) (n : Next) (s : State) → N (one_redirect inner broken position is n) (Turned true g ItemsShown) s
     unfolding one_redirect
     shown_redirect broken position is n s =
-        after (λ p t. after (λ d u. after (λ o v. after (λ w x. after (λ js y. tells_then true g (shown_next position y) (λ m z good. tells_give true g good))))))
+        after (λ p t. after (λ d u. after (λ o v. after (λ w x. after (λ h a. after (λ js y. tells_then true g (shown_next position y) (λ m z good. tells_give true g good)))))))
 
     shown_item_by : (i : Items) (o : Option Position) (s : State) → Begins i.next s → N (item_by inner i o) (Turned true g ItemsShown) s
     unfolding an_item
@@ -229,7 +229,7 @@ module _ (g : Given) where
     shown_remark_by l (Some c, n) s so = pushed_on (tells_give true g so)
     shown_remark_by l (None, n) s so = tells_give true g so
 
-    shown_on_line : (l : ListSo) (s : State) → Begins l.next s → N (on_line inner l) ListShown s
+    pub shown_on_line : (l : ListSo) (s : State) → Begins l.next s → N (on_line inner l) ListShown s
     unfolding on_line a_remark
     shown_on_line l s so =
         tells_then true g (tells_many true g (entry_turn inner) ListShown shown_entry_turn l s so) (λ m t one. tells_then true g (shown_comment m.next t one) (λ x u good. shown_remark_by m x u good))
@@ -477,3 +477,51 @@ closes_by _ e = absurd cc
 pub paren_here : (g : Given) (n : Next) (t : State) → Begins g n t → is_closing closings.Paren n.token ≡ true → (byte_at g.text t.at ≡ Some 41) × (past_continuations g.text t.at ≡ t.at)
 unfolding token_at
 paren_here g n t (position, (token, still)) closes = (close_byte position g.text t.at (byte_at g.text t.at) (sym token ∙ closes_by n.token closes), still)
+
+-- ---- a newline
+
+newline_else : (c : Bool) (y : Token) → cond c tokens.Newline y ≡ tokens.Newline → (y ≡ tokens.Newline → ⊥) → c ≡ true
+newline_else true y is other = refl
+newline_else false y is other = absurd (other is)
+
+newline_both : (c : Bool) (x y : Token) → (x ≡ tokens.Newline → ⊥) → (y ≡ tokens.Newline → ⊥) → cond c x y ≡ tokens.Newline → ⊥
+newline_both true x y one two is = one is
+newline_both false x y one two is = two is
+
+no_newline_word : (assigns : Bool) → word_of assigns ≡ tokens.Newline → ⊥
+no_newline_word true is = absurd cc
+no_newline_word false is = absurd cc
+
+no_newline_first : (assigns : Bool) (r : Option Reserved) → first_word assigns r ≡ tokens.Newline → ⊥
+no_newline_first assigns None is = no_newline_word assigns is
+no_newline_first assigns (Some r) is = absurd cc
+
+no_newline : (position : Position) (T : List ℕ) (p : ℕ) → word_by position T p ≡ tokens.Newline → ⊥
+no_newline Command T p is = no_newline_first (begins_assignment T p) (reserved_at T p) is
+no_newline Prefix T p is = no_newline_word (begins_assignment T p) is
+no_newline Suffix T p is = absurd cc
+
+newline_byte : (position : Position) (T : List ℕ) (p : ℕ) (x : Option ℕ) → token_of position T p x ≡ tokens.Newline → x ≡ Some 10
+newline_byte position T p None is = absurd cc
+newline_byte position T p (Some b) is =
+    let here : (b == 10) ≡ true = newline_else (is_newline_byte b) _ is (λ e.
+    newline_both (b == 59) _ _ (λ f. newline_both (stands T (behind T p) 59) _ _ (λ h. absurd cc) (λ h. absurd cc) f)
+    (λ f. newline_both (b == 38) _ _ (λ h. newline_both (stands T (behind T p) 38) _ _ (λ i. absurd cc) (λ i. absurd cc) h)
+    (λ h. newline_both (b == 124) _ _ (λ i. newline_both (stands T (behind T p) 124) _ _ (λ j. absurd cc) (λ j. absurd cc) i)
+    (λ i. newline_both (b == 40) _ _ (λ j. absurd cc)
+    (λ j. newline_both (b == 41) _ _ (λ k. absurd cc)
+    (λ k. newline_both (b == 60) _ _ (λ l. absurd cc)
+    (λ l. newline_both (b == 62) _ _ (λ m. absurd cc)
+    (λ m. newline_both (b == 35) _ _ (λ o. absurd cc)
+    (λ o. newline_both (is_number T p) _ _ (λ q. absurd cc) (λ q. no_newline position T p q) o) m) l) k) j) i) h) f) e) in
+    let same : b ≡ 10 = grind (arith, nat_tests, here) in
+    rw same refl
+
+newline_is : (t : Token) → is_newline t ≡ true → t ≡ tokens.Newline
+newline_is tokens.Newline e = refl
+newline_is _ e = absurd cc
+
+-- where a row hands on a newline, that byte stands
+pub newline_here : (g : Given) (n : Next) (t : State) → Begins g n t → is_newline n.token ≡ true → (byte_at g.text t.at ≡ Some 10) × (past_continuations g.text t.at ≡ t.at)
+unfolding token_at
+newline_here g n t (position, (token, still)) is = (newline_byte position g.text t.at (byte_at g.text t.at) (sym token ∙ newline_is n.token is), still)

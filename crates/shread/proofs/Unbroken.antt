@@ -2,7 +2,7 @@
 use Rattle.std.proofs.Common.{◌≡◌, ℕ, zero, suc, ◌+◌, ◌-◌, ◌<◌, ◌≤◌, ◌==◌, Bool, true, false, ◌&&◌, Option, None, Some, slice_get, List, length, refl, sym, ap, ◌∙◌, arith}
 use Rattle.std.proofs.lemmas.Bool.{eqb-true}
 use Rattle.shread.specs.declared.token.Class.{Class}
-use Rattle.shread.specs.declared.token.Class.TheVariants.{Blank, Digit, Name}
+use Rattle.shread.specs.declared.token.Class.TheVariants.{Blank, Digit, Name, Tab}
 use Rattle.shread.specs.Standing.{passes, is_byte, raw_stands, raw_in, raw_past, continues}
 use Rattle.shread.specs.Bytes.{stands_in, past, past_blanks, past_continuations, behind}
 use Rattle.shread.specs.Classes.{is_blank, in_class}
@@ -49,6 +49,7 @@ no_class : (class : Class) → in_class class 92 ≡ false
 no_class Blank = refl
 no_class Digit = refl
 no_class Name = refl
+no_class Tab = refl
 
 pub past_raw : (class : Class) (T : List ℕ) (p : ℕ) → past (in_class class) T p ≡ past (in_class class) T (raw_past (in_class class) T p)
 past_raw class T p = past_on (in_class class) T p (no_class class)

@@ -20,26 +20,30 @@ use Rattle.shtree.specs.declared.tree.RedirectOperator.{RedirectOperator}
 use Rattle.shtree.specs.declared.tree.Span.{Span}
 use Rattle.shtree.specs.Nodes.{AreWithin, IsSpanWithin, and_or_nodes, branch_nodes, branches_nodes, else_nodes, entries_nodes, entry_nodes, for_words_nodes, form_nodes, word_nodes, word_span}
 use Rattle.shtree.specs.Tree.{ACommand, AForm, ASubst, AWord, AnEntry, AnItem, Entries, branches_of, entries_of, entry, formed, item, items_of, redirect, remark, simple, compound, function, with_redirects, word}
+use Rattle.shtree.specs.Bodies.{filled}
+use Rattle.shtree.proofs.Going.{row_filled}
+use Rattle.shtree.proofs.OpenSame.{filled_within}
 use Rattle.shtree.proofs.Reach.{Nodes, CommentFits, SubstFits, WordFits, ItemFits, CommandFits, PipelineFits, PipeFits, PartFits, EntryFits, BranchFits, both as fits_both, fits_subst, fits_substs, fits_items, fits_word, fits_entries, fits_branches, fits_assign, fits_argument, fits_simple, fits_redirect, fits_compound, fits_pipeline, fits_and_or, fits_command, fits_remark, span_fits_more, within_append, fits_function, CaseFits, fits_case, fits_case_in, fits_end}
 use Rattle.shread.specs.Standing.{raw_stands, raw_in, next_newline, before_blanks}
 use Rattle.shread.specs.Bytes.{past_continuations, behind}
 use Rattle.shread.specs.Comments.{span, comment_at, past_comment}
 use Rattle.shread.specs.Classes.{is_blank}
 use Rattle.shread.specs.Sights.{Given, given, State, standing, here, one_byte, the_digits}
-use Rattle.shread.specs.Form.{Spelled, Told, Read, Form, give, move, push, both, many, token, ends_as, does, Step, again, done, step_if, pushed, see}
+use Rattle.shread.specs.HereDocuments.{own_level}
+use Rattle.shread.specs.Form.{with_bytes, a_level, Spelled, Told, Read, Form, give, move, push, both, many, token, ends_as, does, Step, again, done, step_if, pushed, see}
 use Rattle.shread.specs.Words.{Inner, Held, having, opened, piece_row, a_piece, contents, a_word}
-use Rattle.shread.specs.Commands.{pick, is_pipe, is_bang, begins_simple, begins_word, begins_redirect, begins_pipeline, opener_of, compound_by, and_or_operator_of, breaks, Items, so_many, behind_word, is_number, redirect_operator_of, takes_here, is_long, a_number, an_operator, operator_by, a_target, one_redirect, behind_redirect, redirect_turn, redirected, as_item, an_item, item_by, item_turn, a_simple, a_bang, a_comment, comment_by, unexpected, with_comment, JoinSo, join_turn, a_join, a_command, Piped, piped, one_command, pipe_turn, a_pipeline, Joined, joined_so, one_pipeline, joined_by, join_pipeline, an_and_or, is_background, an_entry, a_worded, is_word, is_paren, separator_of, separator_by, a_separator, past_separator, is_double_semicolon}
+use Rattle.shread.specs.Commands.{pick, is_pipe, is_bang, begins_simple, begins_word, begins_redirect, begins_pipeline, opener_of, compound_by, and_or_operator_of, breaks, Items, so_many, behind_word, is_number, redirect_operator_of, is_strip, a_number, an_operator, operator_by, a_target, one_redirect, behind_redirect, redirect_turn, redirected, as_item, an_item, item_by, item_turn, a_simple, a_bang, a_comment, comment_by, unexpected, with_comment, JoinSo, join_turn, a_join, a_command, Piped, piped, one_command, pipe_turn, a_pipeline, Joined, joined_so, one_pipeline, joined_by, join_pipeline, an_and_or, is_background, an_entry, a_worded, is_word, is_paren, separator_of, separator_by, a_separator, past_separator, is_double_semicolon}
 use Rattle.shread.specs.Lists.{ListSo, list_so, none_listed, is_blank_next, one_entry, entry_turn, remark_by, a_remark, on_line, list_turn, a_list, Listed}
 use Rattle.shread.specs.Compounds.{Branched, branched, Closed, is_closing, is_open_paren, is_close_paren, passed, closing, a_branch, elif_turn, an_else, an_if, a_loop, a_group, a_for_name, a_linebreak, a_sequential_sep, Headed, word_turn, for_words, a_for_head, behind_remarks, a_for, a_form, held_apart, a_compound, a_function, under_name, a_case_word, begins_pattern, Patterned, a_pattern, one_pattern, pattern_turn, a_pattern_list, a_body, body_end, ItemEnd, a_double_semicolon, an_item_end, CasesSo, cases_so, one_case, case_turn, a_case_head, a_case}
 use Rattle.shread.specs.Substitutions.{substituted, a_substitution}
 use Rattle.shread.specs.Levels.{most_open, level}
-use Rattle.shread.specs.Lines.{a_line, ALine, IsLine, line_read, line_stops, kind_of}
+use Rattle.shread.specs.Lines.{an_open_line, a_line, ALine, IsLine, line_read, line_stops, kind_of}
 use Rattle.shread.specs.Scripts.{SoFar, the_line, with_line}
 use Rattle.shread.specs.Answers.{EntriesWithin}
 use Rattle.shread.proofs.OneOutcome.{is}
 use Rattle.shread.proofs.Ahead.{behind_is}
 use Rattle.shread.proofs.Places.{behind_low, next_newline_low}
-use Rattle.shread.proofs.Holds.{Holds, Tells, Turned, tells_give, tells_then, tells_token, tells_many, tells_so, tells_ending, tells_seen, tells_moved, low}
+use Rattle.shread.proofs.Holds.{Holds, Tells, Turned, tells_with_bytes, tells_level, tells_give, tells_then, tells_token, tells_many, tells_so, tells_ending, tells_seen, tells_moved, low}
 
 -- ---- comments
 
@@ -122,6 +126,13 @@ module _ (keep : Bool) (g : Given) (limit : ℕ) where
   repeats : {A : Type 0} (P : A → Type 0) (turn : A → Form (Step A)) → ((a : A) (s : State) → P a → R (turn a) (Stepped P) s) → (a : A) (s : State) → P a → R (many turn a) P s
   repeats P turn each a s so =
       tells_many keep g turn (λ a t. Before t → P a) (λ a t there. tells_so keep g (unless {P = Stepped P} {r = turn a} {s = t} (λ b. each a t (there b))) (turned P)) a s (λ b. so)
+
+  -- with its bytes, and as a level of its own
+  with_its_bytes : {X : Type 0} {P : X → Type 0} {r : Form X} {s : State} → R r P s → R (with_bytes r) (λ x. P x.0) s
+  with_its_bytes {P = P} one = tells_with_bytes keep g {P = λ a t. Before t → P a} {Q = λ x t. Before t → P x.0} one (λ a t so. so)
+
+  in_level : {X : Type 0} {P : X → Type 0} {r : Form X} {s : State} → R r P (own_level s) → R (a_level r) (λ x. P x.0) s
+  in_level {P = P} one = tells_level keep g {P = λ a t. Before t → P a} {Q = λ x t. Before t → P x.0} one (λ a t so. so)
 
   picks : {X : Type 0} {P : X → Type 0} (b : Bool) {r q : Form X} {s : State} → R r P s → R q P s → R (pick b r q) P s
   picks true one two = one
@@ -207,21 +218,22 @@ module _ (keep : Bool) (g : Given) (limit : ℕ) where
 
     operator_fits : (o : RedirectOperator) (s : State) → R (an_operator o) (λ x. Unit {0} × IsSpanWithin limit x.1) s
     unfolding an_operator
-    operator_fits o s = tokens {P = λ x. Unit {0}} (after (λ x t. picks (is_long o) (tells_so keep g (low (move one_byte) keep g t) (λ y u on. λ b. tt)) (gives tt)))
+    operator_fits o s =
+        tokens {P = λ x. Unit {0}} (after (λ x t. after (λ y u. picks (is_strip o) (tells_so keep g (low (move one_byte) keep g u) (λ z v on. λ b. tt)) (gives tt))))
 
     operator_fits_by : (p : ℕ) (o : Option RedirectOperator) (s : State) → R (operator_by p o) (λ x. IsSpanWithin limit x.1) s
-    operator_fits_by p (Some o) s = picks (takes_here o) (record { told = tt }) (first (operator_fits o s) (λ x t one. gives one.1))
+    operator_fits_by p (Some o) s = first (operator_fits o s) (λ x t one. gives one.1)
     operator_fits_by p None s = record { told = tt }
 
-    target_fits : (s : State) → R (a_target inner) (WordFits limit) s
+    target_fits : (s : State) → R (a_target inner) (λ x. WordFits limit x.0) s
     unfolding a_target
-    target_fits s = after (λ n t. picks (is_word n.token) (word_fits t) (stopped n))
+    target_fits s = after (λ n t. picks (is_word n.token) (with_its_bytes (word_fits t)) (stopped n))
 
     redirect_fits : (broken : Bool) (position : Position) (is : Row AnItem) (n : Next) (s : State) → All (ItemFits limit) is → R (one_redirect inner broken position is n) (Stepped ItemsFit) s
     unfolding one_redirect
     redirect_fits broken position is n s so =
         after (λ p t. first (number_fits n t) (λ d u one. first (operator_fits_by p (redirect_operator_of d.1.token) u) (λ o v two. first (target_fits v) (λ w x three.
-        first (pushes (ItemFits limit) so (fits_redirect limit broken d.0 o.0 o.1 w one two three)) (λ js y all. after (λ m z. gives all))))))
+        after (λ h a. first (pushes (ItemFits limit) so (fits_redirect limit broken d.0 o.0 o.1 w.0 h one two three)) (λ js y all. after (λ m z. gives all)))))))
 
     item_fits_by : (i : Items) (position : Option Position) (s : State) → ItemsFit i → R (item_by inner i position) (Stepped ItemsFit) s
     item_fits_by i (Some position) s so = one_item_fits i position s so
@@ -388,9 +400,15 @@ module _ (keep : Bool) (g : Given) (limit : ℕ) where
         first (repeats ListFits (list_turn inner) list_turn_fits (list_so (none_listed false) n) s (All-nil (EntryFits limit), tt))
         (λ l t all. picks l.list.commands (gives (fits_entries limit l.list.entries all.0)) (stopped l.next))
 
-    pub line_fits : (blank : Bool) (s : State) → R (a_line inner blank) (λ x. All (EntryFits limit) x.0) s
+    open_line_fits : (blank : Bool) (s : State) → R (an_open_line inner blank) (λ x. All (EntryFits limit) x.0) s
+    unfolding an_open_line
+    open_line_fits blank s = after (λ n t. first (on_line_fits (list_so (none_listed blank) n) t (All-nil (EntryFits limit), tt)) (λ l u all. after (λ newline v. gives all.0)))
+
+    pub line_fits : (blank : Bool) (s : State) → R (a_line inner blank) (λ x. AreWithin limit (entries_of x.0)) s
     unfolding a_line
-    line_fits blank s = after (λ n t. first (on_line_fits (list_so (none_listed blank) n) t (All-nil (EntryFits limit), tt)) (λ l u all. after (λ newline v. gives all.0)))
+    line_fits blank s =
+        first (in_level (open_line_fits blank (own_level s)))
+        (λ l t all. gives (subst (AreWithin limit) (sym (row_filled l.1 l.0.0)) (filled_within limit l.1 (entries_of l.0.0) (fits_entries limit l.0.0 all))))
 
     -- ---- compound commands
 
@@ -597,15 +615,18 @@ module _ (keep : Bool) (g : Given) (limit : ℕ) where
     unfolding substituted
     substituted_fits s =
         after (λ n t. first (repeats ListFits (list_turn inner) list_turn_fits (list_so (none_listed false) n) t (All-nil (EntryFits limit), tt))
-        (λ l u all. picks (is_closing closings.Paren l.next.token) (after (λ x v. gives (fits_entries limit l.list.entries all.0))) (stopped l.next)))
+        (λ l u all. picks (is_closing closings.Paren l.next.token) (after (λ w z. after (λ x v. gives (fits_entries limit l.list.entries all.0)))) (stopped l.next)))
 
     substitution_fits : (b : ℕ) (ss : Row ASubst) (s : State) → b ≤ g.offset + s.at → All (SubstFits limit) ss → R (a_substitution inner b ss) (All (SubstFits limit)) s
     unfolding a_substitution
     substitution_fits b ss s from so =
-        let body = ends_as UnclosedSubst b (substituted inner) in
-        tells_then keep g {P = λ es t. (Before t → AreWithin limit es) × (s.at ≤ t.at)}
-        (record { told = holds_and (λ es t. Before t → AreWithin limit es) (λ es t. s.at ≤ t.at) (does body keep g s) (tells_ending keep g (substituted_fits s)).told (low body keep g s).told })
-        (λ es t one. tells_seen keep g (record { told = λ before. pushed_all (SubstFits limit) keep ss _ so (fits_subst limit es _ (omega (arith, from, one.1, before), before) (one.0 before)) }))
+        let body = a_level (ends_as UnclosedSubst b (substituted inner)) in
+        tells_then keep g {P = λ es t. (Before t → AreWithin limit es.0) × (s.at ≤ t.at)}
+        (record {
+          told = holds_and (λ es t. Before t → AreWithin limit es.0) (λ es t. s.at ≤ t.at) (does body keep g s) (in_level (tells_ending keep g (substituted_fits (own_level s)))).told (low body keep g s).told;
+        })
+        (λ es t one. tells_seen keep g
+        (record { told = λ before. pushed_all (SubstFits limit) keep ss _ so (fits_subst limit (filled es.1 es.0) _ (omega (arith, from, one.1, before), before) (filled_within limit es.1 es.0 (one.0 before))) }))
 
     -- ---- functions
 
@@ -644,7 +665,7 @@ pub line_within : (T : List ℕ) (o : ℕ) (keep blank newline : Bool) (es : Row
 line_within T o keep blank newline es t is limit le =
     let g = given T o in
     let told = (line_fits keep g limit (level most_open) (level_fits keep g limit most_open) blank (standing 0)).told in
-    fits_entries limit es (subst (Holds (λ (x : Row AnEntry × Bool) (u : State). o + u.at ≤ limit → All (EntryFits limit) x.0)) is told le)
+    subst (Holds (λ (x : Row AnEntry × Bool) (u : State). o + u.at ≤ limit → AreWithin limit (entries_of x.0))) is told le
 
 kind_within : (limit : ℕ) (es : Row AnEntry) (newline : Bool) → AreWithin limit (entries_of es) → EntriesWithin limit (kind_of es newline)
 kind_within limit [] true so = tt

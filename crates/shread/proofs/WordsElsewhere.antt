@@ -1,5 +1,5 @@
 -- What may be opened is read wherever its bytes stand, with the same shape: constructs, substitutions and compound commands.
-use Rattle.std.proofs.Common.{◌≡◌, ℕ, zero, suc, ◌+◌, ◌≤◌, ◌<◌, Bool, true, false, Ok, Err, List, List as Row, [], ◌∷◌, ◌++◌, length, drop, map, Some, slice_get, refl, sym, ap, subst, ◌∙◌, arith}
+use Rattle.std.proofs.Common.{Option, option_map, None, ◌≡◌, ℕ, zero, suc, ◌+◌, ◌≤◌, ◌<◌, Bool, true, false, Ok, Err, List, List as Row, [], ◌∷◌, ◌++◌, length, drop, map, Some, slice_get, refl, sym, ap, subst, ◌∙◌, arith}
 use Rattle.std.proofs.lemmas.Option.{slice_get_within}
 use Rattle.shread.specs.declared.fault.FaultKind.{FaultKind}
 use Rattle.shread.specs.declared.fault.FaultKind.TheVariants.{UnclosedSubst}
@@ -9,16 +9,16 @@ use Rattle.shread.specs.declared.token.Next.{Next}
 use Rattle.shread.specs.declared.token.Opener.{Opener}
 use Rattle.shread.specs.declared.token.Position.TheVariants.{Command}
 use Rattle.shtree.specs.declared.tree.Span.{Span}
-use Rattle.shtree.specs.Shape.{shape_of_subst, shape_of_substs, text_at}
+use Rattle.shtree.specs.Shape.{shape_of, shape_of_subst, shape_of_substs, text_at}
 use Rattle.shtree.specs.Tree.{ASubst, AWord, Entries, entries_of, subst as a_subst, substs_of, word}
 use Rattle.shread.specs.Standing.{is_byte}
 use Rattle.shread.specs.Bytes.{ends, ends_word, byte_at, behind, past_blanks, past_continuations}
 use Rattle.shread.specs.Comments.{span}
 use Rattle.shread.specs.Tokens.{next_at}
 use Rattle.shread.specs.Sights.{Given, given, State, one_byte}
-use Rattle.shread.specs.Form.{Read, ◌▸◌, Form, give, move, ◌>>◌, many, with_end, does}
+use Rattle.shread.specs.Form.{moved, Read, ◌▸◌, Form, give, move, ◌>>◌, many, with_end, does}
 use Rattle.shread.specs.Words.{Inner, contents, a_word}
-use Rattle.shread.specs.Commands.{next_token, pick, unexpected, what_is_wrong}
+use Rattle.shread.specs.Commands.{none_waits, nothing_waits, next_token, pick, unexpected, what_is_wrong}
 use Rattle.shread.specs.Lists.{ListSo, list_so, none_listed, list_turn}
 use Rattle.shread.specs.Compounds.{is_closing}
 use Rattle.shread.specs.Substitutions.{substituted, a_substitution}
@@ -28,6 +28,11 @@ use Rattle.shread.proofs.SameBytes.{Kept, Here, at_limit}
 use Rattle.shread.proofs.Ahead.{ListEnds, bracket_ends, behind_is, same_behind, same_byte, seen}
 use Rattle.shread.proofs.Asked.{Good, high}
 use Rattle.shread.proofs.PiecesInside.{Local, Holding, SameSubsts, Ended, construct_in, word_in}
+use Rattle.shread.specs.HereDocuments.{first_waiting, own_level, outer_level}
+use Rattle.shtree.specs.Bodies.{filled}
+use Rattle.shtree.proofs.FilledShape.{shape_filled}
+use Rattle.shread.proofs.Shifted.{shifted, state_from}
+use Rattle.shread.proofs.BodiesThere.{move_span, first_over}
 use Rattle.shread.proofs.GoingOn.{over, Back, good, Found, Goes, go_stop, go_stopped, same_texts}
 use Rattle.shread.proofs.ListsElsewhere.{Fine, SameCommand, SameList, SameWord, compound_same, function_same, lines, list_shape, next, rows_more}
 use Rattle.shread.proofs.TokensShown.{Begins, paren_here, shown_level, shown_lines, shown_next}
@@ -130,9 +135,17 @@ module _ (room : ℕ) (all : Everywhere (level room)) where
     closes l = is_closing closings.Paren l.next.token
 
     abbrev the_close : ListSo → Bool → Form Entries
-    the_close l b = pick b (move one_byte >> give (entries_of l.list.entries)) (unexpected inner l.next)
+    the_close l b = pick b (nothing_waits >> move one_byte >> give (entries_of l.list.entries)) (unexpected inner l.next)
 
-    module _ (b b2 : ℕ) (ss : Row ASubst) (s : State) (from : a ≤ s.at) where
+    -- the first that waits, elsewhere
+    abbrev first_there : Option ℕ → Option ℕ
+    first_there w = option_map (λ (n : ℕ). shifted (o + a) (o2 + to a) n) w
+
+    module _ (b b2 : ℕ) (ss : Row ASubst) (outer : State) (from : a ≤ outer.at) where
+      -- its own level
+      abbrev s : State
+      s = own_level outer
+
       abbrev the_next : Next
       the_next = next_at Command T s.at
 
@@ -140,10 +153,11 @@ module _ (room : ℕ) (all : Everywhere (level room)) where
       start = record { at = past_blanks T s.at; waiting = s.waiting; bodies = s.bodies }
 
       abbrev There : Row ASubst → State → Type 0
-      There x t = Holding K o o2 B B2 (a_substitution inner b2) ss s x t
+      There x t = Holding K o o2 B B2 (a_substitution inner b2) ss outer x t
 
-      -- the list was read up to its `)`
-      module _ (l : ListSo) (u : State) (is : does (all_lines the_next) true g start ≡ Ok (l, u)) (closed : closes l ≡ true) (begins : Begins g l.next u) (onward : start.at ≤ u.at) (still : s.at ≤ start.at) where
+      -- the list was read up to its `)`, and nothing waits there
+      module _ (l : ListSo) (u : State) (is : does (all_lines the_next) true g start ≡ Ok (l, u)) (closed : closes l ≡ true) (none : first_waiting u ≡ None) (begins : Begins g l.next u) (onward : start.at ≤ u.at)
+          (still : s.at ≤ start.at) where
         abbrev M : ℕ
         M = u.at
 
@@ -157,21 +171,31 @@ module _ (room : ℕ) (all : Everywhere (level room)) where
           E : ListEnds T U a M to 41
           E = limit_at M (omega (arith, from, still, onward)) le byte
 
+          abbrev over_there : State → State
+          over_there v = over E o o2 B B2 stands stands_there v
+
+          back_start : Back E o o2 B B2 stands stands_there start l u
+          back_start = subst (Holds (Back E o o2 B B2 stands stands_there start)) is (good E o o2 B B2 stands stands_there (all_lines the_next) start (omega (arith, from, still))).told
+
           good_start : Good T a M start.at
-          good_start = (subst (Holds (Back E o o2 B B2 stands stands_there start)) is (good E o o2 B B2 stands stands_there (all_lines the_next) start (omega (arith, from, still))).told).1 at_limit
+          good_start = back_start.1 at_limit
+
+          -- the bodies have the same texts
+          same_bodies : map (text_at B) u.bodies ≡ map (text_at B2) (map (move_span E o o2) u.bodies)
+          same_bodies = back_start.2 at_limit refl
 
           begun : Here T U a L to s.at
           unfolding next_token
           begun = here_before M le (seen E ((good E o o2 B B2 stands stands_there (next_token Command) s from).told.1 good_start))
 
           -- the same token begins it there
-          same_start : does (next_token Command) true h (over E o o2 B B2 stands stands_there s) ≡ Ok (the_next, over E o o2 B B2 stands stands_there start)
+          same_start : does (next_token Command) true h (over_there s) ≡ Ok (the_next, over_there start)
           unfolding next_token
           same_start =
               let w = (next E o o2 B B2 stands stands_there Command).go s from good_start in
-              subst (λ (n : Next). does (next_token Command) true h (over E o o2 B B2 stands stands_there s) ≡ Ok (n, over E o o2 B B2 stands stands_there start)) (sym w.1.1) w.1.0
+              subst (λ (n : Next). does (next_token Command) true h (over_there s) ≡ Ok (n, over_there start)) (sym w.1.1) w.1.0
 
-          same_lines : (k : ListSo) × ((does (all_lines the_next) true h (over E o o2 B B2 stands stands_there start) ≡ Ok (k, over E o o2 B B2 stands stands_there u)) × SameList E o o2 B B2 stands stands_there inner (fine E o o2 B B2 stands stands_there) l k)
+          same_lines : (k : ListSo) × ((does (all_lines the_next) true h (over_there start) ≡ Ok (k, over_there u)) × SameList E o o2 B B2 stands stands_there inner (fine E o o2 B B2 stands stands_there) l k)
           same_lines =
               subst (Holds (Found E o o2 B B2 stands stands_there (SameList E o o2 B B2 stands stands_there inner (fine E o o2 B B2 stands stands_there)) (all_lines the_next) start)) is
               ((lines E o o2 B B2 stands stands_there inner (fine E o o2 B B2 stands stands_there) the_next the_next refl).go start (omega (arith, from, still))) at_limit
@@ -182,52 +206,83 @@ module _ (room : ℕ) (all : Everywhere (level room)) where
           abbrev k : ListSo
           k = same_lines.0
 
+          none_there : first_waiting (over_there u) ≡ None
+          none_there = first_over E o o2 u ∙ ap first_there none
+
+          -- where nothing waits its `)` is read
+          close_there : does (the_close k true) true h (over_there u) ≡ Ok (entries_of k.list.entries, over_there last)
+          unfolding nothing_waits
+          close_there =
+              ap (λ (w : Option ℕ). ◌▸◌ {Y = Entries} (does (none_waits w) true h (over_there u)) (λ x t. Ok (entries_of k.list.entries, moved one_byte h t))) none_there
+              ∙ ap (λ (p : ℕ). Ok (entries_of k.list.entries, state_from (o + a) (o2 + to a) p u)) (same_behind E at_limit)
+
           -- what stands in it, and its `)`
-          same_inside : does (substituted inner) true h (over E o o2 B B2 stands stands_there s) ≡ Ok (entries_of k.list.entries, over E o o2 B B2 stands stands_there last)
+          same_inside : does (substituted inner) true h (over_there s) ≡ Ok (entries_of k.list.entries, over_there last)
           unfolding substituted
           same_inside =
               let closes_there : closes k ≡ true = ap (λ (n : Next). is_closing closings.Paren n.token) (sym same_lines.1.1.1) ∙ closed in
               ap (λ (z : Read Next). ◌▸◌ {Y = Entries} z (λ n t. ◌▸◌ {Y = Entries} (does (all_lines n) true h t) (λ l t. does (the_close l (closes l)) true h t))) same_start
               ∙ ap (λ (z : Read ListSo). ◌▸◌ {Y = Entries} z (λ l t. does (the_close l (closes l)) true h t)) same_lines.1.0
-              ∙ ap (λ c. does (the_close k c) true h (over E o o2 B B2 stands stands_there u)) closes_there
-              ∙ ap (λ (p : ℕ). Ok (entries_of k.list.entries, record { at = p; waiting = u.waiting; bodies = u.bodies })) (same_behind E at_limit)
+              ∙ ap (λ c. does (the_close k c) true h (over_there u)) closes_there
+              ∙ close_there
 
           abbrev one_more : Entries → ℕ → ℕ → ASubst
           one_more es start end = a_subst es (record { start = start; «end» = end })
 
+          -- its list, with its bodies
+          filled_same : shape_of B (filled u.bodies (entries_of l.list.entries)) ≡ shape_of B2 (filled (map (move_span E o o2) u.bodies) (entries_of k.list.entries))
+          filled_same =
+              shape_filled B u.bodies (entries_of l.list.entries)
+              ∙ ap (λ bs. filled bs (shape_of B (entries_of l.list.entries))) same_bodies
+              ∙ ap (filled (map (text_at B2) (map (move_span E o o2) u.bodies))) (list_shape E o o2 B B2 stands stands_there inner (fine E o o2 B B2 stands stands_there) l k same_lines.1.1)
+              ∙ sym (shape_filled B2 (map (move_span E o o2) u.bodies) (entries_of k.list.entries))
+
           found : (zs : Row ASubst) → SameSubsts K o o2 B B2 ss zs
-              → (y : Row ASubst) × ((does (a_substitution inner b2 zs) true h (over E o o2 B B2 stands stands_there s) ≡ Ok (y, over E o o2 B B2 stands stands_there last))
-              × SameSubsts K o o2 B B2 (ss ++ one_more (entries_of l.list.entries) b (o + behind T M) ∷ []) y)
+              → (y : Row ASubst) × ((does (a_substitution inner b2 zs) true h (over_there outer) ≡ Ok (y, over_there (outer_level outer last)))
+              × SameSubsts K o o2 B B2 (ss ++ one_more (filled u.bodies (entries_of l.list.entries)) b (o + behind T M) ∷ []) y)
           unfolding a_substitution
           found zs same = (
-            zs ++ one_more (entries_of k.list.entries) b2 (o2 + to (behind T M)) ∷ [],
+            zs ++ one_more (filled (map (move_span E o o2) u.bodies) (entries_of k.list.entries)) b2 (o2 + to (behind T M)) ∷ [],
             (
-              ap (λ (z : Read Entries). ◌▸◌ {Y = Row ASubst} (with_end UnclosedSubst b2 z) (λ es t. Ok (zs ++ one_more es b2 (o2 + t.at) ∷ [], t))) same_inside,
-              rows_more (shape_of_subst B) (shape_of_subst B2) ss (one_more (entries_of l.list.entries) b (o + behind T M)) zs (one_more (entries_of k.list.entries) b2 (o2 + to (behind T M))) same
-                  (ap (λ es. a_subst es tt) (list_shape E o o2 B B2 stands stands_there inner (fine E o o2 B B2 stands stands_there) l k same_lines.1.1)),
+              ap (λ (z : Read Entries). ◌▸◌ {Y = Row ASubst} (◌▸◌ {Y = Entries × Row Span} (with_end UnclosedSubst b2 z) (λ es t. Ok ((es, t.bodies), outer_level (over_there outer) t))) (λ es t. Ok (zs ++ one_more (filled es.1 es.0) b2 (o2 + t.at) ∷ [], t))) same_inside,
+              rows_more (shape_of_subst B) (shape_of_subst B2) ss (one_more (filled u.bodies (entries_of l.list.entries)) b (o + behind T M)) zs
+                  (one_more (filled (map (move_span E o o2) u.bodies) (entries_of k.list.entries)) b2 (o2 + to (behind T M))) same
+                  (ap (λ es. a_subst es tt) filled_same),
             ),
           )
 
       ends_high : (M : ℕ) → past_continuations T M ≡ M → behind T M ≤ L → M + 1 ≤ L
       ends_high M still le = omega (arith, le, behind_is T M, still)
 
+      -- what is read of a level, as one more substitution
+      abbrev one_level : Read Entries → Read (Row ASubst)
+      one_level x =
+          ◌▸◌ {Y = Row ASubst} (◌▸◌ {Y = Entries × Row Span} (with_end UnclosedSubst b x) (λ es t. Ok ((es, t.bodies), outer_level outer t)))
+          (λ es t. Ok (ss ++ a_subst (filled es.1 es.0) (record { start = b; «end» = o + t.at }) ∷ [], t))
+
+      by_waiting : (l : ListSo) (u : State) → does (all_lines the_next) true g start ≡ Ok (l, u) → Begins g l.next u → start.at ≤ u.at → s.at ≤ start.at → closes l ≡ true → (w : Option ℕ) → first_waiting u ≡ w
+          → Holds There (one_level (does (none_waits w) true g u ▸ λ x t. Ok (entries_of l.list.entries, moved one_byte g t)))
+      by_waiting l u is begins onward still closed (Some w) waiting = tt
+      by_waiting l u is begins onward still closed None none =
+          λ le. let high = ends_high u.at (shown l u is closed none begins onward still).1 le in
+          (begun l u is closed none begins onward still high, λ zs same. found l u is closed none begins onward still high zs same)
+
       by_close : (l : ListSo) (u : State) → does (all_lines the_next) true g start ≡ Ok (l, u) → Begins g l.next u → start.at ≤ u.at → s.at ≤ start.at → (c : Bool) → closes l ≡ c
-          → Holds There (with_end UnclosedSubst b (does (the_close l c) true g u) ▸ λ es t. Ok (ss ++ a_subst es (record { start = b; «end» = o + t.at }) ∷ [], t))
-      by_close l u is begins onward still true closed =
-          λ le. let high = ends_high u.at (shown l u is closed begins onward still).1 le in
-          (begun l u is closed begins onward still high, λ zs same. found l u is closed begins onward still high zs same)
+          → Holds There (one_level (does (the_close l c) true g u))
+      unfolding nothing_waits
+      by_close l u is begins onward still true closed = by_waiting l u is begins onward still closed (first_waiting u) refl
       by_close l u is begins onward still false closed = no_close _ (does (what_is_wrong inner l.next) true g u)
         where
-          no_close : (P : Row ASubst → State → Type 0) (x : Read (FaultKind × ℕ)) → Holds P (with_end UnclosedSubst b (x ▸ λ w t. Err (record { kind = w.0; at = w.1 })) ▸ λ es t. Ok (ss ++ a_subst es (record { start = b; «end» = o + t.at }) ∷ [], t))
+          no_close : (P : Row ASubst → State → Type 0) (x : Read (FaultKind × ℕ)) → Holds P (one_level (x ▸ λ w t. Err (record { kind = w.0; at = w.1 })))
           no_close P (Ok (w, t)) = tt
           no_close P (Err f) = tt
 
       by_lines : (x : Read ListSo) → does (all_lines the_next) true g start ≡ x → Holds (λ l t. Begins g l.next t) x → Holds (Behind start) x → s.at ≤ start.at
-          → Holds There (with_end UnclosedSubst b (x ▸ λ l t. does (the_close l (closes l)) true g t) ▸ λ es t. Ok (ss ++ a_subst es (record { start = b; «end» = o + t.at }) ∷ [], t))
+          → Holds There (one_level (x ▸ λ l t. does (the_close l (closes l)) true g t))
       by_lines (Ok (l, u)) is begins onward still = by_close l u is begins onward still (closes l) refl
       by_lines (Err f) is begins onward still = tt
 
-      substitution_there : Holds There (does (a_substitution inner b ss) true g s)
+      substitution_there : Holds There (does (a_substitution inner b ss) true g outer)
       unfolding a_substitution substituted next_token
       substitution_there =
           by_lines (does (all_lines the_next) true g start) refl (shown_lines g inner (shown_level g room) the_next start (shown_next g Command s).told).told (low (all_lines the_next) true g start).told

@@ -15,7 +15,8 @@ use Rattle.shtree.specs.Tree.{ASubst, entries_of}
 use Rattle.shread.specs.Sights.{Given, State, standing, one_byte}
 use Rattle.shread.specs.Form.{Read, Form, give, move, ◌>>◌, Step, again, done, step_if, as_it_stands, token, many, does}
 use Rattle.shread.specs.Words.{single, backquote_turn, backquoted, Inner, Held, having, opened, piece_row, a_piece, contents, a_word}
-use Rattle.shread.specs.Commands.{pick, unexpected}
+use Rattle.shread.specs.HereDocuments.{first_waiting, own_level}
+use Rattle.shread.specs.Commands.{none_waits, nothing_waits, pick, unexpected}
 use Rattle.shread.specs.Lists.{ListSo}
 use Rattle.shread.specs.Compounds.{is_closing}
 use Rattle.shread.specs.Substitutions.{substituted, a_substitution}
@@ -23,7 +24,7 @@ use Rattle.shread.specs.Levels.{level, IsWord}
 use Rattle.shread.proofs.Stretches.{place_low}
 use Rattle.shread.proofs.Places.{behind_low, behind_high, stands_low, not_end_low, next_of_low, next_in_backquotes_low, parameter_low, parameter_high, quote_clear}
 use Rattle.shread.proofs.Turns.{turns_fault, many_again, many_done}
-use Rattle.shread.proofs.Holds.{Holds, holds_then, Tells, Turned, tells_then, tells_many, tells_after, tells_seen, tells_ending, Behind, low}
+use Rattle.shread.proofs.Holds.{tells_level, Holds, holds_then, Tells, Turned, tells_then, tells_many, tells_after, tells_seen, tells_ending, Behind, low}
 use Rattle.shread.proofs.TokensShown.{Begins, Fine, paren_here, shown_level, shown_lines, shown_next}
 use Rattle.shread.proofs.Ahead.{behind_is}
 use Rattle.shread.proofs.OneOutcome.{is}
@@ -262,6 +263,15 @@ module _ (g : Given) where
   -- ---- substitutions
 
   module _ (inner : Inner) (fine : Fine g inner) where
+    -- nothing moves where nothing waits
+    still : (s : State) → Tells true g nothing_waits (λ x t. t ≡ s) s
+    unfolding nothing_waits
+    still s = record { told = by_waiting (first_waiting s) }
+      where
+        by_waiting : (w : Option ℕ) → Holds (λ (x : Unit {0}) t. t ≡ s) (does (none_waits w) true g s)
+        by_waiting (Some b) = tt
+        by_waiting None = refl
+
     -- a list, and the `)` behind it
     substituted_end : (s : State) → Tells true g (substituted inner) (λ x t. t.at ≤ length T) s
     unfolding substituted
@@ -269,13 +279,15 @@ module _ (g : Given) where
         tells_then true g (shown_next g Command s) (λ n t one. tells_then true g (shown_lines g inner fine n t one) (λ l u two. closed_by (is_closing closings.Paren l.next.token) l u refl two))
       where
         closed_by : (b : Bool) → (l : ListSo) (u : State) → is_closing closings.Paren l.next.token ≡ b → Begins g l.next u
-            → Tells true g (pick b (move one_byte >> give (entries_of l.list.entries)) (unexpected inner l.next)) (λ x t. t.at ≤ length T) u
-        closed_by true l u e so = record { told = behind_high T u.at (slice_get_within T (past_continuations T u.at) 41 (paren_here g l.next u so e).0) }
+            → Tells true g (pick b (nothing_waits >> move one_byte >> give (entries_of l.list.entries)) (unexpected inner l.next)) (λ x t. t.at ≤ length T) u
+        closed_by true l u e so =
+            let high = behind_high T u.at (slice_get_within T (past_continuations T u.at) 41 (paren_here g l.next u so e).0) in
+            tells_then true g (still u) (λ w t same. record { told = subst (λ (v : State). behind T v.at ≤ length T) (sym same) high })
         closed_by false l u e so = tells_after true g (λ w t. record { told = tt })
 
     substitution_high : (b : ℕ) (ss : Row ASubst) (s : State) → Tells true g (a_substitution inner b ss) (λ x t. t.at ≤ length T) s
     unfolding a_substitution
-    substitution_high b ss s = tells_then true g (tells_ending true g (substituted_end s)) (λ x t so. tells_seen true g (record { told = so }))
+    substitution_high b ss s = tells_then true g (tells_level true g (tells_ending true g (substituted_end (own_level s))) (λ a t so. so)) (λ x t so. tells_seen true g (record { told = so }))
 
     substitution_end : (b : ℕ) (ss : Row ASubst) (s : State) → Holds (λ x t. (s.at ≤ t.at) × (t.at ≤ length T)) (does (a_substitution inner b ss) true g s)
     substitution_end b ss s = holds_also (does (a_substitution inner b ss) true g s) (low (a_substitution inner b ss) true g s).told (substitution_high b ss s).told

@@ -3,7 +3,7 @@ use Rattle.std.specs.Prelude.{ℕ, Bool, ◌==◌, ◌&&◌, ◌||◌, nat_le}
 use Rattle.shread.specs.declared.search.Sought.{Sought}
 use Rattle.shread.specs.declared.search.Sought.TheVariants.{Byte, Either}
 use Rattle.shread.specs.declared.token.Class.{Class}
-use Rattle.shread.specs.declared.token.Class.TheVariants.{Blank, Digit, Name}
+use Rattle.shread.specs.declared.token.Class.TheVariants.{Blank, Digit, Name, Tab}
 
 -- space and tab
 abbrev pub is_blank : ℕ → Bool
@@ -32,6 +32,7 @@ abbrev pub in_class : Class → ℕ → Bool
 in_class Blank = is_blank
 in_class Digit = is_digit
 in_class Name = is_name
+in_class Tab = λ b. b == 9
 
 -- what a search looks for
 abbrev pub is_sought : Sought → ℕ → Bool

@@ -1,6 +1,10 @@
 -- Words for the clauses of the code: what a function of the reader answers, and what it leaves as it was.
-use Rattle.std.specs.Prelude.{◌≡◌, ℕ, ◌+◌, ◌<◌, ◌≤◌, Bool, true, false, List, length, drop, Some, Result, Ok, Err}
+use Rattle.std.specs.Prelude.{◌≡◌, ℕ, ◌+◌, ◌<◌, ◌≤◌, Bool, true, false, List, List as Row, length, drop, map, Some, Result, Ok, Err}
 use Rattle.shread.specs.declared.cursor.Cursor.{Cursor}
+use Rattle.shread.specs.declared.documents.Documents as the_documents
+use Rattle.shread.specs.declared.documents.Waiting as the_waiting
+use Rattle.shread.specs.declared.fault.Fault.{Fault}
+use Rattle.shtree.specs.declared.tree.Span.{Span}
 use Rattle.shread.specs.declared.fault.Stop.{Stop}
 use Rattle.shread.specs.declared.fault.Stop.TheVariants.{Memory, Wrong}
 use Rattle.shread.specs.declared.token.Token.{Token}
@@ -9,9 +13,9 @@ use Rattle.shtree.specs.declared.tree.AndOrOperator.{AndOrOperator}
 use Rattle.shtree.specs.declared.tree.RedirectOperator.{RedirectOperator}
 use Rattle.shread.specs.Standing.{raw_stands, at_end}
 use Rattle.shread.specs.Bytes.{behind, past_continuations, ends_word}
-use Rattle.shread.specs.Sights.{State, given, standing}
+use Rattle.shread.specs.Sights.{State, Waiting, given}
 use Rattle.shread.specs.Tokens.{is_comment, is_end}
-use Rattle.shread.specs.Commands.{and_or_operator_of, begins_word, is_double_semicolon, is_long, redirect_operator_of}
+use Rattle.shread.specs.Commands.{and_or_operator_of, begins_word, is_double_semicolon, is_long, is_strip, redirect_operator_of}
 use Rattle.shread.specs.Compounds.{begins_pattern}
 use Rattle.shread.specs.Form.{Form, Read, does}
 
@@ -19,22 +23,38 @@ use Rattle.shread.specs.Form.{Form, Read, does}
 abbrev pub text_of : {S : Type 0} {g : _} → (S → List ℕ) → Cursor S g → List ℕ
 text_of bytes cursor = drop cursor.base (bytes cursor.source.now)
 
+-- the text, and how it is read, stay as they are
+abbrev pub Keeps : {S : Type 0} {g : _} → Cursor S g → Cursor S g → Type 0
+Keeps old new = (new.source ≡ old.source) × (new.base ≡ old.base) × (new.origin ≡ old.origin) × (new.keep ≡ old.keep)
+
 -- only the place may differ
 abbrev pub Stays : {S : Type 0} {g : _} → Cursor S g → Cursor S g → Type 0
-Stays old new = (new.source ≡ old.source) × (new.base ≡ old.base) × (new.origin ≡ old.origin) × (new.keep ≡ old.keep)
+Stays old new = (new.source ≡ old.source) × (new.base ≡ old.base) × (new.origin ≡ old.origin) × (new.keep ≡ old.keep) × (new.documents ≡ old.documents)
+
+abbrev pub view_waiting : the_waiting.Waiting → Waiting
+view_waiting w = record { operator = w.operator; delimiter = w.delimiter.items; literal = w.literal; strip = w.strip }
+
+-- a place, with the here-documents of a level
+abbrev pub standing_with : the_documents.Documents → ℕ → State
+standing_with documents p = record { at = p; waiting = map view_waiting documents.waiting.items; bodies = documents.bodies.items }
+
+-- the state of a cursor
+abbrev pub state_of : {S : Type 0} {g : _} → Cursor S g → State
+state_of cursor = standing_with cursor.documents cursor.at
 
 -- a byte is read at p
 abbrev pub IsRead : List ℕ → ℕ → Type 0
 IsRead T p = past_continuations T p < length T
 
--- what a form gives from a place in a cursor's text on, and from where the cursor stands
-abbrev pub reads_at : {S X : Type 0} {g : _} → (S → List ℕ) → Cursor S g → Form X → ℕ → Read X
-reads_at bytes cursor form p = does form cursor.keep (given (text_of bytes cursor) cursor.origin) (standing p)
+-- what a form gives from a state on in a cursor's text
+abbrev pub reads_at : {S X : Type 0} {g : _} → (S → List ℕ) → Cursor S g → Form X → State → Read X
+reads_at bytes cursor form s = does form cursor.keep (given (text_of bytes cursor) cursor.origin) s
 
+-- and from where the cursor stands
 abbrev pub reads : {S X : Type 0} {g : _} → (S → List ℕ) → Cursor S g → Form X → Read X
-reads bytes cursor form = reads_at bytes cursor form cursor.at
+reads bytes cursor form = reads_at bytes cursor form (state_of cursor)
 
--- the offset at which a cursor's text ends
+-- the offset of the end of a cursor's text
 abbrev pub end_of : {S : Type 0} {g : _} → (S → List ℕ) → Cursor S g → ℕ
 end_of bytes cursor = cursor.origin + length (text_of bytes cursor)
 
@@ -48,9 +68,15 @@ abbrev pub Gives : {X Y : Type 0} → ℕ → (X → Y × State) → Result X St
 Gives end view (Ok x) read = read ≡ Ok (view x)
 Gives end view (Err e) read = Fails end e read
 
--- What a function returned, seen by view, is what the form gives from where the cursor stood, and ends at p; unless memory ran out.
-abbrev pub Reads : {S X Y : Type 0} {g : _} → (S → List ℕ) → Cursor S g → Form Y → Result X Stop → (X → Y) → ℕ → Type 0
-Reads bytes cursor form result view p = Gives (end_of bytes cursor) (λ x. (view x, standing p)) result (reads bytes cursor form)
+-- What a function returned, seen by view, is what the form gives from where the cursor stood, and ends in t; unless memory ran out.
+abbrev pub Reads : {S X Y : Type 0} {g : _} → (S → List ℕ) → Cursor S g → Form Y → Result X Stop → (X → Y) → State → Type 0
+Reads bytes cursor form result view t = Gives (end_of bytes cursor) (λ x. (view x, t)) result (reads bytes cursor form)
+
+-- One document's body was read: what all bodies give is what is given behind it. Or it stops all of them.
+abbrev pub BodyRead : ℕ → Result (Unit {0}) Stop → Result (Row Span × ℕ) Fault → Result (Row Span × ℕ) Fault → Type 0
+BodyRead end (Ok x) all rest = all ≡ rest
+BodyRead end (Err Memory) all rest = Unit {0}
+BodyRead end (Err (Wrong f)) all rest = (all ≡ Err f) × (f.at ≤ end)
 
 -- a turn that goes on moves to the right
 abbrev pub Onward : ℕ → ℕ → Bool → Type 0
@@ -65,3 +91,4 @@ Shows token T p =
     × ((operator : AndOrOperator) → and_or_operator_of token ≡ Some operator → IsRead T (behind T p)) × (is_comment token ≡ false → raw_stands T p 35 ≡ false) × (past_continuations T p ≡ p)
     × (begins_pattern token ≡ true → ends_word T p ≡ false) × (is_double_semicolon token ≡ true → IsRead T (behind T p))
     × ((operator : RedirectOperator) → redirect_operator_of token ≡ Some operator → is_long operator ≡ true → IsRead T (behind T p))
+    × ((operator : RedirectOperator) → redirect_operator_of token ≡ Some operator → is_strip operator ≡ true → IsRead T (behind T (behind T p)))

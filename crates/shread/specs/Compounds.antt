@@ -177,11 +177,14 @@ for_words inner cs =
     give (headed (in_words (items_of ws.items)) l)
 
 -- `in` may stand behind newlines (XCU 2.10.2, rule 6), and not behind `;`
+abbrev pub begins_words : Bool → Token → Bool
+begins_words semicolon t = not semicolon && is_closing closings.In t
+
 unfoldable pub a_for_head : Inner → Next → Form Headed
 a_for_head inner n =
     a_semicolon n >>= λ s.
     a_linebreak [] s.1 >>= λ l.
-    pick (not s.0 && is_closing closings.In l.next.token) (for_words inner l.join.comments) (give (headed no_in l))
+    pick (begins_words s.0 l.next.token) (for_words inner l.join.comments) (give (headed no_in l))
 
 -- comments before a list, as its first entries
 abbrev pub behind_remarks : Row Span → Entries → Entries

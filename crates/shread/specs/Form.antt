@@ -11,6 +11,7 @@ use Rattle.shread.specs.declared.fault.FaultKind.{FaultKind}
 use Rattle.shread.specs.declared.fault.FaultKind.TheVariants.{UnexpectedEnd}
 use Rattle.shread.specs.Comments.{span}
 use Rattle.shread.specs.Sights.{Given, State, Sight, seen, Move, to}
+use Rattle.shread.specs.HereDocuments.{Change, changed, own_level, outer_level}
 
 -- the text of a token that was passed
 abbrev pub Spelled : Type 0
@@ -57,6 +58,12 @@ pub data Form : Type 0 → Type 1 where
   loop : {A : Type 0} → (A → Form (Step A)) → A → Form A
   -- where the text ends in it, the fault is this one, at this offset
   ends_as : {X : Type 0} → FaultKind → ℕ → Form X → Form X
+  -- what waits changes, or what was read
+  change : Change → Form (Unit {0})
+  -- what is read, and its bytes as they stand
+  with_bytes : {X : Type 0} → Form X → Form (X × Spelled)
+  -- a level of its own: what is read in it, and the bodies of its here-documents
+  a_level : {X : Type 0} → Form X → Form (X × Row Span)
 
 -- the same, as rows write it: it does not unfold by itself
 unfoldable pub many : {A : Type 0} → (A → Form (Step A)) → A → Form A
@@ -129,6 +136,19 @@ pub data Ending {X : Type 0} (kind : FaultKind) (at : ℕ) (r : Comes X) (s : St
   goes_through : {x : X} {t : State} {k : Row Spelled} → r s (Ok (x, t)) k → Ending kind at r s (Ok (x, t)) k
   stops_inside : {f : Fault} {k : Row Spelled} → r s (Err f) k → Ending kind at r s (Err (ended kind at f)) k
 
+-- a state, or a fault
+pub data Changed (x : Result State Fault) : Read (Unit {0}) → Row Spelled → Type 0 where
+  changes : {t : State} → x ≡ Ok t → Changed x (Ok (tt, t)) []
+  cannot : {f : Fault} → x ≡ Err f → Changed x (Err f) []
+
+pub data WithBytes {X : Type 0} (g : Given) (r : Comes X) (s : State) : Read (X × Spelled) → Row Spelled → Type 0 where
+  with_its_bytes : {x : X} {t : State} {k : Row Spelled} → r s (Ok (x, t)) k → WithBytes g r s (Ok ((x, raw g.text s.at t.at), t)) k
+  without_bytes : {f : Fault} {k : Row Spelled} → r s (Err f) k → WithBytes g r s (Err f) k
+
+pub data OwnLevel {X : Type 0} (r : Comes X) (s : State) : Read (X × Row Span) → Row Spelled → Type 0 where
+  level_read : {x : X} {t : State} {k : Row Spelled} → r (own_level s) (Ok (x, t)) k → OwnLevel r s (Ok ((x, t.bodies), outer_level s t)) k
+  level_stops : {f : Fault} {k : Row Spelled} → r (own_level s) (Err f) k → OwnLevel r s (Err f) k
+
 abbrev pub moved : Move → Given → State → State
 moved m g s = record s { at = to m g.text s.at }
 
@@ -143,6 +163,9 @@ may (when f r q) g s = Either (seen f g s) (may r g) (may q g) s
 may (token told r) g s = OneToken told g (may r g) s
 may (loop turn a) g s = Turns g (λ b. may (turn b) g) a s
 may (ends_as kind at r) g s = Ending kind at (may r g) s
+may (change c) g s = Changed (changed c g s)
+may (with_bytes r) g s = WithBytes g (may r g) s
+may (a_level r) g s = OwnLevel (may r g) s
 
 -- ---- what is computed
 
@@ -170,6 +193,10 @@ abbrev pub with_end : {X : Type 0} → FaultKind → ℕ → Read X → Read X
 with_end kind at (Ok x) = Ok x
 with_end kind at (Err f) = Err (ended kind at f)
 
+abbrev pub nothing_read : Result State Fault → Read (Unit {0})
+nothing_read (Ok t) = Ok (tt, t)
+nothing_read (Err f) = Err f
+
 -- without `keep` no row of the tree grows, and what is read is only how far it goes
 abbrev pub does : {X : Type 0} → Form X → Bool → Given → State → Read X
 does (give x) keep g s = Ok (x, s)
@@ -182,3 +209,6 @@ does (when f r q) keep g s = if seen f g s then does r keep g s else does q keep
 does (token told r) keep g s = does r keep g s ▸ λ x t. Ok ((x, span g.offset s.at t.at), t)
 does (loop turn a) keep g s = turns g (λ b t. does (turn b) keep g t) a s
 does (ends_as kind at r) keep g s = with_end kind at (does r keep g s)
+does (change c) keep g s = nothing_read (changed c g s)
+does (with_bytes r) keep g s = does r keep g s ▸ λ x t. Ok ((x, raw g.text s.at t.at), t)
+does (a_level r) keep g s = does r keep g (own_level s) ▸ λ x t. Ok ((x, t.bodies), outer_level s t)

@@ -1,10 +1,11 @@
-pub mod Text
 pub mod Classes
 pub mod Standing
 pub mod Bytes
 pub mod Tokens
 pub mod Comments
 pub mod Pieces
+pub mod States
+pub mod HereDocuments
 pub mod Sights
 pub mod Form
 pub mod Words
@@ -21,3 +22,4 @@ pub mod Answers
 pub mod LineByLine
 pub mod Search
 pub mod Plain
+pub mod Unquoting

@@ -1,6 +1,6 @@
 -- What a row of the grammar may see from where the reading stands, and where it may move to: two closed lists. That a row looks
 -- no further than these do is shown once for each of them, and then holds of every row.
-use Rattle.std.specs.Prelude.{ℕ, ◌+◌, Bool, List, [], List as Row, Option}
+use Rattle.std.specs.Prelude.{ℕ, ◌+◌, Bool, List, Option}
 use Rattle.shread.specs.declared.mode.Mode.{Mode}
 use Rattle.shread.specs.declared.mode.Piece.{Piece}
 use Rattle.shread.specs.declared.token.Next.{Next}
@@ -11,31 +11,8 @@ use Rattle.shread.specs.Bytes.{past_continuations, behind, past_blanks}
 use Rattle.shread.specs.Tokens.{next_at, past_reserved, past_digits, is_name_at}
 use Rattle.shread.specs.Pieces.{piece_at, past_taken, past_closer, next_quote, next_in_backquotes, is_last_backslash, past_parameter, rest_mode}
 use Rattle.shread.specs.Comments.{comment_at, past_comment}
-
--- what is given to a reading: a text, and the offset of its first byte
-pub record Given : Type 0 where
-  pub text : List ℕ
-  pub offset : ℕ
-
-abbrev pub given : List ℕ → ℕ → Given
-given T o = record { text = T; offset = o }
-
--- a here-document that waits for the next newline token: where its operator stands, its delimiter, and how its body is read
-pub record Waiting : Type 0 where
-  pub operator : ℕ
-  pub delimiter : List ℕ
-  pub literal : Bool
-  pub strip : Bool
-
--- where the reading stands, the here-documents that wait there, and the bodies read so far
-pub record State : Type 0 where
-  pub at : ℕ
-  pub waiting : Row Waiting
-  pub bodies : Row Span
-
--- a place where nothing waits; no here-document is read yet
-abbrev pub standing : ℕ → State
-standing p = record { at = p; waiting = []; bodies = [] }
+pub use Rattle.shread.specs.States.{Given, given, Waiting, State, standing}
+use Rattle.shread.specs.HereDocuments.{first_waiting}
 
 -- ---- what may be seen
 
@@ -60,6 +37,8 @@ pub data Sight : Type 0 → Type 1 where
   the_comment : Sight (Option Span)
   -- the word that begins here is a NAME
   is_a_name : Sight Bool
+  -- the operator of the first here-document that waits
+  a_document_waits : Sight (Option ℕ)
 
 abbrev pub seen : {X : Type 0} → Sight X → Given → State → X
 seen here g s = g.offset + s.at
@@ -72,6 +51,7 @@ seen last_backslash g s = is_last_backslash g.text s.at
 seen (the_token position) g s = next_at position g.text s.at
 seen the_comment g s = comment_at g.text g.offset s.at
 seen is_a_name g s = is_name_at g.text s.at
+seen a_document_waits g s = first_waiting s
 
 -- ---- where a reading may move to
 

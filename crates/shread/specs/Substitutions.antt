@@ -3,11 +3,12 @@ use Rattle.std.specs.Prelude.{ℕ, false, List as Row}
 use Rattle.shread.specs.declared.fault.FaultKind.TheVariants.{UnclosedSubst}
 use Rattle.shread.specs.declared.token.Closing.TheVariants as closings
 use Rattle.shread.specs.declared.token.Position.TheVariants.{Command}
+use Rattle.shtree.specs.Bodies.{filled}
 use Rattle.shtree.specs.Tree.{Entries, ASubst, subst, entries_of}
 use Rattle.shread.specs.Sights.{here, one_byte}
-use Rattle.shread.specs.Form.{Form, give, see, move, push, ends_as, many, ◌>>=◌, ◌>>◌}
+use Rattle.shread.specs.Form.{Form, give, see, move, push, ends_as, many, a_level, ◌>>=◌, ◌>>◌}
 use Rattle.shread.specs.Words.{Inner}
-use Rattle.shread.specs.Commands.{next_token, pick, unexpected}
+use Rattle.shread.specs.Commands.{next_token, nothing_waits, pick, unexpected}
 use Rattle.shread.specs.Lists.{list_so, none_listed, list_turn}
 use Rattle.shread.specs.Compounds.{is_closing}
 
@@ -16,10 +17,10 @@ unfoldable pub substituted : Inner → Form Entries
 substituted inner =
     next_token Command >>= λ n.
     many (list_turn inner) (list_so (none_listed false) n) >>= λ l.
-    pick (is_closing closings.Paren l.next.token) (move one_byte >> give (entries_of l.list.entries)) (unexpected inner l.next)
+    pick (is_closing closings.Paren l.next.token) (nothing_waits >> move one_byte >> give (entries_of l.list.entries)) (unexpected inner l.next)
 
 -- The substitution whose `$` stands at the offset b, from behind its `(` on, as one more of these. It is not closed where the text
--- ends in it.
+-- ends in it. Its here-documents are its own.
 unfoldable pub a_substitution : Inner → ℕ → Row ASubst → Form (Row ASubst)
 a_substitution inner b ss =
-    ends_as UnclosedSubst b (substituted inner) >>= λ es. see here >>= λ q. push ss (subst es (record { start = b; «end» = q }))
+    a_level (ends_as UnclosedSubst b (substituted inner)) >>= λ es. see here >>= λ q. push ss (subst (filled es.1 es.0) (record { start = b; «end» = q }))

@@ -9,7 +9,7 @@ use Rattle.shread.specs.declared.token.Token.{Token}
 use Rattle.shread.specs.declared.token.Token.TheVariants as tokens
 use Rattle.shtree.specs.declared.tree.RedirectOperator.{RedirectOperator}
 use Rattle.shtree.specs.declared.tree.RedirectOperator.TheVariants as redirects
-use Rattle.shread.specs.Text.{is_newline}
+use Rattle.shtext.specs.Text.{is_newline}
 use Rattle.shread.specs.Classes.{is_digit, is_letter, is_name}
 use Rattle.shread.specs.Bytes.{byte_at, behind, stands, stands_in, ends_word, past, past_blanks, is_broken_at}
 

@@ -1,5 +1,5 @@
 //! All lines of a source as one script.
-ghost use Rattle.std.specs.Prelude.{◌≡◌, ◌≤◌, ◌++◌, length, IfOk, IfSome};
+ghost use Rattle.std.specs.Prelude.{◌≡◌, ◌≤◌, ◌++◌, length, IfOk, IfSome, IsOk};
 ghost use Rattle.shread.specs.Answers.{view_script};
 ghost use Rattle.shread.specs.Scripts.{script_at};
 ghost use Rattle.shtree.specs.Nodes.{AreWithin};
@@ -7,7 +7,7 @@ ghost use Rattle.shtree.specs.Nodes.{AreWithin};
 use crate::fault::ReadError;
 use crate::reader::Script;
 use crate::script_lines::{ScriptLine, ScriptLines};
-use crate::source::Source;
+use shtext::Source;
 use shtree::Entry;
 use shtree::make::list_of;
 use std::alloc::Global;
@@ -22,14 +22,22 @@ fn add(entries: &mut Vec<Entry>, mut line: Vec<Entry>) -> Result<(), ReadError>
     Ok(())
 }
 
-/// A whole script.
+/// A whole script. One without a byte wants no memory.
+#[tactic(auto, using(crate::proofs::LineKinds::nothing_read))]
 pub(crate) fn script_from<S: Source>(alloc: Global, source: &S) -> Result<Script, ReadError>
     ensures value { IfOk result (λ script. view_script script ≡ script_at (S.bytes source.now)) }
     ensures spans { IfOk result (λ script. AreWithin (length (S.bytes source.now)) (view_script script).entries) }
     ensures fault { IfOk result (λ script. IfSome script.fault (λ f. f.at ≤ length (S.bytes source.now))) }
+    ensures empty { length (S.bytes source.now) ≡ 0 → IsOk result }
 {
-    let mut lines = ScriptLines::new(alloc, source);
     let mut entries = Vec::new(alloc);
+    if source.len() == 0 {
+        return Ok(Script {
+            list: list_of(entries),
+            fault: None,
+        });
+    }
+    let mut lines = ScriptLines::new(alloc, source);
     'lines: loop {
         match lines.read_next()? {
             ScriptLine::Ended(line) => add(&mut entries, line)?,

@@ -1,7 +1,7 @@
 //! And-or lists: pipelines joined by `&&` and `||` (XCU 2.9.3).
 ghost use Rattle.std.specs.Prelude.{◌≡◌, ◌<◌, ◌≤◌, [], map, IfOk};
 ghost use Rattle.shread.specs.Bytes.{behind};
-ghost use Rattle.shread.specs.Clauses.{IsRead, Onward, Reads, Shows, Stays, text_of};
+ghost use Rattle.shread.specs.Clauses.{IsRead, Keeps, Onward, Reads, Shows, state_of, text_of};
 ghost use Rattle.shread.specs.Commands.{an_and_or, join_pipeline, joined_so, one_pipeline};
 ghost use Rattle.shread.specs.Form.{again, many, step_if};
 ghost use Rattle.shread.specs.Levels.{level};
@@ -9,8 +9,8 @@ ghost use Rattle.shtree.specs.View.{view_and_or, view_and_or_part};
 
 use crate::cursor::Cursor;
 use crate::fault::Stop;
-use crate::source::Source;
 use crate::token::Next;
+use shtext::Source;
 use shtree::make::{and_or_of, and_or_part_of};
 use shtree::{AndOr, AndOrOperator, AndOrPart};
 use std::alloc::Global;
@@ -31,10 +31,10 @@ impl<'a, S: Source> Cursor<'a, S> {
         requires second { IsRead (text_of S.bytes self.old) (behind (text_of S.bytes self.old) self.old.at) }
         ensures value { Reads S.bytes self.old
             (one_pipeline (level room) (joined_so (map view_and_or_part parts.old.items) next.old) operator) result
-            (λ done. again (joined_so (map view_and_or_part parts.new.items) next.new)) self.new.at }
+            (λ done. again (joined_so (map view_and_or_part parts.new.items) next.new)) (state_of self.new) }
         ensures shows { IfOk result (λ done. Shows next.new.token (text_of S.bytes self.old) self.new.at) }
         ensures onward { IfOk result (λ done. self.old.at < self.new.at) }
-        ensures same { Stays self.old self.new }
+        ensures same { Keeps self.old self.new }
     {
         self.bump();
         self.bump();
@@ -60,10 +60,10 @@ impl<'a, S: Source> Cursor<'a, S> {
         requires shows { Shows next.old.token (text_of S.bytes self.old) self.old.at }
         ensures value { Reads S.bytes self.old
             (join_pipeline (level room) (joined_so (map view_and_or_part parts.old.items) next.old)) result
-            (λ more. step_if more (joined_so (map view_and_or_part parts.new.items) next.new)) self.new.at }
+            (λ more. step_if more (joined_so (map view_and_or_part parts.new.items) next.new)) (state_of self.new) }
         ensures shows { IfOk result (λ more. Shows next.new.token (text_of S.bytes self.old) self.new.at) }
         ensures onward { IfOk result (Onward self.old.at self.new.at) }
-        ensures same { Stays self.old self.new }
+        ensures same { Keeps self.old self.new }
     {
         let Some(operator) = next.token.and_or_operator() else {
             return Ok(false);
@@ -84,10 +84,10 @@ impl<'a, S: Source> Cursor<'a, S> {
     ) -> Result<Vec<AndOrPart>, Stop>
         requires shows { Shows next.old.token (text_of S.bytes self.old) self.old.at }
         ensures value { Reads S.bytes self.old (many (join_pipeline (level room)) (joined_so [] next.old)) result
-            (λ parts. joined_so (map view_and_or_part parts.items) next.new) self.new.at }
+            (λ parts. joined_so (map view_and_or_part parts.items) next.new) (state_of self.new) }
         ensures shows { IfOk result (λ parts. Shows next.new.token (text_of S.bytes self.old) self.new.at) }
         ensures onward { IfOk result (λ parts. self.old.at ≤ self.new.at) }
-        ensures same { Stays self.old self.new }
+        ensures same { Keeps self.old self.new }
     {
         let mut parts = Vec::new(alloc);
         'turns: while self.join_pipeline(alloc, next, &mut parts, room)? {}
@@ -106,10 +106,10 @@ impl<'a, S: Source> Cursor<'a, S> {
     ) -> Result<AndOr, Stop>
         requires shows { Shows next.old.token (text_of S.bytes self.old) self.old.at }
         ensures value { Reads S.bytes self.old (an_and_or (level room) next.old) result
-            (λ and_or. (view_and_or and_or, next.new)) self.new.at }
+            (λ and_or. (view_and_or and_or, next.new)) (state_of self.new) }
         ensures shows { IfOk result (λ and_or. Shows next.new.token (text_of S.bytes self.old) self.new.at) }
         ensures onward { IfOk result (λ and_or. self.old.at ≤ self.new.at) }
-        ensures same { Stays self.old self.new }
+        ensures same { Keeps self.old self.new }
     {
         let first = self.pipeline(alloc, next, room)?;
         let rest = self.joined_pipelines(alloc, next, room)?;

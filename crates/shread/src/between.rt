@@ -1,15 +1,14 @@
 //! What may stand between commands: comments, newlines, separators, and what no row takes (XCU 2.3, 2.9.3).
 ghost use Rattle.std.specs.Prelude.{◌≡◌, ◌≤◌, IfOk, Ok as Done, is_some, option_map};
-ghost use Rattle.shread.specs.Clauses.{end_of, Onward, Reads, reads, Shows, Stays, text_of};
+ghost use Rattle.shread.specs.Clauses.{end_of, Keeps, Onward, reads, Reads, Shows, state_of, Stays, text_of};
 ghost use Rattle.shread.specs.Commands.{a_comment, a_newline, a_semicolon, a_separator, what_is_wrong};
 ghost use Rattle.shread.specs.Levels.{level};
-ghost use Rattle.shread.specs.Sights.{standing};
 ghost use Rattle.shtree.specs.View.{view_comment};
 
 use crate::cursor::Cursor;
 use crate::fault::{Fault, FaultKind, Stop};
-use crate::source::Source;
 use crate::token::{Next, Position, Separator, Token};
+use shtext::Source;
 use shtree::Comment;
 use std::alloc::Global;
 
@@ -19,7 +18,7 @@ impl<'a, S: Source> Cursor<'a, S> {
     #[tactic(auto, unfolding(crate::specs::Commands::a_comment, crate::specs::Commands::next_token, crate::specs::Comments::comment_at))]
     pub(crate) fn remark(&mut self, next: &mut Next) -> Option<Comment>
         requires shows { Shows next.old.token (text_of S.bytes self.old) self.old.at }
-        ensures value { reads S.bytes self.old (a_comment next.old) ≡ Done ((option_map view_comment result, next.new), standing self.new.at) }
+        ensures value { reads S.bytes self.old (a_comment next.old) ≡ Done ((option_map view_comment result, next.new), state_of self.new) }
         ensures shows { Shows next.new.token (text_of S.bytes self.old) self.new.at }
         ensures onward { self.old.at ≤ self.new.at }
         ensures same { Stays self.old self.new }
@@ -36,29 +35,30 @@ impl<'a, S: Source> Cursor<'a, S> {
         }
     }
 
-    /// Passes the newline here, if one stands. `next` is the token here, and then the one behind it.
+    /// Passes the newline here with the bodies that follow it, if one stands. `next` is the token here, and then the one behind it.
     #[inline(always)]
     #[tactic(auto, unfolding(crate::specs::Commands::a_newline, crate::specs::Commands::next_token))]
-    pub(crate) fn newline(&mut self, next: &mut Next) -> bool
+    pub(crate) fn newline(&mut self, next: &mut Next) -> Result<bool, Stop>
         requires shows { Shows next.old.token (text_of S.bytes self.old) self.old.at }
-        ensures value { reads S.bytes self.old (a_newline next.old) ≡ Done ((result, next.new), standing self.new.at) }
-        ensures shows { Shows next.new.token (text_of S.bytes self.old) self.new.at }
-        ensures onward { Onward self.old.at self.new.at result }
-        ensures same { Stays self.old self.new }
+        ensures value { Reads S.bytes self.old (a_newline next.old) result (λ more. (more, next.new)) (state_of self.new) }
+        ensures shows { IfOk result (λ more. Shows next.new.token (text_of S.bytes self.old) self.new.at) }
+        ensures onward { IfOk result (Onward self.old.at self.new.at) }
+        ensures same { Keeps self.old self.new }
     {
         let Token::Newline = next.token else {
-            return false;
+            return Ok(false);
         };
         self.step();
+        self.bodies_here()?;
         *next = self.next_token(Position::Command);
-        true
+        Ok(true)
     }
 
     /// Passes the `;` here, if one stands. `next` is the token here, and then the one behind it.
     #[tactic(auto, unfolding(crate::specs::Commands::a_semicolon, crate::specs::Commands::next_token))]
     pub(crate) fn semicolon(&mut self, next: &mut Next) -> bool
         requires shows { Shows next.old.token (text_of S.bytes self.old) self.old.at }
-        ensures value { reads S.bytes self.old (a_semicolon next.old) ≡ Done ((result, next.new), standing self.new.at) }
+        ensures value { reads S.bytes self.old (a_semicolon next.old) ≡ Done ((result, next.new), state_of self.new) }
         ensures shows { Shows next.new.token (text_of S.bytes self.old) self.new.at }
         ensures onward { Onward self.old.at self.new.at result }
         ensures same { Stays self.old self.new }
@@ -77,7 +77,7 @@ impl<'a, S: Source> Cursor<'a, S> {
     #[tactic(auto, unfolding(crate::specs::Commands::a_separator, crate::specs::Commands::next_token))]
     pub(crate) fn separator(&mut self, next: &mut Next) -> Option<(Separator, usize)>
         requires shows { Shows next.old.token (text_of S.bytes self.old) self.old.at }
-        ensures value { reads S.bytes self.old (a_separator next.old) ≡ Done ((result, next.new), standing self.new.at) }
+        ensures value { reads S.bytes self.old (a_separator next.old) ≡ Done ((result, next.new), state_of self.new) }
         ensures shows { Shows next.new.token (text_of S.bytes self.old) self.new.at }
         ensures onward { Onward self.old.at self.new.at (is_some result) }
         ensures same { Stays self.old self.new }
@@ -100,9 +100,9 @@ impl<'a, S: Source> Cursor<'a, S> {
     ) -> Result<Fault, Stop>
         requires { Shows next.old.token (text_of S.bytes self.old) self.old.at }
         ensures value { Reads S.bytes self.old (what_is_wrong (level room) next.old) result
-            (λ fault. (fault.kind, fault.at)) self.new.at }
+            (λ fault. (fault.kind, fault.at)) (state_of self.new) }
         ensures within { IfOk result (λ fault. fault.at ≤ end_of S.bytes self.old) }
-        ensures same { Stays self.old self.new }
+        ensures same { Keeps self.old self.new }
     {
         if next.token.begins_word() {
             let at = self.origin + self.at;
@@ -113,13 +113,22 @@ impl<'a, S: Source> Cursor<'a, S> {
             });
         }
         let _ = self.remark(next);
-        let kind = match next.token {
-            Token::End => FaultKind::UnexpectedEnd,
-            _ => FaultKind::Unexpected,
+        let at = self.origin + self.at;
+        let Token::End = next.token else {
+            return Ok(Fault {
+                kind: FaultKind::Unexpected,
+                at,
+            });
         };
-        Ok(Fault {
-            kind,
-            at: self.origin + self.at,
+        Ok(match self.first_waiting() {
+            Some(operator) => Fault {
+                kind: FaultKind::UnclosedHere,
+                at: operator,
+            },
+            None => Fault {
+                kind: FaultKind::UnexpectedEnd,
+                at,
+            },
         })
     }
 }

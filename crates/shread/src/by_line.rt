@@ -3,7 +3,8 @@
 use crate::dump::{Judge, dump_end, dump_fault};
 use crate::table::{Cell, joined, rows, split};
 use crate::trees::ROWS;
-use crate::{Fault, Flat, LineKind, Reader};
+use crate::{Fault, LineKind, Reader};
+use shtext::Flat;
 use shtree::{Command, Content, List};
 use std::alloc::Global;
 use std::test::Fail;

@@ -7,8 +7,8 @@ ghost use Rattle.shread.specs.Standing.{raw_in};
 
 use crate::cursor::Cursor;
 use crate::plain::ends_words;
-use crate::source::Source;
 use crate::token::Class;
+use shtext::Source;
 
 impl<'a, S: Source> Cursor<'a, S> {
     /// The place past the continuations at a place. Most often none stands there.

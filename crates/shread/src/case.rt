@@ -1,19 +1,18 @@
 //! `case` (XCU 2.9.4.3): its word and its items.
 ghost use Rattle.std.specs.Prelude.{◌≡◌, ◌<◌, ◌≤◌, [], false, map, IfOk, Ok as Done};
 ghost use Rattle.shread.specs.Bytes.{behind, ends_word};
-ghost use Rattle.shread.specs.Clauses.{IsRead, Onward, Reads, reads, Shows, Stays, text_of};
+ghost use Rattle.shread.specs.Clauses.{IsRead, Keeps, Onward, reads, Reads, Shows, state_of, Stays, text_of};
 ghost use Rattle.shread.specs.Compounds.{a_case, a_case_head, a_case_word, a_double_semicolon, a_pattern, a_pattern_list, an_item_end, an_open_bracket, body_end, case_turn, closed, item_end, one_case, one_pattern, pattern_turn, patterned};
 ghost use Rattle.shread.specs.Form.{again, many, step_if};
 ghost use Rattle.shread.specs.Levels.{level};
 ghost use Rattle.shread.specs.Listed.{view_cases, view_listed};
-ghost use Rattle.shread.specs.Sights.{standing};
 ghost use Rattle.shtree.specs.View.{view_form, view_join, view_word};
 
 use crate::cursor::Cursor;
 use crate::fault::Stop;
 use crate::list::Listed;
-use crate::source::Source;
 use crate::token::{Closing, Next, Position, Token};
+use shtext::Source;
 use shtree::make::{case_item_of, case_of, list_of};
 use shtree::{CaseItem, Comment, Form, Join, Span, Word, commands_end};
 use std::alloc::Global;
@@ -52,10 +51,10 @@ impl<'a, S: Source> Cursor<'a, S> {
     fn case_word(&mut self, alloc: Global, next: &mut Next, room: usize) -> Result<Word, Stop>
         requires shows { Shows next.old.token (text_of S.bytes self.old) self.old.at }
         ensures value { Reads S.bytes self.old (a_case_word (level room) next.old) result
-            (λ word. (view_word word, next.new)) self.new.at }
+            (λ word. (view_word word, next.new)) (state_of self.new) }
         ensures shows { IfOk result (λ word. Shows next.new.token (text_of S.bytes self.old) self.new.at) }
         ensures onward { IfOk result (λ word. self.old.at ≤ self.new.at) }
-        ensures same { Stays self.old self.new }
+        ensures same { Keeps self.old self.new }
     {
         if !next.token.begins_word() {
             return Err(Stop::Wrong(self.what_is_wrong(alloc, next, room)?));
@@ -79,10 +78,10 @@ impl<'a, S: Source> Cursor<'a, S> {
     ) -> Result<(), Stop>
         requires { ends_word (text_of S.bytes self.old) self.old.at ≡ false }
         ensures value { Reads S.bytes self.old (a_pattern (level room) (map view_word patterns.old.items)) result
-            (λ done. patterned (map view_word patterns.new.items) next.new) self.new.at }
+            (λ done. patterned (map view_word patterns.new.items) next.new) (state_of self.new) }
         ensures shows { IfOk result (λ done. Shows next.new.token (text_of S.bytes self.old) self.new.at) }
         ensures onward { IfOk result (λ done. self.old.at < self.new.at) }
-        ensures same { Stays self.old self.new }
+        ensures same { Keeps self.old self.new }
     {
         let start = self.at;
         let substs = self.pass_word(alloc, room)?;
@@ -105,10 +104,10 @@ impl<'a, S: Source> Cursor<'a, S> {
     ) -> Result<(), Stop>
         requires { IsRead (text_of S.bytes self.old) self.old.at }
         ensures value { Reads S.bytes self.old (one_pattern (level room) (map view_word patterns.old.items)) result
-            (λ done. again (patterned (map view_word patterns.new.items) next.new)) self.new.at }
+            (λ done. again (patterned (map view_word patterns.new.items) next.new)) (state_of self.new) }
         ensures shows { IfOk result (λ done. Shows next.new.token (text_of S.bytes self.old) self.new.at) }
         ensures onward { IfOk result (λ done. self.old.at < self.new.at) }
-        ensures same { Stays self.old self.new }
+        ensures same { Keeps self.old self.new }
     {
         self.bump();
         *next = self.next_token(Position::Suffix);
@@ -130,10 +129,10 @@ impl<'a, S: Source> Cursor<'a, S> {
     ) -> Result<bool, Stop>
         requires shows { Shows next.old.token (text_of S.bytes self.old) self.old.at }
         ensures value { Reads S.bytes self.old (pattern_turn (level room) (patterned (map view_word patterns.old.items) next.old)) result
-            (λ more. step_if more (patterned (map view_word patterns.new.items) next.new)) self.new.at }
+            (λ more. step_if more (patterned (map view_word patterns.new.items) next.new)) (state_of self.new) }
         ensures shows { IfOk result (λ more. Shows next.new.token (text_of S.bytes self.old) self.new.at) }
         ensures onward { IfOk result (Onward self.old.at self.new.at) }
-        ensures same { Stays self.old self.new }
+        ensures same { Keeps self.old self.new }
     {
         let Token::Pipe = next.token else {
             return Ok(false);
@@ -154,10 +153,10 @@ impl<'a, S: Source> Cursor<'a, S> {
     ) -> Result<(), Stop>
         requires shows { Shows next.old.token (text_of S.bytes self.old) self.old.at }
         ensures value { Reads S.bytes self.old (many (pattern_turn (level room)) (patterned (map view_word patterns.old.items) next.old)) result
-            (λ done. patterned (map view_word patterns.new.items) next.new) self.new.at }
+            (λ done. patterned (map view_word patterns.new.items) next.new) (state_of self.new) }
         ensures shows { IfOk result (λ done. Shows next.new.token (text_of S.bytes self.old) self.new.at) }
         ensures onward { IfOk result (λ done. self.old.at ≤ self.new.at) }
-        ensures same { Stays self.old self.new }
+        ensures same { Keeps self.old self.new }
     {
         'turns: while self.pattern_turn(alloc, next, patterns, room)? {}
         Ok(())
@@ -169,10 +168,10 @@ impl<'a, S: Source> Cursor<'a, S> {
     fn patterns(&mut self, alloc: Global, next: &mut Next, room: usize) -> Result<Vec<Word>, Stop>
         requires shows { Shows next.old.token (text_of S.bytes self.old) self.old.at }
         ensures value { Reads S.bytes self.old (a_pattern_list (level room) next.old) result
-            (λ patterns. patterned (map view_word patterns.items) next.new) self.new.at }
+            (λ patterns. patterned (map view_word patterns.items) next.new) (state_of self.new) }
         ensures shows { IfOk result (λ patterns. Shows next.new.token (text_of S.bytes self.old) self.new.at) }
         ensures onward { IfOk result (λ patterns. self.old.at ≤ self.new.at) }
-        ensures same { Stays self.old self.new }
+        ensures same { Keeps self.old self.new }
     {
         if !next.token.begins_pattern() {
             return Err(Stop::Wrong(self.what_is_wrong(alloc, next, room)?));
@@ -187,7 +186,7 @@ impl<'a, S: Source> Cursor<'a, S> {
     #[tactic(auto, unfolding(crate::specs::Compounds::an_open_bracket, crate::specs::Commands::next_token))]
     fn open_bracket(&mut self, next: &mut Next)
         requires shows { Shows next.old.token (text_of S.bytes self.old) self.old.at }
-        ensures value { reads S.bytes self.old (an_open_bracket next.old) ≡ Done (next.new, standing self.new.at) }
+        ensures value { reads S.bytes self.old (an_open_bracket next.old) ≡ Done (next.new, state_of self.new) }
         ensures shows { Shows next.new.token (text_of S.bytes self.old) self.new.at }
         ensures onward { self.old.at ≤ self.new.at }
         ensures same { Stays self.old self.new }
@@ -206,10 +205,10 @@ impl<'a, S: Source> Cursor<'a, S> {
         requires first { IsRead (text_of S.bytes self.old) self.old.at }
         requires second { IsRead (text_of S.bytes self.old) (behind (text_of S.bytes self.old) self.old.at) }
         ensures value { Reads S.bytes self.old a_double_semicolon result
-            (λ end. item_end end (view_join lines.new).comments next.new) self.new.at }
+            (λ end. item_end end (view_join lines.new).comments next.new) (state_of self.new) }
         ensures shows { IfOk result (λ end. Shows next.new.token (text_of S.bytes self.old) self.new.at) }
         ensures onward { IfOk result (λ end. self.old.at ≤ self.new.at) }
-        ensures same { Stays self.old self.new }
+        ensures same { Keeps self.old self.new }
     {
         self.bump();
         self.bump();
@@ -234,10 +233,10 @@ impl<'a, S: Source> Cursor<'a, S> {
         requires none { (view_join lines.old).comments ≡ [] }
         requires shows { Shows next.old.token (text_of S.bytes self.old) self.old.at }
         ensures value { Reads S.bytes self.old (an_item_end (level room) there next.old) result
-            (λ end. item_end end (view_join lines.new).comments next.new) self.new.at }
+            (λ end. item_end end (view_join lines.new).comments next.new) (state_of self.new) }
         ensures shows { IfOk result (λ end. Shows next.new.token (text_of S.bytes self.old) self.new.at) }
         ensures onward { IfOk result (λ end. self.old.at ≤ self.new.at) }
-        ensures same { Stays self.old self.new }
+        ensures same { Keeps self.old self.new }
     {
         if let Token::DoubleSemicolon = next.token {
             return self.double_semicolon(next, lines);
@@ -260,10 +259,10 @@ impl<'a, S: Source> Cursor<'a, S> {
     ) -> Result<(), Stop>
         requires shows { Shows next.old.token (text_of S.bytes self.old) self.old.at }
         ensures value { Reads S.bytes self.old (one_case (level room) (view_cases cases.old next.old)) result
-            (λ done. again (view_cases cases.new next.new)) self.new.at }
+            (λ done. again (view_cases cases.new next.new)) (state_of self.new) }
         ensures shows { IfOk result (λ done. Shows next.new.token (text_of S.bytes self.old) self.new.at) }
         ensures onward { IfOk result (λ done. self.old.at < self.new.at) }
-        ensures same { Stays self.old self.new }
+        ensures same { Keeps self.old self.new }
     {
         let start = self.origin + self.at;
         self.open_bracket(next);
@@ -295,10 +294,10 @@ impl<'a, S: Source> Cursor<'a, S> {
     ) -> Result<bool, Stop>
         requires shows { Shows next.old.token (text_of S.bytes self.old) self.old.at }
         ensures value { Reads S.bytes self.old (case_turn (level room) (view_cases cases.old next.old)) result
-            (λ more. step_if more (view_cases cases.new next.new)) self.new.at }
+            (λ more. step_if more (view_cases cases.new next.new)) (state_of self.new) }
         ensures shows { IfOk result (λ more. Shows next.new.token (text_of S.bytes self.old) self.new.at) }
         ensures onward { IfOk result (Onward self.old.at self.new.at) }
-        ensures same { Stays self.old self.new }
+        ensures same { Keeps self.old self.new }
     {
         if next.token.is_closing(Closing::Esac) {
             return Ok(false);
@@ -319,10 +318,10 @@ impl<'a, S: Source> Cursor<'a, S> {
     ) -> Result<(), Stop>
         requires shows { Shows next.old.token (text_of S.bytes self.old) self.old.at }
         ensures value { Reads S.bytes self.old (many (case_turn (level room)) (view_cases cases.old next.old)) result
-            (λ done. view_cases cases.new next.new) self.new.at }
+            (λ done. view_cases cases.new next.new) (state_of self.new) }
         ensures shows { IfOk result (λ done. Shows next.new.token (text_of S.bytes self.old) self.new.at) }
         ensures onward { IfOk result (λ done. self.old.at ≤ self.new.at) }
-        ensures same { Stays self.old self.new }
+        ensures same { Keeps self.old self.new }
     {
         'turns: while self.case_turn(alloc, next, cases, room)? {}
         Ok(())
@@ -341,10 +340,10 @@ impl<'a, S: Source> Cursor<'a, S> {
         requires none { (view_join lines.old).comments ≡ [] }
         requires shows { Shows next.old.token (text_of S.bytes self.old) self.old.at }
         ensures value { Reads S.bytes self.old (a_case_head (level room) next.old) result
-            (λ word. (view_word word, (view_join lines.new).comments, next.new)) self.new.at }
+            (λ word. (view_word word, (view_join lines.new).comments, next.new)) (state_of self.new) }
         ensures shows { IfOk result (λ word. Shows next.new.token (text_of S.bytes self.old) self.new.at) }
         ensures onward { IfOk result (λ word. self.old.at ≤ self.new.at) }
-        ensures same { Stays self.old self.new }
+        ensures same { Keeps self.old self.new }
     {
         let word = self.case_word(alloc, next, room)?;
         self.linebreak(next, lines)?;
@@ -364,10 +363,10 @@ impl<'a, S: Source> Cursor<'a, S> {
     ) -> Result<(Form, Span), Stop>
         requires shows { Shows next.old.token (text_of S.bytes self.old) self.old.at }
         ensures value { Reads S.bytes self.old (a_case (level room) next.old) result
-            (λ x. closed (view_form x.0) (x.1, next.new)) self.new.at }
+            (λ x. closed (view_form x.0) (x.1, next.new)) (state_of self.new) }
         ensures shows { IfOk result (λ x. Shows next.new.token (text_of S.bytes self.old) self.new.at) }
         ensures onward { IfOk result (λ x. self.old.at ≤ self.new.at) }
-        ensures same { Stays self.old self.new }
+        ensures same { Keeps self.old self.new }
     {
         let mut cases = Cases {
             items: Vec::new(alloc),

@@ -1,7 +1,7 @@
 //! Commands, and the simple ones among them (XCU 2.9, 2.9.1).
 ghost use Rattle.std.specs.Prelude.{◌≡◌, ◌<◌, ◌≤◌, false, map, IfOk, Some};
 ghost use Rattle.shread.specs.Bytes.{ends_word};
-ghost use Rattle.shread.specs.Clauses.{Onward, Reads, Shows, Stays, text_of};
+ghost use Rattle.shread.specs.Clauses.{Keeps, Onward, Reads, Shows, state_of, text_of};
 ghost use Rattle.shread.specs.Commands.{a_command, a_simple, a_worded, an_item, as_item, behind_word, item_turn, so_many};
 ghost use Rattle.shread.specs.declared.token.Position.TheVariants.{Suffix};
 ghost use Rattle.shread.specs.declared.token.Position.{Position};
@@ -12,8 +12,8 @@ ghost use Rattle.shread.specs.Levels.{level};
 
 use crate::cursor::Cursor;
 use crate::fault::Stop;
-use crate::source::Source;
 use crate::token::{Next, Position, Token};
+use shtext::Source;
 use shtree::make::{argument_of, assign_of, simple_of};
 use shtree::{Command, Item, Word};
 use std::alloc::Global;
@@ -42,10 +42,10 @@ impl<'a, S: Source> Cursor<'a, S> {
     ) -> Result<(), Stop>
         requires { ends_word (text_of S.bytes self.old) self.old.at ≡ false }
         ensures value { (place : Position) → Reads S.bytes self.old (an_item (level room) (so_many (map view_item items.old.items) place next.old) position) result
-            (λ done. again (so_many (map view_item items.new.items) position next.new)) self.new.at }
+            (λ done. again (so_many (map view_item items.new.items) position next.new)) (state_of self.new) }
         ensures shows { IfOk result (λ done. Shows next.new.token (text_of S.bytes self.old) self.new.at) }
         ensures onward { IfOk result (λ done. self.old.at < self.new.at) }
-        ensures same { Stays self.old self.new }
+        ensures same { Keeps self.old self.new }
     {
         let start = self.at;
         let substs = self.pass_word(alloc, room)?;
@@ -78,10 +78,10 @@ impl<'a, S: Source> Cursor<'a, S> {
     ) -> Result<bool, Stop>
         requires shows { Shows next.old.token (text_of S.bytes self.old) self.old.at }
         ensures value { Reads S.bytes self.old (item_turn (level room) (so_many (map view_item items.old.items) place.old next.old)) result
-            (λ more. step_if more (so_many (map view_item items.new.items) place.new next.new)) self.new.at }
+            (λ more. step_if more (so_many (map view_item items.new.items) place.new next.new)) (state_of self.new) }
         ensures shows { IfOk result (λ more. Shows next.new.token (text_of S.bytes self.old) self.new.at) }
         ensures onward { IfOk result (Onward self.old.at self.new.at) }
-        ensures same { Stays self.old self.new }
+        ensures same { Keeps self.old self.new }
     {
         if let Some(position) = next.token.behind_word() {
             *place = position;
@@ -111,10 +111,10 @@ impl<'a, S: Source> Cursor<'a, S> {
     ) -> Result<(), Stop>
         requires shows { Shows next.old.token (text_of S.bytes self.old) self.old.at }
         ensures value { Reads S.bytes self.old (many (item_turn (level room)) (so_many (map view_item items.old.items) place.old next.old)) result
-            (λ done. so_many (map view_item items.new.items) place.new next.new) self.new.at }
+            (λ done. so_many (map view_item items.new.items) place.new next.new) (state_of self.new) }
         ensures shows { IfOk result (λ done. Shows next.new.token (text_of S.bytes self.old) self.new.at) }
         ensures onward { IfOk result (λ done. self.old.at ≤ self.new.at) }
-        ensures same { Stays self.old self.new }
+        ensures same { Keeps self.old self.new }
     {
         'turns: while self.next_item(alloc, next, items, place, room)? {}
         Ok(())
@@ -135,10 +135,10 @@ impl<'a, S: Source> Cursor<'a, S> {
     ) -> Result<Command, Stop>
         requires shows { Shows next.old.token (text_of S.bytes self.old) self.old.at }
         ensures value { Reads S.bytes self.old (a_simple (level room) (so_many (map view_item items.items) place next.old)) result
-            (λ command. (view_command command, next.new)) self.new.at }
+            (λ command. (view_command command, next.new)) (state_of self.new) }
         ensures shows { IfOk result (λ command. Shows next.new.token (text_of S.bytes self.old) self.new.at) }
         ensures onward { IfOk result (λ command. self.old.at ≤ self.new.at) }
-        ensures same { Stays self.old self.new }
+        ensures same { Keeps self.old self.new }
     {
         self.items(alloc, next, &mut items, &mut place, room)?;
         Ok(simple_of(items))
@@ -151,10 +151,10 @@ impl<'a, S: Source> Cursor<'a, S> {
         requires shows { Shows next.old.token (text_of S.bytes self.old) self.old.at }
         requires word { behind_word next.old.token ≡ Some Suffix }
         ensures value { Reads S.bytes self.old (a_worded (level room)) result
-            (λ command. (view_command command, next.new)) self.new.at }
+            (λ command. (view_command command, next.new)) (state_of self.new) }
         ensures shows { IfOk result (λ command. Shows next.new.token (text_of S.bytes self.old) self.new.at) }
         ensures onward { IfOk result (λ command. self.old.at ≤ self.new.at) }
-        ensures same { Stays self.old self.new }
+        ensures same { Keeps self.old self.new }
     {
         let start = self.at;
         let substs = self.pass_word(alloc, room)?;
@@ -186,10 +186,10 @@ impl<'a, S: Source> Cursor<'a, S> {
     ) -> Result<Command, Stop>
         requires shows { Shows next.old.token (text_of S.bytes self.old) self.old.at }
         ensures value { Reads S.bytes self.old (a_command (level room) next.old) result
-            (λ command. (view_command command, next.new)) self.new.at }
+            (λ command. (view_command command, next.new)) (state_of self.new) }
         ensures shows { IfOk result (λ command. Shows next.new.token (text_of S.bytes self.old) self.new.at) }
         ensures onward { IfOk result (λ command. self.old.at ≤ self.new.at) }
-        ensures same { Stays self.old self.new }
+        ensures same { Keeps self.old self.new }
     {
         match next.token {
             Token::Word => self.worded(alloc, next, room),

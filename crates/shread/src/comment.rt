@@ -7,8 +7,8 @@ ghost use Rattle.shtree.specs.View.{view_comment};
 
 use crate::cursor::Cursor;
 use crate::search::Sought;
-use crate::source::Source;
 use crate::token::Class;
+use shtext::Source;
 use shtree::{Comment, Span};
 
 impl<'a, S: Source> Cursor<'a, S> {

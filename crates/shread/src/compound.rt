@@ -1,17 +1,16 @@
 //! Compound commands: groups, `if` and loops (XCU 2.9.4). `for` stands in [`crate::for_loop`], `case` in [`crate::case`].
 ghost use Rattle.std.specs.Prelude.{◌≡◌, ◌<◌, ◌≤◌, [], map, IfOk, Ok as Done, false};
-ghost use Rattle.shread.specs.Clauses.{IsRead, Onward, Reads, reads, Shows, Stays, text_of};
+ghost use Rattle.shread.specs.Clauses.{IsRead, Keeps, Onward, reads, Reads, Shows, state_of, Stays, text_of};
 ghost use Rattle.shread.specs.Compounds.{a_branch, a_form, a_group, a_loop, an_else, an_if, branched, closed, closing, elif_turn, passed};
 ghost use Rattle.shread.specs.Form.{many, Spelled, step_if};
 ghost use Rattle.shread.specs.Levels.{level};
-ghost use Rattle.shread.specs.Sights.{standing};
 ghost use Rattle.shread.specs.Tokens.{is_end};
 ghost use Rattle.shtree.specs.View.{view_branch, view_command, view_form, view_list, view_otherwise};
 
 use crate::cursor::Cursor;
 use crate::fault::{FaultKind, Stop};
-use crate::source::Source;
 use crate::token::{Closing, Next, Opener, Position};
+use shtext::Source;
 use shtree::make::{
     brace_of, branch_of, compound_command, compound_of, if_of, simple_of, subshell_of, until_of,
     while_of,
@@ -24,7 +23,7 @@ impl<'a, S: Source> Cursor<'a, S> {
     #[tactic(auto, unfolding(crate::specs::Compounds::passed, crate::specs::Commands::next_token))]
     pub(crate) fn passed(&mut self, paren: bool, position: Position, next: &mut Next) -> Span
         requires { IsRead (text_of S.bytes self.old) self.old.at }
-        ensures value { (text : Spelled) → reads S.bytes self.old (passed text paren position) ≡ Done ((result, next.new), standing self.new.at) }
+        ensures value { (text : Spelled) → reads S.bytes self.old (passed text paren position) ≡ Done ((result, next.new), state_of self.new) }
         ensures shows { Shows next.new.token (text_of S.bytes self.old) self.new.at }
         ensures onward { self.old.at < self.new.at }
         ensures same { Stays self.old self.new }
@@ -51,10 +50,10 @@ impl<'a, S: Source> Cursor<'a, S> {
         room: usize,
     ) -> Result<Span, Stop>
         requires shows { Shows next.old.token (text_of S.bytes self.old) self.old.at }
-        ensures value { Reads S.bytes self.old (closing (level room) what next.old) result (λ span. (span, next.new)) self.new.at }
+        ensures value { Reads S.bytes self.old (closing (level room) what next.old) result (λ span. (span, next.new)) (state_of self.new) }
         ensures shows { IfOk result (λ span. Shows next.new.token (text_of S.bytes self.old) self.new.at) }
         ensures onward { IfOk result (λ span. self.old.at < self.new.at) }
-        ensures same { Stays self.old self.new }
+        ensures same { Keeps self.old self.new }
     {
         if !next.token.is_closing(what) {
             return Err(Stop::Wrong(self.what_is_wrong(alloc, next, room)?));
@@ -74,10 +73,10 @@ impl<'a, S: Source> Cursor<'a, S> {
     ) -> Result<(List, Span), Stop>
         requires shows { Shows next.old.token (text_of S.bytes self.old) self.old.at }
         ensures value { Reads S.bytes self.old (a_group (level room) what next.old) result
-            (λ x. closed (view_list x.0) (x.1, next.new)) self.new.at }
+            (λ x. closed (view_list x.0) (x.1, next.new)) (state_of self.new) }
         ensures shows { IfOk result (λ x. Shows next.new.token (text_of S.bytes self.old) self.new.at) }
         ensures onward { IfOk result (λ x. self.old.at ≤ self.new.at) }
-        ensures same { Stays self.old self.new }
+        ensures same { Keeps self.old self.new }
     {
         let list = self.list(alloc, next, room)?;
         let closer = self.closing(alloc, what, next, room)?;
@@ -90,10 +89,10 @@ impl<'a, S: Source> Cursor<'a, S> {
     fn branch(&mut self, alloc: Global, next: &mut Next, room: usize) -> Result<Branch, Stop>
         requires shows { Shows next.old.token (text_of S.bytes self.old) self.old.at }
         ensures value { Reads S.bytes self.old (a_branch (level room) next.old) result
-            (λ branch. (view_branch branch, next.new)) self.new.at }
+            (λ branch. (view_branch branch, next.new)) (state_of self.new) }
         ensures shows { IfOk result (λ branch. Shows next.new.token (text_of S.bytes self.old) self.new.at) }
         ensures onward { IfOk result (λ branch. self.old.at ≤ self.new.at) }
-        ensures same { Stays self.old self.new }
+        ensures same { Keeps self.old self.new }
     {
         let condition = self.list(alloc, next, room)?;
         self.closing(alloc, Closing::Then, next, room)?;
@@ -113,10 +112,10 @@ impl<'a, S: Source> Cursor<'a, S> {
     ) -> Result<bool, Stop>
         requires shows { Shows next.old.token (text_of S.bytes self.old) self.old.at }
         ensures value { Reads S.bytes self.old (elif_turn (level room) (branched (map view_branch branches.old.items) next.old)) result
-            (λ more. step_if more (branched (map view_branch branches.new.items) next.new)) self.new.at }
+            (λ more. step_if more (branched (map view_branch branches.new.items) next.new)) (state_of self.new) }
         ensures shows { IfOk result (λ more. Shows next.new.token (text_of S.bytes self.old) self.new.at) }
         ensures onward { IfOk result (Onward self.old.at self.new.at) }
-        ensures same { Stays self.old self.new }
+        ensures same { Keeps self.old self.new }
     {
         if !next.token.is_closing(Closing::Elif) {
             return Ok(false);
@@ -135,10 +134,10 @@ impl<'a, S: Source> Cursor<'a, S> {
     fn elifs(&mut self, alloc: Global, next: &mut Next, room: usize) -> Result<Vec<Branch>, Stop>
         requires shows { Shows next.old.token (text_of S.bytes self.old) self.old.at }
         ensures value { Reads S.bytes self.old (many (elif_turn (level room)) (branched [] next.old)) result
-            (λ branches. branched (map view_branch branches.items) next.new) self.new.at }
+            (λ branches. branched (map view_branch branches.items) next.new) (state_of self.new) }
         ensures shows { IfOk result (λ branches. Shows next.new.token (text_of S.bytes self.old) self.new.at) }
         ensures onward { IfOk result (λ branches. self.old.at ≤ self.new.at) }
-        ensures same { Stays self.old self.new }
+        ensures same { Keeps self.old self.new }
     {
         let mut branches = Vec::new(alloc);
         'turns: while self.elif(alloc, next, &mut branches, room)? {}
@@ -156,10 +155,10 @@ impl<'a, S: Source> Cursor<'a, S> {
     ) -> Result<Option<List>, Stop>
         requires shows { Shows next.old.token (text_of S.bytes self.old) self.old.at }
         ensures value { Reads S.bytes self.old (an_else (level room) next.old) result
-            (λ list. (view_otherwise list, next.new)) self.new.at }
+            (λ list. (view_otherwise list, next.new)) (state_of self.new) }
         ensures shows { IfOk result (λ list. Shows next.new.token (text_of S.bytes self.old) self.new.at) }
         ensures onward { IfOk result (λ list. self.old.at ≤ self.new.at) }
-        ensures same { Stays self.old self.new }
+        ensures same { Keeps self.old self.new }
     {
         if !next.token.is_closing(Closing::Else) {
             return Ok(None);
@@ -179,10 +178,10 @@ impl<'a, S: Source> Cursor<'a, S> {
     ) -> Result<(Form, Span), Stop>
         requires shows { Shows next.old.token (text_of S.bytes self.old) self.old.at }
         ensures value { Reads S.bytes self.old (an_if (level room) next.old) result
-            (λ x. closed (view_form x.0) (x.1, next.new)) self.new.at }
+            (λ x. closed (view_form x.0) (x.1, next.new)) (state_of self.new) }
         ensures shows { IfOk result (λ x. Shows next.new.token (text_of S.bytes self.old) self.new.at) }
         ensures onward { IfOk result (λ x. self.old.at ≤ self.new.at) }
-        ensures same { Stays self.old self.new }
+        ensures same { Keeps self.old self.new }
     {
         let first = self.branch(alloc, next, room)?;
         let rest = self.elifs(alloc, next, room)?;
@@ -202,10 +201,10 @@ impl<'a, S: Source> Cursor<'a, S> {
     ) -> Result<(Branch, Span), Stop>
         requires shows { Shows next.old.token (text_of S.bytes self.old) self.old.at }
         ensures value { Reads S.bytes self.old (a_loop (level room) next.old) result
-            (λ x. closed (view_branch x.0) (x.1, next.new)) self.new.at }
+            (λ x. closed (view_branch x.0) (x.1, next.new)) (state_of self.new) }
         ensures shows { IfOk result (λ x. Shows next.new.token (text_of S.bytes self.old) self.new.at) }
         ensures onward { IfOk result (λ x. self.old.at ≤ self.new.at) }
-        ensures same { Stays self.old self.new }
+        ensures same { Keeps self.old self.new }
     {
         let condition = self.list(alloc, next, room)?;
         self.closing(alloc, Closing::Do, next, room)?;
@@ -225,10 +224,10 @@ impl<'a, S: Source> Cursor<'a, S> {
     ) -> Result<(Form, Span), Stop>
         requires shows { Shows next.old.token (text_of S.bytes self.old) self.old.at }
         ensures value { Reads S.bytes self.old (a_form (level room) opener next.old) result
-            (λ x. closed (view_form x.0) (x.1, next.new)) self.new.at }
+            (λ x. closed (view_form x.0) (x.1, next.new)) (state_of self.new) }
         ensures shows { IfOk result (λ x. Shows next.new.token (text_of S.bytes self.old) self.new.at) }
         ensures onward { IfOk result (λ x. self.old.at ≤ self.new.at) }
-        ensures same { Stays self.old self.new }
+        ensures same { Keeps self.old self.new }
     {
         match opener {
             Opener::Brace => {
@@ -265,10 +264,10 @@ impl<'a, S: Source> Cursor<'a, S> {
     ) -> Result<Command, Stop>
         requires { IsRead (text_of S.bytes self.old) self.old.at }
         ensures value { Reads S.bytes self.old ((level room).compound opener) result
-            (λ command. (view_command command, next.new)) self.new.at }
+            (λ command. (view_command command, next.new)) (state_of self.new) }
         ensures shows { IfOk result (λ command. Shows next.new.token (text_of S.bytes self.old) self.new.at) }
         ensures onward { IfOk result (λ command. self.old.at ≤ self.new.at) }
-        ensures same { Stays self.old self.new }
+        ensures same { Keeps self.old self.new }
     {
         if room == 0 {
             return Err(self.wrong_at(FaultKind::TooDeep, self.at));

@@ -6,6 +6,8 @@
 //                where it is broken
 //   S-E>S-E:W    an item that is a redirection: the number, where it has one, the text and the span of its operator, and its word;
 //                those of a compound command stand behind it
+//   @S-E         directly behind it: the body of its here-document, with `-` before it where tabs are taken off, and then `'`
+//                where it is literal
 //   {S-E ..}     a group and its entries; so is (S-E ..), a subshell
 //   <S-E if .. then .. elif .. then .. else ..>, <S-E while .. do ..>, <S-E until .. do ..>
 //   <S-E for W in I I do ..>    its name, and its words where `in` stands; an item that is broken has `^` before it
@@ -22,7 +24,8 @@
 //   fault K at O a fault by its number, and its offset
 //
 // So is a line, which is `blank` or `end` where it has no entry; then follow `to N`, the offset behind it, and `, ended`.
-use crate::{Fault, Line, LineKind, Reader, Source};
+use crate::{Fault, Line, LineKind, Reader};
+use shtext::Source;
 use shtree::{
     AndOr, AndOrOperator, Branch, CaseItem, Command, Comment, Compound, Content, Entry, Form, Item,
     ItemContent, Join, List, Pipeline, RedirectOperator, Span, Word,
@@ -92,7 +95,12 @@ fn dump_item(text: &mut String, item: &Item) -> Result<(), Fail> {
             }
             text.push_str(operator_text(redirect.operator))?;
             dump_span(text, "", redirect.span)?;
-            dump_word(text, ":", &redirect.word)
+            dump_word(text, ":", &redirect.word)?;
+            if let Some(here) = &redirect.here {
+                text.push_str(if here.strip { "@-" } else { "@" })?;
+                dump_span(text, if here.literal { "'" } else { "" }, here.body)?;
+            }
+            Ok(())
         }
     }
 }

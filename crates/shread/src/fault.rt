@@ -6,8 +6,6 @@ use std::alloc::{AllocError, AllocFailed};
 use thiserror::Error;
 
 /// What is wrong with a script. The numbers are fixed: whoever tells a kind by its number may rely on them.
-///
-/// No script has the kinds yet of forms that are not read: `UnclosedHere` and `BadHereWord`.
 #[derive(Clone, Copy, Debug, PartialEq, Eq)]
 pub enum FaultKind {
     /// A single quote is not closed (XCU 2.2.2); at the quote.

@@ -5,7 +5,7 @@ ghost use Rattle.shread.specs.Search.{Tells};
 
 use crate::fault::{Fault, ReadError, Stop};
 use crate::one_line::line_at;
-use crate::source::Source;
+use shtext::Source;
 use std::alloc::Global;
 
 /// What one line tells of the first fault from its begin on.

@@ -1,18 +1,19 @@
 //! `for` (XCU 2.9.4.2): its name, the words behind its `in`, and what it runs.
-ghost use Rattle.std.specs.Prelude.{◌≡◌, ◌≤◌, [], map, option_map, IfOk, Some};
-ghost use Rattle.shread.specs.Clauses.{IsRead, Onward, Reads, Shows, Stays, text_of};
+ghost use Rattle.std.specs.Prelude.{◌≡◌, ◌≤◌, [], false, true, map, option_map, IfOk, Some};
+ghost use Rattle.shread.specs.Clauses.{IsRead, Keeps, Onward, Reads, Shows, state_of, text_of};
 ghost use Rattle.shread.specs.Commands.{join_so, so_many};
-ghost use Rattle.shread.specs.Compounds.{a_for, a_for_head, a_for_name, a_linebreak, a_sequential_sep, behind_remarks, closed, for_words, headed, word_turn};
+ghost use Rattle.shread.specs.Compounds.{a_for, a_for_head, a_for_name, a_linebreak, a_sequential_sep, begins_words, behind_remarks, closed, for_words, headed, word_turn};
 ghost use Rattle.shread.specs.declared.token.Position.TheVariants.{Suffix};
 ghost use Rattle.shread.specs.Form.{many, step_if};
 ghost use Rattle.shread.specs.Levels.{level};
+ghost use Rattle.shread.specs.Tokens.{is_end};
 ghost use Rattle.shtree.specs.Tree.{for_words_of};
 ghost use Rattle.shtree.specs.View.{view_comment, view_form, view_item, view_join, view_list, view_word};
 
 use crate::cursor::Cursor;
 use crate::fault::{FaultKind, Stop};
-use crate::source::Source;
 use crate::token::{Closing, Next, Position, Token};
+use shtext::Source;
 use shtree::make::{comment_entry, for_of, list_of};
 use shtree::{Comment, Form, Item, Join, List, Span, Word};
 use std::alloc::{AllocError, Global};
@@ -34,6 +35,14 @@ fn behind_remarks(alloc: Global, comments: &[Comment], list: List) -> Result<Lis
     Ok(list_of(entries))
 }
 
+/// Whether this token is the `in` before the words of a `for`, which does not stand behind `;`.
+fn begins_words(semicolon: bool, token: Token) -> bool
+    ensures value { result ≡ begins_words semicolon token }
+    ensures some { result ≡ true → is_end token ≡ false }
+{
+    !semicolon && token.is_closing(Closing::In)
+}
+
 impl<'a, S: Source> Cursor<'a, S> {
     /// The word behind `for`, which has to be a NAME. `next` is the token here, and then the one behind it.
     #[cycle(commands)]
@@ -41,10 +50,10 @@ impl<'a, S: Source> Cursor<'a, S> {
     fn for_name(&mut self, alloc: Global, next: &mut Next, room: usize) -> Result<Word, Stop>
         requires shows { Shows next.old.token (text_of S.bytes self.old) self.old.at }
         ensures value { Reads S.bytes self.old (a_for_name (level room) next.old) result
-            (λ word. (view_word word, next.new)) self.new.at }
+            (λ word. (view_word word, next.new)) (state_of self.new) }
         ensures shows { IfOk result (λ word. Shows next.new.token (text_of S.bytes self.old) self.new.at) }
         ensures onward { IfOk result (λ word. self.old.at ≤ self.new.at) }
-        ensures same { Stays self.old self.new }
+        ensures same { Keeps self.old self.new }
     {
         if !next.token.begins_word() {
             return Err(Stop::Wrong(self.what_is_wrong(alloc, next, room)?));
@@ -64,10 +73,10 @@ impl<'a, S: Source> Cursor<'a, S> {
     pub(crate) fn linebreak(&mut self, next: &mut Next, lines: &mut Join) -> Result<(), Stop>
         requires shows { Shows next.old.token (text_of S.bytes self.old) self.old.at }
         ensures value { Reads S.bytes self.old (a_linebreak (view_join lines.old).comments next.old) result
-            (λ done. join_so (view_join lines.new) next.new) self.new.at }
+            (λ done. join_so (view_join lines.new) next.new) (state_of self.new) }
         ensures shows { IfOk result (λ done. Shows next.new.token (text_of S.bytes self.old) self.new.at) }
         ensures onward { IfOk result (λ done. self.old.at ≤ self.new.at) }
-        ensures same { Stays self.old self.new }
+        ensures same { Keeps self.old self.new }
     {
         lines.broken = false;
         self.join_on(next, lines)
@@ -85,10 +94,10 @@ impl<'a, S: Source> Cursor<'a, S> {
     ) -> Result<(), Stop>
         requires shows { Shows next.old.token (text_of S.bytes self.old) self.old.at }
         ensures value { Reads S.bytes self.old (a_sequential_sep (level room) (view_join lines.old).comments next.old) result
-            (λ done. join_so (view_join lines.new) next.new) self.new.at }
+            (λ done. join_so (view_join lines.new) next.new) (state_of self.new) }
         ensures shows { IfOk result (λ done. Shows next.new.token (text_of S.bytes self.old) self.new.at) }
         ensures onward { IfOk result (λ done. self.old.at ≤ self.new.at) }
-        ensures same { Stays self.old self.new }
+        ensures same { Keeps self.old self.new }
     {
         let semicolon = self.semicolon(next);
         self.linebreak(next, lines)?;
@@ -110,10 +119,10 @@ impl<'a, S: Source> Cursor<'a, S> {
     ) -> Result<bool, Stop>
         requires shows { Shows next.old.token (text_of S.bytes self.old) self.old.at }
         ensures value { Reads S.bytes self.old (word_turn (level room) (so_many (map view_item words.old.items) Suffix next.old)) result
-            (λ more. step_if more (so_many (map view_item words.new.items) Suffix next.new)) self.new.at }
+            (λ more. step_if more (so_many (map view_item words.new.items) Suffix next.new)) (state_of self.new) }
         ensures shows { IfOk result (λ more. Shows next.new.token (text_of S.bytes self.old) self.new.at) }
         ensures onward { IfOk result (Onward self.old.at self.new.at) }
-        ensures same { Stays self.old self.new }
+        ensures same { Keeps self.old self.new }
     {
         let Token::Word = next.token else {
             return Ok(false);
@@ -128,10 +137,10 @@ impl<'a, S: Source> Cursor<'a, S> {
     fn words(&mut self, alloc: Global, next: &mut Next, room: usize) -> Result<Vec<Item>, Stop>
         requires shows { Shows next.old.token (text_of S.bytes self.old) self.old.at }
         ensures value { Reads S.bytes self.old (many (word_turn (level room)) (so_many [] Suffix next.old)) result
-            (λ words. so_many (map view_item words.items) Suffix next.new) self.new.at }
+            (λ words. so_many (map view_item words.items) Suffix next.new) (state_of self.new) }
         ensures shows { IfOk result (λ words. Shows next.new.token (text_of S.bytes self.old) self.new.at) }
         ensures onward { IfOk result (λ words. self.old.at ≤ self.new.at) }
-        ensures same { Stays self.old self.new }
+        ensures same { Keeps self.old self.new }
     {
         let mut words = Vec::new(alloc);
         'turns: while self.for_word(alloc, next, &mut words, room)? {}
@@ -150,10 +159,10 @@ impl<'a, S: Source> Cursor<'a, S> {
     ) -> Result<Vec<Item>, Stop>
         requires { IsRead (text_of S.bytes self.old) self.old.at }
         ensures value { Reads S.bytes self.old (for_words (level room) (view_join lines.old).comments) result
-            (λ words. headed (for_words_of (Some (map view_item words.items))) (join_so (view_join lines.new) next.new)) self.new.at }
+            (λ words. headed (for_words_of (Some (map view_item words.items))) (join_so (view_join lines.new) next.new)) (state_of self.new) }
         ensures shows { IfOk result (λ words. Shows next.new.token (text_of S.bytes self.old) self.new.at) }
         ensures onward { IfOk result (λ words. self.old.at ≤ self.new.at) }
-        ensures same { Stays self.old self.new }
+        ensures same { Keeps self.old self.new }
     {
         let _ = self.passed(false, Position::Suffix, next);
         let words = self.words(alloc, next, room)?;
@@ -174,14 +183,14 @@ impl<'a, S: Source> Cursor<'a, S> {
         requires shows { Shows next.old.token (text_of S.bytes self.old) self.old.at }
         requires none { (view_join lines.old).comments ≡ [] }
         ensures value { Reads S.bytes self.old (a_for_head (level room) next.old) result
-            (λ words. headed (for_words_of (option_map (λ v. map view_item v.items) words)) (join_so (view_join lines.new) next.new)) self.new.at }
+            (λ words. headed (for_words_of (option_map (λ v. map view_item v.items) words)) (join_so (view_join lines.new) next.new)) (state_of self.new) }
         ensures shows { IfOk result (λ words. Shows next.new.token (text_of S.bytes self.old) self.new.at) }
         ensures onward { IfOk result (λ words. self.old.at ≤ self.new.at) }
-        ensures same { Stays self.old self.new }
+        ensures same { Keeps self.old self.new }
     {
         let semicolon = self.semicolon(next);
         self.linebreak(next, lines)?;
-        if semicolon || !next.token.is_closing(Closing::In) {
+        if !begins_words(semicolon, next.token) {
             return Ok(None);
         }
         Ok(Some(self.for_words(alloc, next, lines, room)?))
@@ -198,10 +207,10 @@ impl<'a, S: Source> Cursor<'a, S> {
     ) -> Result<(Form, Span), Stop>
         requires shows { Shows next.old.token (text_of S.bytes self.old) self.old.at }
         ensures value { Reads S.bytes self.old (a_for (level room) next.old) result
-            (λ x. closed (view_form x.0) (x.1, next.new)) self.new.at }
+            (λ x. closed (view_form x.0) (x.1, next.new)) (state_of self.new) }
         ensures shows { IfOk result (λ x. Shows next.new.token (text_of S.bytes self.old) self.new.at) }
         ensures onward { IfOk result (λ x. self.old.at ≤ self.new.at) }
-        ensures same { Stays self.old self.new }
+        ensures same { Keeps self.old self.new }
     {
         let name = self.for_name(alloc, next, room)?;
         let mut lines = Join {

@@ -1,6 +1,6 @@
 //! Functions (XCU 2.9.5), from the `(` behind their names.
 ghost use Rattle.std.specs.Prelude.{◌≡◌, ◌+◌, ◌<◌, ◌≤◌, map, IfOk};
-ghost use Rattle.shread.specs.Clauses.{IsRead, Reads, Shows, Stays, text_of};
+ghost use Rattle.shread.specs.Clauses.{IsRead, Keeps, Reads, Shows, state_of, text_of};
 ghost use Rattle.shread.specs.Commands.{compound_by, named, opener_of};
 ghost use Rattle.shread.specs.Compounds.{a_function, under_name};
 ghost use Rattle.shread.specs.Levels.{level};
@@ -9,8 +9,8 @@ ghost use Rattle.shtree.specs.View.{view_command, view_comment};
 
 use crate::cursor::Cursor;
 use crate::fault::{FaultKind, Stop};
-use crate::source::Source;
 use crate::token::{Closing, Next, Position};
+use shtext::Source;
 use shtree::make::{function_command, function_of};
 use shtree::{Command, Comment, Join, Span};
 use std::alloc::{AllocError, Global};
@@ -44,10 +44,10 @@ impl<'a, S: Source> Cursor<'a, S> {
     ) -> Result<Command, Stop>
         requires shows { Shows next.old.token (text_of S.bytes self.old) self.old.at }
         ensures value { Reads S.bytes self.old (compound_by (level room) next.old (opener_of next.old.token)) result
-            (λ command. (view_command command, next.new)) self.new.at }
+            (λ command. (view_command command, next.new)) (state_of self.new) }
         ensures shows { IfOk result (λ command. Shows next.new.token (text_of S.bytes self.old) self.new.at) }
         ensures onward { IfOk result (λ command. self.old.at ≤ self.new.at) }
-        ensures same { Stays self.old self.new }
+        ensures same { Keeps self.old self.new }
     {
         match next.token.opener() {
             Some(opener) => {
@@ -70,10 +70,10 @@ impl<'a, S: Source> Cursor<'a, S> {
     ) -> Result<Command, Stop>
         requires { IsRead (text_of S.bytes self.old) self.old.at }
         ensures value { Reads S.bytes self.old (a_function (level room) name) result
-            (λ command. (view_command command, next.new)) self.new.at }
+            (λ command. (view_command command, next.new)) (state_of self.new) }
         ensures shows { IfOk result (λ command. Shows next.new.token (text_of S.bytes self.old) self.new.at) }
         ensures onward { IfOk result (λ command. self.old.at ≤ self.new.at) }
-        ensures same { Stays self.old self.new }
+        ensures same { Keeps self.old self.new }
     {
         let _ = self.passed(true, Position::Command, next);
         self.closing(alloc, Closing::Paren, next, room)?;
@@ -101,10 +101,10 @@ impl<'a, S: Source> Cursor<'a, S> {
         requires before { start ≤ self.old.at }
         requires begin { name.start ≡ self.old.origin + start }
         ensures value { Reads S.bytes self.old (named (level room) (is_name_at (text_of S.bytes self.old) start) name) result
-            (λ command. (view_command command, next.new)) self.new.at }
+            (λ command. (view_command command, next.new)) (state_of self.new) }
         ensures shows { IfOk result (λ command. Shows next.new.token (text_of S.bytes self.old) self.new.at) }
         ensures onward { IfOk result (λ command. self.old.at ≤ self.new.at) }
-        ensures same { Stays self.old self.new }
+        ensures same { Keeps self.old self.new }
     {
         if !self.is_name(start) {
             return Err(self.wrong_at(FaultKind::BadFunctionName, start));

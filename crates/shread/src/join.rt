@@ -1,14 +1,14 @@
 //! What stands around an operator that joins two operands (XCU 2.9.2, 2.9.3).
 ghost use Rattle.std.specs.Prelude.{◌≡◌, ◌≤◌, IfOk};
-ghost use Rattle.shread.specs.Clauses.{Onward, Reads, Shows, Stays, text_of};
+ghost use Rattle.shread.specs.Clauses.{Keeps, Onward, Reads, Shows, state_of, text_of};
 ghost use Rattle.shread.specs.Commands.{a_join, join_so, join_turn};
 ghost use Rattle.shread.specs.Form.{many, step_if};
 ghost use Rattle.shtree.specs.View.{view_join};
 
 use crate::cursor::Cursor;
 use crate::fault::Stop;
-use crate::source::Source;
 use crate::token::{Next, Position};
+use shtext::Source;
 use shtree::Join;
 use std::alloc::Global;
 
@@ -18,10 +18,10 @@ impl<'a, S: Source> Cursor<'a, S> {
     fn join_turn(&mut self, next: &mut Next, join: &mut Join) -> Result<bool, Stop>
         requires shows { Shows next.old.token (text_of S.bytes self.old) self.old.at }
         ensures value { Reads S.bytes self.old (join_turn (join_so (view_join join.old) next.old)) result
-            (λ more. step_if more (join_so (view_join join.new) next.new)) self.new.at }
+            (λ more. step_if more (join_so (view_join join.new) next.new)) (state_of self.new) }
         ensures shows { IfOk result (λ more. Shows next.new.token (text_of S.bytes self.old) self.new.at) }
         ensures onward { IfOk result (Onward self.old.at self.new.at) }
-        ensures same { Stays self.old self.new }
+        ensures same { Keeps self.old self.new }
     {
         if let Some(comment) = self.remark(next) {
             join.broken = true;
@@ -29,7 +29,7 @@ impl<'a, S: Source> Cursor<'a, S> {
                 join.comments.push(comment)?;
             }
         }
-        let newline = self.newline(next);
+        let newline = self.newline(next)?;
         join.broken = join.broken || newline;
         Ok(newline)
     }
@@ -39,10 +39,10 @@ impl<'a, S: Source> Cursor<'a, S> {
     pub(crate) fn join_on(&mut self, next: &mut Next, join: &mut Join) -> Result<(), Stop>
         requires shows { Shows next.old.token (text_of S.bytes self.old) self.old.at }
         ensures value { Reads S.bytes self.old (many join_turn (join_so (view_join join.old) next.old)) result
-            (λ done. join_so (view_join join.new) next.new) self.new.at }
+            (λ done. join_so (view_join join.new) next.new) (state_of self.new) }
         ensures shows { IfOk result (λ done. Shows next.new.token (text_of S.bytes self.old) self.new.at) }
         ensures onward { IfOk result (λ done. self.old.at ≤ self.new.at) }
-        ensures same { Stays self.old self.new }
+        ensures same { Keeps self.old self.new }
     {
         'turns: while self.join_turn(next, join)? {}
         Ok(())
@@ -51,10 +51,10 @@ impl<'a, S: Source> Cursor<'a, S> {
     /// From behind an operator to the token with which its operand begins. `next` is the operator, and then that token.
     #[tactic(auto, unfolding(crate::specs::Commands::a_join, crate::specs::Commands::next_token))]
     pub(crate) fn join(&mut self, alloc: Global, next: &mut Next) -> Result<Join, Stop>
-        ensures value { Reads S.bytes self.old (a_join next.old.broken) result (λ join. (view_join join, next.new)) self.new.at }
+        ensures value { Reads S.bytes self.old (a_join next.old.broken) result (λ join. (view_join join, next.new)) (state_of self.new) }
         ensures shows { IfOk result (λ join. Shows next.new.token (text_of S.bytes self.old) self.new.at) }
         ensures onward { IfOk result (λ join. self.old.at ≤ self.new.at) }
-        ensures same { Stays self.old self.new }
+        ensures same { Keeps self.old self.new }
     {
         let broken = next.broken;
         *next = self.next_token(Position::Command);

@@ -1,9 +1,9 @@
 //! The reader of shform: scripts of the Shell Command Language of POSIX, read line by line into a tree.
 //!
-//! Start with [`Reader`]: `read_line` reads one top-level line of a [`Source`], `read_script` all of them, and `first_fault` looks
-//! for the first fault alone; [`ScriptLines`] reads a script a line at a time. The tree is that of the crate `shtree`; [`Fault`] is what is wrong with a script. The definitions
-//! that the contracts cite are in `specs/`: `Words`, `Commands`, `Lists`, `Compounds` and `Lines` are the grammar's rows, and `Form`
-//! says what a row means.
+//! Start with [`Reader`]: `read_line` reads one top-level line of a [`shtext::Source`], `read_script` all of them, and `first_fault`
+//! looks for the first fault alone; [`ScriptLines`] reads a script a line at a time. The tree is that of the crate `shtree`;
+//! [`Fault`] is what is wrong with a script. The definitions that the contracts cite are in `specs/`: `Words`, `Commands`, `Lists`,
+//! `Compounds` and `Lines` are the grammar's rows, and `Form` says what a row means.
 #![tactic(auto)]
 
 mod all_lines;
@@ -19,6 +19,8 @@ mod command;
 mod comment;
 mod compound;
 mod cursor;
+mod delimiter;
+mod documents;
 #[cfg(test)]
 mod dump;
 mod fault;
@@ -28,7 +30,6 @@ mod function;
 mod join;
 pub mod laws;
 mod line;
-mod line_col;
 mod list;
 mod mode;
 #[cfg(test)]
@@ -44,7 +45,6 @@ mod redirect;
 mod refused;
 mod script_lines;
 mod search;
-mod source;
 #[cfg(test)]
 mod sources;
 mod standing;
@@ -58,9 +58,8 @@ mod tree_size;
 mod trees;
 mod word;
 
+pub use delimiter::{Delimiter, delimiter_of};
 pub use fault::{Fault, FaultKind, ReadError};
-pub use line_col::line_col_of;
 pub use reader::{Line, LineKind, Reader, Script};
 pub use script_lines::{ScriptLine, ScriptLines};
-pub use source::{Flat, Source};
 pub use token::{Closing, Next, Opener, Position, Reserved, Separator, Token};

@@ -1,6 +1,6 @@
 //! Lists: entries on one line or on many (XCU 2.9.3, 2.10.2).
 ghost use Rattle.std.specs.Prelude.{◌≡◌, ◌≤◌, IfOk, false};
-ghost use Rattle.shread.specs.Clauses.{Onward, Reads, Shows, Stays, text_of};
+ghost use Rattle.shread.specs.Clauses.{Keeps, Onward, Reads, Shows, state_of, Stays, text_of};
 ghost use Rattle.shread.specs.Commands.{past_separator};
 ghost use Rattle.shread.specs.Compounds.{a_body};
 ghost use Rattle.shread.specs.Form.{many, step_if};
@@ -11,8 +11,8 @@ ghost use Rattle.shtree.specs.View.{view_list};
 
 use crate::cursor::Cursor;
 use crate::fault::Stop;
-use crate::source::Source;
 use crate::token::{Next, Separator};
+use shtext::Source;
 use shtree::make::{command_entry, comment_entry, list_of};
 use shtree::{Entry, List};
 use std::alloc::Global;
@@ -80,10 +80,10 @@ impl<'a, S: Source> Cursor<'a, S> {
     ) -> Result<bool, Stop>
         requires shows { Shows next.old.token (text_of S.bytes self.old) self.old.at }
         ensures value { Reads S.bytes self.old (entry_turn (level room) (list_so (view_listed listed.old) next.old)) result
-            (λ more. step_if more (list_so (view_listed listed.new) next.new)) self.new.at }
+            (λ more. step_if more (list_so (view_listed listed.new) next.new)) (state_of self.new) }
         ensures shows { IfOk result (λ more. Shows next.new.token (text_of S.bytes self.old) self.new.at) }
         ensures onward { IfOk result (Onward self.old.at self.new.at) }
-        ensures same { Stays self.old self.new }
+        ensures same { Keeps self.old self.new }
     {
         if !next.token.begins_pipeline() {
             return Ok(false);
@@ -116,10 +116,10 @@ impl<'a, S: Source> Cursor<'a, S> {
     ) -> Result<(), Stop>
         requires shows { Shows next.old.token (text_of S.bytes self.old) self.old.at }
         ensures value { Reads S.bytes self.old (many (entry_turn (level room)) (list_so (view_listed listed.old) next.old)) result
-            (λ done. list_so (view_listed listed.new) next.new) self.new.at }
+            (λ done. list_so (view_listed listed.new) next.new) (state_of self.new) }
         ensures shows { IfOk result (λ done. Shows next.new.token (text_of S.bytes self.old) self.new.at) }
         ensures onward { IfOk result (λ done. self.old.at ≤ self.new.at) }
-        ensures same { Stays self.old self.new }
+        ensures same { Keeps self.old self.new }
     {
         'turns: while self.next_entry(alloc, next, listed, room)? && next.token.begins_pipeline() {}
         Ok(())
@@ -131,7 +131,7 @@ impl<'a, S: Source> Cursor<'a, S> {
     fn own_comment(&mut self, next: &mut Next, listed: &mut Listed) -> Result<(), Stop>
         requires shows { Shows next.old.token (text_of S.bytes self.old) self.old.at }
         ensures value { Reads S.bytes self.old (a_remark (list_so (view_listed listed.old) next.old)) result
-            (λ done. list_so (view_listed listed.new) next.new) self.new.at }
+            (λ done. list_so (view_listed listed.new) next.new) (state_of self.new) }
         ensures shows { IfOk result (λ done. Shows next.new.token (text_of S.bytes self.old) self.new.at) }
         ensures onward { IfOk result (λ done. self.old.at ≤ self.new.at) }
         ensures same { Stays self.old self.new }
@@ -159,10 +159,10 @@ impl<'a, S: Source> Cursor<'a, S> {
     ) -> Result<(), Stop>
         requires shows { Shows next.old.token (text_of S.bytes self.old) self.old.at }
         ensures value { Reads S.bytes self.old (on_line (level room) (list_so (view_listed listed.old) next.old)) result
-            (λ done. list_so (view_listed listed.new) next.new) self.new.at }
+            (λ done. list_so (view_listed listed.new) next.new) (state_of self.new) }
         ensures shows { IfOk result (λ done. Shows next.new.token (text_of S.bytes self.old) self.new.at) }
         ensures onward { IfOk result (λ done. self.old.at ≤ self.new.at) }
-        ensures same { Stays self.old self.new }
+        ensures same { Keeps self.old self.new }
     {
         if next.token.begins_pipeline() {
             self.entries(alloc, next, listed, room)?;
@@ -182,13 +182,13 @@ impl<'a, S: Source> Cursor<'a, S> {
     ) -> Result<bool, Stop>
         requires shows { Shows next.old.token (text_of S.bytes self.old) self.old.at }
         ensures value { Reads S.bytes self.old (list_turn (level room) (list_so (view_listed listed.old) next.old)) result
-            (λ more. step_if more (list_so (view_listed listed.new) next.new)) self.new.at }
+            (λ more. step_if more (list_so (view_listed listed.new) next.new)) (state_of self.new) }
         ensures shows { IfOk result (λ more. Shows next.new.token (text_of S.bytes self.old) self.new.at) }
         ensures onward { IfOk result (Onward self.old.at self.new.at) }
-        ensures same { Stays self.old self.new }
+        ensures same { Keeps self.old self.new }
     {
         self.on_line(alloc, next, listed, room)?;
-        let newline = self.newline(next);
+        let newline = self.newline(next)?;
         listed.next_line();
         Ok(newline)
     }
@@ -205,10 +205,10 @@ impl<'a, S: Source> Cursor<'a, S> {
     ) -> Result<(), Stop>
         requires shows { Shows next.old.token (text_of S.bytes self.old) self.old.at }
         ensures value { Reads S.bytes self.old (many (list_turn (level room)) (list_so (view_listed listed.old) next.old)) result
-            (λ done. list_so (view_listed listed.new) next.new) self.new.at }
+            (λ done. list_so (view_listed listed.new) next.new) (state_of self.new) }
         ensures shows { IfOk result (λ done. Shows next.new.token (text_of S.bytes self.old) self.new.at) }
         ensures onward { IfOk result (λ done. self.old.at ≤ self.new.at) }
-        ensures same { Stays self.old self.new }
+        ensures same { Keeps self.old self.new }
     {
         'turns: while self.list_line(alloc, next, listed, room)? {}
         Ok(())
@@ -225,10 +225,10 @@ impl<'a, S: Source> Cursor<'a, S> {
     ) -> Result<Listed, Stop>
         requires shows { Shows next.old.token (text_of S.bytes self.old) self.old.at }
         ensures value { Reads S.bytes self.old (a_body (level room) next.old) result
-            (λ listed. list_so (view_listed listed) next.new) self.new.at }
+            (λ listed. list_so (view_listed listed) next.new) (state_of self.new) }
         ensures shows { IfOk result (λ listed. Shows next.new.token (text_of S.bytes self.old) self.new.at) }
         ensures onward { IfOk result (λ listed. self.old.at ≤ self.new.at) }
-        ensures same { Stays self.old self.new }
+        ensures same { Keeps self.old self.new }
     {
         let mut listed = Listed::new(alloc, false);
         self.list_lines(alloc, next, &mut listed, room)?;
@@ -240,10 +240,10 @@ impl<'a, S: Source> Cursor<'a, S> {
     #[tactic(auto, unfolding(crate::specs::Lists::a_list))]
     pub(crate) fn list(&mut self, alloc: Global, next: &mut Next, room: usize) -> Result<List, Stop>
         requires shows { Shows next.old.token (text_of S.bytes self.old) self.old.at }
-        ensures value { Reads S.bytes self.old (a_list (level room) next.old) result (λ list. (view_list list, next.new)) self.new.at }
+        ensures value { Reads S.bytes self.old (a_list (level room) next.old) result (λ list. (view_list list, next.new)) (state_of self.new) }
         ensures shows { IfOk result (λ list. Shows next.new.token (text_of S.bytes self.old) self.new.at) }
         ensures onward { IfOk result (λ list. self.old.at ≤ self.new.at) }
-        ensures same { Stays self.old self.new }
+        ensures same { Keeps self.old self.new }
     {
         let mut listed = Listed::new(alloc, false);
         self.list_lines(alloc, next, &mut listed, room)?;

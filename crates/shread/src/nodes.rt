@@ -2,7 +2,8 @@
 // hand. What both calls ask of a list is proved of those that the reader answers.
 use crate::dump::Judge;
 use crate::table::{Cell, rows};
-use crate::{Flat, LineKind, Reader};
+use crate::{LineKind, Reader};
+use shtext::Flat;
 use shtree::laws::greater_limit;
 use shtree::{NodeLine, nodes_at, outline_of};
 use std::alloc::Global;

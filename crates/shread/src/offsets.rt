@@ -5,7 +5,7 @@ ghost use Rattle.shread.specs.Comments.{span};
 
 use crate::cursor::Cursor;
 use crate::fault::{Fault, FaultKind, Stop};
-use crate::source::Source;
+use shtext::Source;
 use shtree::Span;
 
 impl<'a, S: Source> Cursor<'a, S> {

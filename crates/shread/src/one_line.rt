@@ -1,5 +1,5 @@
 //! One line of a source, alone or as a script of its own.
-ghost use Rattle.std.specs.Prelude.{◌≡◌, ◌+◌, ◌-◌, ◌^◌, ◌<◌, ◌≤◌, ℕ, drop, false, length, map, true, IfOk, IsOk};
+ghost use Rattle.std.specs.Prelude.{◌≡◌, ◌⊎◌, ◌+◌, ◌-◌, ◌^◌, ◌<◌, ◌≤◌, ℕ, drop, false, length, map, true, IfOk, IsOk};
 ghost use Rattle.shread.specs.Answers.{view_kind, view_line};
 ghost use Rattle.shread.specs.Clauses.{Gives, Onward};
 ghost use Rattle.shread.specs.Lines.{kind_of};
@@ -13,7 +13,7 @@ ghost use Rattle.shtree.specs.View.{view_entry};
 use crate::cursor::Cursor;
 use crate::fault::{ReadError, Stop};
 use crate::reader::{Line, LineKind};
-use crate::source::Source;
+use shtext::Source;
 use shtree::Entry;
 use shtree::make::list_of;
 use std::alloc::Global;
@@ -51,10 +51,11 @@ pub(crate) fn line_at<S: Source>(
     ensures onward { IfOk result (λ x. Onward 0 x.len x.newline) }
     ensures within { IfOk result (λ x. at + x.len ≤ length (S.bytes source.now)) }
     ensures fits { IfOk result (λ x. at + x.len < 2 ^ 64) }
-    ensures newline { IfOk result (λ x. x.newline ≡ true → raw_stands (drop at (S.bytes source.now)) (x.len - 1) 10 ≡ true) }
+    ensures newline { IfOk result (λ x. x.newline ≡ true →
+        (raw_stands (drop at (S.bytes source.now)) (x.len - 1) 10 ≡ true) ⊎ (at + x.len ≡ length (S.bytes source.now))) }
     ensures whole { IfOk result (λ x. x.newline ≡ false → at + x.len ≡ length (S.bytes source.now)) }
 {
-    let mut cursor = Cursor::at_line(source, at, origin, keep);
+    let mut cursor = Cursor::at_line(alloc, source, at, origin, keep);
     let (entries, newline) = cursor.line(alloc, blank, MOST_OPEN)?;
     Ok(Told {
         entries,
@@ -75,6 +76,19 @@ fn line_kind(entries: Vec<Entry>, newline: bool) -> LineKind
         LineKind::Blank
     } else {
         LineKind::End
+    }
+}
+
+/// Whether a newline is the last byte of a line of so many bytes, of one or more.
+#[tactic(auto, unfolding(crate::specs::Standing::raw_stands), using(crate::proofs::Stretches::get_drop))]
+fn ends_in_newline<S: Source>(source: &S, at: usize, len: usize) -> bool
+    requires some { 0 < len }
+    requires fits { at + len < 2 ^ 64 }
+    ensures { result ≡ raw_stands (drop at (S.bytes source.now)) (len - 1) 10 }
+{
+    match source.byte(at + (len - 1)) {
+        Some(byte) => byte == b'\n',
+        None => false,
     }
 }
 
@@ -103,11 +117,15 @@ pub(crate) fn line_from<S: Source>(alloc: Global, source: &S, at: usize) -> Resu
                 newline,
                 len,
             },
-        ) => Ok(Line {
-            kind: line_kind(entries, newline),
-            next: at + len,
-            ended: newline,
-        }),
+        ) => {
+            // The line of a delimiter may end with the source.
+            let ended = newline && ends_in_newline(source, at, len);
+            Ok(Line {
+                kind: line_kind(entries, newline),
+                next: at + len,
+                ended,
+            })
+        }
         Err(Stop::Wrong(fault)) => Ok(Line {
             kind: LineKind::Faulty(fault),
             next: end,

@@ -1,7 +1,7 @@
 //! Which piece of a word begins at a place, and the pieces that hold no others (XCU 2.2, 2.6).
 ghost use Rattle.std.specs.Prelude.{◌≡◌, ◌≢◌, ◌⊎◌, ◌+◌, ◌<◌, ◌≤◌, length, IfOk, Some, false, true};
 ghost use Rattle.shread.specs.Bytes.{behind, ends, ends_word, past_continuations, stands};
-ghost use Rattle.shread.specs.Clauses.{IsRead, Reads, Stays, text_of};
+ghost use Rattle.shread.specs.Clauses.{IsRead, Reads, state_of, Stays, text_of};
 ghost use Rattle.shread.specs.Form.{step_if};
 ghost use Rattle.shread.specs.Pieces.{bracket_by, byte_by, dollar_at, past_parameter, piece_at, rest_mode};
 ghost use Rattle.shread.specs.Standing.{raw_stands};
@@ -12,8 +12,8 @@ use crate::fault::{FaultKind, Stop};
 use crate::mode::{Mode, Piece};
 use crate::plain::ends_words;
 use crate::search::Sought;
-use crate::source::Source;
 use crate::token::Class;
+use shtext::Source;
 
 impl<'a, S: Source> Cursor<'a, S> {
     /// What the `$` at a place begins.
@@ -168,7 +168,7 @@ impl<'a, S: Source> Cursor<'a, S> {
     pub(crate) fn single(&mut self, opener: usize) -> Result<(), Stop>
         requires opener { opener ≡ past_continuations (text_of S.bytes self.old) self.old.at }
         requires some { opener < length (text_of S.bytes self.old) }
-        ensures value { Reads S.bytes self.old single result (λ done. tt) self.new.at }
+        ensures value { Reads S.bytes self.old single result (λ done. tt) (state_of self.new) }
         ensures onward { IfOk result (λ done. opener < self.new.at) }
         ensures same { Stays self.old self.new }
     {
@@ -185,7 +185,7 @@ impl<'a, S: Source> Cursor<'a, S> {
     fn backquote_turn(&mut self, opener: usize) -> Result<bool, Stop>
         requires { opener ≤ self.old.at }
         ensures value { Reads S.bytes self.old (backquote_turn (self.old.origin + opener) tt) result
-            (λ more. step_if more tt) self.new.at }
+            (λ more. step_if more tt) (state_of self.new) }
         ensures onward { IfOk result (λ more. self.old.at < self.new.at) }
         ensures same { Stays self.old self.new }
     {
@@ -209,7 +209,7 @@ impl<'a, S: Source> Cursor<'a, S> {
     pub(crate) fn backquoted(&mut self, opener: usize) -> Result<(), Stop>
         requires opener { opener ≡ past_continuations (text_of S.bytes self.old) self.old.at }
         requires some { opener < length (text_of S.bytes self.old) }
-        ensures value { Reads S.bytes self.old backquoted result (λ done. tt) self.new.at }
+        ensures value { Reads S.bytes self.old backquoted result (λ done. tt) (state_of self.new) }
         ensures onward { IfOk result (λ done. opener < self.new.at) }
         ensures same { Stays self.old self.new }
     {

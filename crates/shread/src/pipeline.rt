@@ -1,16 +1,15 @@
 //! Pipelines (XCU 2.9.2).
 ghost use Rattle.std.specs.Prelude.{◌≡◌, ◌<◌, ◌≤◌, [], map, IfOk, Ok as Done};
-ghost use Rattle.shread.specs.Clauses.{IsRead, Onward, Reads, reads, Shows, Stays, text_of};
+ghost use Rattle.shread.specs.Clauses.{IsRead, Keeps, Onward, reads, Reads, Shows, state_of, Stays, text_of};
 ghost use Rattle.shread.specs.Commands.{a_bang, a_pipeline, one_command, pipe_turn, piped};
 ghost use Rattle.shread.specs.Form.{again, many, step_if};
-ghost use Rattle.shread.specs.Sights.{standing};
 ghost use Rattle.shread.specs.Levels.{level};
 ghost use Rattle.shtree.specs.View.{view_pipeline, view_pipeline_part};
 
 use crate::cursor::Cursor;
 use crate::fault::Stop;
-use crate::source::Source;
 use crate::token::{Next, Position, Reserved, Token};
+use shtext::Source;
 use shtree::make::{pipeline_of, pipeline_part_of};
 use shtree::{Pipeline, PipelinePart, Span};
 use std::alloc::Global;
@@ -21,7 +20,7 @@ impl<'a, S: Source> Cursor<'a, S> {
     #[tactic(auto, unfolding(crate::specs::Commands::a_bang, crate::specs::Commands::next_token))]
     fn bang(&mut self, next: &mut Next) -> Option<Span>
         requires shows { Shows next.old.token (text_of S.bytes self.old) self.old.at }
-        ensures value { reads S.bytes self.old (a_bang next.old) ≡ Done ((result, next.new), standing self.new.at) }
+        ensures value { reads S.bytes self.old (a_bang next.old) ≡ Done ((result, next.new), state_of self.new) }
         ensures shows { Shows next.new.token (text_of S.bytes self.old) self.new.at }
         ensures onward { self.old.at ≤ self.new.at }
         ensures same { Stays self.old self.new }
@@ -48,10 +47,10 @@ impl<'a, S: Source> Cursor<'a, S> {
     ) -> Result<(), Stop>
         requires { IsRead (text_of S.bytes self.old) self.old.at }
         ensures value { Reads S.bytes self.old (one_command (level room) (piped (map view_pipeline_part parts.old.items) next.old)) result
-            (λ done. again (piped (map view_pipeline_part parts.new.items) next.new)) self.new.at }
+            (λ done. again (piped (map view_pipeline_part parts.new.items) next.new)) (state_of self.new) }
         ensures shows { IfOk result (λ done. Shows next.new.token (text_of S.bytes self.old) self.new.at) }
         ensures onward { IfOk result (λ done. self.old.at < self.new.at) }
-        ensures same { Stays self.old self.new }
+        ensures same { Keeps self.old self.new }
     {
         self.bump();
         let join = self.join(alloc, next)?;
@@ -75,10 +74,10 @@ impl<'a, S: Source> Cursor<'a, S> {
     ) -> Result<bool, Stop>
         requires shows { Shows next.old.token (text_of S.bytes self.old) self.old.at }
         ensures value { Reads S.bytes self.old (pipe_turn (level room) (piped (map view_pipeline_part parts.old.items) next.old)) result
-            (λ more. step_if more (piped (map view_pipeline_part parts.new.items) next.new)) self.new.at }
+            (λ more. step_if more (piped (map view_pipeline_part parts.new.items) next.new)) (state_of self.new) }
         ensures shows { IfOk result (λ more. Shows next.new.token (text_of S.bytes self.old) self.new.at) }
         ensures onward { IfOk result (Onward self.old.at self.new.at) }
-        ensures same { Stays self.old self.new }
+        ensures same { Keeps self.old self.new }
     {
         let Token::Pipe = next.token else {
             return Ok(false);
@@ -99,10 +98,10 @@ impl<'a, S: Source> Cursor<'a, S> {
     ) -> Result<Vec<PipelinePart>, Stop>
         requires shows { Shows next.old.token (text_of S.bytes self.old) self.old.at }
         ensures value { Reads S.bytes self.old (many (pipe_turn (level room)) (piped [] next.old)) result
-            (λ parts. piped (map view_pipeline_part parts.items) next.new) self.new.at }
+            (λ parts. piped (map view_pipeline_part parts.items) next.new) (state_of self.new) }
         ensures shows { IfOk result (λ parts. Shows next.new.token (text_of S.bytes self.old) self.new.at) }
         ensures onward { IfOk result (λ parts. self.old.at ≤ self.new.at) }
-        ensures same { Stays self.old self.new }
+        ensures same { Keeps self.old self.new }
     {
         let mut parts = Vec::new(alloc);
         'turns: while self.pipe(alloc, next, &mut parts, room)? {}
@@ -121,10 +120,10 @@ impl<'a, S: Source> Cursor<'a, S> {
     ) -> Result<Pipeline, Stop>
         requires shows { Shows next.old.token (text_of S.bytes self.old) self.old.at }
         ensures value { Reads S.bytes self.old (a_pipeline (level room) next.old) result
-            (λ pipeline. (view_pipeline pipeline, next.new)) self.new.at }
+            (λ pipeline. (view_pipeline pipeline, next.new)) (state_of self.new) }
         ensures shows { IfOk result (λ pipeline. Shows next.new.token (text_of S.bytes self.old) self.new.at) }
         ensures onward { IfOk result (λ pipeline. self.old.at ≤ self.new.at) }
-        ensures same { Stays self.old self.new }
+        ensures same { Keeps self.old self.new }
     {
         let bang = self.bang(next);
         let first = self.command(alloc, next, room)?;

@@ -7,7 +7,7 @@ ghost use Rattle.shread.specs.Plain.{ArePlain, alone, begins_a_word, is_plain};
 
 use crate::cursor::Cursor;
 use crate::mode::Mode;
-use crate::source::Source;
+use shtext::Source;
 
 // A set of modes: a bit for each.
 const PLAIN: u8 = 1;

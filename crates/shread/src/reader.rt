@@ -13,7 +13,7 @@ use crate::all_lines::script_from;
 use crate::fault::{Fault, ReadError};
 use crate::first_fault::first_fault_of;
 use crate::one_line::line_from;
-use crate::source::Source;
+use shtext::Source;
 use shtree::List;
 use std::alloc::Global;
 
@@ -97,7 +97,7 @@ impl Reader {
     /// Reads a whole script.
     ///
     /// A fault is part of the answer. Want of memory is the only error: the meter is then as before, and the reader can
-    /// be used again.
+    /// be used again. A script without a byte wants no memory.
     #[tactic(auto, using(crate::proofs::Answered::script_answered, crate::proofs::Spelling::script_spelled))]
     pub fn read_script<S: Source>(&mut self, source: &S) -> Result<Script, ReadError>
         // The answer is what the grammar has for the bytes, and it has nothing else.
@@ -112,6 +112,7 @@ impl Reader {
         ensures fault { IfOk result (λ script. IfSome script.fault (λ f. f.at ≤ length (S.bytes source.now))) }
         ensures meter { IfOk result (λ script. meter_of self.new ≡ raised (meter_of self.old) (length (S.bytes source.now))) }
         ensures err { IfErr result (λ e. meter_of self.new ≡ meter_of self.old) }
+        ensures empty { length (S.bytes source.now) ≡ 0 → IsOk result }
     {
         let script = script_from(self.alloc, source)?;
         self.count(source.len());

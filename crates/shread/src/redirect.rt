@@ -1,31 +1,22 @@
 //! Redirections (XCU 2.7): among the items of a simple command, and behind a compound command.
-ghost use Rattle.std.specs.Prelude.{◌≡◌, ◌<◌, ◌≤◌, [], false, map, IfOk, Ok as Done, true};
+ghost use Rattle.std.specs.Prelude.{◌≡◌, ◌+◌, ◌<◌, ◌≤◌, [], false, map, IfOk, Ok as Done, true};
 ghost use Rattle.shread.specs.Bytes.{behind};
-ghost use Rattle.shread.specs.Clauses.{IsRead, Onward, Reads, reads, Shows, Stays, text_of};
-ghost use Rattle.shread.specs.Commands.{a_number, a_target, an_operator, is_long, one_redirect, redirect_turn, redirected, so_many, takes_here};
+ghost use Rattle.shread.specs.Clauses.{end_of, IsRead, Keeps, Onward, reads, Reads, Shows, state_of, Stays, text_of};
+ghost use Rattle.shread.specs.Commands.{a_number, a_target, an_operator, is_long, is_strip, one_redirect, redirect_turn, redirected, so_many};
 ghost use Rattle.shread.specs.declared.token.Position.TheVariants.{Command as AsCommand};
-ghost use Rattle.shread.specs.Form.{again, many, step_if};
+ghost use Rattle.shread.specs.Form.{again, many, raw, step_if};
 ghost use Rattle.shread.specs.Levels.{level};
-ghost use Rattle.shread.specs.Sights.{standing};
+ghost use Rattle.shtree.specs.Nodes.{word_span};
 ghost use Rattle.shtree.specs.View.{view_command, view_item, view_word};
 
 use crate::cursor::Cursor;
+use crate::documents::is_strip;
 use crate::fault::{FaultKind, Stop};
-use crate::source::Source;
 use crate::token::{Next, Position, Token};
+use shtext::Source;
 use shtree::make::{redirect_of, redirection_of, with_redirects};
 use shtree::{Command, Item, RedirectOperator, Span, Word};
 use std::alloc::Global;
-
-/// Whether a here-document belongs to it.
-fn takes_here(operator: RedirectOperator) -> bool
-    ensures { result ≡ takes_here operator }
-{
-    matches!(
-        operator,
-        RedirectOperator::Here | RedirectOperator::HereStripped
-    )
-}
 
 /// Whether it has two bytes, or more.
 fn is_long(operator: RedirectOperator) -> bool
@@ -39,7 +30,7 @@ impl<'a, S: Source> Cursor<'a, S> {
     #[tactic(auto, unfolding(crate::specs::Commands::a_number, crate::specs::Commands::next_token))]
     fn number(&mut self, next: &mut Next) -> Option<Span>
         requires shows { Shows next.old.token (text_of S.bytes self.old) self.old.at }
-        ensures value { reads S.bytes self.old (a_number next.old) ≡ Done ((result, next.new), standing self.new.at) }
+        ensures value { reads S.bytes self.old (a_number next.old) ≡ Done ((result, next.new), state_of self.new) }
         ensures shows { Shows next.new.token (text_of S.bytes self.old) self.new.at }
         ensures onward { self.old.at ≤ self.new.at }
         ensures same { Stays self.old self.new }
@@ -54,12 +45,14 @@ impl<'a, S: Source> Cursor<'a, S> {
         Some(span)
     }
 
-    /// Passes the operator here, which takes no here-document.
+    /// Passes the operator here.
     #[tactic(auto, unfolding(crate::specs::Commands::an_operator))]
     fn operator(&mut self, operator: RedirectOperator) -> Span
         requires one { IsRead (text_of S.bytes self.old) self.old.at }
         requires two { is_long operator ≡ true → IsRead (text_of S.bytes self.old) (behind (text_of S.bytes self.old) self.old.at) }
-        ensures value { reads S.bytes self.old (an_operator operator) ≡ Done ((tt, result), standing self.new.at) }
+        requires three { is_strip operator ≡ true → IsRead (text_of S.bytes self.old) (behind (text_of S.bytes self.old) (behind (text_of S.bytes self.old) self.old.at)) }
+        ensures value { reads S.bytes self.old (an_operator operator) ≡ Done ((tt, result), state_of self.new) }
+        ensures start { result.start ≤ end_of S.bytes self.old }
         ensures onward { self.old.at < self.new.at }
         ensures same { Stays self.old self.new }
     {
@@ -68,16 +61,20 @@ impl<'a, S: Source> Cursor<'a, S> {
         if is_long(operator) {
             self.bump();
         }
+        if is_strip(operator) {
+            self.bump();
+        }
         self.span_from(start)
     }
 
-    /// The word of a redirection, from behind its operator.
+    /// The word of a redirection, from behind its operator, and where it begins.
     #[cycle(commands)]
     #[tactic(auto, unfolding(crate::specs::Commands::a_target, crate::specs::Commands::next_token))]
-    fn target(&mut self, alloc: Global, room: usize) -> Result<Word, Stop>
-        ensures value { Reads S.bytes self.old (a_target (level room)) result view_word self.new.at }
-        ensures onward { IfOk result (λ word. self.old.at ≤ self.new.at) }
-        ensures same { Stays self.old self.new }
+    fn target(&mut self, alloc: Global, room: usize) -> Result<(Word, usize), Stop>
+        ensures value { Reads S.bytes self.old (a_target (level room)) result (λ x. (view_word x.0, raw (text_of S.bytes self.old) x.1 self.new.at)) (state_of self.new) }
+        ensures place { IfOk result (λ x. (x.1 ≤ self.new.at) × ((word_span (view_word x.0)).start ≡ self.old.origin + x.1)) }
+        ensures onward { IfOk result (λ x. self.old.at ≤ self.new.at) }
+        ensures same { Keeps self.old self.new }
     {
         let mut next = self.next_token(Position::Suffix);
         let Token::Word = next.token else {
@@ -85,7 +82,7 @@ impl<'a, S: Source> Cursor<'a, S> {
         };
         let start = self.at;
         let substs = self.pass_word(alloc, room)?;
-        Ok(self.word_from(start, substs))
+        Ok((self.word_from(start, substs), start))
     }
 
     /// The redirection that begins here, as one more of these items, and the token behind it, which stands in this position.
@@ -102,22 +99,21 @@ impl<'a, S: Source> Cursor<'a, S> {
     ) -> Result<(), Stop>
         requires shows { Shows next.old.token (text_of S.bytes self.old) self.old.at }
         ensures value { Reads S.bytes self.old (one_redirect (level room) broken position (map view_item items.old.items) next.old) result
-            (λ done. again (so_many (map view_item items.new.items) position next.new)) self.new.at }
+            (λ done. again (so_many (map view_item items.new.items) position next.new)) (state_of self.new) }
         ensures shows { IfOk result (λ done. Shows next.new.token (text_of S.bytes self.old) self.new.at) }
         ensures onward { IfOk result (λ done. self.old.at < self.new.at) }
-        ensures same { Stays self.old self.new }
+        ensures same { Keeps self.old self.new }
     {
         let start = self.at;
         let number = self.number(next);
-        // Here-documents are not read yet.
-        let operator = match next.token.redirect_operator() {
-            Some(operator) if !takes_here(operator) => operator,
-            _ => return Err(self.wrong_at(FaultKind::Unexpected, start)),
+        let Some(operator) = next.token.redirect_operator() else {
+            return Err(self.wrong_at(FaultKind::Unexpected, start));
         };
         let span = self.operator(operator);
-        let word = self.target(alloc, room)?;
+        let (word, begin) = self.target(alloc, room)?;
+        let here = self.document(alloc, operator, span.start, begin)?;
         if self.keep {
-            let redirection = redirection_of(number, operator, span, word);
+            let redirection = redirection_of(number, operator, span, word, here);
             items.push(redirect_of(Box::new(alloc, redirection)?, broken))?;
         }
         *next = self.next_token(position);
@@ -136,10 +132,10 @@ impl<'a, S: Source> Cursor<'a, S> {
     ) -> Result<bool, Stop>
         requires shows { Shows next.old.token (text_of S.bytes self.old) self.old.at }
         ensures value { Reads S.bytes self.old (redirect_turn (level room) (so_many (map view_item redirects.old.items) AsCommand next.old)) result
-            (λ more. step_if more (so_many (map view_item redirects.new.items) AsCommand next.new)) self.new.at }
+            (λ more. step_if more (so_many (map view_item redirects.new.items) AsCommand next.new)) (state_of self.new) }
         ensures shows { IfOk result (λ more. Shows next.new.token (text_of S.bytes self.old) self.new.at) }
         ensures onward { IfOk result (Onward self.old.at self.new.at) }
-        ensures same { Stays self.old self.new }
+        ensures same { Keeps self.old self.new }
     {
         if !next.token.begins_redirect() {
             return Ok(false);
@@ -155,10 +151,10 @@ impl<'a, S: Source> Cursor<'a, S> {
     fn redirects(&mut self, alloc: Global, next: &mut Next, room: usize) -> Result<Vec<Item>, Stop>
         requires shows { Shows next.old.token (text_of S.bytes self.old) self.old.at }
         ensures value { Reads S.bytes self.old (many (redirect_turn (level room)) (so_many [] AsCommand next.old)) result
-            (λ redirects. so_many (map view_item redirects.items) AsCommand next.new) self.new.at }
+            (λ redirects. so_many (map view_item redirects.items) AsCommand next.new) (state_of self.new) }
         ensures shows { IfOk result (λ redirects. Shows next.new.token (text_of S.bytes self.old) self.new.at) }
         ensures onward { IfOk result (λ redirects. self.old.at ≤ self.new.at) }
-        ensures same { Stays self.old self.new }
+        ensures same { Keeps self.old self.new }
     {
         let mut redirects = Vec::new(alloc);
         'turns: while self.next_redirect(alloc, next, &mut redirects, room)? {}
@@ -177,10 +173,10 @@ impl<'a, S: Source> Cursor<'a, S> {
     ) -> Result<Command, Stop>
         requires shows { Shows next.old.token (text_of S.bytes self.old) self.old.at }
         ensures value { Reads S.bytes self.old (redirected (level room) (view_command command, next.old)) result
-            (λ whole. (view_command whole, next.new)) self.new.at }
+            (λ whole. (view_command whole, next.new)) (state_of self.new) }
         ensures shows { IfOk result (λ whole. Shows next.new.token (text_of S.bytes self.old) self.new.at) }
         ensures onward { IfOk result (λ whole. self.old.at ≤ self.new.at) }
-        ensures same { Stays self.old self.new }
+        ensures same { Keeps self.old self.new }
     {
         let redirects = self.redirects(alloc, next, room)?;
         Ok(with_redirects(command, redirects))

@@ -6,7 +6,8 @@ ghost use Rattle.shread.specs.LineByLine.{bytes_of, place_of};
 ghost use Rattle.shtree.specs.Nodes.{AreWithin};
 ghost use Rattle.shtree.specs.View.{view_list};
 
-use crate::{Flat, Line, LineKind, ReadError, Reader, ScriptLine, ScriptLines, Source};
+use crate::{Line, LineKind, ReadError, Reader, ScriptLine, ScriptLines};
+use shtext::{Flat, Source};
 use shtree::laws::greater_limit;
 use shtree::{List, NodeKind, NodeLine};
 use std::alloc::{AllocError, Global};
@@ -136,7 +137,31 @@ fn grows_not(alloc: Global, refuses: bool, script: &[u8]) -> Result<bool, Fail> 
     Ok(has_none && !(refuses && has_grown))
 }
 
-/// A check asks for no growth.
+/// What a check does with documents, in its own level and in a substitution.
+const DOCUMENTS: &[u8] = b"a <<A <<-'B' $(c <<C\nc\nC\n)\na\nA\n\tb\n\tB\nd <<D\nD\n";
+
+/// Where documents wait a check asks for growths; each is refused in turn.
+#[test]
+fn first_fault_of_documents(rt: HostRuntime) -> Result<(), Fail> {
+    let refuses = refuses(rt.alloc());
+    let mut met = 0;
+    for nth in 1..100 {
+        let mut reader = Reader::new(rt.alloc());
+        refuse(rt.alloc(), nth);
+        let read = reader.first_fault(&Flat::new(DOCUMENTS));
+        if !refuses || !was_refused(rt.alloc(), nth) {
+            assert!(rt; read?.is_none());
+            break;
+        }
+        assert!(rt; matches!(read, Err(ReadError::Memory)) && reader.meter() == 0);
+        assert!(rt; reader.first_fault(&Flat::new(DOCUMENTS))?.is_none());
+        met = nth;
+    }
+    assert!(rt; !refuses || met > 0);
+    Ok(())
+}
+
+/// Without documents a check asks for none.
 #[test]
 fn first_fault(rt: HostRuntime) -> Result<(), Fail> {
     let refuses = refuses(rt.alloc());

@@ -6,7 +6,7 @@ ghost use Rattle.shread.specs.LineByLine.{AtStart, GoesOn, IsNextLine, LineWithi
 
 use crate::fault::{Fault, ReadError, Stop};
 use crate::one_line::{Told, line_at};
-use crate::source::Source;
+use shtext::Source;
 use shtree::Entry;
 use std::alloc::Global;
 

@@ -6,8 +6,8 @@ ghost use Rattle.shread.specs.Clauses.{text_of};
 ghost use Rattle.shread.specs.Standing.{next_of, next_such};
 
 use crate::cursor::Cursor;
-use crate::source::Source;
 use memchr::{memchr, memchr2};
+use shtext::Source;
 
 /// How many bytes of text in single quotes are looked at before it is searched.
 const NEAR: usize = 8;

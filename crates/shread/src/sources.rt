@@ -1,53 +1,17 @@
-// Sources, places in them, and numbers: what no table of scripts holds.
+// Sources told in stretches, searches, and numbers: what no table of scripts holds.
 use crate::dump::Judge;
 use crate::search::{Sought, find_in};
 use crate::table::{Cell, rows, split};
 use crate::trees::ROWS;
-use crate::{FaultKind, Flat, ReadError, Source, line_col_of};
+use crate::{FaultKind, ReadError};
+use shtext::{Flat, Source};
 use std::test::Fail;
-
-#[test]
-fn runs(rt: HostRuntime) {
-    let text = Flat::new(b"ab\nc");
-    assert!(rt; text.len() == 4);
-    assert!(rt; text.byte(3) == Some(b'c'));
-    assert!(rt; text.byte(4).is_none());
-    assert!(rt; text.run(2) == b"\nc".as_slice());
-    assert!(rt; text.run(4).is_empty());
-}
 
 #[test]
 fn searches(rt: HostRuntime) {
     let text = Flat::new(b"ab\nc");
     assert!(rt; find_in(&text, 1, Sought::Byte(b'c')) == 3);
     assert!(rt; find_in(&text, 3, Sought::Byte(b'\n')) == text.len());
-}
-
-/// A newline alone ends a line: in the text of all bytes the eleventh.
-#[test]
-fn places(rt: HostRuntime) -> Result<(), Fail> {
-    let mut bytes = Vec::new(rt.alloc());
-    for byte in 0..=255u8 {
-        bytes.push(byte)?;
-    }
-    for at in 0..=256usize {
-        let place = if at <= 10 { (1, at + 1) } else { (2, at - 10) };
-        assert!(rt; at <= bytes.len() && line_col_of(&Flat::new(&bytes), at) == place);
-    }
-    Ok(())
-}
-
-/// An empty line has a place too, and so has the end of the text.
-#[test]
-fn places_of_lines(rt: HostRuntime) -> Result<(), Fail> {
-    let text = Flat::new(b"ab\n\nc\n");
-    let mut told = String::new(rt.alloc());
-    for at in 0..=6 {
-        let (line, column) = line_col_of(&text, at);
-        write!(told, " {line}:{column}")?;
-    }
-    assert!(rt; told.as_str() == " 1:1 1:2 1:3 2:1 3:1 3:2 4:1");
-    Ok(())
 }
 
 /// The numbers of the kinds, which count from 1, and of the error are fixed.

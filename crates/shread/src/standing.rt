@@ -5,8 +5,8 @@ ghost use Rattle.shread.specs.Clauses.{text_of};
 ghost use Rattle.shread.specs.Standing.{raw_past, at_end, continues, raw_in, raw_stands};
 
 use crate::cursor::Cursor;
-use crate::source::Source;
 use crate::token::Class;
+use shtext::Source;
 
 impl<'a, S: Source> Cursor<'a, S> {
     /// The byte at a place as it stands, or `None` at the end.

@@ -1,27 +1,39 @@
 //! Command substitutions (XCU 2.6.3).
 ghost use Rattle.std.specs.Prelude.{◌≡◌, ◌+◌, ◌≤◌, map, IfOk};
-ghost use Rattle.shread.specs.Clauses.{Reads, Stays};
+ghost use Rattle.shread.specs.Clauses.{Keeps, Reads, state_of};
+ghost use Rattle.shread.specs.Comments.{span};
+ghost use Rattle.shread.specs.Form.{pushed};
 ghost use Rattle.shread.specs.Levels.{level};
 ghost use Rattle.shread.specs.Substitutions.{substituted};
+ghost use Rattle.shtree.specs.Bodies.{filled};
+ghost use Rattle.shtree.specs.Tree.{subst};
 ghost use Rattle.shtree.specs.View.{view_list, view_subst};
 
 use crate::cursor::Cursor;
 use crate::fault::{Fault, FaultKind, Stop};
 use crate::list::Listed;
-use crate::source::Source;
 use crate::token::{Closing, Position};
+use shtext::Source;
 use shtree::make::{list_of, subst_of};
-use shtree::{List, Subst};
-use std::alloc::Global;
+use shtree::{List, Span, Subst, put_bodies};
+use std::alloc::{AllocError, Global};
+
+/// A list with the bodies of its level.
+fn filled_list(mut list: List, bodies: &[Span]) -> List
+    ensures { view_list result ≡ filled bodies.now (view_list list) }
+{
+    put_bodies(&mut list, bodies);
+    list
+}
 
 impl<'a, S: Source> Cursor<'a, S> {
     /// What stands in a substitution, and its `)`.
     #[cycle(commands)]
     #[tactic(auto, unfolding(crate::specs::Substitutions::substituted, crate::specs::Commands::next_token))]
     fn substituted(&mut self, alloc: Global, room: usize) -> Result<List, Stop>
-        ensures value { Reads S.bytes self.old (substituted (level room)) result view_list self.new.at }
+        ensures value { Reads S.bytes self.old (substituted (level room)) result view_list (state_of self.new) }
         ensures onward { IfOk result (λ list. self.old.at ≤ self.new.at) }
-        ensures same { Stays self.old self.new }
+        ensures same { Keeps self.old self.new }
     {
         let mut next = self.next_token(Position::Command);
         let mut listed = Listed::new(alloc, false);
@@ -29,8 +41,29 @@ impl<'a, S: Source> Cursor<'a, S> {
         if !next.token.is_closing(Closing::Paren) {
             return Err(Stop::Wrong(self.what_is_wrong(alloc, &mut next, room)?));
         }
+        self.nothing_waits()?;
         self.bump();
         Ok(list_of(listed.entries))
+    }
+
+    /// The substitution from a place up to this one, with the bodies of its level, as one more of these, if a tree is grown.
+    #[tactic(auto, using(crate::proofs::Levels::subst_kept, crate::proofs::Levels::subst_left))]
+    fn add_subst(
+        &self,
+        list: List,
+        bodies: Vec<Span>,
+        opener: usize,
+        substs: &mut Vec<Subst>,
+    ) -> Result<(), AllocError>
+        requires { opener ≤ self.now.at }
+        ensures value { IfOk result (λ done. map view_subst substs.new.items
+            ≡ pushed self.now.keep (map view_subst substs.old.items) (subst (filled bodies.items (view_list list)) (span self.now.origin opener self.now.at))) }
+    {
+        if self.keep {
+            let list = filled_list(list, &bodies);
+            substs.push(subst_of(list, self.span_from(opener)))?;
+        }
+        Ok(())
     }
 
     /// The substitution whose `$` stands at a place, from behind its `(` on, as one more of these.
@@ -46,18 +79,18 @@ impl<'a, S: Source> Cursor<'a, S> {
         requires { opener ≤ self.old.at }
         ensures value { Reads S.bytes self.old
             ((level room).substitution (self.old.origin + opener) (map view_subst substs.old.items)) result
-            (λ done. map view_subst substs.new.items) self.new.at }
+            (λ done. map view_subst substs.new.items) (state_of self.new) }
         ensures onward { IfOk result (λ done. self.old.at ≤ self.new.at) }
-        ensures same { Stays self.old self.new }
+        ensures same { Keeps self.old self.new }
     {
         if room == 0 {
             return Err(self.wrong_at(FaultKind::TooDeep, opener));
         }
+        let outer = self.open_level(alloc);
         match self.substituted(alloc, room - 1) {
             Ok(list) => {
-                if self.keep {
-                    substs.push(subst_of(list, self.span_from(opener)))?;
-                }
+                let bodies = self.close_level(outer);
+                self.add_subst(list, bodies, opener, substs)?;
                 Ok(())
             }
             // The text ends in it.

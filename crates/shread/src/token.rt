@@ -9,7 +9,7 @@ ghost use Rattle.shread.specs.Tokens.{begins_assignment, first_of_words, greater
 
 use crate::cursor::Cursor;
 use crate::plain::{begins_a_word, ends_words, is_in_names};
-use crate::source::Source;
+use shtext::Source;
 use shtree::{AndOrOperator, RedirectOperator};
 
 /// What begins at a place that no blank stands at (XCU 2.3, 2.10.1).
@@ -284,6 +284,7 @@ pub(crate) enum Class {
     Digit,
     /// A letter, a digit or an underscore, all ASCII.
     Name,
+    Tab,
 }
 
 impl Class {
@@ -294,6 +295,7 @@ impl Class {
             Class::Blank => byte == b' ' || byte == b'\t',
             Class::Digit => byte.is_ascii_digit(),
             Class::Name => is_in_names(byte),
+            Class::Tab => byte == b'\t',
         }
     }
 }

@@ -1,9 +1,9 @@
 // Scripts whose trees and faults pin each rule of the grammar: where a rule is turned, a row fails. The answers are worked out by
 // hand from the grammar; none is what the reader told. Rows of one theme stand together, several on a line: `table.rt` says how
 // they are written, and `dump.rt` how the dumps are.
-use crate::Flat;
 use crate::dump::Judge;
 use crate::table::{Cell, joined, rows, split};
+use shtext::Flat;
 use std::alloc::Global;
 use std::test::Fail;
 
@@ -68,9 +68,35 @@ pub(crate) const ROWS: &[u8] = br###"
 ("case a in b) c >d\nesac", "<0-22 case 5-6 (10-17 10-11 [13-14 >15-16:16-17])>") ("case a in b) (c) >d esac", "<0-24 case 5-6 (10-19 10-11 (13-16 [14-15]) >17-18:18-19)>")
 // in a substitution
 ("$(<a)", "[0-5$0-5([<2-3:3-4])]") ("$(a<b)", "[0-6$0-6([2-3 <3-4:4-5])]") ("a >$(b)", "[0-1 >2-3:3-7$3-7([5-6])]") ("$( (a) >b)", "[0-10$0-10((3-6 [4-5]) >7-8:8-9)]") ("$(a >", "fault 7 at 0") ("$(a >)", "fault 11 at 5")
-// a redirection has a word, which is no number; here-documents are not read yet
+// a redirection has a word, which is no number
 (">", "fault 12 at 1") ("a >", "fault 12 at 3") ("a > ", "a >|", "a >&", "fault 12 at 4") ("a >;", "a >\n", "a >(b)", "a >)", "a >2>b", "fault 11 at 3") ("a >#b", "fault 12 at 5") ("a >#b\nc", "fault 11 at 5") ("a > >b", "a >&;", "a >>|", "fault 11 at 4") ("a >\"${", "fault 4 at 4") ("a >b \"c", "fault 2 at 5")
-("2>&1>f", "fault 11 at 3") ("a 2>&1>f", "fault 11 at 5") ("a <<b", "a <<-b", "a 2<<b", "a 2\\\n<<b", "a <\\\n<b", "fault 11 at 2") ("<<b", "2<<b", "<<-b", "fault 11 at 0") ("(a) <<b", "(a) 2<<-b", "a \\\n<<b", "fault 11 at 4") ("f() (a) <<b", "fault 11 at 8") ("a <<", "a <<\n", "fault 11 at 2")
+("2>&1>f", "fault 11 at 3") ("a 2>&1>f", "fault 11 at 5")
+// here-documents: the operator, its word, and the body before the delimiter's line
+("a <<E\nE", "a <<E\nE\n", "[0-1 <<2-4:4-5@6-6]") ("a <<E\nb\nE\n", "a <<E\nb\nE", "[0-1 <<2-4:4-5@6-8]") ("<<E\nE", "[<<0-2:2-3@4-4]") ("a 2<<E\nE\n", "[0-1 2-3<<3-5:5-6@7-7]") ("a <<E b\nE\nc", "[0-1 <<2-4:4-5@8-8 6-7] [10-11]") ("a << E\nE\n", "[0-1 <<2-4:5-6@7-7]")
+("a <<E;b\nc\nE\nd", "[0-1 <<2-4:4-5@8-10] [6-7] [12-13]") ("(a <<E)\nb\nE\n", "(0-7 [1-2 <<3-5:5-6@8-10])") ("(a) <<E\nb\nE\n", "(0-3 [1-2]) <<4-6:6-7@8-10") ("(a <<E\nb\nE\n)", "(0-12 [1-2 <<3-5:5-6@7-9])") ("f() { a;} <<E\nE\n", "f0-1{4-9 [6-7]} <<10-12:12-13@14-14")
+("a <<E && b\nE\n", "[0-1 <<2-4:4-5@11-11]&&[9-10]") ("a <<E &&\nE\nb", "[0-1 <<2-4:4-5@9-9]&&^[11-12]") ("a <<E #c\nE\n", "[0-1 <<2-4:4-5@9-9]#6-8") ("a <<E\nE\n\nb", "[0-1 <<2-4:4-5@6-6] ~[9-10]") ("a <<E\n\n\nE\nb", "[0-1 <<2-4:4-5@6-8] [10-11]") ("a <<E\n(\nE\n", "a <<E\n'\nE\n", "[0-1 <<2-4:4-5@6-8]")
+("if a <<E;then b;fi\nE\n", "<0-18 if [3-4 <<5-7:7-8@19-19] then [14-15]>") ("if a <<E\nE\nthen b;fi", "<0-20 if [3-4 <<5-7:7-8@9-9] then [16-17]>") ("for a in b;do <<E\nc\nE\ndone", "<0-26 for 4-5 in 9-10 do [<<14-16:16-17@18-20]>") ("case a in b) <<E;;\nE\nesac", "<0-25 case 5-6 (10-18 10-11 [<<13-15:15-16@19-19])>") ("case a in b) <<E\nE\n;;esac", "<0-25 case 5-6 (10-21 10-11 [<<13-15:15-16@17-17])>")
+// a line that ends before the delimiter, or goes on behind it, is none; a delimiter line may end the text, and no line begins there
+("a <<E\nEX\nE\n", "a <<E\nXE\nE\n", "a <<E\n E\nE\n", "a <<E\nE \nE\n", "a <<E\n\tE\nE\n", "[0-1 <<2-4:4-5@6-9]") ("a <<EE\nE\nEE", "[0-1 <<2-4:4-6@7-9]") ("a <<''\n\n", "[0-1 <<2-4:4-6@'7-7]") ("a <<''\nb\n\nc", "[0-1 <<2-4:4-6@'7-9] [10-11]")
+("a <<E", "a <<E\n", "a <<E\nEX", "a <<E\nEX\n", "a <<''\n", "a <<''\nb\n", "a <<E\ne\n", "fault 9 at 2") ("<<E\nb", "<<E", "fault 9 at 0") ("2<<E", "fault 9 at 1") ("a 2\\\n<<E", "fault 9 at 5")
+// several: in the order of their operators, at one newline
+("<<A <<B\nA\nB\n", "[<<0-2:2-3@8-8 <<4-6:6-7@10-10]") ("<<A <<B\na\nA\nb\nB\nc", "[<<0-2:2-3@8-10 <<4-6:6-7@12-14] [16-17]") ("<<A|<<B\nA\nb\nB\n", "[<<0-2:2-3@8-8]|[<<4-6:6-7@10-12]") ("<<A;<<B\nA\nB", "[<<0-2:2-3@8-8] [<<4-6:6-7@10-10]") ("<<A|(<<B)\nA\nb\nB\n", "[<<0-2:2-3@10-10]|(4-9 [<<5-7:7-8@12-14])")
+("<<A &&\nA\n<<B\nb\nB\n", "[<<0-2:2-3@7-7]&&^[<<9-11:11-12@13-15]") ("<<A\nA\n<<B\nB\n", "[<<0-2:2-3@4-4] [<<6-8:8-9@10-10]") ("<<A <<A\nA\nA\n", "[<<0-2:2-3@8-8 <<4-6:6-7@10-10]") ("{ <<A\na\nA\n} <<B\nb\nB\n", "{0-11 [<<2-4:4-5@6-8]} <<12-14:14-15@16-18") ("<<A <<B\nA\n", "fault 9 at 4") ("<<A <<B\nB\nA\n", "fault 9 at 4") ("<<A <<B\nB\n", "fault 9 at 0")
+// `<<-` takes the tabs off, and no blanks
+("<<-E\nE\n", "[<<-0-3:3-4@-5-5]") ("<<-E\n\ta\n\t\tE\n", "[<<-0-3:3-4@-5-8]") ("<<-E\n \tE\n\tE", "[<<-0-3:3-4@-5-9]") ("<<-E\n\t E\nE", "[<<-0-3:3-4@-5-9]") ("<<-'\tE'\n\tE\n", "fault 9 at 0") ("<<'\tE'\n\tE\n", "[<<0-2:2-6@'7-7]") ("<<-''\n\t\n", "[<<-0-3:3-5@-'6-6]") ("<<- E\n\tE\n", "[<<-0-3:4-5@-6-6]") ("<< -E\n-E\n", "[<<0-2:3-5@6-6]") ("<<--\n-\n", "[<<-0-3:3-4@-5-5]")
+// a line behind an odd number of backslashes is none, unless a part of the delimiter is quoted
+("<<E\na\\\nE\nE\n", "[<<0-2:2-3@4-9]") ("<<E\na\\\\\nE\n", "[<<0-2:2-3@4-8]") ("<<E\na\\\\\\\nE\nE\n", "[<<0-2:2-3@4-11]") ("<<E\n\\\nE\nE\n", "[<<0-2:2-3@4-8]") ("<<E\n\\\n\\\nE\nE\n", "[<<0-2:2-3@4-10]") ("<<E\na\\\nE", "<<E\na\\\nE\n", "fault 9 at 0") ("<<-E\na\\\n\tE\n\tE\n", "[<<-0-3:3-4@-5-11]")
+("<<'E'\na\\\nE\n", "<<\"E\"\na\\\nE\n", "[<<0-2:2-5@'6-9]") ("<<\\E\na\\\nE\n", "[<<0-2:2-4@'5-8]") ("<<E''\na\\\nE\n", "<<E\"\"\na\\\nE\n", "<<''E\na\\\nE\n", "[<<0-2:2-5@'6-9]") ("<<E\\\n\na\\\nE\nE\n", "[<<0-2:2-3@6-11]") ("<<E\\\nF\nEF\n", "[<<0-2:2-6@7-7]")
+// its delimiter is the word after quote removal
+("<<a'b'c\nabc\n", "<<a\"b\"c\nabc\n", "[<<0-2:2-7@'8-8]") ("<<\"a\\\"b\"\na\"b\n", "[<<0-2:2-8@'9-9]") ("<<\"a\\b\"\na\\b\n", "<<'a\\b'\na\\b\n", "[<<0-2:2-7@'8-8]") ("<<a\\\\b\na\\b\n", "[<<0-2:2-6@'7-7]") ("<<\"a\\\nb\"\nab\n", "[<<0-2:2-8@'9-9]") ("<<'a\nb'\na\nb\na\nb\n", "fault 9 at 0") ("<<if\nif\n", "<<a=\na=\n", "[<<0-2:2-4@5-5]")
+("<<$x\n$x\n", "<<$$\n$$\n", "<<a$\na$\n", "<<$1\n$1\n", "[<<0-2:2-4@5-5]") ("<<\"$x\"\n$x\n", "[<<0-2:2-6@'7-7]") ("<<\"'\"\n'\n", "[<<0-2:2-5@'6-6]") ("<<\"$$(a)\"\n$$(a)\n", "[<<0-2:2-9@'10-10]") ("<<'$(a)'\n$(a)\n", "[<<0-2:2-8@'9-9]") ("<<\\$\\(a\\)\n$(a)\n", "[<<0-2:2-9@'10-10]") ("<<'`'\n`\n", "[<<0-2:2-5@'6-6]") ("<<\"\\`\\$\"\n`$\n", "[<<0-2:2-8@'9-9]")
+("<<$(a)\n", "<<${a}\n", "<<$((1))\n", "<<`a`\n", "<<\"$(a)\"\n", "<<\"`a`\"\n", "<<a$(b)\n", "<<$\\\n(a)\n", "<<\"$$$(a)\"\n", "<<''${a}\n", "fault 10 at 2") ("a << $(b)", "fault 10 at 5") ("<<$(a", "fault 7 at 2") ("<<\"${a", "fault 4 at 3") ("<<A <<${b}\n", "fault 10 at 6")
+// what comes first: a fault of a token, a newline before its bodies, the first document that waits before an open substitution
+("<<A <\nA\n", "fault 11 at 5") ("<<E >", "<<E >\\\n", "<<E |", "<<E &&", "fault 9 at 0") ("(<<E", "fault 9 at 1") ("{ <<E", "fault 9 at 2")
+("<<", "fault 12 at 2") ("<<\n", "<<;", "<<|", "<<&", "<<(", "fault 11 at 2") ("<<#a\n", "fault 11 at 4") ("<<E )", "<<E ;;", "<<E (", "fault 11 at 4") ("<<E;;", "<<E)", "fault 11 at 3") ("<<A 'b", "fault 1 at 4") ("<<A $(b", "fault 7 at 4") ("<<A #b", "fault 9 at 0") ("<<A;}\nA\n", "fault 11 at 4") ("{ <<A\n;}\nA\n", "fault 12 at 11") ("<<A |\n", "fault 9 at 0") ("<<A |\nA\n|", "fault 11 at 8")
+// each substitution has documents of its own
+("$(<<E\nE\n)", "[0-9$0-9([<<2-4:4-5@6-6])]") ("$(a <<E\nb\nE\n)c", "[0-14$0-13([2-3 <<4-6:6-7@8-10])]") ("<<A $(<<B\nb\nB\n)\na\nA\n", "[<<0-2:2-3@16-18 4-15$4-15([<<6-8:8-9@10-12])]") ("$(<<A\na\nA\n) <<B\nb\nB\n", "[0-11$0-11([<<2-4:4-5@6-8]) <<12-14:14-15@16-18]") ("<<A \"$(a\nb)\"\nA\n", "[<<0-2:2-3@13-13 4-12$5-11([7-8] [9-10])]")
+("<<A $(b\n)\nA\n", "[<<0-2:2-3@10-10 4-9$4-9([6-7])]") ("<<A a\\\nb 'c\nd'\nA\n", "[<<0-2:2-3@15-15 4-8 9-14]") ("$($(<<A\nA\n)<<B\nb\nB\n)", "[0-20$0-20([2-11$2-11([<<4-6:6-7@8-8]) <<11-13:13-14@15-17])]") ("$(<<E)\nE\n", "$(<<E )", "$(<<E", "$(<<E #)", "$(<<E\nE)", "fault 9 at 2") ("$( (<<E) )", "fault 9 at 4") ("$(<<A $(<<B))", "fault 9 at 8") ("<<A $(b\n", "fault 7 at 4") ("$(<<A\n", "$(<<A\nb\n)", "fault 9 at 2") ("$(case a in b) <<E\nE\n;;esac)", "[0-28$0-28(<2-27 case 7-8 (12-23 12-13 [<<15-17:17-18@19-19])>)]")
 ("for x in a >f; do", "fault 11 at 11") ("for x in >f; do", "for x in 2>f; do", "fault 11 at 9")
 // joins
 ("a&&b", "[0-1]&&[3-4]") ("a||b", "[0-1]||[3-4]") ("a|b", "[0-1]|[2-3]") ("a&&b||c", "[0-1]&&[3-4]||[6-7]") ("a|b|c", "[0-1]|[2-3]|[4-5]")
@@ -124,7 +150,7 @@ pub(crate) const ROWS: &[u8] = br###"
 ("for 1 in a;do b;done", "for a- do", "for 'a' do", "for $a do", "for a=1 do", "for a'b'", "for { do", "for } do", "for ! do", "for \\a", "for a\"\"", "for a``", "for 9 ", "for -", "for a/b",
   "for =", "fault 13 at 4") ("for 'a", "fault 1 at 4") ("for a\"", "fault 2 at 5") ("for a-`", "fault 3 at 6") ("for 1${", "fault 4 at 5") ("for \\", "fault 8 at 4") ("for a$((1", "fault 5 at 5")
 ("for a\\\nb do c;done", "<0-18 for 4-8 do [12-13]>") ("for\\\n a\\\n do b;done", "<0-19 for 6-7 do [13-14]>") ("for a\\\n- do", "fault 13 at 4") ("f\\\nor a d\\\no b;d\\\none", "<0-21 for 6-7 do [13-14]>")
-("for;do", "for&", "for|", "for)", "for(", "for<", "fault 11 at 3") ("for ;do", "for 1>x", "for 1<", "for >a", "for (", "for )", "fault 11 at 4") ("for\n\na do", "fault 11 at 3") ("for #a\nb do", "fault 11 at 6") ("for\\\n;", "fault 11 at 5") ("for", "fault 12 at 3") ("for ", "fault 12 at 4")
+("for;do", "for&", "for|", "for)", "for(", "for<", "fault 11 at 3") ("for ;do", "for 1>x", "for 1<", "for >a", "for 2>a", "for (", "for )", "fault 11 at 4") ("for\n\na do", "fault 11 at 3") ("for #a\nb do", "fault 11 at 6") ("for\\\n;", "fault 11 at 5") ("for", "fault 12 at 3") ("for ", "fault 12 at 4")
 // behind the name `in` or `do`, behind `;` only `do`
 ("for a b", "for a if", "for a done", "for a b=1", "for a (", "for a &", "for a |", "for a )", "for a 1>", "for a ;;", "for a {", "for a !", "fault 11 at 6") ("for a;in b;do c;done", "for a;b", "fault 11 at 6")
 ("for a ; in b", "for a;\n in", "fault 11 at 8") ("for a;;", "for a;;do", "fault 11 at 5") ("for a; ;do", "fault 11 at 7") ("for a 'b", "fault 1 at 6") ("for a\nb", "for a\n;do", "fault 11 at 6") ("for a", "fault 12 at 5") ("for a;", "for a\n", "fault 12 at 6") ("for a #b", "fault 12 at 8")
@@ -203,7 +229,7 @@ pub(crate) const ROWS: &[u8] = br###"
 ("case a in b(", "case a in b||c)", "case a in b\n)", "case a in b&", "case a in b<c)", "case a in b;;", "fault 11 at 11") ("case a in b c)", "case a in b ;", "case a in b 1>c)", "fault 11 at 12")
 ("case a in b #c\n)", "fault 11 at 14") ("case a in b|)", "case a in b|\nc)", "case a in b|(c)", "case a in b|1>c)", "fault 11 at 12") ("case a in b| |", "case a in (b|&", "fault 11 at 13")
 ("case a in b| #c\nd)", "fault 11 at 15") ("case a in b | ;", "fault 11 at 14") ("case;", "case\na in", "case|", "case(a) in", "fault 11 at 4")
-("case 1>b", "case )", "case & in", "case <a in", "fault 11 at 5") ("case #a\nb in", "fault 11 at 7")
+("case 1>b", "case )", "case & in", "case <a in", "case >a in", "fault 11 at 5") ("case a in >b)", "fault 11 at 10") ("case a in b|>c)", "case a in b|2>c)", "fault 11 at 12") ("case #a\nb in", "fault 11 at 7")
 ("case a b", "case a ;", "case a do", "case a esac", "case a b=1", "case a 1>b", "case a\nb in", "case a\n;in", "fault 11 at 7") ("case a;in", "case a(", "case a|b in", "fault 11 at 6")
 ("case a #b\nc in", "fault 11 at 10") ("case a 'b", "fault 1 at 7") ("case 'a", "fault 1 at 5") ("case a in 'b", "fault 1 at 10") ("case a in b|'c", "fault 1 at 12") ("case a in ('b", "fault 1 at 11")
 ("case a in b) 'c", "fault 1 at 13") ("case a in \\\n\"b", "fault 2 at 12") ("case \"", "fault 2 at 5") ("case `", "fault 3 at 5") ("case a in b `", "fault 3 at 12") ("case \\", "fault 8 at 5")
@@ -613,9 +639,9 @@ const BYTES: &[u8] = br###"
   "\n;": "[0-1] [2-4]", "&": "[0-1]& [2-4]", "|": "[0-1]|[2-4]", "<": "[0-1 <1-2:2-4]", ">": "[0-1 >1-2:2-4]", ")": "fault 11 at 1", "(": "fault 11 at 2", "'": "fault 1 at 1", "\"": "fault 2 at 1",
   "`": "fault 3 at 1", "": "[0-4]")
 // numbers
-("a " ? "<", ")<": "fault 11 at 2", ">(": "fault 11 at 3", "\n": "[0-1] fault 12 at 4", "#": "[0-1]#2-4", "\\": "[0-1 2-4]",
+("a " ? "<", ")": "fault 11 at 2", "<": "fault 12 at 4", ">(": "fault 11 at 3", "\n": "[0-1] fault 12 at 4", "#": "[0-1]#2-4", "\\": "[0-1 2-4]",
   "'": "fault 1 at 2", "\"": "fault 2 at 2", "`": "fault 3 at 2", "": "fault 12 at 4")
-("a 9" ? "<", "<": "fault 11 at 2", ">": "fault 11 at 4", "()": "fault 11 at 3", "\n": "[0-1 2-3] fault 12 at 5", "\\": "[0-1 2-5]",
+("a 9" ? "<", "<": "fault 12 at 5", ">": "fault 11 at 4", "()": "fault 11 at 3", "\n": "[0-1 2-3] fault 12 at 5", "\\": "[0-1 2-5]",
   "'": "fault 1 at 3", "\"": "fault 2 at 3", "`": "fault 3 at 3", "": "fault 12 at 5")
 ("a 9" ? "", "()": "fault 11 at 3", "|<>": "fault 12 at 4", "\t\n ;": "[0-1 2-3]", "&": "[0-1 2-3]&", "\\": "fault 8 at 3",
   "'": "fault 1 at 3", "\"": "fault 2 at 3", "`": "fault 3 at 3", "": "[0-1 2-4]")

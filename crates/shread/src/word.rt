@@ -1,7 +1,7 @@
 //! Words (XCU 2.3), and how far they go: their pieces in the five modes (XCU 2.2, 2.6).
 ghost use Rattle.std.specs.Prelude.{◌≡◌, ◌≢◌, ◌+◌, ◌<◌, ◌≤◌, length, map, IfOk, List as Row, false, true};
 ghost use Rattle.shread.specs.Bytes.{ends_word, past_continuations};
-ghost use Rattle.shread.specs.Clauses.{IsRead, Onward, Reads, Stays, text_of};
+ghost use Rattle.shread.specs.Clauses.{IsRead, Keeps, Onward, Reads, state_of, Stays, text_of};
 ghost use Rattle.shread.specs.Comments.{span};
 ghost use Rattle.shread.specs.Form.{again, step_if};
 ghost use Rattle.shread.specs.Pieces.{past_closer};
@@ -14,7 +14,7 @@ ghost use Rattle.shread.specs.Levels.{level};
 use crate::cursor::Cursor;
 use crate::fault::{FaultKind, Stop};
 use crate::mode::{Mode, Piece};
-use crate::source::Source;
+use shtext::Source;
 use shtree::make::word_of;
 use shtree::{Subst, Word};
 use std::alloc::Global;
@@ -53,9 +53,9 @@ impl<'a, S: Source> Cursor<'a, S> {
         requires { opener ≤ self.old.at }
         ensures value { Reads S.bytes self.old
             ((level room).construct mode (self.old.origin + opener) (map view_subst substs.old.items)) result
-            (λ done. map view_subst substs.new.items) self.new.at }
+            (λ done. map view_subst substs.new.items) (state_of self.new) }
         ensures onward { IfOk result (λ done. self.old.at ≤ self.new.at) }
-        ensures same { Stays self.old self.new }
+        ensures same { Keeps self.old self.new }
     {
         if room == 0 {
             return Err(self.wrong_at(FaultKind::TooDeep, opener));
@@ -99,7 +99,7 @@ impl<'a, S: Source> Cursor<'a, S> {
         requires close { piece ≡ Piece.Close → 0 < nested.old }
         ensures value { (ss : Row ASubst) →
             Reads S.bytes self.old (piece_row (level 0) mode (self.old.origin + opener) (having nested.old ss) piece)
-            result (λ done. again (having nested.new ss)) self.new.at }
+            result (λ done. again (having nested.new ss)) (state_of self.new) }
         ensures onward { IfOk result (λ done. self.old.at < self.new.at) }
         ensures nested { IfOk result (λ done. nested.new ≤ self.new.at) }
         ensures same { Stays self.old self.new }
@@ -142,12 +142,12 @@ impl<'a, S: Source> Cursor<'a, S> {
         requires nested { nested.old ≤ self.old.at }
         ensures value { Reads S.bytes self.old
             (a_piece (level room) mode (self.old.origin + opener) (having nested.old (map view_subst substs.old.items))) result
-            (λ more. step_if more (having nested.new (map view_subst substs.new.items))) self.new.at }
+            (λ more. step_if more (having nested.new (map view_subst substs.new.items))) (state_of self.new) }
         ensures onward { IfOk result (Onward self.old.at self.new.at) }
         ensures nested { IfOk result (λ more. nested.new ≤ self.new.at) }
         ensures some { mode ≡ Mode.Plain → ends_word (text_of S.bytes self.old) self.old.at ≡ false →
             IfOk result (λ more. self.old.at < self.new.at) }
-        ensures same { Stays self.old self.new }
+        ensures same { Keeps self.old self.new }
     {
         let here = self.place(self.at);
         let piece = self.piece(mode, *nested, here);
@@ -193,11 +193,11 @@ impl<'a, S: Source> Cursor<'a, S> {
         requires { opener ≤ self.old.at }
         ensures value { Reads S.bytes self.old
             (contents (level room) mode (self.old.origin + opener) (map view_subst substs.old.items)) result
-            (λ done. map view_subst substs.new.items) self.new.at }
+            (λ done. map view_subst substs.new.items) (state_of self.new) }
         ensures onward { IfOk result (λ done. self.old.at ≤ self.new.at) }
         ensures some { mode ≡ Mode.Plain → ends_word (text_of S.bytes self.old) self.old.at ≡ false →
             IfOk result (λ done. self.old.at < self.new.at) }
-        ensures same { Stays self.old self.new }
+        ensures same { Keeps self.old self.new }
     {
         let mut nested = 0;
         'pieces: while self.take_piece(alloc, mode, opener, &mut nested, substs, room)? {
@@ -213,9 +213,9 @@ impl<'a, S: Source> Cursor<'a, S> {
     pub(crate) fn pass_word(&mut self, alloc: Global, room: usize) -> Result<Vec<Subst>, Stop>
         requires { ends_word (text_of S.bytes self.old) self.old.at ≡ false }
         ensures value { Reads S.bytes self.old (a_word (level room)) result
-            (λ substs. word (span self.old.origin self.old.at self.new.at) (substs_of (map view_subst substs.items))) self.new.at }
+            (λ substs. word (span self.old.origin self.old.at self.new.at) (substs_of (map view_subst substs.items))) (state_of self.new) }
         ensures onward { IfOk result (λ substs. self.old.at < self.new.at) }
-        ensures same { Stays self.old self.new }
+        ensures same { Keeps self.old self.new }
     {
         let start = self.at;
         let mut substs = Vec::new(alloc);

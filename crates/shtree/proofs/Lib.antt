@@ -12,3 +12,11 @@ pub mod Spelled
 pub mod Reach
 pub mod Ends
 pub mod Redirected
+pub mod Going
+pub mod FilledBack
+pub mod FilledBlind
+pub mod OpenSame
+pub mod FilledShape
+pub mod FilledBodies
+pub mod BodiesInOrder
+pub mod Written

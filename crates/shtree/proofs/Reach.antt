@@ -8,7 +8,7 @@ use Rattle.shtree.specs.declared.nodes.NodeLine.{NodeLine}
 use Rattle.shtree.specs.declared.tree.RedirectOperator.{RedirectOperator}
 use Rattle.shtree.specs.declared.tree.Span.{Span}
 use Rattle.shtree.specs.Nodes.{word_nodes, AreWithin, IsSpanWithin, IsWithin, and_or_nodes, and_or_parts_nodes, and_or_span, branch_nodes, branches_nodes, command_nodes, command_span, comment_node, entries_nodes, entry_nodes, form_node, form_nodes, item_nodes, item_span, items_nodes, items_span, last_command, last_item, last_pipeline, node, pipeline_nodes, pipeline_span, pipes_nodes, subst_nodes, substs_nodes, compound_nodes, compound_span, through, case_nodes, cases_nodes, patterns_nodes, commands_end}
-use Rattle.shtree.specs.Tree.{ABranch, ACommand, AForm, APipeline, APipelinePart, ASubst, AWord, AnAndOr, AnAndOrPart, AnEntry, AnItem, Entries, and_or, and_or_parts_of, argument, assign, brace, branches_of, case_in, command, compound, entries_of, entry, for_in, formed, if_then, item, items_of, pipeline, pipeline_parts_of, redirect, remark, simple, subshell, subst, substs_of, until_do, while_do, word, ACompound, function, ACaseItem, case_item, cases_of, patterns_of, more_and_or, more_pipes, no_and_or, no_pipe}
+use Rattle.shtree.specs.Tree.{AHere, ABranch, ACommand, AForm, APipeline, APipelinePart, ASubst, AWord, AnAndOr, AnAndOrPart, AnEntry, AnItem, Entries, and_or, and_or_parts_of, argument, assign, brace, branches_of, case_in, command, compound, entries_of, entry, for_in, formed, if_then, item, items_of, pipeline, pipeline_parts_of, redirect, remark, simple, subshell, subst, substs_of, until_do, while_do, word, ACompound, function, ACaseItem, case_item, cases_of, patterns_of, more_and_or, more_pipes, no_and_or, no_pipe}
 
 nodes_append : (es ls : Row AnEntry) → entries_nodes (entries_of (es ++ ls)) ≡ entries_nodes (entries_of es) ++ entries_nodes (entries_of ls)
 nodes_append [] ls = refl
@@ -143,9 +143,9 @@ module _ (limit : ℕ) where
   begin_fits (Some b) s one so = one
 
   -- a redirection without a here-document
-  pub fits_redirect : (broken : Bool) (number : Option Span) (o : RedirectOperator) (s : Span) (w : AWord) → MatchOption number (Unit {0}) (IsSpanWithin limit) → IsSpanWithin limit s → WordFits w
-      → ItemFits (item broken (redirect number o s w None))
-  fits_redirect broken number o s (word z zs) one two so =
+  pub fits_redirect : (broken : Bool) (number : Option Span) (o : RedirectOperator) (s : Span) (w : AWord) (h : Option AHere) → MatchOption number (Unit {0}) (IsSpanWithin limit) → IsSpanWithin limit s → WordFits w
+      → ItemFits (item broken (redirect number o s w h))
+  fits_redirect broken number o s (word z zs) h one two so =
       let span : IsSpanWithin limit (through (unwrap_or number s) z) = ((begin_fits number s one two).0, so.0.1) in
       (span, first (node NodeKind.Redirect (through (unwrap_or number s) z)) (word_nodes (word z zs)) (fits_node NodeKind.Redirect _ span) (fits_word (word z zs) so))
 

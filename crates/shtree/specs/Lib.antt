@@ -5,3 +5,5 @@ pub mod Nodes
 pub mod Gathered
 pub mod Shape
 pub mod Spelling
+pub mod Bodies
+pub mod Opened

@@ -1,10 +1,13 @@
 //! Laws of the definitions alone, which no code stands behind.
-ghost use Rattle.std.specs.Prelude.{◌≡◌, ◌∷◌, ◌≤◌, ℕ, Bool, List as Row, Option, Some, false, true};
+ghost use Rattle.std.specs.Prelude.{◌≡◌, ◌∷◌, ◌++◌, ◌≤◌, ℕ, Bool, List as Row, Option, Some, false, length, map, true};
 ghost use Rattle.shtree.specs.declared.tree.Span.{Span};
-ghost use Rattle.shtree.specs.Nodes.{AreWithin};
+ghost use Rattle.shtree.specs.Nodes.{AreWithin, commands_end, entries_nodes};
 ghost use Rattle.shtree.specs.Normal.{alone, is_normal, joined, of_command};
-ghost use Rattle.shtree.specs.Shape.{shape_of};
-ghost use Rattle.shtree.specs.Tree.{ACommand, AContent, AWord, AnItemContent, Entries, Items, brace, compound, entry, for_in, formed, in_words, item, more_items, no_entry, no_item, remark, simple};
+ghost use Rattle.shtree.specs.Shape.{Shape, Text, shape_of, text_at};
+ghost use Rattle.shtree.specs.Spelling.{spelling};
+ghost use Rattle.shtree.specs.Bodies.{filled, filled_row};
+ghost use Rattle.shtree.specs.Opened.{bodies_of, opened};
+ghost use Rattle.shtree.specs.Tree.{ACommand, AContent, AWord, AnEntry, AnItemContent, Entries, EntriesOf, Items, brace, compound, entries_of, entry, for_in, formed, in_words, item, more_items, no_entry, no_item, remark, simple};
 
 /// The normal form of a list refuses each of these, in a list of one entry.
 pub fn normal_form()
@@ -35,4 +38,59 @@ pub fn greater_limit()
 #[tactic(auto, using(crate::proofs::SameForm::same_form))]
 pub fn same_form()
     ensures { (bytes : Row ℕ) (list : Entries) → is_normal (shape_of bytes list) ≡ is_normal list }
+{}
+
+/// A list is its open list, filled with its bodies, whatever an open document has in the place of its body; so is a shape.
+#[tactic(auto, using(crate::proofs::FilledBack::filled_back))]
+pub fn filled_back()
+    ensures spans { (nothing : Span) (list : Entries) → filled (bodies_of list) (opened nothing list) ≡ list }
+    ensures texts { (nothing : Text) (list : Shape EntriesOf) → filled (bodies_of list) (opened nothing list) ≡ list }
+{}
+
+/// Filling a list, or a shape, changes nothing but bodies.
+#[tactic(auto, using(crate::proofs::FilledBlind::filled_blind))]
+pub fn filled_blind()
+    ensures spans { (nothing : Span) (bodies : Row Span) (list : Entries) → opened nothing (filled bodies list) ≡ opened nothing list }
+    ensures texts { (nothing : Text) (bodies : Row Text) (list : Shape EntriesOf) → opened nothing (filled bodies list) ≡ opened nothing list }
+{}
+
+/// Neither the nodes of a list, nor its normal form, nor the spelling of a shape look at bodies; so all offsets that a list names stay
+/// within what they were within.
+#[tactic(auto, using(crate::proofs::OpenSame::nodes_open, crate::proofs::OpenSame::filled_nodes, crate::proofs::OpenSame::filled_within, crate::proofs::OpenSame::filled_ends, crate::proofs::OpenSame::normal_open, crate::proofs::OpenSame::filled_normal, crate::proofs::OpenSame::spelling_open, crate::proofs::OpenSame::filled_spelling))]
+pub fn bodies_unseen()
+    ensures open_nodes { (nothing : Span) (list : Entries) → entries_nodes (opened nothing list) ≡ entries_nodes list }
+    ensures nodes { (bodies : Row Span) (list : Entries) → entries_nodes (filled bodies list) ≡ entries_nodes list }
+    ensures within { (limit : ℕ) (bodies : Row Span) (list : Entries) → AreWithin limit list → AreWithin limit (filled bodies list) }
+    ensures ends { (bodies : Row Span) (list : Entries) (before : ℕ) → commands_end before (filled bodies list) ≡ commands_end before list }
+    ensures open_normal { (nothing : Span) (list : Entries) → is_normal (opened nothing list) ≡ is_normal list }
+    ensures normal { (bodies : Row Span) (list : Entries) → is_normal (filled bodies list) ≡ is_normal list }
+    ensures open_spelling { (nothing : Text) (list : Shape EntriesOf) → spelling (opened nothing list) ≡ spelling list }
+    ensures spelling { (bodies : Row Text) (list : Shape EntriesOf) → spelling (filled bodies list) ≡ spelling list }
+{}
+
+/// The shape of a list, over any bytes, holds the texts of its bodies: it is filled as the list is, and opened as the list is.
+#[tactic(auto, using(crate::proofs::FilledShape::shape_filled, crate::proofs::FilledShape::shape_open, crate::proofs::FilledShape::shape_bodies))]
+pub fn shape_of_bodies()
+    ensures filled { (bytes : Row ℕ) (bodies : Row Span) (list : Entries) → shape_of bytes (filled bodies list) ≡ filled (map (text_at bytes) bodies) (shape_of bytes list) }
+    ensures opened { (bytes : Row ℕ) (nothing : Span) (list : Entries) → shape_of bytes (opened nothing list) ≡ opened (text_at bytes nothing) (shape_of bytes list) }
+    ensures bodies { (bytes : Row ℕ) (list : Entries) → bodies_of (shape_of bytes list) ≡ map (text_at bytes) (bodies_of list) }
+{}
+
+/// A list filled with as many bodies as it has documents holds these bodies, in the order of the operators.
+#[tactic(auto, using(crate::proofs::FilledBodies::filled_bodies, crate::proofs::FilledBodies::as_many))]
+pub fn filled_bodies()
+    ensures bodies { (bodies : Row Span) (list : Entries) → length bodies ≡ length (bodies_of list) → bodies_of (filled bodies list) ≡ bodies }
+    ensures as_many { (bodies : Row Span) (list : Entries) → length (bodies_of (filled bodies list)) ≡ length (bodies_of list) }
+{}
+
+/// The bodies of one row of entries and another are those of the one, and then those of the other.
+#[tactic(auto, using(crate::proofs::BodiesInOrder::bodies_append))]
+pub fn bodies_in_order()
+    ensures { (one other : Row AnEntry) → bodies_of (entries_of (one ++ other)) ≡ bodies_of (entries_of one) ++ bodies_of (entries_of other) }
+{}
+
+/// A list is filled as the row of its entries is.
+#[tactic(auto, using(crate::proofs::Going::row_filled))]
+pub fn filled_row()
+    ensures { (bodies : Row Span) (entries : Row AnEntry) → entries_of (filled_row bodies entries) ≡ filled bodies (entries_of entries) }
 {}

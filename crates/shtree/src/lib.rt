@@ -6,6 +6,9 @@
 //! `specs/Nodes`.
 #![tactic(auto)]
 
+mod bodies;
+#[cfg(test)]
+mod bodies_tests;
 #[cfg(test)]
 mod built;
 pub mod laws;
@@ -20,6 +23,7 @@ mod spans;
 mod tree;
 mod visit;
 
+pub use bodies::{put_bodies, put_bodies_in};
 pub use nodes::{NodeKind, NodeLine, nodes_at, outline_of};
 pub use normal::is_normal;
 pub use spans::commands_end;

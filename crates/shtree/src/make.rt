@@ -1,12 +1,12 @@
 //! The nodes of a tree: one maker for each kind, which says what its node is in the definitions.
 ghost use Rattle.std.specs.Prelude.{◌≡◌, map, option_map, false, None};
 ghost use Rattle.shtree.specs.Tree.{and_or, and_or_parts_of, argument, assign, branch, branches_of, brace, command, compound, entries_of, entry, for_in, for_words_of, formed, if_then, item, items_of, pipeline, pipeline_parts_of, redirect, redirected, remark, simple, subshell, subst, substs_of, until_do, while_do, with_redirects, word, function, case_in, case_item, cases_of, patterns_of};
-ghost use Rattle.shtree.specs.View.{view_and_or, view_and_or_part, view_branch, view_command, view_comment, view_compound, view_entry, view_form, view_item, view_join, view_list, view_otherwise, view_pipeline, view_pipeline_part, view_redirection, view_subst, view_word, view_function, view_case_item};
+ghost use Rattle.shtree.specs.View.{view_and_or, view_and_or_part, view_branch, view_command, view_comment, view_compound, view_entry, view_form, view_here, view_item, view_join, view_list, view_otherwise, view_pipeline, view_pipeline_part, view_redirection, view_subst, view_word, view_function, view_case_item};
 
 use crate::tree::{
     AndOr, AndOrOperator, AndOrPart, Branch, CaseItem, Command, Comment, Compound, Content, Entry,
-    Form, Function, Item, ItemContent, Join, List, Pipeline, PipelinePart, RedirectOperator,
-    Redirection, Span, Subst, Word,
+    Form, Function, HereDocument, Item, ItemContent, Join, List, Pipeline, PipelinePart,
+    RedirectOperator, Redirection, Span, Subst, Word,
 };
 
 /// A list of these entries (XCU 2.9.3).
@@ -233,21 +233,22 @@ pub fn argument_of(word: Word, broken: bool) -> Item
     }
 }
 
-/// A redirection without a here-document: the number before its operator, that and where it stands, and its word (XCU 2.7).
+/// A redirection: the number before its operator, that and where it stands, its word, and its here-document (XCU 2.7).
 pub fn redirection_of(
     number: Option<Span>,
     operator: RedirectOperator,
     span: Span,
     word: Word,
+    here: Option<HereDocument>,
 ) -> Redirection
-    ensures { view_redirection result ≡ redirect number operator span (view_word word) None }
+    ensures { view_redirection result ≡ redirect number operator span (view_word word) (option_map view_here here) }
 {
     Redirection {
         number,
         operator,
         span,
         word,
-        here: None,
+        here,
     }
 }
 

@@ -1,8 +1,8 @@
 // `print` over devices that give, take and fail.
 use super::{Hiccup, Page, Same, Tape, WAYS, WhenFull};
-use crate::device::{Input, Output};
 use crate::engine::print_engine;
 use shprint::{Layout, LayoutError};
+use shtext::{Input, Output};
 use std::alloc::Global;
 use std::io::{Read, Write};
 use std::test::Fail;

@@ -73,6 +73,29 @@ fn print(rt: HostRuntime) -> Result<(), Fail> {
 }
 
 #[test]
+fn session(rt: HostRuntime) -> Result<(), Fail> {
+    let plain = Layout::new(0, false, false, false)?;
+    for (words, layout, file) in [
+        (["session"].as_slice(), plain, None),
+        (&["session", "-"], plain, None),
+        (&["session", "print"], plain, Some("print")),
+        (
+            &["session", "-i", "2", "--case-indent", "a"],
+            Layout::new(2, true, false, false)?,
+            Some("a"),
+        ),
+    ] {
+        let settings = settings(rt.alloc(), words)?;
+        assert!(rt;
+            settings.tool == Tool::Session && settings.file == file,
+            "{file:?}"
+        );
+        assert!(rt; settings.layout == layout, "{layout:?}");
+    }
+    Ok(())
+}
+
+#[test]
 fn refused(rt: HostRuntime) {
     for (words, kind) in [
         ([].as_slice(), ErrorKind::MissingSubcommand),
@@ -83,6 +106,8 @@ fn refused(rt: HostRuntime) {
         (&["print", "a", "b"], ErrorKind::UnknownArgument),
         (&["print", "-i", "17"], ErrorKind::ValueValidation),
         (&["print", "-i", "x"], ErrorKind::ValueValidation),
+        (&["session", "a", "b"], ErrorKind::UnknownArgument),
+        (&["session", "-i", "17"], ErrorKind::ValueValidation),
         (&["print", "-i=-1"], ErrorKind::ValueValidation),
         (&["print", "-i", "-1"], ErrorKind::UnknownArgument),
         (&["print", "-i"], ErrorKind::InvalidValue),

@@ -1,8 +1,8 @@
 use Rattle.std.proofs.Common.{sym, ap, subst, ◌∙◌, cond, None, Ok, Err}
 use Rattle.shread.specs.Scripts.{FirstFault}
-use Rattle.shform.specs.Device.{output_failed}
+use Rattle.shtext.specs.Device.{output_failed}
 use Rattle.shform.specs.declared.report.Stop.TheVariants.{Memory}
-use Rattle.shform.proofs.Known.{Writes-nothing}
+use Rattle.shtext.proofs.Known.{Writes-nothing}
 use Rattle.shform.proofs.engine.check_engine.Goals as goal
 
 pub returns-in-Err-clause-report : goal.returns-in-Err-clause-report

@@ -1,7 +1,7 @@
 use Rattle.std.proofs.Common.{◌∙◌, ap, false, subst, true}
 use Rattle.std.specs.Prelude.{◌||◌}
 use Rattle.shprint.specs.ReadBack.{IsNoText, IsTextOf}
-use Rattle.shform.specs.Device.{output_failed}
+use Rattle.shtext.specs.Device.{output_failed}
 use Rattle.shform.proofs.Reported.{fault_told, given_up, text_printed, text_unwritten}
 use Rattle.shform.proofs.engine.print_engine.Goals as goal
 

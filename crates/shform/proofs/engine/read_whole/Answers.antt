@@ -2,7 +2,7 @@ use Rattle.std.proofs.Common.{◌≡◌, ◌+◌, ◌++◌, ◌==◌, ◌||◌, 
 use Rattle.std.proofs.lemmas.List.{length-take-le}
 use Rattle.std.proofs.lemmas.Bool.{ne_eqb}
 use Rattle.std.proofs.Math.Bool.{or-false}
-use Rattle.shform.proofs.Known.{Consumes-trans}
+use Rattle.shtext.proofs.Known.{Consumes-trans}
 use Rattle.shform.proofs.engine.read_whole.Goals as goal
 
 pub returns-then-count-len-clause-err : goal.returns-then-count-len-clause-err

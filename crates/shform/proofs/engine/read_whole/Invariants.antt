@@ -1,6 +1,6 @@
 use Rattle.std.proofs.Common.{◌≡◌, ◌≤◌, ◌+◌, ◌-◌, false, length}
 use Rattle.std.specs.Io.KnownBytes.{Consumes}
-use Rattle.shform.specs.Report.{limit}
+use Rattle.shtext.specs.Edit.{limit}
 use Rattle.shform.proofs.engine.read_whole.Given as goal
 
 abbrev pub invariant-loop-count : goal.invariant-loop-count

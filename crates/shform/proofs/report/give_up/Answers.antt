@@ -1,5 +1,5 @@
 use Rattle.std.proofs.Common.{◌++◌, not, is_ok, sym, ap, ◌∙◌, List, ℕ, codes}
-use Rattle.shform.specs.Device.{output_failed}
+use Rattle.shtext.specs.Device.{output_failed}
 use Rattle.shform.specs.Report.{text_of_stop}
 use Rattle.shform.proofs.Told.{given-up}
 use Rattle.shform.proofs.report.give_up.Goals as goal

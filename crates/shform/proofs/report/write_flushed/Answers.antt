@@ -1,5 +1,5 @@
 use Rattle.std.proofs.Common.{not, is_ok}
-use Rattle.shform.proofs.Known.{Writes-flushed}
+use Rattle.shtext.proofs.Known.{Writes-flushed}
 use Rattle.shform.proofs.report.write_flushed.Goals as goal
 
 pub returns-clause-bytes : goal.returns-clause-bytes

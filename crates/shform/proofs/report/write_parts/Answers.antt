@@ -1,6 +1,6 @@
 use Rattle.std.proofs.Common.{◌++◌, not, is_ok, true, refl}
 use Rattle.std.proofs.lemmas.Result.{err_from_is_err_and}
-use Rattle.shform.proofs.Known.{Appends-trans, Writes-early, Writes-after}
+use Rattle.shtext.proofs.Known.{Appends-trans, Writes-early, Writes-after}
 use Rattle.shform.proofs.report.write_parts.Goals as goal
 
 pub returns-in_err-write_whole-clause-bytes : goal.returns-in_err-write_whole-clause-bytes

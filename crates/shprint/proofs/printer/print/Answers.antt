@@ -1,7 +1,9 @@
-use Rattle.std.proofs.Common.{◌≡◌, arith, subst, sym}
+use Rattle.std.proofs.Common.{◌≡◌, [], ap, arith, subst, sym}
 use Rattle.shread.specs.Answers.{view_script}
 use Rattle.shtree.specs.Shape.{shape_of}
-use Rattle.shprint.specs.Printed.{printed}
+use Rattle.shprint.specs.Printed.{print_script, printed}
+use Rattle.shprint.specs.Marks.{held_behind}
+use Rattle.shprint.specs.Written.{sheet, sheet_of}
 use Rattle.shprint.specs.ReadBack.{ReadsBack}
 use Rattle.shprint.proofs.Parts.{list_seen}
 use Rattle.shprint.proofs.ReadBack.{reads_back}
@@ -12,5 +14,6 @@ pub returns : goal.returns
 returns g c =
     let bytes = g.S.Source.bytes c.args.source.now in
     let shape = shape_of bytes (view_script c.args.script.now).entries in
-    let is : c.print_entries.new.page.text.items ≡ printed c.args.layout.now shape = grind (arith, written_first, list_seen) in
+    let all : sheet c.print_entries.new.page ≡ sheet_of (printed c.args.layout.now shape) (held_behind [] (print_script c.args.layout.now shape)) = grind (arith, written_first, list_seen) in
+    let is : c.print_entries.new.page.text.items ≡ printed c.args.layout.now shape = ap (λ s. s.so_far) all in
     record { printed = is; reads_back = subst (λ t. ReadsBack t shape) (sym is) (reads_back c.args.layout.now bytes (view_script c.args.script.now) c.requires.outcome) }

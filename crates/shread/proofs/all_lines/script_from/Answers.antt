@@ -26,7 +26,7 @@ returns-in-Last-clause-value g c =
     let inv = c.lines.invariant in
     let before = so_far c.lines.entries.items c.lines.lines.gap in
     let leads = leads_in bytes before c.lines.lines c.read_next.new.self _ c.in_ok-line.field-0 inv.3 (c.in_ok-line.ensures.line before inv.0) in
-    ap (λ es. record { entries = es; wrong = None }) c.list_of.ensures
+    ap (λ es. record { entries = es; wrong = None }) c.list_of-in-Last.ensures
     ∙ script_only bytes _ (last_on bytes c.lines.entries.items c.add-in-Last.new.entries.items c.lines.lines c.read_next.new.self c.in_ok-line.field-0 leads inv.1
     c.in-Last.line c.in-Last.is c.in_ok-add-in-Last.ensures)
 
@@ -35,7 +35,7 @@ returns-in-Last-clause-spans g c =
     let bytes = g.S.Source.bytes c.args.source.now in
     let inv = c.lines.invariant in
     let within = subst (λ b. LineWithin (length b) c.in_ok-line.field-0) inv.3 c.in_ok-line.ensures.within in
-    rw c.list_of.ensures
+    rw c.list_of-in-Last.ensures
     (last_spans (length bytes) c.lines.entries.items c.add-in-Last.new.entries.items c.in_ok-line.field-0 within inv.2 c.in-Last.line c.in-Last.is c.in_ok-add-in-Last.ensures)
 
 pub returns-in-Faulty-clause-value : goal.returns-in-Faulty-clause-value

@@ -6,7 +6,8 @@ use Rattle.shtree.specs.View.{view_branch, view_case_item, view_entry, view_list
 use Rattle.shtree.proofs.Seen.{and_or_part_seen, and_or_seen, branch_seen, case_item_seen, case_seen, compound_seen, entry_seen, for_seen, for_words_seen, function_seen, if_else_seen, if_seen, pipeline_part_seen, pipeline_seen}
 use Rattle.shprint.specs.Marks.{deeper, lines_between, one, text}
 use Rattle.shprint.specs.Printed.{print_branch, print_branches, print_entries}
-use Rattle.shprint.proofs.Parts.{body_some, case_cut, list_seen, only_none, operand_cut, written_case, written_parts}
+use Rattle.shprint.specs.Written.{sheet}
+use Rattle.shprint.proofs.Parts.{body_some, case_cut, list_seen, only_none, operand_cut, written_case, written_esac, written_parts}
 use Rattle.shprint.proofs.Rows.{branch_marks, case_marks, entry_marks, from_more, parts_end, parts_more, pipes_end, pipes_more}
 use Rattle.shprint.proofs.Writing.{written_append, written_cons, written_none}
 use Rattle.shprint.proofs.printer.Printer.+print.Goals as goal
@@ -80,7 +81,7 @@ print_entry-returns g t c =
 
 pub print_form-returns-in-Some : goal.print_form-returns-in-Some
 print_form-returns-in-Some g t c =
-    let parts = written_parts c.args.page.now.text.items
+    let parts = written_parts (sheet c.args.page.now)
     (print_branch c.args.self.now.layout c.args.page.now.margin.items (codes "if") (codes "then") (shape_of_branch (g.S.Source.bytes c.args.self.now.source.now) (view_branch c.in-If.first)))
     (print_branches c.args.self.now.layout c.args.page.now.margin.items (shape_of_branches (g.S.Source.bytes c.args.self.now.source.now) (branches_of (map view_branch c.in-If.rest.items))))
     (text (codes "else") ∷ lines_between c.args.page.now.margin.items (print_entries c.args.self.now.layout (deeper c.args.self.now.layout c.args.page.now.margin.items) (shape_of (g.S.Source.bytes c.args.self.now.source.now) (view_list c.in-Some.list))))
@@ -89,7 +90,7 @@ print_form-returns-in-Some g t c =
 
 pub print_form-returns-in-None : goal.print_form-returns-in-None
 print_form-returns-in-None g t c =
-    let parts = written_parts c.args.page.now.text.items
+    let parts = written_parts (sheet c.args.page.now)
     (print_branch c.args.self.now.layout c.args.page.now.margin.items (codes "if") (codes "then") (shape_of_branch (g.S.Source.bytes c.args.self.now.source.now) (view_branch c.in-If.first)))
     (print_branches c.args.self.now.layout c.args.page.now.margin.items (shape_of_branches (g.S.Source.bytes c.args.self.now.source.now) (branches_of (map view_branch c.in-If.rest.items))))
     [] (one (codes "fi")) in
@@ -101,7 +102,7 @@ print_form-returns-in_ok-print_lines_between-in-For g t c =
 
 pub print_form-returns-in_ok-begin_line-in-Case : goal.print_form-returns-in_ok-begin_line-in-Case
 print_form-returns-in_ok-begin_line-in-Case g t c =
-    grind (arith, written_append, written_cons, case_seen)
+    grind (arith, written_esac, case_seen)
 
 pub print_lines_between-returns : goal.print_lines_between-returns
 print_lines_between-returns g t c =

@@ -1,8 +1,8 @@
 use Rattle.std.proofs.Common.{◌≡◌, map}
 use Rattle.shtree.specs.View.{view_comment}
-use Rattle.shprint.specs.Written.{written}
+use Rattle.shprint.specs.Written.{sheet, written}
 use Rattle.shprint.proofs.Rows.{comment_line, marks_from}
 use Rattle.shprint.proofs.printer.Printer.print_comment_lines.Given as goal
 
 abbrev pub invariant-loop-comment : goal.invariant-loop-comment
-invariant-loop-comment g l = (l.page.margin.items ≡ l.fn.page.margin.items) × (written l.page.text.items (marks_from (comment_line (g.S.Source.bytes l.self.source.now) l.self.layout l.fn.page.margin.items) (map view_comment l.comments) l.comment-index) ≡ written l.fn.page.text.items (marks_from (comment_line (g.S.Source.bytes l.self.source.now) l.self.layout l.fn.page.margin.items) (map view_comment l.comments) 0))
+invariant-loop-comment g l = (l.page.margin.items ≡ l.fn.page.margin.items) × (written (sheet l.page) (marks_from (comment_line (g.S.Source.bytes l.self.source.now) l.self.layout l.fn.page.margin.items) (map view_comment l.comments) l.comment-index) ≡ written (sheet l.fn.page) (marks_from (comment_line (g.S.Source.bytes l.self.source.now) l.self.layout l.fn.page.margin.items) (map view_comment l.comments) 0))

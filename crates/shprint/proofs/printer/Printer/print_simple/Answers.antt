@@ -1,4 +1,5 @@
 use Rattle.std.proofs.Common.{◌≡◌, ◌∷◌, arith}
+use Rattle.shprint.specs.Written.{sheet}
 use Rattle.shprint.proofs.Spaced.{simple_printed}
 use Rattle.shprint.proofs.Writing.{written_none, empty_row}
 use Rattle.shprint.proofs.printer.Printer.print_simple.Goals as goal
@@ -15,6 +16,6 @@ returns g c =
     let behind = c.words_behind-end.ensures in
     let split : c.args.items.now ≡ c.in-Some.first.now ∷ c.in-Some.rest.now = grind (arith, c.in-Some.ensures, c.split_first.ensures, c.in-Some.first-is, c.in-Some.rest-is) in
     let told =
-    simple_printed bytes layout page.margin.items page.text.items c.in-Some-word_span.span c.words_behind-end.result.0 c.in-Some.first.now c.in-Some.rest.now c.words_behind-end.result.1.now
+    simple_printed bytes layout page.margin.items (sheet page) c.in-Some-word_span.span c.words_behind-end.result.0 c.in-Some.first.now c.in-Some.rest.now c.words_behind-end.result.1.now
     (word.1 bytes layout) word.0 behind.onward (behind.words layout page.margin.items) in
     grind (arith, told, split, c.in_ok-print_text.ensures, c.print_items-2.ensures)

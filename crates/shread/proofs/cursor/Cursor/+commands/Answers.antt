@@ -1,10 +1,14 @@
-use Rattle.std.proofs.Common.{◌<◌, ◌+◌, ◌∙◌, Ok, List as Row, [], ◌∷◌, ◌++◌, map, ap, sym, arith}
-use Rattle.std.proofs.lemmas.List.{map-append}
-use Rattle.shread.specs.Clauses.{text_of}
+use Rattle.std.proofs.Common.{◌≡◌, ℕ, ◌<◌, ◌+◌, ◌-◌, ◌∙◌, Bool, Ok, List as Row, map, ap, sym, arith}
+use Rattle.shread.specs.Clauses.{standing_with, state_of, text_of, view_waiting}
 use Rattle.shread.specs.Comments.{span}
-use Rattle.shread.specs.Sights.{given, standing}
+use Rattle.shread.specs.Form.{does, pushed}
+use Rattle.shread.specs.HereDocuments.{outer_level, own_level}
+use Rattle.shread.specs.Sights.{State, given}
+use Rattle.shread.specs.Substitutions.{substituted}
 use Rattle.shread.specs.Words.{having}
 use Rattle.shread.specs.Levels.{level}
+use Rattle.shtree.specs.declared.tree.Span.{Span}
+use Rattle.shtree.specs.Bodies.{filled}
 use Rattle.shtree.specs.Tree.{ASubst, subst}
 use Rattle.shtree.specs.View.{view_list, view_subst}
 use Rattle.shread.proofs.Levels.{substitution_read}
@@ -18,12 +22,14 @@ contents-pieces-preserved g t c =
     let rest = c.skip_plain.ensures in
     let was = inv.4 in
     let text = text_of g.S.Source.bytes c.args.self.now in
-    let piece = rw (was.0, was.1, was.2, was.3, c.if-branch.true) at told.value in
+    let piece = rw (was.0, was.1, was.2, was.3, c.if-branch.true, ← rest.same.4) at told.value in
+    let before = c.pieces.self.documents in
+    let behind = c.skip_plain.new.self.documents in
     let onward : c.pieces.self.at < c.take_piece.new.self.at = rw c.if-branch.true at told.onward in
     let plain = rw (told.same.0, told.same.1, was.0, was.1) at rest.plain in
     let within = rw (told.same.0, told.same.1, was.0, was.1) at rest.within in (
       piece_and_plain (level c.args.room) c.args.self.now.keep (given text c.args.self.now.origin) c.args.mode (c.args.self.now.origin + c.args.opener)
-          (having c.pieces.nested (map view_subst c.pieces.substs.items)) (having c.take_piece.new.nested (map view_subst c.take_piece.new.substs.items)) c.pieces.self.at c.take_piece.new.self.at c.skip_plain.new.self.at _
+          (map view_waiting behind.waiting.items) behind.bodies.items (having c.pieces.nested (map view_subst c.pieces.substs.items)) (having c.take_piece.new.nested (map view_subst c.take_piece.new.substs.items)) (map view_waiting before.waiting.items) before.bodies.items c.pieces.self.at c.take_piece.new.self.at c.skip_plain.new.self.at _
           inv.0 piece onward (omega (arith, rest.onward, within)) plain rest.onward within,
       omega (arith, inv.1, onward, rest.onward),
       omega (arith, told.nested, rest.onward),
@@ -32,17 +38,38 @@ contents-pieces-preserved g t c =
     )
 
 -- the substitution that was read, as one more
-pub substitution-returns-in_ok-push-in-Ok-clause-value : goal.substitution-returns-in_ok-push-in-Ok-clause-value
-substitution-returns-in_ok-push-in-Ok-clause-value g t c =
-    let same = c.substituted.ensures.same in
+pub substitution-returns-in-Ok-clause-value : goal.substitution-returns-in-Ok-clause-value
+substitution-returns-in-Ok-clause-value g t c =
     let start = c.args.self.now in
+    let own = c.open_level-outer.ensures in
+    let same = c.substituted.ensures.same in
+    let shut = c.close_level-bodies.ensures in
+    let after = c.close_level-bodies.new.self in
     let list = view_list c.in-Ok.list in
-    let end = c.substituted.new.self.at in
+    let inner = state_of c.substituted.new.self in
     let ss = map view_subst c.args.substs.now.items in
+    let here = given (text_of g.S.Source.bytes start) start.origin in
     let some : 0 < c.args.room = grind (arith, c.if-room-eq0.false) in
-    let read =
-    substitution_read start.keep (given (text_of g.S.Source.bytes start) start.origin) (standing start.at) c.args.room c.args.opener ss list (standing end) some (sym same.3 ∙ c.if-self.true)
-    c.in-Ok.ensures.value in
-    let made = c.subst_of.ensures ∙ ap (subst list) (c.span_from.ensures ∙ ap (λ o. span o c.args.opener end) same.2) in
-    let grown = ap (map view_subst) c.in_ok-push-in-Ok.ensures.items ∙ map-append view_subst c.args.substs.now.items (c.subst_of.result ∷ []) ∙ ap (λ x. ss ++ x ∷ []) made in
-    read ∙ ap (λ (zs : Row ASubst). Ok (zs, standing end)) (sym grown)
+    let inside : does (substituted (level (c.args.room - 1))) start.keep here (own_level (state_of start)) ≡ Ok (list, inner) =
+    rw (own.same.0, own.same.1, own.same.2, own.same.3, own.level) at c.in-Ok.ensures.value in
+    let read = substitution_read start.keep here (state_of start) c.args.room c.args.opener ss list inner some inside in
+    let kept : after.keep ≡ start.keep = shut.same.3 ∙ same.3 ∙ own.same.3 in
+    let origin : after.origin ≡ start.origin = shut.same.2 ∙ same.2 ∙ own.same.2 in
+    let bodies : c.close_level-bodies.result.items ≡ inner.bodies = shut.bodies in
+    let place : after.at ≡ inner.at = shut.place in
+    let made =
+    c.in_ok-add_subst-in-Ok.ensures.value
+    ∙ ap (λ (k : Bool). pushed k ss (subst (filled c.close_level-bodies.result.items list) (span after.origin c.args.opener after.at))) kept
+    ∙ ap (λ (bs : Row Span). pushed start.keep ss (subst (filled bs list) (span after.origin c.args.opener after.at))) bodies
+    ∙ ap (λ (o : ℕ). pushed start.keep ss (subst (filled inner.bodies list) (span o c.args.opener after.at))) origin
+    ∙ ap (λ (p : ℕ). pushed start.keep ss (subst (filled inner.bodies list) (span start.origin c.args.opener p))) place in
+    let state : state_of after ≡ outer_level (state_of start) inner =
+    ap (λ d. standing_with d after.at) (shut.outer ∙ own.outer) ∙ ap (standing_with start.documents) place in
+    read ∙ ap (λ (u : State). Ok (pushed start.keep ss (subst (filled inner.bodies list) (span start.origin c.args.opener inner.at)), u)) (sym state) ∙ ap (λ (zs : Row ASubst). Ok (zs, state_of after)) (sym made)
+
+-- the offset of an operator is within the text
+pub redirect-document-requires-clause-mark : goal.redirect-document-requires-clause-mark
+redirect-document-requires-clause-mark g t c =
+    let over = c.operator-span.ensures.same in
+    let target = c.target.ensures.same in
+    rw (target.0, target.1, target.2, over.0, over.1, over.2) c.operator-span.ensures.start

@@ -1,6 +1,6 @@
 use Rattle.std.proofs.Common.{◌≡◌, ◌≤◌, ◌+◌, ◌*◌, ◌-◌, [], length, map}
 use Rattle.shread.specs.declared.token.Position.TheVariants.{Suffix, Command as AsCommand}
-use Rattle.shread.specs.Clauses.{Shows, Stays, reads, reads_at, text_of}
+use Rattle.shread.specs.Clauses.{Keeps, Shows, Stays, reads, reads_at, state_of, text_of}
 use Rattle.shread.specs.Commands.{item_turn, join_pipeline, joined_so, pipe_turn, piped, redirect_turn, so_many}
 use Rattle.shread.specs.Compounds.{branched, elif_turn, pattern_turn, patterned, case_turn, word_turn}
 use Rattle.shread.specs.Form.{many}
@@ -212,7 +212,7 @@ decreases-form g l = 64 * l.room + 35
 
 abbrev pub invariant-construct-ordinary : goal.invariant-construct-ordinary
 invariant-construct-ordinary g l =
-    (reads_at g.S.Source.bytes l.fn.self (contents (level (l.room - 1)) l.mode (l.fn.self.origin + l.opener) (map view_subst l.substs.items)) l.self.at
+    (reads_at g.S.Source.bytes l.fn.self (contents (level (l.room - 1)) l.mode (l.fn.self.origin + l.opener) (map view_subst l.substs.items)) (state_of l.self)
     ≡ reads g.S.Source.bytes l.fn.self ((level l.room).construct l.mode (l.fn.self.origin + l.opener) (map view_subst l.fn.substs.items)))
     × (l.fn.self.at ≤ l.self.at) × (l.opener ≤ l.self.at) × (l.substs ≡ l.fn.substs) × Stays l.fn.self l.self
 
@@ -221,89 +221,89 @@ decreases-construct-ordinary g l = length (text_of g.S.Source.bytes l.self) - l.
 
 abbrev pub invariant-contents-pieces : goal.invariant-contents-pieces
 invariant-contents-pieces g l =
-    (reads_at g.S.Source.bytes l.fn.self (many (a_piece (level l.room) l.mode (l.fn.self.origin + l.opener)) (having l.nested (map view_subst l.substs.items))) l.self.at
+    (reads_at g.S.Source.bytes l.fn.self (many (a_piece (level l.room) l.mode (l.fn.self.origin + l.opener)) (having l.nested (map view_subst l.substs.items))) (state_of l.self)
     ≡ reads g.S.Source.bytes l.fn.self (many (a_piece (level l.room) l.mode (l.fn.self.origin + l.opener)) (having 0 (map view_subst l.fn.substs.items))))
-    × (l.fn.self.at ≤ l.self.at) × (l.nested ≤ l.self.at) × (l.opener ≤ l.self.at) × Stays l.fn.self l.self
+    × (l.fn.self.at ≤ l.self.at) × (l.nested ≤ l.self.at) × (l.opener ≤ l.self.at) × Keeps l.fn.self l.self
 
 abbrev pub decreases-contents-pieces : goal.decreases-contents-pieces
 decreases-contents-pieces g l = length (text_of g.S.Source.bytes l.self) - l.self.at
 
 abbrev pub invariant-items-turns : goal.invariant-items-turns
 invariant-items-turns g l =
-    (reads_at g.S.Source.bytes l.fn.self (many (item_turn (level l.room)) (so_many (map view_item l.items.items) l.place l.next)) l.self.at ≡ reads g.S.Source.bytes l.fn.self (many (item_turn (level l.room)) (so_many (map view_item l.fn.items.items) l.fn.place l.fn.next)))
-    × Shows l.next.token (text_of g.S.Source.bytes l.fn.self) l.self.at × (l.fn.self.at ≤ l.self.at) × Stays l.fn.self l.self
+    (reads_at g.S.Source.bytes l.fn.self (many (item_turn (level l.room)) (so_many (map view_item l.items.items) l.place l.next)) (state_of l.self) ≡ reads g.S.Source.bytes l.fn.self (many (item_turn (level l.room)) (so_many (map view_item l.fn.items.items) l.fn.place l.fn.next)))
+    × Shows l.next.token (text_of g.S.Source.bytes l.fn.self) l.self.at × (l.fn.self.at ≤ l.self.at) × Keeps l.fn.self l.self
 
 abbrev pub decreases-items-turns : goal.decreases-items-turns
 decreases-items-turns g l = length (text_of g.S.Source.bytes l.self) - l.self.at
 
 abbrev pub invariant-words-turns : goal.invariant-words-turns
 invariant-words-turns g l =
-    (reads_at g.S.Source.bytes l.fn.self (many (word_turn (level l.room)) (so_many (map view_item l.words.items) Suffix l.next)) l.self.at ≡ reads g.S.Source.bytes l.fn.self (many (word_turn (level l.room)) (so_many [] Suffix l.fn.next)))
-    × Shows l.next.token (text_of g.S.Source.bytes l.fn.self) l.self.at × (l.fn.self.at ≤ l.self.at) × Stays l.fn.self l.self
+    (reads_at g.S.Source.bytes l.fn.self (many (word_turn (level l.room)) (so_many (map view_item l.words.items) Suffix l.next)) (state_of l.self) ≡ reads g.S.Source.bytes l.fn.self (many (word_turn (level l.room)) (so_many [] Suffix l.fn.next)))
+    × Shows l.next.token (text_of g.S.Source.bytes l.fn.self) l.self.at × (l.fn.self.at ≤ l.self.at) × Keeps l.fn.self l.self
 
 abbrev pub decreases-words-turns : goal.decreases-words-turns
 decreases-words-turns g l = length (text_of g.S.Source.bytes l.self) - l.self.at
 
 abbrev pub invariant-redirects-turns : goal.invariant-redirects-turns
 invariant-redirects-turns g l =
-    (reads_at g.S.Source.bytes l.fn.self (many (redirect_turn (level l.room)) (so_many (map view_item l.redirects.items) AsCommand l.next)) l.self.at ≡ reads g.S.Source.bytes l.fn.self (many (redirect_turn (level l.room)) (so_many [] AsCommand l.fn.next)))
-    × Shows l.next.token (text_of g.S.Source.bytes l.fn.self) l.self.at × (l.fn.self.at ≤ l.self.at) × Stays l.fn.self l.self
+    (reads_at g.S.Source.bytes l.fn.self (many (redirect_turn (level l.room)) (so_many (map view_item l.redirects.items) AsCommand l.next)) (state_of l.self) ≡ reads g.S.Source.bytes l.fn.self (many (redirect_turn (level l.room)) (so_many [] AsCommand l.fn.next)))
+    × Shows l.next.token (text_of g.S.Source.bytes l.fn.self) l.self.at × (l.fn.self.at ≤ l.self.at) × Keeps l.fn.self l.self
 
 abbrev pub decreases-redirects-turns : goal.decreases-redirects-turns
 decreases-redirects-turns g l = length (text_of g.S.Source.bytes l.self) - l.self.at
 
 abbrev pub invariant-pipes-turns : goal.invariant-pipes-turns
 invariant-pipes-turns g l =
-    (reads_at g.S.Source.bytes l.fn.self (many (pipe_turn (level l.room)) (piped (map view_pipeline_part l.parts.items) l.next)) l.self.at ≡ reads g.S.Source.bytes l.fn.self (many (pipe_turn (level l.room)) (piped [] l.fn.next)))
-    × Shows l.next.token (text_of g.S.Source.bytes l.fn.self) l.self.at × (l.fn.self.at ≤ l.self.at) × Stays l.fn.self l.self
+    (reads_at g.S.Source.bytes l.fn.self (many (pipe_turn (level l.room)) (piped (map view_pipeline_part l.parts.items) l.next)) (state_of l.self) ≡ reads g.S.Source.bytes l.fn.self (many (pipe_turn (level l.room)) (piped [] l.fn.next)))
+    × Shows l.next.token (text_of g.S.Source.bytes l.fn.self) l.self.at × (l.fn.self.at ≤ l.self.at) × Keeps l.fn.self l.self
 
 abbrev pub decreases-pipes-turns : goal.decreases-pipes-turns
 decreases-pipes-turns g l = length (text_of g.S.Source.bytes l.self) - l.self.at
 
 abbrev pub invariant-joined_pipelines-turns : goal.invariant-joined_pipelines-turns
 invariant-joined_pipelines-turns g l =
-    (reads_at g.S.Source.bytes l.fn.self (many (join_pipeline (level l.room)) (joined_so (map view_and_or_part l.parts.items) l.next)) l.self.at ≡ reads g.S.Source.bytes l.fn.self (many (join_pipeline (level l.room)) (joined_so [] l.fn.next)))
-    × Shows l.next.token (text_of g.S.Source.bytes l.fn.self) l.self.at × (l.fn.self.at ≤ l.self.at) × Stays l.fn.self l.self
+    (reads_at g.S.Source.bytes l.fn.self (many (join_pipeline (level l.room)) (joined_so (map view_and_or_part l.parts.items) l.next)) (state_of l.self) ≡ reads g.S.Source.bytes l.fn.self (many (join_pipeline (level l.room)) (joined_so [] l.fn.next)))
+    × Shows l.next.token (text_of g.S.Source.bytes l.fn.self) l.self.at × (l.fn.self.at ≤ l.self.at) × Keeps l.fn.self l.self
 
 abbrev pub decreases-joined_pipelines-turns : goal.decreases-joined_pipelines-turns
 decreases-joined_pipelines-turns g l = length (text_of g.S.Source.bytes l.self) - l.self.at
 
 abbrev pub invariant-entries-turns : goal.invariant-entries-turns
 invariant-entries-turns g l =
-    (reads_at g.S.Source.bytes l.fn.self (many (entry_turn (level l.room)) (list_so (view_listed l.listed) l.next)) l.self.at ≡ reads g.S.Source.bytes l.fn.self (many (entry_turn (level l.room)) (list_so (view_listed l.fn.listed) l.fn.next)))
-    × Shows l.next.token (text_of g.S.Source.bytes l.fn.self) l.self.at × (l.fn.self.at ≤ l.self.at) × Stays l.fn.self l.self
+    (reads_at g.S.Source.bytes l.fn.self (many (entry_turn (level l.room)) (list_so (view_listed l.listed) l.next)) (state_of l.self) ≡ reads g.S.Source.bytes l.fn.self (many (entry_turn (level l.room)) (list_so (view_listed l.fn.listed) l.fn.next)))
+    × Shows l.next.token (text_of g.S.Source.bytes l.fn.self) l.self.at × (l.fn.self.at ≤ l.self.at) × Keeps l.fn.self l.self
 
 abbrev pub decreases-entries-turns : goal.decreases-entries-turns
 decreases-entries-turns g l = length (text_of g.S.Source.bytes l.self) - l.self.at
 
 abbrev pub invariant-list_lines-turns : goal.invariant-list_lines-turns
 invariant-list_lines-turns g l =
-    (reads_at g.S.Source.bytes l.fn.self (many (list_turn (level l.room)) (list_so (view_listed l.listed) l.next)) l.self.at ≡ reads g.S.Source.bytes l.fn.self (many (list_turn (level l.room)) (list_so (view_listed l.fn.listed) l.fn.next)))
-    × Shows l.next.token (text_of g.S.Source.bytes l.fn.self) l.self.at × (l.fn.self.at ≤ l.self.at) × Stays l.fn.self l.self
+    (reads_at g.S.Source.bytes l.fn.self (many (list_turn (level l.room)) (list_so (view_listed l.listed) l.next)) (state_of l.self) ≡ reads g.S.Source.bytes l.fn.self (many (list_turn (level l.room)) (list_so (view_listed l.fn.listed) l.fn.next)))
+    × Shows l.next.token (text_of g.S.Source.bytes l.fn.self) l.self.at × (l.fn.self.at ≤ l.self.at) × Keeps l.fn.self l.self
 
 abbrev pub decreases-list_lines-turns : goal.decreases-list_lines-turns
 decreases-list_lines-turns g l = length (text_of g.S.Source.bytes l.self) - l.self.at
 
 abbrev pub invariant-elifs-turns : goal.invariant-elifs-turns
 invariant-elifs-turns g l =
-    (reads_at g.S.Source.bytes l.fn.self (many (elif_turn (level l.room)) (branched (map view_branch l.branches.items) l.next)) l.self.at ≡ reads g.S.Source.bytes l.fn.self (many (elif_turn (level l.room)) (branched [] l.fn.next)))
-    × Shows l.next.token (text_of g.S.Source.bytes l.fn.self) l.self.at × (l.fn.self.at ≤ l.self.at) × Stays l.fn.self l.self
+    (reads_at g.S.Source.bytes l.fn.self (many (elif_turn (level l.room)) (branched (map view_branch l.branches.items) l.next)) (state_of l.self) ≡ reads g.S.Source.bytes l.fn.self (many (elif_turn (level l.room)) (branched [] l.fn.next)))
+    × Shows l.next.token (text_of g.S.Source.bytes l.fn.self) l.self.at × (l.fn.self.at ≤ l.self.at) × Keeps l.fn.self l.self
 
 abbrev pub decreases-elifs-turns : goal.decreases-elifs-turns
 decreases-elifs-turns g l = length (text_of g.S.Source.bytes l.self) - l.self.at
 
 abbrev pub invariant-more_patterns-turns : goal.invariant-more_patterns-turns
 invariant-more_patterns-turns g l =
-    (reads_at g.S.Source.bytes l.fn.self (many (pattern_turn (level l.room)) (patterned (map view_word l.patterns.items) l.next)) l.self.at ≡ reads g.S.Source.bytes l.fn.self (many (pattern_turn (level l.room)) (patterned (map view_word l.fn.patterns.items) l.fn.next)))
-    × Shows l.next.token (text_of g.S.Source.bytes l.fn.self) l.self.at × (l.fn.self.at ≤ l.self.at) × Stays l.fn.self l.self
+    (reads_at g.S.Source.bytes l.fn.self (many (pattern_turn (level l.room)) (patterned (map view_word l.patterns.items) l.next)) (state_of l.self) ≡ reads g.S.Source.bytes l.fn.self (many (pattern_turn (level l.room)) (patterned (map view_word l.fn.patterns.items) l.fn.next)))
+    × Shows l.next.token (text_of g.S.Source.bytes l.fn.self) l.self.at × (l.fn.self.at ≤ l.self.at) × Keeps l.fn.self l.self
 
 abbrev pub decreases-more_patterns-turns : goal.decreases-more_patterns-turns
 decreases-more_patterns-turns g l = length (text_of g.S.Source.bytes l.self) - l.self.at
 
 abbrev pub invariant-cases-turns : goal.invariant-cases-turns
 invariant-cases-turns g l =
-    (reads_at g.S.Source.bytes l.fn.self (many (case_turn (level l.room)) (view_cases l.cases l.next)) l.self.at ≡ reads g.S.Source.bytes l.fn.self (many (case_turn (level l.room)) (view_cases l.fn.cases l.fn.next)))
-    × Shows l.next.token (text_of g.S.Source.bytes l.fn.self) l.self.at × (l.fn.self.at ≤ l.self.at) × Stays l.fn.self l.self
+    (reads_at g.S.Source.bytes l.fn.self (many (case_turn (level l.room)) (view_cases l.cases l.next)) (state_of l.self) ≡ reads g.S.Source.bytes l.fn.self (many (case_turn (level l.room)) (view_cases l.fn.cases l.fn.next)))
+    × Shows l.next.token (text_of g.S.Source.bytes l.fn.self) l.self.at × (l.fn.self.at ≤ l.self.at) × Keeps l.fn.self l.self
 
 abbrev pub decreases-cases-turns : goal.decreases-cases-turns
 decreases-cases-turns g l = length (text_of g.S.Source.bytes l.self) - l.self.at

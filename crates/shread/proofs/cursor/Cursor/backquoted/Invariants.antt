@@ -1,12 +1,12 @@
 use Rattle.std.proofs.Common.{◌≡◌, ◌+◌, ◌<◌, ◌-◌, length}
-use Rattle.shread.specs.Clauses.{Stays, reads, reads_at, text_of}
+use Rattle.shread.specs.Clauses.{Stays, reads, reads_at, state_of, text_of}
 use Rattle.shread.specs.Form.{many}
 use Rattle.shread.specs.Words.{backquote_turn, backquoted}
 use Rattle.shread.proofs.cursor.Cursor.backquoted.Given as goal
 
 abbrev pub invariant-turns : goal.invariant-turns
 invariant-turns g l =
-    (reads_at g.S.Source.bytes l.fn.self (many (backquote_turn (l.fn.self.origin + l.opener)) tt) l.self.at ≡ reads g.S.Source.bytes l.fn.self backquoted)
+    (reads_at g.S.Source.bytes l.fn.self (many (backquote_turn (l.fn.self.origin + l.opener)) tt) (state_of l.self) ≡ reads g.S.Source.bytes l.fn.self backquoted)
     × (l.opener < l.self.at) × Stays l.fn.self l.self
 
 abbrev pub decreases-turns : goal.decreases-turns

@@ -1,5 +1,5 @@
 use Rattle.std.proofs.Common.{◌≡◌, ◌≤◌, ◌-◌, length}
-use Rattle.shread.specs.Clauses.{Shows, Stays, reads, reads_at, text_of}
+use Rattle.shread.specs.Clauses.{Shows, Keeps, reads, reads_at, state_of, text_of}
 use Rattle.shread.specs.Commands.{join_so, join_turn}
 use Rattle.shread.specs.Form.{many}
 use Rattle.shtree.specs.View.{view_join}
@@ -7,8 +7,8 @@ use Rattle.shread.proofs.cursor.Cursor.join_on.Given as goal
 
 abbrev pub invariant-turns : goal.invariant-turns
 invariant-turns g l =
-    (reads_at g.S.Source.bytes l.fn.self (many join_turn (join_so (view_join l.join) l.next)) l.self.at ≡ reads g.S.Source.bytes l.fn.self (many join_turn (join_so (view_join l.fn.join) l.fn.next)))
-    × Shows l.next.token (text_of g.S.Source.bytes l.fn.self) l.self.at × (l.fn.self.at ≤ l.self.at) × Stays l.fn.self l.self
+    (reads_at g.S.Source.bytes l.fn.self (many join_turn (join_so (view_join l.join) l.next)) (state_of l.self) ≡ reads g.S.Source.bytes l.fn.self (many join_turn (join_so (view_join l.fn.join) l.fn.next)))
+    × Shows l.next.token (text_of g.S.Source.bytes l.fn.self) l.self.at × (l.fn.self.at ≤ l.self.at) × Keeps l.fn.self l.self
 
 abbrev pub decreases-turns : goal.decreases-turns
 decreases-turns g l = length (text_of g.S.Source.bytes l.self) - l.self.at

@@ -1,0 +1,178 @@
+-- What the bytes of a request spell.
+use Rattle.std.proofs.Common.{◌≡◌, ℕ, ◌+◌, ◌-◌, ◌<◌, Bool, false, true, List, [], ◌∷◌, ◌++◌, Option, None, Some, length, take, drop, refl, sym, ap, ◌∙◌, arith, append_assoc, append-nil, length-append, subst, Result, Ok, Err, OnOk, IfErr}
+use Rattle.std.proofs.lemmas.List.{drop_all}
+use Rattle.std.proofs.Math.Seq.{drop-append_seam, take-append_seam}
+use Rattle.std.specs.Io.KnownBytes.{Appends}
+use Rattle.shprint.specs.declared.layout.Layout.{Layout}
+use Rattle.shlive.specs.Ahead.{Ahead, StopsBy, Takes}
+use Rattle.shlive.specs.Lines.{IsInLine}
+use Rattle.shlive.specs.Requests.{EndsBy, Request, asks, clean, cut, edit, edit_by, first_line, next_by_line, next_by_order, next_of, nothing, order_of_line, spoiled, unfinished}
+use Rattle.shlive.specs.Turns.{EndsAs, NoFurther, Replied, Sense, Spells, Stays, Tells, end_between, end_inside}
+use Rattle.shlive.specs.declared.incoming.Stop.{Stop}
+use Rattle.shlive.specs.declared.incoming.Stop.TheVariants as stops
+use Rattle.shlive.specs.declared.order.Order.{Order}
+use Rattle.shlive.specs.declared.order.Order.TheVariants.{Edit}
+use Rattle.shlive.specs.declared.serve.End.{End}
+use Rattle.shlive.specs.declared.serve.End.TheVariants.{Clean, Quit, Cut, Unreadable, TooLong, Unwritable}
+use Rattle.shlive.proofs.InLine.{line_ends, line_open}
+use Rattle.shlive.proofs.Taken.{takes_both}
+
+-- ---- the line of a request
+
+pub line_first : (text rest : List ℕ) → IsInLine text → next_of ((text ++ 10 ∷ []) ++ rest) ≡ next_by_order (order_of_line text) rest
+line_first [] rest p = refl
+line_first (c ∷ text) rest p = ap next_by_line (line_ends (c ∷ text) rest p)
+
+pub line_cut : (text : List ℕ) → IsInLine text → 0 < length text → next_of text ≡ unfinished
+line_cut [] p some = absurd (omega (arith, some))
+line_cut (c ∷ text) p some = ap next_by_line (line_open (c ∷ text) p)
+
+-- ---- the bytes that an edit brings
+
+module _ (a b : ℕ) (bytes : List ℕ) where
+  seam : (more : List ℕ) → next_by_order (Some (Edit a b (length bytes))) (bytes ++ more) ≡ edit_by a b bytes (first_line more)
+  seam more =
+      ap (λ l. edit_by a b l (first_line (drop (length bytes) (bytes ++ more)))) (take-append_seam bytes more)
+      ∙ ap (λ l. edit_by a b bytes (first_line l)) (drop-append_seam bytes more)
+
+  pub edit_whole : (count : ℕ) (text rest : List ℕ) → length bytes ≡ count → IsInLine text
+      → next_by_order (Some (Edit a b count)) ((bytes ++ (text ++ 10 ∷ [])) ++ rest) ≡ edit_by a b bytes (Some (text, rest))
+  edit_whole count text rest all p =
+      ap (λ n. next_by_order (Some (Edit a b n)) ((bytes ++ (text ++ 10 ∷ [])) ++ rest)) (sym all)
+      ∙ ap (next_by_order (Some (Edit a b (length bytes)))) (append_assoc bytes (text ++ 10 ∷ []) rest)
+      ∙ seam ((text ++ 10 ∷ []) ++ rest) ∙ ap (edit_by a b bytes) (line_ends text rest p)
+
+  pub edit_cut_bytes : (count : ℕ) → length bytes < count → next_by_order (Some (Edit a b count)) bytes ≡ unfinished
+  edit_cut_bytes count few = ap (λ l. edit_by a b (take count bytes) (first_line l)) (drop_all count bytes (omega (arith, few)))
+
+  pub edit_cut_line : (count : ℕ) (text : List ℕ) → length bytes ≡ count → IsInLine text → next_by_order (Some (Edit a b count)) (bytes ++ text) ≡ unfinished
+  edit_cut_line count text all p =
+      ap (λ n. next_by_order (Some (Edit a b n)) (bytes ++ text)) (sym all) ∙ seam text ∙ ap (edit_by a b bytes) (line_open text p)
+
+  pub edit_asks : (text rest : List ℕ) → text ≡ [] → edit_by a b bytes (Some (text, rest)) ≡ asks (edit a b bytes) rest
+  edit_asks text rest none = ap (λ l. edit_by a b bytes (Some (l, rest))) none
+
+  pub spoiled_asks : (text rest : List ℕ) → (text ≡ [] → ⊥) → edit_by a b bytes (Some (text, rest)) ≡ asks spoiled rest
+  spoiled_asks [] rest some = absurd (some refl)
+  spoiled_asks (c ∷ text) rest some = refl
+
+pub edit_begins : (a b count : ℕ) → next_by_order (Some (Edit a b count)) [] ≡ nothing → ⊥
+edit_begins a b count e =
+    let cut : next_by_order (Some (Edit a b count)) [] ≡ unfinished = ap (λ l. edit_by a b (take count []) (first_line l)) (drop_all count [] (omega arith)) in
+    let wrong : unfinished ≡ nothing = sym cut ∙ e in absurd cc
+
+-- what waited was taken, where nothing waits any more
+pub some_taken : (old new : Ahead) (taken : List ℕ) → Takes old new taken → 0 < length old.waiting.bytes → new.waiting.bytes ≡ [] → 0 < length taken
+some_taken old new taken t some none =
+    let before = length-append old.waiting.bytes t.more in
+    let behind = length-append taken new.waiting.bytes in
+    let same = ap length t.same in
+    let empty = ap length none in
+    omega (arith, before, behind, same, empty, some)
+
+pub ok_through : {A E P Q : Type 0} (r : Result A E) → (P → Q) → OnOk r P → OnOk r Q
+ok_through (Ok x) f p = f p
+ok_through (Err e) f p = p
+
+pub err_through : {A E : Type 0} (P Q : E → Type 0) (r : Result A E) → ((e : E) → P e → Q e) → IfErr r P → IfErr r Q
+err_through P Q (Ok x) f p = p
+err_through P Q (Err e) f p = f e p
+
+-- ---- a run that ends where no more bytes come
+
+module _ (sense : Sense) (layout : Layout) (bytes after : List ℕ) (old new : Ahead) (failed ended : Bool) (held holds : Option (List ℕ)) (broken : Bool)
+    (same : after ≡ bytes) (silent : holds ≡ held) (sound : broken ≡ false) where
+  pub stops_inside : (stop : Stop) (taken : List ℕ) → Takes old new taken → (new.waiting.bytes ≡ [] → sense taken ≡ unfinished) → StopsBy stop failed ended new
+      → EndsAs sense (end_inside stop) layout bytes after old new failed ended held holds broken
+  stops_inside stops.Met taken takes whole s =
+      record { taken = taken; takes = takes; none = (whole s.2, s); same = same; silent = silent; sound = sound }
+  stops_inside stops.Unreadable taken takes whole s =
+      record { taken = taken; takes = takes; none = ((cut, subst (λ n. EndsBy n cut) (sym (whole s.2)) tt), s); same = same; silent = silent; sound = sound }
+  stops_inside stops.TooLong taken takes whole s =
+      record { taken = taken; takes = takes; none = s; same = same; silent = silent; sound = sound }
+
+  pub stops_between : (stop : Stop) → Takes old new [] → sense [] ≡ nothing → StopsBy stop failed ended new
+      → EndsAs sense (end_between stop) layout bytes after old new failed ended held holds broken
+  stops_between stops.Met takes none s =
+      record { taken = []; takes = takes; none = (refl, none, s); same = same; silent = silent; sound = sound }
+  stops_between stops.Unreadable takes none s =
+      record { taken = []; takes = takes; none = ((clean, subst (λ n. EndsBy n clean) (sym none) tt), s); same = same; silent = silent; sound = sound }
+  stops_between stops.TooLong takes none s =
+      record { taken = []; takes = takes; none = s; same = same; silent = silent; sound = sound }
+
+-- ---- what follows the line of a request goes on with it
+
+module _ (text : List ℕ) (sense : Sense) (front : (rest : List ℕ) → next_of ((text ++ 10 ∷ []) ++ rest) ≡ sense rest)
+    (layout : Layout) (bytes after : List ℕ) (old mid new : Ahead) (held holds : Option (List ℕ)) (first : Takes old mid (text ++ 10 ∷ [])) where
+  through : (taken rest : List ℕ) → next_of (((text ++ 10 ∷ []) ++ taken) ++ rest) ≡ sense (taken ++ rest)
+  through taken rest = ap next_of (append_assoc (text ++ 10 ∷ []) taken rest) ∙ front (taken ++ rest)
+
+  through_all : (taken : List ℕ) → next_of ((text ++ 10 ∷ []) ++ taken) ≡ sense taken
+  through_all taken = front taken
+
+  pub replied_through : (failed : Bool) → Replied sense layout bytes after mid new held holds failed → Replied next_of layout bytes after old new held holds failed
+  replied_through failed r = record {
+    taken = (text ++ 10 ∷ []) ++ r.taken;
+    request = r.request;
+    takes = takes_both old mid new (text ++ 10 ∷ []) r.taken _ first r.takes refl;
+    spelled = λ rest. through r.taken rest ∙ r.spelled rest;
+    tells = r.tells;
+  }
+
+  module _ (failed ended broken : Bool) (begun : sense [] ≡ nothing → ⊥) where
+    none_through : («end» : End) (taken : List ℕ) → NoFurther sense «end» taken failed ended new → NoFurther next_of «end» ((text ++ 10 ∷ []) ++ taken) failed ended new
+    none_through Clean taken n = absurd (begun n.1)
+    none_through Quit taken n = ((λ rest. through taken rest ∙ n.0 rest), n.1)
+    none_through Cut taken n = (through_all taken ∙ n.0, n.1)
+    none_through Unreadable taken n = ((n.0.0, subst (λ x. EndsBy x n.0.0) (sym (through_all taken)) n.0.1), n.1)
+    none_through TooLong taken n = n
+    none_through Unwritable taken n = n
+
+    stays_through : («end» : End) → Stays sense «end» bytes after mid new failed ended held holds broken → Stays next_of «end» bytes after old new failed ended held holds broken
+    stays_through why s = record {
+      taken = (text ++ 10 ∷ []) ++ s.taken;
+      takes = takes_both old mid new (text ++ 10 ∷ []) s.taken _ first s.takes refl;
+      none = none_through why s.taken s.none;
+      same = s.same;
+      silent = s.silent;
+      sound = s.sound;
+    }
+
+    pub ends_through : («end» : End) → EndsAs sense «end» layout bytes after mid new failed ended held holds broken
+        → EndsAs next_of «end» layout bytes after old new failed ended held holds broken
+    ends_through Clean s = stays_through Clean s
+    ends_through Quit s = stays_through Quit s
+    ends_through Cut s = stays_through Cut s
+    ends_through Unreadable s = stays_through Unreadable s
+    ends_through TooLong s = stays_through TooLong s
+    ends_through Unwritable s = (replied_through true s.0, s.1, s.2)
+
+-- ---- a request that is a line alone
+
+module _ (text : List ℕ) (inline : IsInLine text) (order : Option Order) (is : order ≡ order_of_line text) where
+  pub line_is : (rest : List ℕ) → next_of ((text ++ 10 ∷ []) ++ rest) ≡ next_by_order order rest
+  line_is rest = line_first text rest inline ∙ ap (λ o. next_by_order o rest) (sym is)
+
+  pub plain_replied : (layout : Layout) (bytes after : List ℕ) (old new : Ahead) (held holds : Option (List ℕ)) (failed : Bool) (request : Request)
+      → Takes old new (text ++ 10 ∷ []) → ((rest : List ℕ) → next_by_order order rest ≡ asks request rest) → Tells layout bytes request after held holds failed
+      → Replied next_of layout bytes after old new held holds failed
+  plain_replied layout bytes after old new held holds failed request takes next tells =
+      record { taken = text ++ 10 ∷ []; request = request; takes = takes; spelled = λ rest. line_is rest ∙ next rest; tells = tells }
+
+-- a request has a byte
+pub some_spelled : (taken : List ℕ) (request : Request) → Spells next_of taken (asks request) → 0 < length taken
+some_spelled [] request spelled = let wrong : nothing ≡ asks request [] = spelled [] in absurd cc
+some_spelled (b ∷ taken) request spelled = omega arith
+
+pub smaller : (m : ℕ) (a b : Ahead) (taken : List ℕ) → Takes a b taken → 0 < length taken → a.waiting.count < m
+    → m + length b.waiting.bytes - b.waiting.count < m + length a.waiting.bytes - a.waiting.count
+smaller m a b taken t some few =
+    let before = length-append a.waiting.bytes t.more in
+    let behind = length-append taken b.waiting.bytes in
+    let same = ap length t.same in
+    let count = t.counted in
+    omega (arith, before, behind, same, count, some, few)
+
+pub appends_none : (a : Option (List ℕ)) → Appends a a []
+appends_none None = tt
+appends_none (Some x) = sym (append-nil x)

@@ -1,0 +1,10 @@
+pub mod Scratch
+pub mod Passed
+pub mod Words
+pub mod Numbers
+pub mod Taken
+pub mod InLine
+pub mod Written
+pub mod Asked
+pub mod Running
+pub mod OneList

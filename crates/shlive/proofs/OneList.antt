@@ -1,0 +1,137 @@
+-- An input spells one list of requests.
+use Rattle.std.proofs.Common.{◌≡◌, ℕ, zero, suc, ◌+◌, ◌<◌, ◌≤◌, Bool, true, false, cond, List, [], ◌∷◌, ◌++◌, Option, None, Some, length, take, drop, refl, sym, ap, ◌∙◌, arith, append_assoc, append-nil, length-append, length-drop, subst}
+use Rattle.shtext.specs.Text.{is_newline}
+use Rattle.shlive.specs.Requests.{Begins, Ending, EndsBy, Lined, Next, Request, Requests, asks, behind, clean, cut, edit, edit_by, first_line, leaves, left, next_by_line, next_by_order, next_of, none_yet, nothing, one_more, order_of_line, spoiled, unfinished}
+use Rattle.shlive.specs.declared.order.Order.{Order}
+use Rattle.shlive.specs.declared.order.Order.TheVariants as orders
+
+-- ---- what follows a request is shorter
+
+-- how long a line is, its newline, and what follows it
+abbrev Shorter : List ℕ → Lined → Type 0
+Shorter text None = Unit {0}
+Shorter text (Some (line, rest)) = length rest < length text
+
+shorter_behind : (b : ℕ) (text : List ℕ) (l : Lined) → Shorter text l → Shorter (b ∷ text) (behind (b ∷ []) l)
+shorter_behind b text None p = tt
+shorter_behind b text (Some (line, rest)) p = omega (arith, p)
+
+shorter_by : (b : ℕ) (text : List ℕ) (c : Bool) (l : Lined) → Shorter text l → Shorter (b ∷ text) (cond c (Some ([], text)) (behind (b ∷ []) l))
+shorter_by b text true l p = omega arith
+shorter_by b text false l p = shorter_behind b text l p
+
+line_shorter : (text : List ℕ) → Shorter text (first_line text)
+line_shorter [] = tt
+line_shorter (b ∷ text) = shorter_by b text (is_newline b) (first_line text) (line_shorter text)
+
+-- what is asked for leaves less than there was
+abbrev Leaves : ℕ → Next → Type 0
+Leaves n nothing = Unit {0}
+Leaves n unfinished = Unit {0}
+Leaves n leaves = Unit {0}
+Leaves n (asks request rest) = length rest < n
+
+leaves_edit : (a b : ℕ) (new text : List ℕ) (l : Lined) (n : ℕ) → Shorter text l → length text < n → Leaves n (edit_by a b new l)
+leaves_edit a b new text None n p low = tt
+leaves_edit a b new text (Some ([], rest)) n p low = omega (arith, p, low)
+leaves_edit a b new text (Some (c ∷ line, rest)) n p low = omega (arith, p, low)
+
+leaves_order : (order : Option Order) (rest : List ℕ) (n : ℕ) → length rest < n → Leaves n (next_by_order order rest)
+leaves_order (Some (orders.Edit a b count)) rest n low =
+    let less = length-drop count rest in
+    leaves_edit a b (take count rest) (drop count rest) (first_line (drop count rest)) n (line_shorter (drop count rest)) (omega (arith, less, low))
+leaves_order (Some (orders.Ask question)) rest n low = low
+leaves_order (Some orders.Quit) rest n low = tt
+leaves_order None rest n low = low
+
+leaves_line : (text : List ℕ) (l : Lined) → Shorter text l → Leaves (length text) (next_by_line l)
+leaves_line text None p = tt
+leaves_line text (Some (line, rest)) p = leaves_order (order_of_line line) rest (length text) p
+
+next_shorter : (input : List ℕ) → Leaves (length input) (next_of input)
+next_shorter [] = tt
+next_shorter (b ∷ text) = leaves_line (b ∷ text) (first_line (b ∷ text)) (line_shorter (b ∷ text))
+
+-- ---- there is a list
+
+abbrev Ended : List ℕ → Type 0
+Ended input = (requests : List Request) × ((ending : Ending) × Requests input requests ending)
+
+module _ (input : List ℕ) where
+  ends : (asked : List Request) (mid : List ℕ) (next : Next) (e : Ending) → Begins input asked mid → next_of mid ≡ next → EndsBy next e → Ended input
+  ends asked mid next e b is end = (asked, (e, (mid, b, subst (λ n. EndsBy n e) (sym is) end)))
+
+  by_next : (n : ℕ) (asked : List Request) (mid : List ℕ) (next : Next) → length mid ≤ n → Begins input asked mid → next_of mid ≡ next → Leaves (length mid) (next_of mid) → Ended input
+  by_next n asked mid nothing low b is less = ends asked mid nothing clean b is tt
+  by_next n asked mid unfinished low b is less = ends asked mid unfinished cut b is tt
+  by_next n asked mid leaves low b is less = ends asked mid leaves left b is tt
+  by_next zero asked mid (asks request rest) low b is less =
+      let few : length rest < length mid = subst (Leaves (length mid)) is less in absurd (omega (arith, few, low))
+  by_next (suc n) asked mid (asks request rest) low b is less =
+      let few : length rest < length mid = subst (Leaves (length mid)) is less in
+      by_next n (asked ++ request ∷ []) rest (next_of rest) (omega (arith, few, low)) (one_more request rest b is) refl (next_shorter rest)
+
+pub some_list : (input : List ℕ) → Ended input
+some_list input = by_next input (length input) [] input (next_of input) (omega arith) none_yet refl (next_shorter input)
+
+-- ---- there is no other
+
+-- the same from the first request on
+abbrev Goes : List ℕ → List Request → Ending → Type 0
+Goes input [] e = EndsBy (next_of input) e
+Goes input (r ∷ rs) e = (rest : List ℕ) × (next_of input ≡ asks r rest) × Goes rest rs e
+
+goes_before : (input : List ℕ) (asked : List Request) (mid : List ℕ) (e : Ending) (more : List Request) → Begins input asked mid → Goes mid more e → Goes input (asked ++ more) e
+goes_before input _ _ e more none_yet g = g
+goes_before input _ _ e more (one_more {requests} {mid} request rest b is) g =
+    subst (λ l. Goes input l e) (sym (append_assoc requests (request ∷ []) more)) (goes_before input requests mid e (request ∷ more) b (rest, is, g))
+
+one_end : (n : Next) (d e : Ending) → EndsBy n d → EndsBy n e → d ≡ e
+one_end nothing clean clean p q = refl
+one_end nothing clean cut p q = absurd q
+one_end nothing clean left p q = absurd q
+one_end nothing cut e p q = absurd p
+one_end nothing left e p q = absurd p
+one_end unfinished cut cut p q = refl
+one_end unfinished cut clean p q = absurd q
+one_end unfinished cut left p q = absurd q
+one_end unfinished clean e p q = absurd p
+one_end unfinished left e p q = absurd p
+one_end leaves left left p q = refl
+one_end leaves left clean p q = absurd q
+one_end leaves left cut p q = absurd q
+one_end leaves clean e p q = absurd p
+one_end leaves cut e p q = absurd p
+one_end (asks r rest) d e p q = absurd p
+
+no_end : (n : Next) (e : Ending) (r : Request) (rest : List ℕ) → n ≡ asks r rest → EndsBy n e → ⊥
+no_end n e r rest is p = let q : EndsBy (asks r rest) e = subst (λ m. EndsBy m e) is p in q
+
+abbrev request_in : Request → Next → Request
+request_in d nothing = d
+request_in d unfinished = d
+request_in d leaves = d
+request_in d (asks r rest) = r
+
+abbrev rest_in : Next → List ℕ
+rest_in nothing = []
+rest_in unfinished = []
+rest_in leaves = []
+rest_in (asks r rest) = rest
+
+goes_one : (input : List ℕ) (rs ss : List Request) (d e : Ending) → Goes input rs d → Goes input ss e → (rs ≡ ss) × (d ≡ e)
+goes_one input [] [] d e p q = (refl, one_end (next_of input) d e p q)
+goes_one input [] (s ∷ ss) d e p (rest, is, q) = absurd (no_end (next_of input) d s rest is p)
+goes_one input (r ∷ rs) [] d e (rest, is, p) q = absurd (no_end (next_of input) e r rest is q)
+goes_one input (r ∷ rs) (s ∷ ss) d e (m, is, p) (n, also, q) =
+    let same : asks r m ≡ asks s n = sym is ∙ also in
+    let one : r ≡ s = ap (request_in r) same in
+    let on : n ≡ m = sym (ap rest_in same) in
+    let rest = goes_one m rs ss d e p (subst (λ l. Goes l ss e) on q) in
+    (ap (λ x. x ∷ rs) one ∙ ap (λ l. s ∷ l) rest.0, rest.1)
+
+to_goes : (input : List ℕ) (rs : List Request) (e : Ending) → Requests input rs e → Goes input rs e
+to_goes input rs e (rest, b, ends) = subst (λ l. Goes input l e) (append-nil rs) (goes_before input rs rest e [] b ends)
+
+pub only_list : (input : List ℕ) (a b : List Request) (d e : Ending) → Requests input a d → Requests input b e → (a ≡ b) × (d ≡ e)
+only_list input a b d e p q = goes_one input a b d e (to_goes input a d p) (to_goes input b e q)

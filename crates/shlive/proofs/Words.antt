@@ -1,0 +1,73 @@
+-- The words of a line, found from left to right.
+use Rattle.std.proofs.Common.{◌≡◌, ℕ, ◌+◌, ◌<◌, ◌≤◌, ◌==◌, cond, Bool, true, false, List, [], ◌∷◌, ◌++◌, length, take, drop, get_or, refl, sym, ap, ◌∙◌, append_assoc, append-nil, add-one, drop-cons, None, codes}
+use Rattle.std.proofs.lemmas.List.{take_more, take_all, drop_all}
+use Rattle.std.specs.Str.{bytes_eq}
+use Rattle.shlive.specs.Orders.{before, order_of_words, words}
+
+before_nothing : (ws : List (List ℕ)) → before [] (before [] ws) ≡ before [] ws
+before_nothing [] = refl
+before_nothing (w ∷ ws) = refl
+
+before_both : (t u : List ℕ) (ws : List (List ℕ)) → before t (before u ws) ≡ before (t ++ u) ws
+before_both t u [] = refl
+before_both t u (w ∷ ws) = ap (λ l. l ∷ ws) (sym (append_assoc t u w))
+
+words_case : (b : ℕ) (bs : List ℕ) (x : Bool) → before [] (cond x ([] ∷ words bs) (before (b ∷ []) (words bs))) ≡ cond x ([] ∷ words bs) (before (b ∷ []) (words bs))
+words_case b bs true = refl
+words_case b bs false = before_both [] (b ∷ []) (words bs)
+
+pub from_start : (line : List ℕ) → words line ≡ before [] (words line)
+from_start [] = refl
+from_start (b ∷ bs) = sym (words_case b bs (b == 32))
+
+-- the words from a byte on
+at_byte : (line : List ℕ) (at : ℕ) → at < length line
+    → words (drop at line) ≡ cond (get_or line at 0 == 32) ([] ∷ words (drop (at + 1) line)) (before (get_or line at 0 ∷ []) (words (drop (at + 1) line)))
+at_byte line at low = rw (add-one, drop-cons line at 0) refl
+
+pub goes_on : (line : List ℕ) (at : ℕ) → at < length line → (get_or line at 0 == 32) ≡ false
+    → before (take at line) (words (drop at line)) ≡ before (take (at + 1) line) (words (drop (at + 1) line))
+goes_on line at low other =
+    let here : words (drop at line) ≡ before (get_or line at 0 ∷ []) (words (drop (at + 1) line)) = at_byte line at low ∙ rw other refl in
+    ap (before (take at line)) here ∙ before_both (take at line) (get_or line at 0 ∷ []) (words (drop (at + 1) line))
+    ∙ ap (λ t. before t (words (drop (at + 1) line))) (sym (take_more line at 0 low))
+
+pub cut_here : (line : List ℕ) (at : ℕ) → at < length line → (get_or line at 0 == 32) ≡ true
+    → before (take at line) (words (drop at line)) ≡ take at line ∷ words (drop (at + 1) line)
+cut_here line at low blank =
+    let here : words (drop at line) ≡ [] ∷ words (drop (at + 1) line) = at_byte line at low ∙ rw blank refl in
+    ap (before (take at line)) here ∙ ap (λ t. t ∷ words (drop (at + 1) line)) (append-nil (take at line))
+
+pub no_cut : (line : List ℕ) (at : ℕ) → length line ≤ at → before (take at line) (words (drop at line)) ≡ line ∷ []
+no_cut line at end =
+    let all : take at line ≡ line = take_all at line end in
+    let none : drop at line ≡ [] = drop_all at line end in
+    ap (λ t. before t (words (drop at line))) all ∙ ap (λ l. before line (words l)) none ∙ ap (λ t. t ∷ []) (append-nil line)
+
+-- ---- words too many
+
+at_more : (p : List ℕ) (ws : List (List ℕ)) → order_of_words (codes "at" ∷ p ∷ before [] ws) ≡ None
+at_more p [] = refl
+at_more p (w ∷ []) = refl
+at_more p (w ∷ v ∷ []) = refl
+at_more p (w ∷ v ∷ u ∷ us) = refl
+
+pub at_too_many : (p line : List ℕ) → order_of_words (codes "at" ∷ p ∷ words line) ≡ None
+at_too_many p line = rw (from_start line) (at_more p (words line))
+
+edit_more : (a b n : List ℕ) (ws : List (List ℕ)) → order_of_words (codes "edit" ∷ a ∷ b ∷ n ∷ before [] ws) ≡ None
+edit_more a b n [] = refl
+edit_more a b n (w ∷ ws) = refl
+
+pub edit_too_many : (a b n line : List ℕ) → order_of_words (codes "edit" ∷ a ∷ b ∷ n ∷ words line) ≡ None
+edit_too_many a b n line = rw (from_start line) (edit_more a b n (words line))
+
+other_words : (name : List ℕ) (ws : List (List ℕ)) → bytes_eq name (codes "at") ≡ false → bytes_eq name (codes "edit") ≡ false → order_of_words (name ∷ before [] ws) ≡ None
+other_words name [] p q = rw p refl
+other_words name (w ∷ []) p q = rw p refl
+other_words name (w ∷ v ∷ []) p q = refl
+other_words name (w ∷ v ∷ u ∷ []) p q = rw q refl
+other_words name (w ∷ v ∷ u ∷ t ∷ ts) p q = refl
+
+pub other : (name line : List ℕ) → bytes_eq name (codes "at") ≡ false → bytes_eq name (codes "edit") ≡ false → order_of_words (name ∷ words line) ≡ None
+other name line p q = rw (from_start line) (other_words name (words line) p q)

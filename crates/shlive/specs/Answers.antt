@@ -1,0 +1,61 @@
+-- What a session answers for the bytes of a script: what reading them from scratch says.
+use Rattle.std.specs.Prelude.{◌≡◌, ℕ, List, length, Option, None, Some}
+use Rattle.shread.specs.Answers.{view_script}
+use Rattle.shread.specs.Scripts.{AScript, FirstFault, Outcome}
+use Rattle.shread.specs.declared.fault.Fault.{Fault}
+use Rattle.shread.specs.declared.reader.Script.{Script}
+use Rattle.shtree.specs.Nodes.{AreWithin, nodes_at, outline}
+use Rattle.shtree.specs.declared.nodes.NodeLine.{NodeLine}
+use Rattle.shtext.specs.Edit.{Refuses}
+use Rattle.shtext.specs.declared.error.TextError.{TextError}
+use Rattle.shtext.specs.declared.error.TextError.TheVariants as text_errors
+use Rattle.shprint.specs.ReadBack.{IsTextOf}
+use Rattle.shprint.specs.declared.layout.Layout.{Layout}
+use Rattle.shlive.specs.declared.error.LiveError.{LiveError}
+use Rattle.shlive.specs.declared.error.LiveError.TheVariants.{Range, TooLarge, Memory}
+
+-- ---- answers
+
+-- 0 for a script without a fault, 1 for one with a fault
+abbrev pub status_of : Option Fault → ℕ
+status_of None = 0
+status_of (Some fault) = 1
+
+abbrev pub HasStatus : List ℕ → ℕ → Type 0
+HasStatus bytes status = (fault : Option Fault) × FirstFault bytes fault × (status ≡ status_of fault)
+
+-- the outline of what is read of the bytes; of a faulty script, of the lines before its fault
+abbrev pub HasOutline : List ℕ → List NodeLine → Type 0
+HasOutline bytes lines = (script : AScript) × Outcome bytes script × (lines ≡ outline 0 script.entries)
+
+-- the nodes that hold the byte at an offset
+abbrev pub HasNodesAt : List ℕ → ℕ → List NodeLine → Type 0
+HasNodesAt bytes at lines = (script : AScript) × Outcome bytes script × (lines ≡ nodes_at 0 at script.entries)
+
+-- the printed text, which reads back; a faulty script has none
+abbrev pub HasText : Layout → List ℕ → Option (List ℕ) → Type 0
+HasText layout bytes (Some text) = IsTextOf layout bytes text
+HasText layout bytes None = (fault : Fault) × FirstFault bytes (Some fault)
+
+-- ---- refusals
+
+-- a session's word for why a text is refused
+abbrev pub as_live : TextError → LiveError
+as_live text_errors.Range = Range
+as_live text_errors.TooLarge = TooLarge
+as_live text_errors.Memory = Memory
+
+-- why an edit of the bytes is refused: as an edit of a text is
+abbrev pub IsRefused : List ℕ → ℕ → ℕ → List ℕ → LiveError → Type 0
+IsRefused bytes a b new Range = Refuses bytes a b new text_errors.Range
+IsRefused bytes a b new TooLarge = Refuses bytes a b new text_errors.TooLarge
+IsRefused bytes a b new Memory = Refuses bytes a b new text_errors.Memory
+
+-- ---- what a session keeps
+
+-- a script is what is read of the bytes, and nothing else is read of them
+pub record IsReadOf (bytes : List ℕ) (script : Script) : Type 0 where
+  pub outcome : Outcome bytes (view_script script)
+  pub only : (a : AScript) → Outcome bytes a → a ≡ view_script script
+  -- it names no offset above their length
+  pub within : AreWithin (length bytes) (view_script script).entries

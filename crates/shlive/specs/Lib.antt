@@ -1,0 +1,13 @@
+pub mod Held
+pub mod Answers
+pub mod Kept
+pub mod Waiting
+pub mod Ahead
+pub mod Incoming
+pub mod Orders
+pub mod Requests
+pub mod Lines
+pub mod Payload
+pub mod Replies
+pub mod Turns
+pub mod Runs

@@ -1,0 +1,57 @@
+-- What the line of a request asks for: words, parted by one blank each, and numbers.
+use Rattle.std.specs.Prelude.{ℕ, ◌+◌, ◌-◌, ◌*◌, ◌==◌, Bool, ◌&&◌, not, nat_le, nat_lt, List, [], ◌∷◌, ◌++◌, length, Option, None, Some, option_map, codes, if◌then◌else◌}
+use Rattle.std.specs.Str.{bytes_eq}
+use Rattle.shlive.specs.declared.order.Order.{Order}
+use Rattle.shlive.specs.declared.order.Order.TheVariants.{Edit, Ask, Quit}
+use Rattle.shlive.specs.declared.order.Question.TheVariants.{Outline, At, Fault, Print}
+
+-- ---- words
+
+-- text before the first of these words
+abbrev pub before : List ℕ → List (List ℕ) → List (List ℕ)
+before text [] = text ∷ []
+before text (w ∷ ws) = (text ++ w) ∷ ws
+
+-- the words of a line, which blanks part: one more than there are blanks, and one without a byte beside each blank too many
+abbrev pub words : List ℕ → List (List ℕ)
+words [] = [] ∷ []
+words (b ∷ bs) = if b == 32 then [] ∷ words bs else before (b ∷ []) (words bs)
+
+-- ---- numbers
+
+abbrev pub is_digit : ℕ → Bool
+is_digit b = nat_le 48 b && nat_le b 57
+
+-- the number that digits spell behind those of n
+abbrev pub digits_from : ℕ → List ℕ → Option ℕ
+digits_from n [] = Some n
+digits_from n (d ∷ ds) = if is_digit d then digits_from (10 * n + (d - 48)) ds else None
+
+-- `0`, or one to ten digits without a leading zero
+abbrev pub number_of : List ℕ → Option ℕ
+number_of [] = None
+number_of (d ∷ ds) = if nat_le (length ds) 9 && not (d == 48 && nat_lt 0 (length ds)) then digits_from 0 (d ∷ ds) else None
+
+-- ---- requests
+
+-- a request of one word
+abbrev pub asked : List ℕ → Option Order
+asked word =
+    if bytes_eq word (codes "outline") then Some (Ask Outline)
+    else if bytes_eq word (codes "fault") then Some (Ask Fault)
+    else if bytes_eq word (codes "print") then Some (Ask Print)
+    else if bytes_eq word (codes "quit") then Some Quit else None
+
+abbrev pub edit_by : Option ℕ → Option ℕ → Option ℕ → Option Order
+edit_by (Some a) (Some b) (Some n) = Some (Edit a b n)
+edit_by _ _ _ = None
+
+abbrev pub order_of_words : List (List ℕ) → Option Order
+order_of_words (name ∷ []) = asked name
+order_of_words (name ∷ p ∷ []) = if bytes_eq name (codes "at") then option_map (λ n. Ask (At n)) (number_of p) else None
+order_of_words (name ∷ a ∷ b ∷ n ∷ []) = if bytes_eq name (codes "edit") then edit_by (number_of a) (number_of b) (number_of n) else None
+order_of_words _ = None
+
+-- what a line asks for, None for one that is no request
+abbrev pub order_of : List ℕ → Option Order
+order_of line = order_of_words (words line)

@@ -1,0 +1,7 @@
+-- The bytes that an edit brings, as far as they are kept.
+use Rattle.std.specs.Prelude.{◌≡◌, ℕ, List, Option, None, Some}
+
+-- these bytes are kept, or none
+abbrev pub AreKept : Option (List ℕ) → List ℕ → Type 0
+AreKept None bytes = Unit {0}
+AreKept (Some kept) bytes = kept ≡ bytes

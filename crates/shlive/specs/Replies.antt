@@ -1,0 +1,126 @@
+-- The replies to requests: a fold that holds the bytes of a script and nothing else.
+use Rattle.std.specs.Prelude.{◌≡◌, ◌⊎◌, ℕ, ◌<◌, ◌++◌, [], ◌∷◌, List, flat_map, length, Option, None, Some, codes, decimal}
+use Rattle.shread.specs.Scripts.{FirstFault}
+use Rattle.shread.specs.declared.fault.Fault.{Fault}
+use Rattle.shread.specs.declared.fault.FaultKind.{FaultKind}
+use Rattle.shread.specs.declared.fault.FaultKind.TheVariants as faults
+use Rattle.shtree.specs.Shape.{bare_at}
+use Rattle.shtree.specs.declared.nodes.NodeKind.{NodeKind}
+use Rattle.shtree.specs.declared.nodes.NodeKind.TheVariants as nodes
+use Rattle.shtree.specs.declared.nodes.NodeLine.{NodeLine}
+use Rattle.shtree.specs.declared.tree.Span.{Span}
+use Rattle.shtext.specs.Edit.{IsAllowed, edited}
+use Rattle.shtext.specs.Text.{column_of, line_of}
+use Rattle.shprint.specs.declared.layout.Layout.{Layout}
+use Rattle.shlive.specs.Answers.{HasNodesAt, HasOutline, HasStatus, HasText, IsRefused}
+use Rattle.shlive.specs.Requests.{Request, edit, spoiled, outline, at, fault, print, unknown}
+use Rattle.shlive.specs.declared.error.LiveError.{LiveError}
+use Rattle.shlive.specs.declared.error.LiveError.TheVariants.{Range, TooLarge, Memory}
+
+-- ---- texts
+
+abbrev pub kind_text : NodeKind → List ℕ
+kind_text nodes.Comment = codes "comment"
+kind_text nodes.Word = codes "word"
+kind_text nodes.Assign = codes "assign"
+kind_text nodes.Redirect = codes "redirect"
+kind_text nodes.Subst = codes "subst"
+kind_text nodes.Simple = codes "simple"
+kind_text nodes.Brace = codes "brace"
+kind_text nodes.Subshell = codes "subshell"
+kind_text nodes.If = codes "if"
+kind_text nodes.While = codes "while"
+kind_text nodes.Until = codes "until"
+kind_text nodes.For = codes "for"
+kind_text nodes.Case = codes "case"
+kind_text nodes.Item = codes "item"
+kind_text nodes.Function = codes "function"
+kind_text nodes.Pipeline = codes "pipeline"
+kind_text nodes.AndOr = codes "andor"
+
+-- a name without its continuations, behind a blank
+abbrev pub name_text : List ℕ → Option Span → List ℕ
+name_text bytes None = []
+name_text bytes (Some span) = codes " " ++ bare_at bytes span
+
+-- START END KIND, or START END KIND NAME
+abbrev pub node_text : List ℕ → NodeLine → List ℕ
+node_text bytes n = decimal n.start ++ codes " " ++ decimal n.«end» ++ codes " " ++ kind_text n.kind ++ name_text bytes n.name ++ codes "\n"
+
+-- WORD K, and K lines
+abbrev pub nodes_text : List ℕ → List ℕ → List NodeLine → List ℕ
+nodes_text word bytes lines = word ++ codes " " ++ decimal (length lines) ++ codes "\n" ++ flat_map (node_text bytes) lines
+
+abbrev pub number_of_kind : FaultKind → ℕ
+number_of_kind faults.UnclosedSingle = 1
+number_of_kind faults.UnclosedDouble = 2
+number_of_kind faults.UnclosedBackquote = 3
+number_of_kind faults.UnclosedParam = 4
+number_of_kind faults.UnclosedArith = 5
+number_of_kind faults.BadArithClose = 6
+number_of_kind faults.UnclosedSubst = 7
+number_of_kind faults.LoneBackslash = 8
+number_of_kind faults.UnclosedHere = 9
+number_of_kind faults.BadHereWord = 10
+number_of_kind faults.Unexpected = 11
+number_of_kind faults.UnexpectedEnd = 12
+number_of_kind faults.BadForName = 13
+number_of_kind faults.BadFunctionName = 14
+number_of_kind faults.TooDeep = 15
+
+-- fault AT LINE COL NUMBER
+abbrev pub fault_text : List ℕ → Option Fault → List ℕ
+fault_text bytes None = codes "none\n"
+fault_text bytes (Some f) =
+    codes "fault " ++ decimal f.at ++ codes " " ++ decimal (line_of bytes f.at) ++ codes " " ++ decimal (column_of bytes f.at) ++ codes " "
+    ++ decimal (number_of_kind f.kind) ++ codes "\n"
+
+-- text N, and the bytes
+abbrev pub printed_text : Option (List ℕ) → List ℕ
+printed_text None = codes "none\n"
+printed_text (Some text) = codes "text " ++ decimal (length text) ++ codes "\n" ++ text ++ codes "\n"
+
+-- ok LENGTH STATUS
+abbrev pub ok_text : ℕ → ℕ → List ℕ
+ok_text len status = codes "ok " ++ decimal len ++ codes " " ++ decimal status ++ codes "\n"
+
+abbrev pub refusal_text : LiveError → List ℕ
+refusal_text Range = codes "no range\n"
+refusal_text TooLarge = codes "no room\n"
+refusal_text Memory = codes "no memory\n"
+
+-- ---- replies
+
+-- memory ran out for what the request asks for
+abbrev pub IsNoMemory : List ℕ → Type 0
+IsNoMemory reply = reply ≡ codes "no memory\n"
+
+-- the reply to an edit, and the bytes after it: those of a refused one stay
+abbrev pub IsEditReply : List ℕ → ℕ → ℕ → List ℕ → List ℕ → List ℕ → Type 0
+IsEditReply bytes a b new reply after =
+    (IsAllowed bytes a b new × (after ≡ edited bytes a b new) × ((status : ℕ) × HasStatus after status × (reply ≡ ok_text (length after) status)))
+    ⊎ ((error : LiveError) × IsRefused bytes a b new error × (reply ≡ refusal_text error) × (after ≡ bytes))
+
+-- The reply to a request on the bytes of a script. Memory may run out where a tree or a text is made.
+abbrev pub IsReply : Layout → List ℕ → Request → List ℕ → Type 0
+IsReply layout bytes (edit a b new) reply = ⊥
+IsReply layout bytes spoiled reply = reply ≡ codes "no payload\n"
+IsReply layout bytes outline reply = ((lines : List NodeLine) × HasOutline bytes lines × (reply ≡ nodes_text (codes "outline") bytes lines)) ⊎ IsNoMemory reply
+IsReply layout bytes (at p) reply =
+    ((lines : List NodeLine) × HasNodesAt bytes p lines × (reply ≡ nodes_text (codes "at") bytes lines)) ⊎ ((p < length bytes) × IsNoMemory reply)
+IsReply layout bytes fault reply = (first : Option Fault) × FirstFault bytes first × (reply ≡ fault_text bytes first)
+IsReply layout bytes print reply =
+    ((text : Option (List ℕ)) × HasText layout bytes text × (reply ≡ printed_text text)) ⊎ (FirstFault bytes None × IsNoMemory reply)
+IsReply layout bytes unknown reply = reply ≡ codes "no request\n"
+
+-- a request, its reply, and the bytes after it: an edit alone changes them
+abbrev pub Step : Layout → List ℕ → Request → List ℕ → List ℕ → Type 0
+Step layout bytes (edit a b new) reply after = IsEditReply bytes a b new reply after
+Step layout bytes request reply after = IsReply layout bytes request reply × (after ≡ bytes)
+
+-- requests on the bytes of a script, the replies to them, and the bytes after them
+pub data Replies (layout : Layout) (bytes : List ℕ) : List Request → List ℕ → List ℕ → Type 0 where
+  none_yet : Replies layout bytes [] [] bytes
+  one_more : {requests : List Request} {replies mid : List ℕ} (request : Request) (reply after : List ℕ)
+      → Replies layout bytes requests replies mid → Step layout mid request reply after
+      → Replies layout bytes (requests ++ request ∷ []) (replies ++ reply) after

@@ -1,0 +1,42 @@
+//! Why a session refuses a script or an edit.
+ghost use Rattle.std.specs.Prelude.{◌≡◌};
+ghost use Rattle.shlive.specs.Answers.{as_live};
+ghost use Rattle.shlive.specs.declared.error.LiveError.TheVariants.{Memory};
+
+use shread::ReadError;
+use shtext::TextError;
+use thiserror::Error;
+
+/// Why a session does not take a script or an edit. The numbers are fixed, and an edit is tested in their order.
+#[derive(Clone, Copy, Debug, PartialEq, Eq, Error)]
+pub enum LiveError {
+    /// The edit begins behind its end, or ends behind the script.
+    #[error("out of range")]
+    Range = 1,
+    /// The script would have more bytes than a script may have.
+    #[error("too large")]
+    TooLarge = 2,
+    /// Memory ran out.
+    #[error("out of memory")]
+    Memory = 3,
+}
+
+impl From<TextError> for LiveError {
+    ghost from_gives = { λ old new. new ≡ as_live old };
+
+    fn from(e: TextError) -> LiveError {
+        match e {
+            TextError::Range => LiveError::Range,
+            TextError::TooLarge => LiveError::TooLarge,
+            TextError::Memory => LiveError::Memory,
+        }
+    }
+}
+
+impl From<ReadError> for LiveError {
+    ghost from_gives = { λ _ e. e ≡ Memory };
+
+    fn from(_e: ReadError) -> LiveError {
+        LiveError::Memory
+    }
+}

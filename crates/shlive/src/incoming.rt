@@ -1,0 +1,119 @@
+//! The bytes that come from an input, read a piece at a time.
+ghost use Rattle.std.specs.Prelude.{◌≡◌, ◌+◌, ◌-◌, ◌<◌, ◌≤◌, ◌∷◌, [], IfErr, IfOk, OnOk, drop, length, take};
+ghost use Rattle.shtext.specs.Device.{input_ended, input_failed};
+ghost use Rattle.shlive.specs.Ahead.{IsOpen, StopsBy, Takes, ahead_of, too_many};
+
+use shtext::{Failed, Input};
+use std::io::Read;
+use std::marker::Model;
+
+/// The most bytes that are read at once.
+const PIECE: usize = 8_192;
+
+/// As many bytes as no input of a run has.
+const TOO_MANY: u64 = 1 << 63;
+
+/// Why no more bytes come.
+#[derive(Clone, Copy, Debug, PartialEq, Eq)]
+pub(crate) enum Stop {
+    /// The input ended.
+    Met,
+    /// A read failed.
+    Unreadable,
+    /// More bytes came than a run counts.
+    TooLong,
+}
+
+/// The bytes that were read and wait to be taken, and how many were read so far.
+#[derive(Drop)]
+pub(crate) struct Incoming {
+    piece: [u8; PIECE],
+    at: usize,
+    end: usize,
+    count: u64,
+}
+
+impl Model for Incoming {
+    ghost use Rattle.shlive.specs.Waiting.{Waiting};
+
+    ghost Value = { Waiting };
+
+    ghost use Rattle.shlive.specs.Incoming.{IsRow, waiting};
+
+    ghost view = { waiting };
+
+    ghost invariant = { IsRow };
+}
+
+impl Incoming {
+    /// Nothing was read yet.
+    pub(crate) fn new() -> Incoming
+        ensures bytes { result.bytes ≡ [] }
+        ensures count { result.count ≡ 0 }
+    {
+        Incoming {
+            piece: [0; PIECE],
+            at: 0,
+            end: 0,
+            count: 0,
+        }
+    }
+
+    /// Sees to it that a byte waits: reads where none does.
+    pub(crate) fn fill<R: Read>(&mut self, input: &mut Input<R>) -> Result<(), Stop>
+        requires open { IsOpen input.old }
+        requires few { self.old.count < too_many }
+        ensures some { OnOk result (0 < length self.new.bytes) }
+        ensures open { OnOk result (IsOpen input.new) }
+        ensures few { OnOk result (self.new.count < too_many) }
+        ensures takes { Takes (ahead_of R.remaining input.old self.old) (ahead_of R.remaining input.new self.new) [] }
+        ensures stops { IfErr result (λ stop. StopsBy stop (input_failed input.new) (input_ended input.new) (ahead_of R.remaining input.new self.new)) }
+    {
+        if self.at < self.end {
+            return Ok(());
+        }
+        let count = match input.read(&mut self.piece) {
+            Ok(count) => count,
+            Err(Failed) => return Err(Stop::Unreadable),
+        };
+        if count == 0 {
+            return Err(Stop::Met);
+        }
+        self.at = 0;
+        self.end = count;
+        self.count += count as u64;
+        if self.count < TOO_MANY {
+            Ok(())
+        } else {
+            Err(Stop::TooLong)
+        }
+    }
+
+    /// The bytes that wait, at most so many.
+    pub(crate) fn front(&self, most: usize) -> &[u8]
+        ensures { result.now ≡ take most self.now.bytes }
+    {
+        let count = most.min(self.end - self.at);
+        &self.piece[self.at..self.at + count]
+    }
+
+    /// Passes so many of the bytes that wait.
+    pub(crate) fn pass(&mut self, count: usize)
+        requires { count ≤ length self.old.bytes }
+        ensures bytes { self.new.bytes ≡ drop count self.old.bytes }
+        ensures count { self.new.count ≡ self.old.count }
+    {
+        self.at += count;
+    }
+
+    /// Takes the first byte that waits.
+    pub(crate) fn take(&mut self) -> u8
+        requires { 0 < length self.old.bytes }
+        ensures bytes { self.old.bytes ≡ result ∷ self.new.bytes }
+        ensures count { self.new.count ≡ self.old.count }
+    {
+        let byte = self.piece[self.at];
+        self.at += 1;
+        byte
+    }
+}

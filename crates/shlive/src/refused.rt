@@ -1,0 +1,240 @@
+// Each growth refused in turn, as in the tests of the reader: by the library that `tests/refused-growths` loads. Without it, as in
+// the gate, each test runs once. They catch the wrong body `always_out_of_memory`, which no contract can.
+use crate::error::LiveError;
+use crate::serve::run;
+use crate::session::Session;
+use crate::tests::{Page, Same, alike, opened};
+use shprint::Layout;
+use shread::Reader;
+use shtext::{Input, Output};
+use std::alloc::{AllocError, Global};
+use std::io::Read;
+use std::test::Fail;
+
+const SCRIPT: &[u8] = b"if a; then b; fi\nf() { echo $(c | d); }\n";
+
+const EDITED: &[u8] = b"if a; then b; fi\nwhile e; do f; done\nf() { echo $(c | d); }\n";
+
+const NEW: &[u8] = b"while e; do f; done\n";
+
+/// Asks for the refusal of the nth growth from here on, by a request that no allocator grants.
+fn refuse(alloc: Global, nth: usize) {
+    let _ = Vec::<u8>::with_capacity(alloc, (usize::MAX / 2).saturating_sub(nth));
+}
+
+/// Whether the refusal was met since it was asked for. None is due from then on.
+fn was_refused(alloc: Global, nth: usize) -> bool {
+    for _ in 0..nth {
+        if Vec::<u8>::with_capacity(alloc, 1).is_err() {
+            return false;
+        }
+    }
+    true
+}
+
+/// Whether growths are refused on request at all.
+fn refuses(alloc: Global) -> bool {
+    refuse(alloc, 1);
+    Vec::<u8>::with_capacity(alloc, 1).is_err()
+}
+
+#[test]
+fn open(rt: HostRuntime) -> Result<(), Fail> {
+    let alloc = rt.alloc();
+    let refuses = refuses(alloc);
+    let layout = Layout::new(0, false, false, false)?;
+    let mut met = 0;
+    for nth in 1..200 {
+        refuse(alloc, nth);
+        let session = Session::open(alloc, Reader::new(alloc), layout, SCRIPT);
+        if !refuses || !was_refused(alloc, nth) {
+            assert!(rt; alike(&session?, &opened(alloc, SCRIPT)?)?);
+            break;
+        }
+        assert!(rt; session.err() == Some(LiveError::Memory));
+        met = nth;
+    }
+    assert!(rt; !refuses || 0 < met && met < 199, "{met}");
+    Ok(())
+}
+
+#[test]
+fn edit(rt: HostRuntime) -> Result<(), Fail> {
+    let alloc = rt.alloc();
+    let refuses = refuses(alloc);
+    let mut met = 0;
+    for nth in 1..200 {
+        let mut session = opened(alloc, SCRIPT)?;
+        refuse(alloc, nth);
+        let edited = session.edit(17, 17, NEW);
+        if !refuses || !was_refused(alloc, nth) {
+            assert!(rt; edited == Ok(()) && alike(&session, &opened(alloc, EDITED)?)?);
+            break;
+        }
+        assert!(rt; edited == Err(LiveError::Memory));
+        assert!(rt; alike(&session, &opened(alloc, SCRIPT)?)?, "{nth}");
+        assert!(rt; session.edit(17, 17, NEW) == Ok(()));
+        assert!(rt; alike(&session, &opened(alloc, EDITED)?)?, "{nth}");
+        met = nth;
+    }
+    assert!(rt; !refuses || 0 < met && met < 199, "{met}");
+    Ok(())
+}
+
+#[test]
+fn outline(rt: HostRuntime) -> Result<(), Fail> {
+    let alloc = rt.alloc();
+    let refuses = refuses(alloc);
+    let session = opened(alloc, SCRIPT)?;
+    let wanted = session.outline()?;
+    let mut met = 0;
+    for nth in 1..200 {
+        refuse(alloc, nth);
+        let found = session.outline();
+        if !refuses || !was_refused(alloc, nth) {
+            assert!(rt; found? == wanted);
+            break;
+        }
+        assert!(rt; found == Err(AllocError));
+        met = nth;
+    }
+    assert!(rt; !refuses || 0 < met && met < 199, "{met}");
+    Ok(())
+}
+
+#[test]
+fn nodes_at(rt: HostRuntime) -> Result<(), Fail> {
+    let alloc = rt.alloc();
+    let refuses = refuses(alloc);
+    let session = opened(alloc, SCRIPT)?;
+    let wanted = session.nodes_at(25)?;
+    let mut met = 0;
+    for nth in 1..200 {
+        refuse(alloc, nth);
+        let found = session.nodes_at(25);
+        if !refuses || !was_refused(alloc, nth) {
+            assert!(rt; found? == wanted);
+            break;
+        }
+        assert!(rt; found == Err(AllocError));
+        met = nth;
+    }
+    assert!(rt; !refuses || 0 < met && met < 199, "{met}");
+    Ok(())
+}
+
+#[test]
+fn print(rt: HostRuntime) -> Result<(), Fail> {
+    let alloc = rt.alloc();
+    let refuses = refuses(alloc);
+    let session = opened(alloc, SCRIPT)?;
+    let wanted = session.print()?;
+    let mut met = 0;
+    for nth in 1..200 {
+        refuse(alloc, nth);
+        let found = session.print();
+        if !refuses || !was_refused(alloc, nth) {
+            assert!(rt; found? == wanted);
+            break;
+        }
+        assert!(rt; found == Err(AllocError));
+        met = nth;
+    }
+    assert!(rt; !refuses || 0 < met && met < 199, "{met}");
+    Ok(())
+}
+
+/// What a run writes on the script with the nth growth refused, and its answer.
+fn written<R: Read + Drop>(
+    alloc: Global,
+    requests: R,
+    nth: usize,
+    page: &mut Page,
+) -> Result<u8, Fail> {
+    let mut session = opened(alloc, b"a\nb")?;
+    let mut input = Input::new(requests);
+    let mut output = Output::new(page);
+    refuse(alloc, nth);
+    Ok(run(alloc, &mut session, &mut input, &mut output))
+}
+
+#[test]
+fn requests(rt: HostRuntime) -> Result<(), Fail> {
+    let alloc = rt.alloc();
+    let refuses = refuses(alloc);
+    let asked = b"edit 3 3 2\n c\noutline\nprint\nfault\nquit\n";
+    let mut met = 0;
+    for nth in 1..200 {
+        let mut page = Page::new(512);
+        let status = written(alloc, asked.as_slice(), nth, &mut page)?;
+        assert!(rt; status == 0);
+        if !refuses || !was_refused(alloc, nth) {
+            assert!(rt;
+                page.text()
+                    == b"ok 5 0\noutline 2\n0 1 simple\n2 5 simple\ntext 6\na\nb c\n\nnone\n".as_slice()
+            );
+            break;
+        }
+        let is_told = [
+            b"no memory\noutline 2\n0 1 simple\n2 3 simple\ntext 4\na\nb\n\nnone\n".as_slice(),
+            b"ok 5 0\nno memory\ntext 6\na\nb c\n\nnone\n",
+            b"ok 5 0\noutline 2\n0 1 simple\n2 5 simple\nno memory\nnone\n",
+        ]
+        .iter()
+        .any(|text| page.text() == *text);
+        assert!(rt; is_told, "{nth}");
+        met = nth;
+    }
+    assert!(rt; !refuses || 0 < met && met < 199, "{met}");
+    Ok(())
+}
+
+/// No bytes take no memory, so the refusal is not met.
+#[test]
+fn open_without_bytes(rt: HostRuntime) -> Result<(), Fail> {
+    let alloc = rt.alloc();
+    let refuses = refuses(alloc);
+    let layout = Layout::new(0, false, false, false)?;
+    refuse(alloc, 1);
+    let session = Session::open(alloc, Reader::new(alloc), layout, b"");
+    assert!(rt; !refuses || !was_refused(alloc, 1));
+    assert!(rt; session?.script_len() == 0);
+    Ok(())
+}
+
+/// A payload that goes on behind its bytes is told before the memory that they did not get.
+#[test]
+fn spoiled_payload(rt: HostRuntime) -> Result<(), Fail> {
+    let alloc = rt.alloc();
+    let refuses = refuses(alloc);
+    let mut page = Page::new(512);
+    let status = written(alloc, b"edit 0 0 1\nxy\nquit\n".as_slice(), 1, &mut page)?;
+    assert!(rt; !refuses || was_refused(alloc, 1));
+    assert!(rt; status == 0 && page.text() == b"no payload\n".as_slice());
+    Ok(())
+}
+
+/// These replies take no memory, so the refusal is not met.
+#[test]
+fn without_memory(rt: HostRuntime) -> Result<(), Fail> {
+    let alloc = rt.alloc();
+    let refuses = refuses(alloc);
+    let mut page = Page::new(512);
+    let status = written(
+        alloc,
+        b"hello\nedit 5 9 4\nabcd\nfault\nat 3\nquit\n".as_slice(),
+        1,
+        &mut page,
+    )?;
+    assert!(rt; !refuses || !was_refused(alloc, 1));
+    assert!(rt; status == 0 && page.text() == b"no request\nno range\nnone\nat 0\n".as_slice());
+    let mut page = Page::new(512);
+    let requests = b"edit 0 0 16777214\n"
+        .as_slice()
+        .chain(Same(b'x', 16_777_214))
+        .chain(b"\nquit\n".as_slice());
+    let status = written(alloc, requests, 1, &mut page)?;
+    assert!(rt; !refuses || !was_refused(alloc, 1));
+    assert!(rt; status == 0 && page.text() == b"no room\n".as_slice());
+    Ok(())
+}

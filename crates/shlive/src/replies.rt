@@ -1,0 +1,231 @@
+//! The replies to requests whose payload, where they have one, was read.
+ghost use Rattle.std.specs.Prelude.{◌≡◌, ◌||◌, ◌≤◌, ℕ, IfErr, IfOk, List, OnErr, OnOk, Some, codes, is_ok, length, not, option_map};
+ghost use Rattle.shtext.specs.Buffer.{buffer_bytes};
+ghost use Rattle.shtext.specs.Device.{Writes, held_of, output_failed};
+ghost use Rattle.shtext.specs.Edit.{IsAllowed, edited};
+ghost use Rattle.shtree.specs.declared.nodes.NodeLine.{NodeLine};
+ghost use Rattle.shlive.specs.Answers.{HasNodesAt, HasOutline, IsRefused};
+ghost use Rattle.shlive.specs.Payload.{AreKept};
+ghost use Rattle.shlive.specs.Replies.{fault_text, nodes_text, number_of_kind, ok_text, printed_text, refusal_text};
+ghost use Rattle.shlive.specs.Requests.{at as asks_at, edit, fault, outline, print};
+ghost use Rattle.shlive.specs.Turns.{Tells};
+
+use crate::error::LiveError;
+use crate::reply::write_flushed;
+use crate::session::Session;
+use crate::texts::nodes_text;
+use shread::{Fault, FaultKind};
+use shtext::{Failed, Output};
+use std::alloc::{AllocError, Global};
+use std::io::Write;
+
+const NO_MEMORY: &[u8] = b"no memory\n";
+
+/// The number by which a reply tells a kind of fault.
+fn number_of_kind(kind: FaultKind) -> u8
+    ensures { result ≡ number_of_kind kind }
+{
+    kind as u8
+}
+
+/// What a reply says of a refusal.
+fn refusal_text(error: LiveError) -> &'static [u8]
+    ensures { result.now ≡ refusal_text error }
+{
+    match error {
+        LiveError::Range => b"no range\n",
+        LiveError::TooLarge => b"no room\n",
+        LiveError::Memory => NO_MEMORY,
+    }
+}
+
+/// Makes an edit whose bytes came, where they were kept.
+fn edit_kept(
+    session: &mut Session,
+    a: usize,
+    b: usize,
+    count: usize,
+    payload: Option<Vec<u8>>,
+) -> Result<(), LiveError>
+    ensures ok { OnOk result ((new : List ℕ) → length new ≡ count → AreKept (option_map (λ v. v.items) payload) new →
+        IsAllowed session.old.bytes a b new × (session.new.bytes ≡ edited session.old.bytes a b new)) }
+    ensures err { IfErr result (λ e. (new : List ℕ) → length new ≡ count → AreKept (option_map (λ v. v.items) payload) new →
+        IsRefused session.old.bytes a b new e) }
+    ensures kept { OnErr result (session.new.bytes ≡ session.old.bytes) }
+    ensures layout { session.new.layout ≡ session.old.layout }
+{
+    if let Err(error) = session.allows(a, b, count) {
+        return Err(error);
+    }
+    match payload {
+        Some(bytes) => session.edit(a, b, &bytes),
+        None => Err(LiveError::Memory),
+    }
+}
+
+/// Says that an edit was made: how many bytes the script has now, and its status.
+fn tell_ok<W: Write>(output: &mut Output<W>, len: usize, status: u8) -> Result<(), Failed>
+    ensures bytes { Writes (held_of W.contents output.old) (held_of W.contents output.new) (not (is_ok result)) (ok_text len status) }
+    ensures failed { output_failed output.new ≡ (output_failed output.old || not (is_ok result)) }
+{
+    let (mut len_text, mut status_text) = (itoa::Buffer::new(), itoa::Buffer::new());
+    write_flushed(
+        output,
+        &[
+            b"ok ",
+            len_text.format(len).as_bytes(),
+            b" ",
+            status_text.format(status).as_bytes(),
+            b"\n",
+        ],
+    )
+}
+
+/// Replies to an edit whose bytes came. They need not have been kept.
+pub(crate) fn reply_to_edit<W: Write>(
+    session: &mut Session,
+    output: &mut Output<W>,
+    a: usize,
+    b: usize,
+    count: usize,
+    payload: Option<Vec<u8>>,
+) -> Result<(), Failed>
+    ensures layout { session.new.layout ≡ session.old.layout }
+    ensures tells { (new : List ℕ) → length new ≡ count → AreKept (option_map (λ v. v.items) payload) new →
+        Tells session.old.layout session.old.bytes (edit a b new) session.new.bytes (held_of W.contents output.old) (held_of W.contents output.new) (not (is_ok result)) }
+    ensures failed { output_failed output.new ≡ (output_failed output.old || not (is_ok result)) }
+{
+    if let Err(error) = edit_kept(session, a, b, count, payload) {
+        return write_flushed(output, &[refusal_text(error)]);
+    }
+    tell_ok(output, session.script_len(), session.status())
+}
+
+/// What is said of an outline.
+fn outline_text(alloc: Global, session: &Session) -> Result<Vec<u8>, AllocError>
+    ensures { IfOk result (λ text. (nodes : List NodeLine) × HasOutline session.now.bytes nodes × (text.items ≡ nodes_text (codes "outline") session.now.bytes nodes)) }
+{
+    let nodes = session.outline()?;
+    nodes_text(alloc, b"outline", session.bytes(), &nodes)
+}
+
+/// Replies to `outline`.
+pub(crate) fn reply_to_outline<W: Write>(
+    alloc: Global,
+    session: &Session,
+    output: &mut Output<W>,
+) -> Result<(), Failed>
+    ensures tells { Tells session.now.layout session.now.bytes outline session.now.bytes (held_of W.contents output.old) (held_of W.contents output.new) (not (is_ok result)) }
+    ensures failed { output_failed output.new ≡ (output_failed output.old || not (is_ok result)) }
+{
+    match outline_text(alloc, session) {
+        Ok(text) => write_flushed(output, &[&text]),
+        Err(_) => write_flushed(output, &[NO_MEMORY]),
+    }
+}
+
+/// What is said of the nodes at an offset.
+fn at_text(alloc: Global, session: &Session, at: usize) -> Result<Vec<u8>, AllocError>
+    ensures { IfOk result (λ text. (nodes : List NodeLine) × HasNodesAt session.now.bytes at nodes × (text.items ≡ nodes_text (codes "at") session.now.bytes nodes)) }
+{
+    let nodes = session.nodes_at(at)?;
+    nodes_text(alloc, b"at", session.bytes(), &nodes)
+}
+
+/// Replies to `at`. At or past the end this takes no memory.
+pub(crate) fn reply_to_at<W: Write>(
+    alloc: Global,
+    session: &Session,
+    output: &mut Output<W>,
+    at: usize,
+) -> Result<(), Failed>
+    ensures tells { Tells session.now.layout session.now.bytes (asks_at at) session.now.bytes (held_of W.contents output.old) (held_of W.contents output.new) (not (is_ok result)) }
+    ensures failed { output_failed output.new ≡ (output_failed output.old || not (is_ok result)) }
+{
+    if session.is_past(at) {
+        return write_flushed(output, &[b"at 0\n"]);
+    }
+    match at_text(alloc, session, at) {
+        Ok(text) => write_flushed(output, &[&text]),
+        Err(_) => write_flushed(output, &[NO_MEMORY]),
+    }
+}
+
+/// Replies to `fault` where there is one.
+fn tell_fault<W: Write>(
+    session: &Session,
+    output: &mut Output<W>,
+    fault: Fault,
+) -> Result<(), Failed>
+    requires { fault.at ≤ length session.now.bytes }
+    ensures bytes { Writes (held_of W.contents output.old) (held_of W.contents output.new) (not (is_ok result)) (fault_text session.now.bytes (Some fault)) }
+    ensures failed { output_failed output.new ≡ (output_failed output.old || not (is_ok result)) }
+{
+    let (line, col) = session.bytes().line_col(fault.at);
+    let (mut at_text, mut line_text) = (itoa::Buffer::new(), itoa::Buffer::new());
+    let (mut col_text, mut kind_text) = (itoa::Buffer::new(), itoa::Buffer::new());
+    write_flushed(
+        output,
+        &[
+            b"fault ",
+            at_text.format(fault.at).as_bytes(),
+            b" ",
+            line_text.format(line).as_bytes(),
+            b" ",
+            col_text.format(col).as_bytes(),
+            b" ",
+            kind_text.format(number_of_kind(fault.kind)).as_bytes(),
+            b"\n",
+        ],
+    )
+}
+
+/// Replies to `fault`. It takes no memory.
+pub(crate) fn reply_to_fault<W: Write>(
+    session: &Session,
+    output: &mut Output<W>,
+) -> Result<(), Failed>
+    ensures tells { Tells session.now.layout session.now.bytes fault session.now.bytes (held_of W.contents output.old) (held_of W.contents output.new) (not (is_ok result)) }
+    ensures failed { output_failed output.new ≡ (output_failed output.old || not (is_ok result)) }
+{
+    match session.fault() {
+        Some(fault) => tell_fault(session, output, fault),
+        None => write_flushed(output, &[b"none\n"]),
+    }
+}
+
+/// Replies to `print` where the script has a printed text.
+fn tell_text<W: Write>(output: &mut Output<W>, text: &[u8]) -> Result<(), Failed>
+    ensures bytes { Writes (held_of W.contents output.old) (held_of W.contents output.new) (not (is_ok result)) (printed_text (Some text.now)) }
+    ensures failed { output_failed output.new ≡ (output_failed output.old || not (is_ok result)) }
+{
+    let mut len = itoa::Buffer::new();
+    write_flushed(
+        output,
+        &[
+            b"text ",
+            len.format(text.len()).as_bytes(),
+            b"\n",
+            text,
+            b"\n",
+        ],
+    )
+}
+
+/// Replies to `print`. For a faulty script this takes no memory.
+pub(crate) fn reply_to_print<W: Write>(
+    session: &Session,
+    output: &mut Output<W>,
+) -> Result<(), Failed>
+    ensures tells { Tells session.now.layout session.now.bytes print session.now.bytes (held_of W.contents output.old) (held_of W.contents output.new) (not (is_ok result)) }
+    ensures failed { output_failed output.new ≡ (output_failed output.old || not (is_ok result)) }
+{
+    if session.fault().is_some() {
+        return write_flushed(output, &[b"none\n"]);
+    }
+    match session.print() {
+        Ok(Some(text)) => tell_text(output, &text),
+        Ok(None) => write_flushed(output, &[b"none\n"]),
+        Err(_) => write_flushed(output, &[NO_MEMORY]),
+    }
+}

@@ -1,0 +1,240 @@
+//! A session over a reader and a writer.
+ghost use Rattle.std.specs.Prelude.{◌≡◌, ◌<◌, ◌≤◌, ◌||◌, IfErr, IfOk, ℕ, List, MatchOption, OnOk, false, Some, is_ok, length, not, option_map};
+ghost use Rattle.shtext.specs.Device.{held_of, input_ended, input_failed, left_of, output_failed};
+ghost use Rattle.shlive.specs.Ahead.{IsOpen, ahead_of, too_many};
+ghost use Rattle.shlive.specs.Lines.{Keeps};
+ghost use Rattle.shlive.specs.Payload.{AreKept};
+ghost use Rattle.shlive.specs.Requests.{edit_by, next_by_order, next_of, order_of_line, request_of, Request, asks};
+ghost use Rattle.shlive.specs.Runs.{HasAnswer, IsRun};
+ghost use Rattle.shlive.specs.Turns.{EndsAs, Replied, Tells, end_between, end_inside};
+ghost use Rattle.shlive.specs.declared.order.Order.TheVariants.{Edit};
+
+use crate::incoming::{Incoming, Stop};
+use crate::lines::{Line, take_line};
+use crate::order::{Order, Question, order_of};
+use crate::payload::take_payload;
+use crate::replies::{
+    reply_to_at, reply_to_edit, reply_to_fault, reply_to_outline, reply_to_print,
+};
+use crate::reply::write_flushed;
+use crate::session::Session;
+use shtext::{Failed, Input, Output};
+use std::alloc::Global;
+use std::io::{Read, Write};
+
+/// Why a run ended.
+#[derive(Clone, Copy, Debug, PartialEq, Eq)]
+pub(crate) enum End {
+    /// The input ended where a request would begin.
+    Clean,
+    /// `quit` was read.
+    Quit,
+    /// The input ended inside a request.
+    Cut,
+    /// A read failed.
+    Unreadable,
+    /// More bytes came than a run counts.
+    TooLong,
+    /// A write or a flush failed.
+    Unwritable,
+}
+
+impl End {
+    /// Why a run ends for which no more bytes come, where a request would begin.
+    fn between(stop: Stop) -> End
+        ensures { result ≡ end_between stop }
+    {
+        match stop {
+            Stop::Met => End::Clean,
+            Stop::Unreadable => End::Unreadable,
+            Stop::TooLong => End::TooLong,
+        }
+    }
+
+    /// Why a run ends for which no more bytes come, inside a request.
+    fn inside(stop: Stop) -> End
+        ensures { result ≡ end_inside stop }
+    {
+        match stop {
+            Stop::Met => End::Cut,
+            Stop::Unreadable => End::Unreadable,
+            Stop::TooLong => End::TooLong,
+        }
+    }
+
+    /// The answer of a run that ended so.
+    fn answer(self, session: &Session) -> u8
+        ensures { HasAnswer self session.now.bytes result }
+    {
+        match self {
+            End::Clean | End::Quit => session.status(),
+            End::Cut | End::Unreadable | End::TooLong | End::Unwritable => 2,
+        }
+    }
+}
+
+/// What a line asks for. One that is too long is no request.
+fn order_of_line(line: &Line) -> Option<Order>
+    ensures { (text : List ℕ) → Keeps line.now text → result ≡ order_of_line text }
+{
+    match line.text() {
+        Some(text) => order_of(text),
+        None => None,
+    }
+}
+
+/// Replies to a question.
+fn reply_to<W: Write>(
+    alloc: Global,
+    session: &Session,
+    output: &mut Output<W>,
+    question: Question,
+) -> Result<(), Failed>
+    ensures tells { Tells session.now.layout session.now.bytes (request_of question) session.now.bytes
+        (held_of W.contents output.old) (held_of W.contents output.new) (not (is_ok result)) }
+    ensures failed { output_failed output.new ≡ (output_failed output.old || not (is_ok result)) }
+{
+    match question {
+        Question::Outline => reply_to_outline(alloc, session, output),
+        Question::At(at) => reply_to_at(alloc, session, output, at),
+        Question::Fault => reply_to_fault(session, output),
+        Question::Print => reply_to_print(session, output),
+    }
+}
+
+/// Replies to an edit whose bytes came, by the rest of its last line: no byte has to stand there.
+fn reply_to_payload<W: Write>(
+    session: &mut Session,
+    output: &mut Output<W>,
+    a: usize,
+    b: usize,
+    count: usize,
+    payload: Option<Vec<u8>>,
+    line: &Line,
+) -> Result<(), Failed>
+    ensures layout { session.new.layout ≡ session.old.layout }
+    ensures tells { (bytes text : List ℕ) → length bytes ≡ count → AreKept (option_map (λ v. v.items) payload) bytes → Keeps line.now text →
+        (request : Request) × ((rest : List ℕ) → edit_by a b bytes (Some (text, rest)) ≡ asks request rest)
+        × Tells session.old.layout session.old.bytes request session.new.bytes (held_of W.contents output.old) (held_of W.contents output.new) (not (is_ok result)) }
+    ensures failed { output_failed output.new ≡ (output_failed output.old || not (is_ok result)) }
+{
+    if line.is_empty() {
+        reply_to_edit(session, output, a, b, count, payload)
+    } else {
+        write_flushed(output, &[b"no payload\n"])
+    }
+}
+
+/// Takes the bytes that an edit brings and the newline behind them, and replies.
+fn answer_edit<R: Read, W: Write>(
+    alloc: Global,
+    session: &mut Session,
+    incoming: &mut Incoming,
+    input: &mut Input<R>,
+    output: &mut Output<W>,
+    a: usize,
+    b: usize,
+    count: usize,
+) -> Result<(), End>
+    requires open { IsOpen input.old }
+    requires few { incoming.old.count < too_many }
+    requires unbroken { output_failed output.old ≡ false }
+    ensures open { OnOk result (IsOpen input.new) }
+    ensures few { OnOk result (incoming.new.count < too_many) }
+    ensures unbroken { OnOk result (output_failed output.new ≡ false) }
+    ensures layout { session.new.layout ≡ session.old.layout }
+    ensures ok { OnOk result (Replied (next_by_order (Some (Edit a b count))) session.old.layout session.old.bytes session.new.bytes
+        (ahead_of R.remaining input.old incoming.old) (ahead_of R.remaining input.new incoming.new)
+        (held_of W.contents output.old) (held_of W.contents output.new) false) }
+    ensures err { IfErr result (λ end. EndsAs (next_by_order (Some (Edit a b count))) end session.old.layout session.old.bytes session.new.bytes
+        (ahead_of R.remaining input.old incoming.old) (ahead_of R.remaining input.new incoming.new)
+        (input_failed input.new) (input_ended input.new)
+        (held_of W.contents output.old) (held_of W.contents output.new) (output_failed output.new)) }
+{
+    let wanted = session.allows(a, b, count).is_ok();
+    let payload = match take_payload(alloc, incoming, input, count, wanted) {
+        Ok(payload) => payload,
+        Err(stop) => return Err(End::inside(stop)),
+    };
+    let line = match take_line(incoming, input) {
+        Ok(line) => line,
+        Err(stop) => return Err(End::inside(stop)),
+    };
+    match reply_to_payload(session, output, a, b, count, payload, &line) {
+        Ok(()) => Ok(()),
+        Err(Failed) => Err(End::Unwritable),
+    }
+}
+
+/// Takes the next request and replies to it.
+fn answer_next<R: Read, W: Write>(
+    alloc: Global,
+    session: &mut Session,
+    incoming: &mut Incoming,
+    input: &mut Input<R>,
+    output: &mut Output<W>,
+) -> Result<(), End>
+    requires open { IsOpen input.old }
+    requires few { incoming.old.count < too_many }
+    requires unbroken { output_failed output.old ≡ false }
+    ensures open { OnOk result (IsOpen input.new) }
+    ensures few { OnOk result (incoming.new.count < too_many) }
+    ensures unbroken { OnOk result (output_failed output.new ≡ false) }
+    ensures layout { session.new.layout ≡ session.old.layout }
+    ensures ok { OnOk result (Replied next_of session.old.layout session.old.bytes session.new.bytes
+        (ahead_of R.remaining input.old incoming.old) (ahead_of R.remaining input.new incoming.new)
+        (held_of W.contents output.old) (held_of W.contents output.new) false) }
+    ensures err { IfErr result (λ end. EndsAs next_of end session.old.layout session.old.bytes session.new.bytes
+        (ahead_of R.remaining input.old incoming.old) (ahead_of R.remaining input.new incoming.new)
+        (input_failed input.new) (input_ended input.new)
+        (held_of W.contents output.old) (held_of W.contents output.new) (output_failed output.new)) }
+{
+    if let Err(stop) = incoming.fill(input) {
+        return Err(End::between(stop));
+    }
+    let line = match take_line(incoming, input) {
+        Ok(line) => line,
+        Err(stop) => return Err(End::inside(stop)),
+    };
+    match order_of_line(&line) {
+        Some(Order::Edit { a, b, count }) => answer_edit(
+            alloc, session, incoming, input, output, a, b, count,
+        ),
+        Some(Order::Ask(question)) => match reply_to(alloc, session, output, question) {
+            Ok(()) => Ok(()),
+            Err(Failed) => Err(End::Unwritable),
+        },
+        Some(Order::Quit) => Err(End::Quit),
+        None => match write_flushed(output, &[b"no request\n"]) {
+            Ok(()) => Ok(()),
+            Err(Failed) => Err(End::Unwritable),
+        },
+    }
+}
+
+/// Reads requests, answers each of them and writes the replies, until `quit` or the end of the input. The answer is then the status of the
+/// script that the session holds: 0 for a script without a fault, 1 for one with a fault. It is 2 where the input ends inside a request,
+/// where a read, a write or a flush fails, and where the input has 2^63 bytes or more.
+///
+/// Nothing but the payload of an edit and the script takes more memory than the last reply.
+pub fn run<R: Read, W: Write>(
+    alloc: Global,
+    session: &mut Session,
+    input: &mut Input<R>,
+    output: &mut Output<W>,
+) -> u8
+    requires sound { input_failed input.old ≡ false }
+    requires open { input_ended input.old ≡ false }
+    requires unbroken { output_failed output.old ≡ false }
+    ensures run { IsRun session.old.layout session.old.bytes session.new.bytes (left_of R.remaining input.old) (left_of R.remaining input.new)
+        (input_failed input.new) (input_ended input.new)
+        (held_of W.contents output.old) (held_of W.contents output.new) (output_failed output.new) result }
+    ensures layout { session.new.layout ≡ session.old.layout }
+{
+    let mut incoming = Incoming::new();
+    'requests: loop {
+        if let Err(end) = answer_next(alloc, session, &mut incoming, input, output) {
+            return end.answer(session);
+        }
+    }
+}

@@ -1,0 +1,176 @@
+//! The open script.
+ghost use Rattle.std.specs.Prelude.{◌≡◌, ◌≢◌, ◌+◌, ◌≤◌, ℕ, List, [], IfErr, IfOk, IfSome, IsOk, OnErr, OnOk, length, option_map, Some, false, true, ◌<◌};
+ghost use Rattle.shread.specs.Answers.{meter_of, raised};
+ghost use Rattle.shread.specs.Scripts.{FirstFault};
+ghost use Rattle.shread.specs.declared.fault.Fault.{Fault};
+ghost use Rattle.shtext.specs.Buffer.{buffer_bytes};
+ghost use Rattle.shtext.specs.Edit.{IsAllowed, edited, limit};
+ghost use Rattle.shlive.specs.Answers.{HasNodesAt, HasOutline, HasStatus, HasText, IsRefused};
+
+use crate::error::LiveError;
+use shprint::{Layout, print};
+use shread::{Fault, Reader, Script};
+use shtext::{Buffer, Source};
+use shtree::{NodeLine, nodes_at, outline_of};
+use std::alloc::{AllocError, Global};
+use std::marker::Model;
+
+/// A script that is edited, with what was read of it. After each edit every answer is that of the edited bytes read from scratch.
+#[derive(Drop)]
+pub struct Session {
+    alloc: Global,
+    reader: Reader,
+    layout: Layout,
+    buffer: Buffer,
+    script: Script,
+}
+
+impl Model for Session {
+    ghost use Rattle.shlive.specs.Held.{Held};
+
+    ghost Value = { Held };
+
+    ghost use Rattle.shlive.specs.Kept.{IsKept, held};
+
+    ghost view = { held };
+
+    ghost invariant = { IsKept };
+}
+
+impl Session {
+    /// Opens the script of these bytes, which the reader reads; the layout is that of its printed texts. A script of more bytes than the
+    /// limit is refused. After a refusal the reader is gone. No bytes take no memory.
+    pub fn open(
+        alloc: Global,
+        reader: Reader,
+        layout: Layout,
+        bytes: &[u8],
+    ) -> Result<Session, LiveError>
+        ensures bytes { IfOk result (λ session. session.bytes ≡ bytes.now) }
+        ensures layout { IfOk result (λ session. session.layout ≡ layout) }
+        ensures meter { IfOk result (λ session. session.meter ≡ raised (meter_of reader) (length bytes.now)) }
+        ensures err { IfErr result (IsRefused [] 0 0 bytes.now) }
+        ensures empty { length bytes.now ≡ 0 → IsOk result }
+    {
+        let mut reader = reader;
+        let buffer = Buffer::from_slice(alloc, bytes)?;
+        let script = reader.read_script(&buffer)?;
+        Ok(Session {
+            alloc,
+            reader,
+            layout,
+            buffer,
+            script,
+        })
+    }
+
+    /// Puts bytes in the place of those from `a` up to `b`. An edit that is refused changes no answer.
+    pub fn edit(&mut self, a: usize, b: usize, bytes: &[u8]) -> Result<(), LiveError>
+        ensures bytes { OnOk result (self.new.bytes ≡ edited self.old.bytes a b bytes.now) }
+        ensures allowed { OnOk result (IsAllowed self.old.bytes a b bytes.now) }
+        ensures err { IfErr result (IsRefused self.old.bytes a b bytes.now) }
+        ensures kept { OnErr result (self.new.bytes ≡ self.old.bytes) }
+        ensures layout { self.new.layout ≡ self.old.layout }
+        ensures meter { IfErr result (λ e. e ≢ LiveError.Memory → self.new.meter ≡ self.old.meter) }
+    {
+        let change = self.buffer.prepare(a, b, bytes)?;
+        let script = self.reader.read_script(&self.buffer.preview(&change))?;
+        self.buffer.commit(change);
+        self.script = script;
+        Ok(())
+    }
+
+    /// Whether so many bytes may be put in the place of those from `a` up to `b`, as far as the script decides that. It takes no memory.
+    pub(crate) fn allows(&self, a: usize, b: usize, count: usize) -> Result<(), LiveError>
+        ensures ok { IfOk result (λ _. (new : List ℕ) → length new ≡ count → IsAllowed self.now.bytes a b new) }
+        ensures err { IfErr result (λ e. (new : List ℕ) → length new ≡ count → IsRefused self.now.bytes a b new e) }
+    {
+        match self.buffer.allows(a, b, count) {
+            Ok(()) => Ok(()),
+            Err(error) => Err(LiveError::from(error)),
+        }
+    }
+
+    /// Whether an offset is at or past the end, where no node stands. It takes no memory.
+    pub(crate) fn is_past(&self, at: usize) -> bool
+        ensures past { result ≡ true → HasNodesAt self.now.bytes at [] }
+        ensures before { result ≡ false → at < length self.now.bytes }
+    {
+        self.buffer.len() <= at
+    }
+
+    /// The bytes.
+    pub(crate) fn bytes(&self) -> &Buffer
+        ensures { buffer_bytes result.now ≡ self.now.bytes }
+    {
+        &self.buffer
+    }
+
+    /// How many bytes the script has.
+    pub fn script_len(&self) -> usize
+        ensures length { result ≡ length self.now.bytes }
+        ensures limit { result ≤ limit }
+    {
+        self.buffer.len()
+    }
+
+    /// 0 for a script without a fault, 1 for one with a fault.
+    pub fn status(&self) -> u8
+        ensures { HasStatus self.now.bytes result }
+    {
+        match self.script.fault {
+            None => 0,
+            Some(_) => 1,
+        }
+    }
+
+    /// The first fault. Its offset counts from the script's first byte.
+    pub fn fault(&self) -> Option<Fault>
+        ensures first { FirstFault self.now.bytes result }
+        ensures within { IfSome result (λ fault. fault.at ≤ length self.now.bytes) }
+    {
+        self.script.fault
+    }
+
+    /// The nodes that an outline shows: all but words, assignments, redirections and comments. Of a faulty script, those of the lines
+    /// before its fault.
+    pub fn outline(&self) -> Result<Vec<NodeLine>, AllocError>
+        ensures { IfOk result (λ lines. HasOutline self.now.bytes lines.items) }
+    {
+        let mut lines = Vec::new(self.alloc);
+        outline_of(self.alloc, &self.script.list, 0, &mut lines)?;
+        Ok(lines)
+    }
+
+    /// The nodes that hold the byte at an offset, the outer before the inner. At or past the end there are none, which takes no memory.
+    pub fn nodes_at(&self, at: usize) -> Result<Vec<NodeLine>, AllocError>
+        ensures nodes { IfOk result (λ lines. HasNodesAt self.now.bytes at lines.items) }
+        ensures past { length self.now.bytes ≤ at → IsOk result }
+    {
+        let mut lines = Vec::new(self.alloc);
+        if self.buffer.len() <= at {
+            return Ok(lines);
+        }
+        nodes_at(self.alloc, &self.script.list, 0, at, &mut lines)?;
+        Ok(lines)
+    }
+
+    /// The printed text, and none for a faulty script, which takes no memory.
+    pub fn print(&self) -> Result<Option<Vec<u8>>, AllocError>
+        ensures text { IfOk result (λ text. HasText self.now.layout self.now.bytes (option_map (λ t. t.items) text)) }
+        ensures faulty { (fault : Fault) → FirstFault self.now.bytes (Some fault) → IsOk result }
+    {
+        if self.script.fault.is_some() {
+            return Ok(None);
+        }
+        let text = print(self.alloc, &self.layout, &self.script, &self.buffer)?;
+        Ok(Some(text))
+    }
+
+    /// How many bytes were read so far, from the script's opening on and before it by its reader; it stays at its greatest number.
+    pub fn meter(&self) -> u64
+        ensures { result ≡ self.now.meter }
+    {
+        self.reader.meter()
+    }
+}

@@ -1,0 +1,441 @@
+// What no clause says: that requests are answered where nothing fails, what the replies look like, that a failure of a device is told,
+// and that edits by the thousand leave what a session opened anew would answer.
+use crate::error::LiveError;
+use crate::serve::run;
+use crate::session::Session;
+use shprint::Layout;
+use shread::Reader;
+use shtext::{Input, Output};
+use std::alloc::Global;
+use std::io;
+use std::io::{Error, Read, Write};
+use std::test::Fail;
+
+/// A reader that gives at most `step` bytes at a time, and fails at one of its reads.
+#[derive(Drop)]
+struct Tape<'a> {
+    rest: &'a [u8],
+    step: usize,
+    reads: usize,
+    fails_at: usize,
+}
+
+impl<'a> Tape<'a> {
+    /// One that never fails.
+    fn new(rest: &'a [u8], step: usize) -> Tape<'a> {
+        Tape {
+            rest,
+            step,
+            reads: 0,
+            fails_at: usize::MAX,
+        }
+    }
+}
+
+impl<'a> Read for Tape<'a> {
+    fn read(&mut self, buf: &mut [u8]) -> io::Result<usize> {
+        self.reads = self.reads.wrapping_add(1);
+        if self.reads == self.fails_at {
+            return Err(Error::from(io::ErrorKind::Interrupted));
+        }
+        let count = self.step.min(buf.len()).min(self.rest.len());
+        buf[..count].copy_from_slice(&self.rest[..count]);
+        self.rest = &self.rest[count..];
+        Ok(count)
+    }
+}
+
+/// A reader of so many bytes of one kind.
+#[derive(Drop)]
+pub(crate) struct Same(pub(crate) u8, pub(crate) usize);
+
+impl Read for Same {
+    fn read(&mut self, buf: &mut [u8]) -> io::Result<usize> {
+        let count = self.1.min(buf.len());
+        buf[..count].fill(self.0);
+        self.1 -= count;
+        Ok(count)
+    }
+}
+
+/// The most bytes of a page.
+const PAGE: usize = 512;
+
+/// A writer that takes so many bytes, a few at a time, and fails once at its end or at one of its flushes. Whatever comes after a
+/// failure it takes.
+#[derive(Drop)]
+pub(crate) struct Page {
+    bytes: [u8; PAGE],
+    len: usize,
+    room: usize,
+    /// It answers 0 where it is full, and does not fail.
+    takes_nothing: bool,
+    flushes: usize,
+    fails_at_flush: usize,
+}
+
+impl Page {
+    pub(crate) fn new(room: usize) -> Page {
+        Page {
+            bytes: [0; PAGE],
+            len: 0,
+            room,
+            takes_nothing: false,
+            flushes: 0,
+            fails_at_flush: usize::MAX,
+        }
+    }
+
+    pub(crate) fn text(&self) -> &[u8] {
+        &self.bytes[..self.len.min(PAGE)]
+    }
+}
+
+impl Write for Page {
+    fn write(&mut self, buf: &[u8]) -> io::Result<usize> {
+        let start = self.len.min(PAGE);
+        let count = buf.len().min(5).min(PAGE - start).min(self.room);
+        if count == 0 && !buf.is_empty() {
+            self.room = PAGE;
+            if self.takes_nothing {
+                return Ok(0);
+            }
+            return Err(Error::from(io::ErrorKind::Other));
+        }
+        self.bytes[start..start + count].copy_from_slice(&buf[..count]);
+        self.len = start + count;
+        self.room -= count;
+        Ok(count)
+    }
+
+    fn flush(&mut self) -> io::Result<()> {
+        self.flushes = self.flushes.wrapping_add(1);
+        if self.flushes == self.fails_at_flush {
+            Err(Error::from(io::ErrorKind::Other))
+        } else {
+            Ok(())
+        }
+    }
+}
+
+/// A session on a script, which prints with a tab for each level.
+pub(crate) fn opened(alloc: Global, script: &[u8]) -> Result<Session, Fail> {
+    let layout = Layout::new(0, false, false, false)?;
+    Ok(Session::open(alloc, Reader::new(alloc), layout, script)?)
+}
+
+/// The answer of a run over a session on this script.
+fn answer<R: Read + Drop>(
+    alloc: Global,
+    script: &[u8],
+    reader: R,
+    page: &mut Page,
+) -> Result<u8, Fail> {
+    let mut session = opened(alloc, script)?;
+    let mut input = Input::new(reader);
+    let mut output = Output::new(page);
+    Ok(run(alloc, &mut session, &mut input, &mut output))
+}
+
+/// Whether a run on this script answers so and writes this text.
+fn replies<R: Read + Drop>(
+    alloc: Global,
+    script: &[u8],
+    reader: R,
+    (text, status): (&[u8], u8),
+) -> Result<bool, Fail> {
+    let mut page = Page::new(PAGE);
+    let answered = answer(alloc, script, reader, &mut page)?;
+    Ok(answered == status && page.text() == text)
+}
+
+const THREE: &[u8] = b"a\nb\nc\n";
+
+/// A fault is brought in and mended.
+const MENDED: &[u8] = b"edit 2 2 1\n'\nfault\nedit 2 3 0\n\nfault\nprint\nquit\n";
+
+/// The replies to it on three lines.
+const MENDED_REPLIES: &[u8] = b"ok 7 1\nfault 2 2 1 1\nok 6 0\nnone\ntext 6\na\nb\nc\n\n";
+
+const FUNCTION: &[u8] = b"f() { echo $(a | b); }\n";
+
+const FUNCTION_REPLIES: &[u8] =
+    b"outline 7\n0 22 function f\n4 22 brace\n6 19 simple\n11 19 subst\n13 18 pipeline\n13 14 simple\n17 18 simple\nat 8\n0 22 function f\n4 22 brace\n6 19 simple\n11 19 word\n11 19 subst\n13 18 pipeline\n17 18 simple\n17 18 word\nat 0\n";
+
+const LONG_LINE: &[u8] =
+    b"xxxxxxxxxxxxxxxxxxxxxxxxxxxxxxxxxxxxxxxxxxxxxxxxxxxxxxxxxxxxxxxxx\nquit\n";
+
+#[test]
+fn rows(rt: HostRuntime) -> Result<(), Fail> {
+    for (script, requests, text, status) in [
+        (
+            THREE,
+            b"edit 2 3 2\nbb\nquit\n".as_slice(),
+            b"ok 7 0\n".as_slice(),
+            0,
+        ),
+        (THREE, MENDED, MENDED_REPLIES, 0),
+        (
+            b"a\n\nb\n",
+            b"edit 0 2 0\n\nprint\n",
+            b"ok 3 0\ntext 2\nb\n\n",
+            0,
+        ),
+        (
+            b"a\nb",
+            b"edit 5 9 0\n\nedit 0 0 1\nxy\noutline\nquit\n",
+            b"no range\nno payload\noutline 2\n0 1 simple\n2 3 simple\n",
+            0,
+        ),
+        (
+            b"",
+            b"print\noutline\nat 0\nfault\nedit 0 0 0\n\nquit\n",
+            b"text 0\n\noutline 0\nat 0\nnone\nok 0 0\n",
+            0,
+        ),
+        (
+            b"a\n",
+            b"at 99\noutline \nedit 00 0 0\n\nquit\n",
+            b"at 0\nno request\nno request\nno request\n",
+            0,
+        ),
+        (b"a\n", LONG_LINE, b"no request\n", 0),
+        (b"", b"hello\nedit 0 0 5\nab", b"no request\n", 2),
+        (FUNCTION, b"outline\nat 17\nat 23\n", FUNCTION_REPLIES, 0),
+        (
+            b"'",
+            b"print\noutline\nat 0\nquit\nprint\n",
+            b"none\noutline 0\nat 0\n",
+            1,
+        ),
+        (b"a\n", b"quit", b"", 2),
+        (b"a\n", b"edit 0 0 1\nxy", b"", 2),
+        (
+            b"a\n",
+            b"edit 0 1 0\n\n\nfault\n",
+            b"ok 1 0\nno request\nnone\n",
+            0,
+        ),
+        (
+            b"a\n",
+            b"edit 1 0 1\nx\nedit 0 3 0\n\n",
+            b"no range\nno range\n",
+            0,
+        ),
+        (
+            b"fo\\\nr_() { a; }\n",
+            b"outline\n",
+            b"outline 3\n0 15 function for_\n9 15 brace\n11 12 simple\n",
+            0,
+        ),
+        (
+            b"a\n",
+            b"edit 0  0 0\n edit 0 0 0\nat\nat 1 1\nat 10000000000\nat 9999999999\nat -1\n",
+            b"no request\nno request\nno request\nno request\nno request\nat 0\nno request\n",
+            0,
+        ),
+    ] {
+        for step in [1, 2, 99] {
+            let tape = Tape::new(requests, step);
+            assert!(rt;
+                replies(rt.alloc(), script, tape, (text, status))?,
+                "{requests:?}"
+            );
+        }
+    }
+    Ok(())
+}
+
+/// How much of `MENDED_REPLIES` is written where the input ends behind so many bytes of `MENDED`, and the status.
+fn cut_replies(len: usize) -> (usize, u8) {
+    match len {
+        0 => (0, 0),
+        1..=12 => (0, 2),
+        13 => (7, 1),
+        14..=18 => (7, 2),
+        19 => (21, 1),
+        20..=30 => (21, 2),
+        31 => (28, 0),
+        32..=36 => (28, 2),
+        37 => (33, 0),
+        38..=42 => (33, 2),
+        43 => (47, 0),
+        _ => (47, 2),
+    }
+}
+
+#[test]
+fn cut_inputs(rt: HostRuntime) -> Result<(), Fail> {
+    for len in 0..48 {
+        let requests = MENDED.get(..len).unwrap_or(MENDED);
+        let (end, status) = cut_replies(len);
+        let text = MENDED_REPLIES.get(..end).unwrap_or(MENDED_REPLIES);
+        let tape = Tape::new(requests, 99);
+        assert!(rt; replies(rt.alloc(), THREE, tape, (text, status))?, "{len}");
+        let tape = Tape {
+            rest: MENDED,
+            step: 1,
+            reads: 0,
+            fails_at: len + 1,
+        };
+        assert!(rt; replies(rt.alloc(), THREE, tape, (text, 2))?, "{len}");
+    }
+    Ok(())
+}
+
+#[test]
+fn short_writers(rt: HostRuntime) -> Result<(), Fail> {
+    for room in 0..=MENDED_REPLIES.len() {
+        for takes_nothing in [false, true] {
+            let mut page = Page::new(room);
+            page.takes_nothing = takes_nothing;
+            let status = answer(rt.alloc(), THREE, Tape::new(MENDED, 99), &mut page)?;
+            assert!(rt; Some(page.text()) == MENDED_REPLIES.get(..room), "{room}");
+            assert!(rt;
+                status == if room < MENDED_REPLIES.len() { 2 } else { 0 },
+                "{room}"
+            );
+        }
+    }
+    Ok(())
+}
+
+#[test]
+fn flushes(rt: HostRuntime) -> Result<(), Fail> {
+    let ends = [7, 21, 28, 33, 47];
+    for (index, end) in ends.iter().enumerate() {
+        let mut page = Page::new(PAGE);
+        page.fails_at_flush = index + 1;
+        let status = answer(rt.alloc(), THREE, Tape::new(MENDED, 99), &mut page)?;
+        assert!(rt;
+            status == 2 && Some(page.text()) == MENDED_REPLIES.get(..*end),
+            "{end}"
+        );
+    }
+    let mut page = Page::new(PAGE);
+    page.fails_at_flush = ends.len() + 1;
+    let status = answer(rt.alloc(), THREE, Tape::new(MENDED, 99), &mut page)?;
+    assert!(rt; status == 0 && page.text() == MENDED_REPLIES);
+    Ok(())
+}
+
+#[test]
+fn no_room(rt: HostRuntime) -> Result<(), Fail> {
+    let payload = Same(b'x', 16_777_217);
+    let requests = b"edit 0 0 16777217\n"
+        .as_slice()
+        .chain(payload)
+        .chain(b"\nprint\nquit\n".as_slice());
+    assert!(rt; replies(rt.alloc(), b"a\n", requests, (b"no room\ntext 2\na\n\n", 0))?);
+    Ok(())
+}
+
+#[test]
+fn limits(rt: HostRuntime) -> Result<(), Fail> {
+    let mut script = Vec::new(rt.alloc());
+    for _ in 0..4_194_305 {
+        script.extend_from_slice(b"aaaa")?;
+    }
+    let layout = Layout::new(0, false, false, false)?;
+    let session = Session::open(rt.alloc(), Reader::new(rt.alloc()), layout, &script);
+    assert!(rt; session.err() == Some(LiveError::TooLarge));
+    script.truncate(16_777_216);
+    let mut session = opened(rt.alloc(), &script)?;
+    assert!(rt; session.edit(0, 0, b"b") == Err(LiveError::TooLarge));
+    assert!(rt; session.script_len() == 16_777_216 && session.status() == 0);
+    assert!(rt; session.edit(0, 1, b"b") == Ok(()));
+    assert!(rt; session.edit(2, 1, b"") == Err(LiveError::Range));
+    assert!(rt; session.script_len() == 16_777_216);
+    Ok(())
+}
+
+/// Whether two sessions answer the same.
+pub(crate) fn alike(one: &Session, two: &Session) -> Result<bool, Fail> {
+    let mut same = one.script_len() == two.script_len()
+        && one.status() == two.status()
+        && one.fault() == two.fault()
+        && one.outline()? == two.outline()?
+        && one.print()? == two.print()?;
+    for at in 0..one.script_len().saturating_add(2) {
+        same = same && one.nodes_at(at)? == two.nodes_at(at)?;
+    }
+    Ok(same)
+}
+
+/// Numbers that look random, from a seed on.
+#[derive(Drop)]
+struct Dice(u64);
+
+impl Dice {
+    /// A number below another, which is above 0.
+    fn below(&mut self, bound: usize) -> usize {
+        self.0 = self
+            .0
+            .wrapping_mul(6_364_136_223_846_793_005)
+            .wrapping_add(1_442_695_040_888_963_407);
+        (self.0 >> 33) as usize % bound.max(1)
+    }
+}
+
+/// The bytes with some put in the place of those between two offsets.
+fn spliced(
+    alloc: Global,
+    bytes: &[u8],
+    (a, b): (usize, usize),
+    new: &[u8],
+) -> Result<Vec<u8>, Fail> {
+    let mut made = Vec::from_slice(alloc, bytes.get(..a).unwrap_or(bytes))?;
+    made.extend_from_slice(new)?;
+    made.extend_from_slice(bytes.get(b..).unwrap_or(b""))?;
+    Ok(made)
+}
+
+const PIECES: [&[u8]; 16] = [
+    b"a",
+    b"\n",
+    b" ",
+    b"; ",
+    b"if a; then b; fi\n",
+    b"'",
+    b"\"",
+    b"$(",
+    b")",
+    b"f() { c; }\n",
+    b"# d\n",
+    b"&& ",
+    b"case x in y) z;; esac\n",
+    b"\\\n",
+    b"}",
+    b"",
+];
+
+#[test]
+fn random_edits(rt: HostRuntime) -> Result<(), Fail> {
+    let alloc = rt.alloc();
+    let seed = 20_261_124;
+    let mut dice = Dice(seed);
+    let mut bytes = Vec::from_slice(alloc, FUNCTION)?;
+    let mut session = opened(alloc, &bytes)?;
+    for turn in 0..1_000 {
+        let a = dice.below(bytes.len().saturating_add(1));
+        let b = a.saturating_add(dice.below(6)).min(bytes.len());
+        let new = PIECES.get(dice.below(16)).copied().unwrap_or(b"");
+        let made = spliced(alloc, &bytes, (a, b), new)?;
+        session.edit(a, b, new)?;
+        assert!(rt;
+            alike(&session, &opened(alloc, &made)?)?,
+            "seed {seed}, turn {turn}"
+        );
+        if dice.below(3) == 0 || made.len() > 120 {
+            let old = Vec::from_slice(alloc, bytes.get(a..b).unwrap_or(b""))?;
+            session.edit(a, a.saturating_add(new.len()), &old)?;
+            assert!(rt;
+                alike(&session, &opened(alloc, &bytes)?)?,
+                "seed {seed}, turn {turn} undone"
+            );
+        } else {
+            bytes = made;
+        }
+    }
+    Ok(())
+}

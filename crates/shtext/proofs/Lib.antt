@@ -1,0 +1,5 @@
+pub mod Known
+pub mod Newlines
+pub mod Lines
+pub mod Searches
+pub mod Edits

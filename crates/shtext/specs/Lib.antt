@@ -1,0 +1,4 @@
+pub mod Text
+pub mod Edit
+pub mod Buffer
+pub mod Device

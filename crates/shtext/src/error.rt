@@ -1,0 +1,28 @@
+//! Why a buffer refuses an edit.
+ghost use Rattle.std.specs.Prelude.{◌≡◌};
+ghost use Rattle.shtext.specs.declared.error.TextError.TheVariants.{Memory};
+
+use std::alloc::AllocError;
+use thiserror::Error;
+
+/// Why a text was not taken. The numbers are fixed, and an edit is tested in their order.
+#[derive(Clone, Copy, Debug, PartialEq, Eq, Error)]
+pub enum TextError {
+    /// The edit begins behind its end, or ends behind the text.
+    #[error("out of range")]
+    Range = 1,
+    /// The edited text has more bytes than a text may have.
+    #[error("too large")]
+    TooLarge = 2,
+    /// Memory ran out.
+    #[error("out of memory")]
+    Memory = 3,
+}
+
+impl From<AllocError> for TextError {
+    ghost from_gives = { λ _ e. e ≡ Memory };
+
+    fn from(_e: AllocError) -> TextError {
+        TextError::Memory
+    }
+}

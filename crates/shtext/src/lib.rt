@@ -1,0 +1,29 @@
+//! The bytes that shform works on: texts, which tell one list of bytes, and the ends that bytes come from and go to.
+//!
+//! Start with [`Source`], a text that is read by the byte or by stretches; [`Flat`] is one whose bytes lie in a slice, [`line_col_of`]
+//! tells the line and the column of an offset. [`Buffer`] is a text that is edited: it prepares a [`Change`], previews the [`Edited`]
+//! text, and commits the change. [`Input`] and [`Output`] are a reader and a writer that remember how their devices fared. The
+//! definitions that the contracts cite are in `specs/`.
+#![tactic(auto)]
+
+mod buffer;
+mod change;
+mod device;
+mod edited;
+mod error;
+pub mod laws;
+mod line_col;
+mod newline;
+#[cfg(test)]
+mod refused;
+mod source;
+#[cfg(test)]
+mod tests;
+
+pub use buffer::{Buffer, LIMIT};
+pub use change::Change;
+pub use device::{Failed, Input, Output};
+pub use edited::Edited;
+pub use error::TextError;
+pub use line_col::line_col_of;
+pub use source::{Flat, Source};

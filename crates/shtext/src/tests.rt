@@ -1,0 +1,352 @@
+// What no clause says: that calls succeed where nothing fails, that a failure of a device is told, and the numbers of the errors.
+use crate::{Buffer, Failed, Flat, Input, Output, Source, TextError, line_col_of};
+use std::alloc::{AllocError, Global};
+use std::io;
+use std::io::{Error, Read, Write};
+use std::test::Fail;
+
+/// Whether a text tells these bytes: how many they are, each of them, and in stretches.
+fn tells<S: Source>(text: &S, bytes: &[u8]) -> bool {
+    for (at, byte) in bytes.iter().enumerate() {
+        let run = text.run(at);
+        if run.is_empty() || !bytes[at..].starts_with(run) || text.byte(at) != Some(*byte) {
+            return false;
+        }
+    }
+    let end = bytes.len();
+    text.len() == end && text.byte(end).is_none() && text.run(end).is_empty()
+}
+
+#[test]
+fn runs(rt: HostRuntime) {
+    let text = Flat::new(b"ab\nc");
+    assert!(rt; text.len() == 4);
+    assert!(rt; text.byte(3) == Some(b'c'));
+    assert!(rt; text.byte(4).is_none());
+    assert!(rt; text.run(2) == b"\nc".as_slice());
+    assert!(rt; text.run(4).is_empty());
+    assert!(rt; text.run(usize::MAX).is_empty());
+    assert!(rt; tells(&text, b"ab\nc") && !tells(&text, b"ab\nd") && !tells(&text, b"ab\ncd"));
+}
+
+/// A newline alone ends a line: in the text of all bytes the eleventh.
+#[test]
+fn places(rt: HostRuntime) -> Result<(), Fail> {
+    let mut bytes = Vec::new(rt.alloc());
+    for byte in 0..=255u8 {
+        bytes.push(byte)?;
+    }
+    let buffer = Buffer::from_slice(rt.alloc(), &bytes)?;
+    for at in 0..=256usize {
+        let place = if at <= 10 { (1, at + 1) } else { (2, at - 10) };
+        assert!(rt; at <= bytes.len() && line_col_of(&Flat::new(&bytes), at) == place);
+        assert!(rt; at <= buffer.len() && buffer.line_col(at) == place);
+    }
+    Ok(())
+}
+
+/// An empty line has a place too, and so has the end of the text.
+#[test]
+fn places_of_lines(rt: HostRuntime) -> Result<(), Fail> {
+    let text = Flat::new(b"ab\n\nc\n");
+    let mut told = String::new(rt.alloc());
+    for at in 0..=6 {
+        let (line, column) = line_col_of(&text, at);
+        write!(told, " {line}:{column}")?;
+    }
+    assert!(rt; told.as_str() == " 1:1 1:2 1:3 2:1 3:1 3:2 4:1");
+    Ok(())
+}
+
+/// The offset at which a line of a text begins.
+fn start_of(alloc: Global, text: &[u8], n: usize) -> Result<Option<usize>, TextError> {
+    Ok(Buffer::from_slice(alloc, text)?.line_start(n))
+}
+
+/// A text has a line more than newlines.
+#[test]
+fn starts_of_lines(rt: HostRuntime) -> Result<(), Fail> {
+    for (text, n, start) in [
+        (b"".as_slice(), 0, None),
+        (b"", 1, Some(0)),
+        (b"", 2, None),
+        (b"ab", 1, Some(0)),
+        (b"ab", 2, None),
+        (b"\n", 1, Some(0)),
+        (b"\n", 2, Some(1)),
+        (b"\n", 3, None),
+        (b"ab\n\nc\n", 0, None),
+        (b"ab\n\nc\n", 1, Some(0)),
+        (b"ab\n\nc\n", 2, Some(3)),
+        (b"ab\n\nc\n", 3, Some(4)),
+        (b"ab\n\nc\n", 4, Some(6)),
+        (b"ab\n\nc\n", 5, None),
+        (b"ab\n\nc\n", usize::MAX, None),
+    ] {
+        assert!(rt; start_of(rt.alloc(), text, n)? == start);
+    }
+    Ok(())
+}
+
+/// Whether the edit is previewed and made as asked for, and changes no byte before it is made.
+fn edits(
+    alloc: Global,
+    (old, a, b): (&[u8], usize, usize),
+    new: &[u8],
+    edited: &[u8],
+) -> Result<bool, TextError> {
+    let mut buffer = Buffer::from_slice(alloc, old)?;
+    let change = buffer.prepare(a, b, new)?;
+    if !buffer.fits(&change) || !tells(&buffer, old) || !tells(&buffer.preview(&change), edited) {
+        return Ok(false);
+    }
+    buffer.commit(change);
+    Ok(tells(&buffer, edited))
+}
+
+/// A text, two offsets in it, the bytes that are to stand between them, and the edited text.
+#[test]
+fn edited(rt: HostRuntime) -> Result<(), Fail> {
+    for (old, places, new, edited) in [
+        (b"".as_slice(), (0, 0), b"".as_slice(), b"".as_slice()),
+        (b"", (0, 0), b"ab", b"ab"),
+        (b"abc", (0, 3), b"", b""),
+        (b"abc", (0, 3), b"d", b"d"),
+        (b"abc", (0, 0), b"de", b"deabc"),
+        (b"abc", (3, 3), b"de", b"abcde"),
+        (b"abc", (1, 1), b"", b"abc"),
+        (b"abc", (1, 1), b"defgh", b"adefghbc"),
+        (b"abcdef", (1, 4), b"x", b"axef"),
+        (b"abcdef", (1, 3), b"xy", b"axydef"),
+        (b"abcdef", (4, 6), b"xyz", b"abcdxyz"),
+        (b"a\nb\nc\n", (2, 3), b"bb", b"a\nbb\nc\n"),
+    ] {
+        assert!(rt; edits(rt.alloc(), (old, places.0, places.1), new, edited)?);
+    }
+    Ok(())
+}
+
+/// An edit that puts back what another took out undoes it.
+#[test]
+fn undone(rt: HostRuntime) -> Result<(), Fail> {
+    let mut buffer = Buffer::from_slice(rt.alloc(), b"if a; then b; fi\n")?;
+    let change = buffer.prepare(3, 4, b"! c")?;
+    buffer.commit(change);
+    assert!(rt; tells(&buffer, b"if ! c; then b; fi\n"));
+    let change = buffer.prepare(3, 6, b"a")?;
+    buffer.commit(change);
+    assert!(rt; tells(&buffer, b"if a; then b; fi\n"));
+    Ok(())
+}
+
+/// So many bytes of one kind.
+fn letters(alloc: Global, count: usize) -> Result<Vec<u8>, AllocError> {
+    vec![in alloc; b'x'; count]
+}
+
+/// A refused edit leaves the bytes. What is out of range is told first, then what is too large.
+#[test]
+fn refusals(rt: HostRuntime) -> Result<(), Fail> {
+    let most = letters(rt.alloc(), 16_777_216)?;
+    let large = letters(rt.alloc(), 16_777_217)?;
+    let mut buffer = Buffer::from_slice(rt.alloc(), b"abc")?;
+    for (a, b, new, refusal) in [
+        (2, 1, b"".as_slice(), TextError::Range),
+        (0, 4, b"", TextError::Range),
+        (4, 4, b"", TextError::Range),
+        (usize::MAX, usize::MAX, b"", TextError::Range),
+        (2, 1, &large, TextError::Range),
+        (3, 4, &large, TextError::Range),
+        (0, 3, &large, TextError::TooLarge),
+        (0, 2, &most, TextError::TooLarge),
+    ] {
+        assert!(rt; buffer.prepare(a, b, new).err() == Some(refusal));
+        assert!(rt; tells(&buffer, b"abc"));
+    }
+    let change = buffer.prepare(0, 3, &most)?;
+    buffer.commit(change);
+    assert!(rt; buffer.len() == 16_777_216 && buffer.byte(16_777_215) == Some(b'x'));
+    assert!(rt; buffer.prepare(0, 0, b"y").err() == Some(TextError::TooLarge));
+    assert!(rt; Buffer::from_slice(rt.alloc(), &large).err() == Some(TextError::TooLarge));
+    assert!(rt; Buffer::from_slice(rt.alloc(), &most)?.len() == 16_777_216);
+    assert!(rt;
+        TextError::Range as u8 == 1
+            && TextError::TooLarge as u8 == 2
+            && TextError::Memory as u8 == 3
+    );
+    Ok(())
+}
+
+/// Whether a change of one text fits another.
+fn fits(
+    alloc: Global,
+    (old, a, b): (&[u8], usize, usize),
+    new: &[u8],
+    other: &[u8],
+) -> Result<bool, TextError> {
+    let change = Buffer::from_slice(alloc, old)?.prepare(a, b, new)?;
+    Ok(Buffer::from_slice(alloc, other)?.fits(&change))
+}
+
+/// A change fits where its places are there, with the bytes between them that it was prepared for, and there is room.
+#[test]
+fn fitting(rt: HostRuntime) -> Result<(), Fail> {
+    for (old, places, new, other, is_fit) in [
+        (
+            b"abc".as_slice(),
+            (1, 2),
+            b"x".as_slice(),
+            b"abc".as_slice(),
+            true,
+        ),
+        (b"abc", (1, 2), b"", b"dbef", true),
+        (b"abc", (1, 2), b"x", b"aac", false),
+        (b"abc", (1, 2), b"x", b"a", false),
+        (b"abc", (1, 2), b"x", b"", false),
+        (b"abc", (3, 3), b"", b"ab", false),
+        (
+            b"abc",
+            (1, 2),
+            b"0123456789012345678901234567890123456789",
+            b"abc",
+            false,
+        ),
+    ] {
+        assert!(rt; fits(rt.alloc(), (old, places.0, places.1), new, other)? == is_fit);
+    }
+    Ok(())
+}
+
+/// A reader that gives these bytes, two at a time, and fails at one of its reads.
+#[derive(Drop)]
+struct Tape<'a> {
+    rest: &'a [u8],
+    reads: u64,
+    fails_at: u64,
+}
+
+impl<'a> Read for Tape<'a> {
+    fn read(&mut self, buf: &mut [u8]) -> io::Result<usize> {
+        self.reads = self.reads.wrapping_add(1);
+        if self.reads == self.fails_at {
+            return Err(Error::from(io::ErrorKind::Interrupted));
+        }
+        let count = buf.len().min(2).min(self.rest.len());
+        buf[..count].copy_from_slice(&self.rest[..count]);
+        self.rest = &self.rest[count..];
+        Ok(count)
+    }
+}
+
+/// An input over a tape with these bytes.
+fn input_of(rest: &[u8], fails_at: u64) -> Input<Tape<'_>> {
+    Input::new(Tape {
+        rest,
+        reads: 0,
+        fails_at,
+    })
+}
+
+#[test]
+fn input(rt: HostRuntime) {
+    let mut piece = [0u8; 8];
+    let mut input = input_of(b"abc", 5);
+    assert!(rt; !input.failed() && !input.ended());
+    assert!(rt; input.read(&mut piece) == Ok(2) && piece.starts_with(b"ab"));
+    assert!(rt; input.read(&mut piece[..0]) == Ok(0) && !input.ended());
+    assert!(rt; input.read(&mut piece) == Ok(1) && piece[0] == b'c');
+    assert!(rt; !input.failed() && !input.ended());
+    assert!(rt; input.read(&mut piece) == Ok(0) && input.ended() && !input.failed());
+    assert!(rt; input.read(&mut piece) == Err(Failed) && input.failed() && input.ended());
+}
+
+#[test]
+fn failed_input(rt: HostRuntime) {
+    let mut piece = [0u8; 8];
+    let mut input = input_of(b"abc", 2);
+    assert!(rt; input.read(&mut piece) == Ok(2) && !input.failed());
+    assert!(rt; input.read(&mut piece) == Err(Failed) && input.failed() && !input.ended());
+    assert!(rt; input.read(&mut piece) == Ok(1) && input.failed());
+}
+
+/// A writer that takes three bytes at a time and so many in all; then it fails, or takes none.
+#[derive(Drop)]
+struct Page {
+    bytes: [u8; 16],
+    len: usize,
+    room: usize,
+    fails: bool,
+    flushes: bool,
+}
+
+impl Page {
+    fn new(room: usize, fails: bool) -> Page {
+        Page {
+            bytes: [0; 16],
+            len: 0,
+            room,
+            fails,
+            flushes: true,
+        }
+    }
+
+    fn text(&self) -> &[u8] {
+        &self.bytes[..self.len.min(16)]
+    }
+}
+
+impl Write for Page {
+    fn write(&mut self, buf: &[u8]) -> io::Result<usize> {
+        let start = self.len.min(16);
+        let count = buf.len().min(3).min(16 - start).min(self.room);
+        if count == 0 && self.fails {
+            return Err(Error::from(io::ErrorKind::Other));
+        }
+        self.bytes[start..start + count].copy_from_slice(&buf[..count]);
+        self.len = start + count;
+        self.room -= count;
+        Ok(count)
+    }
+
+    fn flush(&mut self) -> io::Result<()> {
+        if self.flushes {
+            Ok(())
+        } else {
+            Err(Error::from(io::ErrorKind::Other))
+        }
+    }
+}
+
+#[test]
+fn output(rt: HostRuntime) {
+    let mut page = Page::new(16, false);
+    let mut output = Output::new(&mut page);
+    assert!(rt; output.write(b"abcd") == Ok(3) && output.write(b"") == Ok(0));
+    assert!(rt; output.write_whole(b"defgh") == Ok(()) && output.flush() == Ok(()));
+    assert!(rt; !output.failed());
+    drop(output);
+    assert!(rt; page.text() == b"abcdefgh".as_slice());
+}
+
+/// Where the writer is full, the beginning that it took stands there.
+#[test]
+fn full_output(rt: HostRuntime) {
+    for fails in [false, true] {
+        let mut page = Page::new(4, fails);
+        let mut output = Output::new(&mut page);
+        assert!(rt; output.write_whole(b"abcdef") == Err(Failed) && output.failed());
+        assert!(rt; output.write(b"g") == Err(Failed) && output.flush() == Ok(()));
+        assert!(rt; output.failed());
+        drop(output);
+        assert!(rt; page.text() == b"abcd".as_slice());
+    }
+}
+
+#[test]
+fn failed_flush(rt: HostRuntime) {
+    let mut page = Page::new(16, false);
+    page.flushes = false;
+    let mut output = Output::new(&mut page);
+    assert!(rt; output.write_whole(b"ab") == Ok(()) && !output.failed());
+    assert!(rt; output.flush() == Err(Failed) && output.failed());
+}

@@ -1,0 +1,188 @@
+// Documents in each place of a list. The body of each is the text of its delimiter, which tells one from the other.
+use crate::bodies::{put_bodies, put_bodies_in};
+use crate::built::Script;
+use crate::make::{
+    and_or_of, branch_of, case_item_of, case_of, command_entry, compound_of, for_of,
+    function_command, function_of, if_of, list_of, pipeline_of, simple_of, until_of, while_of,
+};
+use crate::tree::{Branch, Command, Compound, Entry, Form, Item, List, Span};
+use std::alloc::{AllocError, Global};
+use std::process::Abort;
+use std::test::Fail;
+
+/// The delimiters, in the order of the operators.
+const NAMES: &str = "ABCDEFGHIJKLMNOPQRSTUV";
+
+/// A script whose documents are open, or have their bodies.
+#[derive(Clone, Copy)]
+struct Documents<'a> {
+    script: Script<'a>,
+    open: bool,
+}
+
+impl<'a> Documents<'a> {
+    fn redirect(self, name: &str) -> Result<Item, AllocError> {
+        self.script
+            .here("<<", name, if self.open { "" } else { name })
+    }
+
+    fn redirects(self, name: &str) -> Result<Vec<Item>, AllocError> {
+        self.script.one(self.redirect(name)?)
+    }
+
+    fn simple(self, name: &str) -> Result<Command, AllocError> {
+        Ok(simple_of(self.redirects(name)?))
+    }
+
+    fn list(self, name: &str) -> Result<List, AllocError> {
+        self.script.list(self.simple(name)?)
+    }
+
+    fn branch(self, condition: &str, body: &str) -> Result<Branch, AllocError> {
+        Ok(branch_of(self.list(condition)?, self.list(body)?))
+    }
+
+    /// A compound command with a document behind it.
+    fn compound(self, form: Form, name: &str) -> Result<Compound, AllocError> {
+        Ok(compound_of(form, self.script.at("A"), self.redirects(name)?))
+    }
+
+    fn cases(self) -> Result<Form, AllocError> {
+        let script = self.script;
+        let alloc = script.alloc;
+        let mut items = Vec::new(alloc);
+        for name in ["P", "Q"] {
+            let patterns = script.patterns(script.word("A"))?;
+            let comments = Vec::new(alloc);
+            items.push(case_item_of(comments, patterns, self.list(name)?, script.at("A")))?;
+        }
+        Ok(case_of(script.word("A"), items, Vec::new(alloc)))
+    }
+
+    /// Forms that hold lists, each with a document behind it.
+    fn forms(self) -> Result<Vec<Command>, AllocError> {
+        let script = self.script;
+        let mut commands = Vec::new(script.alloc);
+        let mut rest = script.branches(self.branch("F", "G")?)?;
+        rest.push(self.branch("H", "I")?)?;
+        let form = if_of(self.branch("D", "E")?, rest, Some(self.list("J")?));
+        commands.push(script.boxed(self.compound(form, "K")?)?)?;
+        let form = while_of(self.branch("L", "M")?);
+        commands.push(script.boxed(script.formed(form, "A"))?)?;
+        let form = for_of(script.word("A"), None, self.list("N")?);
+        commands.push(script.boxed(self.compound(form, "O")?)?)?;
+        commands.push(script.boxed(script.formed(self.cases()?, "A"))?)?;
+        let body = self.compound(until_of(self.branch("R", "S")?), "T")?;
+        let function = function_of(script.at("A"), Vec::new(script.alloc), body);
+        let function = Box::new(script.alloc, function)?;
+        commands.push(function_command(function))?;
+        Ok(commands)
+    }
+
+    /// Commands joined by operators.
+    fn joined(self) -> Result<Entry, AllocError> {
+        let script = self.script;
+        let rest = script.piped(script.join(false, &[])?, self.simple("B")?)?;
+        let piped = pipeline_of(None, self.simple("A")?, rest);
+        let operands = script.joined(script.join(false, &[])?, self.simple("C")?)?;
+        Ok(command_entry(and_or_of(piped, operands), false, false, None))
+    }
+
+    /// A command with a document on each side of a word.
+    fn around(self) -> Result<Entry, AllocError> {
+        let mut items = self.redirects("U")?;
+        items.push(self.script.argument("A"))?;
+        items.push(self.redirect("V")?)?;
+        Ok(self.script.entry(simple_of(items)))
+    }
+
+    fn whole(self) -> Result<List, AllocError> {
+        let mut list = self.script.only(self.joined()?)?;
+        for command in self.forms()? {
+            list.entries.push(self.script.entry(command))?;
+        }
+        list.entries.push(self.around()?)?;
+        Ok(list)
+    }
+}
+
+fn shown(alloc: Global, list: &List) -> Result<String, Fail> {
+    let mut text = String::new(alloc);
+    write!(text, "{list:?}")?;
+    Ok(text)
+}
+
+fn spans(script: Script) -> Result<Vec<Span>, AllocError> {
+    let mut bodies = Vec::new(script.alloc);
+    for start in 0..NAMES.len() {
+        bodies.push(Span {
+            start,
+            end: start.saturating_add(1),
+        })?;
+    }
+    Ok(bodies)
+}
+
+#[test]
+fn each_place(rt: HostRuntime) -> Result<(), Fail> {
+    let alloc = rt.alloc();
+    let script = Script { alloc, text: NAMES };
+    let mut list = Documents { script, open: true }.whole()?;
+    let open = shown(alloc, &list)?;
+    put_bodies(&mut list, &[]);
+    assert_eq!(rt; shown(alloc, &list)?.as_str(), open.as_str());
+    put_bodies(&mut list, &spans(script)?);
+    let open = false;
+    let wanted = Documents { script, open }.whole()?;
+    assert_eq!(rt;
+        shown(alloc, &list)?.as_str(),
+        shown(alloc, &wanted)?.as_str()
+    );
+    Ok(())
+}
+
+// The document of the substitution is no document of its word's list.
+#[test]
+fn a_substitution(rt: HostRuntime) -> Result<(), Fail> {
+    let alloc = rt.alloc();
+    let script = Script { alloc, text: NAMES };
+    let documents = |open| Documents { script, open };
+    let tree = |inner: bool, outer: bool| {
+        let word = script.word_with("A", "B", documents(inner).list("C")?)?;
+        let mut items = script.one(crate::make::argument_of(word, false))?;
+        items.push(documents(outer).redirect("A")?)?;
+        script.list(simple_of(items))
+    };
+    let mut list = tree(true, true)?;
+    put_bodies(&mut list, &spans(script)?);
+    assert_eq!(rt;
+        shown(alloc, &list)?.as_str(),
+        shown(alloc, &tree(true, false)?)?.as_str()
+    );
+    Ok(())
+}
+
+// The last documents stay open where there are too few bodies.
+#[test]
+fn too_few(rt: HostRuntime) -> Result<(), Fail> {
+    let alloc = rt.alloc();
+    let script = Script { alloc, text: NAMES };
+    let full = Documents {
+        script,
+        open: false,
+    };
+    let open = Documents { script, open: true };
+    let mut entries = Vec::new(alloc);
+    entries.push(script.entry(open.simple("A")?))?;
+    entries.push(script.entry(open.simple("B")?))?;
+    let mut list = list_of(entries);
+    put_bodies(&mut list, &[script.at("A")]);
+    let mut entries = Vec::new(alloc);
+    entries.push(script.entry(full.simple("A")?))?;
+    entries.push(script.entry(open.simple("B")?))?;
+    assert_eq!(rt;
+        shown(alloc, &list)?.as_str(),
+        shown(alloc, &list_of(entries))?.as_str()
+    );
+    Ok(())
+}
