@@ -6,7 +6,7 @@
 
 PREFIX = /usr/local
 PROGRAM = crates/shform/out/shform
-TESTS = crates/shtext/out/shtext_tests crates/shread/out/shread_tests crates/shprint/out/shprint_tests crates/shlive/out/shlive_tests crates/shform/out/shform_tests
+TESTS = crates/shtests/out/shtests_tests crates/shform/out/shform_tests
 
 .PHONY: all test scripts bench install
 

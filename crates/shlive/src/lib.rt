@@ -12,14 +12,10 @@ pub mod laws;
 mod lines;
 mod order;
 mod payload;
-#[cfg(test)]
-mod refused;
 mod replies;
 mod reply;
 mod serve;
 mod session;
-#[cfg(test)]
-mod tests;
 mod texts;
 
 pub use error::LiveError;

@@ -16,11 +16,7 @@ mod layout;
 mod messages;
 mod page;
 mod printer;
-#[cfg(test)]
-mod refused;
 mod stretch;
-#[cfg(test)]
-mod tests;
 
 pub use bare::add_bare;
 pub use by_line::{PrintError, print_source};

@@ -8,11 +8,7 @@
 
 mod all_lines;
 mod and_or;
-#[cfg(test)]
-mod beginnings;
 mod between;
-#[cfg(test)]
-mod by_line;
 mod bytes;
 mod case;
 mod command;
@@ -21,8 +17,6 @@ mod compound;
 mod cursor;
 mod delimiter;
 mod documents;
-#[cfg(test)]
-mod dump;
 mod fault;
 mod first_fault;
 mod for_loop;
@@ -32,8 +26,6 @@ pub mod laws;
 mod line;
 mod list;
 mod mode;
-#[cfg(test)]
-mod nodes;
 mod offsets;
 mod one_line;
 mod piece;
@@ -41,21 +33,11 @@ mod pipeline;
 mod plain;
 mod reader;
 mod redirect;
-#[cfg(test)]
-mod refused;
 mod script_lines;
 mod search;
-#[cfg(test)]
-mod sources;
 mod standing;
 mod substitution;
-#[cfg(test)]
-mod table;
 mod token;
-#[cfg(test)]
-mod tree_size;
-#[cfg(test)]
-mod trees;
 mod word;
 
 pub use delimiter::{Delimiter, delimiter_of};

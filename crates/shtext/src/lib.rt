@@ -14,11 +14,7 @@ mod error;
 pub mod laws;
 mod line_col;
 mod newline;
-#[cfg(test)]
-mod refused;
 mod source;
-#[cfg(test)]
-mod tests;
 
 pub use buffer::{Buffer, LIMIT};
 pub use change::Change;

@@ -1,6 +1,6 @@
-// Each growth refused in turn, as in the tests of the reader: by the library that `tests/refused-growths` loads. Without it, as in
-// the gate, each test runs once. They catch the wrong body `always_out_of_memory`, which no contract can.
-use crate::{Layout, PrintError, print, print_source};
+// Each growth of a printing refused in turn: `growths.rt` says how.
+use crate::growths::{refuse, refuses, was_refused};
+use shprint::{Layout, PrintError, print, print_source};
 use shread::Reader;
 use shtext::Flat;
 use std::alloc::{AllocError, Global};
@@ -11,27 +11,6 @@ const SCRIPT: &[u8] =
 
 const TEXT: &[u8] =
     b"{\n\tif a && b |\n\t\tc; then\n\t\td\n\tfi\n} # e\n\nf() {\n\tcase g in\n\t$(h))\n\t\ti\n\t\t;;\n\tesac\n}\n";
-
-/// Asks for the refusal of the nth growth from here on, by a request that no allocator grants.
-fn refuse(alloc: Global, nth: usize) {
-    let _ = Vec::<u8>::with_capacity(alloc, (usize::MAX / 2).saturating_sub(nth));
-}
-
-/// Whether the refusal was met since it was asked for. None is due from then on.
-fn was_refused(alloc: Global, nth: usize) -> bool {
-    for _ in 0..nth {
-        if Vec::<u8>::with_capacity(alloc, 1).is_err() {
-            return false;
-        }
-    }
-    true
-}
-
-/// Whether growths are refused on request at all.
-fn refuses(alloc: Global) -> bool {
-    refuse(alloc, 1);
-    Vec::<u8>::with_capacity(alloc, 1).is_err()
-}
 
 /// The text of a whole tree, with the nth growth of its printing refused. The tree is there before.
 fn printed(alloc: Global, nth: usize) -> Result<Result<Vec<u8>, AllocError>, Fail> {

@@ -24,7 +24,7 @@
 //   fault K at O a fault by its number, and its offset
 //
 // So is a line, which is `blank` or `end` where it has no entry; then follow `to N`, the offset behind it, and `, ended`.
-use crate::{Fault, Line, LineKind, Reader};
+use shread::{Fault, Line, LineKind, Reader};
 use shtext::Source;
 use shtree::{
     AndOr, AndOrOperator, Branch, CaseItem, Command, Comment, Compound, Content, Entry, Form, Item,

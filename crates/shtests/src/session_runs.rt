@@ -1,127 +1,25 @@
 // What no clause says: that requests are answered where nothing fails, what the replies look like, that a failure of a device is told,
 // and that edits by the thousand leave what a session opened anew would answer.
-use crate::error::LiveError;
-use crate::serve::run;
-use crate::session::Session;
+use crate::devices::{PAGE, Page, Same, Tape};
+use shlive::{LiveError, Session, run};
 use shprint::Layout;
 use shread::Reader;
 use shtext::{Input, Output};
 use std::alloc::Global;
-use std::io;
-use std::io::{Error, Read, Write};
+use std::io::Read;
 use std::test::Fail;
-
-/// A reader that gives at most `step` bytes at a time, and fails at one of its reads.
-#[derive(Drop)]
-struct Tape<'a> {
-    rest: &'a [u8],
-    step: usize,
-    reads: usize,
-    fails_at: usize,
-}
-
-impl<'a> Tape<'a> {
-    /// One that never fails.
-    fn new(rest: &'a [u8], step: usize) -> Tape<'a> {
-        Tape {
-            rest,
-            step,
-            reads: 0,
-            fails_at: usize::MAX,
-        }
-    }
-}
-
-impl<'a> Read for Tape<'a> {
-    fn read(&mut self, buf: &mut [u8]) -> io::Result<usize> {
-        self.reads = self.reads.wrapping_add(1);
-        if self.reads == self.fails_at {
-            return Err(Error::from(io::ErrorKind::Interrupted));
-        }
-        let count = self.step.min(buf.len()).min(self.rest.len());
-        buf[..count].copy_from_slice(&self.rest[..count]);
-        self.rest = &self.rest[count..];
-        Ok(count)
-    }
-}
-
-/// A reader of so many bytes of one kind.
-#[derive(Drop)]
-pub(crate) struct Same(pub(crate) u8, pub(crate) usize);
-
-impl Read for Same {
-    fn read(&mut self, buf: &mut [u8]) -> io::Result<usize> {
-        let count = self.1.min(buf.len());
-        buf[..count].fill(self.0);
-        self.1 -= count;
-        Ok(count)
-    }
-}
-
-/// The most bytes of a page.
-const PAGE: usize = 512;
-
-/// A writer that takes so many bytes, a few at a time, and fails once at its end or at one of its flushes. Whatever comes after a
-/// failure it takes.
-#[derive(Drop)]
-pub(crate) struct Page {
-    bytes: [u8; PAGE],
-    len: usize,
-    room: usize,
-    /// It answers 0 where it is full, and does not fail.
-    takes_nothing: bool,
-    flushes: usize,
-    fails_at_flush: usize,
-}
-
-impl Page {
-    pub(crate) fn new(room: usize) -> Page {
-        Page {
-            bytes: [0; PAGE],
-            len: 0,
-            room,
-            takes_nothing: false,
-            flushes: 0,
-            fails_at_flush: usize::MAX,
-        }
-    }
-
-    pub(crate) fn text(&self) -> &[u8] {
-        &self.bytes[..self.len.min(PAGE)]
-    }
-}
-
-impl Write for Page {
-    fn write(&mut self, buf: &[u8]) -> io::Result<usize> {
-        let start = self.len.min(PAGE);
-        let count = buf.len().min(5).min(PAGE - start).min(self.room);
-        if count == 0 && !buf.is_empty() {
-            self.room = PAGE;
-            if self.takes_nothing {
-                return Ok(0);
-            }
-            return Err(Error::from(io::ErrorKind::Other));
-        }
-        self.bytes[start..start + count].copy_from_slice(&buf[..count]);
-        self.len = start + count;
-        self.room -= count;
-        Ok(count)
-    }
-
-    fn flush(&mut self) -> io::Result<()> {
-        self.flushes = self.flushes.wrapping_add(1);
-        if self.flushes == self.fails_at_flush {
-            Err(Error::from(io::ErrorKind::Other))
-        } else {
-            Ok(())
-        }
-    }
-}
 
 /// A session on a script, which prints with a tab for each level.
 pub(crate) fn opened(alloc: Global, script: &[u8]) -> Result<Session, Fail> {
     let layout = Layout::new(0, false, false, false)?;
     Ok(Session::open(alloc, Reader::new(alloc), layout, script)?)
+}
+
+/// A page that takes five bytes at a time, and fails once where it is full. Whatever comes behind a failure it takes.
+pub(crate) fn page_of(room: usize) -> Page {
+    let mut page = Page::new(room, 5);
+    page.is_emptied = true;
+    page
 }
 
 /// The answer of a run over a session on this script.
@@ -144,7 +42,7 @@ fn replies<R: Read + Drop>(
     reader: R,
     (text, status): (&[u8], u8),
 ) -> Result<bool, Fail> {
-    let mut page = Page::new(PAGE);
+    let mut page = page_of(PAGE);
     let answered = answer(alloc, script, reader, &mut page)?;
     Ok(answered == status && page.text() == text)
 }
@@ -272,12 +170,7 @@ fn cut_inputs(rt: HostRuntime) -> Result<(), Fail> {
         let text = MENDED_REPLIES.get(..end).unwrap_or(MENDED_REPLIES);
         let tape = Tape::new(requests, 99);
         assert!(rt; replies(rt.alloc(), THREE, tape, (text, status))?, "{len}");
-        let tape = Tape {
-            rest: MENDED,
-            step: 1,
-            reads: 0,
-            fails_at: len + 1,
-        };
+        let tape = Tape::failing(MENDED, 1, len + 1);
         assert!(rt; replies(rt.alloc(), THREE, tape, (text, 2))?, "{len}");
     }
     Ok(())
@@ -287,7 +180,7 @@ fn cut_inputs(rt: HostRuntime) -> Result<(), Fail> {
 fn short_writers(rt: HostRuntime) -> Result<(), Fail> {
     for room in 0..=MENDED_REPLIES.len() {
         for takes_nothing in [false, true] {
-            let mut page = Page::new(room);
+            let mut page = page_of(room);
             page.takes_nothing = takes_nothing;
             let status = answer(rt.alloc(), THREE, Tape::new(MENDED, 99), &mut page)?;
             assert!(rt; Some(page.text()) == MENDED_REPLIES.get(..room), "{room}");
@@ -304,7 +197,7 @@ fn short_writers(rt: HostRuntime) -> Result<(), Fail> {
 fn flushes(rt: HostRuntime) -> Result<(), Fail> {
     let ends = [7, 21, 28, 33, 47];
     for (index, end) in ends.iter().enumerate() {
-        let mut page = Page::new(PAGE);
+        let mut page = page_of(PAGE);
         page.fails_at_flush = index + 1;
         let status = answer(rt.alloc(), THREE, Tape::new(MENDED, 99), &mut page)?;
         assert!(rt;
@@ -312,7 +205,7 @@ fn flushes(rt: HostRuntime) -> Result<(), Fail> {
             "{end}"
         );
     }
-    let mut page = Page::new(PAGE);
+    let mut page = page_of(PAGE);
     page.fails_at_flush = ends.len() + 1;
     let status = answer(rt.alloc(), THREE, Tape::new(MENDED, 99), &mut page)?;
     assert!(rt; status == 0 && page.text() == MENDED_REPLIES);

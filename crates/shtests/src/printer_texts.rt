@@ -1,5 +1,5 @@
 // What no clause says: what a layout refuses, that calls succeed where nothing fails, and the texts.
-use crate::{Layout, LayoutError, PrintError, message, print, print_source};
+use shprint::{Layout, LayoutError, PrintError, message, print, print_source};
 use shread::{Fault, FaultKind, Reader};
 use shtext::Flat;
 use std::alloc::Global;

@@ -1,7 +1,7 @@
 // What a tree takes. `tests/bench` runs this test over a file that it names, and takes the time and the memory: of the file alone, of
 // the file and its tree, of these and the outline, and how many nodes the tree has. Where no file is named, a short script is read.
-use crate::Reader;
 use crate::dump::dump_script;
+use shread::Reader;
 use shtext::Flat;
 use shtree::laws::greater_limit;
 use shtree::outline_of;

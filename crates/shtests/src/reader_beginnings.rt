@@ -1,9 +1,9 @@
 // The beginnings of one script, byte by byte: each has the fault that the grammar gives, is read as its lines are, and is checked
 // alike. The faults were told by a reading of the grammar written apart.
-use crate::Reader;
-use crate::by_line::judge_lines;
 use crate::dump::Judge;
+use crate::reader_lines::judge_lines;
 use crate::table::rows;
+use shread::Reader;
 use shtext::Flat;
 use std::alloc::Global;
 use std::test::Fail;

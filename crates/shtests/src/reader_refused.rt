@@ -1,12 +1,11 @@
-// Each growth refused in turn. `tests/refused-growths` runs these tests under a library that refuses the growth they ask it to
-// refuse; without it, as in the gate, no growth is refused and each test runs once. They catch the wrong body that no contract
-// can: `always_out_of_memory`, which gives up though memory is there, from the start or once a growth was refused.
+// Each growth of a reading refused in turn: `growths.rt` says how.
 ghost use Rattle.std.specs.Prelude.{◌≤◌, length};
 ghost use Rattle.shread.specs.LineByLine.{bytes_of, place_of};
 ghost use Rattle.shtree.specs.Nodes.{AreWithin};
 ghost use Rattle.shtree.specs.View.{view_list};
 
-use crate::{Line, LineKind, ReadError, Reader, ScriptLine, ScriptLines};
+use crate::growths::{refuse, refuses, was_refused};
+use shread::{Line, LineKind, ReadError, Reader, ScriptLine, ScriptLines};
 use shtext::{Flat, Source};
 use shtree::laws::greater_limit;
 use shtree::{List, NodeKind, NodeLine};
@@ -17,27 +16,6 @@ use std::test::Fail;
 /// A line that the reader grows for in several places: its second command and its comment come late.
 const TEXT: &[u8] =
     b"\na=1 'b' $c \"\" d$(n) e; if f|g;then case o in p|v) q;;esac;elif i&&n() { j;};then for r in s;do t;done >o;fi 2>p >q & # l\nm\n";
-
-/// Asks for the refusal of the nth growth from here on, by a request that no allocator grants.
-fn refuse(alloc: Global, nth: usize) {
-    let _ = Vec::<u8>::with_capacity(alloc, (usize::MAX / 2).saturating_sub(nth));
-}
-
-/// Whether the refusal was met since it was asked for. None is due from then on.
-fn was_refused(alloc: Global, nth: usize) -> bool {
-    for _ in 0..nth {
-        if Vec::<u8>::with_capacity(alloc, 1).is_err() {
-            return false;
-        }
-    }
-    true
-}
-
-/// Whether growths are refused on request at all.
-fn refuses(alloc: Global) -> bool {
-    refuse(alloc, 1);
-    Vec::<u8>::with_capacity(alloc, 1).is_err()
-}
 
 /// How many commands and comments a line has.
 fn count(line: &Line) -> usize {

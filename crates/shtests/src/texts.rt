@@ -1,8 +1,8 @@
 // What no clause says: that calls succeed where nothing fails, that a failure of a device is told, and the numbers of the errors.
-use crate::{Buffer, Failed, Flat, Input, Output, Source, TextError, line_col_of};
+use crate::devices::{PAGE, Page, Tape};
+use shtext::{Buffer, Failed, Flat, Input, Output, Source, TextError, line_col_of};
 use std::alloc::{AllocError, Global};
-use std::io;
-use std::io::{Error, Read, Write};
+use std::io::{Read, Write};
 use std::test::Fail;
 
 /// Whether a text tells these bytes: how many they are, each of them, and in stretches.
@@ -217,34 +217,9 @@ fn fitting(rt: HostRuntime) -> Result<(), Fail> {
     Ok(())
 }
 
-/// A reader that gives these bytes, two at a time, and fails at one of its reads.
-#[derive(Drop)]
-struct Tape<'a> {
-    rest: &'a [u8],
-    reads: u64,
-    fails_at: u64,
-}
-
-impl<'a> Read for Tape<'a> {
-    fn read(&mut self, buf: &mut [u8]) -> io::Result<usize> {
-        self.reads = self.reads.wrapping_add(1);
-        if self.reads == self.fails_at {
-            return Err(Error::from(io::ErrorKind::Interrupted));
-        }
-        let count = buf.len().min(2).min(self.rest.len());
-        buf[..count].copy_from_slice(&self.rest[..count]);
-        self.rest = &self.rest[count..];
-        Ok(count)
-    }
-}
-
-/// An input over a tape with these bytes.
-fn input_of(rest: &[u8], fails_at: u64) -> Input<Tape<'_>> {
-    Input::new(Tape {
-        rest,
-        reads: 0,
-        fails_at,
-    })
+/// An input over a tape with these bytes, which gives two at a time.
+fn input_of(rest: &[u8], fails_at: usize) -> Input<Tape<'_>> {
+    Input::new(Tape::failing(rest, 2, fails_at))
 }
 
 #[test]
@@ -269,57 +244,9 @@ fn failed_input(rt: HostRuntime) {
     assert!(rt; input.read(&mut piece) == Ok(1) && input.failed());
 }
 
-/// A writer that takes three bytes at a time and so many in all; then it fails, or takes none.
-#[derive(Drop)]
-struct Page {
-    bytes: [u8; 16],
-    len: usize,
-    room: usize,
-    fails: bool,
-    flushes: bool,
-}
-
-impl Page {
-    fn new(room: usize, fails: bool) -> Page {
-        Page {
-            bytes: [0; 16],
-            len: 0,
-            room,
-            fails,
-            flushes: true,
-        }
-    }
-
-    fn text(&self) -> &[u8] {
-        &self.bytes[..self.len.min(16)]
-    }
-}
-
-impl Write for Page {
-    fn write(&mut self, buf: &[u8]) -> io::Result<usize> {
-        let start = self.len.min(16);
-        let count = buf.len().min(3).min(16 - start).min(self.room);
-        if count == 0 && self.fails {
-            return Err(Error::from(io::ErrorKind::Other));
-        }
-        self.bytes[start..start + count].copy_from_slice(&buf[..count]);
-        self.len = start + count;
-        self.room -= count;
-        Ok(count)
-    }
-
-    fn flush(&mut self) -> io::Result<()> {
-        if self.flushes {
-            Ok(())
-        } else {
-            Err(Error::from(io::ErrorKind::Other))
-        }
-    }
-}
-
 #[test]
 fn output(rt: HostRuntime) {
-    let mut page = Page::new(16, false);
+    let mut page = Page::new(PAGE, 3);
     let mut output = Output::new(&mut page);
     assert!(rt; output.write(b"abcd") == Ok(3) && output.write(b"") == Ok(0));
     assert!(rt; output.write_whole(b"defgh") == Ok(()) && output.flush() == Ok(()));
@@ -332,7 +259,8 @@ fn output(rt: HostRuntime) {
 #[test]
 fn full_output(rt: HostRuntime) {
     for fails in [false, true] {
-        let mut page = Page::new(4, fails);
+        let mut page = Page::new(4, 3);
+        page.takes_nothing = !fails;
         let mut output = Output::new(&mut page);
         assert!(rt; output.write_whole(b"abcdef") == Err(Failed) && output.failed());
         assert!(rt; output.write(b"g") == Err(Failed) && output.flush() == Ok(()));
@@ -344,8 +272,8 @@ fn full_output(rt: HostRuntime) {
 
 #[test]
 fn failed_flush(rt: HostRuntime) {
-    let mut page = Page::new(16, false);
-    page.flushes = false;
+    let mut page = Page::new(PAGE, 3);
+    page.fails_at_flush = 1;
     let mut output = Output::new(&mut page);
     assert!(rt; output.write_whole(b"ab") == Ok(()) && !output.failed());
     assert!(rt; output.flush() == Err(Failed) && output.failed());

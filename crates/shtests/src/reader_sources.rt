@@ -1,18 +1,10 @@
-// Sources told in stretches, searches, and numbers: what no table of scripts holds.
+// Sources told in stretches, and numbers: what no table of scripts holds.
 use crate::dump::Judge;
-use crate::search::{Sought, find_in};
+use crate::reader_trees::ROWS;
 use crate::table::{Cell, rows, split};
-use crate::trees::ROWS;
-use crate::{FaultKind, ReadError};
-use shtext::{Flat, Source};
+use shread::{FaultKind, ReadError};
+use shtext::Source;
 use std::test::Fail;
-
-#[test]
-fn searches(rt: HostRuntime) {
-    let text = Flat::new(b"ab\nc");
-    assert!(rt; find_in(&text, 1, Sought::Byte(b'c')) == 3);
-    assert!(rt; find_in(&text, 3, Sought::Byte(b'\n')) == text.len());
-}
 
 /// The numbers of the kinds, which count from 1, and of the error are fixed.
 #[test]

@@ -2,7 +2,7 @@
 // hand. What both calls ask of a list is proved of those that the reader answers.
 use crate::dump::Judge;
 use crate::table::{Cell, rows};
-use crate::{LineKind, Reader};
+use shread::{LineKind, Reader};
 use shtext::Flat;
 use shtree::laws::greater_limit;
 use shtree::{NodeLine, nodes_at, outline_of};

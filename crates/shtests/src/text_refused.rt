@@ -1,30 +1,8 @@
-// Each growth refused in turn. `tests/refused-growths` runs these tests under a library that refuses the growth they ask it to
-// refuse; without it, as in the gate, no growth is refused and each test runs once. They catch the wrong body that no contract
-// can: one that gives up though memory is there, from the start or once a growth was refused.
-use crate::{Buffer, Source, TextError};
+// Each growth of a text refused in turn: `growths.rt` says how.
+use crate::growths::{refuse, refuses, was_refused};
+use shtext::{Buffer, Source, TextError};
 use std::alloc::Global;
 use std::test::Fail;
-
-/// Asks for the refusal of the nth growth from here on, by a request that no allocator grants.
-fn refuse(alloc: Global, nth: usize) {
-    let _ = Vec::<u8>::with_capacity(alloc, (usize::MAX / 2).saturating_sub(nth));
-}
-
-/// Whether the refusal was met since it was asked for. None is due from then on.
-fn was_refused(alloc: Global, nth: usize) -> bool {
-    for _ in 0..nth {
-        if Vec::<u8>::with_capacity(alloc, 1).is_err() {
-            return false;
-        }
-    }
-    true
-}
-
-/// Whether growths are refused on request at all.
-fn refuses(alloc: Global) -> bool {
-    refuse(alloc, 1);
-    Vec::<u8>::with_capacity(alloc, 1).is_err()
-}
 
 #[test]
 fn from_slice(rt: HostRuntime) -> Result<(), Fail> {

@@ -1,9 +1,8 @@
-// Each growth refused in turn, as in the tests of the reader: by the library that `tests/refused-growths` loads. Without it, as in
-// the gate, each test runs once. They catch the wrong body `always_out_of_memory`, which no contract can.
-use crate::error::LiveError;
-use crate::serve::run;
-use crate::session::Session;
-use crate::tests::{Page, Same, alike, opened};
+// Each growth of a session refused in turn: `growths.rt` says how.
+use crate::devices::{PAGE, Page, Same};
+use crate::growths::{refuse, refuses, was_refused};
+use crate::session_runs::{alike, opened, page_of};
+use shlive::{LiveError, Session, run};
 use shprint::Layout;
 use shread::Reader;
 use shtext::{Input, Output};
@@ -16,27 +15,6 @@ const SCRIPT: &[u8] = b"if a; then b; fi\nf() { echo $(c | d); }\n";
 const EDITED: &[u8] = b"if a; then b; fi\nwhile e; do f; done\nf() { echo $(c | d); }\n";
 
 const NEW: &[u8] = b"while e; do f; done\n";
-
-/// Asks for the refusal of the nth growth from here on, by a request that no allocator grants.
-fn refuse(alloc: Global, nth: usize) {
-    let _ = Vec::<u8>::with_capacity(alloc, (usize::MAX / 2).saturating_sub(nth));
-}
-
-/// Whether the refusal was met since it was asked for. None is due from then on.
-fn was_refused(alloc: Global, nth: usize) -> bool {
-    for _ in 0..nth {
-        if Vec::<u8>::with_capacity(alloc, 1).is_err() {
-            return false;
-        }
-    }
-    true
-}
-
-/// Whether growths are refused on request at all.
-fn refuses(alloc: Global) -> bool {
-    refuse(alloc, 1);
-    Vec::<u8>::with_capacity(alloc, 1).is_err()
-}
 
 #[test]
 fn open(rt: HostRuntime) -> Result<(), Fail> {
@@ -165,7 +143,7 @@ fn requests(rt: HostRuntime) -> Result<(), Fail> {
     let asked = b"edit 3 3 2\n c\noutline\nprint\nfault\nquit\n";
     let mut met = 0;
     for nth in 1..200 {
-        let mut page = Page::new(512);
+        let mut page = page_of(PAGE);
         let status = written(alloc, asked.as_slice(), nth, &mut page)?;
         assert!(rt; status == 0);
         if !refuses || !was_refused(alloc, nth) {
@@ -207,7 +185,7 @@ fn open_without_bytes(rt: HostRuntime) -> Result<(), Fail> {
 fn spoiled_payload(rt: HostRuntime) -> Result<(), Fail> {
     let alloc = rt.alloc();
     let refuses = refuses(alloc);
-    let mut page = Page::new(512);
+    let mut page = page_of(PAGE);
     let status = written(alloc, b"edit 0 0 1\nxy\nquit\n".as_slice(), 1, &mut page)?;
     assert!(rt; !refuses || was_refused(alloc, 1));
     assert!(rt; status == 0 && page.text() == b"no payload\n".as_slice());
@@ -219,7 +197,7 @@ fn spoiled_payload(rt: HostRuntime) -> Result<(), Fail> {
 fn without_memory(rt: HostRuntime) -> Result<(), Fail> {
     let alloc = rt.alloc();
     let refuses = refuses(alloc);
-    let mut page = Page::new(512);
+    let mut page = page_of(PAGE);
     let status = written(
         alloc,
         b"hello\nedit 5 9 4\nabcd\nfault\nat 3\nquit\n".as_slice(),
@@ -228,7 +206,7 @@ fn without_memory(rt: HostRuntime) -> Result<(), Fail> {
     )?;
     assert!(rt; !refuses || !was_refused(alloc, 1));
     assert!(rt; status == 0 && page.text() == b"no request\nno range\nnone\nat 0\n".as_slice());
-    let mut page = Page::new(512);
+    let mut page = page_of(PAGE);
     let requests = b"edit 0 0 16777214\n"
         .as_slice()
         .chain(Same(b'x', 16_777_214))

@@ -1,0 +1,43 @@
+//! The tests of the libraries, over their public calls. They stand in one crate, since the gate proves a crate that has tests twice:
+//! so the libraries, which have none, are proved once.
+//!
+//! Start with the module of what is tested: `texts` is the tests of `shtext`, `reader_..` those of `shread`,
+//! `printer_..` those of `shprint`, `session_..` those of `shlive`; those in `.._refused` refuse each growth of memory in turn. The others
+//! help: `table` reads tables of rows, `dump` writes trees as short texts, `devices` has readers and
+//! writers that fail, and `growths` asks for refusals. `tree_size` is for `tests/bench`.
+#![tactic(auto)]
+
+#[cfg(test)]
+mod devices;
+#[cfg(test)]
+mod dump;
+#[cfg(test)]
+mod growths;
+#[cfg(test)]
+mod printer_refused;
+#[cfg(test)]
+mod printer_texts;
+#[cfg(test)]
+mod reader_beginnings;
+#[cfg(test)]
+mod reader_lines;
+#[cfg(test)]
+mod reader_nodes;
+#[cfg(test)]
+mod reader_refused;
+#[cfg(test)]
+mod reader_sources;
+#[cfg(test)]
+mod reader_trees;
+#[cfg(test)]
+mod session_refused;
+#[cfg(test)]
+mod session_runs;
+#[cfg(test)]
+mod table;
+#[cfg(test)]
+mod text_refused;
+#[cfg(test)]
+mod texts;
+#[cfg(test)]
+mod tree_size;
