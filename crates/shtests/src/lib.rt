@@ -1,10 +1,10 @@
 //! The tests of the libraries, over their public calls. They stand in one crate, since the gate proves a crate that has tests twice:
 //! so the libraries, which have none, are proved once.
 //!
-//! Start with the module of what is tested: `texts` is the tests of `shtext`, `reader_..` those of `shread`,
-//! `printer_..` those of `shprint`, `session_..` those of `shlive`; those in `.._refused` refuse each growth of memory in turn. The others
-//! help: `table` reads tables of rows, `dump` writes trees as short texts, `devices` has readers and
-//! writers that fail, and `growths` asks for refusals. `tree_size` is for `tests/bench`.
+//! Start with the module of what is tested: `texts` is the tests of `shtext`, `tree_bodies`, `tree_nodes` and `tree_normal` are those of
+//! `shtree`, `reader_..` those of `shread`, `printer_..` those of `shprint`, `session_..` those of `shlive`; those in `.._refused` refuse each
+//! growth of memory in turn. The others help: `table` reads tables of rows, `dump` writes trees as short texts, `tree_built` builds trees by
+//! hand, `devices` has readers and writers that fail, and `growths` asks for refusals. `tree_size` is for `tests/bench`.
 #![tactic(auto)]
 
 #[cfg(test)]
@@ -39,5 +39,13 @@ mod table;
 mod text_refused;
 #[cfg(test)]
 mod texts;
+#[cfg(test)]
+mod tree_bodies;
+#[cfg(test)]
+mod tree_built;
+#[cfg(test)]
+mod tree_nodes;
+#[cfg(test)]
+mod tree_normal;
 #[cfg(test)]
 mod tree_size;

@@ -5,7 +5,6 @@ pub mod Seen
 pub mod Joined
 pub mod InOrder
 pub mod Placed
-pub mod Within
 pub mod SameForm
 pub mod Shaped
 pub mod Spelled

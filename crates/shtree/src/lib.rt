@@ -7,18 +7,10 @@
 #![tactic(auto)]
 
 mod bodies;
-#[cfg(test)]
-mod bodies_tests;
-#[cfg(test)]
-mod built;
 pub mod laws;
 pub mod make;
 mod nodes;
-#[cfg(test)]
-mod nodes_tests;
 mod normal;
-#[cfg(test)]
-mod normal_tests;
 mod spans;
 mod tree;
 mod visit;

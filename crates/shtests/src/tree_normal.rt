@@ -1,9 +1,8 @@
 // Each rule of the normal form, turned: a tree that keeps all rules but one.
-use crate::built::Script;
-use crate::make::{and_or_of, argument_of, command_entry, list_of, pipeline_of, simple_of};
-use crate::normal::is_normal;
-use crate::tree::{
-    Branch, CaseItem, Command, Comment, Content, Entry, Form, Function, Join, List, Word,
+use crate::tree_built::Script;
+use shtree::make::{and_or_of, argument_of, command_entry, list_of, pipeline_of, simple_of};
+use shtree::{
+    Branch, CaseItem, Command, Comment, Content, Entry, Form, Function, Join, List, Word, is_normal,
 };
 use std::alloc::{AllocError, Global};
 use std::process::Abort;

@@ -1,11 +1,10 @@
 // Documents in each place of a list. The body of each is the text of its delimiter, which tells one from the other.
-use crate::bodies::{put_bodies, put_bodies_in};
-use crate::built::Script;
-use crate::make::{
-    and_or_of, branch_of, case_item_of, case_of, command_entry, compound_of, for_of,
+use crate::tree_built::Script;
+use shtree::make::{
+    and_or_of, argument_of, branch_of, case_item_of, case_of, command_entry, compound_of, for_of,
     function_command, function_of, if_of, list_of, pipeline_of, simple_of, until_of, while_of,
 };
-use crate::tree::{Branch, Command, Compound, Entry, Form, Item, List, Span};
+use shtree::{Branch, Command, Compound, Entry, Form, Item, List, Span, put_bodies};
 use std::alloc::{AllocError, Global};
 use std::process::Abort;
 use std::test::Fail;
@@ -149,7 +148,7 @@ fn a_substitution(rt: HostRuntime) -> Result<(), Fail> {
     let documents = |open| Documents { script, open };
     let tree = |inner: bool, outer: bool| {
         let word = script.word_with("A", "B", documents(inner).list("C")?)?;
-        let mut items = script.one(crate::make::argument_of(word, false))?;
+        let mut items = script.one(argument_of(word, false))?;
         items.push(documents(outer).redirect("A")?)?;
         script.list(simple_of(items))
     };

@@ -1,9 +1,9 @@
-// Trees built by hand, for the tests of this crate.
-use crate::make::{
+// Trees built by hand, for the tests of `shtree`.
+use shtree::make::{
     and_or_of, and_or_part_of, argument_of, assign_of, command_entry, comment_entry,
     compound_command, compound_of, list_of, pipeline_of, pipeline_part_of, simple_of, word_of,
 };
-use crate::tree::{
+use shtree::{
     AndOr, AndOrOperator, AndOrPart, Branch, CaseItem, Command, Comment, Compound, Entry, Form,
     HereDocument, Item, ItemContent, Join, List, Pipeline, PipelinePart, RedirectOperator,
     Redirection, Span, Subst, Word,
@@ -97,11 +97,6 @@ impl<'a> Script<'a> {
         })
     }
 
-    /// A redirection of a compound command, with no number.
-    pub(crate) fn output(self, operator: &str, word: &str) -> Result<Vec<Item>, AllocError> {
-        self.one(self.redirect("", operator, self.word(word))?)
-    }
-
     pub(crate) fn here(self, operator: &str, word: &str, body: &str) -> Result<Item, AllocError> {
         self.redirected(Redirection {
             number: None,
@@ -123,17 +118,6 @@ impl<'a> Script<'a> {
     /// A list of one simple command.
     pub(crate) fn run(self, words: &[&str]) -> Result<List, AllocError> {
         self.list(self.simple(words)?)
-    }
-
-    /// A list of one simple command with a comment behind it.
-    pub(crate) fn noted(self, words: &[&str], comment: &str) -> Result<List, AllocError> {
-        let command = self.simple(words)?;
-        self.only(command_entry(
-            self.alone(command),
-            false,
-            false,
-            Some(self.comment(comment)),
-        ))
     }
 
     pub(crate) fn alone(self, command: Command) -> AndOr {
