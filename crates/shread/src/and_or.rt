@@ -7,7 +7,7 @@ ghost use Rattle.shread.specs.Form.{again, many, step_if};
 ghost use Rattle.shread.specs.Levels.{level};
 ghost use Rattle.shtree.specs.View.{view_and_or, view_and_or_part};
 
-use crate::cursor::{Cursor, KEPT};
+use crate::cursor::Cursor;
 use crate::fault::Stop;
 use crate::token::Next;
 use shtext::Source;
@@ -15,7 +15,7 @@ use shtree::make::{and_or_of, and_or_part_of};
 use shtree::{AndOr, AndOrOperator, AndOrPart};
 use std::alloc::Global;
 
-impl<'a, S: Source, const KEEP: u8> Cursor<'a, S, KEEP> {
+impl<'a, S: Source> Cursor<'a, S> {
     /// One more pipeline of an and-or list, behind `&&` or `||`. It stands apart to keep the frames of nested commands small.
     #[cycle(commands)]
     #[tactic(auto, unfolding(crate::specs::Commands::one_pipeline))]
@@ -40,7 +40,7 @@ impl<'a, S: Source, const KEEP: u8> Cursor<'a, S, KEEP> {
         self.bump();
         let join = self.join(alloc, next)?;
         let pipeline = self.pipeline(alloc, next, room)?;
-        if KEEP == KEPT {
+        if self.keep {
             parts.push(and_or_part_of(operator, join, pipeline))?;
         }
         Ok(())

@@ -10,7 +10,7 @@ use crate::plain::ends_words;
 use crate::token::Class;
 use shtext::Source;
 
-impl<'a, S: Source, const KEEP: u8> Cursor<'a, S, KEEP> {
+impl<'a, S: Source> Cursor<'a, S> {
     /// The place past the continuations at a place. Most often none stands there.
     #[inline(always)]
     #[tactic(auto, using(crate::proofs::Stretches::joined_none))]

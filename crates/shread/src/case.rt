@@ -8,7 +8,7 @@ ghost use Rattle.shread.specs.Levels.{level};
 ghost use Rattle.shread.specs.Listed.{view_cases, view_listed};
 ghost use Rattle.shtree.specs.View.{view_form, view_join, view_word};
 
-use crate::cursor::{Cursor, KEPT};
+use crate::cursor::Cursor;
 use crate::fault::Stop;
 use crate::list::Listed;
 use crate::token::{Closing, Next, Position, Token};
@@ -44,7 +44,7 @@ fn body_end(before: usize, body: &Listed) -> usize
     }
 }
 
-impl<'a, S: Source, const KEEP: u8> Cursor<'a, S, KEEP> {
+impl<'a, S: Source> Cursor<'a, S> {
     /// The word behind `case`. `next` is the token here, and then the one behind it.
     #[cycle(commands)]
     #[tactic(auto, unfolding(crate::specs::Compounds::a_case_word, crate::specs::Commands::next_token))]
@@ -85,7 +85,7 @@ impl<'a, S: Source, const KEEP: u8> Cursor<'a, S, KEEP> {
     {
         let start = self.at;
         let substs = self.pass_word(alloc, room)?;
-        if KEEP == KEPT {
+        if self.keep {
             patterns.push(self.word_from(start, substs))?;
         }
         *next = self.next_token(Position::Suffix);
@@ -272,7 +272,7 @@ impl<'a, S: Source, const KEEP: u8> Cursor<'a, S, KEEP> {
         let there = body_end(closer.end, &body);
         let lines = std::mem::replace(&mut cases.lines, no_lines(alloc));
         let end = self.item_end(alloc, there, next, &mut cases.lines, room)?;
-        if KEEP == KEPT {
+        if self.keep {
             let list = list_of(body.entries);
             let span = Span { start, end };
             cases

@@ -10,7 +10,7 @@ ghost use Rattle.shtree.specs.Tree.{item};
 ghost use Rattle.shtree.specs.View.{view_command, view_item, view_word};
 ghost use Rattle.shread.specs.Levels.{level};
 
-use crate::cursor::{Cursor, KEPT};
+use crate::cursor::Cursor;
 use crate::fault::Stop;
 use crate::token::{Next, Position, Token};
 use shtext::Source;
@@ -28,7 +28,7 @@ fn item_of(word: Word, position: Position, broken: bool) -> Item
     }
 }
 
-impl<'a, S: Source, const KEEP: u8> Cursor<'a, S, KEEP> {
+impl<'a, S: Source> Cursor<'a, S> {
     /// One more item, which is the word here, and the token behind it, which stands in this position.
     #[cycle(commands)]
     #[tactic(auto, unfolding(crate::specs::Commands::an_item, crate::specs::Commands::next_token))]
@@ -49,7 +49,7 @@ impl<'a, S: Source, const KEEP: u8> Cursor<'a, S, KEEP> {
     {
         let start = self.at;
         let substs = self.pass_word(alloc, room)?;
-        if KEEP != KEPT {
+        if !self.keep {
             *next = self.next_token(position);
             return Ok(());
         }
@@ -164,7 +164,7 @@ impl<'a, S: Source, const KEEP: u8> Cursor<'a, S, KEEP> {
             return self.named(alloc, word.span, start, next, room);
         }
         let mut items = Vec::new(alloc);
-        if KEEP == KEPT {
+        if self.keep {
             // A command of one word takes room for no more.
             if !next.token.begins_simple() {
                 items.reserve_exact(1)?;

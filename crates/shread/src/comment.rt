@@ -11,7 +11,7 @@ use crate::token::Class;
 use shtext::Source;
 use shtree::{Comment, Span};
 
-impl<'a, S: Source, const KEEP: u8> Cursor<'a, S, KEEP> {
+impl<'a, S: Source> Cursor<'a, S> {
     /// The place behind the last byte before `end` that is no blank.
     #[tactic(auto, using(crate::proofs::Stretches::blanks_before, crate::proofs::Stretches::no_blanks_before, crate::proofs::Stretches::nothing_before))]
     fn before_blanks(&self, end: usize) -> usize

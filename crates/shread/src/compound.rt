@@ -7,7 +7,7 @@ ghost use Rattle.shread.specs.Levels.{level};
 ghost use Rattle.shread.specs.Tokens.{is_end};
 ghost use Rattle.shtree.specs.View.{view_branch, view_command, view_form, view_list, view_otherwise};
 
-use crate::cursor::{Cursor, KEPT};
+use crate::cursor::Cursor;
 use crate::fault::{FaultKind, Stop};
 use crate::token::{Closing, Next, Opener, Position};
 use shtext::Source;
@@ -18,7 +18,7 @@ use shtree::make::{
 use shtree::{Branch, Command, Form, List, Span};
 use std::alloc::Global;
 
-impl<'a, S: Source, const KEEP: u8> Cursor<'a, S, KEEP> {
+impl<'a, S: Source> Cursor<'a, S> {
     /// Passes the round bracket or the reserved word here. `next` is set to the token behind it, which stands in this position.
     #[tactic(auto, unfolding(crate::specs::Compounds::passed, crate::specs::Commands::next_token))]
     pub(crate) fn passed(&mut self, paren: bool, position: Position, next: &mut Next) -> Span
@@ -122,7 +122,7 @@ impl<'a, S: Source, const KEEP: u8> Cursor<'a, S, KEEP> {
         }
         let _ = self.passed(false, Position::Command, next);
         let branch = self.branch(alloc, next, room)?;
-        if KEEP == KEPT {
+        if self.keep {
             branches.push(branch)?;
         }
         Ok(true)
@@ -274,7 +274,7 @@ impl<'a, S: Source, const KEEP: u8> Cursor<'a, S, KEEP> {
         }
         let opened = self.passed(matches!(opener, Opener::Paren), opener.behind(), next);
         let (form, closer) = self.form(alloc, opener, next, room - 1)?;
-        if KEEP != KEPT {
+        if !self.keep {
             // Nobody reads the command: it needs no box.
             return Ok(simple_of(Vec::new(alloc)));
         }

@@ -5,22 +5,16 @@ use crate::documents::Documents;
 use shtext::Source;
 use std::alloc::Global;
 
-/// `KEEP` of a cursor that grows the tree of what it reads. A number, since the check states no `bool` of a type beside ghost fields.
-pub(crate) const KEPT: u8 = 1;
-
-/// `KEEP` of one that only sees how far the reading goes, and grows no vector of a tree.
-pub(crate) const SEEN: u8 = 0;
-
 /// A place in the text that a source holds from `base` on.
 ///
 /// Places count from `base`. The offsets that it tells, in spans and faults, are its places plus `origin`.
-///
-/// `KEEP` is a part of the type, so that a reading without a tree has code of its own, with nothing in it that a tree needs.
 #[derive(Drop)]
-pub(crate) struct Cursor<'a, S: Source, const KEEP: u8> {
+pub(crate) struct Cursor<'a, S: Source> {
     pub(crate) source: &'a S,
     pub(crate) base: usize,
     pub(crate) origin: usize,
+    /// It grows the tree of what it reads. If not, it only sees how far the reading goes, and grows no vector.
+    pub(crate) keep: bool,
     pub(crate) at: usize,
     /// The here-documents of the level in which the reading stands.
     pub(crate) documents: Documents,
@@ -31,7 +25,7 @@ pub(crate) struct Cursor<'a, S: Source, const KEEP: u8> {
     ghost waits: { All (λ w. w.operator ≤ origin + length (drop base (S.bytes source.now))) documents.waiting.items },
 }
 
-impl<'a, S: Source, const KEEP: u8> Cursor<'a, S, KEEP> {
+impl<'a, S: Source> Cursor<'a, S> {
     ghost use Rattle.shread.specs.Clauses.{state_of};
     ghost use Rattle.shread.specs.Sights.{standing};
 
@@ -41,10 +35,11 @@ impl<'a, S: Source, const KEEP: u8> Cursor<'a, S, KEEP> {
         source: &'a S,
         base: usize,
         origin: usize,
-    ) -> Cursor<'a, S, KEEP>
+        keep: bool,
+    ) -> Cursor<'a, S>
         requires { (base ≤ length (S.bytes source.now)) × (origin ≤ base) }
         ensures { (result.source.now ≡ source.now) × (result.base ≡ base) × (result.origin ≡ origin)
-            × (state_of result ≡ standing 0) }
+            × (result.keep ≡ keep) × (state_of result ≡ standing 0) }
     {
         // The length is asked for its bound alone: no offset in the text overflows.
         let _ = source.len();
@@ -52,6 +47,7 @@ impl<'a, S: Source, const KEEP: u8> Cursor<'a, S, KEEP> {
             source,
             base,
             origin,
+            keep,
             at: 0,
             documents: Documents::new(alloc),
         }

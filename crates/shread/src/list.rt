@@ -9,7 +9,7 @@ ghost use Rattle.shread.specs.Listed.{view_listed};
 ghost use Rattle.shread.specs.Lists.{a_list, a_remark, entry_turn, list_so, list_turn, next_line, none_listed, on_line};
 ghost use Rattle.shtree.specs.View.{view_list};
 
-use crate::cursor::{Cursor, KEPT};
+use crate::cursor::Cursor;
 use crate::fault::Stop;
 use crate::token::{Next, Separator};
 use shtext::Source;
@@ -65,7 +65,7 @@ impl Listed {
     }
 }
 
-impl<'a, S: Source, const KEEP: u8> Cursor<'a, S, KEEP> {
+impl<'a, S: Source> Cursor<'a, S> {
     /// One more entry of a line, if the token here begins one: a command, with what parts it from the next one, and the comment behind
     /// it on its line. Answers whether another may follow.
     #[cycle(commands)]
@@ -95,7 +95,7 @@ impl<'a, S: Source, const KEEP: u8> Cursor<'a, S, KEEP> {
         listed.begun = true;
         listed.commands = true;
         listed.parted = past_separator(separator);
-        if KEEP == KEPT {
+        if self.keep {
             let background = matches!(separator, Some((Separator::Ampersand, _)));
             listed
                 .entries
@@ -139,7 +139,7 @@ impl<'a, S: Source, const KEEP: u8> Cursor<'a, S, KEEP> {
         if let Some(comment) = self.remark(next) {
             let blank = listed.blank && !listed.begun;
             listed.begun = true;
-            if KEEP == KEPT {
+            if self.keep {
                 listed.entries.push(comment_entry(comment, blank))?;
             }
         }

@@ -15,7 +15,7 @@ use crate::search::Sought;
 use crate::token::Class;
 use shtext::Source;
 
-impl<'a, S: Source, const KEEP: u8> Cursor<'a, S, KEEP> {
+impl<'a, S: Source> Cursor<'a, S> {
     /// What the `$` at a place begins.
     #[inline(always)]
     #[tactic(auto, unfolding(crate::specs::Pieces::dollar_at, crate::specs::Bytes::behind, crate::specs::Bytes::stands))]

@@ -6,7 +6,7 @@ ghost use Rattle.shread.specs.Form.{again, many, step_if};
 ghost use Rattle.shread.specs.Levels.{level};
 ghost use Rattle.shtree.specs.View.{view_pipeline, view_pipeline_part};
 
-use crate::cursor::{Cursor, KEPT};
+use crate::cursor::Cursor;
 use crate::fault::Stop;
 use crate::token::{Next, Position, Reserved, Token};
 use shtext::Source;
@@ -14,7 +14,7 @@ use shtree::make::{pipeline_of, pipeline_part_of};
 use shtree::{Pipeline, PipelinePart, Span};
 use std::alloc::Global;
 
-impl<'a, S: Source, const KEEP: u8> Cursor<'a, S, KEEP> {
+impl<'a, S: Source> Cursor<'a, S> {
     /// Passes the `!` of a pipeline, if one stands here.
     #[inline(always)]
     #[tactic(auto, unfolding(crate::specs::Commands::a_bang, crate::specs::Commands::next_token))]
@@ -55,7 +55,7 @@ impl<'a, S: Source, const KEEP: u8> Cursor<'a, S, KEEP> {
         self.bump();
         let join = self.join(alloc, next)?;
         let command = self.command(alloc, next, room)?;
-        if KEEP == KEPT {
+        if self.keep {
             parts.push(pipeline_part_of(join, command))?;
         }
         Ok(())

@@ -130,7 +130,7 @@ fn plain_front(run: &[u8], mode: Mode) -> usize
     run.len()
 }
 
-impl<'a, S: Source, const KEEP: u8> Cursor<'a, S, KEEP> {
+impl<'a, S: Source> Cursor<'a, S> {
     /// Passes the bytes from here on that are ordinary in a mode, or some of them.
     #[inline(always)]
     pub(crate) fn skip_plain(&mut self, mode: Mode)

@@ -9,7 +9,7 @@ ghost use Rattle.shread.specs.Levels.{level};
 ghost use Rattle.shtree.specs.Nodes.{word_span};
 ghost use Rattle.shtree.specs.View.{view_command, view_item, view_word};
 
-use crate::cursor::{Cursor, KEPT};
+use crate::cursor::Cursor;
 use crate::documents::is_strip;
 use crate::fault::{FaultKind, Stop};
 use crate::token::{Next, Position, Token};
@@ -25,7 +25,7 @@ fn is_long(operator: RedirectOperator) -> bool
     !matches!(operator, RedirectOperator::Input | RedirectOperator::Output)
 }
 
-impl<'a, S: Source, const KEEP: u8> Cursor<'a, S, KEEP> {
+impl<'a, S: Source> Cursor<'a, S> {
     /// Passes the number here, if one stands. `next` is the token here, and then the one behind it.
     #[tactic(auto, unfolding(crate::specs::Commands::a_number, crate::specs::Commands::next_token))]
     fn number(&mut self, next: &mut Next) -> Option<Span>
@@ -112,7 +112,7 @@ impl<'a, S: Source, const KEEP: u8> Cursor<'a, S, KEEP> {
         let span = self.operator(operator);
         let (word, begin) = self.target(alloc, room)?;
         let here = self.document(alloc, operator, span.start, begin)?;
-        if KEEP == KEPT {
+        if self.keep {
             let redirection = redirection_of(number, operator, span, word, here);
             items.push(redirect_of(Box::new(alloc, redirection)?, broken))?;
         }

@@ -8,7 +8,7 @@ use crate::cursor::Cursor;
 use crate::token::Class;
 use shtext::Source;
 
-impl<'a, S: Source, const KEEP: u8> Cursor<'a, S, KEEP> {
+impl<'a, S: Source> Cursor<'a, S> {
     /// The byte at a place as it stands, or `None` at the end.
     #[inline(always)]
     #[tactic(auto, using(crate::proofs::Stretches::get_drop))]

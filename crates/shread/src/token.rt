@@ -312,7 +312,7 @@ impl Position {
     }
 }
 
-impl<'a, S: Source, const KEEP: u8> Cursor<'a, S, KEEP> {
+impl<'a, S: Source> Cursor<'a, S> {
     /// Whether the word that is spelled so stands at a place. Most often no continuation stands in it.
     #[inline(always)]
     #[tactic(auto, using(crate::proofs::Runs::run_letter_more, crate::proofs::Runs::run_letter_other, crate::proofs::Runs::run_word_whole))]

@@ -19,7 +19,7 @@ use shtree::make::word_of;
 use shtree::{Subst, Word};
 use std::alloc::Global;
 
-impl<'a, S: Source, const KEEP: u8> Cursor<'a, S, KEEP> {
+impl<'a, S: Source> Cursor<'a, S> {
     /// What closes a construct of this mode, from its place on; nothing closes a word.
     #[tactic(auto, unfolding(crate::specs::Bytes::behind), using(crate::proofs::Stretches::place_low))]
     fn close(&mut self, mode: Mode, here: usize)
