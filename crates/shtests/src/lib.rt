@@ -3,10 +3,12 @@
 //!
 //! Start with the module of what is tested: `texts` is the tests of `shtext`, `tree_bodies`, `tree_nodes` and `tree_normal` are those of
 //! `shtree`, `reader_..` those of `shread`, `printer_..` those of `shprint`, `session_..` those of `shlive`; those in `.._refused` refuse each
-//! growth of memory in turn. The others help: `table` reads tables of rows, `dump` writes trees as short texts, `tree_built` builds trees by
-//! hand, `devices` has readers and writers that fail, and `growths` asks for refusals. `tree_size` is for `tests/bench`.
+//! growth of memory in turn. The others help: `table` reads tables of rows, whose cells `cell` joins, `dump` writes trees as short
+//! texts, `tree_built` builds trees by hand, `devices` has readers and writers that fail, and `growths` asks for refusals. `tree_size` is
+//! for `tests/bench`.
 #![tactic(auto)]
 
+pub mod cell;
 #[cfg(test)]
 mod devices;
 #[cfg(test)]

@@ -1,8 +1,9 @@
 // Scripts read line by line: what a line is, where it ends, and that lines come to what the whole script has. The answers are
 // worked out by hand from the grammar; none is what the reader told. `table.rt` and `dump.rt` say how they are written.
+use crate::cell::{Cell, joined};
 use crate::dump::{Judge, dump_end, dump_fault};
 use crate::reader_trees::ROWS;
-use crate::table::{Cell, joined, rows, split};
+use crate::table::{rows, split};
 use shread::{Fault, LineKind, Reader};
 use shtext::Flat;
 use shtree::{Command, Content, List};

@@ -1,7 +1,8 @@
 // What stands where in scripts that are read: the outline of a script, and the nodes at a byte of a line. The nodes are worked out by
 // hand. What both calls ask of a list is proved of those that the reader answers.
+use crate::cell::Cell;
 use crate::dump::Judge;
-use crate::table::{Cell, rows};
+use crate::table::rows;
 use shread::{LineKind, Reader};
 use shtext::Flat;
 use shtree::laws::greater_limit;

@@ -1,7 +1,8 @@
 // Sources told in stretches, and numbers: what no table of scripts holds.
+use crate::cell::Cell;
 use crate::dump::Judge;
 use crate::reader_trees::ROWS;
-use crate::table::{Cell, rows, split};
+use crate::table::{rows, split};
 use shread::{FaultKind, ReadError};
 use shtext::Source;
 use std::test::Fail;

@@ -2,15 +2,9 @@
 //
 // A row stands in round brackets, as `("a\n" * 10, "[0-1]")`. Its cells are texts with escapes as in Rust; a number behind a text
 // belongs to it. Between rows a comment begins with `//` and ends with its line. Other marks are for the eye alone.
+use crate::cell::Cell;
 use std::alloc::Global;
 use std::test::Fail;
-
-/// A text of a row, and the number behind it, or 0.
-#[derive(Drop)]
-pub(crate) struct Cell {
-    pub(crate) bytes: Vec<u8>,
-    pub(crate) number: usize,
-}
 
 /// Where the reading of a table stands.
 #[derive(Clone, Copy)]
@@ -129,20 +123,4 @@ pub(crate) fn split(row: &[Cell]) -> Result<(&[Cell], &Cell), Fail> {
         [cells @ .., last] => Ok((cells, last)),
         _ => Err(Fail::from("no row")),
     }
-}
-
-fn repeat(cell: &Cell, text: &mut Vec<u8>) -> Result<(), Fail> {
-    for _ in 0..cell.number.max(1) {
-        text.extend_from_slice(&cell.bytes)?;
-    }
-    Ok(())
-}
-
-/// The texts of the cells, each as often as its number says: once where there is none.
-pub(crate) fn joined(alloc: Global, cells: &[Cell]) -> Result<Vec<u8>, Fail> {
-    let mut text = Vec::new(alloc);
-    for cell in cells {
-        repeat(cell, &mut text)?;
-    }
-    Ok(text)
 }
