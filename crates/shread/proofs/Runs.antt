@@ -1,11 +1,41 @@
 -- A stretch of a source, and the text from a place on that it is part of.
 use Rattle.std.proofs.Common.{◌≡◌, ℕ, ◌+◌, ◌-◌, ◌<◌, ◌≤◌, ◌==◌, Bool, true, false, Some, slice_get, slice_index, get_or, List, length, drop, refl, sym, ap, ◌∙◌, arith, length-drop}
+use Rattle.std.proofs.lemmas.List.{get_or-drop}
 use Rattle.std.proofs.lemmas.Option.{slice_get-get_or}
 use Rattle.shtext.specs.Text.{IsRun}
 use Rattle.shread.specs.Standing.{raw_in, raw_stands}
 use Rattle.shread.specs.Bytes.{ends, ends_word, past_continuations}
 use Rattle.shread.specs.Tokens.{is_word_at}
 use Rattle.shread.proofs.Stretches.{get_drop, raw_stays, letter_more, letter_other, word_whole}
+
+-- ---- the stretch that begins where the text does
+
+module _ (B : List ℕ) (base at : ℕ) (front : List ℕ) (is : IsRun B base front) (low : base ≤ length B) (lt : at < length front) where
+  -- its bytes are those of the text
+  pub front_byte : slice_get (drop base B) at ≡ Some (slice_index front at)
+  front_byte =
+      let short : base + length front ≤ length B = is.short low in
+      get_drop base B at ∙ slice_get-get_or B (base + at) 0 (omega (arith, short, lt)) ∙ ap Some (is.same at lt)
+
+  pub front_within : at < length (drop base B)
+  front_within =
+      let short : base + length front ≤ length B = is.short low in
+      let whole : length (drop base B) ≡ length B - base = length-drop base B in
+      omega (arith, short, whole, lt)
+
+  -- the rest of it is a stretch as well
+  pub front_run : IsRun B (base + at) (drop at front)
+  front_run =
+      let short : base + length front ≤ length B = is.short low in
+      let rest : length (drop at front) ≡ length front - at = length-drop at front in
+      record {
+        short = λ _. omega (arith, short, rest, lt);
+        same = λ k here.
+            let there : base + (at + k) ≡ base + at + k = omega arith in
+            sym (ap (slice_index B) there) ∙ is.same (at + k) (omega (arith, rest, here)) ∙ sym (get_or-drop at front k 0);
+        some = λ _. omega (arith, rest, lt);
+        none = λ high. absurd (omega (arith, high, short, lt));
+      }
 
 module _ (B : List ℕ) (base at : ℕ) (run : List ℕ) (is : IsRun B (base + at) run) (low : base ≤ length B) (within : at ≤ length (drop base B)) where
   -- a byte of the stretch is the one that stands there

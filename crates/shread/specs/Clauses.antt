@@ -1,5 +1,5 @@
 -- Words for the clauses of the code: what a function of the reader answers, and what it leaves as it was.
-use Rattle.std.specs.Prelude.{◌≡◌, ℕ, ◌+◌, ◌<◌, ◌≤◌, Bool, true, false, List, List as Row, length, drop, map, Some, Result, Ok, Err}
+use Rattle.std.specs.Prelude.{◌≡◌, ℕ, ◌+◌, ◌<◌, ◌≤◌, ◌==◌, Bool, true, false, List, List as Row, length, drop, map, Some, Result, Ok, Err}
 use Rattle.shread.specs.declared.cursor.Cursor.{Cursor}
 use Rattle.shread.specs.declared.documents.Documents as the_documents
 use Rattle.shread.specs.declared.documents.Waiting as the_waiting
@@ -20,16 +20,16 @@ use Rattle.shread.specs.Compounds.{begins_pattern}
 use Rattle.shread.specs.Form.{Form, Read, does}
 
 -- the text of a cursor
-abbrev pub text_of : {S : Type 0} {g : _} → (S → List ℕ) → Cursor S g → List ℕ
+abbrev pub text_of : {S : Type 0} {k : ℕ} {g : _} → (S → List ℕ) → Cursor S k g → List ℕ
 text_of bytes cursor = drop cursor.base (bytes cursor.source.now)
 
 -- the text, and how it is read, stay as they are
-abbrev pub Keeps : {S : Type 0} {g : _} → Cursor S g → Cursor S g → Type 0
-Keeps old new = (new.source ≡ old.source) × (new.base ≡ old.base) × (new.origin ≡ old.origin) × (new.keep ≡ old.keep)
+abbrev pub Keeps : {S : Type 0} {k : ℕ} {g : _} → Cursor S k g → Cursor S k g → Type 0
+Keeps old new = (new.source ≡ old.source) × (new.base ≡ old.base) × (new.origin ≡ old.origin)
 
 -- only the place may differ
-abbrev pub Stays : {S : Type 0} {g : _} → Cursor S g → Cursor S g → Type 0
-Stays old new = (new.source ≡ old.source) × (new.base ≡ old.base) × (new.origin ≡ old.origin) × (new.keep ≡ old.keep) × (new.documents ≡ old.documents)
+abbrev pub Stays : {S : Type 0} {k : ℕ} {g : _} → Cursor S k g → Cursor S k g → Type 0
+Stays old new = (new.source ≡ old.source) × (new.base ≡ old.base) × (new.origin ≡ old.origin) × (new.documents ≡ old.documents)
 
 abbrev pub view_waiting : the_waiting.Waiting → Waiting
 view_waiting w = record { operator = w.operator; delimiter = w.delimiter.items; literal = w.literal; strip = w.strip }
@@ -39,23 +39,23 @@ abbrev pub standing_with : the_documents.Documents → ℕ → State
 standing_with documents p = record { at = p; waiting = map view_waiting documents.waiting.items; bodies = documents.bodies.items }
 
 -- the state of a cursor
-abbrev pub state_of : {S : Type 0} {g : _} → Cursor S g → State
+abbrev pub state_of : {S : Type 0} {k : ℕ} {g : _} → Cursor S k g → State
 state_of cursor = standing_with cursor.documents cursor.at
 
 -- a byte is read at p
 abbrev pub IsRead : List ℕ → ℕ → Type 0
 IsRead T p = past_continuations T p < length T
 
--- what a form gives from a state on in a cursor's text
-abbrev pub reads_at : {S X : Type 0} {g : _} → (S → List ℕ) → Cursor S g → Form X → State → Read X
-reads_at bytes cursor form s = does form cursor.keep (given (text_of bytes cursor) cursor.origin) s
+-- what a form gives from a state on in a cursor's text; its tree grows where k, the cursor's KEEP, is 1
+abbrev pub reads_at : {S X : Type 0} {k : ℕ} {g : _} → (S → List ℕ) → Cursor S k g → Form X → State → Read X
+reads_at {k = k} bytes cursor form s = does form (k == 1) (given (text_of bytes cursor) cursor.origin) s
 
 -- and from where the cursor stands
-abbrev pub reads : {S X : Type 0} {g : _} → (S → List ℕ) → Cursor S g → Form X → Read X
+abbrev pub reads : {S X : Type 0} {k : ℕ} {g : _} → (S → List ℕ) → Cursor S k g → Form X → Read X
 reads bytes cursor form = reads_at bytes cursor form (state_of cursor)
 
 -- the offset of the end of a cursor's text
-abbrev pub end_of : {S : Type 0} {g : _} → (S → List ℕ) → Cursor S g → ℕ
+abbrev pub end_of : {S : Type 0} {k : ℕ} {g : _} → (S → List ℕ) → Cursor S k g → ℕ
 end_of bytes cursor = cursor.origin + length (text_of bytes cursor)
 
 -- what a stop says of the reading: a fault is its outcome, and stands within the text; want of memory says nothing
@@ -69,7 +69,7 @@ Gives end view (Ok x) read = read ≡ Ok (view x)
 Gives end view (Err e) read = Fails end e read
 
 -- What a function returned, seen by view, is what the form gives from where the cursor stood, and ends in t; unless memory ran out.
-abbrev pub Reads : {S X Y : Type 0} {g : _} → (S → List ℕ) → Cursor S g → Form Y → Result X Stop → (X → Y) → State → Type 0
+abbrev pub Reads : {S X Y : Type 0} {k : ℕ} {g : _} → (S → List ℕ) → Cursor S k g → Form Y → Result X Stop → (X → Y) → State → Type 0
 Reads bytes cursor form result view t = Gives (end_of bytes cursor) (λ x. (view x, t)) result (reads bytes cursor form)
 
 -- One document's body was read: what all bodies give is what is given behind it. Or it stops all of them.

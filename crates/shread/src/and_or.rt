@@ -7,15 +7,16 @@ ghost use Rattle.shread.specs.Form.{again, many, step_if};
 ghost use Rattle.shread.specs.Levels.{level};
 ghost use Rattle.shtree.specs.View.{view_and_or, view_and_or_part};
 
-use crate::cursor::Cursor;
+use crate::cursor::{Cursor, KEPT};
 use crate::fault::Stop;
 use crate::token::Next;
 use shtext::Source;
 use shtree::make::{and_or_of, and_or_part_of};
 use shtree::{AndOr, AndOrOperator, AndOrPart};
 use std::alloc::Global;
+use std::mem;
 
-impl<'a, S: Source> Cursor<'a, S> {
+impl<'a, S: Source, const KEEP: u8> Cursor<'a, S, KEEP> {
     /// One more pipeline of an and-or list, behind `&&` or `||`. It stands apart to keep the frames of nested commands small.
     #[cycle(commands)]
     #[tactic(auto, unfolding(crate::specs::Commands::one_pipeline))]
@@ -40,8 +41,10 @@ impl<'a, S: Source> Cursor<'a, S> {
         self.bump();
         let join = self.join(alloc, next)?;
         let pipeline = self.pipeline(alloc, next, room)?;
-        if self.keep {
+        if KEEP == KEPT {
             parts.push(and_or_part_of(operator, join, pipeline))?;
+        } else {
+            mem::forget(pipeline);
         }
         Ok(())
     }

@@ -12,7 +12,7 @@ use shtext::Source;
 use shtree::Comment;
 use std::alloc::Global;
 
-impl<'a, S: Source> Cursor<'a, S> {
+impl<'a, S: Source, const KEEP: u8> Cursor<'a, S, KEEP> {
     /// Passes the comment here, if one stands. `next` is the token here, and then the one behind it.
     #[inline(always)]
     #[tactic(auto, unfolding(crate::specs::Commands::a_comment, crate::specs::Commands::next_token, crate::specs::Comments::comment_at))]

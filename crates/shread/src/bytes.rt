@@ -10,7 +10,7 @@ use crate::plain::ends_words;
 use crate::token::Class;
 use shtext::Source;
 
-impl<'a, S: Source> Cursor<'a, S> {
+impl<'a, S: Source, const KEEP: u8> Cursor<'a, S, KEEP> {
     /// The place past the continuations at a place. Most often none stands there.
     #[inline(always)]
     #[tactic(auto, using(crate::proofs::Stretches::joined_none))]
@@ -24,6 +24,16 @@ impl<'a, S: Source> Cursor<'a, S> {
             return self.past_continuations(from);
         }
         from
+    }
+
+    /// The place past the continuations here.
+    #[inline(always)]
+    pub(crate) fn place_here(&self) -> usize
+        ensures value { result ≡ past_continuations (text_of S.bytes self.now) self.now.at }
+        ensures inside { (self.now.at ≤ result) × (result ≤ length (text_of S.bytes self.now)) }
+        ensures still { past_continuations (text_of S.bytes self.now) result ≡ result }
+    {
+        self.place(self.at)
     }
 
     /// The place past the continuations at a place.
@@ -87,7 +97,8 @@ impl<'a, S: Source> Cursor<'a, S> {
         ensures past { past_continuations (text_of S.bytes self.old) self.old.at < self.new.at }
         ensures same { Stays self.old self.new }
     {
-        self.at = self.behind(self.at);
+        let at = self.at;
+        self.at = self.behind(at);
     }
 
     /// The same, where no continuation stands: at the first byte of a token.

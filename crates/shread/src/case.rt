@@ -8,7 +8,7 @@ ghost use Rattle.shread.specs.Levels.{level};
 ghost use Rattle.shread.specs.Listed.{view_cases, view_listed};
 ghost use Rattle.shtree.specs.View.{view_form, view_join, view_word};
 
-use crate::cursor::Cursor;
+use crate::cursor::{Cursor, KEPT};
 use crate::fault::Stop;
 use crate::list::Listed;
 use crate::token::{Closing, Next, Position, Token};
@@ -16,6 +16,7 @@ use shtext::Source;
 use shtree::make::{case_item_of, case_of, list_of};
 use shtree::{CaseItem, Comment, Form, Join, Span, Word, commands_end};
 use std::alloc::Global;
+use std::mem;
 
 /// The items of a `case` so far, and the comments behind them.
 #[derive(Drop)]
@@ -44,7 +45,7 @@ fn body_end(before: usize, body: &Listed) -> usize
     }
 }
 
-impl<'a, S: Source> Cursor<'a, S> {
+impl<'a, S: Source, const KEEP: u8> Cursor<'a, S, KEEP> {
     /// The word behind `case`. `next` is the token here, and then the one behind it.
     #[cycle(commands)]
     #[tactic(auto, unfolding(crate::specs::Compounds::a_case_word, crate::specs::Commands::next_token))]
@@ -85,8 +86,10 @@ impl<'a, S: Source> Cursor<'a, S> {
     {
         let start = self.at;
         let substs = self.pass_word(alloc, room)?;
-        if self.keep {
+        if KEEP == KEPT {
             patterns.push(self.word_from(start, substs))?;
+        } else {
+            mem::forget(substs);
         }
         *next = self.next_token(Position::Suffix);
         Ok(())
@@ -272,7 +275,7 @@ impl<'a, S: Source> Cursor<'a, S> {
         let there = body_end(closer.end, &body);
         let lines = std::mem::replace(&mut cases.lines, no_lines(alloc));
         let end = self.item_end(alloc, there, next, &mut cases.lines, room)?;
-        if self.keep {
+        if KEEP == KEPT {
             let list = list_of(body.entries);
             let span = Span { start, end };
             cases

@@ -10,13 +10,14 @@ ghost use Rattle.shtree.specs.Tree.{item};
 ghost use Rattle.shtree.specs.View.{view_command, view_item, view_word};
 ghost use Rattle.shread.specs.Levels.{level};
 
-use crate::cursor::Cursor;
+use crate::cursor::{Cursor, KEPT};
 use crate::fault::Stop;
 use crate::token::{Next, Position, Token};
 use shtext::Source;
 use shtree::make::{argument_of, assign_of, simple_of};
 use shtree::{Command, Item, Word};
 use std::alloc::Global;
+use std::mem;
 
 /// A word as an item, by the position behind it.
 fn item_of(word: Word, position: Position, broken: bool) -> Item
@@ -28,7 +29,7 @@ fn item_of(word: Word, position: Position, broken: bool) -> Item
     }
 }
 
-impl<'a, S: Source> Cursor<'a, S> {
+impl<'a, S: Source, const KEEP: u8> Cursor<'a, S, KEEP> {
     /// One more item, which is the word here, and the token behind it, which stands in this position.
     #[cycle(commands)]
     #[tactic(auto, unfolding(crate::specs::Commands::an_item, crate::specs::Commands::next_token))]
@@ -49,7 +50,8 @@ impl<'a, S: Source> Cursor<'a, S> {
     {
         let start = self.at;
         let substs = self.pass_word(alloc, room)?;
-        if !self.keep {
+        if KEEP != KEPT {
+            mem::forget(substs);
             *next = self.next_token(position);
             return Ok(());
         }
@@ -164,12 +166,14 @@ impl<'a, S: Source> Cursor<'a, S> {
             return self.named(alloc, word.span, start, next, room);
         }
         let mut items = Vec::new(alloc);
-        if self.keep {
+        if KEEP == KEPT {
             // A command of one word takes room for no more.
             if !next.token.begins_simple() {
                 items.reserve_exact(1)?;
             }
             items.push(argument_of(word, false))?;
+        } else {
+            mem::forget(word);
         }
         self.simple(alloc, items, Position::Suffix, next, room)
     }

@@ -11,7 +11,7 @@ use crate::token::Class;
 use shtext::Source;
 use shtree::{Comment, Span};
 
-impl<'a, S: Source> Cursor<'a, S> {
+impl<'a, S: Source, const KEEP: u8> Cursor<'a, S, KEEP> {
     /// The place behind the last byte before `end` that is no blank.
     #[tactic(auto, using(crate::proofs::Stretches::blanks_before, crate::proofs::Stretches::no_blanks_before, crate::proofs::Stretches::nothing_before))]
     fn before_blanks(&self, end: usize) -> usize
@@ -36,12 +36,13 @@ impl<'a, S: Source> Cursor<'a, S> {
         ensures onward { self.old.at ≤ self.new.at }
         ensures same { Stays self.old self.new }
     {
-        if !self.raw_stands(self.at, b'#') {
+        let at = self.at;
+        if !self.raw_stands(at, b'#') {
             return None;
         }
-        let next_newline = self.find(Sought::Byte(b'\n'), self.at);
+        let next_newline = self.find(Sought::Byte(b'\n'), at);
         let span = Span {
-            start: self.origin + self.at,
+            start: self.origin + at,
             end: self.origin + self.before_blanks(next_newline),
         };
         self.at = next_newline;

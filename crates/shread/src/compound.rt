@@ -7,7 +7,7 @@ ghost use Rattle.shread.specs.Levels.{level};
 ghost use Rattle.shread.specs.Tokens.{is_end};
 ghost use Rattle.shtree.specs.View.{view_branch, view_command, view_form, view_list, view_otherwise};
 
-use crate::cursor::Cursor;
+use crate::cursor::{Cursor, KEPT};
 use crate::fault::{FaultKind, Stop};
 use crate::token::{Closing, Next, Opener, Position};
 use shtext::Source;
@@ -17,8 +17,9 @@ use shtree::make::{
 };
 use shtree::{Branch, Command, Form, List, Span};
 use std::alloc::Global;
+use std::mem;
 
-impl<'a, S: Source> Cursor<'a, S> {
+impl<'a, S: Source, const KEEP: u8> Cursor<'a, S, KEEP> {
     /// Passes the round bracket or the reserved word here. `next` is set to the token behind it, which stands in this position.
     #[tactic(auto, unfolding(crate::specs::Compounds::passed, crate::specs::Commands::next_token))]
     pub(crate) fn passed(&mut self, paren: bool, position: Position, next: &mut Next) -> Span
@@ -122,7 +123,7 @@ impl<'a, S: Source> Cursor<'a, S> {
         }
         let _ = self.passed(false, Position::Command, next);
         let branch = self.branch(alloc, next, room)?;
-        if self.keep {
+        if KEEP == KEPT {
             branches.push(branch)?;
         }
         Ok(true)
@@ -270,11 +271,13 @@ impl<'a, S: Source> Cursor<'a, S> {
         ensures same { Keeps self.old self.new }
     {
         if room == 0 {
-            return Err(self.wrong_at(FaultKind::TooDeep, self.at));
+            let at = self.at;
+            return Err(self.wrong_at(FaultKind::TooDeep, at));
         }
         let opened = self.passed(matches!(opener, Opener::Paren), opener.behind(), next);
         let (form, closer) = self.form(alloc, opener, next, room - 1)?;
-        if !self.keep {
+        if KEEP != KEPT {
+            mem::forget(form);
             // Nobody reads the command: it needs no box.
             return Ok(simple_of(Vec::new(alloc)));
         }

@@ -1,31 +1,41 @@
 //! A place in a text.
 ghost use Rattle.std.specs.Prelude.{◌≡◌, ◌+◌, ◌^◌, ◌<◌, ◌≤◌, All, drop, length};
+ghost use Rattle.shtext.specs.Text.{IsRun};
 
 use crate::documents::Documents;
 use shtext::Source;
 use std::alloc::Global;
 
+/// `KEEP` of a cursor that grows the tree of what it reads. A number, since the check states no `bool` of a type beside ghost fields.
+pub(crate) const KEPT: u8 = 1;
+
+/// `KEEP` of one that only sees how far the reading goes, and grows no vector of a tree.
+pub(crate) const SEEN: u8 = 0;
+
 /// A place in the text that a source holds from `base` on.
 ///
 /// Places count from `base`. The offsets that it tells, in spans and faults, are its places plus `origin`.
+///
+/// `KEEP` is a part of the type, so that a reading without a tree has code of its own, with nothing in it that a tree needs.
 #[derive(Drop)]
-pub(crate) struct Cursor<'a, S: Source> {
+pub(crate) struct Cursor<'a, S: Source, const KEEP: u8> {
     pub(crate) source: &'a S,
+    /// The stretch of the source that begins at `base`: where the source lies in one piece, all that is read. Its bytes are reached faster.
+    pub(crate) front: &'a [u8],
     pub(crate) base: usize,
     pub(crate) origin: usize,
-    /// It grows the tree of what it reads. If not, it only sees how far the reading goes, and grows no vector.
-    pub(crate) keep: bool,
     pub(crate) at: usize,
     /// The here-documents of the level in which the reading stands.
     pub(crate) documents: Documents,
     ghost begins: { base ≤ length (S.bytes source.now) },
+    ghost stretch: { IsRun (S.bytes source.now) base front.now },
     ghost fits: { base + length (drop base (S.bytes source.now)) < 2 ^ 64 },
     ghost tells: { origin + length (drop base (S.bytes source.now)) < 2 ^ 64 },
     ghost inside: { at ≤ length (drop base (S.bytes source.now)) },
     ghost waits: { All (λ w. w.operator ≤ origin + length (drop base (S.bytes source.now))) documents.waiting.items },
 }
 
-impl<'a, S: Source> Cursor<'a, S> {
+impl<'a, S: Source, const KEEP: u8> Cursor<'a, S, KEEP> {
     ghost use Rattle.shread.specs.Clauses.{state_of};
     ghost use Rattle.shread.specs.Sights.{standing};
 
@@ -35,19 +45,18 @@ impl<'a, S: Source> Cursor<'a, S> {
         source: &'a S,
         base: usize,
         origin: usize,
-        keep: bool,
-    ) -> Cursor<'a, S>
+    ) -> Cursor<'a, S, KEEP>
         requires { (base ≤ length (S.bytes source.now)) × (origin ≤ base) }
         ensures { (result.source.now ≡ source.now) × (result.base ≡ base) × (result.origin ≡ origin)
-            × (result.keep ≡ keep) × (state_of result ≡ standing 0) }
+            × (state_of result ≡ standing 0) }
     {
         // The length is asked for its bound alone: no offset in the text overflows.
         let _ = source.len();
         Cursor {
             source,
+            front: source.run(base),
             base,
             origin,
-            keep,
             at: 0,
             documents: Documents::new(alloc),
         }

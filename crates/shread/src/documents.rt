@@ -1,5 +1,5 @@
 //! Here-documents: those that wait, and their bodies (XCU 2.7.4).
-ghost use Rattle.std.specs.Prelude.{◌≡◌, ◌+◌, ◌<◌, ◌≤◌, ◌==◌, ◌&&◌, All, bytes_eq, fold, nat_lt, not, [], map, Ok as Done, IfOk, IfSome, length, option_map, take, drop, ◌-◌, true, false};
+ghost use Rattle.std.specs.Prelude.{◌≡◌, ◌+◌, ◌<◌, ◌≤◌, ◌==◌, ◌&&◌, All, bytes_eq, fold, nat_lt, not, [], map, Ok as Done, Err, IfErr, IfOk, IfSome, List as Row, ◌∷◌, ◌++◌, length, option_map, take, drop, ◌-◌, true, false};
 ghost use Rattle.shread.specs.Clauses.{BodyRead, end_of, Keeps, Reads, reads, state_of, Stays, text_of, view_waiting};
 ghost use Rattle.shread.specs.Commands.{a_document, is_strip, nothing_waits, takes_here};
 ghost use Rattle.shread.specs.Form.{change, raw};
@@ -66,7 +66,7 @@ pub(crate) fn is_strip(operator: RedirectOperator) -> bool
     matches!(operator, RedirectOperator::HereStripped)
 }
 
-impl<'a, S: Source> Cursor<'a, S> {
+impl<'a, S: Source, const KEEP: u8> Cursor<'a, S, KEEP> {
     /// The operator of the first here-document that waits.
     #[inline(always)]
     pub(crate) fn first_waiting(&self) -> Option<usize>
@@ -274,16 +274,18 @@ impl<'a, S: Source> Cursor<'a, S> {
         None
     }
 
-    /// The body of one document that waits, which begins here.
-    #[tactic(auto, using(crate::proofs::Awaited::document_more, crate::proofs::Awaited::document_missing))]
-    fn one_body(&mut self, index: usize) -> Result<(), Stop>
-        requires { index < length self.old.documents.waiting.items }
-        ensures read { BodyRead (end_of S.bytes self.old) result
-            (bodies_from (given (text_of S.bytes self.old) self.old.origin) (drop index (map view_waiting self.old.documents.waiting.items)) self.old.documents.bodies.items self.old.at)
-            (bodies_from (given (text_of S.bytes self.old) self.old.origin) (drop (index + 1) (map view_waiting self.old.documents.waiting.items)) self.new.documents.bodies.items self.new.at) }
-        ensures waiting { IfOk result (λ done. self.new.documents.waiting ≡ self.old.documents.waiting) }
-        ensures onward { IfOk result (λ done. self.old.at ≤ self.new.at) }
-        ensures same { Keeps self.old self.new }
+    /// The body of a document that waits, which begins here, and the place behind its delimiter's line.
+    #[tactic(auto, using(crate::proofs::Awaited::document_missing))]
+    fn body_of(&self, index: usize) -> Result<(Span, usize), Stop>
+        requires { index < length self.now.documents.waiting.items }
+        ensures read { IfOk result (λ x. (bodies : Row Span) →
+            bodies_from (given (text_of S.bytes self.now) self.now.origin) (drop index (map view_waiting self.now.documents.waiting.items)) bodies self.now.at
+            ≡ bodies_from (given (text_of S.bytes self.now) self.now.origin) (drop (index + 1) (map view_waiting self.now.documents.waiting.items)) (bodies ++ x.0 ∷ []) x.1) }
+        ensures wrong { IfErr result (λ e. (bodies : Row Span) →
+            BodyRead (end_of S.bytes self.now) (Err e)
+            (bodies_from (given (text_of S.bytes self.now) self.now.origin) (drop index (map view_waiting self.now.documents.waiting.items)) bodies self.now.at)
+            (bodies_from (given (text_of S.bytes self.now) self.now.origin) (drop index (map view_waiting self.now.documents.waiting.items)) bodies self.now.at)) }
+        ensures onward { IfOk result (λ x. (self.now.at ≤ x.1) × (x.1 ≤ length (text_of S.bytes self.now))) }
     {
         let document = &self.documents.waiting[index];
         let Some((line, next)) = self.delimiter_line(document, self.at) else {
@@ -296,8 +298,22 @@ impl<'a, S: Source> Cursor<'a, S> {
             start: self.origin + self.at,
             end: self.origin + line,
         };
-        self.documents.bodies.push(body)?;
-        self.at = next;
+        Ok((body, next))
+    }
+
+    /// The body of one document that waits, which begins here.
+    fn one_body(&mut self, index: usize) -> Result<(), Stop>
+        requires { index < length self.old.documents.waiting.items }
+        ensures read { BodyRead (end_of S.bytes self.old) result
+            (bodies_from (given (text_of S.bytes self.old) self.old.origin) (drop index (map view_waiting self.old.documents.waiting.items)) self.old.documents.bodies.items self.old.at)
+            (bodies_from (given (text_of S.bytes self.old) self.old.origin) (drop (index + 1) (map view_waiting self.old.documents.waiting.items)) self.new.documents.bodies.items self.new.at) }
+        ensures waiting { IfOk result (λ done. self.new.documents.waiting ≡ self.old.documents.waiting) }
+        ensures onward { IfOk result (λ done. self.old.at ≤ self.new.at) }
+        ensures same { Keeps self.old self.new }
+    {
+        let found = self.body_of(index)?;
+        self.documents.bodies.push(found.0)?;
+        self.at = found.1;
         Ok(())
     }
 

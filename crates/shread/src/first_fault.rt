@@ -3,6 +3,7 @@ ghost use Rattle.std.specs.Prelude.{◌≡◌, ◌≤◌, IfOk, IfSome, length};
 ghost use Rattle.shread.specs.Scripts.{first_fault_from};
 ghost use Rattle.shread.specs.Search.{Tells};
 
+use crate::cursor::SEEN;
 use crate::fault::{Fault, ReadError, Stop};
 use crate::one_line::line_at;
 use shtext::Source;
@@ -25,7 +26,7 @@ fn look<S: Source>(alloc: Global, source: &S, at: usize) -> Result<Found, ReadEr
     requires { at ≤ length (S.bytes source.now) }
     ensures { IfOk result (Tells (S.bytes source.now) at) }
 {
-    match line_at(alloc, source, at, at, false, false) {
+    match line_at::<S, SEEN>(alloc, source, at, at, false) {
         Ok(told) => {
             if told.newline {
                 return Ok(Found::Beyond(at + told.len));

@@ -43,7 +43,7 @@ fn begins_words(semicolon: bool, token: Token) -> bool
     !semicolon && token.is_closing(Closing::In)
 }
 
-impl<'a, S: Source> Cursor<'a, S> {
+impl<'a, S: Source, const KEEP: u8> Cursor<'a, S, KEEP> {
     /// The word behind `for`, which has to be a NAME. `next` is the token here, and then the one behind it.
     #[cycle(commands)]
     #[tactic(auto, unfolding(crate::specs::Compounds::a_for_name, crate::specs::Commands::next_token))]

@@ -5,14 +5,14 @@ ghost use Rattle.shread.specs.Commands.{a_join, join_so, join_turn};
 ghost use Rattle.shread.specs.Form.{many, step_if};
 ghost use Rattle.shtree.specs.View.{view_join};
 
-use crate::cursor::Cursor;
+use crate::cursor::{Cursor, KEPT};
 use crate::fault::Stop;
 use crate::token::{Next, Position};
 use shtext::Source;
 use shtree::Join;
 use std::alloc::Global;
 
-impl<'a, S: Source> Cursor<'a, S> {
+impl<'a, S: Source, const KEEP: u8> Cursor<'a, S, KEEP> {
     /// One more comment and newline behind an operator. Answers whether there was a newline.
     #[tactic(auto, unfolding(crate::specs::Commands::join_turn))]
     fn join_turn(&mut self, next: &mut Next, join: &mut Join) -> Result<bool, Stop>
@@ -25,7 +25,7 @@ impl<'a, S: Source> Cursor<'a, S> {
     {
         if let Some(comment) = self.remark(next) {
             join.broken = true;
-            if self.keep {
+            if KEEP == KEPT {
                 join.comments.push(comment)?;
             }
         }

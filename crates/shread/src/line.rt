@@ -23,7 +23,7 @@ fn filled_entries(mut entries: Vec<Entry>, bodies: Vec<Span>) -> Vec<Entry>
     entries
 }
 
-impl<'a, S: Source> Cursor<'a, S> {
+impl<'a, S: Source, const KEEP: u8> Cursor<'a, S, KEEP> {
     /// The newline or the end behind the entries of a line. Answers whether it was a newline.
     #[inline(always)]
     #[tactic(auto, unfolding(crate::specs::Lines::end_of_line, crate::specs::Bytes::behind))]

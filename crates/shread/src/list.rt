@@ -9,13 +9,14 @@ ghost use Rattle.shread.specs.Listed.{view_listed};
 ghost use Rattle.shread.specs.Lists.{a_list, a_remark, entry_turn, list_so, list_turn, next_line, none_listed, on_line};
 ghost use Rattle.shtree.specs.View.{view_list};
 
-use crate::cursor::Cursor;
+use crate::cursor::{Cursor, KEPT};
 use crate::fault::Stop;
 use crate::token::{Next, Separator};
 use shtext::Source;
 use shtree::make::{command_entry, comment_entry, list_of};
 use shtree::{Entry, List};
 use std::alloc::Global;
+use std::mem;
 
 /// The entries of a list so far.
 #[derive(Drop)]
@@ -65,7 +66,7 @@ impl Listed {
     }
 }
 
-impl<'a, S: Source> Cursor<'a, S> {
+impl<'a, S: Source, const KEEP: u8> Cursor<'a, S, KEEP> {
     /// One more entry of a line, if the token here begins one: a command, with what parts it from the next one, and the comment behind
     /// it on its line. Answers whether another may follow.
     #[cycle(commands)]
@@ -95,11 +96,14 @@ impl<'a, S: Source> Cursor<'a, S> {
         listed.begun = true;
         listed.commands = true;
         listed.parted = past_separator(separator);
-        if self.keep {
+        if KEEP == KEPT {
             let background = matches!(separator, Some((Separator::Ampersand, _)));
             listed
                 .entries
                 .push(command_entry(and_or, background, blank, comment))?;
+        } else {
+            // It holds no memory, and what is not dropped needs not be made.
+            mem::forget(and_or);
         }
         Ok(separator.is_some())
     }
@@ -139,7 +143,7 @@ impl<'a, S: Source> Cursor<'a, S> {
         if let Some(comment) = self.remark(next) {
             let blank = listed.blank && !listed.begun;
             listed.begun = true;
-            if self.keep {
+            if KEEP == KEPT {
                 listed.entries.push(comment_entry(comment, blank))?;
             }
         }
@@ -173,6 +177,7 @@ impl<'a, S: Source> Cursor<'a, S> {
     /// A line of a list. Answers whether another follows.
     #[cycle(commands)]
     #[tactic(auto, unfolding(crate::specs::Lists::list_turn))]
+    #[inline(always)]
     fn list_line(
         &mut self,
         alloc: Global,

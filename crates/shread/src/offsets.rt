@@ -8,7 +8,7 @@ use crate::fault::{Fault, FaultKind, Stop};
 use shtext::Source;
 use shtree::Span;
 
-impl<'a, S: Source> Cursor<'a, S> {
+impl<'a, S: Source, const KEEP: u8> Cursor<'a, S, KEEP> {
     /// What stops the reading at a place.
     pub(crate) fn wrong_at(&self, kind: FaultKind, place: usize) -> Stop
         requires { place ≤ length (text_of S.bytes self.now) }

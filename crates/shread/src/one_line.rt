@@ -1,5 +1,5 @@
 //! One line of a source, alone or as a script of its own.
-ghost use Rattle.std.specs.Prelude.{◌≡◌, ◌⊎◌, ◌+◌, ◌-◌, ◌^◌, ◌<◌, ◌≤◌, ℕ, drop, false, length, map, true, IfOk, IsOk};
+ghost use Rattle.std.specs.Prelude.{◌≡◌, ◌⊎◌, ◌+◌, ◌-◌, ◌^◌, ◌<◌, ◌≤◌, ◌==◌, ℕ, drop, false, length, map, true, IfOk, IsOk};
 ghost use Rattle.shread.specs.Answers.{view_kind, view_line};
 ghost use Rattle.shread.specs.Clauses.{Gives, Onward};
 ghost use Rattle.shread.specs.Lines.{kind_of};
@@ -10,7 +10,7 @@ ghost use Rattle.shtree.specs.Nodes.{AreWithin};
 ghost use Rattle.shtree.specs.Tree.{entries_of};
 ghost use Rattle.shtree.specs.View.{view_entry};
 
-use crate::cursor::Cursor;
+use crate::cursor::{Cursor, KEPT};
 use crate::fault::{ReadError, Stop};
 use crate::reader::{Line, LineKind};
 use shtext::Source;
@@ -31,20 +31,19 @@ pub(crate) struct Told {
     pub(crate) len: usize,
 }
 
-/// The line that begins at an offset, whose own offsets are counted from `origin`.
+/// The line that begins at an offset, whose own offsets are counted from `origin`. Its tree grows where `KEEP` is `KEPT`.
 #[tactic(auto, using(crate::proofs::Places::end_is))]
-pub(crate) fn line_at<S: Source>(
+pub(crate) fn line_at<S: Source, const KEEP: u8>(
     alloc: Global,
     source: &S,
     at: usize,
     origin: usize,
     blank: bool,
-    keep: bool,
 ) -> Result<Told, Stop>
     requires { (at ≤ length (S.bytes source.now)) × (origin ≤ at) }
     ensures value { Gives (origin + length (drop at (S.bytes source.now)))
         (λ x. ((map view_entry x.entries.items, x.newline), standing x.len)) result
-        (line_told (S.bytes source.now) keep blank at origin) }
+        (line_told (S.bytes source.now) (KEEP == 1) blank at origin) }
     // No node of its entries names an offset behind it.
     ensures spans { IfOk result (λ x. (limit : ℕ) → origin + x.len ≤ limit →
         AreWithin limit (entries_of (map view_entry x.entries.items))) }
@@ -55,7 +54,7 @@ pub(crate) fn line_at<S: Source>(
         (raw_stands (drop at (S.bytes source.now)) (x.len - 1) 10 ≡ true) ⊎ (at + x.len ≡ length (S.bytes source.now))) }
     ensures whole { IfOk result (λ x. x.newline ≡ false → at + x.len ≡ length (S.bytes source.now)) }
 {
-    let mut cursor = Cursor::at_line(alloc, source, at, origin, keep);
+    let mut cursor = Cursor::<S, KEEP>::at_line(alloc, source, at, origin);
     let (entries, newline) = cursor.line(alloc, blank, MOST_OPEN)?;
     Ok(Told {
         entries,
@@ -110,7 +109,7 @@ pub(crate) fn line_from<S: Source>(alloc: Global, source: &S, at: usize) -> Resu
             ended: false,
         });
     }
-    match line_at(alloc, source, at, 0, false, true) {
+    match line_at::<S, KEPT>(alloc, source, at, 0, false) {
         Ok(
             Told {
                 entries,

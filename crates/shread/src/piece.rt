@@ -15,7 +15,7 @@ use crate::search::Sought;
 use crate::token::Class;
 use shtext::Source;
 
-impl<'a, S: Source> Cursor<'a, S> {
+impl<'a, S: Source, const KEEP: u8> Cursor<'a, S, KEEP> {
     /// What the `$` at a place begins.
     #[inline(always)]
     #[tactic(auto, unfolding(crate::specs::Pieces::dollar_at, crate::specs::Bytes::behind, crate::specs::Bytes::stands))]
@@ -144,9 +144,10 @@ impl<'a, S: Source> Cursor<'a, S> {
         ensures onward { self.old.at ≤ self.new.at }
         ensures same { Stays self.old self.new }
     {
-        match self.byte() {
-            Some(b'a'..=b'z' | b'A'..=b'Z' | b'_') => self.at = self.past(self.at, Class::Name),
-            Some(b'0'..=b'9') => self.at = self.past(self.at, Class::Digit),
+        let at = self.at;
+        match self.byte_at(at) {
+            Some(b'a'..=b'z' | b'A'..=b'Z' | b'_') => self.at = self.past(at, Class::Name),
+            Some(b'0'..=b'9') => self.at = self.past(at, Class::Digit),
             Some(b'@' | b'*' | b'#' | b'?' | b'-' | b'$' | b'!') => self.bump(),
             _ => {}
         }
@@ -189,7 +190,8 @@ impl<'a, S: Source> Cursor<'a, S> {
         ensures onward { IfOk result (λ more. self.old.at < self.new.at) }
         ensures same { Stays self.old self.new }
     {
-        let next = self.find(Sought::Either(b'`', b'\\'), self.at);
+        let at = self.at;
+        let next = self.find(Sought::Either(b'`', b'\\'), at);
         if self.at_end(next) {
             return Err(self.wrong_at(FaultKind::UnclosedBackquote, opener));
         }

@@ -6,15 +6,16 @@ ghost use Rattle.shread.specs.Form.{again, many, step_if};
 ghost use Rattle.shread.specs.Levels.{level};
 ghost use Rattle.shtree.specs.View.{view_pipeline, view_pipeline_part};
 
-use crate::cursor::Cursor;
+use crate::cursor::{Cursor, KEPT};
 use crate::fault::Stop;
 use crate::token::{Next, Position, Reserved, Token};
 use shtext::Source;
 use shtree::make::{pipeline_of, pipeline_part_of};
 use shtree::{Pipeline, PipelinePart, Span};
 use std::alloc::Global;
+use std::mem;
 
-impl<'a, S: Source> Cursor<'a, S> {
+impl<'a, S: Source, const KEEP: u8> Cursor<'a, S, KEEP> {
     /// Passes the `!` of a pipeline, if one stands here.
     #[inline(always)]
     #[tactic(auto, unfolding(crate::specs::Commands::a_bang, crate::specs::Commands::next_token))]
@@ -55,8 +56,10 @@ impl<'a, S: Source> Cursor<'a, S> {
         self.bump();
         let join = self.join(alloc, next)?;
         let command = self.command(alloc, next, room)?;
-        if self.keep {
+        if KEEP == KEPT {
             parts.push(pipeline_part_of(join, command))?;
+        } else {
+            mem::forget(command);
         }
         Ok(())
     }

@@ -130,7 +130,7 @@ fn plain_front(run: &[u8], mode: Mode) -> usize
     run.len()
 }
 
-impl<'a, S: Source> Cursor<'a, S> {
+impl<'a, S: Source, const KEEP: u8> Cursor<'a, S, KEEP> {
     /// Passes the bytes from here on that are ordinary in a mode, or some of them.
     #[inline(always)]
     pub(crate) fn skip_plain(&mut self, mode: Mode)
@@ -139,7 +139,7 @@ impl<'a, S: Source> Cursor<'a, S> {
         ensures within { self.new.at ≤ length (text_of S.bytes self.old) }
         ensures same { Stays self.old self.new }
     {
-        let run = self.source.run(self.base + self.at);
-        self.at += plain_front(run, mode);
+        let at = self.at;
+        self.at = at + plain_front(self.run_at(at), mode);
     }
 }

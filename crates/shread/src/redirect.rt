@@ -9,7 +9,7 @@ ghost use Rattle.shread.specs.Levels.{level};
 ghost use Rattle.shtree.specs.Nodes.{word_span};
 ghost use Rattle.shtree.specs.View.{view_command, view_item, view_word};
 
-use crate::cursor::Cursor;
+use crate::cursor::{Cursor, KEPT};
 use crate::documents::is_strip;
 use crate::fault::{FaultKind, Stop};
 use crate::token::{Next, Position, Token};
@@ -17,6 +17,7 @@ use shtext::Source;
 use shtree::make::{redirect_of, redirection_of, with_redirects};
 use shtree::{Command, Item, RedirectOperator, Span, Word};
 use std::alloc::Global;
+use std::mem;
 
 /// Whether it has two bytes, or more.
 fn is_long(operator: RedirectOperator) -> bool
@@ -25,7 +26,7 @@ fn is_long(operator: RedirectOperator) -> bool
     !matches!(operator, RedirectOperator::Input | RedirectOperator::Output)
 }
 
-impl<'a, S: Source> Cursor<'a, S> {
+impl<'a, S: Source, const KEEP: u8> Cursor<'a, S, KEEP> {
     /// Passes the number here, if one stands. `next` is the token here, and then the one behind it.
     #[tactic(auto, unfolding(crate::specs::Commands::a_number, crate::specs::Commands::next_token))]
     fn number(&mut self, next: &mut Next) -> Option<Span>
@@ -52,7 +53,7 @@ impl<'a, S: Source> Cursor<'a, S> {
         requires two { is_long operator ≡ true → IsRead (text_of S.bytes self.old) (behind (text_of S.bytes self.old) self.old.at) }
         requires three { is_strip operator ≡ true → IsRead (text_of S.bytes self.old) (behind (text_of S.bytes self.old) (behind (text_of S.bytes self.old) self.old.at)) }
         ensures value { reads S.bytes self.old (an_operator operator) ≡ Done ((tt, result), state_of self.new) }
-        ensures start { result.start ≤ end_of S.bytes self.old }
+        ensures start { result.start ≤ end_of S.bytes self.new }
         ensures onward { self.old.at < self.new.at }
         ensures same { Stays self.old self.new }
     {
@@ -73,6 +74,7 @@ impl<'a, S: Source> Cursor<'a, S> {
     fn target(&mut self, alloc: Global, room: usize) -> Result<(Word, usize), Stop>
         ensures value { Reads S.bytes self.old (a_target (level room)) result (λ x. (view_word x.0, raw (text_of S.bytes self.old) x.1 self.new.at)) (state_of self.new) }
         ensures place { IfOk result (λ x. (x.1 ≤ self.new.at) × ((word_span (view_word x.0)).start ≡ self.old.origin + x.1)) }
+        ensures end { end_of S.bytes self.new ≡ end_of S.bytes self.old }
         ensures onward { IfOk result (λ x. self.old.at ≤ self.new.at) }
         ensures same { Keeps self.old self.new }
     {
@@ -112,9 +114,11 @@ impl<'a, S: Source> Cursor<'a, S> {
         let span = self.operator(operator);
         let (word, begin) = self.target(alloc, room)?;
         let here = self.document(alloc, operator, span.start, begin)?;
-        if self.keep {
+        if KEEP == KEPT {
             let redirection = redirection_of(number, operator, span, word, here);
             items.push(redirect_of(Box::new(alloc, redirection)?, broken))?;
+        } else {
+            mem::forget(word);
         }
         *next = self.next_token(position);
         Ok(())

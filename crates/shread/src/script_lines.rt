@@ -4,6 +4,7 @@ ghost use Rattle.shread.specs.Scripts.{SoFar, is_blank_line, with_line};
 ghost use Rattle.shtree.specs.View.{view_entry};
 ghost use Rattle.shread.specs.LineByLine.{AtStart, GoesOn, IsNextLine, LineWithin, Stands, bytes_of, place_of};
 
+use crate::cursor::KEPT;
 use crate::fault::{Fault, ReadError, Stop};
 use crate::one_line::{Told, line_at};
 use shtext::Source;
@@ -82,7 +83,7 @@ impl<'a, S: Source> ScriptLines<'a, S> {
         ensures within { IfOk result (LineWithin (length (bytes_of S.bytes self.old))) }
     {
         let blank = self.is_blank_next();
-        match line_at(self.alloc, self.source, self.at, self.at, blank, true) {
+        match line_at::<S, KEPT>(self.alloc, self.source, self.at, self.at, blank) {
             Ok(
                 Told {
                     entries,

@@ -53,7 +53,7 @@ pub(crate) fn find_in<S: Source>(source: &S, from: usize, sought: Sought) -> usi
     at
 }
 
-impl<'a, S: Source> Cursor<'a, S> {
+impl<'a, S: Source, const KEEP: u8> Cursor<'a, S, KEEP> {
     /// The next place from a place on where a byte that is sought stands, or the end.
     #[tactic(auto, using(crate::proofs::Searches::such_behind))]
     pub(crate) fn find(&self, sought: Sought, from: usize) -> usize

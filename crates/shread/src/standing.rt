@@ -3,21 +3,49 @@ ghost use Rattle.std.specs.Prelude.{◌≡◌, ◌+◌, ◌<◌, ◌≤◌, leng
 ghost use Rattle.shread.specs.Classes.{in_class};
 ghost use Rattle.shread.specs.Clauses.{text_of};
 ghost use Rattle.shread.specs.Standing.{raw_past, at_end, continues, raw_in, raw_stands};
+ghost use Rattle.shtext.specs.Text.{IsRun};
 
 use crate::cursor::Cursor;
 use crate::token::Class;
 use shtext::Source;
 
-impl<'a, S: Source> Cursor<'a, S> {
+impl<'a, S: Source, const KEEP: u8> Cursor<'a, S, KEEP> {
     /// The byte at a place as it stands, or `None` at the end.
     #[inline(always)]
-    #[tactic(auto, using(crate::proofs::Stretches::get_drop))]
+    #[tactic(auto, using(crate::proofs::Runs::front_byte, crate::proofs::Runs::front_within))]
     pub(crate) fn raw_byte(&self, at: usize) -> Option<u8>
         requires { at ≤ length (text_of S.bytes self.now) }
         ensures value { result ≡ slice_get (text_of S.bytes self.now) at }
         ensures inside { IfSome result (λ b. at < length (text_of S.bytes self.now)) }
     {
+        if at < self.front.len() {
+            return Some(self.front[at]);
+        }
+        self.byte_behind(at)
+    }
+
+    /// The same, where it stands behind the front.
+    #[cold]
+    #[tactic(auto, using(crate::proofs::Stretches::get_drop))]
+    fn byte_behind(&self, at: usize) -> Option<u8>
+        requires { at ≤ length (text_of S.bytes self.now) }
+        ensures value { result ≡ slice_get (text_of S.bytes self.now) at }
+        ensures inside { IfSome result (λ b. at < length (text_of S.bytes self.now)) }
+    {
         self.source.byte(self.base + at)
+    }
+
+    /// The stretch that begins at a place. Most often it is a part of the front.
+    #[inline(always)]
+    #[tactic(auto, using(crate::proofs::Runs::front_run))]
+    pub(crate) fn run_at(&self, at: usize) -> &[u8]
+        requires { at ≤ length (text_of S.bytes self.now) }
+        ensures { IsRun (S.bytes self.now.source.now) (self.now.base + at) result.now }
+    {
+        if at < self.front.len() {
+            return &self.front[at..];
+        }
+        self.source.run(self.base + at)
     }
 
     /// Whether this byte is the one at a place.

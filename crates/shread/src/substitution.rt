@@ -1,5 +1,5 @@
 //! Command substitutions (XCU 2.6.3).
-ghost use Rattle.std.specs.Prelude.{◌≡◌, ◌+◌, ◌≤◌, map, IfOk};
+ghost use Rattle.std.specs.Prelude.{◌≡◌, ◌+◌, ◌≤◌, ◌==◌, map, IfOk};
 ghost use Rattle.shread.specs.Clauses.{Keeps, Reads, state_of};
 ghost use Rattle.shread.specs.Comments.{span};
 ghost use Rattle.shread.specs.Form.{pushed};
@@ -9,7 +9,7 @@ ghost use Rattle.shtree.specs.Bodies.{filled};
 ghost use Rattle.shtree.specs.Tree.{subst};
 ghost use Rattle.shtree.specs.View.{view_list, view_subst};
 
-use crate::cursor::Cursor;
+use crate::cursor::{Cursor, KEPT};
 use crate::fault::{Fault, FaultKind, Stop};
 use crate::list::Listed;
 use crate::token::{Closing, Position};
@@ -26,7 +26,7 @@ fn filled_list(mut list: List, bodies: &[Span]) -> List
     list
 }
 
-impl<'a, S: Source> Cursor<'a, S> {
+impl<'a, S: Source, const KEEP: u8> Cursor<'a, S, KEEP> {
     /// What stands in a substitution, and its `)`.
     #[cycle(commands)]
     #[tactic(auto, unfolding(crate::specs::Substitutions::substituted, crate::specs::Commands::next_token))]
@@ -57,9 +57,9 @@ impl<'a, S: Source> Cursor<'a, S> {
     ) -> Result<(), AllocError>
         requires { opener ≤ self.now.at }
         ensures value { IfOk result (λ done. map view_subst substs.new.items
-            ≡ pushed self.now.keep (map view_subst substs.old.items) (subst (filled bodies.items (view_list list)) (span self.now.origin opener self.now.at))) }
+            ≡ pushed (KEEP == 1) (map view_subst substs.old.items) (subst (filled bodies.items (view_list list)) (span self.now.origin opener self.now.at))) }
     {
-        if self.keep {
+        if KEEP == KEPT {
             let list = filled_list(list, &bodies);
             substs.push(subst_of(list, self.span_from(opener)))?;
         }

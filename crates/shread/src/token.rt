@@ -312,7 +312,7 @@ impl Position {
     }
 }
 
-impl<'a, S: Source> Cursor<'a, S> {
+impl<'a, S: Source, const KEEP: u8> Cursor<'a, S, KEEP> {
     /// Whether the word that is spelled so stands at a place. Most often no continuation stands in it.
     #[inline(always)]
     #[tactic(auto, using(crate::proofs::Runs::run_letter_more, crate::proofs::Runs::run_letter_other, crate::proofs::Runs::run_word_whole))]
@@ -320,7 +320,7 @@ impl<'a, S: Source> Cursor<'a, S> {
         requires { from ≤ length (text_of S.bytes self.now) }
         ensures { result ≡ is_word_at (text_of S.bytes self.now) from word.now }
     {
-        let run = self.source.run(self.base + from);
+        let run = self.run_at(from);
         if run.len() <= word.len() {
             return self.is_broken_word(from, word);
         }
@@ -443,7 +443,8 @@ impl<'a, S: Source> Cursor<'a, S> {
         ensures onward { self.old.at < self.new.at }
         ensures same { Stays self.old self.new }
     {
-        self.at = self.past(self.behind(self.at), Class::Name);
+        let at = self.at;
+        self.at = self.past(self.behind(at), Class::Name);
     }
 
     /// Passes the digits here.
@@ -454,7 +455,8 @@ impl<'a, S: Source> Cursor<'a, S> {
         ensures onward { self.old.at ≤ self.new.at }
         ensures same { Stays self.old self.new }
     {
-        self.at = self.past(self.at, Class::Digit);
+        let at = self.at;
+        self.at = self.past(at, Class::Digit);
     }
 
     /// Whether a NAME and `=` stand at a place. The `=` is asked for first, since most words have none.
@@ -565,6 +567,21 @@ impl<'a, S: Source> Cursor<'a, S> {
         ensures { result ≡ token_at position (text_of S.bytes self.now) at }
     {
         match self.raw_byte(at) {
+            Some(byte) if begins_a_word(byte) => self.word_token(at, position),
+            Some(b'\n') => Token::Newline,
+            _ => self.other_token(at, position),
+        }
+    }
+
+    /// The same, of which most tokens are no part: it stands apart to keep the code of those small that ask for a token.
+    #[inline(never)]
+    #[tactic(auto, unfolding(crate::specs::Tokens::token_at, crate::specs::Tokens::is_number, crate::specs::Bytes::behind, crate::specs::Bytes::stands, crate::specs::Bytes::stands_in))]
+    fn other_token(&self, at: usize, position: Position) -> Token
+        requires within { at ≤ length (text_of S.bytes self.now) }
+        requires still { past_continuations (text_of S.bytes self.now) at ≡ at }
+        ensures { result ≡ token_at position (text_of S.bytes self.now) at }
+    {
+        match self.raw_byte(at) {
             None => Token::End,
             Some(byte) if begins_a_word(byte) => self.word_token(at, position),
             Some(b'\n') => Token::Newline,
@@ -609,7 +626,8 @@ impl<'a, S: Source> Cursor<'a, S> {
         ensures inside { self.old.at ≤ self.new.at }
         ensures same { Stays self.old self.new }
     {
-        let (at, broken) = self.past_blanks(self.at);
+        let from = self.at;
+        let (at, broken) = self.past_blanks(from);
         let token = self.token(at, position);
         self.at = at;
         Next { token, broken }

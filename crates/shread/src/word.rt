@@ -19,7 +19,7 @@ use shtree::make::word_of;
 use shtree::{Subst, Word};
 use std::alloc::Global;
 
-impl<'a, S: Source> Cursor<'a, S> {
+impl<'a, S: Source, const KEEP: u8> Cursor<'a, S, KEEP> {
     /// What closes a construct of this mode, from its place on; nothing closes a word.
     #[tactic(auto, unfolding(crate::specs::Bytes::behind), using(crate::proofs::Stretches::place_low))]
     fn close(&mut self, mode: Mode, here: usize)
@@ -62,7 +62,7 @@ impl<'a, S: Source> Cursor<'a, S> {
         }
         self.skip_plain(mode);
         'ordinary: loop {
-            let here = self.place(self.at);
+            let here = self.place_here();
             match self.piece(mode, 0, here) {
                 Piece::Closer => {
                     self.close(mode, here);
@@ -128,7 +128,8 @@ impl<'a, S: Source> Cursor<'a, S> {
 
     /// One piece, with so many brackets open in arithmetic. Answers whether there was one: if not, the construct ends here.
     #[cycle(commands)]
-    #[tactic(auto, unfolding(crate::specs::Words::a_piece, crate::specs::Pieces::past_taken, crate::specs::Bytes::behind), using(crate::proofs::Stretches::place_low))]
+    #[inline(always)]
+    #[tactic(auto, unfolding(crate::specs::Words::a_piece, crate::specs::Pieces::piece_at, crate::specs::Bytes::ends_word))]
     fn take_piece(
         &mut self,
         alloc: Global,
@@ -149,7 +150,37 @@ impl<'a, S: Source> Cursor<'a, S> {
             IfOk result (λ more. self.old.at < self.new.at) }
         ensures same { Keeps self.old self.new }
     {
-        let here = self.place(self.at);
+        // Most pieces are the last of their word.
+        if mode == Mode::Plain && self.ends_word() {
+            return Ok(false);
+        }
+        self.some_piece(alloc, mode, opener, nested, substs, room)
+    }
+
+    /// The same, where the piece is still to be told.
+    #[cycle(commands)]
+    #[tactic(auto, unfolding(crate::specs::Words::a_piece, crate::specs::Pieces::past_taken, crate::specs::Bytes::behind), using(crate::proofs::Stretches::place_low))]
+    fn some_piece(
+        &mut self,
+        alloc: Global,
+        mode: Mode,
+        opener: usize,
+        nested: &mut usize,
+        substs: &mut Vec<Subst>,
+        room: usize,
+    ) -> Result<bool, Stop>
+        requires opener { opener ≤ self.old.at }
+        requires nested { nested.old ≤ self.old.at }
+        ensures value { Reads S.bytes self.old
+            (a_piece (level room) mode (self.old.origin + opener) (having nested.old (map view_subst substs.old.items))) result
+            (λ more. step_if more (having nested.new (map view_subst substs.new.items))) (state_of self.new) }
+        ensures onward { IfOk result (Onward self.old.at self.new.at) }
+        ensures nested { IfOk result (λ more. nested.new ≤ self.new.at) }
+        ensures some { mode ≡ Mode.Plain → ends_word (text_of S.bytes self.old) self.old.at ≡ false →
+            IfOk result (λ more. self.old.at < self.new.at) }
+        ensures same { Keeps self.old self.new }
+    {
+        let here = self.place_here();
         let piece = self.piece(mode, *nested, here);
         match piece {
             Piece::Closer => {

@@ -14,199 +14,202 @@ use Rattle.shread.proofs.cursor.Cursor.+commands.Given as goal
 -- ---- the way down: to what is read inside, and at last to fewer that may be opened
 
 abbrev pub decreases-construct : goal.decreases-construct
-decreases-construct g l = 64 * l.room + 1
+decreases-construct g l = 128 * l.room + 2
 
 abbrev pub decreases-substitution : goal.decreases-substitution
-decreases-substitution g l = 64 * l.room + 1
+decreases-substitution g l = 128 * l.room + 2
+
+abbrev pub decreases-some_piece : goal.decreases-some_piece
+decreases-some_piece g l = 128 * l.room + 4
 
 abbrev pub decreases-take_piece : goal.decreases-take_piece
-decreases-take_piece g l = 64 * l.room + 2
+decreases-take_piece g l = 128 * l.room + 5
 
 abbrev pub decreases-contents : goal.decreases-contents
-decreases-contents g l = 64 * l.room + 3
+decreases-contents g l = 128 * l.room + 6
 
 abbrev pub decreases-pass_word : goal.decreases-pass_word
-decreases-pass_word g l = 64 * l.room + 4
+decreases-pass_word g l = 128 * l.room + 8
 
 abbrev pub decreases-what_is_wrong : goal.decreases-what_is_wrong
-decreases-what_is_wrong g l = 64 * l.room + 5
+decreases-what_is_wrong g l = 128 * l.room + 10
 
 abbrev pub decreases-item : goal.decreases-item
-decreases-item g l = 64 * l.room + 5
+decreases-item g l = 128 * l.room + 10
 
 abbrev pub decreases-pattern : goal.decreases-pattern
-decreases-pattern g l = 64 * l.room + 5
+decreases-pattern g l = 128 * l.room + 10
 
 abbrev pub decreases-target : goal.decreases-target
-decreases-target g l = 64 * l.room + 6
+decreases-target g l = 128 * l.room + 12
 
 abbrev pub decreases-redirect : goal.decreases-redirect
-decreases-redirect g l = 64 * l.room + 7
+decreases-redirect g l = 128 * l.room + 14
 
 abbrev pub decreases-next_redirect : goal.decreases-next_redirect
-decreases-next_redirect g l = 64 * l.room + 8
+decreases-next_redirect g l = 128 * l.room + 16
 
 abbrev pub decreases-redirects : goal.decreases-redirects
-decreases-redirects g l = 64 * l.room + 9
+decreases-redirects g l = 128 * l.room + 18
 
 abbrev pub decreases-redirected : goal.decreases-redirected
-decreases-redirected g l = 64 * l.room + 10
+decreases-redirected g l = 128 * l.room + 20
 
 abbrev pub decreases-next_item : goal.decreases-next_item
-decreases-next_item g l = 64 * l.room + 8
+decreases-next_item g l = 128 * l.room + 16
 
 abbrev pub decreases-for_word : goal.decreases-for_word
-decreases-for_word g l = 64 * l.room + 6
+decreases-for_word g l = 128 * l.room + 12
 
 abbrev pub decreases-words : goal.decreases-words
-decreases-words g l = 64 * l.room + 7
+decreases-words g l = 128 * l.room + 14
 
 abbrev pub decreases-closing : goal.decreases-closing
-decreases-closing g l = 64 * l.room + 6
+decreases-closing g l = 128 * l.room + 12
 
 abbrev pub decreases-items : goal.decreases-items
-decreases-items g l = 64 * l.room + 9
+decreases-items g l = 128 * l.room + 18
 
 abbrev pub decreases-for_name : goal.decreases-for_name
-decreases-for_name g l = 64 * l.room + 6
+decreases-for_name g l = 128 * l.room + 12
 
 abbrev pub decreases-sequential_sep : goal.decreases-sequential_sep
-decreases-sequential_sep g l = 64 * l.room + 6
+decreases-sequential_sep g l = 128 * l.room + 12
 
 abbrev pub decreases-case_word : goal.decreases-case_word
-decreases-case_word g l = 64 * l.room + 6
+decreases-case_word g l = 128 * l.room + 12
 
 abbrev pub decreases-one_pattern : goal.decreases-one_pattern
-decreases-one_pattern g l = 64 * l.room + 6
+decreases-one_pattern g l = 128 * l.room + 12
 
 abbrev pub decreases-item_end : goal.decreases-item_end
-decreases-item_end g l = 64 * l.room + 6
+decreases-item_end g l = 128 * l.room + 12
 
 abbrev pub decreases-simple : goal.decreases-simple
-decreases-simple g l = 64 * l.room + 10
+decreases-simple g l = 128 * l.room + 20
 
 abbrev pub decreases-for_words : goal.decreases-for_words
-decreases-for_words g l = 64 * l.room + 8
+decreases-for_words g l = 128 * l.room + 16
 
 abbrev pub decreases-pattern_turn : goal.decreases-pattern_turn
-decreases-pattern_turn g l = 64 * l.room + 7
+decreases-pattern_turn g l = 128 * l.room + 14
 
 abbrev pub decreases-case_head : goal.decreases-case_head
-decreases-case_head g l = 64 * l.room + 7
+decreases-case_head g l = 128 * l.room + 14
 
 abbrev pub decreases-for_head : goal.decreases-for_head
-decreases-for_head g l = 64 * l.room + 9
+decreases-for_head g l = 128 * l.room + 18
 
 abbrev pub decreases-more_patterns : goal.decreases-more_patterns
-decreases-more_patterns g l = 64 * l.room + 8
+decreases-more_patterns g l = 128 * l.room + 16
 
 abbrev pub decreases-patterns : goal.decreases-patterns
-decreases-patterns g l = 64 * l.room + 9
+decreases-patterns g l = 128 * l.room + 18
 
 abbrev pub decreases-compound : goal.decreases-compound
-decreases-compound g l = 64 * l.room + 10
+decreases-compound g l = 128 * l.room + 20
 
 abbrev pub decreases-compound_by : goal.decreases-compound_by
-decreases-compound_by g l = 64 * l.room + 11
+decreases-compound_by g l = 128 * l.room + 22
 
 abbrev pub decreases-function : goal.decreases-function
-decreases-function g l = 64 * l.room + 12
+decreases-function g l = 128 * l.room + 24
 
 abbrev pub decreases-named : goal.decreases-named
-decreases-named g l = 64 * l.room + 13
+decreases-named g l = 128 * l.room + 26
 
 abbrev pub decreases-worded : goal.decreases-worded
-decreases-worded g l = 64 * l.room + 14
+decreases-worded g l = 128 * l.room + 28
 
 abbrev pub decreases-command : goal.decreases-command
-decreases-command g l = 64 * l.room + 15
+decreases-command g l = 128 * l.room + 30
 
 abbrev pub decreases-one_command : goal.decreases-one_command
-decreases-one_command g l = 64 * l.room + 16
+decreases-one_command g l = 128 * l.room + 32
 
 abbrev pub decreases-pipe : goal.decreases-pipe
-decreases-pipe g l = 64 * l.room + 17
+decreases-pipe g l = 128 * l.room + 34
 
 abbrev pub decreases-pipes : goal.decreases-pipes
-decreases-pipes g l = 64 * l.room + 18
+decreases-pipes g l = 128 * l.room + 36
 
 abbrev pub decreases-pipeline : goal.decreases-pipeline
-decreases-pipeline g l = 64 * l.room + 19
+decreases-pipeline g l = 128 * l.room + 38
 
 abbrev pub decreases-one_pipeline : goal.decreases-one_pipeline
-decreases-one_pipeline g l = 64 * l.room + 20
+decreases-one_pipeline g l = 128 * l.room + 40
 
 abbrev pub decreases-join_pipeline : goal.decreases-join_pipeline
-decreases-join_pipeline g l = 64 * l.room + 21
+decreases-join_pipeline g l = 128 * l.room + 42
 
 abbrev pub decreases-joined_pipelines : goal.decreases-joined_pipelines
-decreases-joined_pipelines g l = 64 * l.room + 22
+decreases-joined_pipelines g l = 128 * l.room + 44
 
 abbrev pub decreases-and_or : goal.decreases-and_or
-decreases-and_or g l = 64 * l.room + 23
+decreases-and_or g l = 128 * l.room + 46
 
 abbrev pub decreases-next_entry : goal.decreases-next_entry
-decreases-next_entry g l = 64 * l.room + 25
+decreases-next_entry g l = 128 * l.room + 50
 
 abbrev pub decreases-entries : goal.decreases-entries
-decreases-entries g l = 64 * l.room + 26
+decreases-entries g l = 128 * l.room + 52
 
 abbrev pub decreases-on_line : goal.decreases-on_line
-decreases-on_line g l = 64 * l.room + 27
+decreases-on_line g l = 128 * l.room + 54
 
 abbrev pub decreases-list_line : goal.decreases-list_line
-decreases-list_line g l = 64 * l.room + 28
+decreases-list_line g l = 128 * l.room + 56
 
 abbrev pub decreases-list_lines : goal.decreases-list_lines
-decreases-list_lines g l = 64 * l.room + 29
+decreases-list_lines g l = 128 * l.room + 58
 
 abbrev pub decreases-list : goal.decreases-list
-decreases-list g l = 64 * l.room + 30
+decreases-list g l = 128 * l.room + 60
 
 abbrev pub decreases-substituted : goal.decreases-substituted
-decreases-substituted g l = 64 * l.room + 30
+decreases-substituted g l = 128 * l.room + 60
 
 abbrev pub decreases-body : goal.decreases-body
-decreases-body g l = 64 * l.room + 30
+decreases-body g l = 128 * l.room + 60
 
 abbrev pub decreases-branch : goal.decreases-branch
-decreases-branch g l = 64 * l.room + 31
+decreases-branch g l = 128 * l.room + 62
 
 abbrev pub decreases-group : goal.decreases-group
-decreases-group g l = 64 * l.room + 31
+decreases-group g l = 128 * l.room + 62
 
 abbrev pub decreases-loop_command : goal.decreases-loop_command
-decreases-loop_command g l = 64 * l.room + 31
+decreases-loop_command g l = 128 * l.room + 62
 
 abbrev pub decreases-otherwise : goal.decreases-otherwise
-decreases-otherwise g l = 64 * l.room + 31
+decreases-otherwise g l = 128 * l.room + 62
 
 abbrev pub decreases-one_case : goal.decreases-one_case
-decreases-one_case g l = 64 * l.room + 31
+decreases-one_case g l = 128 * l.room + 62
 
 abbrev pub decreases-case_turn : goal.decreases-case_turn
-decreases-case_turn g l = 64 * l.room + 32
+decreases-case_turn g l = 128 * l.room + 64
 
 abbrev pub decreases-elif : goal.decreases-elif
-decreases-elif g l = 64 * l.room + 32
+decreases-elif g l = 128 * l.room + 64
 
 abbrev pub decreases-elifs : goal.decreases-elifs
-decreases-elifs g l = 64 * l.room + 33
+decreases-elifs g l = 128 * l.room + 66
 
 abbrev pub decreases-cases : goal.decreases-cases
-decreases-cases g l = 64 * l.room + 33
+decreases-cases g l = 128 * l.room + 66
 
 abbrev pub decreases-if_command : goal.decreases-if_command
-decreases-if_command g l = 64 * l.room + 34
+decreases-if_command g l = 128 * l.room + 68
 
 abbrev pub decreases-for_command : goal.decreases-for_command
-decreases-for_command g l = 64 * l.room + 34
+decreases-for_command g l = 128 * l.room + 68
 
 abbrev pub decreases-case_command : goal.decreases-case_command
-decreases-case_command g l = 64 * l.room + 34
+decreases-case_command g l = 128 * l.room + 68
 
 abbrev pub decreases-form : goal.decreases-form
-decreases-form g l = 64 * l.room + 35
+decreases-form g l = 128 * l.room + 70
 
 -- ---- loops
 

@@ -1,4 +1,4 @@
-use Rattle.std.proofs.Common.{◌≡◌, ◌∙◌, Bool, Ok, List as Row, map, ap, sym}
+use Rattle.std.proofs.Common.{◌≡◌, ◌==◌, ◌∙◌, Bool, Ok, List as Row, map, ap, sym}
 use Rattle.shtree.specs.declared.tree.Span.{Span}
 use Rattle.shtree.specs.Bodies.{filled_row}
 use Rattle.shtree.specs.Tree.{AnEntry}
@@ -22,9 +22,9 @@ returns-clause-value g c =
     let here = given (text_of g.S.Source.bytes start) start.origin in
     let es = map view_entry c.in_ok-entries.entries.items in
     let newline = c.in_ok-entries.newline in
-    let inside : does (an_open_line (level c.args.room) c.args.blank) start.keep here (own_level (state_of start)) ≡ Ok ((es, newline), inner) =
-    rw (own.same.0, own.same.1, own.same.2, own.same.3, own.level) at c.in_ok-entries.ensures.value in
-    let read = line_read start.keep here (state_of start) (level c.args.room) c.args.blank newline es inner inside in
+    let inside : does (an_open_line (level c.args.room) c.args.blank) (g.row.KEEP == 1) here (own_level (state_of start)) ≡ Ok ((es, newline), inner) =
+    rw (own.same.0, own.same.1, own.same.2, own.level) at c.in_ok-entries.ensures.value in
+    let read = line_read (g.row.KEEP == 1) here (state_of start) (level c.args.room) c.args.blank newline es inner inside in
     let bodies : c.close_level-bodies.result.items ≡ inner.bodies = shut.bodies in
     let made = c.filled_entries.ensures ∙ ap (λ (bs : Row Span). filled_row bs es) bodies in
     let state : state_of after ≡ outer_level (state_of start) inner =

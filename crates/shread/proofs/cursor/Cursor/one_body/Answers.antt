@@ -1,17 +1,13 @@
-use Rattle.std.proofs.Common.{rules, ◌≡◌, ◌+◌, ◌∙◌, Some, drop, get_or, map, sym, ap}
+use Rattle.std.proofs.Common.{◌≡◌, ◌+◌, ◌∙◌, drop, map, sym, ap}
 use Rattle.shread.specs.Clauses.{text_of, view_waiting}
-use Rattle.shread.specs.HereDocuments.{bodies_from, delimiter_from, past_line}
+use Rattle.shread.specs.HereDocuments.{bodies_from}
 use Rattle.shread.specs.Sights.{given}
-use Rattle.shread.proofs.Awaited.{document_more}
 use Rattle.shread.proofs.cursor.Cursor.one_body.Goals as goal
 
 pub returns-clause-read : goal.returns-clause-read
 returns-clause-read g c =
     let text = text_of g.S.Source.bytes c.args.self.now in
     let here = given text c.args.self.now.origin in
-    let ws = c.args.self.now.documents.waiting.items in
-    let rest = drop (c.args.index + 1) (map view_waiting ws) in
-    let found : delimiter_from text (view_waiting (get_or ws c.args.index c.index-document.result.now)) c.args.self.now.at ≡ Some c.in-Some.line = search rules in
-    document_more here ws c.args.index c.index-document.result.now c.args.self.now.documents.bodies.items c.args.self.now.at c.in-Some.line c.requires found
-    ∙ ap (λ bs. bodies_from here rest bs (past_line text c.in-Some.line)) (sym c.in_ok-push.ensures.items)
-    ∙ ap (bodies_from here rest c.push.new.self.items) (sym c.in-Some.ensures.past)
+    let rest = drop (c.args.index + 1) (map view_waiting c.args.self.now.documents.waiting.items) in
+    c.in_ok-found.ensures.read c.args.self.now.documents.bodies.items
+    ∙ ap (λ bs. bodies_from here rest bs (c.in_ok-found.found.1)) (sym c.in_ok-push.ensures.items)
