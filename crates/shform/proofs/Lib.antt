@@ -1,3 +1,4 @@
 pub mod Told
 pub mod Options
 pub mod Reported
+pub mod Parts

@@ -1,2 +1,3 @@
+pub mod Part
 pub mod Report
 pub mod Words

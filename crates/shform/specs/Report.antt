@@ -50,6 +50,10 @@ StopsFor read failed ended TooLarge = (failed ≡ false) × (ended ≡ false) ×
 StopsFor read failed ended Memory = (failed ≡ false) × (length read ≤ limit)
 StopsFor read failed ended Unwritable = ⊥
 
+-- the same for what follows bytes that were read, of which there are so many
+abbrev pub StopsBehind : ℕ → List ℕ → Bool → Bool → Stop → Type 0
+StopsBehind held more failed ended stop = (read : List ℕ) → length read ≡ held + length more → StopsFor read failed ended stop
+
 -- what was read and which ends were met where a verdict stands
 abbrev pub JudgedFor : List ℕ → Bool → Bool → Result (Option Fault) Stop → Type 0
 JudgedFor read failed ended (Ok fault) = (failed ≡ false) × (ended ≡ true) × (length read ≤ limit) × FirstFault read fault

@@ -1,21 +1,50 @@
-//! The two tools over readers and writers: an input is read whole, under the limit, and reported on.
-ghost use Rattle.std.specs.Prelude.{◌≡◌, ◌≢◌, ◌≤◌, ℕ, List, IfErr, IfOk, false, length, true};
+//! The two tools over readers and writers: an input is read to its end, under the limit, and reported on.
+ghost use Rattle.std.specs.Prelude.{◌≡◌, ◌≢◌, ◌+◌, ◌<◌, ◌≤◌, ◌==◌, ℕ, List, IfErr, IfOk, false, length, take, true};
 ghost use Rattle.std.specs.Io.KnownBytes.{Consumes, IsAtEnd};
 ghost use Rattle.shtext.specs.Device.{held_of, input_ended, input_failed, left_of, output_failed};
 ghost use Rattle.shtext.specs.Edit.{limit};
-ghost use Rattle.shform.specs.Report.{IsPrintReport, IsReport, StopsFor};
+ghost use Rattle.shform.specs.Part.{Holds};
+ghost use Rattle.shform.specs.Report.{IsPrintReport, IsReport, StopsBehind, StopsFor};
 
+use crate::part::Part;
 use crate::report::{Stop, give_up, tell, write_flushed};
 use shprint::{Layout, PrintError, print_source};
-use shread::{ReadError, Reader};
-use shtext::{Failed, Flat, Input, LIMIT, Output};
+use shread::ReadError;
+use shtext::{Failed, Flat, Input, LIMIT, Output, line_col_of};
 use std::alloc::Global;
 use std::io::{Read, Write};
 
 /// The most bytes that are read at once.
 const PIECE: usize = 65_536;
 
-/// The whole input. It reads to the end, but never past the first byte beyond the limit, and memory grows with what was read.
+/// Reads once, into the front of the piece, what follows so many bytes. Answers how many came: none at the end. It never reads past
+/// the first byte beyond the limit.
+fn read_piece<R: Read>(input: &mut Input<R>, piece: &mut [u8], held: usize) -> Result<usize, Stop>
+    requires sound { input_failed input.old ≡ false }
+    requires open { input_ended input.old ≡ false }
+    requires low { held ≤ limit }
+    requires some { 0 < length piece.old }
+    ensures size { length piece.new ≡ length piece.old }
+    ensures ok { IfOk result (λ count. (count ≤ length piece.new) × (held + count ≤ limit)
+        × (Consumes (left_of R.remaining input.old) (left_of R.remaining input.new) (take count piece.new))
+        × (input_failed input.new ≡ false) × (input_ended input.new ≡ (count == 0))
+        × (count ≡ 0 → IsAtEnd (left_of R.remaining input.new))) }
+    ensures err { IfErr result (λ stop. (more : List ℕ)
+        × (Consumes (left_of R.remaining input.old) (left_of R.remaining input.new) more)
+        × StopsBehind held more (input_failed input.new) (input_ended input.new) stop) }
+{
+    let room = (LIMIT - held + 1).min(piece.len());
+    let count = match input.read(&mut piece[..room]) {
+        Ok(count) => count,
+        Err(Failed) => return Err(Stop::Unreadable),
+    };
+    if count > LIMIT - held {
+        return Err(Stop::TooLarge);
+    }
+    Ok(count)
+}
+
+/// The whole input. Memory grows with what was read.
 pub fn read_whole<R: Read>(alloc: Global, input: &mut Input<R>) -> Result<Vec<u8>, Stop>
     requires sound { input_failed input.old ≡ false }
     requires open { input_ended input.old ≡ false }
@@ -28,17 +57,10 @@ pub fn read_whole<R: Read>(alloc: Global, input: &mut Input<R>) -> Result<Vec<u8
 {
     let mut text = Vec::new(alloc);
     let mut piece = [0; PIECE];
-    loop {
-        let room = (LIMIT - text.len() + 1).min(PIECE);
-        let count = match input.read(&mut piece[..room]) {
-            Ok(count) => count,
-            Err(Failed) => return Err(Stop::Unreadable),
-        };
+    'pieces: loop {
+        let count = read_piece(input, &mut piece, text.len())?;
         if count == 0 {
             return Ok(text);
-        }
-        if count > LIMIT - text.len() {
-            return Err(Stop::TooLarge);
         }
         if text.extend_from_slice(&piece[..count]).is_err() {
             return Err(Stop::Memory);
@@ -46,7 +68,33 @@ pub fn read_whole<R: Read>(alloc: Global, input: &mut Input<R>) -> Result<Vec<u8
     }
 }
 
-/// Reads the input whole, and tells the first fault of the script on `errors`, or why there is no verdict. The answer is 0 for a
+/// Reads the input to its end, and holds what a check needs of it.
+fn read_part<R: Read>(alloc: Global, input: &mut Input<R>) -> Result<Part, Stop>
+    requires sound { input_failed input.old ≡ false }
+    requires open { input_ended input.old ≡ false }
+    ensures ok { IfOk result (λ part. (read : List ℕ) × (Holds read part)
+        × (Consumes (left_of R.remaining input.old) (left_of R.remaining input.new) read)
+        × (IsAtEnd (left_of R.remaining input.new)) × (length read ≤ limit)
+        × (input_failed input.new ≡ false) × (input_ended input.new ≡ true)) }
+    ensures err { IfErr result (λ stop. (read : List ℕ)
+        × (Consumes (left_of R.remaining input.old) (left_of R.remaining input.new) read)
+        × StopsFor read (input_failed input.new) (input_ended input.new) stop) }
+{
+    let mut part = Part::new(alloc);
+    let mut piece = [0; PIECE];
+    'pieces: loop {
+        let count = read_piece(input, &mut piece, part.len())?;
+        if count == 0 {
+            return Ok(part);
+        }
+        match part.take(alloc, &piece[..count]) {
+            Ok(()) => {}
+            Err(ReadError::Memory) => return Err(Stop::Memory),
+        }
+    }
+}
+
+/// Reads the input to its end, and tells the first fault of the script on `errors`, or why there is no verdict. The answer is 0 for a
 /// faultless script, 1 for a faulty one, and 2 where an end or memory failed, or the script is too large.
 pub fn check_engine<R: Read, O: Write, E: Write>(
     alloc: Global,
@@ -65,15 +113,13 @@ pub fn check_engine<R: Read, O: Write, E: Write>(
     ensures silent { output.new ≡ output.old }
 {
     let _ = &*output;
-    let text = match read_whole(alloc, input) {
-        Ok(text) => text,
+    let part = match read_part(alloc, input) {
+        Ok(part) => part,
         Err(stop) => return give_up(name, stop, errors),
     };
-    let script = Flat::new(&text);
-    let mut reader = Reader::new(alloc);
-    match reader.first_fault(&script) {
+    match part.first_fault(alloc) {
         Ok(None) => 0,
-        Ok(Some(fault)) => tell(alloc, name, &script, fault, errors),
+        Ok(Some(found)) => tell(alloc, name, found.line, found.col, found.fault, errors),
         Err(ReadError::Memory) => give_up(name, Stop::Memory, errors),
     }
 }
@@ -106,7 +152,10 @@ pub fn print_engine<R: Read, O: Write, E: Write>(
     let source = Flat::new(&text);
     let printed = match print_source(alloc, layout, &source) {
         Ok(printed) => printed,
-        Err(PrintError::Faulty(fault)) => return tell(alloc, name, &source, fault, errors),
+        Err(PrintError::Faulty(fault)) => {
+            let (line, col) = line_col_of(&source, fault.at);
+            return tell(alloc, name, line, col, fault, errors);
+        }
         Err(PrintError::Memory) => return give_up(name, Stop::Memory, errors),
     };
     match write_flushed(output, &printed) {

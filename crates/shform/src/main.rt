@@ -2,12 +2,15 @@
 //! `shform session [OPTIONS] [FILE]`.
 //!
 //! Start with `run`, which takes the words, and with `check_engine` and `print_engine` in `engine`, which do the work over readers
-//! and writers: they read the input whole, have its first fault or its tree from the reader, and tell the one by `report`, or print
-//! the other. A session is that of `shlive`. `words` reads the command line. The ends, which remember how their devices fared, are those of `shtext`.
+//! and writers: a check reads the input piece by piece and holds a `part` of it, a print reads it whole; they have its first fault or
+//! its tree from the reader, and tell the one by `report`, or print the other. A session is that of `shlive`. `words` reads the command line. The ends, which remember how their devices fared, are those of `shtext`.
 #![tactic(auto)]
 
 mod asked;
 mod engine;
+mod newlines;
+mod part;
+mod passing;
 #[cfg(test)]
 mod refused;
 mod report;

@@ -1,11 +1,12 @@
 //! What the program says of an input, and the status that it answers.
-ghost use Rattle.std.specs.Prelude.{◌≡◌, ◌||◌, ◌++◌, ◌<◌, ◌≤◌, ℕ, List, Err, false, is_ok, length, not};
+ghost use Rattle.std.specs.Prelude.{◌≡◌, ◌||◌, ◌++◌, ℕ, List, Err, false, is_ok, not};
 ghost use Rattle.shtext.specs.Device.{Writes, held_of, output_failed};
+ghost use Rattle.shtext.specs.Text.{column_of, line_of};
 ghost use Rattle.shform.specs.Report.{IsTold, TellsFault};
 
 use shprint::message;
 use shread::Fault;
-use shtext::{Failed, Output, Source, line_col_of};
+use shtext::{Failed, Output};
 use std::alloc::Global;
 use std::io::Write;
 
@@ -63,21 +64,20 @@ pub fn give_up<E: Write>(name: &str, stop: Stop, errors: &mut Output<E>) -> u8
     2
 }
 
-/// Tells a fault of the script, and answers 1; where that fails, or finds no memory, 2.
-pub fn tell<S: Source, E: Write>(
+/// Tells a fault of the script at a line and a column, and answers 1; where that fails, or finds no memory, 2.
+pub fn tell<E: Write>(
     alloc: Global,
     name: &str,
-    script: &S,
+    line: usize,
+    col: usize,
     fault: Fault,
     errors: &mut Output<E>,
 ) -> u8
     requires sound { output_failed errors.old ≡ false }
-    requires within { fault.at ≤ length (S.bytes script.now) }
-    requires room { length (S.bytes script.now) < usize.MAX }
-    ensures told { TellsFault name.now (S.bytes script.now) fault
+    ensures told { (read : List ℕ) → line ≡ line_of read fault.at → col ≡ column_of read fault.at →
+        TellsFault name.now read fault
         (held_of E.contents errors.old) (held_of E.contents errors.new) (output_failed errors.new) result }
 {
-    let (line, col) = line_col_of(script, fault.at);
     let Ok(text) = message(alloc, name.as_bytes(), line, col, fault) else {
         return give_up(name, Stop::Memory, errors);
     };

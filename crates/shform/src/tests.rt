@@ -1,4 +1,5 @@
 // What no clause says: that calls succeed where nothing fails, that a failure of a device is told, and the texts.
+mod parts;
 mod print;
 mod words;
 

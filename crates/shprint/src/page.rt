@@ -30,6 +30,7 @@ impl Page {
     }
 
     /// Prints these bytes.
+    #[inline(always)]
     pub(crate) fn put(&mut self, bytes: &[u8]) -> Result<(), AllocError>
         ensures { IfOk result (λ _. Prints self.old self.new (text bytes.now ∷ [])) }
     {

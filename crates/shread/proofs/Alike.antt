@@ -17,7 +17,7 @@ use Rattle.shread.specs.declared.token.Separator.{Separator}
 use Rattle.shtree.specs.declared.tree.Span.{Span}
 use Rattle.shtree.specs.declared.tree.AndOrOperator.{AndOrOperator}
 use Rattle.shtree.specs.declared.tree.RedirectOperator.{RedirectOperator}
-use Rattle.shtree.specs.Tree.{ACommand, ASubst, AnEntry, AHere, AnItem, AWord}
+use Rattle.shtree.specs.Tree.{ACommand, ASubst, AnEntry, AnItem, AWord}
 use Rattle.shread.specs.Comments.{span}
 use Rattle.shread.specs.Sights.{Given, State, Sight, seen, the_piece, Move}
 use Rattle.shread.specs.HereDocuments.{ADelimiter, delimiter_of, Change, changed, own_level, outer_level}

@@ -12,11 +12,11 @@ use Rattle.shread.specs.Standing.{is_byte}
 use Rattle.shread.specs.Bytes.{ends, ends_word, byte_at, stands}
 use Rattle.shtree.specs.Tree.{ASubst, AWord, AWordOf, word, substs_of}
 use Rattle.shread.specs.Sights.{Sight, seen, Move, Given, State, standing}
-use Rattle.shread.specs.Form.{moved, many, Spelled, as_it_stands, Read, ◌▸◌, Form, give, see, move, push, stop, both, when, token, loop, ends_as, Step, again, done, does, Comes, may, raw, Just, just, Then, and_then, or_stops, OneToken, whole, broken_off}
+use Rattle.shread.specs.Form.{moved, many, Spelled, as_it_stands, Read, ◌▸◌, Form, give, see, move, both, token, Step, again, done, does, Comes, may, raw, Just, just, Then, and_then, or_stops, OneToken, whole, broken_off}
 use Rattle.shread.specs.Words.{Held, having, opened, piece_row, a_piece, single, backquote_turn, backquoted, Inner, contents, a_word}
 use Rattle.shread.specs.Levels.{level, IsWord}
 use Rattle.shread.proofs.Stretches.{get_drop}
-use Rattle.shread.proofs.Holds.{tells_seen, tells_many, tells_level, tells_any, Holds, holds_then, Tells, Turned, tells_so, tells_then, tells_when, tells_token, tells_loop, tells_ending, Behind, low}
+use Rattle.shread.proofs.Holds.{tells_seen, tells_many, tells_level, tells_any, Holds, holds_then, Tells, Turned, tells_so, tells_then, tells_when, tells_token, Behind, low}
 use Rattle.shread.proofs.SameBytes.{Kept}
 use Rattle.shread.proofs.Inside.{there}
 use Rattle.shread.proofs.PiecesInside.{word_in}

@@ -1,5 +1,5 @@
 -- What the loops over the lines of a here-document, and over its word, come to.
-use Rattle.std.proofs.Common.{◌≡◌, ℕ, zero, suc, ◌+◌, ◌-◌, ◌==◌, ◌<◌, ◌≤◌, Bool, true, false, not, cond, List, [], ◌∷◌, ◌++◌, List as Row, length, take, drop, map, fold, Option, Some, None, Ok, Err, slice_get, slice_index, get_or, bytes_eq, refl, sym, ap, subst, ◌∙◌, arith, ⊎_elim}
+use Rattle.std.proofs.Common.{◌≡◌, ℕ, zero, suc, ◌+◌, ◌-◌, ◌==◌, ◌<◌, ◌≤◌, Bool, true, false, not, cond, List, [], ◌∷◌, ◌++◌, List as Row, length, take, drop, map, fold, Option, Some, None, Ok, Err, slice_get, get_or, bytes_eq, refl, sym, ap, ◌∙◌, arith, ⊎_elim}
 use Rattle.std.specs.Prelude.{Result, ◌&&◌, nat_lt}
 use Rattle.std.proofs.lemmas.Bool.{cases_lt, lt-ltb}
 use Rattle.std.proofs.lemmas.Bool.Decides.{nat_tests}
@@ -10,16 +10,16 @@ use Rattle.shtree.specs.declared.tree.Span.{Span}
 use Rattle.shread.specs.declared.fault.Fault.{Fault}
 use Rattle.shread.specs.declared.documents.Waiting as the_waiting
 use Rattle.shread.specs.declared.fault.FaultKind.TheVariants.{UnclosedHere}
-use Rattle.shread.specs.Standing.{is_byte, passes, raw_in, raw_stands, raw_past, count_front, next_newline}
+use Rattle.shread.specs.Standing.{is_byte, raw_stands, raw_past, count_front, next_newline}
 use Rattle.shread.specs.Comments.{span}
 use Rattle.shread.specs.declared.documents.Documents as the_documents
 use Rattle.shread.specs.declared.fault.Stop.{Stop}
 use Rattle.shread.specs.declared.fault.Stop.TheVariants.{Memory, Wrong}
 use Rattle.shread.specs.Clauses.{BodyRead, Fails, standing_with, view_waiting}
-use Rattle.shread.specs.Sights.{Given, Waiting}
-use Rattle.shread.specs.HereDocuments.{rest_of_line, stripped, past_line, delimiter_from, body_by, bodies_from, bodies_here, state_by}
+use Rattle.shread.specs.Sights.{Given}
+use Rattle.shread.specs.HereDocuments.{rest_of_line, stripped, past_line, delimiter_from, bodies_from, bodies_here, state_by}
 use Rattle.shread.specs.Form.{change, does, nothing_read, raw}
-use Rattle.shread.proofs.Stretches.{get_drop, raw_more, raw_none}
+use Rattle.shread.proofs.Stretches.{get_drop}
 
 -- ---- bytes from one place up to another
 

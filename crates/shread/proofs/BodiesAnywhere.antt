@@ -1,16 +1,16 @@
 -- A here-document written wherever: the bytes of a body that was read, and its delimiter with a newline, end where they did.
-use Rattle.std.proofs.Common.{◌≡◌, ℕ, zero, suc, ◌+◌, ◌-◌, ◌==◌, ◌<◌, ◌≤◌, Bool, true, false, cond, not, List, [], ◌∷◌, ◌++◌, List as Row, length, take, drop, Option, Some, None, option_map, Ok, bytes_eq, refl, sym, ap, subst, ◌∙◌, arith, ⊎_elim}
-use Rattle.std.specs.Prelude.{◌&&◌, min}
+use Rattle.std.proofs.Common.{◌≡◌, ℕ, zero, suc, ◌+◌, ◌-◌, ◌==◌, ◌<◌, ◌≤◌, Bool, true, false, cond, not, List, [], ◌∷◌, ◌++◌, length, take, drop, Option, Some, None, option_map, bytes_eq, refl, sym, ap, subst, ◌∙◌, arith, ⊎_elim}
+use Rattle.std.specs.Prelude.{◌&&◌}
 use Rattle.std.proofs.lemmas.Bool.{and_parts, cases_lt}
 use Rattle.std.proofs.Math.Seq.{take-add}
 use Rattle.std.proofs.lemmas.Bool.Decides.{nat_tests}
 use Rattle.std.proofs.lemmas.List.{drop-drop, length-append, length-drop, length-take-le, take-append-drop, take-append-le}
 use Rattle.shread.specs.Standing.{count_front, raw_past}
 use Rattle.shread.specs.Sights.{Waiting}
-use Rattle.shread.specs.HereDocuments.{ADelimiter, stripped, rest_of_line, past_line, is_delimiter, takes_newline, delimiter_below, delimiter_on, delimiter_from}
+use Rattle.shread.specs.HereDocuments.{ADelimiter, stripped, past_line, is_delimiter, takes_newline, delimiter_on, delimiter_from}
 use Rattle.shread.specs.Commands.{document}
 use Rattle.shread.specs.Form.{raw}
-use Rattle.shread.proofs.BodiesAlone.{is_text, width, front, past_front, closed, closed_drop, Ends, ends, turn, found_in, by_turn, turn_alone, none_found, found_at, from_found}
+use Rattle.shread.proofs.BodiesAlone.{width, front, past_front, closed, closed_drop, ends, turn, found_in, by_turn, turn_alone, none_found, found_at, from_found}
 use Rattle.shread.proofs.Delimiters.{between}
 
 -- ---- bytes that are compared

@@ -12,11 +12,11 @@ use Rattle.shread.specs.Sights.{Given, given, State, Waiting}
 use Rattle.shread.specs.HereDocuments.{Change, waits, bodies_here, changed, past_line, delimiter_from, body_by, bodies_from, state_by, with_waiting, first_waiting}
 use Rattle.shread.specs.Form.{Read, change, does, nothing_read, raw}
 use Rattle.shread.proofs.Stretches.{get_drop}
-use Rattle.shread.proofs.Places.{next_newline_low, raw_past_stops}
+use Rattle.shread.proofs.Places.{raw_past_stops}
 use Rattle.shread.proofs.SameBytes.{byte_other, no_backslash}
 use Rattle.shread.proofs.Ahead.{ListEnds}
 use Rattle.shread.proofs.Asked.{Good, high, on, good_over, same_raw_to}
-use Rattle.shread.proofs.Delimiters.{between, bodies_low, past_line_high}
+use Rattle.shread.proofs.Delimiters.{bodies_low}
 use Rattle.shread.proofs.BodiesAlone.{closed, same_bodies}
 use Rattle.shread.proofs.Shifted.{shifted, span_from, waiting_from, state_from, moved, twice_spans, twice_waits}
 

@@ -40,11 +40,14 @@ module _ (B : List ℕ) where
   whatever_on so to p = whatever (suc (length B - p)) so to p
 
   -- a line without fault that a newline ends
-  beyond_by : (p : ℕ) (t : State) (x z : Read (Row AnEntry × Bool)) (fs : Row AnEntry) → line_from B true false p ≡ x → z ≡ Ok ((fs, true), t) → Like SameEnd x z → first_fault_from B p ≡ first_fault_from B (p + t.at)
+  pub beyond_kept : (p : ℕ) (es : Row AnEntry) (t : State) → line_from B true false p ≡ Ok ((es, true), t) → first_fault_from B p ≡ first_fault_from B (p + t.at)
   unfolding first_fault_from
+  beyond_kept p es t is = ap (λ (y : AScript). y.wrong) (line_more B nothing_yet p false refl es t (with_line nothing_yet es) is refl) ∙ whatever_on _ _ _
+
+  beyond_by : (p : ℕ) (t : State) (x z : Read (Row AnEntry × Bool)) (fs : Row AnEntry) → line_from B true false p ≡ x → z ≡ Ok ((fs, true), t) → Like SameEnd x z → first_fault_from B p ≡ first_fault_from B (p + t.at)
   beyond_by p t (Ok ((es, true), s)) z fs is z_is one =
       let same = rw z_is at one in
-      ap (λ (y : AScript). y.wrong) (line_more B nothing_yet p false refl es s (with_line nothing_yet es) is refl) ∙ ap (λ (u : State). (script_on B (with_line nothing_yet es) (p + u.at)).wrong) same.0 ∙ whatever_on _ _ _
+      beyond_kept p es s is ∙ ap (λ (u : State). first_fault_from B (p + u.at)) same.0
   beyond_by p t (Ok ((es, false), s)) z fs is z_is one = let same = rw z_is at one in let no : false ≡ true = same.1 in absurd cc
   beyond_by p t (Err e) z fs is z_is one = let same = rw z_is at one in absurd same
 

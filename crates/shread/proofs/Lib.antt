@@ -46,3 +46,11 @@ pub mod BodiesThere
 pub mod Awaited
 pub mod Shifted
 pub mod Unquoted
+pub mod Moved
+pub mod MovedBodies
+pub mod MovedTrees
+pub mod MovedWords
+pub mod MovedCommands
+pub mod MovedLists
+pub mod MovedLine
+pub mod Passing

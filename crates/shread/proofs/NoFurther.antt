@@ -9,9 +9,8 @@ use Rattle.shtree.specs.declared.tree.Span.{Span}
 use Rattle.shtree.specs.Shape.{bare}
 use Rattle.shread.specs.Comments.{span}
 use Rattle.shread.specs.Sights.{Given, given, State, Sight, here, the_byte, the_piece, the_rest, the_end, a_backquote, last_backslash, the_token, the_comment, is_a_name, a_document_waits, seen}
-use Rattle.shread.specs.HereDocuments.{Change, changed, own_level, outer_level}
-use Rattle.shread.specs.declared.fault.Fault.{Fault}
-use Rattle.shread.specs.Form.{change, with_bytes, a_level, Changed, changes, cannot, nothing_read, WithBytes, with_its_bytes, without_bytes, OwnLevel, level_read, level_stops, Spelled, Told, untold, as_it_stands, bared, by, tell, Read, Form, give, see, move, push, stop, both, when, token, loop, ends_as, Step, again, done, Just, just, Halts, halted, Then, and_then, or_stops, holds, fails, raw, OneToken, whole, broken_off, leads_on, Turns, last, rests, more, halts, Ending, goes_through, stops_inside, moved, may}
+use Rattle.shread.specs.HereDocuments.{Change, changed, own_level}
+use Rattle.shread.specs.Form.{change, with_bytes, a_level, Changed, changes, cannot, WithBytes, with_its_bytes, without_bytes, OwnLevel, level_read, level_stops, Spelled, Told, untold, as_it_stands, bared, by, tell, Read, Form, give, see, move, push, stop, both, when, token, loop, ends_as, Step, again, done, Just, just, Halts, halted, Then, and_then, or_stops, holds, fails, raw, OneToken, whole, broken_off, leads_on, Turns, last, rests, more, halts, Ending, goes_through, stops_inside, moved, may}
 use Rattle.shread.proofs.OneOutcome.{is}
 use Rattle.shread.proofs.Holds.{Holds, Behind, low}
 use Rattle.shread.proofs.Ahead.{ListEnds, same_name, same_place, same_next}

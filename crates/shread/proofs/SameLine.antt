@@ -167,11 +167,11 @@ byte_is : (x : Option ℕ) → is_byte x 10 ≡ true → x ≡ Some 10
 byte_is None e = absurd cc
 byte_is (Some b) e = let is : b ≡ 10 = grind (arith, nat_tests) in ap Some is
 
-newline_at : (T : List ℕ) (p : ℕ) → raw_stands T p 10 ≡ true → slice_get T p ≡ Some 10
+pub newline_at : (T : List ℕ) (p : ℕ) → raw_stands T p 10 ≡ true → slice_get T p ≡ Some 10
 unfolding raw_stands
 newline_at T p e = byte_is (slice_get T p) e
 
-same_texts : (T U : List ℕ) (M : ℕ) → ((r : ℕ) → r < M + 1 → slice_get U r ≡ slice_get T r) → slice_get T M ≡ Some 10 → ListEnds T U 0 M (λ p. p) 10
+pub same_texts : (T U : List ℕ) (M : ℕ) → ((r : ℕ) → r < M + 1 → slice_get U r ≡ slice_get T r) → slice_get T M ≡ Some 10 → ListEnds T U 0 M (λ p. p) 10
 same_texts T U M same byte = record {
   kept = record { under = omega arith; on = λ p k from. refl; same = λ r from lt. same r lt };
   under = omega arith;

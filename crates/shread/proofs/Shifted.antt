@@ -1,12 +1,10 @@
 -- Bodies, and documents that wait, at other offsets: all of them moved by as much.
-use Rattle.std.proofs.Common.{◌≡◌, ℕ, zero, suc, Bool, false, ◌+◌, ◌-◌, ◌≤◌, List, [], ◌∷◌, ◌++◌, List as Row, map, Option, Some, None, Ok, refl, sym, ap, ◌∙◌, arith}
-use Rattle.std.specs.Prelude.{Result}
+use Rattle.std.proofs.Common.{◌≡◌, ℕ, zero, suc, Bool, false, ◌+◌, ◌-◌, ◌≤◌, List, [], ◌∷◌, ◌++◌, List as Row, map, Option, Some, None, Ok, refl, ap, ◌∙◌, arith}
 use Rattle.std.proofs.lemmas.List.{map-append}
 use Rattle.shtree.specs.declared.tree.Span.{Span}
-use Rattle.shread.specs.declared.fault.Fault.{Fault}
 use Rattle.shread.specs.Comments.{span}
-use Rattle.shread.specs.Sights.{Given, given, State, Waiting}
-use Rattle.shread.specs.HereDocuments.{rest_of_line, past_line, is_delimiter, takes_newline, delimiter_below, delimiter_on, delimiter_from, body_by, bodies_from}
+use Rattle.shread.specs.Sights.{given, State, Waiting}
+use Rattle.shread.specs.HereDocuments.{rest_of_line, past_line, takes_newline, delimiter_below, delimiter_on, delimiter_from, body_by, bodies_from}
 use Rattle.shread.proofs.Places.{next_newline_low}
 use Rattle.shread.proofs.Delimiters.{between}
 

@@ -1,6 +1,6 @@
 -- Quote removal, a byte at a time.
-use Rattle.std.proofs.Common.{◌≡◌, ℕ, zero, suc, ◌+◌, ◌-◌, ◌==◌, ◌<◌, ◌≤◌, Bool, true, false, not, cond, ◌||◌, List, [], ◌∷◌, ◌++◌, length, drop, Option, Some, None, slice_get, get_or, refl, sym, ap, subst, ◌∙◌, arith}
-use Rattle.std.specs.Prelude.{◌&&◌, option_map, nat_lt}
+use Rattle.std.proofs.Common.{◌≡◌, ℕ, suc, ◌+◌, ◌==◌, ◌<◌, ◌≤◌, Bool, true, false, ◌||◌, List, [], ◌∷◌, ◌++◌, length, drop, Option, Some, None, slice_get, get_or, refl, sym, ap, ◌∙◌, arith}
+use Rattle.std.specs.Prelude.{◌&&◌, nat_lt}
 use Rattle.std.specs.List.{list_any}
 use Rattle.std.proofs.lemmas.Bool.{and_parts, ltb-true, lt-ltb}
 use Rattle.std.proofs.lemmas.Bool.Decides.{nat_tests}
@@ -9,7 +9,7 @@ use Rattle.std.proofs.lemmas.List.{append_assoc, drop_more, append-nil, drop_all
 use Rattle.shtree.specs.Shape.{bare}
 use Rattle.shread.specs.Standing.{is_byte, continues, raw_stands}
 use Rattle.shread.specs.Bytes.{byte_at, count_joined, past_continuations, stands}
-use Rattle.shread.specs.HereDocuments.{Quoting, behind_quote, byte_left, dollar_left, escape_left, is_live, is_quote, is_quoted, left_before, stays_before, unquoted}
+use Rattle.shread.specs.HereDocuments.{Quoting, behind_quote, byte_left, dollar_left, escape_left, is_live, is_quote, left_before, stays_before, unquoted}
 use Rattle.shread.specs.Unquoting.{escapes, left_of}
 use Rattle.shread.proofs.Stretches.{get_drop, joined_more, joined_none}
 

@@ -19,7 +19,7 @@ use Rattle.shtree.specs.declared.tree.AndOrOperator.{AndOrOperator}
 use Rattle.shtree.specs.declared.tree.RedirectOperator.{RedirectOperator}
 use Rattle.shtree.specs.declared.tree.Span.{Span}
 use Rattle.shtree.specs.Nodes.{AreWithin, IsSpanWithin, and_or_nodes, branch_nodes, branches_nodes, else_nodes, entries_nodes, entry_nodes, for_words_nodes, form_nodes, word_nodes, word_span}
-use Rattle.shtree.specs.Tree.{ACommand, AForm, ASubst, AWord, AnEntry, AnItem, Entries, branches_of, entries_of, entry, formed, item, items_of, redirect, remark, simple, compound, function, with_redirects, word}
+use Rattle.shtree.specs.Tree.{ACommand, AForm, ASubst, AWord, AnEntry, AnItem, Entries, branches_of, entries_of, entry, formed, item, items_of, remark, simple, compound, function, with_redirects, word}
 use Rattle.shtree.specs.Bodies.{filled}
 use Rattle.shtree.proofs.Going.{row_filled}
 use Rattle.shtree.proofs.OpenSame.{filled_within}

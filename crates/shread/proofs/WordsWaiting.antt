@@ -1,8 +1,8 @@
 -- A word is read alike whatever here-documents wait where it stands: it looks at none of them, and leaves them waiting.
-use Rattle.std.proofs.Common.{◌≡◌, ℕ, zero, suc, ◌-◌, Bool, true, false, cond, length, List as Row, [], ◌∷◌, Ok, Err, refl, sym, ap, ◌∙◌, subst}
+use Rattle.std.proofs.Common.{◌≡◌, ℕ, zero, suc, ◌-◌, Bool, true, false, cond, length, List as Row, [], Ok, Err, refl, sym, ap, ◌∙◌, subst}
 use Rattle.shread.specs.declared.fault.FaultKind.{FaultKind}
 use Rattle.shread.specs.declared.mode.Mode.{Mode}
-use Rattle.shread.specs.declared.mode.Mode.TheVariants.{Plain, Double, Arith}
+use Rattle.shread.specs.declared.mode.Mode.TheVariants.{Plain}
 use Rattle.shread.specs.declared.mode.Piece.{Piece}
 use Rattle.shread.specs.declared.mode.Piece.TheVariants as pieces
 use Rattle.shtree.specs.declared.tree.Span.{Span}

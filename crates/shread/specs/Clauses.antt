@@ -72,11 +72,15 @@ Gives end view (Err e) read = Fails end e read
 abbrev pub Reads : {S X Y : Type 0} {k : ℕ} {g : _} → (S → List ℕ) → Cursor S k g → Form Y → Result X Stop → (X → Y) → State → Type 0
 Reads bytes cursor form result view t = Gives (end_of bytes cursor) (λ x. (view x, t)) result (reads bytes cursor form)
 
+-- the same of the bodies that wait
+abbrev pub BodiesFail : ℕ → Stop → Result (Row Span × ℕ) Fault → Type 0
+BodiesFail end Memory all = Unit {0}
+BodiesFail end (Wrong f) all = (all ≡ Err f) × (f.at ≤ end)
+
 -- One document's body was read: what all bodies give is what is given behind it. Or it stops all of them.
 abbrev pub BodyRead : ℕ → Result (Unit {0}) Stop → Result (Row Span × ℕ) Fault → Result (Row Span × ℕ) Fault → Type 0
 BodyRead end (Ok x) all rest = all ≡ rest
-BodyRead end (Err Memory) all rest = Unit {0}
-BodyRead end (Err (Wrong f)) all rest = (all ≡ Err f) × (f.at ≤ end)
+BodyRead end (Err e) all rest = BodiesFail end e all
 
 -- a turn that goes on moves to the right
 abbrev pub Onward : ℕ → ℕ → Bool → Type 0

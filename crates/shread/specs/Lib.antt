@@ -17,6 +17,7 @@ pub mod Listed
 pub mod Levels
 pub mod Lines
 pub mod Scripts
+pub mod Moved
 pub mod Clauses
 pub mod Answers
 pub mod LineByLine

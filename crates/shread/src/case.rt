@@ -273,7 +273,7 @@ impl<'a, S: Source, const KEEP: u8> Cursor<'a, S, KEEP> {
         let closer = self.closing(alloc, Closing::Paren, next, room)?;
         let body = self.body(alloc, next, room)?;
         let there = body_end(closer.end, &body);
-        let lines = std::mem::replace(&mut cases.lines, no_lines(alloc));
+        let lines = mem::replace(&mut cases.lines, no_lines(alloc));
         let end = self.item_end(alloc, there, next, &mut cases.lines, room)?;
         if KEEP == KEPT {
             let list = list_of(body.entries);
@@ -281,6 +281,10 @@ impl<'a, S: Source, const KEEP: u8> Cursor<'a, S, KEEP> {
             cases
                 .items
                 .push(case_item_of(lines.comments, patterns, list, span))?;
+        } else {
+            mem::forget(lines);
+            mem::forget(patterns);
+            mem::forget(body);
         }
         Ok(())
     }

@@ -1,6 +1,6 @@
 //! Here-documents: those that wait, and their bodies (XCU 2.7.4).
-ghost use Rattle.std.specs.Prelude.{◌≡◌, ◌+◌, ◌<◌, ◌≤◌, ◌==◌, ◌&&◌, All, bytes_eq, fold, nat_lt, not, [], map, Ok as Done, Err, IfErr, IfOk, IfSome, List as Row, ◌∷◌, ◌++◌, length, option_map, take, drop, ◌-◌, true, false};
-ghost use Rattle.shread.specs.Clauses.{BodyRead, end_of, Keeps, Reads, reads, state_of, Stays, text_of, view_waiting};
+ghost use Rattle.std.specs.Prelude.{◌≡◌, ◌+◌, ◌<◌, ◌≤◌, ◌==◌, ◌&&◌, All, bytes_eq, fold, nat_lt, not, [], map, Ok as Done, IfErr, IfOk, IfSome, List as Row, ◌∷◌, ◌++◌, length, option_map, take, drop, ◌-◌, true, false};
+ghost use Rattle.shread.specs.Clauses.{BodiesFail, BodyRead, end_of, Keeps, Reads, reads, state_of, Stays, text_of, view_waiting};
 ghost use Rattle.shread.specs.Commands.{a_document, is_strip, nothing_waits, takes_here};
 ghost use Rattle.shread.specs.Form.{change, raw};
 ghost use Rattle.shread.specs.HereDocuments.{bodies_from, bodies_here, delimiter_from, first_waiting, is_delimiter, own_level, past_line, rest_of_line, takes_newline};
@@ -282,8 +282,7 @@ impl<'a, S: Source, const KEEP: u8> Cursor<'a, S, KEEP> {
             bodies_from (given (text_of S.bytes self.now) self.now.origin) (drop index (map view_waiting self.now.documents.waiting.items)) bodies self.now.at
             ≡ bodies_from (given (text_of S.bytes self.now) self.now.origin) (drop (index + 1) (map view_waiting self.now.documents.waiting.items)) (bodies ++ x.0 ∷ []) x.1) }
         ensures wrong { IfErr result (λ e. (bodies : Row Span) →
-            BodyRead (end_of S.bytes self.now) (Err e)
-            (bodies_from (given (text_of S.bytes self.now) self.now.origin) (drop index (map view_waiting self.now.documents.waiting.items)) bodies self.now.at)
+            BodiesFail (end_of S.bytes self.now) e
             (bodies_from (given (text_of S.bytes self.now) self.now.origin) (drop index (map view_waiting self.now.documents.waiting.items)) bodies self.now.at)) }
         ensures onward { IfOk result (λ x. (self.now.at ≤ x.1) × (x.1 ≤ length (text_of S.bytes self.now))) }
     {
@@ -345,6 +344,7 @@ impl<'a, S: Source, const KEEP: u8> Cursor<'a, S, KEEP> {
         if self.documents.waiting.is_empty() {
             return Ok(());
         }
-        self.bodies()
+        self.bodies()?;
+        Ok(())
     }
 }

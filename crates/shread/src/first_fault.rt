@@ -5,9 +5,10 @@ ghost use Rattle.shread.specs.Search.{Tells};
 
 use crate::cursor::SEEN;
 use crate::fault::{Fault, ReadError, Stop};
-use crate::one_line::line_at;
+use crate::one_line::{Told, line_at};
 use shtext::Source;
 use std::alloc::Global;
+use std::mem;
 
 /// What one line tells of the first fault from its begin on.
 #[derive(Clone, Copy)]
@@ -27,9 +28,17 @@ fn look<S: Source>(alloc: Global, source: &S, at: usize) -> Result<Found, ReadEr
     ensures { IfOk result (Tells (S.bytes source.now) at) }
 {
     match line_at::<S, SEEN>(alloc, source, at, at, false) {
-        Ok(told) => {
-            if told.newline {
-                return Ok(Found::Beyond(at + told.len));
+        Ok(
+            Told {
+                entries,
+                newline,
+                len,
+            },
+        ) => {
+            // They hold no memory.
+            mem::forget(entries);
+            if newline {
+                return Ok(Found::Beyond(at + len));
             }
             Ok(Found::Nowhere)
         }

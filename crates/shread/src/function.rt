@@ -16,6 +16,7 @@ use shtree::{Command, Comment, Join, Span};
 use std::alloc::{AllocError, Global};
 
 /// A compound command under a name; one that is not held stays so.
+#[inline(always)]
 fn under_name(
     alloc: Global,
     name: Span,

@@ -20,6 +20,7 @@ mod documents;
 mod fault;
 mod first_fault;
 mod for_loop;
+mod front;
 mod function;
 mod join;
 pub mod laws;
@@ -42,6 +43,7 @@ mod word;
 
 pub use delimiter::{Delimiter, delimiter_of};
 pub use fault::{Fault, FaultKind, ReadError};
+pub use front::faultless_front;
 pub use reader::{Line, LineKind, Reader, Script};
 pub use script_lines::{ScriptLine, ScriptLines};
 pub use token::{Closing, Next, Opener, Position, Reserved, Separator, Token};

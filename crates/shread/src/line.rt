@@ -16,6 +16,7 @@ use shtree::{Entry, Span, put_bodies_in};
 use std::alloc::Global;
 
 /// These entries with the bodies of their level.
+#[inline(always)]
 fn filled_entries(mut entries: Vec<Entry>, bodies: Vec<Span>) -> Vec<Entry>
     ensures { map view_entry result.items ≡ filled_row bodies.items (map view_entry entries.items) }
 {

@@ -171,13 +171,14 @@ impl<'a, S: Source, const KEEP: u8> Cursor<'a, S, KEEP> {
         if next.token.begins_pipeline() {
             self.entries(alloc, next, listed, room)?;
         }
-        self.own_comment(next, listed)
+        self.own_comment(next, listed)?;
+        Ok(())
     }
 
     /// A line of a list. Answers whether another follows.
     #[cycle(commands)]
-    #[tactic(auto, unfolding(crate::specs::Lists::list_turn))]
     #[inline(always)]
+    #[tactic(auto, unfolding(crate::specs::Lists::list_turn))]
     fn list_line(
         &mut self,
         alloc: Global,

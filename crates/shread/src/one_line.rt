@@ -80,7 +80,7 @@ fn line_kind(entries: Vec<Entry>, newline: bool) -> LineKind
 
 /// Whether a newline is the last byte of a line of so many bytes, of one or more.
 #[tactic(auto, unfolding(crate::specs::Standing::raw_stands), using(crate::proofs::Stretches::get_drop))]
-fn ends_in_newline<S: Source>(source: &S, at: usize, len: usize) -> bool
+pub(crate) fn ends_in_newline<S: Source>(source: &S, at: usize, len: usize) -> bool
     requires some { 0 < len }
     requires fits { at + len < 2 ^ 64 }
     ensures { result ≡ raw_stands (drop at (S.bytes source.now)) (len - 1) 10 }

@@ -19,6 +19,7 @@ use shtree::{List, Span, Subst, put_bodies};
 use std::alloc::{AllocError, Global};
 
 /// A list with the bodies of its level.
+#[inline(always)]
 fn filled_list(mut list: List, bodies: &[Span]) -> List
     ensures { view_list result ≡ filled bodies.now (view_list list) }
 {

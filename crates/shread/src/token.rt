@@ -5,6 +5,7 @@ ghost use Rattle.shread.specs.Classes.{in_class};
 ghost use Rattle.shread.specs.Clauses.{IsRead, Shows, Stays, text_of};
 ghost use Rattle.shread.specs.Commands.{and_or_operator_of, begins_pipeline, begins_redirect, begins_simple, begins_word, behind_redirect, behind_word, opener_of, redirect_operator_of, separator_of};
 ghost use Rattle.shread.specs.Compounds.{begins_pattern, behind_opener, is_closing};
+ghost use Rattle.shread.specs.Standing.{raw_stands};
 ghost use Rattle.shread.specs.Tokens.{begins_assignment, first_of_words, greater_at, is_end, is_name_at, is_number, is_word_at, less_at, next_at, past_digits, past_reserved, reserved_at, token_at, word_by};
 
 use crate::cursor::Cursor;
@@ -560,7 +561,7 @@ impl<'a, S: Source, const KEEP: u8> Cursor<'a, S, KEEP> {
 
     /// What begins at a place where no blank stands.
     #[inline(always)]
-    #[tactic(auto, unfolding(crate::specs::Tokens::token_at, crate::specs::Tokens::is_number, crate::specs::Bytes::behind, crate::specs::Bytes::stands, crate::specs::Bytes::stands_in))]
+    #[tactic(auto, unfolding(crate::specs::Tokens::token_at, crate::specs::Tokens::is_number, crate::specs::Bytes::behind, crate::specs::Bytes::stands, crate::specs::Bytes::stands_in, crate::specs::Standing::raw_stands))]
     fn token(&self, at: usize, position: Position) -> Token
         requires within { at ≤ length (text_of S.bytes self.now) }
         requires still { past_continuations (text_of S.bytes self.now) at ≡ at }
@@ -573,18 +574,17 @@ impl<'a, S: Source, const KEEP: u8> Cursor<'a, S, KEEP> {
         }
     }
 
-    /// The same, of which most tokens are no part: it stands apart to keep the code of those small that ask for a token.
+    /// The same, for what is neither a newline nor sure to be a word: it stands apart to keep the code of those small that ask for a token.
     #[inline(never)]
-    #[tactic(auto, unfolding(crate::specs::Tokens::token_at, crate::specs::Tokens::is_number, crate::specs::Bytes::behind, crate::specs::Bytes::stands, crate::specs::Bytes::stands_in))]
+    #[tactic(auto, unfolding(crate::specs::Tokens::token_at, crate::specs::Tokens::is_number, crate::specs::Bytes::behind, crate::specs::Bytes::stands, crate::specs::Bytes::stands_in, crate::specs::Standing::raw_stands))]
     fn other_token(&self, at: usize, position: Position) -> Token
         requires within { at ≤ length (text_of S.bytes self.now) }
         requires still { past_continuations (text_of S.bytes self.now) at ≡ at }
+        requires other { raw_stands (text_of S.bytes self.now) at 10 ≡ false }
         ensures { result ≡ token_at position (text_of S.bytes self.now) at }
     {
         match self.raw_byte(at) {
             None => Token::End,
-            Some(byte) if begins_a_word(byte) => self.word_token(at, position),
-            Some(b'\n') => Token::Newline,
             Some(b';') => {
                 if self.stands(self.behind(at), b';') {
                     Token::DoubleSemicolon

@@ -4,7 +4,7 @@ use crate::cell::{Cell, joined};
 use crate::dump::{Judge, dump_end, dump_fault};
 use crate::reader_trees::ROWS;
 use crate::table::{rows, split};
-use shread::{Fault, LineKind, Reader};
+use shread::{Fault, LineKind, Reader, faultless_front};
 use shtext::Flat;
 use shtree::{Command, Content, List};
 use std::alloc::Global;
@@ -67,6 +67,24 @@ fn lines(rt: HostRuntime) -> Result<(), Fail> {
         assert!(rt; reader.meter() == meter as u64);
     }
     judge.verdict()
+}
+
+/// The front of a script, and how many of its bytes are lines without a fault, each ended by a newline that is its last byte.
+const FRONTS: &[u8] = br###"
+("", 0) ("a", 0) ("a\n", 2) ("\n\n", 2) ("a\nb", 2) ("a\nb\\", 2) ("a\\\n", 0) ("a\\\n\n", 4) ("a\n#b\n c\n'", 8) ("a\n'\n'\nb", 6)
+("a\n;\nb\n", 2) ("a\n{\nb\n", 2) ("a\n{\nb\n}\n", 8) ("a &&\n", 0) ("a &&\nb\n", 7)
+("cat <<E\nx\nE\n", 12) ("cat <<E\nx\nE", 0) ("a\ncat <<E\nx\nF\n", 2)
+"###;
+
+#[test]
+fn fronts(rt: HostRuntime) -> Result<(), Fail> {
+    for row in &rows(rt.alloc(), FRONTS)? {
+        for script in row {
+            let count = faultless_front(rt.alloc(), &Flat::new(&script.bytes))?;
+            assert!(rt; count == script.number, "{count} of {:?}", script.bytes);
+        }
+    }
+    Ok(())
 }
 
 /// Reads a script line by line: how many lines ended, how many entries they have, and the fault.

@@ -5,7 +5,7 @@ ghost use Rattle.shtree.specs.Nodes.{AreWithin};
 ghost use Rattle.shtree.specs.View.{view_list};
 
 use crate::growths::{refuse, refuses, was_refused};
-use shread::{Line, LineKind, ReadError, Reader, ScriptLine, ScriptLines};
+use shread::{Line, LineKind, ReadError, Reader, ScriptLine, ScriptLines, faultless_front};
 use shtext::{Flat, Source};
 use shtree::laws::greater_limit;
 use shtree::{List, NodeKind, NodeLine};
@@ -133,6 +133,25 @@ fn first_fault_of_documents(rt: HostRuntime) -> Result<(), Fail> {
         }
         assert!(rt; matches!(read, Err(ReadError::Memory)) && reader.meter() == 0);
         assert!(rt; reader.first_fault(&Flat::new(DOCUMENTS))?.is_none());
+        met = nth;
+    }
+    assert!(rt; !refuses || met > 0);
+    Ok(())
+}
+
+/// The same where the lines at the front are looked for.
+#[test]
+fn front_of_documents(rt: HostRuntime) -> Result<(), Fail> {
+    let refuses = refuses(rt.alloc());
+    let mut met = 0;
+    for nth in 1..100 {
+        refuse(rt.alloc(), nth);
+        let count = faultless_front(rt.alloc(), &Flat::new(DOCUMENTS));
+        if !refuses || !was_refused(rt.alloc(), nth) {
+            assert!(rt; count? == DOCUMENTS.len());
+            break;
+        }
+        assert!(rt; matches!(count, Err(ReadError::Memory)));
         met = nth;
     }
     assert!(rt; !refuses || met > 0);

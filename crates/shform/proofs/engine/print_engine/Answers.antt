@@ -17,7 +17,7 @@ returns-in-Err-Faulty-clause-report g c =
     let first = subst (λ bytes. IsNoText bytes c.in-Err-Faulty.field-0) same c.in-Err-Faulty.ensures.err in
     let first = rw c.in-Err-Faulty.field-0-is at first in
     fault_told c.args.layout.now c.args.name.now _ _ _ _ c.in-Ok.text.items p.0 p.3 p.4 p.2 _ _ _ (output_failed c.args.output.now) _ _ c.in-Err-Faulty.fault c.requires.whole first.0
-    (rw same at c.tell.ensures.told)
+    (c.tell.ensures.told c.in-Ok.text.items (rw same at c.line_col_of-line.ensures.line) (rw same at c.line_col_of-line.ensures.column))
 
 pub returns-in-Err-Memory-clause-report : goal.returns-in-Err-Memory-clause-report
 returns-in-Err-Memory-clause-report g c =

@@ -1,4 +1,4 @@
-use Rattle.std.proofs.Common.{◌≡◌, ◌≤◌, ◌==◌, ◌∙◌, Ok, length, map, sym, ap, arith}
+use Rattle.std.proofs.Common.{◌≤◌, ◌==◌, ◌∙◌, Ok, length, map, sym, ap, arith}
 use Rattle.std.proofs.lemmas.Bool.Decides.{nat_tests}
 use Rattle.shread.specs.Clauses.{text_of, view_waiting}
 use Rattle.shread.specs.Sights.{given}

@@ -1,7 +1,6 @@
-use Rattle.std.proofs.Common.{rules, ◌≡◌, ◌+◌, ◌∙◌, ◌∷◌, ◌++◌, [], Some, None, drop, get_or, map, sym, ap}
-use Rattle.shtree.specs.declared.tree.Span.{Span}
+use Rattle.std.proofs.Common.{rules, ◌≡◌, ◌+◌, ◌∙◌, ◌∷◌, ◌++◌, [], Some, drop, get_or, map, sym, ap}
 use Rattle.shread.specs.Clauses.{text_of, view_waiting}
-use Rattle.shread.specs.HereDocuments.{bodies_from, delimiter_from, past_line}
+use Rattle.shread.specs.HereDocuments.{bodies_from, delimiter_from}
 use Rattle.shread.specs.Comments.{span}
 use Rattle.shread.specs.Sights.{given}
 use Rattle.shread.proofs.Awaited.{document_more}

@@ -1,4 +1,4 @@
-use Rattle.std.proofs.Common.{◌≡◌, ◌+◌, ◌∙◌, drop, map, sym, ap}
+use Rattle.std.proofs.Common.{◌+◌, ◌∙◌, drop, map, sym, ap}
 use Rattle.shread.specs.Clauses.{text_of, view_waiting}
 use Rattle.shread.specs.HereDocuments.{bodies_from}
 use Rattle.shread.specs.Sights.{given}

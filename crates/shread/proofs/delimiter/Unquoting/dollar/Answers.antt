@@ -1,4 +1,4 @@
-use Rattle.std.proofs.Common.{◌≡◌, ◌∙◌, ◌||◌, ◌++◌, Bool, List, [], ◌∷◌, Option, ℕ, drop, sym, ap}
+use Rattle.std.proofs.Common.{◌∙◌, ◌||◌, ◌++◌, Bool, List, [], ◌∷◌, Option, ℕ, drop, sym, ap}
 use Rattle.shread.specs.HereDocuments.{dollar_left, unquoted}
 use Rattle.shread.specs.Standing.{is_byte}
 use Rattle.shread.specs.Unquoting.{left_of, view_quoting}

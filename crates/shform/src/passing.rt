@@ -1,0 +1,112 @@
+//! The script of a check while it is read. Lines that are whole and without a fault are passed, and need not be held; so a script of
+//! short lines takes as much memory as a piece of it, however long it is.
+ghost use Rattle.std.specs.Prelude.{◌≡◌, ◌+◌, ◌++◌, ◌≤◌, ℕ, List, [], IfOk, drop, length};
+ghost use Rattle.shform.specs.Part.{CanPass, Holds, IsFound, bytes_read};
+ghost use Rattle.shtext.specs.Edit.{limit};
+
+use crate::newlines::newlines_in;
+use crate::part::{Found, Part};
+use shread::{Fault, ReadError, Reader, faultless_front};
+use shtext::{Flat, line_col_of};
+use std::alloc::{AllocError, Global};
+
+/// How many bytes are held before lines are looked for among them.
+const ENOUGH: usize = 65_536;
+
+/// Takes so many bytes away at the front.
+fn drop_front(text: &mut Vec<u8>, count: usize)
+    requires { count ≤ length text.old.items }
+    ensures { text.new.items ≡ drop count text.old.items }
+{
+    let len = text.len();
+    text.copy_within(count..len, 0);
+    text.truncate(len - count);
+}
+
+impl Part {
+    /// Nothing was read.
+    pub fn new(alloc: Global) -> Part
+        ensures { Holds [] result }
+    {
+        Part {
+            text: Vec::new(alloc),
+            passed: 0,
+            newlines: 0,
+            long: false,
+        }
+    }
+
+    /// How many bytes were read.
+    pub fn len(&self) -> usize
+        ensures value { result ≡ bytes_read self.now }
+        ensures low { result ≤ limit }
+    {
+        self.passed + self.text.len()
+    }
+
+    /// Some more bytes were read. Where memory runs out, all is as before.
+    fn add(&mut self, bytes: &[u8]) -> Result<(), AllocError>
+        requires { bytes_read self.old + length bytes.now ≤ limit }
+        ensures { IfOk result (λ done. (read : List ℕ) → Holds read self.old → Holds (read ++ bytes.now) self.new) }
+    {
+        self.text.extend_from_slice(bytes)?;
+        Ok(())
+    }
+
+    /// Passes so many bytes.
+    fn pass(&mut self, count: usize)
+        requires { CanPass self.old count }
+        ensures { (read : List ℕ) → Holds read self.old → Holds read self.new }
+    {
+        self.newlines += newlines_in(&self.text[..count]);
+        drop_front(&mut self.text, count);
+        self.passed += count;
+    }
+
+    /// Passes what lines there are, where enough is held to look for them.
+    fn pass_lines(&mut self, alloc: Global) -> Result<(), ReadError>
+        ensures { IfOk result (λ done. (read : List ℕ) → Holds read self.old → Holds read self.new) }
+    {
+        let len = self.text.len();
+        if self.long || len < ENOUGH {
+            return Ok(());
+        }
+        let count = faultless_front(alloc, &Flat::new(&self.text))?;
+        self.long = len - count > len / 8;
+        self.pass(count);
+        Ok(())
+    }
+
+    /// Takes some more bytes that were read.
+    pub fn take(&mut self, alloc: Global, bytes: &[u8]) -> Result<(), ReadError>
+        requires { bytes_read self.old + length bytes.now ≤ limit }
+        ensures { IfOk result (λ done. (read : List ℕ) → Holds read self.old → Holds (read ++ bytes.now) self.new) }
+    {
+        if self.add(bytes).is_err() {
+            return Err(ReadError::Memory);
+        }
+        self.pass_lines(alloc)
+    }
+
+    /// The first fault of the script, where all of it was read.
+    pub fn first_fault(&self, alloc: Global) -> Result<Option<Found>, ReadError>
+        ensures { IfOk result (λ found. (read : List ℕ) → Holds read self.now → IsFound read found) }
+    {
+        let script = Flat::new(&self.text);
+        match Reader::new(alloc).first_fault(&script)? {
+            None => Ok(None),
+            Some(fault) => {
+                let (line, col) = line_col_of(&script, fault.at);
+                let at = self.passed + fault.at;
+                Ok(Some(Found {
+                    fault: Fault {
+                        kind: fault.kind,
+                        at,
+                    },
+                    line: self.newlines + line,
+                    col,
+                }))
+            }
+        }
+    }
+}

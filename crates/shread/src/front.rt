@@ -1,0 +1,54 @@
+//! What may be passed of a script that is read in parts.
+ghost use Rattle.std.specs.Prelude.{◌≡◌, ◌-◌, ◌<◌, ◌≤◌, IfOk, IfSome, None, Some, length, slice_get};
+ghost use Rattle.shread.specs.Search.{LineBefore, MayPass, StopsAt};
+
+use crate::cursor::SEEN;
+use crate::fault::{ReadError, Stop};
+use crate::one_line::{Told, ends_in_newline, line_at};
+use shtext::Source;
+use std::alloc::Global;
+use std::mem;
+
+/// The place behind the line that begins at an offset, if it has no fault and a newline ended it that is its last byte.
+fn behind_line<S: Source>(alloc: Global, source: &S, at: usize) -> Result<Option<usize>, ReadError>
+    requires { at ≤ length (S.bytes source.now) }
+    ensures some { IfOk result (λ next. IfSome next (λ p. LineBefore (S.bytes source.now) at p)) }
+    ensures none { IfOk result (λ next. next ≡ None → StopsAt (S.bytes source.now) at) }
+{
+    match line_at::<S, SEEN>(alloc, source, at, 0, false) {
+        Ok(
+            Told {
+                entries,
+                newline,
+                len,
+            },
+        ) => {
+            // They hold no memory.
+            mem::forget(entries);
+            if newline && ends_in_newline(source, at, len) {
+                return Ok(Some(at + len));
+            }
+            Ok(None)
+        }
+        Err(Stop::Wrong(_)) => Ok(None),
+        Err(Stop::Memory) => Err(ReadError::Memory),
+    }
+}
+
+/// How many bytes at the front of a source are lines without a fault, each ended by a newline that is its last byte.
+///
+/// The source may be the front of a script. Whatever follows these lines there, the first fault of the script is that behind them.
+/// So who looks for it alone need not hold them.
+pub fn faultless_front<S: Source>(alloc: Global, source: &S) -> Result<usize, ReadError>
+    ensures passed { IfOk result (λ n. MayPass (S.bytes source.now) n) }
+    ensures within { IfOk result (λ n. n ≤ length (S.bytes source.now)) }
+    ensures newline { IfOk result (λ n. 0 < n → slice_get (S.bytes source.now) (n - 1) ≡ Some 10) }
+    // They are all: no such line follows.
+    ensures all { IfOk result (StopsAt (S.bytes source.now)) }
+{
+    let mut at = 0;
+    'lines: while let Some(next) = behind_line(alloc, source, at)? {
+        at = next;
+    }
+    Ok(at)
+}
