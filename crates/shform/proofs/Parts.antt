@@ -1,19 +1,25 @@
 -- What is held of a script stays true as more of it is read, and as lines are passed.
-use Rattle.std.proofs.Common.{◌≡◌, ℕ, ◌+◌, ◌-◌, ◌<◌, ◌≤◌, ◌++◌, [], List, Option, None, Some, option_map, count_by, length, take, drop, slice_get, get_or, refl, sym, ap, subst, ◌∙◌, arith, ⊎_elim, length-drop, zero-add}
+use Rattle.std.proofs.Common.{◌≡◌, ℕ, ◌+◌, ◌-◌, ◌<◌, ◌≤◌, ◌++◌, [], List, Option, None, Some, option_map, count_by, length, take, drop, slice_get, get_or, refl, sym, ap, subst, ◌∙◌, arith, ⊎_elim, length-drop, length-take, zero-add}
 use Rattle.std.proofs.lemmas.Bool.{cases_lt}
-use Rattle.std.proofs.lemmas.List.{append-nil, append_assoc, drop-append-le, take-append-le, take_rest}
+use Rattle.std.proofs.lemmas.List.{append-nil, append_assoc, drop-append-le, take-append-drop, take-append-le, take_rest}
 use Rattle.std.proofs.lemmas.List.Sums.{fold-append, sum_by-append}
 use Rattle.std.proofs.lemmas.Option.{get_or_from_slice_get, slice_get_within}
 use Rattle.std.proofs.Math.Seq.{drop-drop, take-add, take-paste}
 use Rattle.std.specs.List.{copy_within}
-use Rattle.shform.specs.Part.{CanPass, Holds, bytes_read}
+use Rattle.shform.specs.Part.{EndsLine, Held, Holds, HoldsPrinted, IsFoundAt, bytes_read}
+use Rattle.shform.specs.declared.part.Found.{Found}
+use Rattle.shform.specs.declared.printed_part.PrintedPart.{PrintedPart}
+use Rattle.shprint.specs.declared.by_line.Printing.{Printing}
+use Rattle.shprint.specs.declared.layout.Layout.{Layout}
+use Rattle.shprint.specs.Printing.{IsPrinted}
+use Rattle.shread.specs.Search.{MayPass}
 use Rattle.shform.specs.declared.part.Part.{Part}
 use Rattle.shread.specs.declared.fault.Fault.{Fault}
 use Rattle.shread.specs.Moved.{moved_fault}
 use Rattle.shread.specs.Scripts.{FirstFault}
 use Rattle.shread.proofs.Stretches.{get_drop}
 use Rattle.shtext.specs.Text.{column_of, is_newline, line_of, since_newline}
-use Rattle.shtext.proofs.Newlines.{ends, since_start}
+use Rattle.shtext.proofs.Newlines.{since_start}
 
 -- what is left when the front is overwritten with what is behind it, and the end cut off
 pub front_dropped : (xs : List ℕ) (n : ℕ) → n ≤ length xs → take (length xs - n) (copy_within xs n (length xs) 0) ≡ drop n xs
@@ -22,7 +28,7 @@ front_dropped xs n within =
     ap (λ (m : ℕ). take m (copy_within xs n (length xs) 0)) (sym (zero-add (length xs - n))) ∙ take-paste xs 0 (drop n xs) (length xs - n) (omega arith) size ∙ take_rest xs n
 
 -- how many bytes were read
-pub size_is : (read : List ℕ) (part : Part) → Holds read part → length read ≡ bytes_read part
+pub size_is : (read : List ℕ) (part : Part) → Held read part → length read ≡ bytes_read part
 size_is read part is = omega (arith, is.low, length-drop part.passed read, ap length is.text)
 
 -- a fault that is moved twice, or not at all
@@ -35,71 +41,114 @@ stays None = refl
 stays (Some f) = ap (λ (at : ℕ). Some (record { kind = f.kind; at = at })) (sym (zero-add f.at))
 
 -- nothing was read
-pub holds_none : (part : Part) → part.passed ≡ 0 → part.newlines ≡ 0 → part.text.items ≡ [] → Holds [] part
-holds_none part passed newlines text = record {
+pub held_none : (part : Part) → part.passed ≡ 0 → part.newlines ≡ 0 → part.text.items ≡ [] → Held [] part
+held_none part passed newlines text = record {
   low = omega (arith, passed);
   text = text ∙ sym (ap (λ (p : ℕ). drop p []) passed);
   newlines = newlines ∙ sym (ap (λ (p : ℕ). count_by is_newline (take p [])) passed);
   fresh = ap (λ (p : ℕ). since_newline (take p [])) passed ∙ since_start [];
+}
+
+pub holds_none : (part : Part) → part.passed ≡ 0 → part.newlines ≡ 0 → part.text.items ≡ [] → Holds [] part
+holds_none part passed newlines text = record {
+  held = held_none part passed newlines text;
   behind = λ more f first.
       subst (λ (p : ℕ). FirstFault more (option_map (moved_fault p) f)) (sym passed) (subst (FirstFault more) (stays f) (subst (λ (p : ℕ). FirstFault (drop p more) f) passed first));
 }
 
+-- of a part only what it has counts
+pub held_as : (read : List ℕ) (old new : Part) → new.passed ≡ old.passed → new.newlines ≡ old.newlines → new.text.items ≡ old.text.items → Held read old → Held read new
+held_as read old new passed newlines text is = record {
+  low = subst (λ (p : ℕ). p ≤ length read) (sym passed) is.low;
+  text = text ∙ is.text ∙ sym (ap (λ (p : ℕ). drop p read) passed);
+  newlines = newlines ∙ is.newlines ∙ sym (ap (λ (p : ℕ). count_by is_newline (take p read)) passed);
+  fresh = ap (λ (p : ℕ). since_newline (take p read)) passed ∙ is.fresh;
+}
+
 -- some more was read
-pub holds_more : (read bytes : List ℕ) (old new : Part) → Holds read old → new.passed ≡ old.passed → new.newlines ≡ old.newlines → new.text.items ≡ old.text.items ++ bytes → Holds (read ++ bytes) new
-holds_more read bytes old new is passed newlines text =
+pub held_more : (read bytes : List ℕ) (old new : Part) → Held read old → new.passed ≡ old.passed → new.newlines ≡ old.newlines → new.text.items ≡ old.text.items ++ bytes → Held (read ++ bytes) new
+held_more read bytes old new is passed newlines text =
     let front : take old.passed (read ++ bytes) ≡ take old.passed read = take-append-le old.passed read bytes is.low in record {
       low = omega (arith, passed, is.low, Rattle.std.proofs.Common.length-append read bytes);
       text = text ∙ ap (λ (xs : List ℕ). xs ++ bytes) is.text ∙ sym (drop-append-le old.passed read bytes is.low) ∙ sym (ap (λ (p : ℕ). drop p (read ++ bytes)) passed);
       newlines = newlines ∙ is.newlines ∙ ap (count_by is_newline) (sym front) ∙ sym (ap (λ (p : ℕ). count_by is_newline (take p (read ++ bytes))) passed);
       fresh = ap (λ (p : ℕ). since_newline (take p (read ++ bytes))) passed ∙ ap since_newline front ∙ is.fresh;
-      behind = λ more f first.
-          let same : read ++ bytes ++ more ≡ read ++ (bytes ++ more) = append_assoc read bytes more in
-          let here : FirstFault (drop old.passed (read ++ (bytes ++ more))) f = subst (λ (xs : List ℕ). FirstFault (drop old.passed xs) f) same (subst (λ (p : ℕ). FirstFault (drop p (read ++ bytes ++ more)) f) passed first) in
-          subst (λ (p : ℕ). FirstFault (read ++ bytes ++ more) (option_map (moved_fault p) f)) (sym passed) (subst (λ (xs : List ℕ). FirstFault xs (option_map (moved_fault old.passed) f)) (sym same) (is.behind (bytes ++ more) f here));
+    }
+
+pub holds_more : (read bytes : List ℕ) (old new : Part) → Holds read old → Held (read ++ bytes) new → new.passed ≡ old.passed → Holds (read ++ bytes) new
+holds_more read bytes old new is held passed = record {
+  held = held;
+  behind = λ more f first.
+      let same : read ++ bytes ++ more ≡ read ++ (bytes ++ more) = append_assoc read bytes more in
+      let here : FirstFault (drop old.passed (read ++ (bytes ++ more))) f = subst (λ (xs : List ℕ). FirstFault (drop old.passed xs) f) same (subst (λ (p : ℕ). FirstFault (drop p (read ++ bytes ++ more)) f) passed first) in
+      subst (λ (p : ℕ). FirstFault (read ++ bytes ++ more) (option_map (moved_fault p) f)) (sym passed) (subst (λ (xs : List ℕ). FirstFault xs (option_map (moved_fault old.passed) f)) (sym same) (is.behind (bytes ++ more) f here));
+}
+
+pub printed_more : (y : Layout) (read bytes : List ℕ) (old new : PrintedPart) → HoldsPrinted y read old → Held (read ++ bytes) new.part → new.part.passed ≡ old.part.passed → new.printing ≡ old.printing → HoldsPrinted y (read ++ bytes) new
+printed_more y read bytes old new is held passed same =
+    let front : take old.part.passed (read ++ bytes) ≡ take old.part.passed read = take-append-le old.part.passed read bytes is.held.low in record {
+      held = held;
+      is = subst (λ (p : Printing). IsPrinted y (take new.part.passed (read ++ bytes)) p) (sym same)
+          (subst (λ (k : ℕ). IsPrinted y (take k (read ++ bytes)) old.printing) (sym passed) (subst (λ (X : List ℕ). IsPrinted y X old.printing) (sym front) is.is));
     }
 
 -- lines were passed
-module _ (read : List ℕ) (old : Part) (n : ℕ) (is : Holds read old) (can : CanPass old n) where
+module _ (read : List ℕ) (old : Part) (n : ℕ) (is : Held read old) (ends : EndsLine old n) where
   front : take (old.passed + n) read ≡ take old.passed read ++ take n old.text.items
   front = take-add old.passed n read ∙ ap (λ (xs : List ℕ). take old.passed read ++ take n xs) (sym is.text)
 
   high : old.passed + n ≤ length read
-  high = omega (arith, is.low, can.within, length-drop old.passed read, ap length is.text)
+  high = omega (arith, is.low, ends.within, length-drop old.passed read, ap length is.text)
 
   fresh : since_newline (take (old.passed + n) read) ≡ 0
   fresh =
       ⊎_elim (λ (lt : 0 < n).
       let i = old.passed + (n - 1) in
-      let byte : slice_get read i ≡ Some 10 = sym (get_drop old.passed read (n - 1)) ∙ ap (λ (xs : List ℕ). slice_get xs (n - 1)) (sym is.text) ∙ can.newline lt in
+      let byte : slice_get read i ≡ Some 10 = sym (get_drop old.passed read (n - 1)) ∙ ap (λ (xs : List ℕ). slice_get xs (n - 1)) (sym is.text) ∙ ends.newline lt in
       let up : old.passed + n ≡ i + 1 = omega (arith, lt) in
-      ap (λ (m : ℕ). since_newline (take m read)) up ∙ (ends read i (slice_get_within read i 10 byte) (ap is_newline (get_or_from_slice_get read i 10 0 byte))).1)
+      ap (λ (m : ℕ). since_newline (take m read)) up ∙ (Rattle.shtext.proofs.Newlines.ends read i (slice_get_within read i 10 byte) (ap is_newline (get_or_from_slice_get read i 10 0 byte))).1)
       (λ (ge : n ≤ 0). let none : old.passed + n ≡ old.passed = omega (arith, ge) in ap (λ (m : ℕ). since_newline (take m read)) none ∙ is.fresh) (cases_lt 0 n)
 
-  pub holds_passed : (new : Part) → new.passed ≡ old.passed + n → new.newlines ≡ old.newlines + count_by is_newline (take n old.text.items) → new.text.items ≡ drop n old.text.items → Holds read new
-  holds_passed new passed newlines text = record {
+  pub held_passed : (new : Part) → new.passed ≡ old.passed + n → new.newlines ≡ old.newlines + count_by is_newline (take n old.text.items) → new.text.items ≡ drop n old.text.items → Held read new
+  held_passed new passed newlines text = record {
     low = omega (arith, passed, high);
     text = text ∙ ap (drop n) is.text ∙ drop-drop n old.passed read ∙ sym (ap (λ (p : ℕ). drop p read) passed);
     newlines = newlines ∙ ap (λ (m : ℕ). m + count_by is_newline (take n old.text.items)) is.newlines ∙ sym (sum_by-append _ (take old.passed read) (take n old.text.items))
         ∙ sym (ap (count_by is_newline) front) ∙ sym (ap (λ (p : ℕ). count_by is_newline (take p read)) passed);
     fresh = ap (λ (p : ℕ). since_newline (take p read)) passed ∙ fresh;
-    behind = λ more f first.
-        let rest = drop old.passed (read ++ more) in
-        let rest_is : rest ≡ old.text.items ++ more = drop-append-le old.passed read more is.low ∙ ap (λ (xs : List ℕ). xs ++ more) (sym is.text) in
-        let same : take n rest ≡ take n old.text.items = ap (take n) rest_is ∙ take-append-le n old.text.items more can.within in
-        let here : FirstFault (drop n rest) f = subst (λ (xs : List ℕ). FirstFault xs f) (ap (λ (p : ℕ). drop p (read ++ more)) passed ∙ sym (drop-drop n old.passed (read ++ more))) first in
-        let whole = is.behind more (option_map (moved_fault n) f) (can.passed rest f same here) in
-        subst (FirstFault (read ++ more)) (twice old.passed n f ∙ sym (ap (λ (p : ℕ). option_map (moved_fault p) f) passed)) whole;
   }
 
--- where all was read, the first fault is that of what is held
-module _ (read : List ℕ) (part : Part) (is : Holds read part) where
-  pub first_is : (f : Option Fault) → FirstFault part.text.items f → FirstFault read (option_map (moved_fault part.passed) f)
-  first_is f first =
-      let whole : read ++ [] ≡ read = append-nil read in
-      let here : FirstFault (drop part.passed (read ++ [])) f = subst (λ (xs : List ℕ). FirstFault xs f) (is.text ∙ sym (ap (drop part.passed) whole)) first in
-      subst (λ (xs : List ℕ). FirstFault xs (option_map (moved_fault part.passed) f)) whole (is.behind [] f here)
+pub holds_passed : (read : List ℕ) (old new : Part) (n : ℕ) → Holds read old → n ≤ length old.text.items → MayPass old.text.items n → Held read new → new.passed ≡ old.passed + n → Holds read new
+holds_passed read old new n is within can held passed = record {
+  held = held;
+  behind = λ more f first.
+      let rest = drop old.passed (read ++ more) in
+      let rest_is : rest ≡ old.text.items ++ more = drop-append-le old.passed read more is.held.low ∙ ap (λ (xs : List ℕ). xs ++ more) (sym is.held.text) in
+      let same : take n rest ≡ take n old.text.items = ap (take n) rest_is ∙ take-append-le n old.text.items more within in
+      let here : FirstFault (drop n rest) f = subst (λ (xs : List ℕ). FirstFault xs f) (ap (λ (p : ℕ). drop p (read ++ more)) passed ∙ sym (drop-drop n old.passed (read ++ more))) first in
+      let whole = is.behind more (option_map (moved_fault n) f) (can rest f same here) in
+      subst (FirstFault (read ++ more)) (twice old.passed n f ∙ sym (ap (λ (p : ℕ). option_map (moved_fault p) f) passed)) whole;
+}
 
+pub printed_passed : (y : Layout) (read : List ℕ) (old new : PrintedPart) (n : ℕ) → HoldsPrinted y read old → Held read new.part → new.part.passed ≡ old.part.passed + n
+    → ((z : Layout) (front : List ℕ) → IsPrinted z front old.printing → IsPrinted z (front ++ take n old.part.text.items) new.printing) → HoldsPrinted y read new
+printed_passed y read old new n is held passed more =
+    let pieces : take new.part.passed read ≡ take old.part.passed read ++ take n old.part.text.items =
+    ap (λ (k : ℕ). take k read) passed ∙ take-add old.part.passed n read ∙ ap (λ (xs : List ℕ). take old.part.passed read ++ take n xs) (sym is.held.text) in
+    record { held = held; is = subst (λ (X : List ℕ). IsPrinted y X new.printing) (sym pieces) (more y (take old.part.passed read) is.is) }
+
+-- where all was read, the text of what is held behind what is printed is that of the script
+pub whole_is : (read : List ℕ) (part : Part) → Held read part → take part.passed read ++ part.text.items ≡ read
+whole_is read part is = ap (λ (xs : List ℕ). take part.passed read ++ xs) is.text ∙ take-append-drop part.passed read
+
+-- where all was read, the first fault is that of what is held
+pub first_is : (read : List ℕ) (part : Part) → Holds read part → (f : Option Fault) → FirstFault part.text.items f → FirstFault read (option_map (moved_fault part.passed) f)
+first_is read part is f first =
+    let whole : read ++ [] ≡ read = append-nil read in
+    let here : FirstFault (drop part.passed (read ++ [])) f = subst (λ (xs : List ℕ). FirstFault xs f) (is.held.text ∙ sym (ap (drop part.passed) whole)) first in
+    subst (λ (xs : List ℕ). FirstFault xs (option_map (moved_fault part.passed) f)) whole (is.behind [] f here)
+
+module _ (read : List ℕ) (part : Part) (is : Held read part) where
   front_at : (at : ℕ) → take (part.passed + at) read ≡ take part.passed read ++ take at part.text.items
   front_at at = take-add part.passed at read ∙ ap (λ (xs : List ℕ). take part.passed read ++ take at xs) (sym is.text)
 
@@ -115,3 +164,19 @@ module _ (read : List ℕ) (part : Part) (is : Holds read part) where
       ap (λ (n : ℕ). 1 + n)
       (sym (ap since_newline (front_at at) ∙ fold-append (λ n b. Rattle.std.proofs.Common.cond (is_newline b) 0 (n + 1)) 0 (take part.passed read) (take at part.text.items)
       ∙ ap (λ (n : ℕ). Rattle.std.specs.List.fold (λ n b. Rattle.std.proofs.Common.cond (is_newline b) 0 (n + 1)) n (take at part.text.items)) is.fresh))
+
+-- a fault that was found there
+pub found_there : (read : List ℕ) (fault : Fault) (found : Found) → IsFoundAt read fault found → FirstFault read (Some fault) → FirstFault read (Some found.fault) × IsFoundAt read found.fault found
+found_there read fault found at first =
+    let same : fault ≡ found.fault = sym at.0 in (
+      subst (λ (f : Fault). FirstFault read (Some f)) same first,
+      (refl, at.1 ∙ ap (λ (f : Fault). line_of read f.at) same, at.2 ∙ ap (λ (f : Fault). column_of read f.at) same),
+    )
+
+-- the first fault of what is held behind what is printed
+pub unprinted_is : (read : List ℕ) (part : Part) → Held read part → (bytes : List ℕ) (fault : Fault) → bytes ≡ part.text.items
+    → FirstFault (take part.passed read ++ bytes) (Some (moved_fault (length (take part.passed read)) fault)) → FirstFault read (Some (moved_fault part.passed fault))
+unprinted_is read part is bytes fault same first =
+    let size : length (take part.passed read) ≡ part.passed = omega (arith, length-take part.passed read, is.low) in
+    let whole : take part.passed read ++ bytes ≡ read = ap (λ (xs : List ℕ). take part.passed read ++ xs) same ∙ whole_is read part is in
+    subst (λ (n : ℕ). FirstFault read (Some (moved_fault n fault))) size (subst (λ (X : List ℕ). FirstFault X (Some (moved_fault (length (take part.passed read)) fault))) whole first)

@@ -5,29 +5,49 @@ use Rattle.shform.specs.declared.part.Part.{Part}
 use Rattle.shread.specs.declared.fault.Fault.{Fault}
 use Rattle.shread.specs.Moved.{moved_fault}
 use Rattle.shread.specs.Scripts.{FirstFault}
-use Rattle.shread.specs.Search.{MayPass}
+use Rattle.shprint.specs.declared.layout.Layout.{Layout}
+use Rattle.shprint.specs.Printing.{IsPrinted}
+use Rattle.shform.specs.declared.printed_part.PrintedPart.{PrintedPart}
+use Rattle.shform.specs.declared.printed_part.Unprinted.{Unprinted}
+use Rattle.shform.specs.declared.printed_part.Unprinted.TheVariants.{Faulty, Memory}
 use Rattle.shtext.specs.Text.{column_of, is_newline, line_of, since_newline}
 
 -- how many bytes were read: those passed and those held
 abbrev pub bytes_read : Part → ℕ
 bytes_read part = part.passed + length part.text.items
 
--- The bytes that were read: some are passed, up to a newline, and the others held. Whatever follows, the first fault is that behind
--- those passed.
-pub record Holds (read : List ℕ) (part : Part) : Type 0 where
+-- the bytes that were read: some are passed, up to a newline, and the others held
+pub record Held (read : List ℕ) (part : Part) : Type 0 where
   pub low : part.passed ≤ length read
   pub text : part.text.items ≡ drop part.passed read
   pub newlines : part.newlines ≡ count_by is_newline (take part.passed read)
   pub fresh : since_newline (take part.passed read) ≡ 0
+
+-- whatever follows these bytes, the first fault is that behind those passed
+pub record Holds (read : List ℕ) (part : Part) : Type 0 where
+  pub held : Held read part
   pub behind : (more : List ℕ) (f : Option Fault) → FirstFault (drop part.passed (read ++ more)) f → FirstFault (read ++ more) (option_map (moved_fault part.passed) f)
 
--- so many bytes at the front of those held are lines that may be passed
-pub record CanPass (part : Part) (count : ℕ) : Type 0 where
+-- those passed are lines that are printed
+pub record HoldsPrinted (y : Layout) (read : List ℕ) (printed : PrintedPart) : Type 0 where
+  pub held : Held read printed.part
+  pub is : IsPrinted y (take printed.part.passed read) printed.printing
+
+-- so many bytes are at the front of those held, and a newline is the last of them
+pub record EndsLine (part : Part) (count : ℕ) : Type 0 where
   pub within : count ≤ length part.text.items
-  pub passed : MayPass part.text.items count
   pub newline : 0 < count → slice_get part.text.items (count - 1) ≡ Some 10
 
--- a fault that is the first of a script, with its line and its column, or that it has none
+-- a fault with its line and its column in these bytes
+abbrev pub IsFoundAt : List ℕ → Fault → Found → Type 0
+IsFoundAt read fault found = (found.fault ≡ fault) × (found.line ≡ line_of read fault.at) × (found.col ≡ column_of read fault.at)
+
+-- the first fault of a script, or that it has none
 abbrev pub IsFound : List ℕ → Option Found → Type 0
 IsFound read None = FirstFault read None
-IsFound read (Some found) = FirstFault read (Some found.fault) × (found.line ≡ line_of read found.fault.at) × (found.col ≡ column_of read found.fault.at)
+IsFound read (Some found) = FirstFault read (Some found.fault) × IsFoundAt read found.fault found
+
+-- the script has no printed text, and this is why
+abbrev pub IsUnprinted : List ℕ → Unprinted → Type 0
+IsUnprinted read (Faulty found) = FirstFault read (Some found.fault) × IsFoundAt read found.fault found
+IsUnprinted read Memory = Unit {0}

@@ -3,14 +3,15 @@ ghost use Rattle.std.specs.Prelude.{◌≡◌, ◌≢◌, ◌+◌, ◌<◌, ◌�
 ghost use Rattle.std.specs.Io.KnownBytes.{Consumes, IsAtEnd};
 ghost use Rattle.shtext.specs.Device.{held_of, input_ended, input_failed, left_of, output_failed};
 ghost use Rattle.shtext.specs.Edit.{limit};
-ghost use Rattle.shform.specs.Part.{Holds};
+ghost use Rattle.shform.specs.Part.{Holds, HoldsPrinted};
 ghost use Rattle.shform.specs.Report.{IsPrintReport, IsReport, StopsBehind, StopsFor};
 
 use crate::part::Part;
+use crate::printed_part::{PrintedPart, Unprinted};
 use crate::report::{Stop, give_up, tell, write_flushed};
-use shprint::{Layout, PrintError, print_source};
+use shprint::Layout;
 use shread::ReadError;
-use shtext::{Failed, Flat, Input, LIMIT, Output, line_col_of};
+use shtext::{Failed, Input, LIMIT, Output};
 use std::alloc::Global;
 use std::io::{Read, Write};
 
@@ -94,6 +95,35 @@ fn read_part<R: Read>(alloc: Global, input: &mut Input<R>) -> Result<Part, Stop>
     }
 }
 
+/// Reads the input to its end, and prints what may be printed of it by then.
+fn read_printed<R: Read>(
+    alloc: Global,
+    layout: &Layout,
+    input: &mut Input<R>,
+) -> Result<PrintedPart, Stop>
+    requires sound { input_failed input.old ≡ false }
+    requires open { input_ended input.old ≡ false }
+    ensures ok { IfOk result (λ printed. (read : List ℕ) × (HoldsPrinted layout.now read printed)
+        × (Consumes (left_of R.remaining input.old) (left_of R.remaining input.new) read)
+        × (IsAtEnd (left_of R.remaining input.new)) × (length read ≤ limit)
+        × (input_failed input.new ≡ false) × (input_ended input.new ≡ true)) }
+    ensures err { IfErr result (λ stop. (read : List ℕ)
+        × (Consumes (left_of R.remaining input.old) (left_of R.remaining input.new) read)
+        × StopsFor read (input_failed input.new) (input_ended input.new) stop) }
+{
+    let mut printed = PrintedPart::new(alloc, layout);
+    let mut piece = [0; PIECE];
+    'pieces: loop {
+        let count = read_piece(input, &mut piece, printed.part.len())?;
+        if count == 0 {
+            return Ok(printed);
+        }
+        let Ok(()) = printed.take(&piece[..count]) else {
+            return Err(Stop::Memory);
+        };
+    }
+}
+
 /// Reads the input to its end, and tells the first fault of the script on `errors`, or why there is no verdict. The answer is 0 for a
 /// faultless script, 1 for a faulty one, and 2 where an end or memory failed, or the script is too large.
 pub fn check_engine<R: Read, O: Write, E: Write>(
@@ -124,7 +154,7 @@ pub fn check_engine<R: Read, O: Write, E: Write>(
     }
 }
 
-/// Reads the input whole, and writes the printed text of the script on `output`. A faulty script writes nothing there: its first
+/// Reads the input to its end, and writes the printed text of the script on `output`. A faulty script writes nothing there: its first
 /// fault is told on `errors`, or why there is no text. The answer is 0 for a faultless script, 1 for a faulty one, and 2 where an
 /// end or memory failed, or the script is too large.
 pub fn print_engine<R: Read, O: Write, E: Write>(
@@ -145,20 +175,18 @@ pub fn print_engine<R: Read, O: Write, E: Write>(
         (held_of E.contents errors.old) (held_of E.contents errors.new) (output_failed errors.new) result }
     ensures whole { result ≢ 2 → (input_ended input.new ≡ true) × IsAtEnd (left_of R.remaining input.new) }
 {
-    let text = match read_whole(alloc, input) {
-        Ok(text) => text,
+    let printed = match read_printed(alloc, layout, input) {
+        Ok(printed) => printed,
         Err(stop) => return give_up(name, stop, errors),
     };
-    let source = Flat::new(&text);
-    let printed = match print_source(alloc, layout, &source) {
-        Ok(printed) => printed,
-        Err(PrintError::Faulty(fault)) => {
-            let (line, col) = line_col_of(&source, fault.at);
-            return tell(alloc, name, line, col, fault, errors);
+    let text = match printed.text() {
+        Ok(text) => text,
+        Err(Unprinted::Faulty(found)) => {
+            return tell(alloc, name, found.line, found.col, found.fault, errors);
         }
-        Err(PrintError::Memory) => return give_up(name, Stop::Memory, errors),
+        Err(Unprinted::Memory) => return give_up(name, Stop::Memory, errors),
     };
-    match write_flushed(output, &printed) {
+    match write_flushed(output, &text) {
         Ok(()) => 0,
         Err(Failed) => give_up(name, Stop::Unwritable, errors),
     }

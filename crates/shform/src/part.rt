@@ -1,4 +1,4 @@
-//! What is held of a script that is read to its end for its first fault, and what is found in it.
+//! What is held of a script that is read to its end, and what is found in it.
 ghost use Rattle.std.specs.Prelude.{◌+◌, ◌≤◌, length};
 ghost use Rattle.shtext.specs.Edit.{limit};
 

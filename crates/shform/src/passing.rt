@@ -1,7 +1,8 @@
-//! The script of a check while it is read. Lines that are whole and without a fault are passed, and need not be held; so a script of
+//! A script while it is read. Lines that are whole and without a fault are passed, and need not be held; so the check of a script of
 //! short lines takes as much memory as a piece of it, however long it is.
 ghost use Rattle.std.specs.Prelude.{◌≡◌, ◌+◌, ◌++◌, ◌≤◌, ℕ, List, [], IfOk, drop, length};
-ghost use Rattle.shform.specs.Part.{CanPass, Holds, IsFound, bytes_read};
+ghost use Rattle.shform.specs.Part.{EndsLine, Held, Holds, IsFound, IsFoundAt, bytes_read};
+ghost use Rattle.shread.specs.Moved.{moved_fault};
 ghost use Rattle.shtext.specs.Edit.{limit};
 
 use crate::newlines::newlines_in;
@@ -45,34 +46,41 @@ impl Part {
     }
 
     /// Some more bytes were read. Where memory runs out, all is as before.
-    fn add(&mut self, bytes: &[u8]) -> Result<(), AllocError>
+    pub(crate) fn add(&mut self, bytes: &[u8]) -> Result<(), AllocError>
         requires { bytes_read self.old + length bytes.now ≤ limit }
-        ensures { IfOk result (λ done. (read : List ℕ) → Holds read self.old → Holds (read ++ bytes.now) self.new) }
+        ensures held { IfOk result (λ done. (read : List ℕ) → Held read self.old → Held (read ++ bytes.now) self.new) }
+        ensures passed { IfOk result (λ done. self.new.passed ≡ self.old.passed) }
     {
         self.text.extend_from_slice(bytes)?;
         Ok(())
     }
 
-    /// Passes so many bytes.
-    fn pass(&mut self, count: usize)
-        requires { CanPass self.old count }
-        ensures { (read : List ℕ) → Holds read self.old → Holds read self.new }
+    /// Whether enough is held to look for lines in it.
+    pub(crate) fn is_due(&self) -> bool {
+        !self.long && self.text.len() >= ENOUGH
+    }
+
+    /// Passes so many bytes. Where they are few among those held, the lines are long.
+    pub(crate) fn pass(&mut self, count: usize)
+        requires { EndsLine self.old count }
+        ensures held { (read : List ℕ) → Held read self.old → Held read self.new }
+        ensures passed { self.new.passed ≡ self.old.passed + count }
     {
+        let len = self.text.len();
         self.newlines += newlines_in(&self.text[..count]);
         drop_front(&mut self.text, count);
         self.passed += count;
+        self.long = len - count > len / 8;
     }
 
     /// Passes what lines there are, where enough is held to look for them.
     fn pass_lines(&mut self, alloc: Global) -> Result<(), ReadError>
         ensures { IfOk result (λ done. (read : List ℕ) → Holds read self.old → Holds read self.new) }
     {
-        let len = self.text.len();
-        if self.long || len < ENOUGH {
+        if !self.is_due() {
             return Ok(());
         }
         let count = faultless_front(alloc, &Flat::new(&self.text))?;
-        self.long = len - count > len / 8;
         self.pass(count);
         Ok(())
     }
@@ -82,31 +90,36 @@ impl Part {
         requires { bytes_read self.old + length bytes.now ≤ limit }
         ensures { IfOk result (λ done. (read : List ℕ) → Holds read self.old → Holds (read ++ bytes.now) self.new) }
     {
-        if self.add(bytes).is_err() {
+        let Ok(()) = self.add(bytes) else {
             return Err(ReadError::Memory);
+        };
+        self.pass_lines(alloc)?;
+        Ok(())
+    }
+
+    /// A fault of what is held, in the script.
+    pub(crate) fn found(&self, fault: Fault) -> Found
+        requires { fault.at ≤ length self.now.text.items }
+        ensures { (read : List ℕ) → Held read self.now → IsFoundAt read (moved_fault self.now.passed fault) result }
+    {
+        let (line, col) = line_col_of(&Flat::new(&self.text), fault.at);
+        Found {
+            fault: Fault {
+                kind: fault.kind,
+                at: self.passed + fault.at,
+            },
+            line: self.newlines + line,
+            col,
         }
-        self.pass_lines(alloc)
     }
 
     /// The first fault of the script, where all of it was read.
     pub fn first_fault(&self, alloc: Global) -> Result<Option<Found>, ReadError>
         ensures { IfOk result (λ found. (read : List ℕ) → Holds read self.now → IsFound read found) }
     {
-        let script = Flat::new(&self.text);
-        match Reader::new(alloc).first_fault(&script)? {
+        match Reader::new(alloc).first_fault(&Flat::new(&self.text))? {
             None => Ok(None),
-            Some(fault) => {
-                let (line, col) = line_col_of(&script, fault.at);
-                let at = self.passed + fault.at;
-                Ok(Some(Found {
-                    fault: Fault {
-                        kind: fault.kind,
-                        at,
-                    },
-                    line: self.newlines + line,
-                    col,
-                }))
-            }
+            Some(fault) => Ok(Some(self.found(fault))),
         }
     }
 }

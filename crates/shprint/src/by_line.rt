@@ -1,11 +1,13 @@
-//! Printing a script that is read a line at a time.
-ghost use Rattle.std.specs.Prelude.{◌≡◌, [], IfErr, IfOk};
+//! Printing a script that is read a line at a time, and in pieces.
+ghost use Rattle.std.specs.Prelude.{◌≡◌, ◌-◌, ◌<◌, ◌≤◌, ◌++◌, ℕ, [], IfErr, IfOk, IfSome, List as Row, Some, length, option_map, slice_get, take};
+ghost use Rattle.shread.specs.Moved.{moved_fault};
+ghost use Rattle.shprint.specs.Printing.{IsErrorWithin, IsPrinted, moved_error};
 ghost use Rattle.shprint.specs.ReadBack.{Answers, IsNoText, IsTextOf};
 
 use crate::layout::Layout;
 use crate::page::Page;
 use crate::printer::Printer;
-use shread::{Fault, ScriptLine, ScriptLines};
+use shread::{Fault, LinesBefore, ScriptLine, ScriptLines};
 use shtext::Source;
 use std::alloc::{AllocError, Global};
 use thiserror::Error;
@@ -21,32 +23,107 @@ pub enum PrintError {
     Memory,
 }
 
-/// Prints the lines of a script on an empty page. Answers the script's first fault, which ends the printing.
-fn print_lines<S: Source>(
+/// What is printed so far of a script. Who prints one need hold of it only what is not printed yet.
+#[derive(Drop)]
+pub struct Printing {
     alloc: Global,
-    printer: &Printer<'_, S>,
-    page: &mut Page,
-) -> Result<Option<Fault>, AllocError>
-    requires { (page.old.margin.items ≡ []) × (page.old.text.items ≡ []) × (page.old.held.items ≡ []) }
-    ensures { IfOk result (Answers printer.now.layout (S.bytes printer.now.source.now) page.new.text.items) }
-{
-    let mut lines = ScriptLines::new(alloc, printer.source);
-    'lines: loop {
-        let Ok(line) = lines.read_next() else {
-            return Err(AllocError);
+    layout: Layout,
+    page: Page,
+    before: LinesBefore,
+}
+
+impl Printing {
+    /// Nothing is printed, and will be by the layout's rules.
+    pub fn new(alloc: Global, layout: &Layout) -> Printing
+        ensures { IsPrinted layout.now [] result }
+    {
+        Printing {
+            alloc,
+            layout: *layout,
+            page: Page::new(alloc),
+            before: LinesBefore::none(),
+        }
+    }
+
+    /// Prints the lines at the front of what follows that have no fault, each ended by a newline that is its last byte, and answers how
+    /// many bytes they are. What stands behind these may be no more than the front of what follows them.
+    ///
+    /// # Errors
+    ///
+    /// [`AllocError`], where memory runs out. Then nothing more may be printed.
+    pub fn print_front<S: Source>(&mut self, source: &S) -> Result<usize, AllocError>
+        ensures printed { IfOk result (λ n. (y : Layout) (front : Row ℕ) → IsPrinted y front self.old →
+            IsPrinted y (front ++ take n (S.bytes source.now)) self.new) }
+        ensures within { IfOk result (λ n. n ≤ length (S.bytes source.now)) }
+        ensures newline { IfOk result (λ n. 0 < n → slice_get (S.bytes source.now) (n - 1) ≡ Some 10) }
+    {
+        let printer = Printer {
+            alloc: self.alloc,
+            layout: self.layout,
+            source,
         };
-        match line {
-            ScriptLine::Ended(entries) => printer.print_entries(&entries, page)?,
-            ScriptLine::Last(entries) => {
-                printer.print_entries(&entries, page)?;
-                return Ok(None);
+        let mut lines = ScriptLines::behind(self.alloc, source, self.before);
+        'lines: loop {
+            let Ok(line) = lines.read_whole() else {
+                return Err(AllocError);
+            };
+            let Some(entries) = line else {
+                self.before = lines.before();
+                return Ok(lines.at());
+            };
+            printer.print_entries(&entries, &mut self.page)?;
+        }
+    }
+
+    /// Prints the lines of what follows, up to the end of the script. Answers the first fault there, which ends the printing.
+    fn print_lines<S: Source>(&mut self, source: &S) -> Result<Option<Fault>, AllocError>
+        ensures answers { IfOk result (λ fault. (y : Layout) (front : Row ℕ) → IsPrinted y front self.old →
+            Answers y (front ++ S.bytes source.now) self.new.page.text.items (option_map (moved_fault (length front)) fault)) }
+        ensures within { IfOk result (λ fault. IfSome fault (λ f. f.at ≤ length (S.bytes source.now))) }
+    {
+        let printer = Printer {
+            alloc: self.alloc,
+            layout: self.layout,
+            source,
+        };
+        let mut lines = ScriptLines::behind(self.alloc, source, self.before);
+        'lines: loop {
+            let Ok(line) = lines.read_next() else {
+                return Err(AllocError);
+            };
+            match line {
+                ScriptLine::Ended(entries) => printer.print_entries(&entries, &mut self.page)?,
+                ScriptLine::Last(entries) => {
+                    printer.print_entries(&entries, &mut self.page)?;
+                    return Ok(None);
+                }
+                ScriptLine::Faulty(fault) => return Ok(Some(fault)),
             }
-            ScriptLine::Faulty(fault) => return Ok(Some(fault)),
+        }
+    }
+
+    /// Prints what follows, up to the end of the script, and answers the text of the whole. A line at a time is read, so that no tree
+    /// is held but that of a line.
+    ///
+    /// # Errors
+    ///
+    /// [`PrintError`]: the first fault, whose offset counts from where `source` begins, or want of memory.
+    pub fn print_rest<S: Source>(mut self, source: &S) -> Result<Vec<u8>, PrintError>
+        ensures printed { IfOk result (λ text. (y : Layout) (front : Row ℕ) → IsPrinted y front self →
+            IsTextOf y (front ++ S.bytes source.now) text.items) }
+        ensures err { IfErr result (λ e. (y : Layout) (front : Row ℕ) → IsPrinted y front self →
+            IsNoText (front ++ S.bytes source.now) (moved_error (length front) e)) }
+        ensures within { IfErr result (IsErrorWithin (length (S.bytes source.now))) }
+    {
+        match self.print_lines(source) {
+            Ok(None) => Ok(self.page.text),
+            Ok(Some(fault)) => Err(PrintError::Faulty(fault)),
+            Err(_) => Err(PrintError::Memory),
         }
     }
 }
 
-/// Reads a script and prints it by the layout's rules, a line at a time: so no tree is held but that of a line.
+/// Reads a script and prints it by the layout's rules.
 ///
 /// # Errors
 ///
@@ -59,15 +136,5 @@ pub fn print_source<S: Source>(
     ensures printed { IfOk result (λ text. IsTextOf layout.now (S.bytes source.now) text.items) }
     ensures err { IfErr result (IsNoText (S.bytes source.now)) }
 {
-    let printer = Printer {
-        alloc,
-        layout: *layout,
-        source,
-    };
-    let mut page = Page::new(alloc);
-    match print_lines(alloc, &printer, &mut page) {
-        Ok(None) => Ok(page.text),
-        Ok(Some(fault)) => Err(PrintError::Faulty(fault)),
-        Err(_) => Err(PrintError::Memory),
-    }
+    Printing::new(alloc, layout).print_rest(source)
 }

@@ -50,6 +50,13 @@ pub mod Moved
 pub mod MovedBodies
 pub mod MovedTrees
 pub mod MovedWords
+pub mod ShapeMoved
+pub mod LineInPiece
+pub mod BodiesHeld
+pub mod EachSpan
+pub mod Everywhere
+pub mod ListsEverywhere
+pub mod UpToLimit
 pub mod MovedCommands
 pub mod MovedLists
 pub mod MovedLine

@@ -5,7 +5,7 @@ use Rattle.shtree.specs.View.{view_entry}
 use Rattle.shread.specs.declared.fault.Fault.{Fault}
 use Rattle.shtree.specs.Tree.{AnEntry, entries_of}
 use Rattle.shread.specs.Sights.{given, standing}
-use Rattle.shread.specs.Form.{Read, Spelled, may}
+use Rattle.shread.specs.Form.{Read, may}
 use Rattle.shread.specs.declared.fault.Stop.{Stop}
 use Rattle.shread.specs.declared.fault.Stop.TheVariants.{Wrong}
 use Rattle.shread.specs.Clauses.{Fails}
@@ -15,14 +15,10 @@ use Rattle.shread.specs.declared.script_lines.ScriptLine.{ScriptLine}
 use Rattle.shread.specs.declared.script_lines.ScriptLine.TheVariants.{Ended, Last, Faulty}
 use Rattle.shread.specs.declared.script_lines.ScriptLines.{ScriptLines}
 use Rattle.shtree.specs.Nodes.{AreWithin}
-use Rattle.shread.specs.LineByLine.{IsNextLine, LineReads, LineWithin, Stands}
+use Rattle.shread.specs.LineByLine.{IsNextLine, LineReads, LineWithin, Rest, Stands}
 use Rattle.shread.proofs.Within.{more_within}
-use Rattle.shread.specs.Scripts.{AScript, Lines, Outcome, SoFar, faulty, is_blank_line, last_line, line_ended, line_from, the_line, with_line}
+use Rattle.shread.specs.Scripts.{AScript, Outcome, SoFar, faulty, is_blank_line, last_line, line_ended, line_from, the_line, with_line}
 use Rattle.shread.proofs.OneOutcome.{is}
-
--- the script of lines that gave this and of the lines from p on
-abbrev pub Rest : Row ℕ → SoFar → ℕ → AScript → Type 0
-Rest B so p s = (k : Row Spelled) × Lines B so p s k
 
 -- ---- what is read of a line, where its first entry is blank as the lines before it have it
 
@@ -30,6 +26,10 @@ pub line_read : (B : Row ℕ) (so : SoFar) (p : ℕ) (blank : Bool) (x : Read (R
 line_read B so p blank x is_blank read =
     let one = (is (the_line blank) (given (drop p B) p) (standing 0)).some in
     (one.0, subst (λ b. may (the_line b) (given (drop p B) p) (standing 0) x one.0) is_blank (subst (λ y. may (the_line blank) (given (drop p B) p) (standing 0) y one.0) read one.1))
+
+-- what the grammar reads of a line is what is computed
+pub line_only : (B : Row ℕ) (so : SoFar) (p : ℕ) (x : Read (Row AnEntry × Bool)) → LineReads B so p x → line_from B true (is_blank_line so) p ≡ x
+line_only B so p x read = sym ((is (the_line (is_blank_line so)) (given (drop p B) p) (standing 0)).only x read.0 read.1)
 
 -- ---- what a line leads on to
 
@@ -81,13 +81,13 @@ so_far xs gap = record { entries = map view_entry xs; gap = gap }
 all_is : (before all line : Row Entry) → all ≡ before ++ line → map view_entry all ≡ map view_entry before ++ map view_entry line
 all_is before all line is = ap (map view_entry) is ∙ map-append view_entry before line
 
-module _ {S : Type 0} (B : Row ℕ) (before all : Row Entry) (old new : ScriptLines S) (x : ScriptLine) (leads : Leads B (so_far before old.gap) old x new)
-    (from : (s : AScript) → Rest B (so_far before old.gap) old.at s → Outcome B s) where
+module _ {S : Type 0} (B : Row ℕ) (before all : Row Entry) (old new : ScriptLines S) (x : ScriptLine) (leads : Leads B (so_far before old.before.gap) old x new)
+    (from : (s : AScript) → Rest B (so_far before old.before.gap) old.at s → Outcome B s) where
   pub ended_on : (line : Vec Entry Global) → x ≡ Ended line → all ≡ before ++ line.items
-      → Stands new (so_far all new.gap) × ((s : AScript) → Rest B (so_far all new.gap) new.at s → Outcome B s)
+      → Stands new (so_far all new.before.gap) × ((s : AScript) → Rest B (so_far all new.before.gap) new.at s → Outcome B s)
   ended_on line this all_are =
       let lead = rw this at leads in
-      let same : with_line (so_far before old.gap) (map view_entry line.items) ≡ so_far all new.gap =
+      let same : with_line (so_far before old.before.gap) (map view_entry line.items) ≡ so_far all new.before.gap =
       ap (λ es. record { entries = es; gap = is_empty (map view_entry line.items) }) (sym (all_is before all line.items all_are))
       ∙ ap (λ gap. so_far all gap) (sym lead.0.0) in (
         subst (Stands new) same lead.0,

@@ -10,6 +10,7 @@ use Rattle.shread.specs.Moved.{Same, moved_fault}
 use Rattle.shread.specs.Scripts.{AScript, SoFar, first_fault_from, is_blank_line, line_from, line_told, nothing_yet, script_below, script_by, script_on, the_line, with_line}
 use Rattle.shread.specs.Search.{ArePassed, LineBefore, MayPass}
 use Rattle.shread.specs.Sights.{State, given, standing}
+use Rattle.shread.specs.Standing.{raw_stands}
 use Rattle.shread.proofs.Alike.{Like, SameEnd, alike_level, alike_line}
 use Rattle.shread.proofs.Answered.{fault_alone, fault_answered}
 use Rattle.shread.proofs.FirstFault.{beyond_kept}
@@ -28,7 +29,7 @@ kept_by t (Ok ((es, false), s)) z fs z_is one = let same = rw z_is at one in let
 kept_by t (Err e) z fs z_is one = let same = rw z_is at one in absurd same
 
 -- where the bytes T stand up to behind the newline that ends their line, that line is read
-line_there : (T U : List ℕ) (n : ℕ) (es : Row AnEntry) (t : State) → t.at ≡ n + 1 → slice_get T n ≡ Some 10 → ((r : ℕ) → r < n + 1 → slice_get U r ≡ slice_get T r)
+pub line_there : (T U : List ℕ) (n : ℕ) (es : Row AnEntry) (t : State) → t.at ≡ n + 1 → slice_get T n ≡ Some 10 → ((r : ℕ) → r < n + 1 → slice_get U r ≡ slice_get T r)
     → does (the_line false) true (given T 0) (standing 0) ≡ Ok ((es, true), t) → does (the_line false) true (given U 0) (standing 0) ≡ Ok ((es, true), t)
 line_there T U n es t ends newline same read =
     let inner = level most_open in
@@ -68,12 +69,14 @@ passed_more bytes p q so line script same_q =
     sym (take-take p (p + t.at) script (omega arith)) ∙ ap (take p) same ∙ take-take p (p + t.at) bytes (omega arith) in
     so script low ∙ leads_by script p t kept.0 (line_from script true false p) (line_told script true false p 0) refl again (line_moved script p false) ∙ ap (first_fault_from script) (sym line.3)
 
--- the last byte of the lines that are passed
+-- the last byte of a line that is passed
+pub newline_behind : (bytes : List ℕ) (p q len : ℕ) → q ≡ p + len → 0 < len → raw_stands (drop p bytes) (len - 1) 10 ≡ true → slice_get bytes (q - 1) ≡ Some 10
+newline_behind bytes p q len ends some stands =
+    let is : q - 1 ≡ p + (len - 1) = omega (arith, ends, some) in
+    ap (slice_get bytes) is ∙ sym (get_drop p bytes (len - 1)) ∙ newline_at (drop p bytes) (len - 1) stands
+
 pub newline_before : (bytes : List ℕ) (p q : ℕ) → LineBefore bytes p q → slice_get bytes (q - 1) ≡ Some 10
-newline_before bytes p q line =
-    let t = line.1 in
-    let is : q - 1 ≡ p + (t.at - 1) = omega (arith, line.3, line.4) in
-    ap (slice_get bytes) is ∙ sym (get_drop p bytes (t.at - 1)) ∙ newline_at (drop p bytes) (t.at - 1) line.6
+newline_before bytes p q line = newline_behind bytes p q line.1.at line.3 line.4 line.6
 
 -- ---- the first fault behind some bytes, and that of the script
 

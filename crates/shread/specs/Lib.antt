@@ -18,6 +18,7 @@ pub mod Levels
 pub mod Lines
 pub mod Scripts
 pub mod Moved
+pub mod Everywhere
 pub mod Clauses
 pub mod Answers
 pub mod LineByLine

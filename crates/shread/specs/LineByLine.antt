@@ -1,15 +1,19 @@
 -- The lines of a script, read one after the other.
-use Rattle.std.specs.Prelude.{◌≡◌, ◌≤◌, ℕ, ◌+◌, Bool, true, false, List, List as Row, Ok, Err, drop, map, not}
+use Rattle.std.specs.Prelude.{◌≡◌, ◌≤◌, ◌<◌, ℕ, ◌+◌, ◌-◌, Vec, Bool, true, false, List, List as Row, Ok, Err, drop, map, not}
+use Rattle.std.specs.Global.{Global}
 use Rattle.shread.specs.declared.script_lines.ScriptLine.{ScriptLine}
 use Rattle.shread.specs.declared.script_lines.ScriptLine.TheVariants.{Ended, Last, Faulty}
+use Rattle.shread.specs.declared.script_lines.LinesBefore.{LinesBefore}
 use Rattle.shread.specs.declared.script_lines.ScriptLines.{ScriptLines}
+use Rattle.shtree.specs.declared.tree.Entry.{Entry}
 use Rattle.shtree.specs.Nodes.{AreWithin}
 use Rattle.shtree.specs.Tree.{AnEntry, entries_of}
 use Rattle.shtree.specs.View.{view_entry}
 use Rattle.shread.specs.Commands.{is_empty}
 use Rattle.shread.specs.Form.{Read, Spelled, may}
-use Rattle.shread.specs.Scripts.{SoFar, is_blank_line, the_line, with_line}
+use Rattle.shread.specs.Scripts.{AScript, Lines, SoFar, is_blank_line, line_from, the_line, with_line}
 use Rattle.shread.specs.Sights.{State, given, standing}
+use Rattle.shread.specs.Standing.{raw_stands}
 
 -- what the grammar reads of the line at p, behind lines that gave this
 abbrev pub LineReads : List ℕ → SoFar → ℕ → Read (Row AnEntry × Bool) → Type 0
@@ -18,6 +22,18 @@ LineReads B so p x = (k : Row Spelled) × may (the_line (is_blank_line so)) (giv
 -- the line at p has these entries, and ends before q: by a newline, or where the script ends
 abbrev pub LineEnds : List ℕ → SoFar → ℕ → Row AnEntry → Bool → ℕ → Type 0
 LineEnds B so p es newline q = (t : State) × (q ≡ p + t.at) × LineReads B so p (Ok ((es, newline), t))
+
+-- the script of lines that gave this and of the lines from p on
+abbrev pub Rest : List ℕ → SoFar → ℕ → AScript → Type 0
+Rest B so p s = (k : Row Spelled) × Lines B so p s k
+
+-- no line stands before
+abbrev pub no_lines : LinesBefore
+no_lines = record { gap = false; begun = false }
+
+-- the lines before gave this
+abbrev pub Before : LinesBefore → SoFar → Type 0
+Before before so = (before.gap ≡ so.gap) × (before.begun ≡ not (is_empty so.entries))
 
 module _ {S : Type 0} where
   -- the bytes of the script, where its source tells them
@@ -28,13 +44,23 @@ module _ {S : Type 0} where
   abbrev pub place_of : ScriptLines S → ℕ
   place_of lines = lines.at
 
+  -- what the lines so far leave
+  abbrev pub before_of : ScriptLines S → LinesBefore
+  before_of lines = lines.before
+
   -- the next line is the first
   abbrev pub AtStart : ScriptLines S → Type 0
-  AtStart lines = (lines.at ≡ 0) × (lines.gap ≡ false) × (lines.begun ≡ false)
+  AtStart lines = (lines.at ≡ 0) × (lines.before.gap ≡ false) × (lines.before.begun ≡ false)
 
   -- the lines so far gave this
   abbrev pub Stands : ScriptLines S → SoFar → Type 0
-  Stands lines so = (lines.gap ≡ so.gap) × (lines.begun ≡ not (is_empty so.entries))
+  Stands lines so = Before lines.before so
+
+  -- A line with these entries, behind lines that gave this, from `old` to `new`. A newline ended it and is its last byte.
+  abbrev pub IsWholeLine : List ℕ → SoFar → ScriptLines S → Vec Entry Global → ScriptLines S → Type 0
+  IsWholeLine B so old es new =
+      (t : State) × (new.at ≡ old.at + t.at) × (line_from B true (is_blank_line so) old.at ≡ Ok ((map view_entry es.items, true), t)) × (0 < t.at)
+      × (raw_stands (drop old.at B) (t.at - 1) 10 ≡ true) × Stands new (with_line so (map view_entry es.items))
 
   -- The line, behind lines that gave this, from `old` to `new`. At a fault nothing moves.
   abbrev pub IsNextLine : List ℕ → SoFar → ScriptLines S → ScriptLine → ScriptLines S → Type 0

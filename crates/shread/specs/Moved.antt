@@ -116,7 +116,7 @@ module _ (f h : Span → Span) where
 
 -- ---- what is moved
 
-abbrev body_by : ℕ → Span → ℕ → Span
+abbrev pub body_by : ℕ → Span → ℕ → Span
 body_by base s zero = s
 body_by base s (suc n) = placed_span base s
 

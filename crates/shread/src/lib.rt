@@ -45,5 +45,5 @@ pub use delimiter::{Delimiter, delimiter_of};
 pub use fault::{Fault, FaultKind, ReadError};
 pub use front::faultless_front;
 pub use reader::{Line, LineKind, Reader, Script};
-pub use script_lines::{ScriptLine, ScriptLines};
+pub use script_lines::{LinesBefore, ScriptLine, ScriptLines};
 pub use token::{Closing, Next, Opener, Position, Reserved, Separator, Token};

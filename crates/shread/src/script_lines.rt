@@ -1,12 +1,12 @@
 //! The lines of a script, read one after the other, so that who needs no tree of the whole holds that of one line.
-ghost use Rattle.std.specs.Prelude.{◌≡◌, ◌+◌, ◌^◌, ◌<◌, ◌≤◌, length, map, IfErr, IfOk};
+ghost use Rattle.std.specs.Prelude.{◌≡◌, ◌+◌, ◌-◌, ◌^◌, ◌<◌, ◌≤◌, length, map, slice_get, IfErr, IfOk, IfSome, None, Ok as Done, Some};
 ghost use Rattle.shread.specs.Scripts.{SoFar, is_blank_line, with_line};
 ghost use Rattle.shtree.specs.View.{view_entry};
-ghost use Rattle.shread.specs.LineByLine.{AtStart, GoesOn, IsNextLine, LineWithin, Stands, bytes_of, place_of};
+ghost use Rattle.shread.specs.LineByLine.{AtStart, GoesOn, IsNextLine, IsWholeLine, LineWithin, Stands, before_of, bytes_of, no_lines, place_of};
 
 use crate::cursor::KEPT;
 use crate::fault::{Fault, ReadError, Stop};
-use crate::one_line::{Told, line_at};
+use crate::one_line::{Told, ends_in_newline, line_at};
 use shtext::Source;
 use shtree::Entry;
 use std::alloc::Global;
@@ -22,6 +22,27 @@ pub enum ScriptLine {
     Faulty(Fault),
 }
 
+/// What some lines of a script leave for the next one to know: whether an empty line stands before its first entry.
+#[derive(Clone, Copy, Debug, PartialEq, Eq)]
+pub struct LinesBefore {
+    /// A line without entries follows the last entry.
+    gap: bool,
+    /// There was an entry.
+    begun: bool,
+}
+
+impl LinesBefore {
+    /// No line yet.
+    pub fn none() -> LinesBefore
+        ensures { result ≡ no_lines }
+    {
+        LinesBefore {
+            gap: false,
+            begun: false,
+        }
+    }
+}
+
 /// The lines of a script, from some line on.
 #[derive(Drop)]
 pub struct ScriptLines<'a, S: Source> {
@@ -29,10 +50,7 @@ pub struct ScriptLines<'a, S: Source> {
     source: &'a S,
     /// Where the next line begins.
     at: usize,
-    /// A line without entries follows the last entry.
-    gap: bool,
-    /// There was an entry.
-    begun: bool,
+    before: LinesBefore,
 }
 
 impl<'a, S: Source> ScriptLines<'a, S> {
@@ -41,20 +59,41 @@ impl<'a, S: Source> ScriptLines<'a, S> {
         ensures source { bytes_of S.bytes result ≡ S.bytes source.entry.now }
         ensures start { AtStart result }
     {
+        ScriptLines::behind(alloc, source, LinesBefore::none())
+    }
+
+    /// The lines of the source, which is what follows some lines of a script.
+    pub fn behind(alloc: Global, source: &'a S, before: LinesBefore) -> ScriptLines<'a, S>
+        ensures source { bytes_of S.bytes result ≡ S.bytes source.entry.now }
+        ensures start { (place_of result ≡ 0) × (before_of result ≡ before) }
+    {
         ScriptLines {
             alloc,
             source,
             at: 0,
-            gap: false,
-            begun: false,
+            before,
         }
+    }
+
+    /// Where the next line begins.
+    pub fn at(&self) -> usize
+        ensures { result ≡ place_of self.now }
+    {
+        self.at
+    }
+
+    /// What the lines so far leave for the next one to know.
+    pub fn before(&self) -> LinesBefore
+        ensures { result ≡ before_of self.now }
+    {
+        self.before
     }
 
     /// Whether the first entry of the next line is blank.
     fn is_blank_next(&self) -> bool
         ensures { (so : SoFar) → Stands self.now so → result ≡ is_blank_line so }
     {
-        self.gap && self.begun
+        self.before.gap && self.before.begun
     }
 
     /// Moves behind a line of so many bytes.
@@ -64,9 +103,9 @@ impl<'a, S: Source> ScriptLines<'a, S> {
         ensures place { place_of self.new ≡ place_of self.old + len }
         ensures source { bytes_of S.bytes self.new ≡ bytes_of S.bytes self.old }
     {
-        self.gap = entries.is_empty();
-        if !self.gap {
-            self.begun = true;
+        self.before.gap = entries.is_empty();
+        if !self.before.gap {
+            self.before.begun = true;
         }
         self.at += len;
     }
@@ -99,6 +138,39 @@ impl<'a, S: Source> ScriptLines<'a, S> {
                 }
             }
             Err(Stop::Wrong(fault)) => Ok(ScriptLine::Faulty(fault)),
+            Err(Stop::Memory) => Err(ReadError::Memory),
+        }
+    }
+
+    /// Reads one more line, if it has no fault and a newline ended it that is its last byte: then nothing that follows it in the script
+    /// has a part in how it is read. If not, nothing moves. Want of memory is the only error; the line may be read again then.
+    pub fn read_whole(&mut self) -> Result<Option<Vec<Entry>>, ReadError>
+        requires { place_of self.old ≤ length (bytes_of S.bytes self.old) }
+        ensures line { IfOk result (λ line. IfSome line (λ entries. (so : SoFar) → Stands self.old so →
+            IsWholeLine (bytes_of S.bytes self.old) so self.old entries self.new)) }
+        ensures newline { IfOk result (λ line. IfSome line (λ entries. slice_get (bytes_of S.bytes self.old) (place_of self.new - 1) ≡ Some 10)) }
+        ensures none { result ≡ Done None → self.new ≡ self.old }
+        ensures err { IfErr result (λ e. self.new ≡ self.old) }
+        ensures source { bytes_of S.bytes self.new ≡ bytes_of S.bytes self.old }
+        ensures place { IfOk result (λ line. place_of self.new ≤ length (bytes_of S.bytes self.old)) }
+        ensures onward { IfOk result (λ line. IfSome line (λ entries. place_of self.old < place_of self.new)) }
+    {
+        let blank = self.is_blank_next();
+        match line_at::<S, KEPT>(self.alloc, self.source, self.at, self.at, blank) {
+            Ok(
+                Told {
+                    entries,
+                    newline,
+                    len,
+                },
+            ) => {
+                if newline && ends_in_newline(self.source, self.at, len) {
+                    self.pass(&entries, len);
+                    return Ok(Some(entries));
+                }
+                Ok(None)
+            }
+            Err(Stop::Wrong(_)) => Ok(None),
             Err(Stop::Memory) => Err(ReadError::Memory),
         }
     }

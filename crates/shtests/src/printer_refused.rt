@@ -1,6 +1,6 @@
 // Each growth of a printing refused in turn: `growths.rt` says how.
 use crate::growths::{refuse, refuses, was_refused};
-use shprint::{Layout, PrintError, print, print_source};
+use shprint::{Layout, PrintError, Printing, print, print_source};
 use shread::Reader;
 use shtext::Flat;
 use std::alloc::{AllocError, Global};
@@ -51,6 +51,41 @@ fn source(rt: HostRuntime) -> Result<(), Fail> {
     for nth in 1..100 {
         refuse(rt.alloc(), nth);
         let text = print_source(rt.alloc(), &layout, &source);
+        if !refuses || !was_refused(rt.alloc(), nth) {
+            assert!(rt; text?.as_slice() == TEXT);
+            break;
+        }
+        assert!(rt; text.err() == Some(PrintError::Memory));
+        met = nth;
+    }
+    assert!(rt; !refuses || 0 < met && met < 99, "{met}");
+    Ok(())
+}
+
+/// Reading and printing in two pieces, of which the first ends where it may.
+fn in_pieces(alloc: Global, layout: &Layout, first: usize) -> Result<Vec<u8>, PrintError> {
+    let mut printing = Printing::new(alloc, layout);
+    let front = SCRIPT.get(0..first).unwrap_or(SCRIPT);
+    let Ok(count) = printing.print_front(&Flat::new(front)) else {
+        return Err(PrintError::Memory);
+    };
+    printing.print_rest(&Flat::new(SCRIPT.get(count..SCRIPT.len()).unwrap_or(&[])))
+}
+
+#[test]
+fn pieces(rt: HostRuntime) -> Result<(), Fail> {
+    let layout = Layout::new(0, false, false, false)?;
+    for first in 0..=SCRIPT.len() {
+        assert!(rt;
+            in_pieces(rt.alloc(), &layout, first)?.as_slice() == TEXT,
+            "{first}"
+        );
+    }
+    let refuses = refuses(rt.alloc());
+    let mut met = 0;
+    for nth in 1..100 {
+        refuse(rt.alloc(), nth);
+        let text = in_pieces(rt.alloc(), &layout, SCRIPT.len());
         if !refuses || !was_refused(rt.alloc(), nth) {
             assert!(rt; text?.as_slice() == TEXT);
             break;

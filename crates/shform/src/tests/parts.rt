@@ -1,7 +1,8 @@
 // Scripts longer than a piece, whose lines are passed as they are read: where a fault stands is told as if all were held.
-use crate::tests::tells;
+use crate::tests::print::print;
+use crate::tests::{Page, WhenFull, tells};
 use std::io;
-use std::io::Read;
+use std::io::{Error, Read, Write};
 use std::test::Fail;
 
 /// A reader of a text so many times over, which gives at most `step` bytes at a time.
@@ -41,6 +42,83 @@ impl<'a> Read for Again<'a> {
         }
         Ok(count)
     }
+}
+
+/// A writer that takes one text over and over, and nothing else.
+#[derive(Drop)]
+struct Repeats<'a> {
+    text: &'a [u8],
+    at: usize,
+    times: usize,
+}
+
+impl<'a> Write for Repeats<'a> {
+    fn write(&mut self, buf: &[u8]) -> io::Result<usize> {
+        let rest = self.text.get(self.at..self.text.len()).unwrap_or(&[]);
+        let count = rest.len().min(buf.len());
+        if buf[..count] != rest[..count] {
+            return Err(Error::from(io::ErrorKind::Other));
+        }
+        self.at = self.at.wrapping_add(count);
+        if self.at == self.text.len() {
+            self.at = 0;
+            self.times = self.times.wrapping_add(1);
+        }
+        Ok(count)
+    }
+
+    fn flush(&mut self) -> io::Result<()> {
+        Ok(())
+    }
+}
+
+/// What is printed of a script that is longer than a piece: some text over and over, and a part of it.
+#[test]
+fn long_texts(rt: HostRuntime) -> Result<(), Fail> {
+    for (line, printed, times, rest) in [
+        (
+            b"echo  a   b\n".as_slice(),
+            b"echo a b\n".as_slice(),
+            20_000,
+            0,
+        ),
+        (b"a\n\n\n", b"a\n\n", 19_999, 2),
+        (b"if a;then\nb;fi\n", b"if a; then\n\tb\nfi\n", 20_000, 0),
+        (b"cat <<E;b\nx\nE\n", b"cat <<E\nx\nE\nb\n", 20_000, 0),
+        (b"a \\\n  b # c\n", b"a \\\n\tb # c\n", 20_000, 0),
+    ] {
+        for step in [7, 65_536] {
+            let mut output = Repeats {
+                text: printed,
+                at: 0,
+                times: 0,
+            };
+            let reader = Again::new(line, 20_000, step);
+            let status = print(
+                rt.alloc(),
+                reader,
+                &mut output,
+                Page::new(128, WhenFull::Fails),
+            )?;
+            assert!(rt;
+                status == 0 && output.times == times && output.at == rest,
+                "{printed:?}"
+            );
+        }
+    }
+    Ok(())
+}
+
+/// A fault behind much that is printed by then: nothing of it is written.
+#[test]
+fn late_fault(rt: HostRuntime) -> Result<(), Fail> {
+    let mut output = Page::new(128, WhenFull::Fails);
+    let mut errors = Page::new(128, WhenFull::Fails);
+    let reader = Again::new(b"a\n\n", 40_000, 65_536).chain(b"b\nc ;;\n".as_slice());
+    let status = print(rt.alloc(), reader, &mut output, &mut errors)?;
+    assert!(rt; status == 1 && output.text().is_empty());
+    assert!(rt; errors.text() == b"-:80002:3: unexpected token\n".as_slice());
+    Ok(())
 }
 
 #[test]

@@ -8,7 +8,7 @@ use std::io::{Read, Write};
 use std::test::Fail;
 
 /// The status of `print` on a reader, over these writers.
-fn print<R: Read + Drop, O: Write + Drop, E: Write + Drop>(
+pub(crate) fn print<R: Read + Drop, O: Write + Drop, E: Write + Drop>(
     alloc: Global,
     reader: R,
     output: O,

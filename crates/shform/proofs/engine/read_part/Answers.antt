@@ -10,7 +10,7 @@ pub returns-in_err-count-clause-err : goal.returns-in_err-count-clause-err
 returns-in_err-count-clause-err g c =
     let read = c.pieces.invariant.0 in
     let more = c.in_err-count.ensures.err in
-    let size : length (read.0 ++ more.0) ≡ c.len.result + length more.0 = omega (arith, c.len.ensures.value, size_is read.0 c.pieces.part read.1, length-append read.0 more.0) in
+    let size : length (read.0 ++ more.0) ≡ c.len.result + length more.0 = omega (arith, c.len.ensures.value, size_is read.0 c.pieces.part read.1.held, length-append read.0 more.0) in
     let p = err_from_is_err_and c.from_residual.result c.from_residual.ensures.1 in
     rw (p.1, p.2) (
       read.0 ++ more.0,
@@ -26,7 +26,7 @@ returns-in-Err-Memory-clause-err g c =
     let front = take count c.read_piece.new.piece in (
       read.0 ++ front,
       Consumes-trans (g.R.Read.remaining c.args.input.now.reader) (g.R.Read.remaining c.pieces.input.reader) (g.R.Read.remaining c.read_piece.new.input.reader) read.0 front _ read.2 ok.2 refl,
-      (ok.3, omega (arith, c.len.ensures.value, size_is read.0 c.pieces.part read.1, length-append read.0 front, ok.1, length-take-le count c.read_piece.new.piece ok.0)),
+      (ok.3, omega (arith, c.len.ensures.value, size_is read.0 c.pieces.part read.1.held, length-append read.0 front, ok.1, length-take-le count c.read_piece.new.piece ok.0)),
     )
 
 pub pieces-preserved : goal.pieces-preserved

@@ -8,7 +8,7 @@ pub lines-preserved : goal.lines-preserved
 lines-preserved g c =
     let bytes = g.S.Source.bytes c.args.source.now in
     let inv = c.lines.invariant in
-    let before = so_far c.lines.entries.items c.lines.lines.gap in
+    let before = so_far c.lines.entries.items c.lines.lines.before.gap in
     let leads = leads_in bytes before c.lines.lines c.read_next.new.self _ c.in_ok-line.field-0 inv.3 (c.in_ok-line.ensures.line before inv.0) in
     let within = subst (λ b. LineWithin (length b) c.in_ok-line.field-0) inv.3 c.in_ok-line.ensures.within in
     let on = ended_on bytes c.lines.entries.items c.add.new.entries.items c.lines.lines c.read_next.new.self c.in_ok-line.field-0 leads inv.1
@@ -24,7 +24,7 @@ pub returns-in-Last-clause-value : goal.returns-in-Last-clause-value
 returns-in-Last-clause-value g c =
     let bytes = g.S.Source.bytes c.args.source.now in
     let inv = c.lines.invariant in
-    let before = so_far c.lines.entries.items c.lines.lines.gap in
+    let before = so_far c.lines.entries.items c.lines.lines.before.gap in
     let leads = leads_in bytes before c.lines.lines c.read_next.new.self _ c.in_ok-line.field-0 inv.3 (c.in_ok-line.ensures.line before inv.0) in
     ap (λ es. record { entries = es; wrong = None }) c.list_of-in-Last.ensures
     ∙ script_only bytes _ (last_on bytes c.lines.entries.items c.add-in-Last.new.entries.items c.lines.lines c.read_next.new.self c.in_ok-line.field-0 leads inv.1
@@ -42,7 +42,7 @@ pub returns-in-Faulty-clause-value : goal.returns-in-Faulty-clause-value
 returns-in-Faulty-clause-value g c =
     let bytes = g.S.Source.bytes c.args.source.now in
     let inv = c.lines.invariant in
-    let before = so_far c.lines.entries.items c.lines.lines.gap in
+    let before = so_far c.lines.entries.items c.lines.lines.before.gap in
     let leads = leads_in bytes before c.lines.lines c.read_next.new.self _ c.in_ok-line.field-0 inv.3 (c.in_ok-line.ensures.line before inv.0) in
     ap (λ es. record { entries = es; wrong = Some c.in-Faulty.fault }) c.list_of-in-Faulty.ensures
     ∙ script_only bytes _ (faulty_on bytes c.lines.entries.items c.lines.entries.items c.lines.lines c.read_next.new.self c.in_ok-line.field-0 leads inv.1 c.in-Faulty.fault c.in-Faulty.is)

@@ -2,15 +2,14 @@ use Rattle.std.proofs.Common.{◌≡◌, ◌≤◌, ◌-◌, length, map}
 use Rattle.shtree.specs.Nodes.{AreWithin}
 use Rattle.shtree.specs.Tree.{entries_of}
 use Rattle.shtree.specs.View.{view_entry}
-use Rattle.shread.specs.LineByLine.{Stands, bytes_of, place_of}
-use Rattle.shread.proofs.LineByLine.{Rest}
+use Rattle.shread.specs.LineByLine.{Rest, Stands, bytes_of, place_of}
 use Rattle.shread.specs.Scripts.{AScript, Outcome, SoFar}
 use Rattle.shread.proofs.all_lines.script_from.Given as goal
 
 abbrev pub invariant-lines : goal.invariant-lines
 invariant-lines g l =
     let bytes = g.S.Source.bytes l.source in
-    let so : SoFar = record { entries = map view_entry l.entries.items; gap = l.lines.gap } in
+    let so : SoFar = record { entries = map view_entry l.entries.items; gap = l.lines.before.gap } in
     Stands l.lines so × ((s : AScript) → Rest bytes so (place_of l.lines) s → Outcome bytes s) × AreWithin (length bytes) (entries_of so.entries)
     × (bytes_of g.S.Source.bytes l.lines ≡ bytes) × (place_of l.lines ≤ length bytes)
 

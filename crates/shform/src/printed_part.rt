@@ -1,0 +1,75 @@
+//! A script that is printed while it is read. Lines that are whole and without a fault are printed, and need not be held; so only its
+//! text and a piece of the script are, however long that is.
+ghost use Rattle.std.specs.Prelude.{◌+◌, ◌++◌, ◌≤◌, ℕ, List, [], IfErr, IfOk, length};
+ghost use Rattle.shform.specs.Part.{HoldsPrinted, IsUnprinted, bytes_read};
+ghost use Rattle.shprint.specs.declared.layout.Layout.{Layout as ALayout};
+ghost use Rattle.shprint.specs.ReadBack.{IsTextOf};
+ghost use Rattle.shtext.specs.Edit.{limit};
+
+use crate::part::{Found, Part};
+use shprint::{Layout, PrintError, Printing};
+use shtext::Flat;
+use std::alloc::{AllocError, Global};
+
+/// What was read of a script, and what is printed of it.
+#[derive(Drop)]
+pub struct PrintedPart {
+    pub(crate) part: Part,
+    pub(crate) printing: Printing,
+}
+
+/// Why a script has no printed text.
+#[derive(Clone, Copy, Debug)]
+pub enum Unprinted {
+    /// This is its first fault.
+    Faulty(Found),
+    /// Memory ran out.
+    Memory,
+}
+
+impl PrintedPart {
+    /// Nothing was read.
+    pub fn new(alloc: Global, layout: &Layout) -> PrintedPart
+        ensures { HoldsPrinted layout.now [] result }
+    {
+        PrintedPart {
+            part: Part::new(alloc),
+            printing: Printing::new(alloc, layout),
+        }
+    }
+
+    /// Prints what lines there are, where enough is held to look for them.
+    fn print_lines(&mut self) -> Result<(), AllocError>
+        ensures { IfOk result (λ done. (y : ALayout) (read : List ℕ) → HoldsPrinted y read self.old → HoldsPrinted y read self.new) }
+    {
+        if !self.part.is_due() {
+            return Ok(());
+        }
+        let count = self.printing.print_front(&Flat::new(&self.part.text))?;
+        self.part.pass(count);
+        Ok(())
+    }
+
+    /// Takes some more bytes that were read. Where memory runs out nothing more may be taken.
+    pub fn take(&mut self, bytes: &[u8]) -> Result<(), AllocError>
+        requires { bytes_read self.old.part + length bytes.now ≤ limit }
+        ensures { IfOk result (λ done. (y : ALayout) (read : List ℕ) → HoldsPrinted y read self.old → HoldsPrinted y (read ++ bytes.now) self.new) }
+    {
+        self.part.add(bytes)?;
+        self.print_lines()?;
+        Ok(())
+    }
+
+    /// The printed text of the script, where all of it was read.
+    pub fn text(self) -> Result<Vec<u8>, Unprinted>
+        ensures printed { IfOk result (λ text. (y : ALayout) (read : List ℕ) → HoldsPrinted y read self → IsTextOf y read text.items) }
+        ensures err { IfErr result (λ e. (y : ALayout) (read : List ℕ) → HoldsPrinted y read self → IsUnprinted read e) }
+    {
+        let PrintedPart { part, printing } = self;
+        match printing.print_rest(&Flat::new(&part.text)) {
+            Ok(text) => Ok(text),
+            Err(PrintError::Faulty(fault)) => Err(Unprinted::Faulty(part.found(fault))),
+            Err(PrintError::Memory) => Err(Unprinted::Memory),
+        }
+    }
+}
