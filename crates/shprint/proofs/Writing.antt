@@ -1,5 +1,5 @@
 -- Marks printed one after the other, and what a loop has still to print.
-use Rattle.std.proofs.Common.{◌≡◌, List, [], ◌∷◌, ◌++◌, length, refl, ap, append_assoc, arith}
+use Rattle.std.proofs.Common.{◌≡◌, List, [], ◌∷◌, ◌++◌, length, refl, ap, append_assoc, arith, sym, ◌∙◌}
 use Rattle.std.proofs.lemmas.List.{append-nil}
 use Rattle.shtree.specs.Shape.{Text}
 use Rattle.shprint.specs.Marks.{Mark, Marks, text, line_end, document, laid, laid_behind, held_behind}
@@ -43,6 +43,11 @@ written_text s x = ap (λ r. sheet_of (s.so_far ++ r) s.held) (append-nil x)
 pub written_line : (s : Sheet) → written s (line_end ∷ []) ≡ sheet_of ((s.so_far ++ 10 ∷ []) ++ s.held) []
 unfolding written laid_behind held_behind
 written_line s = rw (append_assoc, append-nil) refl
+
+-- where nothing waits
+pub written_line_alone : (s : Sheet) → s.held ≡ [] → sheet_of (s.so_far ++ 10 ∷ []) s.held ≡ written s (line_end ∷ [])
+written_line_alone s none =
+    sym (written_line s ∙ ap (λ h. sheet_of ((s.so_far ++ 10 ∷ []) ++ h) []) none ∙ ap (λ t. sheet_of t []) (append-nil (s.so_far ++ 10 ∷ [])) ∙ ap (sheet_of (s.so_far ++ 10 ∷ [])) (sym none))
 
 pub written_document : (s : Sheet) (x : Text) → written s (document x ∷ []) ≡ sheet_of s.so_far (s.held ++ x)
 unfolding written laid_behind held_behind

@@ -1,6 +1,7 @@
 //! Printing a script that is read a line at a time, and in pieces.
 ghost use Rattle.std.specs.Prelude.{◌≡◌, ◌-◌, ◌<◌, ◌≤◌, ◌++◌, ℕ, [], IfErr, IfOk, IfSome, List as Row, Some, length, option_map, slice_get, take};
 ghost use Rattle.shread.specs.Moved.{moved_fault};
+ghost use Rattle.shread.specs.Search.{StopsAt};
 ghost use Rattle.shprint.specs.Printing.{IsErrorWithin, IsPrinted, moved_error};
 ghost use Rattle.shprint.specs.ReadBack.{Answers, IsNoText, IsTextOf};
 
@@ -56,6 +57,8 @@ impl Printing {
             IsPrinted y (front ++ take n (S.bytes source.now)) self.new) }
         ensures within { IfOk result (λ n. n ≤ length (S.bytes source.now)) }
         ensures newline { IfOk result (λ n. 0 < n → slice_get (S.bytes source.now) (n - 1) ≡ Some 10) }
+        // They are all: no such line follows.
+        ensures all { IfOk result (StopsAt (S.bytes source.now)) }
     {
         let printer = Printer {
             alloc: self.alloc,

@@ -42,8 +42,11 @@ impl Page {
         ensures { IfOk result (λ _. Prints self.old self.new (line_end ∷ [])) }
     {
         self.text.push(b'\n')?;
-        self.text.extend_from_slice(&self.held)?;
-        self.held.clear();
+        // Most often nothing waits.
+        if !self.held.is_empty() {
+            self.text.extend_from_slice(&self.held)?;
+            self.held.clear();
+        }
         Ok(())
     }
 

@@ -8,7 +8,7 @@ use Rattle.shread.specs.Levels.{most_open, level}
 use Rattle.shread.specs.Lines.{a_line}
 use Rattle.shread.specs.Moved.{Same, moved_fault}
 use Rattle.shread.specs.Scripts.{AScript, SoFar, first_fault_from, is_blank_line, line_from, line_told, nothing_yet, script_below, script_by, script_on, the_line, with_line}
-use Rattle.shread.specs.Search.{ArePassed, LineBefore, MayPass}
+use Rattle.shread.specs.Search.{ArePassed, LineBefore, MayPass, StopsAt}
 use Rattle.shread.specs.Sights.{State, given, standing}
 use Rattle.shread.specs.Standing.{raw_stands}
 use Rattle.shread.proofs.Alike.{Like, SameEnd, alike_level, alike_line}
@@ -77,6 +77,46 @@ newline_behind bytes p q len ends some stands =
 
 pub newline_before : (bytes : List ℕ) (p q : ℕ) → LineBefore bytes p q → slice_get bytes (q - 1) ≡ Some 10
 newline_before bytes p q line = newline_behind bytes p q line.1.at line.3 line.4 line.6
+
+-- ---- a line that may be passed, as it is read with its tree
+
+kept_there : (p : ℕ) (blank : Bool) (es : Row AnEntry) (t : State) (x z : Read (Row AnEntry × Bool)) → z ≡ Ok ((es, true), t) → Same p blank x z → (fs : Row AnEntry) × (u : State) × (x ≡ Ok ((fs, true), u)) × (u.at ≡ t.at)
+kept_there p blank es t (Ok ((fs, ended), u)) z is same = let moved = rw is at same in (fs, u, ap (λ (b : Bool). Ok ((fs, b), u)) moved.1, moved.2)
+kept_there p blank es t (Err f) z is same = let moved = rw is at same in absurd moved
+
+passed_there : (bytes : List ℕ) (p q : ℕ) (blank : Bool) → LineBefore bytes p q → (fs : Row AnEntry) × (u : State) × (line_from bytes true blank p ≡ Ok ((fs, true), u)) × (raw_stands (drop p bytes) (u.at - 1) 10 ≡ true)
+passed_there bytes p q blank line =
+    let t = line.1 in
+    let T = drop p bytes in
+    let like = (alike_line (given T 0) (level most_open) (alike_level (given T 0) most_open) false false).like (standing 0) in
+    let kept = kept_by t (line_told bytes true false p 0) (line_told bytes false false p 0) line.0 line.2 like in
+    let there = kept_there p blank kept.0 t (line_from bytes true blank p) (line_told bytes true false p 0) kept.1 (line_moved bytes p blank) in
+    (there.0, there.1, there.2, subst (λ (n : ℕ). raw_stands T (n - 1) 10 ≡ true) (sym there.3) line.6)
+
+abbrev newline_of : Read (Row AnEntry × Bool) → Bool
+newline_of (Ok ((es, newline), t)) = newline
+newline_of (Err f) = false
+
+abbrev place_behind : Read (Row AnEntry × Bool) → ℕ
+place_behind (Ok (x, t)) = t.at
+place_behind (Err f) = 0
+
+-- what was read there tells that it is none
+pub stops_unended : (bytes : List ℕ) (p len : ℕ) (blank newline : Bool) (es : Row AnEntry) → line_from bytes true blank p ≡ Ok ((es, newline), standing len) → (newline ≡ true → raw_stands (drop p bytes) (len - 1) 10 ≡ false) → StopsAt bytes p
+stops_unended bytes p len blank true es is other q line =
+    let there = passed_there bytes p q blank line in
+    let same : Ok ((es, true), standing len) ≡ Ok ((there.0, true), there.1) = sym is ∙ there.2 in
+    let place : there.1.at ≡ len = sym (ap place_behind same) in
+    let no : true ≡ false = sym there.3 ∙ ap (λ (n : ℕ). raw_stands (drop p bytes) (n - 1) 10) place ∙ other refl in absurd cc
+stops_unended bytes p len blank false es is other q line =
+    let there = passed_there bytes p q blank line in
+    let same : Ok ((es, false), standing len) ≡ Ok ((there.0, true), there.1) = sym is ∙ there.2 in
+    let no : false ≡ true = ap newline_of same in absurd cc
+
+pub stops_faulty : (bytes : List ℕ) (p : ℕ) (blank : Bool) (f : Fault) → line_from bytes true blank p ≡ Err f → StopsAt bytes p
+stops_faulty bytes p blank f is q line =
+    let there = passed_there bytes p q blank line in
+    let same : Err f ≡ Ok ((there.0, true), there.1) = sym is ∙ there.2 in absurd cc
 
 -- ---- the first fault behind some bytes, and that of the script
 

@@ -2,7 +2,7 @@
 ghost use Rattle.std.specs.Prelude.{◌≡◌, ◌⊎◌, ◌-◌, ◌<◌, ◌≤◌, map, IfOk, false, true};
 ghost use Rattle.shread.specs.Clauses.{Keeps, Onward, Reads, Shows, state_of, text_of};
 ghost use Rattle.shread.specs.Levels.{level};
-ghost use Rattle.shread.specs.Lines.{a_line, an_open_line, end_of_line};
+ghost use Rattle.shread.specs.Lines.{an_open_line, end_of_line};
 ghost use Rattle.shread.specs.Standing.{at_end, raw_stands};
 ghost use Rattle.shtree.specs.Bodies.{filled_row};
 ghost use Rattle.shtree.specs.View.{view_entry};
@@ -17,7 +17,7 @@ use std::alloc::Global;
 
 /// These entries with the bodies of their level.
 #[inline(always)]
-fn filled_entries(mut entries: Vec<Entry>, bodies: Vec<Span>) -> Vec<Entry>
+pub(crate) fn filled_entries(mut entries: Vec<Entry>, bodies: Vec<Span>) -> Vec<Entry>
     ensures { map view_entry result.items ≡ filled_row bodies.items (map view_entry entries.items) }
 {
     put_bodies_in(&mut entries, &bodies);
@@ -50,9 +50,9 @@ impl<'a, S: Source, const KEEP: u8> Cursor<'a, S, KEEP> {
         }
     }
 
-    /// The same, without the bodies of its here-documents.
+    /// A line from here on: its entries, without the bodies of their here-documents, and whether a newline ended it.
     #[tactic(auto, unfolding(crate::specs::Lines::an_open_line, crate::specs::Commands::next_token))]
-    fn open_line(
+    pub(crate) fn open_line(
         &mut self,
         alloc: Global,
         blank: bool,
@@ -70,27 +70,5 @@ impl<'a, S: Source, const KEEP: u8> Cursor<'a, S, KEEP> {
         self.on_line(alloc, &mut next, &mut listed, room)?;
         let newline = self.end_of_line(alloc, &mut next, room)?;
         Ok((listed.entries, newline))
-    }
-
-    /// A line from here on: its entries, and whether a newline ended it.
-    #[tactic(auto, unfolding(crate::specs::Lines::a_line))]
-    pub(crate) fn line(
-        &mut self,
-        alloc: Global,
-        blank: bool,
-        room: usize,
-    ) -> Result<(Vec<Entry>, bool), Stop>
-        ensures value { Reads S.bytes self.old (a_line (level room) blank) result
-            (λ x. (map view_entry x.0.items, x.1)) (state_of self.new) }
-        ensures outer { IfOk result (λ x. self.new.documents ≡ self.old.documents) }
-        ensures onward { IfOk result (λ x. Onward self.old.at self.new.at x.1) }
-        ensures newline { IfOk result (λ x. x.1 ≡ true → (raw_stands (text_of S.bytes self.old) (self.new.at - 1) 10 ≡ true) ⊎ (at_end (text_of S.bytes self.old) self.new.at ≡ true)) }
-        ensures whole { IfOk result (λ x. x.1 ≡ false → at_end (text_of S.bytes self.old) self.new.at ≡ true) }
-        ensures same { Keeps self.old self.new }
-    {
-        let outer = self.open_level(alloc);
-        let (entries, newline) = self.open_line(alloc, blank, room)?;
-        let bodies = self.close_level(outer);
-        Ok((filled_entries(entries, bodies), newline))
     }
 }

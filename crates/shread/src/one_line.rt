@@ -12,6 +12,7 @@ ghost use Rattle.shtree.specs.View.{view_entry};
 
 use crate::cursor::{Cursor, KEPT};
 use crate::fault::{ReadError, Stop};
+use crate::line::filled_entries;
 use crate::reader::{Line, LineKind};
 use shtext::Source;
 use shtree::Entry;
@@ -32,7 +33,7 @@ pub(crate) struct Told {
 }
 
 /// The line that begins at an offset, whose own offsets are counted from `origin`. Its tree grows where `KEEP` is `KEPT`.
-#[tactic(auto, using(crate::proofs::Places::end_is))]
+#[tactic(auto, unfolding(crate::specs::Lines::a_line), using(crate::proofs::Places::end_is))]
 pub(crate) fn line_at<S: Source, const KEEP: u8>(
     alloc: Global,
     source: &S,
@@ -55,11 +56,13 @@ pub(crate) fn line_at<S: Source, const KEEP: u8>(
     ensures whole { IfOk result (λ x. x.newline ≡ false → at + x.len ≡ length (S.bytes source.now)) }
 {
     let mut cursor = Cursor::<S, KEEP>::at_line(alloc, source, at, origin);
-    let (entries, newline) = cursor.line(alloc, blank, MOST_OPEN)?;
+    // It holds no here-document yet: the line's level is its own.
+    let (entries, newline) = cursor.open_line(alloc, blank, MOST_OPEN)?;
+    let len = cursor.at;
     Ok(Told {
-        entries,
+        entries: filled_entries(entries, cursor.documents.bodies),
         newline,
-        len: cursor.at,
+        len,
     })
 }
 

@@ -1,6 +1,7 @@
 //! The lines of a script, read one after the other, so that who needs no tree of the whole holds that of one line.
 ghost use Rattle.std.specs.Prelude.{◌≡◌, ◌+◌, ◌-◌, ◌^◌, ◌<◌, ◌≤◌, length, map, slice_get, IfErr, IfOk, IfSome, None, Ok as Done, Some};
 ghost use Rattle.shread.specs.Scripts.{SoFar, is_blank_line, with_line};
+ghost use Rattle.shread.specs.Search.{StopsAt};
 ghost use Rattle.shtree.specs.View.{view_entry};
 ghost use Rattle.shread.specs.LineByLine.{AtStart, GoesOn, IsNextLine, IsWholeLine, LineWithin, Stands, before_of, bytes_of, no_lines, place_of};
 
@@ -149,7 +150,7 @@ impl<'a, S: Source> ScriptLines<'a, S> {
         ensures line { IfOk result (λ line. IfSome line (λ entries. (so : SoFar) → Stands self.old so →
             IsWholeLine (bytes_of S.bytes self.old) so self.old entries self.new)) }
         ensures newline { IfOk result (λ line. IfSome line (λ entries. slice_get (bytes_of S.bytes self.old) (place_of self.new - 1) ≡ Some 10)) }
-        ensures none { result ≡ Done None → self.new ≡ self.old }
+        ensures none { result ≡ Done None → (self.new ≡ self.old) × StopsAt (bytes_of S.bytes self.old) (place_of self.old) }
         ensures err { IfErr result (λ e. self.new ≡ self.old) }
         ensures source { bytes_of S.bytes self.new ≡ bytes_of S.bytes self.old }
         ensures place { IfOk result (λ line. place_of self.new ≤ length (bytes_of S.bytes self.old)) }

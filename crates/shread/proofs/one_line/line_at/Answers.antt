@@ -1,26 +1,40 @@
-use Rattle.std.proofs.Common.{◌≡◌, ◌==◌, ◌∙◌, Ok, drop, map, ap}
-use Rattle.shread.specs.Clauses.{standing_with, state_of}
-use Rattle.shread.specs.Scripts.{line_told}
-use Rattle.shread.specs.Sights.{State, standing}
+use Rattle.std.proofs.Common.{◌≡◌, ◌==◌, ◌∙◌, Ok, List as Row, drop, map, ap, sym}
+use Rattle.shtree.specs.Bodies.{filled_row}
+use Rattle.shtree.specs.Tree.{AnEntry}
 use Rattle.shtree.specs.View.{view_entry}
+use Rattle.shread.specs.Clauses.{state_of}
+use Rattle.shread.specs.Form.{does}
+use Rattle.shread.specs.Levels.{level, most_open}
+use Rattle.shread.specs.Lines.{an_open_line}
+use Rattle.shread.specs.Scripts.{line_told}
+use Rattle.shread.specs.Sights.{given, standing}
+use Rattle.shread.proofs.Levels.{line_read}
 use Rattle.shread.proofs.Within.{line_within}
 use Rattle.shread.proofs.one_line.line_at.Goals as goal
 
 pub returns-clause-value : goal.returns-clause-value
 returns-clause-value g c =
     let at_line = c.at_line-cursor.ensures in
-    let bytes = g.S.Source.bytes c.args.source.now in
-    let end = c.line.new.self.at in
-    let told : line_told bytes (g.row.KEEP == 1) c.args.blank c.args.at c.args.origin ≡ Ok ((map view_entry c.in_ok-entries.entries.items, c.in_ok-entries.newline), state_of c.line.new.self) =
+    let here = given (drop c.args.at (g.S.Source.bytes c.args.source.now)) c.args.origin in
+    let inner = state_of c.open_line.new.self in
+    let es = map view_entry c.in_ok-entries.entries.items in
+    let newline = c.in_ok-entries.newline in
+    let inside : does (an_open_line (level most_open) c.args.blank) (g.row.KEEP == 1) here (standing 0) ≡ Ok ((es, newline), inner) =
     rw (at_line.0, at_line.1, at_line.2, at_line.3) at c.in_ok-entries.ensures.value in
-    let nothing : state_of c.line.new.self ≡ standing end =
-    ap (λ d. standing_with d end) c.in_ok-entries.ensures.outer ∙ ap (λ (u : State). record { at = end; waiting = u.waiting; bodies = u.bodies }) at_line.3 in
-    told ∙ ap (λ (u : State). Ok ((map view_entry c.in_ok-entries.entries.items, c.in_ok-entries.newline), u)) nothing
+    line_read (g.row.KEEP == 1) here (standing 0) (level most_open) c.args.blank newline es inner inside
+    ∙ ap (λ (zs : Row AnEntry). Ok ((zs, newline), standing inner.at)) (sym c.filled_entries.ensures)
 
 pub returns-clause-spans : goal.returns-clause-spans
 returns-clause-spans g c =
     let at_line = c.at_line-cursor.ensures in
     let bytes = g.S.Source.bytes c.args.source.now in
-    let told : line_told bytes (g.row.KEEP == 1) c.args.blank c.args.at c.args.origin ≡ Ok ((map view_entry c.in_ok-entries.entries.items, c.in_ok-entries.newline), state_of c.line.new.self) =
+    let here = given (drop c.args.at bytes) c.args.origin in
+    let inner = state_of c.open_line.new.self in
+    let es = map view_entry c.in_ok-entries.entries.items in
+    let newline = c.in_ok-entries.newline in
+    let inside : does (an_open_line (level most_open) c.args.blank) (g.row.KEEP == 1) here (standing 0) ≡ Ok ((es, newline), inner) =
     rw (at_line.0, at_line.1, at_line.2, at_line.3) at c.in_ok-entries.ensures.value in
-    line_within (drop c.args.at bytes) c.args.origin (g.row.KEEP == 1) c.args.blank _ _ (state_of c.line.new.self) told
+    let told : line_told bytes (g.row.KEEP == 1) c.args.blank c.args.at c.args.origin ≡ Ok ((map view_entry c.filled_entries.result.items, newline), standing inner.at) =
+    line_read (g.row.KEEP == 1) here (standing 0) (level most_open) c.args.blank newline es inner inside
+    ∙ ap (λ (zs : Row AnEntry). Ok ((zs, newline), standing inner.at)) (sym c.filled_entries.ensures) in
+    line_within (drop c.args.at bytes) c.args.origin (g.row.KEEP == 1) c.args.blank _ _ (standing inner.at) told

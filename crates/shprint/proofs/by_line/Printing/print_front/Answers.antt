@@ -1,4 +1,5 @@
 use Rattle.std.proofs.Common.{rules, ◌≡◌, ◌∙◌, None, Ok, ap, arith, refl, sym}
+use Rattle.shread.specs.LineByLine.{place_of}
 use Rattle.shprint.specs.Written.{sheet}
 use Rattle.shprint.proofs.ByLine.{front_behind, start_printed}
 use Rattle.shprint.proofs.by_line.Printing.print_front.Goals as goal
@@ -41,17 +42,24 @@ pub returns-in_default-line-clause-printed : goal.returns-in_default-line-clause
 returns-in_default-line-clause-printed g c = λ y front is.
     let inv = c.lines.invariant in
     let none : c.in-Ok.line ≡ None = search rules in
-    let same = c.in-Ok.ensures.none (ap Ok none) in
+    let same = (c.in-Ok.ensures.none (ap Ok none)).0 in
     (rw (sym c.before-self.ensures, sym c.at.ensures) at (rw (sym same) at (inv.0 y front is)), inv.1 ∙ is.1, inv.5 ∙ is.2)
 
 pub returns-in_default-line-clause-within : goal.returns-in_default-line-clause-within
 returns-in_default-line-clause-within g c =
     let none : c.in-Ok.line ≡ None = search rules in
-    let same = c.in-Ok.ensures.none (ap Ok none) in
+    let same = (c.in-Ok.ensures.none (ap Ok none)).0 in
     rw (sym c.at.ensures) at (rw (sym same) at c.lines.invariant.3)
 
 pub returns-in_default-line-clause-newline : goal.returns-in_default-line-clause-newline
 returns-in_default-line-clause-newline g c =
     let none : c.in-Ok.line ≡ None = search rules in
-    let same = c.in-Ok.ensures.none (ap Ok none) in
+    let same = (c.in-Ok.ensures.none (ap Ok none)).0 in
     rw (sym c.at.ensures) at (rw (sym same) at c.lines.invariant.4)
+
+pub returns-in_default-line-clause-all : goal.returns-in_default-line-clause-all
+returns-in_default-line-clause-all g c =
+    let none : c.in-Ok.line ≡ None = search rules in
+    let both = c.in-Ok.ensures.none (ap Ok none) in
+    let place = c.at.ensures ∙ ap (λ lines. place_of lines) both.0 in
+    rw (sym place) at (rw c.lines.invariant.2 at both.1)

@@ -1,8 +1,10 @@
-use Rattle.std.proofs.Common.{◌≡◌, ◌∙◌, map, sym, subst, true, Ok}
+use Rattle.std.proofs.Common.{◌≡◌, ◌∙◌, map, refl, sym, subst, false, true, Ok}
 use Rattle.shtree.specs.View.{view_entry}
 use Rattle.shread.specs.Scripts.{line_from}
 use Rattle.shread.specs.Sights.{standing}
-use Rattle.shread.proofs.Passing.{newline_behind}
+use Rattle.shread.proofs.LineByLine.{fault_told}
+use Rattle.shread.proofs.Passing.{newline_behind, stops_faulty, stops_unended}
+use Rattle.shread.proofs.script_lines.ScriptLines.read_whole.Goals.{else-newline-via-then-newline+else-ends_in_newline, else-newline-via-else-newline}
 use Rattle.shread.proofs.script_lines.ScriptLines.read_whole.Goals as goal
 
 pub returns-then-ends_in_newline-clause-line : goal.returns-then-ends_in_newline-clause-line
@@ -23,3 +25,22 @@ returns-then-ends_in_newline-clause-newline g c =
     let bytes = g.S.Source.bytes c.args.self.now.source.now in
     newline_behind bytes c.args.self.now.at c.pass.new.self.at c.in-Ok.field-0.len c.pass.ensures.place (rw c.if-newline.true at c.in-Ok.ensures.onward)
     (sym c.ends_in_newline.ensures ∙ c.if-ends_in_newline.true)
+
+pub returns-else-newline-clause-none : goal.returns-else-newline-clause-none
+returns-else-newline-clause-none g c = λ is.
+    let bytes = g.S.Source.bytes c.args.self.now.source.now in
+    let told = c.in-Ok.field-0 in
+    let stops = stops_unended bytes c.args.self.now.at told.len c.is_blank_next-blank.result told.newline (map view_entry told.entries.items) c.in-Ok.ensures.value in (
+      refl,
+      elim c.else-newline.branch [
+        | else-newline-via-then-newline+else-ends_in_newline w ↦ stops (λ on. sym w.ends_in_newline.ensures ∙ w.if-ends_in_newline.false)
+        | else-newline-via-else-newline w ↦ stops (λ on. let no : true ≡ false = sym on ∙ w.if-newline.false in absurd cc)
+      ],
+    )
+
+pub returns-in-Err-Wrong-clause-none : goal.returns-in-Err-Wrong-clause-none
+returns-in-Err-Wrong-clause-none g c = λ is. (
+  refl,
+  stops_faulty (g.S.Source.bytes c.args.self.now.source.now) c.args.self.now.at c.is_blank_next-blank.result c.in-Err-Wrong.field-0-0
+      (fault_told _ c.in-Err-Wrong.field-0-0 _ _ c.in-Err-Wrong.field-0-is c.in-Err-Wrong.ensures.value),
+)
