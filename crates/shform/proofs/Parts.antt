@@ -1,11 +1,10 @@
 -- What is held of a script stays true as more of it is read, and as lines are passed.
 use Rattle.std.proofs.Common.{◌≡◌, ℕ, ◌+◌, ◌-◌, ◌<◌, ◌≤◌, ◌++◌, [], List, Option, None, Some, option_map, count_by, length, take, drop, slice_get, get_or, refl, sym, ap, subst, ◌∙◌, arith, ⊎_elim, length-drop, length-take, zero-add}
 use Rattle.std.proofs.lemmas.Bool.{cases_lt}
-use Rattle.std.proofs.lemmas.List.{append-nil, append_assoc, drop-append-le, take-append-drop, take-append-le, take_rest}
+use Rattle.std.proofs.lemmas.List.{append-nil, append_assoc, drop-append-le, take-append-drop, take-append-le}
 use Rattle.std.proofs.lemmas.List.Sums.{fold-append, sum_by-append}
 use Rattle.std.proofs.lemmas.Option.{get_or_from_slice_get, slice_get_within}
-use Rattle.std.proofs.Math.Seq.{drop-drop, take-add, take-paste}
-use Rattle.std.specs.List.{copy_within}
+use Rattle.std.proofs.Math.Seq.{drop-drop, take-add}
 use Rattle.shform.specs.Part.{EndsLine, Held, Holds, HoldsPrinted, IsFoundAt, bytes_read}
 use Rattle.shform.specs.declared.part.Found.{Found}
 use Rattle.shform.specs.declared.printed_part.PrintedPart.{PrintedPart}
@@ -20,12 +19,6 @@ use Rattle.shread.specs.Scripts.{FirstFault}
 use Rattle.shread.proofs.Stretches.{get_drop}
 use Rattle.shtext.specs.Text.{column_of, is_newline, line_of, since_newline}
 use Rattle.shtext.proofs.Newlines.{since_start}
-
--- what is left when the front is overwritten with what is behind it, and the end cut off
-pub front_dropped : (xs : List ℕ) (n : ℕ) → n ≤ length xs → take (length xs - n) (copy_within xs n (length xs) 0) ≡ drop n xs
-front_dropped xs n within =
-    let size : length xs - n ≤ length (drop n xs) = omega (arith, length-drop n xs) in
-    ap (λ (m : ℕ). take m (copy_within xs n (length xs) 0)) (sym (zero-add (length xs - n))) ∙ take-paste xs 0 (drop n xs) (length xs - n) (omega arith) size ∙ take_rest xs n
 
 -- how many bytes were read
 pub size_is : (read : List ℕ) (part : Part) → Held read part → length read ≡ bytes_read part

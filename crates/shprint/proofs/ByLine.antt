@@ -9,16 +9,18 @@ use Rattle.shread.specs.declared.script_lines.ScriptLine.TheVariants.{Ended, Las
 use Rattle.shread.specs.declared.script_lines.ScriptLines.{ScriptLines}
 use Rattle.shread.specs.Commands.{is_empty}
 use Rattle.shread.specs.LineByLine.{Before, IsNextLine, IsWholeLine, LineWithin, Rest, Stands, before_of, no_lines, place_of}
-use Rattle.shread.specs.Moved.{blanked_row, moved_entry, moved_fault}
+use Rattle.shread.specs.declared.keep.Keep.TheVariants.{Whole}
+use Rattle.shread.specs.Moved.{blanked_row, moved_entry, moved_fault, outer_entry, placed_body}
 use Rattle.shread.specs.Scripts.{AScript, FirstFault, Outcome, SoFar, faulty, is_blank_line, last_line, line_ended, nothing_yet, with_line}
 use Rattle.shread.specs.Sights.{State}
 use Rattle.shread.proofs.LineByLine.{line_only, line_read}
-use Rattle.shread.proofs.LineInPiece.{There, alone, fault_there, stands_there, told_same}
+use Rattle.shread.proofs.LineInPiece.{There, alone, outer_alone, fault_there, stands_there, told_same}
 use Rattle.shread.proofs.Passing.{line_there}
 use Rattle.shread.proofs.SameLine.{newline_at, same_front}
 use Rattle.shtree.specs.Shape.{Text, shape_of, shape_of_entry}
 use Rattle.shtree.specs.declared.tree.Entry.{Entry}
 use Rattle.shtree.specs.Tree.{AnEntry, entries_of}
+use Rattle.shtree.specs.Nodes.{placed_span}
 use Rattle.shtree.specs.View.{view_entry}
 use Rattle.shprint.specs.declared.layout.Layout.{Layout}
 use Rattle.shprint.specs.Printed.{print_entries, print_entry, printed}
@@ -28,6 +30,7 @@ use Rattle.shprint.specs.declared.by_line.PrintError.{PrintError}
 use Rattle.shprint.specs.declared.by_line.PrintError.TheVariants as PrintErrors
 use Rattle.shprint.specs.declared.by_line.Printing.{Printing}
 use Rattle.shprint.specs.Written.{Sheet, sheet_of, written}
+use Rattle.shprint.proofs.Outer.{line_same}
 use Rattle.shprint.proofs.ReadBack.{reads_back}
 use Rattle.shprint.proofs.Writing.{written_append, written_first, written_none}
 
@@ -54,9 +57,9 @@ module _ (y : Layout) (bytes : List ℕ) where
 
 -- ---- a line of a piece, in the script
 
-empty_as : (blank : Bool) (n q : ℕ) (es : List AnEntry) → is_empty (blanked_row blank (map (moved_entry n) es)) ≡ is_empty (blanked_row blank (map (moved_entry q) es))
-empty_as blank n q [] = refl
-empty_as blank n q (e ∷ es) = refl
+empty_as : (blank : Bool) (f g : AnEntry → AnEntry) (es : List AnEntry) → is_empty (blanked_row blank (map f es)) ≡ is_empty (blanked_row blank (map g es))
+empty_as blank f g [] = refl
+empty_as blank f g (e ∷ es) = refl
 
 begun_as : (before es fs : List AnEntry) → is_empty es ≡ is_empty fs → is_empty (before ++ es) ≡ is_empty (before ++ fs)
 begun_as [] es fs is = is
@@ -94,7 +97,7 @@ module _ (y : Layout) (H S : List ℕ) (q n : ℕ) (so : SoFar) (es : List AnEnt
 -- ---- lines at the front of what follows
 
 -- the line at q of H is whole, and its first bytes are taken behind P: whatever follows them, it is read there
-whole_there : (H P more : List ℕ) (q : ℕ) (blank : Bool) (es : List AnEntry) (t : State) → Rattle.shread.specs.Scripts.line_told H true false q 0 ≡ Ok ((es, true), t) → 0 < t.at → q + t.at ≤ length H
+whole_there : (H P more : List ℕ) (q : ℕ) (blank : Bool) (es : List AnEntry) (t : State) → Rattle.shread.specs.Scripts.line_told H Whole false q 0 ≡ Ok ((es, true), t) → 0 < t.at → q + t.at ≤ length H
     → Rattle.shread.specs.Standing.raw_stands (drop q H) (t.at - 1) 10 ≡ true → There H (P ++ (take t.at (drop q H) ++ more)) q (length P) blank true es t
 whole_there H P more q blank es t read some low stands =
     let D = drop q H in
@@ -115,7 +118,7 @@ module _ {S : Type 0} (y : Layout) (H : List ℕ) (old new : ScriptLines S) (tex
       let D = drop q H in
       let w = whole b.so b.left_so in
       let blank = is_blank_line b.so in
-      let a = alone H q blank true (map view_entry line.items) w.0 w.2 in
+      let a = outer_alone H q blank true (map view_entry line.items) w.0 w.2 in
       let es = a.0 in
       let t = a.1 in
       let size : t.at ≡ L = omega (arith, a.4, w.1, ends_at) in
@@ -124,9 +127,9 @@ module _ {S : Type 0} (y : Layout) (H : List ℕ) (old new : ScriptLines S) (tex
       let stands : Rattle.shread.specs.Standing.raw_stands D (t.at - 1) 10 ≡ true = subst (λ (k : ℕ). Rattle.shread.specs.Standing.raw_stands D (k - 1) 10 ≡ true) a.4 w.4 in
       let there = λ (more : List ℕ). whole_there H P more q blank es t a.2 some high stands in
       let here = blanked_row blank (map (moved_entry (length P)) es) in
-      let alike : is_empty (map view_entry line.items) ≡ is_empty here = ap is_empty a.3 ∙ empty_as blank q (length P) es in
+      let alike : is_empty (map view_entry line.items) ≡ is_empty here = ap is_empty a.3 ∙ empty_as blank (outer_entry q) (moved_entry (length P)) es in
       let then_is : then ≡ written text (print_entries y [] (shape_of H (entries_of (blanked_row blank (map (moved_entry q) es))))) =
-      is ∙ ap (λ (r : List AnEntry). written text (print_entries y [] (shape_of H (entries_of r)))) a.3 in
+      is ∙ ap (λ (r : List AnEntry). written text (print_entries y [] (shape_of H (entries_of r)))) a.3 ∙ ap (written text) (line_same y H (placed_span q) (placed_body q) [] blank es) in
       let done : ArePrinted y (P ++ take t.at D) new.before then = record {
         so = with_line b.so here;
         left_so = left_as new.before b.so (map view_entry line.items) here alike w.5;
@@ -198,7 +201,7 @@ module _ {S : Type 0} (y : Layout) (H front : List ℕ) where
         let same : drop n (front ++ H) ≡ drop q H = drop-append-add front H q in
         let there = stands_there H (front ++ H) q n blank true es u a.2 (ap (take u.at) same) (told_same (front ++ H) H n q same ∙ a.2) in
         let here = blanked_row blank (map (moved_entry n) es) in
-        let alike : is_empty (map view_entry line.items) ≡ is_empty here = ap is_empty a.3 ∙ empty_as blank q n es in
+        let alike : is_empty (map view_entry line.items) ≡ is_empty here = ap is_empty a.3 ∙ empty_as blank (moved_entry q) (moved_entry n) es in
         let then_is : then ≡ written text (print_entries y [] (shape_of H (entries_of (blanked_row blank (map (moved_entry q) es))))) =
         is ∙ ap (λ (r : List AnEntry). written text (print_entries y [] (shape_of H (entries_of r)))) a.3 in
         record {

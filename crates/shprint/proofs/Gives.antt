@@ -1,5 +1,6 @@
 -- What a row of the grammar gives from a state on, whatever tokens it passes: how rows are put together.
 use Rattle.std.proofs.Common.{◌≡◌, ◌≤◌, sym, subst, Bool, true, false, List as Row, [], ◌∷◌, ◌++◌, Ok}
+use Rattle.shread.specs.declared.keep.Keep.TheVariants.{Whole}
 use Rattle.shread.specs.Comments.{span}
 use Rattle.shread.specs.Sights.{Given, State, Sight, seen, Move}
 use Rattle.shread.specs.Form.{Spelled, Told, Form, give, see, move, push, both, token, many, may, moved, just, and_then, whole, Step, again, done, last, more, leads_on}
@@ -51,4 +52,4 @@ one_turn turn one on rest = gives _ (more one.reads on rest.reads)
 
 -- no row goes back
 pub gives_on : {g : Given} {X : Type 0} (r : Form X) (s : State) (x : X) (t : State) → Gives g r s x t → s.at ≤ t.at
-gives_on {g = g} r s x t one = subst (Holds (Behind s)) (sym ((is r g s).only _ _ one.reads)) (low r true g s).told
+gives_on {g = g} r s x t one = subst (Holds (Behind s)) (sym ((is r g s).only _ _ one.reads)) (low r Whole g s).told

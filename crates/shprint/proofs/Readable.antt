@@ -3,6 +3,7 @@
 use Rattle.std.proofs.Common.{◌≡◌, ◌∙◌, refl, sym, ap, subst, ℕ, zero, suc, ◌+◌, ◌-◌, Bool, true, false, not, ◌&&◌, ◌||◌, ◌⊎◌, inl, inr, ⊎_elim, Ok, Err, List, List as Row, [], ◌∷◌, ◌++◌, drop, take, Option, Some, None, is_some, option_map}
 use Rattle.std.proofs.lemmas.Bool.{both_ways}
 use Rattle.std.proofs.lemmas.List.{drop-drop}
+use Rattle.shread.specs.declared.keep.Keep.TheVariants.{Whole}
 use Rattle.shread.specs.declared.token.Closing.{Closing}
 use Rattle.shread.specs.declared.token.Closing.TheVariants as closings
 use Rattle.shread.specs.declared.token.Next.{Next}
@@ -26,7 +27,7 @@ use Rattle.shread.specs.Tokens.{is_name_at, token_at}
 use Rattle.shread.specs.Sights.{Given, given, State, standing, Sight, seen, Move, one_byte, to}
 use Rattle.shread.specs.States.{Waiting}
 use Rattle.shread.specs.HereDocuments.{ADelimiter, bodies_here, delimiter_of}
-use Rattle.shread.specs.Form.{Spelled, Read, Form, see, move, push, stop, give, ◌>>◌, both, when, token, loop, ends_as, change, with_bytes, a_level, many, Step, again, done, step_if, may, raw}
+use Rattle.shread.specs.Form.{Spelled, Read, Form, see, move, push, stop, give, ◌>>◌, both, when, token, loop, ends_as, change, with_bytes, a_level, in_substitution, many, Step, again, done, step_if, may, raw}
 use Rattle.shread.specs.Words.{Inner, a_word}
 use Rattle.shread.specs.Commands.{pick, next_token, is_newline, is_semicolon, a_semicolon, is_pipe, is_bang, begins_simple, begins_word, begins_redirect, begins_pipeline, opener_of, compound_by, and_or_operator_of, Items, so_many, behind_word, is_number, redirect_operator_of, takes_here, a_number, an_operator, operator_by, a_target, one_redirect, behind_redirect, redirect_turn, redirected, as_item, breaks, an_item, item_by, item_turn, a_simple, unexpected, comment_by, a_comment, a_newline, with_comment, JoinSo, join_turn, a_join, a_command, a_bang, Piped, piped, one_command, pipe_turn, a_pipeline, Joined, joined_so, one_pipeline, joined_by, join_pipeline, an_and_or, separator_of, separator_by, a_separator, an_entry, is_word, is_paren, a_worded, ASeparator, past_separator, is_double_semicolon, a_document, document_by, open_document, is_long, is_strip, nothing_waits}
 use Rattle.shread.specs.Lists.{ListSo, list_so, none_listed, is_blank_next, one_entry, entry_turn, remark_by, a_remark, on_line, list_turn, a_list}
@@ -173,22 +174,24 @@ Quiet (ends_as kind at r) = ⊥
 Quiet (change c) = ⊥
 Quiet (with_bytes r) = ⊥
 Quiet (a_level r) = ⊥
+Quiet (in_substitution r) = ⊥
 
 module _ (g : Given) where
-  quiet : {X : Type 0} (r : Form X) → Quiet r → (D : Row Due) (s : State) → DocsAt g D s → Tells true g r (λ x t. DocsAt g D t) s
+  quiet : {X : Type 0} (r : Form X) → Quiet r → (D : Row Due) (s : State) → DocsAt g D s → Tells Whole g r (λ x t. DocsAt g D t) s
   quiet (give x) only D s docs = record { told = docs }
   quiet (see f) only D s docs = record { told = docs }
   quiet (move m) only D s docs = record { told = docs }
   quiet (push xs x) only D s docs = absurd only
   quiet (stop kind at) only D s docs = absurd only
-  quiet (both r q) only D s docs = tells_then true g (quiet r only.0 D s docs) (λ x t so. quiet (q x) (only.1 x) D t so)
+  quiet (both r q) only D s docs = tells_then Whole g (quiet r only.0 D s docs) (λ x t so. quiet (q x) (only.1 x) D t so)
   quiet (when f r q) only D s docs = absurd only
-  quiet (token told r) only D s docs = tells_token true g (quiet r only D s docs) (λ x t so. so)
+  quiet (token told r) only D s docs = tells_token Whole g (quiet r only D s docs) (λ x t so. so)
   quiet (loop turn a) only D s docs = absurd only
   quiet (ends_as kind at r) only D s docs = absurd only
   quiet (change c) only D s docs = absurd only
   quiet (with_bytes r) only D s docs = absurd only
   quiet (a_level r) only D s docs = absurd only
+  quiet (in_substitution r) only D s docs = absurd only
 
   -- ---- forms that add no document
 
@@ -197,28 +200,28 @@ module _ (g : Given) where
 
   -- P holds of what r reads from p on, and of the place behind it. Whatever documents stand before p, they are all behind it too.
   record Reads {X : Type 0} (r : Form X) (P : X → ℕ → Type 0) (p : ℕ) : Type 0 where
-    pub reads : (D : Row Due) (s : State) → DocsAt g D s → Tells true g r (Kept D P) (place_of s p)
+    pub reads : (D : Row Due) (s : State) → DocsAt g D s → Tells Whole g r (Kept D P) (place_of s p)
 
   gives : {X : Type 0} {P : X → ℕ → Type 0} {x : X} {p : ℕ} → P x p → Reads (give x) P p
-  gives so = record { reads = λ D s docs. tells_give true g (docs, so) }
+  gives so = record { reads = λ D s docs. tells_give Whole g (docs, so) }
 
   first : {X Y : Type 0} {P : X → ℕ → Type 0} {Q : Y → ℕ → Type 0} {r : Form X} {q : X → Form Y} {p : ℕ} → Reads r P p → ((x : X) (e : ℕ) → P x e → Reads (q x) Q e)
       → Reads (both r q) Q p
-  first {P = P} {Q = Q} one rest = record { reads = λ D s docs. tells_then true g {P = Kept D P} {Q = Kept D Q} (one.reads D s docs) (λ x t so. (rest x t.at so.1).reads D t so.0) }
+  first {P = P} {Q = Q} one rest = record { reads = λ D s docs. tells_then Whole g {P = Kept D P} {Q = Kept D Q} (one.reads D s docs) (λ x t so. (rest x t.at so.1).reads D t so.0) }
 
   -- what a quiet form gives may be anything
   after : {X Y : Type 0} {Q : Y → ℕ → Type 0} {r : Form X} {q : X → Form Y} {p : ℕ} → Quiet r → ((x : X) (e : ℕ) → Reads (q x) Q e) → Reads (both r q) Q p
-  after {Q = Q} {r = r} {p = p} only rest = record { reads = λ D s docs. tells_then true g {Q = Kept D Q} (quiet r only D (place_of s p) docs) (λ x t so. (rest x t.at).reads D t so) }
+  after {Q = Q} {r = r} {p = p} only rest = record { reads = λ D s docs. tells_then Whole g {Q = Kept D Q} (quiet r only D (place_of s p) docs) (λ x t so. (rest x t.at).reads D t so) }
 
   -- what is seen is the same whatever waits
   sees : {X Y : Type 0} {Q : Y → ℕ → Type 0} {f : Sight X} {q : X → Form Y} {p : ℕ} → ((s : State) → seen f g (place_of s p) ≡ seen f g (standing p)) → Reads (q (seen f g (standing p))) Q p
       → Reads (both (see f) q) Q p
   sees {Q = Q} {f = f} {q = q} {p = p} same rest = record {
-    reads = λ D s docs. tells_seen true g (subst (λ x. Tells true g (q x) (Kept D Q) (place_of s p)) (sym (same s)) (rest.reads D s docs));
+    reads = λ D s docs. tells_seen Whole g (subst (λ x. Tells Whole g (q x) (Kept D Q) (place_of s p)) (sym (same s)) (rest.reads D s docs));
   }
 
   moves : {Y : Type 0} {Q : Y → ℕ → Type 0} {m : Move} {q : Unit {0} → Form Y} {p : ℕ} → Reads (q tt) Q (to m g.text p) → Reads (both (move m) q) Q p
-  moves rest = record { reads = λ D s docs. tells_moved true g (rest.reads D s docs) }
+  moves rest = record { reads = λ D s docs. tells_moved Whole g (rest.reads D s docs) }
 
   pushes : {A Y : Type 0} {Q : Y → ℕ → Type 0} {xs : Row A} {x : A} {q : Row A → Form Y} {p : ℕ} → Reads (q (xs ++ x ∷ [])) Q p → Reads (both (push xs x) q) Q p
   pushes rest = record { reads = λ D s docs. tells_pushed g (rest.reads D s docs) }
@@ -228,10 +231,10 @@ module _ (g : Given) where
   picks false one two = two
 
   with_its_bytes : {X : Type 0} {P : X → ℕ → Type 0} {Q : X × Spelled → ℕ → Type 0} {r : Form X} {p : ℕ} → Reads r P p → ((x : X) (e : ℕ) → P x e → Q (x, raw g.text p e) e) → Reads (with_bytes r) Q p
-  with_its_bytes one so = record { reads = λ D s docs. tells_with_bytes true g (one.reads D s docs) (λ x t good. (good.0, so x t.at good.1)) }
+  with_its_bytes one so = record { reads = λ D s docs. tells_with_bytes Whole g (one.reads D s docs) (λ x t good. (good.0, so x t.at good.1)) }
 
   stopped : {X : Type 0} {P : X → ℕ → Type 0} {p : ℕ} (inner : Inner) (n : Next) → Reads (unexpected {X = X} inner n) P p
-  stopped inner n = record { reads = λ D s docs. tells_after true g (λ w t. record { told = tt }) }
+  stopped inner n = record { reads = λ D s docs. tells_after Whole g (λ w t. record { told = tt }) }
 
   -- what a turn gives: R where it goes on, and Q where it was the last
   abbrev Turned : {A : Type 0} → (A → ℕ → Type 0) → (A → ℕ → Type 0) → Step A → ℕ → Type 0
@@ -239,7 +242,7 @@ module _ (g : Given) where
   Turned R Q (done a) p = Q a p
 
   -- the same, as a repetition asks for it
-  turned : {A : Type 0} (D : Row Due) (R Q : A → ℕ → Type 0) (c : Step A) (t : State) → Kept D (Turned R Q) c t → Stepped true g (Kept D R) (Kept D Q) c t
+  turned : {A : Type 0} (D : Row Due) (R Q : A → ℕ → Type 0) (c : Step A) (t : State) → Kept D (Turned R Q) c t → Stepped Whole g (Kept D R) (Kept D Q) c t
   turned D R Q (again a) t so = so
   turned D R Q (done a) t so = so
 
@@ -251,7 +254,7 @@ module _ (g : Given) where
       (goes : (a : A) (p : ℕ) → R a p → P a p) (ends : (a : A) (p : ℕ) → R a p → Q a p) where
     repeats : (a : A) (p : ℕ) → P a p → Reads (many turn a) Q p
     repeats a p so = record {
-      reads = λ D s docs. tells_until true g turn (Kept D P) (Kept D R) (Kept D Q) (λ b t now. tells_so true g ((each b t.at now.1).reads D t now.0) (turned D R Q))
+      reads = λ D s docs. tells_until Whole g turn (Kept D P) (Kept D R) (Kept D Q) (λ b t now. tells_so Whole g ((each b t.at now.1).reads D t now.0) (turned D R Q))
           (λ b t now. (now.0, goes b t.at now.1)) (λ b t now. (now.0, ends b t.at now.1)) a (place_of s p) (docs, so);
     }
 
@@ -262,30 +265,30 @@ module _ (g : Given) where
 
   -- P holds of what r reads from p on, of the documents up to its end, where those before p are D, and of the place behind it
   record Adds {X : Type 0} (D : Row Due) (r : Form X) (P : X → Row Due → ℕ → Type 0) (p : ℕ) : Type 0 where
-    pub adds : (s : State) → DocsAt g D s → Tells true g r (Grown P) (place_of s p)
+    pub adds : (s : State) → DocsAt g D s → Tells Whole g r (Grown P) (place_of s p)
 
   add_gives : {X : Type 0} {P : X → Row Due → ℕ → Type 0} {D : Row Due} {x : X} {p : ℕ} → P x D p → Adds D (give x) P p
-  add_gives {D = D} so = record { adds = λ s docs. tells_give true g (D, docs, so) }
+  add_gives {D = D} so = record { adds = λ s docs. tells_give Whole g (D, docs, so) }
 
   add_first : {X Y : Type 0} {P : X → Row Due → ℕ → Type 0} {Q : Y → Row Due → ℕ → Type 0} {D : Row Due} {r : Form X} {q : X → Form Y} {p : ℕ} → Adds D r P p
       → ((x : X) (E : Row Due) (e : ℕ) → P x E e → Adds E (q x) Q e) → Adds D (both r q) Q p
-  add_first {P = P} {Q = Q} one rest = record { adds = λ s docs. tells_then true g {P = Grown P} {Q = Grown Q} (one.adds s docs) (λ x t so. (rest x so.0 t.at so.2).adds t so.1) }
+  add_first {P = P} {Q = Q} one rest = record { adds = λ s docs. tells_then Whole g {P = Grown P} {Q = Grown Q} (one.adds s docs) (λ x t so. (rest x so.0 t.at so.2).adds t so.1) }
 
   -- behind a form that adds none
   behind : {X Y : Type 0} {P : X → ℕ → Type 0} {Q : Y → Row Due → ℕ → Type 0} {D : Row Due} {r : Form X} {q : X → Form Y} {p : ℕ} → Reads r P p
       → ((x : X) (e : ℕ) → P x e → Adds D (q x) Q e) → Adds D (both r q) Q p
-  behind {P = P} {Q = Q} {D = D} one rest = record { adds = λ s docs. tells_then true g {P = Kept D P} {Q = Grown Q} (one.reads D s docs) (λ x t so. (rest x t.at so.1).adds t so.0) }
+  behind {P = P} {Q = Q} {D = D} one rest = record { adds = λ s docs. tells_then Whole g {P = Kept D P} {Q = Grown Q} (one.reads D s docs) (λ x t so. (rest x t.at so.1).adds t so.0) }
 
   add_after : {X Y : Type 0} {Q : Y → Row Due → ℕ → Type 0} {D : Row Due} {r : Form X} {q : X → Form Y} {p : ℕ} → Quiet r → ((x : X) (e : ℕ) → Adds D (q x) Q e) → Adds D (both r q) Q p
-  add_after {Q = Q} {D = D} {r = r} {p = p} only rest = record { adds = λ s docs. tells_then true g {Q = Grown Q} (quiet r only D (place_of s p) docs) (λ x t so. (rest x t.at).adds t so) }
+  add_after {Q = Q} {D = D} {r = r} {p = p} only rest = record { adds = λ s docs. tells_then Whole g {Q = Grown Q} (quiet r only D (place_of s p) docs) (λ x t so. (rest x t.at).adds t so) }
 
   -- what follows from it
   so_adds : {X : Type 0} {P Q : X → Row Due → ℕ → Type 0} {D : Row Due} {r : Form X} {p : ℕ} → Adds D r P p → ((x : X) (E : Row Due) (e : ℕ) → P x E e → Q x E e) → Adds D r Q p
-  so_adds one so = record { adds = λ s docs. tells_so true g (one.adds s docs) (λ x t good. (good.0, good.1, so x good.0 t.at good.2)) }
+  so_adds one so = record { adds = λ s docs. tells_so Whole g (one.adds s docs) (λ x t good. (good.0, good.1, so x good.0 t.at good.2)) }
 
   add_sees : {X Y : Type 0} {Q : Y → Row Due → ℕ → Type 0} {D : Row Due} {f : Sight X} {q : X → Form Y} {p : ℕ} → ((s : State) → seen f g (place_of s p) ≡ seen f g (standing p))
       → Adds D (q (seen f g (standing p))) Q p → Adds D (both (see f) q) Q p
-  add_sees {Q = Q} {q = q} {p = p} same rest = record { adds = λ s docs. tells_seen true g (subst (λ x. Tells true g (q x) (Grown Q) (place_of s p)) (sym (same s)) (rest.adds s docs)) }
+  add_sees {Q = Q} {q = q} {p = p} same rest = record { adds = λ s docs. tells_seen Whole g (subst (λ x. Tells Whole g (q x) (Grown Q) (place_of s p)) (sym (same s)) (rest.adds s docs)) }
 
   add_pushes : {A Y : Type 0} {Q : Y → Row Due → ℕ → Type 0} {D : Row Due} {xs : Row A} {x : A} {q : Row A → Form Y} {p : ℕ} → Adds D (q (xs ++ x ∷ [])) Q p → Adds D (both (push xs x) q) Q p
   add_pushes rest = record { adds = λ s docs. tells_pushed g (rest.adds s docs) }
@@ -298,13 +301,13 @@ module _ (g : Given) where
   add_stops = record { adds = λ s docs. record { told = tt } }
 
   add_stopped : {X : Type 0} {P : X → Row Due → ℕ → Type 0} {D : Row Due} {p : ℕ} (inner : Inner) (n : Next) → Adds D (unexpected {X = X} inner n) P p
-  add_stopped inner n = record { adds = λ s docs. tells_after true g (λ w t. record { told = tt }) }
+  add_stopped inner n = record { adds = λ s docs. tells_after Whole g (λ w t. record { told = tt }) }
 
   abbrev Turns : {A : Type 0} → (A → Row Due → ℕ → Type 0) → (A → Row Due → ℕ → Type 0) → Step A → Row Due → ℕ → Type 0
   Turns R Q (again a) E p = R a E p
   Turns R Q (done a) E p = Q a E p
 
-  turns : {A : Type 0} (R Q : A → Row Due → ℕ → Type 0) (c : Step A) (t : State) → Grown (Turns R Q) c t → Stepped true g (Grown R) (Grown Q) c t
+  turns : {A : Type 0} (R Q : A → Row Due → ℕ → Type 0) (c : Step A) (t : State) → Grown (Turns R Q) c t → Stepped Whole g (Grown R) (Grown Q) c t
   turns R Q (again a) t so = so
   turns R Q (done a) t so = so
 
@@ -316,7 +319,7 @@ module _ (g : Given) where
       (goes : (a : A) (D : Row Due) (p : ℕ) → R a D p → P a D p) (ends : (a : A) (D : Row Due) (p : ℕ) → R a D p → Q a D p) where
     add_repeats : (a : A) (D : Row Due) (p : ℕ) → P a D p → Adds D (many turn a) Q p
     add_repeats a D p so = record {
-      adds = λ s docs. tells_until true g turn (Grown P) (Grown R) (Grown Q) (λ b t now. tells_so true g ((each b now.0 t.at now.2).adds t now.1) (turns R Q))
+      adds = λ s docs. tells_until Whole g turn (Grown P) (Grown R) (Grown Q) (λ b t now. tells_so Whole g ((each b now.0 t.at now.2).adds t now.1) (turns R Q))
           (λ b t now. (now.0, now.1, goes b now.0 t.at now.2)) (λ b t now. (now.0, now.1, ends b now.0 t.at now.2)) a (place_of s p) (D, docs, so);
     }
 
@@ -348,7 +351,7 @@ module _ (g : Given) where
   -- a newline token reads the bodies of what waits
   reads_bodies : (p : ℕ) → Reads (change bodies_here) (λ u e. Unit {0}) p
   reads_bodies p = record {
-    reads = λ D s docs. tells_change true g (λ t is. let r = docs_read g (place_of s p) t docs is in (subst (λ ws. Docs g D ws t.bodies) (sym r.1) (done_docs g r.0), tt));
+    reads = λ D s docs. tells_change Whole g (λ t is. let r = docs_read g (place_of s p) t docs is in (subst (λ ws. Docs g D ws t.bodies) (sym r.1) (done_docs g r.0), tt));
   }
 
   reads_newline : (X : Type 0) (n : Next) (p : ℕ) → (X → Stands Command n p) → Reads (a_newline n) (λ l e. (X → Stands Command l.1 e) × (l.0 ≡ true → Stands Command l.1 e)) p
@@ -387,7 +390,7 @@ module _ (g : Given) where
       (λ w t k part. let spans = spanned (level room) g (standing p) t w k part in record { part = word_read room g p w t k part; substs = spans.0; is = spans.1 }) in
       record {
         reads = λ D s docs. record {
-          told = subst (Holds (Kept D (WordRead room p))) (sym ((blind_word true g room).alike (standing p) s))
+          told = subst (Holds (Kept D (WordRead room p))) (sym ((blind_word g room).alike (standing p) s))
               (holds_onto (λ w t. WordRead room p w t.at) (Kept D (WordRead room p)) s _ (λ w t good. (docs, good)) word_is);
         };
       }
@@ -946,21 +949,21 @@ module _ (B : List ℕ) (g : Given) (here : g.text ≡ drop g.offset B) where
       -- ---- a line
 
       none_waiting : (D : Row Due) (p : ℕ) (ws : Row Waiting) (bs : Row Span) → Docs g D ws bs
-          → Tells true g (nothing_waits >> give false) (λ x t. Feeds g D t.bodies []) (record { at = p; waiting = ws; bodies = bs })
+          → Tells Whole g (nothing_waits >> give false) (λ x t. Feeds g D t.bodies []) (record { at = p; waiting = ws; bodies = bs })
       unfolding nothing_waits
       none_waiting D p [] bs docs = record { told = docs_done g docs }
       none_waiting D p (w ∷ ws) bs docs = record { told = tt }
 
       -- behind a line all have their bodies
-      line_ends : (n : Next) (D : Row Due) (s : State) → DocsAt g D s → Tells true g (end_of_line inner n) (λ x t. Feeds g D t.bodies []) s
+      line_ends : (n : Next) (D : Row Due) (s : State) → DocsAt g D s → Tells Whole g (end_of_line inner n) (λ x t. Feeds g D t.bodies []) s
       unfolding end_of_line
       line_ends n D s docs = by_end (is_newline n.token) (is_end n.token)
         where
-          by_end : (newline end : Bool) → Tells true g (end_by inner newline end n) (λ x t. Feeds g D t.bodies []) s
+          by_end : (newline end : Bool) → Tells Whole g (end_by inner newline end n) (λ x t. Feeds g D t.bodies []) s
           by_end true end =
-              tells_moved true g (tells_then true g {P = λ x t. Feeds g D t.bodies []} (tells_change true g (λ t is. (docs_read g (place_of s (to one_byte g.text s.at)) t docs is).0)) (λ x t so. tells_give true g so))
+              tells_moved Whole g (tells_then Whole g {P = λ x t. Feeds g D t.bodies []} (tells_change Whole g (λ t is. (docs_read g (place_of s (to one_byte g.text s.at)) t docs is).0)) (λ x t so. tells_give Whole g so))
           by_end false true = none_waiting D s.at s.waiting s.bodies docs
-          by_end false false = tells_after true g (λ w t. record { told = tt })
+          by_end false false = tells_after Whole g (λ w t. record { told = tt })
 
       -- the entries of a line, with their bodies
       line_filled : (E : Row Due) (es : Row AnEntry) (bs : Row Span) → OpenRow [] es E → Feeds g E bs [] → GoodEntries room (shape_of B (entries_of (filled_row bs es)))
@@ -970,17 +973,17 @@ module _ (B : List ℕ) (g : Given) (here : g.text ≡ drop g.offset B) where
           row_filled bs es ∙ filled_is bs (entries_of es) ∙ ap (λ (x : Entries × Row Span). x.0) (entries_going es bs) ∙ ap (λ ts. entries_of (fill_all g fill_entry es ts).0) r.1 in
           subst (λ (ls : Entries). GoodEntries room (shape_of B ls)) (sym is) r.2
 
-      reads_open_line : (blank : Bool) (p : ℕ) → Tells true g (an_open_line inner blank) (λ x t. GoodEntries room (shape_of B (entries_of (filled_row t.bodies x.0)))) (standing p)
+      reads_open_line : (blank : Bool) (p : ℕ) → Tells Whole g (an_open_line inner blank) (λ x t. GoodEntries room (shape_of B (entries_of (filled_row t.bodies x.0)))) (standing p)
       unfolding an_open_line
       reads_open_line blank p =
-          tells_then true g ((reads_next g Command p).reads [] (standing p) (no_docs g)) (λ n t so.
-          tells_then true g ((reads_on_line [] (list_so (none_listed blank) n) [] t.at (opens_none g fill_entry tt, so.1)).adds t so.0) (λ l u all.
-          tells_then true g (line_ends l.next all.0 u all.1) (λ newline v done. tells_give true g (line_filled all.0 l.list.entries v.bodies all.2 done))))
+          tells_then Whole g ((reads_next g Command p).reads [] (standing p) (no_docs g)) (λ n t so.
+          tells_then Whole g ((reads_on_line [] (list_so (none_listed blank) n) [] t.at (opens_none g fill_entry tt, so.1)).adds t so.0) (λ l u all.
+          tells_then Whole g (line_ends l.next all.0 u all.1) (λ newline v done. tells_give Whole g (line_filled all.0 l.list.entries v.bodies all.2 done))))
 
-      reads_line : (blank : Bool) (p : ℕ) → Tells true g (a_line inner blank) (λ x t. GoodEntries room (shape_of B (entries_of x.0))) (standing p)
+      reads_line : (blank : Bool) (p : ℕ) → Tells Whole g (a_line inner blank) (λ x t. GoodEntries room (shape_of B (entries_of x.0))) (standing p)
       unfolding a_line
       reads_line blank p =
-          tells_then true g (tells_level true g {Q = λ l t. GoodEntries room (shape_of B (entries_of (filled_row l.1 l.0.0)))} (reads_open_line blank p) (λ x t good. good)) (λ l t good. tells_give true g good)
+          tells_then Whole g (tells_level Whole g {Q = λ l t. GoodEntries room (shape_of B (entries_of (filled_row l.1 l.0.0)))} (reads_open_line blank p) (λ x t good. good)) (λ l t good. tells_give Whole g good)
 
       -- ---- compound commands
 

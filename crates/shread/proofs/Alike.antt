@@ -1,6 +1,7 @@
 -- A form goes the same way with its tree and without, whatever was read before.
 use Rattle.std.proofs.Common.{◌≡◌, ℕ, zero, suc, ◌+◌, ◌-◌, ◌<◌, Bool, true, false, not, ◌&&◌, ◌||◌, cond, Result, Ok, Err, List as Row, [], ◌∷◌, ◌++◌, length, Option, Some, None, is_some, refl, sym, ap, subst, ◌∙◌, arith}
 use Rattle.std.proofs.lemmas.Bool.{ltb-true}
+use Rattle.shread.specs.declared.keep.Keep.TheVariants.{Nothing, Whole}
 use Rattle.shread.specs.declared.fault.Fault.{Fault}
 use Rattle.shread.specs.declared.fault.FaultKind.{FaultKind}
 use Rattle.shread.specs.declared.mode.Mode.{Mode}
@@ -21,7 +22,7 @@ use Rattle.shtree.specs.Tree.{ACommand, ASubst, AnEntry, AnItem, AWord}
 use Rattle.shread.specs.Comments.{span}
 use Rattle.shread.specs.Sights.{Given, State, Sight, seen, the_piece, Move}
 use Rattle.shread.specs.HereDocuments.{ADelimiter, delimiter_of, Change, changed, own_level, outer_level}
-use Rattle.shread.specs.Form.{raw, nothing_read, change, with_bytes, a_level, Spelled, Told, Read, ◌▸◌, Form, give, see, move, push, stop, both, when, token, many, ends_as, with_end, ◌>>=◌, Step, again, done, step_if, leads_on, turns, does}
+use Rattle.shread.specs.Form.{raw, nothing_read, change, with_bytes, a_level, Spelled, Told, Read, ◌▸◌, Form, give, see, move, push, stop, both, when, token, many, ends_as, with_end, ◌>>=◌, Step, again, done, step_if, leads_on, turns, does, in_substitution}
 use Rattle.shread.specs.Words.{single, backquote_turn, backquoted, Inner, Held, having, opened, piece_row, a_piece, contents, a_word}
 use Rattle.shread.specs.Levels.{level}
 use Rattle.shread.specs.Tokens.{is_end}
@@ -29,7 +30,7 @@ use Rattle.shread.specs.Commands.{pick, is_newline, is_semicolon, a_semicolon, a
 use Rattle.shread.specs.Lines.{end_of_line, an_open_line, a_line}
 use Rattle.shread.specs.Lists.{Listed, ListSo, list_so, none_listed, with_command, next_line, one_entry, entry_turn, remark_by, a_remark, on_line, list_turn, a_list}
 use Rattle.shread.specs.Compounds.{is_closing, is_open_paren, is_close_paren, passed, closing, Closed, closed, a_branch, Branched, branched, elif_turn, an_else, an_if, a_loop, a_group, a_for_name, a_linebreak, a_sequential_sep, Headed, word_turn, for_words, a_for_head, a_for, a_form, a_compound, a_function, a_case_word, begins_pattern, Patterned, a_pattern, one_pattern, pattern_turn, a_pattern_list, an_open_bracket, a_body, ItemEnd, a_double_semicolon, an_item_end, CasesSo, cases_so, one_case, case_turn, a_case_head, a_case}
-use Rattle.shread.specs.Substitutions.{substituted, a_substitution}
+use Rattle.shread.specs.Substitutions.{substituted, a_substitution, one_substitution}
 use Rattle.shread.proofs.Turns.{turns_on, turns_rest, turns_done, turns_fault}
 use Rattle.shtree.specs.Nodes.{word_span}
 
@@ -58,7 +59,7 @@ SameHeld h i = h.nested ≡ i.nested
 module _ (g : Given) where
   -- r with its tree, and q without
   pub record Alike {X Y : Type 0} (S : X → Y → Type 0) (r : Form X) (q : Form Y) : Type 0 where
-    pub like : (s : State) → Like S (does r true g s) (does q false g s)
+    pub like : (s : State) → Like S (does r Whole g s) (does q Nothing g s)
 
   -- ---- the laws
 
@@ -78,7 +79,7 @@ module _ (g : Given) where
   alike_stop = record { like = λ s. refl }
 
   module _ {X Y V W : Type 0} (S : X → Y → Type 0) (R : V → W → Type 0) (f : X → Form V) (h : Y → Form W) (rest : (x : X) (y : Y) → S x y → Alike R (f x) (h y)) where
-    then_like : (x : Read X) (y : Read Y) → Like S x y → Like R (x ▸ λ a t. does (f a) true g t) (y ▸ λ b t. does (h b) false g t)
+    then_like : (x : Read X) (y : Read Y) → Like S x y → Like R (x ▸ λ a t. does (f a) Whole g t) (y ▸ λ b t. does (h b) Nothing g t)
     then_like (Ok (x, s)) (Ok (y, t)) like = rw (← like.0) ((rest x y like.1).like s)
     then_like (Ok (x, s)) (Err e) like = absurd like
     then_like (Err e) (Ok (y, t)) like = absurd like
@@ -87,7 +88,7 @@ module _ (g : Given) where
   -- one form and then another
   pub alike_then : {X Y V W : Type 0} {S : X → Y → Type 0} {R : V → W → Type 0} {r : Form X} {q : Form Y} {f : X → Form V} {h : Y → Form W} → Alike S r q
       → ((x : X) (y : Y) → S x y → Alike R (f x) (h y)) → Alike R (both r f) (both q h)
-  alike_then {S = S} {R = R} {r = r} {q = q} {f = f} {h = h} first rest = record { like = λ s. then_like S R f h rest (does r true g s) (does q false g s) (first.like s) }
+  alike_then {S = S} {R = R} {r = r} {q = q} {f = f} {h = h} first rest = record { like = λ s. then_like S R f h rest (does r Whole g s) (does q Nothing g s) (first.like s) }
 
   -- what is seen, and then the rest
   pub alike_see : {X V W : Type 0} {R : V → W → Type 0} {l : Sight X} {f : X → Form V} {h : X → Form W} → ((x : X) → Alike R (f x) (h x)) → Alike R (both (see l) f) (both (see l) h)
@@ -96,7 +97,7 @@ module _ (g : Given) where
   -- the same is seen
   pub alike_same : {X V W : Type 0} {R : V → W → Type 0} {l k : Sight X} {f : X → Form V} {h : X → Form W} → l ≡ k → ((x : X) → Alike R (f x) (h x)) → Alike R (both (see l) f) (both (see k) h)
   alike_same {R = R} {l = l} {f = f} {h = h} is rest =
-      record { like = λ s. subst (λ z. Like R (does (f (seen l g s)) true g s) (does (h z) false g s)) (ap (λ z. seen z g s) is) ((rest (seen l g s)).like s) }
+      record { like = λ s. subst (λ z. Like R (does (f (seen l g s)) Whole g s) (does (h z) Nothing g s)) (ap (λ z. seen z g s) is) ((rest (seen l g s)).like s) }
 
   -- on, and then the rest
   pub alike_on : {V W : Type 0} {R : V → W → Type 0} {m : Move} {f : Unit {0} → Form V} {h : Unit {0} → Form W} → Alike R (f tt) (h tt) → Alike R (both (move m) f) (both (move m) h)
@@ -134,14 +135,14 @@ module _ (g : Given) where
 
   pub alike_token : {X Y : Type 0} {S : X → Y → Type 0} {R : X × Span → Y × Span → Type 0} {how : Told} {r : Form X} {q : Form Y} → Alike S r q → ((a : X) (b : Y) (z : Span) → S a b → R (a, z) (b, z))
       → Alike R (token how r) (token how q)
-  alike_token {S = S} {R = R} {r = r} {q = q} one so = record { like = λ s. token_like S R s (does r true g s) (does q false g s) (one.like s) so }
+  alike_token {S = S} {R = R} {r = r} {q = q} one so = record { like = λ s. token_like S R s (does r Whole g s) (does q Nothing g s) (one.like s) so }
 
   module _ {A B : Type 0} (S : A → B → Type 0) (turn : A → Form (Step A)) (turn2 : B → Form (Step B)) (each : (a : A) (b : B) → S a b → Alike (SameStep S) (turn a) (turn2 b)) where
     one : A → State → Read (Step A)
-    one a s = does (turn a) true g s
+    one a s = does (turn a) Whole g s
 
     two : B → State → Read (Step B)
-    two b s = does (turn2 b) false g s
+    two b s = does (turn2 b) Nothing g s
 
     turn_like : (a : A) (b : B) (s : State) (x : Read (Step A)) (y : Read (Step B)) → one a s ≡ x → two b s ≡ y → Like (SameStep S) x y
         → ((c : A) (d : B) (t : State) → length g.text - t.at < length g.text - s.at → S c d → Like S (turns g one c t) (turns g two d t)) → Like S (turns g one a s) (turns g two b s)
@@ -176,16 +177,13 @@ module _ (g : Given) where
   ending_like S kind at (Err e) (Err f) like = rw like refl
 
   pub alike_ending : {X Y : Type 0} {S : X → Y → Type 0} {kind : FaultKind} {at : ℕ} {r : Form X} {q : Form Y} → Alike S r q → Alike S (ends_as kind at r) (ends_as kind at q)
-  alike_ending {S = S} {kind = kind} {at = at} {r = r} {q = q} one = record { like = λ s. ending_like S kind at (does r true g s) (does q false g s) (one.like s) }
+  alike_ending {S = S} {kind = kind} {at = at} {r = r} {q = q} one = record { like = λ s. ending_like S kind at (does r Whole g s) (does q Nothing g s) (one.like s) }
 
   change_like : (S : Unit {0} → Unit {0} → Type 0) (x : Result State Fault) → S tt tt → Like S (nothing_read x) (nothing_read x)
   change_like S (Ok t) so = (refl, so)
   change_like S (Err f) so = refl
 
   -- the same waits, and the same bodies are read
-  pub alike_change_at : {S : Unit {0} → Unit {0} → Type 0} {c d : Change} → c ≡ d → S tt tt → Alike S (change c) (change d)
-  alike_change_at {S = S} {c = c} is so = record { like = λ s. subst (λ z. Like S (nothing_read (changed c g s)) (nothing_read (changed z g s))) is (change_like S (changed c g s) so) }
-
   pub alike_change : {S : Unit {0} → Unit {0} → Type 0} {c : Change} → S tt tt → Alike S (change c) (change c)
   alike_change {S = S} {c = c} so = record { like = λ s. change_like S (changed c g s) so }
 
@@ -199,7 +197,7 @@ module _ (g : Given) where
   -- what is read, with the same bytes
   pub alike_with_bytes : {X Y : Type 0} {S : X → Y → Type 0} {R : X × Spelled → Y × Spelled → Type 0} {r : Form X} {q : Form Y} → Alike S r q → ((a : X) (b : Y) (k : Spelled) → S a b → R (a, k) (b, k))
       → Alike R (with_bytes r) (with_bytes q)
-  alike_with_bytes {S = S} {R = R} {r = r} {q = q} one so = record { like = λ s. bytes_like S R s (does r true g s) (does q false g s) (one.like s) so }
+  alike_with_bytes {S = S} {R = R} {r = r} {q = q} one so = record { like = λ s. bytes_like S R s (does r Whole g s) (does q Nothing g s) (one.like s) so }
 
   level_like : {X Y : Type 0} (S : X → Y → Type 0) (R : X × Row Span → Y × Row Span → Type 0) (s : State) (x : Read X) (y : Read Y) → Like S x y → ((a : X) (b : Y) (k : Row Span) → S a b → R (a, k) (b, k))
       → Like R (x ▸ λ a t. Ok ((a, t.bodies), outer_level s t)) (y ▸ λ b t. Ok ((b, t.bodies), outer_level s t))
@@ -211,7 +209,10 @@ module _ (g : Given) where
   -- a level of its own, with the same bodies
   pub alike_level_of : {X Y : Type 0} {S : X → Y → Type 0} {R : X × Row Span → Y × Row Span → Type 0} {r : Form X} {q : Form Y} → Alike S r q → ((a : X) (b : Y) (k : Row Span) → S a b → R (a, k) (b, k))
       → Alike R (a_level r) (a_level q)
-  alike_level_of {S = S} {R = R} {r = r} {q = q} one so = record { like = λ s. level_like S R s (does r true g (own_level s)) (does q false g (own_level s)) (one.like (own_level s)) so }
+  alike_level_of {S = S} {R = R} {r = r} {q = q} one so = record { like = λ s. level_like S R s (does r Whole g (own_level s)) (does q Nothing g (own_level s)) (one.like (own_level s)) so }
+
+  pub alike_inside : {X Y : Type 0} {S : X → Y → Type 0} {r : Form X} {q : Form Y} → Alike S r q → Alike S (in_substitution r) (in_substitution q)
+  alike_inside one = record { like = λ s. one.like s }
 
   -- ---- the rows
 
@@ -773,8 +774,8 @@ module _ (g : Given) where
         (λ l k so. alike_pick _ _ (ap (λ (x : Next). is_closing closings.Paren x.token) so.1) (alike_then alike_nothing_waits (λ u v so. alike_on (alike_give tt))) (alike_at (unexpected inner) alike_unexpected l.next k.next so.1)))
 
     pub alike_substitution : (b : ℕ) (ss zs : Row ASubst) → Alike All (a_substitution inner b ss) (a_substitution inner b zs)
-    unfolding a_substitution
-    alike_substitution b ss zs = alike_then (alike_level_of {S = All} {R = All} (alike_ending alike_substituted) (λ a b k so. tt)) (λ x y so. alike_see (λ q. alike_push tt))
+    unfolding a_substitution one_substitution
+    alike_substitution b ss zs = alike_inside (alike_then (alike_level_of {S = All} {R = All} (alike_ending alike_substituted) (λ a b k so. tt)) (λ x y so. alike_see (λ q. alike_push tt)))
 
     pub alike_function : (name : Span) → Alike SameNext (a_function inner name) (a_function inner name)
     unfolding a_function

@@ -1,10 +1,11 @@
 -- A word is read wherever its bytes stand, before a byte that ends words and is no `(`.
-use Rattle.std.proofs.Common.{◌≡◌, ℕ, zero, suc, ◌+◌, ◌-◌, ◌<◌, Bool, true, false, Ok, Err, List, List as Row, [], ◌∷◌, ◌++◌, map, take, drop, slice_get, refl, sym, ap, subst, ◌∙◌, arith}
+use Rattle.std.proofs.Common.{◌≡◌, ℕ, zero, suc, ◌+◌, ◌-◌, ◌<◌, true, false, Ok, Err, List, List as Row, [], ◌∷◌, ◌++◌, map, take, drop, slice_get, refl, sym, ap, subst, ◌∙◌, arith}
+use Rattle.shread.specs.declared.keep.Keep.TheVariants.{Whole}
 use Rattle.shread.specs.declared.mode.Mode.{Mode}
 use Rattle.shread.specs.declared.mode.Mode.TheVariants.{Plain}
 use Rattle.shread.specs.declared.mode.Piece.{Piece}
 use Rattle.shread.specs.declared.mode.Piece.TheVariants as pieces
-use Rattle.shread.specs.Substitutions.{a_substitution}
+use Rattle.shread.specs.Substitutions.{a_substitution, one_substitution}
 use Rattle.shtree.specs.declared.tree.Span.{Span}
 use Rattle.shtree.specs.Shape.{Shape, text_at, shape_of_subst, shape_of_word}
 use Rattle.shread.specs.Comments.{span}
@@ -16,7 +17,7 @@ use Rattle.shread.specs.Form.{moved, many, Spelled, as_it_stands, Read, ◌▸�
 use Rattle.shread.specs.Words.{Held, having, opened, piece_row, a_piece, single, backquote_turn, backquoted, Inner, contents, a_word}
 use Rattle.shread.specs.Levels.{level, IsWord}
 use Rattle.shread.proofs.Stretches.{get_drop}
-use Rattle.shread.proofs.Holds.{tells_seen, tells_many, tells_level, tells_any, Holds, holds_then, Tells, Turned, tells_so, tells_then, tells_when, tells_token, Behind, low}
+use Rattle.shread.proofs.Holds.{tells_seen, tells_many, tells_level, tells_any, Holds, holds_then, Tells, Turned, tells_so, tells_then, tells_when, tells_token, Behind, low, tells_inside}
 use Rattle.shread.proofs.SameBytes.{Kept}
 use Rattle.shread.proofs.Inside.{there}
 use Rattle.shread.proofs.PiecesInside.{word_in}
@@ -42,7 +43,7 @@ then_is P c u y k (or_stops one) is so = absurd cc
 pub word_span : (inner : Inner) (g : Given) (s t : State) (w : AWord) (k : Row Spelled) → may (a_word inner) g s (Ok (w, t)) k → (ss : Row ASubst) × (w ≡ word (span g.offset s.at t.at) (substs_of ss))
 unfolding a_word
 word_span inner g s t w k part =
-    spanned (does (contents inner Plain (g.offset + s.at) []) true g s) (sym ((is (a_word inner) g s).only _ _ part))
+    spanned (does (contents inner Plain (g.offset + s.at) []) Whole g s) (sym ((is (a_word inner) g s).only _ _ part))
   where
     spanned : (x : Read (Row ASubst)) → ◌▸◌ {Y = AWord} (◌▸◌ {Y = Row ASubst × Span} x (λ b u. Ok ((b, span g.offset s.at u.at), u))) (λ z u. Ok (word z.1 (substs_of z.0), u)) ≡ Ok (w, t) → (ss : Row ASubst) × (w ≡ word (span g.offset s.at t.at) (substs_of ss))
     spanned (Ok (ss, u)) read =
@@ -109,7 +110,7 @@ module _ (room : ℕ) (g h : Given) (p q n : ℕ) (same : take n (drop q h.text)
   over s = there K g.offset h.offset s
 
   abbrev there_is : {X : Type 0} → (X → X → Type 0) → Form X → X → State → Type 0
-  there_is {X = X} S r x t = t.at ≡ p + n → (y : X) × ((does r true h (over (standing p)) ≡ Ok (y, over t)) × S x y)
+  there_is {X = X} S r x t = t.at ≡ p + n → (y : X) × ((does r Whole h (over (standing p)) ≡ Ok (y, over t)) × S x y)
 
   abbrev inner : Inner
   inner = level room
@@ -120,7 +121,7 @@ module _ (room : ℕ) (g h : Given) (p q n : ℕ) (same : take n (drop q h.text)
   abbrev SameSubsts : Row ASubst → Row ASubst → Type 0
   SameSubsts ss zs = map (shape_of_subst B) ss ≡ map (shape_of_subst C) zs
 
-  contents_by : Holds (there_is SameSubsts holds_there) (does (contents inner Plain (g.offset + p) []) true g (standing p))
+  contents_by : Holds (there_is SameSubsts holds_there) (does (contents inner Plain (g.offset + p) []) Whole g (standing p))
   contents_by =
       let local = (everywhere room).local g.text h.text p (p + n) (from_to p q) K g.offset h.offset B C stands_in stands_there here_ends here_no_open in
       word_in K g.offset h.offset B C here_ends here_no_open inner local (g.offset + p) (h.offset + from_to p q p) (standing p) (omega arith)
@@ -146,20 +147,20 @@ module _ (room : ℕ) (g h : Given) (p q n : ℕ) (same : take n (drop q h.text)
   words_same : (x y : Row ASubst × Span) → SameToken x y → SameShape (word x.1 (substs_of x.0)) (word y.1 (substs_of y.0))
   words_same x y so = rw (so.1, substs_shape B x.0, so.0, sym (substs_shape C y.0)) refl
 
-  word_by : Holds (there_is SameShape (a_word inner)) (does (a_word inner) true g (standing p))
+  word_by : Holds (there_is SameShape (a_word inner)) (does (a_word inner) Whole g (standing p))
   unfolding a_word
   word_by =
-      holds_then (there_is SameToken (token as_it_stands holds_there)) (there_is SameShape (a_word inner)) (does (token as_it_stands (contents inner Plain (g.offset + p) [])) true g (standing p)) _
-      (holds_then (there_is SameSubsts holds_there) (there_is SameToken (token as_it_stands holds_there)) (does (contents inner Plain (g.offset + p) []) true g (standing p)) _ contents_by
+      holds_then (there_is SameToken (token as_it_stands holds_there)) (there_is SameShape (a_word inner)) (does (token as_it_stands (contents inner Plain (g.offset + p) [])) Whole g (standing p)) _
+      (holds_then (there_is SameSubsts holds_there) (there_is SameToken (token as_it_stands holds_there)) (does (contents inner Plain (g.offset + p) []) Whole g (standing p)) _ contents_by
       (λ x t found is. let f = found is in ((f.0, span h.offset (from_to p q p) (from_to p q t.at)), (rw f.1.0 refl, (f.1.1, texts_same t.at is)))))
       (λ x t found is. let f = found is in (word f.0.1 (substs_of f.0.0), (rw f.1.0 refl, words_same x f.0 f.1.1)))
 
-  word_there : (w : AWord) → does (a_word (level room)) true g (standing p) ≡ Ok (w, standing (p + n)) → (v : AWord) × ((does (a_word (level room)) true h (standing q) ≡ Ok (v, standing (q + n))) × SameShape w v)
+  word_there : (w : AWord) → does (a_word (level room)) Whole g (standing p) ≡ Ok (w, standing (p + n)) → (v : AWord) × ((does (a_word (level room)) Whole h (standing q) ≡ Ok (v, standing (q + n))) × SameShape w v)
   word_there w is =
       let found = subst (Holds (there_is SameShape (a_word inner))) is word_by refl in (
         found.0,
         (
-          subst (λ r. does (a_word (level room)) true h (standing r) ≡ Ok (found.0, standing (q + n))) begin_there (subst (λ r. does (a_word (level room)) true h (standing (from_to p q p)) ≡ Ok (found.0, standing r)) end_there found.1.0),
+          subst (λ r. does (a_word (level room)) Whole h (standing r) ≡ Ok (found.0, standing (q + n))) begin_there (subst (λ r. does (a_word (level room)) Whole h (standing (from_to p q p)) ≡ Ok (found.0, standing r)) end_there found.1.0),
           found.1.1,
         ),
       )
@@ -169,7 +170,7 @@ abbrev pub WordOf : ℕ → Given → ℕ → ℕ → List ℕ → Shape AWordOf
 WordOf room g p n B shape = (w : AWord) × (may (a_word (level room)) g (standing p) (Ok (w, standing (p + n))) (raw g.text p (p + n) ∷ []) × (shape_of_word B w ≡ shape))
 
 -- what is read is a word that tells its bytes
-pub word_may : (room : ℕ) (h : Given) (q n : ℕ) (v : AWord) → does (a_word (level room)) true h (standing q) ≡ Ok (v, standing (q + n)) → may (a_word (level room)) h (standing q) (Ok (v, standing (q + n))) (raw h.text q (q + n) ∷ [])
+pub word_may : (room : ℕ) (h : Given) (q n : ℕ) (v : AWord) → does (a_word (level room)) Whole h (standing q) ≡ Ok (v, standing (q + n)) → may (a_word (level room)) h (standing q) (Ok (v, standing (q + n))) (raw h.text q (q + n) ∷ [])
 word_may room h q n v e =
     let some = (is (a_word (level room)) h (standing q)).some in
     let part = subst (λ (x : Read AWord). may (a_word (level room)) h (standing q) x some.0) e some.1 in
@@ -196,40 +197,40 @@ Still s t = (t.waiting ≡ s.waiting) × (t.bodies ≡ s.bodies)
 abbrev pub Waits : {X : Type 0} → State → X → State → Type 0
 Waits s x t = Still s t
 
-module _ (keep : Bool) (g : Given) where
+module _ (g : Given) where
   abbrev W : {X : Type 0} → Form X → State → Type 0
-  W r s = Tells keep g r (Waits s) s
+  W r s = Tells Whole g r (Waits s) s
 
-  same : {X : Type 0} {r : Form X} {s : State} → Holds (Waits s) (does r keep g s) → W r s
+  same : {X : Type 0} {r : Form X} {s : State} → Holds (Waits s) (does r Whole g s) → W r s
   same so = record { told = so }
 
   still : {X : Type 0} {x : X} {s : State} → W (give x) s
   still = same (refl, refl)
 
   sees : {X Y : Type 0} {l : Sight X} {q : X → Form Y} {s : State} → W (q (seen l g s)) s → W (both (see l) q) s
-  sees rest = tells_seen keep g rest
+  sees rest = tells_seen Whole g rest
 
   moves : {Y : Type 0} {m : Move} {q : Unit {0} → Form Y} {s : State} → W (q tt) (moved m g s) → W (both (move m) q) s
   moves rest = same rest.told
 
   goes : {X Y : Type 0} {r : Form X} {q : X → Form Y} {s : State} → W r s → ((x : X) (t : State) → W (q x) t) → W (both r q) s
-  goes {q = q} one rest = tells_then keep g one (λ x t so. tells_so keep g (rest x t) (λ y u more. (more.0 ∙ so.0, more.1 ∙ so.1)))
+  goes {q = q} one rest = tells_then Whole g one (λ x t so. tells_so Whole g (rest x t) (λ y u more. (more.0 ∙ so.0, more.1 ∙ so.1)))
 
   turns_still : {A : Type 0} (turn : A → Form (Step A)) → ((a : A) (s : State) → W (turn a) s) → (a : A) (s : State) → W (many turn a) s
-  turns_still {A = A} turn each a s = tells_many keep g turn (Waits s) (λ b t one. tells_so keep g (each b t) (turned t one)) a s (refl, refl)
+  turns_still {A = A} turn each a s = tells_many Whole g turn (Waits s) (λ b t one. tells_so Whole g (each b t) (turned t one)) a s (refl, refl)
     where
-      turned : (t : State) → Still s t → (c : Step A) (u : State) → Still t u → Turned keep g (Waits s) c u
+      turned : (t : State) → Still s t → (c : Step A) (u : State) → Still t u → Turned Whole g (Waits s) c u
       turned t one (again c) u two = (two.0 ∙ one.0, two.1 ∙ one.1)
       turned t one (done c) u two = (two.0 ∙ one.0, two.1 ∙ one.1)
 
   single_still : (s : State) → W single s
   unfolding single
-  single_still s = sees (moves (moves (tells_when keep g (same tt) (same (refl, refl)))))
+  single_still s = sees (moves (moves (tells_when Whole g (same tt) (same (refl, refl)))))
 
   backquoted_still : (s : State) → W backquoted s
   unfolding backquoted backquote_turn
   backquoted_still s =
-      sees (moves (turns_still _ (λ u t. moves (tells_when keep g (same tt) (tells_when keep g (same tt) (sees (moves still))))) tt _))
+      sees (moves (turns_still _ (λ u t. moves (tells_when Whole g (same tt) (tells_when Whole g (same tt) (sees (moves still))))) tt _))
 
   -- what may be opened leaves it so
   record Quiet (inner : Inner) : Type 0 where
@@ -263,12 +264,12 @@ module _ (keep : Bool) (g : Given) where
 
     word_still : (s : State) → W (a_word inner) s
     unfolding a_word
-    word_still s = sees (goes (tells_token keep g (contents_still Plain _ [] s) (λ x t so. so)) (λ x t. still))
+    word_still s = sees (goes (tells_token Whole g (contents_still Plain _ [] s) (λ x t so. so)) (λ x t. still))
 
     -- a substitution is a level of its own
     substitution_still : (b : ℕ) (ss : Row ASubst) (s : State) → W (a_substitution inner b ss) s
-    unfolding a_substitution
-    substitution_still b ss s = goes (tells_level keep g (tells_any keep g) (λ x t so. (refl, refl))) (λ x t. sees (same (refl, refl)))
+    unfolding a_substitution one_substitution
+    substitution_still b ss s = tells_inside Whole g (goes (tells_level Whole g (tells_any Whole g) (λ x t so. (refl, refl))) (λ x t. sees (same (refl, refl))))
 
   quiet_level : (room : ℕ) → Quiet (level room)
   unfolding level
@@ -279,7 +280,7 @@ module _ (keep : Bool) (g : Given) where
         substitution = λ b ss s. substitution_still (level room) (quiet_level room) b ss s;
       }
 
-  pub waits : (room : ℕ) (s : State) → Tells keep g (a_word (level room)) (Waits s) s
+  pub waits : (room : ℕ) (s : State) → Tells Whole g (a_word (level room)) (Waits s) s
   waits room s = word_still (level room) (quiet_level room) s
 
 pub state_is : (t : State) → t.waiting ≡ [] → t.bodies ≡ [] → t ≡ standing t.at
@@ -290,8 +291,8 @@ pub word_read : (room : ℕ) (g : Given) (p : ℕ) (w : AWord) (t : State) (told
     → may (a_word (level room)) g (standing p) (Ok (w, standing (p + (t.at - p)))) (raw g.text p (p + (t.at - p)) ∷ [])
 word_read room g p w t told part =
     let is_read = (is (a_word (level room)) g (standing p)).only _ _ part in
-    let on = subst (Holds (Behind (standing p))) (sym is_read) (low (a_word (level room)) true g (standing p)).told in
-    let stays = subst (Holds (Waits (standing p))) (sym is_read) (waits true g room (standing p)).told in
+    let on = subst (Holds (Behind (standing p))) (sym is_read) (low (a_word (level room)) Whole g (standing p)).told in
+    let stays = subst (Holds (Waits (standing p))) (sym is_read) (waits g room (standing p)).told in
     let told_is = word_told (level room) g (standing p) t w told part in
     let end : t.at ≡ p + (t.at - p) = omega (arith, on) in
     let same = state_is t stays.0 stays.1 ∙ ap standing end in

@@ -6,6 +6,7 @@ use Rattle.std.proofs.lemmas.Bool.Decides.{nat_tests}
 use Rattle.std.proofs.lemmas.Option.{slice_get_within, slice_get-get_or}
 use Rattle.std.proofs.lemmas.List.{drop-drop, drop_more, length-drop}
 use Rattle.std.proofs.lemmas.Grind.{fold-append}
+use Rattle.shread.specs.declared.keep.Keep.{Keep}
 use Rattle.shtree.specs.declared.tree.Span.{Span}
 use Rattle.shread.specs.declared.fault.Fault.{Fault}
 use Rattle.shread.specs.declared.documents.Waiting as the_waiting
@@ -252,22 +253,22 @@ documents_end g (w ∷ ws) zero bodies p le = absurd (omega (arith, le))
 documents_end g (w ∷ ws) (suc i) bodies p le = documents_end g ws i bodies p (omega (arith, le))
 
 -- all of them
-pub bodies_read : (keep : Bool) (g : Given) (ws : Row the_waiting.Waiting) (start bodies : Row Span) (i p q : ℕ) → length ws ≤ i → bodies_from g (drop i (map view_waiting ws)) bodies q ≡ bodies_from g (map view_waiting ws) start p
+pub bodies_read : (keep : Keep) (g : Given) (ws : Row the_waiting.Waiting) (start bodies : Row Span) (i p q : ℕ) → length ws ≤ i → bodies_from g (drop i (map view_waiting ws)) bodies q ≡ bodies_from g (map view_waiting ws) start p
     → does (change bodies_here) keep g (record { at = p; waiting = map view_waiting ws; bodies = start }) ≡ Ok (tt, record { at = q; waiting = []; bodies = bodies })
 bodies_read keep g ws start bodies i p q le is = ap (λ x. nothing_read (state_by x)) (sym is ∙ documents_end g ws i bodies q le)
 
-pub bodies_stop : (keep : Bool) (g : Given) (ws : Row the_waiting.Waiting) (start bodies : Row Span) (i p q end : ℕ) (e : Stop) (rest : Result (Row Span × ℕ) Fault)
+pub bodies_stop : (keep : Keep) (g : Given) (ws : Row the_waiting.Waiting) (start bodies : Row Span) (i p q end : ℕ) (e : Stop) (rest : Result (Row Span × ℕ) Fault)
     → bodies_from g (drop i (map view_waiting ws)) bodies q ≡ bodies_from g (map view_waiting ws) start p → BodyRead end (Err e) (bodies_from g (drop i (map view_waiting ws)) bodies q) rest
     → Fails end e (does (change bodies_here) keep g (record { at = p; waiting = map view_waiting ws; bodies = start }))
 bodies_stop keep g ws start bodies i p q end Memory rest is stop = tt
 bodies_stop keep g ws start bodies i p q end (Wrong f) rest is stop = (ap (λ x. nothing_read (state_by x)) (sym is ∙ stop.0), stop.1)
 
-none_by : (keep : Bool) (g : Given) (bs : Row Span) (p : ℕ) (ws : Row the_waiting.Waiting) → length ws ≡ 0
+none_by : (keep : Keep) (g : Given) (bs : Row Span) (p : ℕ) (ws : Row the_waiting.Waiting) → length ws ≡ 0
     → does (change bodies_here) keep g (record { at = p; waiting = map view_waiting ws; bodies = bs }) ≡ Ok (tt, record { at = p; waiting = map view_waiting ws; bodies = bs })
 unfolding bodies_from
 none_by keep g bs p [] e = refl
 none_by keep g bs p (w ∷ ws) e = absurd (omega (arith, e))
 
 -- none
-pub none_awaited : (keep : Bool) (g : Given) (d : the_documents.Documents) (p : ℕ) → length d.waiting.items ≡ 0 → does (change bodies_here) keep g (standing_with d p) ≡ Ok (tt, standing_with d p)
+pub none_awaited : (keep : Keep) (g : Given) (d : the_documents.Documents) (p : ℕ) → length d.waiting.items ≡ 0 → does (change bodies_here) keep g (standing_with d p) ≡ Ok (tt, standing_with d p)
 none_awaited keep g d p none = none_by keep g d.bodies.items p d.waiting.items none

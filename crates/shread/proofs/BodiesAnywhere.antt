@@ -113,10 +113,6 @@ module _ (w : Waiting) where
   found_first m [] some is = absurd (omega (arith, some))
   found_first m (b ∷ bs) some is = rw is refl
 
-  -- no line before takes it in
-  Free : Bool → List ℕ → Type 0
-  Free taken Y = (taken ≡ false) × (is_delimiter w (front Y) ≡ true)
-
   free_by : (taken : Bool) (b : ℕ) (bs : List ℕ) (k : ℕ) (rest : Option ℕ) → 0 < k → (t : Bool) → (not taken && is_delimiter w (front (b ∷ bs))) ≡ t
       → cond t (Some 0) (option_map (λ (q : ℕ). k + q) rest) ≡ Some 0 → (taken ≡ false) × (is_delimiter w (front (b ∷ bs)) ≡ true)
   free_by true b bs k rest some true is found = absurd cc
@@ -151,12 +147,6 @@ module _ (w : Waiting) where
       (not taken && is_delimiter w line) (sym (by_turn w n taken b bs Y so) ∙ found)
 
   -- ---- what was found is a body and a delimiter
-
-  closed_last : (X : List ℕ) (b : ℕ) → (b == 10) ≡ true → closed (X ++ b ∷ []) ≡ true
-  unfolding closed
-  closed_last [] b is = is
-  closed_last (c ∷ []) b is = is
-  closed_last (c ∷ d ∷ X) b is = closed_last (d ∷ X) b is
 
   closed_join : (X Y : List ℕ) → closed X ≡ true → closed Y ≡ true → closed (X ++ Y) ≡ true
   unfolding closed

@@ -1,20 +1,21 @@
 -- The bodies that a reading holds end before the place where it stands.
-use Rattle.std.proofs.Common.{◌≡◌, ℕ, ◌+◌, ◌≤◌, Bool, Result, Ok, Err, List as Row, [], ◌∷◌, ◌++◌, Option, Some, None, refl, subst, arith, sym, false, ⊎_elim}
+use Rattle.std.proofs.Common.{◌≡◌, ℕ, ◌+◌, ◌≤◌, Result, Ok, Err, List as Row, [], ◌∷◌, ◌++◌, Option, Some, None, refl, subst, arith, sym, false, ⊎_elim}
 use Rattle.std.specs.Prelude.{All}
 use Rattle.std.proofs.lemmas.Bool.{cases_lt}
 use Rattle.std.proofs.lemmas.List.Elements.{All-push}
+use Rattle.shread.specs.declared.keep.Keep.TheVariants.{Whole}
 use Rattle.shtree.specs.declared.tree.Span.{Span}
 use Rattle.shtree.specs.Nodes.{IsSpanWithin}
 use Rattle.shread.specs.declared.fault.Fault.{Fault}
 use Rattle.shread.specs.Comments.{span}
 use Rattle.shread.specs.Sights.{Given, State, Waiting}
 use Rattle.shread.specs.HereDocuments.{Change, waits, bodies_here, changed, past_line, delimiter_from, body_by, bodies_from, state_by, with_waiting}
-use Rattle.shread.specs.Form.{Form, give, see, move, push, stop, both, when, token, loop, ends_as, change, with_bytes, a_level, Step, again, done}
+use Rattle.shread.specs.Form.{Form, give, see, move, push, stop, both, when, token, loop, ends_as, change, with_bytes, a_level, Step, again, done, in_substitution}
 use Rattle.shread.proofs.Places.{next_newline_low}
 use Rattle.shread.proofs.Delimiters.{between, bodies_low}
-use Rattle.shread.proofs.Holds.{Tells, Turned, tells_any, tells_change, tells_ending, tells_level, tells_loop, tells_so, tells_then, tells_token, tells_when, tells_with_bytes, low}
+use Rattle.shread.proofs.Holds.{Tells, Turned, tells_any, tells_change, tells_ending, tells_level, tells_loop, tells_so, tells_then, tells_token, tells_when, tells_with_bytes, low, tells_inside}
 
-module _ (keep : Bool) (g : Given) (limit : ℕ) where
+module _ (g : Given) (limit : ℕ) where
   -- the reading does not stand above the limit
   abbrev Before : State → Type 0
   Before s = g.offset + s.at ≤ limit
@@ -23,9 +24,9 @@ module _ (keep : Bool) (g : Given) (limit : ℕ) where
   HoldsWithin s = All (IsSpanWithin limit) s.bodies
 
   -- of what begins above the limit nothing is said, since no form goes back
-  pub unless_above : {X : Type 0} {P : X → State → Type 0} (r : Form X) (s : State) → (Before s → Tells keep g r (λ x t. Before t → P x t) s) → Tells keep g r (λ x t. Before t → P x t) s
+  pub unless_above : {X : Type 0} {P : X → State → Type 0} (r : Form X) (s : State) → (Before s → Tells Whole g r (λ x t. Before t → P x t) s) → Tells Whole g r (λ x t. Before t → P x t) s
   unless_above r s so =
-      ⊎_elim (λ lt. tells_so keep g (low r keep g s) (λ x t on. λ b. absurd (omega (arith, lt, on, b)))) (λ ge. so (omega (arith, ge))) (cases_lt limit (g.offset + s.at))
+      ⊎_elim (λ lt. tells_so Whole g (low r Whole g s) (λ x t on. λ b. absurd (omega (arith, lt, on, b)))) (λ ge. so (omega (arith, ge))) (cases_lt limit (g.offset + s.at))
 
   -- ---- the bodies behind a newline
 
@@ -60,24 +61,25 @@ module _ (keep : Bool) (g : Given) (limit : ℕ) where
 
   -- ---- all forms
 
-  pub held : {X : Type 0} (r : Form X) (s : State) → HoldsWithin s → Tells keep g r (λ x t. Before t → HoldsWithin t) s
+  pub held : {X : Type 0} (r : Form X) (s : State) → HoldsWithin s → Tells Whole g r (λ x t. Before t → HoldsWithin t) s
   held (give x) s so = record { told = λ b. so }
   held (see f) s so = record { told = λ b. so }
   held (move m) s so = record { told = λ b. so }
   held (push xs x) s so = record { told = λ b. so }
   held (stop kind at) s so = record { told = tt }
-  held (both r q) s so = tells_then keep g (held r s so) (λ a t there. unless_above (q a) t (λ b. held (q a) t (there b)))
-  held (when f r q) s so = tells_when keep g (held r s so) (held q s so)
-  held (token how r) s so = tells_token keep g (held r s so) (λ a t there. there)
+  held (both r q) s so = tells_then Whole g (held r s so) (λ a t there. unless_above (q a) t (λ b. held (q a) t (there b)))
+  held (when f r q) s so = tells_when Whole g (held r s so) (held q s so)
+  held (token how r) s so = tells_token Whole g (held r s so) (λ a t there. there)
   held {X = X} (loop turn a) s so =
-      tells_loop keep g turn (λ b t. Before t → HoldsWithin t)
-      (λ b t there. tells_so keep g (unless_above (turn b) t (λ c. held (turn b) t (there c))) turned) a s (λ b. so)
+      tells_loop Whole g turn (λ b t. Before t → HoldsWithin t)
+      (λ b t there. tells_so Whole g (unless_above (turn b) t (λ c. held (turn b) t (there c))) turned) a s (λ b. so)
     where
-      turned : (c : Step X) (u : State) → (Before u → HoldsWithin u) → Turned keep g (λ b t. Before t → HoldsWithin t) c u
+      turned : (c : Step X) (u : State) → (Before u → HoldsWithin u) → Turned Whole g (λ b t. Before t → HoldsWithin t) c u
       turned (again c) u there = there
       turned (done c) u there = there
-  held (ends_as kind at r) s so = tells_ending keep g (held r s so)
-  held (change c) s so = tells_change keep g (λ t is. λ b. change_within c s t so b is)
-  held (with_bytes r) s so = tells_with_bytes keep g (held r s so) (λ a t there. there)
+  held (ends_as kind at r) s so = tells_ending Whole g (held r s so)
+  held (change c) s so = tells_change Whole g (λ t is. λ b. change_within c s t so b is)
+  held (with_bytes r) s so = tells_with_bytes Whole g (held r s so) (λ a t there. there)
   -- behind a level the bodies are those before it
-  held (a_level r) s so = tells_level keep g {r = r} {s = s} (tells_any keep g) (λ a t there. λ b. so)
+  held (a_level r) s so = tells_level Whole g {r = r} {s = s} (tells_any Whole g) (λ a t there. λ b. so)
+  held (in_substitution r) s so = tells_inside Whole g (held r s so)

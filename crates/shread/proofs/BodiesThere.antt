@@ -1,10 +1,11 @@
 -- Bodies that end at a newline before a limit, or with it, end there in each text that has the bytes up to the limit.
-use Rattle.std.proofs.Common.{◌≡◌, ℕ, zero, suc, ◌+◌, ◌-◌, ◌==◌, ◌<◌, ◌≤◌, Bool, true, false, not, List, [], ◌∷◌, ◌++◌, List as Row, length, map, take, drop, Option, option_map, Some, None, Ok, Err, slice_get, get_or, refl, sym, ap, subst, ◌∙◌, ◌⊎◌, inl, inr, arith, ⊎_elim}
+use Rattle.std.proofs.Common.{◌≡◌, ℕ, zero, suc, ◌+◌, ◌-◌, ◌==◌, ◌<◌, ◌≤◌, true, false, not, List, [], ◌∷◌, ◌++◌, List as Row, length, map, take, drop, Option, option_map, Some, None, Ok, Err, slice_get, get_or, refl, sym, ap, subst, ◌∙◌, ◌⊎◌, inl, inr, arith, ⊎_elim}
 use Rattle.std.specs.Prelude.{Result}
 use Rattle.std.proofs.lemmas.Bool.{cases_lt}
 use Rattle.std.proofs.lemmas.Bool.Decides.{nat_tests}
 use Rattle.std.proofs.lemmas.List.{length-take-le, length-drop, map-append, take-append-drop}
 use Rattle.std.proofs.lemmas.Option.{slice_get_past, slice_get_within, slice_get-get_or}
+use Rattle.shread.specs.declared.keep.Keep.{Keep}
 use Rattle.shtree.specs.declared.tree.Span.{Span}
 use Rattle.shread.specs.declared.fault.Fault.{Fault}
 use Rattle.shread.specs.Standing.{at_end, is_byte, is_none, passes, raw_in, raw_stands, next_newline}
@@ -71,7 +72,7 @@ ends_by g s t (Ok x) read is newline =
     inl (ap (λ n. is_byte (slice_get g.text (n - 1)) 10) still ∙ newline)) (cases_lt s.at x.1)
 ends_by g s t (Err f) read is newline = absurd cc
 
-pub ends_line : (keep : Bool) (g : Given) (s t : State) → does (change bodies_here) keep g s ≡ Ok (tt, t) → raw_stands g.text (s.at - 1) 10 ≡ true → (raw_stands g.text (t.at - 1) 10 ≡ true) ⊎ (at_end g.text t.at ≡ true)
+pub ends_line : (keep : Keep) (g : Given) (s t : State) → does (change bodies_here) keep g s ≡ Ok (tt, t) → raw_stands g.text (s.at - 1) 10 ≡ true → (raw_stands g.text (t.at - 1) 10 ≡ true) ⊎ (at_end g.text t.at ≡ true)
 ends_line keep g s t is newline = ends_by g s t (bodies_from g s.waiting s.bodies s.at) refl is newline
 
 -- bytes of which the last is a newline

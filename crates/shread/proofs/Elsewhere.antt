@@ -4,6 +4,7 @@ use Rattle.std.proofs.lemmas.Bool.{and_parts, both_ways, cases_Bool, lt-ltb}
 use Rattle.std.proofs.lemmas.Bool.Decides.{nat_tests}
 use Rattle.std.proofs.lemmas.List.{take_at}
 use Rattle.std.proofs.lemmas.Option.{slice_get_within}
+use Rattle.shread.specs.declared.keep.Keep.TheVariants.{Whole}
 use Rattle.shread.specs.declared.mode.Mode.TheVariants.{Plain}
 use Rattle.shread.specs.declared.token.Position.{Position}
 use Rattle.shread.specs.declared.token.Position.TheVariants.{Command, Prefix, Suffix}
@@ -102,21 +103,21 @@ module _ {T U : List ℕ} {a L : ℕ} {to : ℕ → ℕ} (K : Kept T U a L to) (
     start : Held
     found : Held
     last : State
-    goes : does (loop (a_piece (level room) Plain opener) start) true (given T o) (standing r) ≡ Ok (found, last)
+    goes : does (loop (a_piece (level room) Plain opener) start) Whole (given T o) (standing r) ≡ Ok (found, last)
     there : last.at ≡ L
 
   -- what ends at the limit began so
   abbrev Begins : ℕ → {X : Type 0} → X → State → Type 0
   Begins p x t = t.at ≡ L → Goes p
 
-  word_begins : (p : ℕ) → a ≤ p → Holds (Begins p) (does (a_word (level room)) true (given T o) (standing p))
+  word_begins : (p : ℕ) → a ≤ p → Holds (Begins p) (does (a_word (level room)) Whole (given T o) (standing p))
   unfolding a_word contents many
   word_begins p low =
-      holds_then (Begins p) (Begins p) (does (token as_it_stands (contents (level room) Plain (o + p) [])) true (given T o) (standing p)) _
-      (holds_then (Begins p) (Begins p) (does (contents (level room) Plain (o + p) []) true (given T o) (standing p)) _
-      (holds_then (λ x t. does (loop (a_piece (level room) Plain (o + p)) (having 0 [])) true (given T o) (standing p) ≡ Ok (x, t)) (Begins p)
-      (does (loop (a_piece (level room) Plain (o + p)) (having 0 [])) true (given T o) (standing p)) _
-      (self (does (loop (a_piece (level room) Plain (o + p)) (having 0 [])) true (given T o) (standing p)))
+      holds_then (Begins p) (Begins p) (does (token as_it_stands (contents (level room) Plain (o + p) [])) Whole (given T o) (standing p)) _
+      (holds_then (Begins p) (Begins p) (does (contents (level room) Plain (o + p) []) Whole (given T o) (standing p)) _
+      (holds_then (λ x t. does (loop (a_piece (level room) Plain (o + p)) (having 0 [])) Whole (given T o) (standing p) ≡ Ok (x, t)) (Begins p)
+      (does (loop (a_piece (level room) Plain (o + p)) (having 0 [])) Whole (given T o) (standing p)) _
+      (self (does (loop (a_piece (level room) Plain (o + p)) (having 0 [])) Whole (given T o) (standing p)))
       (λ x t is at. record { low = low; opener = o + p; start = having 0 []; found = x; last = t; goes = is; there = at }))
       (λ x t so. so))
       (λ x t so. so)
@@ -124,13 +125,13 @@ module _ {T U : List ℕ} {a L : ℕ} {to : ℕ → ℕ} (K : Kept T U a L to) (
   word_goes : (p n : ℕ) → a ≤ p → p + n ≡ L → IsWord room (given T o) p n → Goes p
   word_goes p n low end (w, part) =
       let is_read = (is (a_word (level room)) (given T o) (standing p)).only _ _ part in
-      held (Begins p) (does (a_word (level room)) true (given T o) (standing p)) w (standing (p + n)) (sym is_read) (word_begins p low) end
+      held (Begins p) (does (a_word (level room)) Whole (given T o) (standing p)) w (standing (p + n)) (sym is_read) (word_begins p low) end
 
   -- the same byte is read there, or the word ends
   place_of : {r : ℕ} → Goes r → Here T U a L to r ⊎ (r ≡ L)
   place_of {r = r} w =
       ⊎_elim inl (λ e. inr e.1)
-      (held (λ x t. t.at ≡ L → From K o o B C Plain r) (does (loop (a_piece (level room) Plain w.opener) w.start) true (given T o) (standing r)) w.found w.last w.goes
+      (held (λ x t. t.at ≡ L → From K o o B C Plain r) (does (loop (a_piece (level room) Plain w.opener) w.start) Whole (given T o) (standing r)) w.found w.last w.goes
       (word_from K o o B C W.there (λ e. W.closed) (level room)
       ((everywhere room).local T U a L to K o o B C (padded_is o T) (padded_is o U) W.there (λ e. W.closed)) w.opener w.start (standing r) w.low) w.there)
 
@@ -142,7 +143,7 @@ module _ {T U : List ℕ} {a L : ℕ} {to : ℕ → ℕ} (K : Kept T U a L to) (
 
   -- an ordinary byte is a piece
   ordinary_turn : (r b opener : ℕ) (c : Held) → byte_at T r ≡ Some b → is_plain Plain b ≡ true
-      → does (a_piece (level room) Plain opener c) true (given T o) (standing r) ≡ Ok (again c, standing (behind T r))
+      → does (a_piece (level room) Plain opener c) Whole (given T o) (standing r) ≡ Ok (again c, standing (behind T r))
   unfolding a_piece piece_at
   ordinary_turn r b opener c is plain = rw (is, ordinary_by T r Plain c.nested b plain) refl
 
@@ -161,7 +162,7 @@ module _ {T U : List ℕ} {a L : ℕ} {to : ℕ → ℕ} (K : Kept T U a L to) (
         let b_plain = plain b e in
         let lt = slice_get_within T (past_continuations T r) b is in
         let leads : leads_on (given T o) (standing r) (standing (behind T r)) ≡ true = lt-ltb _ _ (omega (arith, lt, place_low T r, behind_is T r)) in
-        let more = turns_on (given T o) (λ c s. does (a_piece (level room) Plain w.opener c) true (given T o) s) w.start w.start (standing r) (standing (behind T r))
+        let more = turns_on (given T o) (λ c s. does (a_piece (level room) Plain w.opener c) Whole (given T o) s) w.start w.start (standing r) (standing (behind T r))
         (ordinary_turn r b w.opener w.start is b_plain) leads in (
           record {
             low = omega (arith, w.low, behind_low T r);

@@ -3,6 +3,7 @@
 use Rattle.std.proofs.Common.{◌≡◌, ℕ, zero, suc, ◌+◌, ◌-◌, ◌≤◌, ◌<◌, Bool, true, false, Ok, Err, Option, Some, None, option_map, Result, List, List as Row, [], ◌∷◌, ◌++◌, length, map, drop, refl, sym, ap, subst, ◌∙◌, arith}
 use Rattle.std.proofs.lemmas.Bool.{ltb-true}
 use Rattle.std.proofs.lemmas.List.{map-append}
+use Rattle.shread.specs.declared.keep.Keep.TheVariants.{Whole}
 use Rattle.shread.specs.declared.fault.Fault.{Fault}
 use Rattle.shread.specs.declared.fault.FaultKind.{FaultKind}
 use Rattle.shtree.specs.declared.tree.Span.{Span}
@@ -10,10 +11,10 @@ use Rattle.shtree.specs.Shape.{text_at}
 use Rattle.shread.specs.Comments.{span}
 use Rattle.shread.specs.Sights.{Given, given, State, Waiting, Sight, a_document_waits, seen, Move}
 use Rattle.shread.specs.HereDocuments.{Change, waits, bodies_here, changed, past_line, delimiter_from, body_by, bodies_from, state_by, with_waiting, own_level}
-use Rattle.shread.specs.Form.{change, with_bytes, a_level, nothing_read, raw, Spelled, Told, Read, ◌▸◌, Form, give, see, move, push, stop, both, when, token, loop, many, ends_as, Step, again, done, leads_on, turns, does}
+use Rattle.shread.specs.Form.{change, with_bytes, a_level, nothing_read, raw, Spelled, Told, Read, ◌▸◌, Form, give, see, move, push, stop, both, when, token, loop, many, ends_as, Step, again, done, leads_on, turns, does, in_substitution}
 use Rattle.shread.specs.Commands.{pick}
 use Rattle.shread.proofs.Turns.{turns_on, turns_rest, turns_done, turns_fault}
-use Rattle.shread.proofs.Holds.{Holds, Tells, Turned, tells_so, tells_then, tells_when, tells_token, tells_loop, tells_ending, tells_change, tells_with_bytes, tells_level, change_low, Behind, low, move_low}
+use Rattle.shread.proofs.Holds.{Holds, Tells, Turned, tells_so, tells_then, tells_when, tells_token, tells_loop, tells_ending, tells_change, tells_with_bytes, tells_level, change_low, Behind, low, move_low, tells_inside}
 use Rattle.shread.proofs.Alike.{SameStep}
 use Rattle.shread.proofs.Ahead.{ListEnds}
 use Rattle.shread.proofs.Asked.{Good, high, moves, on, same_raw}
@@ -94,34 +95,35 @@ module _ {T U : List ℕ} {a M : ℕ} {to : ℕ → ℕ} {limit : ℕ} (E : List
   change_same (waits w) s t from is high_t same = let there : with_waiting w s ≡ t = cc in subst (λ (v : State). SameBodies v.bodies) there same
   change_same bodies_here s t from is high_t same = state_same s t from high_t (bodies_from g s.waiting s.bodies s.at) refl is same
 
-  pub good : {X : Type 0} (r : Form X) (s : State) → a ≤ s.at → Tells true g r (Back s) s
+  pub good : {X : Type 0} (r : Form X) (s : State) → a ≤ s.at → Tells Whole g r (Back s) s
   good (give x) s from = record { told = (from, λ e. e, λ e same. same) }
   good (see l) s from = record { told = (from, λ e. e, λ e same. same) }
   good (move m) s from = record { told = (omega (arith, from, move_low m T s.at), λ e. (moves E m s.at from e).0, λ e same. same) }
   good (push xs x) s from = record { told = (from, λ e. e, λ e same. same) }
   good (stop kind at) s from = record { told = tt }
-  good (both r q) s from = tells_then true g (good r s from) (λ x t one. tells_so true g (good (q x) t one.0) (λ y u two. (two.0, λ e. one.1 (two.1 e), λ e same. two.2 e (one.2 (two.1 e) same))))
-  good (when l r q) s from = tells_when true g (good r s from) (good q s from)
-  good (token how r) s from = tells_token true g (good r s from) (λ x t one. one)
-  good {X = X} (loop turn b) s from = tells_loop true g turn (Back s) (λ c t one. tells_so true g (good (turn c) t one.0) (turned t one)) b s (from, λ e. e, λ e same. same)
+  good (both r q) s from = tells_then Whole g (good r s from) (λ x t one. tells_so Whole g (good (q x) t one.0) (λ y u two. (two.0, λ e. one.1 (two.1 e), λ e same. two.2 e (one.2 (two.1 e) same))))
+  good (when l r q) s from = tells_when Whole g (good r s from) (good q s from)
+  good (token how r) s from = tells_token Whole g (good r s from) (λ x t one. one)
+  good {X = X} (loop turn b) s from = tells_loop Whole g turn (Back s) (λ c t one. tells_so Whole g (good (turn c) t one.0) (turned t one)) b s (from, λ e. e, λ e same. same)
     where
       turned : (t : State) → (a ≤ t.at) × (G t.at → G s.at) × (G t.at → SameBodies s.bodies → SameBodies t.bodies) → (c : Step X) (u : State)
-          → (a ≤ u.at) × (G u.at → G t.at) × (G u.at → SameBodies t.bodies → SameBodies u.bodies) → Turned true g (Back s) c u
+          → (a ≤ u.at) × (G u.at → G t.at) × (G u.at → SameBodies t.bodies → SameBodies u.bodies) → Turned Whole g (Back s) c u
       turned t one (again c) u two = (two.0, λ e. one.1 (two.1 e), λ e same. two.2 e (one.2 (two.1 e) same))
       turned t one (done c) u two = (two.0, λ e. one.1 (two.1 e), λ e same. two.2 e (one.2 (two.1 e) same))
-  good (ends_as kind at r) s from = tells_ending true g (good r s from)
-  good (change c) s from = tells_change true g (λ t is. (omega (arith, from, change_low c g s t is), λ e. change_good E o c s t from is e, λ e same. change_same c s t from is (high E e) same))
-  good (with_bytes r) s from = tells_with_bytes true g (good r s from) (λ x t one. one)
-  good (a_level r) s from = tells_level true g (good r (own_level s) from) (λ x t one. (one.0, one.1, λ e same. same))
+  good (ends_as kind at r) s from = tells_ending Whole g (good r s from)
+  good (change c) s from = tells_change Whole g (λ t is. (omega (arith, from, change_low c g s t is), λ e. change_good E o c s t from is e, λ e same. change_same c s t from is (high E e) same))
+  good (with_bytes r) s from = tells_with_bytes Whole g (good r s from) (λ x t one. one)
+  good (a_level r) s from = tells_level Whole g (good r (own_level s) from) (λ x t one. (one.0, one.1, λ e same. same))
+  good (in_substitution r) s from = tells_inside Whole g (good r s from)
 
   -- ---- what is read there
 
   -- where the first text is read up to a good place, q reads in the second something of which S holds, and up to the same place
   abbrev pub Found : {X Y : Type 0} → (X → Y → Type 0) → Form Y → State → X → State → Type 0
-  Found {Y = Y} S q s x t = G t.at → (y : Y) × ((does q true h (over s) ≡ Ok (y, over t)) × S x y)
+  Found {Y = Y} S q s x t = G t.at → (y : Y) × ((does q Whole h (over s) ≡ Ok (y, over t)) × S x y)
 
   pub record Goes {X Y : Type 0} (S : X → Y → Type 0) (r : Form X) (q : Form Y) : Type 0 where
-    pub go : (s : State) → a ≤ s.at → Holds (Found S q s) (does r true g s)
+    pub go : (s : State) → a ≤ s.at → Holds (Found S q s) (does r Whole g s)
 
   abbrev pub All : {X Y : Type 0} → X → Y → Type 0
   All x y = Unit {0}
@@ -164,26 +166,26 @@ module _ {T U : List ℕ} {a M : ℕ} {to : ℕ → ℕ} {limit : ℕ} (E : List
 
   module _ {X Y V W : Type 0} {S : X → Y → Type 0} {R : V → W → Type 0} {r : Form X} {q : Form Y} {f : X → Form V} {k : Y → Form W} (first : Goes S r q) (rest : (x : X) (y : Y) → S x y → Goes R (f x) (k y))
       (s : State) (from : a ≤ s.at) where
-    then_last : (x : X) (t : State) → a ≤ t.at → (G t.at → (y : Y) × ((does q true h (over s) ≡ Ok (y, over t)) × S x y)) → (z : Read V) → does (f x) true g t ≡ z → Holds (Back t) z
+    then_last : (x : X) (t : State) → a ≤ t.at → (G t.at → (y : Y) × ((does q Whole h (over s) ≡ Ok (y, over t)) × S x y)) → (z : Read V) → does (f x) Whole g t ≡ z → Holds (Back t) z
         → Holds (Found R (both q k) s) z
     then_last x t low one (Ok (v, u)) is back =
         λ e. let w = one (back.1 e) in
         let m = subst (Holds (Found R (k w.0) t)) is ((rest x w.0 w.1.1).go t low) e in
-        (m.0, (subst (λ (z : Read Y). (z ▸ λ y t. does (k y) true h t) ≡ Ok (m.0, over u)) (sym w.1.0) m.1.0, m.1.1))
+        (m.0, (subst (λ (z : Read Y). (z ▸ λ y t. does (k y) Whole h t) ≡ Ok (m.0, over u)) (sym w.1.0) m.1.0, m.1.1))
     then_last x t low one (Err e) is back = tt
 
-    then_by : (x : Read X) → Holds (Back s) x → Holds (Found S q s) x → Holds (Found R (both q k) s) (x ▸ λ b t. does (f b) true g t)
-    then_by (Ok (x, t)) back one = then_last x t back.0 one (does (f x) true g t) refl (good (f x) t back.0).told
+    then_by : (x : Read X) → Holds (Back s) x → Holds (Found S q s) x → Holds (Found R (both q k) s) (x ▸ λ b t. does (f b) Whole g t)
+    then_by (Ok (x, t)) back one = then_last x t back.0 one (does (f x) Whole g t) refl (good (f x) t back.0).told
     then_by (Err e) back one = tt
 
   -- one form and then another
   pub go_then : {X Y V W : Type 0} {S : X → Y → Type 0} {R : V → W → Type 0} {r : Form X} {q : Form Y} {f : X → Form V} {k : Y → Form W} → Goes S r q → ((x : X) (y : Y) → S x y → Goes R (f x) (k y))
       → Goes R (both r f) (both q k)
-  go_then {r = r} first rest = record { go = λ s from. then_by first rest s from (does r true g s) (good r s from).told (first.go s from) }
+  go_then {r = r} first rest = record { go = λ s from. then_by first rest s from (does r Whole g s) (good r s from).told (first.go s from) }
 
   -- what follows
   pub go_so : {X Y : Type 0} {S R : X → Y → Type 0} {r : Form X} {q : Form Y} → Goes S r q → ((x : X) (y : Y) → S x y → R x y) → Goes R r q
-  go_so {S = S} {R = R} {r = r} {q = q} one so = record { go = λ s from. so_by s (does r true g s) (one.go s from) }
+  go_so {S = S} {R = R} {r = r} {q = q} one so = record { go = λ s from. so_by s (does r Whole g s) (one.go s from) }
     where
       so_by : (s : State) (x : Read _) → Holds (Found S q s) x → Holds (Found R q s) x
       so_by s (Ok (x, t)) one = λ e. let w = one e in (w.0, (w.1.0, so x w.0 w.1.1))
@@ -191,7 +193,7 @@ module _ {T U : List ℕ} {a M : ℕ} {to : ℕ → ℕ} {limit : ℕ} (E : List
 
   -- what ends in a fault
   pub go_stopped : {X Y Z : Type 0} {S : X → Y → Type 0} {r : Form Z} {kind : Z → FaultKind} {at : Z → ℕ} {q : Form Y} → Goes S (both r (λ z. stop (kind z) (at z))) q
-  go_stopped {X = X} {Z = Z} {r = r} {kind = kind} {at = at} = record { go = λ s from. stopped_by _ (does r true g s) }
+  go_stopped {X = X} {Z = Z} {r = r} {kind = kind} {at = at} = record { go = λ s from. stopped_by _ (does r Whole g s) }
     where
       stopped_by : (P : X → State → Type 0) (z : Read Z) → Holds P (z ▸ λ w t. Err (record { kind = kind w; at = at w }))
       stopped_by P (Ok (w, t)) = tt
@@ -221,7 +223,7 @@ module _ {T U : List ℕ} {a M : ℕ} {to : ℕ → ℕ} {limit : ℕ} (E : List
   token_by S how q s from (Err f) back one = tt
 
   pub go_token : {X Y : Type 0} {S : X → Y → Type 0} {how : Told} {r : Form X} {q : Form Y} → Goes S r q → Goes (WithText S) (token how r) (token how q)
-  go_token {S = S} {how = how} {r = r} {q = q} one = record { go = λ s from. token_by S how q s from (does r true g s) (good r s from).told (one.go s from) }
+  go_token {S = S} {how = how} {r = r} {q = q} one = record { go = λ s from. token_by S how q s from (does r Whole g s) (good r s from).told (one.go s from) }
 
   -- a token, where it stands
   abbrev pub WithSpan : {X Y : Type 0} → (X → Y → Type 0) → X × Span → Y × Span → Type 0
@@ -236,7 +238,7 @@ module _ {T U : List ℕ} {a M : ℕ} {to : ℕ → ℕ} {limit : ℕ} (E : List
   place_by S how q s from (Err f) onward one = tt
 
   pub go_place : {X Y : Type 0} {S : X → Y → Type 0} {how : Told} {r : Form X} {q : Form Y} → Goes S r q → Goes (WithSpan S) (token how r) (token how q)
-  go_place {S = S} {how = how} {r = r} {q = q} one = record { go = λ s from. place_by S how q s from (does r true g s) (low r true g s).told (one.go s from) }
+  go_place {S = S} {how = how} {r = r} {q = q} one = record { go = λ s from. place_by S how q s from (does r Whole g s) (low r Whole g s).told (one.go s from) }
 
   -- what is read, with the same bytes
   abbrev pub WithBytes : {X Y : Type 0} → (X → Y → Type 0) → X × Spelled → Y × Spelled → Type 0
@@ -251,16 +253,16 @@ module _ {T U : List ℕ} {a M : ℕ} {to : ℕ → ℕ} {limit : ℕ} (E : List
   bytes_by S q s from (Err f) back one = tt
 
   pub go_with_bytes : {X Y : Type 0} {S : X → Y → Type 0} {r : Form X} {q : Form Y} → Goes S r q → Goes (WithBytes S) (with_bytes r) (with_bytes q)
-  go_with_bytes {S = S} {r = r} {q = q} one = record { go = λ s from. bytes_by S q s from (does r true g s) (good r s from).told (one.go s from) }
+  go_with_bytes {S = S} {r = r} {q = q} one = record { go = λ s from. bytes_by S q s from (does r Whole g s) (good r s from).told (one.go s from) }
 
   -- ---- repetitions
 
   module _ {A C : Type 0} (S : A → C → Type 0) (turn : A → Form (Step A)) (turn2 : C → Form (Step C)) (each : (x : A) (y : C) → S x y → Goes (SameStep S) (turn x) (turn2 y)) where
     abbrev one : A → State → Read (Step A)
-    one x s = does (turn x) true g s
+    one x s = does (turn x) Whole g s
 
     abbrev two : C → State → Read (Step C)
-    two y s = does (turn2 y) true h s
+    two y s = does (turn2 y) Whole h s
 
     abbrev Looped : C → State → A → State → Type 0
     Looped y s v u = G u.at → (z : C) × ((turns h two y (over s) ≡ Ok (z, over u)) × S v z)
@@ -305,7 +307,7 @@ module _ {T U : List ℕ} {a M : ℕ} {to : ℕ → ℕ} {limit : ℕ} (E : List
     all_turns : (n : ℕ) (x : A) (y : C) (s : State) → length T - s.at < n → a ≤ s.at → S x y → Holds (Looped y s) (turns g one x s)
     all_turns zero x y s few from so = absurd (omega (arith, few))
     all_turns (suc n) x y s few from so =
-        turn_by x y s from (one x s) refl (good (turn x) s from).told (low (turn x) true g s).told ((each x y so).go s from) (λ b c t on less same. all_turns n b c t (omega (arith, less, few)) on same)
+        turn_by x y s from (one x s) refl (good (turn x) s from).told (low (turn x) Whole g s).told ((each x y so).go s from) (λ b c t on less same. all_turns n b c t (omega (arith, less, few)) on same)
 
     pub go_many : (x : A) (y : C) → S x y → Goes S (many turn x) (many turn2 y)
     unfolding many

@@ -1,6 +1,8 @@
 -- What holds of whatever a form gives: the laws of forms, and that no form goes back.
 use Rattle.std.proofs.Common.{◌≡◌, ℕ, zero, suc, ◌+◌, ◌-◌, ◌≤◌, ◌<◌, Bool, true, false, cond, Result, Ok, Err, List, List as Row, [], ◌∷◌, ◌++◌, length, refl, subst, arith}
 use Rattle.std.proofs.lemmas.Bool.{ltb-true, cond_both}
+use Rattle.shread.specs.declared.keep.Keep.TheVariants.{Whole}
+use Rattle.shread.specs.declared.keep.Keep.{Keep}
 use Rattle.shread.specs.declared.fault.FaultKind.{FaultKind}
 use Rattle.shread.specs.declared.mode.Mode.{Mode}
 use Rattle.shread.specs.declared.mode.Mode.TheVariants.{Plain, Double, Brace, DoubleBrace, Arith}
@@ -12,7 +14,7 @@ use Rattle.shread.specs.Pieces.{past_taken, past_closer}
 use Rattle.shread.specs.Sights.{Given, State, Sight, seen, Move, one_byte, joined, one_taken, the_closer, the_parameter, a_quote_on, in_backquotes_on, blanks, a_comment_on, the_reserved, the_digits, to}
 use Rattle.shread.specs.HereDocuments.{Change, waits, bodies_here, changed, bodies_from, state_by, own_level, outer_level}
 use Rattle.shread.specs.declared.fault.Fault.{Fault}
-use Rattle.shread.specs.Form.{Spelled, raw, nothing_read, change, with_bytes, a_level, Read, ◌▸◌, Form, give, see, move, push, stop, both, when, Told, token, loop, many, ends_as, with_end, Step, again, done, leads_on, moved, turns, does}
+use Rattle.shread.specs.Form.{Spelled, raw, nothing_read, change, with_bytes, a_level, Read, ◌▸◌, Form, give, see, move, push, stop, both, when, Told, token, loop, many, ends_as, with_end, Step, again, done, leads_on, moved, turns, does, in_substitution, inside}
 use Rattle.shread.proofs.Stretches.{place_low}
 use Rattle.shread.proofs.Places.{behind_low, blanks_low, next_in_backquotes_low, next_newline_low, next_of_low, parameter_low, reserved_low, digits_low}
 use Rattle.shread.proofs.Delimiters.{bodies_low}
@@ -34,7 +36,7 @@ pub holds_so : {X : Type 0} (P Q : X → State → Type 0) (x : Read X) → Hold
 holds_so P Q (Ok (c, t)) one so = so c t one
 holds_so P Q (Err e) one so = tt
 
-module _ (keep : Bool) (g : Given) where
+module _ (keep : Keep) (g : Given) where
   -- of what the form r gives from s on
   pub record Tells {X : Type 0} (r : Form X) (P : X → State → Type 0) (s : State) : Type 0 where
     pub told : Holds P (does r keep g s)
@@ -169,9 +171,13 @@ module _ (keep : Bool) (g : Given) where
   pub tells_moved : {Y : Type 0} {Q : Y → State → Type 0} {m : Move} {q : Unit {0} → Form Y} {s : State} → Tells (q tt) Q (moved m g s) → Tells (both (move m) q) Q s
   tells_moved rest = record { told = rest.told }
 
+-- what stands in a command substitution
+pub tells_inside : (keep : Keep) (g : Given) {X : Type 0} {P : X → State → Type 0} {r : Form X} {s : State} → Tells (inside keep) g r P s → Tells keep g (in_substitution r) P s
+tells_inside keep g one = record { told = one.told }
+
 -- one more element of the tree, and then the rest
-pub tells_pushed : (g : Given) {A Y : Type 0} {Q : Y → State → Type 0} {xs : Row A} {x : A} {q : Row A → Form Y} {s : State} → Tells true g (q (xs ++ x ∷ [])) Q s
-    → Tells true g (both (push xs x) q) Q s
+pub tells_pushed : (g : Given) {A Y : Type 0} {Q : Y → State → Type 0} {xs : Row A} {x : A} {q : Row A → Form Y} {s : State} → Tells Whole g (q (xs ++ x ∷ [])) Q s
+    → Tells Whole g (both (push xs x) q) Q s
 tells_pushed g rest = record { told = rest.told }
 
 -- ---- no form goes back
@@ -217,7 +223,7 @@ change_low bodies_here g s t is = state_low s t (bodies_from g s.waiting s.bodie
 abbrev pub Behind : {X : Type 0} → State → X → State → Type 0
 Behind s x t = s.at ≤ t.at
 
-pub low : {X : Type 0} (r : Form X) (keep : Bool) (g : Given) (s : State) → Tells keep g r (Behind s) s
+pub low : {X : Type 0} (r : Form X) (keep : Keep) (g : Given) (s : State) → Tells keep g r (Behind s) s
 low (give x) keep g s = record { told = omega arith }
 low (see f) keep g s = record { told = omega arith }
 low (move m) keep g s = record { told = move_low m g.text s.at }
@@ -235,3 +241,4 @@ low (ends_as kind at r) keep g s = tells_ending keep g (low r keep g s)
 low (change c) keep g s = tells_change keep g (λ t is. change_low c g s t is)
 low (with_bytes r) keep g s = tells_with_bytes keep g (low r keep g s) (λ a t on. on)
 low (a_level r) keep g s = tells_level keep g (low r keep g (own_level s)) (λ a t on. on)
+low (in_substitution r) keep g s = tells_inside keep g (low r (inside keep) g s)

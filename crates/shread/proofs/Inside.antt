@@ -3,6 +3,7 @@
 use Rattle.std.proofs.Common.{◌≡◌, ℕ, zero, suc, ◌+◌, ◌-◌, ◌≤◌, ◌<◌, ◌==◌, Bool, true, false, not, ◌||◌, Ok, Err, List, length, refl, sym, ap, subst, ◌∙◌, arith, ⊎_elim}
 use Rattle.std.proofs.lemmas.Bool.{both_ways, cases_Bool, cond_both, ltb-true}
 use Rattle.std.proofs.lemmas.Option.{slice_get_within, slice_get-get_or}
+use Rattle.shread.specs.declared.keep.Keep.TheVariants.{Whole}
 use Rattle.shread.specs.declared.mode.Mode.{Mode}
 use Rattle.shread.specs.Classes.{is_letter, is_digit, is_name, is_special}
 use Rattle.shread.specs.Standing.{is_byte, is_none, at_end, raw_stands}
@@ -159,10 +160,10 @@ module _ {T U : List ℕ} {a L : ℕ} {to : ℕ → ℕ} (K : Kept T U a L to) (
     Finds {X = X} x P t = (y : X) × ((x ≡ Ok (y, there t)) × P y)
 
     abbrev pub one : A → State → Read (Step A)
-    one c s = does (turn c) true g s
+    one c s = does (turn c) Whole g s
 
     abbrev pub two : A → State → Read (Step A)
-    two d s = does (turn2 d) true h s
+    two d s = does (turn2 d) Whole h s
 
     abbrev pub Turned : A → State → Step A → State → Type 0
     Turned c s x t = Goal s x t → From s.at × ((d : A) → S c d → Finds (two d (there s)) (SameStep S x) t)
@@ -204,26 +205,26 @@ module _ {T U : List ℕ} {a L : ℕ} {to : ℕ → ℕ} (K : Kept T U a L to) (
 
       all_turns : (n : ℕ) (c : A) (s : State) → length T - s.at < n → a ≤ s.at → Holds (Looped c s) (turns g one c s)
       all_turns zero c s few from = absurd (omega arith)
-      all_turns (suc n) c s few from = by_turn c s from (one c s) refl (each c s from) (low (turn c) true g s).told (λ z t on less. all_turns n z t (omega (arith, less, few)) on)
+      all_turns (suc n) c s few from = by_turn c s from (one c s) refl (each c s from) (low (turn c) Whole g s).told (λ z t on less. all_turns n z t (omega (arith, less, few)) on)
 
-      pub looped : (c : A) (s : State) → a ≤ s.at → Holds (Looped c s) (does (loop turn c) true g s)
+      pub looped : (c : A) (s : State) → a ≤ s.at → Holds (Looped c s) (does (loop turn c) Whole g s)
       looped c s from = all_turns (suc (length T - s.at)) c s (omega arith) from
 
   -- ---- text that is not read
 
   -- what is found by the limit, and where
   abbrev pub Ends : {X : Type 0} → Form X → (ℕ → Type 0) → State → X → State → Type 0
-  Ends {X = X} r From s x t = t.at ≤ L → From s.at × ((y : X) × (does r true h (there s) ≡ Ok (y, there t)))
+  Ends {X = X} r From s x t = t.at ≤ L → From s.at × ((y : X) × (does r Whole h (there s) ≡ Ok (y, there t)))
 
   -- what is sought may be in what is sought from further back
-  pub quote_in : (s : State) → a ≤ s.at → Clear K s.at → Holds (Ends single (In K) s) (does single true g s)
+  pub quote_in : (s : State) → a ≤ s.at → Clear K s.at → Holds (Ends single (In K) s) (does single Whole g s)
   unfolding single
   quote_in s from e = cond_both (at_end T q) _ _ (Holds (Ends single (In K) s)) (λ f. tt) found
     where
       q : ℕ
       q = next_quote T (behind T s.at)
 
-      found : at_end T q ≡ false → (past_taken T q ≤ L) → (In K) s.at × ((y : Unit {0}) × (does single true h (there s) ≡ Ok (y, there (at (past_taken T q) s))))
+      found : at_end T q ≡ false → (past_taken T q ≤ L) → (In K) s.at × ((y : Unit {0}) × (does single Whole h (there s) ≡ Ok (y, there (at (past_taken T q) s))))
       found f le =
           let onward = next_of_low 39 T (behind T s.at) in
           let q_in : q < L = omega (arith, le, taken_low T q) in
@@ -242,7 +243,7 @@ module _ {T U : List ℕ} {a L : ℕ} {to : ℕ → ℕ} (K : Kept T U a L to) (
     abbrev BackquoteTurn : Unit {0} → State → Step (Unit {0}) → State → Type 0
     BackquoteTurn c s x t = Turned (λ (c d : Unit {0}). Unit {0}) (backquote_turn b) (backquote_turn b2) Below UpTo c s x t
 
-    backquote_each : (c : Unit {0}) (s : State) → a ≤ s.at → Holds (BackquoteTurn c s) (does (backquote_turn b c) true g s)
+    backquote_each : (c : Unit {0}) (s : State) → a ≤ s.at → Holds (BackquoteTurn c s) (does (backquote_turn b c) Whole g s)
     unfolding backquote_turn
     backquote_each c s from =
         cond_both (at_end T q) _ _ (Holds (BackquoteTurn c s)) (λ e. tt)
@@ -272,15 +273,15 @@ module _ {T U : List ℕ} {a L : ℕ} {to : ℕ → ℕ} (K : Kept T U a L to) (
               ),
             )
 
-  pub backquotes_in : (s : State) → a ≤ s.at → Clear K s.at → Holds (Ends backquoted (In K) s) (does backquoted true g s)
+  pub backquotes_in : (s : State) → a ≤ s.at → Clear K s.at → Holds (Ends backquoted (In K) s) (does backquoted Whole g s)
   unfolding backquoted many
   backquotes_in s from e =
-      holds_so _ (Ends backquoted (In K) s) (does (loop (backquote_turn b) tt) true g inside)
+      holds_so _ (Ends backquoted (In K) s) (does (loop (backquote_turn b) tt) Whole g inside)
       (looped (λ (c d : Unit {0}). Unit {0}) (backquote_turn b) (backquote_turn b2) Below UpTo (λ p lt. omega (arith, lt)) (λ p le. le) (backquote_each b b2) tt inside (omega (arith, from, behind_low T s.at)))
       (λ x t ends le. let w = ends le in
       let i = clear K s.at from (omega (arith, w.0, behind_is T s.at)) e in
       let f = w.1 tt tt in
-      (i, (f.0, subst (λ (p : ℕ). turns h (λ u v. does (backquote_turn b2 u) true h v) tt (there_at p s) ≡ Ok (f.0, there t)) (sym (here_behind K i)) f.1.0)))
+      (i, (f.0, subst (λ (p : ℕ). turns h (λ u v. does (backquote_turn b2 u) Whole h v) tt (there_at p s) ≡ Ok (f.0, there t)) (sym (here_behind K i)) f.1.0)))
     where
       b : ℕ
       b = o + past_continuations T s.at

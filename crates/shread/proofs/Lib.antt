@@ -59,5 +59,6 @@ pub mod ListsEverywhere
 pub mod UpToLimit
 pub mod MovedCommands
 pub mod MovedLists
+pub mod MovedSubstitutions
 pub mod MovedLine
 pub mod Passing

@@ -1,5 +1,5 @@
 -- What a line of a script leads on to.
-use Rattle.std.proofs.Common.{◌≡◌, ℕ, ◌++◌, ◌==◌, ◌∙◌, Bool, true, false, not, Err, List as Row, [], ◌∷◌, drop, map, Vec, Global, refl, ap, sym, subst, length, None, Some, arith, append-nil}
+use Rattle.std.proofs.Common.{◌≡◌, ℕ, ◌++◌, ◌∙◌, Bool, false, Err, List as Row, drop, map, Vec, Global, ap, sym, subst, None, Some}
 use Rattle.shtree.specs.declared.tree.Entry.{Entry}
 use Rattle.shtree.specs.View.{view_entry}
 use Rattle.shread.specs.declared.fault.Fault.{Fault}
@@ -11,6 +11,7 @@ use Rattle.shread.specs.declared.fault.Stop.TheVariants.{Wrong}
 use Rattle.shread.specs.Clauses.{Fails}
 use Rattle.shread.specs.Commands.{is_empty}
 use Rattle.std.proofs.lemmas.List.{map-append}
+use Rattle.shread.specs.declared.keep.Keep.TheVariants.{Whole}
 use Rattle.shread.specs.declared.script_lines.ScriptLine.{ScriptLine}
 use Rattle.shread.specs.declared.script_lines.ScriptLine.TheVariants.{Ended, Last, Faulty}
 use Rattle.shread.specs.declared.script_lines.ScriptLines.{ScriptLines}
@@ -22,13 +23,13 @@ use Rattle.shread.proofs.OneOutcome.{is}
 
 -- ---- what is read of a line, where its first entry is blank as the lines before it have it
 
-pub line_read : (B : Row ℕ) (so : SoFar) (p : ℕ) (blank : Bool) (x : Read (Row AnEntry × Bool)) → blank ≡ is_blank_line so → line_from B true blank p ≡ x → LineReads B so p x
+pub line_read : (B : Row ℕ) (so : SoFar) (p : ℕ) (blank : Bool) (x : Read (Row AnEntry × Bool)) → blank ≡ is_blank_line so → line_from B Whole blank p ≡ x → LineReads B so p x
 line_read B so p blank x is_blank read =
     let one = (is (the_line blank) (given (drop p B) p) (standing 0)).some in
     (one.0, subst (λ b. may (the_line b) (given (drop p B) p) (standing 0) x one.0) is_blank (subst (λ y. may (the_line blank) (given (drop p B) p) (standing 0) y one.0) read one.1))
 
 -- what the grammar reads of a line is what is computed
-pub line_only : (B : Row ℕ) (so : SoFar) (p : ℕ) (x : Read (Row AnEntry × Bool)) → LineReads B so p x → line_from B true (is_blank_line so) p ≡ x
+pub line_only : (B : Row ℕ) (so : SoFar) (p : ℕ) (x : Read (Row AnEntry × Bool)) → LineReads B so p x → line_from B Whole (is_blank_line so) p ≡ x
 line_only B so p x read = sym ((is (the_line (is_blank_line so)) (given (drop p B) p) (standing 0)).only x read.0 read.1)
 
 -- ---- what a line leads on to
@@ -56,21 +57,6 @@ module _ {S : Type 0} where
 -- a stop for a fault tells that the reading stops there
 pub fault_told : (e : Stop) (f : Fault) (end : ℕ) (x : Read (Row AnEntry × Bool)) → e ≡ Wrong f → Fails end e x → x ≡ Err f
 fault_told e f end x is told = (subst (λ z. Fails end z x) is told).0
-
--- whether an entry was read
-some_with : (before es : Row AnEntry) → is_empty es ≡ false → is_empty (before ++ es) ≡ false
-some_with [] es some = some
-some_with (e ∷ before) es some = refl
-
-pub stands_without : (so : SoFar) (es : Row Entry) (begun : Bool) → begun ≡ not (is_empty so.entries) → length es ≡ 0
-    → (true ≡ is_empty (map view_entry es)) × (begun ≡ not (is_empty (so.entries ++ map view_entry es)))
-stands_without so [] begun is none = (refl, is ∙ ap (λ l. not (is_empty l)) (sym (append-nil so.entries)))
-stands_without so (e ∷ es) begun is none = absurd (omega (arith, none))
-
-pub stands_with : (so : SoFar) (es : Row Entry) → not (length es == 0) ≡ true
-    → (false ≡ is_empty (map view_entry es)) × (true ≡ not (is_empty (so.entries ++ map view_entry es)))
-stands_with so [] some = absurd cc
-stands_with so (e ∷ es) some = (refl, ap not (sym (some_with so.entries (map view_entry (e ∷ es)) refl)))
 
 -- ---- all lines
 

@@ -2,19 +2,20 @@
 use Rattle.std.proofs.Common.{◌≡◌, ℕ, zero, suc, ◌+◌, ◌-◌, ◌≤◌, Bool, true, false, Ok, Err, List, List as Row, [], ◌∷◌, map, take, drop, refl, sym, ap, subst, ◌∙◌, arith}
 use Rattle.std.proofs.lemmas.List.{drop-take}
 use Rattle.std.proofs.Math.Seq.{drop-drop, take-take}
+use Rattle.shread.specs.declared.keep.Keep.TheVariants.{Outer, Whole}
 use Rattle.shtree.specs.declared.tree.Span.{Span}
 use Rattle.shtree.specs.Nodes.{IsSpanWithin, placed_span}
 use Rattle.shtree.specs.Shape.{shape_of, text_at}
-use Rattle.shtree.specs.Tree.{AnEntry, Items, entries_of, entry}
+use Rattle.shtree.specs.Tree.{AnEntry, entries_of, entry}
 use Rattle.shread.specs.declared.fault.Fault.{Fault}
-use Rattle.shread.specs.Everywhere.{IsSome, Throughout}
+use Rattle.shread.specs.Everywhere.{Throughout}
 use Rattle.shread.specs.Form.{Read, does}
-use Rattle.shread.specs.Moved.{Same, blanked_row, body_by, carried_entry, moved_entry, moved_fault, placed_body}
+use Rattle.shread.specs.Moved.{Same, SameBy, blanked_row, body_by, carried_entry, moved_entry, moved_fault, outer_entry, placed_body, placed_entry}
 use Rattle.shread.specs.Scripts.{line_from, line_told, the_line}
 use Rattle.shread.specs.Sights.{State, given, standing}
 use Rattle.shread.proofs.EachSpan.{throughout_so}
 use Rattle.shread.proofs.Everywhere.{line_throughout}
-use Rattle.shread.proofs.MovedLine.{line_moved}
+use Rattle.shread.proofs.MovedLine.{line_moved, line_outer}
 use Rattle.shread.proofs.ShapeMoved.{SameText, entry_same}
 
 -- ---- texts
@@ -43,47 +44,52 @@ body_moved n S s (suc m) is = text_moved n S s
 
 -- ---- rows of entries
 
-module _ (B C : List ℕ) (f h : Span → Span) (Q : Items → Type 0) where
-  row_same : (es : Row AnEntry) → Throughout (SameText B C f h Q) Q (entries_of es) → shape_of B (entries_of (map (carried_entry f h) es)) ≡ shape_of C (entries_of es)
+module _ (B C : List ℕ) (f h : Span → Span) where
+  row_same : (es : Row AnEntry) → Throughout (SameText B C f h) (entries_of es) → shape_of B (entries_of (map (carried_entry f h true) es)) ≡ shape_of C (entries_of es)
   row_same [] so = refl
-  row_same (e ∷ es) so = rw (entry_same B C f h Q e so.0, row_same es so.1) refl
+  row_same (e ∷ es) so = rw (entry_same B C f h e so.0, row_same es so.1) refl
 
-  blanked_same : (blank : Bool) (es : Row AnEntry) → Throughout (SameText B C f h Q) Q (entries_of es)
-      → shape_of B (entries_of (blanked_row blank (map (carried_entry f h) es))) ≡ shape_of C (entries_of (blanked_row blank es))
+  blanked_same : (blank : Bool) (es : Row AnEntry) → Throughout (SameText B C f h) (entries_of es)
+      → shape_of B (entries_of (blanked_row blank (map (carried_entry f h true) es))) ≡ shape_of C (entries_of (blanked_row blank es))
   blanked_same blank [] so = refl
-  blanked_same blank (entry what background b comment ∷ es) so = rw (entry_same B C f h Q (entry what background blank comment) so.0, row_same es so.1) refl
+  blanked_same blank (entry what background b comment ∷ es) so = rw (entry_same B C f h (entry what background blank comment) so.0, row_same es so.1) refl
 
 -- the entries of a line at n, whose bytes are the first ones of D
-shape_there : (S D : List ℕ) (n m : ℕ) (blank : Bool) (es : Row AnEntry) → take m (drop n S) ≡ take m D → Throughout (IsSpanWithin m) IsSome (entries_of es)
+shape_there : (S D : List ℕ) (n m : ℕ) (blank : Bool) (es : Row AnEntry) → take m (drop n S) ≡ take m D → Throughout (IsSpanWithin m) (entries_of es)
     → shape_of S (entries_of (blanked_row blank (map (moved_entry n) es))) ≡ shape_of D (entries_of (blanked_row blank es))
 shape_there S D n m blank es same within =
-    blanked_same S D (placed_span n) (placed_body n) IsSome blank es
-    (throughout_so (IsSpanWithin m) (SameText S D (placed_span n) (placed_body n) IsSome) IsSome IsSome
-    (λ s low. (text_moved n S s ∙ text_front m (drop n S) D s same low, body_moved n S s s.«end» refl ∙ text_front m (drop n S) D s same low))
-    (λ items some. some) (entries_of es) within)
+    blanked_same S D (placed_span n) (placed_body n) blank es
+    (throughout_so (IsSpanWithin m) (SameText S D (placed_span n) (placed_body n))
+    (λ s low. (text_moved n S s ∙ text_front m (drop n S) D s same low, body_moved n S s s.«end» refl ∙ text_front m (drop n S) D s same low)) (entries_of es) within)
 
 -- ---- the line
 
 -- what the line at q of H has, that reads as these entries by itself, where it stands at n of S
 pub record There (H S : List ℕ) (q n : ℕ) (blank newline : Bool) (es : Row AnEntry) (t : State) : Type 0 where
   pub state : State
-  pub read : line_from S true blank n ≡ Ok ((blanked_row blank (map (moved_entry n) es), newline), state)
+  pub read : line_from S Whole blank n ≡ Ok ((blanked_row blank (map (moved_entry n) es), newline), state)
   pub at : state.at ≡ t.at
   pub shape : shape_of S (entries_of (blanked_row blank (map (moved_entry n) es))) ≡ shape_of H (entries_of (blanked_row blank (map (moved_entry q) es)))
 
-alone_by : (H : List ℕ) (q : ℕ) (blank newline : Bool) (es : Row AnEntry) (t : State) (z : Read (Row AnEntry × Bool)) → line_told H true false q 0 ≡ z → Same q blank (Ok ((es, newline), t)) z
-    → (fs : Row AnEntry) × (u : State) × (line_told H true false q 0 ≡ Ok ((fs, newline), u)) × (es ≡ blanked_row blank (map (moved_entry q) fs)) × (t.at ≡ u.at)
-alone_by H q blank newline es t (Ok ((fs, ended), u)) is same =
+alone_by : (deep : Bool) (H : List ℕ) (q : ℕ) (blank newline : Bool) (es : Row AnEntry) (t : State) (z : Read (Row AnEntry × Bool)) → line_told H Whole false q 0 ≡ z → SameBy deep q blank (Ok ((es, newline), t)) z
+    → (fs : Row AnEntry) × (u : State) × (line_told H Whole false q 0 ≡ Ok ((fs, newline), u)) × (es ≡ blanked_row blank (map (placed_entry deep q) fs)) × (t.at ≡ u.at)
+alone_by deep H q blank newline es t (Ok ((fs, ended), u)) is same =
     (fs, u, is ∙ ap (λ (b : Bool). Ok ((fs, b), u)) (sym same.1), same.0, same.2)
-alone_by H q blank newline es t (Err f) is same = absurd same
+alone_by deep H q blank newline es t (Err f) is same = absurd same
 
 -- the line by itself
-pub alone : (H : List ℕ) (q : ℕ) (blank newline : Bool) (es : Row AnEntry) (t : State) → line_from H true blank q ≡ Ok ((es, newline), t)
-    → (fs : Row AnEntry) × (u : State) × (line_told H true false q 0 ≡ Ok ((fs, newline), u)) × (es ≡ blanked_row blank (map (moved_entry q) fs)) × (t.at ≡ u.at)
+pub alone : (H : List ℕ) (q : ℕ) (blank newline : Bool) (es : Row AnEntry) (t : State) → line_from H Whole blank q ≡ Ok ((es, newline), t)
+    → (fs : Row AnEntry) × (u : State) × (line_told H Whole false q 0 ≡ Ok ((fs, newline), u)) × (es ≡ blanked_row blank (map (moved_entry q) fs)) × (t.at ≡ u.at)
 alone H q blank newline es t read =
-    alone_by H q blank newline es t (line_told H true false q 0) refl (subst (λ (y : Read (Row AnEntry × Bool)). Same q blank y (line_told H true false q 0)) read (line_moved H q blank))
+    alone_by true H q blank newline es t (line_told H Whole false q 0) refl (subst (λ (y : Read (Row AnEntry × Bool)). Same q blank y (line_told H Whole false q 0)) read (line_moved H q blank))
 
-there_by : (H S : List ℕ) (q n : ℕ) (blank newline : Bool) (es : Row AnEntry) (t : State) (x z : Read (Row AnEntry × Bool)) → line_from S true blank n ≡ x → z ≡ Ok ((es, newline), t) → Same n blank x z
+-- the same of one that was read without the trees in its command substitutions
+pub outer_alone : (H : List ℕ) (q : ℕ) (blank newline : Bool) (es : Row AnEntry) (t : State) → line_from H Outer blank q ≡ Ok ((es, newline), t)
+    → (fs : Row AnEntry) × (u : State) × (line_told H Whole false q 0 ≡ Ok ((fs, newline), u)) × (es ≡ blanked_row blank (map (outer_entry q) fs)) × (t.at ≡ u.at)
+outer_alone H q blank newline es t read =
+    alone_by false H q blank newline es t (line_told H Whole false q 0) refl (subst (λ (y : Read (Row AnEntry × Bool)). SameBy false q blank y (line_told H Whole false q 0)) read (line_outer H q blank))
+
+there_by : (H S : List ℕ) (q n : ℕ) (blank newline : Bool) (es : Row AnEntry) (t : State) (x z : Read (Row AnEntry × Bool)) → line_from S Whole blank n ≡ x → z ≡ Ok ((es, newline), t) → Same n blank x z
     → shape_of S (entries_of (blanked_row blank (map (moved_entry n) es))) ≡ shape_of H (entries_of (blanked_row blank (map (moved_entry q) es)))
     → There H S q n blank newline es t
 there_by H S q n blank newline es t (Ok ((gs, ended), v)) z is z_is same shape =
@@ -97,17 +103,17 @@ there_by H S q n blank newline es t (Ok ((gs, ended), v)) z is z_is same shape =
 there_by H S q n blank newline es t (Err f) z is z_is same shape = let moved = rw z_is at same in absurd moved
 
 -- a line of H that stands at n of S, and is read there by itself as it is in H
-pub stands_there : (H S : List ℕ) (q n : ℕ) (blank newline : Bool) (es : Row AnEntry) (t : State) → line_told H true false q 0 ≡ Ok ((es, newline), t) → take t.at (drop n S) ≡ take t.at (drop q H)
-    → line_told S true false n 0 ≡ Ok ((es, newline), t) → There H S q n blank newline es t
+pub stands_there : (H S : List ℕ) (q n : ℕ) (blank newline : Bool) (es : Row AnEntry) (t : State) → line_told H Whole false q 0 ≡ Ok ((es, newline), t) → take t.at (drop n S) ≡ take t.at (drop q H)
+    → line_told S Whole false n 0 ≡ Ok ((es, newline), t) → There H S q n blank newline es t
 stands_there H S q n blank newline es t read same again =
     let within = line_throughout (drop q H) 0 false newline es t read t.at (omega arith) in
     let shape = shape_there S (drop q H) n t.at blank es same within ∙ sym (shape_there H (drop q H) q t.at blank es refl within) in
-    there_by H S q n blank newline es t (line_from S true blank n) (line_told S true false n 0) refl again (line_moved S n blank) shape
+    there_by H S q n blank newline es t (line_from S Whole blank n) (line_told S Whole false n 0) refl again (line_moved S n blank) shape
 
 -- ---- its fault
 
-fault_by : (S : List ℕ) (p q : ℕ) (blank : Bool) (f : Fault) (x y z : Read (Row AnEntry × Bool)) → line_from S true blank (p + q) ≡ x → Same (p + q) blank x z → Same q blank (Err f) y → z ≡ y
-    → line_from S true blank (p + q) ≡ Err (moved_fault p f)
+fault_by : (S : List ℕ) (p q : ℕ) (blank : Bool) (f : Fault) (x y z : Read (Row AnEntry × Bool)) → line_from S Whole blank (p + q) ≡ x → Same (p + q) blank x z → Same q blank (Err f) y → z ≡ y
+    → line_from S Whole blank (p + q) ≡ Err (moved_fault p f)
 fault_by S p q blank f x (Ok y) z is there here same = absurd here
 fault_by S p q blank f (Ok x) (Err g) z is there here same = let moved = rw same at there in absurd moved
 fault_by S p q blank f (Err h) (Err g) z is there here same =
@@ -116,12 +122,12 @@ fault_by S p q blank f (Err h) (Err g) z is there here same =
     is ∙ ap Err (moved ∙ ap (λ (at : ℕ). record { kind = g.kind; at = at }) sum ∙ sym (ap (moved_fault p) here))
 
 -- the same text from there on
-pub told_same : (S H : List ℕ) (n q : ℕ) → drop n S ≡ drop q H → line_told S true false n 0 ≡ line_told H true false q 0
-told_same S H n q same = ap (λ (T : List ℕ). does (the_line false) true (given T 0) (standing 0)) same
+pub told_same : (S H : List ℕ) (n q : ℕ) → drop n S ≡ drop q H → line_told S Whole false n 0 ≡ line_told H Whole false q 0
+told_same S H n q same = ap (λ (T : List ℕ). does (the_line false) Whole (given T 0) (standing 0)) same
 
 -- its fault is the same
-pub fault_there : (H S : List ℕ) (p q : ℕ) (blank : Bool) (f : Fault) → line_from H true blank q ≡ Err f → drop (p + q) S ≡ drop q H → line_from S true blank (p + q) ≡ Err (moved_fault p f)
+pub fault_there : (H S : List ℕ) (p q : ℕ) (blank : Bool) (f : Fault) → line_from H Whole blank q ≡ Err f → drop (p + q) S ≡ drop q H → line_from S Whole blank (p + q) ≡ Err (moved_fault p f)
 fault_there H S p q blank f read same =
-    fault_by S p q blank f (line_from S true blank (p + q)) (line_told H true false q 0) (line_told S true false (p + q) 0) refl (line_moved S (p + q) blank)
-    (subst (λ (y : Read (Row AnEntry × Bool)). Same q blank y (line_told H true false q 0)) read (line_moved H q blank))
+    fault_by S p q blank f (line_from S Whole blank (p + q)) (line_told H Whole false q 0) (line_told S Whole false (p + q) 0) refl (line_moved S (p + q) blank)
+    (subst (λ (y : Read (Row AnEntry × Bool)). Same q blank y (line_told H Whole false q 0)) read (line_moved H q blank))
     (told_same S H (p + q) q same)

@@ -2,6 +2,8 @@
 use Rattle.std.proofs.Common.{◌≡◌, ℕ, zero, suc, ◌+◌, ◌-◌, ◌≤◌, ◌<◌, Bool, true, false, Option, Result, Ok, Err, List, List as Row, [], length, drop, None, Some, refl, sym, ap, subst, ◌∙◌, arith, ⊎_elim}
 use Rattle.std.proofs.lemmas.Bool.{cases_lt}
 use Rattle.std.proofs.lemmas.List.{drop_all}
+use Rattle.shread.specs.declared.keep.Keep.{Keep}
+use Rattle.shread.specs.declared.keep.Keep.TheVariants.{Whole}
 use Rattle.shread.specs.declared.fault.Fault.{Fault}
 use Rattle.shread.specs.declared.token.Next.{Next}
 use Rattle.shread.specs.declared.token.Position.TheVariants.{Command}
@@ -30,7 +32,7 @@ use Rattle.shread.proofs.Holds.{Holds, holds_then, holds_so, Tells, Behind, chan
 abbrev Ended : State → Bool → State → Type 0
 Ended s newline t = newline ≡ true → s.at < t.at
 
-ended_by : (inner : Inner) (keep : Bool) (g : Given) (s : State) (newline end : Bool) (n : Next) → Holds (Ended s) (does (end_by inner newline end n) keep g s)
+ended_by : (inner : Inner) (keep : Keep) (g : Given) (s : State) (newline end : Bool) (n : Next) → Holds (Ended s) (does (end_by inner newline end n) keep g s)
 unfolding nothing_waits
 ended_by inner keep g s true end n = by_change (changed bodies_here g (past s)) (λ t is. omega (arith, behind_low g.text s.at, change_low bodies_here g (past s) t is))
   where
@@ -48,7 +50,7 @@ ended_by inner keep g s false true n = by_waiting (first_waiting s)
 ended_by inner keep g s false false n =
     holds_then (λ w t. Unit {0}) (Ended s) (does (what_is_wrong inner n) keep g s) _ (holds_so (Behind s) (λ w t. Unit {0}) _ (low (what_is_wrong inner n) keep g s).told (λ c t on. tt)) (λ w t so. tt)
 
-end_ended : (inner : Inner) (keep : Bool) (g : Given) (s : State) (n : Next) → Tells keep g (end_of_line inner n) (Ended s) s
+end_ended : (inner : Inner) (keep : Keep) (g : Given) (s : State) (n : Next) → Tells keep g (end_of_line inner n) (Ended s) s
 unfolding end_of_line
 end_ended inner keep g s n = record { told = ended_by inner keep g s (is_newline n.token) (is_end n.token) n }
 
@@ -56,10 +58,10 @@ abbrev LineEnded : State → Row AnEntry × Bool → State → Type 0
 LineEnded s x t = x.1 ≡ true → s.at < t.at
 
 -- what comes behind s comes behind what is before it
-further : (keep : Bool) (g : Given) {X : Type 0} (r : Form X) (s t : State) → s.at ≤ t.at → Tells keep g r (Behind s) t
+further : (keep : Keep) (g : Given) {X : Type 0} (r : Form X) (s t : State) → s.at ≤ t.at → Tells keep g r (Behind s) t
 further keep g r s t on = tells_so keep g (low r keep g t) (λ x u more. omega (arith, on, more))
 
-open_ended_low : (inner : Inner) (blank keep : Bool) (g : Given) (s : State) → Tells keep g (an_open_line inner blank) (LineEnded s) s
+open_ended_low : (inner : Inner) (blank : Bool) (keep : Keep) (g : Given) (s : State) → Tells keep g (an_open_line inner blank) (LineEnded s) s
 unfolding an_open_line
 open_ended_low inner blank keep g s =
     tells_then keep g (further keep g (next_token Command) s s (omega arith))
@@ -67,13 +69,13 @@ open_ended_low inner blank keep g s =
     (λ l u two. tells_then keep g (end_ended inner keep g u l.next)
     (λ newline w more. tells_give keep g (λ e. omega (arith, two, more e)))))
 
-pub line_ended_low : (inner : Inner) (blank keep : Bool) (g : Given) (s : State) → Tells keep g (a_line inner blank) (LineEnded s) s
+pub line_ended_low : (inner : Inner) (blank : Bool) (keep : Keep) (g : Given) (s : State) → Tells keep g (a_line inner blank) (LineEnded s) s
 unfolding a_line
 line_ended_low inner blank keep g s =
     tells_then keep g {P = λ l t. l.0.1 ≡ true → s.at < t.at} (tells_level keep g (open_ended_low inner blank keep g (own_level s)) (λ x t so. so)) (λ l t so. tells_give keep g so)
 
 -- at the end of the text there is none
-nothing : (blank keep : Bool) (o : ℕ) → does (the_line blank) keep (given [] o) (standing 0) ≡ Ok (([], false), standing 0)
+nothing : (blank : Bool) (keep : Keep) (o : ℕ) → does (the_line blank) keep (given [] o) (standing 0) ≡ Ok (([], false), standing 0)
 unfolding a_line an_open_line nothing_waits filled_row next_token on_line many turns turns_below entry_turn a_remark a_comment end_of_line token_at comment_at raw_stands past count_front past_blanks past_continuations count_joined past_below
 nothing blank keep o = refl
 
@@ -85,17 +87,17 @@ clash : {X : Type 0} (es : Row AnEntry) (t u : State) → ◌≡◌ {A = Read (R
 unfolding flag
 clash es t u e = let no : false ≡ true = ap flag e in absurd cc
 
-some_text : (B : List ℕ) (keep blank : Bool) (p : ℕ) (es : Row AnEntry) (t : State) → line_from B keep blank p ≡ Ok ((es, true), t) → p < length B
+some_text : (B : List ℕ) (keep : Keep) (blank : Bool) (p : ℕ) (es : Row AnEntry) (t : State) → line_from B keep blank p ≡ Ok ((es, true), t) → p < length B
 some_text B keep blank p es t is =
     ⊎_elim (λ lt. lt)
     (λ ge. clash es t (standing 0) (sym (nothing blank keep p) ∙ ap (λ T. does (the_line blank) keep (given T p) (standing 0)) (sym (drop_all p B ge)) ∙ is))
     (cases_lt p (length B))
 
-onward : (B : List ℕ) (keep blank : Bool) (p : ℕ) (es : Row AnEntry) (t : State) → line_from B keep blank p ≡ Ok ((es, true), t) → 0 < t.at
+onward : (B : List ℕ) (keep : Keep) (blank : Bool) (p : ℕ) (es : Row AnEntry) (t : State) → line_from B keep blank p ≡ Ok ((es, true), t) → 0 < t.at
 onward B keep blank p es t is = subst (Holds (LineEnded (standing 0))) is (line_ended_low (level most_open) blank keep (given (drop p B) p) (standing 0)).told refl
 
 -- it leaves less of the text
-pub leaves_less : (B : List ℕ) (keep blank : Bool) (p : ℕ) (es : Row AnEntry) (t : State) → line_from B keep blank p ≡ Ok ((es, true), t) → length B - (p + t.at) < length B - p
+pub leaves_less : (B : List ℕ) (keep : Keep) (blank : Bool) (p : ℕ) (es : Row AnEntry) (t : State) → line_from B keep blank p ≡ Ok ((es, true), t) → length B - (p + t.at) < length B - p
 leaves_less B keep blank p es t is = omega (arith, some_text B keep blank p es t is, onward B keep blank p es t is)
 
 -- ---- the lines from a place on
@@ -112,26 +114,26 @@ unfolding script_below
 enough B zero m so p low_n low_m = absurd (omega arith)
 enough B (suc n) zero so p low_n low_m = absurd (omega arith)
 enough B (suc n) (suc m) so p low_n low_m =
-    same_by B (script_below B n) (script_below B m) so p (line_from B true (is_blank_line so) p)
-    (λ es t is. let less = leaves_less B true (is_blank_line so) p es t is in enough B n m (with_line so es) (p + t.at) (omega (arith, less, low_n)) (omega (arith, less, low_m)))
+    same_by B (script_below B n) (script_below B m) so p (line_from B Whole (is_blank_line so) p)
+    (λ es t is. let less = leaves_less B Whole (is_blank_line so) p es t is in enough B n m (with_line so es) (p + t.at) (omega (arith, less, low_n)) (omega (arith, less, low_m)))
 
 -- by what the next line gives, where the first entry of a line may be blank by the flag
 module _ (B : List ℕ) (so : SoFar) (p : ℕ) (blank : Bool) (is_blank : blank ≡ is_blank_line so) where
-  the_next : (x : Read (Row AnEntry × Bool)) → line_from B true blank p ≡ x → line_from B true (is_blank_line so) p ≡ x
-  the_next x is = ap (λ b. line_from B true b p) (sym is_blank) ∙ is
+  the_next : (x : Read (Row AnEntry × Bool)) → line_from B Whole blank p ≡ x → line_from B Whole (is_blank_line so) p ≡ x
+  the_next x is = ap (λ b. line_from B Whole b p) (sym is_blank) ∙ is
 
   -- a line that leads on to what the lines give then
-  pub line_more : (es : Row AnEntry) (t : State) (then : SoFar) → line_from B true blank p ≡ Ok ((es, true), t) → then ≡ with_line so es → script_on B so p ≡ script_on B then (p + t.at)
+  pub line_more : (es : Row AnEntry) (t : State) (then : SoFar) → line_from B Whole blank p ≡ Ok ((es, true), t) → then ≡ with_line so es → script_on B so p ≡ script_on B then (p + t.at)
   unfolding script_on script_below
   line_more es t then is same =
       let here = the_next _ is in
-      let less = leaves_less B true (is_blank_line so) p es t here in
+      let less = leaves_less B Whole (is_blank_line so) p es t here in
       rw here (enough B (length B - p) (suc (length B - (p + t.at))) (with_line so es) (p + t.at) less (omega arith) ∙ ap (λ z. script_below B (suc (length B - (p + t.at))) z (p + t.at)) (sym same))
 
-  pub line_last : (es : Row AnEntry) (t : State) (then : SoFar) → line_from B true blank p ≡ Ok ((es, false), t) → then ≡ with_line so es → script_on B so p ≡ record { entries = entries_of then.entries; wrong = None }
+  pub line_last : (es : Row AnEntry) (t : State) (then : SoFar) → line_from B Whole blank p ≡ Ok ((es, false), t) → then ≡ with_line so es → script_on B so p ≡ record { entries = entries_of then.entries; wrong = None }
   unfolding script_on script_below
   line_last es t then is same = rw (the_next _ is) (ap (λ (z : SoFar). record { entries = entries_of z.entries; wrong = None }) (sym same))
 
-  pub line_faulty : (f : Fault) → line_from B true blank p ≡ Err f → script_on B so p ≡ record { entries = entries_of so.entries; wrong = Some f }
+  pub line_faulty : (f : Fault) → line_from B Whole blank p ≡ Err f → script_on B so p ≡ record { entries = entries_of so.entries; wrong = Some f }
   unfolding script_on script_below
   line_faulty f is = rw (the_next _ is) refl

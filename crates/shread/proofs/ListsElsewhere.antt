@@ -1,6 +1,7 @@
 -- A list that ends by a `)` is read wherever its bytes stand up to that `)`, with the same shape: one term a row.
 use Rattle.std.proofs.Common.{◌+◌, not, ◌&&◌, ◌≡◌, ℕ, ◌≤◌, Bool, true, false, ◌||◌, Ok, Err, List, List as Row, [], ◌∷◌, ◌++◌, drop, map, option_map, Option, Some, None, is_some, refl, sym, ap, subst, ◌∙◌, arith}
 use Rattle.std.proofs.lemmas.List.{map-append}
+use Rattle.shread.specs.declared.keep.Keep.TheVariants.{Whole}
 use Rattle.shread.specs.declared.token.Next.{Next}
 use Rattle.shread.specs.declared.token.Opener.{Opener}
 use Rattle.shread.specs.declared.token.Position.{Position}
@@ -183,7 +184,7 @@ module _ {T U : List ℕ} {a M : ℕ} {to : ℕ → ℕ} {limit : ℕ} (E : List
       hash : (raw_stands T p 35 ≡ true) × (span o p (before_blanks T (next_newline T p)) ≡ c)
       hash = hash_there (raw_stands T p 35) refl c is
 
-      some_there : (x : Read (Option Span × Next)) → does (comment_by n (Some c)) true g s ≡ x → Holds (Back E o o2 B B2 stands stands_there s) x → Holds (Back E o o2 B B2 stands stands_there on) x
+      some_there : (x : Read (Option Span × Next)) → does (comment_by n (Some c)) Whole g s ≡ x → Holds (Back E o o2 B B2 stands stands_there s) x → Holds (Back E o o2 B B2 stands stands_there on) x
           → Holds FoundThere x
       unfolding a_comment
       some_there (Ok (x, t)) at back behind =
@@ -195,16 +196,16 @@ module _ {T U : List ℕ} {a M : ℕ} {to : ℕ → ℕ} {limit : ℕ} (E : List
           ∙ ap (λ (q : ℕ). text_at B2 (span o2 (to p) q)) (sym w.0) in
           let there = comment_is (same_raw_stands E p 35 from (high E here) ∙ hash.0) in
           let m = subst (Holds (Found E o o2 B B2 stands stands_there SameRemark (comment_by n (Some d)) s)) at ((comment_behind n c d text).go s from) e in
-          (m.0, (subst (λ (z : Option Span). does (comment_by n z) true h (to_there s) ≡ Ok (m.0, to_there t)) (sym there) m.1.0, m.1.1))
+          (m.0, (subst (λ (z : Option Span). does (comment_by n z) Whole h (to_there s) ≡ Ok (m.0, to_there t)) (sym there) m.1.0, m.1.1))
         where
           blanks_near : (q : ℕ) → q ≤ M → before_blanks T q ≤ M
           blanks_near q le = omega (arith, le, before_blanks_low T q)
       some_there (Err f) at back behind = tt
 
-    comment_there : (c : Option Span) → comment_at T o p ≡ c → Holds FoundThere (does (comment_by n c) true g s)
+    comment_there : (c : Option Span) → comment_at T o p ≡ c → Holds FoundThere (does (comment_by n c) Whole g s)
     comment_there None is = none_there is
     comment_there (Some c) is =
-        some_there c is (does (comment_by n (Some c)) true g s) refl (good E o o2 B B2 stands stands_there (comment_by n (Some c)) s from).told
+        some_there c is (does (comment_by n (Some c)) Whole g s) refl (good E o o2 B B2 stands stands_there (comment_by n (Some c)) s from).told
         (good E o o2 B B2 stands stands_there (next_token Command >>= λ m. give (Some c, m)) (on c is) (omega (arith, from, move_low a_comment_on T p))).told
 
   comment : (n : Next) → Goes2 SameRemark (a_comment n) (a_comment n)

@@ -4,6 +4,8 @@
 use Rattle.std.proofs.Common.{◌≡◌, ℕ, zero, suc, ◌+◌, ◌-◌, ◌<◌, ◌≤◌, Bool, true, false, cond, Result, Ok, Err, List, List as Row, [], ◌∷◌, ◌++◌, map, length, Option, Some, None, option_map, refl, sym, ap, subst, ◌∙◌, arith}
 use Rattle.std.proofs.lemmas.Bool.{ltb-true}
 use Rattle.std.proofs.lemmas.List.{map-append}
+use Rattle.shread.specs.declared.keep.Keep.{Keep}
+use Rattle.shread.specs.declared.keep.Keep.TheVariants.{Outer, Whole}
 use Rattle.shread.specs.declared.fault.Fault.{Fault}
 use Rattle.shread.specs.declared.fault.FaultKind.{FaultKind}
 use Rattle.shread.specs.declared.fault.FaultKind.TheVariants.{UnexpectedEnd}
@@ -14,7 +16,7 @@ use Rattle.shread.specs.Bytes.{behind}
 use Rattle.shread.specs.Comments.{span, comment_at}
 use Rattle.shread.specs.Sights.{Given, given, State, Waiting, Sight, seen, here, the_byte, the_comment, a_document_waits, Move, one_byte}
 use Rattle.shread.specs.HereDocuments.{rest_of_line, past_line, takes_newline, delimiter_below, delimiter_on, delimiter_from, body_by, bodies_from, state_by, first_waiting, waits, bodies_here, own_level, outer_level}
-use Rattle.shread.specs.Form.{raw, nothing_read, change, with_bytes, a_level, Spelled, Told, Read, ◌▸◌, Form, give, see, move, push, stop, both, when, token, many, ends_as, with_end, ended, ended_by, Step, again, done, leads_on, turns, does, moved}
+use Rattle.shread.specs.Form.{raw, nothing_read, change, with_bytes, a_level, Spelled, Told, Read, ◌▸◌, Form, give, see, move, push, stop, both, when, token, many, ends_as, with_end, ended, ended_by, Step, again, done, leads_on, turns, does, moved, grows}
 use Rattle.shread.specs.Moved.{placed_body, moved_fault, moved_waiting, moved_state}
 use Rattle.shread.specs.Commands.{pick}
 use Rattle.shread.proofs.Turns.{turns_on, turns_rest, turns_done, turns_fault}
@@ -26,12 +28,23 @@ pub record Place : Type 0 where
   pub text : List ℕ
   pub offset : ℕ
   pub base : ℕ
+  -- whether the trees in command substitutions are kept there
+  pub deep : Bool
 
 abbrev pub by_itself : Place → Given
 by_itself z = given z.text z.offset
 
 abbrev pub elsewhere : Place → Given
 elsewhere z = given z.text (z.base + z.offset)
+
+-- what is kept there
+abbrev pub kept : Bool → Keep
+kept true = Whole
+kept false = Outer
+
+pub kept_grows : (deep : Bool) → grows (kept deep) ≡ true
+kept_grows true = refl
+kept_grows false = refl
 
 -- ---- how what is read is moved
 
@@ -66,7 +79,7 @@ Like k c P (Err e) (Err f) = f ≡ moved_fault k e
 
 -- r by itself, and q elsewhere
 pub record Moves (z : Place) {X : Type 0} (c : X → X) (P : X → Type 0) (r q : Form X) : Type 0 where
-  pub like : (s : State) → Like z.base c P (does r true (by_itself z) s) (does q true (elsewhere z) (moved_state z.base s))
+  pub like : (s : State) → Like z.base c P (does r Whole (by_itself z) s) (does q (kept z.deep) (elsewhere z) (moved_state z.base s))
 
 -- ---- the laws
 
@@ -81,7 +94,7 @@ moves_stop = record { like = λ s. refl }
 
 -- more is known than is asked for
 pub moves_so : {z : Place} {X : Type 0} {c : X → X} {P Q : X → Type 0} {r q : Form X} → ((x : X) → P x → Q x) → Moves z c P r q → Moves z c Q r q
-moves_so {z = z} {c = c} {P = P} {Q = Q} {r = r} {q = q} so one = record { like = λ s. by (does r true (by_itself z) s) (does q true (elsewhere z) (moved_state z.base s)) (one.like s) }
+moves_so {z = z} {c = c} {P = P} {Q = Q} {r = r} {q = q} so one = record { like = λ s. by (does r Whole (by_itself z) s) (does q (kept z.deep) (elsewhere z) (moved_state z.base s)) (one.like s) }
   where
     by : (x y : Read _) → Like z.base c P x y → Like z.base c Q x y
     by (Ok (x, s)) (Ok (y, t)) like = (like.0, like.1, so x like.2)
@@ -91,7 +104,7 @@ moves_so {z = z} {c = c} {P = P} {Q = Q} {r = r} {q = q} so one = record { like 
 
 module _ {z : Place} {X Y : Type 0} (c : X → X) (P : X → Type 0) (d : Y → Y) (Q : Y → Type 0) (f h : X → Form Y) (rest : (x : X) → P x → Moves z d Q (f x) (h (c x))) where
   then_like : (x y : Read X) → Like z.base c P x y
-      → Like z.base d Q (x ▸ λ a t. does (f a) true (by_itself z) t) (y ▸ λ b t. does (h b) true (elsewhere z) t)
+      → Like z.base d Q (x ▸ λ a t. does (f a) Whole (by_itself z) t) (y ▸ λ b t. does (h b) (kept z.deep) (elsewhere z) t)
   then_like (Ok (x, s)) (Ok (y, t)) like = rw (like.0, like.1) ((rest x like.2).like s)
   then_like (Ok (x, s)) (Err e) like = absurd like
   then_like (Err e) (Ok (y, t)) like = absurd like
@@ -101,19 +114,19 @@ module _ {z : Place} {X Y : Type 0} (c : X → X) (P : X → Type 0) (d : Y → 
 pub moves_then : {z : Place} {X Y : Type 0} {c : X → X} {P : X → Type 0} {d : Y → Y} {Q : Y → Type 0} {r q : Form X} {f h : X → Form Y} → Moves z c P r q
     → ((x : X) → P x → Moves z d Q (f x) (h (c x))) → Moves z d Q (both r f) (both q h)
 moves_then {z = z} {c = c} {P = P} {d = d} {Q = Q} {r = r} {q = q} {f = f} {h = h} one rest =
-    record { like = λ s. then_like c P d Q f h rest (does r true (by_itself z) s) (does q true (elsewhere z) (moved_state z.base s)) (one.like s) }
+    record { like = λ s. then_like c P d Q f h rest (does r Whole (by_itself z) s) (does q (kept z.deep) (elsewhere z) (moved_state z.base s)) (one.like s) }
 
 -- what is seen tells no offset
 pub moves_see : {z : Place} {V Y : Type 0} {d : Y → Y} {Q : Y → Type 0} {l : Sight V} {f h : V → Form Y} → ((s : State) → seen l (by_itself z) s ≡ seen l (elsewhere z) (moved_state z.base s))
     → ((v : V) → Moves z d Q (f v) (h v)) → Moves z d Q (both (see l) f) (both (see l) h)
 moves_see {z = z} {d = d} {Q = Q} {l = l} {f = f} {h = h} still rest =
-    record { like = λ s. subst (λ v. Like z.base d Q (does (f (seen l (by_itself z) s)) true (by_itself z) s) (does (h v) true (elsewhere z) (moved_state z.base s))) (still s) ((rest (seen l (by_itself z) s)).like s) }
+    record { like = λ s. subst (λ v. Like z.base d Q (does (f (seen l (by_itself z) s)) Whole (by_itself z) s) (does (h v) (kept z.deep) (elsewhere z) (moved_state z.base s))) (still s) ((rest (seen l (by_itself z) s)).like s) }
 
 -- what is seen is moved
 pub moves_seen : {z : Place} {V Y : Type 0} {d : Y → Y} {Q : Y → Type 0} {l : Sight V} {f h : V → Form Y} (c : V → V) → ((s : State) → c (seen l (by_itself z) s) ≡ seen l (elsewhere z) (moved_state z.base s))
     → ((v : V) → Moves z d Q (f v) (h (c v))) → Moves z d Q (both (see l) f) (both (see l) h)
 moves_seen {z = z} {d = d} {Q = Q} {l = l} {f = f} {h = h} c is rest =
-    record { like = λ s. subst (λ v. Like z.base d Q (does (f (seen l (by_itself z) s)) true (by_itself z) s) (does (h v) true (elsewhere z) (moved_state z.base s))) (is s) ((rest (seen l (by_itself z) s)).like s) }
+    record { like = λ s. subst (λ v. Like z.base d Q (does (f (seen l (by_itself z) s)) Whole (by_itself z) s) (does (h v) (kept z.deep) (elsewhere z) (moved_state z.base s))) (is s) ((rest (seen l (by_itself z) s)).like s) }
 
 -- an offset that is seen
 add_all : (k o p : ℕ) → k + (o + p) ≡ k + o + p
@@ -161,12 +174,12 @@ module _ {A : Type 0} (c : A → A) where
       → Moves z d Q (both (push xs x) f) (both (push ys y) h)
   moves_pushed {z = z} {d = d} {Q = Q} {xs = xs} {x = x} {f = f} {h = h} rows is rest =
       let all = map-append c xs (x ∷ []) in
-      record { like = λ s. rw (rows, is, ← all) (rest.like s) }
+      record { like = λ s. rw (kept_grows z.deep, rows, is, ← all) (rest.like s) }
 
   pub moves_push : {z : Place} {P : Row A → Type 0} {xs ys : Row A} {x y : A} → ys ≡ map c xs → y ≡ c x → P (xs ++ x ∷ []) → Moves z (map c) P (push xs x) (push ys y)
-  moves_push {xs = xs} {x = x} rows is so =
+  moves_push {z = z} {xs = xs} {x = x} rows is so =
       let all = map-append c xs (x ∷ []) in
-      record { like = λ s. (rw (rows, is, ← all) refl, refl, so) }
+      record { like = λ s. (rw (kept_grows z.deep, rows, is, ← all) refl, refl, so) }
 
 -- one form, or the other
 pub moves_pick_by : {z : Place} {X : Type 0} {c : X → X} {P : X → Type 0} {r u q v : Form X} (b : Bool) → (b ≡ true → Moves z c P r q) → (b ≡ false → Moves z c P u v) → Moves z c P (pick b r u) (pick b q v)
@@ -195,7 +208,7 @@ token_like k o c P s (Err e) (Err f) like = like
 
 pub moves_token : {z : Place} {X : Type 0} {c : X → X} {P : X → Type 0} {how : Told} {r q : Form X} → Moves z c P r q → Moves z (each c (placed_span z.base)) (of_first P) (token how r) (token how q)
 moves_token {z = z} {c = c} {P = P} {r = r} {q = q} one =
-    record { like = λ s. token_like z.base z.offset c P s (does r true (by_itself z) s) (does q true (elsewhere z) (moved_state z.base s)) (one.like s) }
+    record { like = λ s. token_like z.base z.offset c P s (does r Whole (by_itself z) s) (does q (kept z.deep) (elsewhere z) (moved_state z.base s)) (one.like s) }
 
 bytes_like : {X : Type 0} (T : List ℕ) (k : ℕ) (c : X → X) (P : X → Type 0) (s : State) (x y : Read X) → Like k c P x y
     → Like k (first {Y = Spelled} c) (of_first P) (x ▸ λ a t. Ok ((a, raw T s.at t.at), t)) (y ▸ λ b t. Ok ((b, raw T s.at t.at), t))
@@ -206,7 +219,7 @@ bytes_like T k c P s (Err e) (Err f) like = like
 
 pub moves_with_bytes : {z : Place} {X : Type 0} {c : X → X} {P : X → Type 0} {r q : Form X} → Moves z c P r q → Moves z (first {Y = Spelled} c) (of_first P) (with_bytes r) (with_bytes q)
 moves_with_bytes {z = z} {c = c} {P = P} {r = r} {q = q} one =
-    record { like = λ s. bytes_like z.text z.base c P s (does r true (by_itself z) s) (does q true (elsewhere z) (moved_state z.base s)) (one.like s) }
+    record { like = λ s. bytes_like z.text z.base c P s (does r Whole (by_itself z) s) (does q (kept z.deep) (elsewhere z) (moved_state z.base s)) (one.like s) }
 
 level_like : {X : Type 0} (k : ℕ) (c : X → X) (P : X → Type 0) (s : State) (x y : Read X) → Like k c P x y
     → Like k (each c (map (placed_body k))) (of_first P) (x ▸ λ a t. Ok ((a, t.bodies), outer_level s t)) (y ▸ λ b t. Ok ((b, t.bodies), outer_level (moved_state k s) t))
@@ -218,7 +231,7 @@ level_like k c P s (Err e) (Err f) like = like
 -- a level of its own, and its bodies
 pub moves_level : {z : Place} {X : Type 0} {c : X → X} {P : X → Type 0} {r q : Form X} → Moves z c P r q → Moves z (each c (map (placed_body z.base))) (of_first P) (a_level r) (a_level q)
 moves_level {z = z} {c = c} {P = P} {r = r} {q = q} one =
-    record { like = λ s. level_like z.base c P s (does r true (by_itself z) (own_level s)) (does q true (elsewhere z) (own_level (moved_state z.base s))) (one.like (own_level s)) }
+    record { like = λ s. level_like z.base c P s (does r Whole (by_itself z) (own_level s)) (does q (kept z.deep) (elsewhere z) (own_level (moved_state z.base s))) (one.like (own_level s)) }
 
 ended_moved : (kind : FaultKind) (k at p : ℕ) (what : FaultKind) → ended_by kind (k + at) (k + p) what ≡ moved_fault k (ended_by kind at p what)
 ended_moved kind k at p UnexpectedEnd = refl
@@ -232,7 +245,7 @@ ending_like k c P kind at (Err e) (Err f) like = ap (ended kind (k + at)) like �
 
 pub moves_ending : {z : Place} {X : Type 0} {c : X → X} {P : X → Type 0} {kind : FaultKind} {at : ℕ} {r q : Form X} → Moves z c P r q → Moves z c P (ends_as kind at r) (ends_as kind (z.base + at) q)
 moves_ending {z = z} {c = c} {P = P} {kind = kind} {at = at} {r = r} {q = q} one =
-    record { like = λ s. ending_like z.base c P kind at (does r true (by_itself z) s) (does q true (elsewhere z) (moved_state z.base s)) (one.like s) }
+    record { like = λ s. ending_like z.base c P kind at (does r Whole (by_itself z) s) (does q (kept z.deep) (elsewhere z) (moved_state z.base s)) (one.like s) }
 
 -- ---- turns
 
@@ -244,10 +257,10 @@ module _ {z : Place} {A : Type 0} (c : A → A) (S R : A → Type 0) (turn turn2
   h = elsewhere z
 
   one : A → State → Read (Step A)
-  one a s = does (turn a) true g s
+  one a s = does (turn a) Whole g s
 
   two : A → State → Read (Step A)
-  two a s = does (turn2 a) true h s
+  two a s = does (turn2 a) (kept z.deep) h s
 
   turn_like : (a : A) (s : State) (x y : Read (Step A)) → one a s ≡ x → two (c a) (moved_state z.base s) ≡ y → Like z.base (step c) (of_step R) x y
       → ((b : A) (t : State) → length z.text - t.at < length z.text - s.at → R b → Like z.base c R (turns g one b t) (turns h two (c b) (moved_state z.base t)))
@@ -325,7 +338,7 @@ module _ (T : List ℕ) (k o : ℕ) where
 
 module _ {z : Place} {Y : Type 0} (d : Y → Y) (Q : Y → Type 0) (f h : Unit {0} → Form Y) (rest : Moves z d Q (f tt) (h tt)) where
   change_like : (x y : Bodies) → y ≡ moved_bodies z.base x
-      → Like z.base d Q (nothing_read (state_by x) ▸ λ u t. does (f u) true (by_itself z) t) (nothing_read (state_by y) ▸ λ u t. does (h u) true (elsewhere z) t)
+      → Like z.base d Q (nothing_read (state_by x) ▸ λ u t. does (f u) Whole (by_itself z) t) (nothing_read (state_by y) ▸ λ u t. does (h u) (kept z.deep) (elsewhere z) t)
   change_like (Ok x) y is = rw is (rest.like (record { at = x.1; waiting = []; bodies = x.0 }))
   change_like (Err e) y is = rw is refl
 

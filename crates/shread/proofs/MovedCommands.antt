@@ -45,10 +45,13 @@ module _ (z : Place) where
   abbrev k : ℕ
   k = z.base
 
+  abbrev deep : Bool
+  deep = z.deep
+
   -- ---- items
 
   abbrev pub items_to : Items → Items
-  items_to i = so_many (map (item_to k) i.items) i.place i.next
+  items_to i = so_many (map (item_to k deep) i.items) i.place i.next
 
   abbrev pub SomeItems : Items → Type 0
   SomeItems i = is_empty i.items ≡ false
@@ -61,12 +64,12 @@ module _ (z : Place) where
   some_begun i some = ap (λ e. not e || begins_simple i.next.token) some
 
   breaks_to : (i : Items) → breaks (items_to i) ≡ breaks i
-  breaks_to i = ap (λ e. not e && i.next.broken) (is_empty_map (item_to k) i.items)
+  breaks_to i = ap (λ e. not e && i.next.broken) (is_empty_map (item_to k deep) i.items)
 
-  as_item_to : (b c : Bool) → b ≡ c → (position : Position) (w : AWord) → item b (as_item position (word_to k w)) ≡ item_to k (item c (as_item position w))
-  as_item_to b c is Prefix w = ap (λ e. item e (assign (word_to k w))) is
-  as_item_to b c is Command w = ap (λ e. item e (argument (word_to k w))) is
-  as_item_to b c is Suffix w = ap (λ e. item e (argument (word_to k w))) is
+  as_item_to : (b c : Bool) → b ≡ c → (position : Position) (w : AWord) → item b (as_item position (word_to k deep w)) ≡ item_to k deep (item c (as_item position w))
+  as_item_to b c is Prefix w = ap (λ e. item e (assign (word_to k deep w))) is
+  as_item_to b c is Command w = ap (λ e. item e (argument (word_to k deep w))) is
+  as_item_to b c is Suffix w = ap (λ e. item e (argument (word_to k deep w))) is
 
   -- ---- newlines, `;`, and joins
 
@@ -132,29 +135,29 @@ module _ (z : Place) where
   moves_document o b p bytes = moves_pick _ (moves_document_by b p (is_strip o) (delimiter_of bytes)) (moves_give refl tt)
 
   moves_document_at : (o : RedirectOperator × Span) (w : AWord × Spelled)
-      → Moves z (option_map (here_to k)) Any (a_document o.0 o.1.start (word_span w.0).start w.1) (a_document o.0 (k + o.1.start) (word_span (word_to k w.0)).start w.1)
+      → Moves z (option_map (here_to k)) Any (a_document o.0 o.1.start (word_span w.0).start w.1) (a_document o.0 (k + o.1.start) (word_span (word_to k deep w.0)).start w.1)
   moves_document_at o w =
-      subst (λ (s : Span). Moves z (option_map (here_to k)) Any (a_document o.0 o.1.start (word_span w.0).start w.1) (a_document o.0 (k + o.1.start) s.start w.1)) (sym (word_span_to k w.0))
+      subst (λ (s : Span). Moves z (option_map (here_to k)) Any (a_document o.0 o.1.start (word_span w.0).start w.1) (a_document o.0 (k + o.1.start) s.start w.1)) (sym (word_span_to k deep w.0))
       (moves_document o.0 o.1.start (word_span w.0).start w.1)
 
   module _ (inner : Inner) (fits : Fits z inner) where
-    moves_target : Moves z (first {Y = Spelled} (word_to k)) Any (a_target inner) (a_target inner)
+    moves_target : Moves z (first {Y = Spelled} (word_to k deep)) Any (a_target inner) (a_target inner)
     unfolding a_target
     moves_target = moves_then (moves_next z _) (λ n so. moves_pick _ (moves_with_bytes (moves_word z inner fits)) (moves_unexpected z inner fits n))
 
     moves_redirect : (broken there : Bool) → there ≡ broken → (position : Position) (is : Row AnItem) (n : Next)
-        → Moves z (step items_to) (of_step SomeItems) (one_redirect inner broken position is n) (one_redirect inner there position (map (item_to k) is) n)
+        → Moves z (step items_to) (of_step SomeItems) (one_redirect inner broken position is n) (one_redirect inner there position (map (item_to k deep) is) n)
     unfolding one_redirect
     moves_redirect broken there same_broken position is n =
         moves_here (λ p. moves_then (moves_number n) (λ d so. moves_then (moves_operator_by p (redirect_operator_of d.1.token)) (λ o all. moves_then moves_target (λ w all2. moves_then (moves_document_at o w)
-        (λ h all3. moves_pushed (item_to k) refl (ap (λ (e : Bool). item e (redirect (option_map (span_to k) d.0) o.0 (span_to k o.1) (word_to k w.0) (option_map (here_to k) h))) same_broken) (moves_then (moves_next z position) (λ m all4. moves_give refl (pushed_some is _))))))))
+        (λ h all3. moves_pushed (item_to k deep) refl (ap (λ (e : Bool). item e (redirect (option_map (span_to k) d.0) o.0 (span_to k o.1) (word_to k deep w.0) (option_map (here_to k) h))) same_broken) (moves_then (moves_next z position) (λ m all4. moves_give refl (pushed_some is _))))))))
 
     -- ---- simple commands
 
     pub moves_item : (i : Items) (position : Position) → Moves z (step items_to) (of_step SomeItems) (an_item inner i position) (an_item inner (items_to i) position)
     unfolding an_item
     moves_item i position =
-        moves_then (moves_word z inner fits) (λ w so. moves_pushed (item_to k) refl (as_item_to (breaks (items_to i)) (breaks i) (breaks_to i) position w)
+        moves_then (moves_word z inner fits) (λ w so. moves_pushed (item_to k deep) refl (as_item_to (breaks (items_to i)) (breaks i) (breaks_to i) position w)
         (moves_then (moves_next z position) (λ n all. moves_give refl (pushed_some i.items _))))
 
     moves_item_by : (i : Items) → Begun i → (o : Option Position) → behind_word i.next.token ≡ o → Moves z (step items_to) (of_step SomeItems) (item_by inner i o) (item_by inner (items_to i) o)
@@ -167,11 +170,11 @@ module _ (z : Place) where
     unfolding item_turn
     moves_item_turn i begun = moves_item_by i begun (behind_word i.next.token) refl
 
-    moves_simple : (i : Items) → Begun i → Moves z (first {Y = Next} (command_to k)) (of_first (CommandEnds k)) (a_simple inner i) (a_simple inner (items_to i))
+    moves_simple : (i : Items) → Begun i → Moves z (first {Y = Next} (command_to k deep)) (of_first (CommandEnds k deep)) (a_simple inner i) (a_simple inner (items_to i))
     unfolding a_simple
     moves_simple i begun =
         moves_then (moves_many items_to Begun SomeItems (item_turn inner) (item_turn inner) moves_item_turn some_begun i begun)
-        (λ j some. moves_give (ap (λ is. (simple is, j.next)) (items_row k j.items)) (simple_ends k j.items some))
+        (λ j some. moves_give (ap (λ is. (simple is, j.next)) (items_row k deep j.items)) (simple_ends k deep j.items some))
 
     -- ---- compound commands with their redirections, functions
 
@@ -179,28 +182,28 @@ module _ (z : Place) where
     unfolding redirect_turn
     moves_redirect_turn i = moves_pick _ (moves_so (of_any SomeItems) (moves_redirect i.next.broken i.next.broken refl Command i.items i.next)) (moves_give refl tt)
 
-    moves_redirected : (c : ACommand × Next) → CommandEnds k c.0 → Moves z (first {Y = Next} (command_to k)) (of_first (CommandEnds k)) (redirected inner c) (redirected inner (first (command_to k) c))
+    moves_redirected : (c : ACommand × Next) → CommandEnds k deep c.0 → Moves z (first {Y = Next} (command_to k deep)) (of_first (CommandEnds k deep)) (redirected inner c) (redirected inner (first (command_to k deep) c))
     unfolding redirected
     moves_redirected c ends =
         moves_then (moves_many items_to Any Any (redirect_turn inner) (redirect_turn inner) (λ i so. moves_redirect_turn i) (λ i so. tt) (so_many [] Command c.1) tt)
-        (λ r so. moves_give (ap (λ is. (with_redirects (command_to k c.0) is, r.next)) (items_row k r.items) ∙ ap (λ (d : ACommand). (d, r.next)) (redirects_to k c.0 (items_of r.items))) (redirects_end k c.0 (items_of r.items) ends))
+        (λ r so. moves_give (ap (λ is. (with_redirects (command_to k deep c.0) is, r.next)) (items_row k deep r.items) ∙ ap (λ (d : ACommand). (d, r.next)) (redirects_to k deep c.0 (items_of r.items))) (redirects_end k deep c.0 (items_of r.items) ends))
 
-    pub moves_compound_by : (n : Next) (o : Option Opener) → Moves z (first {Y = Next} (command_to k)) (of_first (CommandEnds k)) (compound_by inner n o) (compound_by inner n o)
+    pub moves_compound_by : (n : Next) (o : Option Opener) → Moves z (first {Y = Next} (command_to k deep)) (of_first (CommandEnds k deep)) (compound_by inner n o) (compound_by inner n o)
     moves_compound_by n (Some o) = moves_then (fits.compound o) (λ c ends. moves_redirected c ends)
     moves_compound_by n None = moves_unexpected z inner fits n
 
-    moves_named : (good : Bool) (w : AWord) → Moves z (first {Y = Next} (command_to k)) (of_first (CommandEnds k)) (named inner good (word_span w)) (named inner good (word_span (word_to k w)))
+    moves_named : (good : Bool) (w : AWord) → Moves z (first {Y = Next} (command_to k deep)) (of_first (CommandEnds k deep)) (named inner good (word_span w)) (named inner good (word_span (word_to k deep w)))
     moves_named good w =
-        subst (λ (s : Span). Moves z (first {Y = Next} (command_to k)) (of_first (CommandEnds k)) (named inner good (word_span w)) (named inner good s)) (sym (word_span_to k w))
+        subst (λ (s : Span). Moves z (first {Y = Next} (command_to k deep)) (of_first (CommandEnds k deep)) (named inner good (word_span w)) (named inner good s)) (sym (word_span_to k deep w))
         (moves_pick good (fits.function (word_span w)) moves_stop)
 
-    moves_worded : Moves z (first {Y = Next} (command_to k)) (of_first (CommandEnds k)) (a_worded inner) (a_worded inner)
+    moves_worded : Moves z (first {Y = Next} (command_to k deep)) (of_first (CommandEnds k deep)) (a_worded inner) (a_worded inner)
     unfolding a_worded
     moves_worded =
         moves_see (λ s. refl) (λ good. moves_then (moves_word z inner fits) (λ w so. moves_then (moves_next z _) (λ n all.
-        moves_pick _ (moves_named good w) (moves_pushed (item_to k) refl refl (moves_simple (so_many (item false (argument w) ∷ []) Suffix n) refl)))))
+        moves_pick _ (moves_named good w) (moves_pushed (item_to k deep) refl refl (moves_simple (so_many (item false (argument w) ∷ []) Suffix n) refl)))))
 
-    moves_command : (n : Next) → Moves z (first {Y = Next} (command_to k)) (of_first (CommandEnds k)) (a_command inner n) (a_command inner n)
+    moves_command : (n : Next) → Moves z (first {Y = Next} (command_to k deep)) (of_first (CommandEnds k deep)) (a_command inner n) (a_command inner n)
     unfolding a_command
     moves_command n = moves_pick _ moves_worded (moves_pick_by _ (λ e. moves_simple (so_many [] Command n) e) (λ e. moves_compound_by n (opener_of n.token)))
 
@@ -211,41 +214,41 @@ module _ (z : Place) where
     moves_bang n = moves_pick _ (moves_then (moves_mark z) (λ x so. moves_then (moves_next z _) (λ m all. moves_give refl tt))) (moves_give refl tt)
 
     abbrev piped_to : Piped → Piped
-    piped_to p = piped (map (pipe_to k) p.parts) p.next
+    piped_to p = piped (map (pipe_to k deep) p.parts) p.next
 
     abbrev PipedEnd : Piped → Type 0
-    PipedEnd p = All (PipeEnds k) p.parts
+    PipedEnd p = All (PipeEnds k deep) p.parts
 
     moves_one_command : (p : Piped) → PipedEnd p → Moves z (step piped_to) (of_step PipedEnd) (one_command inner p) (one_command inner (piped_to p))
     unfolding one_command
     moves_one_command p all =
         moves_then (moves_mark z) (λ x so. moves_then (moves_join p.next.broken) (λ j so2. moves_then (moves_command j.1)
-        (λ c ends. moves_pushed (pipe_to k) refl refl (moves_give refl (All-push (PipeEnds k) p.parts (record { join = j.0; command = c.0 }) all ends)))))
+        (λ c ends. moves_pushed (pipe_to k deep) refl refl (moves_give refl (All-push (PipeEnds k deep) p.parts (record { join = j.0; command = c.0 }) all ends)))))
 
     moves_pipe_turn : (p : Piped) → PipedEnd p → Moves z (step piped_to) (of_step PipedEnd) (pipe_turn inner p) (pipe_turn inner (piped_to p))
     unfolding pipe_turn
     moves_pipe_turn p all = moves_pick _ (moves_one_command p all) (moves_give refl all)
 
-    moves_pipeline : (n : Next) → Moves z (first {Y = Next} (pipeline_to k)) (of_first (PipelineEnds k)) (a_pipeline inner n) (a_pipeline inner n)
+    moves_pipeline : (n : Next) → Moves z (first {Y = Next} (pipeline_to k deep)) (of_first (PipelineEnds k deep)) (a_pipeline inner n) (a_pipeline inner n)
     unfolding a_pipeline
     moves_pipeline n =
         moves_then (moves_bang n) (λ b so. moves_then (moves_command b.1)
-        (λ c ends. moves_then (moves_many piped_to PipedEnd PipedEnd (pipe_turn inner) (pipe_turn inner) moves_pipe_turn (λ p all. all) (piped [] c.1) (All-nil (PipeEnds k)))
-        (λ p all. moves_give (ap (λ ps. (pipeline (option_map (span_to k) b.0) (command_to k c.0) ps, p.next)) (pipes_row k p.parts)) (pipeline_ends k b.0 c.0 p.parts ends all))))
+        (λ c ends. moves_then (moves_many piped_to PipedEnd PipedEnd (pipe_turn inner) (pipe_turn inner) moves_pipe_turn (λ p all. all) (piped [] c.1) (All-nil (PipeEnds k deep)))
+        (λ p all. moves_give (ap (λ ps. (pipeline (option_map (span_to k) b.0) (command_to k deep c.0) ps, p.next)) (pipes_row k deep p.parts)) (pipeline_ends k deep b.0 c.0 p.parts ends all))))
 
     -- ---- and-or lists
 
     abbrev joined_to : Joined → Joined
-    joined_to a = joined_so (map (part_to k) a.parts) a.next
+    joined_to a = joined_so (map (part_to k deep) a.parts) a.next
 
     abbrev JoinedEnd : Joined → Type 0
-    JoinedEnd a = All (PartEnds k) a.parts
+    JoinedEnd a = All (PartEnds k deep) a.parts
 
     moves_one_pipeline : (a : Joined) (o : AndOrOperator) → JoinedEnd a → Moves z (step joined_to) (of_step JoinedEnd) (one_pipeline inner a o) (one_pipeline inner (joined_to a) o)
     unfolding one_pipeline
     moves_one_pipeline a o all =
         moves_then (moves_token (moves_on moves_move)) (λ x so. moves_then (moves_join a.next.broken) (λ j so2. moves_then (moves_pipeline j.1)
-        (λ p ends. moves_pushed (part_to k) refl refl (moves_give refl (All-push (PartEnds k) a.parts (record { operator = o; join = j.0; pipeline = p.0 }) all ends)))))
+        (λ p ends. moves_pushed (part_to k deep) refl refl (moves_give refl (All-push (PartEnds k deep) a.parts (record { operator = o; join = j.0; pipeline = p.0 }) all ends)))))
 
     moves_joined_by : (a : Joined) (o : Option AndOrOperator) → JoinedEnd a → Moves z (step joined_to) (of_step JoinedEnd) (joined_by inner a o) (joined_by inner (joined_to a) o)
     moves_joined_by a (Some o) all = moves_one_pipeline a o all
@@ -255,12 +258,12 @@ module _ (z : Place) where
     unfolding join_pipeline
     moves_join_pipeline a all = moves_joined_by a (and_or_operator_of a.next.token) all
 
-    pub moves_and_or : (n : Next) → Moves z (first {Y = Next} (and_or_to k)) (of_first (AndOrEnds k)) (an_and_or inner n) (an_and_or inner n)
+    pub moves_and_or : (n : Next) → Moves z (first {Y = Next} (and_or_to k deep)) (of_first (AndOrEnds k deep)) (an_and_or inner n) (an_and_or inner n)
     unfolding an_and_or
     moves_and_or n =
         moves_then (moves_pipeline n)
-        (λ p ends. moves_then (moves_many joined_to JoinedEnd JoinedEnd (join_pipeline inner) (join_pipeline inner) moves_join_pipeline (λ a all. all) (joined_so [] p.1) (All-nil (PartEnds k)))
-        (λ a all. moves_give (ap (λ ps. (and_or (pipeline_to k p.0) ps, a.next)) (parts_row k a.parts)) (and_or_ends k p.0 a.parts ends all)))
+        (λ p ends. moves_then (moves_many joined_to JoinedEnd JoinedEnd (join_pipeline inner) (join_pipeline inner) moves_join_pipeline (λ a all. all) (joined_so [] p.1) (All-nil (PartEnds k deep)))
+        (λ a all. moves_give (ap (λ ps. (and_or (pipeline_to k deep p.0) ps, a.next)) (parts_row k deep a.parts)) (and_or_ends k deep p.0 a.parts ends all)))
 
   -- ---- what parts entries
 

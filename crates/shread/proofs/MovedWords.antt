@@ -1,9 +1,10 @@
 -- Words and simple commands elsewhere: what they are there is what they are by themselves, moved.
-use Rattle.std.proofs.Common.{◌≡◌, ℕ, ◌+◌, Bool, true, false, not, List as Row, [], map, Option, Some, None, option_map, refl, ap}
+use Rattle.std.proofs.Common.{◌≡◌, ℕ, ◌+◌, Bool, true, false, not, List as Row, [], Option, Some, None, option_map, refl, ap, subst}
 use Rattle.shtree.specs.declared.tree.Span.{Span}
 use Rattle.shtree.specs.Tree.{ASubst, word}
 use Rattle.shread.specs.declared.fault.FaultKind.{FaultKind}
 use Rattle.shread.specs.declared.mode.Mode.{Mode}
+use Rattle.shread.specs.declared.mode.Mode.TheVariants.{Plain}
 use Rattle.shread.specs.declared.mode.Piece.{Piece}
 use Rattle.shread.specs.declared.mode.Piece.TheVariants as pieces
 use Rattle.shread.specs.declared.token.Next.{Next}
@@ -15,11 +16,14 @@ use Rattle.shread.specs.Words.{single, backquote_turn, backquoted, Inner, Held, 
 use Rattle.shread.specs.Tokens.{is_end}
 use Rattle.shread.specs.Commands.{next_token, comment_by, a_comment, wrong_with, what_is_wrong, unexpected}
 use Rattle.shread.proofs.Moved.{Place, Any, same, each, first, of_first, step, of_step, Moves, moves_give, moves_move, moves_stop, moves_then, moves_see, moves_here, moves_byte, moves_see_comment, moves_see_waiting, moves_on, moves_pick, moves_when, moves_token, moves_many}
-use Rattle.shread.proofs.MovedTrees.{span_to, offset_to, word_to, subst_to, command_to, substs_row, CommandEnds}
+use Rattle.shread.proofs.MovedTrees.{span_to, offset_to, word_to, command_to, substs_row, CommandEnds, kept_none, substs_to}
 
 module _ (z : Place) where
   abbrev k : ℕ
   k = z.base
+
+  abbrev deep : Bool
+  deep = z.deep
 
   -- ---- text that is not read
 
@@ -65,13 +69,13 @@ module _ (z : Place) where
   -- ---- words, where what may be opened moves
 
   pub record Fits (inner : Inner) : Type 0 where
-    pub construct : (mode : Mode) (b : ℕ) (ss : Row ASubst) → Moves z (map (subst_to k)) Any (inner.construct mode b ss) (inner.construct mode (k + b) (map (subst_to k) ss))
-    pub substitution : (b : ℕ) (ss : Row ASubst) → Moves z (map (subst_to k)) Any (inner.substitution b ss) (inner.substitution (k + b) (map (subst_to k) ss))
-    pub compound : (o : Opener) → Moves z (first {Y = Next} (command_to k)) (of_first (CommandEnds k)) (inner.compound o) (inner.compound o)
-    pub function : (name : Span) → Moves z (first {Y = Next} (command_to k)) (of_first (CommandEnds k)) (inner.function name) (inner.function (span_to k name))
+    pub construct : (mode : Mode) (b : ℕ) (ss : Row ASubst) → Moves z (substs_to k deep) Any (inner.construct mode b ss) (inner.construct mode (k + b) (substs_to k deep ss))
+    pub substitution : (b : ℕ) (ss : Row ASubst) → Moves z (substs_to k deep) Any (inner.substitution b ss) (inner.substitution (k + b) (substs_to k deep ss))
+    pub compound : (o : Opener) → Moves z (first {Y = Next} (command_to k deep)) (of_first (CommandEnds k deep)) (inner.compound o) (inner.compound o)
+    pub function : (name : Span) → Moves z (first {Y = Next} (command_to k deep)) (of_first (CommandEnds k deep)) (inner.function name) (inner.function (span_to k name))
 
   abbrev held_to : Held → Held
-  held_to h = having h.nested (map (subst_to k) h.substs)
+  held_to h = having h.nested (substs_to k deep h.substs)
 
   module _ (inner : Inner) (fits : Fits inner) where
     moves_opened : (mode : Mode) (b : ℕ) (h : Held) → Moves z (step held_to) (of_step Any) (opened inner mode b h) (opened inner mode (k + b) (held_to h))
@@ -98,13 +102,16 @@ module _ (z : Place) where
     unfolding a_piece
     moves_piece mode b h = moves_see (λ s. refl) (λ piece. moves_piece_by mode b h piece)
 
-    pub moves_contents : (mode : Mode) (b : ℕ) (ss : Row ASubst) → Moves z (map (subst_to k)) Any (contents inner mode b ss) (contents inner mode (k + b) (map (subst_to k) ss))
+    pub moves_contents : (mode : Mode) (b : ℕ) (ss : Row ASubst) → Moves z (substs_to k deep) Any (contents inner mode b ss) (contents inner mode (k + b) (substs_to k deep ss))
     unfolding contents
     moves_contents mode b ss = moves_then (moves_many held_to Any Any (a_piece inner mode b) (a_piece inner mode (k + b)) (λ h so. moves_piece mode b h) (λ h so. tt) (having 0 ss) tt) (λ h so. moves_give refl tt)
 
-    pub moves_word : Moves z (word_to k) Any (a_word inner) (a_word inner)
+    pub moves_word : Moves z (word_to k deep) Any (a_word inner) (a_word inner)
     unfolding a_word
-    moves_word = moves_here (λ p. moves_then (moves_token (moves_contents _ p [])) (λ x so. moves_give (ap (word (span_to k x.1)) (substs_row k x.0)) tt))
+    moves_word = moves_here (λ p. moves_then (moves_token (from_none p)) (λ x so. moves_give (ap (word (span_to k x.1)) (substs_row k deep x.0)) tt))
+      where
+        from_none : (p : ℕ) → Moves z (substs_to k deep) Any (contents inner Plain p []) (contents inner Plain (k + p) [])
+        from_none p = subst (λ (ss : Row ASubst). Moves z (substs_to k deep) Any (contents inner Plain p []) (contents inner Plain (k + p) ss)) (kept_none deep) (moves_contents Plain p [])
 
     -- ---- what is unexpected
 

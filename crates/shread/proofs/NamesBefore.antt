@@ -4,6 +4,7 @@ use Rattle.std.proofs.lemmas.Bool.{and_parts, both_ways, cases_Bool}
 use Rattle.std.proofs.lemmas.Bool.Decides.{nat_tests}
 use Rattle.std.proofs.lemmas.List.{take_at}
 use Rattle.std.proofs.lemmas.Option.{slice_get_within}
+use Rattle.shread.specs.declared.keep.Keep.TheVariants.{Whole}
 use Rattle.shread.specs.declared.mode.Mode.TheVariants.{Plain}
 use Rattle.shread.specs.declared.token.Position.TheVariants.{Command}
 use Rattle.shread.specs.declared.token.Reserved.{Reserved}
@@ -53,17 +54,17 @@ byte_in test T r e = passed_byte test (byte_at T r) e
 
 module _ (room : ℕ) (T : List ℕ) (o opener : ℕ) where
   -- a byte of a NAME is a piece
-  name_turn : (r b : ℕ) (c : Held) → byte_at T r ≡ Some b → is_name b ≡ true → does (a_piece (level room) Plain opener c) true (given T o) (standing r) ≡ Ok (again c, standing (behind T r))
+  name_turn : (r b : ℕ) (c : Held) → byte_at T r ≡ Some b → is_name b ≡ true → does (a_piece (level room) Plain opener c) Whole (given T o) (standing r) ≡ Ok (again c, standing (behind T r))
   unfolding a_piece piece_at
   name_turn r b c is_b e = rw (is_b, ordinary_by T r Plain c.nested b (name_plain b e)) refl
 
-  end_turn : (r : ℕ) (c : Held) → ends_word T r ≡ true → does (a_piece (level room) Plain opener c) true (given T o) (standing r) ≡ Ok (done c, standing r)
+  end_turn : (r : ℕ) (c : Held) → ends_word T r ≡ true → does (a_piece (level room) Plain opener c) Whole (given T o) (standing r) ≡ Ok (done c, standing r)
   unfolding a_piece piece_at ends_word
   end_turn r c e = rw (closer_at T r c.nested (byte_at T r) e) refl
 
   -- up to where the NAME ends
   names_on : (n r : ℕ) (c : Held) → length T - r < n → ends_word T (past is_name T r) ≡ true
-      → does (many (a_piece (level room) Plain opener) c) true (given T o) (standing r) ≡ Ok (c, standing (past is_name T r))
+      → does (many (a_piece (level room) Plain opener) c) Whole (given T o) (standing r) ≡ Ok (c, standing (past is_name T r))
   names_on zero r c few e = absurd (omega arith)
   names_on (suc n) r c few e =
       ⊎_elim
@@ -71,16 +72,16 @@ module _ (room : ℕ) (T : List ℕ) (o opener : ℕ) where
       let b = byte_in is_name T r f in
       let inside = stands_in_low is_name T r f in
       let high : behind T r ≤ length T = omega (arith, inside, behind_is T r) in
-      many_again (a_piece (level room) Plain opener) true (given T o) c c (standing r) (standing (behind T r)) (name_turn r b.0 c b.1 b.2) (behind_low T r) high
+      many_again (a_piece (level room) Plain opener) Whole (given T o) c c (standing r) (standing (behind T r)) (name_turn r b.0 c b.1 b.2) (behind_low T r) high
       ∙ names_on n (behind T r) c (omega (arith, few, high, behind_low T r)) (subst (λ q. ends_word T q ≡ true) more e)
       ∙ ap (λ (q : ℕ). Ok (c, standing q)) (sym more))
       (λ (f : stands_in is_name T r ≡ false). let none = past_none is_name T r f in
-      many_done (a_piece (level room) Plain opener) true (given T o) c c (standing r) (standing r) (end_turn r c (subst (λ q. ends_word T q ≡ true) none e))
+      many_done (a_piece (level room) Plain opener) Whole (given T o) c c (standing r) (standing r) (end_turn r c (subst (λ q. ends_word T q ≡ true) none e))
       ∙ ap (λ (q : ℕ). Ok (c, standing q)) (sym none))
       (cases_Bool (stands_in is_name T r))
 
 name_is_word : (room : ℕ) (T : List ℕ) (o p : ℕ) → ends_word T (past is_name T p) ≡ true
-    → does (a_word (level room)) true (given T o) (standing p) ≡ Ok (word (span o p (past is_name T p)) no_subst, standing (past is_name T p))
+    → does (a_word (level room)) Whole (given T o) (standing p) ≡ Ok (word (span o p (past is_name T p)) no_subst, standing (past is_name T p))
 unfolding a_word contents
 name_is_word room T o p e = rw (names_on room T o (o + p) (suc (length T - p)) p (having 0 []) (omega arith) e) refl
 
@@ -313,7 +314,7 @@ module _ (room : ℕ) (g : Given) (p n : ℕ) (read : IsWord room g p n) (still 
     end_there : past is_name U q ≡ q + n
     end_there = ap (past is_name U) (sym begin_is) ∙ past_name ∙ limit_is
 
-    word_there : (o : ℕ) → does (a_word (level room)) true (given U o) (standing q) ≡ Ok (word (span o q (q + n)) no_subst, standing (q + n))
+    word_there : (o : ℕ) → does (a_word (level room)) Whole (given U o) (standing q) ≡ Ok (word (span o q (q + n)) no_subst, standing (q + n))
     word_there o = name_is_word room U o q ends_there ∙ ap (λ (x : ℕ). Ok (word (span o q x) no_subst, standing x)) end_there
 
     text_there : (o : ℕ) (C : List ℕ) → U ≡ drop o C → text_at C (span o q (q + n)) ≡ w

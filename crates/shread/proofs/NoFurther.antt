@@ -2,6 +2,7 @@
 use Rattle.std.proofs.Common.{◌≡◌, ℕ, ◌+◌, ◌-◌, ◌≤◌, ◌<◌, true, false, ltb, Ok, Err, List, List as Row, [], ◌∷◌, length, refl, sym, ap, subst, ◌∙◌, arith, ⊎_elim}
 use Rattle.std.proofs.lemmas.Bool.{ltb-true, lt-ltb, cases_lt, cases_Bool}
 use Rattle.std.proofs.lemmas.Option.{slice_get_within}
+use Rattle.shread.specs.declared.keep.Keep.TheVariants.{Whole}
 use Rattle.shread.specs.declared.fault.FaultKind.{FaultKind}
 use Rattle.shread.specs.declared.mode.Mode.{Mode}
 use Rattle.shread.specs.declared.mode.Mode.TheVariants.{Plain, Double, Brace, DoubleBrace, Arith}
@@ -10,7 +11,7 @@ use Rattle.shtree.specs.Shape.{bare}
 use Rattle.shread.specs.Comments.{span}
 use Rattle.shread.specs.Sights.{Given, given, State, Sight, here, the_byte, the_piece, the_rest, the_end, a_backquote, last_backslash, the_token, the_comment, is_a_name, a_document_waits, seen}
 use Rattle.shread.specs.HereDocuments.{Change, changed, own_level}
-use Rattle.shread.specs.Form.{change, with_bytes, a_level, Changed, changes, cannot, WithBytes, with_its_bytes, without_bytes, OwnLevel, level_read, level_stops, Spelled, Told, untold, as_it_stands, bared, by, tell, Read, Form, give, see, move, push, stop, both, when, token, loop, ends_as, Step, again, done, Just, just, Halts, halted, Then, and_then, or_stops, holds, fails, raw, OneToken, whole, broken_off, leads_on, Turns, last, rests, more, halts, Ending, goes_through, stops_inside, moved, may}
+use Rattle.shread.specs.Form.{change, with_bytes, a_level, Changed, changes, cannot, WithBytes, with_its_bytes, without_bytes, OwnLevel, level_read, level_stops, Spelled, Told, untold, as_it_stands, bared, by, tell, Read, Form, give, see, move, push, stop, both, when, token, loop, ends_as, Step, again, done, Just, just, Halts, halted, Then, and_then, or_stops, holds, fails, raw, OneToken, whole, broken_off, leads_on, Turns, last, rests, more, halts, Ending, goes_through, stops_inside, moved, may, in_substitution}
 use Rattle.shread.proofs.OneOutcome.{is}
 use Rattle.shread.proofs.Holds.{Holds, Behind, low}
 use Rattle.shread.proofs.Ahead.{ListEnds, same_name, same_place, same_next}
@@ -19,7 +20,7 @@ use Rattle.shread.proofs.Asked.{Good, NoBracket, newline_near, high, on, moves, 
 
 -- what may be read is not before where it begins
 pub behind : {X : Type 0} (r : Form X) (g : Given) (s : State) (y : Read X) (k : Row Spelled) → may r g s y k → Holds (Behind s) y
-behind r g s y k part = subst (Holds (Behind s)) (sym ((is r g s).only y k part)) (low r true g s).told
+behind r g s y k part = subst (Holds (Behind s)) (sym ((is r g s).only y k part)) (low r Whole g s).told
 
 -- two that say the same of less
 pub less_same : (x y z w : ℕ) → (x < y → z < w) → (z < w → x < y) → ltb z w ≡ ltb x y
@@ -189,3 +190,4 @@ module _ {T U : List ℕ} {a M : ℕ} {to : ℕ → ℕ} (E : ListEnds T U a M t
   back (change c) s from y k part = change_back c s from y k part
   back (with_bytes r) s from y k part = bytes_back r s (back r s from) from y k part
   back (a_level r) s from y k part = level_back r s (back r (own_level s) from) y k part
+  back (in_substitution r) s from y k part = back r s from y k part

@@ -1,13 +1,14 @@
 -- Each form has one outcome, the one that is computed: one induction, for every row of the grammar.
 use Rattle.std.proofs.Common.{◌≡◌, ℕ, zero, suc, ◌-◌, ◌<◌, Bool, true, false, cond, Result, Ok, Err, List as Row, [], ◌∷◌, ◌++◌, length, refl, sym, ap, subst, ◌∙◌, arith}
 use Rattle.std.proofs.lemmas.Bool.{ltb-true}
+use Rattle.shread.specs.declared.keep.Keep.TheVariants.{Whole}
 use Rattle.shtree.specs.declared.tree.Span.{Span}
 use Rattle.shread.specs.declared.fault.Fault.{Fault}
 use Rattle.shread.specs.declared.fault.FaultKind.{FaultKind}
 use Rattle.shread.specs.Comments.{span}
 use Rattle.shread.specs.Sights.{Given, State, seen}
 use Rattle.shread.specs.HereDocuments.{changed, own_level, outer_level}
-use Rattle.shread.specs.Form.{Spelled, Read, Comes, Step, again, done, Form, give, see, move, push, stop, both, when, token, loop, ends_as, change, with_bytes, a_level, Just, just, Halts, halted, Then, and_then, or_stops, Either, holds, fails, Told, tell, OneToken, whole, broken_off, leads_on, Turns, last, rests, more, halts, Ending, goes_through, stops_inside, with_end, Changed, changes, cannot, nothing_read, WithBytes, with_its_bytes, without_bytes, OwnLevel, level_read, level_stops, raw, moved, may, ◌▸◌, turns, does}
+use Rattle.shread.specs.Form.{Spelled, Read, Comes, Step, again, done, Form, give, see, move, push, stop, both, when, token, loop, ends_as, change, with_bytes, a_level, Just, just, Halts, halted, Then, and_then, or_stops, Either, holds, fails, Told, tell, OneToken, whole, broken_off, leads_on, Turns, last, rests, more, halts, Ending, goes_through, stops_inside, with_end, Changed, changes, cannot, nothing_read, WithBytes, with_its_bytes, without_bytes, OwnLevel, level_read, level_stops, raw, moved, may, ◌▸◌, turns, does, in_substitution}
 use Rattle.shread.proofs.Turns.{turns_on, turns_rest, turns_done, turns_fault}
 
 -- x is what may be read, and nothing else
@@ -161,17 +162,18 @@ module _ {X : Type 0} (r : Comes X) (s : State) where
 
 -- ---- every form
 
-pub is : {X : Type 0} (r : Form X) (g : Given) (s : State) → Is (may r g s) (does r true g s)
+pub is : {X : Type 0} (r : Form X) (g : Given) (s : State) → Is (may r g s) (does r Whole g s)
 is (give x) g s = is_just x s
 is (see f) g s = is_just (seen f g s) s
 is (move m) g s = is_just tt (moved m g s)
 is (push xs x) g s = is_just (xs ++ x ∷ []) s
 is (stop kind at) g s = record { some = ([], halted); only = halts_only (record { kind = kind; at = at }) }
-is (both r q) g s = is_then (may r g) (λ x. may (q x) g) (λ x t. does (q x) true g t) (λ x t. is (q x) g t) s (does r true g s) (is r g s)
-is (when f r q) g s = is_either (may r g) (may q g) s (does r true g s) (does q true g s) (is r g s) (is q g s) (seen f g s)
-is (token how r) g s = is_token how g (may r g) s (does r true g s) (is r g s)
-is (loop turn a) g s = is_many g (λ b. may (turn b) g) (λ b t. does (turn b) true g t) (λ b t. is (turn b) g t) a s
-is (ends_as kind at r) g s = is_ending kind at (may r g) s (does r true g s) (is r g s)
+is (both r q) g s = is_then (may r g) (λ x. may (q x) g) (λ x t. does (q x) Whole g t) (λ x t. is (q x) g t) s (does r Whole g s) (is r g s)
+is (when f r q) g s = is_either (may r g) (may q g) s (does r Whole g s) (does q Whole g s) (is r g s) (is q g s) (seen f g s)
+is (token how r) g s = is_token how g (may r g) s (does r Whole g s) (is r g s)
+is (loop turn a) g s = is_many g (λ b. may (turn b) g) (λ b t. does (turn b) Whole g t) (λ b t. is (turn b) g t) a s
+is (ends_as kind at r) g s = is_ending kind at (may r g) s (does r Whole g s) (is r g s)
 is (change c) g s = is_changed (changed c g s)
-is (with_bytes r) g s = is_with_bytes g (may r g) s (does r true g s) (is r g s)
-is (a_level r) g s = is_own_level (may r g) s (does r true g (own_level s)) (is r g (own_level s))
+is (with_bytes r) g s = is_with_bytes g (may r g) s (does r Whole g s) (is r g s)
+is (a_level r) g s = is_own_level (may r g) s (does r Whole g (own_level s)) (is r g (own_level s))
+is (in_substitution r) g s = is r g s

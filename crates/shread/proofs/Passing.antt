@@ -1,12 +1,13 @@
 -- Lines at the front of a script: what follows them has no part in how they are read, and the first fault behind them is the script's.
 use Rattle.std.proofs.Common.{◌≡◌, ℕ, zero, suc, ◌+◌, ◌-◌, ◌<◌, Bool, true, false, Ok, Err, List, List as Row, Option, Some, option_map, length, take, drop, slice_get, refl, sym, ap, subst, ◌∙◌, arith, length-drop}
 use Rattle.std.proofs.Math.Seq.{drop-drop, take-take}
+use Rattle.shread.specs.declared.keep.Keep.TheVariants.{Nothing, Outer, Whole}
 use Rattle.shtree.specs.Tree.{AnEntry}
 use Rattle.shread.specs.declared.fault.Fault.{Fault}
 use Rattle.shread.specs.Form.{Read, may, does}
 use Rattle.shread.specs.Levels.{most_open, level}
 use Rattle.shread.specs.Lines.{a_line}
-use Rattle.shread.specs.Moved.{Same, moved_fault}
+use Rattle.shread.specs.Moved.{Same, SameBy, moved_fault}
 use Rattle.shread.specs.Scripts.{AScript, SoFar, first_fault_from, is_blank_line, line_from, line_told, nothing_yet, script_below, script_by, script_on, the_line, with_line}
 use Rattle.shread.specs.Search.{ArePassed, LineBefore, MayPass, StopsAt}
 use Rattle.shread.specs.Sights.{State, given, standing}
@@ -14,7 +15,7 @@ use Rattle.shread.specs.Standing.{raw_stands}
 use Rattle.shread.proofs.Alike.{Like, SameEnd, alike_level, alike_line}
 use Rattle.shread.proofs.Answered.{fault_alone, fault_answered}
 use Rattle.shread.proofs.FirstFault.{beyond_kept}
-use Rattle.shread.proofs.MovedLine.{line_moved}
+use Rattle.shread.proofs.MovedLine.{line_moved, line_outer}
 use Rattle.shread.proofs.OneOutcome.{is as is_form}
 use Rattle.shread.proofs.SameLine.{line_again, newline_at, same_front, same_texts}
 use Rattle.shread.proofs.Stretches.{get_drop}
@@ -30,7 +31,7 @@ kept_by t (Err e) z fs z_is one = let same = rw z_is at one in absurd same
 
 -- where the bytes T stand up to behind the newline that ends their line, that line is read
 pub line_there : (T U : List ℕ) (n : ℕ) (es : Row AnEntry) (t : State) → t.at ≡ n + 1 → slice_get T n ≡ Some 10 → ((r : ℕ) → r < n + 1 → slice_get U r ≡ slice_get T r)
-    → does (the_line false) true (given T 0) (standing 0) ≡ Ok ((es, true), t) → does (the_line false) true (given U 0) (standing 0) ≡ Ok ((es, true), t)
+    → does (the_line false) Whole (given T 0) (standing 0) ≡ Ok ((es, true), t) → does (the_line false) Whole (given U 0) (standing 0) ≡ Ok ((es, true), t)
 line_there T U n es t ends newline same read =
     let inner = level most_open in
     let one = (is_form (a_line inner false) (given T 0) (standing 0)).some in
@@ -44,13 +45,19 @@ same_behind : (p n : ℕ) (B D : List ℕ) → take (p + n) D ≡ take (p + n) B
 same_behind p n B D same r lt = get_drop p D r ∙ same_front (p + n) B D same (p + r) (omega (arith, lt)) ∙ sym (get_drop p B r)
 
 -- a line that is read by itself leads on where it stands
-leads_by : (script : List ℕ) (p : ℕ) (t : State) (es : Row AnEntry) (x y : Read (Row AnEntry × Bool)) → line_from script true false p ≡ x → y ≡ Ok ((es, true), t) → Same p false x y
+leads_by : (script : List ℕ) (p : ℕ) (t : State) (es : Row AnEntry) (x y : Read (Row AnEntry × Bool)) → line_from script Whole false p ≡ x → y ≡ Ok ((es, true), t) → Same p false x y
     → first_fault_from script p ≡ first_fault_from script (p + t.at)
 leads_by script p t es (Ok ((fs, true), u)) y is y_is same =
     let moved = rw y_is at same in
     beyond_kept script p fs u is ∙ ap (λ (n : ℕ). first_fault_from script (p + n)) moved.2
 leads_by script p t es (Ok ((fs, false), u)) y is y_is same = let moved = rw y_is at same in let no : false ≡ true = moved.1 in absurd cc
 leads_by script p t es (Err f) y is y_is same = let moved = rw y_is at same in absurd moved
+
+-- a line that may be passed, as it is read with its tree
+passed_alone : (bytes : List ℕ) (p q : ℕ) (line : LineBefore bytes p q) → (fs : Row AnEntry) × (line_told bytes Whole false p 0 ≡ Ok ((fs, true), line.1))
+passed_alone bytes p q line =
+    let like = (alike_line (given (drop p bytes) 0) (level most_open) (alike_level (given (drop p bytes) 0) most_open) false false).like (standing 0) in
+    kept_by line.1 (line_told bytes Whole false p 0) (line_told bytes Nothing false p 0) line.0 line.2 like
 
 -- lines that are passed, and one more
 pub passed_more : (bytes : List ℕ) (p q : ℕ) → ArePassed bytes p → LineBefore bytes p q → ArePassed bytes q
@@ -61,13 +68,12 @@ passed_more bytes p q so line script same_q =
     let same : take (p + t.at) script ≡ take (p + t.at) bytes = rw line.3 at same_q in
     let T = drop p bytes in
     let n = t.at - 1 in
-    let like = (alike_line (given T 0) (level most_open) (alike_level (given T 0) most_open) false false).like (standing 0) in
-    let kept = kept_by t (line_told bytes true false p 0) (line_told bytes false false p 0) line.0 read like in
-    let again : line_told script true false p 0 ≡ Ok ((kept.0, true), t) =
+    let kept = passed_alone bytes p q line in
+    let again : line_told script Whole false p 0 ≡ Ok ((kept.0, true), t) =
     line_there T (drop p script) n kept.0 t (omega (arith, some)) (newline_at T n line.6) (λ r lt. same_behind p t.at bytes script same r (omega (arith, lt, some))) kept.1 in
     let low : take p script ≡ take p bytes =
     sym (take-take p (p + t.at) script (omega arith)) ∙ ap (take p) same ∙ take-take p (p + t.at) bytes (omega arith) in
-    so script low ∙ leads_by script p t kept.0 (line_from script true false p) (line_told script true false p 0) refl again (line_moved script p false) ∙ ap (first_fault_from script) (sym line.3)
+    so script low ∙ leads_by script p t kept.0 (line_from script Whole false p) (line_told script Whole false p 0) refl again (line_moved script p false) ∙ ap (first_fault_from script) (sym line.3)
 
 -- the last byte of a line that is passed
 pub newline_behind : (bytes : List ℕ) (p q len : ℕ) → q ≡ p + len → 0 < len → raw_stands (drop p bytes) (len - 1) 10 ≡ true → slice_get bytes (q - 1) ≡ Some 10
@@ -78,45 +84,17 @@ newline_behind bytes p q len ends some stands =
 pub newline_before : (bytes : List ℕ) (p q : ℕ) → LineBefore bytes p q → slice_get bytes (q - 1) ≡ Some 10
 newline_before bytes p q line = newline_behind bytes p q line.1.at line.3 line.4 line.6
 
--- ---- a line that may be passed, as it is read with its tree
-
-kept_there : (p : ℕ) (blank : Bool) (es : Row AnEntry) (t : State) (x z : Read (Row AnEntry × Bool)) → z ≡ Ok ((es, true), t) → Same p blank x z → (fs : Row AnEntry) × (u : State) × (x ≡ Ok ((fs, true), u)) × (u.at ≡ t.at)
-kept_there p blank es t (Ok ((fs, ended), u)) z is same = let moved = rw is at same in (fs, u, ap (λ (b : Bool). Ok ((fs, b), u)) moved.1, moved.2)
-kept_there p blank es t (Err f) z is same = let moved = rw is at same in absurd moved
-
-passed_there : (bytes : List ℕ) (p q : ℕ) (blank : Bool) → LineBefore bytes p q → (fs : Row AnEntry) × (u : State) × (line_from bytes true blank p ≡ Ok ((fs, true), u)) × (raw_stands (drop p bytes) (u.at - 1) 10 ≡ true)
-passed_there bytes p q blank line =
-    let t = line.1 in
-    let T = drop p bytes in
-    let like = (alike_line (given T 0) (level most_open) (alike_level (given T 0) most_open) false false).like (standing 0) in
-    let kept = kept_by t (line_told bytes true false p 0) (line_told bytes false false p 0) line.0 line.2 like in
-    let there = kept_there p blank kept.0 t (line_from bytes true blank p) (line_told bytes true false p 0) kept.1 (line_moved bytes p blank) in
-    (there.0, there.1, there.2, subst (λ (n : ℕ). raw_stands T (n - 1) 10 ≡ true) (sym there.3) line.6)
-
-abbrev newline_of : Read (Row AnEntry × Bool) → Bool
-newline_of (Ok ((es, newline), t)) = newline
-newline_of (Err f) = false
-
-abbrev place_behind : Read (Row AnEntry × Bool) → ℕ
-place_behind (Ok (x, t)) = t.at
-place_behind (Err f) = 0
-
 -- what was read there tells that it is none
-pub stops_unended : (bytes : List ℕ) (p len : ℕ) (blank newline : Bool) (es : Row AnEntry) → line_from bytes true blank p ≡ Ok ((es, newline), standing len) → (newline ≡ true → raw_stands (drop p bytes) (len - 1) 10 ≡ false) → StopsAt bytes p
-stops_unended bytes p len blank true es is other q line =
-    let there = passed_there bytes p q blank line in
-    let same : Ok ((es, true), standing len) ≡ Ok ((there.0, true), there.1) = sym is ∙ there.2 in
-    let place : there.1.at ≡ len = sym (ap place_behind same) in
-    let no : true ≡ false = sym there.3 ∙ ap (λ (n : ℕ). raw_stands (drop p bytes) (n - 1) 10) place ∙ other refl in absurd cc
-stops_unended bytes p len blank false es is other q line =
-    let there = passed_there bytes p q blank line in
-    let same : Ok ((es, false), standing len) ≡ Ok ((there.0, true), there.1) = sym is ∙ there.2 in
-    let no : false ≡ true = ap newline_of same in absurd cc
+pub stops_unended : (bytes : List ℕ) (p len : ℕ) (blank newline : Bool) (es : Row AnEntry) → line_from bytes Outer blank p ≡ Ok ((es, newline), standing len) → (newline ≡ true → raw_stands (drop p bytes) (len - 1) 10 ≡ false) → StopsAt bytes p
+stops_unended bytes p len blank newline es is other q line =
+    let own = passed_alone bytes p q line in
+    let same : SameBy false p blank (Ok ((es, newline), standing len)) (Ok ((own.0, true), line.1)) = rw (is, own.1) at (line_outer bytes p blank) in
+    let no : false ≡ true = sym (other same.1) ∙ ap (λ (n : ℕ). raw_stands (drop p bytes) (n - 1) 10) same.2 ∙ line.6 in absurd cc
 
-pub stops_faulty : (bytes : List ℕ) (p : ℕ) (blank : Bool) (f : Fault) → line_from bytes true blank p ≡ Err f → StopsAt bytes p
+pub stops_faulty : (bytes : List ℕ) (p : ℕ) (blank : Bool) (f : Fault) → line_from bytes Outer blank p ≡ Err f → StopsAt bytes p
 stops_faulty bytes p blank f is q line =
-    let there = passed_there bytes p q blank line in
-    let same : Err f ≡ Ok ((there.0, true), there.1) = sym is ∙ there.2 in absurd cc
+    let own = passed_alone bytes p q line in
+    let same : SameBy false p blank (Err f) (Ok ((own.0, true), line.1)) = rw (is, own.1) at (line_outer bytes p blank) in absurd same
 
 -- ---- the first fault behind some bytes, and that of the script
 
@@ -147,12 +125,12 @@ module _ (n : ℕ) (B : List ℕ) where
   shift zero so to p = refl
   shift (suc m) so to p =
       let D = drop n B in
-      let same : line_told B true false (n + p) 0 ≡ line_told D true false p 0 = ap (λ (T : List ℕ). does (the_line false) true (given T 0) (standing 0)) (sym (drop-drop p n B)) in
-      let moved : Same p (is_blank_line to) (line_from D true (is_blank_line to) p) (line_told B true false (n + p) 0) =
-      subst (λ (z : Read (Row AnEntry × Bool)). Same p (is_blank_line to) (line_from D true (is_blank_line to) p) z) (sym same) (line_moved D p (is_blank_line to)) in
+      let same : line_told B Whole false (n + p) 0 ≡ line_told D Whole false p 0 = ap (λ (T : List ℕ). does (the_line false) Whole (given T 0) (standing 0)) (sym (drop-drop p n B)) in
+      let moved : Same p (is_blank_line to) (line_from D Whole (is_blank_line to) p) (line_told B Whole false (n + p) 0) =
+      subst (λ (z : Read (Row AnEntry × Bool)). Same p (is_blank_line to) (line_from D Whole (is_blank_line to) p) z) (sym same) (line_moved D p (is_blank_line to)) in
       shift_by n (script_below B m) (script_below D m) so to p
       (λ es fs t. let sum : n + p + t.at ≡ n + (p + t.at) = omega arith in ap (λ (q : ℕ). (script_below B m (with_line so es) q).wrong) sum ∙ shift m (with_line so es) (with_line to fs) (p + t.at))
-      (is_blank_line so) (is_blank_line to) (line_from B true (is_blank_line so) (n + p)) (line_from D true (is_blank_line to) p) (line_told B true false (n + p) 0)
+      (is_blank_line so) (is_blank_line to) (line_from B Whole (is_blank_line so) (n + p)) (line_from D Whole (is_blank_line to) p) (line_told B Whole false (n + p) 0)
       (line_moved B (n + p) (is_blank_line so)) moved
 
   -- the first fault from an offset on is that of the bytes behind it, moved

@@ -4,6 +4,7 @@ use Rattle.std.proofs.Common.{◌≡◌, ℕ, zero, suc, ◌+◌, ◌-◌, ◌�
 use Rattle.std.proofs.lemmas.Bool.{cond_both, lt-ltb}
 use Rattle.std.proofs.lemmas.Bool.Decides.{nat_tests}
 use Rattle.std.proofs.lemmas.Option.{slice_get_within}
+use Rattle.shread.specs.declared.keep.Keep.TheVariants.{Whole}
 use Rattle.shread.specs.declared.mode.Mode.{Mode}
 use Rattle.shread.specs.declared.mode.Mode.TheVariants.{Plain, Double, Brace, DoubleBrace, Arith}
 use Rattle.shread.specs.declared.mode.Piece.{Piece}
@@ -61,20 +62,20 @@ module _ {T U : List ℕ} {a L : ℕ} {to : ℕ → ℕ} (K : Kept T U a L to) (
 
   -- what a construct holds is the same elsewhere, wherever its opener stands and behind substitutions of the same shape
   abbrev pub Holding : (Row ASubst → Form (Row ASubst)) → Row ASubst → State → Row ASubst → State → Type 0
-  Holding r ss s x t = t.at ≤ L → Inside s.at × ((zs : Row ASubst) → SameSubsts ss zs → (y : Row ASubst) × ((does (r zs) true h (over s) ≡ Ok (y, over t)) × SameSubsts x y))
+  Holding r ss s x t = t.at ≤ L → Inside s.at × ((zs : Row ASubst) → SameSubsts ss zs → (y : Row ASubst) × ((does (r zs) Whole h (over s) ≡ Ok (y, over t)) × SameSubsts x y))
 
   pub record Local (inner : Inner) : Type 0 where
-    pub construct : (mode : Mode) → Closed mode → (b b2 : ℕ) (ss : Row ASubst) (s : State) → a ≤ s.at → Holds (Holding (inner.construct mode b2) ss s) (does (inner.construct mode b ss) true g s)
-    pub substitution : (b b2 : ℕ) (ss : Row ASubst) (s : State) → a ≤ s.at → Holds (Holding (inner.substitution b2) ss s) (does (inner.substitution b ss) true g s)
+    pub construct : (mode : Mode) → Closed mode → (b b2 : ℕ) (ss : Row ASubst) (s : State) → a ≤ s.at → Holds (Holding (inner.construct mode b2) ss s) (does (inner.construct mode b ss) Whole g s)
+    pub substitution : (b b2 : ℕ) (ss : Row ASubst) (s : State) → a ≤ s.at → Holds (Holding (inner.substitution b2) ss s) (does (inner.substitution b ss) Whole g s)
 
   module _ (inner : Inner) (local : Local inner) where
     -- a construct as a piece
     abbrev Opens : Mode → ℕ → Held → State → Step Held → State → Type 0
-    Opens mode b2 c s x t = t.at ≤ L → Inside s.at × ((d : Held) → Agree c d → (y : Step Held) × ((does (opened inner mode b2 d) true h (over s) ≡ Ok (y, over t)) × SameStep Agree x y))
+    Opens mode b2 c s x t = t.at ≤ L → Inside s.at × ((d : Held) → Agree c d → (y : Step Held) × ((does (opened inner mode b2 d) Whole h (over s) ≡ Ok (y, over t)) × SameStep Agree x y))
 
-    opens : (mode : Mode) → Closed mode → (b b2 : ℕ) (c : Held) (s : State) → a ≤ s.at → Holds (Opens mode b2 c s) (does (opened inner mode b c) true g s)
+    opens : (mode : Mode) → Closed mode → (b b2 : ℕ) (c : Held) (s : State) → a ≤ s.at → Holds (Opens mode b2 c s) (does (opened inner mode b c) Whole g s)
     opens mode closed b b2 c s from =
-        holds_then (Holding (inner.construct mode b2) c.substs s) (Opens mode b2 c s) (does (inner.construct mode b c.substs) true g s) (λ x t. Ok (again (having c.nested x), t)) (local.construct mode closed b b2 c.substs s from)
+        holds_then (Holding (inner.construct mode b2) c.substs s) (Opens mode b2 c s) (does (inner.construct mode b c.substs) Whole g s) (λ x t. Ok (again (having c.nested x), t)) (local.construct mode closed b b2 c.substs s from)
         (λ x t inside le. let w = inside le in (w.0, λ d so. let v = w.1 d.substs so.1 in (again (having d.nested v.0), (rw v.1.0 refl, (so.0, v.1.1)))))
 
   -- from where a word or a construct may go on, and where it ends
@@ -142,7 +143,7 @@ module _ {T U : List ℕ} {a L : ℕ} {to : ℕ → ℕ} (K : Kept T U a L to) (
       Turn x t = Turned K o o2 Agree (a_piece inner mode b) (a_piece inner mode b2) (From mode) (Last mode) c s x t
 
       abbrev Again : Piece → Type 0
-      Again x = Holds Turn (does (piece_row inner mode b c x) true g s)
+      Again x = Holds Turn (does (piece_row inner mode b c x) Whole g s)
 
       abbrev Told : Piece → Type 0
       Told x = piece_at U mode n (to p) ≡ x
@@ -151,17 +152,17 @@ module _ {T U : List ℕ} {a L : ℕ} {to : ℕ → ℕ} (K : Kept T U a L to) (
       Found P t d x = (y : Step Held) × ((x ≡ Ok (y, over t)) × P y)
 
       -- the row of the piece that is there
-      row_there : (x : Piece) → Told x → (d : Held) → Agree c d → (P : Step Held → Type 0) (t : State) → Found P t d (does (piece_row inner mode b2 d x) true h (over s)) → Found P t d (does (a_piece inner mode b2 d) true h (over s))
+      row_there : (x : Piece) → Told x → (d : Held) → Agree c d → (P : Step Held → Type 0) (t : State) → Found P t d (does (piece_row inner mode b2 d x) Whole h (over s)) → Found P t d (does (a_piece inner mode b2 d) Whole h (over s))
       unfolding a_piece
       row_there x told d so P t found =
-          (found.0, (subst (λ (z : Piece). does (piece_row inner mode b2 d z) true h (over s) ≡ Ok (found.0, over t)) (sym told ∙ ap (λ m. piece_at U mode m (to p)) so.0) found.1.0, found.1.1))
+          (found.0, (subst (λ (z : Piece). does (piece_row inner mode b2 d z) Whole h (over s) ≡ Ok (found.0, over t)) (sym told ∙ ap (λ m. piece_at U mode m (to p)) so.0) found.1.0, found.1.1))
 
       leads_byte : past_continuations T p < length T → leads_on g s (placed q s) ≡ true
       leads_byte lt = lt-ltb _ _ (omega (arith, lt, behind_is T p, place_low T p))
 
       -- one byte
       one_byte_row : (is_byte (byte_at T p) 92 ≡ false) → past_continuations T p < length T → (w : Held → Held) → ((d : Held) → Agree c d → Agree (w c) (w d)) → (x : Piece) → (Inside p → From mode q → Told x)
-          → ((d : Held) → does (piece_row inner mode b2 d x) true h (over s) ≡ Ok (again (w d), there_at K o o2 (behind U (to p)) s)) → Turn (again (w c)) (placed q s)
+          → ((d : Held) → does (piece_row inner mode b2 d x) Whole h (over s) ≡ Ok (again (w d), there_at K o o2 (behind U (to p)) s)) → Turn (again (w c)) (placed q s)
       one_byte_row e lt w same x told row goal =
           let i = clear K p from (omega (arith, goal.0, behind_is T p)) e in
           let next = goal.1 (leads_byte lt) in
@@ -197,10 +198,10 @@ module _ {T U : List ℕ} {a L : ℕ} {to : ℕ → ℕ} (K : Kept T U a L to) (
           escape_told v is e i some lt = rw (here_byte K i, is, e, here_behind K i, same_end K q q_low lt, some) refl
 
       -- text that is not read
-      text_row : (x : Piece) (r : Form (Unit {0})) → Holds (Ends K o o2 r Inside s) (does r true g s) → (Inside p → Told x) → ((d : Held) → does (piece_row inner mode b2 d x) true h (over s) ≡ (does r true h (over s) ▸ λ u v. Ok (again d, v)))
-          → Holds Turn (does r true g s ▸ λ u v. Ok (again c, v))
+      text_row : (x : Piece) (r : Form (Unit {0})) → Holds (Ends K o o2 r Inside s) (does r Whole g s) → (Inside p → Told x) → ((d : Held) → does (piece_row inner mode b2 d x) Whole h (over s) ≡ (does r Whole h (over s) ▸ λ u v. Ok (again d, v)))
+          → Holds Turn (does r Whole g s ▸ λ u v. Ok (again c, v))
       text_row x r ended told row =
-          holds_then (Ends K o o2 r Inside s) Turn (does r true g s) (λ u v. Ok (again c, v)) ended
+          holds_then (Ends K o o2 r Inside s) Turn (does r Whole g s) (λ u v. Ok (again c, v)) ended
           (λ u t ends goal. let w = ends goal.0 in
           (inl w.0, λ d so. row_there x (told w.0) d so (SameStep Agree (again c)) t (again d, (row d ∙ rw w.1.1 refl, so))))
 
@@ -216,9 +217,9 @@ module _ {T U : List ℕ} {a L : ℕ} {to : ℕ → ℕ} (K : Kept T U a L to) (
 
       -- a construct, from behind its opener on
       open_row : (x : Piece) (m : Mode) → Closed m → (k k2 r : ℕ) → a ≤ r
-          → (Inside r → Inside p × (Told x × ((d : Held) → does (piece_row inner mode b2 d x) true h (over s) ≡ does (opened inner m k2 d) true h (there_at K o o2 (to r) s)))) → Holds Turn (does (opened inner m k c) true g (placed r s))
+          → (Inside r → Inside p × (Told x × ((d : Held) → does (piece_row inner mode b2 d x) Whole h (over s) ≡ does (opened inner m k2 d) Whole h (there_at K o o2 (to r) s)))) → Holds Turn (does (opened inner m k c) Whole g (placed r s))
       open_row x m closed k k2 r low_r start =
-          holds_so (Opens inner local m k2 c (placed r s)) Turn (does (opened inner m k c) true g (placed r s)) (opens inner local m closed k k2 c (placed r s) low_r)
+          holds_so (Opens inner local m k2 c (placed r s)) Turn (does (opened inner m k c) Whole g (placed r s)) (opens inner local m closed k k2 c (placed r s) low_r)
           (λ y t inside goal. let w = inside (goal_high y t goal) in
           let u = start w.0 in
           (inl u.0, λ d so. let f = w.1 d so in row_there x u.1.0 d so (SameStep Agree y) t (f.0, (u.1.1 d ∙ f.1.0, f.1.1))))
@@ -262,7 +263,7 @@ module _ {T U : List ℕ} {a L : ℕ} {to : ℕ → ℕ} (K : Kept T U a L to) (
       substitution told =
           let k2 = o2 + past_continuations U (to p) in
           let inside = placed (behind T q) s in
-          holds_then (Holding (inner.substitution k2) c.substs inside) Turn (does (inner.substitution (o + past_continuations T p) c.substs) true g inside) (λ x t. Ok (again (having c.nested x), t))
+          holds_then (Holding (inner.substitution k2) c.substs inside) Turn (does (inner.substitution (o + past_continuations T p) c.substs) Whole g inside) (λ x t. Ok (again (having c.nested x), t))
           (local.substitution (o + past_continuations T p) k2 c.substs inside q2_low)
           (λ x t holding goal. let w = holding goal.0 in
           let k = before K q q_low w.0 in
@@ -399,7 +400,7 @@ module _ {T U : List ℕ} {a L : ℕ} {to : ℕ → ℕ} (K : Kept T U a L to) (
       by_byte mode None is = none_row mode
       by_byte mode (Some v) is = some_row inner local mode b b2 c s from v is (λ other. by_mode v is other mode)
 
-      piece_turn : (mode : Mode) → Holds (Turn inner local mode b b2 c s from) (does (a_piece inner mode b c) true g s)
+      piece_turn : (mode : Mode) → Holds (Turn inner local mode b b2 c s from) (does (a_piece inner mode b c) Whole g s)
       unfolding a_piece piece_at
       piece_turn mode = by_byte mode (byte_at T s.at) refl
 
@@ -407,13 +408,13 @@ module _ {T U : List ℕ} {a L : ℕ} {to : ℕ → ℕ} (K : Kept T U a L to) (
 
     module _ (inner : Inner) (local : Local inner) where
       pieces_in : (mode : Mode) (b b2 : ℕ) (c : Held) (s : State) → a ≤ s.at
-          → Holds (Looped K o o2 Agree (a_piece inner mode b) (a_piece inner mode b2) (From mode) (Last mode) c s) (does (loop (a_piece inner mode b) c) true g s)
+          → Holds (Looped K o o2 Agree (a_piece inner mode b) (a_piece inner mode b2) (From mode) (Last mode) c s) (does (loop (a_piece inner mode b) c) Whole g s)
       pieces_in mode b b2 c s from =
           looped K o o2 Agree (a_piece inner mode b) (a_piece inner mode b2) (From mode) (Last mode) (from_high mode) (last_high mode) (λ d t low. piece_turn inner local b b2 d t low mode) c s from
 
       -- where the pieces of a word that ends at the limit begin
-      pub word_from : (b : ℕ) (c : Held) (s : State) → a ≤ s.at → Holds (λ x t. t.at ≡ L → From Plain s.at) (does (loop (a_piece inner Plain b) c) true g s)
-      word_from b c s from = holds_so _ (λ x t. t.at ≡ L → From Plain s.at) (does (loop (a_piece inner Plain b) c) true g s) (pieces_in Plain b b c s from) (λ x t ends is. (ends (omega (arith, is), λ e. is)).0)
+      pub word_from : (b : ℕ) (c : Held) (s : State) → a ≤ s.at → Holds (λ x t. t.at ≡ L → From Plain s.at) (does (loop (a_piece inner Plain b) c) Whole g s)
+      word_from b c s from = holds_so _ (λ x t. t.at ≡ L → From Plain s.at) (does (loop (a_piece inner Plain b) c) Whole g s) (pieces_in Plain b b c s from) (λ x t ends is. (ends (omega (arith, is), λ e. is)).0)
 
       last_of : (mode : Mode) → Closed mode → (r : ℕ) → r ≤ L → Last mode r
       last_of mode closed r le = (le, λ e. absurd (not_plain mode closed e))
@@ -421,18 +422,18 @@ module _ {T U : List ℕ} {a L : ℕ} {to : ℕ → ℕ} (K : Kept T U a L to) (
       in_of : (mode : Mode) → Closed mode → (r : ℕ) → From mode r → Inside r
       in_of mode closed r from = ⊎_elim (λ i. i) (λ e. absurd (not_plain mode closed e.0)) from
 
-      pub construct_in : (mode : Mode) → Closed mode → (b b2 : ℕ) (ss : Row ASubst) (s : State) → a ≤ s.at → Holds (Holding (contents inner mode b2) ss s) (does (contents inner mode b ss) true g s)
+      pub construct_in : (mode : Mode) → Closed mode → (b b2 : ℕ) (ss : Row ASubst) (s : State) → a ≤ s.at → Holds (Holding (contents inner mode b2) ss s) (does (contents inner mode b ss) Whole g s)
       unfolding contents many
       construct_in mode closed b b2 ss s from =
-          holds_then _ (Holding (contents inner mode b2) ss s) (does (loop (a_piece inner mode b) (having 0 ss)) true g s) (λ c t. Ok (c.substs, t)) (pieces_in mode b b2 (having 0 ss) s from)
+          holds_then _ (Holding (contents inner mode b2) ss s) (does (loop (a_piece inner mode b) (having 0 ss)) Whole g s) (λ c t. Ok (c.substs, t)) (pieces_in mode b b2 (having 0 ss) s from)
           (λ c t ends le. let w = ends (last_of mode closed t.at le) in (in_of mode closed s.at w.0, λ zs same. let f = w.1 (having 0 zs) (refl, same) in (f.0.substs, (rw f.1.0 refl, f.1.1.1))))
 
       -- a word that ends at the limit
       abbrev pub Ended : ℕ → State → Row ASubst → State → Type 0
-      Ended b2 s x t = t.at ≡ L → (y : Row ASubst) × ((does (contents inner Plain b2 []) true h (over s) ≡ Ok (y, over t)) × SameSubsts x y)
+      Ended b2 s x t = t.at ≡ L → (y : Row ASubst) × ((does (contents inner Plain b2 []) Whole h (over s) ≡ Ok (y, over t)) × SameSubsts x y)
 
-      pub word_in : (b b2 : ℕ) (s : State) → a ≤ s.at → Holds (Ended b2 s) (does (contents inner Plain b []) true g s)
+      pub word_in : (b b2 : ℕ) (s : State) → a ≤ s.at → Holds (Ended b2 s) (does (contents inner Plain b []) Whole g s)
       unfolding contents many
       word_in b b2 s from =
-          holds_then _ (Ended b2 s) (does (loop (a_piece inner Plain b) (having 0 [])) true g s) (λ c t. Ok (c.substs, t)) (pieces_in Plain b b2 (having 0 []) s from)
+          holds_then _ (Ended b2 s) (does (loop (a_piece inner Plain b) (having 0 [])) Whole g s) (λ c t. Ok (c.substs, t)) (pieces_in Plain b b2 (having 0 []) s from)
           (λ c t ends is. let f = (ends (omega (arith, is), λ e. is)).1 (having 0 []) (refl, refl) in (f.0.substs, (rw f.1.0 refl, f.1.1.1)))

@@ -18,6 +18,7 @@ use Rattle.shread.specs.Levels.{level}
 use Rattle.shread.specs.Plain.{is_special_in, is_plain, ArePlain}
 use Rattle.shtree.specs.Tree.{ASubst, word, no_subst, substs_of}
 use Rattle.std.proofs.lemmas.Bool.Decides.{nat_tests}
+use Rattle.shread.specs.declared.keep.Keep.{Keep}
 use Rattle.shread.proofs.Turns.{many_again, many_done, many_stop}
 use Rattle.shread.proofs.Places.{word_longer}
 use Rattle.shread.proofs.Stretches.{place_low}
@@ -110,7 +111,7 @@ some_plain T p q low here there = word_longer T p q low here there
 abbrev placed : Row Waiting → Row Span → ℕ → State
 placed ws ds p = record { at = p; waiting = ws; bodies = ds }
 
-module _ (inner : Inner) (keep : Bool) (g : Given) (mode : Mode) (b : ℕ) (ws : Row Waiting) (ds : Row Span) where
+module _ (inner : Inner) (keep : Keep) (g : Given) (mode : Mode) (b : ℕ) (ws : Row Waiting) (ds : Row Span) where
   -- one turn, and all
   abbrev turn : Held → State → Read (Rattle.shread.specs.Form.Step Held)
   turn h s = does (a_piece inner mode b h) keep g s
@@ -198,37 +199,37 @@ module _ (inner : Inner) (keep : Bool) (g : Given) (mode : Mode) (b : ℕ) (ws :
   plain_contents ss p q plain low high = ap given_by (plain_turns (having 0 ss) p q plain low high)
 
 -- what closes a construct
-pub closed_here : (inner : Inner) (keep : Bool) (ws : Row Waiting) (ds : Row Span) (T : List ℕ) (o : ℕ) (mode : Mode) (b : ℕ) (ss : Row ASubst) (q : ℕ) → q ≤ length T → piece_at T mode 0 q ≡ pieces.Closer
+pub closed_here : (inner : Inner) (keep : Keep) (ws : Row Waiting) (ds : Row Span) (T : List ℕ) (o : ℕ) (mode : Mode) (b : ℕ) (ss : Row ASubst) (q : ℕ) → q ≤ length T → piece_at T mode 0 q ≡ pieces.Closer
     → does (contents inner mode b ss) keep (given T o) (placed ws ds q) ≡ Ok (ss, placed ws ds (past_closer T mode q))
 closed_here inner keep ws ds T o mode b ss q high end =
     plain_closed inner keep (given T o) mode b ws ds ss q q (λ k low below. absurd (omega (arith, low, below))) (omega arith) high end
 
 -- an ordinary byte, and the plain ones behind it
-pub ordinary_here : (inner : Inner) (keep : Bool) (ws : Row Waiting) (ds : Row Span) (T : List ℕ) (o : ℕ) (mode : Mode) (b : ℕ) (ss : Row ASubst) (p q : ℕ) → piece_at T mode 0 p ≡ pieces.Ordinary
+pub ordinary_here : (inner : Inner) (keep : Keep) (ws : Row Waiting) (ds : Row Span) (T : List ℕ) (o : ℕ) (mode : Mode) (b : ℕ) (ss : Row ASubst) (p q : ℕ) → piece_at T mode 0 p ≡ pieces.Ordinary
     → ArePlain mode T (past_continuations T p + 1) q → past_continuations T p + 1 ≤ q → q ≤ length T
     → does (contents inner mode b ss) keep (given T o) (placed ws ds p) ≡ does (contents inner mode b ss) keep (given T o) (placed ws ds q)
 ordinary_here inner keep ws ds T o mode b ss p q piece plain low high =
     ordinary_contents inner keep (given T o) mode b ws ds ss p q piece plain low high
 
 -- plain bytes at the begin of a construct, by how many more may be opened
-pub plain_begin : (room : ℕ) (keep : Bool) (ws : Row Waiting) (ds : Row Span) (T : List ℕ) (o : ℕ) (mode : Mode) (b : ℕ) (ss : Row ASubst) (p q : ℕ) → 0 < room → ArePlain mode T p q → p ≤ q → q ≤ length T
+pub plain_begin : (room : ℕ) (keep : Keep) (ws : Row Waiting) (ds : Row Span) (T : List ℕ) (o : ℕ) (mode : Mode) (b : ℕ) (ss : Row ASubst) (p q : ℕ) → 0 < room → ArePlain mode T p q → p ≤ q → q ≤ length T
     → does ((level room).construct mode b ss) keep (given T o) (placed ws ds p) ≡ does (contents (level (room - 1)) mode b ss) keep (given T o) (placed ws ds q)
 plain_begin room keep ws ds T o mode b ss p q some plain low high =
     level_below keep (given T o) (placed ws ds p) room mode b ss some ∙ plain_contents (level (room - 1)) keep (given T o) mode b ws ds ss p q plain low high
 
 -- a word of plain bytes
-pub plain_word : (inner : Inner) (keep : Bool) (ws : Row Waiting) (ds : Row Span) (T : List ℕ) (o p q : ℕ) → ArePlain Plain T p q → p ≤ q → q ≤ length T → ends_word T q ≡ true
+pub plain_word : (inner : Inner) (keep : Keep) (ws : Row Waiting) (ds : Row Span) (T : List ℕ) (o p q : ℕ) → ArePlain Plain T p q → p ≤ q → q ≤ length T → ends_word T q ≡ true
     → does (a_word inner) keep (given T o) (placed ws ds p) ≡ Ok (word (span o p q) no_subst, placed ws ds q)
 unfolding a_word
 plain_word inner keep ws ds T o p q plain low high end = rw (plain_closed inner keep (given T o) Plain (o + p) ws ds [] p q plain low high (word_closes T q end)) refl
 
 -- plain bytes at the begin of a word, and what follows them
-pub word_rest : (inner : Inner) (keep : Bool) (ws : Row Waiting) (ds : Row Span) (T : List ℕ) (o p q : ℕ) (ss : Row ASubst) (t : State) → ArePlain Plain T p q → p ≤ q → q ≤ length T
+pub word_rest : (inner : Inner) (keep : Keep) (ws : Row Waiting) (ds : Row Span) (T : List ℕ) (o p q : ℕ) (ss : Row ASubst) (t : State) → ArePlain Plain T p q → p ≤ q → q ≤ length T
     → does (contents inner Plain (o + p) []) keep (given T o) (placed ws ds q) ≡ Ok (ss, t) → does (a_word inner) keep (given T o) (placed ws ds p) ≡ Ok (word (span o p t.at) (substs_of ss), t)
 unfolding a_word
 word_rest inner keep ws ds T o p q ss t plain low high rest = rw (plain_contents inner keep (given T o) Plain (o + p) ws ds [] p q plain low high ∙ rest) refl
 
-pub word_stops : (inner : Inner) (keep : Bool) (ws : Row Waiting) (ds : Row Span) (T : List ℕ) (o p q end : ℕ) (e : Stop) → ArePlain Plain T p q → p ≤ q → q ≤ length T
+pub word_stops : (inner : Inner) (keep : Keep) (ws : Row Waiting) (ds : Row Span) (T : List ℕ) (o p q end : ℕ) (e : Stop) → ArePlain Plain T p q → p ≤ q → q ≤ length T
     → Fails end e (does (contents inner Plain (o + p) []) keep (given T o) (placed ws ds q)) → Fails end e (does (a_word inner) keep (given T o) (placed ws ds p))
 unfolding a_word
 word_stops inner keep ws ds T o p q end Memory plain low high rest = tt

@@ -2,6 +2,7 @@
 use Rattle.std.proofs.Common.{◌≡◌, ℕ, zero, suc, ◌+◌, ◌-◌, ◌≤◌, ◌<◌, Bool, true, false, ◌&&◌, Result, Ok, Err, ⊎_elim, List, List as Row, [], ◌∷◌, ◌++◌, take, drop, Option, Some, None, slice_get, refl, sym, ap, subst, ◌∙◌, arith}
 use Rattle.std.proofs.lemmas.Bool.{and_parts, cases_lt}
 use Rattle.std.proofs.lemmas.Bool.Decides.{nat_tests}
+use Rattle.shread.specs.declared.keep.Keep.TheVariants.{Whole}
 use Rattle.shread.specs.declared.fault.Fault.{Fault}
 use Rattle.shread.specs.declared.fault.FaultKind.{FaultKind}
 use Rattle.shtree.specs.declared.tree.Span.{Span}
@@ -94,7 +95,7 @@ module _ {T U : List ℕ} {a M : ℕ} {to : ℕ → ℕ} (E : ListEnds T U a M t
       let good : Good T a M s.at = newline_good s from newline still (omega (arith, at_newline, onward, behind_is s.at, still)) in
       let there_is : changed bodies_here h (there E o o2 off (past s)) ≡ Ok (there E o o2 off t) = read_to_limit E o o2 off (past s) t low at_newline refl is in
       let one = (is_form (ending inner es true end n) h (there E o o2 off s)).some in
-      let read : does (ending inner es true end n) true h (there E o o2 off s) ≡ Ok ((es, true), there E o o2 off t) =
+      let read : does (ending inner es true end n) Whole h (there E o o2 off s) ≡ Ok ((es, true), there E o o2 off t) =
       ap (λ (p : ℕ). line_true es (changed bodies_here h (record { at = p; waiting = s.waiting; bodies = s.bodies }))) (same_behind E good) ∙ ap (line_true es) there_is in (
         good,
         (
@@ -105,7 +106,7 @@ module _ {T U : List ℕ} {a M : ℕ} {to : ℕ → ℕ} (E : ListEnds T U a M t
       )
   newline_again inner es end n s from newline still (Err f) is y y_is closed = absurd (subst Closed y_is closed)
 
-  clash : {X : Type 0} (es : Row AnEntry) (s : State) (w : Option ℕ) (y : Read (Row AnEntry × Bool)) → y ≡ line_false es (does (none_waits w) true g s) → Closed y → X
+  clash : {X : Type 0} (es : Row AnEntry) (s : State) (w : Option ℕ) (y : Read (Row AnEntry × Bool)) → y ≡ line_false es (does (none_waits w) Whole g s) → Closed y → X
   clash es s None y y_is closed = let no = (subst Closed y_is closed).0 in absurd cc
   clash es s (Some b) y y_is closed = absurd (subst Closed y_is closed)
 
@@ -117,12 +118,12 @@ module _ {T U : List ℕ} {a M : ℕ} {to : ℕ → ℕ} (E : ListEnds T U a M t
   stopped (Err e) f y y_is closed = faulty _ y y_is closed
 
   ending_by : (inner : Inner) (es : Row AnEntry) (newline end : Bool) (n : Next) (s : State) → a ≤ s.at → (newline ≡ true → (byte_at T s.at ≡ Some 10) × (past_continuations T s.at ≡ s.at))
-      → (y : Read (Row AnEntry × Bool)) → y ≡ does (ending inner es newline end n) true g s → Again (ending inner es newline end n) s y
+      → (y : Read (Row AnEntry × Bool)) → y ≡ does (ending inner es newline end n) Whole g s → Again (ending inner es newline end n) s y
   unfolding nothing_waits
   ending_by inner es true end n s from shown y y_is closed =
       newline_again inner es end n s from (shown refl).0 (shown refl).1 (changed bodies_here g (past s)) refl y y_is closed
   ending_by inner es false true n s from shown y y_is closed = clash es s (first_waiting s) y y_is closed
-  ending_by inner es false false n s from shown y y_is closed = stopped (does (what_is_wrong inner n) true g s) _ y y_is closed
+  ending_by inner es false false n s from shown y y_is closed = stopped (does (what_is_wrong inner n) Whole g s) _ y y_is closed
 
   abbrev at_end : Inner → ListSo → Form (Row AnEntry × Bool)
   at_end inner l = both (end_of_line inner l.next) (λ newline. give (l.list.entries, newline))
@@ -136,7 +137,7 @@ module _ {T U : List ℕ} {a M : ℕ} {to : ℕ → ℕ} (E : ListEnds T U a M t
   at_entries inner blank n = both (on_line inner (list_so (none_listed blank) n)) (at_end inner)
 
   -- what a form gives of which this holds
-  held : {X : Type 0} {P : X → State → Type 0} (r : Form X) (s : State) (x : X) (t : State) (k : Row Spelled) → Tells true g r P s → may r g s (Ok (x, t)) k → P x t
+  held : {X : Type 0} {P : X → State → Type 0} (r : Form X) (s : State) (x : X) (t : State) (k : Row Spelled) → Tells Whole g r P s → may r g s (Ok (x, t)) k → P x t
   held {P = P} r s x t k told part = subst (Holds P) (sym ((is_form r g s).only (Ok (x, t)) k part)) told.told
 
   open_again : (inner : Inner) → Fine g inner → (blank : Bool) (s : State) → a ≤ s.at → (y : Read (Row AnEntry × Bool)) (k : Row Spelled) → may (an_open_line inner blank) g s y k → Again (an_open_line inner blank) s y
@@ -189,7 +190,7 @@ ended_alone T U l (line_read es newline t k part) ended same =
     let both = and_parts _ _ ended in
     let M = t.at - 1 in
     let inner = level most_open in
-    let some : 0 < t.at = subst (Holds (λ (x : Row AnEntry × Bool) (u : State). x.1 ≡ true → 0 < u.at)) (sym ((is_form (a_line inner false) (given T 0) (standing 0)).only _ _ part)) (line_ended_low inner false true (given T 0) (standing 0)).told both.0 in
+    let some : 0 < t.at = subst (Holds (λ (x : Row AnEntry × Bool) (u : State). x.1 ≡ true → 0 < u.at)) (sym ((is_form (a_line inner false) (given T 0) (standing 0)).only _ _ part)) (line_ended_low inner false Whole (given T 0) (standing 0)).told both.0 in
     let E = same_texts T U M (λ r lt. same r (omega (arith, lt, some))) (newline_at T M both.1) in
     let again = line_again E 0 0 (λ p from. refl) inner (shown_level (given T 0) most_open) false (standing 0) (omega arith) (Ok ((es, newline), t)) k part (both.0, omega (arith, some)) in
     let there_too : raw_stands U M 10 ≡ true = same_raw T U M (same M (omega (arith, some))) both.1 in

@@ -1,7 +1,8 @@
 -- What holds of whatever is read with its tree, unless the reading ends above a limit: the laws of forms for it; and where comments end.
-use Rattle.std.proofs.Common.{◌≡◌, refl, subst, ℕ, ◌+◌, ◌≤◌, Bool, true, false, cond, Ok, Err, List, List as Row, ◌∷◌, ◌++◌, [], Some, None, arith}
+use Rattle.std.proofs.Common.{◌≡◌, subst, ℕ, ◌+◌, ◌≤◌, Bool, true, false, cond, Ok, Err, List, List as Row, ◌∷◌, ◌++◌, [], Some, None, arith}
 use Rattle.std.specs.Prelude.{All}
 use Rattle.std.proofs.lemmas.List.Elements.{All-nil, All-push}
+use Rattle.shread.specs.declared.keep.Keep.TheVariants.{Whole}
 use Rattle.shread.specs.declared.fault.FaultKind.{FaultKind}
 use Rattle.shtree.specs.declared.tree.Span.{Span}
 use Rattle.shtree.specs.Nodes.{IsSpanWithin}
@@ -9,10 +10,10 @@ use Rattle.shread.specs.Standing.{raw_stands, next_newline, before_blanks}
 use Rattle.shread.specs.Comments.{span, comment_at, past_comment}
 use Rattle.shread.specs.Sights.{Given, Move, Sight, State, here, seen}
 use Rattle.shread.specs.HereDocuments.{own_level}
-use Rattle.shread.specs.Form.{Form, Read, Told, a_level, both, does, ends_as, give, many, move, moved, push, see, stop, token, with_bytes, Step, again, done, step_if}
+use Rattle.shread.specs.Form.{Form, Read, Told, a_level, both, does, ends_as, give, many, move, moved, push, see, stop, token, with_bytes, Step, again, done, step_if, in_substitution}
 use Rattle.shread.specs.Commands.{pick}
 use Rattle.shread.proofs.Places.{next_newline_low}
-use Rattle.shread.proofs.Holds.{Holds, Tells, Turned, low, tells_ending, tells_level, tells_so, tells_then, tells_token, tells_until, tells_with_bytes}
+use Rattle.shread.proofs.Holds.{Holds, Tells, Turned, low, tells_ending, tells_level, tells_many, tells_so, tells_then, tells_token, tells_with_bytes, tells_inside}
 use Rattle.shread.proofs.Within.{before_blanks_low}
 use Rattle.shread.proofs.BodiesHeld.{HoldsWithin, held, unless_above}
 
@@ -37,7 +38,7 @@ holds_and P Q (Err f) one two = tt
 
 -- P holds of what r reads from s on, with its tree, unless that ends above the limit
 pub record UpTo (g : Given) (limit : ℕ) {X : Type 0} (r : Form X) (P : X → Type 0) (s : State) : Type 0 where
-  pub told : Tells true g r (λ x t. g.offset + t.at ≤ limit → P x) s
+  pub told : Tells Whole g r (λ x t. g.offset + t.at ≤ limit → P x) s
 
 -- what a turn gives
 abbrev pub Stepped : {A : Type 0} → (A → Type 0) → Step A → Type 0
@@ -48,18 +49,14 @@ pub stepped : {A : Type 0} (P : A → Type 0) (b : Bool) (a : A) → P a → Ste
 stepped P true a so = so
 stepped P false a so = so
 
-pub step_so : {A : Type 0} (P Q : A → Type 0) → ((a : A) → P a → Q a) → (c : Step A) → Stepped P c → Stepped Q c
-step_so P Q so (again a) one = so a one
-step_so P Q so (done a) one = so a one
-
-turned : (g : Given) (limit : ℕ) {A : Type 0} (P : A → Type 0) (c : Step A) (t : State) → (g.offset + t.at ≤ limit → Stepped P c) → Turned true g (λ a u. g.offset + u.at ≤ limit → P a) c t
+turned : (g : Given) (limit : ℕ) {A : Type 0} (P : A → Type 0) (c : Step A) (t : State) → (g.offset + t.at ≤ limit → Stepped P c) → Turned Whole g (λ a u. g.offset + u.at ≤ limit → P a) c t
 turned g limit P (again a) t so = so
 turned g limit P (done a) t so = so
 
 module _ {g : Given} {limit : ℕ} where
   -- of what begins above the limit nothing is said
   pub unless : {X : Type 0} {P : X → Type 0} {r : Form X} {s : State} → (g.offset + s.at ≤ limit → UpTo g limit r P s) → UpTo g limit r P s
-  unless {P = P} {r = r} {s = s} so = record { told = unless_above true g limit {P = λ x t. P x} r s (λ b. (so b).told) }
+  unless {P = P} {r = r} {s = s} so = record { told = unless_above g limit {P = λ x t. P x} r s (λ b. (so b).told) }
 
   pub gives : {X : Type 0} {P : X → Type 0} {x : X} {s : State} → P x → UpTo g limit (give x) P s
   gives so = record { told = record { told = λ b. so } }
@@ -69,15 +66,15 @@ module _ {g : Given} {limit : ℕ} where
 
   -- what follows
   pub follows : {X : Type 0} {P Q : X → Type 0} {r : Form X} {s : State} → UpTo g limit r P s → ((x : X) → P x → Q x) → UpTo g limit r Q s
-  follows one so = record { told = tells_so true g one.told (λ x t there. λ b. so x (there b)) }
+  follows one so = record { told = tells_so Whole g one.told (λ x t there. λ b. so x (there b)) }
 
   -- one form and then another, which begins no further back
   pub first_on : {X Y : Type 0} {P : X → Type 0} {Q : Y → Type 0} {r : Form X} {q : X → Form Y} {s : State} → UpTo g limit r P s → ((x : X) (t : State) → s.at ≤ t.at → P x → UpTo g limit (q x) Q t)
       → UpTo g limit (both r q) Q s
   first_on {P = P} {r = r} {s = s} one rest =
       record {
-        told = tells_then true g {P = λ a t. (g.offset + t.at ≤ limit → P a) × (s.at ≤ t.at)}
-            (record { told = holds_and (λ a t. g.offset + t.at ≤ limit → P a) (λ a t. s.at ≤ t.at) (does r true g s) one.told.told (low r true g s).told })
+        told = tells_then Whole g {P = λ a t. (g.offset + t.at ≤ limit → P a) × (s.at ≤ t.at)}
+            (record { told = holds_and (λ a t. g.offset + t.at ≤ limit → P a) (λ a t. s.at ≤ t.at) (does r Whole g s) one.told.told (low r Whole g s).told })
             (λ x t so. (unless (λ b. rest x t so.1 (so.0 b))).told);
       }
 
@@ -86,7 +83,7 @@ module _ {g : Given} {limit : ℕ} where
 
   -- what a form gives may be anything
   pub after : {X Y : Type 0} {Q : Y → Type 0} {r : Form X} {q : X → Form Y} {s : State} → ((x : X) (t : State) → UpTo g limit (q x) Q t) → UpTo g limit (both r q) Q s
-  after {r = r} {s = s} rest = record { told = tells_then true g {r = r} {s = s} (low r true g s) (λ x t on. (rest x t).told) }
+  after {r = r} {s = s} rest = record { told = tells_then Whole g {r = r} {s = s} (low r Whole g s) (λ x t on. (rest x t).told) }
 
   -- what is seen, or on to another place, and then the rest
   pub sees : {X Y : Type 0} {Q : Y → Type 0} {f : Sight X} {q : X → Form Y} {s : State} → UpTo g limit (q (seen f g s)) Q s → UpTo g limit (both (see f) q) Q s
@@ -110,48 +107,43 @@ module _ {g : Given} {limit : ℕ} where
   pub tokens : {X : Type 0} {P : X → Type 0} {how : Told} {r : Form X} {s : State} → UpTo g limit r P s → UpTo g limit (token how r) (λ x. P x.0 × IsSpanWithin limit x.1) s
   tokens {P = P} {r = r} {s = s} one =
       record {
-        told = tells_token true g {P = λ a t. (g.offset + t.at ≤ limit → P a) × (s.at ≤ t.at)} {Q = λ x t. g.offset + t.at ≤ limit → P x.0 × IsSpanWithin limit x.1}
-            (record { told = holds_and (λ a t. g.offset + t.at ≤ limit → P a) (λ a t. s.at ≤ t.at) (does r true g s) one.told.told (low r true g s).told })
+        told = tells_token Whole g {P = λ a t. (g.offset + t.at ≤ limit → P a) × (s.at ≤ t.at)} {Q = λ x t. g.offset + t.at ≤ limit → P x.0 × IsSpanWithin limit x.1}
+            (record { told = holds_and (λ a t. g.offset + t.at ≤ limit → P a) (λ a t. s.at ≤ t.at) (does r Whole g s) one.told.told (low r Whole g s).told })
             (λ a t so. λ b. (so.0 b, (omega (arith, so.1, b), b)));
       }
 
   -- of which nothing but its span is told
   pub bare_token : {X : Type 0} {how : Told} {r : Form X} {s : State} → UpTo g limit (token how r) (λ x. IsSpanWithin limit x.1) s
-  bare_token {r = r} {s = s} = follows (tokens {P = λ x. Unit {0}} (record { told = tells_so true g (low r true g s) (λ x t on. λ b. tt) })) (λ x so. so.1)
+  bare_token {r = r} {s = s} = follows (tokens {P = λ x. Unit {0}} (record { told = tells_so Whole g (low r Whole g s) (λ x t on. λ b. tt) })) (λ x so. so.1)
 
-  -- a repetition: P holds before the first turn, and Q, from which P follows, behind each
-  pub grows : {A : Type 0} (P Q : A → Type 0) (turn : A → Form (Step A)) → ((a : A) (s : State) → P a → UpTo g limit (turn a) (Stepped Q) s) → ((a : A) → Q a → P a) → (a : A) (s : State) → P a
-      → UpTo g limit (many turn a) Q s
-  grows P Q turn each so a s one =
-      record {
-        told = tells_until true g turn (λ a t. g.offset + t.at ≤ limit → P a) (λ a t. g.offset + t.at ≤ limit → Q a) (λ a t. g.offset + t.at ≤ limit → Q a)
-            (λ a t there. tells_so true g (unless {P = Stepped Q} {r = turn a} {s = t} (λ b. each a t (there b))).told (turned g limit Q)) (λ a t there. λ b. so a (there b)) (λ a t there. there) a s (λ b. one);
-      }
-
+  -- a repetition
   pub repeats : {A : Type 0} (P : A → Type 0) (turn : A → Form (Step A)) → ((a : A) (s : State) → P a → UpTo g limit (turn a) (Stepped P) s) → (a : A) (s : State) → P a → UpTo g limit (many turn a) P s
-  repeats P turn each a s one = grows P P turn each (λ b so. so) a s one
+  repeats P turn each a s one =
+      record {
+        told = tells_many Whole g turn (λ a t. g.offset + t.at ≤ limit → P a)
+            (λ a t there. tells_so Whole g (unless {P = Stepped P} {r = turn a} {s = t} (λ b. each a t (there b))).told (turned g limit P)) a s (λ b. one);
+      }
 
   -- where the text ends in it, the fault is another one
   pub ending : {X : Type 0} {P : X → Type 0} {kind : FaultKind} {at : ℕ} {r : Form X} {s : State} → UpTo g limit r P s → UpTo g limit (ends_as kind at r) P s
-  ending one = record { told = tells_ending true g one.told }
+  ending one = record { told = tells_ending Whole g one.told }
 
   -- with its bytes, and as a level of its own, with the bodies of that
   pub with_its_bytes : {X : Type 0} {P : X → Type 0} {r : Form X} {s : State} → UpTo g limit r P s → UpTo g limit (with_bytes r) (λ x. P x.0) s
-  with_its_bytes {P = P} one = record { told = tells_with_bytes true g {P = λ a t. g.offset + t.at ≤ limit → P a} {Q = λ x t. g.offset + t.at ≤ limit → P x.0} one.told (λ a t so. so) }
+  with_its_bytes {P = P} one = record { told = tells_with_bytes Whole g {P = λ a t. g.offset + t.at ≤ limit → P a} {Q = λ x t. g.offset + t.at ≤ limit → P x.0} one.told (λ a t so. so) }
 
   pub in_level : {X : Type 0} {P : X → Type 0} {r : Form X} {s : State} → UpTo g limit r P (own_level s) → UpTo g limit (a_level r) (λ x. P x.0 × All (IsSpanWithin limit) x.1) s
   in_level {P = P} {r = r} {s = s} one =
-      let bodies = held true g limit r (own_level s) (All-nil (IsSpanWithin limit)) in
+      let bodies = held g limit r (own_level s) (All-nil (IsSpanWithin limit)) in
       record {
-        told = tells_level true g {P = λ a t. (g.offset + t.at ≤ limit → P a) × (g.offset + t.at ≤ limit → HoldsWithin true g limit t)} {Q = λ x t. g.offset + t.at ≤ limit → P x.0 × All (IsSpanWithin limit) x.1}
-            (record { told = holds_and (λ a t. g.offset + t.at ≤ limit → P a) (λ a t. g.offset + t.at ≤ limit → HoldsWithin true g limit t) (does r true g (own_level s)) one.told.told bodies.told })
+        told = tells_level Whole g {P = λ a t. (g.offset + t.at ≤ limit → P a) × (g.offset + t.at ≤ limit → HoldsWithin g limit t)} {Q = λ x t. g.offset + t.at ≤ limit → P x.0 × All (IsSpanWithin limit) x.1}
+            (record { told = holds_and (λ a t. g.offset + t.at ≤ limit → P a) (λ a t. g.offset + t.at ≤ limit → HoldsWithin g limit t) (does r Whole g (own_level s)) one.told.told bodies.told })
             (λ a t so. λ b. (so.0 b, so.1 b));
       }
+
+  pub in_subst : {X : Type 0} {P : X → Type 0} {r : Form X} {s : State} → UpTo g limit r P s → UpTo g limit (in_substitution r) P s
+  in_subst one = record { told = tells_inside Whole g one.told }
 
   pub picks : {X : Type 0} {P : X → Type 0} (b : Bool) {r q : Form X} {s : State} → UpTo g limit r P s → UpTo g limit q P s → UpTo g limit (pick b r q) P s
   picks true one two = one
   picks false one two = two
-
-  pub picks_by : {X : Type 0} {P : X → Type 0} (b : Bool) {r q : Form X} {s : State} → (b ≡ true → UpTo g limit r P s) → (b ≡ false → UpTo g limit q P s) → UpTo g limit (pick b r q) P s
-  picks_by true one two = one refl
-  picks_by false one two = two refl

@@ -3,6 +3,7 @@ use Rattle.std.proofs.Common.{◌≡◌, refl, sym, subst, ℕ, zero, suc, ◌+�
 use Rattle.std.specs.Prelude.{All, MatchOption, unwrap_or}
 use Rattle.std.proofs.lemmas.Bool.{cases_lt, cond_both}
 use Rattle.std.proofs.lemmas.List.Elements.{All-head, All-nil, All-push, All-tail}
+use Rattle.shread.specs.declared.keep.Keep.{Keep}
 use Rattle.shread.specs.declared.fault.FaultKind.TheVariants.{UnclosedSubst}
 use Rattle.shread.specs.declared.mode.Mode.{Mode}
 use Rattle.shread.specs.declared.mode.Piece.{Piece}
@@ -30,12 +31,12 @@ use Rattle.shread.specs.Comments.{span, comment_at, past_comment}
 use Rattle.shread.specs.Classes.{is_blank}
 use Rattle.shread.specs.Sights.{Given, given, State, standing, here, one_byte, the_digits}
 use Rattle.shread.specs.HereDocuments.{own_level}
-use Rattle.shread.specs.Form.{with_bytes, a_level, Spelled, Told, Read, Form, give, move, push, both, many, token, ends_as, does, Step, again, done, step_if, pushed, see}
+use Rattle.shread.specs.Form.{with_bytes, a_level, Spelled, Told, Read, Form, give, move, push, both, many, token, ends_as, does, Step, again, done, step_if, pushed, see, grows, inside}
 use Rattle.shread.specs.Words.{Inner, Held, having, opened, piece_row, a_piece, contents, a_word}
 use Rattle.shread.specs.Commands.{pick, is_pipe, is_bang, begins_simple, begins_word, begins_redirect, begins_pipeline, opener_of, compound_by, and_or_operator_of, breaks, Items, so_many, behind_word, is_number, redirect_operator_of, is_strip, a_number, an_operator, operator_by, a_target, one_redirect, behind_redirect, redirect_turn, redirected, as_item, an_item, item_by, item_turn, a_simple, a_bang, a_comment, comment_by, unexpected, with_comment, JoinSo, join_turn, a_join, a_command, Piped, piped, one_command, pipe_turn, a_pipeline, Joined, joined_so, one_pipeline, joined_by, join_pipeline, an_and_or, is_background, an_entry, a_worded, is_word, is_paren, separator_of, separator_by, a_separator, past_separator, is_double_semicolon}
 use Rattle.shread.specs.Lists.{ListSo, list_so, none_listed, is_blank_next, one_entry, entry_turn, remark_by, a_remark, on_line, list_turn, a_list, Listed}
 use Rattle.shread.specs.Compounds.{Branched, branched, Closed, is_closing, is_open_paren, is_close_paren, passed, closing, a_branch, elif_turn, an_else, an_if, a_loop, a_group, a_for_name, a_linebreak, a_sequential_sep, Headed, word_turn, for_words, a_for_head, behind_remarks, a_for, a_form, held_apart, a_compound, a_function, under_name, a_case_word, begins_pattern, Patterned, a_pattern, one_pattern, pattern_turn, a_pattern_list, a_body, body_end, ItemEnd, a_double_semicolon, an_item_end, CasesSo, cases_so, one_case, case_turn, a_case_head, a_case}
-use Rattle.shread.specs.Substitutions.{substituted, a_substitution}
+use Rattle.shread.specs.Substitutions.{substituted, a_substitution, one_substitution}
 use Rattle.shread.specs.Levels.{most_open, level}
 use Rattle.shread.specs.Lines.{an_open_line, a_line, ALine, IsLine, line_read, line_stops, kind_of}
 use Rattle.shread.specs.Scripts.{SoFar, the_line, with_line}
@@ -43,7 +44,8 @@ use Rattle.shread.specs.Answers.{EntriesWithin}
 use Rattle.shread.proofs.OneOutcome.{is}
 use Rattle.shread.proofs.Ahead.{behind_is}
 use Rattle.shread.proofs.Places.{behind_low, next_newline_low}
-use Rattle.shread.proofs.Holds.{Holds, Tells, Turned, tells_with_bytes, tells_level, tells_give, tells_then, tells_token, tells_many, tells_so, tells_ending, tells_seen, tells_moved, low}
+use Rattle.shread.proofs.Holds.{Holds, Tells, Turned, tells_with_bytes, tells_level, tells_give, tells_then, tells_token, tells_many, tells_so, tells_ending, tells_seen, tells_moved, low, tells_inside}
+use Rattle.shread.specs.declared.keep.Keep.TheVariants.{Whole}
 
 -- ---- comments
 
@@ -69,7 +71,7 @@ holds_and : {X : Type 0} (P Q : X → State → Type 0) (x : Read X) → Holds P
 holds_and P Q (Ok (a, t)) one two = (one, two)
 holds_and P Q (Err f) one two = tt
 
-module _ (keep : Bool) (g : Given) (limit : ℕ) where
+module _ (keep : Keep) (g : Given) (limit : ℕ) where
   -- the reading does not stand above the limit
   abbrev pub Before : State → Type 0
   Before s = g.offset + s.at ≤ limit
@@ -94,13 +96,13 @@ module _ (keep : Bool) (g : Given) (limit : ℕ) where
   after : {X Y : Type 0} {Q : Y → Type 0} {r : Form X} {q : X → Form Y} {s : State} → ((x : X) (t : State) → R (q x) Q t) → R (both r q) Q s
   after {r = r} {s = s} rest = tells_then keep g {r = r} {s = s} (low r keep g s) (λ x t on. rest x t)
 
-  pushed_all : {A : Type 0} (P : A → Type 0) (keep : Bool) (xs : Row A) (x : A) → All P xs → P x → All P (pushed keep xs x)
+  pushed_all : {A : Type 0} (P : A → Type 0) (grow : Bool) (xs : Row A) (x : A) → All P xs → P x → All P (pushed grow xs x)
   pushed_all P true xs x all one = All-push P xs x all one
   pushed_all P false xs x all one = all
 
   -- one more element
   pushes : {A : Type 0} (P : A → Type 0) {xs : Row A} {x : A} {s : State} → All P xs → P x → R (push xs x) (All P) s
-  pushes P {xs = xs} {x = x} all one = record { told = λ b. pushed_all P keep xs x all one }
+  pushes P {xs = xs} {x = x} all one = record { told = λ b. pushed_all P (grows keep) xs x all one }
 
   -- one token
   tokens : {X : Type 0} {P : X → Type 0} {how : Told} {r : Form X} {s : State} → R r P s → R (token how r) (λ x. P x.0 × IsSpanWithin limit x.1) s
@@ -617,8 +619,8 @@ module _ (keep : Bool) (g : Given) (limit : ℕ) where
         after (λ n t. first (repeats ListFits (list_turn inner) list_turn_fits (list_so (none_listed false) n) t (All-nil (EntryFits limit), tt))
         (λ l u all. picks (is_closing closings.Paren l.next.token) (after (λ w z. after (λ x v. gives (fits_entries limit l.list.entries all.0)))) (stopped l.next)))
 
-    substitution_fits : (b : ℕ) (ss : Row ASubst) (s : State) → b ≤ g.offset + s.at → All (SubstFits limit) ss → R (a_substitution inner b ss) (All (SubstFits limit)) s
-    unfolding a_substitution
+    substitution_fits : (b : ℕ) (ss : Row ASubst) (s : State) → b ≤ g.offset + s.at → All (SubstFits limit) ss → R (one_substitution inner b ss) (All (SubstFits limit)) s
+    unfolding one_substitution
     substitution_fits b ss s from so =
         let body = a_level (ends_as UnclosedSubst b (substituted inner)) in
         tells_then keep g {P = λ es t. (Before t → AreWithin limit es.0) × (s.at ≤ t.at)}
@@ -626,7 +628,7 @@ module _ (keep : Bool) (g : Given) (limit : ℕ) where
           told = holds_and (λ es t. Before t → AreWithin limit es.0) (λ es t. s.at ≤ t.at) (does body keep g s) (in_level (tells_ending keep g (substituted_fits (own_level s)))).told (low body keep g s).told;
         })
         (λ es t one. tells_seen keep g
-        (record { told = λ before. pushed_all (SubstFits limit) keep ss _ so (fits_subst limit (filled es.1 es.0) _ (omega (arith, from, one.1, before), before) (filled_within limit es.1 es.0 (one.0 before))) }))
+        (record { told = λ before. pushed_all (SubstFits limit) (grows keep) ss _ so (fits_subst limit (filled es.1 es.0) _ (omega (arith, from, one.1, before), before) (filled_within limit es.1 es.0 (one.0 before))) }))
 
     -- ---- functions
 
@@ -641,26 +643,27 @@ module _ (keep : Bool) (g : Given) (limit : ℕ) where
         after (λ o t. after (λ c u. first (linebreak_fits [] c.1 u (All-nil (CommentFits limit)))
         (λ l v all. first (compound_fits_by l.next (opener_of l.next.token) v) (λ b w so. gives (under_fits name l.join.comments b.0 one all so)))))
 
-  pub level_fits : (room : ℕ) → Fine (level room)
-  unfolding level
-  level_fits zero = record {
-    construct = λ mode b ss s so. record { told = tt };
-    substitution = λ b ss s from so. record { told = tt };
-    compound = λ o s. after (λ p t. record { told = tt });
-    function = λ name s one. record { told = tt };
-  }
-  level_fits (suc room) =
-      record {
-        construct = λ mode b ss s so. contents_fit (level room) (level_fits room) mode b ss s so;
-        substitution = λ b ss s from so. substitution_fits (level room) (level_fits room) b ss s from so;
-        compound = λ o s. compound_fits (level room) (level_fits room) o s;
-        function = λ name s one. function_fits (level room) (level_fits room) name s one;
-      }
+-- what stands in a substitution is read by what is kept there
+pub level_fits : (keep : Keep) (g : Given) (limit room : ℕ) → Fine keep g limit (level room)
+unfolding level a_substitution
+level_fits keep g limit zero = record {
+  construct = λ mode b ss s so. record { told = tt };
+  substitution = λ b ss s from so. record { told = tt };
+  compound = λ o s. after keep g limit (λ p t. record { told = tt });
+  function = λ name s one. record { told = tt };
+}
+level_fits keep g limit (suc room) =
+    record {
+      construct = λ mode b ss s so. contents_fit keep g limit (level room) (level_fits keep g limit room) mode b ss s so;
+      substitution = λ b ss s from so. tells_inside keep g (substitution_fits (inside keep) g limit (level room) (level_fits (inside keep) g limit room) b ss s from so);
+      compound = λ o s. compound_fits keep g limit (level room) (level_fits keep g limit room) o s;
+      function = λ name s one. function_fits keep g limit (level room) (level_fits keep g limit room) name s one;
+    }
 
 -- ---- lines
 
 -- the entries of a line, with its tree or without
-pub line_within : (T : List ℕ) (o : ℕ) (keep blank newline : Bool) (es : Row AnEntry) (t : State) → does (the_line blank) keep (given T o) (standing 0) ≡ Ok ((es, newline), t)
+pub line_within : (T : List ℕ) (o : ℕ) (keep : Keep) (blank newline : Bool) (es : Row AnEntry) (t : State) → does (the_line blank) keep (given T o) (standing 0) ≡ Ok ((es, newline), t)
     → (limit : ℕ) → o + t.at ≤ limit → AreWithin limit (entries_of es)
 line_within T o keep blank newline es t is limit le =
     let g = given T o in
@@ -675,7 +678,7 @@ kind_within limit (e ∷ es) newline so = so
 -- those of a line, as far as the line goes
 pub entries_within : (T : List ℕ) (l : ALine) → IsLine T l → EntriesWithin l.next l.kind
 entries_within T l (line_read es newline t k part) =
-    kind_within t.at es newline (line_within T 0 true false newline es t (sym ((is (the_line false) (given T 0) (standing 0)).only _ _ part)) t.at (omega arith))
+    kind_within t.at es newline (line_within T 0 Whole false newline es t (sym ((is (the_line false) (given T 0) (standing 0)).only _ _ part)) t.at (omega arith))
 entries_within T l (line_stops f k part) = tt
 
 -- ---- scripts

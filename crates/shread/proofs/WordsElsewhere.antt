@@ -1,6 +1,7 @@
 -- What may be opened is read wherever its bytes stand, with the same shape: constructs, substitutions and compound commands.
 use Rattle.std.proofs.Common.{Option, option_map, None, ◌≡◌, ℕ, zero, suc, ◌+◌, ◌≤◌, ◌<◌, Bool, true, false, Ok, Err, List, List as Row, [], ◌∷◌, ◌++◌, length, drop, map, Some, slice_get, refl, sym, ap, subst, ◌∙◌, arith}
 use Rattle.std.proofs.lemmas.Option.{slice_get_within}
+use Rattle.shread.specs.declared.keep.Keep.TheVariants.{Whole}
 use Rattle.shread.specs.declared.fault.FaultKind.{FaultKind}
 use Rattle.shread.specs.declared.fault.FaultKind.TheVariants.{UnclosedSubst}
 use Rattle.shread.specs.declared.mode.Mode.TheVariants.{Plain}
@@ -21,7 +22,7 @@ use Rattle.shread.specs.Words.{Inner, contents, a_word}
 use Rattle.shread.specs.Commands.{none_waits, nothing_waits, next_token, pick, unexpected, what_is_wrong}
 use Rattle.shread.specs.Lists.{ListSo, list_so, none_listed, list_turn}
 use Rattle.shread.specs.Compounds.{is_closing}
-use Rattle.shread.specs.Substitutions.{substituted, a_substitution}
+use Rattle.shread.specs.Substitutions.{substituted, a_substitution, one_substitution}
 use Rattle.shread.specs.Levels.{level}
 use Rattle.shread.proofs.Holds.{Holds, Behind, low}
 use Rattle.shread.proofs.SameBytes.{Kept, Here, at_limit}
@@ -66,7 +67,7 @@ module _ (room : ℕ) (all : Everywhere (level room)) where
     kept_to : (e : ℕ) → a ≤ e → e ≤ M → Kept T U a e to
     kept_to e low le = record { under = low; on = E.kept.on; same = λ r from lt. E.kept.same r from (omega (arith, lt, le)) }
 
-    word_there : (s : State) (ss : Row ASubst) (t : State) → a ≤ s.at → s.at ≤ t.at → ends_word T t.at ≡ true → does (contents inner Plain (o + s.at) []) true (given T o) s ≡ Ok (ss, t)
+    word_there : (s : State) (ss : Row ASubst) (t : State) → a ≤ s.at → s.at ≤ t.at → ends_word T t.at ≡ true → does (contents inner Plain (o + s.at) []) Whole (given T o) s ≡ Ok (ss, t)
         → FoundWord s (word (span o s.at t.at) (substs_of ss)) t
     unfolding a_word ends_word
     word_there s ss t from onward ender is e =
@@ -81,19 +82,19 @@ module _ (room : ℕ) (all : Everywhere (level room)) where
           (rw w.1.0 refl, rw (same_texts E o o2 B B2 stands stands_there s.at t.at from (omega (arith, from, onward)) le, substs_shape B ss, w.1.1, sym (substs_shape B2 w.0)) refl),
         )
 
-    word_by : (s : State) → a ≤ s.at → (x : Read (Row ASubst)) → does (contents inner Plain (o + s.at) []) true (given T o) s ≡ x → Holds (Behind s) x → (s.at ≤ length T → Holds (λ ss t. Last (given T o) Plain t) x)
+    word_by : (s : State) → a ≤ s.at → (x : Read (Row ASubst)) → does (contents inner Plain (o + s.at) []) Whole (given T o) s ≡ x → Holds (Behind s) x → (s.at ≤ length T → Holds (λ ss t. Last (given T o) Plain t) x)
         → Holds (FoundWord s) (◌▸◌ {Y = AWord} x (λ ss t. Ok (word (span o s.at t.at) (substs_of ss), t)))
     word_by s from (Ok (ss, t)) is onward last =
         λ e. let le : t.at < length T = omega (arith, high E e, slice_get_within T M limit E.byte) in
         word_there s ss t from onward ((last (omega (arith, onward, le))).1 refl) is e
     word_by s from (Err f) is onward last = tt
 
-    word_go : (s : State) → a ≤ s.at → Holds (FoundWord s) (does (a_word inner) true (given T o) s)
+    word_go : (s : State) → a ≤ s.at → Holds (FoundWord s) (does (a_word inner) Whole (given T o) s)
     unfolding a_word
     word_go s from =
         let body = contents inner Plain (o + s.at) [] in
-        subst (Holds (FoundWord s)) (joined (does body true (given T o) s))
-        (word_by s from (does body true (given T o) s) refl (low body true (given T o) s).told (λ le. contents_end (given T o) inner (stays_in (given T o) room) Plain (o + s.at) [] s le))
+        subst (Holds (FoundWord s)) (joined (does body Whole (given T o) s))
+        (word_by s from (does body Whole (given T o) s) refl (low body Whole (given T o) s).told (λ le. contents_end (given T o) inner (stays_in (given T o) room) Plain (o + s.at) [] s le))
       where
         joined : (x : Read (Row ASubst))
             → ◌▸◌ {Y = AWord} x (λ ss t. Ok (word (span o s.at t.at) (substs_of ss), t)) ≡ ◌▸◌ {Y = AWord} (◌▸◌ {Y = Row ASubst × Span} x (λ ss t. Ok ((ss, span o s.at t.at), t))) (λ w t. Ok (word w.1 (substs_of w.0), t))
@@ -156,7 +157,7 @@ module _ (room : ℕ) (all : Everywhere (level room)) where
       There x t = Holding K o o2 B B2 (a_substitution inner b2) ss outer x t
 
       -- the list was read up to its `)`, and nothing waits there
-      module _ (l : ListSo) (u : State) (is : does (all_lines the_next) true g start ≡ Ok (l, u)) (closed : closes l ≡ true) (none : first_waiting u ≡ None) (begins : Begins g l.next u) (onward : start.at ≤ u.at)
+      module _ (l : ListSo) (u : State) (is : does (all_lines the_next) Whole g start ≡ Ok (l, u)) (closed : closes l ≡ true) (none : first_waiting u ≡ None) (begins : Begins g l.next u) (onward : start.at ≤ u.at)
           (still : s.at ≤ start.at) where
         abbrev M : ℕ
         M = u.at
@@ -189,13 +190,13 @@ module _ (room : ℕ) (all : Everywhere (level room)) where
           begun = here_before M le (seen E ((good E o o2 B B2 stands stands_there (next_token Command) s from).told.1 good_start))
 
           -- the same token begins it there
-          same_start : does (next_token Command) true h (over_there s) ≡ Ok (the_next, over_there start)
+          same_start : does (next_token Command) Whole h (over_there s) ≡ Ok (the_next, over_there start)
           unfolding next_token
           same_start =
               let w = (next E o o2 B B2 stands stands_there Command).go s from good_start in
-              subst (λ (n : Next). does (next_token Command) true h (over_there s) ≡ Ok (n, over_there start)) (sym w.1.1) w.1.0
+              subst (λ (n : Next). does (next_token Command) Whole h (over_there s) ≡ Ok (n, over_there start)) (sym w.1.1) w.1.0
 
-          same_lines : (k : ListSo) × ((does (all_lines the_next) true h (over_there start) ≡ Ok (k, over_there u)) × SameList E o o2 B B2 stands stands_there inner (fine E o o2 B B2 stands stands_there) l k)
+          same_lines : (k : ListSo) × ((does (all_lines the_next) Whole h (over_there start) ≡ Ok (k, over_there u)) × SameList E o o2 B B2 stands stands_there inner (fine E o o2 B B2 stands stands_there) l k)
           same_lines =
               subst (Holds (Found E o o2 B B2 stands stands_there (SameList E o o2 B B2 stands stands_there inner (fine E o o2 B B2 stands stands_there)) (all_lines the_next) start)) is
               ((lines E o o2 B B2 stands stands_there inner (fine E o o2 B B2 stands stands_there) the_next the_next refl).go start (omega (arith, from, still))) at_limit
@@ -210,20 +211,20 @@ module _ (room : ℕ) (all : Everywhere (level room)) where
           none_there = first_over E o o2 u ∙ ap first_there none
 
           -- where nothing waits its `)` is read
-          close_there : does (the_close k true) true h (over_there u) ≡ Ok (entries_of k.list.entries, over_there last)
+          close_there : does (the_close k true) Whole h (over_there u) ≡ Ok (entries_of k.list.entries, over_there last)
           unfolding nothing_waits
           close_there =
-              ap (λ (w : Option ℕ). ◌▸◌ {Y = Entries} (does (none_waits w) true h (over_there u)) (λ x t. Ok (entries_of k.list.entries, moved one_byte h t))) none_there
+              ap (λ (w : Option ℕ). ◌▸◌ {Y = Entries} (does (none_waits w) Whole h (over_there u)) (λ x t. Ok (entries_of k.list.entries, moved one_byte h t))) none_there
               ∙ ap (λ (p : ℕ). Ok (entries_of k.list.entries, state_from (o + a) (o2 + to a) p u)) (same_behind E at_limit)
 
           -- what stands in it, and its `)`
-          same_inside : does (substituted inner) true h (over_there s) ≡ Ok (entries_of k.list.entries, over_there last)
+          same_inside : does (substituted inner) Whole h (over_there s) ≡ Ok (entries_of k.list.entries, over_there last)
           unfolding substituted
           same_inside =
               let closes_there : closes k ≡ true = ap (λ (n : Next). is_closing closings.Paren n.token) (sym same_lines.1.1.1) ∙ closed in
-              ap (λ (z : Read Next). ◌▸◌ {Y = Entries} z (λ n t. ◌▸◌ {Y = Entries} (does (all_lines n) true h t) (λ l t. does (the_close l (closes l)) true h t))) same_start
-              ∙ ap (λ (z : Read ListSo). ◌▸◌ {Y = Entries} z (λ l t. does (the_close l (closes l)) true h t)) same_lines.1.0
-              ∙ ap (λ c. does (the_close k c) true h (over_there u)) closes_there
+              ap (λ (z : Read Next). ◌▸◌ {Y = Entries} z (λ n t. ◌▸◌ {Y = Entries} (does (all_lines n) Whole h t) (λ l t. does (the_close l (closes l)) Whole h t))) same_start
+              ∙ ap (λ (z : Read ListSo). ◌▸◌ {Y = Entries} z (λ l t. does (the_close l (closes l)) Whole h t)) same_lines.1.0
+              ∙ ap (λ c. does (the_close k c) Whole h (over_there u)) closes_there
               ∙ close_there
 
           abbrev one_more : Entries → ℕ → ℕ → ASubst
@@ -238,9 +239,9 @@ module _ (room : ℕ) (all : Everywhere (level room)) where
               ∙ sym (shape_filled B2 (map (move_span E o o2) u.bodies) (entries_of k.list.entries))
 
           found : (zs : Row ASubst) → SameSubsts K o o2 B B2 ss zs
-              → (y : Row ASubst) × ((does (a_substitution inner b2 zs) true h (over_there outer) ≡ Ok (y, over_there (outer_level outer last)))
+              → (y : Row ASubst) × ((does (a_substitution inner b2 zs) Whole h (over_there outer) ≡ Ok (y, over_there (outer_level outer last)))
               × SameSubsts K o o2 B B2 (ss ++ one_more (filled u.bodies (entries_of l.list.entries)) b (o + behind T M) ∷ []) y)
-          unfolding a_substitution
+          unfolding a_substitution one_substitution
           found zs same = (
             zs ++ one_more (filled (map (move_span E o o2) u.bodies) (entries_of k.list.entries)) b2 (o2 + to (behind T M)) ∷ [],
             (
@@ -260,33 +261,33 @@ module _ (room : ℕ) (all : Everywhere (level room)) where
           ◌▸◌ {Y = Row ASubst} (◌▸◌ {Y = Entries × Row Span} (with_end UnclosedSubst b x) (λ es t. Ok ((es, t.bodies), outer_level outer t)))
           (λ es t. Ok (ss ++ a_subst (filled es.1 es.0) (record { start = b; «end» = o + t.at }) ∷ [], t))
 
-      by_waiting : (l : ListSo) (u : State) → does (all_lines the_next) true g start ≡ Ok (l, u) → Begins g l.next u → start.at ≤ u.at → s.at ≤ start.at → closes l ≡ true → (w : Option ℕ) → first_waiting u ≡ w
-          → Holds There (one_level (does (none_waits w) true g u ▸ λ x t. Ok (entries_of l.list.entries, moved one_byte g t)))
+      by_waiting : (l : ListSo) (u : State) → does (all_lines the_next) Whole g start ≡ Ok (l, u) → Begins g l.next u → start.at ≤ u.at → s.at ≤ start.at → closes l ≡ true → (w : Option ℕ) → first_waiting u ≡ w
+          → Holds There (one_level (does (none_waits w) Whole g u ▸ λ x t. Ok (entries_of l.list.entries, moved one_byte g t)))
       by_waiting l u is begins onward still closed (Some w) waiting = tt
       by_waiting l u is begins onward still closed None none =
           λ le. let high = ends_high u.at (shown l u is closed none begins onward still).1 le in
           (begun l u is closed none begins onward still high, λ zs same. found l u is closed none begins onward still high zs same)
 
-      by_close : (l : ListSo) (u : State) → does (all_lines the_next) true g start ≡ Ok (l, u) → Begins g l.next u → start.at ≤ u.at → s.at ≤ start.at → (c : Bool) → closes l ≡ c
-          → Holds There (one_level (does (the_close l c) true g u))
+      by_close : (l : ListSo) (u : State) → does (all_lines the_next) Whole g start ≡ Ok (l, u) → Begins g l.next u → start.at ≤ u.at → s.at ≤ start.at → (c : Bool) → closes l ≡ c
+          → Holds There (one_level (does (the_close l c) Whole g u))
       unfolding nothing_waits
       by_close l u is begins onward still true closed = by_waiting l u is begins onward still closed (first_waiting u) refl
-      by_close l u is begins onward still false closed = no_close _ (does (what_is_wrong inner l.next) true g u)
+      by_close l u is begins onward still false closed = no_close _ (does (what_is_wrong inner l.next) Whole g u)
         where
           no_close : (P : Row ASubst → State → Type 0) (x : Read (FaultKind × ℕ)) → Holds P (one_level (x ▸ λ w t. Err (record { kind = w.0; at = w.1 })))
           no_close P (Ok (w, t)) = tt
           no_close P (Err f) = tt
 
-      by_lines : (x : Read ListSo) → does (all_lines the_next) true g start ≡ x → Holds (λ l t. Begins g l.next t) x → Holds (Behind start) x → s.at ≤ start.at
-          → Holds There (one_level (x ▸ λ l t. does (the_close l (closes l)) true g t))
+      by_lines : (x : Read ListSo) → does (all_lines the_next) Whole g start ≡ x → Holds (λ l t. Begins g l.next t) x → Holds (Behind start) x → s.at ≤ start.at
+          → Holds There (one_level (x ▸ λ l t. does (the_close l (closes l)) Whole g t))
       by_lines (Ok (l, u)) is begins onward still = by_close l u is begins onward still (closes l) refl
       by_lines (Err f) is begins onward still = tt
 
-      substitution_there : Holds There (does (a_substitution inner b ss) true g outer)
-      unfolding a_substitution substituted next_token
+      substitution_there : Holds There (does (a_substitution inner b ss) Whole g outer)
+      unfolding a_substitution one_substitution substituted next_token
       substitution_there =
-          by_lines (does (all_lines the_next) true g start) refl (shown_lines g inner (shown_level g room) the_next start (shown_next g Command s).told).told (low (all_lines the_next) true g start).told
-          (low (next_token Command) true g s).told
+          by_lines (does (all_lines the_next) Whole g start) refl (shown_lines g inner (shown_level g room) the_next start (shown_next g Command s).told).told (low (all_lines the_next) Whole g start).told
+          (low (next_token Command) Whole g s).told
 
 -- by how many more may be opened
 pub everywhere : (room : ℕ) → Everywhere (level room)

@@ -1,5 +1,6 @@
 -- A word is read alike whatever here-documents wait where it stands: it looks at none of them, and leaves them waiting.
 use Rattle.std.proofs.Common.{◌≡◌, ℕ, zero, suc, ◌-◌, Bool, true, false, cond, length, List as Row, [], Ok, Err, refl, sym, ap, ◌∙◌, subst}
+use Rattle.shread.specs.declared.keep.Keep.TheVariants.{Whole}
 use Rattle.shread.specs.declared.fault.FaultKind.{FaultKind}
 use Rattle.shread.specs.declared.mode.Mode.{Mode}
 use Rattle.shread.specs.declared.mode.Mode.TheVariants.{Plain}
@@ -10,9 +11,9 @@ use Rattle.shtree.specs.Tree.{ASubst, AWord}
 use Rattle.shread.specs.Comments.{span}
 use Rattle.shread.specs.HereDocuments.{own_level, outer_level}
 use Rattle.shread.specs.Sights.{Given, State, standing, Sight, seen, Move}
-use Rattle.shread.specs.Form.{Form, give, see, move, push, stop, both, when, token, many, a_level, Told, Step, again, done, Read, ◌▸◌, does, may, moved, leads_on, turns, turns_below, next, Spelled}
+use Rattle.shread.specs.Form.{Form, give, see, move, push, stop, both, when, token, many, a_level, Told, Step, again, done, Read, ◌▸◌, does, may, moved, leads_on, turns, turns_below, next, Spelled, in_substitution}
 use Rattle.shread.specs.Words.{Held, having, opened, piece_row, a_piece, single, backquote_turn, backquoted, Inner, contents, a_word}
-use Rattle.shread.specs.Substitutions.{a_substitution}
+use Rattle.shread.specs.Substitutions.{a_substitution, one_substitution}
 use Rattle.shread.specs.Levels.{level}
 use Rattle.shread.proofs.OneOutcome.{is}
 use Rattle.shread.proofs.Anywhere.{word_told}
@@ -26,9 +27,9 @@ abbrev pub onto : {X : Type 0} → State → Read X → Read X
 onto t (Ok x) = Ok (x.0, place_of t x.1.at)
 onto t (Err f) = Err f
 
-module _ (keep : Bool) (g : Given) where
+module _ (g : Given) where
   pub record Blind {X : Type 0} (r : Form X) : Type 0 where
-    pub alike : (s t : State) → does r keep g (place_of t s.at) ≡ onto t (does r keep g s)
+    pub alike : (s t : State) → does r Whole g (place_of t s.at) ≡ onto t (does r Whole g s)
 
   abbrev Unseen : {X : Type 0} → Sight X → Type 0
   Unseen f = (s t : State) → seen f g (place_of t s.at) ≡ seen f g s
@@ -46,28 +47,28 @@ module _ (keep : Bool) (g : Given) where
   blind_move = record { alike = λ s t. refl }
 
   blind_both : {X Y : Type 0} {r : Form X} {q : X → Form Y} → Blind r → ((x : X) → Blind (q x)) → Blind (both r q)
-  blind_both {X = X} {r = r} {q = q} one two = record { alike = λ s t. ap (λ y. y ▸ λ x u. does (q x) keep g u) (one.alike s t) ∙ behind t (does r keep g s) }
+  blind_both {X = X} {r = r} {q = q} one two = record { alike = λ s t. ap (λ y. y ▸ λ x u. does (q x) Whole g u) (one.alike s t) ∙ behind t (does r Whole g s) }
     where
-      behind : (t : State) (y : Read X) → (onto t y ▸ λ x u. does (q x) keep g u) ≡ onto t (y ▸ λ x u. does (q x) keep g u)
+      behind : (t : State) (y : Read X) → (onto t y ▸ λ x u. does (q x) Whole g u) ≡ onto t (y ▸ λ x u. does (q x) Whole g u)
       behind t (Ok x) = (two x.0).alike x.1 t
       behind t (Err f) = refl
 
   blind_sees : {X Y : Type 0} {f : Sight X} {q : X → Form Y} → Unseen f → ((x : X) → Blind (q x)) → Blind (both (see f) q)
-  blind_sees {f = f} {q = q} same rest = record { alike = λ s t. ap (λ x. does (q x) keep g (place_of t s.at)) (same s t) ∙ (rest (seen f g s)).alike s t }
+  blind_sees {f = f} {q = q} same rest = record { alike = λ s t. ap (λ x. does (q x) Whole g (place_of t s.at)) (same s t) ∙ (rest (seen f g s)).alike s t }
 
   blind_moves : {Y : Type 0} {m : Move} {q : Unit {0} → Form Y} → Blind (q tt) → Blind (both (move m) q)
   blind_moves {m = m} rest = record { alike = λ s t. rest.alike (moved m g s) t }
 
   blind_when : {X : Type 0} {f : Sight Bool} {r q : Form X} → Unseen f → Blind r → Blind q → Blind (when f r q)
   blind_when {f = f} {r = r} {q = q} same one two =
-      record { alike = λ s t. ap (λ b. cond b (does r keep g (place_of t s.at)) (does q keep g (place_of t s.at))) (same s t) ∙ by_test s t (seen f g s) }
+      record { alike = λ s t. ap (λ b. cond b (does r Whole g (place_of t s.at)) (does q Whole g (place_of t s.at))) (same s t) ∙ by_test s t (seen f g s) }
     where
-      by_test : (s t : State) (b : Bool) → cond b (does r keep g (place_of t s.at)) (does q keep g (place_of t s.at)) ≡ onto t (cond b (does r keep g s) (does q keep g s))
+      by_test : (s t : State) (b : Bool) → cond b (does r Whole g (place_of t s.at)) (does q Whole g (place_of t s.at)) ≡ onto t (cond b (does r Whole g s) (does q Whole g s))
       by_test s t true = one.alike s t
       by_test s t false = two.alike s t
 
   blind_token : {X : Type 0} {told : Told} {r : Form X} → Blind r → Blind (token told r)
-  blind_token {X = X} {told = told} {r = r} one = record { alike = λ s t. ap (λ y. y ▸ λ x u. Ok ((x, span g.offset s.at u.at), u)) (one.alike s t) ∙ behind s t (does r keep g s) }
+  blind_token {X = X} {told = told} {r = r} one = record { alike = λ s t. ap (λ y. y ▸ λ x u. Ok ((x, span g.offset s.at u.at), u)) (one.alike s t) ∙ behind s t (does r Whole g s) }
     where
       behind : (s t : State) (y : Read X) → ◌≡◌ {A = Read (X × Span)} (onto t y ▸ λ x u. Ok ((x, span g.offset s.at u.at), u)) (onto t (y ▸ λ x u. Ok ((x, span g.offset s.at u.at), u)))
       behind s t (Ok x) = refl
@@ -75,15 +76,18 @@ module _ (keep : Bool) (g : Given) where
 
   -- a level of its own sees nothing of what waits outside
   blind_level : {X : Type 0} {r : Form X} → Blind (a_level r)
-  blind_level {X = X} {r = r} = record { alike = λ s t. behind s t (does r keep g (own_level s)) }
+  blind_level {X = X} {r = r} = record { alike = λ s t. behind s t (does r Whole g (own_level s)) }
     where
       behind : (s t : State) (y : Read X) → ◌≡◌ {A = Read (X × Row Span)} (y ▸ λ x u. Ok ((x, u.bodies), outer_level (place_of t s.at) u)) (onto t (y ▸ λ x u. Ok ((x, u.bodies), outer_level s u)))
       behind s t (Ok x) = refl
       behind s t (Err f) = refl
 
+  blind_inside : {X : Type 0} {r : Form X} → Blind r → Blind (in_substitution r)
+  blind_inside one = record { alike = λ s t. one.alike s t }
+
   module _ {A : Type 0} (turn : A → Form (Step A)) (each : (a : A) → Blind (turn a)) where
     abbrev below_n : ℕ → A → State → Read A
-    below_n n a s = turns_below g (λ b u. does (turn b) keep g u) n a s
+    below_n n a s = turns_below g (λ b u. does (turn b) Whole g u) n a s
 
     abbrev Below : ℕ → Type 0
     Below n = (a : A) (s t : State) → below_n n a (place_of t s.at) ≡ onto t (below_n n a s)
@@ -103,7 +107,7 @@ module _ (keep : Bool) (g : Given) where
     below : (n : ℕ) → Below n
     unfolding turns_below
     below zero a s t = refl
-    below (suc n) a s t = ap (λ y. y ▸ next g (place_of t s.at) (below_n n)) ((each a).alike s t) ∙ behind_by n (below n) s t (does (turn a) keep g s)
+    below (suc n) a s t = ap (λ y. y ▸ next g (place_of t s.at) (below_n n)) ((each a).alike s t) ∙ behind_by n (below n) s t (does (turn a) Whole g s)
 
     blind_many : (a : A) → Blind (many turn a)
     unfolding many turns
@@ -154,8 +158,8 @@ module _ (keep : Bool) (g : Given) where
     word_blind = blind_sees (λ s t. refl) (λ b. blind_both (blind_token (contents_blind Plain _ [])) (λ x. blind_give))
 
     substitution_blind : (b : ℕ) (ss : Row ASubst) → Blind (a_substitution inner b ss)
-    unfolding a_substitution
-    substitution_blind b ss = blind_both blind_level (λ x. blind_sees (λ s t. refl) (λ q. blind_push))
+    unfolding a_substitution one_substitution
+    substitution_blind b ss = blind_inside (blind_both blind_level (λ x. blind_sees (λ s t. refl) (λ q. blind_push)))
 
   blind_rows : (room : ℕ) → Blinds (level room)
   unfolding level
@@ -174,7 +178,7 @@ pub word_waiting : (room : ℕ) (g : Given) (p q : ℕ) (w : AWord) (told : Row 
     → may (a_word (level room)) g (place_of t p) (Ok (w, place_of t q)) told
 word_waiting room g p q w told t part =
     let read = (is (a_word (level room)) g (standing p)).only _ _ part in
-    let there : does (a_word (level room)) true g (place_of t p) ≡ Ok (w, place_of t q) = (blind_word true g room).alike (standing p) t ∙ ap (onto t) (sym read) in
+    let there : does (a_word (level room)) Whole g (place_of t p) ≡ Ok (w, place_of t q) = (blind_word g room).alike (standing p) t ∙ ap (onto t) (sym read) in
     let some = (is (a_word (level room)) g (place_of t p)).some in
     let again_read = subst (λ (x : Read AWord). may (a_word (level room)) g (place_of t p) x some.0) there some.1 in
     subst (λ (k : Row Spelled). may (a_word (level room)) g (place_of t p) (Ok (w, place_of t q)) k) (word_told (level room) g (place_of t p) (place_of t q) w some.0 again_read ∙ sym (word_told (level room) g (standing p) (standing q) w told part)) again_read

@@ -2,6 +2,7 @@
 use Rattle.std.proofs.Common.{◌≡◌, ℕ, zero, suc, ◌+◌, ◌-◌, ◌≤◌, ◌<◌, ◌==◌, Bool, true, false, not, Ok, Err, List, List as Row, [], length, Option, Some, None, refl, sym, subst, ◌∙◌, arith}
 use Rattle.std.proofs.lemmas.Bool.{cond_both}
 use Rattle.std.proofs.lemmas.Option.{slice_get_within}
+use Rattle.shread.specs.declared.keep.Keep.TheVariants.{Whole}
 use Rattle.shread.specs.declared.mode.Mode.{Mode}
 use Rattle.shread.specs.declared.mode.Mode.TheVariants.{Plain, Double, Brace, DoubleBrace, Arith}
 use Rattle.shread.specs.declared.mode.Piece.{Piece}
@@ -19,12 +20,12 @@ use Rattle.shread.specs.HereDocuments.{first_waiting, own_level}
 use Rattle.shread.specs.Commands.{none_waits, nothing_waits, pick, unexpected}
 use Rattle.shread.specs.Lists.{ListSo}
 use Rattle.shread.specs.Compounds.{is_closing}
-use Rattle.shread.specs.Substitutions.{substituted, a_substitution}
+use Rattle.shread.specs.Substitutions.{substituted, a_substitution, one_substitution}
 use Rattle.shread.specs.Levels.{level, IsWord}
 use Rattle.shread.proofs.Stretches.{place_low}
 use Rattle.shread.proofs.Places.{behind_low, behind_high, stands_low, not_end_low, next_of_low, next_in_backquotes_low, parameter_low, parameter_high, quote_clear}
 use Rattle.shread.proofs.Turns.{turns_fault, many_again, many_done}
-use Rattle.shread.proofs.Holds.{tells_level, Holds, holds_then, Tells, Turned, tells_then, tells_many, tells_after, tells_seen, tells_ending, Behind, low}
+use Rattle.shread.proofs.Holds.{tells_level, Holds, holds_then, Tells, Turned, tells_then, tells_many, tells_after, tells_seen, tells_ending, Behind, low, tells_inside}
 use Rattle.shread.proofs.TokensShown.{Begins, Fine, paren_here, shown_level, shown_lines, shown_next}
 use Rattle.shread.proofs.Ahead.{behind_is}
 use Rattle.shread.proofs.OneOutcome.{is}
@@ -55,28 +56,28 @@ module _ (g : Given) where
   Ends Q s (again a) t = On s a t
   Ends Q s (done a) t = Q t
 
-  module _ {A : Type 0} (turn : A → Form (Step A)) (Q : State → Type 0) (each : (a : A) (s : State) → s.at ≤ length T → Holds (Ends Q s) (does (turn a) true g s)) where
+  module _ {A : Type 0} (turn : A → Form (Step A)) (Q : State → Type 0) (each : (a : A) (s : State) → s.at ≤ length T → Holds (Ends Q s) (does (turn a) Whole g s)) where
     abbrev Ended : A → State → Type 0
-    Ended a s = Holds (λ (b : A) (t : State). Q t) (does (many turn a) true g s)
+    Ended a s = Holds (λ (b : A) (t : State). Q t) (does (many turn a) Whole g s)
 
-    by_turn : (a : A) (s : State) (x : Read (Step A)) → does (turn a) true g s ≡ x → Holds (Ends Q s) x
+    by_turn : (a : A) (s : State) (x : Read (Step A)) → does (turn a) Whole g s ≡ x → Holds (Ends Q s) x
         → ((b : A) (t : State) → length T - t.at < length T - s.at → t.at ≤ length T → Ended b t) → Ended a s
     unfolding many
-    by_turn a s (Err e) is good rest = rw (turns_fault g (λ b t. does (turn b) true g t) a s e is) tt
-    by_turn a s (Ok (done b, t)) is good rest = subst (Holds (λ (c : A) (u : State). Q u)) (sym (many_done turn true g a b s t is)) good
+    by_turn a s (Err e) is good rest = rw (turns_fault g (λ b t. does (turn b) Whole g t) a s e is) tt
+    by_turn a s (Ok (done b, t)) is good rest = subst (Holds (λ (c : A) (u : State). Q u)) (sym (many_done turn Whole g a b s t is)) good
     by_turn a s (Ok (again b, t)) is good rest =
-        subst (Holds (λ (c : A) (u : State). Q u)) (sym (many_again turn true g a b s t is good.0 good.1)) (rest b t (omega (arith, good.0, good.1)) good.1)
+        subst (Holds (λ (c : A) (u : State). Q u)) (sym (many_again turn Whole g a b s t is good.0 good.1)) (rest b t (omega (arith, good.0, good.1)) good.1)
 
     turns_end : (n : ℕ) (a : A) (s : State) → length T - s.at < n → s.at ≤ length T → Ended a s
     turns_end zero a s few le = absurd (omega arith)
-    turns_end (suc n) a s few le = by_turn a s (does (turn a) true g s) refl (each a s le) (λ b t less within. turns_end n b t (omega (arith, few, less)) within)
+    turns_end (suc n) a s few le = by_turn a s (does (turn a) Whole g s) refl (each a s le) (λ b t less within. turns_end n b t (omega (arith, few, less)) within)
 
     many_end : (a : A) (s : State) → s.at ≤ length T → Ended a s
     many_end a s le = turns_end (suc (length T - s.at)) a s (omega arith) le
 
   -- ---- text that is not read
 
-  single_on : (s : State) → Holds (On s) (does single true g s)
+  single_on : (s : State) → Holds (On s) (does single Whole g s)
   unfolding single
   single_on s =
       cond_both (at_end T q) _ _ (Holds (On s)) (λ e. tt)
@@ -90,13 +91,13 @@ module _ (g : Given) where
 
   module _ (s0 : State) (b : ℕ) where
     abbrev LaterEnds : Step (Unit {0}) → State → Type 0
-    LaterEnds x t = Turned true g (On s0) x t
+    LaterEnds x t = Turned Whole g (On s0) x t
 
     later_step : (x : Bool) (t : State) → (s0.at < t.at) × (t.at ≤ length T) → LaterEnds (step_if x tt) t
     later_step true t so = so
     later_step false t so = so
 
-    backquote_each : (u : Unit {0}) (s : State) → On s0 u s → Tells true g (backquote_turn b u) LaterEnds s
+    backquote_each : (u : Unit {0}) (s : State) → On s0 u s → Tells Whole g (backquote_turn b u) LaterEnds s
     unfolding backquote_turn
     backquote_each u s so =
         record {
@@ -109,11 +110,11 @@ module _ (g : Given) where
         q : ℕ
         q = next_in_backquotes T s.at
 
-  backquoted_on : (s : State) → past_continuations T s.at < length T → Holds (On s) (does backquoted true g s)
+  backquoted_on : (s : State) → past_continuations T s.at < length T → Holds (On s) (does backquoted Whole g s)
   unfolding backquoted
   backquoted_on s lt =
       let b = g.offset + past_continuations T s.at in
-      (tells_many true g (backquote_turn b) (On s) (backquote_each s b) tt (placed (behind T s.at) s) (behind_low T s.at, behind_high T s.at lt)).told
+      (tells_many Whole g (backquote_turn b) (On s) (backquote_each s b) tt (placed (behind T s.at) s) (behind_low T s.at, behind_high T s.at lt)).told
 
   -- ---- pieces
 
@@ -122,8 +123,8 @@ module _ (g : Given) where
   Last mode t = (t.at ≤ length T) × (mode ≡ Plain → ends_word T t.at ≡ true)
 
   pub record Stays (inner : Inner) : Type 0 where
-    pub construct : (mode : Mode) (b : ℕ) (ss : Row ASubst) (s : State) → s.at ≤ length T → Holds (λ x t. (s.at ≤ t.at) × (t.at ≤ length T)) (does (inner.construct mode b ss) true g s)
-    pub substitution : (b : ℕ) (ss : Row ASubst) (s : State) → Holds (λ x t. (s.at ≤ t.at) × (t.at ≤ length T)) (does (inner.substitution b ss) true g s)
+    pub construct : (mode : Mode) (b : ℕ) (ss : Row ASubst) (s : State) → s.at ≤ length T → Holds (λ x t. (s.at ≤ t.at) × (t.at ≤ length T)) (does (inner.construct mode b ss) Whole g s)
+    pub substitution : (b : ℕ) (ss : Row ASubst) (s : State) → Holds (λ x t. (s.at ≤ t.at) × (t.at ≤ length T)) (does (inner.substitution b ss) Whole g s)
 
   -- what is there where something closes
   abbrev Closes : Mode → ℕ → Type 0
@@ -212,22 +213,22 @@ module _ (g : Given) where
     abbrev p : ℕ
     p = s.at
 
-    opens : (m : Mode) (k : ℕ) (r : State) → s.at < r.at → r.at ≤ length T → Holds Turn (does (opened inner m k c) true g r)
+    opens : (m : Mode) (k : ℕ) (r : State) → s.at < r.at → r.at ≤ length T → Holds Turn (does (opened inner m k c) Whole g r)
     opens m k r on within =
-        holds_then (λ x t. (r.at ≤ t.at) × (t.at ≤ length T)) Turn (does (inner.construct m k c.substs) true g r) (λ x t. Ok (again (having c.nested x), t))
+        holds_then (λ x t. (r.at ≤ t.at) × (t.at ≤ length T)) Turn (does (inner.construct m k c.substs) Whole g r) (λ x t. Ok (again (having c.nested x), t))
         (stays.construct m k c.substs r within) (λ x t so. (omega (arith, on, so.0), so.1))
 
-    row : (x : Piece) → Needs mode p x → Holds Turn (does (piece_row inner mode b c x) true g s)
+    row : (x : Piece) → Needs mode p x → Holds Turn (does (piece_row inner mode b c x) Whole g s)
     row pieces.Closer so = closer_last mode p le so
     row pieces.Missing so = tt
     row pieces.LoneBackslash so = tt
     row pieces.Escape so = let w = taken_on T (past_continuations T p) (omega (arith, so)) (λ e. so) in (omega (arith, w.0, place_low T p), w.1)
-    row pieces.Single so = holds_then (On s) Turn (does single true g s) (λ u t. Ok (again c, t)) (single_on s) (λ u t on. on)
+    row pieces.Single so = holds_then (On s) Turn (does single Whole g s) (λ u t. Ok (again c, t)) (single_on s) (λ u t on. on)
     row pieces.Double so = opens Double _ (placed (behind T p) s) (behind_low T p) (behind_high T p so)
-    row pieces.Backquote so = holds_then (On s) Turn (does backquoted true g s) (λ u t. Ok (again c, t)) (backquoted_on s so) (λ u t on. on)
+    row pieces.Backquote so = holds_then (On s) Turn (does backquoted Whole g s) (λ u t. Ok (again c, t)) (backquoted_on s so) (λ u t on. on)
     row pieces.Pid so = (omega (arith, behind_low T p, behind_low T (behind T p)), behind_high T (behind T p) so)
     row pieces.Subst so =
-        holds_then (λ x t. (behind T (behind T p) ≤ t.at) × (t.at ≤ length T)) Turn (does (inner.substitution _ c.substs) true g (placed (behind T (behind T p)) s)) (λ x t. Ok (again (having c.nested x), t))
+        holds_then (λ x t. (behind T (behind T p) ≤ t.at) × (t.at ≤ length T)) Turn (does (inner.substitution _ c.substs) Whole g (placed (behind T (behind T p)) s)) (λ x t. Ok (again (having c.nested x), t))
         (stays.substitution _ c.substs (placed (behind T (behind T p)) s)) (λ x t on. (omega (arith, on.0, behind_low T p, behind_low T (behind T p)), on.1))
     row pieces.Arith so =
         opens Arith _ (placed (behind T (behind T (behind T p))) s)
@@ -240,21 +241,21 @@ module _ (g : Given) where
     row pieces.BadClose so = tt
     row pieces.Ordinary so = (behind_low T p, behind_high T p so)
 
-    piece_turn : Holds Turn (does (a_piece inner mode b c) true g s)
+    piece_turn : Holds Turn (does (a_piece inner mode b c) Whole g s)
     unfolding a_piece
     piece_turn = row (piece_at T mode c.nested p) (needs mode c.nested p)
 
   -- ---- constructs in constructs, and words
 
   module _ (inner : Inner) (stays : Stays inner) (mode : Mode) (b : ℕ) (ss : Row ASubst) (s : State) (le : s.at ≤ length T) where
-    pub contents_end : Holds (λ x t. Last mode t) (does (contents inner mode b ss) true g s)
+    pub contents_end : Holds (λ x t. Last mode t) (does (contents inner mode b ss) Whole g s)
     unfolding contents
     contents_end =
-        holds_then (λ x t. Last mode t) (λ x t. Last mode t) (does (many (a_piece inner mode b) (having 0 ss)) true g s) (λ h t. Ok (h.substs, t))
+        holds_then (λ x t. Last mode t) (λ x t. Last mode t) (does (many (a_piece inner mode b) (having 0 ss)) Whole g s) (λ h t. Ok (h.substs, t))
         (many_end (a_piece inner mode b) (Last mode) (λ c t within. piece_turn inner stays mode b c t within) (having 0 ss) s le) (λ h t so. so)
 
-    contents_on : Holds (λ x t. (s.at ≤ t.at) × (t.at ≤ length T)) (does (contents inner mode b ss) true g s)
-    contents_on = holds_both (does (contents inner mode b ss) true g s) (low (contents inner mode b ss) true g s).told contents_end
+    contents_on : Holds (λ x t. (s.at ≤ t.at) × (t.at ≤ length T)) (does (contents inner mode b ss) Whole g s)
+    contents_on = holds_both (does (contents inner mode b ss) Whole g s) (low (contents inner mode b ss) Whole g s).told contents_end
       where
         holds_both : (x : Read (Row ASubst)) → Holds (Behind s) x → Holds (λ x t. Last mode t) x → Holds (λ x t. (s.at ≤ t.at) × (t.at ≤ length T)) x
         holds_both (Ok (x, t)) one two = (one, two.0)
@@ -264,33 +265,33 @@ module _ (g : Given) where
 
   module _ (inner : Inner) (fine : Fine g inner) where
     -- nothing moves where nothing waits
-    still : (s : State) → Tells true g nothing_waits (λ x t. t ≡ s) s
+    still : (s : State) → Tells Whole g nothing_waits (λ x t. t ≡ s) s
     unfolding nothing_waits
     still s = record { told = by_waiting (first_waiting s) }
       where
-        by_waiting : (w : Option ℕ) → Holds (λ (x : Unit {0}) t. t ≡ s) (does (none_waits w) true g s)
+        by_waiting : (w : Option ℕ) → Holds (λ (x : Unit {0}) t. t ≡ s) (does (none_waits w) Whole g s)
         by_waiting (Some b) = tt
         by_waiting None = refl
 
     -- a list, and the `)` behind it
-    substituted_end : (s : State) → Tells true g (substituted inner) (λ x t. t.at ≤ length T) s
+    substituted_end : (s : State) → Tells Whole g (substituted inner) (λ x t. t.at ≤ length T) s
     unfolding substituted
     substituted_end s =
-        tells_then true g (shown_next g Command s) (λ n t one. tells_then true g (shown_lines g inner fine n t one) (λ l u two. closed_by (is_closing closings.Paren l.next.token) l u refl two))
+        tells_then Whole g (shown_next g Command s) (λ n t one. tells_then Whole g (shown_lines g inner fine n t one) (λ l u two. closed_by (is_closing closings.Paren l.next.token) l u refl two))
       where
         closed_by : (b : Bool) → (l : ListSo) (u : State) → is_closing closings.Paren l.next.token ≡ b → Begins g l.next u
-            → Tells true g (pick b (nothing_waits >> move one_byte >> give (entries_of l.list.entries)) (unexpected inner l.next)) (λ x t. t.at ≤ length T) u
+            → Tells Whole g (pick b (nothing_waits >> move one_byte >> give (entries_of l.list.entries)) (unexpected inner l.next)) (λ x t. t.at ≤ length T) u
         closed_by true l u e so =
             let high = behind_high T u.at (slice_get_within T (past_continuations T u.at) 41 (paren_here g l.next u so e).0) in
-            tells_then true g (still u) (λ w t same. record { told = subst (λ (v : State). behind T v.at ≤ length T) (sym same) high })
-        closed_by false l u e so = tells_after true g (λ w t. record { told = tt })
+            tells_then Whole g (still u) (λ w t same. record { told = subst (λ (v : State). behind T v.at ≤ length T) (sym same) high })
+        closed_by false l u e so = tells_after Whole g (λ w t. record { told = tt })
 
-    substitution_high : (b : ℕ) (ss : Row ASubst) (s : State) → Tells true g (a_substitution inner b ss) (λ x t. t.at ≤ length T) s
-    unfolding a_substitution
-    substitution_high b ss s = tells_then true g (tells_level true g (tells_ending true g (substituted_end (own_level s))) (λ a t so. so)) (λ x t so. tells_seen true g (record { told = so }))
+    substitution_high : (b : ℕ) (ss : Row ASubst) (s : State) → Tells Whole g (a_substitution inner b ss) (λ x t. t.at ≤ length T) s
+    unfolding a_substitution one_substitution
+    substitution_high b ss s = tells_inside Whole g (tells_then Whole g (tells_level Whole g (tells_ending Whole g (substituted_end (own_level s))) (λ a t so. so)) (λ x t so. tells_seen Whole g (record { told = so })))
 
-    substitution_end : (b : ℕ) (ss : Row ASubst) (s : State) → Holds (λ x t. (s.at ≤ t.at) × (t.at ≤ length T)) (does (a_substitution inner b ss) true g s)
-    substitution_end b ss s = holds_also (does (a_substitution inner b ss) true g s) (low (a_substitution inner b ss) true g s).told (substitution_high b ss s).told
+    substitution_end : (b : ℕ) (ss : Row ASubst) (s : State) → Holds (λ x t. (s.at ≤ t.at) × (t.at ≤ length T)) (does (a_substitution inner b ss) Whole g s)
+    substitution_end b ss s = holds_also (does (a_substitution inner b ss) Whole g s) (low (a_substitution inner b ss) Whole g s).told (substitution_high b ss s).told
       where
         holds_also : (x : Read (Row ASubst)) → Holds (Behind s) x → Holds (λ x t. t.at ≤ length T) x → Holds (λ x t. (s.at ≤ t.at) × (t.at ≤ length T)) x
         holds_also (Ok (x, t)) one two = (one, two)
@@ -305,11 +306,11 @@ module _ (g : Given) where
         substitution = λ b ss s. substitution_end (level room) (shown_level g room) b ss s;
       }
 
-  word_last : (room p : ℕ) → p ≤ length T → Holds (λ x t. Last Plain t) (does (a_word (level room)) true g (standing p))
+  word_last : (room p : ℕ) → p ≤ length T → Holds (λ x t. Last Plain t) (does (a_word (level room)) Whole g (standing p))
   unfolding a_word
   word_last room p le =
-      holds_then (λ x t. Last Plain t) (λ x t. Last Plain t) (does (token as_it_stands (contents (level room) Plain (g.offset + p) [])) true g (standing p)) _
-      (holds_then (λ x t. Last Plain t) (λ x t. Last Plain t) (does (contents (level room) Plain (g.offset + p) []) true g (standing p)) _
+      holds_then (λ x t. Last Plain t) (λ x t. Last Plain t) (does (token as_it_stands (contents (level room) Plain (g.offset + p) [])) Whole g (standing p)) _
+      (holds_then (λ x t. Last Plain t) (λ x t. Last Plain t) (does (contents (level room) Plain (g.offset + p) []) Whole g (standing p)) _
       (contents_end (level room) (stays_in room) Plain (g.offset + p) [] (standing p) le) (λ x t so. so))
       (λ x t so. so)
 

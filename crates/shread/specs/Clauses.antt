@@ -1,9 +1,11 @@
 -- Words for the clauses of the code: what a function of the reader answers, and what it leaves as it was.
-use Rattle.std.specs.Prelude.{◌≡◌, ℕ, ◌+◌, ◌<◌, ◌≤◌, ◌==◌, Bool, true, false, List, List as Row, length, drop, map, Some, Result, Ok, Err}
+use Rattle.std.specs.Prelude.{◌≡◌, ℕ, ◌+◌, ◌<◌, ◌≤◌, ◌==◌, Bool, true, false, List, List as Row, length, drop, map, Some, Result, Ok, Err, if◌then◌else◌}
 use Rattle.shread.specs.declared.cursor.Cursor.{Cursor}
 use Rattle.shread.specs.declared.documents.Documents as the_documents
 use Rattle.shread.specs.declared.documents.Waiting as the_waiting
 use Rattle.shread.specs.declared.fault.Fault.{Fault}
+use Rattle.shread.specs.declared.keep.Keep.{Keep}
+use Rattle.shread.specs.declared.keep.Keep.TheVariants.{Nothing}
 use Rattle.shtree.specs.declared.tree.Span.{Span}
 use Rattle.shread.specs.declared.fault.Stop.{Stop}
 use Rattle.shread.specs.declared.fault.Stop.TheVariants.{Memory, Wrong}
@@ -25,11 +27,11 @@ text_of bytes cursor = drop cursor.base (bytes cursor.source.now)
 
 -- the text, and how it is read, stay as they are
 abbrev pub Keeps : {S : Type 0} {k : ℕ} {g : _} → Cursor S k g → Cursor S k g → Type 0
-Keeps old new = (new.source ≡ old.source) × (new.base ≡ old.base) × (new.origin ≡ old.origin)
+Keeps old new = (new.source ≡ old.source) × (new.base ≡ old.base) × (new.origin ≡ old.origin) × (new.keep ≡ old.keep)
 
 -- only the place may differ
 abbrev pub Stays : {S : Type 0} {k : ℕ} {g : _} → Cursor S k g → Cursor S k g → Type 0
-Stays old new = (new.source ≡ old.source) × (new.base ≡ old.base) × (new.origin ≡ old.origin) × (new.documents ≡ old.documents)
+Stays old new = (new.source ≡ old.source) × (new.base ≡ old.base) × (new.origin ≡ old.origin) × (new.documents ≡ old.documents) × (new.keep ≡ old.keep)
 
 abbrev pub view_waiting : the_waiting.Waiting → Waiting
 view_waiting w = record { operator = w.operator; delimiter = w.delimiter.items; literal = w.literal; strip = w.strip }
@@ -46,9 +48,16 @@ state_of cursor = standing_with cursor.documents cursor.at
 abbrev pub IsRead : List ℕ → ℕ → Type 0
 IsRead T p = past_continuations T p < length T
 
--- what a form gives from a state on in a cursor's text; its tree grows where k, the cursor's KEEP, is 1
+-- what a cursor of this KEEP keeps, if it may grow a tree
+abbrev pub kept : ℕ → Keep → Keep
+kept k keep = if k == 1 then keep else Nothing
+
+abbrev pub keep_of : {S : Type 0} {k : ℕ} {g : _} → Cursor S k g → Keep
+keep_of {k = k} cursor = kept k cursor.keep
+
+-- what a form gives from a state on in a cursor's text
 abbrev pub reads_at : {S X : Type 0} {k : ℕ} {g : _} → (S → List ℕ) → Cursor S k g → Form X → State → Read X
-reads_at {k = k} bytes cursor form s = does form (k == 1) (given (text_of bytes cursor) cursor.origin) s
+reads_at bytes cursor form s = does form (keep_of cursor) (given (text_of bytes cursor) cursor.origin) s
 
 -- and from where the cursor stands
 abbrev pub reads : {S X : Type 0} {k : ℕ} {g : _} → (S → List ℕ) → Cursor S k g → Form X → Read X

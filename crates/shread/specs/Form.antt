@@ -9,6 +9,8 @@ use Rattle.shtree.specs.Shape.{bare}
 use Rattle.shread.specs.declared.fault.Fault.{Fault}
 use Rattle.shread.specs.declared.fault.FaultKind.{FaultKind}
 use Rattle.shread.specs.declared.fault.FaultKind.TheVariants.{UnexpectedEnd}
+use Rattle.shread.specs.declared.keep.Keep.{Keep}
+use Rattle.shread.specs.declared.keep.Keep.TheVariants.{Nothing, Outer, Whole}
 use Rattle.shread.specs.Comments.{span}
 use Rattle.shread.specs.Sights.{Given, State, Sight, seen, Move, to}
 use Rattle.shread.specs.HereDocuments.{Change, changed, own_level, outer_level}
@@ -64,6 +66,8 @@ pub data Form : Type 0 → Type 1 where
   with_bytes : {X : Type 0} → Form X → Form (X × Spelled)
   -- a level of its own: what is read in it, and the bodies of its here-documents
   a_level : {X : Type 0} → Form X → Form (X × Row Span)
+  -- what stands in a command substitution
+  in_substitution : {X : Type 0} → Form X → Form X
 
 -- the same, as rows write it: it does not unfold by itself
 unfoldable pub many : {A : Type 0} → (A → Form (Step A)) → A → Form A
@@ -166,6 +170,7 @@ may (ends_as kind at r) g s = Ending kind at (may r g) s
 may (change c) g s = Changed (changed c g s)
 may (with_bytes r) g s = WithBytes g (may r g) s
 may (a_level r) g s = OwnLevel (may r g) s
+may (in_substitution r) g s = may r g s
 
 -- ---- what is computed
 
@@ -197,12 +202,23 @@ abbrev pub nothing_read : Result State Fault → Read (Unit {0})
 nothing_read (Ok t) = Ok (tt, t)
 nothing_read (Err f) = Err f
 
--- without `keep` no row of the tree grows, and what is read is only how far it goes
-abbrev pub does : {X : Type 0} → Form X → Bool → Given → State → Read X
+-- whether a row of the tree grows; where none does, what is read is only how far it goes
+abbrev pub grows : Keep → Bool
+grows Nothing = false
+grows Outer = true
+grows Whole = true
+
+-- what is kept of what stands in a command substitution
+abbrev pub inside : Keep → Keep
+inside Nothing = Nothing
+inside Outer = Nothing
+inside Whole = Whole
+
+abbrev pub does : {X : Type 0} → Form X → Keep → Given → State → Read X
 does (give x) keep g s = Ok (x, s)
 does (see f) keep g s = Ok (seen f g s, s)
 does (move m) keep g s = Ok (tt, moved m g s)
-does (push xs x) keep g s = Ok (pushed keep xs x, s)
+does (push xs x) keep g s = Ok (pushed (grows keep) xs x, s)
 does (stop kind at) keep g s = Err (record { kind = kind; at = at })
 does (both r q) keep g s = does r keep g s ▸ λ x t. does (q x) keep g t
 does (when f r q) keep g s = if seen f g s then does r keep g s else does q keep g s
@@ -212,3 +228,4 @@ does (ends_as kind at r) keep g s = with_end kind at (does r keep g s)
 does (change c) keep g s = nothing_read (changed c g s)
 does (with_bytes r) keep g s = does r keep g s ▸ λ x t. Ok ((x, raw g.text s.at t.at), t)
 does (a_level r) keep g s = does r keep g (own_level s) ▸ λ x t. Ok ((x, t.bodies), outer_level s t)
+does (in_substitution r) keep g s = does r (inside keep) g s

@@ -1,6 +1,7 @@
 -- The lines of a script, read one after the other.
 use Rattle.std.specs.Prelude.{◌≡◌, ◌≤◌, ◌<◌, ℕ, ◌+◌, ◌-◌, Vec, Bool, true, false, List, List as Row, Ok, Err, drop, map, not}
 use Rattle.std.specs.Global.{Global}
+use Rattle.shread.specs.declared.keep.Keep.TheVariants.{Outer}
 use Rattle.shread.specs.declared.script_lines.ScriptLine.{ScriptLine}
 use Rattle.shread.specs.declared.script_lines.ScriptLine.TheVariants.{Ended, Last, Faulty}
 use Rattle.shread.specs.declared.script_lines.LinesBefore.{LinesBefore}
@@ -56,10 +57,11 @@ module _ {S : Type 0} where
   abbrev pub Stands : ScriptLines S → SoFar → Type 0
   Stands lines so = Before lines.before so
 
-  -- A line with these entries, behind lines that gave this, from `old` to `new`. A newline ended it and is its last byte.
+  -- A line with these entries, but for the trees in command substitutions, behind lines that gave this, from `old` to `new`. A newline
+  -- ended it and is its last byte.
   abbrev pub IsWholeLine : List ℕ → SoFar → ScriptLines S → Vec Entry Global → ScriptLines S → Type 0
   IsWholeLine B so old es new =
-      (t : State) × (new.at ≡ old.at + t.at) × (line_from B true (is_blank_line so) old.at ≡ Ok ((map view_entry es.items, true), t)) × (0 < t.at)
+      (t : State) × (new.at ≡ old.at + t.at) × (line_from B Outer (is_blank_line so) old.at ≡ Ok ((map view_entry es.items, true), t)) × (0 < t.at)
       × (raw_stands (drop old.at B) (t.at - 1) 10 ≡ true) × Stands new (with_line so (map view_entry es.items))
 
   -- The line, behind lines that gave this, from `old` to `new`. At a fault nothing moves.

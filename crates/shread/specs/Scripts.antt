@@ -1,5 +1,7 @@
 -- A script as a whole: its lines, one after the other (XCU 2.10.2).
 use Rattle.std.specs.Prelude.{ℕ, zero, suc, ◌+◌, ◌-◌, Bool, true, false, ◌&&◌, not, [], ◌++◌, List, List as Row, drop, length, Option, None, Some, Ok, Err}
+use Rattle.shread.specs.declared.keep.Keep.{Keep}
+use Rattle.shread.specs.declared.keep.Keep.TheVariants.{Whole}
 use Rattle.shread.specs.declared.fault.Fault.{Fault}
 use Rattle.shtree.specs.Tree.{AnEntry, Entries, entries_of}
 use Rattle.shread.specs.Sights.{given, standing, State}
@@ -55,10 +57,10 @@ FirstFault B f = (es : Entries) × Outcome B (record { entries = es; wrong = f }
 -- ---- what is computed
 
 -- the line that begins at p, whose own offsets count from o on; and as it stands in the script
-abbrev pub line_told : List ℕ → Bool → Bool → ℕ → ℕ → Read (Row AnEntry × Bool)
+abbrev pub line_told : List ℕ → Keep → Bool → ℕ → ℕ → Read (Row AnEntry × Bool)
 line_told B keep blank p o = does (the_line blank) keep (given (drop p B) o) (standing 0)
 
-abbrev pub line_from : List ℕ → Bool → Bool → ℕ → Read (Row AnEntry × Bool)
+abbrev pub line_from : List ℕ → Keep → Bool → ℕ → Read (Row AnEntry × Bool)
 line_from B keep blank p = line_told B keep blank p p
 
 abbrev pub script_by : (SoFar → ℕ → AScript) → SoFar → ℕ → Read (Row AnEntry × Bool) → AScript
@@ -69,7 +71,7 @@ script_by rest so p (Err f) = record { entries = entries_of so.entries; wrong = 
 -- with less than n bytes left
 unfoldable pub script_below : List ℕ → ℕ → SoFar → ℕ → AScript
 script_below B zero so p = record { entries = entries_of so.entries; wrong = None }
-script_below B (suc n) so p = script_by (script_below B n) so p (line_from B true (is_blank_line so) p)
+script_below B (suc n) so p = script_by (script_below B n) so p (line_from B Whole (is_blank_line so) p)
 
 -- the lines from p on
 unfoldable pub script_on : List ℕ → SoFar → ℕ → AScript
@@ -85,7 +87,7 @@ line_of T (Ok ((es, newline), t)) = record { kind = kind_of es newline; next = t
 line_of T (Err f) = record { kind = faulty_line f; next = length T; ended = false }
 
 unfoldable pub line_of_text : List ℕ → ALine
-line_of_text T = line_of T (does (the_line false) true (given T 0) (standing 0))
+line_of_text T = line_of T (does (the_line false) Whole (given T 0) (standing 0))
 
 unfoldable pub first_fault_from : List ℕ → ℕ → Option Fault
 first_fault_from B p = (script_on B nothing_yet p).wrong

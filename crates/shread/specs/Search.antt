@@ -1,5 +1,6 @@
 -- A search for the first fault, a line at a time.
 use Rattle.std.specs.Prelude.{◌≡◌, ℕ, ◌+◌, ◌-◌, ◌<◌, ◌≤◌, List, List as Row, Ok, Option, None, Some, drop, length, option_map, take, false, true}
+use Rattle.shread.specs.declared.keep.Keep.TheVariants.{Nothing}
 use Rattle.shread.specs.Moved.{moved_fault}
 use Rattle.shtree.specs.Tree.{AnEntry}
 use Rattle.shread.specs.Scripts.{FirstFault, first_fault_from, line_told}
@@ -22,7 +23,7 @@ MayPass bytes n = (script : List ℕ) (f : Option Fault) → take n script ≡ t
 -- the line at an offset has no fault, and a newline ended it and is its last byte, before the offset q
 abbrev pub LineBefore : List ℕ → ℕ → ℕ → Type 0
 LineBefore bytes p q =
-    (es : Row AnEntry) × (t : State) × (line_told bytes false false p 0 ≡ Ok ((es, true), t)) × (q ≡ p + t.at) × (0 < t.at) × (q ≤ length bytes)
+    (es : Row AnEntry) × (t : State) × (line_told bytes Nothing false p 0 ≡ Ok ((es, true), t)) × (q ≡ p + t.at) × (0 < t.at) × (q ≤ length bytes)
     × (raw_stands (drop p bytes) (t.at - 1) 10 ≡ true)
 
 -- no such line begins at an offset

@@ -6,7 +6,7 @@ use Rattle.shread.specs.declared.token.Position.TheVariants.{Command}
 use Rattle.shtree.specs.Bodies.{filled}
 use Rattle.shtree.specs.Tree.{Entries, ASubst, subst, entries_of}
 use Rattle.shread.specs.Sights.{here, one_byte}
-use Rattle.shread.specs.Form.{Form, give, see, move, push, ends_as, many, a_level, ◌>>=◌, ◌>>◌}
+use Rattle.shread.specs.Form.{Form, give, see, move, push, ends_as, many, a_level, in_substitution, ◌>>=◌, ◌>>◌}
 use Rattle.shread.specs.Words.{Inner}
 use Rattle.shread.specs.Commands.{next_token, nothing_waits, pick, unexpected}
 use Rattle.shread.specs.Lists.{list_so, none_listed, list_turn}
@@ -21,6 +21,10 @@ substituted inner =
 
 -- The substitution whose `$` stands at the offset b, from behind its `(` on, as one more of these. It is not closed where the text
 -- ends in it. Its here-documents are its own.
-unfoldable pub a_substitution : Inner → ℕ → Row ASubst → Form (Row ASubst)
-a_substitution inner b ss =
+unfoldable pub one_substitution : Inner → ℕ → Row ASubst → Form (Row ASubst)
+one_substitution inner b ss =
     a_level (ends_as UnclosedSubst b (substituted inner)) >>= λ es. see here >>= λ q. push ss (subst (filled es.1 es.0) (record { start = b; «end» = q }))
+
+-- the same, of which less may be kept than of what stands around it
+unfoldable pub a_substitution : Inner → ℕ → Row ASubst → Form (Row ASubst)
+a_substitution inner b ss = in_substitution (one_substitution inner b ss)

@@ -7,7 +7,7 @@ ghost use Rattle.shread.specs.Form.{again, many, step_if};
 ghost use Rattle.shread.specs.Levels.{level};
 ghost use Rattle.shtree.specs.View.{view_and_or, view_and_or_part};
 
-use crate::cursor::{Cursor, KEPT};
+use crate::cursor::Cursor;
 use crate::fault::Stop;
 use crate::token::Next;
 use shtext::Source;
@@ -41,7 +41,7 @@ impl<'a, S: Source, const KEEP: u8> Cursor<'a, S, KEEP> {
         self.bump();
         let join = self.join(alloc, next)?;
         let pipeline = self.pipeline(alloc, next, room)?;
-        if KEEP == KEPT {
+        if self.grows() {
             parts.push(and_or_part_of(operator, join, pipeline))?;
         } else {
             mem::forget(pipeline);

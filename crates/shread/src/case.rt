@@ -8,7 +8,7 @@ ghost use Rattle.shread.specs.Levels.{level};
 ghost use Rattle.shread.specs.Listed.{view_cases, view_listed};
 ghost use Rattle.shtree.specs.View.{view_form, view_join, view_word};
 
-use crate::cursor::{Cursor, KEPT};
+use crate::cursor::Cursor;
 use crate::fault::Stop;
 use crate::list::Listed;
 use crate::token::{Closing, Next, Position, Token};
@@ -86,7 +86,7 @@ impl<'a, S: Source, const KEEP: u8> Cursor<'a, S, KEEP> {
     {
         let start = self.at;
         let substs = self.pass_word(alloc, room)?;
-        if KEEP == KEPT {
+        if self.grows() {
             patterns.push(self.word_from(start, substs))?;
         } else {
             mem::forget(substs);
@@ -275,7 +275,7 @@ impl<'a, S: Source, const KEEP: u8> Cursor<'a, S, KEEP> {
         let there = body_end(closer.end, &body);
         let lines = mem::replace(&mut cases.lines, no_lines(alloc));
         let end = self.item_end(alloc, there, next, &mut cases.lines, room)?;
-        if KEEP == KEPT {
+        if self.grows() {
             let list = list_of(body.entries);
             let span = Span { start, end };
             cases

@@ -10,7 +10,7 @@ ghost use Rattle.shtree.specs.Tree.{item};
 ghost use Rattle.shtree.specs.View.{view_command, view_item, view_word};
 ghost use Rattle.shread.specs.Levels.{level};
 
-use crate::cursor::{Cursor, KEPT};
+use crate::cursor::Cursor;
 use crate::fault::Stop;
 use crate::token::{Next, Position, Token};
 use shtext::Source;
@@ -50,7 +50,7 @@ impl<'a, S: Source, const KEEP: u8> Cursor<'a, S, KEEP> {
     {
         let start = self.at;
         let substs = self.pass_word(alloc, room)?;
-        if KEEP != KEPT {
+        if !self.grows() {
             mem::forget(substs);
             *next = self.next_token(position);
             return Ok(());
@@ -166,7 +166,7 @@ impl<'a, S: Source, const KEEP: u8> Cursor<'a, S, KEEP> {
             return self.named(alloc, word.span, start, next, room);
         }
         let mut items = Vec::new(alloc);
-        if KEEP == KEPT {
+        if self.grows() {
             // A command of one word takes room for no more.
             if !next.token.begins_simple() {
                 items.reserve_exact(1)?;

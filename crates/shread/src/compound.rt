@@ -7,7 +7,7 @@ ghost use Rattle.shread.specs.Levels.{level};
 ghost use Rattle.shread.specs.Tokens.{is_end};
 ghost use Rattle.shtree.specs.View.{view_branch, view_command, view_form, view_list, view_otherwise};
 
-use crate::cursor::{Cursor, KEPT};
+use crate::cursor::Cursor;
 use crate::fault::{FaultKind, Stop};
 use crate::token::{Closing, Next, Opener, Position};
 use shtext::Source;
@@ -123,7 +123,7 @@ impl<'a, S: Source, const KEEP: u8> Cursor<'a, S, KEEP> {
         }
         let _ = self.passed(false, Position::Command, next);
         let branch = self.branch(alloc, next, room)?;
-        if KEEP == KEPT {
+        if self.grows() {
             branches.push(branch)?;
         }
         Ok(true)
@@ -276,7 +276,7 @@ impl<'a, S: Source, const KEEP: u8> Cursor<'a, S, KEEP> {
         }
         let opened = self.passed(matches!(opener, Opener::Paren), opener.behind(), next);
         let (form, closer) = self.form(alloc, opener, next, room - 1)?;
-        if KEEP != KEPT {
+        if !self.grows() {
             mem::forget(form);
             // Nobody reads the command: it needs no box.
             return Ok(simple_of(Vec::new(alloc)));

@@ -3,10 +3,11 @@ ghost use Rattle.std.specs.Prelude.{◌≡◌, ◌+◌, ◌^◌, ◌<◌, ◌≤
 ghost use Rattle.shtext.specs.Text.{IsRun};
 
 use crate::documents::Documents;
+use crate::keep::Keep;
 use shtext::Source;
 use std::alloc::Global;
 
-/// `KEEP` of a cursor that grows the tree of what it reads. A number, since the check states no `bool` of a type beside ghost fields.
+/// `KEEP` of a cursor that may grow the tree of what it reads. A number, since the check states no `bool` of a type beside ghost fields.
 pub(crate) const KEPT: u8 = 1;
 
 /// `KEEP` of one that only sees how far the reading goes, and grows no vector of a tree.
@@ -25,6 +26,8 @@ pub(crate) struct Cursor<'a, S: Source, const KEEP: u8> {
     pub(crate) base: usize,
     pub(crate) origin: usize,
     pub(crate) at: usize,
+    /// The tree that grows here, where `KEEP` is `KEPT`.
+    pub(crate) keep: Keep,
     /// The here-documents of the level in which the reading stands.
     pub(crate) documents: Documents,
     ghost begins: { base ≤ length (S.bytes source.now) },
@@ -36,19 +39,21 @@ pub(crate) struct Cursor<'a, S: Source, const KEEP: u8> {
 }
 
 impl<'a, S: Source, const KEEP: u8> Cursor<'a, S, KEEP> {
-    ghost use Rattle.shread.specs.Clauses.{state_of};
+    ghost use Rattle.shread.specs.Clauses.{keep_of, state_of};
+    ghost use Rattle.shread.specs.Form.{grows};
     ghost use Rattle.shread.specs.Sights.{standing};
 
-    /// Where the line at an offset begins, whose own offsets are counted from `origin`.
+    /// Where the line at an offset begins, whose own offsets are counted from `origin`, and of which this is kept.
     pub(crate) fn at_line(
         alloc: Global,
         source: &'a S,
         base: usize,
         origin: usize,
+        keep: Keep,
     ) -> Cursor<'a, S, KEEP>
         requires { (base ≤ length (S.bytes source.now)) × (origin ≤ base) }
         ensures { (result.source.now ≡ source.now) × (result.base ≡ base) × (result.origin ≡ origin)
-            × (state_of result ≡ standing 0) }
+            × (state_of result ≡ standing 0) × (result.keep ≡ keep) }
     {
         // The length is asked for its bound alone: no offset in the text overflows.
         let _ = source.len();
@@ -58,7 +63,16 @@ impl<'a, S: Source, const KEEP: u8> Cursor<'a, S, KEEP> {
             base,
             origin,
             at: 0,
+            keep,
             documents: Documents::new(alloc),
         }
+    }
+
+    /// Whether a tree grows here.
+    #[inline(always)]
+    pub(crate) fn grows(&self) -> bool
+        ensures { result ≡ grows (keep_of self.now) }
+    {
+        KEEP == KEPT && self.keep.grows()
     }
 }

@@ -5,6 +5,7 @@ ghost use Rattle.shread.specs.Search.{Tells};
 
 use crate::cursor::SEEN;
 use crate::fault::{Fault, ReadError, Stop};
+use crate::keep::Keep;
 use crate::one_line::{Told, line_at};
 use shtext::Source;
 use std::alloc::Global;
@@ -27,7 +28,7 @@ fn look<S: Source>(alloc: Global, source: &S, at: usize) -> Result<Found, ReadEr
     requires { at ≤ length (S.bytes source.now) }
     ensures { IfOk result (Tells (S.bytes source.now) at) }
 {
-    match line_at::<S, SEEN>(alloc, source, at, at, false) {
+    match line_at::<S, SEEN>(alloc, source, at, at, Keep::Nothing, false) {
         Ok(
             Told {
                 entries,

@@ -4,6 +4,7 @@ ghost use Rattle.shread.specs.Search.{LineBefore, MayPass, StopsAt};
 
 use crate::cursor::SEEN;
 use crate::fault::{ReadError, Stop};
+use crate::keep::Keep;
 use crate::one_line::{Told, ends_in_newline, line_at};
 use shtext::Source;
 use std::alloc::Global;
@@ -15,7 +16,7 @@ fn behind_line<S: Source>(alloc: Global, source: &S, at: usize) -> Result<Option
     ensures some { IfOk result (λ next. IfSome next (λ p. LineBefore (S.bytes source.now) at p)) }
     ensures none { IfOk result (λ next. next ≡ None → StopsAt (S.bytes source.now) at) }
 {
-    match line_at::<S, SEEN>(alloc, source, at, 0, false) {
+    match line_at::<S, SEEN>(alloc, source, at, 0, Keep::Nothing, false) {
         Ok(
             Told {
                 entries,

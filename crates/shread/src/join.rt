@@ -5,7 +5,7 @@ ghost use Rattle.shread.specs.Commands.{a_join, join_so, join_turn};
 ghost use Rattle.shread.specs.Form.{many, step_if};
 ghost use Rattle.shtree.specs.View.{view_join};
 
-use crate::cursor::{Cursor, KEPT};
+use crate::cursor::Cursor;
 use crate::fault::Stop;
 use crate::token::{Next, Position};
 use shtext::Source;
@@ -25,7 +25,7 @@ impl<'a, S: Source, const KEEP: u8> Cursor<'a, S, KEEP> {
     {
         if let Some(comment) = self.remark(next) {
             join.broken = true;
-            if KEEP == KEPT {
+            if self.grows() {
                 join.comments.push(comment)?;
             }
         }

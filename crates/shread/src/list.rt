@@ -9,7 +9,7 @@ ghost use Rattle.shread.specs.Listed.{view_listed};
 ghost use Rattle.shread.specs.Lists.{a_list, a_remark, entry_turn, list_so, list_turn, next_line, none_listed, on_line};
 ghost use Rattle.shtree.specs.View.{view_list};
 
-use crate::cursor::{Cursor, KEPT};
+use crate::cursor::Cursor;
 use crate::fault::Stop;
 use crate::token::{Next, Separator};
 use shtext::Source;
@@ -96,7 +96,7 @@ impl<'a, S: Source, const KEEP: u8> Cursor<'a, S, KEEP> {
         listed.begun = true;
         listed.commands = true;
         listed.parted = past_separator(separator);
-        if KEEP == KEPT {
+        if self.grows() {
             let background = matches!(separator, Some((Separator::Ampersand, _)));
             listed
                 .entries
@@ -143,7 +143,7 @@ impl<'a, S: Source, const KEEP: u8> Cursor<'a, S, KEEP> {
         if let Some(comment) = self.remark(next) {
             let blank = listed.blank && !listed.begun;
             listed.begun = true;
-            if KEEP == KEPT {
+            if self.grows() {
                 listed.entries.push(comment_entry(comment, blank))?;
             }
         }

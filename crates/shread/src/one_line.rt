@@ -1,7 +1,7 @@
 //! One line of a source, alone or as a script of its own.
 ghost use Rattle.std.specs.Prelude.{◌≡◌, ◌⊎◌, ◌+◌, ◌-◌, ◌^◌, ◌<◌, ◌≤◌, ◌==◌, ℕ, drop, false, length, map, true, IfOk, IsOk};
 ghost use Rattle.shread.specs.Answers.{view_kind, view_line};
-ghost use Rattle.shread.specs.Clauses.{Gives, Onward};
+ghost use Rattle.shread.specs.Clauses.{Gives, Onward, kept};
 ghost use Rattle.shread.specs.Lines.{kind_of};
 ghost use Rattle.shread.specs.Scripts.{line_of_text, line_told};
 ghost use Rattle.shread.specs.Sights.{standing};
@@ -12,6 +12,7 @@ ghost use Rattle.shtree.specs.View.{view_entry};
 
 use crate::cursor::{Cursor, KEPT};
 use crate::fault::{ReadError, Stop};
+use crate::keep::Keep;
 use crate::line::filled_entries;
 use crate::reader::{Line, LineKind};
 use shtext::Source;
@@ -32,19 +33,20 @@ pub(crate) struct Told {
     pub(crate) len: usize,
 }
 
-/// The line that begins at an offset, whose own offsets are counted from `origin`. Its tree grows where `KEEP` is `KEPT`.
+/// The line that begins at an offset, whose own offsets are counted from `origin`. Of its tree this is kept where `KEEP` is `KEPT`.
 #[tactic(auto, unfolding(crate::specs::Lines::a_line), using(crate::proofs::Places::end_is))]
 pub(crate) fn line_at<S: Source, const KEEP: u8>(
     alloc: Global,
     source: &S,
     at: usize,
     origin: usize,
+    keep: Keep,
     blank: bool,
 ) -> Result<Told, Stop>
     requires { (at ≤ length (S.bytes source.now)) × (origin ≤ at) }
     ensures value { Gives (origin + length (drop at (S.bytes source.now)))
         (λ x. ((map view_entry x.entries.items, x.newline), standing x.len)) result
-        (line_told (S.bytes source.now) (KEEP == 1) blank at origin) }
+        (line_told (S.bytes source.now) (kept KEEP keep) blank at origin) }
     // No node of its entries names an offset behind it.
     ensures spans { IfOk result (λ x. (limit : ℕ) → origin + x.len ≤ limit →
         AreWithin limit (entries_of (map view_entry x.entries.items))) }
@@ -55,7 +57,7 @@ pub(crate) fn line_at<S: Source, const KEEP: u8>(
         (raw_stands (drop at (S.bytes source.now)) (x.len - 1) 10 ≡ true) ⊎ (at + x.len ≡ length (S.bytes source.now))) }
     ensures whole { IfOk result (λ x. x.newline ≡ false → at + x.len ≡ length (S.bytes source.now)) }
 {
-    let mut cursor = Cursor::<S, KEEP>::at_line(alloc, source, at, origin);
+    let mut cursor = Cursor::<S, KEEP>::at_line(alloc, source, at, origin, keep);
     // It holds no here-document yet: the line's level is its own.
     let (entries, newline) = cursor.open_line(alloc, blank, MOST_OPEN)?;
     let len = cursor.at;
@@ -112,7 +114,7 @@ pub(crate) fn line_from<S: Source>(alloc: Global, source: &S, at: usize) -> Resu
             ended: false,
         });
     }
-    match line_at::<S, KEPT>(alloc, source, at, 0, false) {
+    match line_at::<S, KEPT>(alloc, source, at, 0, Keep::Whole, false) {
         Ok(
             Told {
                 entries,

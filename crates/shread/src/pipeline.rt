@@ -6,7 +6,7 @@ ghost use Rattle.shread.specs.Form.{again, many, step_if};
 ghost use Rattle.shread.specs.Levels.{level};
 ghost use Rattle.shtree.specs.View.{view_pipeline, view_pipeline_part};
 
-use crate::cursor::{Cursor, KEPT};
+use crate::cursor::Cursor;
 use crate::fault::Stop;
 use crate::token::{Next, Position, Reserved, Token};
 use shtext::Source;
@@ -56,7 +56,7 @@ impl<'a, S: Source, const KEEP: u8> Cursor<'a, S, KEEP> {
         self.bump();
         let join = self.join(alloc, next)?;
         let command = self.command(alloc, next, room)?;
-        if KEEP == KEPT {
+        if self.grows() {
             parts.push(pipeline_part_of(join, command))?;
         } else {
             mem::forget(command);

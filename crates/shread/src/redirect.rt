@@ -9,7 +9,7 @@ ghost use Rattle.shread.specs.Levels.{level};
 ghost use Rattle.shtree.specs.Nodes.{word_span};
 ghost use Rattle.shtree.specs.View.{view_command, view_item, view_word};
 
-use crate::cursor::{Cursor, KEPT};
+use crate::cursor::Cursor;
 use crate::documents::is_strip;
 use crate::fault::{FaultKind, Stop};
 use crate::token::{Next, Position, Token};
@@ -114,7 +114,7 @@ impl<'a, S: Source, const KEEP: u8> Cursor<'a, S, KEEP> {
         let span = self.operator(operator);
         let (word, begin) = self.target(alloc, room)?;
         let here = self.document(alloc, operator, span.start, begin)?;
-        if KEEP == KEPT {
+        if self.grows() {
             let redirection = redirection_of(number, operator, span, word, here);
             items.push(redirect_of(Box::new(alloc, redirection)?, broken))?;
         } else {

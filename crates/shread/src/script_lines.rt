@@ -7,6 +7,7 @@ ghost use Rattle.shread.specs.LineByLine.{AtStart, GoesOn, IsNextLine, IsWholeLi
 
 use crate::cursor::KEPT;
 use crate::fault::{Fault, ReadError, Stop};
+use crate::keep::Keep;
 use crate::one_line::{Told, ends_in_newline, line_at};
 use shtext::Source;
 use shtree::Entry;
@@ -123,7 +124,14 @@ impl<'a, S: Source> ScriptLines<'a, S> {
         ensures within { IfOk result (LineWithin (length (bytes_of S.bytes self.old))) }
     {
         let blank = self.is_blank_next();
-        match line_at::<S, KEPT>(self.alloc, self.source, self.at, self.at, blank) {
+        match line_at::<S, KEPT>(
+            self.alloc,
+            self.source,
+            self.at,
+            self.at,
+            Keep::Whole,
+            blank,
+        ) {
             Ok(
                 Told {
                     entries,
@@ -144,7 +152,8 @@ impl<'a, S: Source> ScriptLines<'a, S> {
     }
 
     /// Reads one more line, if it has no fault and a newline ended it that is its last byte: then nothing that follows it in the script
-    /// has a part in how it is read. If not, nothing moves. Want of memory is the only error; the line may be read again then.
+    /// has a part in how it is read. Of its words the trees in their command substitutions are left out. If there is no such line, nothing
+    /// moves. Want of memory is the only error; the line may be read again then.
     pub fn read_whole(&mut self) -> Result<Option<Vec<Entry>>, ReadError>
         requires { place_of self.old ≤ length (bytes_of S.bytes self.old) }
         ensures line { IfOk result (λ line. IfSome line (λ entries. (so : SoFar) → Stands self.old so →
@@ -157,7 +166,14 @@ impl<'a, S: Source> ScriptLines<'a, S> {
         ensures onward { IfOk result (λ line. IfSome line (λ entries. place_of self.old < place_of self.new)) }
     {
         let blank = self.is_blank_next();
-        match line_at::<S, KEPT>(self.alloc, self.source, self.at, self.at, blank) {
+        match line_at::<S, KEPT>(
+            self.alloc,
+            self.source,
+            self.at,
+            self.at,
+            Keep::Outer,
+            blank,
+        ) {
             Ok(
                 Told {
                     entries,

@@ -1,15 +1,15 @@
 //! Command substitutions (XCU 2.6.3).
 ghost use Rattle.std.specs.Prelude.{◌≡◌, ◌+◌, ◌≤◌, ◌==◌, map, IfOk};
-ghost use Rattle.shread.specs.Clauses.{Keeps, Reads, state_of};
+ghost use Rattle.shread.specs.Clauses.{keep_of, Keeps, Reads, state_of};
 ghost use Rattle.shread.specs.Comments.{span};
-ghost use Rattle.shread.specs.Form.{pushed};
+ghost use Rattle.shread.specs.Form.{grows, pushed};
 ghost use Rattle.shread.specs.Levels.{level};
-ghost use Rattle.shread.specs.Substitutions.{substituted};
+ghost use Rattle.shread.specs.Substitutions.{one_substitution, substituted};
 ghost use Rattle.shtree.specs.Bodies.{filled};
 ghost use Rattle.shtree.specs.Tree.{subst};
 ghost use Rattle.shtree.specs.View.{view_list, view_subst};
 
-use crate::cursor::{Cursor, KEPT};
+use crate::cursor::Cursor;
 use crate::fault::{Fault, FaultKind, Stop};
 use crate::list::Listed;
 use crate::token::{Closing, Position};
@@ -58,18 +58,56 @@ impl<'a, S: Source, const KEEP: u8> Cursor<'a, S, KEEP> {
     ) -> Result<(), AllocError>
         requires { opener ≤ self.now.at }
         ensures value { IfOk result (λ done. map view_subst substs.new.items
-            ≡ pushed (KEEP == 1) (map view_subst substs.old.items) (subst (filled bodies.items (view_list list)) (span self.now.origin opener self.now.at))) }
+            ≡ pushed (grows (keep_of self.now)) (map view_subst substs.old.items) (subst (filled bodies.items (view_list list)) (span self.now.origin opener self.now.at))) }
     {
-        if KEEP == KEPT {
+        if self.grows() {
             let list = filled_list(list, &bodies);
             substs.push(subst_of(list, self.span_from(opener)))?;
         }
         Ok(())
     }
 
-    /// The substitution whose `$` stands at a place, from behind its `(` on, as one more of these.
+    /// The substitution whose `$` stands at a place, from behind its `(` on, as one more of these, if a tree is grown of what stands in it.
     #[cycle(commands)]
-    #[tactic(auto, unfolding(crate::specs::Substitutions::a_substitution), using(crate::proofs::Levels::substitution_below, crate::proofs::Levels::substitution_closed))]
+    #[inline(always)]
+    #[tactic(auto, unfolding(crate::specs::Substitutions::one_substitution))]
+    fn one_substitution(
+        &mut self,
+        alloc: Global,
+        opener: usize,
+        substs: &mut Vec<Subst>,
+        room: usize,
+    ) -> Result<(), Stop>
+        requires { opener ≤ self.old.at }
+        ensures value { Reads S.bytes self.old
+            (one_substitution (level room) (self.old.origin + opener) (map view_subst substs.old.items)) result
+            (λ done. map view_subst substs.new.items) (state_of self.new) }
+        ensures onward { IfOk result (λ done. self.old.at ≤ self.new.at) }
+        ensures same { Keeps self.old self.new }
+    {
+        let outer = self.open_level(alloc);
+        match self.substituted(alloc, room) {
+            Ok(list) => {
+                let bodies = self.close_level(outer);
+                self.add_subst(list, bodies, opener, substs)?;
+                Ok(())
+            }
+            // The text ends in it.
+            Err(
+                Stop::Wrong(
+                    Fault {
+                        kind: FaultKind::UnexpectedEnd,
+                        ..
+                    },
+                ),
+            ) => Err(self.wrong_at(FaultKind::UnclosedSubst, opener)),
+            Err(stop) => Err(stop),
+        }
+    }
+
+    /// The same, if it may be opened.
+    #[cycle(commands)]
+    #[tactic(auto, using(crate::proofs::Levels::substitution_inside, crate::proofs::Levels::substitution_closed))]
     pub(crate) fn substitution(
         &mut self,
         alloc: Global,
@@ -87,23 +125,11 @@ impl<'a, S: Source, const KEEP: u8> Cursor<'a, S, KEEP> {
         if room == 0 {
             return Err(self.wrong_at(FaultKind::TooDeep, opener));
         }
-        let outer = self.open_level(alloc);
-        match self.substituted(alloc, room - 1) {
-            Ok(list) => {
-                let bodies = self.close_level(outer);
-                self.add_subst(list, bodies, opener, substs)?;
-                Ok(())
-            }
-            // The text ends in it.
-            Err(
-                Stop::Wrong(
-                    Fault {
-                        kind: FaultKind::UnexpectedEnd,
-                        ..
-                    },
-                ),
-            ) => Err(self.wrong_at(FaultKind::UnclosedSubst, opener)),
-            Err(stop) => Err(stop),
-        }
+        let keep = self.keep;
+        self.keep = keep.inside();
+        let read = self.one_substitution(alloc, opener, substs, room - 1);
+        self.keep = keep;
+        read?;
+        Ok(())
     }
 }

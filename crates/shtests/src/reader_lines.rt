@@ -4,8 +4,9 @@ use crate::cell::{Cell, joined};
 use crate::dump::{Judge, dump_end, dump_fault};
 use crate::reader_trees::ROWS;
 use crate::table::{rows, split};
-use shread::{Fault, LineKind, Reader, faultless_front};
+use shread::{Fault, Line, LineKind, Reader, ScriptLines, faultless_front};
 use shtext::Flat;
+use shtree::make::list_of;
 use shtree::{Command, Content, List};
 use std::alloc::Global;
 use std::test::Fail;
@@ -85,6 +86,38 @@ fn fronts(rt: HostRuntime) -> Result<(), Fail> {
         }
     }
     Ok(())
+}
+
+/// A script, and its first line where that is whole. The trees in its command substitutions are left out.
+const WHOLE: &[u8] = br###"
+("$(a)\n", "[0-4] to 5, ended") ("a \"$(b | c)\" d=$(e)\n", "[0-1 2-12 13-19] to 20, ended") ("{ a $(b)\n}\n", "{0-10 [2-3 4-8]} to 11, ended")
+("$(a)", "none") ("$(a;;)\n", "none") ("a $(b\n", "none")
+"###;
+
+fn judge_whole(judge: &mut Judge, alloc: Global, row: &[Cell]) -> Result<(), Fail> {
+    let [script, wanted] = row else {
+        return Err(Fail::from("no row"));
+    };
+    let source = Flat::new(&script.bytes);
+    let mut lines = ScriptLines::new(alloc, &source);
+    let Some(entries) = lines.read_whole()? else {
+        return judge.text(&script.bytes, "none", &wanted.bytes);
+    };
+    let line = Line {
+        kind: LineKind::Entries(list_of(entries)),
+        next: lines.at(),
+        ended: true,
+    };
+    judge.line(&script.bytes, &line, &wanted.bytes)
+}
+
+#[test]
+fn whole_lines(rt: HostRuntime) -> Result<(), Fail> {
+    let mut judge = Judge::new(rt.alloc());
+    for row in &rows(rt.alloc(), WHOLE)? {
+        judge_whole(&mut judge, rt.alloc(), row)?;
+    }
+    judge.verdict()
 }
 
 /// Reads a script line by line: how many lines ended, how many entries they have, and the fault.

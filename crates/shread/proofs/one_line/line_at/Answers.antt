@@ -1,8 +1,7 @@
-use Rattle.std.proofs.Common.{◌≡◌, ◌==◌, ◌∙◌, Ok, List as Row, drop, map, ap, sym}
-use Rattle.shtree.specs.Bodies.{filled_row}
+use Rattle.std.proofs.Common.{◌≡◌, ◌∙◌, Ok, List as Row, drop, map, ap, sym}
 use Rattle.shtree.specs.Tree.{AnEntry}
 use Rattle.shtree.specs.View.{view_entry}
-use Rattle.shread.specs.Clauses.{state_of}
+use Rattle.shread.specs.Clauses.{kept, state_of}
 use Rattle.shread.specs.Form.{does}
 use Rattle.shread.specs.Levels.{level, most_open}
 use Rattle.shread.specs.Lines.{an_open_line}
@@ -19,9 +18,9 @@ returns-clause-value g c =
     let inner = state_of c.open_line.new.self in
     let es = map view_entry c.in_ok-entries.entries.items in
     let newline = c.in_ok-entries.newline in
-    let inside : does (an_open_line (level most_open) c.args.blank) (g.row.KEEP == 1) here (standing 0) ≡ Ok ((es, newline), inner) =
-    rw (at_line.0, at_line.1, at_line.2, at_line.3) at c.in_ok-entries.ensures.value in
-    line_read (g.row.KEEP == 1) here (standing 0) (level most_open) c.args.blank newline es inner inside
+    let inside : does (an_open_line (level most_open) c.args.blank) (kept g.row.KEEP c.args.keep) here (standing 0) ≡ Ok ((es, newline), inner) =
+    rw (at_line.0, at_line.1, at_line.2, at_line.3, at_line.4) at c.in_ok-entries.ensures.value in
+    line_read (kept g.row.KEEP c.args.keep) here (standing 0) (level most_open) c.args.blank newline es inner inside
     ∙ ap (λ (zs : Row AnEntry). Ok ((zs, newline), standing inner.at)) (sym c.filled_entries.ensures)
 
 pub returns-clause-spans : goal.returns-clause-spans
@@ -32,9 +31,9 @@ returns-clause-spans g c =
     let inner = state_of c.open_line.new.self in
     let es = map view_entry c.in_ok-entries.entries.items in
     let newline = c.in_ok-entries.newline in
-    let inside : does (an_open_line (level most_open) c.args.blank) (g.row.KEEP == 1) here (standing 0) ≡ Ok ((es, newline), inner) =
-    rw (at_line.0, at_line.1, at_line.2, at_line.3) at c.in_ok-entries.ensures.value in
-    let told : line_told bytes (g.row.KEEP == 1) c.args.blank c.args.at c.args.origin ≡ Ok ((map view_entry c.filled_entries.result.items, newline), standing inner.at) =
-    line_read (g.row.KEEP == 1) here (standing 0) (level most_open) c.args.blank newline es inner inside
+    let inside : does (an_open_line (level most_open) c.args.blank) (kept g.row.KEEP c.args.keep) here (standing 0) ≡ Ok ((es, newline), inner) =
+    rw (at_line.0, at_line.1, at_line.2, at_line.3, at_line.4) at c.in_ok-entries.ensures.value in
+    let told : line_told bytes (kept g.row.KEEP c.args.keep) c.args.blank c.args.at c.args.origin ≡ Ok ((map view_entry c.filled_entries.result.items, newline), standing inner.at) =
+    line_read (kept g.row.KEEP c.args.keep) here (standing 0) (level most_open) c.args.blank newline es inner inside
     ∙ ap (λ (zs : Row AnEntry). Ok ((zs, newline), standing inner.at)) (sym c.filled_entries.ensures) in
-    line_within (drop c.args.at bytes) c.args.origin (g.row.KEEP == 1) c.args.blank _ _ (standing inner.at) told
+    line_within (drop c.args.at bytes) c.args.origin (kept g.row.KEEP c.args.keep) c.args.blank _ _ (standing inner.at) told

@@ -169,6 +169,9 @@ decreases-list g l = 128 * l.room + 60
 abbrev pub decreases-substituted : goal.decreases-substituted
 decreases-substituted g l = 128 * l.room + 60
 
+abbrev pub decreases-one_substitution : goal.decreases-one_substitution
+decreases-one_substitution g l = 128 * l.room + 62
+
 abbrev pub decreases-body : goal.decreases-body
 decreases-body g l = 128 * l.room + 60
 

@@ -1,6 +1,6 @@
-use Rattle.std.proofs.Common.{◌≤◌, ◌==◌, ◌∙◌, Ok, length, map, sym, ap, arith}
+use Rattle.std.proofs.Common.{◌≤◌, ◌∙◌, Ok, length, map, sym, ap, arith}
 use Rattle.std.proofs.lemmas.Bool.Decides.{nat_tests}
-use Rattle.shread.specs.Clauses.{text_of, view_waiting}
+use Rattle.shread.specs.Clauses.{keep_of, text_of, view_waiting}
 use Rattle.shread.specs.Sights.{given}
 use Rattle.shread.proofs.Awaited.{bodies_read}
 use Rattle.shread.proofs.cursor.Cursor.bodies.Goals as goal
@@ -12,5 +12,5 @@ returns-clause-value g c =
     let bodies = c.documents.self.documents.bodies.items in
     let same = ap (λ v. length v.items) c.documents.invariant.1 in
     let all : length start.waiting.items ≤ c.documents.index = grind (arith, nat_tests, c.documents-test.false, c.len.ensures, same) in
-    bodies_read (g.row.KEEP == 1) here start.waiting.items start.bodies.items bodies c.documents.index c.args.self.now.at c.documents.self.at all c.documents.invariant.0
+    bodies_read (keep_of c.args.self.now) here start.waiting.items start.bodies.items bodies c.documents.index c.args.self.now.at c.documents.self.at all c.documents.invariant.0
     ∙ ap (λ ws. Ok (tt, record { at = c.documents.self.at; waiting = map view_waiting ws; bodies = bodies })) (sym c.clear.ensures.items)

@@ -1,6 +1,6 @@
-use Rattle.std.proofs.Common.{◌≡◌, ◌==◌, length, arith}
+use Rattle.std.proofs.Common.{◌≡◌, length, arith}
 use Rattle.std.proofs.lemmas.Bool.Decides.{nat_tests}
-use Rattle.shread.specs.Clauses.{text_of}
+use Rattle.shread.specs.Clauses.{keep_of, text_of}
 use Rattle.shread.specs.Sights.{given}
 use Rattle.shread.proofs.Awaited.{none_awaited}
 use Rattle.shread.proofs.cursor.Cursor.bodies_here.Goals as goal
@@ -9,4 +9,4 @@ pub returns-then-is_empty-clause-value : goal.returns-then-is_empty-clause-value
 returns-then-is_empty-clause-value g c =
     let start = c.args.self.now in
     let none : length start.documents.waiting.items ≡ 0 = grind (arith, nat_tests, c.is_empty.ensures, c.if-is_empty.true) in
-    none_awaited (g.row.KEEP == 1) (given (text_of g.S.Source.bytes start) start.origin) start.documents start.at none
+    none_awaited (keep_of start) (given (text_of g.S.Source.bytes start) start.origin) start.documents start.at none

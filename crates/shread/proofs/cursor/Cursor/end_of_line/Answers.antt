@@ -1,6 +1,6 @@
-use Rattle.std.proofs.Common.{◌≡◌, ℕ, ◌-◌, ◌==◌, ◌∙◌, true, ap}
+use Rattle.std.proofs.Common.{◌≡◌, ℕ, ◌-◌, ◌∙◌, true, ap}
 use Rattle.shread.specs.Bytes.{behind}
-use Rattle.shread.specs.Clauses.{state_of, text_of}
+use Rattle.shread.specs.Clauses.{keep_of, state_of, text_of}
 use Rattle.shread.specs.Sights.{given}
 use Rattle.shread.specs.Standing.{raw_stands}
 use Rattle.shread.proofs.BodiesThere.{ends_line}
@@ -17,4 +17,4 @@ returns-in_ok-bodies_here-in-Newline-clause-newline g c = λ e.
     let is : c.step.new.self.at ≡ behind text start.at = c.step.ensures.value in
     let newline : raw_stands text (c.step.new.self.at - 1) 10 ≡ true =
     ap (λ (q : ℕ). raw_stands text (q - 1) 10) is ∙ ap (λ (q : ℕ). raw_stands text q 10) (behind_back text start.at ∙ shows.6) ∙ shows.2 c.in-Newline.is in
-    ends_line (g.row.KEEP == 1) (given text start.origin) (state_of c.step.new.self) (state_of c.bodies_here.new.self) read newline
+    ends_line (keep_of start) (given text start.origin) (state_of c.step.new.self) (state_of c.bodies_here.new.self) read newline

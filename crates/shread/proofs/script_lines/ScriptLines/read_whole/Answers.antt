@@ -1,4 +1,5 @@
 use Rattle.std.proofs.Common.{◌≡◌, ◌∙◌, map, refl, sym, subst, false, true, Ok}
+use Rattle.shread.specs.declared.keep.Keep.TheVariants.{Outer}
 use Rattle.shtree.specs.View.{view_entry}
 use Rattle.shread.specs.Scripts.{line_from}
 use Rattle.shread.specs.Sights.{standing}
@@ -14,7 +15,7 @@ returns-then-ends_in_newline-clause-line g c = λ so stood.
     let some = rw c.if-newline.true at c.in-Ok.ensures.onward in (
       standing c.in-Ok.field-0.len,
       c.pass.ensures.place,
-      subst (λ b. line_from bytes true b c.args.self.now.at ≡ Ok ((map view_entry c.in-Ok.field-0.entries.items, true), standing c.in-Ok.field-0.len)) (c.is_blank_next-blank.ensures so stood) told,
+      subst (λ b. line_from bytes Outer b c.args.self.now.at ≡ Ok ((map view_entry c.in-Ok.field-0.entries.items, true), standing c.in-Ok.field-0.len)) (c.is_blank_next-blank.ensures so stood) told,
       some,
       sym c.ends_in_newline.ensures ∙ c.if-ends_in_newline.true,
       rw c.deref.ensures.value at (c.pass.ensures.stands so stood),
