@@ -1,14 +1,14 @@
 //! The two tools over readers and writers: an input is read to its end, under the limit, and reported on.
-ghost use Rattle.std.specs.Prelude.{◌≡◌, ◌≢◌, ◌+◌, ◌<◌, ◌≤◌, ◌==◌, ℕ, List, IfErr, IfOk, false, length, take, true};
+ghost use Rattle.std.specs.Prelude.{◌≡◌, ◌≢◌, ◌+◌, ◌<◌, ◌≤◌, ◌==◌, ℕ, List, [], IfErr, IfOk, false, length, take, true};
 ghost use Rattle.std.specs.Io.KnownBytes.{Consumes, IsAtEnd};
 ghost use Rattle.shtext.specs.Device.{held_of, input_ended, input_failed, left_of, output_failed};
 ghost use Rattle.shtext.specs.Edit.{limit};
-ghost use Rattle.shform.specs.Part.{Holds, HoldsPrinted};
 ghost use Rattle.shform.specs.Report.{IsPrintReport, IsReport, StopsBehind, StopsFor};
 
 use crate::part::Part;
 use crate::printed_part::{PrintedPart, Unprinted};
 use crate::report::{Stop, give_up, tell, write_flushed};
+use crate::sink::Sink;
 use shprint::Layout;
 use shread::ReadError;
 use shtext::{Failed, Input, LIMIT, Output};
@@ -45,6 +45,33 @@ fn read_piece<R: Read>(input: &mut Input<R>, piece: &mut [u8], held: usize) -> R
     Ok(count)
 }
 
+/// Reads the input to its end into a sink.
+fn read_into<R: Read, S: Sink>(input: &mut Input<R>, mut sink: S) -> Result<S, Stop>
+    requires sound { input_failed input.old ≡ false }
+    requires open { input_ended input.old ≡ false }
+    requires empty { (setup : S.Setup) × S.holds setup [] sink }
+    ensures ok { IfOk result (λ full. (read : List ℕ) × ((setup : S.Setup) → S.holds setup [] sink → S.holds setup read full)
+        × (Consumes (left_of R.remaining input.old) (left_of R.remaining input.new) read)
+        × (IsAtEnd (left_of R.remaining input.new)) × (length read ≤ limit)
+        × (input_failed input.new ≡ false) × (input_ended input.new ≡ true)) }
+    ensures err { IfErr result (λ stop. (read : List ℕ)
+        × (Consumes (left_of R.remaining input.old) (left_of R.remaining input.new) read)
+        × StopsFor read (input_failed input.new) (input_ended input.new) stop) }
+{
+    let mut held = 0;
+    let mut piece = [0; PIECE];
+    'pieces: loop {
+        let count = read_piece(input, &mut piece, held)?;
+        if count == 0 {
+            return Ok(sink);
+        }
+        let Ok(()) = sink.take(&piece[..count]) else {
+            return Err(Stop::Memory);
+        };
+        held += count;
+    }
+}
+
 /// The whole input. Memory grows with what was read.
 pub fn read_whole<R: Read>(alloc: Global, input: &mut Input<R>) -> Result<Vec<u8>, Stop>
     requires sound { input_failed input.old ≡ false }
@@ -56,72 +83,7 @@ pub fn read_whole<R: Read>(alloc: Global, input: &mut Input<R>) -> Result<Vec<u8
         × (Consumes (left_of R.remaining input.old) (left_of R.remaining input.new) read)
         × StopsFor read (input_failed input.new) (input_ended input.new) stop) }
 {
-    let mut text = Vec::new(alloc);
-    let mut piece = [0; PIECE];
-    'pieces: loop {
-        let count = read_piece(input, &mut piece, text.len())?;
-        if count == 0 {
-            return Ok(text);
-        }
-        if text.extend_from_slice(&piece[..count]).is_err() {
-            return Err(Stop::Memory);
-        }
-    }
-}
-
-/// Reads the input to its end, and holds what a check needs of it.
-fn read_part<R: Read>(alloc: Global, input: &mut Input<R>) -> Result<Part, Stop>
-    requires sound { input_failed input.old ≡ false }
-    requires open { input_ended input.old ≡ false }
-    ensures ok { IfOk result (λ part. (read : List ℕ) × (Holds read part)
-        × (Consumes (left_of R.remaining input.old) (left_of R.remaining input.new) read)
-        × (IsAtEnd (left_of R.remaining input.new)) × (length read ≤ limit)
-        × (input_failed input.new ≡ false) × (input_ended input.new ≡ true)) }
-    ensures err { IfErr result (λ stop. (read : List ℕ)
-        × (Consumes (left_of R.remaining input.old) (left_of R.remaining input.new) read)
-        × StopsFor read (input_failed input.new) (input_ended input.new) stop) }
-{
-    let mut part = Part::new(alloc);
-    let mut piece = [0; PIECE];
-    'pieces: loop {
-        let count = read_piece(input, &mut piece, part.len())?;
-        if count == 0 {
-            return Ok(part);
-        }
-        match part.take(alloc, &piece[..count]) {
-            Ok(()) => {}
-            Err(ReadError::Memory) => return Err(Stop::Memory),
-        }
-    }
-}
-
-/// Reads the input to its end, and prints what may be printed of it by then.
-fn read_printed<R: Read>(
-    alloc: Global,
-    layout: &Layout,
-    input: &mut Input<R>,
-) -> Result<PrintedPart, Stop>
-    requires sound { input_failed input.old ≡ false }
-    requires open { input_ended input.old ≡ false }
-    ensures ok { IfOk result (λ printed. (read : List ℕ) × (HoldsPrinted layout.now read printed)
-        × (Consumes (left_of R.remaining input.old) (left_of R.remaining input.new) read)
-        × (IsAtEnd (left_of R.remaining input.new)) × (length read ≤ limit)
-        × (input_failed input.new ≡ false) × (input_ended input.new ≡ true)) }
-    ensures err { IfErr result (λ stop. (read : List ℕ)
-        × (Consumes (left_of R.remaining input.old) (left_of R.remaining input.new) read)
-        × StopsFor read (input_failed input.new) (input_ended input.new) stop) }
-{
-    let mut printed = PrintedPart::new(alloc, layout);
-    let mut piece = [0; PIECE];
-    'pieces: loop {
-        let count = read_piece(input, &mut piece, printed.part.len())?;
-        if count == 0 {
-            return Ok(printed);
-        }
-        let Ok(()) = printed.take(&piece[..count]) else {
-            return Err(Stop::Memory);
-        };
-    }
+    read_into(input, Vec::new(alloc))
 }
 
 /// Reads the input to its end, and tells the first fault of the script on `errors`, or why there is no verdict. The answer is 0 for a
@@ -143,7 +105,7 @@ pub fn check_engine<R: Read, O: Write, E: Write>(
     ensures silent { output.new ≡ output.old }
 {
     let _ = &*output;
-    let part = match read_part(alloc, input) {
+    let part = match read_into(input, Part::new(alloc)) {
         Ok(part) => part,
         Err(stop) => return give_up(name, stop, errors),
     };
@@ -175,7 +137,7 @@ pub fn print_engine<R: Read, O: Write, E: Write>(
         (held_of E.contents errors.old) (held_of E.contents errors.new) (output_failed errors.new) result }
     ensures whole { result ≢ 2 → (input_ended input.new ≡ true) × IsAtEnd (left_of R.remaining input.new) }
 {
-    let printed = match read_printed(alloc, layout, input) {
+    let printed = match read_into(input, PrintedPart::new(alloc, layout)) {
         Ok(printed) => printed,
         Err(stop) => return give_up(name, stop, errors),
     };

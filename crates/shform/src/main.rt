@@ -2,9 +2,9 @@
 //! `shform session [OPTIONS] [FILE]`.
 //!
 //! Start with `run`, which takes the words, and with `check_engine` and `print_engine` in `engine`, which do the work over readers
-//! and writers: both read the input piece by piece and hold a `part` of it, a print with its text as a `printed_part`; they have the first
-//! fault or the text from the reader and the printer, and tell the one by `report`, or write the other. A session is that of `shlive`.
-//! `words` reads the command line. The ends, which remember how their devices fared, are those of `shtext`.
+//! and writers: both read the input piece by piece into a `sink`, which is a `part` of it, for a print with its text a `printed_part`;
+//! they have the first fault or the text from the reader and the printer, and tell the one by `report`, or write the other. A session
+//! is that of `shlive`. `words` reads the command line. The ends, which remember how their devices fared, are those of `shtext`.
 #![tactic(auto)]
 
 mod asked;
@@ -16,6 +16,7 @@ mod printed_part;
 #[cfg(test)]
 mod refused;
 mod report;
+mod sink;
 #[cfg(test)]
 mod tests;
 mod usage;

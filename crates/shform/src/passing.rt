@@ -7,6 +7,7 @@ ghost use Rattle.shtext.specs.Edit.{limit};
 
 use crate::newlines::newlines_in;
 use crate::part::{Found, Part};
+use crate::sink::Sink;
 use shread::{Fault, ReadError, Reader, faultless_front};
 use shtext::{Flat, line_col_of};
 use std::alloc::{AllocError, Global};
@@ -35,14 +36,6 @@ impl Part {
             newlines: 0,
             long: false,
         }
-    }
-
-    /// How many bytes were read.
-    pub fn len(&self) -> usize
-        ensures value { result ≡ bytes_read self.now }
-        ensures low { result ≤ limit }
-    {
-        self.passed + self.text.len()
     }
 
     /// Some more bytes were read. Where memory runs out, all is as before.
@@ -74,26 +67,16 @@ impl Part {
     }
 
     /// Passes what lines there are, where enough is held to look for them.
-    fn pass_lines(&mut self, alloc: Global) -> Result<(), ReadError>
+    fn pass_lines(&mut self) -> Result<(), AllocError>
         ensures { IfOk result (λ done. (read : List ℕ) → Holds read self.old → Holds read self.new) }
     {
         if !self.is_due() {
             return Ok(());
         }
-        let count = faultless_front(alloc, &Flat::new(&self.text))?;
-        self.pass(count);
-        Ok(())
-    }
-
-    /// Takes some more bytes that were read.
-    pub fn take(&mut self, alloc: Global, bytes: &[u8]) -> Result<(), ReadError>
-        requires { bytes_read self.old + length bytes.now ≤ limit }
-        ensures { IfOk result (λ done. (read : List ℕ) → Holds read self.old → Holds (read ++ bytes.now) self.new) }
-    {
-        let Ok(()) = self.add(bytes) else {
-            return Err(ReadError::Memory);
+        let Ok(count) = faultless_front(*self.text.allocator(), &Flat::new(&self.text)) else {
+            return Err(AllocError);
         };
-        self.pass_lines(alloc)?;
+        self.pass(count);
         Ok(())
     }
 
@@ -121,5 +104,15 @@ impl Part {
             None => Ok(None),
             Some(fault) => Ok(Some(self.found(fault))),
         }
+    }
+}
+
+impl Sink for Part {
+    ghost holds = { λ _ read part. Holds read part };
+
+    fn take(&mut self, bytes: &[u8]) -> Result<(), AllocError> {
+        self.add(bytes)?;
+        self.pass_lines()?;
+        Ok(())
     }
 }

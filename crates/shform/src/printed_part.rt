@@ -7,6 +7,7 @@ ghost use Rattle.shprint.specs.ReadBack.{IsTextOf};
 ghost use Rattle.shtext.specs.Edit.{limit};
 
 use crate::part::{Found, Part};
+use crate::sink::Sink;
 use shprint::{Layout, PrintError, Printing};
 use shtext::Flat;
 use std::alloc::{AllocError, Global};
@@ -14,8 +15,8 @@ use std::alloc::{AllocError, Global};
 /// What was read of a script, and what is printed of it.
 #[derive(Drop)]
 pub struct PrintedPart {
-    pub(crate) part: Part,
-    pub(crate) printing: Printing,
+    part: Part,
+    printing: Printing,
 }
 
 /// Why a script has no printed text.
@@ -50,16 +51,6 @@ impl PrintedPart {
         Ok(())
     }
 
-    /// Takes some more bytes that were read. Where memory runs out nothing more may be taken.
-    pub fn take(&mut self, bytes: &[u8]) -> Result<(), AllocError>
-        requires { bytes_read self.old.part + length bytes.now ≤ limit }
-        ensures { IfOk result (λ done. (y : ALayout) (read : List ℕ) → HoldsPrinted y read self.old → HoldsPrinted y (read ++ bytes.now) self.new) }
-    {
-        self.part.add(bytes)?;
-        self.print_lines()?;
-        Ok(())
-    }
-
     /// The printed text of the script, where all of it was read.
     pub fn text(self) -> Result<Vec<u8>, Unprinted>
         ensures printed { IfOk result (λ text. (y : ALayout) (read : List ℕ) → HoldsPrinted y read self → IsTextOf y read text.items) }
@@ -71,5 +62,17 @@ impl PrintedPart {
             Err(PrintError::Faulty(fault)) => Err(Unprinted::Faulty(part.found(fault))),
             Err(PrintError::Memory) => Err(Unprinted::Memory),
         }
+    }
+}
+
+impl Sink for PrintedPart {
+    ghost Setup = { ALayout };
+
+    ghost holds = { HoldsPrinted };
+
+    fn take(&mut self, bytes: &[u8]) -> Result<(), AllocError> {
+        self.part.add(bytes)?;
+        self.print_lines()?;
+        Ok(())
     }
 }

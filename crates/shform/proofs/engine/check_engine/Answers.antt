@@ -1,4 +1,4 @@
-use Rattle.std.proofs.Common.{sym, ap, cond, None, Ok, Err}
+use Rattle.std.proofs.Common.{sym, ap, cond, None, Ok, Err, rules}
 use Rattle.shtext.specs.Device.{output_failed}
 use Rattle.shform.specs.declared.report.Stop.TheVariants.{Memory}
 use Rattle.shtext.proofs.Known.{Writes-nothing}
@@ -16,12 +16,19 @@ returns-in-Ok-None-clause-report g c =
       read = p.0;
       verdict = Ok None;
       consumed = p.2;
-      judged = (p.5, p.6, p.4, (rw c.in-Ok-None.field-0-is at c.in-Ok-None.ensures) p.0 p.1);
+      judged = (p.5, p.6, p.4, (rw c.in-Ok-None.field-0-is at c.in-Ok-None.ensures) p.0 (p.1 tt c.new.ensures));
       told = record {
         written = Writes-nothing (g.E.Write.contents c.args.errors.now.writer) (output_failed c.args.errors.now) c.requires.unbroken;
         answer = ap (λ broken. cond broken 2 0) (sym c.requires.unbroken);
       };
     }
+
+pub returns-in-Ok-Some-clause-report : goal.returns-in-Ok-Some-clause-report
+returns-in-Ok-Some-clause-report g c =
+    let p = c.in-Ok.ensures.ok in
+    let found = (rw c.in-Ok-Some.field-0-is at c.in-Ok-Some.ensures) p.0 (p.1 tt c.new.ensures) in
+    let told = c.tell.ensures.told p.0 found.1.1 found.1.2 in
+    search rules
 
 pub returns-clause-report : goal.returns-clause-report
 returns-clause-report g c =

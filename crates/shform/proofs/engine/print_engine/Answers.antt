@@ -12,7 +12,7 @@ returns-in-Err-clause-report g c =
 pub returns-in-Err-Faulty-clause-report : goal.returns-in-Err-Faulty-clause-report
 returns-in-Err-Faulty-clause-report g c =
     let p = c.in-Ok.ensures.ok in
-    let found = rw c.in-Err-Faulty.field-0-is at (c.in-Err-Faulty.ensures.err c.args.layout.now p.0 p.1) in
+    let found = rw c.in-Err-Faulty.field-0-is at (c.in-Err-Faulty.ensures.err c.args.layout.now p.0 (p.1 c.args.layout.now c.new.ensures)) in
     fault_told c.args.layout.now c.args.name.now _ _ _ _ p.0 p.2 p.5 p.6 p.4 _ _ _ (output_failed c.args.output.now) _ _ c.in-Err-Faulty.found.fault c.requires.whole found.0
     (c.tell.ensures.told p.0 found.1.1 found.1.2)
 
@@ -24,7 +24,7 @@ returns-in-Err-Memory-clause-report g c =
 pub returns-in-Ok-write_flushed-clause-report : goal.returns-in-Ok-write_flushed-clause-report
 returns-in-Ok-write_flushed-clause-report g c =
     let p = c.in-Ok.ensures.ok in
-    let is = c.in-Ok-text.ensures.printed c.args.layout.now p.0 p.1 in
+    let is = c.in-Ok-text.ensures.printed c.args.layout.now p.0 (p.1 c.args.layout.now c.new.ensures) in
     let whole = c.in-Ok-write_flushed.ensures.failed ∙ ap (λ failed. failed || false) c.requires.whole in
     let written = rw c.deref.ensures.value at c.in-Ok-write_flushed.ensures.bytes in
     text_printed c.args.layout.now c.args.name.now _ _ _ _ p.0 p.2 p.5 p.6 p.4 c.in-Ok-text.text.items is _ _ (output_failed c.write_flushed.new.output)
@@ -33,7 +33,7 @@ returns-in-Ok-write_flushed-clause-report g c =
 pub returns-clause-report : goal.returns-clause-report
 returns-clause-report g c =
     let p = c.in-Ok.ensures.ok in
-    let is = c.in-Ok-text.ensures.printed c.args.layout.now p.0 p.1 in
+    let is = c.in-Ok-text.ensures.printed c.args.layout.now p.0 (p.1 c.args.layout.now c.new.ensures) in
     let fails = c.in-Err-write_flushed.ensures.failed ∙ ap (λ failed. failed || true) c.requires.whole in
     let written = rw c.deref.ensures.value at c.in-Err-write_flushed.ensures.bytes in
     text_unwritten c.args.layout.now c.args.name.now _ _ _ _ p.0 p.2 p.5 p.6 p.4 c.in-Ok-text.text.items is _ _ (output_failed c.write_flushed.new.output)

@@ -1,6 +1,6 @@
 use Rattle.std.proofs.Common.{◌++◌, refl}
 use Rattle.shform.proofs.Parts.{printed_more}
-use Rattle.shform.proofs.printed_part.PrintedPart.take.Goals as goal
+use Rattle.shform.proofs.printed_part.PrintedPartSink.take.Goals as goal
 
 pub returns : goal.returns
 returns c = λ y read is.

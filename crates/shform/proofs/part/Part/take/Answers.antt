@@ -1,8 +1,0 @@
-use Rattle.std.proofs.Common.{◌++◌}
-use Rattle.shform.proofs.Parts.{holds_more}
-use Rattle.shform.proofs.part.Part.take.Goals as goal
-
-pub returns : goal.returns
-returns c = λ read is.
-    let bytes = c.args.bytes.now in
-    c.in_ok-pass_lines.ensures (read ++ bytes) (holds_more read bytes c.args.self.now _ is (c.in-Ok.ensures.held read is.held) c.in-Ok.ensures.passed)
