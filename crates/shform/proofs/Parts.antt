@@ -11,12 +11,12 @@ use Rattle.shform.specs.declared.printed_part.PrintedPart.{PrintedPart}
 use Rattle.shprint.specs.declared.by_line.Printing.{Printing}
 use Rattle.shprint.specs.declared.layout.Layout.{Layout}
 use Rattle.shprint.specs.Printing.{IsPrinted}
-use Rattle.shread.specs.Search.{MayPass}
+use Rattle.shgrammar.specs.Search.{MayPass}
 use Rattle.shform.specs.declared.part.Part.{Part}
-use Rattle.shread.specs.declared.fault.Fault.{Fault}
-use Rattle.shread.specs.Moved.{moved_fault}
-use Rattle.shread.specs.Scripts.{FirstFault}
-use Rattle.shread.proofs.Stretches.{get_drop}
+use Rattle.shgrammar.specs.declared.fault.Fault.{Fault}
+use Rattle.shgrammar.specs.Moved.{moved_fault}
+use Rattle.shgrammar.specs.Scripts.{FirstFault}
+use Rattle.shgrammar.proofs.Stretches.{get_drop}
 use Rattle.shtext.specs.Text.{column_of, is_newline, line_of, since_newline}
 use Rattle.shtext.proofs.Newlines.{since_start}
 

@@ -1,8 +1,8 @@
 -- What a print reports.
 use Rattle.std.proofs.Common.{◌≡◌, ◌≤◌, ℕ, Bool, true, false, cond, List, Option, None, Some, Ok, Err, length, refl, sym, ap, subst, inl, inr}
 use Rattle.std.specs.Io.KnownBytes.{Consumes}
-use Rattle.shread.specs.Scripts.{FirstFault, Outcome}
-use Rattle.shread.specs.declared.fault.Fault.{Fault}
+use Rattle.shgrammar.specs.Scripts.{FirstFault, Outcome}
+use Rattle.shgrammar.specs.declared.fault.Fault.{Fault}
 use Rattle.shprint.specs.ReadBack.{IsTextOf}
 use Rattle.shprint.specs.declared.layout.Layout.{Layout}
 use Rattle.shtext.specs.Device.{Writes}

@@ -2,9 +2,9 @@
 use Rattle.std.specs.Prelude.{◌≡◌, ℕ, ◌+◌, ◌-◌, ◌++◌, ◌<◌, ◌≤◌, List, Option, None, Some, count_by, drop, length, option_map, slice_get, take}
 use Rattle.shform.specs.declared.part.Found.{Found}
 use Rattle.shform.specs.declared.part.Part.{Part}
-use Rattle.shread.specs.declared.fault.Fault.{Fault}
-use Rattle.shread.specs.Moved.{moved_fault}
-use Rattle.shread.specs.Scripts.{FirstFault}
+use Rattle.shgrammar.specs.declared.fault.Fault.{Fault}
+use Rattle.shgrammar.specs.Moved.{moved_fault}
+use Rattle.shgrammar.specs.Scripts.{FirstFault}
 use Rattle.shprint.specs.declared.layout.Layout.{Layout}
 use Rattle.shprint.specs.Printing.{IsPrinted}
 use Rattle.shform.specs.declared.printed_part.PrintedPart.{PrintedPart}

@@ -1,9 +1,9 @@
 -- What is said of an input, and the status that is answered.
 use Rattle.std.specs.Prelude.{◌≡◌, ◌⊎◌, ℕ, ◌+◌, ◌≤◌, ◌++◌, [], Bool, true, false, List, Option, None, Some, Result, Ok, Err, length, codes, if◌then◌else◌}
 use Rattle.std.specs.Io.KnownBytes.{Consumes}
-use Rattle.shread.specs.Scripts.{FirstFault}
+use Rattle.shgrammar.specs.Scripts.{FirstFault}
 use Rattle.shtext.specs.Text.{line_of, column_of}
-use Rattle.shread.specs.declared.fault.Fault.{Fault}
+use Rattle.shgrammar.specs.declared.fault.Fault.{Fault}
 use Rattle.shtext.specs.Device.{Writes}
 use Rattle.shtext.specs.Edit.{limit}
 use Rattle.shprint.specs.Message.{message_text}

@@ -2,7 +2,7 @@
 //! short lines takes as much memory as a piece of it, however long it is.
 ghost use Rattle.std.specs.Prelude.{◌≡◌, ◌+◌, ◌++◌, ◌≤◌, ℕ, List, [], IfOk, drop, length};
 ghost use Rattle.shform.specs.Part.{EndsLine, Held, Holds, IsFound, IsFoundAt, bytes_read};
-ghost use Rattle.shread.specs.Moved.{moved_fault};
+ghost use Rattle.shgrammar.specs.Moved.{moved_fault};
 ghost use Rattle.shtext.specs.Edit.{limit};
 
 use crate::newlines::newlines_in;

@@ -1,10 +1,9 @@
 //! A script that is printed while it is read. Lines that are whole and without a fault are printed, and need not be held; so only its
 //! text and a piece of the script are, however long that is.
-ghost use Rattle.std.specs.Prelude.{◌+◌, ◌++◌, ◌≤◌, ℕ, List, [], IfErr, IfOk, length};
-ghost use Rattle.shform.specs.Part.{HoldsPrinted, IsUnprinted, bytes_read};
+ghost use Rattle.std.specs.Prelude.{ℕ, List, [], IfErr, IfOk};
+ghost use Rattle.shform.specs.Part.{HoldsPrinted, IsUnprinted};
 ghost use Rattle.shprint.specs.declared.layout.Layout.{Layout as ALayout};
 ghost use Rattle.shprint.specs.ReadBack.{IsTextOf};
-ghost use Rattle.shtext.specs.Edit.{limit};
 
 use crate::part::{Found, Part};
 use crate::sink::Sink;

@@ -1,9 +1,9 @@
 -- The replies to requests: a fold that holds the bytes of a script and nothing else.
 use Rattle.std.specs.Prelude.{◌≡◌, ◌⊎◌, ℕ, ◌<◌, ◌++◌, [], ◌∷◌, List, flat_map, length, Option, None, Some, codes, decimal}
-use Rattle.shread.specs.Scripts.{FirstFault}
-use Rattle.shread.specs.declared.fault.Fault.{Fault}
-use Rattle.shread.specs.declared.fault.FaultKind.{FaultKind}
-use Rattle.shread.specs.declared.fault.FaultKind.TheVariants as faults
+use Rattle.shgrammar.specs.Scripts.{FirstFault}
+use Rattle.shgrammar.specs.declared.fault.Fault.{Fault}
+use Rattle.shgrammar.specs.declared.fault.FaultKind.{FaultKind}
+use Rattle.shgrammar.specs.declared.fault.FaultKind.TheVariants as faults
 use Rattle.shtree.specs.Shape.{bare_at}
 use Rattle.shtree.specs.declared.nodes.NodeKind.{NodeKind}
 use Rattle.shtree.specs.declared.nodes.NodeKind.TheVariants as nodes

@@ -9,7 +9,7 @@ use Rattle.shtree.specs.Opened.{open_item, open_item_content, open_items, opened
 use Rattle.shtree.proofs.FilledBack.{filled_back}
 use Rattle.shtree.proofs.FilledShape.{shape_filled}
 use Rattle.shtree.proofs.Going.{row_filled}
-use Rattle.shread.specs.declared.token.Position.{Position}
+use Rattle.shgrammar.specs.declared.token.Position.{Position}
 use Rattle.shprint.proofs.Good.{GoodItems, none_more, one_more, of_argument, of_for}
 
 -- ---- the end of a level

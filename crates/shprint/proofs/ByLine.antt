@@ -2,21 +2,21 @@
 use Rattle.std.proofs.Common.{◌≡◌, ◌∙◌, ℕ, zero-add, IfErr, IfOk, Result, ◌+◌, ◌-◌, ◌≤◌, ◌<◌, Bool, true, false, not, List, [], ◌∷◌, ◌++◌, Vec, Global, length, map, take, drop, Ok, Err, None, Some, refl, ap, subst, sym, append_assoc, append-nil, arith, length-append, length-drop, length-take}
 use Rattle.std.proofs.lemmas.List.{take-append-le}
 use Rattle.std.proofs.Math.Seq.{drop-append_seam, drop-append-add, take-add, take-take}
-use Rattle.shread.specs.declared.fault.Fault.{Fault}
+use Rattle.shgrammar.specs.declared.fault.Fault.{Fault}
 use Rattle.shread.specs.declared.script_lines.LinesBefore.{LinesBefore}
 use Rattle.shread.specs.declared.script_lines.ScriptLine.{ScriptLine}
 use Rattle.shread.specs.declared.script_lines.ScriptLine.TheVariants.{Ended, Last, Faulty}
 use Rattle.shread.specs.declared.script_lines.ScriptLines.{ScriptLines}
-use Rattle.shread.specs.Commands.{is_empty}
-use Rattle.shread.specs.LineByLine.{Before, IsNextLine, IsWholeLine, LineWithin, Rest, Stands, before_of, no_lines, place_of}
-use Rattle.shread.specs.declared.keep.Keep.TheVariants.{Whole}
-use Rattle.shread.specs.Moved.{blanked_row, moved_entry, moved_fault, outer_entry, placed_body}
-use Rattle.shread.specs.Scripts.{AScript, FirstFault, Outcome, SoFar, faulty, is_blank_line, last_line, line_ended, nothing_yet, with_line}
-use Rattle.shread.specs.Sights.{State}
+use Rattle.shgrammar.specs.Commands.{is_empty}
+use Rattle.shread.specs.LineByLine.{Before, IsNextLine, IsWholeLine, LineReads, LineWithin, Rest, Stands, before_of, no_lines, place_of}
+use Rattle.shgrammar.specs.declared.keep.Keep.TheVariants.{Whole}
+use Rattle.shgrammar.specs.Moved.{blanked_row, moved_entry, moved_fault, outer_entry, placed_body}
+use Rattle.shgrammar.specs.Scripts.{AScript, FirstFault, Outcome, SoFar, faulty, is_blank_line, last_line, line_ended, nothing_yet, with_line}
+use Rattle.shgrammar.specs.Sights.{State}
 use Rattle.shread.proofs.LineByLine.{line_only, line_read}
-use Rattle.shread.proofs.LineInPiece.{There, alone, outer_alone, fault_there, stands_there, told_same}
-use Rattle.shread.proofs.Passing.{line_there}
-use Rattle.shread.proofs.SameLine.{newline_at, same_front}
+use Rattle.shgrammar.proofs.LineInPiece.{There, alone, outer_alone, fault_there, stands_there, told_same}
+use Rattle.shgrammar.proofs.Passing.{line_there}
+use Rattle.shgrammar.proofs.SameLine.{newline_at, same_front}
 use Rattle.shtree.specs.Shape.{Text, shape_of, shape_of_entry}
 use Rattle.shtree.specs.declared.tree.Entry.{Entry}
 use Rattle.shtree.specs.Tree.{AnEntry, entries_of}
@@ -30,7 +30,7 @@ use Rattle.shprint.specs.declared.by_line.PrintError.{PrintError}
 use Rattle.shprint.specs.declared.by_line.PrintError.TheVariants as PrintErrors
 use Rattle.shprint.specs.declared.by_line.Printing.{Printing}
 use Rattle.shprint.specs.Written.{Sheet, sheet_of, written}
-use Rattle.shprint.proofs.Outer.{line_same}
+use Rattle.shprint.proofs.SubstsUnseen.{line_same}
 use Rattle.shprint.proofs.ReadBack.{reads_back}
 use Rattle.shprint.proofs.Writing.{written_append, written_first, written_none}
 
@@ -97,8 +97,8 @@ module _ (y : Layout) (H S : List ℕ) (q n : ℕ) (so : SoFar) (es : List AnEnt
 -- ---- lines at the front of what follows
 
 -- the line at q of H is whole, and its first bytes are taken behind P: whatever follows them, it is read there
-whole_there : (H P more : List ℕ) (q : ℕ) (blank : Bool) (es : List AnEntry) (t : State) → Rattle.shread.specs.Scripts.line_told H Whole false q 0 ≡ Ok ((es, true), t) → 0 < t.at → q + t.at ≤ length H
-    → Rattle.shread.specs.Standing.raw_stands (drop q H) (t.at - 1) 10 ≡ true → There H (P ++ (take t.at (drop q H) ++ more)) q (length P) blank true es t
+whole_there : (H P more : List ℕ) (q : ℕ) (blank : Bool) (es : List AnEntry) (t : State) → Rattle.shgrammar.specs.Scripts.line_told H Whole false q 0 ≡ Ok ((es, true), t) → 0 < t.at → q + t.at ≤ length H
+    → Rattle.shgrammar.specs.Standing.raw_stands (drop q H) (t.at - 1) 10 ≡ true → There H (P ++ (take t.at (drop q H) ++ more)) q (length P) blank true es t
 whole_there H P more q blank es t read some low stands =
     let D = drop q H in
     let L = t.at in
@@ -124,7 +124,7 @@ module _ {S : Type 0} (y : Layout) (H : List ℕ) (old new : ScriptLines S) (tex
       let size : t.at ≡ L = omega (arith, a.4, w.1, ends_at) in
       let some : 0 < t.at = omega (arith, a.4, w.3) in
       let high : q + t.at ≤ length H = omega (arith, size, ends_at, low) in
-      let stands : Rattle.shread.specs.Standing.raw_stands D (t.at - 1) 10 ≡ true = subst (λ (k : ℕ). Rattle.shread.specs.Standing.raw_stands D (k - 1) 10 ≡ true) a.4 w.4 in
+      let stands : Rattle.shgrammar.specs.Standing.raw_stands D (t.at - 1) 10 ≡ true = subst (λ (k : ℕ). Rattle.shgrammar.specs.Standing.raw_stands D (k - 1) 10 ≡ true) a.4 w.4 in
       let there = λ (more : List ℕ). whole_there H P more q blank es t a.2 some high stands in
       let here = blanked_row blank (map (moved_entry (length P)) es) in
       let alike : is_empty (map view_entry line.items) ≡ is_empty here = ap is_empty a.3 ∙ empty_as blank (outer_entry q) (moved_entry (length P)) es in
@@ -190,51 +190,64 @@ module _ {S : Type 0} (y : Layout) (H front : List ℕ) where
       }
 
   module _ (old new : ScriptLines S) (text then : Sheet) (x : ScriptLine) (b : Between old text) (next : IsNextLine H b.so old x new) where
-    behind_by : (line : Vec Entry Global) → IsNextLine H b.so old (Ended line) new → then ≡ written text (print_entries y [] (shape_of H (entries_of (map view_entry line.items)))) → Between new then
+    -- then these entries are printed
+    abbrev Prints : List AnEntry → Type 0
+    Prints es = then ≡ written text (print_entries y [] (shape_of H (entries_of es)))
+
+    -- a line of what follows that is printed, where it stands in the script
+    record Placed (newline : Bool) (line : List AnEntry) (size : ℕ) : Type 0 where
+      es : List AnEntry
+      t : State
+      there : There H (front ++ H) old.at (length front + old.at) (is_blank_line b.so) newline es t
+      ends : size ≡ t.at
+      alike : is_empty line ≡ is_empty (blanked_row (is_blank_line b.so) (map (moved_entry (length front + old.at)) es))
+      prints : Prints (blanked_row (is_blank_line b.so) (map (moved_entry old.at) es))
+
+    placed : (newline : Bool) (line : List AnEntry) (t : State) → LineReads H b.so old.at (Ok ((line, newline), t)) → Prints line → Placed newline line t.at
+    placed newline line t read is =
+        let q = old.at in
+        let n = length front + q in
+        let blank = is_blank_line b.so in
+        let a = alone H q blank newline line t (line_only H b.so q _ read) in
+        let same : drop n (front ++ H) ≡ drop q H = drop-append-add front H q in
+        record {
+          es = a.0;
+          t = a.1;
+          there = stands_there H (front ++ H) q n blank newline a.0 a.1 a.2 (ap (take a.1.at) same) (told_same (front ++ H) H n q same ∙ a.2);
+          ends = a.4;
+          alike = ap is_empty a.3 ∙ empty_as blank (moved_entry q) (moved_entry n) a.0;
+          prints = is ∙ ap (λ (r : List AnEntry). written text (print_entries y [] (shape_of H (entries_of r)))) a.3;
+        }
+
+    behind_by : (line : Vec Entry Global) → IsNextLine H b.so old (Ended line) new → Prints (map view_entry line.items) → Between new then
     behind_by line ((t, ends, read), stands) is =
         let q = old.at in
         let n = length front + q in
-        let blank = is_blank_line b.so in
-        let a = alone H q blank true (map view_entry line.items) t (line_only H b.so q _ read) in
-        let es = a.0 in
-        let u = a.1 in
-        let same : drop n (front ++ H) ≡ drop q H = drop-append-add front H q in
-        let there = stands_there H (front ++ H) q n blank true es u a.2 (ap (take u.at) same) (told_same (front ++ H) H n q same ∙ a.2) in
-        let here = blanked_row blank (map (moved_entry n) es) in
-        let alike : is_empty (map view_entry line.items) ≡ is_empty here = ap is_empty a.3 ∙ empty_as blank (moved_entry q) (moved_entry n) es in
-        let then_is : then ≡ written text (print_entries y [] (shape_of H (entries_of (blanked_row blank (map (moved_entry q) es))))) =
-        is ∙ ap (λ (r : List AnEntry). written text (print_entries y [] (shape_of H (entries_of r)))) a.3 in
+        let p = placed true (map view_entry line.items) t read is in
+        let here = blanked_row (is_blank_line b.so) (map (moved_entry n) p.es) in
         record {
           so = with_line b.so here;
-          stands = left_as new.before b.so (map view_entry line.items) here alike stands;
-          from = λ s rest. b.from s (rest_more y H (front ++ H) q n b.so es u there s (length front + new.at) (omega (arith, ends, a.4)) rest);
-          is = sheet_more y H (front ++ H) q n b.so true es u there text then b.is then_is;
+          stands = left_as new.before b.so (map view_entry line.items) here p.alike stands;
+          from = λ s rest. b.from s (rest_more y H (front ++ H) q n b.so p.es p.t p.there s (length front + new.at) (omega (arith, ends, p.ends)) rest);
+          is = sheet_more y H (front ++ H) q n b.so true p.es p.t p.there text then b.is p.prints;
         }
 
-    pub behind_line : (line : Vec Entry Global) → x ≡ Ended line → then ≡ written text (print_entries y [] (shape_of H (entries_of (map view_entry line.items)))) → Between new then
+    pub behind_line : (line : Vec Entry Global) → x ≡ Ended line → Prints (map view_entry line.items) → Between new then
     behind_line line this is = behind_by line (rw this at next) is
 
-    last_by : (line : Vec Entry Global) → IsNextLine H b.so old (Last line) new → then ≡ written text (print_entries y [] (shape_of H (entries_of (map view_entry line.items)))) → IsTextOf y (front ++ H) then.so_far
+    last_by : (line : Vec Entry Global) → IsNextLine H b.so old (Last line) new → Prints (map view_entry line.items) → IsTextOf y (front ++ H) then.so_far
     last_by line ((t, ends, read), stands) is =
         let q = old.at in
         let n = length front + q in
-        let blank = is_blank_line b.so in
-        let a = alone H q blank false (map view_entry line.items) t (line_only H b.so q _ read) in
-        let es = a.0 in
-        let u = a.1 in
-        let same : drop n (front ++ H) ≡ drop q H = drop-append-add front H q in
-        let there = stands_there H (front ++ H) q n blank false es u a.2 (ap (take u.at) same) (told_same (front ++ H) H n q same ∙ a.2) in
-        let here = blanked_row blank (map (moved_entry n) es) in
-        let then_is : then ≡ written text (print_entries y [] (shape_of H (entries_of (blanked_row blank (map (moved_entry q) es))))) =
-        is ∙ ap (λ (r : List AnEntry). written text (print_entries y [] (shape_of H (entries_of r)))) a.3 in
-        let all = entries_of (b.so.entries ++ here) in
+        let p = placed false (map view_entry line.items) t read is in
+        let all = entries_of (b.so.entries ++ blanked_row (is_blank_line b.so) (map (moved_entry n) p.es)) in
         let script : AScript = record { entries = all; wrong = None } in
-        let outcome : Outcome (front ++ H) script = b.from script (rest_last y H (front ++ H) q n b.so es u there) in
+        let outcome : Outcome (front ++ H) script = b.from script (rest_last y H (front ++ H) q n b.so p.es p.t p.there) in
         let told : then.so_far ≡ printed y (shape_of (front ++ H) all) =
-        ap (λ s. s.so_far) (sheet_more y H (front ++ H) q n b.so false es u there text then b.is then_is ∙ written_first (print_entries y [] (shape_of (front ++ H) all))) in
+        ap (λ s. s.so_far) (sheet_more y H (front ++ H) q n b.so false p.es p.t p.there text then b.is p.prints ∙ written_first (print_entries y [] (shape_of (front ++ H) all))) in
         record { script = script; outcome = outcome; faultless = refl; is = told; reads_back = subst (λ t. ReadsBack t (shape_of (front ++ H) all)) (sym told) (reads_back y (front ++ H) script outcome) }
 
-    pub last_printed : (line : Vec Entry Global) → x ≡ Last line → then ≡ written text (print_entries y [] (shape_of H (entries_of (map view_entry line.items)))) → IsTextOf y (front ++ H) then.so_far
+    pub last_printed : (line : Vec Entry Global) → x ≡ Last line → Prints (map view_entry line.items) → IsTextOf y (front ++ H) then.so_far
     last_printed line this is = last_by line (rw this at next) is
 
     fault_by : (f : Fault) → IsNextLine H b.so old (Faulty f) new → f.at ≤ length H → FirstFault (front ++ H) (Some (moved_fault (length front) f)) × (length front + f.at ≤ length (front ++ H))

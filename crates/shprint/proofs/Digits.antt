@@ -4,23 +4,23 @@ use Rattle.std.proofs.Math.Seq.{drop-cons}
 use Rattle.std.proofs.lemmas.Bool.{and_from, and_parts, cond_both}
 use Rattle.std.proofs.lemmas.Bool.Decides.{nat_tests}
 use Rattle.std.proofs.lemmas.Option.{slice_get_within, get_or_from_slice_get}
-use Rattle.shread.specs.declared.token.Position.{Position}
-use Rattle.shread.specs.declared.token.Position.TheVariants.{Command, Prefix, Suffix}
-use Rattle.shread.specs.declared.token.Reserved.{Reserved}
-use Rattle.shread.specs.declared.token.Token.{Token}
-use Rattle.shread.specs.declared.token.Token.TheVariants as tokens
+use Rattle.shgrammar.specs.declared.token.Position.{Position}
+use Rattle.shgrammar.specs.declared.token.Position.TheVariants.{Command, Prefix, Suffix}
+use Rattle.shgrammar.specs.declared.token.Reserved.{Reserved}
+use Rattle.shgrammar.specs.declared.token.Token.{Token}
+use Rattle.shgrammar.specs.declared.token.Token.TheVariants as tokens
 use Rattle.shtext.specs.Text.{is_newline as is_newline_byte}
-use Rattle.shread.specs.Classes.{is_digit}
-use Rattle.shread.specs.Standing.{continues, is_byte, passes, raw_stands}
-use Rattle.shread.specs.Bytes.{behind, byte_at, past, past_continuations, stands, stands_in}
-use Rattle.shread.specs.Tokens.{begins_assignment, first_word, is_number as is_number_at, past_digits, reserved_at, token_at, token_of, word_by, word_of}
-use Rattle.shread.specs.Comments.{span}
-use Rattle.shread.specs.Form.{raw}
-use Rattle.shread.specs.Commands.{is_number}
-use Rattle.shread.specs.Sights.{Given}
-use Rattle.shread.proofs.Spelling.{raw_at}
-use Rattle.shread.proofs.Stretches.{joined_more, joined_none, past_more, past_none, place_low, stands_in_low}
-use Rattle.shread.proofs.Places.{past_low}
+use Rattle.shgrammar.specs.Classes.{is_digit}
+use Rattle.shgrammar.specs.Standing.{continues, is_byte, passes, raw_stands}
+use Rattle.shgrammar.specs.Bytes.{behind, byte_at, past, past_continuations, stands, stands_in}
+use Rattle.shgrammar.specs.Tokens.{begins_assignment, first_word, is_number as is_number_at, past_digits, reserved_at, token_at, token_of, word_by, word_of}
+use Rattle.shgrammar.specs.Comments.{span}
+use Rattle.shgrammar.specs.Form.{raw}
+use Rattle.shgrammar.specs.Commands.{is_number}
+use Rattle.shgrammar.specs.Sights.{Given}
+use Rattle.shgrammar.proofs.Spelling.{raw_at}
+use Rattle.shgrammar.proofs.Stretches.{joined_more, joined_none, past_more, past_none, place_low, stands_in_low}
+use Rattle.shgrammar.proofs.Places.{past_low}
 use Rattle.shtree.specs.Shape.{Text, bare, bare_at}
 use Rattle.shprint.proofs.Good.{GoodNumber, all_digits}
 

@@ -7,14 +7,14 @@ use Rattle.shtree.specs.declared.tree.Span.{Span}
 use Rattle.shtree.specs.Tree.{AHere}
 use Rattle.shtree.specs.Bodies.{fill_here}
 use Rattle.shtree.proofs.Going.{going}
-use Rattle.shread.specs.declared.fault.Fault.{Fault}
-use Rattle.shread.specs.Comments.{span}
-use Rattle.shread.specs.States.{Given, State, Waiting}
-use Rattle.shread.specs.HereDocuments.{ADelimiter, bodies_from, body_by, delimiter_from, past_line, state_by, with_bodies}
-use Rattle.shread.specs.Commands.{document}
-use Rattle.shread.specs.Form.{raw}
-use Rattle.shread.proofs.BodiesAnywhere.{DocumentAnywhere, document_anywhere}
-use Rattle.shread.proofs.Delimiters.{between}
+use Rattle.shgrammar.specs.declared.fault.Fault.{Fault}
+use Rattle.shgrammar.specs.Comments.{span}
+use Rattle.shgrammar.specs.States.{Given, State, Waiting}
+use Rattle.shgrammar.specs.HereDocuments.{ADelimiter, bodies_from, body_by, delimiter_from, past_line, state_by, with_bodies}
+use Rattle.shgrammar.specs.Commands.{document}
+use Rattle.shgrammar.specs.Form.{raw}
+use Rattle.shgrammar.proofs.BodiesAnywhere.{DocumentAnywhere, document_anywhere}
+use Rattle.shgrammar.proofs.Delimiters.{between}
 
 -- a here-document whose operator stands at b
 pub record Due : Type 0 where

@@ -1,12 +1,12 @@
 -- What a row of the grammar gives from a state on, whatever tokens it passes: how rows are put together.
 use Rattle.std.proofs.Common.{◌≡◌, ◌≤◌, sym, subst, Bool, true, false, List as Row, [], ◌∷◌, ◌++◌, Ok}
-use Rattle.shread.specs.declared.keep.Keep.TheVariants.{Whole}
-use Rattle.shread.specs.Comments.{span}
-use Rattle.shread.specs.Sights.{Given, State, Sight, seen, Move}
-use Rattle.shread.specs.Form.{Spelled, Told, Form, give, see, move, push, both, token, many, may, moved, just, and_then, whole, Step, again, done, last, more, leads_on}
-use Rattle.shread.specs.Commands.{pick}
-use Rattle.shread.proofs.Holds.{Holds, Behind, low}
-use Rattle.shread.proofs.OneOutcome.{is}
+use Rattle.shgrammar.specs.declared.keep.Keep.TheVariants.{Whole}
+use Rattle.shgrammar.specs.Comments.{span}
+use Rattle.shgrammar.specs.Sights.{Given, State, Sight, seen, Move}
+use Rattle.shgrammar.specs.Form.{Spelled, Told, Form, give, see, move, push, both, token, many, may, moved, just, and_then, whole, Step, again, done, last, more, leads_on}
+use Rattle.shgrammar.specs.Commands.{pick}
+use Rattle.shgrammar.proofs.Holds.{Holds, Behind, low}
+use Rattle.shgrammar.proofs.OneOutcome.{is}
 
 pub record Gives (g : Given) {X : Type 0} (r : Form X) (s : State) (x : X) (t : State) : Type 0 where
   pub passes : Row Spelled

@@ -1,18 +1,18 @@
 -- What a shape has so that its printed text is read back, beside its normal form: its words are words wherever they stand, its comments
 -- comments, and no more constructs are open than may be. What was read has it (proofs/Readable); what has it is read back (proofs/ReadBack).
 use Rattle.std.specs.Prelude.{◌≡◌, ℕ, zero, suc, Bool, true, false, ◌&&◌, [], ◌∷◌, List as Row, Option, None, Some}
-use Rattle.shread.specs.declared.token.Position.{Position}
-use Rattle.shread.specs.declared.token.Position.TheVariants.{Command, Prefix, Suffix}
-use Rattle.shread.specs.declared.token.Token.{Token}
-use Rattle.shread.specs.declared.token.Token.TheVariants as tokens
-use Rattle.shread.specs.Classes.{is_digit}
-use Rattle.shread.specs.Commands.{begins_word, behind_redirect, behind_word, is_strip, takes_here}
-use Rattle.shread.specs.HereDocuments.{ADelimiter, delimiter_of}
-use Rattle.shread.proofs.BodiesAnywhere.{DocumentAnywhere}
-use Rattle.shread.specs.Compounds.{begins_pattern}
-use Rattle.shread.proofs.Elsewhere.{ItemAnywhere, NameAnywhere}
-use Rattle.shread.proofs.NamesBefore.{NameBefore}
-use Rattle.shread.proofs.CommentsElsewhere.{CommentAnywhere}
+use Rattle.shgrammar.specs.declared.token.Position.{Position}
+use Rattle.shgrammar.specs.declared.token.Position.TheVariants.{Command, Prefix, Suffix}
+use Rattle.shgrammar.specs.declared.token.Token.{Token}
+use Rattle.shgrammar.specs.declared.token.Token.TheVariants as tokens
+use Rattle.shgrammar.specs.Classes.{is_digit}
+use Rattle.shgrammar.specs.Commands.{begins_word, behind_redirect, behind_word, is_strip, takes_here}
+use Rattle.shgrammar.specs.HereDocuments.{ADelimiter, delimiter_of}
+use Rattle.shgrammar.proofs.BodiesAnywhere.{DocumentAnywhere}
+use Rattle.shgrammar.specs.Compounds.{begins_pattern}
+use Rattle.shgrammar.proofs.Elsewhere.{ItemAnywhere, NameAnywhere}
+use Rattle.shgrammar.proofs.NamesBefore.{NameBefore}
+use Rattle.shgrammar.proofs.CommentsElsewhere.{CommentAnywhere}
 use Rattle.shtree.specs.declared.tree.RedirectOperator.{RedirectOperator}
 use Rattle.shtree.specs.Shape.{Text, Shape}
 use Rattle.shtree.specs.Tree.{AHereOf, ForWordsOf, no_in, in_words, AWordOf, EntriesOf, no_entry, more_entries, AnEntryOf, entry, AContentOf, command, remark, AnAndOrOf, and_or, AndOrPartsOf, no_and_or, more_and_or, APipelineOf, pipeline, PipelinePartsOf, no_pipe, more_pipes, ACommandOf, simple, compound, function, ACompoundOf, formed, AFormOf, brace, subshell, if_then, while_do, until_do, for_in, case_in, ABranchOf, branch, BranchesOf, no_branch, more_branches, OtherwiseOf, no_else, otherwise, ItemsOf, no_item, more_items, AnItemOf, item, AnItemContentOf, assign, argument, redirect, word, SubstsOf, CaseItemsOf, no_case, more_cases, ACaseItemOf, case_item, PatternsOf, no_pattern, more_patterns}

@@ -4,13 +4,13 @@ use Rattle.std.proofs.Common.{◌≡◌, ◌∙◌, ℕ, suc, ◌+◌, ◌-◌, 
 use Rattle.std.proofs.lemmas.List.{drop-drop, length-append, length-drop, map-append}
 use Rattle.shtree.specs.declared.tree.Span.{Span}
 use Rattle.shtree.specs.Shape.{Text, text_at}
-use Rattle.shread.specs.Comments.{span}
-use Rattle.shread.specs.States.{Given, given, State, Waiting}
-use Rattle.shread.specs.HereDocuments.{ADelimiter, body_by, bodies_from, bodies_here, delimiter_from, past_line, state_by, waits}
-use Rattle.shread.specs.Commands.{document as waiting_document}
-use Rattle.shread.specs.Form.{change, changes}
-use Rattle.shread.proofs.Elsewhere.{follows}
-use Rattle.shread.proofs.BodiesAnywhere.{DocumentAnywhere}
+use Rattle.shgrammar.specs.Comments.{span}
+use Rattle.shgrammar.specs.States.{Given, given, State, Waiting}
+use Rattle.shgrammar.specs.HereDocuments.{ADelimiter, body_by, bodies_from, bodies_here, delimiter_from, past_line, state_by, waits}
+use Rattle.shgrammar.specs.Commands.{document as waiting_document}
+use Rattle.shgrammar.specs.Form.{change, changes}
+use Rattle.shgrammar.proofs.Elsewhere.{follows}
+use Rattle.shgrammar.proofs.BodiesAnywhere.{DocumentAnywhere}
 use Rattle.shprint.specs.Marks.{Marks, line_end, laid_behind}
 use Rattle.shprint.proofs.Gives.{Gives, gives}
 use Rattle.shprint.proofs.Tokens.{skip, text_here}

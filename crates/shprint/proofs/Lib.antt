@@ -6,7 +6,7 @@ pub mod Due
 pub mod Gives
 pub mod Good
 pub mod Held
-pub mod Outer
+pub mod SubstsUnseen
 pub mod ReadBack
 pub mod PrintedRows
 pub mod Readable

@@ -5,42 +5,42 @@ use Rattle.std.proofs.lemmas.Bool.{both_ways, cases_lt, lt-ltb, and_from, and_pa
 use Rattle.std.proofs.lemmas.Bool.Decides.{nat_tests}
 use Rattle.std.proofs.lemmas.Option.{slice_get_within}
 use Rattle.std.proofs.lemmas.List.{length-drop, map-append}
-use Rattle.shread.specs.declared.token.Next.{Next}
-use Rattle.shread.specs.declared.token.Closing.{Closing}
-use Rattle.shread.specs.declared.token.Closing.TheVariants as closings
-use Rattle.shread.specs.declared.token.Opener.{Opener}
-use Rattle.shread.specs.declared.token.Opener.TheVariants as openers
-use Rattle.shread.specs.declared.token.Position.{Position}
-use Rattle.shread.specs.declared.token.Position.TheVariants.{Command, Prefix, Suffix}
-use Rattle.shread.specs.declared.token.Reserved.{Reserved}
-use Rattle.shread.specs.declared.token.Reserved.TheVariants as reserved
-use Rattle.shread.specs.declared.token.Separator.{Separator}
-use Rattle.shread.specs.declared.token.Separator.TheVariants.{Semicolon, Ampersand}
-use Rattle.shread.specs.declared.token.Token.{Token}
-use Rattle.shread.specs.declared.token.Token.TheVariants as tokens
-use Rattle.shread.specs.Classes.{is_blank}
-use Rattle.shread.specs.Bytes.{ends, behind, stands, past_continuations, byte_at, past_blanks, is_broken_at}
-use Rattle.shread.specs.Comments.{span, comment_at}
-use Rattle.shread.specs.Standing.{is_byte, raw_stands}
-use Rattle.shread.specs.Tokens.{is_end, is_comment, past_reserved, token_of, token_at, next_at}
-use Rattle.shread.specs.Sights.{Given, State, given, standing, here as the_place, is_a_name, a_document_waits, the_token, the_comment, blanks, one_byte, the_reserved, the_digits, a_comment_on}
-use Rattle.shread.specs.Form.{a_level, level_read, raw, with_bytes, with_its_bytes, Spelled, Form, ◌>>=◌, ◌>>◌, by, bared, Step, give, move, leads_on, again, done, many, step_if}
-use Rattle.shread.specs.Words.{Inner, a_word}
-use Rattle.shread.specs.Levels.{most_open, level}
+use Rattle.shgrammar.specs.declared.token.Next.{Next}
+use Rattle.shgrammar.specs.declared.token.Closing.{Closing}
+use Rattle.shgrammar.specs.declared.token.Closing.TheVariants as closings
+use Rattle.shgrammar.specs.declared.token.Opener.{Opener}
+use Rattle.shgrammar.specs.declared.token.Opener.TheVariants as openers
+use Rattle.shgrammar.specs.declared.token.Position.{Position}
+use Rattle.shgrammar.specs.declared.token.Position.TheVariants.{Command, Prefix, Suffix}
+use Rattle.shgrammar.specs.declared.token.Reserved.{Reserved}
+use Rattle.shgrammar.specs.declared.token.Reserved.TheVariants as reserved
+use Rattle.shgrammar.specs.declared.token.Separator.{Separator}
+use Rattle.shgrammar.specs.declared.token.Separator.TheVariants.{Semicolon, Ampersand}
+use Rattle.shgrammar.specs.declared.token.Token.{Token}
+use Rattle.shgrammar.specs.declared.token.Token.TheVariants as tokens
+use Rattle.shgrammar.specs.Classes.{is_blank}
+use Rattle.shgrammar.specs.Bytes.{ends, behind, stands, past_continuations, byte_at, past_blanks, is_broken_at}
+use Rattle.shgrammar.specs.Comments.{span, comment_at}
+use Rattle.shgrammar.specs.Standing.{is_byte, raw_stands}
+use Rattle.shgrammar.specs.Tokens.{is_end, is_comment, past_reserved, token_of, token_at, next_at}
+use Rattle.shgrammar.specs.Sights.{Given, State, given, standing, here as the_place, is_a_name, a_document_waits, the_token, the_comment, blanks, one_byte, the_reserved, the_digits, a_comment_on}
+use Rattle.shgrammar.specs.Form.{a_level, level_read, raw, with_bytes, with_its_bytes, Spelled, Form, ◌>>=◌, ◌>>◌, by, bared, Step, give, move, leads_on, again, done, many, step_if}
+use Rattle.shgrammar.specs.Words.{Inner, a_word}
+use Rattle.shgrammar.specs.Levels.{most_open, level}
 use Rattle.shtree.specs.Nodes.{through, word_span}
 use Rattle.shtree.specs.Normal.{is_normal_form, is_normal_else, are_normal_branches, is_normal_branch, is_whole, is_command, holds_command, is_normal_entry, first_not_blank, are_normal, is_normal_and_or, are_normal_and_ors, is_normal_pipeline, are_normal_pipes, first_not_broken, is_normal_join, is_normal_compound, is_normal_command, are_normal_words, are_normal_cases, is_normal_case, are_normal_patterns}
-use Rattle.shread.specs.Compounds.{a_compound, is_open_paren, behind_opener, a_for, a_for_head, a_for_name, a_linebreak, a_sequential_sep, for_words, word_turn, headed, an_if, a_group, a_form, opener_text, Closed, a_loop, an_else, elif_turn, branched, a_branch, passed, closing, closing_text, is_closing, is_close_paren, under_name, a_function, a_case, a_case_head, a_case_word, begins_pattern, patterned, a_pattern, one_pattern, pattern_turn, a_pattern_list, an_open_bracket, a_body, body_end, item_end, an_item_end, a_double_semicolon, cases_so, one_case, case_turn}
-use Rattle.shread.specs.Lines.{a_line, an_open_line, end_of_line}
-use Rattle.shread.specs.Lists.{Listed, list_so, none_listed, one_entry, entry_turn, a_remark, on_line, list_turn, a_list}
-use Rattle.shread.specs.Commands.{nothing_waits, a_document, open_document, is_strip, Entered, a_semicolon, is_semicolon, an_entry, a_separator, separator_of, told_separator, is_background, an_and_or, one_pipeline, join_pipeline, joined_so, a_bang, a_pipeline, begins_pipeline, and_or_operator_of, is_pipe, piped, one_command, pipe_turn, a_command, a_newline, a_comment, join_turn, join_so, a_join_of, a_join, begins_simple, opener_of, is_newline, is_bang, is_empty, next_token, pick, Items, behind_word, begins_word, begins_redirect, is_number, redirect_operator_of, is_long, a_number, an_operator, operator_by, a_target, one_redirect, behind_redirect, redirect_turn, redirected, so_many, breaks, as_item, an_item, item_turn, a_simple, is_word, is_paren, a_worded, compound_by, ASeparator, past_separator, is_double_semicolon}
-use Rattle.shread.proofs.Places.{must_fail, blanks_low}
-use Rattle.shread.proofs.Anywhere.{WordOf, word_span as spanned}
-use Rattle.shread.specs.HereDocuments.{delimiter_of}
+use Rattle.shgrammar.specs.Compounds.{a_compound, is_open_paren, behind_opener, a_for, a_for_head, a_for_name, a_linebreak, a_sequential_sep, for_words, word_turn, headed, an_if, a_group, a_form, opener_text, Closed, a_loop, an_else, elif_turn, branched, a_branch, passed, closing, closing_text, is_closing, is_close_paren, under_name, a_function, a_case, a_case_head, a_case_word, begins_pattern, patterned, a_pattern, one_pattern, pattern_turn, a_pattern_list, an_open_bracket, a_body, body_end, item_end, an_item_end, a_double_semicolon, cases_so, one_case, case_turn}
+use Rattle.shgrammar.specs.Lines.{a_line, an_open_line, end_of_line}
+use Rattle.shgrammar.specs.Lists.{Listed, list_so, none_listed, one_entry, entry_turn, a_remark, on_line, list_turn, a_list}
+use Rattle.shgrammar.specs.Commands.{nothing_waits, a_document, open_document, is_strip, Entered, a_semicolon, is_semicolon, an_entry, a_separator, separator_of, told_separator, is_background, an_and_or, one_pipeline, join_pipeline, joined_so, a_bang, a_pipeline, begins_pipeline, and_or_operator_of, is_pipe, piped, one_command, pipe_turn, a_command, a_newline, a_comment, join_turn, join_so, a_join_of, a_join, begins_simple, opener_of, is_newline, is_bang, is_empty, next_token, pick, Items, behind_word, begins_word, begins_redirect, is_number, redirect_operator_of, is_long, a_number, an_operator, operator_by, a_target, one_redirect, behind_redirect, redirect_turn, redirected, so_many, breaks, as_item, an_item, item_turn, a_simple, is_word, is_paren, a_worded, compound_by, ASeparator, past_separator, is_double_semicolon}
+use Rattle.shgrammar.proofs.Places.{must_fail, blanks_low}
+use Rattle.shgrammar.proofs.Anywhere.{WordOf, word_span as spanned}
+use Rattle.shgrammar.specs.HereDocuments.{delimiter_of}
 use Rattle.shtree.specs.Bodies.{fill_row, filled_row}
 use Rattle.shtree.specs.Opened.{here_bodies, item_bodies, item_content_bodies, items_bodies, entries_bodies, entry_bodies, content_bodies, and_or_bodies, and_or_parts_bodies, pipeline_bodies, pipes_bodies, command_bodies, compound_bodies, form_bodies, branch_bodies, branches_bodies, else_bodies, cases_bodies, case_bodies, open_here, open_item, open_item_content, open_items, opened, open_entry, open_content, open_and_or, open_and_or_parts, open_pipeline, open_pipes, open_command, open_compound, open_form, open_branch, open_branches, open_else, open_cases, open_case}
-use Rattle.shread.proofs.WordsWaiting.{word_waiting}
-use Rattle.shread.proofs.Elsewhere.{follows, ItemAnywhere}
-use Rattle.shread.proofs.CommentsElsewhere.{CommentAnywhere}
+use Rattle.shgrammar.proofs.WordsWaiting.{word_waiting}
+use Rattle.shgrammar.proofs.Elsewhere.{follows, ItemAnywhere}
+use Rattle.shgrammar.proofs.CommentsElsewhere.{CommentAnywhere}
 use Rattle.shtree.specs.declared.tree.AndOrOperator.{AndOrOperator}
 use Rattle.shtree.specs.declared.tree.AndOrOperator.TheVariants.{And, Or}
 use Rattle.shtree.specs.declared.tree.RedirectOperator.{RedirectOperator}

@@ -6,12 +6,12 @@ use Rattle.shtree.specs.Normal.{first_not_blank, are_normal}
 use Rattle.shtree.specs.Shape.{Text, Shape, shape_of, shape_of_entry}
 use Rattle.shtree.specs.Tree.{AContentOf, AnEntryOf, AnEntry, entry, EntriesOf, no_entry, more_entries, entries_of}
 use Rattle.shtree.proofs.SameForm.{same_form}
-use Rattle.shread.specs.Form.{Spelled}
-use Rattle.shread.specs.Commands.{is_empty}
-use Rattle.shread.specs.Levels.{most_open}
-use Rattle.shread.specs.Scripts.{AScript, SoFar, is_blank_line, with_line, Lines, line_ended, last_line, nothing_yet, Outcome}
-use Rattle.shread.proofs.Scripts.{script_only}
-use Rattle.shread.proofs.NormalForm.{script_in_normal_form}
+use Rattle.shgrammar.specs.Form.{Spelled}
+use Rattle.shgrammar.specs.Commands.{is_empty}
+use Rattle.shgrammar.specs.Levels.{most_open}
+use Rattle.shgrammar.specs.Scripts.{AScript, SoFar, is_blank_line, with_line, Lines, line_ended, last_line, nothing_yet, Outcome}
+use Rattle.shgrammar.proofs.Scripts.{script_only}
+use Rattle.shgrammar.proofs.NormalForm.{script_in_normal_form}
 use Rattle.shprint.specs.declared.layout.Layout.{Layout}
 use Rattle.shprint.specs.Marks.{text, Marks, laid}
 use Rattle.shprint.specs.Printed.{print_blank, print_content, print_entries, printed}

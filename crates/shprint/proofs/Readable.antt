@@ -3,48 +3,48 @@
 use Rattle.std.proofs.Common.{◌≡◌, ◌∙◌, refl, sym, ap, subst, ℕ, zero, suc, ◌+◌, ◌-◌, Bool, true, false, not, ◌&&◌, ◌||◌, ◌⊎◌, inl, inr, ⊎_elim, Ok, Err, List, List as Row, [], ◌∷◌, ◌++◌, drop, take, Option, Some, None, is_some, option_map}
 use Rattle.std.proofs.lemmas.Bool.{both_ways}
 use Rattle.std.proofs.lemmas.List.{drop-drop}
-use Rattle.shread.specs.declared.keep.Keep.TheVariants.{Whole}
-use Rattle.shread.specs.declared.token.Closing.{Closing}
-use Rattle.shread.specs.declared.token.Closing.TheVariants as closings
-use Rattle.shread.specs.declared.token.Next.{Next}
-use Rattle.shread.specs.declared.token.Opener.{Opener}
-use Rattle.shread.specs.declared.token.Opener.TheVariants as openers
-use Rattle.shread.specs.declared.token.Position.{Position}
-use Rattle.shread.specs.declared.token.Position.TheVariants.{Command, Prefix, Suffix}
-use Rattle.shread.specs.declared.token.Separator.{Separator}
-use Rattle.shread.specs.declared.fault.FaultKind.{FaultKind}
+use Rattle.shgrammar.specs.declared.keep.Keep.TheVariants.{Whole}
+use Rattle.shgrammar.specs.declared.token.Closing.{Closing}
+use Rattle.shgrammar.specs.declared.token.Closing.TheVariants as closings
+use Rattle.shgrammar.specs.declared.token.Next.{Next}
+use Rattle.shgrammar.specs.declared.token.Opener.{Opener}
+use Rattle.shgrammar.specs.declared.token.Opener.TheVariants as openers
+use Rattle.shgrammar.specs.declared.token.Position.{Position}
+use Rattle.shgrammar.specs.declared.token.Position.TheVariants.{Command, Prefix, Suffix}
+use Rattle.shgrammar.specs.declared.token.Separator.{Separator}
+use Rattle.shgrammar.specs.declared.fault.FaultKind.{FaultKind}
 use Rattle.shtree.specs.declared.tree.RedirectOperator.{RedirectOperator}
-use Rattle.shread.specs.declared.token.Token.{Token}
-use Rattle.shread.specs.declared.token.Token.TheVariants as tokens
+use Rattle.shgrammar.specs.declared.token.Token.{Token}
+use Rattle.shgrammar.specs.declared.token.Token.TheVariants as tokens
 use Rattle.shtree.specs.declared.tree.AndOrOperator.{AndOrOperator}
 use Rattle.shtree.specs.declared.tree.Span.{Span}
 use Rattle.shtree.specs.Tree.{AHere, AHereOf, AJoin, AnAndOr, APipeline, Otherwise, ForWords, APipelinePart, AnAndOrPart, ACommand, ABranch, AForm, Entries, pipeline_parts_of, and_or_parts_of, branches_of, AnEntry, AnItem, AWord, item, entry, remark, entries_of, items_of, ItemsOf, no_item, more_items, AnItemOf, AWordOf, ASubst, SubstsOf, word, substs_of, ACompound, compound, argument, ACaseItem, cases_of, patterns_of, AFormOf, formed, redirect, with_redirects, command, and_or, pipeline, simple, function, brace, subshell, if_then, while_do, until_do, for_in, case_in, branch, otherwise, no_else, case_item}
 use Rattle.shtree.specs.Shape.{Text, Shape, bare_at, text_at, shape_of, shape_of_comment, shape_of_comments, shape_of_entry, shape_of_and_or, shape_of_and_or_parts, shape_of_pipeline, shape_of_pipes, shape_of_command, shape_of_form, shape_of_branch, shape_of_branches, shape_of_else, shape_of_for_words, shape_of_items, shape_of_item, shape_of_word, shape_of_substs, shape_of_compound, shape_of_patterns, shape_of_cases, shape_of_case, shape_of_here}
-use Rattle.shread.specs.Classes.{is_blank}
-use Rattle.shread.specs.Bytes.{past_continuations, past_blanks, stands_in}
-use Rattle.shread.specs.Comments.{span, comment_at}
-use Rattle.shread.specs.Tokens.{is_name_at, token_at}
-use Rattle.shread.specs.Sights.{Given, given, State, standing, Sight, seen, Move, one_byte, to}
-use Rattle.shread.specs.States.{Waiting}
-use Rattle.shread.specs.HereDocuments.{ADelimiter, bodies_here, delimiter_of}
-use Rattle.shread.specs.Form.{Spelled, Read, Form, see, move, push, stop, give, ◌>>◌, both, when, token, loop, ends_as, change, with_bytes, a_level, in_substitution, many, Step, again, done, step_if, may, raw}
-use Rattle.shread.specs.Words.{Inner, a_word}
-use Rattle.shread.specs.Commands.{pick, next_token, is_newline, is_semicolon, a_semicolon, is_pipe, is_bang, begins_simple, begins_word, begins_redirect, begins_pipeline, opener_of, compound_by, and_or_operator_of, Items, so_many, behind_word, is_number, redirect_operator_of, takes_here, a_number, an_operator, operator_by, a_target, one_redirect, behind_redirect, redirect_turn, redirected, as_item, breaks, an_item, item_by, item_turn, a_simple, unexpected, comment_by, a_comment, a_newline, with_comment, JoinSo, join_turn, a_join, a_command, a_bang, Piped, piped, one_command, pipe_turn, a_pipeline, Joined, joined_so, one_pipeline, joined_by, join_pipeline, an_and_or, separator_of, separator_by, a_separator, an_entry, is_word, is_paren, a_worded, ASeparator, past_separator, is_double_semicolon, a_document, document_by, open_document, is_long, is_strip, nothing_waits}
-use Rattle.shread.specs.Lists.{ListSo, list_so, none_listed, is_blank_next, one_entry, entry_turn, remark_by, a_remark, on_line, list_turn, a_list}
-use Rattle.shread.specs.Compounds.{Branched, branched, Closed, is_closing, passed, closing, a_group, a_branch, elif_turn, an_else, an_if, a_loop, behind_opener, a_for_name, a_linebreak, a_sequential_sep, Headed, word_turn, for_words, a_for_head, behind_remarks, a_for, a_form, a_compound, under_name, a_function, a_case_word, begins_pattern, Patterned, a_pattern, one_pattern, pattern_turn, a_pattern_list, an_open_bracket, a_body, ItemEnd, a_double_semicolon, an_item_end, CasesSo, cases_so, one_case, case_turn, a_case_head, a_case}
-use Rattle.shread.specs.Levels.{most_open, level}
-use Rattle.shread.specs.Lines.{a_line, an_open_line, end_by, end_of_line}
-use Rattle.shread.specs.Tokens.{is_end}
-use Rattle.shread.specs.Scripts.{AScript, SoFar, Lines, line_ended, last_line, faulty, nothing_yet, Outcome}
-use Rattle.shread.proofs.Places.{place_same, blanks_stop}
-use Rattle.shread.proofs.OneOutcome.{is}
-use Rattle.shread.proofs.Holds.{Holds, Tells, Stepped, tells_after, tells_change, tells_give, tells_level, tells_then, tells_token, tells_so, tells_until, tells_seen, tells_moved, tells_pushed, tells_with_bytes}
-use Rattle.shread.proofs.Anywhere.{word_read, word_span as spanned}
-use Rattle.shread.proofs.BodiesAnywhere.{DocumentAnywhere}
-use Rattle.shread.proofs.WordsWaiting.{blind_word, onto, place_of}
-use Rattle.shread.proofs.Spelling.{raw_at}
-use Rattle.shread.proofs.Elsewhere.{ItemAnywhere, NameAnywhere, is_a_word, item_is_word, token_anywhere, item_anywhere, name_anywhere}
-use Rattle.shread.proofs.CommentsElsewhere.{CommentAnywhere, comment_is, comment_anywhere}
+use Rattle.shgrammar.specs.Classes.{is_blank}
+use Rattle.shgrammar.specs.Bytes.{past_continuations, past_blanks, stands_in}
+use Rattle.shgrammar.specs.Comments.{span, comment_at}
+use Rattle.shgrammar.specs.Tokens.{is_name_at, token_at}
+use Rattle.shgrammar.specs.Sights.{Given, given, State, standing, Sight, seen, Move, one_byte, to}
+use Rattle.shgrammar.specs.States.{Waiting}
+use Rattle.shgrammar.specs.HereDocuments.{ADelimiter, bodies_here, delimiter_of}
+use Rattle.shgrammar.specs.Form.{Spelled, Read, Form, see, move, push, stop, give, ◌>>◌, both, when, token, loop, ends_as, change, with_bytes, a_level, in_substitution, many, Step, again, done, step_if, may, raw}
+use Rattle.shgrammar.specs.Words.{Inner, a_word}
+use Rattle.shgrammar.specs.Commands.{pick, next_token, is_newline, is_semicolon, a_semicolon, is_pipe, is_bang, begins_simple, begins_word, begins_redirect, begins_pipeline, opener_of, compound_by, and_or_operator_of, Items, so_many, behind_word, is_number, redirect_operator_of, takes_here, a_number, an_operator, operator_by, a_target, one_redirect, behind_redirect, redirect_turn, redirected, as_item, breaks, an_item, item_by, item_turn, a_simple, unexpected, comment_by, a_comment, a_newline, with_comment, JoinSo, join_turn, a_join, a_command, a_bang, Piped, piped, one_command, pipe_turn, a_pipeline, Joined, joined_so, one_pipeline, joined_by, join_pipeline, an_and_or, separator_of, separator_by, a_separator, an_entry, is_word, is_paren, a_worded, ASeparator, past_separator, is_double_semicolon, a_document, document_by, open_document, is_long, is_strip, nothing_waits}
+use Rattle.shgrammar.specs.Lists.{ListSo, list_so, none_listed, is_blank_next, one_entry, entry_turn, remark_by, a_remark, on_line, list_turn, a_list}
+use Rattle.shgrammar.specs.Compounds.{Branched, branched, Closed, is_closing, passed, closing, a_group, a_branch, elif_turn, an_else, an_if, a_loop, behind_opener, a_for_name, a_linebreak, a_sequential_sep, Headed, word_turn, for_words, a_for_head, behind_remarks, a_for, a_form, a_compound, under_name, a_function, a_case_word, begins_pattern, Patterned, a_pattern, one_pattern, pattern_turn, a_pattern_list, an_open_bracket, a_body, ItemEnd, a_double_semicolon, an_item_end, CasesSo, cases_so, one_case, case_turn, a_case_head, a_case}
+use Rattle.shgrammar.specs.Levels.{most_open, level}
+use Rattle.shgrammar.specs.Lines.{a_line, an_open_line, end_by, end_of_line}
+use Rattle.shgrammar.specs.Tokens.{is_end}
+use Rattle.shgrammar.specs.Scripts.{AScript, SoFar, Lines, line_ended, last_line, faulty, nothing_yet, Outcome}
+use Rattle.shgrammar.proofs.Places.{place_same, blanks_stop}
+use Rattle.shgrammar.proofs.OneOutcome.{is}
+use Rattle.shgrammar.proofs.Holds.{Holds, Tells, Stepped, tells_after, tells_change, tells_give, tells_level, tells_then, tells_token, tells_so, tells_until, tells_seen, tells_moved, tells_pushed, tells_with_bytes}
+use Rattle.shgrammar.proofs.Anywhere.{word_read, word_span as spanned}
+use Rattle.shgrammar.proofs.BodiesAnywhere.{DocumentAnywhere}
+use Rattle.shgrammar.proofs.WordsWaiting.{blind_word, onto, place_of}
+use Rattle.shgrammar.proofs.Spelling.{raw_at}
+use Rattle.shgrammar.proofs.Elsewhere.{ItemAnywhere, NameAnywhere, is_a_word, item_is_word, token_anywhere, item_anywhere, name_anywhere}
+use Rattle.shgrammar.proofs.CommentsElsewhere.{CommentAnywhere, comment_is, comment_anywhere}
 use Rattle.shprint.proofs.Tokens.{word_token}
 use Rattle.shprint.proofs.Digits.{digits_good, number_here}
 use Rattle.shprint.proofs.Due.{Due, due_at, BodyOf, Docs, DocsAt, Feeds, no_docs, docs_more, docs_done, done_docs, docs_read, Opens, opens_nothing, opens_so, opens_one, opens_two, opens_both, opens_document, opens_none, opens_last, opens_some, fill_all, SomeOf, some_last}
@@ -53,7 +53,7 @@ use Rattle.shtree.proofs.FilledBack.{filled_is}
 use Rattle.shtree.proofs.Going.{items_going, entries_going, and_or_parts_going, pipes_going, branches_going, cases_going, row_filled}
 use Rattle.shprint.proofs.Good.{GoodHere, GoodComments, GoodOwnComment, an_item_of, a_redirect_of, GoodNumber, GoodRedirect, GoodRedirects, Kind, of_command, of_for, of_compound, GoodItem, of_word, of_argument, of_redirect, of_redirect_behind, GoodItems, none_more, one_more, SomeItem, GoodSimple, GoodWords, GoodForWords, GoodName, GoodEntries, GoodEntry, GoodAndOr, GoodParts, GoodPipeline, GoodPipes, GoodCommand, GoodForm, GoodBranch, GoodBranches, GoodElse, GoodCompound, GoodWord, GoodMorePatterns, GoodPatterns, GoodCases, GoodCase}
 use Rattle.shtree.specs.Nodes.{word_span}
-use Rattle.shread.proofs.NamesBefore.{NameBefore, name_before}
+use Rattle.shgrammar.proofs.NamesBefore.{NameBefore, name_before}
 
 -- ---- rows that grow at their end
 

@@ -3,22 +3,22 @@ use Rattle.std.proofs.Common.{◌≡◌, ℕ, suc, ◌+◌, ◌==◌, Bool, true
 use Rattle.std.proofs.lemmas.Bool.{and_from, and_parts, both_ways}
 use Rattle.std.proofs.lemmas.Bool.Decides.{nat_tests}
 use Rattle.std.proofs.lemmas.List.{drop-drop}
-use Rattle.shread.specs.declared.token.Position.{Position}
-use Rattle.shread.specs.declared.token.Position.TheVariants.{Command, Prefix, Suffix}
-use Rattle.shread.specs.declared.token.Reserved.{Reserved}
-use Rattle.shread.specs.declared.token.Reserved.TheVariants as reserved
-use Rattle.shread.specs.declared.token.Token.{Token}
-use Rattle.shread.specs.declared.token.Token.TheVariants as tokens
-use Rattle.shread.specs.Classes.{is_blank, is_digit, is_name}
-use Rattle.shread.specs.Standing.{is_byte, passes, raw_stands, raw_in, raw_past, continues}
-use Rattle.shread.specs.Bytes.{ends, past, past_continuations, byte_at, behind, stands, stands_in, past_blanks, is_broken_at}
-use Rattle.shread.specs.Tokens.{Spelling, is_word_at, first_of_words, reserved_words, reserved_at, past_reserved, past_digits, begins_assignment, is_number, first_word, less_at, greater_at, token_of, token_at, next_at}
+use Rattle.shgrammar.specs.declared.token.Position.{Position}
+use Rattle.shgrammar.specs.declared.token.Position.TheVariants.{Command, Prefix, Suffix}
+use Rattle.shgrammar.specs.declared.token.Reserved.{Reserved}
+use Rattle.shgrammar.specs.declared.token.Reserved.TheVariants as reserved
+use Rattle.shgrammar.specs.declared.token.Token.{Token}
+use Rattle.shgrammar.specs.declared.token.Token.TheVariants as tokens
+use Rattle.shgrammar.specs.Classes.{is_blank, is_digit, is_name}
+use Rattle.shgrammar.specs.Standing.{is_byte, passes, raw_stands, raw_in, raw_past, continues}
+use Rattle.shgrammar.specs.Bytes.{ends, past, past_continuations, byte_at, behind, stands, stands_in, past_blanks, is_broken_at}
+use Rattle.shgrammar.specs.Tokens.{Spelling, is_word_at, first_of_words, reserved_words, reserved_at, past_reserved, past_digits, begins_assignment, is_number, first_word, less_at, greater_at, token_of, token_at, next_at}
 use Rattle.shtext.specs.Text.{is_newline}
-use Rattle.shread.proofs.Stretches.{get_drop, joined_none, joined_more, place_low, past_more, past_none, raw_more, raw_none}
-use Rattle.shread.proofs.Places.{must_fail}
-use Rattle.shread.proofs.SameBytes.{no_backslash}
-use Rattle.shread.proofs.Ahead.{behind_is, spelled_none, spelled_more, ender}
-use Rattle.shread.specs.Commands.{is_word, is_paren, begins_redirect, begins_simple, begins_word, behind_word}
+use Rattle.shgrammar.proofs.Stretches.{get_drop, joined_none, joined_more, place_low, past_more, past_none, raw_more, raw_none}
+use Rattle.shgrammar.proofs.Places.{must_fail}
+use Rattle.shgrammar.proofs.SameBytes.{no_backslash}
+use Rattle.shgrammar.proofs.Ahead.{behind_is, spelled_none, spelled_more, ender}
+use Rattle.shgrammar.specs.Commands.{is_word, is_paren, begins_redirect, begins_simple, begins_word, behind_word}
 use Rattle.shtree.specs.declared.tree.RedirectOperator.{RedirectOperator}
 use Rattle.shtree.specs.declared.tree.RedirectOperator.TheVariants as redirects
 use Rattle.shtree.specs.Spelling.{redirect_text}

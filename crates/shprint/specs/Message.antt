@@ -1,8 +1,8 @@
 -- The line that tells a fault.
 use Rattle.std.specs.Prelude.{ℕ, ◌++◌, List, codes, decimal}
-use Rattle.shread.specs.declared.fault.Fault.{Fault}
-use Rattle.shread.specs.declared.fault.FaultKind.{FaultKind}
-use Rattle.shread.specs.declared.fault.FaultKind.TheVariants.{UnclosedSingle, UnclosedDouble, UnclosedBackquote, UnclosedParam, UnclosedArith, BadArithClose, UnclosedSubst, LoneBackslash, UnclosedHere, BadHereWord, Unexpected, UnexpectedEnd, BadForName, BadFunctionName, TooDeep}
+use Rattle.shgrammar.specs.declared.fault.Fault.{Fault}
+use Rattle.shgrammar.specs.declared.fault.FaultKind.{FaultKind}
+use Rattle.shgrammar.specs.declared.fault.FaultKind.TheVariants.{UnclosedSingle, UnclosedDouble, UnclosedBackquote, UnclosedParam, UnclosedArith, BadArithClose, UnclosedSubst, LoneBackslash, UnclosedHere, BadHereWord, Unexpected, UnexpectedEnd, BadForName, BadFunctionName, TooDeep}
 
 -- what is said of a fault of this kind
 abbrev pub text_of_kind : FaultKind → List ℕ

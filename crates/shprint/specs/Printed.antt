@@ -5,7 +5,7 @@ use Rattle.shtree.specs.declared.tree.RedirectOperator.TheVariants as redirects
 use Rattle.shtree.specs.Tree.{AHereOf, AJoinOf, EntriesOf, no_entry, more_entries, AnEntryOf, entry, AContentOf, command, remark, AnAndOrOf, and_or, AndOrPartsOf, no_and_or, more_and_or, APipelineOf, pipeline, PipelinePartsOf, no_pipe, more_pipes, ACommandOf, simple, compound, function, ACompoundOf, formed, AFormOf, brace, subshell, if_then, while_do, until_do, for_in, case_in, ABranchOf, branch, BranchesOf, no_branch, more_branches, OtherwiseOf, no_else, otherwise, ForWordsOf, no_in, in_words, CaseItemsOf, no_case, more_cases, ACaseItemOf, case_item, PatternsOf, no_pattern, more_patterns, ItemsOf, no_item, more_items, AnItemOf, item, assign, argument, redirect, AWordOf, word}
 use Rattle.shtree.specs.Shape.{Text, Shape}
 use Rattle.shtree.specs.Spelling.{and_or_text, redirect_text}
-use Rattle.shread.specs.HereDocuments.{ADelimiter, delimiter_of}
+use Rattle.shgrammar.specs.HereDocuments.{ADelimiter, delimiter_of}
 use Rattle.shprint.specs.declared.layout.Layout.{Layout}
 use Rattle.shprint.specs.Marks.{text, line_end, document, Marks, laid, deeper, one, lines_between}
 

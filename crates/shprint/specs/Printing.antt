@@ -2,8 +2,8 @@
 use Rattle.std.specs.Prelude.{◌≡◌, ◌≤◌, ℕ, ◌++◌, List, [], length}
 use Rattle.shread.specs.declared.script_lines.LinesBefore.{LinesBefore}
 use Rattle.shread.specs.LineByLine.{Before, Rest}
-use Rattle.shread.specs.Moved.{moved_fault}
-use Rattle.shread.specs.Scripts.{AScript, Outcome, SoFar}
+use Rattle.shgrammar.specs.Moved.{moved_fault}
+use Rattle.shgrammar.specs.Scripts.{AScript, Outcome, SoFar}
 use Rattle.shtree.specs.Shape.{shape_of}
 use Rattle.shtree.specs.Tree.{entries_of}
 use Rattle.shprint.specs.declared.by_line.PrintError.{PrintError}

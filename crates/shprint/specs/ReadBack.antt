@@ -1,7 +1,7 @@
 -- What it means that a printed text reads back, and what is printed for bytes.
 use Rattle.std.specs.Prelude.{◌≡◌, ◌≤◌, ℕ, List, length, Option, None, Some}
-use Rattle.shread.specs.declared.fault.Fault.{Fault}
-use Rattle.shread.specs.Scripts.{AScript, FirstFault, Outcome}
+use Rattle.shgrammar.specs.declared.fault.Fault.{Fault}
+use Rattle.shgrammar.specs.Scripts.{AScript, FirstFault, Outcome}
 use Rattle.shtree.specs.Shape.{Shape, shape_of}
 use Rattle.shtree.specs.Tree.{EntriesOf}
 use Rattle.shprint.specs.Printed.{printed}

@@ -1,7 +1,7 @@
 //! Printing a script that is read a line at a time, and in pieces.
 ghost use Rattle.std.specs.Prelude.{◌≡◌, ◌-◌, ◌<◌, ◌≤◌, ◌++◌, ℕ, [], IfErr, IfOk, IfSome, List as Row, Some, length, option_map, slice_get, take};
-ghost use Rattle.shread.specs.Moved.{moved_fault};
-ghost use Rattle.shread.specs.Search.{StopsAt};
+ghost use Rattle.shgrammar.specs.Moved.{moved_fault};
+ghost use Rattle.shgrammar.specs.Search.{StopsAt};
 ghost use Rattle.shprint.specs.Printing.{IsErrorWithin, IsPrinted, moved_error};
 ghost use Rattle.shprint.specs.ReadBack.{Answers, IsNoText, IsTextOf};
 

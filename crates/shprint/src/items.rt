@@ -6,7 +6,7 @@ ghost use Rattle.shtree.specs.Shape.{bare_at, shape_of_for_words, shape_of_here,
 ghost use Rattle.shtree.specs.Spelling.{redirect_text};
 ghost use Rattle.shtree.specs.Tree.{item, items_of, patterns_of};
 ghost use Rattle.shtree.specs.View.{view_here, view_item, view_redirection, view_word};
-ghost use Rattle.shread.specs.HereDocuments.{delimiter_of};
+ghost use Rattle.shgrammar.specs.HereDocuments.{delimiter_of};
 ghost use Rattle.shprint.specs.Marks.{document, one, text};
 ghost use Rattle.shprint.specs.Printed.{delimiter_line, duplicates, print_first_pattern, print_gap, print_here, print_item, print_items, print_number, print_operator, print_patterns, print_simple, print_word, would_strip};
 ghost use Rattle.shprint.specs.Written.{Prints};

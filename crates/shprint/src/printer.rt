@@ -3,7 +3,7 @@
 
 ghost use Rattle.std.specs.Prelude.{◌≡◌, [], ◌∷◌, ◌++◌, IfOk, None};
 ghost use Rattle.shread.specs.Answers.{view_script};
-ghost use Rattle.shread.specs.Scripts.{Outcome};
+ghost use Rattle.shgrammar.specs.Scripts.{Outcome};
 ghost use Rattle.shtree.specs.Shape.{bare_at, shape_of, text_at};
 ghost use Rattle.shprint.specs.Marks.{text};
 ghost use Rattle.shprint.specs.Printed.{printed};

@@ -6,21 +6,21 @@ use Rattle.std.proofs.lemmas.Bool.Decides.{nat_tests}
 use Rattle.std.proofs.lemmas.Option.{slice_get_within, slice_get-get_or}
 use Rattle.std.proofs.lemmas.List.{drop-drop, drop_more, length-drop}
 use Rattle.std.proofs.lemmas.Grind.{fold-append}
-use Rattle.shread.specs.declared.keep.Keep.{Keep}
+use Rattle.shgrammar.specs.declared.keep.Keep.{Keep}
 use Rattle.shtree.specs.declared.tree.Span.{Span}
-use Rattle.shread.specs.declared.fault.Fault.{Fault}
+use Rattle.shgrammar.specs.declared.fault.Fault.{Fault}
 use Rattle.shread.specs.declared.documents.Waiting as the_waiting
-use Rattle.shread.specs.declared.fault.FaultKind.TheVariants.{UnclosedHere}
-use Rattle.shread.specs.Standing.{is_byte, raw_stands, raw_past, count_front, next_newline}
-use Rattle.shread.specs.Comments.{span}
+use Rattle.shgrammar.specs.declared.fault.FaultKind.TheVariants.{UnclosedHere}
+use Rattle.shgrammar.specs.Standing.{is_byte, raw_stands, raw_past, count_front, next_newline}
+use Rattle.shgrammar.specs.Comments.{span}
 use Rattle.shread.specs.declared.documents.Documents as the_documents
-use Rattle.shread.specs.declared.fault.Stop.{Stop}
-use Rattle.shread.specs.declared.fault.Stop.TheVariants.{Memory, Wrong}
+use Rattle.shread.specs.declared.stop.Stop.{Stop}
+use Rattle.shread.specs.declared.stop.Stop.TheVariants.{Memory, Wrong}
 use Rattle.shread.specs.Clauses.{BodyRead, Fails, standing_with, view_waiting}
-use Rattle.shread.specs.Sights.{Given}
-use Rattle.shread.specs.HereDocuments.{rest_of_line, stripped, past_line, delimiter_from, bodies_from, bodies_here, state_by}
-use Rattle.shread.specs.Form.{change, does, nothing_read, raw}
-use Rattle.shread.proofs.Stretches.{get_drop}
+use Rattle.shgrammar.specs.Sights.{Given}
+use Rattle.shgrammar.specs.HereDocuments.{rest_of_line, stripped, past_line, delimiter_from, bodies_from, bodies_here, state_by}
+use Rattle.shgrammar.specs.Form.{change, does, nothing_read, raw}
+use Rattle.shgrammar.proofs.Stretches.{get_drop}
 
 -- ---- bytes from one place up to another
 

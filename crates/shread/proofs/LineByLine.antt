@@ -2,24 +2,24 @@
 use Rattle.std.proofs.Common.{◌≡◌, ℕ, ◌++◌, ◌∙◌, Bool, false, Err, List as Row, drop, map, Vec, Global, ap, sym, subst, None, Some}
 use Rattle.shtree.specs.declared.tree.Entry.{Entry}
 use Rattle.shtree.specs.View.{view_entry}
-use Rattle.shread.specs.declared.fault.Fault.{Fault}
+use Rattle.shgrammar.specs.declared.fault.Fault.{Fault}
 use Rattle.shtree.specs.Tree.{AnEntry, entries_of}
-use Rattle.shread.specs.Sights.{given, standing}
-use Rattle.shread.specs.Form.{Read, may}
-use Rattle.shread.specs.declared.fault.Stop.{Stop}
-use Rattle.shread.specs.declared.fault.Stop.TheVariants.{Wrong}
+use Rattle.shgrammar.specs.Sights.{given, standing}
+use Rattle.shgrammar.specs.Form.{Read, may}
+use Rattle.shread.specs.declared.stop.Stop.{Stop}
+use Rattle.shread.specs.declared.stop.Stop.TheVariants.{Wrong}
 use Rattle.shread.specs.Clauses.{Fails}
-use Rattle.shread.specs.Commands.{is_empty}
+use Rattle.shgrammar.specs.Commands.{is_empty}
 use Rattle.std.proofs.lemmas.List.{map-append}
-use Rattle.shread.specs.declared.keep.Keep.TheVariants.{Whole}
+use Rattle.shgrammar.specs.declared.keep.Keep.TheVariants.{Whole}
 use Rattle.shread.specs.declared.script_lines.ScriptLine.{ScriptLine}
 use Rattle.shread.specs.declared.script_lines.ScriptLine.TheVariants.{Ended, Last, Faulty}
 use Rattle.shread.specs.declared.script_lines.ScriptLines.{ScriptLines}
 use Rattle.shtree.specs.Nodes.{AreWithin}
 use Rattle.shread.specs.LineByLine.{IsNextLine, LineReads, LineWithin, Rest, Stands}
-use Rattle.shread.proofs.Within.{more_within}
-use Rattle.shread.specs.Scripts.{AScript, Outcome, SoFar, faulty, is_blank_line, last_line, line_ended, line_from, the_line, with_line}
-use Rattle.shread.proofs.OneOutcome.{is}
+use Rattle.shgrammar.proofs.Within.{more_within}
+use Rattle.shgrammar.specs.Scripts.{AScript, Outcome, SoFar, faulty, is_blank_line, last_line, line_ended, line_from, the_line, with_line}
+use Rattle.shgrammar.proofs.OneOutcome.{is}
 
 -- ---- what is read of a line, where its first entry is blank as the lines before it have it
 

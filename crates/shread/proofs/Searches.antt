@@ -4,8 +4,8 @@ use Rattle.std.proofs.lemmas.List.{drop-drop}
 use Rattle.std.proofs.lemmas.Option.{slice_get-get_or, slice_get_past}
 use Rattle.memchr.specs.Find.{IsFirstByte}
 use Rattle.shtext.specs.Text.{IsRun}
-use Rattle.shread.specs.Standing.{is_byte, is_none, passes, raw_in, raw_stands, at_end, raw_past, count_front, next_such, next_of}
-use Rattle.shread.proofs.Stretches.{raw_is, raw_on, raw_more, raw_none}
+use Rattle.shgrammar.specs.Standing.{is_byte, is_none, passes, raw_in, raw_stands, at_end, raw_past, count_front, next_such, next_of}
+use Rattle.shgrammar.proofs.Stretches.{raw_is, raw_on, raw_more, raw_none}
 
 -- a test that fails
 no_pass : (x : Bool) → (x ≡ true → ⊥) → not x ≡ true

@@ -7,11 +7,11 @@ use Rattle.std.proofs.lemmas.Bool.Decides.{nat_tests}
 use Rattle.std.proofs.lemmas.Option.{slice_get_within, slice_get-get_or}
 use Rattle.std.proofs.lemmas.List.{append_assoc, drop_more, append-nil, drop_all, length-drop}
 use Rattle.shtree.specs.Shape.{bare}
-use Rattle.shread.specs.Standing.{is_byte, continues, raw_stands}
-use Rattle.shread.specs.Bytes.{byte_at, count_joined, past_continuations, stands}
-use Rattle.shread.specs.HereDocuments.{Quoting, behind_quote, byte_left, dollar_left, escape_left, is_live, is_quote, left_before, stays_before, unquoted}
+use Rattle.shgrammar.specs.Standing.{is_byte, continues, raw_stands}
+use Rattle.shgrammar.specs.Bytes.{byte_at, count_joined, past_continuations, stands}
+use Rattle.shgrammar.specs.HereDocuments.{Quoting, behind_quote, byte_left, dollar_left, escape_left, is_live, is_quote, left_before, stays_before, unquoted}
 use Rattle.shread.specs.Unquoting.{escapes, left_of}
-use Rattle.shread.proofs.Stretches.{get_drop, joined_more, joined_none}
+use Rattle.shgrammar.proofs.Stretches.{get_drop, joined_more, joined_none}
 
 -- ---- text and what is left behind it
 

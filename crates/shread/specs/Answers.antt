@@ -1,14 +1,15 @@
 -- What the answers of a reader are in the definitions, and its meter.
-use Rattle.std.specs.Prelude.{ℕ, ◌+◌, ◌-◌, ◌^◌, min}
+use Rattle.std.specs.Prelude.{◌≡◌, ℕ, ◌+◌, ◌-◌, ◌^◌, ◌<◌, ◌≤◌, List, None, Some, length, min}
+use Rattle.shread.specs.declared.first_fault.Found.{Found}
+use Rattle.shread.specs.declared.first_fault.Found.TheVariants.{Here, Beyond, Nowhere}
 use Rattle.shread.specs.declared.reader.Reader.{Reader}
 use Rattle.shread.specs.declared.reader.Line as the_line
 use Rattle.shread.specs.declared.reader.LineKind as the_kind
 use Rattle.shread.specs.declared.reader.LineKind.TheVariants as kinds
 use Rattle.shread.specs.declared.reader.Script as the_script
-use Rattle.shtree.specs.Nodes.{AreWithin}
 use Rattle.shtree.specs.View.{view_list}
-use Rattle.shread.specs.Lines.{ALine, AKind, blank_line, entries_line, end_line, faulty_line}
-use Rattle.shread.specs.Scripts.{AScript}
+use Rattle.shgrammar.specs.Lines.{ALine, AKind, blank_line, entries_line, end_line, faulty_line}
+use Rattle.shgrammar.specs.Scripts.{AScript, first_fault_from}
 
 abbrev pub view_kind : the_kind.LineKind → AKind
 view_kind kinds.Blank = blank_line
@@ -20,11 +21,6 @@ view_kind (kinds.Faulty fault) = faulty_line fault
 abbrev pub view_line : ℕ → the_line.Line → ALine
 view_line at line = record { kind = view_kind line.kind; next = line.next - at; ended = line.ended }
 
--- no node of a line's entries names an offset above this one
-abbrev pub EntriesWithin : ℕ → AKind → Type 0
-EntriesWithin limit (entries_line es) = AreWithin limit es
-EntriesWithin limit _ = Unit {0}
-
 abbrev pub view_script : the_script.Script → AScript
 view_script script = record { entries = view_list script.list; wrong = script.fault }
 
@@ -34,3 +30,9 @@ meter_of reader = reader.meter
 -- a meter after n more bytes; it stays at its greatest number
 abbrev pub raised : ℕ → ℕ → ℕ
 raised meter n = min (meter + n) (2 ^ 64 - 1)
+
+-- what was found in the line at an offset is true of the first fault from there on
+abbrev pub Tells : List ℕ → ℕ → Found → Type 0
+Tells bytes at (Here fault) = (first_fault_from bytes at ≡ Some fault) × (fault.at ≤ length bytes)
+Tells bytes at (Beyond next) = (first_fault_from bytes at ≡ first_fault_from bytes next) × (at < next) × (next ≤ length bytes)
+Tells bytes at Nowhere = first_fault_from bytes at ≡ None

@@ -1,25 +1,16 @@
 -- Words for the clauses of the code: what a function of the reader answers, and what it leaves as it was.
-use Rattle.std.specs.Prelude.{◌≡◌, ℕ, ◌+◌, ◌<◌, ◌≤◌, ◌==◌, Bool, true, false, List, List as Row, length, drop, map, Some, Result, Ok, Err, if◌then◌else◌}
+use Rattle.std.specs.Prelude.{◌≡◌, ℕ, ◌+◌, ◌<◌, ◌≤◌, ◌==◌, Bool, true, false, List, List as Row, length, drop, map, Result, Ok, Err, if◌then◌else◌}
 use Rattle.shread.specs.declared.cursor.Cursor.{Cursor}
 use Rattle.shread.specs.declared.documents.Documents as the_documents
 use Rattle.shread.specs.declared.documents.Waiting as the_waiting
-use Rattle.shread.specs.declared.fault.Fault.{Fault}
-use Rattle.shread.specs.declared.keep.Keep.{Keep}
-use Rattle.shread.specs.declared.keep.Keep.TheVariants.{Nothing}
+use Rattle.shgrammar.specs.declared.fault.Fault.{Fault}
+use Rattle.shgrammar.specs.declared.keep.Keep.{Keep}
+use Rattle.shgrammar.specs.declared.keep.Keep.TheVariants.{Nothing}
 use Rattle.shtree.specs.declared.tree.Span.{Span}
-use Rattle.shread.specs.declared.fault.Stop.{Stop}
-use Rattle.shread.specs.declared.fault.Stop.TheVariants.{Memory, Wrong}
-use Rattle.shread.specs.declared.token.Token.{Token}
-use Rattle.shread.specs.declared.token.Token.TheVariants as tokens
-use Rattle.shtree.specs.declared.tree.AndOrOperator.{AndOrOperator}
-use Rattle.shtree.specs.declared.tree.RedirectOperator.{RedirectOperator}
-use Rattle.shread.specs.Standing.{raw_stands, at_end}
-use Rattle.shread.specs.Bytes.{behind, past_continuations, ends_word}
-use Rattle.shread.specs.Sights.{State, Waiting, given}
-use Rattle.shread.specs.Tokens.{is_comment, is_end}
-use Rattle.shread.specs.Commands.{and_or_operator_of, begins_word, is_double_semicolon, is_long, is_strip, redirect_operator_of}
-use Rattle.shread.specs.Compounds.{begins_pattern}
-use Rattle.shread.specs.Form.{Form, Read, does}
+use Rattle.shread.specs.declared.stop.Stop.{Stop}
+use Rattle.shread.specs.declared.stop.Stop.TheVariants.{Memory, Wrong}
+use Rattle.shgrammar.specs.Sights.{State, Waiting, given}
+use Rattle.shgrammar.specs.Form.{Form, Read, does}
 
 -- the text of a cursor
 abbrev pub text_of : {S : Type 0} {k : ℕ} {g : _} → (S → List ℕ) → Cursor S k g → List ℕ
@@ -43,10 +34,6 @@ standing_with documents p = record { at = p; waiting = map view_waiting document
 -- the state of a cursor
 abbrev pub state_of : {S : Type 0} {k : ℕ} {g : _} → Cursor S k g → State
 state_of cursor = standing_with cursor.documents cursor.at
-
--- a byte is read at p
-abbrev pub IsRead : List ℕ → ℕ → Type 0
-IsRead T p = past_continuations T p < length T
 
 -- what a cursor of this KEEP keeps, if it may grow a tree
 abbrev pub kept : ℕ → Keep → Keep
@@ -95,13 +82,3 @@ BodyRead end (Err e) all rest = BodiesFail end e all
 abbrev pub Onward : ℕ → ℕ → Bool → Type 0
 Onward p q true = p < q
 Onward p q false = p ≤ q
-
--- what a token says of the bytes from its first one on
-abbrev pub Shows : Token → List ℕ → ℕ → Type 0
-Shows token T p =
-    (begins_word token ≡ true → ends_word T p ≡ false)
-    × (is_end token ≡ false → IsRead T p) × (token ≡ tokens.Newline → raw_stands T p 10 ≡ true) × (token ≡ tokens.End → at_end T p ≡ true)
-    × ((operator : AndOrOperator) → and_or_operator_of token ≡ Some operator → IsRead T (behind T p)) × (is_comment token ≡ false → raw_stands T p 35 ≡ false) × (past_continuations T p ≡ p)
-    × (begins_pattern token ≡ true → ends_word T p ≡ false) × (is_double_semicolon token ≡ true → IsRead T (behind T p))
-    × ((operator : RedirectOperator) → redirect_operator_of token ≡ Some operator → is_long operator ≡ true → IsRead T (behind T p))
-    × ((operator : RedirectOperator) → redirect_operator_of token ≡ Some operator → is_strip operator ≡ true → IsRead T (behind T (behind T p)))

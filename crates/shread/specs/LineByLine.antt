@@ -1,7 +1,7 @@
 -- The lines of a script, read one after the other.
 use Rattle.std.specs.Prelude.{◌≡◌, ◌≤◌, ◌<◌, ℕ, ◌+◌, ◌-◌, Vec, Bool, true, false, List, List as Row, Ok, Err, drop, map, not}
 use Rattle.std.specs.Global.{Global}
-use Rattle.shread.specs.declared.keep.Keep.TheVariants.{Outer}
+use Rattle.shgrammar.specs.declared.keep.Keep.TheVariants.{Outer}
 use Rattle.shread.specs.declared.script_lines.ScriptLine.{ScriptLine}
 use Rattle.shread.specs.declared.script_lines.ScriptLine.TheVariants.{Ended, Last, Faulty}
 use Rattle.shread.specs.declared.script_lines.LinesBefore.{LinesBefore}
@@ -10,11 +10,11 @@ use Rattle.shtree.specs.declared.tree.Entry.{Entry}
 use Rattle.shtree.specs.Nodes.{AreWithin}
 use Rattle.shtree.specs.Tree.{AnEntry, entries_of}
 use Rattle.shtree.specs.View.{view_entry}
-use Rattle.shread.specs.Commands.{is_empty}
-use Rattle.shread.specs.Form.{Read, Spelled, may}
-use Rattle.shread.specs.Scripts.{AScript, Lines, SoFar, is_blank_line, line_from, the_line, with_line}
-use Rattle.shread.specs.Sights.{State, given, standing}
-use Rattle.shread.specs.Standing.{raw_stands}
+use Rattle.shgrammar.specs.Commands.{is_empty}
+use Rattle.shgrammar.specs.Form.{Read, Spelled, may}
+use Rattle.shgrammar.specs.Scripts.{AScript, Lines, SoFar, is_blank_line, line_from, the_line, with_line}
+use Rattle.shgrammar.specs.Sights.{State, given, standing}
+use Rattle.shgrammar.specs.Standing.{raw_stands}
 
 -- what the grammar reads of the line at p, behind lines that gave this
 abbrev pub LineReads : List ℕ → SoFar → ℕ → Read (Row AnEntry × Bool) → Type 0

@@ -2,10 +2,10 @@
 use Rattle.std.specs.Prelude.{map}
 use Rattle.shread.specs.declared.case.Cases as the_cases
 use Rattle.shread.specs.declared.list.Listed as the_listed
-use Rattle.shread.specs.declared.token.Next.{Next}
+use Rattle.shgrammar.specs.declared.token.Next.{Next}
 use Rattle.shtree.specs.View.{view_case_item, view_entry, view_join}
-use Rattle.shread.specs.Compounds.{CasesSo, cases_so}
-use Rattle.shread.specs.Lists.{Listed}
+use Rattle.shgrammar.specs.Compounds.{CasesSo, cases_so}
+use Rattle.shgrammar.specs.Lists.{Listed}
 
 abbrev pub view_listed : the_listed.Listed → Listed
 view_listed l = record { entries = map view_entry l.entries.items; blank = l.blank; begun = l.begun; commands = l.commands; parted = l.parted }

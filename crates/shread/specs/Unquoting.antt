@@ -4,7 +4,7 @@ use Rattle.shread.specs.declared.delimiter.Delimiter as the_delimiter
 use Rattle.shread.specs.declared.delimiter.Quoting as the_quoting
 use Rattle.shread.specs.declared.delimiter.Quoting.TheVariants as quotings
 use Rattle.shread.specs.declared.delimiter.Unquoting as the_unquoting
-use Rattle.shread.specs.HereDocuments.{ADelimiter, Quoting, not_quoted, in_single, in_double, is_live, unquoted}
+use Rattle.shgrammar.specs.HereDocuments.{ADelimiter, Quoting, not_quoted, in_single, in_double, is_live, unquoted}
 
 abbrev pub view_quoting : the_quoting.Quoting → Quoting
 view_quoting quotings.Outside = not_quoted

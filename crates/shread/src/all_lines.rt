@@ -1,12 +1,12 @@
 //! All lines of a source as one script.
 ghost use Rattle.std.specs.Prelude.{◌≡◌, ◌≤◌, ◌++◌, length, IfOk, IfSome, IsOk};
 ghost use Rattle.shread.specs.Answers.{view_script};
-ghost use Rattle.shread.specs.Scripts.{script_at};
+ghost use Rattle.shgrammar.specs.Scripts.{script_at};
 ghost use Rattle.shtree.specs.Nodes.{AreWithin};
 
-use crate::fault::ReadError;
 use crate::reader::Script;
 use crate::script_lines::{ScriptLine, ScriptLines};
+use crate::stop::ReadError;
 use shtext::Source;
 use shtree::Entry;
 use shtree::make::list_of;
@@ -23,7 +23,7 @@ fn add(entries: &mut Vec<Entry>, mut line: Vec<Entry>) -> Result<(), ReadError>
 }
 
 /// A whole script. One without a byte wants no memory.
-#[tactic(auto, using(crate::proofs::LineKinds::nothing_read))]
+#[tactic(auto, using(shgrammar::proofs::LineKinds::nothing_read))]
 pub(crate) fn script_from<S: Source>(alloc: Global, source: &S) -> Result<Script, ReadError>
     ensures value { IfOk result (λ script. view_script script ≡ script_at (S.bytes source.now)) }
     ensures spans { IfOk result (λ script. AreWithin (length (S.bytes source.now)) (view_script script).entries) }

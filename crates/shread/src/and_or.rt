@@ -1,15 +1,16 @@
 //! And-or lists: pipelines joined by `&&` and `||` (XCU 2.9.3).
 ghost use Rattle.std.specs.Prelude.{◌≡◌, ◌<◌, ◌≤◌, [], map, IfOk};
-ghost use Rattle.shread.specs.Bytes.{behind};
-ghost use Rattle.shread.specs.Clauses.{IsRead, Keeps, Onward, Reads, Shows, state_of, text_of};
-ghost use Rattle.shread.specs.Commands.{an_and_or, join_pipeline, joined_so, one_pipeline};
-ghost use Rattle.shread.specs.Form.{again, many, step_if};
-ghost use Rattle.shread.specs.Levels.{level};
+ghost use Rattle.shgrammar.specs.Bytes.{behind};
+ghost use Rattle.shgrammar.specs.Shows.{IsRead, Shows};
+ghost use Rattle.shread.specs.Clauses.{Keeps, Onward, Reads, state_of, text_of};
+ghost use Rattle.shgrammar.specs.Commands.{an_and_or, join_pipeline, joined_so, one_pipeline};
+ghost use Rattle.shgrammar.specs.Form.{again, many, step_if};
+ghost use Rattle.shgrammar.specs.Levels.{level};
 ghost use Rattle.shtree.specs.View.{view_and_or, view_and_or_part};
 
 use crate::cursor::Cursor;
-use crate::fault::Stop;
-use crate::token::Next;
+use crate::stop::Stop;
+use shgrammar::Next;
 use shtext::Source;
 use shtree::make::{and_or_of, and_or_part_of};
 use shtree::{AndOr, AndOrOperator, AndOrPart};
@@ -19,7 +20,7 @@ use std::mem;
 impl<'a, S: Source, const KEEP: u8> Cursor<'a, S, KEEP> {
     /// One more pipeline of an and-or list, behind `&&` or `||`. It stands apart to keep the frames of nested commands small.
     #[cycle(commands)]
-    #[tactic(auto, unfolding(crate::specs::Commands::one_pipeline))]
+    #[tactic(auto, unfolding(shgrammar::specs::Commands::one_pipeline))]
     fn one_pipeline(
         &mut self,
         alloc: Global,
@@ -52,7 +53,7 @@ impl<'a, S: Source, const KEEP: u8> Cursor<'a, S, KEEP> {
     /// One more, if such an operator stands here. Answers whether there was one.
     #[cycle(commands)]
     #[inline(always)]
-    #[tactic(auto, unfolding(crate::specs::Commands::join_pipeline))]
+    #[tactic(auto, unfolding(shgrammar::specs::Commands::join_pipeline))]
     fn join_pipeline(
         &mut self,
         alloc: Global,
@@ -78,7 +79,7 @@ impl<'a, S: Source, const KEEP: u8> Cursor<'a, S, KEEP> {
     /// The pipelines of an and-or list behind its first.
     #[cycle(commands)]
     #[inline(always)]
-    #[tactic(auto, using(crate::proofs::Turns::many_again, crate::proofs::Turns::many_done, crate::proofs::Turns::many_stop))]
+    #[tactic(auto, using(shgrammar::proofs::Turns::many_again, shgrammar::proofs::Turns::many_done, crate::proofs::Stops::many_stop))]
     fn joined_pipelines(
         &mut self,
         alloc: Global,
@@ -100,7 +101,7 @@ impl<'a, S: Source, const KEEP: u8> Cursor<'a, S, KEEP> {
     /// The and-or list that the token here begins.
     #[cycle(commands)]
     #[inline(always)]
-    #[tactic(auto, unfolding(crate::specs::Commands::an_and_or))]
+    #[tactic(auto, unfolding(shgrammar::specs::Commands::an_and_or))]
     pub(crate) fn and_or(
         &mut self,
         alloc: Global,

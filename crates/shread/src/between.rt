@@ -1,13 +1,14 @@
 //! What may stand between commands: comments, newlines, separators, and what no row takes (XCU 2.3, 2.9.3).
 ghost use Rattle.std.specs.Prelude.{◌≡◌, ◌≤◌, IfOk, Ok as Done, is_some, option_map};
-ghost use Rattle.shread.specs.Clauses.{end_of, Keeps, Onward, reads, Reads, Shows, state_of, Stays, text_of};
-ghost use Rattle.shread.specs.Commands.{a_comment, a_newline, a_semicolon, a_separator, what_is_wrong};
-ghost use Rattle.shread.specs.Levels.{level};
+ghost use Rattle.shread.specs.Clauses.{end_of, Keeps, Onward, reads, Reads, state_of, Stays, text_of};
+ghost use Rattle.shgrammar.specs.Shows.{Shows};
+ghost use Rattle.shgrammar.specs.Commands.{a_comment, a_newline, a_semicolon, a_separator, what_is_wrong};
+ghost use Rattle.shgrammar.specs.Levels.{level};
 ghost use Rattle.shtree.specs.View.{view_comment};
 
 use crate::cursor::Cursor;
-use crate::fault::{Fault, FaultKind, Stop};
-use crate::token::{Next, Position, Separator, Token};
+use crate::stop::Stop;
+use shgrammar::{Fault, FaultKind, Next, Position, Separator, Token};
 use shtext::Source;
 use shtree::Comment;
 use std::alloc::Global;
@@ -15,7 +16,7 @@ use std::alloc::Global;
 impl<'a, S: Source, const KEEP: u8> Cursor<'a, S, KEEP> {
     /// Passes the comment here, if one stands. `next` is the token here, and then the one behind it.
     #[inline(always)]
-    #[tactic(auto, unfolding(crate::specs::Commands::a_comment, crate::specs::Commands::next_token, crate::specs::Comments::comment_at))]
+    #[tactic(auto, unfolding(shgrammar::specs::Commands::a_comment, shgrammar::specs::Commands::next_token, shgrammar::specs::Comments::comment_at))]
     pub(crate) fn remark(&mut self, next: &mut Next) -> Option<Comment>
         requires shows { Shows next.old.token (text_of S.bytes self.old) self.old.at }
         ensures value { reads S.bytes self.old (a_comment next.old) ≡ Done ((option_map view_comment result, next.new), state_of self.new) }
@@ -37,7 +38,7 @@ impl<'a, S: Source, const KEEP: u8> Cursor<'a, S, KEEP> {
 
     /// Passes the newline here with the bodies that follow it, if one stands. `next` is the token here, and then the one behind it.
     #[inline(always)]
-    #[tactic(auto, unfolding(crate::specs::Commands::a_newline, crate::specs::Commands::next_token))]
+    #[tactic(auto, unfolding(shgrammar::specs::Commands::a_newline, shgrammar::specs::Commands::next_token))]
     pub(crate) fn newline(&mut self, next: &mut Next) -> Result<bool, Stop>
         requires shows { Shows next.old.token (text_of S.bytes self.old) self.old.at }
         ensures value { Reads S.bytes self.old (a_newline next.old) result (λ more. (more, next.new)) (state_of self.new) }
@@ -55,7 +56,7 @@ impl<'a, S: Source, const KEEP: u8> Cursor<'a, S, KEEP> {
     }
 
     /// Passes the `;` here, if one stands. `next` is the token here, and then the one behind it.
-    #[tactic(auto, unfolding(crate::specs::Commands::a_semicolon, crate::specs::Commands::next_token))]
+    #[tactic(auto, unfolding(shgrammar::specs::Commands::a_semicolon, shgrammar::specs::Commands::next_token))]
     pub(crate) fn semicolon(&mut self, next: &mut Next) -> bool
         requires shows { Shows next.old.token (text_of S.bytes self.old) self.old.at }
         ensures value { reads S.bytes self.old (a_semicolon next.old) ≡ Done ((result, next.new), state_of self.new) }
@@ -74,7 +75,7 @@ impl<'a, S: Source, const KEEP: u8> Cursor<'a, S, KEEP> {
     /// Passes `;` or `&`, if the token here is one of them, and tells the offset behind it. `next` is that token, and then the one
     /// behind it.
     #[inline(always)]
-    #[tactic(auto, unfolding(crate::specs::Commands::a_separator, crate::specs::Commands::next_token))]
+    #[tactic(auto, unfolding(shgrammar::specs::Commands::a_separator, shgrammar::specs::Commands::next_token))]
     pub(crate) fn separator(&mut self, next: &mut Next) -> Option<(Separator, usize)>
         requires shows { Shows next.old.token (text_of S.bytes self.old) self.old.at }
         ensures value { reads S.bytes self.old (a_separator next.old) ≡ Done ((result, next.new), state_of self.new) }
@@ -91,7 +92,7 @@ impl<'a, S: Source, const KEEP: u8> Cursor<'a, S, KEEP> {
 
     /// What is wrong where no row takes the token here. A word is read whole first; a comment goes with the token behind it.
     #[cycle(commands)]
-    #[tactic(auto, unfolding(crate::specs::Commands::what_is_wrong))]
+    #[tactic(auto, unfolding(shgrammar::specs::Commands::what_is_wrong))]
     pub(crate) fn what_is_wrong(
         &mut self,
         alloc: Global,

@@ -1,19 +1,19 @@
 //! The bytes of a text as they are read: continuations are removed (XCU 2.2.1).
 ghost use Rattle.std.specs.Prelude.{◌≡◌, ◌<◌, ◌≤◌, length, true, false, IfSome};
-ghost use Rattle.shread.specs.Bytes.{behind, byte_at, ends_word, is_broken_at, past, past_blanks, past_continuations, stands, stands_in};
-ghost use Rattle.shread.specs.Classes.{in_class};
-ghost use Rattle.shread.specs.Clauses.{IsRead, Stays, text_of};
-ghost use Rattle.shread.specs.Standing.{raw_in};
+ghost use Rattle.shgrammar.specs.Bytes.{behind, byte_at, ends_word, is_broken_at, past, past_blanks, past_continuations, stands, stands_in};
+ghost use Rattle.shgrammar.specs.Classes.{in_class};
+ghost use Rattle.shgrammar.specs.Shows.{IsRead};
+ghost use Rattle.shread.specs.Clauses.{Stays, text_of};
+ghost use Rattle.shgrammar.specs.Standing.{raw_in};
 
 use crate::cursor::Cursor;
-use crate::plain::ends_words;
-use crate::token::Class;
+use shgrammar::{Class, ends_words};
 use shtext::Source;
 
 impl<'a, S: Source, const KEEP: u8> Cursor<'a, S, KEEP> {
     /// The place past the continuations at a place. Most often none stands there.
     #[inline(always)]
-    #[tactic(auto, using(crate::proofs::Stretches::joined_none))]
+    #[tactic(auto, using(shgrammar::proofs::Stretches::joined_none))]
     pub(crate) fn place(&self, from: usize) -> usize
         requires { from ≤ length (text_of S.bytes self.now) }
         ensures value { result ≡ past_continuations (text_of S.bytes self.now) from }
@@ -38,7 +38,7 @@ impl<'a, S: Source, const KEEP: u8> Cursor<'a, S, KEEP> {
 
     /// The place past the continuations at a place.
     #[cold]
-    #[tactic(auto, using(crate::proofs::Stretches::joined_more, crate::proofs::Stretches::joined_none))]
+    #[tactic(auto, using(shgrammar::proofs::Stretches::joined_more, shgrammar::proofs::Stretches::joined_none))]
     fn past_continuations(&self, from: usize) -> usize
         requires { from ≤ length (text_of S.bytes self.now) }
         ensures value { result ≡ past_continuations (text_of S.bytes self.now) from }
@@ -54,7 +54,7 @@ impl<'a, S: Source, const KEEP: u8> Cursor<'a, S, KEEP> {
 
     /// The byte that is read at a place, or `None` at the end. Only behind a backslash another byte may be meant.
     #[inline(always)]
-    #[tactic(auto, using(crate::proofs::Stretches::raw_stays))]
+    #[tactic(auto, using(shgrammar::proofs::Stretches::raw_stays))]
     pub(crate) fn byte_at(&self, at: usize) -> Option<u8>
         requires { at ≤ length (text_of S.bytes self.now) }
         ensures value { result ≡ byte_at (text_of S.bytes self.now) at }
@@ -77,7 +77,7 @@ impl<'a, S: Source, const KEEP: u8> Cursor<'a, S, KEEP> {
 
     /// The place behind the byte that is read at a place.
     #[inline(always)]
-    #[tactic(auto, unfolding(crate::specs::Bytes::behind))]
+    #[tactic(auto, unfolding(shgrammar::specs::Bytes::behind))]
     pub(crate) fn behind(&self, at: usize) -> usize
         requires within { at ≤ length (text_of S.bytes self.now) }
         requires some { IsRead (text_of S.bytes self.now) at }
@@ -103,7 +103,7 @@ impl<'a, S: Source, const KEEP: u8> Cursor<'a, S, KEEP> {
 
     /// The same, where no continuation stands: at the first byte of a token.
     #[inline(always)]
-    #[tactic(auto, unfolding(crate::specs::Bytes::behind))]
+    #[tactic(auto, unfolding(shgrammar::specs::Bytes::behind))]
     pub(crate) fn step(&mut self)
         requires still { past_continuations (text_of S.bytes self.old) self.old.at ≡ self.old.at }
         requires some { IsRead (text_of S.bytes self.old) self.old.at }
@@ -117,7 +117,7 @@ impl<'a, S: Source, const KEEP: u8> Cursor<'a, S, KEEP> {
 
     /// Whether this byte is read at a place.
     #[inline(always)]
-    #[tactic(auto, unfolding(crate::specs::Bytes::stands))]
+    #[tactic(auto, unfolding(shgrammar::specs::Bytes::stands))]
     pub(crate) fn stands(&self, at: usize, byte: u8) -> bool
         requires { at ≤ length (text_of S.bytes self.now) }
         ensures value { result ≡ stands (text_of S.bytes self.now) at byte }
@@ -150,7 +150,7 @@ impl<'a, S: Source, const KEEP: u8> Cursor<'a, S, KEEP> {
 
     /// Whether a byte of this class is read at a place.
     #[inline(always)]
-    #[tactic(auto, unfolding(crate::specs::Bytes::stands_in))]
+    #[tactic(auto, unfolding(shgrammar::specs::Bytes::stands_in))]
     pub(crate) fn stands_in(&self, at: usize, class: Class) -> bool
         requires { at ≤ length (text_of S.bytes self.now) }
         ensures value { result ≡ stands_in (in_class class) (text_of S.bytes self.now) at }
@@ -164,7 +164,7 @@ impl<'a, S: Source, const KEEP: u8> Cursor<'a, S, KEEP> {
 
     /// The place behind the bytes of this class from a place on. Most often no continuation stands among them.
     #[inline(always)]
-    #[tactic(auto, using(crate::proofs::Unbroken::past_raw, crate::proofs::Unbroken::past_whole, crate::proofs::Unbroken::raw_stops, crate::proofs::Unbroken::none_here))]
+    #[tactic(auto, using(shgrammar::proofs::Unbroken::past_raw, shgrammar::proofs::Unbroken::past_whole, shgrammar::proofs::Unbroken::raw_stops, shgrammar::proofs::Unbroken::none_here))]
     pub(crate) fn past(&self, from: usize, class: Class) -> usize
         requires { from ≤ length (text_of S.bytes self.now) }
         ensures value { result ≡ past (in_class class) (text_of S.bytes self.now) from }
@@ -180,7 +180,7 @@ impl<'a, S: Source, const KEEP: u8> Cursor<'a, S, KEEP> {
 
     /// The place behind the bytes of this class from a place on where none stands, unless past continuations.
     #[cold]
-    #[tactic(auto, using(crate::proofs::Unbroken::joined_on, crate::proofs::Unbroken::joined_here, crate::proofs::Unbroken::raw_stops, crate::proofs::Unbroken::none_here, crate::proofs::Stretches::past_none))]
+    #[tactic(auto, using(shgrammar::proofs::Unbroken::joined_on, shgrammar::proofs::Unbroken::joined_here, shgrammar::proofs::Unbroken::raw_stops, shgrammar::proofs::Unbroken::none_here, shgrammar::proofs::Stretches::past_none))]
     fn past_joined(&self, from: usize, class: Class) -> usize
         requires within { from ≤ length (text_of S.bytes self.now) }
         requires none { raw_in (in_class class) (text_of S.bytes self.now) from ≡ false }
@@ -201,7 +201,7 @@ impl<'a, S: Source, const KEEP: u8> Cursor<'a, S, KEEP> {
 
     /// The place where the next token begins, and whether a continuation stands among the blanks before it.
     #[inline(always)]
-    #[tactic(auto, unfolding(crate::specs::Bytes::is_broken_at), using(crate::proofs::Unbroken::blanks_whole, crate::proofs::Unbroken::blanks_on, crate::proofs::Unbroken::blanks_stop_raw))]
+    #[tactic(auto, unfolding(shgrammar::specs::Bytes::is_broken_at), using(shgrammar::proofs::Unbroken::blanks_whole, shgrammar::proofs::Unbroken::blanks_on, shgrammar::proofs::Unbroken::blanks_stop_raw))]
     pub(crate) fn past_blanks(&self, from: usize) -> (usize, bool)
         requires { from ≤ length (text_of S.bytes self.now) }
         ensures place { result.0 ≡ past_blanks (text_of S.bytes self.now) from }
@@ -217,7 +217,7 @@ impl<'a, S: Source, const KEEP: u8> Cursor<'a, S, KEEP> {
 
     /// Whether a word ends at a place.
     #[inline(always)]
-    #[tactic(auto, unfolding(crate::specs::Bytes::ends_word))]
+    #[tactic(auto, unfolding(shgrammar::specs::Bytes::ends_word))]
     pub(crate) fn ends_at(&self, at: usize) -> bool
         requires { at ≤ length (text_of S.bytes self.now) }
         ensures value { result ≡ ends_word (text_of S.bytes self.now) at }

@@ -1,17 +1,18 @@
 //! `case` (XCU 2.9.4.3): its word and its items.
 ghost use Rattle.std.specs.Prelude.{◌≡◌, ◌<◌, ◌≤◌, [], false, map, IfOk, Ok as Done};
-ghost use Rattle.shread.specs.Bytes.{behind, ends_word};
-ghost use Rattle.shread.specs.Clauses.{IsRead, Keeps, Onward, reads, Reads, Shows, state_of, Stays, text_of};
-ghost use Rattle.shread.specs.Compounds.{a_case, a_case_head, a_case_word, a_double_semicolon, a_pattern, a_pattern_list, an_item_end, an_open_bracket, body_end, case_turn, closed, item_end, one_case, one_pattern, pattern_turn, patterned};
-ghost use Rattle.shread.specs.Form.{again, many, step_if};
-ghost use Rattle.shread.specs.Levels.{level};
+ghost use Rattle.shgrammar.specs.Bytes.{behind, ends_word};
+ghost use Rattle.shgrammar.specs.Shows.{IsRead, Shows};
+ghost use Rattle.shread.specs.Clauses.{Keeps, Onward, reads, Reads, state_of, Stays, text_of};
+ghost use Rattle.shgrammar.specs.Compounds.{a_case, a_case_head, a_case_word, a_double_semicolon, a_pattern, a_pattern_list, an_item_end, an_open_bracket, body_end, case_turn, closed, item_end, one_case, one_pattern, pattern_turn, patterned};
+ghost use Rattle.shgrammar.specs.Form.{again, many, step_if};
+ghost use Rattle.shgrammar.specs.Levels.{level};
 ghost use Rattle.shread.specs.Listed.{view_cases, view_listed};
 ghost use Rattle.shtree.specs.View.{view_form, view_join, view_word};
 
 use crate::cursor::Cursor;
-use crate::fault::Stop;
 use crate::list::Listed;
-use crate::token::{Closing, Next, Position, Token};
+use crate::stop::Stop;
+use shgrammar::{Closing, Next, Position, Token};
 use shtext::Source;
 use shtree::make::{case_item_of, case_of, list_of};
 use shtree::{CaseItem, Comment, Form, Join, Span, Word, commands_end};
@@ -48,7 +49,7 @@ fn body_end(before: usize, body: &Listed) -> usize
 impl<'a, S: Source, const KEEP: u8> Cursor<'a, S, KEEP> {
     /// The word behind `case`. `next` is the token here, and then the one behind it.
     #[cycle(commands)]
-    #[tactic(auto, unfolding(crate::specs::Compounds::a_case_word, crate::specs::Commands::next_token))]
+    #[tactic(auto, unfolding(shgrammar::specs::Compounds::a_case_word, shgrammar::specs::Commands::next_token))]
     fn case_word(&mut self, alloc: Global, next: &mut Next, room: usize) -> Result<Word, Stop>
         requires shows { Shows next.old.token (text_of S.bytes self.old) self.old.at }
         ensures value { Reads S.bytes self.old (a_case_word (level room) next.old) result
@@ -69,7 +70,7 @@ impl<'a, S: Source, const KEEP: u8> Cursor<'a, S, KEEP> {
 
     /// The pattern that begins here. `next` is set to the token behind it.
     #[cycle(commands)]
-    #[tactic(auto, unfolding(crate::specs::Compounds::a_pattern, crate::specs::Commands::next_token))]
+    #[tactic(auto, unfolding(shgrammar::specs::Compounds::a_pattern, shgrammar::specs::Commands::next_token))]
     fn pattern(
         &mut self,
         alloc: Global,
@@ -97,7 +98,7 @@ impl<'a, S: Source, const KEEP: u8> Cursor<'a, S, KEEP> {
 
     /// One more pattern, behind the `|` here.
     #[cycle(commands)]
-    #[tactic(auto, unfolding(crate::specs::Compounds::one_pattern, crate::specs::Commands::next_token))]
+    #[tactic(auto, unfolding(shgrammar::specs::Compounds::one_pattern, shgrammar::specs::Commands::next_token))]
     fn one_pattern(
         &mut self,
         alloc: Global,
@@ -122,7 +123,7 @@ impl<'a, S: Source, const KEEP: u8> Cursor<'a, S, KEEP> {
 
     /// One more, if a `|` stands here. Answers whether there was one.
     #[cycle(commands)]
-    #[tactic(auto, unfolding(crate::specs::Compounds::pattern_turn))]
+    #[tactic(auto, unfolding(shgrammar::specs::Compounds::pattern_turn))]
     fn pattern_turn(
         &mut self,
         alloc: Global,
@@ -146,7 +147,7 @@ impl<'a, S: Source, const KEEP: u8> Cursor<'a, S, KEEP> {
 
     /// The patterns behind the first one.
     #[cycle(commands)]
-    #[tactic(auto, using(crate::proofs::Turns::many_again, crate::proofs::Turns::many_done, crate::proofs::Turns::many_stop))]
+    #[tactic(auto, using(shgrammar::proofs::Turns::many_again, shgrammar::proofs::Turns::many_done, crate::proofs::Stops::many_stop))]
     fn more_patterns(
         &mut self,
         alloc: Global,
@@ -167,7 +168,7 @@ impl<'a, S: Source, const KEEP: u8> Cursor<'a, S, KEEP> {
 
     /// The patterns of an item. `next` is the token here, and then the one behind them.
     #[cycle(commands)]
-    #[tactic(auto, unfolding(crate::specs::Compounds::a_pattern_list))]
+    #[tactic(auto, unfolding(shgrammar::specs::Compounds::a_pattern_list))]
     fn patterns(&mut self, alloc: Global, next: &mut Next, room: usize) -> Result<Vec<Word>, Stop>
         requires shows { Shows next.old.token (text_of S.bytes self.old) self.old.at }
         ensures value { Reads S.bytes self.old (a_pattern_list (level room) next.old) result
@@ -186,7 +187,7 @@ impl<'a, S: Source, const KEEP: u8> Cursor<'a, S, KEEP> {
     }
 
     /// Passes the `(` before the patterns of an item, if one stands here. `next` is the token here, and then the one behind it.
-    #[tactic(auto, unfolding(crate::specs::Compounds::an_open_bracket, crate::specs::Commands::next_token))]
+    #[tactic(auto, unfolding(shgrammar::specs::Compounds::an_open_bracket, shgrammar::specs::Commands::next_token))]
     fn open_bracket(&mut self, next: &mut Next)
         requires shows { Shows next.old.token (text_of S.bytes self.old) self.old.at }
         ensures value { reads S.bytes self.old (an_open_bracket next.old) ≡ Done (next.new, state_of self.new) }
@@ -202,7 +203,7 @@ impl<'a, S: Source, const KEEP: u8> Cursor<'a, S, KEEP> {
 
     /// Passes the `;;` here and tells the offset behind it; the newlines and comments behind that go into `lines`. `next` is set to the
     /// token behind them.
-    #[tactic(auto, unfolding(crate::specs::Compounds::a_double_semicolon, crate::specs::Commands::next_token))]
+    #[tactic(auto, unfolding(shgrammar::specs::Compounds::a_double_semicolon, shgrammar::specs::Commands::next_token))]
     fn double_semicolon(&mut self, next: &mut Next, lines: &mut Join) -> Result<usize, Stop>
         requires none { (view_join lines.old).comments ≡ [] }
         requires first { IsRead (text_of S.bytes self.old) self.old.at }
@@ -224,7 +225,7 @@ impl<'a, S: Source, const KEEP: u8> Cursor<'a, S, KEEP> {
     /// The end of an item: behind its `;;`, whose comments go into `lines`, or at `there` before `esac`. `next` is the token here, and
     /// then the one behind it.
     #[cycle(commands)]
-    #[tactic(auto, unfolding(crate::specs::Compounds::an_item_end))]
+    #[tactic(auto, unfolding(shgrammar::specs::Compounds::an_item_end))]
     fn item_end(
         &mut self,
         alloc: Global,
@@ -252,7 +253,7 @@ impl<'a, S: Source, const KEEP: u8> Cursor<'a, S, KEEP> {
 
     /// One more item, which has the comments before it. `next` is the token here, and then the one behind it.
     #[cycle(commands)]
-    #[tactic(auto, unfolding(crate::specs::Compounds::one_case))]
+    #[tactic(auto, unfolding(shgrammar::specs::Compounds::one_case))]
     fn one_case(
         &mut self,
         alloc: Global,
@@ -291,7 +292,7 @@ impl<'a, S: Source, const KEEP: u8> Cursor<'a, S, KEEP> {
 
     /// One more, if `esac` does not stand here. Answers whether there was one.
     #[cycle(commands)]
-    #[tactic(auto, unfolding(crate::specs::Compounds::case_turn))]
+    #[tactic(auto, unfolding(shgrammar::specs::Compounds::case_turn))]
     fn case_turn(
         &mut self,
         alloc: Global,
@@ -315,7 +316,7 @@ impl<'a, S: Source, const KEEP: u8> Cursor<'a, S, KEEP> {
 
     /// All of them.
     #[cycle(commands)]
-    #[tactic(auto, using(crate::proofs::Turns::many_again, crate::proofs::Turns::many_done, crate::proofs::Turns::many_stop))]
+    #[tactic(auto, using(shgrammar::proofs::Turns::many_again, shgrammar::proofs::Turns::many_done, crate::proofs::Stops::many_stop))]
     fn cases(
         &mut self,
         alloc: Global,
@@ -336,7 +337,7 @@ impl<'a, S: Source, const KEEP: u8> Cursor<'a, S, KEEP> {
 
     /// What stands between `case` and its items. The comments go into `lines`.
     #[cycle(commands)]
-    #[tactic(auto, unfolding(crate::specs::Compounds::a_case_head))]
+    #[tactic(auto, unfolding(shgrammar::specs::Compounds::a_case_head))]
     fn case_head(
         &mut self,
         alloc: Global,
@@ -361,7 +362,7 @@ impl<'a, S: Source, const KEEP: u8> Cursor<'a, S, KEEP> {
 
     /// A `case`, from behind it. The comments behind its last item are its tail.
     #[cycle(commands)]
-    #[tactic(auto, unfolding(crate::specs::Compounds::a_case))]
+    #[tactic(auto, unfolding(shgrammar::specs::Compounds::a_case))]
     pub(crate) fn case_command(
         &mut self,
         alloc: Global,

@@ -1,18 +1,19 @@
 //! Commands, and the simple ones among them (XCU 2.9, 2.9.1).
 ghost use Rattle.std.specs.Prelude.{◌≡◌, ◌<◌, ◌≤◌, false, map, IfOk, Some};
-ghost use Rattle.shread.specs.Bytes.{ends_word};
-ghost use Rattle.shread.specs.Clauses.{Keeps, Onward, Reads, Shows, state_of, text_of};
-ghost use Rattle.shread.specs.Commands.{a_command, a_simple, a_worded, an_item, as_item, behind_word, item_turn, so_many};
-ghost use Rattle.shread.specs.declared.token.Position.TheVariants.{Suffix};
-ghost use Rattle.shread.specs.declared.token.Position.{Position};
-ghost use Rattle.shread.specs.Form.{again, many, step_if};
+ghost use Rattle.shgrammar.specs.Bytes.{ends_word};
+ghost use Rattle.shread.specs.Clauses.{Keeps, Onward, Reads, state_of, text_of};
+ghost use Rattle.shgrammar.specs.Shows.{Shows};
+ghost use Rattle.shgrammar.specs.Commands.{a_command, a_simple, a_worded, an_item, as_item, behind_word, item_turn, so_many};
+ghost use Rattle.shgrammar.specs.declared.token.Position.TheVariants.{Suffix};
+ghost use Rattle.shgrammar.specs.declared.token.Position.{Position};
+ghost use Rattle.shgrammar.specs.Form.{again, many, step_if};
 ghost use Rattle.shtree.specs.Tree.{item};
 ghost use Rattle.shtree.specs.View.{view_command, view_item, view_word};
-ghost use Rattle.shread.specs.Levels.{level};
+ghost use Rattle.shgrammar.specs.Levels.{level};
 
 use crate::cursor::Cursor;
-use crate::fault::Stop;
-use crate::token::{Next, Position, Token};
+use crate::stop::Stop;
+use shgrammar::{Next, Position, Token};
 use shtext::Source;
 use shtree::make::{argument_of, assign_of, simple_of};
 use shtree::{Command, Item, Word};
@@ -32,7 +33,7 @@ fn item_of(word: Word, position: Position, broken: bool) -> Item
 impl<'a, S: Source, const KEEP: u8> Cursor<'a, S, KEEP> {
     /// One more item, which is the word here, and the token behind it, which stands in this position.
     #[cycle(commands)]
-    #[tactic(auto, unfolding(crate::specs::Commands::an_item, crate::specs::Commands::next_token))]
+    #[tactic(auto, unfolding(shgrammar::specs::Commands::an_item, shgrammar::specs::Commands::next_token))]
     pub(crate) fn item(
         &mut self,
         alloc: Global,
@@ -69,7 +70,7 @@ impl<'a, S: Source, const KEEP: u8> Cursor<'a, S, KEEP> {
     /// One more item of a simple command, if the token here, which stands in this position, begins one, and the token behind it.
     /// Answers whether there was one.
     #[cycle(commands)]
-    #[tactic(auto, unfolding(crate::specs::Commands::item_turn))]
+    #[tactic(auto, unfolding(shgrammar::specs::Commands::item_turn))]
     fn next_item(
         &mut self,
         alloc: Global,
@@ -102,7 +103,7 @@ impl<'a, S: Source, const KEEP: u8> Cursor<'a, S, KEEP> {
     /// The items of a simple command behind these. `next` is the token here, which stands in the position `place`, and then the one
     /// behind them.
     #[cycle(commands)]
-    #[tactic(auto, using(crate::proofs::Turns::many_again, crate::proofs::Turns::many_done, crate::proofs::Turns::many_stop))]
+    #[tactic(auto, using(shgrammar::proofs::Turns::many_again, shgrammar::proofs::Turns::many_done, crate::proofs::Stops::many_stop))]
     fn items(
         &mut self,
         alloc: Global,
@@ -126,7 +127,7 @@ impl<'a, S: Source, const KEEP: u8> Cursor<'a, S, KEEP> {
     /// the one behind the command.
     #[cycle(commands)]
     #[inline(always)]
-    #[tactic(auto, unfolding(crate::specs::Commands::a_simple))]
+    #[tactic(auto, unfolding(shgrammar::specs::Commands::a_simple))]
     fn simple(
         &mut self,
         alloc: Global,
@@ -148,7 +149,7 @@ impl<'a, S: Source, const KEEP: u8> Cursor<'a, S, KEEP> {
 
     /// The command that begins with the word here: a function, if `(` follows, or a simple command.
     #[cycle(commands)]
-    #[tactic(auto, unfolding(crate::specs::Commands::a_worded, crate::specs::Commands::next_token))]
+    #[tactic(auto, unfolding(shgrammar::specs::Commands::a_worded, shgrammar::specs::Commands::next_token))]
     fn worded(&mut self, alloc: Global, next: &mut Next, room: usize) -> Result<Command, Stop>
         requires shows { Shows next.old.token (text_of S.bytes self.old) self.old.at }
         requires word { behind_word next.old.token ≡ Some Suffix }
@@ -181,7 +182,7 @@ impl<'a, S: Source, const KEEP: u8> Cursor<'a, S, KEEP> {
     /// The command that the token here begins.
     #[cycle(commands)]
     #[inline(always)]
-    #[tactic(auto, unfolding(crate::specs::Commands::a_command))]
+    #[tactic(auto, unfolding(shgrammar::specs::Commands::a_command))]
     pub(crate) fn command(
         &mut self,
         alloc: Global,

@@ -1,19 +1,19 @@
 //! Comments (XCU 2.3, rule 9).
 ghost use Rattle.std.specs.Prelude.{◌≡◌, ◌≤◌, None, length, option_map};
 ghost use Rattle.shread.specs.Clauses.{Stays, text_of};
-ghost use Rattle.shread.specs.Comments.{comment_at, past_comment};
-ghost use Rattle.shread.specs.Standing.{before_blanks};
+ghost use Rattle.shgrammar.specs.Comments.{comment_at, past_comment};
+ghost use Rattle.shgrammar.specs.Standing.{before_blanks};
 ghost use Rattle.shtree.specs.View.{view_comment};
 
 use crate::cursor::Cursor;
 use crate::search::Sought;
-use crate::token::Class;
+use shgrammar::Class;
 use shtext::Source;
 use shtree::{Comment, Span};
 
 impl<'a, S: Source, const KEEP: u8> Cursor<'a, S, KEEP> {
     /// The place behind the last byte before `end` that is no blank.
-    #[tactic(auto, using(crate::proofs::Stretches::blanks_before, crate::proofs::Stretches::no_blanks_before, crate::proofs::Stretches::nothing_before))]
+    #[tactic(auto, using(shgrammar::proofs::Stretches::blanks_before, shgrammar::proofs::Stretches::no_blanks_before, shgrammar::proofs::Stretches::nothing_before))]
     fn before_blanks(&self, end: usize) -> usize
         requires { end ≤ length (text_of S.bytes self.now) }
         ensures value { result ≡ before_blanks (text_of S.bytes self.now) end }
@@ -28,7 +28,7 @@ impl<'a, S: Source, const KEEP: u8> Cursor<'a, S, KEEP> {
 
     /// Passes the comment that begins here, if one does.
     #[inline]
-    #[tactic(auto, unfolding(crate::specs::Comments::comment_at, crate::specs::Comments::past_comment))]
+    #[tactic(auto, unfolding(shgrammar::specs::Comments::comment_at, shgrammar::specs::Comments::past_comment))]
     pub(crate) fn comment(&mut self) -> Option<Comment>
         ensures value { option_map view_comment result ≡ comment_at (text_of S.bytes self.old) self.old.origin self.old.at }
         ensures place { self.new.at ≡ past_comment (text_of S.bytes self.old) self.old.at }

@@ -1,15 +1,16 @@
 //! Compound commands: groups, `if` and loops (XCU 2.9.4). `for` stands in [`crate::for_loop`], `case` in [`crate::case`].
 ghost use Rattle.std.specs.Prelude.{◌≡◌, ◌<◌, ◌≤◌, [], map, IfOk, Ok as Done, false};
-ghost use Rattle.shread.specs.Clauses.{IsRead, Keeps, Onward, reads, Reads, Shows, state_of, Stays, text_of};
-ghost use Rattle.shread.specs.Compounds.{a_branch, a_form, a_group, a_loop, an_else, an_if, branched, closed, closing, elif_turn, passed};
-ghost use Rattle.shread.specs.Form.{many, Spelled, step_if};
-ghost use Rattle.shread.specs.Levels.{level};
-ghost use Rattle.shread.specs.Tokens.{is_end};
+ghost use Rattle.shgrammar.specs.Shows.{IsRead, Shows};
+ghost use Rattle.shread.specs.Clauses.{Keeps, Onward, reads, Reads, state_of, Stays, text_of};
+ghost use Rattle.shgrammar.specs.Compounds.{a_branch, a_form, a_group, a_loop, an_else, an_if, branched, closed, closing, elif_turn, passed};
+ghost use Rattle.shgrammar.specs.Form.{many, Spelled, step_if};
+ghost use Rattle.shgrammar.specs.Levels.{level};
+ghost use Rattle.shgrammar.specs.Tokens.{is_end};
 ghost use Rattle.shtree.specs.View.{view_branch, view_command, view_form, view_list, view_otherwise};
 
 use crate::cursor::Cursor;
-use crate::fault::{FaultKind, Stop};
-use crate::token::{Closing, Next, Opener, Position};
+use crate::stop::Stop;
+use shgrammar::{Closing, FaultKind, Next, Opener, Position};
 use shtext::Source;
 use shtree::make::{
     brace_of, branch_of, compound_command, compound_of, if_of, simple_of, subshell_of, until_of,
@@ -21,7 +22,7 @@ use std::mem;
 
 impl<'a, S: Source, const KEEP: u8> Cursor<'a, S, KEEP> {
     /// Passes the round bracket or the reserved word here. `next` is set to the token behind it, which stands in this position.
-    #[tactic(auto, unfolding(crate::specs::Compounds::passed, crate::specs::Commands::next_token))]
+    #[tactic(auto, unfolding(shgrammar::specs::Compounds::passed, shgrammar::specs::Commands::next_token))]
     pub(crate) fn passed(&mut self, paren: bool, position: Position, next: &mut Next) -> Span
         requires { IsRead (text_of S.bytes self.old) self.old.at }
         ensures value { (text : Spelled) → reads S.bytes self.old (passed text paren position) ≡ Done ((result, next.new), state_of self.new) }
@@ -42,7 +43,7 @@ impl<'a, S: Source, const KEEP: u8> Cursor<'a, S, KEEP> {
 
     /// Passes what has to stand here. `next` is the token here, and then the one behind it.
     #[cycle(commands)]
-    #[tactic(auto, unfolding(crate::specs::Compounds::closing))]
+    #[tactic(auto, unfolding(shgrammar::specs::Compounds::closing))]
     pub(crate) fn closing(
         &mut self,
         alloc: Global,
@@ -64,7 +65,7 @@ impl<'a, S: Source, const KEEP: u8> Cursor<'a, S, KEEP> {
 
     /// The list of a group, and what closes it.
     #[cycle(commands)]
-    #[tactic(auto, unfolding(crate::specs::Compounds::a_group))]
+    #[tactic(auto, unfolding(shgrammar::specs::Compounds::a_group))]
     pub(crate) fn group(
         &mut self,
         alloc: Global,
@@ -86,7 +87,7 @@ impl<'a, S: Source, const KEEP: u8> Cursor<'a, S, KEEP> {
 
     /// A condition, `then` and what it runs.
     #[cycle(commands)]
-    #[tactic(auto, unfolding(crate::specs::Compounds::a_branch))]
+    #[tactic(auto, unfolding(shgrammar::specs::Compounds::a_branch))]
     fn branch(&mut self, alloc: Global, next: &mut Next, room: usize) -> Result<Branch, Stop>
         requires shows { Shows next.old.token (text_of S.bytes self.old) self.old.at }
         ensures value { Reads S.bytes self.old (a_branch (level room) next.old) result
@@ -103,7 +104,7 @@ impl<'a, S: Source, const KEEP: u8> Cursor<'a, S, KEEP> {
 
     /// One more branch, behind an `elif`. Answers whether there was one.
     #[cycle(commands)]
-    #[tactic(auto, unfolding(crate::specs::Compounds::elif_turn))]
+    #[tactic(auto, unfolding(shgrammar::specs::Compounds::elif_turn))]
     fn elif(
         &mut self,
         alloc: Global,
@@ -131,7 +132,7 @@ impl<'a, S: Source, const KEEP: u8> Cursor<'a, S, KEEP> {
 
     /// All of them.
     #[cycle(commands)]
-    #[tactic(auto, using(crate::proofs::Turns::many_again, crate::proofs::Turns::many_done, crate::proofs::Turns::many_stop))]
+    #[tactic(auto, using(shgrammar::proofs::Turns::many_again, shgrammar::proofs::Turns::many_done, crate::proofs::Stops::many_stop))]
     fn elifs(&mut self, alloc: Global, next: &mut Next, room: usize) -> Result<Vec<Branch>, Stop>
         requires shows { Shows next.old.token (text_of S.bytes self.old) self.old.at }
         ensures value { Reads S.bytes self.old (many (elif_turn (level room)) (branched [] next.old)) result
@@ -147,7 +148,7 @@ impl<'a, S: Source, const KEEP: u8> Cursor<'a, S, KEEP> {
 
     /// What follows `else`, where it stands.
     #[cycle(commands)]
-    #[tactic(auto, unfolding(crate::specs::Compounds::an_else))]
+    #[tactic(auto, unfolding(shgrammar::specs::Compounds::an_else))]
     fn otherwise(
         &mut self,
         alloc: Global,
@@ -170,7 +171,7 @@ impl<'a, S: Source, const KEEP: u8> Cursor<'a, S, KEEP> {
 
     /// An `if`, from behind it.
     #[cycle(commands)]
-    #[tactic(auto, unfolding(crate::specs::Compounds::an_if))]
+    #[tactic(auto, unfolding(shgrammar::specs::Compounds::an_if))]
     fn if_command(
         &mut self,
         alloc: Global,
@@ -193,7 +194,7 @@ impl<'a, S: Source, const KEEP: u8> Cursor<'a, S, KEEP> {
 
     /// A condition, and what is run by it between `do` and `done`.
     #[cycle(commands)]
-    #[tactic(auto, unfolding(crate::specs::Compounds::a_loop))]
+    #[tactic(auto, unfolding(shgrammar::specs::Compounds::a_loop))]
     fn loop_command(
         &mut self,
         alloc: Global,
@@ -255,7 +256,7 @@ impl<'a, S: Source, const KEEP: u8> Cursor<'a, S, KEEP> {
 
     /// The compound command that the token here opens. `next` is that token, and then the one behind it.
     #[cycle(commands)]
-    #[tactic(auto, unfolding(crate::specs::Compounds::a_compound), using(crate::proofs::Levels::compound_below, crate::proofs::Levels::compound_closed))]
+    #[tactic(auto, unfolding(shgrammar::specs::Compounds::a_compound), using(shgrammar::proofs::Levels::compound_below, shgrammar::proofs::Levels::compound_closed))]
     pub(crate) fn compound(
         &mut self,
         alloc: Global,

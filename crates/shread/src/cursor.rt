@@ -3,7 +3,7 @@ ghost use Rattle.std.specs.Prelude.{◌≡◌, ◌+◌, ◌^◌, ◌<◌, ◌≤
 ghost use Rattle.shtext.specs.Text.{IsRun};
 
 use crate::documents::Documents;
-use crate::keep::Keep;
+use shgrammar::Keep;
 use shtext::Source;
 use std::alloc::Global;
 
@@ -40,8 +40,8 @@ pub(crate) struct Cursor<'a, S: Source, const KEEP: u8> {
 
 impl<'a, S: Source, const KEEP: u8> Cursor<'a, S, KEEP> {
     ghost use Rattle.shread.specs.Clauses.{keep_of, state_of};
-    ghost use Rattle.shread.specs.Form.{grows};
-    ghost use Rattle.shread.specs.Sights.{standing};
+    ghost use Rattle.shgrammar.specs.Form.{grows};
+    ghost use Rattle.shgrammar.specs.Sights.{standing};
 
     /// Where the line at an offset begins, whose own offsets are counted from `origin`, and of which this is kept.
     pub(crate) fn at_line(

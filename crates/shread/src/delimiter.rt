@@ -1,8 +1,8 @@
 //! The delimiter of a here-document: its word after quote removal (XCU 2.6.7, 2.7.4).
 ghost use Rattle.std.specs.Prelude.{◌≡◌, ◌+◌, ◌<◌, ◌≤◌, ◌==◌, ◌||◌, ℕ, Option, true, get_or, IfOk, IfSome, List as Row, drop, false, length, option_map};
-ghost use Rattle.shread.specs.Bytes.{byte_at};
-ghost use Rattle.shread.specs.HereDocuments.{behind_quote, byte_left, delimiter_of, dollar_left, escape_left, is_live, is_quote, is_quoted, not_quoted, stays_before, unquoted};
-ghost use Rattle.shread.specs.Standing.{continues, is_byte, raw_stands};
+ghost use Rattle.shgrammar.specs.Bytes.{byte_at};
+ghost use Rattle.shgrammar.specs.HereDocuments.{behind_quote, byte_left, delimiter_of, dollar_left, escape_left, is_live, is_quote, is_quoted, not_quoted, stays_before, unquoted};
+ghost use Rattle.shgrammar.specs.Standing.{continues, is_byte, raw_stands};
 ghost use Rattle.shread.specs.Unquoting.{escapes, left_by, left_of, rest_of, view_delimiter, view_quoting};
 
 use std::alloc::{AllocError, Global};
@@ -66,7 +66,7 @@ impl Quoting {
 }
 
 /// Whether this byte stands at a place of a word.
-#[tactic(auto, unfolding(crate::specs::Standing::raw_stands))]
+#[tactic(auto, unfolding(shgrammar::specs::Standing::raw_stands))]
 fn stands(word: &[u8], at: usize, byte: u8) -> bool
     ensures { result ≡ raw_stands word.now at byte }
 {
@@ -77,7 +77,7 @@ fn stands(word: &[u8], at: usize, byte: u8) -> bool
 }
 
 /// Whether a continuation stands at a place of a word.
-#[tactic(auto, unfolding(crate::specs::Standing::continues))]
+#[tactic(auto, unfolding(shgrammar::specs::Standing::continues))]
 fn continues(word: &[u8], at: usize) -> bool
     requires { at < length word.now }
     ensures { result ≡ continues word.now at }

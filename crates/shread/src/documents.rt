@@ -1,18 +1,18 @@
 //! Here-documents: those that wait, and their bodies (XCU 2.7.4).
 ghost use Rattle.std.specs.Prelude.{◌≡◌, ◌+◌, ◌<◌, ◌≤◌, ◌==◌, ◌&&◌, All, bytes_eq, fold, nat_lt, not, [], map, Ok as Done, IfErr, IfOk, IfSome, List as Row, ◌∷◌, ◌++◌, length, option_map, take, drop, ◌-◌, true, false};
 ghost use Rattle.shread.specs.Clauses.{BodiesFail, BodyRead, end_of, Keeps, Reads, reads, state_of, Stays, text_of, view_waiting};
-ghost use Rattle.shread.specs.Commands.{a_document, is_strip, nothing_waits, takes_here};
-ghost use Rattle.shread.specs.Form.{change, raw};
-ghost use Rattle.shread.specs.HereDocuments.{bodies_from, bodies_here, delimiter_from, first_waiting, is_delimiter, own_level, past_line, rest_of_line, takes_newline};
-ghost use Rattle.shread.specs.Sights.{given};
-ghost use Rattle.shread.specs.Standing.{next_newline, raw_stands};
+ghost use Rattle.shgrammar.specs.Commands.{a_document, is_strip, nothing_waits, takes_here};
+ghost use Rattle.shgrammar.specs.Form.{change, raw};
+ghost use Rattle.shgrammar.specs.HereDocuments.{bodies_from, bodies_here, delimiter_from, first_waiting, is_delimiter, own_level, past_line, rest_of_line, takes_newline};
+ghost use Rattle.shgrammar.specs.Sights.{given};
+ghost use Rattle.shgrammar.specs.Standing.{next_newline, raw_stands};
 ghost use Rattle.shtree.specs.View.{view_here};
 
 use crate::cursor::Cursor;
 use crate::delimiter::delimiter_of;
-use crate::fault::{Fault, FaultKind, Stop};
 use crate::search::Sought;
-use crate::token::Class;
+use crate::stop::Stop;
+use shgrammar::{Class, Fault, FaultKind};
 use shtext::Source;
 use shtree::{HereDocument, RedirectOperator, Span};
 use std::alloc::{AllocError, Global};
@@ -81,7 +81,7 @@ impl<'a, S: Source, const KEEP: u8> Cursor<'a, S, KEEP> {
 
     /// Refuses that a level ends here where a here-document waits.
     #[inline(always)]
-    #[tactic(auto, unfolding(crate::specs::Commands::nothing_waits))]
+    #[tactic(auto, unfolding(shgrammar::specs::Commands::nothing_waits))]
     pub(crate) fn nothing_waits(&self) -> Result<(), Stop>
         ensures { Reads S.bytes self.now nothing_waits result (λ done. tt) (state_of self.now) }
     {
@@ -132,7 +132,7 @@ impl<'a, S: Source, const KEEP: u8> Cursor<'a, S, KEEP> {
     }
 
     /// The here-document of an operator that stands at an offset, if it takes one. Its word stands from a place up to this one.
-    #[tactic(auto, unfolding(crate::specs::Commands::a_document))]
+    #[tactic(auto, unfolding(shgrammar::specs::Commands::a_document))]
     pub(crate) fn document(
         &mut self,
         alloc: Global,
@@ -239,7 +239,7 @@ impl<'a, S: Source, const KEEP: u8> Cursor<'a, S, KEEP> {
     }
 
     /// The end of the line at a place, and the place behind it.
-    #[tactic(auto, using(crate::proofs::Places::not_end_low, crate::proofs::Places::end_high))]
+    #[tactic(auto, using(shgrammar::proofs::Places::not_end_low, shgrammar::proofs::Places::end_high))]
     fn line_end(&self, from: usize) -> (usize, usize)
         requires { from ≤ length (text_of S.bytes self.now) }
         ensures end { result.0 ≡ next_newline (text_of S.bytes self.now) from }
@@ -254,7 +254,7 @@ impl<'a, S: Source, const KEEP: u8> Cursor<'a, S, KEEP> {
     }
 
     /// Where the line begins that ends a document whose body begins at a place, and the place behind that line.
-    #[tactic(auto, using(crate::proofs::Delimiters::none_at_end, crate::proofs::Delimiters::found_here, crate::proofs::Delimiters::on_to_next, crate::proofs::Delimiters::past_line_low))]
+    #[tactic(auto, using(shgrammar::proofs::Delimiters::none_at_end, shgrammar::proofs::Delimiters::found_here, shgrammar::proofs::Delimiters::on_to_next, shgrammar::proofs::Delimiters::past_line_low))]
     fn delimiter_line(&self, document: &Waiting, from: usize) -> Option<(usize, usize)>
         requires { from ≤ length (text_of S.bytes self.now) }
         ensures value { option_map (λ x. x.0) result ≡ delimiter_from (text_of S.bytes self.now) (view_waiting document.now) from }

@@ -1,12 +1,12 @@
 //! The first fault of a script, a line at a time and without its tree.
 ghost use Rattle.std.specs.Prelude.{◌≡◌, ◌≤◌, IfOk, IfSome, length};
-ghost use Rattle.shread.specs.Scripts.{first_fault_from};
-ghost use Rattle.shread.specs.Search.{Tells};
+ghost use Rattle.shgrammar.specs.Scripts.{first_fault_from};
+ghost use Rattle.shread.specs.Answers.{Tells};
 
 use crate::cursor::SEEN;
-use crate::fault::{Fault, ReadError, Stop};
-use crate::keep::Keep;
 use crate::one_line::{Told, line_at};
+use crate::stop::{ReadError, Stop};
+use shgrammar::{Fault, Keep};
 use shtext::Source;
 use std::alloc::Global;
 use std::mem;
@@ -23,7 +23,7 @@ enum Found {
 }
 
 /// Reads the line at an offset.
-#[tactic(auto, using(crate::proofs::FirstFault::here_within, crate::proofs::FirstFault::beyond, crate::proofs::FirstFault::nowhere))]
+#[tactic(auto, using(shgrammar::proofs::FirstFault::here_within, shgrammar::proofs::FirstFault::beyond, shgrammar::proofs::FirstFault::nowhere))]
 fn look<S: Source>(alloc: Global, source: &S, at: usize) -> Result<Found, ReadError>
     requires { at ≤ length (S.bytes source.now) }
     ensures { IfOk result (Tells (S.bytes source.now) at) }

@@ -1,25 +1,26 @@
 //! `for` (XCU 2.9.4.2): its name, the words behind its `in`, and what it runs.
 ghost use Rattle.std.specs.Prelude.{◌≡◌, ◌≤◌, [], false, true, map, option_map, IfOk, Some};
-ghost use Rattle.shread.specs.Clauses.{IsRead, Keeps, Onward, Reads, Shows, state_of, text_of};
-ghost use Rattle.shread.specs.Commands.{join_so, so_many};
-ghost use Rattle.shread.specs.Compounds.{a_for, a_for_head, a_for_name, a_linebreak, a_sequential_sep, begins_words, behind_remarks, closed, for_words, headed, word_turn};
-ghost use Rattle.shread.specs.declared.token.Position.TheVariants.{Suffix};
-ghost use Rattle.shread.specs.Form.{many, step_if};
-ghost use Rattle.shread.specs.Levels.{level};
-ghost use Rattle.shread.specs.Tokens.{is_end};
+ghost use Rattle.shgrammar.specs.Shows.{IsRead, Shows};
+ghost use Rattle.shread.specs.Clauses.{Keeps, Onward, Reads, state_of, text_of};
+ghost use Rattle.shgrammar.specs.Commands.{join_so, so_many};
+ghost use Rattle.shgrammar.specs.Compounds.{a_for, a_for_head, a_for_name, a_linebreak, a_sequential_sep, begins_words, behind_remarks, closed, for_words, headed, word_turn};
+ghost use Rattle.shgrammar.specs.declared.token.Position.TheVariants.{Suffix};
+ghost use Rattle.shgrammar.specs.Form.{many, step_if};
+ghost use Rattle.shgrammar.specs.Levels.{level};
+ghost use Rattle.shgrammar.specs.Tokens.{is_end};
 ghost use Rattle.shtree.specs.Tree.{for_words_of};
 ghost use Rattle.shtree.specs.View.{view_comment, view_form, view_item, view_join, view_list, view_word};
 
 use crate::cursor::Cursor;
-use crate::fault::{FaultKind, Stop};
-use crate::token::{Closing, Next, Position, Token};
+use crate::stop::Stop;
+use shgrammar::{Closing, FaultKind, Next, Position, Token};
 use shtext::Source;
 use shtree::make::{comment_entry, for_of, list_of};
 use shtree::{Comment, Form, Item, Join, List, Span, Word};
 use std::alloc::{AllocError, Global};
 
 /// A list behind comments, which are its first entries then.
-#[tactic(auto, using(crate::proofs::Remarks::remarks_row, crate::proofs::Remarks::list_seen))]
+#[tactic(auto, using(shgrammar::proofs::Remarks::remarks_row, shgrammar::proofs::Remarks::list_seen))]
 fn behind_remarks(alloc: Global, comments: &[Comment], list: List) -> Result<List, AllocError>
     ensures { IfOk result (λ all. view_list all ≡ behind_remarks (map view_comment comments.now) (view_list list)) }
 {
@@ -46,7 +47,7 @@ fn begins_words(semicolon: bool, token: Token) -> bool
 impl<'a, S: Source, const KEEP: u8> Cursor<'a, S, KEEP> {
     /// The word behind `for`, which has to be a NAME. `next` is the token here, and then the one behind it.
     #[cycle(commands)]
-    #[tactic(auto, unfolding(crate::specs::Compounds::a_for_name, crate::specs::Commands::next_token))]
+    #[tactic(auto, unfolding(shgrammar::specs::Compounds::a_for_name, shgrammar::specs::Commands::next_token))]
     fn for_name(&mut self, alloc: Global, next: &mut Next, room: usize) -> Result<Word, Stop>
         requires shows { Shows next.old.token (text_of S.bytes self.old) self.old.at }
         ensures value { Reads S.bytes self.old (a_for_name (level room) next.old) result
@@ -69,7 +70,7 @@ impl<'a, S: Source, const KEEP: u8> Cursor<'a, S, KEEP> {
     }
 
     /// Newlines and comments, which go behind these. `next` is the token here, and then the one behind them.
-    #[tactic(auto, unfolding(crate::specs::Compounds::a_linebreak))]
+    #[tactic(auto, unfolding(shgrammar::specs::Compounds::a_linebreak))]
     pub(crate) fn linebreak(&mut self, next: &mut Next, lines: &mut Join) -> Result<(), Stop>
         requires shows { Shows next.old.token (text_of S.bytes self.old) self.old.at }
         ensures value { Reads S.bytes self.old (a_linebreak (view_join lines.old).comments next.old) result
@@ -84,7 +85,7 @@ impl<'a, S: Source, const KEEP: u8> Cursor<'a, S, KEEP> {
 
     /// `;` or a newline, with the newlines and comments behind it.
     #[cycle(commands)]
-    #[tactic(auto, unfolding(crate::specs::Compounds::a_sequential_sep))]
+    #[tactic(auto, unfolding(shgrammar::specs::Compounds::a_sequential_sep))]
     fn sequential_sep(
         &mut self,
         alloc: Global,
@@ -109,7 +110,7 @@ impl<'a, S: Source, const KEEP: u8> Cursor<'a, S, KEEP> {
 
     /// One more word behind `in`, if the token here begins one, and the token behind it. Answers whether there was one.
     #[cycle(commands)]
-    #[tactic(auto, unfolding(crate::specs::Compounds::word_turn))]
+    #[tactic(auto, unfolding(shgrammar::specs::Compounds::word_turn))]
     fn for_word(
         &mut self,
         alloc: Global,
@@ -133,7 +134,7 @@ impl<'a, S: Source, const KEEP: u8> Cursor<'a, S, KEEP> {
 
     /// All of them.
     #[cycle(commands)]
-    #[tactic(auto, using(crate::proofs::Turns::many_again, crate::proofs::Turns::many_done, crate::proofs::Turns::many_stop))]
+    #[tactic(auto, using(shgrammar::proofs::Turns::many_again, shgrammar::proofs::Turns::many_done, crate::proofs::Stops::many_stop))]
     fn words(&mut self, alloc: Global, next: &mut Next, room: usize) -> Result<Vec<Item>, Stop>
         requires shows { Shows next.old.token (text_of S.bytes self.old) self.old.at }
         ensures value { Reads S.bytes self.old (many (word_turn (level room)) (so_many [] Suffix next.old)) result
@@ -149,7 +150,7 @@ impl<'a, S: Source, const KEEP: u8> Cursor<'a, S, KEEP> {
 
     /// The `in` here, the words behind it, and what ends them. `next` is set to the token behind that.
     #[cycle(commands)]
-    #[tactic(auto, unfolding(crate::specs::Compounds::for_words))]
+    #[tactic(auto, unfolding(shgrammar::specs::Compounds::for_words))]
     fn for_words(
         &mut self,
         alloc: Global,
@@ -172,7 +173,7 @@ impl<'a, S: Source, const KEEP: u8> Cursor<'a, S, KEEP> {
 
     /// What stands between the name and `do`: the words behind `in`, where it stands. The comments go into `lines`.
     #[cycle(commands)]
-    #[tactic(auto, unfolding(crate::specs::Compounds::a_for_head))]
+    #[tactic(auto, unfolding(shgrammar::specs::Compounds::a_for_head))]
     fn for_head(
         &mut self,
         alloc: Global,
@@ -198,7 +199,7 @@ impl<'a, S: Source, const KEEP: u8> Cursor<'a, S, KEEP> {
 
     /// A `for`, from behind it. The comments of its head stand in its body.
     #[cycle(commands)]
-    #[tactic(auto, unfolding(crate::specs::Compounds::a_for))]
+    #[tactic(auto, unfolding(shgrammar::specs::Compounds::a_for))]
     pub(crate) fn for_command(
         &mut self,
         alloc: Global,

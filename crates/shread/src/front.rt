@@ -1,11 +1,11 @@
 //! What may be passed of a script that is read in parts.
 ghost use Rattle.std.specs.Prelude.{◌≡◌, ◌-◌, ◌<◌, ◌≤◌, IfOk, IfSome, None, Some, length, slice_get};
-ghost use Rattle.shread.specs.Search.{LineBefore, MayPass, StopsAt};
+ghost use Rattle.shgrammar.specs.Search.{LineBefore, MayPass, StopsAt};
 
 use crate::cursor::SEEN;
-use crate::fault::{ReadError, Stop};
-use crate::keep::Keep;
 use crate::one_line::{Told, ends_in_newline, line_at};
+use crate::stop::{ReadError, Stop};
+use shgrammar::Keep;
 use shtext::Source;
 use std::alloc::Global;
 use std::mem;

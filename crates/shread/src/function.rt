@@ -1,15 +1,16 @@
 //! Functions (XCU 2.9.5), from the `(` behind their names.
 ghost use Rattle.std.specs.Prelude.{◌≡◌, ◌+◌, ◌<◌, ◌≤◌, map, IfOk};
-ghost use Rattle.shread.specs.Clauses.{IsRead, Keeps, Reads, Shows, state_of, text_of};
-ghost use Rattle.shread.specs.Commands.{compound_by, named, opener_of};
-ghost use Rattle.shread.specs.Compounds.{a_function, under_name};
-ghost use Rattle.shread.specs.Levels.{level};
-ghost use Rattle.shread.specs.Tokens.{is_name_at};
+ghost use Rattle.shgrammar.specs.Shows.{IsRead, Shows};
+ghost use Rattle.shread.specs.Clauses.{Keeps, Reads, state_of, text_of};
+ghost use Rattle.shgrammar.specs.Commands.{compound_by, named, opener_of};
+ghost use Rattle.shgrammar.specs.Compounds.{a_function, under_name};
+ghost use Rattle.shgrammar.specs.Levels.{level};
+ghost use Rattle.shgrammar.specs.Tokens.{is_name_at};
 ghost use Rattle.shtree.specs.View.{view_command, view_comment};
 
 use crate::cursor::Cursor;
-use crate::fault::{FaultKind, Stop};
-use crate::token::{Closing, Next, Position};
+use crate::stop::Stop;
+use shgrammar::{Closing, FaultKind, Next, Position};
 use shtext::Source;
 use shtree::make::{function_command, function_of};
 use shtree::{Command, Comment, Join, Span};
@@ -61,7 +62,7 @@ impl<'a, S: Source, const KEEP: u8> Cursor<'a, S, KEEP> {
 
     /// The brackets behind the name of a function, and its body.
     #[cycle(commands)]
-    #[tactic(auto, unfolding(crate::specs::Compounds::a_function))]
+    #[tactic(auto, unfolding(shgrammar::specs::Compounds::a_function))]
     fn function(
         &mut self,
         alloc: Global,
@@ -89,7 +90,7 @@ impl<'a, S: Source, const KEEP: u8> Cursor<'a, S, KEEP> {
 
     /// The function whose name, which begins at `start`, has to be a NAME. Its `(` stands here.
     #[cycle(commands)]
-    #[tactic(auto, using(crate::proofs::Levels::function_below, crate::proofs::Levels::function_closed))]
+    #[tactic(auto, using(shgrammar::proofs::Levels::function_below, shgrammar::proofs::Levels::function_closed))]
     pub(crate) fn named(
         &mut self,
         alloc: Global,

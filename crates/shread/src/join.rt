@@ -1,20 +1,21 @@
 //! What stands around an operator that joins two operands (XCU 2.9.2, 2.9.3).
 ghost use Rattle.std.specs.Prelude.{◌≡◌, ◌≤◌, IfOk};
-ghost use Rattle.shread.specs.Clauses.{Keeps, Onward, Reads, Shows, state_of, text_of};
-ghost use Rattle.shread.specs.Commands.{a_join, join_so, join_turn};
-ghost use Rattle.shread.specs.Form.{many, step_if};
+ghost use Rattle.shread.specs.Clauses.{Keeps, Onward, Reads, state_of, text_of};
+ghost use Rattle.shgrammar.specs.Shows.{Shows};
+ghost use Rattle.shgrammar.specs.Commands.{a_join, join_so, join_turn};
+ghost use Rattle.shgrammar.specs.Form.{many, step_if};
 ghost use Rattle.shtree.specs.View.{view_join};
 
 use crate::cursor::Cursor;
-use crate::fault::Stop;
-use crate::token::{Next, Position};
+use crate::stop::Stop;
+use shgrammar::{Next, Position};
 use shtext::Source;
 use shtree::Join;
 use std::alloc::Global;
 
 impl<'a, S: Source, const KEEP: u8> Cursor<'a, S, KEEP> {
     /// One more comment and newline behind an operator. Answers whether there was a newline.
-    #[tactic(auto, unfolding(crate::specs::Commands::join_turn))]
+    #[tactic(auto, unfolding(shgrammar::specs::Commands::join_turn))]
     fn join_turn(&mut self, next: &mut Next, join: &mut Join) -> Result<bool, Stop>
         requires shows { Shows next.old.token (text_of S.bytes self.old) self.old.at }
         ensures value { Reads S.bytes self.old (join_turn (join_so (view_join join.old) next.old)) result
@@ -35,7 +36,7 @@ impl<'a, S: Source, const KEEP: u8> Cursor<'a, S, KEEP> {
     }
 
     /// All of them.
-    #[tactic(auto, using(crate::proofs::Turns::many_again, crate::proofs::Turns::many_done, crate::proofs::Turns::many_stop))]
+    #[tactic(auto, using(shgrammar::proofs::Turns::many_again, shgrammar::proofs::Turns::many_done, crate::proofs::Stops::many_stop))]
     pub(crate) fn join_on(&mut self, next: &mut Next, join: &mut Join) -> Result<(), Stop>
         requires shows { Shows next.old.token (text_of S.bytes self.old) self.old.at }
         ensures value { Reads S.bytes self.old (many join_turn (join_so (view_join join.old) next.old)) result
@@ -49,7 +50,7 @@ impl<'a, S: Source, const KEEP: u8> Cursor<'a, S, KEEP> {
     }
 
     /// From behind an operator to the token with which its operand begins. `next` is the operator, and then that token.
-    #[tactic(auto, unfolding(crate::specs::Commands::a_join, crate::specs::Commands::next_token))]
+    #[tactic(auto, unfolding(shgrammar::specs::Commands::a_join, shgrammar::specs::Commands::next_token))]
     pub(crate) fn join(&mut self, alloc: Global, next: &mut Next) -> Result<Join, Stop>
         ensures value { Reads S.bytes self.old (a_join next.old.broken) result (λ join. (view_join join, next.new)) (state_of self.new) }
         ensures shows { IfOk result (λ join. Shows next.new.token (text_of S.bytes self.old) self.new.at) }

@@ -1,14 +1,14 @@
 //! Laws of the definitions alone, which no code stands behind.
 ghost use Rattle.std.specs.Prelude.{◌≡◌, ◌+◌, ◌-◌, [], ◌∷◌, ℕ, List, List as Row, Ok, false, drop, take, true};
-ghost use Rattle.shread.specs.Lines.{ALine, IsLine};
-ghost use Rattle.shread.specs.Scripts.{AScript, Outcome};
-ghost use Rattle.shread.specs.Bytes.{ends_word, stands};
-ghost use Rattle.shread.specs.Form.{Spelled, may, raw};
-ghost use Rattle.shread.specs.Sights.{Given, State, standing};
+ghost use Rattle.shgrammar.specs.Lines.{ALine, IsLine};
+ghost use Rattle.shgrammar.specs.Scripts.{AScript, Outcome};
+ghost use Rattle.shgrammar.specs.Bytes.{ends_word, stands};
+ghost use Rattle.shgrammar.specs.Form.{Spelled, may, raw};
+ghost use Rattle.shgrammar.specs.Sights.{Given, State, standing};
 ghost use Rattle.shtree.specs.Shape.{shape_of_word};
 ghost use Rattle.shtree.specs.Tree.{AWord};
-ghost use Rattle.shread.specs.Words.{a_word};
-ghost use Rattle.shread.specs.Levels.{IsWord, level};
+ghost use Rattle.shgrammar.specs.Words.{a_word};
+ghost use Rattle.shgrammar.specs.Levels.{IsWord, level};
 
 /// Each byte list has one outcome as a script, and one line with which it begins.
 pub fn one_outcome()

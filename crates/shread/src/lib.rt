@@ -2,8 +2,8 @@
 //!
 //! Start with [`Reader`]: `read_line` reads one top-level line of a [`shtext::Source`], `read_script` all of them, and `first_fault`
 //! looks for the first fault alone; [`ScriptLines`] reads a script a line at a time. The tree is that of the crate `shtree`;
-//! [`Fault`] is what is wrong with a script. The definitions that the contracts cite are in `specs/`: `Words`, `Commands`, `Lists`,
-//! `Compounds` and `Lines` are the grammar's rows, and `Form` says what a row means.
+//! [`Fault`] is what is wrong with a script. What is read is told by the definitions of the crate `shgrammar`; `specs/Clauses` says
+//! in their words what a function here answers.
 #![tactic(auto)]
 
 mod all_lines;
@@ -17,17 +17,14 @@ mod compound;
 mod cursor;
 mod delimiter;
 mod documents;
-mod fault;
 mod first_fault;
 mod for_loop;
 mod front;
 mod function;
 mod join;
-mod keep;
 pub mod laws;
 mod line;
 mod list;
-mod mode;
 mod offsets;
 mod one_line;
 mod piece;
@@ -38,14 +35,14 @@ mod redirect;
 mod script_lines;
 mod search;
 mod standing;
+mod stop;
 mod substitution;
 mod token;
 mod word;
 
 pub use delimiter::{Delimiter, delimiter_of};
-pub use fault::{Fault, FaultKind, ReadError};
 pub use front::faultless_front;
-pub use keep::Keep;
 pub use reader::{Line, LineKind, Reader, Script};
 pub use script_lines::{LinesBefore, ScriptLine, ScriptLines};
-pub use token::{Closing, Next, Opener, Position, Reserved, Separator, Token};
+pub use shgrammar::{Fault, FaultKind};
+pub use stop::ReadError;

@@ -1,16 +1,17 @@
 //! A line of a script: its entries, and its end (XCU 2.10.2).
 ghost use Rattle.std.specs.Prelude.{◌≡◌, ◌⊎◌, ◌-◌, ◌<◌, ◌≤◌, map, IfOk, false, true};
-ghost use Rattle.shread.specs.Clauses.{Keeps, Onward, Reads, Shows, state_of, text_of};
-ghost use Rattle.shread.specs.Levels.{level};
-ghost use Rattle.shread.specs.Lines.{an_open_line, end_of_line};
-ghost use Rattle.shread.specs.Standing.{at_end, raw_stands};
+ghost use Rattle.shread.specs.Clauses.{Keeps, Onward, Reads, state_of, text_of};
+ghost use Rattle.shgrammar.specs.Shows.{Shows};
+ghost use Rattle.shgrammar.specs.Levels.{level};
+ghost use Rattle.shgrammar.specs.Lines.{an_open_line, end_of_line};
+ghost use Rattle.shgrammar.specs.Standing.{at_end, raw_stands};
 ghost use Rattle.shtree.specs.Bodies.{filled_row};
 ghost use Rattle.shtree.specs.View.{view_entry};
 
 use crate::cursor::Cursor;
-use crate::fault::Stop;
 use crate::list::Listed;
-use crate::token::{Next, Position, Token};
+use crate::stop::Stop;
+use shgrammar::{Next, Position, Token};
 use shtext::Source;
 use shtree::{Entry, Span, put_bodies_in};
 use std::alloc::Global;
@@ -27,7 +28,7 @@ pub(crate) fn filled_entries(mut entries: Vec<Entry>, bodies: Vec<Span>) -> Vec<
 impl<'a, S: Source, const KEEP: u8> Cursor<'a, S, KEEP> {
     /// The newline or the end behind the entries of a line. Answers whether it was a newline.
     #[inline(always)]
-    #[tactic(auto, unfolding(crate::specs::Lines::end_of_line, crate::specs::Bytes::behind))]
+    #[tactic(auto, unfolding(shgrammar::specs::Lines::end_of_line, shgrammar::specs::Bytes::behind))]
     fn end_of_line(&mut self, alloc: Global, next: &mut Next, room: usize) -> Result<bool, Stop>
         requires shows { Shows next.old.token (text_of S.bytes self.old) self.old.at }
         ensures value { Reads S.bytes self.old (end_of_line (level room) next.old) result (λ newline. newline) (state_of self.new) }
@@ -51,7 +52,7 @@ impl<'a, S: Source, const KEEP: u8> Cursor<'a, S, KEEP> {
     }
 
     /// A line from here on: its entries, without the bodies of their here-documents, and whether a newline ended it.
-    #[tactic(auto, unfolding(crate::specs::Lines::an_open_line, crate::specs::Commands::next_token))]
+    #[tactic(auto, unfolding(shgrammar::specs::Lines::an_open_line, shgrammar::specs::Commands::next_token))]
     pub(crate) fn open_line(
         &mut self,
         alloc: Global,

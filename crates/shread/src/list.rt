@@ -1,17 +1,18 @@
 //! Lists: entries on one line or on many (XCU 2.9.3, 2.10.2).
 ghost use Rattle.std.specs.Prelude.{◌≡◌, ◌≤◌, IfOk, false};
-ghost use Rattle.shread.specs.Clauses.{Keeps, Onward, Reads, Shows, state_of, Stays, text_of};
-ghost use Rattle.shread.specs.Commands.{past_separator};
-ghost use Rattle.shread.specs.Compounds.{a_body};
-ghost use Rattle.shread.specs.Form.{many, step_if};
-ghost use Rattle.shread.specs.Levels.{level};
+ghost use Rattle.shread.specs.Clauses.{Keeps, Onward, Reads, state_of, Stays, text_of};
+ghost use Rattle.shgrammar.specs.Shows.{Shows};
+ghost use Rattle.shgrammar.specs.Commands.{past_separator};
+ghost use Rattle.shgrammar.specs.Compounds.{a_body};
+ghost use Rattle.shgrammar.specs.Form.{many, step_if};
+ghost use Rattle.shgrammar.specs.Levels.{level};
 ghost use Rattle.shread.specs.Listed.{view_listed};
-ghost use Rattle.shread.specs.Lists.{a_list, a_remark, entry_turn, list_so, list_turn, next_line, none_listed, on_line};
+ghost use Rattle.shgrammar.specs.Lists.{a_list, a_remark, entry_turn, list_so, list_turn, next_line, none_listed, on_line};
 ghost use Rattle.shtree.specs.View.{view_list};
 
 use crate::cursor::Cursor;
-use crate::fault::Stop;
-use crate::token::{Next, Separator};
+use crate::stop::Stop;
+use shgrammar::{Next, Separator};
 use shtext::Source;
 use shtree::make::{command_entry, comment_entry, list_of};
 use shtree::{Entry, List};
@@ -71,7 +72,7 @@ impl<'a, S: Source, const KEEP: u8> Cursor<'a, S, KEEP> {
     /// it on its line. Answers whether another may follow.
     #[cycle(commands)]
     #[inline(always)]
-    #[tactic(auto, unfolding(crate::specs::Lists::entry_turn, crate::specs::Lists::one_entry, crate::specs::Commands::an_entry))]
+    #[tactic(auto, unfolding(shgrammar::specs::Lists::entry_turn, shgrammar::specs::Lists::one_entry, shgrammar::specs::Commands::an_entry))]
     fn next_entry(
         &mut self,
         alloc: Global,
@@ -110,7 +111,7 @@ impl<'a, S: Source, const KEEP: u8> Cursor<'a, S, KEEP> {
 
     /// All of them.
     #[cycle(commands)]
-    #[tactic(auto, using(crate::proofs::Turns::many_again, crate::proofs::Turns::many_done, crate::proofs::Turns::many_stop, crate::proofs::Turns::last_entry))]
+    #[tactic(auto, using(shgrammar::proofs::Turns::many_again, shgrammar::proofs::Turns::many_done, crate::proofs::Stops::many_stop, shgrammar::proofs::Turns::last_entry))]
     fn entries(
         &mut self,
         alloc: Global,
@@ -131,7 +132,7 @@ impl<'a, S: Source, const KEEP: u8> Cursor<'a, S, KEEP> {
 
     /// The comment of a line without entries, or behind its last separator, as an entry.
     #[inline(always)]
-    #[tactic(auto, unfolding(crate::specs::Lists::a_remark))]
+    #[tactic(auto, unfolding(shgrammar::specs::Lists::a_remark))]
     fn own_comment(&mut self, next: &mut Next, listed: &mut Listed) -> Result<(), Stop>
         requires shows { Shows next.old.token (text_of S.bytes self.old) self.old.at }
         ensures value { Reads S.bytes self.old (a_remark (list_so (view_listed listed.old) next.old)) result
@@ -153,7 +154,7 @@ impl<'a, S: Source, const KEEP: u8> Cursor<'a, S, KEEP> {
     /// The entries and the comment of one line. Many lines of a list have neither: what holds the entries is called only for some.
     #[cycle(commands)]
     #[inline(always)]
-    #[tactic(auto, unfolding(crate::specs::Lists::on_line), using(crate::proofs::Turns::no_entries))]
+    #[tactic(auto, unfolding(shgrammar::specs::Lists::on_line), using(shgrammar::proofs::Turns::no_entries))]
     pub(crate) fn on_line(
         &mut self,
         alloc: Global,
@@ -178,7 +179,7 @@ impl<'a, S: Source, const KEEP: u8> Cursor<'a, S, KEEP> {
     /// A line of a list. Answers whether another follows.
     #[cycle(commands)]
     #[inline(always)]
-    #[tactic(auto, unfolding(crate::specs::Lists::list_turn))]
+    #[tactic(auto, unfolding(shgrammar::specs::Lists::list_turn))]
     fn list_line(
         &mut self,
         alloc: Global,
@@ -201,7 +202,7 @@ impl<'a, S: Source, const KEEP: u8> Cursor<'a, S, KEEP> {
 
     /// All of them.
     #[cycle(commands)]
-    #[tactic(auto, using(crate::proofs::Turns::many_again, crate::proofs::Turns::many_done, crate::proofs::Turns::many_stop))]
+    #[tactic(auto, using(shgrammar::proofs::Turns::many_again, shgrammar::proofs::Turns::many_done, crate::proofs::Stops::many_stop))]
     pub(crate) fn list_lines(
         &mut self,
         alloc: Global,
@@ -222,7 +223,7 @@ impl<'a, S: Source, const KEEP: u8> Cursor<'a, S, KEEP> {
 
     /// The entries of the body of an item of a `case`, which may hold no command.
     #[cycle(commands)]
-    #[tactic(auto, unfolding(crate::specs::Compounds::a_body))]
+    #[tactic(auto, unfolding(shgrammar::specs::Compounds::a_body))]
     pub(crate) fn body(
         &mut self,
         alloc: Global,
@@ -243,7 +244,7 @@ impl<'a, S: Source, const KEEP: u8> Cursor<'a, S, KEEP> {
 
     /// A list that holds a command. It ends where no entry may begin; who reads it asks for what has to follow.
     #[cycle(commands)]
-    #[tactic(auto, unfolding(crate::specs::Lists::a_list))]
+    #[tactic(auto, unfolding(shgrammar::specs::Lists::a_list))]
     pub(crate) fn list(&mut self, alloc: Global, next: &mut Next, room: usize) -> Result<List, Stop>
         requires shows { Shows next.old.token (text_of S.bytes self.old) self.old.at }
         ensures value { Reads S.bytes self.old (a_list (level room) next.old) result (λ list. (view_list list, next.new)) (state_of self.new) }

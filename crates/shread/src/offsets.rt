@@ -1,10 +1,11 @@
 //! Places, as spans and faults tell them: offsets.
 ghost use Rattle.std.specs.Prelude.{◌≡◌, ◌+◌, ◌≤◌, length};
 ghost use Rattle.shread.specs.Clauses.{text_of};
-ghost use Rattle.shread.specs.Comments.{span};
+ghost use Rattle.shgrammar.specs.Comments.{span};
 
 use crate::cursor::Cursor;
-use crate::fault::{Fault, FaultKind, Stop};
+use crate::stop::Stop;
+use shgrammar::{Fault, FaultKind};
 use shtext::Source;
 use shtree::Span;
 

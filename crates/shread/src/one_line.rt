@@ -2,19 +2,19 @@
 ghost use Rattle.std.specs.Prelude.{◌≡◌, ◌⊎◌, ◌+◌, ◌-◌, ◌^◌, ◌<◌, ◌≤◌, ◌==◌, ℕ, drop, false, length, map, true, IfOk, IsOk};
 ghost use Rattle.shread.specs.Answers.{view_kind, view_line};
 ghost use Rattle.shread.specs.Clauses.{Gives, Onward, kept};
-ghost use Rattle.shread.specs.Lines.{kind_of};
-ghost use Rattle.shread.specs.Scripts.{line_of_text, line_told};
-ghost use Rattle.shread.specs.Sights.{standing};
-ghost use Rattle.shread.specs.Standing.{raw_stands};
+ghost use Rattle.shgrammar.specs.Lines.{kind_of};
+ghost use Rattle.shgrammar.specs.Scripts.{line_of_text, line_told};
+ghost use Rattle.shgrammar.specs.Sights.{standing};
+ghost use Rattle.shgrammar.specs.Standing.{raw_stands};
 ghost use Rattle.shtree.specs.Nodes.{AreWithin};
 ghost use Rattle.shtree.specs.Tree.{entries_of};
 ghost use Rattle.shtree.specs.View.{view_entry};
 
 use crate::cursor::{Cursor, KEPT};
-use crate::fault::{ReadError, Stop};
-use crate::keep::Keep;
 use crate::line::filled_entries;
 use crate::reader::{Line, LineKind};
+use crate::stop::{ReadError, Stop};
+use shgrammar::Keep;
 use shtext::Source;
 use shtree::Entry;
 use shtree::make::list_of;
@@ -34,7 +34,7 @@ pub(crate) struct Told {
 }
 
 /// The line that begins at an offset, whose own offsets are counted from `origin`. Of its tree this is kept where `KEEP` is `KEPT`.
-#[tactic(auto, unfolding(crate::specs::Lines::a_line), using(crate::proofs::Places::end_is))]
+#[tactic(auto, unfolding(shgrammar::specs::Lines::a_line), using(shgrammar::proofs::Places::end_is))]
 pub(crate) fn line_at<S: Source, const KEEP: u8>(
     alloc: Global,
     source: &S,
@@ -69,7 +69,7 @@ pub(crate) fn line_at<S: Source, const KEEP: u8>(
 }
 
 /// What a line without fault is.
-#[tactic(auto, using(crate::proofs::LineKinds::kind_of_none, crate::proofs::LineKinds::kind_of_some))]
+#[tactic(auto, using(shgrammar::proofs::LineKinds::kind_of_none, shgrammar::proofs::LineKinds::kind_of_some))]
 fn line_kind(entries: Vec<Entry>, newline: bool) -> LineKind
     ensures { view_kind result ≡ kind_of (map view_entry entries.items) newline }
 {
@@ -84,7 +84,7 @@ fn line_kind(entries: Vec<Entry>, newline: bool) -> LineKind
 }
 
 /// Whether a newline is the last byte of a line of so many bytes, of one or more.
-#[tactic(auto, unfolding(crate::specs::Standing::raw_stands), using(crate::proofs::Stretches::get_drop))]
+#[tactic(auto, unfolding(shgrammar::specs::Standing::raw_stands), using(shgrammar::proofs::Stretches::get_drop))]
 pub(crate) fn ends_in_newline<S: Source>(source: &S, at: usize, len: usize) -> bool
     requires some { 0 < len }
     requires fits { at + len < 2 ^ 64 }
@@ -97,7 +97,7 @@ pub(crate) fn ends_in_newline<S: Source>(source: &S, at: usize, len: usize) -> b
 }
 
 /// The line that begins at an offset, read as a script of its own. At the length no memory is wanted.
-#[tactic(auto, unfolding(crate::specs::Scripts::line_of_text), using(crate::proofs::LineKinds::nothing_left))]
+#[tactic(auto, unfolding(shgrammar::specs::Scripts::line_of_text), using(shgrammar::proofs::LineKinds::nothing_left))]
 pub(crate) fn line_from<S: Source>(alloc: Global, source: &S, at: usize) -> Result<Line, ReadError>
     requires { at ≤ length (S.bytes source.now) }
     ensures value { IfOk result (λ line. view_line at line ≡ line_of_text (drop at (S.bytes source.now))) }

@@ -1,24 +1,23 @@
 //! Which piece of a word begins at a place, and the pieces that hold no others (XCU 2.2, 2.6).
 ghost use Rattle.std.specs.Prelude.{◌≡◌, ◌≢◌, ◌⊎◌, ◌+◌, ◌<◌, ◌≤◌, length, IfOk, Some, false, true};
-ghost use Rattle.shread.specs.Bytes.{behind, ends, ends_word, past_continuations, stands};
-ghost use Rattle.shread.specs.Clauses.{IsRead, Reads, state_of, Stays, text_of};
-ghost use Rattle.shread.specs.Form.{step_if};
-ghost use Rattle.shread.specs.Pieces.{bracket_by, byte_by, dollar_at, past_parameter, piece_at, rest_mode};
-ghost use Rattle.shread.specs.Standing.{raw_stands};
-ghost use Rattle.shread.specs.Words.{backquote_turn, backquoted, single};
+ghost use Rattle.shgrammar.specs.Bytes.{behind, ends, ends_word, past_continuations, stands};
+ghost use Rattle.shgrammar.specs.Shows.{IsRead};
+ghost use Rattle.shread.specs.Clauses.{Reads, state_of, Stays, text_of};
+ghost use Rattle.shgrammar.specs.Form.{step_if};
+ghost use Rattle.shgrammar.specs.Pieces.{bracket_by, byte_by, dollar_at, past_parameter, piece_at, rest_mode};
+ghost use Rattle.shgrammar.specs.Standing.{raw_stands};
+ghost use Rattle.shgrammar.specs.Words.{backquote_turn, backquoted, single};
 
 use crate::cursor::Cursor;
-use crate::fault::{FaultKind, Stop};
-use crate::mode::{Mode, Piece};
-use crate::plain::ends_words;
 use crate::search::Sought;
-use crate::token::Class;
+use crate::stop::Stop;
+use shgrammar::{Class, FaultKind, Mode, Piece, ends_words};
 use shtext::Source;
 
 impl<'a, S: Source, const KEEP: u8> Cursor<'a, S, KEEP> {
     /// What the `$` at a place begins.
     #[inline(always)]
-    #[tactic(auto, unfolding(crate::specs::Pieces::dollar_at, crate::specs::Bytes::behind, crate::specs::Bytes::stands))]
+    #[tactic(auto, unfolding(shgrammar::specs::Pieces::dollar_at, shgrammar::specs::Bytes::behind, shgrammar::specs::Bytes::stands))]
     fn dollar(&self, here: usize) -> Piece
         requires here { here ≡ past_continuations (text_of S.bytes self.now) self.now.at }
         requires some { here < length (text_of S.bytes self.now) }
@@ -45,7 +44,7 @@ impl<'a, S: Source, const KEEP: u8> Cursor<'a, S, KEEP> {
 
     /// What the `)` at a place is in arithmetic with so many brackets open.
     #[inline(always)]
-    #[tactic(auto, unfolding(crate::specs::Bytes::behind))]
+    #[tactic(auto, unfolding(shgrammar::specs::Bytes::behind))]
     fn bracket(&self, nested: usize, here: usize) -> Piece
         requires here { here ≡ past_continuations (text_of S.bytes self.now) self.now.at }
         requires some { here < length (text_of S.bytes self.now) }
@@ -100,7 +99,7 @@ impl<'a, S: Source, const KEEP: u8> Cursor<'a, S, KEEP> {
 
     /// The piece that begins here, with so many brackets open in arithmetic; its first byte is read at the place `here`.
     #[inline(always)]
-    #[tactic(auto, unfolding(crate::specs::Pieces::piece_at, crate::specs::Standing::raw_stands, crate::specs::Bytes::ends_word, crate::specs::Bytes::behind))]
+    #[tactic(auto, unfolding(shgrammar::specs::Pieces::piece_at, shgrammar::specs::Standing::raw_stands, shgrammar::specs::Bytes::ends_word, shgrammar::specs::Bytes::behind))]
     pub(crate) fn piece(&self, mode: Mode, nested: usize, here: usize) -> Piece
         requires here { here ≡ past_continuations (text_of S.bytes self.now) self.now.at }
         requires within { here ≤ length (text_of S.bytes self.now) }
@@ -138,7 +137,7 @@ impl<'a, S: Source, const KEEP: u8> Cursor<'a, S, KEEP> {
     }
 
     /// Passes the parameter of an expansion: a name, digits, a special parameter or nothing.
-    #[tactic(auto, unfolding(crate::specs::Pieces::past_parameter, crate::specs::Bytes::stands_in))]
+    #[tactic(auto, unfolding(shgrammar::specs::Pieces::past_parameter, shgrammar::specs::Bytes::stands_in))]
     pub(crate) fn parameter(&mut self)
         ensures value { self.new.at ≡ past_parameter (text_of S.bytes self.old) self.old.at }
         ensures onward { self.old.at ≤ self.new.at }
@@ -154,7 +153,7 @@ impl<'a, S: Source, const KEEP: u8> Cursor<'a, S, KEEP> {
     }
 
     /// How the rest of an expansion is read that opened in this mode.
-    #[tactic(auto, unfolding(crate::specs::Pieces::rest_mode, crate::specs::Bytes::stands))]
+    #[tactic(auto, unfolding(shgrammar::specs::Pieces::rest_mode, shgrammar::specs::Bytes::stands))]
     pub(crate) fn rest_mode(&self, mode: Mode) -> Mode
         ensures { result ≡ rest_mode (text_of S.bytes self.now) mode self.now.at }
     {
@@ -165,7 +164,7 @@ impl<'a, S: Source, const KEEP: u8> Cursor<'a, S, KEEP> {
     }
 
     /// Text in single quotes, from its opener on.
-    #[tactic(auto, unfolding(crate::specs::Words::single, crate::specs::Pieces::past_taken, crate::specs::Bytes::behind), using(crate::proofs::Places::quote_clear))]
+    #[tactic(auto, unfolding(shgrammar::specs::Words::single, shgrammar::specs::Pieces::past_taken, shgrammar::specs::Bytes::behind), using(shgrammar::proofs::Places::quote_clear))]
     pub(crate) fn single(&mut self, opener: usize) -> Result<(), Stop>
         requires opener { opener ≡ past_continuations (text_of S.bytes self.old) self.old.at }
         requires some { opener < length (text_of S.bytes self.old) }
@@ -182,7 +181,7 @@ impl<'a, S: Source, const KEEP: u8> Cursor<'a, S, KEEP> {
     }
 
     /// What stands up to the next backquote or backslash. Answers whether more follows: if not, the text is closed.
-    #[tactic(auto, unfolding(crate::specs::Words::backquote_turn, crate::specs::Pieces::past_taken), using(crate::proofs::Places::backslash_next, crate::proofs::Places::backquote_is))]
+    #[tactic(auto, unfolding(shgrammar::specs::Words::backquote_turn, shgrammar::specs::Pieces::past_taken), using(shgrammar::proofs::Places::backslash_next, shgrammar::proofs::Places::backquote_is))]
     fn backquote_turn(&mut self, opener: usize) -> Result<bool, Stop>
         requires { opener ≤ self.old.at }
         ensures value { Reads S.bytes self.old (backquote_turn (self.old.origin + opener) tt) result
@@ -207,7 +206,7 @@ impl<'a, S: Source, const KEEP: u8> Cursor<'a, S, KEEP> {
     }
 
     /// Text in backquotes, from its opener on.
-    #[tactic(auto, unfolding(crate::specs::Words::backquoted, crate::specs::Bytes::behind), using(crate::proofs::Turns::many_again, crate::proofs::Turns::many_done, crate::proofs::Turns::many_stop))]
+    #[tactic(auto, unfolding(shgrammar::specs::Words::backquoted, shgrammar::specs::Bytes::behind), using(shgrammar::proofs::Turns::many_again, shgrammar::proofs::Turns::many_done, crate::proofs::Stops::many_stop))]
     pub(crate) fn backquoted(&mut self, opener: usize) -> Result<(), Stop>
         requires opener { opener ≡ past_continuations (text_of S.bytes self.old) self.old.at }
         requires some { opener < length (text_of S.bytes self.old) }

@@ -1,14 +1,15 @@
 //! Pipelines (XCU 2.9.2).
 ghost use Rattle.std.specs.Prelude.{◌≡◌, ◌<◌, ◌≤◌, [], map, IfOk, Ok as Done};
-ghost use Rattle.shread.specs.Clauses.{IsRead, Keeps, Onward, reads, Reads, Shows, state_of, Stays, text_of};
-ghost use Rattle.shread.specs.Commands.{a_bang, a_pipeline, one_command, pipe_turn, piped};
-ghost use Rattle.shread.specs.Form.{again, many, step_if};
-ghost use Rattle.shread.specs.Levels.{level};
+ghost use Rattle.shgrammar.specs.Shows.{IsRead, Shows};
+ghost use Rattle.shread.specs.Clauses.{Keeps, Onward, reads, Reads, state_of, Stays, text_of};
+ghost use Rattle.shgrammar.specs.Commands.{a_bang, a_pipeline, one_command, pipe_turn, piped};
+ghost use Rattle.shgrammar.specs.Form.{again, many, step_if};
+ghost use Rattle.shgrammar.specs.Levels.{level};
 ghost use Rattle.shtree.specs.View.{view_pipeline, view_pipeline_part};
 
 use crate::cursor::Cursor;
-use crate::fault::Stop;
-use crate::token::{Next, Position, Reserved, Token};
+use crate::stop::Stop;
+use shgrammar::{Next, Position, Reserved, Token};
 use shtext::Source;
 use shtree::make::{pipeline_of, pipeline_part_of};
 use shtree::{Pipeline, PipelinePart, Span};
@@ -18,7 +19,7 @@ use std::mem;
 impl<'a, S: Source, const KEEP: u8> Cursor<'a, S, KEEP> {
     /// Passes the `!` of a pipeline, if one stands here.
     #[inline(always)]
-    #[tactic(auto, unfolding(crate::specs::Commands::a_bang, crate::specs::Commands::next_token))]
+    #[tactic(auto, unfolding(shgrammar::specs::Commands::a_bang, shgrammar::specs::Commands::next_token))]
     fn bang(&mut self, next: &mut Next) -> Option<Span>
         requires shows { Shows next.old.token (text_of S.bytes self.old) self.old.at }
         ensures value { reads S.bytes self.old (a_bang next.old) ≡ Done ((result, next.new), state_of self.new) }
@@ -38,7 +39,7 @@ impl<'a, S: Source, const KEEP: u8> Cursor<'a, S, KEEP> {
 
     /// One more command of a pipeline, behind a `|`. It stands apart to keep the frames of nested commands small.
     #[cycle(commands)]
-    #[tactic(auto, unfolding(crate::specs::Commands::one_command))]
+    #[tactic(auto, unfolding(shgrammar::specs::Commands::one_command))]
     fn one_command(
         &mut self,
         alloc: Global,
@@ -67,7 +68,7 @@ impl<'a, S: Source, const KEEP: u8> Cursor<'a, S, KEEP> {
     /// One more, if a `|` stands here. Answers whether there was one.
     #[cycle(commands)]
     #[inline(always)]
-    #[tactic(auto, unfolding(crate::specs::Commands::pipe_turn))]
+    #[tactic(auto, unfolding(shgrammar::specs::Commands::pipe_turn))]
     fn pipe(
         &mut self,
         alloc: Global,
@@ -92,7 +93,7 @@ impl<'a, S: Source, const KEEP: u8> Cursor<'a, S, KEEP> {
     /// The commands of a pipeline behind its first.
     #[cycle(commands)]
     #[inline(always)]
-    #[tactic(auto, using(crate::proofs::Turns::many_again, crate::proofs::Turns::many_done, crate::proofs::Turns::many_stop))]
+    #[tactic(auto, using(shgrammar::proofs::Turns::many_again, shgrammar::proofs::Turns::many_done, crate::proofs::Stops::many_stop))]
     fn pipes(
         &mut self,
         alloc: Global,
@@ -114,7 +115,7 @@ impl<'a, S: Source, const KEEP: u8> Cursor<'a, S, KEEP> {
     /// The pipeline that the token here begins.
     #[cycle(commands)]
     #[inline(always)]
-    #[tactic(auto, unfolding(crate::specs::Commands::a_pipeline))]
+    #[tactic(auto, unfolding(shgrammar::specs::Commands::a_pipeline))]
     pub(crate) fn pipeline(
         &mut self,
         alloc: Global,

@@ -1,18 +1,20 @@
 //! The reader: one line, or a whole script.
 ghost use Rattle.std.specs.Prelude.{◌≡◌, ◌+◌, ◌-◌, ◌<◌, ◌≤◌, drop, false, length, true, List as Row, None, IfOk, IfErr, IfSome, IsOk};
-ghost use Rattle.shread.specs.Answers.{EntriesWithin, meter_of, raised, view_kind, view_line, view_script};
-ghost use Rattle.shread.specs.Form.{Spelled};
-ghost use Rattle.shread.specs.Lines.{ALine, IsLine, NoFurther, SameBytes};
-ghost use Rattle.shread.specs.Scripts.{AScript, FirstFault, Outcome, Passes};
+ghost use Rattle.shgrammar.specs.Lines.{EntriesWithin};
+ghost use Rattle.shread.specs.Answers.{meter_of, raised, view_kind, view_line, view_script};
+ghost use Rattle.shgrammar.specs.Form.{Spelled};
+ghost use Rattle.shgrammar.specs.Lines.{ALine, IsLine, NoFurther, SameBytes};
+ghost use Rattle.shgrammar.specs.Scripts.{AScript, FirstFault, Outcome, Passes};
 ghost use Rattle.shtree.specs.Nodes.{AreWithin};
 ghost use Rattle.shtree.specs.Normal.{is_normal};
 ghost use Rattle.shtree.specs.Shape.{shape_of};
 ghost use Rattle.shtree.specs.Spelling.{spelling};
 
 use crate::all_lines::script_from;
-use crate::fault::{Fault, ReadError};
 use crate::first_fault::first_fault_of;
 use crate::one_line::line_from;
+use crate::stop::ReadError;
+use shgrammar::Fault;
 use shtext::Source;
 use shtree::List;
 use std::alloc::Global;
@@ -70,7 +72,7 @@ impl Reader {
     ///
     /// A fault is part of the answer. Want of memory is the only error: the meter is then as before, and the reader can
     /// be used again. At the length of the source no memory is wanted.
-    #[tactic(auto, using(crate::proofs::Answered::line_answered))]
+    #[tactic(auto, using(shgrammar::proofs::Answered::line_answered))]
     pub fn read_line<S: Source>(&mut self, source: &S, at: usize) -> Result<Line, ReadError>
         requires { at ≤ length (S.bytes source.now) }
         // The answer is the line that the grammar has for the bytes from `at` on, and it has no other.
@@ -98,7 +100,7 @@ impl Reader {
     ///
     /// A fault is part of the answer. Want of memory is the only error: the meter is then as before, and the reader can
     /// be used again. A script without a byte wants no memory.
-    #[tactic(auto, using(crate::proofs::Answered::script_answered, crate::proofs::Spelling::script_spelled))]
+    #[tactic(auto, using(shgrammar::proofs::Answered::script_answered, shgrammar::proofs::Spelling::script_spelled))]
     pub fn read_script<S: Source>(&mut self, source: &S) -> Result<Script, ReadError>
         // The answer is what the grammar has for the bytes, and it has nothing else.
         ensures outcome { IfOk result (λ script. Outcome (S.bytes source.now) (view_script script)) }
@@ -123,7 +125,7 @@ impl Reader {
     ///
     /// So the memory that it takes does not grow with the script. Want of memory is the only error: the meter is then as
     /// before, and the reader can be used again.
-    #[tactic(auto, using(crate::proofs::Answered::fault_answered))]
+    #[tactic(auto, using(shgrammar::proofs::Answered::fault_answered))]
     pub fn first_fault<S: Source>(&mut self, source: &S) -> Result<Option<Fault>, ReadError>
         // The answer is the first fault in what the grammar gives for the bytes, and it gives no other.
         ensures fault { IfOk result (λ fault. FirstFault (S.bytes source.now) fault) }

@@ -1,18 +1,19 @@
 //! Redirections (XCU 2.7): among the items of a simple command, and behind a compound command.
 ghost use Rattle.std.specs.Prelude.{◌≡◌, ◌+◌, ◌<◌, ◌≤◌, [], false, map, IfOk, Ok as Done, true};
-ghost use Rattle.shread.specs.Bytes.{behind};
-ghost use Rattle.shread.specs.Clauses.{end_of, IsRead, Keeps, Onward, reads, Reads, Shows, state_of, Stays, text_of};
-ghost use Rattle.shread.specs.Commands.{a_number, a_target, an_operator, is_long, is_strip, one_redirect, redirect_turn, redirected, so_many};
-ghost use Rattle.shread.specs.declared.token.Position.TheVariants.{Command as AsCommand};
-ghost use Rattle.shread.specs.Form.{again, many, raw, step_if};
-ghost use Rattle.shread.specs.Levels.{level};
+ghost use Rattle.shgrammar.specs.Bytes.{behind};
+ghost use Rattle.shread.specs.Clauses.{end_of, Keeps, Onward, reads, Reads, state_of, Stays, text_of};
+ghost use Rattle.shgrammar.specs.Shows.{IsRead, Shows};
+ghost use Rattle.shgrammar.specs.Commands.{a_number, a_target, an_operator, is_long, is_strip, one_redirect, redirect_turn, redirected, so_many};
+ghost use Rattle.shgrammar.specs.declared.token.Position.TheVariants.{Command as AsCommand};
+ghost use Rattle.shgrammar.specs.Form.{again, many, raw, step_if};
+ghost use Rattle.shgrammar.specs.Levels.{level};
 ghost use Rattle.shtree.specs.Nodes.{word_span};
 ghost use Rattle.shtree.specs.View.{view_command, view_item, view_word};
 
 use crate::cursor::Cursor;
 use crate::documents::is_strip;
-use crate::fault::{FaultKind, Stop};
-use crate::token::{Next, Position, Token};
+use crate::stop::Stop;
+use shgrammar::{FaultKind, Next, Position, Token};
 use shtext::Source;
 use shtree::make::{redirect_of, redirection_of, with_redirects};
 use shtree::{Command, Item, RedirectOperator, Span, Word};
@@ -28,7 +29,7 @@ fn is_long(operator: RedirectOperator) -> bool
 
 impl<'a, S: Source, const KEEP: u8> Cursor<'a, S, KEEP> {
     /// Passes the number here, if one stands. `next` is the token here, and then the one behind it.
-    #[tactic(auto, unfolding(crate::specs::Commands::a_number, crate::specs::Commands::next_token))]
+    #[tactic(auto, unfolding(shgrammar::specs::Commands::a_number, shgrammar::specs::Commands::next_token))]
     fn number(&mut self, next: &mut Next) -> Option<Span>
         requires shows { Shows next.old.token (text_of S.bytes self.old) self.old.at }
         ensures value { reads S.bytes self.old (a_number next.old) ≡ Done ((result, next.new), state_of self.new) }
@@ -47,7 +48,7 @@ impl<'a, S: Source, const KEEP: u8> Cursor<'a, S, KEEP> {
     }
 
     /// Passes the operator here.
-    #[tactic(auto, unfolding(crate::specs::Commands::an_operator))]
+    #[tactic(auto, unfolding(shgrammar::specs::Commands::an_operator))]
     fn operator(&mut self, operator: RedirectOperator) -> Span
         requires one { IsRead (text_of S.bytes self.old) self.old.at }
         requires two { is_long operator ≡ true → IsRead (text_of S.bytes self.old) (behind (text_of S.bytes self.old) self.old.at) }
@@ -70,7 +71,7 @@ impl<'a, S: Source, const KEEP: u8> Cursor<'a, S, KEEP> {
 
     /// The word of a redirection, from behind its operator, and where it begins.
     #[cycle(commands)]
-    #[tactic(auto, unfolding(crate::specs::Commands::a_target, crate::specs::Commands::next_token))]
+    #[tactic(auto, unfolding(shgrammar::specs::Commands::a_target, shgrammar::specs::Commands::next_token))]
     fn target(&mut self, alloc: Global, room: usize) -> Result<(Word, usize), Stop>
         ensures value { Reads S.bytes self.old (a_target (level room)) result (λ x. (view_word x.0, raw (text_of S.bytes self.old) x.1 self.new.at)) (state_of self.new) }
         ensures place { IfOk result (λ x. (x.1 ≤ self.new.at) × ((word_span (view_word x.0)).start ≡ self.old.origin + x.1)) }
@@ -89,7 +90,7 @@ impl<'a, S: Source, const KEEP: u8> Cursor<'a, S, KEEP> {
 
     /// The redirection that begins here, as one more of these items, and the token behind it, which stands in this position.
     #[cycle(commands)]
-    #[tactic(auto, unfolding(crate::specs::Commands::one_redirect, crate::specs::Commands::next_token))]
+    #[tactic(auto, unfolding(shgrammar::specs::Commands::one_redirect, shgrammar::specs::Commands::next_token))]
     pub(crate) fn redirect(
         &mut self,
         alloc: Global,
@@ -126,7 +127,7 @@ impl<'a, S: Source, const KEEP: u8> Cursor<'a, S, KEEP> {
 
     /// One more redirection behind a compound command, if the token here begins one. Answers whether there was one.
     #[cycle(commands)]
-    #[tactic(auto, unfolding(crate::specs::Commands::redirect_turn))]
+    #[tactic(auto, unfolding(shgrammar::specs::Commands::redirect_turn))]
     fn next_redirect(
         &mut self,
         alloc: Global,
@@ -151,7 +152,7 @@ impl<'a, S: Source, const KEEP: u8> Cursor<'a, S, KEEP> {
 
     /// All of them.
     #[cycle(commands)]
-    #[tactic(auto, using(crate::proofs::Turns::many_again, crate::proofs::Turns::many_done, crate::proofs::Turns::many_stop))]
+    #[tactic(auto, using(shgrammar::proofs::Turns::many_again, shgrammar::proofs::Turns::many_done, crate::proofs::Stops::many_stop))]
     fn redirects(&mut self, alloc: Global, next: &mut Next, room: usize) -> Result<Vec<Item>, Stop>
         requires shows { Shows next.old.token (text_of S.bytes self.old) self.old.at }
         ensures value { Reads S.bytes self.old (many (redirect_turn (level room)) (so_many [] AsCommand next.old)) result
@@ -167,7 +168,7 @@ impl<'a, S: Source, const KEEP: u8> Cursor<'a, S, KEEP> {
 
     /// A compound command with the redirections behind it.
     #[cycle(commands)]
-    #[tactic(auto, unfolding(crate::specs::Commands::redirected))]
+    #[tactic(auto, unfolding(shgrammar::specs::Commands::redirected))]
     pub(crate) fn redirected(
         &mut self,
         alloc: Global,

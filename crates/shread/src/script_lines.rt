@@ -1,14 +1,14 @@
 //! The lines of a script, read one after the other, so that who needs no tree of the whole holds that of one line.
 ghost use Rattle.std.specs.Prelude.{◌≡◌, ◌+◌, ◌-◌, ◌^◌, ◌<◌, ◌≤◌, length, map, slice_get, IfErr, IfOk, IfSome, None, Ok as Done, Some};
-ghost use Rattle.shread.specs.Scripts.{SoFar, is_blank_line, with_line};
-ghost use Rattle.shread.specs.Search.{StopsAt};
+ghost use Rattle.shgrammar.specs.Scripts.{SoFar, is_blank_line, with_line};
+ghost use Rattle.shgrammar.specs.Search.{StopsAt};
 ghost use Rattle.shtree.specs.View.{view_entry};
 ghost use Rattle.shread.specs.LineByLine.{AtStart, GoesOn, IsNextLine, IsWholeLine, LineWithin, Stands, before_of, bytes_of, no_lines, place_of};
 
 use crate::cursor::KEPT;
-use crate::fault::{Fault, ReadError, Stop};
-use crate::keep::Keep;
 use crate::one_line::{Told, ends_in_newline, line_at};
+use crate::stop::{ReadError, Stop};
+use shgrammar::{Fault, Keep};
 use shtext::Source;
 use shtree::Entry;
 use std::alloc::Global;

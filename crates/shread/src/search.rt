@@ -1,9 +1,9 @@
 //! Searches: the next place in a text where a byte stands, or one of two.
 ghost use Rattle.std.specs.Prelude.{◌≡◌, ◌≤◌, length};
 ghost use Rattle.memchr.specs.Find.{IsFirstByte};
-ghost use Rattle.shread.specs.Classes.{is_sought};
+ghost use Rattle.shread.specs.Sought.{is_sought};
 ghost use Rattle.shread.specs.Clauses.{text_of};
-ghost use Rattle.shread.specs.Standing.{next_of, next_such};
+ghost use Rattle.shgrammar.specs.Standing.{next_of, next_such};
 
 use crate::cursor::Cursor;
 use memchr::{memchr, memchr2};

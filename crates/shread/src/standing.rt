@@ -1,18 +1,18 @@
 //! The bytes of a text as they stand, continuations and all.
 ghost use Rattle.std.specs.Prelude.{◌≡◌, ◌+◌, ◌<◌, ◌≤◌, length, slice_get, true, false, IfSome};
-ghost use Rattle.shread.specs.Classes.{in_class};
+ghost use Rattle.shgrammar.specs.Classes.{in_class};
 ghost use Rattle.shread.specs.Clauses.{text_of};
-ghost use Rattle.shread.specs.Standing.{raw_past, at_end, continues, raw_in, raw_stands};
+ghost use Rattle.shgrammar.specs.Standing.{raw_past, at_end, continues, raw_in, raw_stands};
 ghost use Rattle.shtext.specs.Text.{IsRun};
 
 use crate::cursor::Cursor;
-use crate::token::Class;
+use shgrammar::Class;
 use shtext::Source;
 
 impl<'a, S: Source, const KEEP: u8> Cursor<'a, S, KEEP> {
     /// The byte at a place as it stands, or `None` at the end.
     #[inline(always)]
-    #[tactic(auto, using(crate::proofs::Runs::front_byte, crate::proofs::Runs::front_within))]
+    #[tactic(auto, using(shgrammar::proofs::Runs::front_byte, shgrammar::proofs::Runs::front_within))]
     pub(crate) fn raw_byte(&self, at: usize) -> Option<u8>
         requires { at ≤ length (text_of S.bytes self.now) }
         ensures value { result ≡ slice_get (text_of S.bytes self.now) at }
@@ -26,7 +26,7 @@ impl<'a, S: Source, const KEEP: u8> Cursor<'a, S, KEEP> {
 
     /// The same, where it stands behind the front.
     #[cold]
-    #[tactic(auto, using(crate::proofs::Stretches::get_drop))]
+    #[tactic(auto, using(shgrammar::proofs::Stretches::get_drop))]
     fn byte_behind(&self, at: usize) -> Option<u8>
         requires { at ≤ length (text_of S.bytes self.now) }
         ensures value { result ≡ slice_get (text_of S.bytes self.now) at }
@@ -37,7 +37,7 @@ impl<'a, S: Source, const KEEP: u8> Cursor<'a, S, KEEP> {
 
     /// The stretch that begins at a place. Most often it is a part of the front.
     #[inline(always)]
-    #[tactic(auto, using(crate::proofs::Runs::front_run))]
+    #[tactic(auto, using(shgrammar::proofs::Runs::front_run))]
     pub(crate) fn run_at(&self, at: usize) -> &[u8]
         requires { at ≤ length (text_of S.bytes self.now) }
         ensures { IsRun (S.bytes self.now.source.now) (self.now.base + at) result.now }
@@ -50,7 +50,7 @@ impl<'a, S: Source, const KEEP: u8> Cursor<'a, S, KEEP> {
 
     /// Whether this byte is the one at a place.
     #[inline(always)]
-    #[tactic(auto, unfolding(crate::specs::Standing::raw_stands))]
+    #[tactic(auto, unfolding(shgrammar::specs::Standing::raw_stands))]
     pub(crate) fn raw_stands(&self, at: usize, byte: u8) -> bool
         requires { at ≤ length (text_of S.bytes self.now) }
         ensures value { result ≡ raw_stands (text_of S.bytes self.now) at byte }
@@ -64,7 +64,7 @@ impl<'a, S: Source, const KEEP: u8> Cursor<'a, S, KEEP> {
 
     /// Whether the byte at a place is of this class.
     #[inline(always)]
-    #[tactic(auto, unfolding(crate::specs::Standing::raw_in))]
+    #[tactic(auto, unfolding(shgrammar::specs::Standing::raw_in))]
     pub(crate) fn raw_in(&self, at: usize, class: Class) -> bool
         requires { at ≤ length (text_of S.bytes self.now) }
         ensures value { result ≡ raw_in (in_class class) (text_of S.bytes self.now) at }
@@ -78,7 +78,7 @@ impl<'a, S: Source, const KEEP: u8> Cursor<'a, S, KEEP> {
 
     /// Whether the text ends at a place.
     #[inline(always)]
-    #[tactic(auto, unfolding(crate::specs::Standing::at_end))]
+    #[tactic(auto, unfolding(shgrammar::specs::Standing::at_end))]
     pub(crate) fn at_end(&self, at: usize) -> bool
         requires { at ≤ length (text_of S.bytes self.now) }
         ensures value { result ≡ at_end (text_of S.bytes self.now) at }
@@ -89,7 +89,7 @@ impl<'a, S: Source, const KEEP: u8> Cursor<'a, S, KEEP> {
 
     /// Whether a continuation stands at a place.
     #[inline(always)]
-    #[tactic(auto, unfolding(crate::specs::Standing::continues))]
+    #[tactic(auto, unfolding(shgrammar::specs::Standing::continues))]
     pub(crate) fn continues(&self, at: usize) -> bool
         requires { at ≤ length (text_of S.bytes self.now) }
         ensures value { result ≡ continues (text_of S.bytes self.now) at }
@@ -100,7 +100,7 @@ impl<'a, S: Source, const KEEP: u8> Cursor<'a, S, KEEP> {
 
     /// The place behind the bytes of this class that stand from a place on.
     #[inline(always)]
-    #[tactic(auto, using(crate::proofs::Stretches::raw_more, crate::proofs::Stretches::raw_none))]
+    #[tactic(auto, using(shgrammar::proofs::Stretches::raw_more, shgrammar::proofs::Stretches::raw_none))]
     pub(crate) fn raw_past(&self, from: usize, class: Class) -> usize
         requires { from ≤ length (text_of S.bytes self.now) }
         ensures value { result ≡ raw_past (in_class class) (text_of S.bytes self.now) from }

@@ -1,18 +1,18 @@
 //! Command substitutions (XCU 2.6.3).
 ghost use Rattle.std.specs.Prelude.{◌≡◌, ◌+◌, ◌≤◌, ◌==◌, map, IfOk};
 ghost use Rattle.shread.specs.Clauses.{keep_of, Keeps, Reads, state_of};
-ghost use Rattle.shread.specs.Comments.{span};
-ghost use Rattle.shread.specs.Form.{grows, pushed};
-ghost use Rattle.shread.specs.Levels.{level};
-ghost use Rattle.shread.specs.Substitutions.{one_substitution, substituted};
+ghost use Rattle.shgrammar.specs.Comments.{span};
+ghost use Rattle.shgrammar.specs.Form.{grows, pushed};
+ghost use Rattle.shgrammar.specs.Levels.{level};
+ghost use Rattle.shgrammar.specs.Substitutions.{one_substitution, substituted};
 ghost use Rattle.shtree.specs.Bodies.{filled};
 ghost use Rattle.shtree.specs.Tree.{subst};
 ghost use Rattle.shtree.specs.View.{view_list, view_subst};
 
 use crate::cursor::Cursor;
-use crate::fault::{Fault, FaultKind, Stop};
 use crate::list::Listed;
-use crate::token::{Closing, Position};
+use crate::stop::Stop;
+use shgrammar::{Closing, Fault, FaultKind, Position};
 use shtext::Source;
 use shtree::make::{list_of, subst_of};
 use shtree::{List, Span, Subst, put_bodies};
@@ -30,7 +30,7 @@ fn filled_list(mut list: List, bodies: &[Span]) -> List
 impl<'a, S: Source, const KEEP: u8> Cursor<'a, S, KEEP> {
     /// What stands in a substitution, and its `)`.
     #[cycle(commands)]
-    #[tactic(auto, unfolding(crate::specs::Substitutions::substituted, crate::specs::Commands::next_token))]
+    #[tactic(auto, unfolding(shgrammar::specs::Substitutions::substituted, shgrammar::specs::Commands::next_token))]
     fn substituted(&mut self, alloc: Global, room: usize) -> Result<List, Stop>
         ensures value { Reads S.bytes self.old (substituted (level room)) result view_list (state_of self.new) }
         ensures onward { IfOk result (λ list. self.old.at ≤ self.new.at) }
@@ -48,7 +48,7 @@ impl<'a, S: Source, const KEEP: u8> Cursor<'a, S, KEEP> {
     }
 
     /// The substitution from a place up to this one, with the bodies of its level, as one more of these, if a tree is grown.
-    #[tactic(auto, using(crate::proofs::Levels::subst_kept, crate::proofs::Levels::subst_left))]
+    #[tactic(auto, using(shgrammar::proofs::Levels::subst_kept, shgrammar::proofs::Levels::subst_left))]
     fn add_subst(
         &self,
         list: List,
@@ -70,7 +70,7 @@ impl<'a, S: Source, const KEEP: u8> Cursor<'a, S, KEEP> {
     /// The substitution whose `$` stands at a place, from behind its `(` on, as one more of these, if a tree is grown of what stands in it.
     #[cycle(commands)]
     #[inline(always)]
-    #[tactic(auto, unfolding(crate::specs::Substitutions::one_substitution))]
+    #[tactic(auto, unfolding(shgrammar::specs::Substitutions::one_substitution))]
     fn one_substitution(
         &mut self,
         alloc: Global,
@@ -107,7 +107,7 @@ impl<'a, S: Source, const KEEP: u8> Cursor<'a, S, KEEP> {
 
     /// The same, if it may be opened.
     #[cycle(commands)]
-    #[tactic(auto, using(crate::proofs::Levels::substitution_inside, crate::proofs::Levels::substitution_closed))]
+    #[tactic(auto, using(crate::proofs::Kept::substitution_inside, shgrammar::proofs::Levels::substitution_closed))]
     pub(crate) fn substitution(
         &mut self,
         alloc: Global,

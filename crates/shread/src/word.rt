@@ -1,19 +1,20 @@
 //! Words (XCU 2.3), and how far they go: their pieces in the five modes (XCU 2.2, 2.6).
 ghost use Rattle.std.specs.Prelude.{◌≡◌, ◌≢◌, ◌+◌, ◌<◌, ◌≤◌, length, map, IfOk, List as Row, false, true};
-ghost use Rattle.shread.specs.Bytes.{ends_word, past_continuations};
-ghost use Rattle.shread.specs.Clauses.{IsRead, Keeps, Onward, Reads, state_of, Stays, text_of};
-ghost use Rattle.shread.specs.Comments.{span};
-ghost use Rattle.shread.specs.Form.{again, step_if};
-ghost use Rattle.shread.specs.Pieces.{past_closer};
+ghost use Rattle.shgrammar.specs.Bytes.{ends_word, past_continuations};
+ghost use Rattle.shgrammar.specs.Shows.{IsRead};
+ghost use Rattle.shread.specs.Clauses.{Keeps, Onward, Reads, state_of, Stays, text_of};
+ghost use Rattle.shgrammar.specs.Comments.{span};
+ghost use Rattle.shgrammar.specs.Form.{again, step_if};
+ghost use Rattle.shgrammar.specs.Pieces.{past_closer};
 ghost use Rattle.shtree.specs.Tree.{ASubst, substs_of, word};
 ghost use Rattle.shtree.specs.View.{view_subst, view_word};
-ghost use Rattle.shread.specs.Standing.{raw_stands};
-ghost use Rattle.shread.specs.Words.{a_piece, a_word, contents, having, holds_others, piece_row};
-ghost use Rattle.shread.specs.Levels.{level};
+ghost use Rattle.shgrammar.specs.Standing.{raw_stands};
+ghost use Rattle.shgrammar.specs.Words.{a_piece, a_word, contents, having, holds_others, piece_row};
+ghost use Rattle.shgrammar.specs.Levels.{level};
 
 use crate::cursor::Cursor;
-use crate::fault::{FaultKind, Stop};
-use crate::mode::{Mode, Piece};
+use crate::stop::Stop;
+use shgrammar::{FaultKind, Mode, Piece};
 use shtext::Source;
 use shtree::make::word_of;
 use shtree::{Subst, Word};
@@ -21,7 +22,7 @@ use std::alloc::Global;
 
 impl<'a, S: Source, const KEEP: u8> Cursor<'a, S, KEEP> {
     /// What closes a construct of this mode, from its place on; nothing closes a word.
-    #[tactic(auto, unfolding(crate::specs::Bytes::behind), using(crate::proofs::Stretches::place_low))]
+    #[tactic(auto, unfolding(shgrammar::specs::Bytes::behind), using(shgrammar::proofs::Stretches::place_low))]
     fn close(&mut self, mode: Mode, here: usize)
         requires here { here ≡ past_continuations (text_of S.bytes self.old) self.old.at }
         requires one { mode ≢ Mode.Plain → here < length (text_of S.bytes self.old) }
@@ -41,7 +42,7 @@ impl<'a, S: Source, const KEEP: u8> Cursor<'a, S, KEEP> {
     /// quotes a `$` before a name, which is ordinary: what takes every piece is called for the others.
     #[cycle(commands)]
     #[inline(always)]
-    #[tactic(auto, unfolding(crate::specs::Bytes::behind), using(crate::proofs::Levels::level_closed, crate::proofs::PlainBytes::plain_begin, crate::proofs::PlainBytes::closed_here, crate::proofs::PlainBytes::ordinary_here, crate::proofs::Stretches::place_low))]
+    #[tactic(auto, unfolding(shgrammar::specs::Bytes::behind), using(shgrammar::proofs::Levels::level_closed, shgrammar::proofs::PlainBytes::plain_begin, shgrammar::proofs::PlainBytes::closed_here, shgrammar::proofs::PlainBytes::ordinary_here, shgrammar::proofs::Stretches::place_low))]
     fn construct(
         &mut self,
         alloc: Global,
@@ -79,7 +80,7 @@ impl<'a, S: Source, const KEEP: u8> Cursor<'a, S, KEEP> {
 
     /// A piece that holds no others, or the fault that it is.
     #[inline(always)]
-    #[tactic(auto, unfolding(crate::specs::Pieces::past_taken, crate::specs::Bytes::behind), using(crate::proofs::Stretches::place_low))]
+    #[tactic(auto, unfolding(shgrammar::specs::Pieces::past_taken, shgrammar::specs::Bytes::behind), using(shgrammar::proofs::Stretches::place_low))]
     fn closed_piece(
         &mut self,
         piece: Piece,
@@ -129,7 +130,7 @@ impl<'a, S: Source, const KEEP: u8> Cursor<'a, S, KEEP> {
     /// One piece, with so many brackets open in arithmetic. Answers whether there was one: if not, the construct ends here.
     #[cycle(commands)]
     #[inline(always)]
-    #[tactic(auto, unfolding(crate::specs::Words::a_piece, crate::specs::Pieces::piece_at, crate::specs::Bytes::ends_word))]
+    #[tactic(auto, unfolding(shgrammar::specs::Words::a_piece, shgrammar::specs::Pieces::piece_at, shgrammar::specs::Bytes::ends_word))]
     fn take_piece(
         &mut self,
         alloc: Global,
@@ -159,7 +160,7 @@ impl<'a, S: Source, const KEEP: u8> Cursor<'a, S, KEEP> {
 
     /// The same, where the piece is still to be told.
     #[cycle(commands)]
-    #[tactic(auto, unfolding(crate::specs::Words::a_piece, crate::specs::Pieces::past_taken, crate::specs::Bytes::behind), using(crate::proofs::Stretches::place_low))]
+    #[tactic(auto, unfolding(shgrammar::specs::Words::a_piece, shgrammar::specs::Pieces::past_taken, shgrammar::specs::Bytes::behind), using(shgrammar::proofs::Stretches::place_low))]
     fn some_piece(
         &mut self,
         alloc: Global,
@@ -212,7 +213,7 @@ impl<'a, S: Source, const KEEP: u8> Cursor<'a, S, KEEP> {
 
     /// What a construct holds, up to its end.
     #[cycle(commands)]
-    #[tactic(auto, unfolding(crate::specs::Words::contents), using(crate::proofs::Turns::many_done, crate::proofs::PlainBytes::contents_stop, crate::proofs::PlainBytes::piece_and_plain))]
+    #[tactic(auto, unfolding(shgrammar::specs::Words::contents), using(shgrammar::proofs::Turns::many_done, crate::proofs::Stops::contents_stop, shgrammar::proofs::PlainBytes::piece_and_plain))]
     fn contents(
         &mut self,
         alloc: Global,
@@ -240,7 +241,7 @@ impl<'a, S: Source, const KEEP: u8> Cursor<'a, S, KEEP> {
     /// Passes the word that begins here, and answers its substitutions. Most words are plain bytes alone.
     #[cycle(commands)]
     #[inline(always)]
-    #[tactic(auto, using(crate::proofs::PlainBytes::plain_word, crate::proofs::PlainBytes::word_rest, crate::proofs::PlainBytes::word_stops, crate::proofs::PlainBytes::some_plain))]
+    #[tactic(auto, using(shgrammar::proofs::PlainBytes::plain_word, shgrammar::proofs::PlainBytes::word_rest, crate::proofs::Stops::word_stops, shgrammar::proofs::PlainBytes::some_plain))]
     pub(crate) fn pass_word(&mut self, alloc: Global, room: usize) -> Result<Vec<Subst>, Stop>
         requires { ends_word (text_of S.bytes self.old) self.old.at ≡ false }
         ensures value { Reads S.bytes self.old (a_word (level room)) result

@@ -25,9 +25,7 @@ returns-in-Ok-None-clause-report g c =
 
 pub returns-in-Ok-Some-clause-report : goal.returns-in-Ok-Some-clause-report
 returns-in-Ok-Some-clause-report g c =
-    let p = c.in-Ok.ensures.ok in
-    let found = (rw c.in-Ok-Some.field-0-is at c.in-Ok-Some.ensures) p.0 (p.1 tt c.new.ensures) in
-    let told = c.tell.ensures.told p.0 found.1.1 found.1.2 in
+    let holds = c.in-Ok.ensures.ok.1 tt c.new.ensures in
     search rules
 
 pub returns-clause-report : goal.returns-clause-report

@@ -3,7 +3,7 @@ use Rattle.shtree.specs.Nodes.{AreWithin}
 use Rattle.shtree.specs.Tree.{entries_of}
 use Rattle.shtree.specs.View.{view_entry}
 use Rattle.shread.specs.LineByLine.{Rest, Stands, bytes_of, place_of}
-use Rattle.shread.specs.Scripts.{AScript, Outcome, SoFar}
+use Rattle.shgrammar.specs.Scripts.{AScript, Outcome, SoFar}
 use Rattle.shread.proofs.all_lines.script_from.Given as goal
 
 abbrev pub invariant-lines : goal.invariant-lines

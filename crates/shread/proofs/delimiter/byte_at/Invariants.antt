@@ -1,5 +1,5 @@
 use Rattle.std.proofs.Common.{◌≡◌, ◌-◌, length}
-use Rattle.shread.specs.Bytes.{past_continuations}
+use Rattle.shgrammar.specs.Bytes.{past_continuations}
 use Rattle.shread.proofs.delimiter.byte_at.Given as goal
 
 abbrev pub invariant-continuations : goal.invariant-continuations

@@ -2,7 +2,7 @@ use Rattle.std.proofs.Common.{◌≡◌, ◌-◌, length, drop}
 use Rattle.std.specs.Prelude.{◌==◌, ◌||◌}
 use Rattle.std.specs.List.{list_any}
 use Rattle.shtree.specs.Shape.{bare}
-use Rattle.shread.specs.HereDocuments.{is_quoted}
+use Rattle.shgrammar.specs.HereDocuments.{is_quoted}
 use Rattle.shread.proofs.delimiter.is_quoted.Given as goal
 
 abbrev pub invariant-bytes : goal.invariant-bytes

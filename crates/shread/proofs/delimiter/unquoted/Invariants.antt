@@ -1,5 +1,5 @@
 use Rattle.std.proofs.Common.{◌≡◌, ◌≤◌, ◌-◌, false, length}
-use Rattle.shread.specs.HereDocuments.{not_quoted, unquoted}
+use Rattle.shgrammar.specs.HereDocuments.{not_quoted, unquoted}
 use Rattle.shread.specs.Unquoting.{rest_of}
 use Rattle.shread.proofs.delimiter.unquoted.Given as goal
 

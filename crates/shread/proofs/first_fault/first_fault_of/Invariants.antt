@@ -1,5 +1,5 @@
 use Rattle.std.proofs.Common.{◌≡◌, ◌≤◌, ◌-◌, length}
-use Rattle.shread.specs.Scripts.{first_fault_from}
+use Rattle.shgrammar.specs.Scripts.{first_fault_from}
 use Rattle.shread.proofs.first_fault.first_fault_of.Given as goal
 
 abbrev pub invariant-lines : goal.invariant-lines

@@ -3,8 +3,8 @@ use Rattle.std.proofs.lemmas.List.{map-append, take_all}
 use Rattle.shtree.specs.declared.tree.Command.TheViews.{out-List}
 use Rattle.shtree.specs.View.{view_comment, view_entry}
 use Rattle.shtree.specs.Tree.{entries_of}
-use Rattle.shread.specs.Compounds.{behind_remarks}
-use Rattle.shread.proofs.Remarks.{as_remark, list_seen, remarks_row}
+use Rattle.shgrammar.specs.Compounds.{behind_remarks}
+use Rattle.shgrammar.proofs.Remarks.{as_remark, list_seen, remarks_row}
 use Rattle.shread.proofs.for_loop.behind_remarks.Goals as goal
 
 pub returns : goal.returns

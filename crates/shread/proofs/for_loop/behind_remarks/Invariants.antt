@@ -1,6 +1,6 @@
 use Rattle.std.proofs.Common.{◌≡◌, map, take}
 use Rattle.shtree.specs.View.{view_entry}
-use Rattle.shread.proofs.Remarks.{as_remark}
+use Rattle.shgrammar.proofs.Remarks.{as_remark}
 use Rattle.shread.proofs.for_loop.behind_remarks.Given as goal
 
 abbrev pub invariant-comments : goal.invariant-comments

@@ -1,6 +1,6 @@
 use Rattle.std.proofs.Common.{rules, ◌≡◌, None}
-use Rattle.shread.specs.Search.{LineBefore}
-use Rattle.shread.proofs.Passing.{may_pass, newline_before, passed_more}
+use Rattle.shgrammar.specs.Search.{LineBefore}
+use Rattle.shgrammar.proofs.Passing.{may_pass, newline_before, passed_more}
 use Rattle.shread.proofs.front.faultless_front.Goals as goal
 
 pub lines-preserved : goal.lines-preserved

@@ -1,5 +1,5 @@
 use Rattle.std.proofs.Common.{◌≡◌, ◌<◌, ◌≤◌, ◌-◌, length, slice_get, Some}
-use Rattle.shread.specs.Search.{ArePassed}
+use Rattle.shgrammar.specs.Search.{ArePassed}
 use Rattle.shread.proofs.front.faultless_front.Given as goal
 
 abbrev pub invariant-lines : goal.invariant-lines

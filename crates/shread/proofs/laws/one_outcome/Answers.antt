@@ -1,6 +1,6 @@
 use Rattle.std.proofs.Common.{sym, ◌∙◌}
-use Rattle.shread.specs.Scripts.{line_of_text, script_at}
-use Rattle.shread.proofs.Scripts.{line_is, line_only, script_is, script_only}
+use Rattle.shgrammar.specs.Scripts.{line_of_text, script_at}
+use Rattle.shgrammar.proofs.Scripts.{line_is, line_only, script_is, script_only}
 use Rattle.shread.proofs.laws.one_outcome.Goals as goal
 
 pub returns : goal.returns

@@ -1,4 +1,4 @@
-use Rattle.shread.proofs.Anywhere.{read_word, anywhere, same_word, one_word}
+use Rattle.shgrammar.proofs.Anywhere.{read_word, anywhere, same_word, one_word}
 use Rattle.shread.proofs.laws.word_anywhere.Goals as goal
 
 pub returns : goal.returns

@@ -2,13 +2,13 @@ use Rattle.std.proofs.Common.{◌≡◌, ◌∙◌, Ok, List as Row, drop, map, 
 use Rattle.shtree.specs.Tree.{AnEntry}
 use Rattle.shtree.specs.View.{view_entry}
 use Rattle.shread.specs.Clauses.{kept, state_of}
-use Rattle.shread.specs.Form.{does}
-use Rattle.shread.specs.Levels.{level, most_open}
-use Rattle.shread.specs.Lines.{an_open_line}
-use Rattle.shread.specs.Scripts.{line_told}
-use Rattle.shread.specs.Sights.{given, standing}
-use Rattle.shread.proofs.Levels.{line_read}
-use Rattle.shread.proofs.Within.{line_within}
+use Rattle.shgrammar.specs.Form.{does}
+use Rattle.shgrammar.specs.Levels.{level, most_open}
+use Rattle.shgrammar.specs.Lines.{an_open_line}
+use Rattle.shgrammar.specs.Scripts.{line_told}
+use Rattle.shgrammar.specs.Sights.{given, standing}
+use Rattle.shgrammar.proofs.Levels.{line_read}
+use Rattle.shgrammar.proofs.Within.{line_within}
 use Rattle.shread.proofs.one_line.line_at.Goals as goal
 
 pub returns-clause-value : goal.returns-clause-value

@@ -1,5 +1,5 @@
 use Rattle.std.proofs.Common.{◌≡◌, ℕ, ◌<◌, true, slice_index}
-use Rattle.shread.specs.Plain.{is_plain}
+use Rattle.shgrammar.specs.Plain.{is_plain}
 use Rattle.shread.proofs.plain.plain_front.Given as goal
 
 abbrev pub invariant-loop-count : goal.invariant-loop-count

@@ -1,6 +1,6 @@
 use Rattle.std.proofs.Common.{◌≡◌, ◌-◌, ◌≤◌, length}
-use Rattle.shread.specs.Standing.{next_such}
-use Rattle.shread.specs.Classes.{is_sought}
+use Rattle.shgrammar.specs.Standing.{next_such}
+use Rattle.shread.specs.Sought.{is_sought}
 use Rattle.shread.proofs.search.find_in.Given as goal
 
 abbrev pub invariant-runs : goal.invariant-runs

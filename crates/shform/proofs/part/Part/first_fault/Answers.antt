@@ -1,6 +1,6 @@
 use Rattle.std.proofs.Common.{◌∙◌, None, Some, subst}
 use Rattle.shform.proofs.Parts.{first_is, found_there}
-use Rattle.shread.specs.Scripts.{FirstFault}
+use Rattle.shgrammar.specs.Scripts.{FirstFault}
 use Rattle.shform.proofs.part.Part.first_fault.Goals as goal
 
 pub returns-in-None : goal.returns-in-None

@@ -1,22 +1,22 @@
 use Rattle.std.proofs.Common.{◌≡◌, ℕ, ◌<◌, ◌≤◌, ◌+◌, ◌-◌, ◌∙◌, Ok, List as Row, length, map, ap, sym, arith}
-use Rattle.shread.specs.declared.mode.Piece.TheVariants as pieces
-use Rattle.shread.specs.Bytes.{past_continuations}
+use Rattle.shgrammar.specs.declared.mode.Piece.TheVariants as pieces
+use Rattle.shgrammar.specs.Bytes.{past_continuations}
 use Rattle.shread.specs.Clauses.{keep_of, standing_with, state_of, text_of, view_waiting}
-use Rattle.shread.specs.Comments.{span}
-use Rattle.shread.specs.Form.{does, grows, pushed}
-use Rattle.shread.specs.HereDocuments.{outer_level, own_level}
-use Rattle.shread.specs.Pieces.{piece_at}
-use Rattle.shread.specs.Plain.{ArePlain}
-use Rattle.shread.specs.Sights.{State, given}
-use Rattle.shread.specs.Substitutions.{substituted}
-use Rattle.shread.specs.Words.{having}
-use Rattle.shread.specs.Levels.{level}
+use Rattle.shgrammar.specs.Comments.{span}
+use Rattle.shgrammar.specs.Form.{does, grows, pushed}
+use Rattle.shgrammar.specs.HereDocuments.{outer_level, own_level}
+use Rattle.shgrammar.specs.Pieces.{piece_at}
+use Rattle.shgrammar.specs.Plain.{ArePlain}
+use Rattle.shgrammar.specs.Sights.{State, given}
+use Rattle.shgrammar.specs.Substitutions.{substituted}
+use Rattle.shgrammar.specs.Words.{having}
+use Rattle.shgrammar.specs.Levels.{level}
 use Rattle.shtree.specs.declared.tree.Span.{Span}
 use Rattle.shtree.specs.Bodies.{filled}
 use Rattle.shtree.specs.Tree.{ASubst, subst}
 use Rattle.shtree.specs.View.{view_list, view_subst}
-use Rattle.shread.proofs.Levels.{substitution_read}
-use Rattle.shread.proofs.PlainBytes.{ordinary_here, piece_and_plain}
+use Rattle.shgrammar.proofs.Levels.{substitution_read}
+use Rattle.shgrammar.proofs.PlainBytes.{ordinary_here, piece_and_plain}
 use Rattle.shread.proofs.cursor.Cursor.+commands.Goals as goal
 
 pub contents-pieces-preserved : goal.contents-pieces-preserved

@@ -1,13 +1,14 @@
 use Rattle.std.proofs.Common.{◌≡◌, ◌≤◌, ◌+◌, ◌*◌, ◌-◌, [], length, map}
-use Rattle.shread.specs.declared.token.Position.TheVariants.{Suffix, Command as AsCommand}
-use Rattle.shread.specs.Clauses.{Keeps, Shows, Stays, reads, reads_at, state_of, text_of}
-use Rattle.shread.specs.Commands.{item_turn, join_pipeline, joined_so, pipe_turn, piped, redirect_turn, so_many}
-use Rattle.shread.specs.Compounds.{branched, elif_turn, pattern_turn, patterned, case_turn, word_turn}
-use Rattle.shread.specs.Form.{many}
-use Rattle.shread.specs.Levels.{level}
+use Rattle.shgrammar.specs.declared.token.Position.TheVariants.{Suffix, Command as AsCommand}
+use Rattle.shread.specs.Clauses.{Keeps, Stays, reads, reads_at, state_of, text_of}
+use Rattle.shgrammar.specs.Shows.{Shows}
+use Rattle.shgrammar.specs.Commands.{item_turn, join_pipeline, joined_so, pipe_turn, piped, redirect_turn, so_many}
+use Rattle.shgrammar.specs.Compounds.{branched, elif_turn, pattern_turn, patterned, case_turn, word_turn}
+use Rattle.shgrammar.specs.Form.{many}
+use Rattle.shgrammar.specs.Levels.{level}
 use Rattle.shread.specs.Listed.{view_cases, view_listed}
-use Rattle.shread.specs.Lists.{entry_turn, list_so, list_turn}
-use Rattle.shread.specs.Words.{a_piece, contents, having}
+use Rattle.shgrammar.specs.Lists.{entry_turn, list_so, list_turn}
+use Rattle.shgrammar.specs.Words.{a_piece, contents, having}
 use Rattle.shtree.specs.View.{view_and_or_part, view_branch, view_item, view_pipeline_part, view_subst, view_word}
 use Rattle.shread.proofs.cursor.Cursor.+commands.Given as goal
 

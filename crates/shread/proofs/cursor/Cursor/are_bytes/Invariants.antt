@@ -1,5 +1,5 @@
 use Rattle.std.proofs.Common.{◌≡◌, ◌+◌, bytes_eq, drop}
-use Rattle.shread.specs.Form.{raw}
+use Rattle.shgrammar.specs.Form.{raw}
 use Rattle.shread.proofs.cursor.Cursor.are_bytes.Given as goal
 
 abbrev pub invariant-bytes : goal.invariant-bytes

@@ -1,7 +1,7 @@
 use Rattle.std.proofs.Common.{◌≡◌, ◌+◌, ◌<◌, ◌-◌, length}
 use Rattle.shread.specs.Clauses.{Stays, reads, reads_at, state_of, text_of}
-use Rattle.shread.specs.Form.{many}
-use Rattle.shread.specs.Words.{backquote_turn, backquoted}
+use Rattle.shgrammar.specs.Form.{many}
+use Rattle.shgrammar.specs.Words.{backquote_turn, backquoted}
 use Rattle.shread.proofs.cursor.Cursor.backquoted.Given as goal
 
 abbrev pub invariant-turns : goal.invariant-turns

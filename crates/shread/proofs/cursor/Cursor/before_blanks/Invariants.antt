@@ -1,5 +1,5 @@
 use Rattle.std.proofs.Common.{◌≡◌, ◌≤◌, drop}
-use Rattle.shread.specs.Standing.{before_blanks}
+use Rattle.shgrammar.specs.Standing.{before_blanks}
 use Rattle.shread.proofs.cursor.Cursor.before_blanks.Given as goal
 
 abbrev pub invariant-blanks : goal.invariant-blanks

@@ -1,7 +1,7 @@
 use Rattle.std.proofs.Common.{◌≤◌, ◌∙◌, Ok, length, map, sym, ap, arith}
 use Rattle.std.proofs.lemmas.Bool.Decides.{nat_tests}
 use Rattle.shread.specs.Clauses.{keep_of, text_of, view_waiting}
-use Rattle.shread.specs.Sights.{given}
+use Rattle.shgrammar.specs.Sights.{given}
 use Rattle.shread.proofs.Awaited.{bodies_read}
 use Rattle.shread.proofs.cursor.Cursor.bodies.Goals as goal
 

@@ -1,7 +1,7 @@
 use Rattle.std.proofs.Common.{◌≡◌, ◌≤◌, ◌-◌, length, drop, map}
 use Rattle.shread.specs.Clauses.{Keeps, text_of, view_waiting}
-use Rattle.shread.specs.HereDocuments.{bodies_from}
-use Rattle.shread.specs.Sights.{given}
+use Rattle.shgrammar.specs.HereDocuments.{bodies_from}
+use Rattle.shgrammar.specs.Sights.{given}
 use Rattle.shread.proofs.cursor.Cursor.bodies.Given as goal
 
 abbrev pub invariant-documents : goal.invariant-documents

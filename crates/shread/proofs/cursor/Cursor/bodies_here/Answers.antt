@@ -1,7 +1,7 @@
 use Rattle.std.proofs.Common.{◌≡◌, length, arith}
 use Rattle.std.proofs.lemmas.Bool.Decides.{nat_tests}
 use Rattle.shread.specs.Clauses.{keep_of, text_of}
-use Rattle.shread.specs.Sights.{given}
+use Rattle.shgrammar.specs.Sights.{given}
 use Rattle.shread.proofs.Awaited.{none_awaited}
 use Rattle.shread.proofs.cursor.Cursor.bodies_here.Goals as goal
 

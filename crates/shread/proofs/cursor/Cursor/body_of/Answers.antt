@@ -1,8 +1,8 @@
 use Rattle.std.proofs.Common.{rules, ◌≡◌, ◌+◌, ◌∙◌, ◌∷◌, ◌++◌, [], Some, drop, get_or, map, sym, ap}
 use Rattle.shread.specs.Clauses.{text_of, view_waiting}
-use Rattle.shread.specs.HereDocuments.{bodies_from, delimiter_from}
-use Rattle.shread.specs.Comments.{span}
-use Rattle.shread.specs.Sights.{given}
+use Rattle.shgrammar.specs.HereDocuments.{bodies_from, delimiter_from}
+use Rattle.shgrammar.specs.Comments.{span}
+use Rattle.shgrammar.specs.Sights.{given}
 use Rattle.shread.proofs.Awaited.{document_more}
 use Rattle.shread.proofs.cursor.Cursor.body_of.Goals as goal
 

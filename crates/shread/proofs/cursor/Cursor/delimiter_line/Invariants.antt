@@ -1,6 +1,6 @@
 use Rattle.std.proofs.Common.{◌≡◌, ◌≤◌, ◌-◌, length, drop}
 use Rattle.shread.specs.Clauses.{view_waiting}
-use Rattle.shread.specs.HereDocuments.{delimiter_from, delimiter_on}
+use Rattle.shgrammar.specs.HereDocuments.{delimiter_from, delimiter_on}
 use Rattle.shread.proofs.cursor.Cursor.delimiter_line.Given as goal
 
 abbrev pub invariant-lines : goal.invariant-lines

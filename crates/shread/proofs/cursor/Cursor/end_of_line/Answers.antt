@@ -1,10 +1,10 @@
 use Rattle.std.proofs.Common.{◌≡◌, ℕ, ◌-◌, ◌∙◌, true, ap}
-use Rattle.shread.specs.Bytes.{behind}
+use Rattle.shgrammar.specs.Bytes.{behind}
 use Rattle.shread.specs.Clauses.{keep_of, state_of, text_of}
-use Rattle.shread.specs.Sights.{given}
-use Rattle.shread.specs.Standing.{raw_stands}
-use Rattle.shread.proofs.BodiesThere.{ends_line}
-use Rattle.shread.proofs.Places.{behind_back}
+use Rattle.shgrammar.specs.Sights.{given}
+use Rattle.shgrammar.specs.Standing.{raw_stands}
+use Rattle.shgrammar.proofs.BodiesThere.{ends_line}
+use Rattle.shgrammar.proofs.Places.{behind_back}
 use Rattle.shread.proofs.cursor.Cursor.end_of_line.Goals as goal
 
 pub returns-in_ok-bodies_here-in-Newline-clause-newline : goal.returns-in_ok-bodies_here-in-Newline-clause-newline

@@ -1,5 +1,5 @@
 use Rattle.std.proofs.Common.{◌≡◌, ◌≤◌, drop}
-use Rattle.shread.specs.Form.{raw}
+use Rattle.shgrammar.specs.Form.{raw}
 use Rattle.shread.proofs.Awaited.{odd, flipped}
 use Rattle.shread.proofs.cursor.Cursor.ends_odd.Given as goal
 

@@ -1,5 +1,5 @@
 use Rattle.std.proofs.Common.{◌≡◌, ◌+◌, drop}
-use Rattle.shread.specs.Tokens.{is_word_at}
+use Rattle.shgrammar.specs.Tokens.{is_word_at}
 use Rattle.shread.proofs.cursor.Cursor.is_word.Given as goal
 
 abbrev pub invariant-letters : goal.invariant-letters

@@ -1,7 +1,8 @@
 use Rattle.std.proofs.Common.{◌≡◌, ◌≤◌, ◌-◌, length}
-use Rattle.shread.specs.Clauses.{Shows, Keeps, reads, reads_at, state_of, text_of}
-use Rattle.shread.specs.Commands.{join_so, join_turn}
-use Rattle.shread.specs.Form.{many}
+use Rattle.shgrammar.specs.Shows.{Shows}
+use Rattle.shread.specs.Clauses.{Keeps, reads, reads_at, state_of, text_of}
+use Rattle.shgrammar.specs.Commands.{join_so, join_turn}
+use Rattle.shgrammar.specs.Form.{many}
 use Rattle.shtree.specs.View.{view_join}
 use Rattle.shread.proofs.cursor.Cursor.join_on.Given as goal
 

@@ -1,5 +1,5 @@
 use Rattle.std.proofs.Common.{◌≡◌, ◌≤◌, length, drop}
-use Rattle.shread.specs.Standing.{next_of}
+use Rattle.shgrammar.specs.Standing.{next_of}
 use Rattle.shread.proofs.cursor.Cursor.next_quote.Given as goal
 
 abbrev pub invariant-near : goal.invariant-near

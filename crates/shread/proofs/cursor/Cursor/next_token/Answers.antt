@@ -1,5 +1,5 @@
 use Rattle.shread.specs.Clauses.{text_of}
-use Rattle.shread.proofs.Shown.{shown}
+use Rattle.shgrammar.proofs.Shown.{shown}
 use Rattle.shread.proofs.cursor.Cursor.next_token.Goals as goal
 
 pub returns-clause-shows : goal.returns-clause-shows

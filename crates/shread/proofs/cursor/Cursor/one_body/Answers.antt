@@ -1,7 +1,7 @@
 use Rattle.std.proofs.Common.{◌+◌, ◌∙◌, drop, map, sym, ap}
 use Rattle.shread.specs.Clauses.{text_of, view_waiting}
-use Rattle.shread.specs.HereDocuments.{bodies_from}
-use Rattle.shread.specs.Sights.{given}
+use Rattle.shgrammar.specs.HereDocuments.{bodies_from}
+use Rattle.shgrammar.specs.Sights.{given}
 use Rattle.shread.proofs.cursor.Cursor.one_body.Goals as goal
 
 pub returns-clause-read : goal.returns-clause-read

@@ -1,5 +1,5 @@
 use Rattle.std.proofs.Common.{◌≡◌, ◌≤◌, ◌-◌, length, drop}
-use Rattle.shread.specs.Bytes.{past_continuations}
+use Rattle.shgrammar.specs.Bytes.{past_continuations}
 use Rattle.shread.proofs.cursor.Cursor.past_continuations.Given as goal
 
 abbrev pub invariant-continuations : goal.invariant-continuations

@@ -1,7 +1,7 @@
 use Rattle.std.proofs.Common.{◌≡◌, ◌≤◌, ◌-◌, length, drop, false}
-use Rattle.shread.specs.Bytes.{past}
-use Rattle.shread.specs.Standing.{raw_in}
-use Rattle.shread.specs.Classes.{in_class}
+use Rattle.shgrammar.specs.Bytes.{past}
+use Rattle.shgrammar.specs.Standing.{raw_in}
+use Rattle.shgrammar.specs.Classes.{in_class}
 use Rattle.shread.proofs.cursor.Cursor.past_joined.Given as goal
 
 abbrev pub invariant-joined : goal.invariant-joined

@@ -1,6 +1,6 @@
 use Rattle.std.proofs.Common.{◌≡◌, ◌≤◌, ◌-◌, length, drop}
-use Rattle.shread.specs.Standing.{raw_past}
-use Rattle.shread.specs.Classes.{in_class}
+use Rattle.shgrammar.specs.Standing.{raw_past}
+use Rattle.shgrammar.specs.Classes.{in_class}
 use Rattle.shread.proofs.cursor.Cursor.raw_past.Given as goal
 
 abbrev pub invariant-bytes : goal.invariant-bytes

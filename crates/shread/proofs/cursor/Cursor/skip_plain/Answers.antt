@@ -1,6 +1,6 @@
 use Rattle.std.proofs.Common.{◌≤◌, length, drop, arith}
-use Rattle.shread.specs.Plain.{is_plain}
-use Rattle.shread.proofs.Runs.{run_all}
+use Rattle.shgrammar.specs.Plain.{is_plain}
+use Rattle.shgrammar.proofs.Runs.{run_all}
 use Rattle.shread.proofs.cursor.Cursor.skip_plain.Goals as goal
 
 pub returns-clause-plain : goal.returns-clause-plain

@@ -1,6 +1,6 @@
 use Rattle.std.proofs.Common.{◌∙◌, ◌||◌, ◌++◌, Bool, List, [], ◌∷◌, Option, ℕ, drop, sym, ap}
-use Rattle.shread.specs.HereDocuments.{dollar_left, unquoted}
-use Rattle.shread.specs.Standing.{is_byte}
+use Rattle.shgrammar.specs.HereDocuments.{dollar_left, unquoted}
+use Rattle.shgrammar.specs.Standing.{is_byte}
 use Rattle.shread.specs.Unquoting.{left_of, view_quoting}
 use Rattle.shread.proofs.Unquoted.{dollar_on, dollar_opens}
 use Rattle.shread.proofs.delimiter.Unquoting.dollar.Goals as goal

@@ -1,4 +1,4 @@
-use Rattle.shread.proofs.Answered.{fault_alone}
+use Rattle.shgrammar.proofs.Answered.{fault_alone}
 use Rattle.shread.proofs.reader.Reader.first_fault.Goals as goal
 
 pub returns-clause-only : goal.returns-clause-only

@@ -1,7 +1,7 @@
 use Rattle.std.proofs.Common.{drop}
-use Rattle.shread.proofs.Answered.{line_alone, line_answered}
-use Rattle.shread.proofs.SameLine.{no_further, same_bytes}
-use Rattle.shread.proofs.Within.{entries_within}
+use Rattle.shgrammar.proofs.Answered.{line_alone, line_answered}
+use Rattle.shgrammar.proofs.SameLine.{no_further, same_bytes}
+use Rattle.shgrammar.proofs.Within.{entries_within}
 use Rattle.shread.proofs.reader.Reader.read_line.Goals as goal
 
 pub returns-clause-only : goal.returns-clause-only

@@ -1,5 +1,5 @@
-use Rattle.shread.proofs.Answered.{script_alone}
-use Rattle.shread.proofs.NormalForm.{script_in_normal_form}
+use Rattle.shgrammar.proofs.Answered.{script_alone}
+use Rattle.shgrammar.proofs.NormalForm.{script_in_normal_form}
 use Rattle.shread.proofs.reader.Reader.read_script.Goals as goal
 
 pub returns-clause-only : goal.returns-clause-only

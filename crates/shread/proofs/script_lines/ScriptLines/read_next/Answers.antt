@@ -1,5 +1,5 @@
 use Rattle.std.proofs.Common.{refl}
-use Rattle.shread.specs.Sights.{standing}
+use Rattle.shgrammar.specs.Sights.{standing}
 use Rattle.shread.proofs.LineByLine.{fault_told, line_read}
 use Rattle.shread.proofs.script_lines.ScriptLines.read_next.Goals as goal
 

@@ -1,10 +1,10 @@
 use Rattle.std.proofs.Common.{◌≡◌, ◌∙◌, map, refl, sym, subst, false, true, Ok}
-use Rattle.shread.specs.declared.keep.Keep.TheVariants.{Outer}
+use Rattle.shgrammar.specs.declared.keep.Keep.TheVariants.{Outer}
 use Rattle.shtree.specs.View.{view_entry}
-use Rattle.shread.specs.Scripts.{line_from}
-use Rattle.shread.specs.Sights.{standing}
+use Rattle.shgrammar.specs.Scripts.{line_from}
+use Rattle.shgrammar.specs.Sights.{standing}
 use Rattle.shread.proofs.LineByLine.{fault_told}
-use Rattle.shread.proofs.Passing.{newline_behind, stops_faulty, stops_unended}
+use Rattle.shgrammar.proofs.Passing.{newline_behind, stops_faulty, stops_unended}
 use Rattle.shread.proofs.script_lines.ScriptLines.read_whole.Goals.{else-newline-via-then-newline+else-ends_in_newline, else-newline-via-else-newline}
 use Rattle.shread.proofs.script_lines.ScriptLines.read_whole.Goals as goal
 

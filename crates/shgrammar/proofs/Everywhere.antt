@@ -1,0 +1,282 @@
+-- No span of what was read, that of a here-document's body among them, names an offset behind the place where the reading stands then.
+use Rattle.std.proofs.Common.{◌≡◌, sym, subst, ℕ, zero, suc, ◌+◌, ◌≤◌, Bool, Ok, List, List as Row, [], ◌∷◌, Option, Some, None, arith}
+use Rattle.std.specs.Prelude.{All, unwrap_or}
+use Rattle.std.proofs.lemmas.List.Elements.{All-head, All-nil, All-tail}
+use Rattle.shgrammar.specs.declared.keep.Keep.TheVariants.{Whole}
+use Rattle.shgrammar.specs.declared.token.Closing.{Closing}
+use Rattle.shgrammar.specs.declared.token.Closing.TheVariants as closings
+use Rattle.shgrammar.specs.declared.token.Next.{Next}
+use Rattle.shgrammar.specs.declared.token.Opener.{Opener}
+use Rattle.shgrammar.specs.declared.token.Opener.TheVariants as openers
+use Rattle.shgrammar.specs.declared.token.Position.{Position}
+use Rattle.shgrammar.specs.declared.token.Position.TheVariants.{Suffix}
+use Rattle.shtree.specs.declared.tree.Span.{Span}
+use Rattle.shtree.specs.Nodes.{IsSpanWithin}
+use Rattle.shtree.specs.Tree.{ACommand, AnEntry, ASubst, AWord, Entries, entries_of, simple, compound, function}
+use Rattle.shtree.proofs.Going.{row_filled}
+use Rattle.shgrammar.specs.Sights.{Given, given, State, standing}
+use Rattle.shgrammar.specs.HereDocuments.{own_level}
+use Rattle.shgrammar.specs.Form.{Spelled, does}
+use Rattle.shgrammar.specs.Words.{Inner}
+use Rattle.shgrammar.specs.Commands.{is_pipe, begins_word, opener_of, Items, so_many, is_word, is_double_semicolon}
+use Rattle.shgrammar.specs.Lists.{list_so, none_listed, Listed}
+use Rattle.shgrammar.specs.Compounds.{held_apart, Branched, branched, Closed, is_closing, is_open_paren, is_close_paren, passed, closing, a_branch, elif_turn, an_else, an_if, a_loop, a_group, a_for_name, a_sequential_sep, Headed, word_turn, for_words, a_for_head, behind_remarks, a_for, a_form, a_compound, a_function, under_name, a_case_word, begins_pattern, Patterned, a_pattern, one_pattern, pattern_turn, a_pattern_list, a_body, body_end, ItemEnd, a_double_semicolon, an_item_end, CasesSo, cases_so, one_case, case_turn, a_case_head, a_case}
+use Rattle.shgrammar.specs.Substitutions.{substituted, a_substitution, one_substitution}
+use Rattle.shgrammar.specs.Levels.{most_open, level}
+use Rattle.shgrammar.specs.Lines.{an_open_line, a_line}
+use Rattle.shgrammar.specs.Scripts.{the_line}
+use Rattle.shgrammar.specs.Everywhere.{Throughout}
+use Rattle.shgrammar.proofs.OneOutcome.{is}
+use Rattle.shgrammar.proofs.Holds.{Holds}
+use Rattle.shgrammar.proofs.UpToLimit.{UpTo, Stepped, adds, after, bare_token, ending, first, first_on, gives, in_level, picks, pushes, repeats, sees, stands, stops, unless, in_subst}
+use Rattle.shgrammar.proofs.EachSpan.{AreIn, BranchIn, CaseIn, CommandIn, ElseIn, EntriesIn, EntryIn, ForWordsIn, FormIn, ItemIn, SubstIn, WordIn, bodies_in, branches_in, cases_in, commands_end_low, entries_in, items_in, spans_in, words_in}
+use Rattle.shgrammar.proofs.ListsEverywhere.{Fine, ItemsIn, JoinIn, ListIn, PartedIn, compound_in_by, contents_in, linebreak_in, lines_in, list_in, on_line_in, one_item_in, stopped, word_in}
+
+module _ {g : Given} {limit : ℕ} where
+  module _ {inner : Inner} (fine : Fine g limit inner) where
+    -- ---- compound commands
+
+    passed_in : (text : Spelled) (paren : Bool) (position : Position) (s : State) → UpTo g limit (passed text paren position) (λ x. IsSpanWithin limit x.0) s
+    unfolding passed
+    passed_in text paren position s = first bare_token (λ x t so. after (λ n u. gives so))
+
+    closing_in : (c : Closing) (n : Next) (s : State) → UpTo g limit (closing inner c n) (λ x. IsSpanWithin limit x.0) s
+    unfolding closing
+    closing_in c n s = picks (is_closing c n.token) (passed_in _ (is_close_paren c) _ s) (stopped inner n)
+
+    branch_in : (n : Next) (s : State) → UpTo g limit (a_branch inner n) (λ x. BranchIn limit x.0) s
+    unfolding a_branch
+    branch_in n s = first (list_in fine n s) (λ c t one. after (λ k u. first (list_in fine k.1 u) (λ b v two. gives (one, two))))
+
+    abbrev BranchesIn : Branched → Type 0
+    BranchesIn b = All (BranchIn limit) b.branches
+
+    elif_in : (b : Branched) (s : State) → BranchesIn b → UpTo g limit (elif_turn inner b) (Stepped BranchesIn) s
+    unfolding elif_turn
+    elif_in b s so =
+        picks (is_closing closings.Elif b.next.token) (after (λ k t. first (branch_in k.1 t) (λ x u one. first (pushes (BranchIn limit) so one) (λ bs v all. gives all)))) (gives so)
+
+    else_in : (n : Next) (s : State) → UpTo g limit (an_else inner n) (λ x. ElseIn limit x.0) s
+    unfolding an_else
+    else_in n s = picks (is_closing closings.Else n.token) (after (λ k t. first (list_in fine k.1 t) (λ l u so. gives so))) (gives tt)
+
+    -- what was read, and its closer
+    abbrev ClosedIn : {X : Type 0} → (X → Type 0) → Closed X → Type 0
+    ClosedIn P x = P x.what × IsSpanWithin limit x.closer
+
+    if_in : (n : Next) (s : State) → UpTo g limit (an_if inner n) (ClosedIn (FormIn limit)) s
+    unfolding an_if
+    if_in n s =
+        first (branch_in n s)
+        (λ f t one. first (repeats BranchesIn (elif_turn inner) elif_in (branched [] f.1) t (All-nil (BranchIn limit)))
+        (λ b u all. first (else_in b.next u)
+        (λ e v other. first (closing_in closings.Fi e.1 v)
+        (λ c w last. gives ((one, branches_in limit b.branches all, other), last)))))
+
+    loop_in : (n : Next) (s : State) → UpTo g limit (a_loop inner n) (ClosedIn (BranchIn limit)) s
+    unfolding a_loop
+    loop_in n s =
+        first (list_in fine n s)
+        (λ c t one. after (λ d u. first (list_in fine d.1 u) (λ b v two. first (closing_in closings.Done b.1 v) (λ e w last. gives ((one, two), last)))))
+
+    group_in : (c : Closing) (n : Next) (s : State) → UpTo g limit (a_group inner c n) (ClosedIn (EntriesIn limit)) s
+    unfolding a_group
+    group_in c n s = first (list_in fine n s) (λ l t so. first (closing_in c l.1 t) (λ k u last. gives (so, last)))
+
+    for_name_in : (n : Next) (s : State) → UpTo g limit (a_for_name inner n) (λ x. WordIn limit x.0) s
+    unfolding a_for_name
+    for_name_in n s =
+        picks (begins_word n.token) (after (λ p t. after (λ good u. first (word_in fine u) (λ w v one. picks good (after (λ m z. gives one)) stops)))) (stopped inner n)
+
+    sep_in : (cs : Row Span) (n : Next) (s : State) → AreIn limit cs → UpTo g limit (a_sequential_sep inner cs n) (JoinIn limit) s
+    unfolding a_sequential_sep
+    sep_in cs n s all = after (λ x t. first (linebreak_in cs x.1 t all) (λ l u so. picks _ (gives so) (stopped inner l.next)))
+
+    abbrev HeadIn : Headed → Type 0
+    HeadIn h = ForWordsIn limit h.words × AreIn limit h.comments
+
+    word_turn_in : (i : Items) (s : State) → ItemsIn limit i → UpTo g limit (word_turn inner i) (Stepped (ItemsIn limit)) s
+    unfolding word_turn
+    word_turn_in i s so = picks (is_word i.next.token) (one_item_in fine i Suffix s so) (gives so)
+
+    for_words_in : (cs : Row Span) (s : State) → AreIn limit cs → UpTo g limit (for_words inner cs) HeadIn s
+    unfolding for_words
+    for_words_in cs s all =
+        after (λ i t. first (repeats (ItemsIn limit) (word_turn inner) word_turn_in (so_many [] Suffix i.1) t (All-nil (ItemIn limit)))
+        (λ ws u items. first (sep_in cs ws.next u all) (λ l v so. gives (items_in limit ws.items items, so))))
+
+    for_head_in : (n : Next) (s : State) → UpTo g limit (a_for_head inner n) HeadIn s
+    unfolding a_for_head
+    for_head_in n s = after (λ x t. first (linebreak_in [] x.1 t (All-nil (IsSpanWithin limit))) (λ l u so. picks _ (for_words_in l.join.comments u so) (gives (tt, so))))
+
+    remarks_in : (cs : Row Span) (es : Entries) → AreIn limit cs → EntriesIn limit es → EntriesIn limit (behind_remarks cs es)
+    remarks_in [] es all so = so
+    remarks_in (c ∷ cs) es all so = ((All-head (IsSpanWithin limit) c cs all, tt), remarks_in cs es (All-tail (IsSpanWithin limit) c cs all) so)
+
+    for_in : (n : Next) (s : State) → UpTo g limit (a_for inner n) (ClosedIn (FormIn limit)) s
+    unfolding a_for
+    for_in n s =
+        first (for_name_in n s) (λ x t one. first (for_head_in x.1 t) (λ h u two. after (λ d v. first (group_in closings.Done d.1 v)
+        (λ b w body. gives ((one, two.0, remarks_in h.comments b.what two.1 body.0), body.1)))))
+
+    -- ---- `case`
+
+    case_word_in : (n : Next) (s : State) → UpTo g limit (a_case_word inner n) (λ x. WordIn limit x.0) s
+    unfolding a_case_word
+    case_word_in n s = picks (begins_word n.token) (first (word_in fine s) (λ w t one. after (λ m u. gives one))) (stopped inner n)
+
+    abbrev PatternsIn : Patterned → Type 0
+    PatternsIn p = All (WordIn limit) p.patterns
+
+    pattern_in : (ws : Row AWord) (s : State) → All (WordIn limit) ws → UpTo g limit (a_pattern inner ws) PatternsIn s
+    unfolding a_pattern
+    pattern_in ws s all = first (word_in fine s) (λ w t one. first (pushes (WordIn limit) all one) (λ vs u good. after (λ n v. gives good)))
+
+    one_pattern_in : (ws : Row AWord) (s : State) → All (WordIn limit) ws → UpTo g limit (one_pattern inner ws) (Stepped PatternsIn) s
+    unfolding one_pattern
+    one_pattern_in ws s all = after (λ x t. after (λ n u. picks (begins_word n.token) (first (pattern_in ws u all) (λ p v so. gives so)) (stopped inner n)))
+
+    pattern_turn_in : (p : Patterned) (s : State) → PatternsIn p → UpTo g limit (pattern_turn inner p) (Stepped PatternsIn) s
+    unfolding pattern_turn
+    pattern_turn_in p s so = picks (is_pipe p.next.token) (one_pattern_in p.patterns s so) (gives so)
+
+    patterns_in : (n : Next) (s : State) → UpTo g limit (a_pattern_list inner n) PatternsIn s
+    unfolding a_pattern_list
+    patterns_in n s =
+        picks (begins_pattern n.token) (first (pattern_in [] s (All-nil (WordIn limit))) (λ p t so. repeats PatternsIn (pattern_turn inner) pattern_turn_in p t so)) (stopped inner n)
+
+    body_in : (n : Next) (s : State) → UpTo g limit (a_body inner n) (ListIn limit) s
+    unfolding a_body
+    body_in n s = lines_in fine n s
+
+    parted_or : (parted : Option ℕ) (other : ℕ) → PartedIn limit parted → other ≤ limit → unwrap_or parted other ≤ limit
+    parted_or (Some p) other so low = so
+    parted_or None other so low = low
+
+    body_end_in : (before : ℕ) (l : Listed) → before ≤ limit → All (EntryIn limit) l.entries → PartedIn limit l.parted → body_end before l ≤ limit
+    body_end_in before l low all part = parted_or l.parted _ part (commands_end_low limit before (entries_of l.entries) low (entries_in limit l.entries all))
+
+    abbrev ItemEndIn : ItemEnd → Type 0
+    ItemEndIn e = (e.at ≤ limit) × AreIn limit e.comments
+
+    double_semicolon_in : (s : State) → UpTo g limit a_double_semicolon ItemEndIn s
+    unfolding a_double_semicolon
+    double_semicolon_in s =
+        after (λ x t. after (λ y u. first stands (λ p v low. after (λ n w. first (linebreak_in [] n w (All-nil (IsSpanWithin limit))) (λ l z so. gives (low, so))))))
+
+    item_end_in : (there : ℕ) (n : Next) (s : State) → there ≤ limit → UpTo g limit (an_item_end inner there n) ItemEndIn s
+    unfolding an_item_end
+    item_end_in there n s low =
+        picks (is_double_semicolon n.token) (double_semicolon_in s) (picks (is_closing closings.Esac n.token) (gives (low, All-nil (IsSpanWithin limit))) (stopped inner n))
+
+    -- the items so far, and the comments behind them
+    abbrev CasesIn : CasesSo → Type 0
+    CasesIn c = All (CaseIn limit) c.items × AreIn limit c.comments
+
+    one_case_in : (c : CasesSo) (s : State) → CasesIn c → UpTo g limit (one_case inner c) (Stepped CasesIn) s
+    unfolding one_case
+    one_case_in c s so =
+        first stands (λ p t begin. after (λ n u. first (patterns_in n u) (λ ps v words. first (closing_in closings.Paren ps.next v)
+        (λ k w last. first (body_in k.1 w) (λ b x body. first (item_end_in _ b.next x (body_end_in k.0.«end» b.list last.1 body.0 body.1))
+        (λ e y end. first (pushes (CaseIn limit) so.0 (spans_in limit c.comments so.1, words_in limit ps.patterns words, entries_in limit b.list.entries body.0, (begin, end.0)))
+        (λ is z all. gives (all, end.1))))))))
+
+    case_turn_in : (c : CasesSo) (s : State) → CasesIn c → UpTo g limit (case_turn inner c) (Stepped CasesIn) s
+    unfolding case_turn
+    case_turn_in c s so = picks (is_closing closings.Esac c.next.token) (gives so) (one_case_in c s so)
+
+    case_head_in : (n : Next) (s : State) → UpTo g limit (a_case_head inner n) (λ h. WordIn limit h.0 × AreIn limit h.1) s
+    unfolding a_case_head
+    case_head_in n s =
+        first (case_word_in n s) (λ w t one. first (linebreak_in [] w.1 t (All-nil (IsSpanWithin limit)))
+        (λ l u all. after (λ i v. first (linebreak_in l.join.comments i.1 v all) (λ h x more. gives (one, more)))))
+
+    case_in : (n : Next) (s : State) → UpTo g limit (a_case inner n) (ClosedIn (FormIn limit)) s
+    unfolding a_case
+    case_in n s =
+        first (case_head_in n s) (λ h t one. first (repeats CasesIn (case_turn inner) case_turn_in (cases_so [] h.1 h.2) t (All-nil (CaseIn limit), one.1))
+        (λ c u all. first (closing_in closings.Esac c.next u)
+        (λ e v last. gives ((one.0, cases_in limit c.items all.0, spans_in limit c.comments all.1), last))))
+
+    form_in : (o : Opener) (n : Next) (s : State) → UpTo g limit (a_form inner o n) (ClosedIn (FormIn limit)) s
+    form_in openers.Brace n s = first (group_in closings.Brace n s) (λ l t so. gives so)
+    form_in openers.Paren n s = first (group_in closings.Paren n s) (λ l t so. gives so)
+    form_in openers.If n s = if_in n s
+    form_in openers.While n s = first (loop_in n s) (λ l t so. gives so)
+    form_in openers.Until n s = first (loop_in n s) (λ l t so. gives so)
+    form_in openers.For n s = for_in n s
+    form_in openers.Case n s = case_in n s
+
+    -- with its tree, a compound command is the one that is held apart
+    compound_in : (o : Opener) (s : State) → UpTo g limit (a_compound inner o) (λ c. CommandIn limit c.0) s
+    unfolding a_compound
+    compound_in o s =
+        first (passed_in _ (is_open_paren o) _ s) (λ x t begin. first (form_in o x.1 t) (λ f u so. first (adds {P = λ cs. CommandIn limit (held_apart cs)} (so.0, (begin.0, so.1.1), tt)) (λ cs v good. gives good)))
+
+    -- ---- substitutions
+
+    substituted_in : (s : State) → UpTo g limit (substituted inner) (EntriesIn limit) s
+    unfolding substituted
+    substituted_in s =
+        after (λ n t. first (lines_in fine n t)
+        (λ l u all. picks (is_closing closings.Paren l.next.token) (after (λ w z. after (λ x v. gives (entries_in limit l.list.entries all.0)))) (stopped inner l.next)))
+
+    substitution_in : (b : ℕ) (ss : Row ASubst) (s : State) → b ≤ g.offset + s.at → All (SubstIn limit) ss → UpTo g limit (a_substitution inner b ss) (All (SubstIn limit)) s
+    unfolding a_substitution one_substitution
+    substitution_in b ss s from so =
+        in_subst (first_on (in_level (ending (substituted_in (own_level s))))
+        (λ es t on one. sees (unless (λ b. pushes (SubstIn limit) so (bodies_in limit es.1 es.0 one.1 one.0, (omega (arith, from, on, b), b))))))
+
+    -- ---- functions
+
+    under_in : (name : Span) (cs : Row Span) (c : ACommand) → IsSpanWithin limit name → AreIn limit cs → CommandIn limit c → CommandIn limit (under_name name cs c)
+    under_in name cs (simple items) one all so = so
+    under_in name cs (compound body) one all so = (one, spans_in limit cs all, so)
+    under_in name cs (function other ds body) one all so = so
+
+    function_in : (name : Span) (s : State) → IsSpanWithin limit name → UpTo g limit (a_function inner name) (λ c. CommandIn limit c.0) s
+    unfolding a_function
+    function_in name s one =
+        after (λ o t. after (λ c u. first (linebreak_in [] c.1 u (All-nil (IsSpanWithin limit)))
+        (λ l v all. first (compound_in_by fine l.next (opener_of l.next.token) v) (λ b w so. gives (under_in name l.join.comments b.0 one all so)))))
+
+    -- ---- lines
+
+    open_line_in : (blank : Bool) (s : State) → UpTo g limit (an_open_line inner blank) (λ x. All (EntryIn limit) x.0) s
+    unfolding an_open_line
+    open_line_in blank s = after (λ n t. first (on_line_in fine (list_so (none_listed blank) n) t (All-nil (EntryIn limit), tt)) (λ l u all. after (λ newline v. gives all.0)))
+
+    line_in : (blank : Bool) (s : State) → UpTo g limit (a_line inner blank) (λ x. EntriesIn limit (entries_of x.0)) s
+    unfolding a_line
+    line_in blank s =
+        first (in_level (open_line_in blank (own_level s)))
+        (λ l t so. gives (subst (EntriesIn limit) (sym (row_filled l.1 l.0.0)) (bodies_in limit l.1 (entries_of l.0.0) so.1 (entries_in limit l.0.0 so.0))))
+
+-- ---- where so many constructs may be open
+
+module _ (g : Given) (limit : ℕ) where
+  pub level_in : (room : ℕ) → Fine g limit (level room)
+  unfolding level
+  level_in zero = record {
+    construct = λ mode b ss s so. stops;
+    substitution = λ b ss s from so. stops;
+    compound = λ o s. after (λ p t. stops);
+    function = λ name s one. stops;
+  }
+  level_in (suc room) =
+      record {
+        construct = λ mode b ss s so. contents_in (level_in room) mode b ss s so;
+        substitution = λ b ss s from so. substitution_in (level_in room) b ss s from so;
+        compound = λ o s. compound_in (level_in room) o s;
+        function = λ name s one. function_in (level_in room) name s one;
+      }
+
+-- ---- the lines of a script
+
+-- the entries of a line that is read where it stands in a script
+pub line_throughout : (T : List ℕ) (o : ℕ) (blank newline : Bool) (es : Row AnEntry) (t : State) → does (the_line blank) Whole (given T o) (standing 0) ≡ Ok ((es, newline), t)
+    → (limit : ℕ) → o + t.at ≤ limit → Throughout (IsSpanWithin limit) (entries_of es)
+line_throughout T o blank newline es t is limit le =
+    let g = given T o in
+    let told = (line_in (level_in g limit most_open) blank (standing 0)).told.told in
+    subst (Holds (λ (x : Row AnEntry × Bool) (u : State). o + u.at ≤ limit → Throughout (IsSpanWithin limit) (entries_of x.0))) is told le

@@ -1,0 +1,40 @@
+-- What a line is, by its entries; the line at the end of a text, and the script without a byte.
+use Rattle.std.proofs.Common.{◌≡◌, ℕ, ◌<◌, Bool, true, false, List, [], ◌∷◌, None, length, map, drop, cond, refl, arith}
+use Rattle.std.proofs.Math.Seq.{drop-length}
+use Rattle.shtree.specs.Tree.{AnEntry, entries_of}
+use Rattle.shgrammar.specs.Standing.{count_front, raw_stands}
+use Rattle.shgrammar.specs.Bytes.{past, past_below, past_blanks, past_continuations, count_joined}
+use Rattle.shgrammar.specs.Tokens.{token_at}
+use Rattle.shgrammar.specs.Comments.{comment_at}
+use Rattle.shgrammar.specs.Form.{many, turns, turns_below}
+use Rattle.shgrammar.specs.Commands.{next_token, nothing_waits, a_comment}
+use Rattle.shgrammar.specs.Lines.{blank_line, end_line, entries_line, kind_of, end_of_line, an_open_line, a_line}
+use Rattle.shtree.specs.Bodies.{filled_row}
+use Rattle.shgrammar.specs.Lists.{entry_turn, a_remark, on_line}
+use Rattle.shgrammar.specs.Scripts.{line_of_text, script_at, script_below, script_on}
+
+pub kind_of_none : {X : Type 0} (view : X → AnEntry) (xs : List X) (newline : Bool) → length xs ≡ 0 → kind_of (map view xs) newline ≡ cond newline blank_line end_line
+kind_of_none view [] true e = refl
+kind_of_none view [] false e = refl
+kind_of_none view (x ∷ xs) newline e = absurd (omega arith)
+
+pub kind_of_some : {X : Type 0} (view : X → AnEntry) (xs : List X) (newline : Bool) → 0 < length xs → kind_of (map view xs) newline ≡ entries_line (entries_of (map view xs))
+kind_of_some view [] newline lt = absurd (omega arith)
+kind_of_some view (x ∷ xs) newline lt = refl
+
+nothing : line_of_text [] ≡ record { kind = end_line; next = 0; ended = false }
+unfolding line_of_text a_line an_open_line nothing_waits filled_row next_token on_line many turns turns_below entry_turn a_remark a_comment end_of_line token_at comment_at raw_stands past count_front past_blanks past_continuations count_joined past_below
+nothing = refl
+
+-- at the length nothing is left to read
+pub nothing_left : (B : List ℕ) (at : ℕ) → at ≡ length B → line_of_text (drop at B) ≡ record { kind = end_line; next = 0; ended = false }
+nothing_left B at e = rw (e, drop-length B) nothing
+
+nothing_at_all : script_at [] ≡ record { entries = entries_of []; wrong = None }
+unfolding script_at script_on script_below a_line an_open_line nothing_waits filled_row next_token on_line many turns turns_below entry_turn a_remark a_comment end_of_line token_at comment_at raw_stands past count_front past_blanks past_continuations count_joined past_below
+nothing_at_all = refl
+
+-- a script without a byte has no entry and no fault
+pub nothing_read : (B : List ℕ) → length B ≡ 0 → script_at B ≡ record { entries = entries_of []; wrong = None }
+nothing_read [] e = nothing_at_all
+nothing_read (b ∷ B) e = absurd (omega arith)

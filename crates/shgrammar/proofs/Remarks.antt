@@ -1,0 +1,20 @@
+-- Comments before a list, as the code has them.
+use Rattle.std.proofs.Common.{◌≡◌, List as Row, [], ◌∷◌, ◌++◌, map, false, None, rules, refl, ap}
+use Rattle.shtree.specs.declared.tree.Comment.{Comment}
+use Rattle.shtree.specs.declared.tree.List as the_list
+use Rattle.shtree.specs.declared.tree.Command.TheViews.{out-List}
+use Rattle.shtree.specs.declared.tree.Command.TheFolds.{fold_out-List}
+use Rattle.shtree.specs.Tree.{AnEntry, entries_of, entry, more_entries, remark}
+use Rattle.shtree.specs.View.{view_comment, view_entry, view_list}
+use Rattle.shgrammar.specs.Compounds.{behind_remarks}
+
+pub list_seen : (l : the_list.List) → view_list l ≡ entries_of (map view_entry (out-List l).entries.items)
+list_seen l = search (rules, fold_out-List)
+
+-- a comment as an entry
+abbrev pub as_remark : Comment → AnEntry
+as_remark c = entry (remark (view_comment c)) false false None
+
+pub remarks_row : (cs : Row Comment) (es : Row AnEntry) → behind_remarks (map view_comment cs) (entries_of es) ≡ entries_of (map as_remark cs ++ es)
+remarks_row [] es = refl
+remarks_row (c ∷ cs) es = ap (more_entries (as_remark c)) (remarks_row cs es)

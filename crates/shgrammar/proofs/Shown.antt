@@ -1,0 +1,164 @@
+-- What a token says of the bytes from its first one on.
+use Rattle.std.proofs.Common.{◌≡◌, ℕ, ◌<◌, ◌==◌, Bool, true, false, List, length, Option, Some, None, slice_get, refl, sym, ap, ◌∙◌}
+use Rattle.std.proofs.lemmas.Bool.{eqb-true, or_from, cond_both}
+use Rattle.std.proofs.lemmas.Option.{slice_get_within}
+use Rattle.shgrammar.specs.declared.token.Position.{Position}
+use Rattle.shgrammar.specs.declared.token.Position.TheVariants.{Command, Prefix, Suffix}
+use Rattle.shgrammar.specs.declared.token.Reserved.{Reserved}
+use Rattle.shgrammar.specs.declared.token.Token.{Token}
+use Rattle.shgrammar.specs.declared.token.Token.TheVariants as tokens
+use Rattle.shtext.specs.Text.{is_newline}
+use Rattle.shgrammar.specs.Classes.{is_blank, is_operator}
+use Rattle.shgrammar.specs.Standing.{is_byte, is_none, passes, raw_stands, at_end}
+use Rattle.shgrammar.specs.Bytes.{byte_at, behind, ends, ends_word, past_blanks, past_continuations, stands, stands_in}
+use Rattle.shtree.specs.declared.tree.RedirectOperator.{RedirectOperator}
+use Rattle.shgrammar.specs.Commands.{is_long, is_strip, redirect_operator_of}
+use Rattle.shgrammar.specs.Tokens.{first_word, greater_at, is_comment, is_end, is_number, less_at, token_at, token_of, word_by, word_of}
+use Rattle.shgrammar.specs.Shows.{IsRead, Shows}
+use Rattle.shgrammar.proofs.Places.{blanks_stop, place_same}
+
+byte_read : (T : List ℕ) (q c : ℕ) (b : Option ℕ) → slice_get T q ≡ b → is_byte b c ≡ true → q < length T
+byte_read T q c None is e = absurd cc
+byte_read T q c (Some b) is e = slice_get_within T q b is
+
+stands_read : (T : List ℕ) (q c : ℕ) → stands T q c ≡ true → IsRead T q
+unfolding stands
+stands_read T q c e = byte_read T (past_continuations T q) c _ refl e
+
+some_read : (T : List ℕ) (q : ℕ) (b : Option ℕ) → slice_get T q ≡ b → is_none b ≡ false → q < length T
+some_read T q None is e = absurd cc
+some_read T q (Some b) is e = slice_get_within T q b is
+
+-- a byte that is none of these is no operator
+no_operator : (b : ℕ) → (b == 38) ≡ false → (b == 124) ≡ false → (b == 59) ≡ false → (b == 40) ≡ false → (b == 41) ≡ false → (b == 60) ≡ false → (b == 62) ≡ false → is_operator b ≡ false
+no_operator b one two three four five six seven = rw (one, two, three, four, five, six, seven) refl
+
+-- what the bytes at p are, by the token
+abbrev Byte : List ℕ → ℕ → Option ℕ → Token → Type 0
+Byte T p b tokens.End = is_none b ≡ true
+Byte T p b tokens.Newline = is_byte b 10 ≡ true
+Byte T p b tokens.AndIf = IsRead T (behind T p)
+Byte T p b tokens.OrIf = IsRead T (behind T p)
+Byte T p b tokens.DoubleSemicolon = IsRead T (behind T p)
+Byte T p b (tokens.Redirect o) = (is_long o ≡ true → IsRead T (behind T p)) × (is_strip o ≡ true → IsRead T (behind T (behind T p)))
+Byte T p b (tokens.Reserved r) = ends b ≡ false
+Byte T p b tokens.Assignment = ends b ≡ false
+Byte T p b tokens.Word = ends b ≡ false
+Byte T p b _ = Unit {0}
+
+module _ (T : List ℕ) (p : ℕ) where
+  word_is : (b : Option ℕ) (assigns : Bool) → ends b ≡ false → Byte T p b (word_of assigns)
+  word_is b true e = e
+  word_is b false e = e
+
+  first_is : (b : Option ℕ) (assigns : Bool) (r : Option Reserved) → ends b ≡ false → Byte T p b (first_word assigns r)
+  first_is b assigns None e = word_is b assigns e
+  first_is b assigns (Some r) e = e
+
+  in_position : (position : Position) (b : Option ℕ) → ends b ≡ false → Byte T p b (word_by position T p)
+  in_position Command b e = first_is b _ _ e
+  in_position Prefix b e = word_is b _ e
+  in_position Suffix b e = e
+
+  -- an operator of two bytes or more has a second one
+  abbrev Long : RedirectOperator → Type 0
+  Long o = is_long o ≡ true → IsRead T (behind T p)
+
+  less_long : Long (less_at T (behind T p))
+  unfolding less_at
+  less_long =
+      cond_both (stands T (behind T p) 60) _ _ Long (λ e. cond_both (stands T (behind T (behind T p)) 45) _ _ Long (λ f l. stands_read T (behind T p) 60 e) (λ f l. stands_read T (behind T p) 60 e))
+      (λ e. cond_both (stands T (behind T p) 38) _ _ Long (λ f l. stands_read T (behind T p) 38 f)
+      (λ f. cond_both (stands T (behind T p) 62) _ _ Long (λ g l. stands_read T (behind T p) 62 g) (λ g l. absurd cc)))
+
+  -- `<<-` has a third one
+  abbrev Strip : RedirectOperator → Type 0
+  Strip o = is_strip o ≡ true → IsRead T (behind T (behind T p))
+
+  less_strip : Strip (less_at T (behind T p))
+  unfolding less_at
+  less_strip =
+      cond_both (stands T (behind T p) 60) _ _ Strip (λ e. cond_both (stands T (behind T (behind T p)) 45) _ _ Strip (λ f l. stands_read T (behind T (behind T p)) 45 f) (λ f l. absurd cc))
+      (λ e. cond_both (stands T (behind T p) 38) _ _ Strip (λ f l. absurd cc) (λ f. cond_both (stands T (behind T p) 62) _ _ Strip (λ g l. absurd cc) (λ g l. absurd cc)))
+
+  greater_strip : Strip (greater_at T (behind T p))
+  unfolding greater_at
+  greater_strip =
+      cond_both (stands T (behind T p) 62) _ _ Strip (λ e l. absurd cc)
+      (λ e. cond_both (stands T (behind T p) 38) _ _ Strip (λ f l. absurd cc) (λ f. cond_both (stands T (behind T p) 124) _ _ Strip (λ g l. absurd cc) (λ g l. absurd cc)))
+
+  greater_long : Long (greater_at T (behind T p))
+  unfolding greater_at
+  greater_long =
+      cond_both (stands T (behind T p) 62) _ _ Long (λ e l. stands_read T (behind T p) 62 e)
+      (λ e. cond_both (stands T (behind T p) 38) _ _ Long (λ f l. stands_read T (behind T p) 38 f)
+      (λ f. cond_both (stands T (behind T p) 124) _ _ Long (λ g l. stands_read T (behind T p) 124 g) (λ g l. absurd cc)))
+
+  -- by the byte
+  token_byte : (position : Position) (b : Option ℕ) → passes is_blank b ≡ false → Byte T p b (token_of position T p b)
+  token_byte position None blank = refl
+  token_byte position (Some b) blank =
+      let P = Byte T p (Some b) in
+      cond_both (is_newline b) _ _ P (λ e. e)
+      (λ n. cond_both (b == 59) _ _ P (λ e. cond_both (stands T (behind T p) 59) _ _ P (λ f. stands_read T (behind T p) 59 f) (λ f. tt))
+      (λ e. cond_both (b == 38) _ _ P (λ f. cond_both (stands T (behind T p) 38) _ _ P (λ g. stands_read T (behind T p) 38 g) (λ g. tt))
+      (λ f. cond_both (b == 124) _ _ P (λ g. cond_both (stands T (behind T p) 124) _ _ P (λ h. stands_read T (behind T p) 124 h) (λ h. tt))
+      (λ i. cond_both (b == 40) _ _ P (λ g. tt)
+      (λ j. cond_both (b == 41) _ _ P (λ g. tt)
+      (λ k. cond_both (b == 60) _ _ P (λ g. (less_long, less_strip))
+      (λ l. cond_both (b == 62) _ _ P (λ g. (greater_long, greater_strip))
+      (λ m. cond_both (b == 35) _ _ P (λ g. tt)
+      (λ g. cond_both (is_number T p) _ _ P (λ h. tt) (λ h. in_position position (Some b) (or_from _ _ (or_from _ _ blank n) (no_operator b f i e j k l m))))))))))))
+
+  -- a token that is not the end has a byte
+  some_byte : (position : Position) (b : Option ℕ) → is_end (token_of position T p b) ≡ false → is_none b ≡ false
+  some_byte position None e = absurd cc
+  some_byte position (Some b) e = refl
+
+  -- a `#` begins a comment
+  hash_byte : (position : Position) (b : Option ℕ) → is_byte b 35 ≡ true → is_comment (token_of position T p b) ≡ true
+  hash_byte position None e = absurd cc
+  hash_byte position (Some b) e = rw (eqb-true b 35 e) refl
+
+  no_hash : (position : Position) (b : Option ℕ) (hash : Bool) → is_byte b 35 ≡ hash → is_comment (token_of position T p b) ≡ false → is_byte b 35 ≡ false
+  no_hash position b true is e =
+      let contrary : true ≡ false = sym (hash_byte position b is) ∙ e in
+      absurd cc
+  no_hash position b false is e = is
+
+redirect_read : (T : List ℕ) (p : ℕ) (o : RedirectOperator) → (is_long o ≡ true → IsRead T (behind T p)) → (z : RedirectOperator) → redirect_operator_of (tokens.Redirect o) ≡ Some z → is_long z ≡ true → IsRead T (behind T p)
+redirect_read T p o so z is long = let same : o ≡ z = cc in so (rw same long)
+
+strip_read : (T : List ℕ) (p : ℕ) (o : RedirectOperator) → (is_strip o ≡ true → IsRead T (behind T (behind T p))) → (z : RedirectOperator) → redirect_operator_of (tokens.Redirect o) ≡ Some z → is_strip z ≡ true → IsRead T (behind T (behind T p))
+strip_read T p o so z is strip = let same : o ≡ z = cc in so (rw same strip)
+
+shows_by : (T : List ℕ) (p : ℕ) (t : Token) → past_continuations T p ≡ p → (is_end t ≡ false → IsRead T p) → Byte T p (byte_at T p) t → (is_comment t ≡ false → raw_stands T p 35 ≡ false) → Shows t T p
+unfolding ends_word raw_stands at_end
+shows_by T p tokens.End still some e none = (λ f. absurd cc, some, λ f. absurd cc, λ f. ap (λ q. is_none (slice_get T q)) (sym still) ∙ e, λ o f. absurd cc, none, still, λ f. absurd cc, λ f. absurd cc, λ o f. absurd cc, λ o f. absurd cc)
+shows_by T p tokens.Newline still some e none = (λ f. absurd cc, some, λ f. ap (λ q. is_byte (slice_get T q) 10) (sym still) ∙ e, λ f. absurd cc, λ o f. absurd cc, none, still, λ f. absurd cc, λ f. absurd cc, λ o f. absurd cc, λ o f. absurd cc)
+shows_by T p tokens.Semicolon still some e none = (λ f. absurd cc, some, λ f. absurd cc, λ f. absurd cc, λ o f. absurd cc, none, still, λ f. absurd cc, λ f. absurd cc, λ o f. absurd cc, λ o f. absurd cc)
+shows_by T p tokens.DoubleSemicolon still some e none = (λ f. absurd cc, some, λ f. absurd cc, λ f. absurd cc, λ o f. absurd cc, none, still, λ f. absurd cc, λ f. e, λ o f. absurd cc, λ o f. absurd cc)
+shows_by T p tokens.Ampersand still some e none = (λ f. absurd cc, some, λ f. absurd cc, λ f. absurd cc, λ o f. absurd cc, none, still, λ f. absurd cc, λ f. absurd cc, λ o f. absurd cc, λ o f. absurd cc)
+shows_by T p tokens.AndIf still some e none = (λ f. absurd cc, some, λ f. absurd cc, λ f. absurd cc, λ o f. e, none, still, λ f. absurd cc, λ f. absurd cc, λ o f. absurd cc, λ o f. absurd cc)
+shows_by T p tokens.OrIf still some e none = (λ f. absurd cc, some, λ f. absurd cc, λ f. absurd cc, λ o f. e, none, still, λ f. absurd cc, λ f. absurd cc, λ o f. absurd cc, λ o f. absurd cc)
+shows_by T p tokens.Pipe still some e none = (λ f. absurd cc, some, λ f. absurd cc, λ f. absurd cc, λ o f. absurd cc, none, still, λ f. absurd cc, λ f. absurd cc, λ o f. absurd cc, λ o f. absurd cc)
+shows_by T p tokens.OpenParen still some e none = (λ f. absurd cc, some, λ f. absurd cc, λ f. absurd cc, λ o f. absurd cc, none, still, λ f. absurd cc, λ f. absurd cc, λ o f. absurd cc, λ o f. absurd cc)
+shows_by T p tokens.CloseParen still some e none = (λ f. absurd cc, some, λ f. absurd cc, λ f. absurd cc, λ o f. absurd cc, none, still, λ f. absurd cc, λ f. absurd cc, λ o f. absurd cc, λ o f. absurd cc)
+shows_by T p (tokens.Redirect z) still some e none = (λ f. absurd cc, some, λ f. absurd cc, λ f. absurd cc, λ o f. absurd cc, none, still, λ f. absurd cc, λ f. absurd cc, redirect_read T p z e.0, strip_read T p z e.1)
+shows_by T p tokens.Comment still some e none = (λ f. absurd cc, some, λ f. absurd cc, λ f. absurd cc, λ o f. absurd cc, none, still, λ f. absurd cc, λ f. absurd cc, λ o f. absurd cc, λ o f. absurd cc)
+shows_by T p tokens.Number still some e none = (λ f. absurd cc, some, λ f. absurd cc, λ f. absurd cc, λ o f. absurd cc, none, still, λ f. absurd cc, λ f. absurd cc, λ o f. absurd cc, λ o f. absurd cc)
+shows_by T p (tokens.Reserved r) still some e none = (λ f. absurd cc, some, λ f. absurd cc, λ f. absurd cc, λ o f. absurd cc, none, still, λ f. e, λ f. absurd cc, λ o f. absurd cc, λ o f. absurd cc)
+shows_by T p tokens.Assignment still some e none = (λ f. e, some, λ f. absurd cc, λ f. absurd cc, λ o f. absurd cc, none, still, λ f. e, λ f. absurd cc, λ o f. absurd cc, λ o f. absurd cc)
+shows_by T p tokens.Word still some e none = (λ f. e, some, λ f. absurd cc, λ f. absurd cc, λ o f. absurd cc, none, still, λ f. e, λ f. absurd cc, λ o f. absurd cc, λ o f. absurd cc)
+
+pub blanks_still : (T : List ℕ) (p : ℕ) → past_continuations T (past_blanks T p) ≡ past_blanks T p
+unfolding past_blanks
+blanks_still T p = place_same T _
+
+-- a token says this of the bytes behind blanks
+pub shown : (position : Position) (T : List ℕ) (p : ℕ) → Shows (token_at position T (past_blanks T p)) T (past_blanks T p)
+unfolding token_at stands_in raw_stands
+shown position T p =
+    let q = past_blanks T p in
+    shows_by T q _ (blanks_still T p) (λ e. some_read T _ _ refl (some_byte T q position (byte_at T q) e)) (token_byte T q position (byte_at T q) (blanks_stop T p))
+    (λ e. ap (λ r. is_byte (slice_get T r) 35) (sym (blanks_still T p)) ∙ no_hash T q position (byte_at T q) _ refl e)

@@ -1,0 +1,322 @@
+-- A word that begins within its text ends within it, where a byte ends words or the text ends.
+use Rattle.std.proofs.Common.{◌≡◌, ℕ, zero, suc, ◌+◌, ◌-◌, ◌≤◌, ◌<◌, ◌==◌, Bool, true, false, not, Ok, Err, List, List as Row, [], length, Option, Some, None, refl, sym, subst, ◌∙◌, arith}
+use Rattle.std.proofs.lemmas.Bool.{cond_both}
+use Rattle.std.proofs.lemmas.Option.{slice_get_within}
+use Rattle.shgrammar.specs.declared.keep.Keep.TheVariants.{Whole}
+use Rattle.shgrammar.specs.declared.mode.Mode.{Mode}
+use Rattle.shgrammar.specs.declared.mode.Mode.TheVariants.{Plain, Double, Brace, DoubleBrace, Arith}
+use Rattle.shgrammar.specs.declared.mode.Piece.{Piece}
+use Rattle.shgrammar.specs.declared.mode.Piece.TheVariants as pieces
+use Rattle.shgrammar.specs.declared.token.Closing.TheVariants as closings
+use Rattle.shgrammar.specs.declared.token.Position.TheVariants.{Command}
+use Rattle.shgrammar.specs.Standing.{raw_stands, at_end}
+use Rattle.shgrammar.specs.Bytes.{ends, ends_word, past_continuations, byte_at, behind, stands}
+use Rattle.shgrammar.specs.Pieces.{dollar_by, dollar_at, bracket_by, byte_by, piece_by, piece_at, end_by, past_taken, past_closer, past_parameter, next_quote, next_in_backquotes, is_last_backslash, rest_mode}
+use Rattle.shtree.specs.Tree.{ASubst, entries_of}
+use Rattle.shgrammar.specs.Sights.{Given, State, standing, one_byte}
+use Rattle.shgrammar.specs.Form.{Read, Form, give, move, ◌>>◌, Step, again, done, step_if, as_it_stands, token, many, does}
+use Rattle.shgrammar.specs.Words.{single, backquote_turn, backquoted, Inner, Held, having, opened, piece_row, a_piece, contents, a_word}
+use Rattle.shgrammar.specs.HereDocuments.{first_waiting, own_level}
+use Rattle.shgrammar.specs.Commands.{none_waits, nothing_waits, pick, unexpected}
+use Rattle.shgrammar.specs.Lists.{ListSo}
+use Rattle.shgrammar.specs.Compounds.{is_closing}
+use Rattle.shgrammar.specs.Substitutions.{substituted, a_substitution, one_substitution}
+use Rattle.shgrammar.specs.Levels.{level, IsWord}
+use Rattle.shgrammar.proofs.Stretches.{place_low}
+use Rattle.shgrammar.proofs.Places.{behind_low, behind_high, stands_low, not_end_low, next_of_low, next_in_backquotes_low, parameter_low, parameter_high, quote_clear}
+use Rattle.shgrammar.proofs.Turns.{turns_fault, many_again, many_done}
+use Rattle.shgrammar.proofs.Holds.{tells_level, Holds, holds_then, Tells, Turned, tells_then, tells_many, tells_after, tells_seen, tells_ending, Behind, low, tells_inside}
+use Rattle.shgrammar.proofs.TokensShown.{Begins, Fine, paren_here, shown_level, shown_lines, shown_next}
+use Rattle.shgrammar.proofs.Ahead.{behind_is}
+use Rattle.shgrammar.proofs.OneOutcome.{is}
+
+-- behind a byte, or two
+taken_on : (T : List ℕ) (q : ℕ) → q < length T → (raw_stands T q 92 ≡ true → q + 1 < length T) → (q < past_taken T q) × (past_taken T q ≤ length T)
+unfolding past_taken
+taken_on T q lt next = cond_both (raw_stands T q 92) _ _ (λ n. (q < q + n) × (q + n ≤ length T)) (λ e. (omega arith, omega (arith, next e))) (λ e. (omega arith, omega (arith, lt)))
+
+-- a backslash that is not the last byte
+not_last : (T : List ℕ) (q : ℕ) → is_last_backslash T q ≡ false → raw_stands T q 92 ≡ true → q + 1 < length T
+not_last T q none e = not_end_low T (q + 1) (rw e at none)
+
+module _ (g : Given) where
+  abbrev T : List ℕ
+  T = g.text
+
+  abbrev placed : ℕ → State → State
+  placed p s = record { at = p; waiting = s.waiting; bodies = s.bodies }
+
+  -- to the right of s, and within the text
+  abbrev On : {X : Type 0} → State → X → State → Type 0
+  On s x t = (s.at < t.at) × (t.at ≤ length T)
+
+  -- ---- turns that move on within the text
+
+  abbrev Ends : {A : Type 0} → (State → Type 0) → State → Step A → State → Type 0
+  Ends Q s (again a) t = On s a t
+  Ends Q s (done a) t = Q t
+
+  module _ {A : Type 0} (turn : A → Form (Step A)) (Q : State → Type 0) (each : (a : A) (s : State) → s.at ≤ length T → Holds (Ends Q s) (does (turn a) Whole g s)) where
+    abbrev Ended : A → State → Type 0
+    Ended a s = Holds (λ (b : A) (t : State). Q t) (does (many turn a) Whole g s)
+
+    by_turn : (a : A) (s : State) (x : Read (Step A)) → does (turn a) Whole g s ≡ x → Holds (Ends Q s) x
+        → ((b : A) (t : State) → length T - t.at < length T - s.at → t.at ≤ length T → Ended b t) → Ended a s
+    unfolding many
+    by_turn a s (Err e) is good rest = rw (turns_fault g (λ b t. does (turn b) Whole g t) a s e is) tt
+    by_turn a s (Ok (done b, t)) is good rest = subst (Holds (λ (c : A) (u : State). Q u)) (sym (many_done turn Whole g a b s t is)) good
+    by_turn a s (Ok (again b, t)) is good rest =
+        subst (Holds (λ (c : A) (u : State). Q u)) (sym (many_again turn Whole g a b s t is good.0 good.1)) (rest b t (omega (arith, good.0, good.1)) good.1)
+
+    turns_end : (n : ℕ) (a : A) (s : State) → length T - s.at < n → s.at ≤ length T → Ended a s
+    turns_end zero a s few le = absurd (omega arith)
+    turns_end (suc n) a s few le = by_turn a s (does (turn a) Whole g s) refl (each a s le) (λ b t less within. turns_end n b t (omega (arith, few, less)) within)
+
+    many_end : (a : A) (s : State) → s.at ≤ length T → Ended a s
+    many_end a s le = turns_end (suc (length T - s.at)) a s (omega arith) le
+
+  -- ---- text that is not read
+
+  single_on : (s : State) → Holds (On s) (does single Whole g s)
+  unfolding single
+  single_on s =
+      cond_both (at_end T q) _ _ (Holds (On s)) (λ e. tt)
+      (λ e. let lt = not_end_low T q e in
+      let clear = quote_clear T (behind T s.at) in
+      let w = taken_on T q lt (λ f. absurd (let no : true ≡ false = sym f ∙ clear in cc)) in
+      (omega (arith, w.0, behind_low T s.at, next_of_low 39 T (behind T s.at)), w.1))
+    where
+      q : ℕ
+      q = next_quote T (behind T s.at)
+
+  module _ (s0 : State) (b : ℕ) where
+    abbrev LaterEnds : Step (Unit {0}) → State → Type 0
+    LaterEnds x t = Turned Whole g (On s0) x t
+
+    later_step : (x : Bool) (t : State) → (s0.at < t.at) × (t.at ≤ length T) → LaterEnds (step_if x tt) t
+    later_step true t so = so
+    later_step false t so = so
+
+    backquote_each : (u : Unit {0}) (s : State) → On s0 u s → Tells Whole g (backquote_turn b u) LaterEnds s
+    unfolding backquote_turn
+    backquote_each u s so =
+        record {
+          told = cond_both (at_end T q) _ _ (Holds LaterEnds) (λ e. tt)
+              (λ e. cond_both (is_last_backslash T q) _ _ (Holds LaterEnds) (λ f. tt)
+              (λ f. let w = taken_on T q (not_end_low T q e) (not_last T q f) in
+              later_step (not (raw_stands T q 96)) (placed (past_taken T q) s) (omega (arith, so.0, w.0, next_in_backquotes_low T s.at), w.1)));
+        }
+      where
+        q : ℕ
+        q = next_in_backquotes T s.at
+
+  backquoted_on : (s : State) → past_continuations T s.at < length T → Holds (On s) (does backquoted Whole g s)
+  unfolding backquoted
+  backquoted_on s lt =
+      let b = g.offset + past_continuations T s.at in
+      (tells_many Whole g (backquote_turn b) (On s) (backquote_each s b) tt (placed (behind T s.at) s) (behind_low T s.at, behind_high T s.at lt)).told
+
+  -- ---- pieces
+
+  -- behind a construct of this mode, or a word
+  abbrev pub Last : Mode → State → Type 0
+  Last mode t = (t.at ≤ length T) × (mode ≡ Plain → ends_word T t.at ≡ true)
+
+  pub record Stays (inner : Inner) : Type 0 where
+    pub construct : (mode : Mode) (b : ℕ) (ss : Row ASubst) (s : State) → s.at ≤ length T → Holds (λ x t. (s.at ≤ t.at) × (t.at ≤ length T)) (does (inner.construct mode b ss) Whole g s)
+    pub substitution : (b : ℕ) (ss : Row ASubst) (s : State) → Holds (λ x t. (s.at ≤ t.at) × (t.at ≤ length T)) (does (inner.substitution b ss) Whole g s)
+
+  -- what is there where something closes
+  abbrev Closes : Mode → ℕ → Type 0
+  Closes Plain p = ends_word T p ≡ true
+  Closes Arith p = past_continuations T (behind T p) < length T
+  Closes _ p = past_continuations T p < length T
+
+  -- which bytes there are where this piece begins
+  abbrev Needs : Mode → ℕ → Piece → Type 0
+  Needs mode p pieces.Closer = Closes mode p
+  Needs mode p pieces.Missing = Unit {0}
+  Needs mode p pieces.LoneBackslash = Unit {0}
+  Needs mode p pieces.Escape = past_continuations T p + 1 < length T
+  Needs mode p pieces.Single = past_continuations T p < length T
+  Needs mode p pieces.Double = past_continuations T p < length T
+  Needs mode p pieces.Backquote = past_continuations T p < length T
+  Needs mode p pieces.Pid = past_continuations T (behind T p) < length T
+  Needs mode p pieces.Subst = Unit {0}
+  Needs mode p pieces.Arith = past_continuations T (behind T (behind T p)) < length T
+  Needs mode p pieces.Param = past_continuations T (behind T p) < length T
+  Needs mode p pieces.Open = past_continuations T p < length T
+  Needs mode p pieces.Close = past_continuations T p < length T
+  Needs mode p pieces.BadClose = Unit {0}
+  Needs mode p pieces.Ordinary = past_continuations T p < length T
+
+  module _ (mode : Mode) (n p : ℕ) where
+    bracket_needs : (m : ℕ) (two : Bool) → stands T (behind T p) 41 ≡ two → past_continuations T p < length T → Needs Arith p (bracket_by m two)
+    bracket_needs zero true e lt = stands_low T (behind T p) 41 e
+    bracket_needs zero false e lt = tt
+    bracket_needs (suc m) two e lt = lt
+
+    end_needs : (mode : Mode) → byte_at T p ≡ None → Needs mode p (end_by mode)
+    unfolding ends_word
+    end_needs Plain is = rw is refl
+    end_needs Double is = tt
+    end_needs Brace is = tt
+    end_needs DoubleBrace is = tt
+    end_needs Arith is = tt
+
+    dollar_needs : (x : Option ℕ) → byte_at T (behind T p) ≡ x → past_continuations T p < length T → Needs mode p (dollar_by T (behind T p) x)
+    dollar_needs None is lt = lt
+    dollar_needs (Some v) is lt =
+        let next = slice_get_within T (past_continuations T (behind T p)) v is in
+        cond_both (v == 36) _ _ (Needs mode p) (λ e. next)
+        (λ e. cond_both (v == 40) _ _ (Needs mode p) (λ f. cond_both (stands T (behind T (behind T p)) 40) _ _ (Needs mode p) (λ d. stands_low T (behind T (behind T p)) 40 d) (λ d. tt))
+        (λ f. cond_both (v == 123) _ _ (Needs mode p) (λ d. next) (λ d. lt)))
+
+    byte_needs : (mode : Mode) (v : ℕ) → byte_at T p ≡ Some v → past_continuations T p < length T → Needs mode p (byte_by T p mode n v)
+    unfolding ends_word
+    byte_needs Plain v is lt =
+        cond_both (ends (Some v)) _ _ (Needs Plain p) (λ e. rw is e)
+        (λ e. cond_both (v == 39) _ _ (Needs Plain p) (λ f. lt) (λ f. cond_both (v == 34) _ _ (Needs Plain p) (λ d. lt) (λ d. lt)))
+    byte_needs Double v is lt = cond_both (v == 34) _ _ (Needs Double p) (λ e. lt) (λ e. lt)
+    byte_needs Brace v is lt =
+        cond_both (v == 125) _ _ (Needs Brace p) (λ e. lt)
+        (λ e. cond_both (v == 39) _ _ (Needs Brace p) (λ f. lt) (λ f. cond_both (v == 34) _ _ (Needs Brace p) (λ d. lt) (λ d. lt)))
+    byte_needs DoubleBrace v is lt = cond_both (v == 125) _ _ (Needs DoubleBrace p) (λ e. lt) (λ e. cond_both (v == 34) _ _ (Needs DoubleBrace p) (λ f. lt) (λ f. lt))
+    byte_needs Arith v is lt =
+        cond_both (v == 41) _ _ (Needs Arith p) (λ e. bracket_needs n (stands T (behind T p) 41) refl lt) (λ e. cond_both (v == 40) _ _ (Needs Arith p) (λ f. lt) (λ f. lt))
+
+    needs_by : (x : Option ℕ) → byte_at T p ≡ x → Needs mode p (piece_by T p mode n x)
+    unfolding dollar_at
+    needs_by None is = end_needs mode is
+    needs_by (Some v) is =
+        let lt = slice_get_within T (past_continuations T p) v is in
+        cond_both (v == 92) _ _ (Needs mode p)
+        (λ e. cond_both (at_end T (behind T p)) _ _ (Needs mode p) (λ f. tt) (λ f. omega (arith, not_end_low T (behind T p) f, behind_is T p)))
+        (λ e. cond_both (v == 96) _ _ (Needs mode p) (λ f. lt)
+        (λ f. cond_both (v == 36) _ _ (Needs mode p) (λ d. dollar_needs (byte_at T (behind T p)) refl lt) (λ d. byte_needs mode v is lt)))
+
+    needs : Needs mode p (piece_at T mode n p)
+    unfolding piece_at
+    needs = needs_by (byte_at T p) refl
+
+  closer_last : (mode : Mode) (p : ℕ) → p ≤ length T → Closes mode p → (past_closer T mode p ≤ length T) × (mode ≡ Plain → ends_word T (past_closer T mode p) ≡ true)
+  closer_last Plain p le so = (le, λ e. so)
+  closer_last Double p le so = (behind_high T p so, λ e. absurd cc)
+  closer_last Brace p le so = (behind_high T p so, λ e. absurd cc)
+  closer_last DoubleBrace p le so = (behind_high T p so, λ e. absurd cc)
+  closer_last Arith p le so = (behind_high T (behind T p) so, λ e. absurd cc)
+
+  module _ (inner : Inner) (stays : Stays inner) (mode : Mode) (b : ℕ) (c : Held) (s : State) (le : s.at ≤ length T) where
+    abbrev Turn : Step Held → State → Type 0
+    Turn x t = Ends (Last mode) s x t
+
+    abbrev p : ℕ
+    p = s.at
+
+    opens : (m : Mode) (k : ℕ) (r : State) → s.at < r.at → r.at ≤ length T → Holds Turn (does (opened inner m k c) Whole g r)
+    opens m k r on within =
+        holds_then (λ x t. (r.at ≤ t.at) × (t.at ≤ length T)) Turn (does (inner.construct m k c.substs) Whole g r) (λ x t. Ok (again (having c.nested x), t))
+        (stays.construct m k c.substs r within) (λ x t so. (omega (arith, on, so.0), so.1))
+
+    row : (x : Piece) → Needs mode p x → Holds Turn (does (piece_row inner mode b c x) Whole g s)
+    row pieces.Closer so = closer_last mode p le so
+    row pieces.Missing so = tt
+    row pieces.LoneBackslash so = tt
+    row pieces.Escape so = let w = taken_on T (past_continuations T p) (omega (arith, so)) (λ e. so) in (omega (arith, w.0, place_low T p), w.1)
+    row pieces.Single so = holds_then (On s) Turn (does single Whole g s) (λ u t. Ok (again c, t)) (single_on s) (λ u t on. on)
+    row pieces.Double so = opens Double _ (placed (behind T p) s) (behind_low T p) (behind_high T p so)
+    row pieces.Backquote so = holds_then (On s) Turn (does backquoted Whole g s) (λ u t. Ok (again c, t)) (backquoted_on s so) (λ u t on. on)
+    row pieces.Pid so = (omega (arith, behind_low T p, behind_low T (behind T p)), behind_high T (behind T p) so)
+    row pieces.Subst so =
+        holds_then (λ x t. (behind T (behind T p) ≤ t.at) × (t.at ≤ length T)) Turn (does (inner.substitution _ c.substs) Whole g (placed (behind T (behind T p)) s)) (λ x t. Ok (again (having c.nested x), t))
+        (stays.substitution _ c.substs (placed (behind T (behind T p)) s)) (λ x t on. (omega (arith, on.0, behind_low T p, behind_low T (behind T p)), on.1))
+    row pieces.Arith so =
+        opens Arith _ (placed (behind T (behind T (behind T p))) s)
+        (omega (arith, behind_low T p, behind_low T (behind T p), behind_low T (behind T (behind T p)))) (behind_high T (behind T (behind T p)) so)
+    row pieces.Param so =
+        opens (rest_mode T mode (past_parameter T (behind T (behind T p)))) _ (placed (past_parameter T (behind T (behind T p))) s)
+        (omega (arith, behind_low T p, behind_low T (behind T p), parameter_low T (behind T (behind T p)))) (parameter_high T (behind T (behind T p)) (behind_high T (behind T p) so))
+    row pieces.Open so = (behind_low T p, behind_high T p so)
+    row pieces.Close so = (behind_low T p, behind_high T p so)
+    row pieces.BadClose so = tt
+    row pieces.Ordinary so = (behind_low T p, behind_high T p so)
+
+    piece_turn : Holds Turn (does (a_piece inner mode b c) Whole g s)
+    unfolding a_piece
+    piece_turn = row (piece_at T mode c.nested p) (needs mode c.nested p)
+
+  -- ---- constructs in constructs, and words
+
+  module _ (inner : Inner) (stays : Stays inner) (mode : Mode) (b : ℕ) (ss : Row ASubst) (s : State) (le : s.at ≤ length T) where
+    pub contents_end : Holds (λ x t. Last mode t) (does (contents inner mode b ss) Whole g s)
+    unfolding contents
+    contents_end =
+        holds_then (λ x t. Last mode t) (λ x t. Last mode t) (does (many (a_piece inner mode b) (having 0 ss)) Whole g s) (λ h t. Ok (h.substs, t))
+        (many_end (a_piece inner mode b) (Last mode) (λ c t within. piece_turn inner stays mode b c t within) (having 0 ss) s le) (λ h t so. so)
+
+    contents_on : Holds (λ x t. (s.at ≤ t.at) × (t.at ≤ length T)) (does (contents inner mode b ss) Whole g s)
+    contents_on = holds_both (does (contents inner mode b ss) Whole g s) (low (contents inner mode b ss) Whole g s).told contents_end
+      where
+        holds_both : (x : Read (Row ASubst)) → Holds (Behind s) x → Holds (λ x t. Last mode t) x → Holds (λ x t. (s.at ≤ t.at) × (t.at ≤ length T)) x
+        holds_both (Ok (x, t)) one two = (one, two.0)
+        holds_both (Err f) one two = tt
+
+  -- ---- substitutions
+
+  module _ (inner : Inner) (fine : Fine g inner) where
+    -- nothing moves where nothing waits
+    still : (s : State) → Tells Whole g nothing_waits (λ x t. t ≡ s) s
+    unfolding nothing_waits
+    still s = record { told = by_waiting (first_waiting s) }
+      where
+        by_waiting : (w : Option ℕ) → Holds (λ (x : Unit {0}) t. t ≡ s) (does (none_waits w) Whole g s)
+        by_waiting (Some b) = tt
+        by_waiting None = refl
+
+    -- a list, and the `)` behind it
+    substituted_end : (s : State) → Tells Whole g (substituted inner) (λ x t. t.at ≤ length T) s
+    unfolding substituted
+    substituted_end s =
+        tells_then Whole g (shown_next g Command s) (λ n t one. tells_then Whole g (shown_lines g inner fine n t one) (λ l u two. closed_by (is_closing closings.Paren l.next.token) l u refl two))
+      where
+        closed_by : (b : Bool) → (l : ListSo) (u : State) → is_closing closings.Paren l.next.token ≡ b → Begins g l.next u
+            → Tells Whole g (pick b (nothing_waits >> move one_byte >> give (entries_of l.list.entries)) (unexpected inner l.next)) (λ x t. t.at ≤ length T) u
+        closed_by true l u e so =
+            let high = behind_high T u.at (slice_get_within T (past_continuations T u.at) 41 (paren_here g l.next u so e).0) in
+            tells_then Whole g (still u) (λ w t same. record { told = subst (λ (v : State). behind T v.at ≤ length T) (sym same) high })
+        closed_by false l u e so = tells_after Whole g (λ w t. record { told = tt })
+
+    substitution_high : (b : ℕ) (ss : Row ASubst) (s : State) → Tells Whole g (a_substitution inner b ss) (λ x t. t.at ≤ length T) s
+    unfolding a_substitution one_substitution
+    substitution_high b ss s = tells_inside Whole g (tells_then Whole g (tells_level Whole g (tells_ending Whole g (substituted_end (own_level s))) (λ a t so. so)) (λ x t so. tells_seen Whole g (record { told = so })))
+
+    substitution_end : (b : ℕ) (ss : Row ASubst) (s : State) → Holds (λ x t. (s.at ≤ t.at) × (t.at ≤ length T)) (does (a_substitution inner b ss) Whole g s)
+    substitution_end b ss s = holds_also (does (a_substitution inner b ss) Whole g s) (low (a_substitution inner b ss) Whole g s).told (substitution_high b ss s).told
+      where
+        holds_also : (x : Read (Row ASubst)) → Holds (Behind s) x → Holds (λ x t. t.at ≤ length T) x → Holds (λ x t. (s.at ≤ t.at) × (t.at ≤ length T)) x
+        holds_also (Ok (x, t)) one two = (one, two)
+        holds_also (Err f) one two = tt
+
+  pub stays_in : (room : ℕ) → Stays (level room)
+  unfolding level
+  stays_in zero = record { construct = λ mode b ss s le. tt; substitution = λ b ss s. tt }
+  stays_in (suc room) =
+      record {
+        construct = λ mode b ss s le. contents_on (level room) (stays_in room) mode b ss s le;
+        substitution = λ b ss s. substitution_end (level room) (shown_level g room) b ss s;
+      }
+
+  word_last : (room p : ℕ) → p ≤ length T → Holds (λ x t. Last Plain t) (does (a_word (level room)) Whole g (standing p))
+  unfolding a_word
+  word_last room p le =
+      holds_then (λ x t. Last Plain t) (λ x t. Last Plain t) (does (token as_it_stands (contents (level room) Plain (g.offset + p) [])) Whole g (standing p)) _
+      (holds_then (λ x t. Last Plain t) (λ x t. Last Plain t) (does (contents (level room) Plain (g.offset + p) []) Whole g (standing p)) _
+      (contents_end (level room) (stays_in room) Plain (g.offset + p) [] (standing p) le) (λ x t so. so))
+      (λ x t so. so)
+
+-- where a word ends
+pub word_ends : (room : ℕ) (g : Given) (p n : ℕ) → IsWord room g p n → p ≤ length g.text → (p + n ≤ length g.text) × (ends_word g.text (p + n) ≡ true)
+word_ends room g p n (w, part) le =
+    let is_read = (is (a_word (level room)) g (standing p)).only _ _ part in
+    let so = subst (Holds (λ x t. Last g Plain t)) (sym is_read) (word_last g room p le) in
+    (so.0, so.1 refl)

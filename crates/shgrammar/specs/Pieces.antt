@@ -1,0 +1,112 @@
+-- The pieces of a word: what begins one in each mode (XCU 2.2, 2.6).
+use Rattle.std.specs.Prelude.{ℕ, zero, suc, ◌+◌, ◌==◌, Bool, true, false, ◌&&◌, ◌||◌, List, Option, None, Some, if◌then◌else◌}
+use Rattle.shgrammar.specs.declared.fault.FaultKind.{FaultKind}
+use Rattle.shgrammar.specs.declared.fault.FaultKind.TheVariants.{UnclosedDouble, UnclosedParam, UnclosedArith, UnexpectedEnd}
+use Rattle.shgrammar.specs.declared.mode.Mode.{Mode}
+use Rattle.shgrammar.specs.declared.mode.Mode.TheVariants.{Plain, Double, Brace, DoubleBrace, Arith}
+use Rattle.shgrammar.specs.declared.mode.Piece.{Piece}
+use Rattle.shgrammar.specs.declared.mode.Piece.TheVariants as pieces
+use Rattle.shgrammar.specs.Classes.{is_digit, is_letter, is_name, is_special}
+use Rattle.shgrammar.specs.Standing.{raw_stands, at_end, next_such, next_of}
+use Rattle.shgrammar.specs.Bytes.{byte_at, behind, stands, stands_in, ends, past}
+
+-- ---- what a byte begins in a mode
+
+-- by the byte behind a `$`, which is read at q (XCU 2.6)
+abbrev pub dollar_by : List ℕ → ℕ → Option ℕ → Piece
+dollar_by T q None = pieces.Ordinary
+dollar_by T q (Some b) = if b == 36 then pieces.Pid
+    else (if b == 40 then (if stands T (behind T q) 40 then pieces.Arith else pieces.Subst)
+    else (if b == 123 then pieces.Param else pieces.Ordinary))
+
+-- what the `$` at p begins
+unfoldable pub dollar_at : List ℕ → ℕ → Piece
+dollar_at T p = dollar_by T (behind T p) (byte_at T (behind T p))
+
+-- a `)` in arithmetic, with n brackets open in it (XCU 2.6.4)
+abbrev pub bracket_by : ℕ → Bool → Piece
+bracket_by zero true = pieces.Closer
+bracket_by zero false = pieces.BadClose
+bracket_by (suc n) two = pieces.Close
+
+-- a byte other than a backslash, a backquote and a `$`
+abbrev pub byte_by : List ℕ → ℕ → Mode → ℕ → ℕ → Piece
+byte_by T p Plain n b = if ends (Some b) then pieces.Closer else (if b == 39 then pieces.Single else (if b == 34 then pieces.Double else pieces.Ordinary))
+byte_by T p Double n b = if b == 34 then pieces.Closer else pieces.Ordinary
+byte_by T p Brace n b = if b == 125 then pieces.Closer else (if b == 39 then pieces.Single else (if b == 34 then pieces.Double else pieces.Ordinary))
+byte_by T p DoubleBrace n b = if b == 125 then pieces.Closer else (if b == 34 then pieces.Double else pieces.Ordinary)
+byte_by T p Arith n b = if b == 41 then bracket_by n (stands T (behind T p) 41) else (if b == 40 then pieces.Open else pieces.Ordinary)
+
+-- at the end of the text a word ends, and nothing else may
+abbrev pub end_by : Mode → Piece
+end_by Plain = pieces.Closer
+end_by _ = pieces.Missing
+
+-- By the byte at p, or none. Outside of single quotes a backslash takes the byte behind it, whatever that is: where it does not
+-- quote it (XCU 2.2.3), that byte begins nothing either.
+abbrev pub piece_by : List ℕ → ℕ → Mode → ℕ → Option ℕ → Piece
+piece_by T p mode n None = end_by mode
+piece_by T p mode n (Some b) = if b == 92 then (if at_end T (behind T p) then pieces.LoneBackslash else pieces.Escape)
+    else (if b == 96 then pieces.Backquote
+    else (if b == 36 then dollar_at T p
+    else byte_by T p mode n b))
+
+-- the piece at p, with n brackets open in arithmetic
+unfoldable pub piece_at : List ℕ → Mode → ℕ → ℕ → Piece
+piece_at T mode n p = piece_by T p mode n (byte_at T p)
+
+-- ---- where pieces lead
+
+-- behind the byte that stands at p; a backslash takes the byte behind it
+unfoldable pub past_taken : List ℕ → ℕ → ℕ
+past_taken T p = p + (if raw_stands T p 92 then 2 else 1)
+
+-- behind what closes a construct; nothing closes a word
+abbrev pub past_closer : List ℕ → Mode → ℕ → ℕ
+past_closer T Plain p = p
+past_closer T Double p = behind T p
+past_closer T Brace p = behind T p
+past_closer T DoubleBrace p = behind T p
+past_closer T Arith p = behind T (behind T p)
+
+-- the fault of a construct in which the text ends
+abbrev pub unclosed : Mode → FaultKind
+unclosed Plain = UnexpectedEnd
+unclosed Double = UnclosedDouble
+unclosed Brace = UnclosedParam
+unclosed DoubleBrace = UnclosedParam
+unclosed Arith = UnclosedArith
+
+-- ---- text that is not read
+
+-- the next single quote, or the end (XCU 2.2.2)
+abbrev pub next_quote : List ℕ → ℕ → ℕ
+next_quote T p = next_of 39 T p
+
+-- the next backquote or backslash, or the end (XCU 2.6.3)
+abbrev pub next_in_backquotes : List ℕ → ℕ → ℕ
+next_in_backquotes T p = next_such (λ b. b == 96 || b == 92) T p
+
+-- a backslash at p is the last byte
+abbrev pub is_last_backslash : List ℕ → ℕ → Bool
+is_last_backslash T p = raw_stands T p 92 && at_end T (p + 1)
+
+-- ---- parameter expansions (XCU 2.6.2)
+
+-- the place behind the parameter at p: a name, digits, a special parameter or nothing
+unfoldable pub past_parameter : List ℕ → ℕ → ℕ
+past_parameter T p = if stands_in is_letter T p then past is_name T p
+    else (if stands_in is_digit T p then past is_digit T p
+    else (if stands_in is_special T p then behind T p else p))
+
+-- how an expansion is read that opened in this mode, unless its rest is a pattern
+abbrev pub braces_in : Mode → Mode
+braces_in Plain = Brace
+braces_in Double = DoubleBrace
+braces_in Brace = Brace
+braces_in DoubleBrace = DoubleBrace
+braces_in Arith = DoubleBrace
+
+-- how the rest of an expansion is read, from behind its parameter on: behind `#` or `%` it is a pattern
+unfoldable pub rest_mode : List ℕ → Mode → ℕ → Mode
+rest_mode T mode q = if stands T q 35 || stands T q 37 then Brace else braces_in mode

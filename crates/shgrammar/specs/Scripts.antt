@@ -1,0 +1,93 @@
+-- A script as a whole: its lines, one after the other (XCU 2.10.2).
+use Rattle.std.specs.Prelude.{ℕ, zero, suc, ◌+◌, ◌-◌, Bool, true, false, ◌&&◌, not, [], ◌++◌, List, List as Row, drop, length, Option, None, Some, Ok, Err}
+use Rattle.shgrammar.specs.declared.keep.Keep.{Keep}
+use Rattle.shgrammar.specs.declared.keep.Keep.TheVariants.{Whole}
+use Rattle.shgrammar.specs.declared.fault.Fault.{Fault}
+use Rattle.shtree.specs.Tree.{AnEntry, Entries, entries_of}
+use Rattle.shgrammar.specs.Sights.{given, standing, State}
+use Rattle.shgrammar.specs.Form.{Form, Read, may, does, Spelled}
+use Rattle.shgrammar.specs.Levels.{most_open, level}
+use Rattle.shgrammar.specs.Commands.{is_empty}
+use Rattle.shgrammar.specs.Lines.{a_line, ALine, kind_of, faulty_line, is_ended}
+
+-- the entries of a script, and its first fault; with a fault the entries of the lines before the faulty one
+pub record AScript : Type 0 where
+  pub entries : Entries
+  pub wrong : Option Fault
+
+-- What the lines so far gave. `gap` tells that a line without entries follows the last entry.
+pub record SoFar : Type 0 where
+  pub entries : Row AnEntry
+  pub gap : Bool
+
+-- the first entry of the next line is blank where one stands before it, and at least two newline tokens are between them
+abbrev pub is_blank_line : SoFar → Bool
+is_blank_line so = so.gap && not (is_empty so.entries)
+
+abbrev pub with_line : SoFar → Row AnEntry → SoFar
+with_line so es = record { entries = so.entries ++ es; gap = is_empty es }
+
+-- a line, whose first entry may be blank
+abbrev pub the_line : Bool → Form (Row AnEntry × Bool)
+the_line blank = a_line (level most_open) blank
+
+-- the lines from p on, and the tokens passed
+pub data Lines (B : List ℕ) : SoFar → ℕ → AScript → Row Spelled → Type 0 where
+  line_ended : {so : SoFar} {p : ℕ} {s : AScript} {l : Row Spelled} (es : Row AnEntry) (t : State) (k : Row Spelled)
+      → may (the_line (is_blank_line so)) (given (drop p B) p) (standing 0) (Ok ((es, true), t)) k → Lines B (with_line so es) (p + t.at) s l → Lines B so p s (k ++ l)
+  last_line : {so : SoFar} {p : ℕ} (es : Row AnEntry) (t : State) (k : Row Spelled) → may (the_line (is_blank_line so)) (given (drop p B) p) (standing 0) (Ok ((es, false), t)) k
+      → Lines B so p (record { entries = entries_of (so.entries ++ es); wrong = None }) k
+  faulty : {so : SoFar} {p : ℕ} (f : Fault) (k : Row Spelled) → may (the_line (is_blank_line so)) (given (drop p B) p) (standing 0) (Err f) k
+      → Lines B so p (record { entries = entries_of so.entries; wrong = Some f }) k
+
+abbrev pub nothing_yet : SoFar
+nothing_yet = record { entries = []; gap = false }
+
+-- what is read of the bytes of a script, and the tokens passed
+abbrev pub Passes : List ℕ → AScript → Row Spelled → Type 0
+Passes B s k = Lines B nothing_yet 0 s k
+
+abbrev pub Outcome : List ℕ → AScript → Type 0
+Outcome B s = (k : Row Spelled) × Passes B s k
+
+-- the first fault of a script, or that it has none
+abbrev pub FirstFault : List ℕ → Option Fault → Type 0
+FirstFault B f = (es : Entries) × Outcome B (record { entries = es; wrong = f })
+
+-- ---- what is computed
+
+-- the line that begins at p, whose own offsets count from o on; and as it stands in the script
+abbrev pub line_told : List ℕ → Keep → Bool → ℕ → ℕ → Read (Row AnEntry × Bool)
+line_told B keep blank p o = does (the_line blank) keep (given (drop p B) o) (standing 0)
+
+abbrev pub line_from : List ℕ → Keep → Bool → ℕ → Read (Row AnEntry × Bool)
+line_from B keep blank p = line_told B keep blank p p
+
+abbrev pub script_by : (SoFar → ℕ → AScript) → SoFar → ℕ → Read (Row AnEntry × Bool) → AScript
+script_by rest so p (Ok ((es, true), t)) = rest (with_line so es) (p + t.at)
+script_by rest so p (Ok ((es, false), t)) = record { entries = entries_of (so.entries ++ es); wrong = None }
+script_by rest so p (Err f) = record { entries = entries_of so.entries; wrong = Some f }
+
+-- with less than n bytes left
+unfoldable pub script_below : List ℕ → ℕ → SoFar → ℕ → AScript
+script_below B zero so p = record { entries = entries_of so.entries; wrong = None }
+script_below B (suc n) so p = script_by (script_below B n) so p (line_from B Whole (is_blank_line so) p)
+
+-- the lines from p on
+unfoldable pub script_on : List ℕ → SoFar → ℕ → AScript
+script_on B so p = script_below B (suc (length B - p)) so p
+
+unfoldable pub script_at : List ℕ → AScript
+script_at B = script_on B nothing_yet 0
+
+-- ---- one line read as a script of its own, and the first fault from a place on
+
+abbrev pub line_of : List ℕ → Read (Row AnEntry × Bool) → ALine
+line_of T (Ok ((es, newline), t)) = record { kind = kind_of es newline; next = t.at; ended = is_ended T newline t.at }
+line_of T (Err f) = record { kind = faulty_line f; next = length T; ended = false }
+
+unfoldable pub line_of_text : List ℕ → ALine
+line_of_text T = line_of T (does (the_line false) Whole (given T 0) (standing 0))
+
+unfoldable pub first_fault_from : List ℕ → ℕ → Option Fault
+first_fault_from B p = (script_on B nothing_yet p).wrong

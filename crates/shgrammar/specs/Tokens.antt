@@ -1,0 +1,120 @@
+-- Tokens: what begins at a place where no blank stands (XCU 2.3, 2.4, 2.10.1).
+use Rattle.std.specs.Prelude.{ℕ, Bool, true, false, ◌==◌, ◌&&◌, ◌||◌, List, [], ◌∷◌, List as Row, Option, Some, None, codes, if◌then◌else◌}
+use Rattle.shgrammar.specs.declared.token.Next.{Next}
+use Rattle.shgrammar.specs.declared.token.Position.{Position}
+use Rattle.shgrammar.specs.declared.token.Position.TheVariants.{Command, Prefix, Suffix}
+use Rattle.shgrammar.specs.declared.token.Reserved.{Reserved}
+use Rattle.shgrammar.specs.declared.token.Reserved.TheVariants as reserved
+use Rattle.shgrammar.specs.declared.token.Token.{Token}
+use Rattle.shgrammar.specs.declared.token.Token.TheVariants as tokens
+use Rattle.shtree.specs.declared.tree.RedirectOperator.{RedirectOperator}
+use Rattle.shtree.specs.declared.tree.RedirectOperator.TheVariants as redirects
+use Rattle.shtext.specs.Text.{is_newline}
+use Rattle.shgrammar.specs.Classes.{is_digit, is_letter, is_name}
+use Rattle.shgrammar.specs.Bytes.{byte_at, behind, stands, stands_in, ends_word, past, past_blanks, is_broken_at}
+
+-- ---- words
+
+-- the word that is spelled so stands at p
+unfoldable pub is_word_at : List ℕ → ℕ → List ℕ → Bool
+is_word_at T p [] = ends_word T p
+is_word_at T p (c ∷ cs) = stands T p c && is_word_at T (behind T p) cs
+
+abbrev pub Spelling : Type 0
+Spelling = List ℕ × Reserved
+
+-- the first of these words that stands at p
+unfoldable pub first_of_words : List ℕ → ℕ → Row Spelling → Option Reserved
+first_of_words T p [] = None
+first_of_words T p (w ∷ ws) = if is_word_at T p w.0 then Some w.1 else first_of_words T p ws
+
+-- the reserved words (XCU 2.4)
+unfoldable pub reserved_words : Row Spelling
+reserved_words = (codes "!", reserved.Bang) ∷ (codes "{", reserved.OpenBrace) ∷ (codes "}", reserved.CloseBrace) ∷ (codes "case", reserved.Case) ∷ (codes "do", reserved.Do)
+    ∷ (codes "done", reserved.Done) ∷ (codes "elif", reserved.Elif) ∷ (codes "else", reserved.Else) ∷ (codes "esac", reserved.Esac) ∷ (codes "fi", reserved.Fi)
+    ∷ (codes "for", reserved.For) ∷ (codes "if", reserved.If) ∷ (codes "in", reserved.In) ∷ (codes "then", reserved.Then) ∷ (codes "until", reserved.Until) ∷ (codes "while", reserved.While) ∷ []
+
+-- the reserved word that stands at p
+abbrev pub reserved_at : List ℕ → ℕ → Option Reserved
+reserved_at T p = first_of_words T p reserved_words
+
+-- the place behind the reserved word that stands at p
+unfoldable pub past_reserved : List ℕ → ℕ → ℕ
+past_reserved T p = past is_name T (behind T p)
+
+-- a NAME and `=` stand at p (XCU 2.10.2, rule 7)
+unfoldable pub begins_assignment : List ℕ → ℕ → Bool
+begins_assignment T p = stands_in is_letter T p && stands T (past is_name T p) 61
+
+-- the word that stands at p is a NAME (XBD 3.235)
+unfoldable pub is_name_at : List ℕ → ℕ → Bool
+is_name_at T p = stands_in is_letter T p && ends_word T (past is_name T p)
+
+-- the place behind the digits that stand at p
+unfoldable pub past_digits : List ℕ → ℕ → ℕ
+past_digits T p = past is_digit T p
+
+-- digits that `<` or `>` follows stand at p (XCU 2.10.1, rule 2)
+unfoldable pub is_number : List ℕ → ℕ → Bool
+is_number T p = stands_in is_digit T p && (stands T (past is_digit T p) 60 || stands T (past is_digit T p) 62)
+
+-- ---- tokens
+
+-- a word that is not reserved, where an assignment may stand
+abbrev pub word_of : Bool → Token
+word_of true = tokens.Assignment
+word_of _ = tokens.Word
+
+-- a word where a command may begin
+abbrev pub first_word : Bool → Option Reserved → Token
+first_word assigns (Some r) = tokens.Reserved r
+first_word assigns None = word_of assigns
+
+-- where it stands decides what a word may be (XCU 2.4, 2.10.2)
+abbrev pub word_by : Position → List ℕ → ℕ → Token
+word_by Command T p = first_word (begins_assignment T p) (reserved_at T p)
+word_by Prefix T p = word_of (begins_assignment T p)
+word_by Suffix T p = tokens.Word
+
+-- The operator of a redirection that begins with `<`, or with `>`; what stands behind that byte stands at p (XCU 2.7).
+unfoldable pub less_at : List ℕ → ℕ → RedirectOperator
+less_at T p = if stands T p 60 then (if stands T (behind T p) 45 then redirects.HereStripped else redirects.Here)
+    else (if stands T p 38 then redirects.DuplicateInput
+    else (if stands T p 62 then redirects.ReadWrite else redirects.Input))
+
+unfoldable pub greater_at : List ℕ → ℕ → RedirectOperator
+greater_at T p = if stands T p 62 then redirects.Append
+    else (if stands T p 38 then redirects.DuplicateOutput
+    else (if stands T p 124 then redirects.Clobber else redirects.Output))
+
+-- by the byte at p, or none; of several operators the longest one
+abbrev pub token_of : Position → List ℕ → ℕ → Option ℕ → Token
+token_of position T p None = tokens.End
+token_of position T p (Some b) = if is_newline b then tokens.Newline
+    else (if b == 59 then (if stands T (behind T p) 59 then tokens.DoubleSemicolon else tokens.Semicolon)
+    else (if b == 38 then (if stands T (behind T p) 38 then tokens.AndIf else tokens.Ampersand)
+    else (if b == 124 then (if stands T (behind T p) 124 then tokens.OrIf else tokens.Pipe)
+    else (if b == 40 then tokens.OpenParen
+    else (if b == 41 then tokens.CloseParen
+    else (if b == 60 then tokens.Redirect (less_at T (behind T p))
+    else (if b == 62 then tokens.Redirect (greater_at T (behind T p))
+    else (if b == 35 then tokens.Comment
+    else (if is_number T p then tokens.Number else word_by position T p)))))))))
+
+-- no token begins here
+abbrev pub is_end : Token → Bool
+is_end tokens.End = true
+is_end _ = false
+
+-- a comment begins here
+abbrev pub is_comment : Token → Bool
+is_comment tokens.Comment = true
+is_comment _ = false
+
+-- what begins at p
+unfoldable pub token_at : Position → List ℕ → ℕ → Token
+token_at position T p = token_of position T p (byte_at T p)
+
+-- the next token from p on: what it is, and whether a continuation stands before it
+abbrev pub next_at : Position → List ℕ → ℕ → Next
+next_at position T p = record { token = token_at position T (past_blanks T p); broken = is_broken_at T p }

@@ -1,0 +1,20 @@
+//! The grammar of shform: the Shell Command Language of POSIX as definitions, and what follows from them.
+//!
+//! Start with `specs/`: `Words`, `Commands`, `Lists`, `Compounds`, `Substitutions` and `Lines` are the grammar's rows, and `Form` says
+//! what a row means. `proofs/` has what holds of every text by these definitions alone. The types here are those that rows
+//! are told by: [`Token`], [`Mode`] and their kin, [`Fault`], and [`Keep`]. No reader stands here: that is the crate `shread`.
+#![tactic(auto)]
+
+mod class;
+mod fault;
+mod keep;
+mod marks;
+mod mode;
+mod token;
+
+pub use class::Class;
+pub use fault::{Fault, FaultKind};
+pub use keep::Keep;
+pub use marks::{begins_a_word, ends_words};
+pub use mode::{Mode, Piece};
+pub use token::{Closing, Next, Opener, Position, Reserved, Separator, Token};
