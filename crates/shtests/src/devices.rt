@@ -1,10 +1,10 @@
-// Readers and writers made for tests, which take no memory.
+//! Readers and writers made for tests, which take no memory.
 use std::io;
 use std::io::{Error, Read, Write};
 
 /// A reader that gives at most `step` bytes at a time, and fails at one of its reads.
 #[derive(Drop)]
-pub(crate) struct Tape<'a> {
+pub struct Tape<'a> {
     rest: &'a [u8],
     step: usize,
     reads: usize,
@@ -13,12 +13,12 @@ pub(crate) struct Tape<'a> {
 
 impl<'a> Tape<'a> {
     /// One that never fails.
-    pub(crate) fn new(rest: &'a [u8], step: usize) -> Tape<'a> {
+    pub fn new(rest: &'a [u8], step: usize) -> Tape<'a> {
         Tape::failing(rest, step, usize::MAX)
     }
 
     /// One that fails at this of its reads, counted from 1.
-    pub(crate) fn failing(rest: &'a [u8], step: usize, fails_at: usize) -> Tape<'a> {
+    pub fn failing(rest: &'a [u8], step: usize, fails_at: usize) -> Tape<'a> {
         Tape {
             rest,
             step,
@@ -43,7 +43,7 @@ impl<'a> Read for Tape<'a> {
 
 /// A reader of so many bytes of one kind.
 #[derive(Drop)]
-pub(crate) struct Same(pub(crate) u8, pub(crate) usize);
+pub struct Same(pub u8, pub usize);
 
 impl Read for Same {
     fn read(&mut self, buf: &mut [u8]) -> io::Result<usize> {
@@ -55,25 +55,26 @@ impl Read for Same {
 }
 
 /// The most bytes of a page.
-pub(crate) const PAGE: usize = 512;
+pub const PAGE: usize = 512;
 
 /// A writer that takes so many bytes, at most `step` at a time, and fails where it is full, and at one of its flushes.
 #[derive(Drop)]
-pub(crate) struct Page {
+pub struct Page {
     bytes: [u8; PAGE],
     len: usize,
-    pub(crate) room: usize,
-    pub(crate) step: usize,
+    pub room: usize,
+    pub step: usize,
     /// It answers 0 where it is full, and does not fail.
-    pub(crate) takes_nothing: bool,
+    pub takes_nothing: bool,
     /// It is full once: whatever comes then it takes.
-    pub(crate) is_emptied: bool,
+    pub is_emptied: bool,
     flushes: usize,
-    pub(crate) fails_at_flush: usize,
+    pub fails_at_flush: usize,
 }
 
 impl Page {
-    pub(crate) fn new(room: usize, step: usize) -> Page {
+    /// One that is empty.
+    pub fn new(room: usize, step: usize) -> Page {
         Page {
             bytes: [0; PAGE],
             len: 0,
@@ -86,7 +87,8 @@ impl Page {
         }
     }
 
-    pub(crate) fn text(&self) -> &[u8] {
+    /// What it took.
+    pub fn text(&self) -> &[u8] {
         &self.bytes[..self.len.min(PAGE)]
     }
 }

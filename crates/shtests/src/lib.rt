@@ -1,24 +1,18 @@
-//! The tests of the libraries, over their public calls. They stand in one crate, since the gate proves a crate that has tests twice:
-//! so the libraries, which have none, are proved once.
+//! The tests of texts, of the tree and of the reader, over their public calls. They stand in a crate of their own, since the gate proves
+//! a crate that has tests twice: so the libraries, which have none, are proved once. The tests of what stands above the reader are the crate
+//! `shlivetests`.
 //!
 //! Start with the module of what is tested: `texts` is the tests of `shtext`, `tree_bodies`, `tree_nodes` and `tree_normal` are those of
-//! `shtree`, `reader_..` those of `shread`, `printer_..` those of `shprint`, `session_..` those of `shlive`; those in `.._refused` refuse each
-//! growth of memory in turn. The others help: `table` reads tables of rows, whose cells `cell` joins, `dump` writes trees as short
-//! texts, `tree_built` builds trees by hand, `devices` has readers and writers that fail, and `growths` asks for refusals. `tree_size` is
-//! for `tests/bench`.
+//! `shtree`, `reader_..` those of `shread`; those in `.._refused` refuse each growth of memory in turn. The others help: `table` reads
+//! tables of rows, whose cells `cell` joins, `dump` writes trees as short texts, `tree_built` builds trees by hand, `devices` has readers
+//! and writers that fail, and `growths` asks for refusals. `tree_size` is for `tests/bench`.
 #![tactic(auto)]
 
 pub mod cell;
-#[cfg(test)]
-mod devices;
+pub mod devices;
 #[cfg(test)]
 mod dump;
-#[cfg(test)]
-mod growths;
-#[cfg(test)]
-mod printer_refused;
-#[cfg(test)]
-mod printer_texts;
+pub mod growths;
 #[cfg(test)]
 mod reader_beginnings;
 #[cfg(test)]
@@ -31,10 +25,6 @@ mod reader_refused;
 mod reader_sources;
 #[cfg(test)]
 mod reader_trees;
-#[cfg(test)]
-mod session_refused;
-#[cfg(test)]
-mod session_runs;
 #[cfg(test)]
 mod table;
 #[cfg(test)]

@@ -1,10 +1,10 @@
 // Each growth of a session refused in turn: `growths.rt` says how.
-use crate::devices::{PAGE, Page, Same};
-use crate::growths::{refuse, refuses, was_refused};
 use crate::session_runs::{alike, opened, page_of};
 use shlive::{LiveError, Session, run};
 use shprint::Layout;
 use shread::Reader;
+use shtests::devices::{PAGE, Page, Same};
+use shtests::growths::{refuse, refuses, was_refused};
 use shtext::{Input, Output};
 use std::alloc::{AllocError, Global};
 use std::io::Read;

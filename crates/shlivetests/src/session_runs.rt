@@ -1,9 +1,9 @@
 // What no clause says: that requests are answered where nothing fails, what the replies look like, that a failure of a device is told,
 // and that edits by the thousand leave what a session opened anew would answer.
-use crate::devices::{PAGE, Page, Same, Tape};
 use shlive::{LiveError, Session, run};
 use shprint::Layout;
 use shread::Reader;
+use shtests::devices::{PAGE, Page, Same, Tape};
 use shtext::{Input, Output};
 use std::alloc::Global;
 use std::io::Read;

@@ -1,7 +1,7 @@
 // Each growth of a printing refused in turn: `growths.rt` says how.
-use crate::growths::{refuse, refuses, was_refused};
 use shprint::{Layout, PrintError, Printing, print, print_source};
 use shread::Reader;
+use shtests::growths::{refuse, refuses, was_refused};
 use shtext::Flat;
 use std::alloc::{AllocError, Global};
 use std::test::Fail;

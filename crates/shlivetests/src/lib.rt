@@ -1,0 +1,15 @@
+//! The tests of the printer and of sessions, over their public calls, beside those of the crate `shtests`, whose devices and refused
+//! growths they use.
+//!
+//! Start with the module of what is tested: `printer_..` are the tests of `shprint`, `session_..` those of `shlive`; those in
+//! `.._refused` refuse each growth of memory in turn.
+#![tactic(auto)]
+
+#[cfg(test)]
+mod printer_refused;
+#[cfg(test)]
+mod printer_texts;
+#[cfg(test)]
+mod session_refused;
+#[cfg(test)]
+mod session_runs;
