@@ -2,7 +2,7 @@
 //! growths they use.
 //!
 //! Start with the module of what is tested: `printer_..` are the tests of `shprint`, `session_..` those of `shlive`; those in
-//! `.._refused` refuse each growth of memory in turn.
+//! `.._refused` refuse each growth of memory in turn. `spliced` is the model by which edits are judged.
 #![tactic(auto)]
 
 #[cfg(test)]
@@ -13,3 +13,4 @@ mod printer_texts;
 mod session_refused;
 #[cfg(test)]
 mod session_runs;
+pub mod spliced;

@@ -1,5 +1,6 @@
 // What no clause says: that requests are answered where nothing fails, what the replies look like, that a failure of a device is told,
 // and that edits by the thousand leave what a session opened anew would answer.
+use crate::spliced::spliced;
 use shlive::{LiveError, Session, run};
 use shprint::Layout;
 use shread::Reader;
@@ -270,19 +271,6 @@ impl Dice {
     }
 }
 
-/// The bytes with some put in the place of those between two offsets.
-fn spliced(
-    alloc: Global,
-    bytes: &[u8],
-    (a, b): (usize, usize),
-    new: &[u8],
-) -> Result<Vec<u8>, Fail> {
-    let mut made = Vec::from_slice(alloc, bytes.get(..a).unwrap_or(bytes))?;
-    made.extend_from_slice(new)?;
-    made.extend_from_slice(bytes.get(b..).unwrap_or(b""))?;
-    Ok(made)
-}
-
 const PIECES: [&[u8]; 16] = [
     b"a",
     b"\n",
@@ -313,7 +301,7 @@ fn random_edits(rt: HostRuntime) -> Result<(), Fail> {
         let a = dice.below(bytes.len().saturating_add(1));
         let b = a.saturating_add(dice.below(6)).min(bytes.len());
         let new = PIECES.get(dice.below(16)).copied().unwrap_or(b"");
-        let made = spliced(alloc, &bytes, (a, b), new)?;
+        let made = spliced(alloc, &bytes, a, b, new)?;
         session.edit(a, b, new)?;
         assert!(rt;
             alike(&session, &opened(alloc, &made)?)?,
