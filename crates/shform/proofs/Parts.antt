@@ -8,9 +8,9 @@ use Rattle.std.proofs.Math.Seq.{drop-drop, take-add}
 use Rattle.shform.specs.Part.{EndsLine, Held, Holds, HoldsPrinted, IsFoundAt, bytes_read}
 use Rattle.shform.specs.declared.part.Found.{Found}
 use Rattle.shform.specs.declared.printed_part.PrintedPart.{PrintedPart}
-use Rattle.shprint.specs.declared.by_line.Printing.{Printing}
+use Rattle.shpieces.specs.declared.by_line.Printing.{Printing}
 use Rattle.shprint.specs.declared.layout.Layout.{Layout}
-use Rattle.shprint.specs.Printing.{IsPrinted}
+use Rattle.shpieces.specs.Printing.{IsPrinted}
 use Rattle.shgrammar.specs.Search.{MayPass}
 use Rattle.shform.specs.declared.part.Part.{Part}
 use Rattle.shgrammar.specs.declared.fault.Fault.{Fault}

@@ -6,7 +6,7 @@ use Rattle.shgrammar.specs.declared.fault.Fault.{Fault}
 use Rattle.shgrammar.specs.Moved.{moved_fault}
 use Rattle.shgrammar.specs.Scripts.{FirstFault}
 use Rattle.shprint.specs.declared.layout.Layout.{Layout}
-use Rattle.shprint.specs.Printing.{IsPrinted}
+use Rattle.shpieces.specs.Printing.{IsPrinted}
 use Rattle.shform.specs.declared.printed_part.PrintedPart.{PrintedPart}
 use Rattle.shform.specs.declared.printed_part.Unprinted.{Unprinted}
 use Rattle.shform.specs.declared.printed_part.Unprinted.TheVariants.{Faulty, Memory}

@@ -7,7 +7,8 @@ ghost use Rattle.shprint.specs.ReadBack.{IsTextOf};
 
 use crate::part::{Found, Part};
 use crate::sink::Sink;
-use shprint::{Layout, PrintError, Printing};
+use shpieces::{PrintError, Printing};
+use shprint::Layout;
 use shtext::Flat;
 use std::alloc::{AllocError, Global};
 

@@ -58,3 +58,4 @@ pub mod MovedLists
 pub mod MovedSubstitutions
 pub mod MovedLine
 pub mod Passing
+pub mod Unquoted

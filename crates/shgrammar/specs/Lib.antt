@@ -21,3 +21,4 @@ pub mod Moved
 pub mod Everywhere
 pub mod Search
 pub mod Plain
+pub mod Unquoting

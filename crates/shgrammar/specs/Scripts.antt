@@ -2,6 +2,8 @@
 use Rattle.std.specs.Prelude.{ℕ, zero, suc, ◌+◌, ◌-◌, Bool, true, false, ◌&&◌, not, [], ◌++◌, List, List as Row, drop, length, Option, None, Some, Ok, Err}
 use Rattle.shgrammar.specs.declared.keep.Keep.{Keep}
 use Rattle.shgrammar.specs.declared.keep.Keep.TheVariants.{Whole}
+use Rattle.shgrammar.specs.declared.script.Script as the_script
+use Rattle.shtree.specs.View.{view_list}
 use Rattle.shgrammar.specs.declared.fault.Fault.{Fault}
 use Rattle.shtree.specs.Tree.{AnEntry, Entries, entries_of}
 use Rattle.shgrammar.specs.Sights.{given, standing, State}
@@ -91,3 +93,7 @@ line_of_text T = line_of T (does (the_line false) Whole (given T 0) (standing 0)
 
 unfoldable pub first_fault_from : List ℕ → ℕ → Option Fault
 first_fault_from B p = (script_on B nothing_yet p).wrong
+
+-- a script that was read
+abbrev pub view_script : the_script.Script → AScript
+view_script script = record { entries = view_list script.list; wrong = script.fault }

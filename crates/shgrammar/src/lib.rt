@@ -6,15 +6,19 @@
 #![tactic(auto)]
 
 mod class;
+mod delimiter;
 mod fault;
 mod keep;
 mod marks;
 mod mode;
+mod script;
 mod token;
 
 pub use class::Class;
+pub use delimiter::{Delimiter, delimiter_of};
 pub use fault::{Fault, FaultKind};
 pub use keep::Keep;
 pub use marks::{begins_a_word, ends_words};
 pub use mode::{Mode, Piece};
+pub use script::Script;
 pub use token::{Closing, Next, Opener, Position, Reserved, Separator, Token};

@@ -4,10 +4,10 @@ use Rattle.std.specs.Prelude.{All, ◌&&◌, nat_le, nat_lt}
 use Rattle.std.specs.List.{filter}
 use Rattle.std.proofs.lemmas.Bool.Decides.{nat_tests}
 use Rattle.std.proofs.lemmas.List.Elements.{All-head, All-tail}
-use Rattle.shread.specs.Answers.{view_script}
+use Rattle.shgrammar.specs.Scripts.{view_script}
 use Rattle.shgrammar.specs.Scripts.{AScript, FirstFault}
 use Rattle.shgrammar.specs.declared.fault.Fault.{Fault}
-use Rattle.shread.specs.declared.reader.Script.{Script}
+use Rattle.shgrammar.specs.declared.script.Script.{Script}
 use Rattle.shtree.specs.Nodes.{AreWithin, IsWithin, entries_nodes, holds, in_order, nodes_at, placed}
 use Rattle.shtree.proofs.Placed.{nodes_at_is}
 use Rattle.shtree.specs.Tree.{Entries}

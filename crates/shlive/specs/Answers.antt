@@ -1,9 +1,9 @@
 -- What a session answers for the bytes of a script: what reading them from scratch says.
 use Rattle.std.specs.Prelude.{◌≡◌, ℕ, List, length, Option, None, Some}
-use Rattle.shread.specs.Answers.{view_script}
+use Rattle.shgrammar.specs.Scripts.{view_script}
 use Rattle.shgrammar.specs.Scripts.{AScript, FirstFault, Outcome}
 use Rattle.shgrammar.specs.declared.fault.Fault.{Fault}
-use Rattle.shread.specs.declared.reader.Script.{Script}
+use Rattle.shgrammar.specs.declared.script.Script.{Script}
 use Rattle.shtree.specs.Nodes.{AreWithin, nodes_at, outline}
 use Rattle.shtree.specs.declared.nodes.NodeLine.{NodeLine}
 use Rattle.shtext.specs.Edit.{Refuses}

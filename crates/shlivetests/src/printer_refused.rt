@@ -1,5 +1,6 @@
 // Each growth of a printing refused in turn: `growths.rt` says how.
-use shprint::{Layout, PrintError, Printing, print, print_source};
+use shpieces::{PrintError, Printing, print_source};
+use shprint::{Layout, print};
 use shread::Reader;
 use shtests::growths::{refuse, refuses, was_refused};
 use shtext::Flat;

@@ -1,5 +1,6 @@
 // What no clause says: what a layout refuses, that calls succeed where nothing fails, and the texts.
-use shprint::{Layout, LayoutError, PrintError, message, print, print_source};
+use shpieces::{PrintError, print_source};
+use shprint::{Layout, LayoutError, message, print};
 use shread::{Fault, FaultKind, Reader};
 use shtext::Flat;
 use std::alloc::Global;

@@ -1,12 +1,10 @@
 pub mod BodiesOfParts
-pub mod ByLine
 pub mod Copying
 pub mod Digits
 pub mod Due
 pub mod Gives
 pub mod Good
 pub mod Held
-pub mod SubstsUnseen
 pub mod ReadBack
 pub mod PrintedRows
 pub mod Readable

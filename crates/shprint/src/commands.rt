@@ -153,7 +153,7 @@ impl<'a, S: Source> Printer<'a, S> {
     /// Each entry on a line of its own.
     #[cycle(print)]
     #[tactic(auto, using(crate::proofs::Writing::written_append, crate::proofs::Writing::written_cons, crate::proofs::Writing::written_none, crate::proofs::Rows::from_end, crate::proofs::Rows::entries_are))]
-    pub(crate) fn print_entries(&self, entries: &[Entry], page: &mut Page) -> Result<(), AllocError>
+    pub fn print_entries(&self, entries: &[Entry], page: &mut Page) -> Result<(), AllocError>
         ensures { IfOk result (λ _. Prints page.old page.new
             (print_entries self.now.layout page.old.margin.items (shape_of (S.bytes self.now.source.now) (entries_of (map view_entry entries.now))))) }
     {

@@ -14,7 +14,7 @@ ghost use Rattle.shprint.specs.Written.{Prints};
 use crate::page::Page;
 use crate::printer::Printer;
 use crate::stretch::word_span;
-use shread::delimiter_of;
+use shgrammar::delimiter_of;
 use shtext::Source;
 use shtree::{HereDocument, Item, ItemContent, RedirectOperator, Redirection, Span, Word};
 use std::alloc::AllocError;

@@ -1,13 +1,13 @@
 //! The printer: one layout for every script, and the line that tells a fault.
 //!
-//! Start with [`print`], which prints the tree of a script by a [`Layout`]; [`print_source`] reads the script too, a line at a time, and
-//! [`Printing`] does so in pieces; [`message`] is the line that tells a fault, and [`add_bare`] copies a name or a number.
+//! Start with [`print`], which prints the tree of a script by a [`Layout`]; [`Printer`] prints some of its entries on a [`Page`];
+//! [`message`] is the line that tells a fault, and [`add_bare`] copies a name or a number. No reader is needed here: the crate `shpieces`
+//! prints scripts while they are read.
 //! What is printed for a tree is `printed` in `specs/Printed`, by cases, one for each rule of the layout. A function of `commands`,
 //! `items` or `comments` prints what the definition of its name there says.
 #![tactic(auto)]
 
 mod bare;
-mod by_line;
 mod commands;
 mod comments;
 mod items;
@@ -19,7 +19,7 @@ mod printer;
 mod stretch;
 
 pub use bare::add_bare;
-pub use by_line::{PrintError, Printing, print_source};
 pub use layout::{Layout, LayoutError};
 pub use messages::message;
-pub use printer::print;
+pub use page::Page;
+pub use printer::{Printer, print};

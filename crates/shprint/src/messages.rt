@@ -3,7 +3,7 @@ ghost use Rattle.std.specs.Prelude.{◌≡◌, IfOk};
 ghost use Rattle.shprint.specs.Message.{message_text, text_of_kind};
 
 use itoa::Buffer;
-use shread::{Fault, FaultKind};
+use shgrammar::{Fault, FaultKind};
 use std::alloc::{AllocError, Global};
 
 /// What is said of a fault of this kind.

@@ -11,15 +11,15 @@ use std::alloc::{AllocError, Global};
 /// What is printed so far, what waits for the end of the line (the bodies of its here-documents), and the bytes with which a line
 /// begins.
 #[derive(Drop)]
-pub(crate) struct Page {
-    pub(crate) margin: Vec<u8>,
-    pub(crate) text: Vec<u8>,
-    pub(crate) held: Vec<u8>,
+pub struct Page {
+    pub margin: Vec<u8>,
+    pub text: Vec<u8>,
+    pub held: Vec<u8>,
 }
 
 impl Page {
     /// An empty page, whose lines begin with nothing.
-    pub(crate) fn new(alloc: Global) -> Page
+    pub fn new(alloc: Global) -> Page
         ensures { (result.margin.items ≡ []) × (result.text.items ≡ []) × (result.held.items ≡ []) }
     {
         Page {

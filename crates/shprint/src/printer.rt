@@ -2,7 +2,7 @@
 #![tactic(auto, using(crate::proofs::Writing::written_text, crate::proofs::Writing::written_first))]
 
 ghost use Rattle.std.specs.Prelude.{◌≡◌, [], ◌∷◌, ◌++◌, IfOk, None};
-ghost use Rattle.shread.specs.Answers.{view_script};
+ghost use Rattle.shgrammar.specs.Scripts.{view_script};
 ghost use Rattle.shgrammar.specs.Scripts.{Outcome};
 ghost use Rattle.shtree.specs.Shape.{bare_at, shape_of, text_at};
 ghost use Rattle.shprint.specs.Marks.{text};
@@ -13,17 +13,17 @@ ghost use Rattle.shprint.specs.Written.{Prints};
 use crate::bare::add_bare;
 use crate::layout::Layout;
 use crate::page::Page;
-use shread::Script;
+use shgrammar::Script;
 use shtext::Source;
 use shtree::Span;
 use std::alloc::{AllocError, Global};
 
 /// By what a tree is printed: an allocator, a layout, and the source that the tree's spans tell of.
 #[derive(Drop)]
-pub(crate) struct Printer<'a, S: Source> {
-    pub(crate) alloc: Global,
-    pub(crate) layout: Layout,
-    pub(crate) source: &'a S,
+pub struct Printer<'a, S: Source> {
+    pub alloc: Global,
+    pub layout: Layout,
+    pub source: &'a S,
 }
 
 impl<'a, S: Source> Printer<'a, S> {

@@ -6,7 +6,6 @@ use Rattle.shread.specs.declared.reader.Reader.{Reader}
 use Rattle.shread.specs.declared.reader.Line as the_line
 use Rattle.shread.specs.declared.reader.LineKind as the_kind
 use Rattle.shread.specs.declared.reader.LineKind.TheVariants as kinds
-use Rattle.shread.specs.declared.reader.Script as the_script
 use Rattle.shtree.specs.View.{view_list}
 use Rattle.shgrammar.specs.Lines.{ALine, AKind, blank_line, entries_line, end_line, faulty_line}
 use Rattle.shgrammar.specs.Scripts.{AScript, first_fault_from}
@@ -20,9 +19,6 @@ view_kind (kinds.Faulty fault) = faulty_line fault
 -- a line that begins at the offset `at`
 abbrev pub view_line : ℕ → the_line.Line → ALine
 view_line at line = record { kind = view_kind line.kind; next = line.next - at; ended = line.ended }
-
-abbrev pub view_script : the_script.Script → AScript
-view_script script = record { entries = view_list script.list; wrong = script.fault }
 
 abbrev pub meter_of : Reader → ℕ
 meter_of reader = reader.meter

@@ -1,12 +1,12 @@
 //! All lines of a source as one script.
 ghost use Rattle.std.specs.Prelude.{◌≡◌, ◌≤◌, ◌++◌, length, IfOk, IfSome, IsOk};
-ghost use Rattle.shread.specs.Answers.{view_script};
+ghost use Rattle.shgrammar.specs.Scripts.{view_script};
 ghost use Rattle.shgrammar.specs.Scripts.{script_at};
 ghost use Rattle.shtree.specs.Nodes.{AreWithin};
 
-use crate::reader::Script;
 use crate::script_lines::{ScriptLine, ScriptLines};
 use crate::stop::ReadError;
+use shgrammar::Script;
 use shtext::Source;
 use shtree::Entry;
 use shtree::make::list_of;

@@ -9,10 +9,9 @@ ghost use Rattle.shgrammar.specs.Standing.{next_newline, raw_stands};
 ghost use Rattle.shtree.specs.View.{view_here};
 
 use crate::cursor::Cursor;
-use crate::delimiter::delimiter_of;
 use crate::search::Sought;
 use crate::stop::Stop;
-use shgrammar::{Class, Fault, FaultKind};
+use shgrammar::{Class, Fault, FaultKind, delimiter_of};
 use shtext::Source;
 use shtree::{HereDocument, RedirectOperator, Span};
 use std::alloc::{AllocError, Global};

@@ -1,7 +1,8 @@
 //! The reader: one line, or a whole script.
 ghost use Rattle.std.specs.Prelude.{◌≡◌, ◌+◌, ◌-◌, ◌<◌, ◌≤◌, drop, false, length, true, List as Row, None, IfOk, IfErr, IfSome, IsOk};
 ghost use Rattle.shgrammar.specs.Lines.{EntriesWithin};
-ghost use Rattle.shread.specs.Answers.{meter_of, raised, view_kind, view_line, view_script};
+ghost use Rattle.shread.specs.Answers.{meter_of, raised, view_kind, view_line};
+ghost use Rattle.shgrammar.specs.Scripts.{view_script};
 ghost use Rattle.shgrammar.specs.Form.{Spelled};
 ghost use Rattle.shgrammar.specs.Lines.{ALine, IsLine, NoFurther, SameBytes};
 ghost use Rattle.shgrammar.specs.Scripts.{AScript, FirstFault, Outcome, Passes};
@@ -14,7 +15,7 @@ use crate::all_lines::script_from;
 use crate::first_fault::first_fault_of;
 use crate::one_line::line_from;
 use crate::stop::ReadError;
-use shgrammar::Fault;
+use shgrammar::{Fault, Script};
 use shtext::Source;
 use shtree::List;
 use std::alloc::Global;
@@ -41,16 +42,6 @@ pub struct Line {
     pub next: usize,
     /// A newline token ended the line, and its last byte is a newline. Another line may begin at `next`.
     pub ended: bool,
-}
-
-/// A whole script.
-#[derive(Debug, Drop)]
-pub struct Script {
-    /// The entries of all lines; with a fault, of those that ended before the faulty one. Spans count from the
-    /// script's first byte.
-    pub list: List,
-    /// The first fault from left to right.
-    pub fault: Option<Fault>,
 }
 
 /// Reads scripts, and counts the bytes that it has read.

@@ -1,5 +1,5 @@
 use Rattle.std.proofs.Common.{◌≡◌, [], ap, arith, subst, sym}
-use Rattle.shread.specs.Answers.{view_script}
+use Rattle.shgrammar.specs.Scripts.{view_script}
 use Rattle.shtree.specs.Shape.{shape_of}
 use Rattle.shprint.specs.Printed.{print_script, printed}
 use Rattle.shprint.specs.Marks.{held_behind}

@@ -1,6 +1,6 @@
 use Rattle.std.proofs.Common.{◌≤◌, ap, arith, length, subst, sym, ◌∙◌}
 use Rattle.std.proofs.lemmas.Bool.Decides.{nat_tests}
-use Rattle.shread.specs.Answers.{view_script}
+use Rattle.shgrammar.specs.Scripts.{view_script}
 use Rattle.shlive.specs.Answers.{IsReadOf}
 use Rattle.shlive.specs.Held.{Held}
 use Rattle.shlive.proofs.Scratch.{no_nodes}

@@ -1,5 +1,5 @@
 use Rattle.std.proofs.Common.{◌≤◌, ap, length, subst, sym, ◌∙◌}
-use Rattle.shread.specs.Answers.{view_script}
+use Rattle.shgrammar.specs.Scripts.{view_script}
 use Rattle.shlive.specs.Answers.{IsReadOf}
 use Rattle.shlive.specs.Held.{Held}
 use Rattle.shlive.proofs.Scratch.{no_nodes}

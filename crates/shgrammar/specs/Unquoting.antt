@@ -1,0 +1,32 @@
+-- What the code has of a delimiter, in the definitions.
+use Rattle.std.specs.Prelude.{ℕ, ◌+◌, Bool, ◌&&◌, List, ◌++◌, Option, Some, None, option_map, drop, get_or, length, nat_lt}
+use Rattle.shgrammar.specs.declared.delimiter.Delimiter as the_delimiter
+use Rattle.shgrammar.specs.declared.delimiter.Quoting as the_quoting
+use Rattle.shgrammar.specs.declared.delimiter.Quoting.TheVariants as quotings
+use Rattle.shgrammar.specs.declared.delimiter.Unquoting as the_unquoting
+use Rattle.shgrammar.specs.HereDocuments.{ADelimiter, Quoting, not_quoted, in_single, in_double, is_live, unquoted}
+
+abbrev pub view_quoting : the_quoting.Quoting → Quoting
+view_quoting quotings.Outside = not_quoted
+view_quoting quotings.Single = in_single
+view_quoting quotings.Double = in_double
+
+abbrev pub view_delimiter : the_delimiter.Delimiter → ADelimiter
+view_delimiter d = record { text = d.text.items; literal = d.literal }
+
+-- what is left of a word behind this text
+abbrev pub left_of : List ℕ → Option (List ℕ) → Option (List ℕ)
+left_of text rest = option_map (λ bs. text ++ bs) rest
+
+-- what a quote removal leaves of a word, from a place on
+abbrev pub rest_of : the_unquoting.Unquoting → List ℕ → ℕ → Option (List ℕ)
+rest_of u word at = left_of u.text.items (unquoted (view_quoting u.quoting) u.second (drop at word))
+
+-- and if it goes on at all
+abbrev pub left_by : the_unquoting.Unquoting → List ℕ → Option ℕ → Option (List ℕ)
+left_by u word (Some at) = rest_of u word at
+left_by u word None = None
+
+-- a backslash at a place quotes the next byte
+abbrev pub escapes : Quoting → List ℕ → ℕ → Bool
+escapes q word at = nat_lt (at + 1) (length word) && is_live q 92 (get_or word at 0)

@@ -1,0 +1,283 @@
+//! The delimiter of a here-document: its word after quote removal (XCU 2.6.7, 2.7.4).
+ghost use Rattle.std.specs.Prelude.{◌≡◌, ◌+◌, ◌<◌, ◌≤◌, ◌==◌, ◌||◌, ℕ, Option, true, get_or, IfOk, IfSome, List as Row, drop, false, length, option_map};
+ghost use Rattle.shgrammar.specs.Bytes.{byte_at};
+ghost use Rattle.shgrammar.specs.HereDocuments.{behind_quote, byte_left, delimiter_of, dollar_left, escape_left, is_live, is_quote, is_quoted, not_quoted, stays_before, unquoted};
+ghost use Rattle.shgrammar.specs.Standing.{continues, is_byte, raw_stands};
+ghost use Rattle.shgrammar.specs.Unquoting.{escapes, left_by, left_of, rest_of, view_delimiter, view_quoting};
+
+use std::alloc::{AllocError, Global};
+
+/// The text of a delimiter, and whether its document is literal.
+#[derive(Drop)]
+pub struct Delimiter {
+    pub text: Vec<u8>,
+    pub literal: bool,
+}
+
+/// How a byte of a word is quoted.
+#[derive(Clone, Copy, PartialEq, Eq)]
+enum Quoting {
+    Outside,
+    Single,
+    Double,
+}
+
+impl Quoting {
+    /// Whether this byte opens quotes, or closes them.
+    fn is_quote(self, byte: u8) -> bool
+        ensures { result ≡ is_quote (view_quoting self) byte }
+    {
+        match self {
+            Quoting::Outside => byte == b'\'' || byte == b'"',
+            Quoting::Single => byte == b'\'',
+            Quoting::Double => byte == b'"',
+        }
+    }
+
+    /// How the bytes behind this quote are quoted.
+    fn behind(self, quote: u8) -> Quoting
+        ensures { view_quoting result ≡ behind_quote (view_quoting self) quote }
+    {
+        match self {
+            Quoting::Outside => {
+                if quote == b'\'' {
+                    Quoting::Single
+                } else {
+                    Quoting::Double
+                }
+            }
+            Quoting::Single | Quoting::Double => Quoting::Outside,
+        }
+    }
+
+    /// Whether a backslash stays before this byte: in double quotes it quotes only some.
+    fn stays_before(self, byte: u8) -> bool
+        ensures { result ≡ stays_before (view_quoting self) byte }
+    {
+        self == Quoting::Double && !matches!(byte, b'$' | b'`' | b'"' | b'\\')
+    }
+
+    /// Whether this byte is that special one, where it is special.
+    fn is_live(self, special: u8, byte: u8) -> bool
+        ensures { result ≡ is_live (view_quoting self) special byte }
+    {
+        self != Quoting::Single && byte == special
+    }
+}
+
+/// Whether this byte stands at a place of a word.
+#[tactic(auto, unfolding(crate::specs::Standing::raw_stands))]
+fn stands(word: &[u8], at: usize, byte: u8) -> bool
+    ensures { result ≡ raw_stands word.now at byte }
+{
+    match word.get(at) {
+        Some(found) => *found == byte,
+        None => false,
+    }
+}
+
+/// Whether a continuation stands at a place of a word.
+#[tactic(auto, unfolding(crate::specs::Standing::continues))]
+fn continues(word: &[u8], at: usize) -> bool
+    requires { at < length word.now }
+    ensures { result ≡ continues word.now at }
+{
+    stands(word, at, b'\\') && stands(word, at + 1, b'\n')
+}
+
+/// The byte that is read at a place of a word, past continuations.
+#[tactic(auto, using(crate::proofs::Unquoted::joined_on, crate::proofs::Unquoted::joined_here, crate::proofs::Unquoted::joined_end, crate::proofs::Unquoted::two_bytes))]
+fn byte_at(word: &[u8], from: usize) -> Option<u8>
+    requires { from ≤ length word.now }
+    ensures { result ≡ byte_at word.now from }
+{
+    let mut at = from;
+    'continuations: while at < word.len() {
+        if !continues(word, at) {
+            return Some(word[at]);
+        }
+        at += 2;
+    }
+    None
+}
+
+/// Whether this byte was found.
+fn is_byte(found: Option<u8>, byte: u8) -> bool
+    ensures { result ≡ is_byte found byte }
+{
+    match found {
+        Some(other) => other == byte,
+        None => false,
+    }
+}
+
+/// Whether the byte that was found behind a `$` makes it an expansion.
+fn opens(found: Option<u8>) -> bool
+    ensures { result ≡ (is_byte found 40 || is_byte found 123) }
+{
+    is_byte(found, b'(') || is_byte(found, b'{')
+}
+
+/// Quote removal, as far as it has come.
+#[derive(Drop)]
+struct Unquoting {
+    text: Vec<u8>,
+    quoting: Quoting,
+    /// The next `$` is the second of `$$`.
+    second: bool,
+}
+
+impl Unquoting {
+    /// The byte behind a backslash.
+    #[tactic(auto, using(crate::proofs::Unquoted::escape_dropped, crate::proofs::Unquoted::escape_both, crate::proofs::Unquoted::escape_one))]
+    fn escaped(&mut self, byte: u8) -> Result<(), AllocError>
+        ensures left { IfOk result (λ done. (left : Option (Row ℕ)) → left_of self.old.text.items (escape_left (view_quoting self.old.quoting) byte left) ≡
+            left_of self.new.text.items left) }
+        ensures same { IfOk result (λ done. (self.new.quoting ≡ self.old.quoting) × (self.new.second ≡ self.old.second)) }
+    {
+        if byte == b'\n' {
+            return Ok(());
+        }
+        if self.quoting.stays_before(byte) {
+            self.text.push(b'\\')?;
+            self.text.push(byte)?;
+            return Ok(());
+        }
+        self.text.push(byte)?;
+        Ok(())
+    }
+
+    /// The `$` behind which a place of the word is. Answers that place, or `None` where it begins an expansion.
+    #[tactic(auto, using(crate::proofs::Unquoted::dollar_second, crate::proofs::Unquoted::dollar_opens, crate::proofs::Unquoted::dollar_on))]
+    fn dollar(&mut self, word: &[u8], next: usize) -> Result<Option<usize>, AllocError>
+        requires { next ≤ length word.now }
+        ensures left { IfOk result (λ found. left_of self.old.text.items
+            (dollar_left self.old.second (drop next word.now) (λ second. unquoted (view_quoting self.old.quoting) second (drop next word.now))) ≡ left_by self.new word.now found) }
+        ensures place { IfOk result (λ found. IfSome found (λ at. at ≡ next)) }
+    {
+        if self.second {
+            self.second = false;
+            self.text.push(b'$')?;
+            return Ok(Some(next));
+        }
+        let following = byte_at(word, next);
+        if opens(following) {
+            return Ok(None);
+        }
+        self.second = is_byte(following, b'$');
+        self.text.push(b'$')?;
+        Ok(Some(next))
+    }
+
+    /// The byte at a place of the word, which is behind no backslash. Answers the place behind it, or `None` where an expansion stands
+    /// or text in backquotes.
+    #[tactic(auto, using(crate::proofs::Unquoted::byte_quote, crate::proofs::Unquoted::byte_backquote, crate::proofs::Unquoted::byte_dollar, crate::proofs::Unquoted::byte_other))]
+    fn byte(&mut self, word: &[u8], at: usize) -> Result<Option<usize>, AllocError>
+        requires { at < length word.now }
+        ensures left { IfOk result (λ found. left_of self.old.text.items
+            (byte_left (view_quoting self.old.quoting) self.old.second (get_or word.now at 0) (drop (at + 1) word.now) (λ q s. unquoted q s (drop (at + 1) word.now)))
+            ≡ left_by self.new word.now found) }
+        ensures place { IfOk result (λ found. IfSome found (λ next. next ≡ at + 1)) }
+    {
+        let byte = word[at];
+        if self.quoting.is_quote(byte) {
+            self.quoting = self.quoting.behind(byte);
+            self.second = false;
+            return Ok(Some(at + 1));
+        }
+        if self.quoting.is_live(b'`', byte) {
+            return Ok(None);
+        }
+        if self.quoting.is_live(b'$', byte) {
+            return self.dollar(word, at + 1);
+        }
+        self.text.push(byte)?;
+        Ok(Some(at + 1))
+    }
+
+    /// Whether the byte at a place of the word is a backslash that quotes the next one.
+    fn escapes(&self, word: &[u8], at: usize) -> bool
+        requires { at < length word.now }
+        ensures value { result ≡ escapes (view_quoting self.now.quoting) word.now at }
+        ensures inside { result ≡ true → at + 1 < length word.now }
+    {
+        at + 1 < word.len() && self.quoting.is_live(b'\\', word[at])
+    }
+
+    /// The byte at a place of the word, and the one that it quotes.
+    #[tactic(auto, using(crate::proofs::Unquoted::take_escape, crate::proofs::Unquoted::take_byte))]
+    fn take(&mut self, word: &[u8], at: usize) -> Result<Option<usize>, AllocError>
+        requires { at < length word.now }
+        ensures left { IfOk result (λ found. rest_of self.old word.now at ≡ left_by self.new word.now found) }
+        ensures place { IfOk result (λ found. IfSome found (λ next. (at < next) × (next ≤ length word.now))) }
+    {
+        if self.escapes(word, at) {
+            self.escaped(word[at + 1])?;
+            return Ok(Some(at + 2));
+        }
+        self.byte(word, at)
+    }
+}
+
+/// What quote removal leaves of a word, or `None` where it has an expansion or text in backquotes.
+#[tactic(auto, using(crate::proofs::Unquoted::nothing_left, crate::proofs::Unquoted::all_left, crate::proofs::Unquoted::none_left))]
+fn unquoted(alloc: Global, word: &[u8]) -> Result<Option<Vec<u8>>, AllocError>
+    ensures { IfOk result (λ left. option_map (λ v. v.items) left ≡ unquoted not_quoted false word.now) }
+{
+    let mut so_far = Unquoting {
+        text: Vec::new(alloc),
+        quoting: Quoting::Outside,
+        second: false,
+    };
+    let mut at = 0;
+    'bytes: while at < word.len() {
+        match so_far.take(word, at)? {
+            Some(next) => at = next,
+            None => return Ok(None),
+        }
+    }
+    Ok(Some(so_far.text))
+}
+
+/// Whether this byte quotes.
+fn quotes(byte: u8) -> bool
+    ensures { result ≡ (byte == 92 || byte == 39 || byte == 34) }
+{
+    byte == b'\\' || byte == b'\'' || byte == b'"'
+}
+
+/// Whether a part of a word is quoted, perhaps an empty one. A continuation quotes nothing.
+#[tactic(auto, using(crate::proofs::Unquoted::bare_on, crate::proofs::Unquoted::bare_quotes, crate::proofs::Unquoted::bare_other, crate::proofs::Unquoted::bare_end, crate::proofs::Unquoted::two_bytes))]
+fn is_quoted(word: &[u8]) -> bool
+    ensures { result ≡ is_quoted word.now }
+{
+    let mut at = 0;
+    'bytes: while at < word.len() {
+        if continues(word, at) {
+            at += 2;
+            continue;
+        }
+        if quotes(word[at]) {
+            return true;
+        }
+        at += 1;
+    }
+    false
+}
+
+/// The delimiter that a word is, by its bytes as they stand (XCU 2.7.4). One with an expansion or text in backquotes is none.
+///
+/// # Errors
+///
+/// Memory ran out.
+pub fn delimiter_of(alloc: Global, word: &[u8]) -> Result<Option<Delimiter>, AllocError>
+    ensures { IfOk result (λ found. option_map view_delimiter found ≡ delimiter_of word.now) }
+{
+    match unquoted(alloc, word)? {
+        Some(text) => Ok(Some(Delimiter {
+            text,
+            literal: is_quoted(word),
+        })),
+        None => Ok(None),
+    }
+}

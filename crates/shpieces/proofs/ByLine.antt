@@ -1,0 +1,282 @@
+-- A script printed a line at a time, and in pieces.
+use Rattle.std.proofs.Common.{◌≡◌, ◌∙◌, ℕ, zero-add, IfErr, IfOk, Result, ◌+◌, ◌-◌, ◌≤◌, ◌<◌, Bool, true, false, not, List, [], ◌∷◌, ◌++◌, Vec, Global, length, map, take, drop, Ok, Err, None, Some, refl, ap, subst, sym, append_assoc, append-nil, arith, length-append, length-drop, length-take}
+use Rattle.std.proofs.lemmas.List.{take-append-le}
+use Rattle.std.proofs.Math.Seq.{drop-append_seam, drop-append-add, take-add, take-take}
+use Rattle.shgrammar.specs.declared.fault.Fault.{Fault}
+use Rattle.shread.specs.declared.script_lines.LinesBefore.{LinesBefore}
+use Rattle.shread.specs.declared.script_lines.ScriptLine.{ScriptLine}
+use Rattle.shread.specs.declared.script_lines.ScriptLine.TheVariants.{Ended, Last, Faulty}
+use Rattle.shread.specs.declared.script_lines.ScriptLines.{ScriptLines}
+use Rattle.shgrammar.specs.Commands.{is_empty}
+use Rattle.shread.specs.LineByLine.{Before, IsNextLine, IsWholeLine, LineReads, LineWithin, Rest, Stands, before_of, no_lines, place_of}
+use Rattle.shgrammar.specs.declared.keep.Keep.TheVariants.{Whole}
+use Rattle.shgrammar.specs.Moved.{blanked_row, moved_entry, moved_fault, outer_entry, placed_body}
+use Rattle.shgrammar.specs.Scripts.{AScript, FirstFault, Outcome, SoFar, faulty, is_blank_line, last_line, line_ended, nothing_yet, with_line}
+use Rattle.shgrammar.specs.Sights.{State}
+use Rattle.shread.proofs.LineByLine.{line_only, line_read}
+use Rattle.shgrammar.proofs.LineInPiece.{There, alone, outer_alone, fault_there, stands_there, told_same}
+use Rattle.shgrammar.proofs.Passing.{line_there}
+use Rattle.shgrammar.proofs.SameLine.{newline_at, same_front}
+use Rattle.shtree.specs.Shape.{Text, shape_of, shape_of_entry}
+use Rattle.shtree.specs.declared.tree.Entry.{Entry}
+use Rattle.shtree.specs.Tree.{AnEntry, entries_of}
+use Rattle.shtree.specs.Nodes.{placed_span}
+use Rattle.shtree.specs.View.{view_entry}
+use Rattle.shprint.specs.declared.layout.Layout.{Layout}
+use Rattle.shprint.specs.Printed.{print_entries, print_entry, printed}
+use Rattle.shpieces.specs.Printing.{ArePrinted, IsPrinted, moved_error}
+use Rattle.shpieces.specs.Printing.{IsNoText}
+use Rattle.shprint.specs.ReadBack.{IsTextOf, ReadsBack}
+use Rattle.shpieces.specs.declared.by_line.PrintError.{PrintError}
+use Rattle.shpieces.specs.declared.by_line.PrintError.TheVariants as PrintErrors
+use Rattle.shpieces.specs.declared.by_line.Printing.{Printing}
+use Rattle.shprint.specs.Written.{Sheet, sheet_of, written}
+use Rattle.shpieces.proofs.SubstsUnseen.{line_same}
+use Rattle.shprint.proofs.ReadBack.{reads_back}
+use Rattle.shprint.proofs.Writing.{written_append, written_first, written_none}
+
+module _ (y : Layout) (bytes : List ℕ) where
+  -- the entries of some lines and of one more
+  marks_append : (margin : Text) (before line : List AnEntry) → print_entries y margin (shape_of bytes (entries_of (before ++ line)))
+      ≡ print_entries y margin (shape_of bytes (entries_of before)) ++ print_entries y margin (shape_of bytes (entries_of line))
+  marks_append margin [] line = refl
+  marks_append margin (e ∷ before) line =
+      ap (λ r. print_entry y margin (shape_of_entry bytes e) ++ r) (marks_append margin before line)
+      ∙ sym (append_assoc (print_entry y margin (shape_of_entry bytes e)) (print_entries y margin (shape_of bytes (entries_of before))) (print_entries y margin (shape_of bytes (entries_of line))))
+
+  -- the sheet of these entries: an empty one, and what is printed for them
+  abbrev pub sheet_with : List AnEntry → Sheet
+  sheet_with es = written (sheet_of [] []) (print_entries y [] (shape_of bytes (entries_of es)))
+
+  -- a line behind the text so far
+  line_behind : (before line : List AnEntry) (s : Sheet) → s ≡ sheet_with before
+      → written s (print_entries y [] (shape_of bytes (entries_of line))) ≡ sheet_with (before ++ line)
+  line_behind before line s is =
+      ap (λ t. written t (print_entries y [] (shape_of bytes (entries_of line)))) is
+      ∙ written_append (sheet_of [] []) (print_entries y [] (shape_of bytes (entries_of before))) (print_entries y [] (shape_of bytes (entries_of line)))
+      ∙ ap (written (sheet_of [] [])) (sym (marks_append [] before line))
+
+-- ---- a line of a piece, in the script
+
+empty_as : (blank : Bool) (f g : AnEntry → AnEntry) (es : List AnEntry) → is_empty (blanked_row blank (map f es)) ≡ is_empty (blanked_row blank (map g es))
+empty_as blank f g [] = refl
+empty_as blank f g (e ∷ es) = refl
+
+begun_as : (before es fs : List AnEntry) → is_empty es ≡ is_empty fs → is_empty (before ++ es) ≡ is_empty (before ++ fs)
+begun_as [] es fs is = is
+begun_as (e ∷ before) es fs is = refl
+
+-- what a line leaves, of whose entries it is asked only whether there are some
+left_as : (left : LinesBefore) (so : SoFar) (es fs : List AnEntry) → is_empty es ≡ is_empty fs → Before left (with_line so es) → Before left (with_line so fs)
+left_as left so es fs is stands = (stands.0 ∙ is, stands.1 ∙ ap not (begun_as so.entries es fs is))
+
+module _ (y : Layout) (H S : List ℕ) (q n : ℕ) (so : SoFar) (newline : Bool) (es : List AnEntry) (t : State) (there : There H S q n (is_blank_line so) newline es t) where
+  abbrev here : List AnEntry
+  here = blanked_row (is_blank_line so) (map (moved_entry n) es)
+
+  sheet_more : (text then : Sheet) → text ≡ sheet_with y S so.entries → then ≡ written text (print_entries y [] (shape_of H (entries_of (blanked_row (is_blank_line so) (map (moved_entry q) es)))))
+      → then ≡ sheet_with y S (so.entries ++ here)
+  sheet_more text then text_is is =
+      is ∙ ap (λ r. written text (print_entries y [] r)) (sym there.shape) ∙ line_behind y S so.entries here text text_is
+
+module _ (y : Layout) (H S : List ℕ) (q n : ℕ) (so : SoFar) (es : List AnEntry) (t : State) where
+  -- what is read behind a line is read with it
+  rest_more : There H S q n (is_blank_line so) true es t → (s : AScript) (p : ℕ) → p ≡ n + t.at → Rest S (with_line so (blanked_row (is_blank_line so) (map (moved_entry n) es))) p s → Rest S so n s
+  rest_more there s p ends rest =
+      let line = blanked_row (is_blank_line so) (map (moved_entry n) es) in
+      let read = line_read S so n (is_blank_line so) (Ok ((line, true), there.state)) refl there.read in
+      let place : p ≡ n + there.state.at = omega (arith, ends, there.at) in
+      let on = subst (λ (k : ℕ). Rest S (with_line so line) k s) place rest in
+      (read.0 ++ on.0, line_ended line there.state read.0 read.1 on.1)
+
+  rest_last : There H S q n (is_blank_line so) false es t → Rest S so n (record { entries = entries_of (so.entries ++ blanked_row (is_blank_line so) (map (moved_entry n) es)); wrong = None })
+  rest_last there =
+      let line = blanked_row (is_blank_line so) (map (moved_entry n) es) in
+      let read = line_read S so n (is_blank_line so) (Ok ((line, false), there.state)) refl there.read in
+      (read.0, last_line line there.state read.0 read.1)
+
+-- ---- lines at the front of what follows
+
+-- the line at q of H is whole, and its first bytes are taken behind P: whatever follows them, it is read there
+whole_there : (H P more : List ℕ) (q : ℕ) (blank : Bool) (es : List AnEntry) (t : State) → Rattle.shgrammar.specs.Scripts.line_told H Whole false q 0 ≡ Ok ((es, true), t) → 0 < t.at → q + t.at ≤ length H
+    → Rattle.shgrammar.specs.Standing.raw_stands (drop q H) (t.at - 1) 10 ≡ true → There H (P ++ (take t.at (drop q H) ++ more)) q (length P) blank true es t
+whole_there H P more q blank es t read some low stands =
+    let D = drop q H in
+    let L = t.at in
+    let S = P ++ (take L D ++ more) in
+    let size : L ≤ length (take L D) = omega (arith, length-take L D, length-drop q H, low) in
+    let same : take L (drop (length P) S) ≡ take L D =
+    ap (take L) (drop-append_seam P (take L D ++ more)) ∙ take-append-le L (take L D) more size ∙ take-take L L D (omega arith) in
+    let up : L ≡ L - 1 + 1 = omega (arith, some) in
+    stands_there H S q (length P) blank true es t read same
+    (line_there D (drop (length P) S) (L - 1) es t up (newline_at D (L - 1) stands) (λ r lt. same_front L D (drop (length P) S) same r (omega (arith, lt, up))) read)
+
+module _ {S : Type 0} (y : Layout) (H : List ℕ) (old new : ScriptLines S) (text then : Sheet) (line : Vec Entry Global) where
+  one_more : (P : List ℕ) → ArePrinted y P old.before text → ((so : SoFar) → Stands old so → IsWholeLine H so old line new) → new.at ≤ length H
+      → then ≡ written text (print_entries y [] (shape_of H (entries_of (map view_entry line.items)))) → (L : ℕ) → new.at ≡ old.at + L → ArePrinted y (P ++ take L (drop old.at H)) new.before then
+  one_more P b whole low is L ends_at =
+      let q = old.at in
+      let D = drop q H in
+      let w = whole b.so b.left_so in
+      let blank = is_blank_line b.so in
+      let a = outer_alone H q blank true (map view_entry line.items) w.0 w.2 in
+      let es = a.0 in
+      let t = a.1 in
+      let size : t.at ≡ L = omega (arith, a.4, w.1, ends_at) in
+      let some : 0 < t.at = omega (arith, a.4, w.3) in
+      let high : q + t.at ≤ length H = omega (arith, size, ends_at, low) in
+      let stands : Rattle.shgrammar.specs.Standing.raw_stands D (t.at - 1) 10 ≡ true = subst (λ (k : ℕ). Rattle.shgrammar.specs.Standing.raw_stands D (k - 1) 10 ≡ true) a.4 w.4 in
+      let there = λ (more : List ℕ). whole_there H P more q blank es t a.2 some high stands in
+      let here = blanked_row blank (map (moved_entry (length P)) es) in
+      let alike : is_empty (map view_entry line.items) ≡ is_empty here = ap is_empty a.3 ∙ empty_as blank (outer_entry q) (moved_entry (length P)) es in
+      let then_is : then ≡ written text (print_entries y [] (shape_of H (entries_of (blanked_row blank (map (moved_entry q) es))))) =
+      is ∙ ap (λ (r : List AnEntry). written text (print_entries y [] (shape_of H (entries_of r)))) a.3 ∙ ap (written text) (line_same y H (placed_span q) (placed_body q) [] blank es) in
+      let done : ArePrinted y (P ++ take t.at D) new.before then = record {
+        so = with_line b.so here;
+        left_so = left_as new.before b.so (map view_entry line.items) here alike w.5;
+        from = λ more s rest.
+            let same : P ++ take t.at D ++ more ≡ P ++ (take t.at D ++ more) = append_assoc P (take t.at D) more in
+            let at : length (P ++ take t.at D) ≡ length P + t.at = omega (arith, length-append P (take t.at D), length-take t.at D, length-drop q H, high) in
+            let on = subst (λ (X : List ℕ). Rest X (with_line b.so here) (length (P ++ take t.at D)) s) same rest in
+            subst (λ (X : List ℕ). Outcome X s) (sym same) (b.from (take t.at D ++ more) s (rest_more y H (P ++ (take t.at D ++ more)) q (length P) b.so es t (there more) s (length (P ++ take t.at D)) at on));
+        is = λ more.
+            let same : P ++ take t.at D ++ more ≡ P ++ (take t.at D ++ more) = append_assoc P (take t.at D) more in
+            sheet_more y H (P ++ (take t.at D ++ more)) q (length P) b.so true es t (there more) text then (b.is (take t.at D ++ more)) then_is
+            ∙ sym (ap (λ (X : List ℕ). sheet_with y X (b.so.entries ++ here)) same);
+      } in
+      subst (λ (k : ℕ). ArePrinted y (P ++ take k D) new.before then) size done
+
+  pub front_behind : (front : List ℕ) → ArePrinted y (front ++ take old.at H) old.before text → ((so : SoFar) → Stands old so → IsWholeLine H so old line new) → old.at < new.at → new.at ≤ length H
+      → then ≡ written text (print_entries y [] (shape_of H (entries_of (map view_entry line.items)))) → ArePrinted y (front ++ take new.at H) new.before then
+  front_behind front b whole onward low is =
+      let L = new.at - old.at in
+      let ends : new.at ≡ old.at + L = omega (arith, onward) in
+      let pieces : front ++ take new.at H ≡ front ++ take old.at H ++ take L (drop old.at H) =
+      ap (λ (k : ℕ). front ++ take k H) ends ∙ ap (λ (xs : List ℕ). front ++ xs) (take-add old.at L H) ∙ sym (append_assoc front (take old.at H) (take L (drop old.at H))) in
+      subst (λ (X : List ℕ). ArePrinted y X new.before then) (sym pieces) (one_more (front ++ take old.at H) b whole low is L ends)
+
+-- nothing was read of what follows
+pub start_printed : (y : Layout) (front H : List ℕ) (left now : LinesBefore) (p : ℕ) (s : Sheet) → p ≡ 0 → now ≡ left → ArePrinted y front left s → ArePrinted y (front ++ take p H) now s
+start_printed y front H left now p s start same b =
+    let none : front ++ take p H ≡ front = ap (λ (k : ℕ). front ++ take k H) start ∙ append-nil front in
+    subst (λ (X : List ℕ). ArePrinted y X now s) (sym none) (subst (λ (l : LinesBefore). ArePrinted y front l s) (sym same) b)
+
+-- nothing is printed
+pub none_printed : (y : Layout) (left : LinesBefore) (s : Sheet) → left ≡ no_lines → s ≡ sheet_of [] [] → ArePrinted y [] left s
+none_printed y left s none empty = record {
+  so = nothing_yet;
+  left_so = subst (λ (l : LinesBefore). Before l nothing_yet) (sym none) (refl, refl);
+  from = λ more s rest. rest;
+  is = λ more. empty ∙ sym (written_none (sheet_of [] []));
+}
+
+-- ---- what follows, up to the end
+
+module _ {S : Type 0} (y : Layout) (H front : List ℕ) where
+  -- between two lines: what they gave is printed, and what the lines to come give is the script with it
+  pub record Between (lines : ScriptLines S) (printed_so : Sheet) : Type 0 where
+    pub so : SoFar
+    pub stands : Stands lines so
+    pub from : (s : AScript) → Rest (front ++ H) so (length front + place_of lines) s → Outcome (front ++ H) s
+    pub is : printed_so ≡ sheet_with y (front ++ H) so.entries
+
+  pub at_start : (lines : ScriptLines S) (left : LinesBefore) (s : Sheet) → place_of lines ≡ 0 → before_of lines ≡ left → ArePrinted y front left s → Between lines s
+  at_start lines left s start same b =
+      let place : length front + place_of lines ≡ length front = omega (arith, start) in
+      record {
+        so = b.so;
+        stands = subst (λ (l : LinesBefore). Before l b.so) (sym same) b.left_so;
+        from = λ z rest. b.from H z (subst (λ (p : ℕ). Rest (front ++ H) b.so p z) place rest);
+        is = b.is H;
+      }
+
+  module _ (old new : ScriptLines S) (text then : Sheet) (x : ScriptLine) (b : Between old text) (next : IsNextLine H b.so old x new) where
+    -- then these entries are printed
+    abbrev Prints : List AnEntry → Type 0
+    Prints es = then ≡ written text (print_entries y [] (shape_of H (entries_of es)))
+
+    -- a line of what follows that is printed, where it stands in the script
+    record Placed (newline : Bool) (line : List AnEntry) (size : ℕ) : Type 0 where
+      es : List AnEntry
+      t : State
+      there : There H (front ++ H) old.at (length front + old.at) (is_blank_line b.so) newline es t
+      ends : size ≡ t.at
+      alike : is_empty line ≡ is_empty (blanked_row (is_blank_line b.so) (map (moved_entry (length front + old.at)) es))
+      prints : Prints (blanked_row (is_blank_line b.so) (map (moved_entry old.at) es))
+
+    placed : (newline : Bool) (line : List AnEntry) (t : State) → LineReads H b.so old.at (Ok ((line, newline), t)) → Prints line → Placed newline line t.at
+    placed newline line t read is =
+        let q = old.at in
+        let n = length front + q in
+        let blank = is_blank_line b.so in
+        let a = alone H q blank newline line t (line_only H b.so q _ read) in
+        let same : drop n (front ++ H) ≡ drop q H = drop-append-add front H q in
+        record {
+          es = a.0;
+          t = a.1;
+          there = stands_there H (front ++ H) q n blank newline a.0 a.1 a.2 (ap (take a.1.at) same) (told_same (front ++ H) H n q same ∙ a.2);
+          ends = a.4;
+          alike = ap is_empty a.3 ∙ empty_as blank (moved_entry q) (moved_entry n) a.0;
+          prints = is ∙ ap (λ (r : List AnEntry). written text (print_entries y [] (shape_of H (entries_of r)))) a.3;
+        }
+
+    behind_by : (line : Vec Entry Global) → IsNextLine H b.so old (Ended line) new → Prints (map view_entry line.items) → Between new then
+    behind_by line ((t, ends, read), stands) is =
+        let q = old.at in
+        let n = length front + q in
+        let p = placed true (map view_entry line.items) t read is in
+        let here = blanked_row (is_blank_line b.so) (map (moved_entry n) p.es) in
+        record {
+          so = with_line b.so here;
+          stands = left_as new.before b.so (map view_entry line.items) here p.alike stands;
+          from = λ s rest. b.from s (rest_more y H (front ++ H) q n b.so p.es p.t p.there s (length front + new.at) (omega (arith, ends, p.ends)) rest);
+          is = sheet_more y H (front ++ H) q n b.so true p.es p.t p.there text then b.is p.prints;
+        }
+
+    pub behind_line : (line : Vec Entry Global) → x ≡ Ended line → Prints (map view_entry line.items) → Between new then
+    behind_line line this is = behind_by line (rw this at next) is
+
+    last_by : (line : Vec Entry Global) → IsNextLine H b.so old (Last line) new → Prints (map view_entry line.items) → IsTextOf y (front ++ H) then.so_far
+    last_by line ((t, ends, read), stands) is =
+        let q = old.at in
+        let n = length front + q in
+        let p = placed false (map view_entry line.items) t read is in
+        let all = entries_of (b.so.entries ++ blanked_row (is_blank_line b.so) (map (moved_entry n) p.es)) in
+        let script : AScript = record { entries = all; wrong = None } in
+        let outcome : Outcome (front ++ H) script = b.from script (rest_last y H (front ++ H) q n b.so p.es p.t p.there) in
+        let told : then.so_far ≡ printed y (shape_of (front ++ H) all) =
+        ap (λ s. s.so_far) (sheet_more y H (front ++ H) q n b.so false p.es p.t p.there text then b.is p.prints ∙ written_first (print_entries y [] (shape_of (front ++ H) all))) in
+        record { script = script; outcome = outcome; faultless = refl; is = told; reads_back = subst (λ t. ReadsBack t (shape_of (front ++ H) all)) (sym told) (reads_back y (front ++ H) script outcome) }
+
+    pub last_printed : (line : Vec Entry Global) → x ≡ Last line → Prints (map view_entry line.items) → IsTextOf y (front ++ H) then.so_far
+    last_printed line this is = last_by line (rw this at next) is
+
+    fault_by : (f : Fault) → IsNextLine H b.so old (Faulty f) new → f.at ≤ length H → FirstFault (front ++ H) (Some (moved_fault (length front) f)) × (length front + f.at ≤ length (front ++ H))
+    fault_by f (read, stays) low =
+        let q = old.at in
+        let n = length front + q in
+        let blank = is_blank_line b.so in
+        let there = fault_there H (front ++ H) (length front) q blank f (line_only H b.so q _ read) (drop-append-add front H q) in
+        let line = line_read (front ++ H) b.so n blank _ refl there in (
+          (entries_of b.so.entries, b.from _ (line.0, faulty (moved_fault (length front) f) line.0 line.1)),
+          omega (arith, low, length-append front H),
+        )
+
+    pub fault_found : (f : Fault) → x ≡ Faulty f → LineWithin (length H) x → FirstFault (front ++ H) (Some (moved_fault (length front) f)) × (length front + f.at ≤ length (front ++ H))
+    fault_found f this within = fault_by f (rw this at next) (rw this at within)
+
+-- ---- a script that follows nothing
+
+pub source_printed : (y : Layout) (H : List ℕ) (start : Printing) (r : Result (Vec ℕ Global) PrintError) → IsPrinted y [] start
+    → IfOk r (λ text. (z : Layout) (front : List ℕ) → IsPrinted z front start → IsTextOf z (front ++ H) text.items) → IfOk r (λ text. IsTextOf y H text.items)
+source_printed y H start (Ok text) is told = told y [] is
+source_printed y H start (Err e) is told = tt
+
+not_moved : (H : List ℕ) (e : PrintError) → IsNoText H (moved_error 0 e) → IsNoText H e
+not_moved H (PrintErrors.Faulty f) refused = subst (λ (g : Fault). IsNoText H (PrintErrors.Faulty g)) (ap (λ (at : ℕ). record { kind = f.kind; at = at }) (zero-add f.at)) refused
+not_moved H PrintErrors.Memory refused = tt
+
+pub source_refused : (y : Layout) (H : List ℕ) (start : Printing) (r : Result (Vec ℕ Global) PrintError) → IsPrinted y [] start
+    → IfErr r (λ e. (z : Layout) (front : List ℕ) → IsPrinted z front start → IsNoText (front ++ H) (moved_error (length front) e)) → IfErr r (IsNoText H)
+source_refused y H start (Ok text) is told = tt
+source_refused y H start (Err e) is told = not_moved H e (told y [] is)

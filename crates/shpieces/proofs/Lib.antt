@@ -1,0 +1,2 @@
+pub mod ByLine
+pub mod SubstsUnseen

@@ -1,0 +1,47 @@
+-- What is printed of a script that is read in pieces.
+use Rattle.std.specs.Prelude.{◌≡◌, ◌≤◌, ℕ, ◌++◌, List, [], length, Option, None, Some}
+use Rattle.shread.specs.declared.script_lines.LinesBefore.{LinesBefore}
+use Rattle.shread.specs.LineByLine.{Before, Rest}
+use Rattle.shgrammar.specs.declared.fault.Fault.{Fault}
+use Rattle.shgrammar.specs.Moved.{moved_fault}
+use Rattle.shgrammar.specs.Scripts.{AScript, FirstFault, Outcome, SoFar}
+use Rattle.shtree.specs.Shape.{shape_of}
+use Rattle.shtree.specs.Tree.{entries_of}
+use Rattle.shpieces.specs.declared.by_line.PrintError.{PrintError}
+use Rattle.shpieces.specs.declared.by_line.PrintError.TheVariants.{Faulty, Memory}
+use Rattle.shprint.specs.declared.layout.Layout.{Layout}
+use Rattle.shpieces.specs.declared.by_line.Printing.{Printing}
+use Rattle.shprint.specs.Printed.{print_entries}
+use Rattle.shprint.specs.ReadBack.{IsTextOf}
+use Rattle.shprint.specs.Written.{Sheet, sheet, sheet_of, written}
+
+-- why bytes have no printed text: their first fault, or that memory ran out
+abbrev pub IsNoText : List ℕ → PrintError → Type 0
+IsNoText bytes (Faulty fault) = FirstFault bytes (Some fault) × (fault.at ≤ length bytes)
+IsNoText bytes Memory = Unit {0}
+
+-- what was printed for bytes, and their first fault
+abbrev pub Answers : Layout → List ℕ → List ℕ → Option Fault → Type 0
+Answers layout bytes text None = IsTextOf layout bytes text
+Answers layout bytes text (Some fault) = FirstFault bytes (Some fault) × (fault.at ≤ length bytes)
+
+-- The front of a script is lines without a fault, which leave this for the next one to know, and this is printed for them. Whatever
+-- follows it, the script is that of these lines and of what is read behind them.
+pub record ArePrinted (y : Layout) (front : List ℕ) (left : LinesBefore) (so_far : Sheet) : Type 0 where
+  pub so : SoFar
+  pub left_so : Before left so
+  pub from : (more : List ℕ) (s : AScript) → Rest (front ++ more) so (length front) s → Outcome (front ++ more) s
+  pub is : (more : List ℕ) → so_far ≡ written (sheet_of [] []) (print_entries y [] (shape_of (front ++ more) (entries_of so.entries)))
+
+abbrev pub IsPrinted : Layout → List ℕ → Printing → Type 0
+IsPrinted y front printing = ArePrinted y front printing.before (sheet printing.page) × (printing.page.margin.items ≡ []) × (printing.layout ≡ y)
+
+-- an error of what follows so many bytes
+abbrev pub moved_error : ℕ → PrintError → PrintError
+moved_error n (Faulty f) = Faulty (moved_fault n f)
+moved_error n Memory = Memory
+
+-- its offset is within so many bytes
+abbrev pub IsErrorWithin : ℕ → PrintError → Type 0
+IsErrorWithin n (Faulty f) = f.at ≤ n
+IsErrorWithin n Memory = Unit {0}

@@ -1,0 +1,143 @@
+//! Printing a script that is read a line at a time, and in pieces.
+ghost use Rattle.std.specs.Prelude.{◌≡◌, ◌-◌, ◌<◌, ◌≤◌, ◌++◌, ℕ, [], IfErr, IfOk, IfSome, List as Row, Some, length, option_map, slice_get, take};
+ghost use Rattle.shgrammar.specs.Moved.{moved_fault};
+ghost use Rattle.shgrammar.specs.Search.{StopsAt};
+ghost use Rattle.shpieces.specs.Printing.{IsErrorWithin, IsPrinted, moved_error};
+ghost use Rattle.shpieces.specs.Printing.{Answers, IsNoText};
+ghost use Rattle.shprint.specs.ReadBack.{IsTextOf};
+
+use shgrammar::Fault;
+use shprint::{Layout, Page, Printer};
+use shread::{LinesBefore, ScriptLine, ScriptLines};
+use shtext::Source;
+use std::alloc::{AllocError, Global};
+use thiserror::Error;
+
+/// Why a script has no printed text.
+#[derive(Clone, Copy, Debug, PartialEq, Eq, Error)]
+pub enum PrintError {
+    /// This is its first fault.
+    #[error("a fault at offset {}", .0.at)]
+    Faulty(Fault),
+    /// Memory ran out.
+    #[error("out of memory")]
+    Memory,
+}
+
+/// What is printed so far of a script. Who prints one need hold of it only what is not printed yet.
+#[derive(Drop)]
+pub struct Printing {
+    alloc: Global,
+    layout: Layout,
+    page: Page,
+    before: LinesBefore,
+}
+
+impl Printing {
+    /// Nothing is printed, and will be by the layout's rules.
+    pub fn new(alloc: Global, layout: &Layout) -> Printing
+        ensures { IsPrinted layout.now [] result }
+    {
+        Printing {
+            alloc,
+            layout: *layout,
+            page: Page::new(alloc),
+            before: LinesBefore::none(),
+        }
+    }
+
+    /// Prints the lines at the front of what follows that have no fault, each ended by a newline that is its last byte, and answers how
+    /// many bytes they are. What stands behind these may be no more than the front of what follows them.
+    ///
+    /// # Errors
+    ///
+    /// [`AllocError`], where memory runs out. Then nothing more may be printed.
+    pub fn print_front<S: Source>(&mut self, source: &S) -> Result<usize, AllocError>
+        ensures printed { IfOk result (λ n. (y : Layout) (front : Row ℕ) → IsPrinted y front self.old →
+            IsPrinted y (front ++ take n (S.bytes source.now)) self.new) }
+        ensures within { IfOk result (λ n. n ≤ length (S.bytes source.now)) }
+        ensures newline { IfOk result (λ n. 0 < n → slice_get (S.bytes source.now) (n - 1) ≡ Some 10) }
+        // They are all: no such line follows.
+        ensures all { IfOk result (StopsAt (S.bytes source.now)) }
+    {
+        let printer = Printer {
+            alloc: self.alloc,
+            layout: self.layout,
+            source,
+        };
+        let mut lines = ScriptLines::behind(self.alloc, source, self.before);
+        'lines: loop {
+            let Ok(line) = lines.read_whole() else {
+                return Err(AllocError);
+            };
+            let Some(entries) = line else {
+                self.before = lines.before();
+                return Ok(lines.at());
+            };
+            printer.print_entries(&entries, &mut self.page)?;
+        }
+    }
+
+    /// Prints the lines of what follows, up to the end of the script. Answers the first fault there, which ends the printing.
+    fn print_lines<S: Source>(&mut self, source: &S) -> Result<Option<Fault>, AllocError>
+        ensures answers { IfOk result (λ fault. (y : Layout) (front : Row ℕ) → IsPrinted y front self.old →
+            Answers y (front ++ S.bytes source.now) self.new.page.text.items (option_map (moved_fault (length front)) fault)) }
+        ensures within { IfOk result (λ fault. IfSome fault (λ f. f.at ≤ length (S.bytes source.now))) }
+    {
+        let printer = Printer {
+            alloc: self.alloc,
+            layout: self.layout,
+            source,
+        };
+        let mut lines = ScriptLines::behind(self.alloc, source, self.before);
+        'lines: loop {
+            let Ok(line) = lines.read_next() else {
+                return Err(AllocError);
+            };
+            match line {
+                ScriptLine::Ended(entries) => printer.print_entries(&entries, &mut self.page)?,
+                ScriptLine::Last(entries) => {
+                    printer.print_entries(&entries, &mut self.page)?;
+                    return Ok(None);
+                }
+                ScriptLine::Faulty(fault) => return Ok(Some(fault)),
+            }
+        }
+    }
+
+    /// Prints what follows, up to the end of the script, and answers the text of the whole. A line at a time is read, so that no tree
+    /// is held but that of a line.
+    ///
+    /// # Errors
+    ///
+    /// [`PrintError`]: the first fault, whose offset counts from where `source` begins, or want of memory.
+    pub fn print_rest<S: Source>(mut self, source: &S) -> Result<Vec<u8>, PrintError>
+        ensures printed { IfOk result (λ text. (y : Layout) (front : Row ℕ) → IsPrinted y front self →
+            IsTextOf y (front ++ S.bytes source.now) text.items) }
+        ensures err { IfErr result (λ e. (y : Layout) (front : Row ℕ) → IsPrinted y front self →
+            IsNoText (front ++ S.bytes source.now) (moved_error (length front) e)) }
+        ensures within { IfErr result (IsErrorWithin (length (S.bytes source.now))) }
+    {
+        match self.print_lines(source) {
+            Ok(None) => Ok(self.page.text),
+            Ok(Some(fault)) => Err(PrintError::Faulty(fault)),
+            Err(_) => Err(PrintError::Memory),
+        }
+    }
+}
+
+/// Reads a script and prints it by the layout's rules.
+///
+/// # Errors
+///
+/// [`PrintError`]: a fault of the script, or want of memory.
+pub fn print_source<S: Source>(
+    alloc: Global,
+    layout: &Layout,
+    source: &S,
+) -> Result<Vec<u8>, PrintError>
+    ensures printed { IfOk result (λ text. IsTextOf layout.now (S.bytes source.now) text.items) }
+    ensures err { IfErr result (IsNoText (S.bytes source.now)) }
+{
+    Printing::new(alloc, layout).print_rest(source)
+}
