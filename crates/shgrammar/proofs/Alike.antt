@@ -15,10 +15,10 @@ use Rattle.shgrammar.specs.declared.token.Opener.TheVariants as openers
 use Rattle.shgrammar.specs.declared.token.Position.{Position}
 use Rattle.shgrammar.specs.declared.token.Position.TheVariants.{Command, Suffix}
 use Rattle.shgrammar.specs.declared.token.Separator.{Separator}
-use Rattle.shtree.specs.declared.tree.Span.{Span}
-use Rattle.shtree.specs.declared.tree.AndOrOperator.{AndOrOperator}
-use Rattle.shtree.specs.declared.tree.RedirectOperator.{RedirectOperator}
-use Rattle.shtree.specs.Tree.{ACommand, ASubst, AnEntry, AnItem, AWord}
+use Rattle.shast.specs.declared.tree.Span.{Span}
+use Rattle.shast.specs.declared.tree.AndOrOperator.{AndOrOperator}
+use Rattle.shast.specs.declared.tree.RedirectOperator.{RedirectOperator}
+use Rattle.shast.specs.Tree.{ACommand, ASubst, AnEntry, AnItem, AWord}
 use Rattle.shgrammar.specs.Comments.{span}
 use Rattle.shgrammar.specs.Sights.{Given, State, Sight, seen, the_piece, Move}
 use Rattle.shgrammar.specs.HereDocuments.{ADelimiter, delimiter_of, Change, changed, own_level, outer_level}
@@ -32,7 +32,7 @@ use Rattle.shgrammar.specs.Lists.{Listed, ListSo, list_so, none_listed, with_com
 use Rattle.shgrammar.specs.Compounds.{is_closing, is_open_paren, is_close_paren, passed, closing, Closed, closed, a_branch, Branched, branched, elif_turn, an_else, an_if, a_loop, a_group, a_for_name, a_linebreak, a_sequential_sep, Headed, word_turn, for_words, a_for_head, a_for, a_form, a_compound, a_function, a_case_word, begins_pattern, Patterned, a_pattern, one_pattern, pattern_turn, a_pattern_list, an_open_bracket, a_body, ItemEnd, a_double_semicolon, an_item_end, CasesSo, cases_so, one_case, case_turn, a_case_head, a_case}
 use Rattle.shgrammar.specs.Substitutions.{substituted, a_substitution, one_substitution}
 use Rattle.shgrammar.proofs.Turns.{turns_on, turns_rest, turns_done, turns_fault}
-use Rattle.shtree.specs.Nodes.{word_span}
+use Rattle.shast.specs.Nodes.{word_span}
 
 -- both give something, of which S holds, and end in one state; or both stop with one fault
 abbrev pub Like : {X Y : Type 0} → (X → Y → Type 0) → Read X → Read Y → Type 0

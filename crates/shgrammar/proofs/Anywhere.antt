@@ -6,12 +6,12 @@ use Rattle.shgrammar.specs.declared.mode.Mode.TheVariants.{Plain}
 use Rattle.shgrammar.specs.declared.mode.Piece.{Piece}
 use Rattle.shgrammar.specs.declared.mode.Piece.TheVariants as pieces
 use Rattle.shgrammar.specs.Substitutions.{a_substitution, one_substitution}
-use Rattle.shtree.specs.declared.tree.Span.{Span}
-use Rattle.shtree.specs.Shape.{Shape, text_at, shape_of_subst, shape_of_word}
+use Rattle.shast.specs.declared.tree.Span.{Span}
+use Rattle.shast.specs.Shape.{Shape, text_at, shape_of_subst, shape_of_word}
 use Rattle.shgrammar.specs.Comments.{span}
 use Rattle.shgrammar.specs.Standing.{is_byte}
 use Rattle.shgrammar.specs.Bytes.{ends, ends_word, byte_at, stands}
-use Rattle.shtree.specs.Tree.{ASubst, AWord, AWordOf, word, substs_of}
+use Rattle.shast.specs.Tree.{ASubst, AWord, AWordOf, word, substs_of}
 use Rattle.shgrammar.specs.Sights.{Sight, seen, Move, Given, State, standing}
 use Rattle.shgrammar.specs.Form.{moved, many, Spelled, as_it_stands, Read, ◌▸◌, Form, give, see, move, both, token, Step, again, done, does, Comes, may, raw, Just, just, Then, and_then, or_stops, OneToken, whole, broken_off}
 use Rattle.shgrammar.specs.Words.{Held, having, opened, piece_row, a_piece, single, backquote_turn, backquoted, Inner, contents, a_word}

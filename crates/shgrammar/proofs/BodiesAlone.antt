@@ -4,7 +4,7 @@ use Rattle.std.proofs.Common.{◌≡◌, ℕ, zero, suc, ◌+◌, ◌-◌, ◌==
 use Rattle.std.specs.Prelude.{◌&&◌, min, Result}
 use Rattle.std.proofs.lemmas.List.{length-append, length-drop, drop-drop, take-append-le, drop-append-le}
 use Rattle.shgrammar.specs.Standing.{at_end, is_none, count_front, raw_past}
-use Rattle.shtree.specs.declared.tree.Span.{Span}
+use Rattle.shast.specs.declared.tree.Span.{Span}
 use Rattle.shgrammar.specs.declared.fault.Fault.{Fault}
 use Rattle.shgrammar.specs.Comments.{span}
 use Rattle.shgrammar.specs.Sights.{Waiting, given}

@@ -4,8 +4,8 @@ use Rattle.std.specs.Prelude.{All}
 use Rattle.std.proofs.lemmas.Bool.{cases_lt}
 use Rattle.std.proofs.lemmas.List.Elements.{All-push}
 use Rattle.shgrammar.specs.declared.keep.Keep.TheVariants.{Whole}
-use Rattle.shtree.specs.declared.tree.Span.{Span}
-use Rattle.shtree.specs.Nodes.{IsSpanWithin}
+use Rattle.shast.specs.declared.tree.Span.{Span}
+use Rattle.shast.specs.Nodes.{IsSpanWithin}
 use Rattle.shgrammar.specs.declared.fault.Fault.{Fault}
 use Rattle.shgrammar.specs.Comments.{span}
 use Rattle.shgrammar.specs.Sights.{Given, State, Waiting}

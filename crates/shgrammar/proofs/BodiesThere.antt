@@ -6,7 +6,7 @@ use Rattle.std.proofs.lemmas.Bool.Decides.{nat_tests}
 use Rattle.std.proofs.lemmas.List.{length-take-le, length-drop, map-append, take-append-drop}
 use Rattle.std.proofs.lemmas.Option.{slice_get_past, slice_get_within, slice_get-get_or}
 use Rattle.shgrammar.specs.declared.keep.Keep.{Keep}
-use Rattle.shtree.specs.declared.tree.Span.{Span}
+use Rattle.shast.specs.declared.tree.Span.{Span}
 use Rattle.shgrammar.specs.declared.fault.Fault.{Fault}
 use Rattle.shgrammar.specs.Standing.{at_end, is_byte, is_none, passes, raw_in, raw_stands, next_newline}
 use Rattle.shgrammar.specs.Sights.{Given, given, State, Waiting}

@@ -2,7 +2,7 @@
 use Rattle.std.proofs.Common.{◌≡◌, ℕ, zero, suc, ◌+◌, ◌-◌, ◌<◌, ◌≤◌, Bool, true, false, cond, not, List, [], ◌∷◌, ◌++◌, List as Row, length, Option, Some, None, Ok, refl, subst, arith}
 use Rattle.std.specs.Prelude.{◌&&◌}
 use Rattle.std.proofs.lemmas.List.{length-append}
-use Rattle.shtree.specs.declared.tree.Span.{Span}
+use Rattle.shast.specs.declared.tree.Span.{Span}
 use Rattle.shgrammar.specs.Standing.{at_end}
 use Rattle.shgrammar.specs.Comments.{span}
 use Rattle.shgrammar.specs.Sights.{Given, Waiting}

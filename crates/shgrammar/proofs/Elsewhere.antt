@@ -33,8 +33,8 @@ use Rattle.shgrammar.proofs.WordsElsewhere.{everywhere}
 use Rattle.shgrammar.proofs.PlainBytes.{plain_stays, ordinary_by}
 use Rattle.shgrammar.proofs.OneOutcome.{is}
 use Rattle.shgrammar.proofs.Anywhere.{WordOf, from_to, kept, padded, padded_is, same_word}
-use Rattle.shtree.specs.Shape.{Shape, shape_of_word}
-use Rattle.shtree.specs.Tree.{SubstsOf, word as shape_word}
+use Rattle.shast.specs.Shape.{Shape, shape_of_word}
+use Rattle.shast.specs.Tree.{SubstsOf, word as shape_word}
 use Rattle.shgrammar.proofs.CommentsElsewhere.{byte_behind, stretch_length}
 use Rattle.shgrammar.proofs.WordsWithin.{word_ends}
 

@@ -10,10 +10,10 @@ use Rattle.shgrammar.specs.declared.token.Opener.{Opener}
 use Rattle.shgrammar.specs.declared.token.Opener.TheVariants as openers
 use Rattle.shgrammar.specs.declared.token.Position.{Position}
 use Rattle.shgrammar.specs.declared.token.Position.TheVariants.{Suffix}
-use Rattle.shtree.specs.declared.tree.Span.{Span}
-use Rattle.shtree.specs.Nodes.{IsSpanWithin}
-use Rattle.shtree.specs.Tree.{ACommand, AnEntry, ASubst, AWord, Entries, entries_of, simple, compound, function}
-use Rattle.shtree.proofs.Going.{row_filled}
+use Rattle.shast.specs.declared.tree.Span.{Span}
+use Rattle.shast.specs.Nodes.{IsSpanWithin}
+use Rattle.shast.specs.Tree.{ACommand, AnEntry, ASubst, AWord, Entries, entries_of, simple, compound, function}
+use Rattle.shast.proofs.Going.{row_filled}
 use Rattle.shgrammar.specs.Sights.{Given, given, State, standing}
 use Rattle.shgrammar.specs.HereDocuments.{own_level}
 use Rattle.shgrammar.specs.Form.{Spelled, does}

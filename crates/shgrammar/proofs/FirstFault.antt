@@ -2,7 +2,7 @@
 use Rattle.std.proofs.Common.{◌≡◌, ℕ, zero, suc, ◌+◌, ◌-◌, ◌≤◌, Bool, true, false, Ok, Err, List, List as Row, length, drop, None, Some, refl, sym, ap, ◌∙◌, arith, length-drop}
 use Rattle.shgrammar.specs.declared.keep.Keep.TheVariants.{Nothing, Whole}
 use Rattle.shgrammar.specs.declared.fault.Fault.{Fault}
-use Rattle.shtree.specs.Tree.{AnEntry}
+use Rattle.shast.specs.Tree.{AnEntry}
 use Rattle.shgrammar.specs.Sights.{State, given, standing}
 use Rattle.shgrammar.specs.Form.{Read}
 use Rattle.shgrammar.specs.Levels.{level}

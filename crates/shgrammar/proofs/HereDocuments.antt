@@ -1,7 +1,7 @@
 -- Words with the delimiters that they are, and texts with the bodies in them: what the definitions have to give.
 use Rattle.std.proofs.Common.{◌≡◌, refl, ℕ, Bool, true, false, List, [], ◌∷◌, Option, Some, None}
 use Rattle.std.specs.Prelude.{codes, Ok, Err}
-use Rattle.shtree.specs.Shape.{bare}
+use Rattle.shast.specs.Shape.{bare}
 use Rattle.shgrammar.specs.declared.fault.FaultKind.TheVariants.{UnclosedHere}
 use Rattle.shgrammar.specs.Standing.{count_front, at_end, raw_past}
 use Rattle.shgrammar.specs.Bytes.{stands, count_joined, past_continuations}

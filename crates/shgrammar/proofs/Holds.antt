@@ -6,7 +6,7 @@ use Rattle.shgrammar.specs.declared.keep.Keep.{Keep}
 use Rattle.shgrammar.specs.declared.fault.FaultKind.{FaultKind}
 use Rattle.shgrammar.specs.declared.mode.Mode.{Mode}
 use Rattle.shgrammar.specs.declared.mode.Mode.TheVariants.{Plain, Double, Brace, DoubleBrace, Arith}
-use Rattle.shtree.specs.declared.tree.Span.{Span}
+use Rattle.shast.specs.declared.tree.Span.{Span}
 use Rattle.shgrammar.specs.Standing.{raw_stands}
 use Rattle.shgrammar.specs.Bytes.{behind}
 use Rattle.shgrammar.specs.Comments.{span, past_comment}

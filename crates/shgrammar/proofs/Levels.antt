@@ -4,10 +4,10 @@ use Rattle.shgrammar.specs.declared.keep.Keep.{Keep}
 use Rattle.shgrammar.specs.declared.fault.FaultKind.TheVariants.{TooDeep}
 use Rattle.shgrammar.specs.declared.mode.Mode.{Mode}
 use Rattle.shgrammar.specs.declared.token.Opener.{Opener}
-use Rattle.shtree.specs.Tree.{AnEntry, ASubst, Entries, subst}
-use Rattle.shtree.specs.declared.tree.Span.{Span}
+use Rattle.shast.specs.Tree.{AnEntry, ASubst, Entries, subst}
+use Rattle.shast.specs.declared.tree.Span.{Span}
 use Rattle.shgrammar.specs.HereDocuments.{own_level, outer_level}
-use Rattle.shtree.specs.Bodies.{filled, filled_row}
+use Rattle.shast.specs.Bodies.{filled, filled_row}
 use Rattle.shgrammar.specs.Sights.{Given, State}
 use Rattle.shgrammar.specs.Form.{does, pushed, grows}
 use Rattle.shgrammar.specs.Compounds.{a_compound, a_function}

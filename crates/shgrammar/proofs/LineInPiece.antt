@@ -3,10 +3,10 @@ use Rattle.std.proofs.Common.{◌≡◌, ℕ, zero, suc, ◌+◌, ◌-◌, ◌�
 use Rattle.std.proofs.lemmas.List.{drop-take}
 use Rattle.std.proofs.Math.Seq.{drop-drop, take-take}
 use Rattle.shgrammar.specs.declared.keep.Keep.TheVariants.{Outer, Whole}
-use Rattle.shtree.specs.declared.tree.Span.{Span}
-use Rattle.shtree.specs.Nodes.{IsSpanWithin, placed_span}
-use Rattle.shtree.specs.Shape.{shape_of, text_at}
-use Rattle.shtree.specs.Tree.{AnEntry, entries_of, entry}
+use Rattle.shast.specs.declared.tree.Span.{Span}
+use Rattle.shast.specs.Nodes.{IsSpanWithin, placed_span}
+use Rattle.shast.specs.Shape.{shape_of, text_at}
+use Rattle.shast.specs.Tree.{AnEntry, entries_of, entry}
 use Rattle.shgrammar.specs.declared.fault.Fault.{Fault}
 use Rattle.shgrammar.specs.Everywhere.{Throughout}
 use Rattle.shgrammar.specs.Form.{Read, does}

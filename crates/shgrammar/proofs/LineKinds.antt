@@ -1,7 +1,7 @@
 -- What a line is, by its entries; the line at the end of a text, and the script without a byte.
 use Rattle.std.proofs.Common.{◌≡◌, ℕ, ◌<◌, Bool, true, false, List, [], ◌∷◌, None, length, map, drop, cond, refl, arith}
 use Rattle.std.proofs.Math.Seq.{drop-length}
-use Rattle.shtree.specs.Tree.{AnEntry, entries_of}
+use Rattle.shast.specs.Tree.{AnEntry, entries_of}
 use Rattle.shgrammar.specs.Standing.{count_front, raw_stands}
 use Rattle.shgrammar.specs.Bytes.{past, past_below, past_blanks, past_continuations, count_joined}
 use Rattle.shgrammar.specs.Tokens.{token_at}
@@ -9,7 +9,7 @@ use Rattle.shgrammar.specs.Comments.{comment_at}
 use Rattle.shgrammar.specs.Form.{many, turns, turns_below}
 use Rattle.shgrammar.specs.Commands.{next_token, nothing_waits, a_comment}
 use Rattle.shgrammar.specs.Lines.{blank_line, end_line, entries_line, kind_of, end_of_line, an_open_line, a_line}
-use Rattle.shtree.specs.Bodies.{filled_row}
+use Rattle.shast.specs.Bodies.{filled_row}
 use Rattle.shgrammar.specs.Lists.{entry_turn, a_remark, on_line}
 use Rattle.shgrammar.specs.Scripts.{line_of_text, script_at, script_below, script_on}
 

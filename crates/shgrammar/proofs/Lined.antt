@@ -7,14 +7,14 @@ use Rattle.shgrammar.specs.declared.keep.Keep.TheVariants.{Whole}
 use Rattle.shgrammar.specs.declared.fault.Fault.{Fault}
 use Rattle.shgrammar.specs.declared.token.Next.{Next}
 use Rattle.shgrammar.specs.declared.token.Position.TheVariants.{Command}
-use Rattle.shtree.specs.Tree.{AnEntry, entries_of}
+use Rattle.shast.specs.Tree.{AnEntry, entries_of}
 use Rattle.shgrammar.specs.Standing.{count_front, raw_stands}
 use Rattle.shgrammar.specs.Bytes.{behind, past, past_below, past_blanks, past_continuations, count_joined}
 use Rattle.shgrammar.specs.Comments.{comment_at}
 use Rattle.shgrammar.specs.Tokens.{is_end, token_at}
 use Rattle.shgrammar.specs.Sights.{Given, given, State, standing}
 use Rattle.shgrammar.specs.HereDocuments.{bodies_here, changed, first_waiting, own_level}
-use Rattle.shtree.specs.Bodies.{filled_row}
+use Rattle.shast.specs.Bodies.{filled_row}
 use Rattle.shgrammar.specs.Form.{nothing_read, ◌▸◌, Form, Read, does, many, turns, turns_below}
 use Rattle.shgrammar.specs.Words.{Inner}
 use Rattle.shgrammar.specs.Levels.{level}

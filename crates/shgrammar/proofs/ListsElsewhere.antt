@@ -11,12 +11,12 @@ use Rattle.shgrammar.specs.declared.token.Separator.TheVariants.{Semicolon, Ampe
 use Rattle.shgrammar.specs.declared.token.Closing.{Closing}
 use Rattle.shgrammar.specs.declared.token.Closing.TheVariants as closings
 use Rattle.shgrammar.specs.declared.token.Opener.TheVariants as openers
-use Rattle.shtree.specs.declared.tree.AndOrOperator.{AndOrOperator}
-use Rattle.shtree.specs.declared.tree.RedirectOperator.{RedirectOperator}
-use Rattle.shtree.specs.declared.tree.Span.{Span}
-use Rattle.shtree.specs.Tree.{AHere, AnAndOrPartOf, AJoinOf, APipelinePartOf, ABranch, ACommand, AForm, AWord, AnAndOrPart, APipelinePart, AnEntry, AnItem, Entries, and_or_parts_of, branches_of, entries_of, entry, item, items_of, ItemsOf, pipeline_parts_of, redirect, with_redirects, remark, compound, formed, no_item, simple, function, word, ACaseItem, case_item, cases_of, patterns_of}
-use Rattle.shtree.specs.Nodes.{through, word_span}
-use Rattle.shtree.specs.Shape.{shape_of_here, bare, bare_at, text_at, shape_of, shape_of_entry, shape_of_and_or, shape_of_and_or_parts, shape_of_pipeline, shape_of_bang, shape_of_pipes, shape_of_command, shape_of_branch, shape_of_branches, shape_of_items, shape_of_item, shape_of_join, shape_of_word, Text, shape_of_form, shape_of_else, shape_of_for_words, shape_of_compound, shape_of_case, shape_of_cases, shape_of_patterns}
+use Rattle.shast.specs.declared.tree.AndOrOperator.{AndOrOperator}
+use Rattle.shast.specs.declared.tree.RedirectOperator.{RedirectOperator}
+use Rattle.shast.specs.declared.tree.Span.{Span}
+use Rattle.shast.specs.Tree.{AHere, AnAndOrPartOf, AJoinOf, APipelinePartOf, ABranch, ACommand, AForm, AWord, AnAndOrPart, APipelinePart, AnEntry, AnItem, Entries, and_or_parts_of, branches_of, entries_of, entry, item, items_of, ItemsOf, pipeline_parts_of, redirect, with_redirects, remark, compound, formed, no_item, simple, function, word, ACaseItem, case_item, cases_of, patterns_of}
+use Rattle.shast.specs.Nodes.{through, word_span}
+use Rattle.shast.specs.Shape.{shape_of_here, bare, bare_at, text_at, shape_of, shape_of_entry, shape_of_and_or, shape_of_and_or_parts, shape_of_pipeline, shape_of_bang, shape_of_pipes, shape_of_command, shape_of_branch, shape_of_branches, shape_of_items, shape_of_item, shape_of_join, shape_of_word, Text, shape_of_form, shape_of_else, shape_of_for_words, shape_of_compound, shape_of_case, shape_of_cases, shape_of_patterns}
 use Rattle.shgrammar.specs.Standing.{raw_stands, next_newline, before_blanks}
 use Rattle.shgrammar.specs.Comments.{span, comment_at, past_comment}
 use Rattle.shgrammar.specs.Sights.{Given, given, State, Move, a_comment_on, here, is_a_name}
@@ -553,8 +553,8 @@ module _ {T U : List ℕ} {a M : ℕ} {to : ℕ → ℕ} {limit : ℕ} (E : List
         (λ c d text. gives (entered (x.0) (y.0) s z c d so.0 parts text))))
       where
         entered : (x y : _) (s z : Option ASeparator × Next) (c d : Option Span × Next) → shape_of_and_or B x ≡ shape_of_and_or B2 y → SameSeparator s z → SameRemark c d
-            → SameEntered (record { entry = entry (Rattle.shtree.specs.Tree.command x) (is_background s.0) blank c.0; parted = past_separator s.0; next = c.1 })
-            (record { entry = entry (Rattle.shtree.specs.Tree.command y) (is_background z.0) pale d.0; parted = past_separator z.0; next = d.1 })
+            → SameEntered (record { entry = entry (Rattle.shast.specs.Tree.command x) (is_background s.0) blank c.0; parted = past_separator s.0; next = c.1 })
+            (record { entry = entry (Rattle.shast.specs.Tree.command y) (is_background z.0) pale d.0; parted = past_separator z.0; next = d.1 })
         entered x y s z c d one two three = (rw (one, two.0, is, three.0) refl, (two.1.0, three.1))
 
     -- ---- lists

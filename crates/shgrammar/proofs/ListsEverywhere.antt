@@ -10,11 +10,11 @@ use Rattle.shgrammar.specs.declared.token.Opener.{Opener}
 use Rattle.shgrammar.specs.declared.token.Position.{Position}
 use Rattle.shgrammar.specs.declared.token.Position.TheVariants.{Command, Prefix, Suffix}
 use Rattle.shgrammar.specs.declared.token.Separator.{Separator}
-use Rattle.shtree.specs.declared.tree.AndOrOperator.{AndOrOperator}
-use Rattle.shtree.specs.declared.tree.RedirectOperator.{RedirectOperator}
-use Rattle.shtree.specs.declared.tree.Span.{Span}
-use Rattle.shtree.specs.Nodes.{IsSpanWithin, word_span}
-use Rattle.shtree.specs.Tree.{ACommand, AnItem, ASubst, AWord, formed, item, items_of, simple, compound, function, with_redirects, word}
+use Rattle.shast.specs.declared.tree.AndOrOperator.{AndOrOperator}
+use Rattle.shast.specs.declared.tree.RedirectOperator.{RedirectOperator}
+use Rattle.shast.specs.declared.tree.Span.{Span}
+use Rattle.shast.specs.Nodes.{IsSpanWithin, word_span}
+use Rattle.shast.specs.Tree.{ACommand, AnItem, ASubst, AWord, formed, item, items_of, simple, compound, function, with_redirects, word}
 use Rattle.shgrammar.specs.Bytes.{past_continuations, behind}
 use Rattle.shgrammar.specs.Comments.{span, comment_at}
 use Rattle.shgrammar.specs.Sights.{Given, State}

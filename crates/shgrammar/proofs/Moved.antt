@@ -9,8 +9,8 @@ use Rattle.shgrammar.specs.declared.keep.Keep.TheVariants.{Outer, Whole}
 use Rattle.shgrammar.specs.declared.fault.Fault.{Fault}
 use Rattle.shgrammar.specs.declared.fault.FaultKind.{FaultKind}
 use Rattle.shgrammar.specs.declared.fault.FaultKind.TheVariants.{UnexpectedEnd}
-use Rattle.shtree.specs.declared.tree.Span.{Span}
-use Rattle.shtree.specs.Nodes.{placed_span}
+use Rattle.shast.specs.declared.tree.Span.{Span}
+use Rattle.shast.specs.Nodes.{placed_span}
 use Rattle.shgrammar.specs.Standing.{raw_stands, next_newline, before_blanks}
 use Rattle.shgrammar.specs.Bytes.{behind}
 use Rattle.shgrammar.specs.Comments.{span, comment_at}

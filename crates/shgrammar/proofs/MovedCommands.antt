@@ -2,11 +2,11 @@
 use Rattle.std.proofs.Common.{◌≡◌, ℕ, ◌+◌, Bool, true, false, not, ◌&&◌, ◌||◌, List as Row, [], ◌∷◌, map, Option, Some, None, option_map, is_some, refl, sym, ap, subst, ◌∙◌}
 use Rattle.std.specs.Prelude.{All}
 use Rattle.std.proofs.lemmas.List.Elements.{All-nil, All-push}
-use Rattle.shtree.specs.declared.tree.Span.{Span}
-use Rattle.shtree.specs.declared.tree.AndOrOperator.{AndOrOperator}
-use Rattle.shtree.specs.declared.tree.RedirectOperator.{RedirectOperator}
-use Rattle.shtree.specs.Nodes.{word_span}
-use Rattle.shtree.specs.Tree.{ACommand, AnItem, AWord, assign, argument, redirect, item, items_of, simple, with_redirects, pipeline, and_or}
+use Rattle.shast.specs.declared.tree.Span.{Span}
+use Rattle.shast.specs.declared.tree.AndOrOperator.{AndOrOperator}
+use Rattle.shast.specs.declared.tree.RedirectOperator.{RedirectOperator}
+use Rattle.shast.specs.Nodes.{word_span}
+use Rattle.shast.specs.Tree.{ACommand, AnItem, AWord, assign, argument, redirect, item, items_of, simple, with_redirects, pipeline, and_or}
 use Rattle.shgrammar.specs.declared.token.Next.{Next}
 use Rattle.shgrammar.specs.declared.token.Opener.{Opener}
 use Rattle.shgrammar.specs.declared.token.Position.{Position}

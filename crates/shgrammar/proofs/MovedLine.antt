@@ -2,9 +2,9 @@
 use Rattle.std.proofs.Common.{◌≡◌, ℕ, ◌+◌, Bool, true, false, not, ◌&&◌, Ok, Err, List, List as Row, [], ◌∷◌, ◌++◌, map, drop, Option, Some, None, option_map, is_some, refl, sym, ap, subst, ◌∙◌, arith}
 use Rattle.std.proofs.lemmas.List.{map-append}
 use Rattle.shgrammar.specs.declared.keep.Keep.TheVariants.{Outer, Whole}
-use Rattle.shtree.specs.declared.tree.Span.{Span}
-use Rattle.shtree.specs.Bodies.{fill_entry, fill_row, filled_row}
-use Rattle.shtree.specs.Tree.{AnAndOr, AnEntry, entry, command, remark}
+use Rattle.shast.specs.declared.tree.Span.{Span}
+use Rattle.shast.specs.Bodies.{fill_entry, fill_row, filled_row}
+use Rattle.shast.specs.Tree.{AnAndOr, AnEntry, entry, command, remark}
 use Rattle.shgrammar.specs.declared.token.Next.{Next}
 use Rattle.shgrammar.specs.declared.token.Separator.{Separator}
 use Rattle.shgrammar.specs.declared.token.Separator.TheVariants.{Semicolon, Ampersand}

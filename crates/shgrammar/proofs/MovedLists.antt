@@ -2,9 +2,9 @@
 use Rattle.std.proofs.Common.{◌≡◌, ℕ, ◌+◌, Bool, true, false, not, ◌&&◌, List as Row, [], map, Option, Some, None, option_map, is_some, refl, sym, ap, subst, ◌∙◌}
 use Rattle.std.specs.Prelude.{All, unwrap_or}
 use Rattle.std.proofs.lemmas.List.Elements.{All-nil, All-push}
-use Rattle.shtree.specs.declared.tree.Span.{Span}
-use Rattle.shtree.specs.Nodes.{through, commands_end}
-use Rattle.shtree.specs.Tree.{AnAndOr, ACommand, AWord, ASubst, Entries, entries_of, entry, command, remark, if_then, for_in, in_words, case_in, case_item, patterns_of, formed, no_item, subst as subst_of}
+use Rattle.shast.specs.declared.tree.Span.{Span}
+use Rattle.shast.specs.Nodes.{through, commands_end}
+use Rattle.shast.specs.Tree.{AnAndOr, ACommand, AWord, ASubst, Entries, entries_of, entry, command, remark, if_then, for_in, in_words, case_in, case_item, patterns_of, formed, no_item, subst as subst_of}
 use Rattle.shgrammar.specs.declared.token.Closing.{Closing}
 use Rattle.shgrammar.specs.declared.token.Closing.TheVariants as closings
 use Rattle.shgrammar.specs.declared.token.Next.{Next}

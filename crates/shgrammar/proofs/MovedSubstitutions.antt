@@ -1,7 +1,7 @@
 -- A command substitution elsewhere, with its tree or without; and so all that may be opened.
 use Rattle.std.proofs.Common.{◌≡◌, ◌∙◌, ℕ, zero, suc, ◌+◌, Bool, true, false, Ok, Err, List as Row, [], map, refl, sym}
 use Rattle.shgrammar.specs.declared.keep.Keep.TheVariants.{Nothing, Whole}
-use Rattle.shtree.specs.Tree.{ASubst}
+use Rattle.shast.specs.Tree.{ASubst}
 use Rattle.shgrammar.specs.Sights.{State}
 use Rattle.shgrammar.specs.Form.{Read, does, inside}
 use Rattle.shgrammar.specs.Levels.{level}

@@ -20,7 +20,7 @@ use Rattle.shgrammar.specs.Sights.{Given, given, standing}
 use Rattle.shgrammar.specs.Form.{Read, again, done, many, does}
 use Rattle.shgrammar.specs.Words.{Held, having, a_piece, contents, a_word}
 use Rattle.shgrammar.specs.Levels.{level, IsWord}
-use Rattle.shtree.specs.Tree.{AWord, word, no_subst}
+use Rattle.shast.specs.Tree.{AWord, word, no_subst}
 use Rattle.shgrammar.proofs.Stretches.{past_more, past_none, stands_in_low, raw_stays}
 use Rattle.shgrammar.proofs.Places.{behind_low, past_low}
 use Rattle.shgrammar.proofs.Turns.{many_again, many_done}
@@ -32,7 +32,7 @@ use Rattle.shgrammar.proofs.Elsewhere.{ReadAt, is_a_word, ItemByte, all_plain, a
 use Rattle.shgrammar.proofs.OneOutcome.{is}
 use Rattle.shgrammar.proofs.Anywhere.{WordOf, from_to, kept, word_may}
 use Rattle.shgrammar.proofs.Spelling.{raw_at}
-use Rattle.shtree.specs.Shape.{text_at}
+use Rattle.shast.specs.Shape.{text_at}
 use Rattle.shgrammar.proofs.CommentsElsewhere.{byte_behind, stretch_length}
 
 -- ---- the word that a NAME is

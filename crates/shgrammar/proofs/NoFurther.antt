@@ -6,8 +6,8 @@ use Rattle.shgrammar.specs.declared.keep.Keep.TheVariants.{Whole}
 use Rattle.shgrammar.specs.declared.fault.FaultKind.{FaultKind}
 use Rattle.shgrammar.specs.declared.mode.Mode.{Mode}
 use Rattle.shgrammar.specs.declared.mode.Mode.TheVariants.{Plain, Double, Brace, DoubleBrace, Arith}
-use Rattle.shtree.specs.declared.tree.Span.{Span}
-use Rattle.shtree.specs.Shape.{bare}
+use Rattle.shast.specs.declared.tree.Span.{Span}
+use Rattle.shast.specs.Shape.{bare}
 use Rattle.shgrammar.specs.Comments.{span}
 use Rattle.shgrammar.specs.Sights.{Given, given, State, Sight, here, the_byte, the_piece, the_rest, the_end, a_backquote, last_backslash, the_token, the_comment, is_a_name, a_document_waits, seen}
 use Rattle.shgrammar.specs.HereDocuments.{Change, changed, own_level}

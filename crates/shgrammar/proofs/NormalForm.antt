@@ -12,10 +12,10 @@ use Rattle.shgrammar.specs.declared.token.Opener.{Opener}
 use Rattle.shgrammar.specs.declared.token.Opener.TheVariants as openers
 use Rattle.shgrammar.specs.declared.token.Position.{Position}
 use Rattle.shgrammar.specs.declared.token.Position.TheVariants.{Command, Prefix, Suffix}
-use Rattle.shtree.specs.declared.tree.Span.{Span}
-use Rattle.shtree.specs.declared.tree.AndOrOperator.{AndOrOperator}
-use Rattle.shtree.specs.Tree.{APipelinePart, AnAndOrPart, ABranch, AForm, Entries, pipeline_parts_of, and_or_parts_of, branches_of, AnEntry, AnItem, ASubst, AWord, item, entries_of, items_of, substs_of, ACommand, ItemsOf, argument, redirect, with_redirects, simple, compound, formed, function, ACaseItem, cases_of, patterns_of}
-use Rattle.shtree.specs.Normal.{is_blank_entry, is_broken, is_command, holds_command, first_not_blank, first_not_broken, is_whole, are_normal, is_normal_entry, are_normal_items, is_normal_item, is_normal_word, are_normal_substs, is_normal_subst, is_normal_join, broken_by, is_normal_command, is_normal_pipeline, are_normal_pipes, is_normal_and_or, are_normal_and_ors, is_normal_branch, are_normal_branches, is_normal_else, are_normal_words, is_normal_form, is_normal, are_normal_patterns, is_normal_case, are_normal_cases}
+use Rattle.shast.specs.declared.tree.Span.{Span}
+use Rattle.shast.specs.declared.tree.AndOrOperator.{AndOrOperator}
+use Rattle.shast.specs.Tree.{APipelinePart, AnAndOrPart, ABranch, AForm, Entries, pipeline_parts_of, and_or_parts_of, branches_of, AnEntry, AnItem, ASubst, AWord, item, entries_of, items_of, substs_of, ACommand, ItemsOf, argument, redirect, with_redirects, simple, compound, formed, function, ACaseItem, cases_of, patterns_of}
+use Rattle.shast.specs.Normal.{is_blank_entry, is_broken, is_command, holds_command, first_not_blank, first_not_broken, is_whole, are_normal, is_normal_entry, are_normal_items, is_normal_item, is_normal_word, are_normal_substs, is_normal_subst, is_normal_join, broken_by, is_normal_command, is_normal_pipeline, are_normal_pipes, is_normal_and_or, are_normal_and_ors, is_normal_branch, are_normal_branches, is_normal_else, are_normal_words, is_normal_form, is_normal, are_normal_patterns, is_normal_case, are_normal_cases}
 use Rattle.shgrammar.specs.Sights.{Given, given, State, standing}
 use Rattle.shgrammar.specs.Form.{Read, Form, push, both, step_if}
 use Rattle.shgrammar.specs.Words.{Inner, Held, having, opened, piece_row, a_piece, contents, a_word}
@@ -26,11 +26,11 @@ use Rattle.shgrammar.specs.Substitutions.{substituted, a_substitution, one_subst
 use Rattle.shgrammar.specs.Levels.{most_open, level}
 use Rattle.shgrammar.specs.Lines.{an_open_line, a_line}
 use Rattle.shgrammar.specs.HereDocuments.{own_level}
-use Rattle.shtree.proofs.Going.{row_filled}
-use Rattle.shtree.proofs.OpenSame.{first_filled, all_filled}
+use Rattle.shast.proofs.Going.{row_filled}
+use Rattle.shast.proofs.OpenSame.{first_filled, all_filled}
 use Rattle.shgrammar.specs.Scripts.{AScript, SoFar, is_blank_line, line_from, script_by, script_below, script_on, script_at, nothing_yet}
 use Rattle.shgrammar.proofs.Holds.{tells_with_bytes, tells_level, Holds, Tells, Turned, tells_give, tells_then, tells_token, tells_many, tells_after, tells_ending, tells_pushed, tells_inside}
-use Rattle.shtree.specs.Nodes.{word_span}
+use Rattle.shast.specs.Nodes.{word_span}
 
 -- ---- rows that grow at their end
 

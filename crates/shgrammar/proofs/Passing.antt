@@ -2,7 +2,7 @@
 use Rattle.std.proofs.Common.{◌≡◌, ℕ, zero, suc, ◌+◌, ◌-◌, ◌<◌, Bool, true, false, Ok, Err, List, List as Row, Option, Some, option_map, length, take, drop, slice_get, refl, sym, ap, subst, ◌∙◌, arith, length-drop}
 use Rattle.std.proofs.Math.Seq.{drop-drop, take-take}
 use Rattle.shgrammar.specs.declared.keep.Keep.TheVariants.{Nothing, Outer, Whole}
-use Rattle.shtree.specs.Tree.{AnEntry}
+use Rattle.shast.specs.Tree.{AnEntry}
 use Rattle.shgrammar.specs.declared.fault.Fault.{Fault}
 use Rattle.shgrammar.specs.Form.{Read, may, does}
 use Rattle.shgrammar.specs.Levels.{most_open, level}

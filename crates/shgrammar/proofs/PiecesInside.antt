@@ -12,8 +12,8 @@ use Rattle.shgrammar.specs.declared.mode.Piece.TheVariants as pieces
 use Rattle.shgrammar.specs.Standing.{is_byte, at_end, raw_stands}
 use Rattle.shgrammar.specs.Bytes.{ends, past_continuations, byte_at, behind, stands}
 use Rattle.shgrammar.specs.Pieces.{dollar_by, dollar_at, bracket_by, byte_by, piece_by, piece_at, past_taken, past_closer, past_parameter, braces_in, rest_mode}
-use Rattle.shtree.specs.Shape.{shape_of_subst}
-use Rattle.shtree.specs.Tree.{ASubst}
+use Rattle.shast.specs.Shape.{shape_of_subst}
+use Rattle.shast.specs.Tree.{ASubst}
 use Rattle.shgrammar.specs.Sights.{Given, given, State}
 use Rattle.shgrammar.specs.Form.{Read, ◌▸◌, Form, Step, again, done, loop, many, leads_on, does}
 use Rattle.shgrammar.specs.Words.{single, backquoted, Inner, Held, having, opened, piece_row, a_piece, contents}

@@ -8,12 +8,12 @@ use Rattle.shgrammar.specs.Bytes.{ends, ends_word, byte_at, behind, past_continu
 use Rattle.shgrammar.specs.Pieces.{piece_by, piece_at, past_closer}
 use Rattle.shgrammar.specs.Comments.{span}
 use Rattle.shgrammar.specs.Sights.{Given, State, Waiting, given}
-use Rattle.shtree.specs.declared.tree.Span.{Span}
+use Rattle.shast.specs.declared.tree.Span.{Span}
 use Rattle.shgrammar.specs.Form.{Read, ◌▸◌, again, done, does, many}
 use Rattle.shgrammar.specs.Words.{Inner, Held, having, a_piece, contents, a_word}
 use Rattle.shgrammar.specs.Levels.{level}
 use Rattle.shgrammar.specs.Plain.{is_special_in, is_plain, ArePlain}
-use Rattle.shtree.specs.Tree.{ASubst, word, no_subst, substs_of}
+use Rattle.shast.specs.Tree.{ASubst, word, no_subst, substs_of}
 use Rattle.std.proofs.lemmas.Bool.Decides.{nat_tests}
 use Rattle.shgrammar.specs.declared.keep.Keep.{Keep}
 use Rattle.shgrammar.proofs.Turns.{many_again, many_done}

@@ -1,11 +1,11 @@
 -- Comments before a list, as the code has them.
 use Rattle.std.proofs.Common.{◌≡◌, List as Row, [], ◌∷◌, ◌++◌, map, false, None, rules, refl, ap}
-use Rattle.shtree.specs.declared.tree.Comment.{Comment}
-use Rattle.shtree.specs.declared.tree.List as the_list
-use Rattle.shtree.specs.declared.tree.Command.TheViews.{out-List}
-use Rattle.shtree.specs.declared.tree.Command.TheFolds.{fold_out-List}
-use Rattle.shtree.specs.Tree.{AnEntry, entries_of, entry, more_entries, remark}
-use Rattle.shtree.specs.View.{view_comment, view_entry, view_list}
+use Rattle.shast.specs.declared.tree.Comment.{Comment}
+use Rattle.shast.specs.declared.tree.List as the_list
+use Rattle.shast.specs.declared.tree.Command.TheViews.{out-List}
+use Rattle.shast.specs.declared.tree.Command.TheFolds.{fold_out-List}
+use Rattle.shast.specs.Tree.{AnEntry, entries_of, entry, more_entries, remark}
+use Rattle.shast.specs.View.{view_comment, view_entry, view_list}
 use Rattle.shgrammar.specs.Compounds.{behind_remarks}
 
 pub list_seen : (l : the_list.List) → view_list l ≡ entries_of (map view_entry (out-List l).entries.items)

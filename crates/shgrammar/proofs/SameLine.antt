@@ -5,11 +5,11 @@ use Rattle.std.proofs.lemmas.Bool.Decides.{nat_tests}
 use Rattle.shgrammar.specs.declared.keep.Keep.TheVariants.{Whole}
 use Rattle.shgrammar.specs.declared.fault.Fault.{Fault}
 use Rattle.shgrammar.specs.declared.fault.FaultKind.{FaultKind}
-use Rattle.shtree.specs.declared.tree.Span.{Span}
-use Rattle.shtree.specs.Bodies.{filled_row}
+use Rattle.shast.specs.declared.tree.Span.{Span}
+use Rattle.shast.specs.Bodies.{filled_row}
 use Rattle.shgrammar.specs.declared.token.Next.{Next}
 use Rattle.shgrammar.specs.declared.token.Position.TheVariants.{Command}
-use Rattle.shtree.specs.Tree.{AnEntry}
+use Rattle.shast.specs.Tree.{AnEntry}
 use Rattle.shgrammar.specs.Standing.{is_byte, passes, raw_in, raw_stands}
 use Rattle.shgrammar.specs.Bytes.{byte_at, behind, past_continuations}
 use Rattle.shgrammar.specs.Sights.{Given, given, State, standing}

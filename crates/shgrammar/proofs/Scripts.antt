@@ -1,7 +1,7 @@
 -- A line read by itself, and a script, are what is computed, and nothing else.
 use Rattle.std.proofs.Common.{◌≡◌, ℕ, zero, suc, ◌-◌, ◌<◌, Bool, true, false, Ok, Err, List, List as Row, ◌++◌, length, drop, refl, sym, ap, ◌∙◌, arith}
 use Rattle.shgrammar.specs.declared.keep.Keep.TheVariants.{Whole}
-use Rattle.shtree.specs.Tree.{AnEntry}
+use Rattle.shast.specs.Tree.{AnEntry}
 use Rattle.shgrammar.specs.Sights.{given, standing}
 use Rattle.shgrammar.specs.Form.{Read, Spelled, may}
 use Rattle.shgrammar.specs.Lines.{ALine, IsLine, line_read, line_stops}

@@ -1,9 +1,9 @@
 -- The shape of a list that stands elsewhere: where each of its texts stands there too, it is the same.
 use Rattle.std.proofs.Common.{◌≡◌, ℕ, true, List, List as Row, [], ◌∷◌, map, option_map, refl, ap}
 use Rattle.std.specs.Prelude.{Option, Some, None}
-use Rattle.shtree.specs.declared.tree.Span.{Span}
-use Rattle.shtree.specs.Tree.{AHere, Entries, no_entry, more_entries, AnEntry, entry, AContent, command, remark, AnAndOr, and_or, AndOrParts, no_and_or, more_and_or, APipeline, pipeline, PipelineParts, no_pipe, more_pipes, ACommand, simple, compound, function, ACompound, formed, AForm, brace, subshell, if_then, while_do, until_do, for_in, case_in, ABranch, branch, Branches, no_branch, more_branches, Otherwise, no_else, otherwise, ForWords, no_in, in_words, CaseItems, no_case, more_cases, ACaseItem, case_item, Patterns, no_pattern, more_patterns, Items, no_item, more_items, AnItem, item, AnItemContent, assign, argument, redirect, AWord, word, Substs, no_subst, more_substs, ASubst, subst}
-use Rattle.shtree.specs.Shape.{Text, bare, bare_at, text_at, shape_of, shape_of_and_or, shape_of_and_or_parts, shape_of_branch, shape_of_branches, shape_of_case, shape_of_cases, shape_of_command, shape_of_comment, shape_of_comments, shape_of_compound, shape_of_content, shape_of_else, shape_of_entry, shape_of_for_words, shape_of_form, shape_of_here, shape_of_item, shape_of_item_content, shape_of_items, shape_of_patterns, shape_of_pipeline, shape_of_pipes, shape_of_subst, shape_of_substs, shape_of_word}
+use Rattle.shast.specs.declared.tree.Span.{Span}
+use Rattle.shast.specs.Tree.{AHere, Entries, no_entry, more_entries, AnEntry, entry, AContent, command, remark, AnAndOr, and_or, AndOrParts, no_and_or, more_and_or, APipeline, pipeline, PipelineParts, no_pipe, more_pipes, ACommand, simple, compound, function, ACompound, formed, AForm, brace, subshell, if_then, while_do, until_do, for_in, case_in, ABranch, branch, Branches, no_branch, more_branches, Otherwise, no_else, otherwise, ForWords, no_in, in_words, CaseItems, no_case, more_cases, ACaseItem, case_item, Patterns, no_pattern, more_patterns, Items, no_item, more_items, AnItem, item, AnItemContent, assign, argument, redirect, AWord, word, Substs, no_subst, more_substs, ASubst, subst}
+use Rattle.shast.specs.Shape.{Text, bare, bare_at, text_at, shape_of, shape_of_and_or, shape_of_and_or_parts, shape_of_branch, shape_of_branches, shape_of_case, shape_of_cases, shape_of_command, shape_of_comment, shape_of_comments, shape_of_compound, shape_of_content, shape_of_else, shape_of_entry, shape_of_for_words, shape_of_form, shape_of_here, shape_of_item, shape_of_item_content, shape_of_items, shape_of_patterns, shape_of_pipeline, shape_of_pipes, shape_of_subst, shape_of_substs, shape_of_word}
 use Rattle.shgrammar.specs.Everywhere.{OfSome, OfEach, OfHere, Throughout, InEntry, InContent, InAndOr, InAndOrParts, InPipeline, InPipes, InCommand, InCompound, InForm, InBranch, InBranches, InElse, InForWords, InCases, InCase, InPatterns, InItems, InItem, InItemContent, InWord, InSubsts, InSubst}
 use Rattle.shgrammar.specs.Moved.{carried, carried_entry, carried_content, carried_and_or, carried_and_or_parts, carried_pipeline, carried_pipes, carried_command, carried_compound, carried_form, carried_branch, carried_branches, carried_else, carried_for_words, carried_cases, carried_case, carried_patterns, carried_items, carried_item, carried_item_content, carried_word, carried_substs, carried_subst, carried_here}
 
@@ -20,7 +20,7 @@ module _ (B C : List ℕ) (f h : Span → Span) where
   number_same None so = refl
   number_same (Some s) so = ap (λ (t : Text). Some (bare t)) so.0
 
-  bang_same : (c : Option Span) → option_map Rattle.shtree.specs.Shape.shape_of_mark (option_map f c) ≡ option_map Rattle.shtree.specs.Shape.shape_of_mark c
+  bang_same : (c : Option Span) → option_map Rattle.shast.specs.Shape.shape_of_mark (option_map f c) ≡ option_map Rattle.shast.specs.Shape.shape_of_mark c
   bang_same None = refl
   bang_same (Some s) = refl
 

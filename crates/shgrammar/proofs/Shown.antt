@@ -11,7 +11,7 @@ use Rattle.shtext.specs.Text.{is_newline}
 use Rattle.shgrammar.specs.Classes.{is_blank, is_operator}
 use Rattle.shgrammar.specs.Standing.{is_byte, is_none, passes, raw_stands, at_end}
 use Rattle.shgrammar.specs.Bytes.{byte_at, behind, ends, ends_word, past_blanks, past_continuations, stands, stands_in}
-use Rattle.shtree.specs.declared.tree.RedirectOperator.{RedirectOperator}
+use Rattle.shast.specs.declared.tree.RedirectOperator.{RedirectOperator}
 use Rattle.shgrammar.specs.Commands.{is_long, is_strip, redirect_operator_of}
 use Rattle.shgrammar.specs.Tokens.{first_word, greater_at, is_comment, is_end, is_number, less_at, token_at, token_of, word_by, word_of}
 use Rattle.shgrammar.specs.Shows.{IsRead, Shows}

@@ -10,12 +10,12 @@ use Rattle.shgrammar.specs.declared.token.Position.{Position}
 use Rattle.shgrammar.specs.declared.token.Position.TheVariants.{Command, Prefix, Suffix}
 use Rattle.shgrammar.specs.declared.token.Separator.{Separator}
 use Rattle.shgrammar.specs.declared.token.Separator.TheVariants.{Semicolon, Ampersand}
-use Rattle.shtree.specs.declared.tree.AndOrOperator.{AndOrOperator}
-use Rattle.shtree.specs.declared.tree.RedirectOperator.{RedirectOperator}
-use Rattle.shtree.specs.declared.tree.Span.{Span}
-use Rattle.shtree.specs.Tree.{APipelinePart, AnAndOrPart, ABranch, pipeline_parts_of, and_or_parts_of, branches_of, AnEntry, AnItem, AWord, Entries, entry, remark, item, entries_of, items_of, ACommand, AForm, ItemsOf, redirect, with_redirects, formed, no_item, compound, ACompound, word, argument, ACaseItem, cases_of, PatternsOf, no_pattern, more_patterns, patterns_of}
-use Rattle.shtree.specs.Shape.{bare, bare_at, text_at, shape_of, shape_of_entry, shape_of_and_or, shape_of_and_or_parts, shape_of_pipeline, shape_of_bang, shape_of_pipes, shape_of_command, shape_of_form, shape_of_branch, shape_of_branches, shape_of_else, shape_of_for_words, shape_of_items, shape_of_item, shape_of_word, shape_of_patterns, shape_of_cases, shape_of_case, Shape}
-use Rattle.shtree.specs.Spelling.{Tokens, and_or_text, redirect_text, spell_number, spell_background, spell_bang, spell_word, spell_item, spell_items, spelling, spell_entry, spell_and_or, spell_and_or_parts, spell_pipeline, spell_pipes, spell_command, spell_form, spell_branch, spell_branches, spell_else, spell_loop, spell_for_words, spell_patterns, spell_first_pattern, spell_cases, spell_case}
+use Rattle.shast.specs.declared.tree.AndOrOperator.{AndOrOperator}
+use Rattle.shast.specs.declared.tree.RedirectOperator.{RedirectOperator}
+use Rattle.shast.specs.declared.tree.Span.{Span}
+use Rattle.shast.specs.Tree.{APipelinePart, AnAndOrPart, ABranch, pipeline_parts_of, and_or_parts_of, branches_of, AnEntry, AnItem, AWord, Entries, entry, remark, item, entries_of, items_of, ACommand, AForm, ItemsOf, redirect, with_redirects, formed, no_item, compound, ACompound, word, argument, ACaseItem, cases_of, PatternsOf, no_pattern, more_patterns, patterns_of}
+use Rattle.shast.specs.Shape.{bare, bare_at, text_at, shape_of, shape_of_entry, shape_of_and_or, shape_of_and_or_parts, shape_of_pipeline, shape_of_bang, shape_of_pipes, shape_of_command, shape_of_form, shape_of_branch, shape_of_branches, shape_of_else, shape_of_for_words, shape_of_items, shape_of_item, shape_of_word, shape_of_patterns, shape_of_cases, shape_of_case, Shape}
+use Rattle.shast.specs.Spelling.{Tokens, and_or_text, redirect_text, spell_number, spell_background, spell_bang, spell_word, spell_item, spell_items, spelling, spell_entry, spell_and_or, spell_and_or_parts, spell_pipeline, spell_pipes, spell_command, spell_form, spell_branch, spell_branches, spell_else, spell_loop, spell_for_words, spell_patterns, spell_first_pattern, spell_cases, spell_case}
 use Rattle.shgrammar.specs.Comments.{span}
 use Rattle.shgrammar.specs.Sights.{Given, given, State, standing, Sight, Move}
 use Rattle.shgrammar.specs.Form.{change, with_bytes, a_level, Changed, changes, cannot, WithBytes, with_its_bytes, without_bytes, OwnLevel, level_read, level_stops, Spelled, Read, Step, again, done, step_if, Form, give, see, move, push, stop, both, Told, by, tell, token, many, Just, just, Halts, halted, Then, and_then, or_stops, OneToken, whole, broken_off, Turns, last, rests, more, halts, raw, may}
@@ -28,12 +28,12 @@ use Rattle.shgrammar.specs.Tokens.{is_end}
 use Rattle.shgrammar.specs.Lines.{an_open_line, a_line, end_of_line}
 use Rattle.shgrammar.specs.declared.fault.Fault.{Fault}
 use Rattle.shgrammar.specs.HereDocuments.{ADelimiter, delimiter_of, Change, changed, own_level}
-use Rattle.shtree.specs.Bodies.{filled_row}
-use Rattle.shtree.proofs.Going.{row_filled}
-use Rattle.shtree.proofs.FilledShape.{shape_filled}
-use Rattle.shtree.proofs.OpenSame.{filled_spelling}
+use Rattle.shast.specs.Bodies.{filled_row}
+use Rattle.shast.proofs.Going.{row_filled}
+use Rattle.shast.proofs.FilledShape.{shape_filled}
+use Rattle.shast.proofs.OpenSame.{filled_spelling}
 use Rattle.shgrammar.specs.Scripts.{AScript, SoFar, Lines, line_ended, last_line, faulty, Passes, nothing_yet}
-use Rattle.shtree.specs.Nodes.{word_span}
+use Rattle.shast.specs.Nodes.{word_span}
 
 -- ---- rows that grow at their end
 

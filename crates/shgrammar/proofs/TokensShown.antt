@@ -13,10 +13,10 @@ use Rattle.shgrammar.specs.declared.token.Reserved.{Reserved}
 use Rattle.shgrammar.specs.declared.token.Separator.{Separator}
 use Rattle.shgrammar.specs.declared.token.Token.{Token}
 use Rattle.shgrammar.specs.declared.token.Token.TheVariants as tokens
-use Rattle.shtree.specs.declared.tree.AndOrOperator.{AndOrOperator}
-use Rattle.shtree.specs.declared.tree.Span.{Span}
-use Rattle.shtree.specs.Nodes.{word_span}
-use Rattle.shtree.specs.Tree.{ACommand, AnItem, AWord}
+use Rattle.shast.specs.declared.tree.AndOrOperator.{AndOrOperator}
+use Rattle.shast.specs.declared.tree.Span.{Span}
+use Rattle.shast.specs.Nodes.{word_span}
+use Rattle.shast.specs.Tree.{ACommand, AnItem, AWord}
 use Rattle.shtext.specs.Text.{is_newline as is_newline_byte}
 use Rattle.shgrammar.specs.Bytes.{byte_at, behind, past_continuations, stands}
 use Rattle.shgrammar.specs.Comments.{comment_at}

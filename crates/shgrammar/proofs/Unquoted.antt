@@ -6,7 +6,7 @@ use Rattle.std.proofs.lemmas.Bool.{and_parts, ltb-true, lt-ltb}
 use Rattle.std.proofs.lemmas.Bool.Decides.{nat_tests}
 use Rattle.std.proofs.lemmas.Option.{slice_get_within, slice_get-get_or}
 use Rattle.std.proofs.lemmas.List.{append_assoc, drop_more, append-nil, drop_all, length-drop}
-use Rattle.shtree.specs.Shape.{bare}
+use Rattle.shast.specs.Shape.{bare}
 use Rattle.shgrammar.specs.Standing.{is_byte, continues, raw_stands}
 use Rattle.shgrammar.specs.Bytes.{byte_at, count_joined, past_continuations, stands}
 use Rattle.shgrammar.specs.HereDocuments.{Quoting, behind_quote, byte_left, dollar_left, escape_left, is_live, is_quote, left_before, stays_before, unquoted}

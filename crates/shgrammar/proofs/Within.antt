@@ -16,15 +16,15 @@ use Rattle.shgrammar.specs.declared.token.Opener.TheVariants as openers
 use Rattle.shgrammar.specs.declared.token.Position.{Position}
 use Rattle.shgrammar.specs.declared.token.Position.TheVariants.{Command, Prefix, Suffix}
 use Rattle.shgrammar.specs.declared.token.Separator.{Separator}
-use Rattle.shtree.specs.declared.tree.AndOrOperator.{AndOrOperator}
-use Rattle.shtree.specs.declared.tree.RedirectOperator.{RedirectOperator}
-use Rattle.shtree.specs.declared.tree.Span.{Span}
-use Rattle.shtree.specs.Nodes.{AreWithin, IsSpanWithin, and_or_nodes, branch_nodes, branches_nodes, else_nodes, entries_nodes, entry_nodes, for_words_nodes, form_nodes, word_nodes, word_span}
-use Rattle.shtree.specs.Tree.{ACommand, AForm, ASubst, AWord, AnEntry, AnItem, Entries, branches_of, entries_of, entry, formed, item, items_of, remark, simple, compound, function, with_redirects, word}
-use Rattle.shtree.specs.Bodies.{filled}
-use Rattle.shtree.proofs.Going.{row_filled}
-use Rattle.shtree.proofs.OpenSame.{filled_within}
-use Rattle.shtree.proofs.Reach.{Nodes, CommentFits, SubstFits, WordFits, ItemFits, CommandFits, PipelineFits, PipeFits, PartFits, EntryFits, BranchFits, both as fits_both, fits_subst, fits_substs, fits_items, fits_word, fits_entries, fits_branches, fits_assign, fits_argument, fits_simple, fits_redirect, fits_compound, fits_pipeline, fits_and_or, fits_command, fits_remark, span_fits_more, within_append, fits_function, CaseFits, fits_case, fits_case_in, fits_end}
+use Rattle.shast.specs.declared.tree.AndOrOperator.{AndOrOperator}
+use Rattle.shast.specs.declared.tree.RedirectOperator.{RedirectOperator}
+use Rattle.shast.specs.declared.tree.Span.{Span}
+use Rattle.shast.specs.Nodes.{AreWithin, IsSpanWithin, and_or_nodes, branch_nodes, branches_nodes, else_nodes, entries_nodes, entry_nodes, for_words_nodes, form_nodes, word_nodes, word_span}
+use Rattle.shast.specs.Tree.{ACommand, AForm, ASubst, AWord, AnEntry, AnItem, Entries, branches_of, entries_of, entry, formed, item, items_of, remark, simple, compound, function, with_redirects, word}
+use Rattle.shast.specs.Bodies.{filled}
+use Rattle.shast.proofs.Going.{row_filled}
+use Rattle.shast.proofs.OpenSame.{filled_within}
+use Rattle.shast.proofs.Reach.{Nodes, CommentFits, SubstFits, WordFits, ItemFits, CommandFits, PipelineFits, PipeFits, PartFits, EntryFits, BranchFits, both as fits_both, fits_subst, fits_substs, fits_items, fits_word, fits_entries, fits_branches, fits_assign, fits_argument, fits_simple, fits_redirect, fits_compound, fits_pipeline, fits_and_or, fits_command, fits_remark, span_fits_more, within_append, fits_function, CaseFits, fits_case, fits_case_in, fits_end}
 use Rattle.shgrammar.specs.Standing.{raw_stands, raw_in, next_newline, before_blanks}
 use Rattle.shgrammar.specs.Bytes.{past_continuations, behind}
 use Rattle.shgrammar.specs.Comments.{span, comment_at, past_comment}

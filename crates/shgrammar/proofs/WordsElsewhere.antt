@@ -9,9 +9,9 @@ use Rattle.shgrammar.specs.declared.token.Closing.TheVariants as closings
 use Rattle.shgrammar.specs.declared.token.Next.{Next}
 use Rattle.shgrammar.specs.declared.token.Opener.{Opener}
 use Rattle.shgrammar.specs.declared.token.Position.TheVariants.{Command}
-use Rattle.shtree.specs.declared.tree.Span.{Span}
-use Rattle.shtree.specs.Shape.{shape_of, shape_of_subst, shape_of_substs, text_at}
-use Rattle.shtree.specs.Tree.{ASubst, AWord, Entries, entries_of, subst as a_subst, substs_of, word}
+use Rattle.shast.specs.declared.tree.Span.{Span}
+use Rattle.shast.specs.Shape.{shape_of, shape_of_subst, shape_of_substs, text_at}
+use Rattle.shast.specs.Tree.{ASubst, AWord, Entries, entries_of, subst as a_subst, substs_of, word}
 use Rattle.shgrammar.specs.Standing.{is_byte}
 use Rattle.shgrammar.specs.Bytes.{ends, ends_word, byte_at, behind, past_blanks, past_continuations}
 use Rattle.shgrammar.specs.Comments.{span}
@@ -30,8 +30,8 @@ use Rattle.shgrammar.proofs.Ahead.{ListEnds, bracket_ends, behind_is, same_behin
 use Rattle.shgrammar.proofs.Asked.{Good, high}
 use Rattle.shgrammar.proofs.PiecesInside.{Local, Holding, SameSubsts, Ended, construct_in, word_in}
 use Rattle.shgrammar.specs.HereDocuments.{first_waiting, own_level, outer_level}
-use Rattle.shtree.specs.Bodies.{filled}
-use Rattle.shtree.proofs.FilledShape.{shape_filled}
+use Rattle.shast.specs.Bodies.{filled}
+use Rattle.shast.proofs.FilledShape.{shape_filled}
 use Rattle.shgrammar.proofs.Shifted.{shifted, state_from}
 use Rattle.shgrammar.proofs.BodiesThere.{move_span, first_over}
 use Rattle.shgrammar.proofs.GoingOn.{over, Back, good, Found, Goes, go_stop, go_stopped, same_texts}

@@ -6,8 +6,8 @@ use Rattle.shgrammar.specs.declared.mode.Mode.{Mode}
 use Rattle.shgrammar.specs.declared.mode.Mode.TheVariants.{Plain}
 use Rattle.shgrammar.specs.declared.mode.Piece.{Piece}
 use Rattle.shgrammar.specs.declared.mode.Piece.TheVariants as pieces
-use Rattle.shtree.specs.declared.tree.Span.{Span}
-use Rattle.shtree.specs.Tree.{ASubst, AWord}
+use Rattle.shast.specs.declared.tree.Span.{Span}
+use Rattle.shast.specs.Tree.{ASubst, AWord}
 use Rattle.shgrammar.specs.Comments.{span}
 use Rattle.shgrammar.specs.HereDocuments.{own_level, outer_level}
 use Rattle.shgrammar.specs.Sights.{Given, State, standing, Sight, seen, Move}

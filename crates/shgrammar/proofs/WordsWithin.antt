@@ -12,7 +12,7 @@ use Rattle.shgrammar.specs.declared.token.Position.TheVariants.{Command}
 use Rattle.shgrammar.specs.Standing.{raw_stands, at_end}
 use Rattle.shgrammar.specs.Bytes.{ends, ends_word, past_continuations, byte_at, behind, stands}
 use Rattle.shgrammar.specs.Pieces.{dollar_by, dollar_at, bracket_by, byte_by, piece_by, piece_at, end_by, past_taken, past_closer, past_parameter, next_quote, next_in_backquotes, is_last_backslash, rest_mode}
-use Rattle.shtree.specs.Tree.{ASubst, entries_of}
+use Rattle.shast.specs.Tree.{ASubst, entries_of}
 use Rattle.shgrammar.specs.Sights.{Given, State, standing, one_byte}
 use Rattle.shgrammar.specs.Form.{Read, Form, give, move, ◌>>◌, Step, again, done, step_if, as_it_stands, token, many, does}
 use Rattle.shgrammar.specs.Words.{single, backquote_turn, backquoted, Inner, Held, having, opened, piece_row, a_piece, contents, a_word}

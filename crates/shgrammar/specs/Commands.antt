@@ -12,14 +12,14 @@ use Rattle.shgrammar.specs.declared.token.Separator.{Separator}
 use Rattle.shgrammar.specs.declared.token.Separator.TheVariants.{Semicolon, Ampersand}
 use Rattle.shgrammar.specs.declared.token.Token.{Token}
 use Rattle.shgrammar.specs.declared.token.Token.TheVariants as tokens
-use Rattle.shtree.specs.declared.tree.AndOrOperator.{AndOrOperator}
-use Rattle.shtree.specs.declared.tree.AndOrOperator.TheVariants.{And, Or}
-use Rattle.shtree.specs.declared.tree.RedirectOperator.{RedirectOperator}
-use Rattle.shtree.specs.declared.tree.RedirectOperator.TheVariants as redirects
-use Rattle.shtree.specs.declared.tree.Span.{Span}
-use Rattle.shtree.specs.Tree.{AHere, AJoin, AnItem, AnItemContent, AWord, AnEntry, ACommand, APipeline, APipelinePart, AnAndOr, AnAndOrPart, item, assign, argument, redirect, items_of, simple, with_redirects, pipeline, pipeline_parts_of, and_or, and_or_parts_of, entry, command}
-use Rattle.shtree.specs.Nodes.{word_span}
-use Rattle.shtree.specs.Spelling.{and_or_text, redirect_text}
+use Rattle.shast.specs.declared.tree.AndOrOperator.{AndOrOperator}
+use Rattle.shast.specs.declared.tree.AndOrOperator.TheVariants.{And, Or}
+use Rattle.shast.specs.declared.tree.RedirectOperator.{RedirectOperator}
+use Rattle.shast.specs.declared.tree.RedirectOperator.TheVariants as redirects
+use Rattle.shast.specs.declared.tree.Span.{Span}
+use Rattle.shast.specs.Tree.{AHere, AJoin, AnItem, AnItemContent, AWord, AnEntry, ACommand, APipeline, APipelinePart, AnAndOr, AnAndOrPart, item, assign, argument, redirect, items_of, simple, with_redirects, pipeline, pipeline_parts_of, and_or, and_or_parts_of, entry, command}
+use Rattle.shast.specs.Nodes.{word_span}
+use Rattle.shast.specs.Spelling.{and_or_text, redirect_text}
 use Rattle.shgrammar.specs.Sights.{Waiting, here, the_token, the_comment, is_a_name, a_document_waits, blanks, one_byte, a_comment_on, the_digits}
 use Rattle.shgrammar.specs.HereDocuments.{ADelimiter, delimiter_of, waits, bodies_here}
 use Rattle.shgrammar.specs.Form.{Form, give, see, move, push, stop, Told, untold, bared, by, token, many, change, with_bytes, Spelled, ◌>>=◌, ◌>>◌, Step, again, done, step_if}

@@ -1,6 +1,6 @@
 -- Comments (XCU 2.3, rule 9), and spans.
 use Rattle.std.specs.Prelude.{ℕ, ◌+◌, List, Option, None, Some, if◌then◌else◌}
-use Rattle.shtree.specs.declared.tree.Span.{Span}
+use Rattle.shast.specs.declared.tree.Span.{Span}
 use Rattle.shgrammar.specs.Standing.{raw_stands, next_newline, before_blanks}
 
 -- the span from the place p up to the place q of a text that begins at the offset o

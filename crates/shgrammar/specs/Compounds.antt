@@ -11,9 +11,9 @@ use Rattle.shgrammar.specs.declared.token.Position.TheVariants.{Command, Suffix}
 use Rattle.shgrammar.specs.declared.token.Reserved.TheVariants as reserved
 use Rattle.shgrammar.specs.declared.token.Token.{Token}
 use Rattle.shgrammar.specs.declared.token.Token.TheVariants as tokens
-use Rattle.shtree.specs.declared.tree.Span.{Span}
-use Rattle.shtree.specs.Nodes.{through, commands_end}
-use Rattle.shtree.specs.Tree.{Entries, entry, remark, more_entries, ACommand, simple, compound, function, formed, AForm, brace, subshell, if_then, while_do, until_do, for_in, AWord, ForWords, no_in, in_words, items_of, ABranch, branch, branches_of, Otherwise, no_else, otherwise, no_item, case_in, ACaseItem, case_item, cases_of, patterns_of, entries_of}
+use Rattle.shast.specs.declared.tree.Span.{Span}
+use Rattle.shast.specs.Nodes.{through, commands_end}
+use Rattle.shast.specs.Tree.{Entries, entry, remark, more_entries, ACommand, simple, compound, function, formed, AForm, brace, subshell, if_then, while_do, until_do, for_in, AWord, ForWords, no_in, in_words, items_of, ABranch, branch, branches_of, Otherwise, no_else, otherwise, no_item, case_in, ACaseItem, case_item, cases_of, patterns_of, entries_of}
 use Rattle.shgrammar.specs.Sights.{here, is_a_name, Move, one_byte, the_reserved}
 use Rattle.shgrammar.specs.Form.{Form, Spelled, give, see, move, push, stop, by, token, many, ◌>>=◌, ◌>>◌, Step, again, done}
 use Rattle.shgrammar.specs.Words.{Inner, a_word}

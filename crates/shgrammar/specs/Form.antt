@@ -4,8 +4,8 @@
 -- function that computes (`does`). That the one is what the other computes is shown once, for all forms. What is given, the
 -- state and the tokens passed are handed on here: no row names them.
 use Rattle.std.specs.Prelude.{◌≡◌, ℕ, zero, suc, ◌-◌, Bool, true, false, Result, Ok, Err, List, [], ◌∷◌, ◌++◌, List as Row, length, nat_lt, take, drop, if◌then◌else◌}
-use Rattle.shtree.specs.declared.tree.Span.{Span}
-use Rattle.shtree.specs.Shape.{bare}
+use Rattle.shast.specs.declared.tree.Span.{Span}
+use Rattle.shast.specs.Shape.{bare}
 use Rattle.shgrammar.specs.declared.fault.Fault.{Fault}
 use Rattle.shgrammar.specs.declared.fault.FaultKind.{FaultKind}
 use Rattle.shgrammar.specs.declared.fault.FaultKind.TheVariants.{UnexpectedEnd}

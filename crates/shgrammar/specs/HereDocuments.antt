@@ -1,8 +1,8 @@
 -- Here-documents: what their delimiter is, where their body ends, and what a newline does where some wait (XCU 2.7.4).
 use Rattle.std.specs.Prelude.{ℕ, zero, suc, ◌+◌, ◌-◌, ◌==◌, min, Bool, true, false, ◌&&◌, ◌||◌, not, List, [], ◌∷◌, ◌++◌, List as Row, length, take, drop, fold, bytes_eq, Option, Some, None, option_map, Result, Ok, Err, if◌then◌else◌}
 use Rattle.std.specs.List.{list_any}
-use Rattle.shtree.specs.declared.tree.Span.{Span}
-use Rattle.shtree.specs.Shape.{bare}
+use Rattle.shast.specs.declared.tree.Span.{Span}
+use Rattle.shast.specs.Shape.{bare}
 use Rattle.shgrammar.specs.declared.fault.Fault.{Fault}
 use Rattle.shgrammar.specs.declared.fault.FaultKind.TheVariants.{UnclosedHere}
 use Rattle.shgrammar.specs.Standing.{at_end, count_front, next_newline}

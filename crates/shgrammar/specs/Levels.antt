@@ -1,7 +1,7 @@
 -- What may be opened where so many more constructs may be, and what is read there.
 use Rattle.std.specs.Prelude.{ℕ, zero, suc, ◌+◌, [], ◌∷◌, Ok}
 use Rattle.shgrammar.specs.declared.fault.FaultKind.TheVariants.{TooDeep}
-use Rattle.shtree.specs.Tree.{AWord}
+use Rattle.shast.specs.Tree.{AWord}
 use Rattle.shgrammar.specs.Sights.{Given, here, standing}
 use Rattle.shgrammar.specs.Form.{see, stop, ◌>>=◌, may, raw}
 use Rattle.shgrammar.specs.Words.{Inner, contents, a_word}

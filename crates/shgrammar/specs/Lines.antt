@@ -4,9 +4,9 @@ use Rattle.shgrammar.specs.declared.fault.Fault.{Fault}
 use Rattle.shgrammar.specs.declared.token.Next.{Next}
 use Rattle.shgrammar.specs.declared.token.Position.TheVariants.{Command}
 use Rattle.shgrammar.specs.Standing.{raw_stands}
-use Rattle.shtree.specs.Bodies.{filled_row}
-use Rattle.shtree.specs.Nodes.{AreWithin}
-use Rattle.shtree.specs.Tree.{AnEntry, Entries, entries_of}
+use Rattle.shast.specs.Bodies.{filled_row}
+use Rattle.shast.specs.Nodes.{AreWithin}
+use Rattle.shast.specs.Tree.{AnEntry, Entries, entries_of}
 use Rattle.shgrammar.specs.HereDocuments.{bodies_here}
 use Rattle.shgrammar.specs.Sights.{one_byte, given, standing, State}
 use Rattle.shgrammar.specs.Form.{Form, give, move, change, a_level, ◌>>=◌, ◌>>◌, may, Spelled}

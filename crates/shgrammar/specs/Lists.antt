@@ -1,8 +1,8 @@
 -- Lists: entries on one line or on many (XCU 2.9.3, 2.10.2).
 use Rattle.std.specs.Prelude.{ℕ, Bool, true, false, ◌&&◌, not, [], List as Row, Option, None, Some, is_some}
 use Rattle.shgrammar.specs.declared.token.Next.{Next}
-use Rattle.shtree.specs.declared.tree.Span.{Span}
-use Rattle.shtree.specs.Tree.{AnEntry, Entries, entry, remark, entries_of}
+use Rattle.shast.specs.declared.tree.Span.{Span}
+use Rattle.shast.specs.Tree.{AnEntry, Entries, entry, remark, entries_of}
 use Rattle.shgrammar.specs.Form.{Form, give, push, many, ◌>>=◌, Step, done, step_if}
 use Rattle.shgrammar.specs.Words.{Inner}
 use Rattle.shgrammar.specs.Commands.{is_empty, pick, begins_pipeline, a_comment, a_newline, unexpected, an_entry}

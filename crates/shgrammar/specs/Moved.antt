@@ -1,9 +1,9 @@
 -- A line that stands elsewhere in a script: its tree with each of its spans moved, and what is read there.
 use Rattle.std.specs.Prelude.{◌≡◌, ℕ, zero, suc, ◌+◌, Bool, true, false, List, List as Row, [], ◌∷◌, map, option_map, Ok, Err}
 use Rattle.shgrammar.specs.declared.keep.Keep.TheVariants.{Whole}
-use Rattle.shtree.specs.declared.tree.Span.{Span}
-use Rattle.shtree.specs.Tree.{AJoin, AHere, Entries, no_entry, more_entries, AnEntry, entry, AContent, command, remark, AnAndOr, and_or, AnAndOrPart, AndOrParts, no_and_or, more_and_or, APipeline, pipeline, APipelinePart, PipelineParts, no_pipe, more_pipes, ACommand, simple, compound, function, ACompound, formed, AForm, brace, subshell, if_then, while_do, until_do, for_in, case_in, ABranch, branch, Branches, no_branch, more_branches, Otherwise, no_else, otherwise, ForWords, no_in, in_words, CaseItems, no_case, more_cases, ACaseItem, case_item, Patterns, no_pattern, more_patterns, Items, no_item, more_items, AnItem, item, AnItemContent, assign, argument, redirect, AWord, word, Substs, no_subst, more_substs, ASubst, subst}
-use Rattle.shtree.specs.Nodes.{placed_span}
+use Rattle.shast.specs.declared.tree.Span.{Span}
+use Rattle.shast.specs.Tree.{AJoin, AHere, Entries, no_entry, more_entries, AnEntry, entry, AContent, command, remark, AnAndOr, and_or, AnAndOrPart, AndOrParts, no_and_or, more_and_or, APipeline, pipeline, APipelinePart, PipelineParts, no_pipe, more_pipes, ACommand, simple, compound, function, ACompound, formed, AForm, brace, subshell, if_then, while_do, until_do, for_in, case_in, ABranch, branch, Branches, no_branch, more_branches, Otherwise, no_else, otherwise, ForWords, no_in, in_words, CaseItems, no_case, more_cases, ACaseItem, case_item, Patterns, no_pattern, more_patterns, Items, no_item, more_items, AnItem, item, AnItemContent, assign, argument, redirect, AWord, word, Substs, no_subst, more_substs, ASubst, subst}
+use Rattle.shast.specs.Nodes.{placed_span}
 use Rattle.shgrammar.specs.declared.fault.Fault.{Fault}
 use Rattle.shgrammar.specs.Sights.{State, Waiting}
 use Rattle.shgrammar.specs.Form.{Read}

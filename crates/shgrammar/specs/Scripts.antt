@@ -3,9 +3,9 @@ use Rattle.std.specs.Prelude.{ℕ, zero, suc, ◌+◌, ◌-◌, Bool, true, fals
 use Rattle.shgrammar.specs.declared.keep.Keep.{Keep}
 use Rattle.shgrammar.specs.declared.keep.Keep.TheVariants.{Whole}
 use Rattle.shgrammar.specs.declared.script.Script as the_script
-use Rattle.shtree.specs.View.{view_list}
+use Rattle.shast.specs.View.{view_list}
 use Rattle.shgrammar.specs.declared.fault.Fault.{Fault}
-use Rattle.shtree.specs.Tree.{AnEntry, Entries, entries_of}
+use Rattle.shast.specs.Tree.{AnEntry, Entries, entries_of}
 use Rattle.shgrammar.specs.Sights.{given, standing, State}
 use Rattle.shgrammar.specs.Form.{Form, Read, may, does, Spelled}
 use Rattle.shgrammar.specs.Levels.{most_open, level}

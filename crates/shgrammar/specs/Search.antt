@@ -2,7 +2,7 @@
 use Rattle.std.specs.Prelude.{◌≡◌, ℕ, ◌+◌, ◌-◌, ◌<◌, ◌≤◌, List, List as Row, Ok, Option, drop, length, option_map, take, false, true}
 use Rattle.shgrammar.specs.declared.keep.Keep.TheVariants.{Nothing}
 use Rattle.shgrammar.specs.Moved.{moved_fault}
-use Rattle.shtree.specs.Tree.{AnEntry}
+use Rattle.shast.specs.Tree.{AnEntry}
 use Rattle.shgrammar.specs.Scripts.{FirstFault, first_fault_from, line_told}
 use Rattle.shgrammar.specs.Sights.{State}
 use Rattle.shgrammar.specs.Standing.{raw_stands}

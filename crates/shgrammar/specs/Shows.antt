@@ -2,8 +2,8 @@
 use Rattle.std.specs.Prelude.{◌≡◌, ℕ, ◌<◌, true, false, List, length, Some}
 use Rattle.shgrammar.specs.declared.token.Token.{Token}
 use Rattle.shgrammar.specs.declared.token.Token.TheVariants as tokens
-use Rattle.shtree.specs.declared.tree.AndOrOperator.{AndOrOperator}
-use Rattle.shtree.specs.declared.tree.RedirectOperator.{RedirectOperator}
+use Rattle.shast.specs.declared.tree.AndOrOperator.{AndOrOperator}
+use Rattle.shast.specs.declared.tree.RedirectOperator.{RedirectOperator}
 use Rattle.shgrammar.specs.Standing.{raw_stands, at_end}
 use Rattle.shgrammar.specs.Bytes.{behind, past_continuations, ends_word}
 use Rattle.shgrammar.specs.Tokens.{is_comment, is_end}

@@ -5,7 +5,7 @@ use Rattle.shgrammar.specs.declared.mode.Mode.{Mode}
 use Rattle.shgrammar.specs.declared.mode.Piece.{Piece}
 use Rattle.shgrammar.specs.declared.token.Next.{Next}
 use Rattle.shgrammar.specs.declared.token.Position.{Position}
-use Rattle.shtree.specs.declared.tree.Span.{Span}
+use Rattle.shast.specs.declared.tree.Span.{Span}
 use Rattle.shgrammar.specs.Standing.{raw_stands, at_end}
 use Rattle.shgrammar.specs.Bytes.{past_continuations, behind, past_blanks}
 use Rattle.shgrammar.specs.Tokens.{next_at, past_reserved, past_digits, is_name_at}

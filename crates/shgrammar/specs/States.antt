@@ -1,6 +1,6 @@
 -- What is given to a reading, and the states that it goes through.
 use Rattle.std.specs.Prelude.{ℕ, Bool, List, [], List as Row}
-use Rattle.shtree.specs.declared.tree.Span.{Span}
+use Rattle.shast.specs.declared.tree.Span.{Span}
 
 -- what is given to a reading: a text, and the offset of its first byte
 pub record Given : Type 0 where

@@ -3,8 +3,8 @@ use Rattle.std.specs.Prelude.{ℕ, false, List as Row}
 use Rattle.shgrammar.specs.declared.fault.FaultKind.TheVariants.{UnclosedSubst}
 use Rattle.shgrammar.specs.declared.token.Closing.TheVariants as closings
 use Rattle.shgrammar.specs.declared.token.Position.TheVariants.{Command}
-use Rattle.shtree.specs.Bodies.{filled}
-use Rattle.shtree.specs.Tree.{Entries, ASubst, subst, entries_of}
+use Rattle.shast.specs.Bodies.{filled}
+use Rattle.shast.specs.Tree.{Entries, ASubst, subst, entries_of}
 use Rattle.shgrammar.specs.Sights.{here, one_byte}
 use Rattle.shgrammar.specs.Form.{Form, give, see, move, push, ends_as, many, a_level, in_substitution, ◌>>=◌, ◌>>◌}
 use Rattle.shgrammar.specs.Words.{Inner}

@@ -7,8 +7,8 @@ use Rattle.shgrammar.specs.declared.mode.Piece.{Piece}
 use Rattle.shgrammar.specs.declared.mode.Piece.TheVariants as pieces
 use Rattle.shgrammar.specs.declared.token.Next.{Next}
 use Rattle.shgrammar.specs.declared.token.Opener.{Opener}
-use Rattle.shtree.specs.declared.tree.Span.{Span}
-use Rattle.shtree.specs.Tree.{AWord, ACommand, ASubst, word, substs_of}
+use Rattle.shast.specs.declared.tree.Span.{Span}
+use Rattle.shast.specs.Tree.{AWord, ACommand, ASubst, word, substs_of}
 use Rattle.shgrammar.specs.Pieces.{unclosed}
 use Rattle.shgrammar.specs.Sights.{here, the_byte, the_piece, the_rest, the_end, a_backquote, last_backslash, one_byte, joined, one_taken, the_closer, the_parameter, a_quote_on, in_backquotes_on}
 use Rattle.shgrammar.specs.Form.{Form, give, see, move, stop, when, as_it_stands, token, many, ◌>>=◌, ◌>>◌, Step, again, done, step_if}

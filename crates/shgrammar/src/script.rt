@@ -1,6 +1,6 @@
 //! A script, as it was read.
 use crate::fault::Fault;
-use shtree::List;
+use shast::List;
 
 /// A whole script.
 #[derive(Debug, Drop)]

@@ -4,7 +4,7 @@ ghost use Rattle.shgrammar.specs.Commands.{and_or_operator_of, begins_pipeline, 
 ghost use Rattle.shgrammar.specs.Compounds.{begins_pattern, behind_opener, is_closing};
 ghost use Rattle.shgrammar.specs.Tokens.{is_end};
 
-use shtree::{AndOrOperator, RedirectOperator};
+use shast::{AndOrOperator, RedirectOperator};
 
 /// What begins at a place that no blank stands at (XCU 2.3, 2.10.1).
 #[derive(Clone, Copy)]

@@ -8,10 +8,10 @@ use Rattle.shgrammar.specs.Scripts.{view_script}
 use Rattle.shgrammar.specs.Scripts.{AScript, FirstFault}
 use Rattle.shgrammar.specs.declared.fault.Fault.{Fault}
 use Rattle.shgrammar.specs.declared.script.Script.{Script}
-use Rattle.shtree.specs.Nodes.{AreWithin, IsWithin, entries_nodes, holds, in_order, nodes_at, placed}
+use Rattle.shast.specs.Nodes.{AreWithin, IsWithin, entries_nodes, holds, in_order, nodes_at, placed}
 use Rattle.shtree.proofs.Placed.{nodes_at_is}
-use Rattle.shtree.specs.Tree.{Entries}
-use Rattle.shtree.specs.declared.nodes.NodeLine.{NodeLine}
+use Rattle.shast.specs.Tree.{Entries}
+use Rattle.shast.specs.declared.node.NodeLine.{NodeLine}
 use Rattle.shlive.specs.Answers.{IsReadOf}
 
 -- ---- the first fault

@@ -4,8 +4,8 @@ use Rattle.shgrammar.specs.Scripts.{view_script}
 use Rattle.shgrammar.specs.Scripts.{AScript, FirstFault, Outcome}
 use Rattle.shgrammar.specs.declared.fault.Fault.{Fault}
 use Rattle.shgrammar.specs.declared.script.Script.{Script}
-use Rattle.shtree.specs.Nodes.{AreWithin, nodes_at, outline}
-use Rattle.shtree.specs.declared.nodes.NodeLine.{NodeLine}
+use Rattle.shast.specs.Nodes.{AreWithin, nodes_at, outline}
+use Rattle.shast.specs.declared.node.NodeLine.{NodeLine}
 use Rattle.shtext.specs.Edit.{Refuses}
 use Rattle.shtext.specs.declared.error.TextError.{TextError}
 use Rattle.shtext.specs.declared.error.TextError.TheVariants as text_errors

@@ -4,11 +4,11 @@ use Rattle.shgrammar.specs.Scripts.{FirstFault}
 use Rattle.shgrammar.specs.declared.fault.Fault.{Fault}
 use Rattle.shgrammar.specs.declared.fault.FaultKind.{FaultKind}
 use Rattle.shgrammar.specs.declared.fault.FaultKind.TheVariants as faults
-use Rattle.shtree.specs.Shape.{bare_at}
-use Rattle.shtree.specs.declared.nodes.NodeKind.{NodeKind}
-use Rattle.shtree.specs.declared.nodes.NodeKind.TheVariants as nodes
-use Rattle.shtree.specs.declared.nodes.NodeLine.{NodeLine}
-use Rattle.shtree.specs.declared.tree.Span.{Span}
+use Rattle.shast.specs.Shape.{bare_at}
+use Rattle.shast.specs.declared.node.NodeKind.{NodeKind}
+use Rattle.shast.specs.declared.node.NodeKind.TheVariants as nodes
+use Rattle.shast.specs.declared.node.NodeLine.{NodeLine}
+use Rattle.shast.specs.declared.tree.Span.{Span}
 use Rattle.shtext.specs.Edit.{IsAllowed, edited}
 use Rattle.shtext.specs.Text.{column_of, line_of}
 use Rattle.shprint.specs.declared.layout.Layout.{Layout}

@@ -3,7 +3,7 @@ ghost use Rattle.std.specs.Prelude.{◌≡◌, ◌||◌, ◌≤◌, ℕ, IfErr, 
 ghost use Rattle.shtext.specs.Buffer.{buffer_bytes};
 ghost use Rattle.shtext.specs.Device.{Writes, held_of, output_failed};
 ghost use Rattle.shtext.specs.Edit.{IsAllowed, edited};
-ghost use Rattle.shtree.specs.declared.nodes.NodeLine.{NodeLine};
+ghost use Rattle.shast.specs.declared.node.NodeLine.{NodeLine};
 ghost use Rattle.shlive.specs.Answers.{HasNodesAt, HasOutline, IsRefused};
 ghost use Rattle.shlive.specs.Payload.{AreKept};
 ghost use Rattle.shlive.specs.Replies.{fault_text, nodes_text, number_of_kind, ok_text, printed_text, refusal_text};

@@ -17,11 +17,11 @@ use Rattle.shread.proofs.LineByLine.{line_only, line_read}
 use Rattle.shgrammar.proofs.LineInPiece.{There, alone, outer_alone, fault_there, stands_there, told_same}
 use Rattle.shgrammar.proofs.Passing.{line_there}
 use Rattle.shgrammar.proofs.SameLine.{newline_at, same_front}
-use Rattle.shtree.specs.Shape.{Text, shape_of, shape_of_entry}
-use Rattle.shtree.specs.declared.tree.Entry.{Entry}
-use Rattle.shtree.specs.Tree.{AnEntry, entries_of}
-use Rattle.shtree.specs.Nodes.{placed_span}
-use Rattle.shtree.specs.View.{view_entry}
+use Rattle.shast.specs.Shape.{Text, shape_of, shape_of_entry}
+use Rattle.shast.specs.declared.tree.Entry.{Entry}
+use Rattle.shast.specs.Tree.{AnEntry, entries_of}
+use Rattle.shast.specs.Nodes.{placed_span}
+use Rattle.shast.specs.View.{view_entry}
 use Rattle.shprint.specs.declared.layout.Layout.{Layout}
 use Rattle.shprint.specs.Printed.{print_entries, print_entry, printed}
 use Rattle.shpieces.specs.Printing.{ArePrinted, IsPrinted, moved_error}

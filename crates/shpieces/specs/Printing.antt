@@ -5,8 +5,8 @@ use Rattle.shread.specs.LineByLine.{Before, Rest}
 use Rattle.shgrammar.specs.declared.fault.Fault.{Fault}
 use Rattle.shgrammar.specs.Moved.{moved_fault}
 use Rattle.shgrammar.specs.Scripts.{AScript, FirstFault, Outcome, SoFar}
-use Rattle.shtree.specs.Shape.{shape_of}
-use Rattle.shtree.specs.Tree.{entries_of}
+use Rattle.shast.specs.Shape.{shape_of}
+use Rattle.shast.specs.Tree.{entries_of}
 use Rattle.shpieces.specs.declared.by_line.PrintError.{PrintError}
 use Rattle.shpieces.specs.declared.by_line.PrintError.TheVariants.{Faulty, Memory}
 use Rattle.shprint.specs.declared.layout.Layout.{Layout}

@@ -1,14 +1,14 @@
 -- What shapes and their bodies say where a line is read: filled with the bodies that were read, its entry has the shape; the words of a
 -- `for` have none.
 use Rattle.std.proofs.Common.{◌≡◌, ℕ, List, List as Row, [], ◌∷◌, map, refl, sym, ap, ◌∙◌}
-use Rattle.shtree.specs.declared.tree.Span.{Span}
-use Rattle.shtree.specs.Tree.{AnEntry, AnEntryOf, EntriesOf, entries_of, no_entry, more_entries, ItemsOf}
-use Rattle.shtree.specs.Shape.{Shape, Text, text_at, shape_of, shape_of_entry}
-use Rattle.shtree.specs.Bodies.{fill_entry, fill_row, filled_row}
-use Rattle.shtree.specs.Opened.{open_item, open_item_content, open_items, opened, open_entry, item_content_bodies, item_bodies, items_bodies, entries_bodies, entry_bodies, bodies_of}
-use Rattle.shtree.proofs.FilledBack.{filled_back}
-use Rattle.shtree.proofs.FilledShape.{shape_filled}
-use Rattle.shtree.proofs.Going.{row_filled}
+use Rattle.shast.specs.declared.tree.Span.{Span}
+use Rattle.shast.specs.Tree.{AnEntry, AnEntryOf, EntriesOf, entries_of, no_entry, more_entries, ItemsOf}
+use Rattle.shast.specs.Shape.{Shape, Text, text_at, shape_of, shape_of_entry}
+use Rattle.shast.specs.Bodies.{fill_entry, fill_row, filled_row}
+use Rattle.shast.specs.Opened.{open_item, open_item_content, open_items, opened, open_entry, item_content_bodies, item_bodies, items_bodies, entries_bodies, entry_bodies, bodies_of}
+use Rattle.shast.proofs.FilledBack.{filled_back}
+use Rattle.shast.proofs.FilledShape.{shape_filled}
+use Rattle.shast.proofs.Going.{row_filled}
 use Rattle.shgrammar.specs.declared.token.Position.{Position}
 use Rattle.shprint.proofs.Good.{GoodItems, none_more, one_more, of_argument, of_for}
 

@@ -5,9 +5,9 @@ use Rattle.std.proofs.Math.Seq.{take-add}
 use Rattle.std.specs.Option.{option_eq}
 use Rattle.std.proofs.lemmas.Grind.{same_number_lists}
 use Rattle.std.proofs.lemmas.Bool.Decides.{nat_tests}
-use Rattle.shtree.specs.Shape.{bare, text_at}
-use Rattle.shtree.specs.declared.tree.Span.{Span}
-use Rattle.shtree.specs.declared.tree.RedirectOperator.TheVariants as redirects
+use Rattle.shast.specs.Shape.{bare, text_at}
+use Rattle.shast.specs.declared.tree.Span.{Span}
+use Rattle.shast.specs.declared.tree.RedirectOperator.TheVariants as redirects
 use Rattle.shtext.specs.Text.{IsRun}
 use Rattle.shprint.specs.Printed.{would_strip}
 

@@ -21,7 +21,7 @@ use Rattle.shgrammar.specs.Sights.{Given}
 use Rattle.shgrammar.proofs.Spelling.{raw_at}
 use Rattle.shgrammar.proofs.Stretches.{joined_more, joined_none, past_more, past_none, place_low, stands_in_low}
 use Rattle.shgrammar.proofs.Places.{past_low}
-use Rattle.shtree.specs.Shape.{Text, bare, bare_at}
+use Rattle.shast.specs.Shape.{Text, bare, bare_at}
 use Rattle.shprint.proofs.Good.{GoodNumber, all_digits}
 
 -- ---- what begins with a number's token

@@ -3,10 +3,10 @@
 use Rattle.std.proofs.Common.{◌≡◌, ◌∙◌, refl, sym, ap, subst, ℕ, ◌≤◌, Bool, false, Option, Some, None, Ok, Err, List as Row, [], ◌∷◌, ◌++◌, length, map, append_assoc, append-nil, arith}
 use Rattle.std.specs.Prelude.{Result}
 use Rattle.std.proofs.lemmas.List.{map-append}
-use Rattle.shtree.specs.declared.tree.Span.{Span}
-use Rattle.shtree.specs.Tree.{AHere}
-use Rattle.shtree.specs.Bodies.{fill_here}
-use Rattle.shtree.proofs.Going.{going}
+use Rattle.shast.specs.declared.tree.Span.{Span}
+use Rattle.shast.specs.Tree.{AHere}
+use Rattle.shast.specs.Bodies.{fill_here}
+use Rattle.shast.proofs.Going.{going}
 use Rattle.shgrammar.specs.declared.fault.Fault.{Fault}
 use Rattle.shgrammar.specs.Comments.{span}
 use Rattle.shgrammar.specs.States.{Given, State, Waiting}

@@ -2,8 +2,8 @@
 -- them, and they are those that were printed.
 use Rattle.std.proofs.Common.{◌≡◌, ◌∙◌, ℕ, suc, ◌+◌, ◌-◌, ◌≤◌, Bool, true, List, List as Row, [], ◌∷◌, ◌++◌, length, drop, take, map, Some, Ok, refl, sym, ap, arith, append_assoc, append-nil}
 use Rattle.std.proofs.lemmas.List.{drop-drop, length-append, length-drop, map-append}
-use Rattle.shtree.specs.declared.tree.Span.{Span}
-use Rattle.shtree.specs.Shape.{Text, text_at}
+use Rattle.shast.specs.declared.tree.Span.{Span}
+use Rattle.shast.specs.Shape.{Text, text_at}
 use Rattle.shgrammar.specs.Comments.{span}
 use Rattle.shgrammar.specs.States.{Given, given, State, Waiting}
 use Rattle.shgrammar.specs.HereDocuments.{ADelimiter, body_by, bodies_from, bodies_here, delimiter_from, past_line, state_by, waits}

@@ -1,14 +1,14 @@
 -- What a part prints, by the cases that the code tells apart.
 use Rattle.std.proofs.Common.{◌≡◌, ◌∙◌, ℕ, ◌<◌, ◌&&◌, Bool, true, false, List, List as Row, [], ◌∷◌, ◌++◌, Some, None, length, take, map, codes, if◌then◌else◌, rules, refl, sym, ap, append_assoc, arith}
 use Rattle.std.proofs.Math.Seq.{take-append_seam, take-length}
-use Rattle.shtree.specs.declared.tree.Comment.{Comment}
-use Rattle.shtree.specs.declared.tree.Entry.{Entry}
-use Rattle.shtree.specs.declared.tree.List as the_list
-use Rattle.shtree.specs.declared.tree.Command.TheViews.{out-List}
-use Rattle.shtree.specs.declared.tree.Command.TheFolds.{fold_out-List}
-use Rattle.shtree.specs.Shape.{Text, Shape, shape_of, shape_of_comments}
-use Rattle.shtree.specs.Tree.{ACompoundOf, AWordOf, AnEntryOf, EntriesOf, command, entries_of, entry, more_entries, no_entry, remark, word}
-use Rattle.shtree.specs.View.{view_comment, view_entry, view_list}
+use Rattle.shast.specs.declared.tree.Comment.{Comment}
+use Rattle.shast.specs.declared.tree.Entry.{Entry}
+use Rattle.shast.specs.declared.tree.List as the_list
+use Rattle.shast.specs.declared.tree.Command.TheViews.{out-List}
+use Rattle.shast.specs.declared.tree.Command.TheFolds.{fold_out-List}
+use Rattle.shast.specs.Shape.{Text, Shape, shape_of, shape_of_comments}
+use Rattle.shast.specs.Tree.{ACompoundOf, AWordOf, AnEntryOf, EntriesOf, command, entries_of, entry, more_entries, no_entry, remark, word}
+use Rattle.shast.specs.View.{view_comment, view_entry, view_list}
 use Rattle.shprint.specs.declared.layout.Layout.{Layout}
 use Rattle.shprint.specs.Marks.{Marks, text, line_end, deeper, one}
 use Rattle.shprint.specs.Printed.{case_margin, is_brace, is_one_line, operand_margin, print_body, print_comments, print_entries, print_function_gap, print_here, print_only}

@@ -27,8 +27,8 @@ use Rattle.shgrammar.specs.Sights.{Given, State, given, standing, here as the_pl
 use Rattle.shgrammar.specs.Form.{a_level, level_read, raw, with_bytes, with_its_bytes, Spelled, Form, ◌>>=◌, ◌>>◌, by, bared, Step, give, move, leads_on, again, done, many, step_if}
 use Rattle.shgrammar.specs.Words.{Inner, a_word}
 use Rattle.shgrammar.specs.Levels.{most_open, level}
-use Rattle.shtree.specs.Nodes.{through, word_span}
-use Rattle.shtree.specs.Normal.{is_normal_form, is_normal_else, are_normal_branches, is_normal_branch, is_whole, is_command, holds_command, is_normal_entry, first_not_blank, are_normal, is_normal_and_or, are_normal_and_ors, is_normal_pipeline, are_normal_pipes, first_not_broken, is_normal_join, is_normal_compound, is_normal_command, are_normal_words, are_normal_cases, is_normal_case, are_normal_patterns}
+use Rattle.shast.specs.Nodes.{through, word_span}
+use Rattle.shast.specs.Normal.{is_normal_form, is_normal_else, are_normal_branches, is_normal_branch, is_whole, is_command, holds_command, is_normal_entry, first_not_blank, are_normal, is_normal_and_or, are_normal_and_ors, is_normal_pipeline, are_normal_pipes, first_not_broken, is_normal_join, is_normal_compound, is_normal_command, are_normal_words, are_normal_cases, is_normal_case, are_normal_patterns}
 use Rattle.shgrammar.specs.Compounds.{a_compound, is_open_paren, behind_opener, a_for, a_for_head, a_for_name, a_linebreak, a_sequential_sep, for_words, word_turn, headed, an_if, a_group, a_form, opener_text, Closed, a_loop, an_else, elif_turn, branched, a_branch, passed, closing, closing_text, is_closing, is_close_paren, under_name, a_function, a_case, a_case_head, a_case_word, begins_pattern, patterned, a_pattern, one_pattern, pattern_turn, a_pattern_list, an_open_bracket, a_body, body_end, item_end, an_item_end, a_double_semicolon, cases_so, one_case, case_turn}
 use Rattle.shgrammar.specs.Lines.{a_line, an_open_line, end_of_line}
 use Rattle.shgrammar.specs.Lists.{Listed, list_so, none_listed, one_entry, entry_turn, a_remark, on_line, list_turn, a_list}
@@ -36,19 +36,19 @@ use Rattle.shgrammar.specs.Commands.{nothing_waits, a_document, open_document, i
 use Rattle.shgrammar.proofs.Places.{must_fail, blanks_low}
 use Rattle.shgrammar.proofs.Anywhere.{WordOf, word_span as spanned}
 use Rattle.shgrammar.specs.HereDocuments.{delimiter_of}
-use Rattle.shtree.specs.Bodies.{fill_row, filled_row}
-use Rattle.shtree.specs.Opened.{here_bodies, item_bodies, item_content_bodies, items_bodies, entries_bodies, entry_bodies, content_bodies, and_or_bodies, and_or_parts_bodies, pipeline_bodies, pipes_bodies, command_bodies, compound_bodies, form_bodies, branch_bodies, branches_bodies, else_bodies, cases_bodies, case_bodies, open_here, open_item, open_item_content, open_items, opened, open_entry, open_content, open_and_or, open_and_or_parts, open_pipeline, open_pipes, open_command, open_compound, open_form, open_branch, open_branches, open_else, open_cases, open_case}
+use Rattle.shast.specs.Bodies.{fill_row, filled_row}
+use Rattle.shast.specs.Opened.{here_bodies, item_bodies, item_content_bodies, items_bodies, entries_bodies, entry_bodies, content_bodies, and_or_bodies, and_or_parts_bodies, pipeline_bodies, pipes_bodies, command_bodies, compound_bodies, form_bodies, branch_bodies, branches_bodies, else_bodies, cases_bodies, case_bodies, open_here, open_item, open_item_content, open_items, opened, open_entry, open_content, open_and_or, open_and_or_parts, open_pipeline, open_pipes, open_command, open_compound, open_form, open_branch, open_branches, open_else, open_cases, open_case}
 use Rattle.shgrammar.proofs.WordsWaiting.{word_waiting}
 use Rattle.shgrammar.proofs.Elsewhere.{follows, ItemAnywhere}
 use Rattle.shgrammar.proofs.CommentsElsewhere.{CommentAnywhere}
-use Rattle.shtree.specs.declared.tree.AndOrOperator.{AndOrOperator}
-use Rattle.shtree.specs.declared.tree.AndOrOperator.TheVariants.{And, Or}
-use Rattle.shtree.specs.declared.tree.RedirectOperator.{RedirectOperator}
-use Rattle.shtree.specs.declared.tree.RedirectOperator.TheVariants as redirects
-use Rattle.shtree.specs.declared.tree.Span.{Span}
-use Rattle.shtree.specs.Spelling.{and_or_text, redirect_text}
-use Rattle.shtree.specs.Shape.{shape_of_here, Text, Shape, bare, bare_at, text_at, shape_of_items, shape_of_item, shape_of_command, shape_of_comments, shape_of_join, shape_of_pipes, shape_of_bang, shape_of_pipeline, shape_of_and_or, shape_of_and_or_parts, shape_of_comment, shape_of_entry, shape_of, shape_of_branch, shape_of_branches, shape_of_else, shape_of_form, shape_of_for_words, shape_of_word, shape_of_compound, shape_of_patterns, shape_of_case, shape_of_cases}
-use Rattle.shtree.specs.Tree.{AHere, AHereOf, AWordOf, ForWordsOf, ForWords, no_in, in_words, AJoinOf, AJoin, AnItemOf, AnItem, AWord, ABranchOf, ABranch, branch, BranchesOf, no_branch, more_branches, branches_of, OtherwiseOf, Otherwise, no_else, otherwise, EntriesOf, Entries, no_entry, more_entries, entries_of, AContentOf, remark, AnEntryOf, AnEntry, entry, command, AnAndOr, AnAndOrOf, and_or, AnAndOrPart, and_or_parts_of, APipeline, APipelineOf, pipeline, AndOrPartsOf, no_and_or, more_and_or, PipelinePartsOf, no_pipe, more_pipes, APipelinePart, pipeline_parts_of, ACompoundOf, formed, ACommandOf, ACommand, compound, function, item, AFormOf, AForm, brace, subshell, if_then, while_do, until_do, for_in, case_in, items_of, ItemsOf, no_item, more_items, redirect, with_redirects, simple, SubstsOf, no_subst, word, argument, PatternsOf, no_pattern, more_patterns, patterns_of, CaseItemsOf, no_case, more_cases, cases_of, ACaseItemOf, ACaseItem, case_item}
+use Rattle.shast.specs.declared.tree.AndOrOperator.{AndOrOperator}
+use Rattle.shast.specs.declared.tree.AndOrOperator.TheVariants.{And, Or}
+use Rattle.shast.specs.declared.tree.RedirectOperator.{RedirectOperator}
+use Rattle.shast.specs.declared.tree.RedirectOperator.TheVariants as redirects
+use Rattle.shast.specs.declared.tree.Span.{Span}
+use Rattle.shast.specs.Spelling.{and_or_text, redirect_text}
+use Rattle.shast.specs.Shape.{shape_of_here, Text, Shape, bare, bare_at, text_at, shape_of_items, shape_of_item, shape_of_command, shape_of_comments, shape_of_join, shape_of_pipes, shape_of_bang, shape_of_pipeline, shape_of_and_or, shape_of_and_or_parts, shape_of_comment, shape_of_entry, shape_of, shape_of_branch, shape_of_branches, shape_of_else, shape_of_form, shape_of_for_words, shape_of_word, shape_of_compound, shape_of_patterns, shape_of_case, shape_of_cases}
+use Rattle.shast.specs.Tree.{AHere, AHereOf, AWordOf, ForWordsOf, ForWords, no_in, in_words, AJoinOf, AJoin, AnItemOf, AnItem, AWord, ABranchOf, ABranch, branch, BranchesOf, no_branch, more_branches, branches_of, OtherwiseOf, Otherwise, no_else, otherwise, EntriesOf, Entries, no_entry, more_entries, entries_of, AContentOf, remark, AnEntryOf, AnEntry, entry, command, AnAndOr, AnAndOrOf, and_or, AnAndOrPart, and_or_parts_of, APipeline, APipelineOf, pipeline, AndOrPartsOf, no_and_or, more_and_or, PipelinePartsOf, no_pipe, more_pipes, APipelinePart, pipeline_parts_of, ACompoundOf, formed, ACommandOf, ACommand, compound, function, item, AFormOf, AForm, brace, subshell, if_then, while_do, until_do, for_in, case_in, items_of, ItemsOf, no_item, more_items, redirect, with_redirects, simple, SubstsOf, no_subst, word, argument, PatternsOf, no_pattern, more_patterns, patterns_of, CaseItemsOf, no_case, more_cases, cases_of, ACaseItemOf, ACaseItem, case_item}
 use Rattle.shprint.specs.declared.layout.Layout.{Layout}
 use Rattle.shprint.specs.Marks.{text, line_end, document, Marks, laid, laid_behind, one, step, deeper, lines_between}
 use Rattle.shprint.specs.Printed.{delimiter_line, print_here, print_for_words, print_word, print_form, print_branch, print_branches, print_else, is_one_line, print_only, print_content, print_entry, print_entries, print_blank, print_background, print_own_comment, print_and_or, print_bang, print_pipeline, print_and_or_parts, print_join, print_pipes, print_compound, print_command, operand_margin, breaks_line, print_comments, print_further_comments, print_gap, print_number, duplicates, would_strip, is_broken_item, print_item, print_items, print_simple, print_function_gap, is_brace, print_cases, print_patterns, print_first_pattern, print_body, print_comment_lines, case_margin}

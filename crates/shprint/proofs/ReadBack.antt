@@ -2,10 +2,10 @@
 use Rattle.std.proofs.Common.{◌≡◌, ℕ, ◌+◌, Bool, true, false, not, ◌&&◌, List, List as Row, [], ◌∷◌, ◌++◌, drop, Option, None, refl, sym, ap, subst, ◌∙◌, append_assoc, append-nil}
 use Rattle.std.proofs.lemmas.Bool.{both_ways, and_parts}
 use Rattle.std.proofs.lemmas.List.{drop-drop}
-use Rattle.shtree.specs.Normal.{first_not_blank, are_normal}
-use Rattle.shtree.specs.Shape.{Text, Shape, shape_of, shape_of_entry}
-use Rattle.shtree.specs.Tree.{AContentOf, AnEntryOf, AnEntry, entry, EntriesOf, no_entry, more_entries, entries_of}
-use Rattle.shtree.proofs.SameForm.{same_form}
+use Rattle.shast.specs.Normal.{first_not_blank, are_normal}
+use Rattle.shast.specs.Shape.{Text, Shape, shape_of, shape_of_entry}
+use Rattle.shast.specs.Tree.{AContentOf, AnEntryOf, AnEntry, entry, EntriesOf, no_entry, more_entries, entries_of}
+use Rattle.shast.proofs.SameForm.{same_form}
 use Rattle.shgrammar.specs.Form.{Spelled}
 use Rattle.shgrammar.specs.Commands.{is_empty}
 use Rattle.shgrammar.specs.Levels.{most_open}

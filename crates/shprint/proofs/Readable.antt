@@ -13,13 +13,13 @@ use Rattle.shgrammar.specs.declared.token.Position.{Position}
 use Rattle.shgrammar.specs.declared.token.Position.TheVariants.{Command, Prefix, Suffix}
 use Rattle.shgrammar.specs.declared.token.Separator.{Separator}
 use Rattle.shgrammar.specs.declared.fault.FaultKind.{FaultKind}
-use Rattle.shtree.specs.declared.tree.RedirectOperator.{RedirectOperator}
+use Rattle.shast.specs.declared.tree.RedirectOperator.{RedirectOperator}
 use Rattle.shgrammar.specs.declared.token.Token.{Token}
 use Rattle.shgrammar.specs.declared.token.Token.TheVariants as tokens
-use Rattle.shtree.specs.declared.tree.AndOrOperator.{AndOrOperator}
-use Rattle.shtree.specs.declared.tree.Span.{Span}
-use Rattle.shtree.specs.Tree.{AHere, AHereOf, AJoin, AnAndOr, APipeline, Otherwise, ForWords, APipelinePart, AnAndOrPart, ACommand, ABranch, AForm, Entries, pipeline_parts_of, and_or_parts_of, branches_of, AnEntry, AnItem, AWord, item, entry, remark, entries_of, items_of, ItemsOf, no_item, more_items, AnItemOf, AWordOf, ASubst, SubstsOf, word, substs_of, ACompound, compound, argument, ACaseItem, cases_of, patterns_of, AFormOf, formed, redirect, with_redirects, command, and_or, pipeline, simple, function, brace, subshell, if_then, while_do, until_do, for_in, case_in, branch, otherwise, no_else, case_item}
-use Rattle.shtree.specs.Shape.{Text, Shape, bare_at, text_at, shape_of, shape_of_comment, shape_of_comments, shape_of_entry, shape_of_and_or, shape_of_and_or_parts, shape_of_pipeline, shape_of_pipes, shape_of_command, shape_of_form, shape_of_branch, shape_of_branches, shape_of_else, shape_of_for_words, shape_of_items, shape_of_item, shape_of_word, shape_of_substs, shape_of_compound, shape_of_patterns, shape_of_cases, shape_of_case, shape_of_here}
+use Rattle.shast.specs.declared.tree.AndOrOperator.{AndOrOperator}
+use Rattle.shast.specs.declared.tree.Span.{Span}
+use Rattle.shast.specs.Tree.{AHere, AHereOf, AJoin, AnAndOr, APipeline, Otherwise, ForWords, APipelinePart, AnAndOrPart, ACommand, ABranch, AForm, Entries, pipeline_parts_of, and_or_parts_of, branches_of, AnEntry, AnItem, AWord, item, entry, remark, entries_of, items_of, ItemsOf, no_item, more_items, AnItemOf, AWordOf, ASubst, SubstsOf, word, substs_of, ACompound, compound, argument, ACaseItem, cases_of, patterns_of, AFormOf, formed, redirect, with_redirects, command, and_or, pipeline, simple, function, brace, subshell, if_then, while_do, until_do, for_in, case_in, branch, otherwise, no_else, case_item}
+use Rattle.shast.specs.Shape.{Text, Shape, bare_at, text_at, shape_of, shape_of_comment, shape_of_comments, shape_of_entry, shape_of_and_or, shape_of_and_or_parts, shape_of_pipeline, shape_of_pipes, shape_of_command, shape_of_form, shape_of_branch, shape_of_branches, shape_of_else, shape_of_for_words, shape_of_items, shape_of_item, shape_of_word, shape_of_substs, shape_of_compound, shape_of_patterns, shape_of_cases, shape_of_case, shape_of_here}
 use Rattle.shgrammar.specs.Classes.{is_blank}
 use Rattle.shgrammar.specs.Bytes.{past_continuations, past_blanks, stands_in}
 use Rattle.shgrammar.specs.Comments.{span, comment_at}
@@ -48,11 +48,11 @@ use Rattle.shgrammar.proofs.CommentsElsewhere.{CommentAnywhere, comment_is, comm
 use Rattle.shprint.proofs.Tokens.{word_token}
 use Rattle.shprint.proofs.Digits.{digits_good, number_here}
 use Rattle.shprint.proofs.Due.{Due, due_at, BodyOf, Docs, DocsAt, Feeds, no_docs, docs_more, docs_done, done_docs, docs_read, Opens, opens_nothing, opens_so, opens_one, opens_two, opens_both, opens_document, opens_none, opens_last, opens_some, fill_all, SomeOf, some_last}
-use Rattle.shtree.specs.Bodies.{fill_here, fill_item_content, fill_item, fill_items, fill_entries, fill_entry, fill_content, fill_and_or, fill_and_or_part, fill_pipeline, fill_pipe, fill_command, fill_compound, fill_form, fill_branch, fill_else, fill_case, filled_row}
-use Rattle.shtree.proofs.FilledBack.{filled_is}
-use Rattle.shtree.proofs.Going.{items_going, entries_going, and_or_parts_going, pipes_going, branches_going, cases_going, row_filled}
+use Rattle.shast.specs.Bodies.{fill_here, fill_item_content, fill_item, fill_items, fill_entries, fill_entry, fill_content, fill_and_or, fill_and_or_part, fill_pipeline, fill_pipe, fill_command, fill_compound, fill_form, fill_branch, fill_else, fill_case, filled_row}
+use Rattle.shast.proofs.FilledBack.{filled_is}
+use Rattle.shast.proofs.Going.{items_going, entries_going, and_or_parts_going, pipes_going, branches_going, cases_going, row_filled}
 use Rattle.shprint.proofs.Good.{GoodHere, GoodComments, GoodOwnComment, an_item_of, a_redirect_of, GoodNumber, GoodRedirect, GoodRedirects, Kind, of_command, of_for, of_compound, GoodItem, of_word, of_argument, of_redirect, of_redirect_behind, GoodItems, none_more, one_more, SomeItem, GoodSimple, GoodWords, GoodForWords, GoodName, GoodEntries, GoodEntry, GoodAndOr, GoodParts, GoodPipeline, GoodPipes, GoodCommand, GoodForm, GoodBranch, GoodBranches, GoodElse, GoodCompound, GoodWord, GoodMorePatterns, GoodPatterns, GoodCases, GoodCase}
-use Rattle.shtree.specs.Nodes.{word_span}
+use Rattle.shast.specs.Nodes.{word_span}
 use Rattle.shgrammar.proofs.NamesBefore.{NameBefore, name_before}
 
 -- ---- rows that grow at their end

@@ -1,13 +1,13 @@
 -- What the loops over the rows of a tree have still to print.
 use Rattle.std.proofs.Common.{◌≡◌, ℕ, zero, suc, ◌+◌, ◌<◌, ◌≤◌, ◌||◌, Bool, true, false, List, List as Row, [], ◌∷◌, ◌++◌, drop, length, map, get_or, codes, if◌then◌else◌, refl, ap, ◌∙◌, arith, add-one}
 use Rattle.std.proofs.lemmas.List.{at_drop_all, at_drop_more}
-use Rattle.shtree.specs.declared.tree.Span.{Span}
-use Rattle.shtree.specs.declared.tree.AndOrPart.{AndOrPart}
-use Rattle.shtree.specs.declared.tree.PipelinePart.{PipelinePart}
-use Rattle.shtree.specs.Shape.{Text, text_at, shape_of, shape_of_and_or_parts, shape_of_branch, shape_of_branches, shape_of_case, shape_of_cases, shape_of_command, shape_of_comments, shape_of_entry, shape_of_item, shape_of_items, shape_of_join, shape_of_patterns, shape_of_pipeline, shape_of_pipes, shape_of_word}
-use Rattle.shtree.specs.Spelling.{and_or_text}
-use Rattle.shtree.specs.Tree.{AJoinOf, AnEntry, ABranch, ACaseItem, AWord, AnItem, entries_of, and_or_parts_of, pipeline_parts_of, branches_of, cases_of, patterns_of, items_of}
-use Rattle.shtree.specs.View.{view_and_or_part, view_pipeline_part}
+use Rattle.shast.specs.declared.tree.Span.{Span}
+use Rattle.shast.specs.declared.tree.AndOrPart.{AndOrPart}
+use Rattle.shast.specs.declared.tree.PipelinePart.{PipelinePart}
+use Rattle.shast.specs.Shape.{Text, text_at, shape_of, shape_of_and_or_parts, shape_of_branch, shape_of_branches, shape_of_case, shape_of_cases, shape_of_command, shape_of_comments, shape_of_entry, shape_of_item, shape_of_items, shape_of_join, shape_of_patterns, shape_of_pipeline, shape_of_pipes, shape_of_word}
+use Rattle.shast.specs.Spelling.{and_or_text}
+use Rattle.shast.specs.Tree.{AJoinOf, AnEntry, ABranch, ACaseItem, AWord, AnItem, entries_of, and_or_parts_of, pipeline_parts_of, branches_of, cases_of, patterns_of, items_of}
+use Rattle.shast.specs.View.{view_and_or_part, view_pipeline_part}
 use Rattle.shprint.specs.declared.layout.Layout.{Layout}
 use Rattle.shprint.specs.Marks.{Marks, text, line_end, deeper, one}
 use Rattle.shprint.specs.Printed.{breaks_line, operand_margin, print_and_or_parts, print_branch, print_branches, print_case, print_cases, print_command, print_comment_lines, print_comments, print_entries, print_entry, print_further_comments, print_items, print_join, print_patterns, print_pipeline, print_pipes, print_word}

@@ -3,11 +3,11 @@ use Rattle.std.proofs.Common.{◌≡◌, ◌∙◌, ℕ, ◌+◌, ◌-◌, ◌�
 use Rattle.std.proofs.lemmas.List.{drop-drop}
 use Rattle.std.proofs.Math.Seq.{take-add}
 use Rattle.std.proofs.Common.{take}
-use Rattle.shtree.specs.declared.tree.Item.{Item}
-use Rattle.shtree.specs.declared.tree.Span.{Span}
-use Rattle.shtree.specs.Shape.{Text, Shape, shape_of_item, shape_of_items, text_at}
-use Rattle.shtree.specs.Tree.{AnItemOf, items_of}
-use Rattle.shtree.specs.View.{view_item}
+use Rattle.shast.specs.declared.tree.Item.{Item}
+use Rattle.shast.specs.declared.tree.Span.{Span}
+use Rattle.shast.specs.Shape.{Text, Shape, shape_of_item, shape_of_items, text_at}
+use Rattle.shast.specs.Tree.{AnItemOf, items_of}
+use Rattle.shast.specs.View.{view_item}
 use Rattle.shprint.specs.declared.layout.Layout.{Layout}
 use Rattle.shprint.specs.Marks.{Marks, laid_behind, held_behind, one, text}
 use Rattle.shprint.specs.Printed.{is_broken_item, print_item, print_items}

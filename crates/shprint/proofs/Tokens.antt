@@ -19,9 +19,9 @@ use Rattle.shgrammar.proofs.Places.{must_fail}
 use Rattle.shgrammar.proofs.SameBytes.{no_backslash}
 use Rattle.shgrammar.proofs.Ahead.{behind_is, spelled_none, spelled_more, ender}
 use Rattle.shgrammar.specs.Commands.{is_word, is_paren, begins_redirect, begins_simple, begins_word, behind_word}
-use Rattle.shtree.specs.declared.tree.RedirectOperator.{RedirectOperator}
-use Rattle.shtree.specs.declared.tree.RedirectOperator.TheVariants as redirects
-use Rattle.shtree.specs.Spelling.{redirect_text}
+use Rattle.shast.specs.declared.tree.RedirectOperator.{RedirectOperator}
+use Rattle.shast.specs.declared.tree.RedirectOperator.TheVariants as redirects
+use Rattle.shast.specs.Spelling.{redirect_text}
 use Rattle.shprint.proofs.Good.{all_digits}
 
 -- ---- the bytes from a place on

@@ -1,7 +1,7 @@
 -- Marks printed one after the other, and what a loop has still to print.
 use Rattle.std.proofs.Common.{◌≡◌, List, [], ◌∷◌, ◌++◌, length, refl, ap, append_assoc, arith, sym, ◌∙◌}
 use Rattle.std.proofs.lemmas.List.{append-nil}
-use Rattle.shtree.specs.Shape.{Text}
+use Rattle.shast.specs.Shape.{Text}
 use Rattle.shprint.specs.Marks.{Mark, Marks, text, line_end, document, laid, laid_behind, held_behind}
 use Rattle.shprint.specs.Written.{Sheet, sheet_of, written}
 

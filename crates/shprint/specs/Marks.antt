@@ -1,7 +1,7 @@
 -- What is printed, from left to right.
 use Rattle.std.specs.Prelude.{◌==◌, ◌++◌, [], ◌∷◌, List as Row, codes, if◌then◌else◌}
 use Rattle.std.proofs.Math.ListN.{replicate}
-use Rattle.shtree.specs.Shape.{Text}
+use Rattle.shast.specs.Shape.{Text}
 use Rattle.shprint.specs.declared.layout.Layout.{Layout}
 
 pub data Mark : Type 0 where

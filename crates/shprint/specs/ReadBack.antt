@@ -1,8 +1,8 @@
 -- What it means that a printed text reads back.
 use Rattle.std.specs.Prelude.{◌≡◌, ℕ, List, None}
 use Rattle.shgrammar.specs.Scripts.{AScript, Outcome}
-use Rattle.shtree.specs.Shape.{Shape, shape_of}
-use Rattle.shtree.specs.Tree.{EntriesOf}
+use Rattle.shast.specs.Shape.{Shape, shape_of}
+use Rattle.shast.specs.Tree.{EntriesOf}
 use Rattle.shprint.specs.Printed.{printed}
 use Rattle.shprint.specs.declared.layout.Layout.{Layout}
 

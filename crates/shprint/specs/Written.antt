@@ -1,7 +1,7 @@
 -- What a printer has on its page, as the clauses of its functions say it.
 use Rattle.std.specs.Prelude.{◌≡◌, ℕ, ◌-◌, ◌++◌, ◌&&◌, [], ◌∷◌, Bool, true, false, codes, drop, if◌then◌else◌, is_none, not, take}
-use Rattle.shtree.specs.Shape.{Text, Shape}
-use Rattle.shtree.specs.Tree.{AContentOf, AJoinOf, AnEntryOf, AnItemOf, AWordOf, EntriesOf, command, entry, remark}
+use Rattle.shast.specs.Shape.{Text, Shape}
+use Rattle.shast.specs.Tree.{AContentOf, AJoinOf, AnEntryOf, AnItemOf, AWordOf, EntriesOf, command, entry, remark}
 use Rattle.shprint.specs.declared.layout.Layout.{Layout}
 use Rattle.shprint.specs.declared.page.Page.{Page}
 use Rattle.shprint.specs.Marks.{Marks, text, line_end, laid_behind, held_behind, deeper, lines_between, one}

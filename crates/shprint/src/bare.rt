@@ -1,9 +1,9 @@
 //! Texts without their continuations.
 ghost use Rattle.std.specs.Prelude.{◌≡◌, ◌++◌, IfOk};
-ghost use Rattle.shtree.specs.Shape.{bare_at};
+ghost use Rattle.shast.specs.Shape.{bare_at};
 
+use shast::Span;
 use shtext::Source;
-use shtree::Span;
 use std::alloc::AllocError;
 
 /// Adds the bytes of a span without its continuations. Such a span is short: it is that of a name or a number.

@@ -2,15 +2,15 @@
 #![tactic(auto, using(crate::proofs::Writing::written_append, crate::proofs::Writing::written_cons, crate::proofs::Writing::written_none))]
 
 ghost use Rattle.std.specs.Prelude.{◌≡◌, ◌∷◌, ℕ, IfOk, List as Row, codes, map, option_map};
-ghost use Rattle.shtree.specs.Shape.{shape_of_comment, shape_of_comments, shape_of_join};
-ghost use Rattle.shtree.specs.View.{view_comment, view_join};
+ghost use Rattle.shast.specs.Shape.{shape_of_comment, shape_of_comments, shape_of_join};
+ghost use Rattle.shast.specs.View.{view_comment, view_join};
 ghost use Rattle.shprint.specs.Printed.{breaks_line, print_comment_lines, print_comments, print_further_comments, print_own_comment};
 ghost use Rattle.shprint.specs.Written.{Prints, print_join_on};
 
 use crate::page::Page;
 use crate::printer::Printer;
+use shast::{Comment, Join};
 use shtext::Source;
-use shtree::{Comment, Join};
 use std::alloc::AllocError;
 
 /// Whether the operands that a join joins stand on lines of their own.

@@ -1,7 +1,7 @@
 //! Laws of the definitions alone, which no code stands behind.
 ghost use Rattle.std.specs.Prelude.{◌≡◌, ℕ, List};
 ghost use Rattle.shgrammar.specs.Scripts.{AScript, Outcome};
-ghost use Rattle.shtree.specs.Shape.{shape_of};
+ghost use Rattle.shast.specs.Shape.{shape_of};
 ghost use Rattle.shprint.specs.Printed.{printed};
 ghost use Rattle.shprint.specs.ReadBack.{ReadsBack};
 ghost use Rattle.shprint.specs.declared.layout.Layout.{Layout};

@@ -4,7 +4,7 @@
 ghost use Rattle.std.specs.Prelude.{◌≡◌, [], ◌∷◌, ◌++◌, IfOk, None};
 ghost use Rattle.shgrammar.specs.Scripts.{view_script};
 ghost use Rattle.shgrammar.specs.Scripts.{Outcome};
-ghost use Rattle.shtree.specs.Shape.{bare_at, shape_of, text_at};
+ghost use Rattle.shast.specs.Shape.{bare_at, shape_of, text_at};
 ghost use Rattle.shprint.specs.Marks.{text};
 ghost use Rattle.shprint.specs.Printed.{printed};
 ghost use Rattle.shprint.specs.ReadBack.{ReadsBack};
@@ -13,9 +13,9 @@ ghost use Rattle.shprint.specs.Written.{Prints};
 use crate::bare::add_bare;
 use crate::layout::Layout;
 use crate::page::Page;
+use shast::Span;
 use shgrammar::Script;
 use shtext::Source;
-use shtree::Span;
 use std::alloc::{AllocError, Global};
 
 /// By what a tree is printed: an allocator, a layout, and the source that the tree's spans tell of.

@@ -2,17 +2,17 @@
 #![tactic(auto)]
 
 ghost use Rattle.std.specs.Prelude.{◌≡◌, ◌≤◌, [], ◌∷◌, IfSome, map};
-ghost use Rattle.shtree.specs.Shape.{Text, shape_of_item, shape_of_items, text_at};
-ghost use Rattle.shtree.specs.Tree.{items_of};
-ghost use Rattle.shtree.specs.View.{view_item};
+ghost use Rattle.shast.specs.Shape.{Text, shape_of_item, shape_of_items, text_at};
+ghost use Rattle.shast.specs.Tree.{items_of};
+ghost use Rattle.shast.specs.View.{view_item};
 ghost use Rattle.shprint.specs.declared.layout.Layout.{Layout};
 ghost use Rattle.shprint.specs.Marks.{one, text};
 ghost use Rattle.shprint.specs.Printed.{print_item, print_items};
 ghost use Rattle.shprint.specs.Written.{Sheet, item_behind, stretch, written};
 
 use crate::printer::Printer;
+use shast::{Item, ItemContent, Span};
 use shtext::Source;
-use shtree::{Item, ItemContent, Span};
 
 /// The span of an item that is a word, or an assignment.
 pub(crate) fn word_span(item: &Item) -> Option<Span>

@@ -2,7 +2,7 @@
 use Rattle.std.proofs.Common.{◌≡◌, ℕ, zero, suc, ◌-◌, ◌<◌, Bool, true, false, List as Row, refl, arith, sub-one, if◌then◌else◌, ◌==◌}
 use Rattle.shgrammar.specs.declared.keep.Keep.{Keep}
 use Rattle.shgrammar.specs.declared.keep.Keep.TheVariants.{Nothing}
-use Rattle.shtree.specs.Tree.{ASubst}
+use Rattle.shast.specs.Tree.{ASubst}
 use Rattle.shgrammar.specs.Sights.{Given, State}
 use Rattle.shgrammar.specs.Form.{does, inside}
 use Rattle.shgrammar.specs.Substitutions.{a_substitution, one_substitution}

@@ -1,9 +1,9 @@
 -- What a line of a script leads on to.
 use Rattle.std.proofs.Common.{◌≡◌, ℕ, ◌++◌, ◌∙◌, Bool, false, Err, List as Row, drop, map, Vec, Global, ap, sym, subst, None, Some}
-use Rattle.shtree.specs.declared.tree.Entry.{Entry}
-use Rattle.shtree.specs.View.{view_entry}
+use Rattle.shast.specs.declared.tree.Entry.{Entry}
+use Rattle.shast.specs.View.{view_entry}
 use Rattle.shgrammar.specs.declared.fault.Fault.{Fault}
-use Rattle.shtree.specs.Tree.{AnEntry, entries_of}
+use Rattle.shast.specs.Tree.{AnEntry, entries_of}
 use Rattle.shgrammar.specs.Sights.{given, standing}
 use Rattle.shgrammar.specs.Form.{Read, may}
 use Rattle.shread.specs.declared.stop.Stop.{Stop}
@@ -15,7 +15,7 @@ use Rattle.shgrammar.specs.declared.keep.Keep.TheVariants.{Whole}
 use Rattle.shread.specs.declared.script_lines.ScriptLine.{ScriptLine}
 use Rattle.shread.specs.declared.script_lines.ScriptLine.TheVariants.{Ended, Last, Faulty}
 use Rattle.shread.specs.declared.script_lines.ScriptLines.{ScriptLines}
-use Rattle.shtree.specs.Nodes.{AreWithin}
+use Rattle.shast.specs.Nodes.{AreWithin}
 use Rattle.shread.specs.LineByLine.{IsNextLine, LineReads, LineWithin, Rest, Stands}
 use Rattle.shgrammar.proofs.Within.{more_within}
 use Rattle.shgrammar.specs.Scripts.{AScript, Outcome, SoFar, faulty, is_blank_line, last_line, line_ended, line_from, the_line, with_line}

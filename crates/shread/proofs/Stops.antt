@@ -5,8 +5,8 @@ use Rattle.shgrammar.specs.declared.mode.Mode.{Mode}
 use Rattle.shgrammar.specs.declared.mode.Mode.TheVariants.{Plain}
 use Rattle.shread.specs.declared.stop.Stop.{Stop}
 use Rattle.shread.specs.declared.stop.Stop.TheVariants.{Memory, Wrong}
-use Rattle.shtree.specs.declared.tree.Span.{Span}
-use Rattle.shtree.specs.Tree.{ASubst}
+use Rattle.shast.specs.declared.tree.Span.{Span}
+use Rattle.shast.specs.Tree.{ASubst}
 use Rattle.shread.specs.Clauses.{Fails}
 use Rattle.shgrammar.specs.Sights.{Given, State, Waiting, given}
 use Rattle.shgrammar.specs.Form.{Form, Read, Step, does, many}

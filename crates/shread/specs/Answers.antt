@@ -6,7 +6,7 @@ use Rattle.shread.specs.declared.reader.Reader.{Reader}
 use Rattle.shread.specs.declared.reader.Line as the_line
 use Rattle.shread.specs.declared.reader.LineKind as the_kind
 use Rattle.shread.specs.declared.reader.LineKind.TheVariants as kinds
-use Rattle.shtree.specs.View.{view_list}
+use Rattle.shast.specs.View.{view_list}
 use Rattle.shgrammar.specs.Lines.{ALine, AKind, blank_line, entries_line, end_line, faulty_line}
 use Rattle.shgrammar.specs.Scripts.{AScript, first_fault_from}
 

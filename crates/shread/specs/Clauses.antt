@@ -6,7 +6,7 @@ use Rattle.shread.specs.declared.documents.Waiting as the_waiting
 use Rattle.shgrammar.specs.declared.fault.Fault.{Fault}
 use Rattle.shgrammar.specs.declared.keep.Keep.{Keep}
 use Rattle.shgrammar.specs.declared.keep.Keep.TheVariants.{Nothing}
-use Rattle.shtree.specs.declared.tree.Span.{Span}
+use Rattle.shast.specs.declared.tree.Span.{Span}
 use Rattle.shread.specs.declared.stop.Stop.{Stop}
 use Rattle.shread.specs.declared.stop.Stop.TheVariants.{Memory, Wrong}
 use Rattle.shgrammar.specs.Sights.{State, Waiting, given}

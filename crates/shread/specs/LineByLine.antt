@@ -6,10 +6,10 @@ use Rattle.shread.specs.declared.script_lines.ScriptLine.{ScriptLine}
 use Rattle.shread.specs.declared.script_lines.ScriptLine.TheVariants.{Ended, Last, Faulty}
 use Rattle.shread.specs.declared.script_lines.LinesBefore.{LinesBefore}
 use Rattle.shread.specs.declared.script_lines.ScriptLines.{ScriptLines}
-use Rattle.shtree.specs.declared.tree.Entry.{Entry}
-use Rattle.shtree.specs.Nodes.{AreWithin}
-use Rattle.shtree.specs.Tree.{AnEntry, entries_of}
-use Rattle.shtree.specs.View.{view_entry}
+use Rattle.shast.specs.declared.tree.Entry.{Entry}
+use Rattle.shast.specs.Nodes.{AreWithin}
+use Rattle.shast.specs.Tree.{AnEntry, entries_of}
+use Rattle.shast.specs.View.{view_entry}
 use Rattle.shgrammar.specs.Commands.{is_empty}
 use Rattle.shgrammar.specs.Form.{Read, Spelled, may}
 use Rattle.shgrammar.specs.Scripts.{AScript, Lines, SoFar, is_blank_line, line_from, the_line, with_line}

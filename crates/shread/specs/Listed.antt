@@ -3,7 +3,7 @@ use Rattle.std.specs.Prelude.{map}
 use Rattle.shread.specs.declared.case.Cases as the_cases
 use Rattle.shread.specs.declared.list.Listed as the_listed
 use Rattle.shgrammar.specs.declared.token.Next.{Next}
-use Rattle.shtree.specs.View.{view_case_item, view_entry, view_join}
+use Rattle.shast.specs.View.{view_case_item, view_entry, view_join}
 use Rattle.shgrammar.specs.Compounds.{CasesSo, cases_so}
 use Rattle.shgrammar.specs.Lists.{Listed}
 

@@ -2,14 +2,14 @@
 ghost use Rattle.std.specs.Prelude.{◌≡◌, ◌≤◌, ◌++◌, length, IfOk, IfSome, IsOk};
 ghost use Rattle.shgrammar.specs.Scripts.{view_script};
 ghost use Rattle.shgrammar.specs.Scripts.{script_at};
-ghost use Rattle.shtree.specs.Nodes.{AreWithin};
+ghost use Rattle.shast.specs.Nodes.{AreWithin};
 
 use crate::script_lines::{ScriptLine, ScriptLines};
 use crate::stop::ReadError;
+use shast::Entry;
+use shast::make::list_of;
 use shgrammar::Script;
 use shtext::Source;
-use shtree::Entry;
-use shtree::make::list_of;
 use std::alloc::Global;
 
 /// Puts the entries of a line behind those before it.

@@ -6,14 +6,14 @@ ghost use Rattle.shread.specs.Clauses.{Keeps, Onward, Reads, state_of, text_of};
 ghost use Rattle.shgrammar.specs.Commands.{an_and_or, join_pipeline, joined_so, one_pipeline};
 ghost use Rattle.shgrammar.specs.Form.{again, many, step_if};
 ghost use Rattle.shgrammar.specs.Levels.{level};
-ghost use Rattle.shtree.specs.View.{view_and_or, view_and_or_part};
+ghost use Rattle.shast.specs.View.{view_and_or, view_and_or_part};
 
 use crate::cursor::Cursor;
 use crate::stop::Stop;
+use shast::make::{and_or_of, and_or_part_of};
+use shast::{AndOr, AndOrOperator, AndOrPart};
 use shgrammar::Next;
 use shtext::Source;
-use shtree::make::{and_or_of, and_or_part_of};
-use shtree::{AndOr, AndOrOperator, AndOrPart};
 use std::alloc::Global;
 use std::mem;
 

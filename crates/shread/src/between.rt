@@ -4,13 +4,13 @@ ghost use Rattle.shread.specs.Clauses.{end_of, Keeps, Onward, reads, Reads, stat
 ghost use Rattle.shgrammar.specs.Shows.{Shows};
 ghost use Rattle.shgrammar.specs.Commands.{a_comment, a_newline, a_semicolon, a_separator, what_is_wrong};
 ghost use Rattle.shgrammar.specs.Levels.{level};
-ghost use Rattle.shtree.specs.View.{view_comment};
+ghost use Rattle.shast.specs.View.{view_comment};
 
 use crate::cursor::Cursor;
 use crate::stop::Stop;
+use shast::Comment;
 use shgrammar::{Fault, FaultKind, Next, Position, Separator, Token};
 use shtext::Source;
-use shtree::Comment;
 use std::alloc::Global;
 
 impl<'a, S: Source, const KEEP: u8> Cursor<'a, S, KEEP> {

@@ -7,15 +7,15 @@ ghost use Rattle.shgrammar.specs.Compounds.{a_case, a_case_head, a_case_word, a_
 ghost use Rattle.shgrammar.specs.Form.{again, many, step_if};
 ghost use Rattle.shgrammar.specs.Levels.{level};
 ghost use Rattle.shread.specs.Listed.{view_cases, view_listed};
-ghost use Rattle.shtree.specs.View.{view_form, view_join, view_word};
+ghost use Rattle.shast.specs.View.{view_form, view_join, view_word};
 
 use crate::cursor::Cursor;
 use crate::list::Listed;
 use crate::stop::Stop;
+use shast::make::{case_item_of, case_of, list_of};
+use shast::{CaseItem, Comment, Form, Join, Span, Word, commands_end};
 use shgrammar::{Closing, Next, Position, Token};
 use shtext::Source;
-use shtree::make::{case_item_of, case_of, list_of};
-use shtree::{CaseItem, Comment, Form, Join, Span, Word, commands_end};
 use std::alloc::Global;
 use std::mem;
 

@@ -7,16 +7,16 @@ ghost use Rattle.shgrammar.specs.Commands.{a_command, a_simple, a_worded, an_ite
 ghost use Rattle.shgrammar.specs.declared.token.Position.TheVariants.{Suffix};
 ghost use Rattle.shgrammar.specs.declared.token.Position.{Position};
 ghost use Rattle.shgrammar.specs.Form.{again, many, step_if};
-ghost use Rattle.shtree.specs.Tree.{item};
-ghost use Rattle.shtree.specs.View.{view_command, view_item, view_word};
+ghost use Rattle.shast.specs.Tree.{item};
+ghost use Rattle.shast.specs.View.{view_command, view_item, view_word};
 ghost use Rattle.shgrammar.specs.Levels.{level};
 
 use crate::cursor::Cursor;
 use crate::stop::Stop;
+use shast::make::{argument_of, assign_of, simple_of};
+use shast::{Command, Item, Word};
 use shgrammar::{Next, Position, Token};
 use shtext::Source;
-use shtree::make::{argument_of, assign_of, simple_of};
-use shtree::{Command, Item, Word};
 use std::alloc::Global;
 use std::mem;
 

@@ -3,13 +3,13 @@ ghost use Rattle.std.specs.Prelude.{◌≡◌, ◌≤◌, None, length, option_m
 ghost use Rattle.shread.specs.Clauses.{Stays, text_of};
 ghost use Rattle.shgrammar.specs.Comments.{comment_at, past_comment};
 ghost use Rattle.shgrammar.specs.Standing.{before_blanks};
-ghost use Rattle.shtree.specs.View.{view_comment};
+ghost use Rattle.shast.specs.View.{view_comment};
 
 use crate::cursor::Cursor;
 use crate::search::Sought;
+use shast::{Comment, Span};
 use shgrammar::Class;
 use shtext::Source;
-use shtree::{Comment, Span};
 
 impl<'a, S: Source, const KEEP: u8> Cursor<'a, S, KEEP> {
     /// The place behind the last byte before `end` that is no blank.

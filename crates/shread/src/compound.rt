@@ -6,17 +6,17 @@ ghost use Rattle.shgrammar.specs.Compounds.{a_branch, a_form, a_group, a_loop, a
 ghost use Rattle.shgrammar.specs.Form.{many, Spelled, step_if};
 ghost use Rattle.shgrammar.specs.Levels.{level};
 ghost use Rattle.shgrammar.specs.Tokens.{is_end};
-ghost use Rattle.shtree.specs.View.{view_branch, view_command, view_form, view_list, view_otherwise};
+ghost use Rattle.shast.specs.View.{view_branch, view_command, view_form, view_list, view_otherwise};
 
 use crate::cursor::Cursor;
 use crate::stop::Stop;
-use shgrammar::{Closing, FaultKind, Next, Opener, Position};
-use shtext::Source;
-use shtree::make::{
+use shast::make::{
     brace_of, branch_of, compound_command, compound_of, if_of, simple_of, subshell_of, until_of,
     while_of,
 };
-use shtree::{Branch, Command, Form, List, Span};
+use shast::{Branch, Command, Form, List, Span};
+use shgrammar::{Closing, FaultKind, Next, Opener, Position};
+use shtext::Source;
 use std::alloc::Global;
 use std::mem;
 

@@ -6,14 +6,14 @@ ghost use Rattle.shgrammar.specs.Form.{change, raw};
 ghost use Rattle.shgrammar.specs.HereDocuments.{bodies_from, bodies_here, delimiter_from, first_waiting, is_delimiter, own_level, past_line, rest_of_line, takes_newline};
 ghost use Rattle.shgrammar.specs.Sights.{given};
 ghost use Rattle.shgrammar.specs.Standing.{next_newline, raw_stands};
-ghost use Rattle.shtree.specs.View.{view_here};
+ghost use Rattle.shast.specs.View.{view_here};
 
 use crate::cursor::Cursor;
 use crate::search::Sought;
 use crate::stop::Stop;
+use shast::{HereDocument, RedirectOperator, Span};
 use shgrammar::{Class, Fault, FaultKind, delimiter_of};
 use shtext::Source;
-use shtree::{HereDocument, RedirectOperator, Span};
 use std::alloc::{AllocError, Global};
 use std::mem;
 

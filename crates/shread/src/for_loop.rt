@@ -8,15 +8,15 @@ ghost use Rattle.shgrammar.specs.declared.token.Position.TheVariants.{Suffix};
 ghost use Rattle.shgrammar.specs.Form.{many, step_if};
 ghost use Rattle.shgrammar.specs.Levels.{level};
 ghost use Rattle.shgrammar.specs.Tokens.{is_end};
-ghost use Rattle.shtree.specs.Tree.{for_words_of};
-ghost use Rattle.shtree.specs.View.{view_comment, view_form, view_item, view_join, view_list, view_word};
+ghost use Rattle.shast.specs.Tree.{for_words_of};
+ghost use Rattle.shast.specs.View.{view_comment, view_form, view_item, view_join, view_list, view_word};
 
 use crate::cursor::Cursor;
 use crate::stop::Stop;
+use shast::make::{comment_entry, for_of, list_of};
+use shast::{Comment, Form, Item, Join, List, Span, Word};
 use shgrammar::{Closing, FaultKind, Next, Position, Token};
 use shtext::Source;
-use shtree::make::{comment_entry, for_of, list_of};
-use shtree::{Comment, Form, Item, Join, List, Span, Word};
 use std::alloc::{AllocError, Global};
 
 /// A list behind comments, which are its first entries then.

@@ -6,14 +6,14 @@ ghost use Rattle.shgrammar.specs.Commands.{compound_by, named, opener_of};
 ghost use Rattle.shgrammar.specs.Compounds.{a_function, under_name};
 ghost use Rattle.shgrammar.specs.Levels.{level};
 ghost use Rattle.shgrammar.specs.Tokens.{is_name_at};
-ghost use Rattle.shtree.specs.View.{view_command, view_comment};
+ghost use Rattle.shast.specs.View.{view_command, view_comment};
 
 use crate::cursor::Cursor;
 use crate::stop::Stop;
+use shast::make::{function_command, function_of};
+use shast::{Command, Comment, Join, Span};
 use shgrammar::{Closing, FaultKind, Next, Position};
 use shtext::Source;
-use shtree::make::{function_command, function_of};
-use shtree::{Command, Comment, Join, Span};
 use std::alloc::{AllocError, Global};
 
 /// A compound command under a name; one that is not held stays so.

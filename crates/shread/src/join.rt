@@ -4,13 +4,13 @@ ghost use Rattle.shread.specs.Clauses.{Keeps, Onward, Reads, state_of, text_of};
 ghost use Rattle.shgrammar.specs.Shows.{Shows};
 ghost use Rattle.shgrammar.specs.Commands.{a_join, join_so, join_turn};
 ghost use Rattle.shgrammar.specs.Form.{many, step_if};
-ghost use Rattle.shtree.specs.View.{view_join};
+ghost use Rattle.shast.specs.View.{view_join};
 
 use crate::cursor::Cursor;
 use crate::stop::Stop;
+use shast::Join;
 use shgrammar::{Next, Position};
 use shtext::Source;
-use shtree::Join;
 use std::alloc::Global;
 
 impl<'a, S: Source, const KEEP: u8> Cursor<'a, S, KEEP> {

@@ -5,8 +5,8 @@ ghost use Rattle.shgrammar.specs.Scripts.{AScript, Outcome};
 ghost use Rattle.shgrammar.specs.Bytes.{ends_word, stands};
 ghost use Rattle.shgrammar.specs.Form.{Spelled, may, raw};
 ghost use Rattle.shgrammar.specs.Sights.{Given, State, standing};
-ghost use Rattle.shtree.specs.Shape.{shape_of_word};
-ghost use Rattle.shtree.specs.Tree.{AWord};
+ghost use Rattle.shast.specs.Shape.{shape_of_word};
+ghost use Rattle.shast.specs.Tree.{AWord};
 ghost use Rattle.shgrammar.specs.Words.{a_word};
 ghost use Rattle.shgrammar.specs.Levels.{IsWord, level};
 

@@ -1,7 +1,7 @@
 //! The reader of shform: scripts of the Shell Command Language of POSIX, read line by line into a tree.
 //!
 //! Start with [`Reader`]: `read_line` reads one top-level line of a [`shtext::Source`], `read_script` all of them, and `first_fault`
-//! looks for the first fault alone; [`ScriptLines`] reads a script a line at a time. The tree is that of the crate `shtree`;
+//! looks for the first fault alone; [`ScriptLines`] reads a script a line at a time. The tree is that of the crate `shast`;
 //! [`Fault`] is what is wrong with a script. What is read is told by the definitions of the crate `shgrammar`; `specs/Clauses` says
 //! in their words what a function here answers.
 #![tactic(auto)]

@@ -5,15 +5,15 @@ ghost use Rattle.shgrammar.specs.Shows.{Shows};
 ghost use Rattle.shgrammar.specs.Levels.{level};
 ghost use Rattle.shgrammar.specs.Lines.{an_open_line, end_of_line};
 ghost use Rattle.shgrammar.specs.Standing.{at_end, raw_stands};
-ghost use Rattle.shtree.specs.Bodies.{filled_row};
-ghost use Rattle.shtree.specs.View.{view_entry};
+ghost use Rattle.shast.specs.Bodies.{filled_row};
+ghost use Rattle.shast.specs.View.{view_entry};
 
 use crate::cursor::Cursor;
 use crate::list::Listed;
 use crate::stop::Stop;
+use shast::{Entry, Span, put_bodies_in};
 use shgrammar::{Next, Position, Token};
 use shtext::Source;
-use shtree::{Entry, Span, put_bodies_in};
 use std::alloc::Global;
 
 /// These entries with the bodies of their level.

@@ -8,14 +8,14 @@ ghost use Rattle.shgrammar.specs.Form.{many, step_if};
 ghost use Rattle.shgrammar.specs.Levels.{level};
 ghost use Rattle.shread.specs.Listed.{view_listed};
 ghost use Rattle.shgrammar.specs.Lists.{a_list, a_remark, entry_turn, list_so, list_turn, next_line, none_listed, on_line};
-ghost use Rattle.shtree.specs.View.{view_list};
+ghost use Rattle.shast.specs.View.{view_list};
 
 use crate::cursor::Cursor;
 use crate::stop::Stop;
+use shast::make::{command_entry, comment_entry, list_of};
+use shast::{Entry, List};
 use shgrammar::{Next, Separator};
 use shtext::Source;
-use shtree::make::{command_entry, comment_entry, list_of};
-use shtree::{Entry, List};
 use std::alloc::Global;
 use std::mem;
 

@@ -5,9 +5,9 @@ ghost use Rattle.shgrammar.specs.Comments.{span};
 
 use crate::cursor::Cursor;
 use crate::stop::Stop;
+use shast::Span;
 use shgrammar::{Fault, FaultKind};
 use shtext::Source;
-use shtree::Span;
 
 impl<'a, S: Source, const KEEP: u8> Cursor<'a, S, KEEP> {
     /// What stops the reading at a place.

@@ -6,18 +6,18 @@ ghost use Rattle.shgrammar.specs.Lines.{kind_of};
 ghost use Rattle.shgrammar.specs.Scripts.{line_of_text, line_told};
 ghost use Rattle.shgrammar.specs.Sights.{standing};
 ghost use Rattle.shgrammar.specs.Standing.{raw_stands};
-ghost use Rattle.shtree.specs.Nodes.{AreWithin};
-ghost use Rattle.shtree.specs.Tree.{entries_of};
-ghost use Rattle.shtree.specs.View.{view_entry};
+ghost use Rattle.shast.specs.Nodes.{AreWithin};
+ghost use Rattle.shast.specs.Tree.{entries_of};
+ghost use Rattle.shast.specs.View.{view_entry};
 
 use crate::cursor::{Cursor, KEPT};
 use crate::line::filled_entries;
 use crate::reader::{Line, LineKind};
 use crate::stop::{ReadError, Stop};
+use shast::Entry;
+use shast::make::list_of;
 use shgrammar::Keep;
 use shtext::Source;
-use shtree::Entry;
-use shtree::make::list_of;
 use std::alloc::Global;
 
 /// How many constructs may be open.

@@ -5,14 +5,14 @@ ghost use Rattle.shread.specs.Clauses.{Keeps, Onward, reads, Reads, state_of, St
 ghost use Rattle.shgrammar.specs.Commands.{a_bang, a_pipeline, one_command, pipe_turn, piped};
 ghost use Rattle.shgrammar.specs.Form.{again, many, step_if};
 ghost use Rattle.shgrammar.specs.Levels.{level};
-ghost use Rattle.shtree.specs.View.{view_pipeline, view_pipeline_part};
+ghost use Rattle.shast.specs.View.{view_pipeline, view_pipeline_part};
 
 use crate::cursor::Cursor;
 use crate::stop::Stop;
+use shast::make::{pipeline_of, pipeline_part_of};
+use shast::{Pipeline, PipelinePart, Span};
 use shgrammar::{Next, Position, Reserved, Token};
 use shtext::Source;
-use shtree::make::{pipeline_of, pipeline_part_of};
-use shtree::{Pipeline, PipelinePart, Span};
 use std::alloc::Global;
 use std::mem;
 

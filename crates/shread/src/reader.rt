@@ -6,18 +6,18 @@ ghost use Rattle.shgrammar.specs.Scripts.{view_script};
 ghost use Rattle.shgrammar.specs.Form.{Spelled};
 ghost use Rattle.shgrammar.specs.Lines.{ALine, IsLine, NoFurther, SameBytes};
 ghost use Rattle.shgrammar.specs.Scripts.{AScript, FirstFault, Outcome, Passes};
-ghost use Rattle.shtree.specs.Nodes.{AreWithin};
-ghost use Rattle.shtree.specs.Normal.{is_normal};
-ghost use Rattle.shtree.specs.Shape.{shape_of};
-ghost use Rattle.shtree.specs.Spelling.{spelling};
+ghost use Rattle.shast.specs.Nodes.{AreWithin};
+ghost use Rattle.shast.specs.Normal.{is_normal};
+ghost use Rattle.shast.specs.Shape.{shape_of};
+ghost use Rattle.shast.specs.Spelling.{spelling};
 
 use crate::all_lines::script_from;
 use crate::first_fault::first_fault_of;
 use crate::one_line::line_from;
 use crate::stop::ReadError;
+use shast::List;
 use shgrammar::{Fault, Script};
 use shtext::Source;
-use shtree::List;
 use std::alloc::Global;
 
 /// What a top-level line is.

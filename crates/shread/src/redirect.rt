@@ -7,16 +7,16 @@ ghost use Rattle.shgrammar.specs.Commands.{a_number, a_target, an_operator, is_l
 ghost use Rattle.shgrammar.specs.declared.token.Position.TheVariants.{Command as AsCommand};
 ghost use Rattle.shgrammar.specs.Form.{again, many, raw, step_if};
 ghost use Rattle.shgrammar.specs.Levels.{level};
-ghost use Rattle.shtree.specs.Nodes.{word_span};
-ghost use Rattle.shtree.specs.View.{view_command, view_item, view_word};
+ghost use Rattle.shast.specs.Nodes.{word_span};
+ghost use Rattle.shast.specs.View.{view_command, view_item, view_word};
 
 use crate::cursor::Cursor;
 use crate::documents::is_strip;
 use crate::stop::Stop;
+use shast::make::{redirect_of, redirection_of, with_redirects};
+use shast::{Command, Item, RedirectOperator, Span, Word};
 use shgrammar::{FaultKind, Next, Position, Token};
 use shtext::Source;
-use shtree::make::{redirect_of, redirection_of, with_redirects};
-use shtree::{Command, Item, RedirectOperator, Span, Word};
 use std::alloc::Global;
 use std::mem;
 

@@ -2,15 +2,15 @@
 ghost use Rattle.std.specs.Prelude.{◌≡◌, ◌+◌, ◌-◌, ◌^◌, ◌<◌, ◌≤◌, length, map, slice_get, IfErr, IfOk, IfSome, None, Ok as Done, Some};
 ghost use Rattle.shgrammar.specs.Scripts.{SoFar, is_blank_line, with_line};
 ghost use Rattle.shgrammar.specs.Search.{StopsAt};
-ghost use Rattle.shtree.specs.View.{view_entry};
+ghost use Rattle.shast.specs.View.{view_entry};
 ghost use Rattle.shread.specs.LineByLine.{AtStart, GoesOn, IsNextLine, IsWholeLine, LineWithin, Stands, before_of, bytes_of, no_lines, place_of};
 
 use crate::cursor::KEPT;
 use crate::one_line::{Told, ends_in_newline, line_at};
 use crate::stop::{ReadError, Stop};
+use shast::Entry;
 use shgrammar::{Fault, Keep};
 use shtext::Source;
-use shtree::Entry;
 use std::alloc::Global;
 
 /// What a line of a script gives. Spans and the fault's offset count from the script's first byte.

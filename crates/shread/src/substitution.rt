@@ -5,17 +5,17 @@ ghost use Rattle.shgrammar.specs.Comments.{span};
 ghost use Rattle.shgrammar.specs.Form.{grows, pushed};
 ghost use Rattle.shgrammar.specs.Levels.{level};
 ghost use Rattle.shgrammar.specs.Substitutions.{one_substitution, substituted};
-ghost use Rattle.shtree.specs.Bodies.{filled};
-ghost use Rattle.shtree.specs.Tree.{subst};
-ghost use Rattle.shtree.specs.View.{view_list, view_subst};
+ghost use Rattle.shast.specs.Bodies.{filled};
+ghost use Rattle.shast.specs.Tree.{subst};
+ghost use Rattle.shast.specs.View.{view_list, view_subst};
 
 use crate::cursor::Cursor;
 use crate::list::Listed;
 use crate::stop::Stop;
+use shast::make::{list_of, subst_of};
+use shast::{List, Span, Subst, put_bodies};
 use shgrammar::{Closing, Fault, FaultKind, Position};
 use shtext::Source;
-use shtree::make::{list_of, subst_of};
-use shtree::{List, Span, Subst, put_bodies};
 use std::alloc::{AllocError, Global};
 
 /// A list with the bodies of its level.

@@ -7,9 +7,9 @@ ghost use Rattle.shgrammar.specs.Tokens.{begins_assignment, first_of_words, grea
 ghost use Rattle.shread.specs.Clauses.{Stays, text_of};
 
 use crate::cursor::Cursor;
+use shast::RedirectOperator;
 use shgrammar::{Class, Next, Position, Reserved, Token, begins_a_word, ends_words};
 use shtext::Source;
-use shtree::RedirectOperator;
 
 impl<'a, S: Source, const KEEP: u8> Cursor<'a, S, KEEP> {
     /// Whether the word that is spelled so stands at a place. Most often no continuation stands in it.

@@ -6,18 +6,18 @@ ghost use Rattle.shread.specs.Clauses.{Keeps, Onward, Reads, state_of, Stays, te
 ghost use Rattle.shgrammar.specs.Comments.{span};
 ghost use Rattle.shgrammar.specs.Form.{again, step_if};
 ghost use Rattle.shgrammar.specs.Pieces.{past_closer};
-ghost use Rattle.shtree.specs.Tree.{ASubst, substs_of, word};
-ghost use Rattle.shtree.specs.View.{view_subst, view_word};
+ghost use Rattle.shast.specs.Tree.{ASubst, substs_of, word};
+ghost use Rattle.shast.specs.View.{view_subst, view_word};
 ghost use Rattle.shgrammar.specs.Standing.{raw_stands};
 ghost use Rattle.shgrammar.specs.Words.{a_piece, a_word, contents, having, holds_others, piece_row};
 ghost use Rattle.shgrammar.specs.Levels.{level};
 
 use crate::cursor::Cursor;
 use crate::stop::Stop;
+use shast::make::word_of;
+use shast::{Subst, Word};
 use shgrammar::{FaultKind, Mode, Piece};
 use shtext::Source;
-use shtree::make::word_of;
-use shtree::{Subst, Word};
 use std::alloc::Global;
 
 impl<'a, S: Source, const KEEP: u8> Cursor<'a, S, KEEP> {

@@ -1,8 +1,8 @@
 // Each growth of a reading refused in turn: `growths.rt` says how.
 ghost use Rattle.std.specs.Prelude.{◌≤◌, length};
 ghost use Rattle.shread.specs.LineByLine.{bytes_of, place_of};
-ghost use Rattle.shtree.specs.Nodes.{AreWithin};
-ghost use Rattle.shtree.specs.View.{view_list};
+ghost use Rattle.shast.specs.Nodes.{AreWithin};
+ghost use Rattle.shast.specs.View.{view_list};
 
 use crate::growths::{refuse, refuses, was_refused};
 use shread::{Line, LineKind, ReadError, Reader, ScriptLine, ScriptLines, faultless_front};

@@ -1,8 +1,8 @@
 // The nodes of scripts that are read, at a base above 0. A row is a node: its kind, its text, and the text of its name. The rows of a
 // script stand in the order of the nodes, so they tell both calls' answers.
 ghost use Rattle.std.specs.Prelude.{◌-◌};
-ghost use Rattle.shtree.specs.Nodes.{AreWithin};
-ghost use Rattle.shtree.specs.View.{view_list};
+ghost use Rattle.shast.specs.Nodes.{AreWithin};
+ghost use Rattle.shast.specs.View.{view_list};
 
 use crate::tree_built::Script;
 use shread::Reader;

@@ -1,8 +1,8 @@
 -- Whether a test holds of a row of nodes from a place on: what a loop over a vector of nodes has still to find out.
 use Rattle.std.proofs.Common.{◌≡◌, ℕ, zero, suc, ◌+◌, ◌<◌, ◌≤◌, Bool, true, false, List as Row, [], ◌∷◌, length, map, get_or, refl, ap, arith, add-one}
 use Rattle.std.specs.Prelude.{◌&&◌, ◌||◌}
-use Rattle.shtree.specs.Tree.{AnEntry, AnAndOrPart, APipelinePart, ABranch, ACaseItem, AWord, AnItem, ASubst, entries_of, and_or_parts_of, pipeline_parts_of, branches_of, cases_of, patterns_of, items_of, substs_of}
-use Rattle.shtree.specs.Normal.{is_command, holds_command, is_normal_join, are_normal, is_normal_entry, are_normal_and_ors, is_normal_pipeline, are_normal_pipes, is_normal_command, are_normal_branches, is_normal_branch, are_normal_cases, is_normal_case, are_normal_patterns, is_normal_word, are_normal_items, is_normal_item, are_normal_substs, is_normal_subst}
+use Rattle.shast.specs.Tree.{AnEntry, AnAndOrPart, APipelinePart, ABranch, ACaseItem, AWord, AnItem, ASubst, entries_of, and_or_parts_of, pipeline_parts_of, branches_of, cases_of, patterns_of, items_of, substs_of}
+use Rattle.shast.specs.Normal.{is_command, holds_command, is_normal_join, are_normal, is_normal_entry, are_normal_and_ors, is_normal_pipeline, are_normal_pipes, is_normal_command, are_normal_branches, is_normal_branch, are_normal_cases, is_normal_case, are_normal_patterns, is_normal_word, are_normal_items, is_normal_item, are_normal_substs, is_normal_subst}
 
 module _ {A : Type 0} (p : A → Bool) where
   -- the test holds of each node from the place on

@@ -3,11 +3,11 @@ use Rattle.std.proofs.Common.{◌≡◌, ℕ, zero, suc, ◌+◌, ◌<◌, ◌�
 use Rattle.std.specs.List.{filter}
 use Rattle.std.proofs.lemmas.List.{append-nil}
 use Rattle.std.proofs.lemmas.List.Elements.{filter-append}
-use Rattle.shtree.specs.declared.nodes.NodeLine.{NodeLine}
-use Rattle.shtree.specs.declared.tree.Span.{Span}
+use Rattle.shast.specs.declared.node.NodeLine.{NodeLine}
+use Rattle.shast.specs.declared.tree.Span.{Span}
 use Rattle.shtree.specs.Gathered.{gathered}
-use Rattle.shtree.specs.Tree.{AnEntry, AnAndOrPart, APipelinePart, ABranch, ACaseItem, AWord, AnItem, ASubst, entries_of, and_or_parts_of, pipeline_parts_of, branches_of, cases_of, patterns_of, items_of, substs_of}
-use Rattle.shtree.specs.Nodes.{and_or_parts_nodes, branch_nodes, branches_nodes, case_nodes, cases_nodes, command_nodes, comment_node, entries_nodes, entry_nodes, item_nodes, items_nodes, patterns_nodes, pipeline_nodes, pipes_nodes, subst_nodes, substs_nodes, word_nodes}
+use Rattle.shast.specs.Tree.{AnEntry, AnAndOrPart, APipelinePart, ABranch, ACaseItem, AWord, AnItem, ASubst, entries_of, and_or_parts_of, pipeline_parts_of, branches_of, cases_of, patterns_of, items_of, substs_of}
+use Rattle.shast.specs.Nodes.{and_or_parts_nodes, branch_nodes, branches_nodes, case_nodes, cases_nodes, command_nodes, comment_node, entries_nodes, entry_nodes, item_nodes, items_nodes, patterns_nodes, pipeline_nodes, pipes_nodes, subst_nodes, substs_nodes, word_nodes}
 
 pub gathered_none : (wanted : NodeLine → Bool) (ns : Row NodeLine) → gathered wanted ns [] ≡ ns
 unfolding gathered

@@ -11,8 +11,8 @@ use Rattle.std.specs.Fn.{Called, ComparesAs}
 use Rattle.std.specs.declared.cmp.Ordering.{Ordering}
 use denote.Param.Members.{Mut}
 use denote.Ref.{Bor}
-use Rattle.shtree.specs.declared.nodes.NodeLine.{NodeLine}
-use Rattle.shtree.specs.Nodes.{by_place, in_order, inserted}
+use Rattle.shast.specs.declared.node.NodeLine.{NodeLine}
+use Rattle.shast.specs.Nodes.{by_place, in_order, inserted}
 
 -- ---- a node that has to stand before another
 

@@ -5,9 +5,9 @@ use Rattle.std.specs.List.{filter}
 use Rattle.std.specs.Ordering.{nat_cmp}
 use Rattle.std.proofs.lemmas.Bool.Decides.{nat_tests}
 use Rattle.std.proofs.lemmas.List.Elements.{All-cons, All-filter, All-head, All-tail}
-use Rattle.shtree.specs.declared.nodes.NodeLine.{NodeLine}
-use Rattle.shtree.specs.Tree.{Entries}
-use Rattle.shtree.specs.Nodes.{by_place, entries_nodes, holds, in_order, in_outline, inserted, nodes_at, outline, placed}
+use Rattle.shast.specs.declared.node.NodeLine.{NodeLine}
+use Rattle.shast.specs.Tree.{Entries}
+use Rattle.shast.specs.Nodes.{by_place, entries_nodes, holds, in_order, in_outline, inserted, nodes_at, outline, placed}
 use Rattle.shtree.proofs.InOrder.{before, filter-in_order}
 
 cmp_moved : (b s t : ℕ) → nat_cmp (b + s) (b + t) ≡ nat_cmp s t

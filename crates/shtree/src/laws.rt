@@ -1,13 +1,13 @@
 //! Laws of the definitions alone, which no code stands behind.
 ghost use Rattle.std.specs.Prelude.{◌≡◌, ◌∷◌, ◌++◌, ◌≤◌, ℕ, Bool, List as Row, Option, Some, false, length, map, true};
-ghost use Rattle.shtree.specs.declared.tree.Span.{Span};
-ghost use Rattle.shtree.specs.Nodes.{AreWithin, commands_end, entries_nodes};
-ghost use Rattle.shtree.specs.Normal.{alone, is_normal, joined, of_command};
-ghost use Rattle.shtree.specs.Shape.{Shape, Text, shape_of, text_at};
-ghost use Rattle.shtree.specs.Spelling.{spelling};
-ghost use Rattle.shtree.specs.Bodies.{filled, filled_row};
-ghost use Rattle.shtree.specs.Opened.{bodies_of, opened};
-ghost use Rattle.shtree.specs.Tree.{ACommand, AContent, AWord, AnEntry, AnItemContent, Entries, EntriesOf, Items, brace, compound, entries_of, entry, for_in, formed, in_words, item, more_items, no_entry, no_item, remark, simple};
+ghost use Rattle.shast.specs.declared.tree.Span.{Span};
+ghost use Rattle.shast.specs.Nodes.{AreWithin, commands_end, entries_nodes};
+ghost use Rattle.shast.specs.Normal.{alone, is_normal, joined, of_command};
+ghost use Rattle.shast.specs.Shape.{Shape, Text, shape_of, text_at};
+ghost use Rattle.shast.specs.Spelling.{spelling};
+ghost use Rattle.shast.specs.Bodies.{filled, filled_row};
+ghost use Rattle.shast.specs.Opened.{bodies_of, opened};
+ghost use Rattle.shast.specs.Tree.{ACommand, AContent, AWord, AnEntry, AnItemContent, Entries, EntriesOf, Items, brace, compound, entries_of, entry, for_in, formed, in_words, item, more_items, no_entry, no_item, remark, simple};
 
 /// The normal form of a list refuses each of these, in a list of one entry.
 pub fn normal_form()
@@ -29,26 +29,26 @@ pub fn normal_form()
 
 /// A list that names no offset above a limit names none above a greater one: so what a reader tells of its lists is what
 /// [`outline_of`](crate::outline_of) and [`nodes_at`](crate::nodes_at) ask for.
-#[tactic(auto, using(crate::proofs::Reach::within_more))]
+#[tactic(auto, using(shast::proofs::Reach::within_more))]
 pub fn greater_limit()
     ensures { (limit more : ℕ) (list : Entries) → limit ≤ more → AreWithin limit list → AreWithin more list }
 {}
 
 /// A list and its shape over any bytes are alike in normal form: this looks at no text and at no mark.
-#[tactic(auto, using(crate::proofs::SameForm::same_form))]
+#[tactic(auto, using(shast::proofs::SameForm::same_form))]
 pub fn same_form()
     ensures { (bytes : Row ℕ) (list : Entries) → is_normal (shape_of bytes list) ≡ is_normal list }
 {}
 
 /// A list is its open list, filled with its bodies, whatever an open document has in the place of its body; so is a shape.
-#[tactic(auto, using(crate::proofs::FilledBack::filled_back))]
+#[tactic(auto, using(shast::proofs::FilledBack::filled_back))]
 pub fn filled_back()
     ensures spans { (nothing : Span) (list : Entries) → filled (bodies_of list) (opened nothing list) ≡ list }
     ensures texts { (nothing : Text) (list : Shape EntriesOf) → filled (bodies_of list) (opened nothing list) ≡ list }
 {}
 
 /// Filling a list, or a shape, changes nothing but bodies.
-#[tactic(auto, using(crate::proofs::FilledBlind::filled_blind))]
+#[tactic(auto, using(shast::proofs::FilledBlind::filled_blind))]
 pub fn filled_blind()
     ensures spans { (nothing : Span) (bodies : Row Span) (list : Entries) → opened nothing (filled bodies list) ≡ opened nothing list }
     ensures texts { (nothing : Text) (bodies : Row Text) (list : Shape EntriesOf) → opened nothing (filled bodies list) ≡ opened nothing list }
@@ -56,7 +56,7 @@ pub fn filled_blind()
 
 /// Neither the nodes of a list, nor its normal form, nor the spelling of a shape look at bodies; so all offsets that a list names stay
 /// within what they were within.
-#[tactic(auto, using(crate::proofs::OpenSame::nodes_open, crate::proofs::OpenSame::filled_nodes, crate::proofs::OpenSame::filled_within, crate::proofs::OpenSame::filled_ends, crate::proofs::OpenSame::normal_open, crate::proofs::OpenSame::filled_normal, crate::proofs::OpenSame::spelling_open, crate::proofs::OpenSame::filled_spelling))]
+#[tactic(auto, using(shast::proofs::OpenSame::nodes_open, shast::proofs::OpenSame::filled_nodes, shast::proofs::OpenSame::filled_within, shast::proofs::OpenSame::filled_ends, shast::proofs::OpenSame::normal_open, shast::proofs::OpenSame::filled_normal, shast::proofs::OpenSame::spelling_open, shast::proofs::OpenSame::filled_spelling))]
 pub fn bodies_unseen()
     ensures open_nodes { (nothing : Span) (list : Entries) → entries_nodes (opened nothing list) ≡ entries_nodes list }
     ensures nodes { (bodies : Row Span) (list : Entries) → entries_nodes (filled bodies list) ≡ entries_nodes list }
@@ -69,7 +69,7 @@ pub fn bodies_unseen()
 {}
 
 /// The shape of a list, over any bytes, holds the texts of its bodies: it is filled as the list is, and opened as the list is.
-#[tactic(auto, using(crate::proofs::FilledShape::shape_filled, crate::proofs::FilledShape::shape_open, crate::proofs::FilledShape::shape_bodies))]
+#[tactic(auto, using(shast::proofs::FilledShape::shape_filled, shast::proofs::FilledShape::shape_open, shast::proofs::FilledShape::shape_bodies))]
 pub fn shape_of_bodies()
     ensures filled { (bytes : Row ℕ) (bodies : Row Span) (list : Entries) → shape_of bytes (filled bodies list) ≡ filled (map (text_at bytes) bodies) (shape_of bytes list) }
     ensures opened { (bytes : Row ℕ) (nothing : Span) (list : Entries) → shape_of bytes (opened nothing list) ≡ opened (text_at bytes nothing) (shape_of bytes list) }
@@ -77,20 +77,20 @@ pub fn shape_of_bodies()
 {}
 
 /// A list filled with as many bodies as it has documents holds these bodies, in the order of the operators.
-#[tactic(auto, using(crate::proofs::FilledBodies::filled_bodies, crate::proofs::FilledBodies::as_many))]
+#[tactic(auto, using(shast::proofs::FilledBodies::filled_bodies, shast::proofs::FilledBodies::as_many))]
 pub fn filled_bodies()
     ensures bodies { (bodies : Row Span) (list : Entries) → length bodies ≡ length (bodies_of list) → bodies_of (filled bodies list) ≡ bodies }
     ensures as_many { (bodies : Row Span) (list : Entries) → length (bodies_of (filled bodies list)) ≡ length (bodies_of list) }
 {}
 
 /// The bodies of one row of entries and another are those of the one, and then those of the other.
-#[tactic(auto, using(crate::proofs::BodiesInOrder::bodies_append))]
+#[tactic(auto, using(shast::proofs::BodiesInOrder::bodies_append))]
 pub fn bodies_in_order()
     ensures { (one other : Row AnEntry) → bodies_of (entries_of (one ++ other)) ≡ bodies_of (entries_of one) ++ bodies_of (entries_of other) }
 {}
 
 /// A list is filled as the row of its entries is.
-#[tactic(auto, using(crate::proofs::Going::row_filled))]
+#[tactic(auto, using(shast::proofs::Going::row_filled))]
 pub fn filled_row()
     ensures { (bodies : Row Span) (entries : Row AnEntry) → entries_of (filled_row bodies entries) ≡ filled bodies (entries_of entries) }
 {}

@@ -1,10 +1,10 @@
 //! Whether a list is in normal form, as the definitions of `specs/Normal` say.
 ghost use Rattle.std.specs.Prelude.{◌≡◌, ◌&&◌, map};
-ghost use Rattle.shtree.specs.Tree.{and_or_parts_of, branches_of, cases_of, entries_of, items_of, patterns_of, pipeline_parts_of, substs_of};
-ghost use Rattle.shtree.specs.Normal.{are_normal, are_normal_and_ors, are_normal_branches, are_normal_cases, are_normal_items, are_normal_patterns, are_normal_pipes, are_normal_substs, first_not_blank, first_not_broken, holds_command, is_command, is_normal, is_normal_and_or, is_normal_branch, is_normal_case, is_normal_command, is_normal_compound, is_normal_entry, is_normal_form, is_normal_item, is_normal_join, is_normal_pipeline, is_normal_subst, is_normal_word, is_whole};
-ghost use Rattle.shtree.specs.View.{view_and_or, view_and_or_part, view_branch, view_case_item, view_command, view_compound, view_entry, view_form, view_item, view_join, view_list, view_pipeline, view_pipeline_part, view_subst, view_word};
+ghost use Rattle.shast.specs.Tree.{and_or_parts_of, branches_of, cases_of, entries_of, items_of, patterns_of, pipeline_parts_of, substs_of};
+ghost use Rattle.shast.specs.Normal.{are_normal, are_normal_and_ors, are_normal_branches, are_normal_cases, are_normal_items, are_normal_patterns, are_normal_pipes, are_normal_substs, first_not_blank, first_not_broken, holds_command, is_command, is_normal, is_normal_and_or, is_normal_branch, is_normal_case, is_normal_command, is_normal_compound, is_normal_entry, is_normal_form, is_normal_item, is_normal_join, is_normal_pipeline, is_normal_subst, is_normal_word, is_whole};
+ghost use Rattle.shast.specs.View.{view_and_or, view_and_or_part, view_branch, view_case_item, view_command, view_compound, view_entry, view_form, view_item, view_join, view_list, view_pipeline, view_pipeline_part, view_subst, view_word};
 
-use crate::tree::{
+use shast::{
     AndOr, AndOrPart, Branch, CaseItem, Command, Compound, Content, Entry, Form, Item, ItemContent,
     Join, List, Pipeline, PipelinePart, Subst, Word,
 };

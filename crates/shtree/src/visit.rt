@@ -5,18 +5,15 @@
 ghost use Rattle.std.specs.Prelude.{◌≡◌, [], ◌∷◌, ◌++◌, Bool, IfOk, false, map, option_map};
 ghost use Rattle.std.specs.Option.{option_to_list};
 ghost use Rattle.shtree.specs.Gathered.{gathered};
-ghost use Rattle.shtree.specs.declared.nodes.NodeLine.{NodeLine};
-ghost use Rattle.shtree.specs.Nodes.{and_or_node, and_or_nodes, and_or_parts_nodes, branch_nodes, branches_nodes, case_nodes, cases_nodes, command_nodes, comment_node, compound_nodes, content_nodes, entries_nodes, entry_nodes, form_node, form_nodes, item_nodes, items_nodes, patterns_nodes, pipeline_node, pipeline_nodes, pipes_nodes, subst_nodes, substs_nodes, word_nodes};
-ghost use Rattle.shtree.specs.Tree.{and_or_parts_of, branches_of, cases_of, entries_of, item, items_of, patterns_of, pipeline_parts_of, substs_of};
-ghost use Rattle.shtree.specs.View.{view_and_or, view_and_or_part, view_branch, view_case_item, view_command, view_comment, view_compound, view_content, view_entry, view_form, view_function, view_item, view_list, view_pipeline, view_pipeline_part, view_redirection, view_subst, view_word};
+ghost use Rattle.shast.specs.declared.node.NodeLine.{NodeLine};
+ghost use Rattle.shast.specs.Nodes.{and_or_node, and_or_nodes, and_or_parts_nodes, branch_nodes, branches_nodes, case_nodes, cases_nodes, command_nodes, comment_node, compound_nodes, content_nodes, entries_nodes, entry_nodes, form_node, form_nodes, item_nodes, items_nodes, patterns_nodes, pipeline_node, pipeline_nodes, pipes_nodes, subst_nodes, substs_nodes, word_nodes};
+ghost use Rattle.shast.specs.Tree.{and_or_parts_of, branches_of, cases_of, entries_of, item, items_of, patterns_of, pipeline_parts_of, substs_of};
+ghost use Rattle.shast.specs.View.{view_and_or, view_and_or_part, view_branch, view_case_item, view_command, view_comment, view_compound, view_content, view_entry, view_form, view_function, view_item, view_list, view_pipeline, view_pipeline_part, view_redirection, view_subst, view_word};
 
-use crate::nodes::{NodeKind, NodeLine};
-use crate::spans::{
-    and_or_span, compound_span, function_span, items_span, pipeline_span, redirection_span,
-};
-use crate::tree::{
+use shast::{
     AndOr, AndOrPart, Branch, CaseItem, Command, Comment, Compound, Content, Entry, Form, Function,
-    Item, ItemContent, List, Pipeline, PipelinePart, Redirection, Span, Subst, Word,
+    Item, ItemContent, List, NodeKind, NodeLine, Pipeline, PipelinePart, Redirection, Span, Subst,
+    Word, and_or_span, compound_span, function_span, items_span, pipeline_span, redirection_span,
 };
 use std::alloc::AllocError;
 

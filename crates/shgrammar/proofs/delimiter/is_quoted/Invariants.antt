@@ -1,7 +1,7 @@
 use Rattle.std.proofs.Common.{◌≡◌, ◌-◌, length, drop}
 use Rattle.std.specs.Prelude.{◌==◌, ◌||◌}
 use Rattle.std.specs.List.{list_any}
-use Rattle.shtree.specs.Shape.{bare}
+use Rattle.shast.specs.Shape.{bare}
 use Rattle.shgrammar.specs.HereDocuments.{is_quoted}
 use Rattle.shgrammar.proofs.delimiter.is_quoted.Given as goal
 

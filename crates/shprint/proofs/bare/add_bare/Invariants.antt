@@ -1,5 +1,5 @@
 use Rattle.std.proofs.Common.{◌≡◌, ◌++◌, ◌-◌, drop, take}
-use Rattle.shtree.specs.Shape.{bare, bare_at}
+use Rattle.shast.specs.Shape.{bare, bare_at}
 use Rattle.shprint.proofs.bare.add_bare.Given as goal
 
 abbrev pub invariant-bytes : goal.invariant-bytes

@@ -1,6 +1,6 @@
 use Rattle.std.proofs.Common.{◌≡◌, [], ap, arith, subst, sym}
 use Rattle.shgrammar.specs.Scripts.{view_script}
-use Rattle.shtree.specs.Shape.{shape_of}
+use Rattle.shast.specs.Shape.{shape_of}
 use Rattle.shprint.specs.Printed.{print_script, printed}
 use Rattle.shprint.specs.Marks.{held_behind}
 use Rattle.shprint.specs.Written.{sheet, sheet_of}

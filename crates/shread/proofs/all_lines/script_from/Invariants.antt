@@ -1,7 +1,7 @@
 use Rattle.std.proofs.Common.{◌≡◌, ◌≤◌, ◌-◌, length, map}
-use Rattle.shtree.specs.Nodes.{AreWithin}
-use Rattle.shtree.specs.Tree.{entries_of}
-use Rattle.shtree.specs.View.{view_entry}
+use Rattle.shast.specs.Nodes.{AreWithin}
+use Rattle.shast.specs.Tree.{entries_of}
+use Rattle.shast.specs.View.{view_entry}
 use Rattle.shread.specs.LineByLine.{Rest, Stands, bytes_of, place_of}
 use Rattle.shgrammar.specs.Scripts.{AScript, Outcome, SoFar}
 use Rattle.shread.proofs.all_lines.script_from.Given as goal

@@ -1,8 +1,8 @@
 use Rattle.std.proofs.Common.{map, ◌++◌, ap, sym, ◌∙◌}
 use Rattle.std.proofs.lemmas.List.{map-append, take_all}
-use Rattle.shtree.specs.declared.tree.Command.TheViews.{out-List}
-use Rattle.shtree.specs.View.{view_comment, view_entry}
-use Rattle.shtree.specs.Tree.{entries_of}
+use Rattle.shast.specs.declared.tree.Command.TheViews.{out-List}
+use Rattle.shast.specs.View.{view_comment, view_entry}
+use Rattle.shast.specs.Tree.{entries_of}
 use Rattle.shgrammar.specs.Compounds.{behind_remarks}
 use Rattle.shgrammar.proofs.Remarks.{as_remark, list_seen, remarks_row}
 use Rattle.shread.proofs.for_loop.behind_remarks.Goals as goal

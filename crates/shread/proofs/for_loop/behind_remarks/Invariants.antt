@@ -1,5 +1,5 @@
 use Rattle.std.proofs.Common.{◌≡◌, map, take}
-use Rattle.shtree.specs.View.{view_entry}
+use Rattle.shast.specs.View.{view_entry}
 use Rattle.shgrammar.proofs.Remarks.{as_remark}
 use Rattle.shread.proofs.for_loop.behind_remarks.Given as goal
 

@@ -1,6 +1,6 @@
 use Rattle.std.proofs.Common.{◌≡◌, ◌∙◌, Ok, List as Row, drop, map, ap, sym}
-use Rattle.shtree.specs.Tree.{AnEntry}
-use Rattle.shtree.specs.View.{view_entry}
+use Rattle.shast.specs.Tree.{AnEntry}
+use Rattle.shast.specs.View.{view_entry}
 use Rattle.shread.specs.Clauses.{kept, state_of}
 use Rattle.shgrammar.specs.Form.{does}
 use Rattle.shgrammar.specs.Levels.{level, most_open}

@@ -1,5 +1,5 @@
 use Rattle.std.proofs.Common.{◌∙◌, ap, rules}
-use Rattle.shtree.specs.Nodes.{in_order}
+use Rattle.shast.specs.Nodes.{in_order}
 use Rattle.shtree.proofs.Gathering.{gathered_all}
 use Rattle.shtree.proofs.InOrder.{in_order_from_sort_by}
 use Rattle.shtree.proofs.nodes.gather.Goals as goal

@@ -1,7 +1,7 @@
 use Rattle.std.proofs.Common.{◌-◌, arith, refl}
 use Rattle.std.proofs.lemmas.List.{append-nil}
-use Rattle.shtree.specs.Nodes.{entries_nodes, holds, IsWithin}
-use Rattle.shtree.specs.View.{view_list}
+use Rattle.shast.specs.Nodes.{entries_nodes, holds, IsWithin}
+use Rattle.shast.specs.View.{view_list}
 use Rattle.shtree.proofs.Placed.{all_asked, nodes_at_is, nodes_at_none}
 use Rattle.shtree.proofs.nodes.nodes_at.Goals as goal
 

@@ -1,5 +1,5 @@
-use Rattle.shtree.specs.Nodes.{entries_nodes, in_outline, IsWithin}
-use Rattle.shtree.specs.View.{view_list}
+use Rattle.shast.specs.Nodes.{entries_nodes, in_outline, IsWithin}
+use Rattle.shast.specs.View.{view_list}
 use Rattle.shtree.proofs.Placed.{all_asked, outline_is}
 use Rattle.shtree.proofs.nodes.outline_of.Goals as goal
 

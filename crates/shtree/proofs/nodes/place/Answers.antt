@@ -1,6 +1,6 @@
 use Rattle.std.proofs.Common.{◌∙◌, ◌<◌, ◌≢◌, arith, get_or-set_other, length}
 use Rattle.std.proofs.lemmas.List.{length-set}
-use Rattle.shtree.specs.declared.nodes.NodeLine.{NodeLine}
+use Rattle.shast.specs.declared.node.NodeLine.{NodeLine}
 use Rattle.shtree.proofs.Placed.{placed_more}
 use Rattle.shtree.proofs.nodes.place.Goals as goal
 

@@ -1,6 +1,6 @@
 use Rattle.std.proofs.Common.{◌≡◌, ℕ, ◌<◌, ◌≤◌, ◌-◌, get_or, length}
-use Rattle.shtree.specs.declared.nodes.NodeLine.{NodeLine}
-use Rattle.shtree.specs.Nodes.{IsWithin}
+use Rattle.shast.specs.declared.node.NodeLine.{NodeLine}
+use Rattle.shast.specs.Nodes.{IsWithin}
 use Rattle.shtree.proofs.Placed.{placed_from}
 use Rattle.shtree.proofs.nodes.place.Given as goal
 

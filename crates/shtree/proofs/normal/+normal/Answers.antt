@@ -1,6 +1,6 @@
 use Rattle.std.proofs.Common.{arith}
-use Rattle.shtree.specs.Normal.{is_normal_branch, is_normal_case, is_normal_entry, is_normal_item, is_normal_subst, is_normal_word}
-use Rattle.shtree.specs.View.{view_and_or_part, view_branch, view_case_item, view_entry, view_item, view_pipeline_part, view_subst, view_word}
+use Rattle.shast.specs.Normal.{is_normal_branch, is_normal_case, is_normal_entry, is_normal_item, is_normal_subst, is_normal_word}
+use Rattle.shast.specs.View.{view_and_or_part, view_branch, view_case_item, view_entry, view_item, view_pipeline_part, view_subst, view_word}
 use Rattle.shtree.proofs.AllFrom.{all_more, branches_all, cases_all, entries_all, is_normal_part, is_normal_pipe, items_all, parts_all, patterns_all, pipes_all, substs_all}
 use Rattle.shtree.proofs.normal.+normal.Goals as goal
 

@@ -1,6 +1,6 @@
 use Rattle.std.proofs.Common.{◌≡◌, map}
-use Rattle.shtree.specs.Normal.{is_normal_branch, is_normal_case, is_normal_entry, is_normal_item, is_normal_subst, is_normal_word}
-use Rattle.shtree.specs.View.{view_and_or_part, view_branch, view_case_item, view_entry, view_item, view_pipeline_part, view_subst, view_word}
+use Rattle.shast.specs.Normal.{is_normal_branch, is_normal_case, is_normal_entry, is_normal_item, is_normal_subst, is_normal_word}
+use Rattle.shast.specs.View.{view_and_or_part, view_branch, view_case_item, view_entry, view_item, view_pipeline_part, view_subst, view_word}
 use Rattle.shtree.proofs.AllFrom.{all_from, is_normal_part, is_normal_pipe}
 use Rattle.shtree.proofs.normal.+normal.Given as goal
 

@@ -1,6 +1,6 @@
 use Rattle.std.proofs.Common.{arith}
-use Rattle.shtree.specs.Normal.{is_command}
-use Rattle.shtree.specs.View.{view_entry}
+use Rattle.shast.specs.Normal.{is_command}
+use Rattle.shast.specs.View.{view_entry}
 use Rattle.shtree.proofs.AllFrom.{any_more, command_among}
 use Rattle.shtree.proofs.normal.holds_command.Goals as goal
 

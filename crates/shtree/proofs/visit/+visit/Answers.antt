@@ -1,9 +1,9 @@
 use Rattle.std.proofs.Common.{arith}
 use Rattle.std.proofs.lemmas.List.{append-nil}
-use Rattle.shtree.specs.Nodes.{branch_nodes, case_nodes, entry_nodes, item_nodes, subst_nodes, word_nodes}
-use Rattle.shtree.specs.View.{view_and_or_part, view_branch, view_case_item, view_entry, view_item, view_pipeline_part, view_subst, view_word}
+use Rattle.shast.specs.Nodes.{branch_nodes, case_nodes, entry_nodes, item_nodes, subst_nodes, word_nodes}
+use Rattle.shast.specs.View.{view_and_or_part, view_branch, view_case_item, view_entry, view_item, view_pipeline_part, view_subst, view_word}
 use Rattle.shtree.proofs.Gathering.{from_more, gathered_append, gathered_cons, part_nodes, pipe_nodes}
-use Rattle.shtree.proofs.Seen.{assign_seen, case_seen, entry_seen, for_seen, for_words_seen, function_seen, if_else_seen, if_seen, item_seen, redirection_seen, simple_seen, and_or_part_seen, and_or_seen, branch_seen, case_item_seen, compound_seen, pipeline_part_seen, pipeline_seen, subst_seen, word_seen}
+use Rattle.shast.proofs.Seen.{assign_seen, case_seen, entry_seen, for_seen, for_words_seen, function_seen, if_else_seen, if_seen, item_seen, redirection_seen, simple_seen, and_or_part_seen, and_or_seen, branch_seen, case_item_seen, compound_seen, pipeline_part_seen, pipeline_seen, subst_seen, word_seen}
 use Rattle.shtree.proofs.visit.+visit.Goals as goal
 use Rattle.shtree.proofs.visit.+visit.Goals.{visit_form-in-Some-words+in_ok-visit_items-in-Some-words, visit_form-in-None-words}
 

@@ -1,7 +1,7 @@
 use Rattle.std.proofs.Common.{◌≡◌, map}
 use Rattle.shtree.specs.Gathered.{gathered}
-use Rattle.shtree.specs.Nodes.{branch_nodes, case_nodes, entry_nodes, item_nodes, subst_nodes, word_nodes}
-use Rattle.shtree.specs.View.{view_and_or_part, view_branch, view_case_item, view_entry, view_item, view_pipeline_part, view_subst, view_word}
+use Rattle.shast.specs.Nodes.{branch_nodes, case_nodes, entry_nodes, item_nodes, subst_nodes, word_nodes}
+use Rattle.shast.specs.View.{view_and_or_part, view_branch, view_case_item, view_entry, view_item, view_pipeline_part, view_subst, view_word}
 use Rattle.shtree.proofs.Gathering.{nodes_from, part_nodes, pipe_nodes}
 use Rattle.shtree.proofs.visit.+visit.Given as goal
 

@@ -1,6 +1,6 @@
 use Rattle.std.proofs.Common.{arith}
 use Rattle.shtree.proofs.Gathering.{gathered_none}
-use Rattle.shtree.proofs.Joined.{and_or_alone, and_or_joined}
+use Rattle.shast.proofs.Joined.{and_or_alone, and_or_joined}
 use Rattle.shtree.proofs.visit.add_and_or.Goals as goal
 
 pub returns : goal.returns

@@ -1,6 +1,6 @@
 use Rattle.std.proofs.Common.{arith}
-use Rattle.shtree.specs.declared.tree.Comment.{Comment}
-use Rattle.shtree.specs.View.{view_comment}
+use Rattle.shast.specs.declared.tree.Comment.{Comment}
+use Rattle.shast.specs.View.{view_comment}
 use Rattle.shtree.proofs.Gathering.{comment_row, from_more, gathered_append}
 use Rattle.shtree.proofs.visit.add_comments.Goals as goal
 

@@ -1,6 +1,6 @@
 use Rattle.std.proofs.Common.{◌≡◌, map}
 use Rattle.shtree.specs.Gathered.{gathered}
-use Rattle.shtree.specs.View.{view_comment}
+use Rattle.shast.specs.View.{view_comment}
 use Rattle.shtree.proofs.Gathering.{comment_row, nodes_from}
 use Rattle.shtree.proofs.visit.add_comments.Given as goal
 

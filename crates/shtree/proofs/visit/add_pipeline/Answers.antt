@@ -1,6 +1,6 @@
 use Rattle.std.proofs.Common.{arith, inl, inr}
 use Rattle.shtree.proofs.Gathering.{gathered_none}
-use Rattle.shtree.proofs.Joined.{pipeline_alone, pipeline_joined}
+use Rattle.shast.proofs.Joined.{pipeline_alone, pipeline_joined}
 use Rattle.shtree.proofs.visit.add_pipeline.Goals as goal
 use Rattle.shtree.proofs.visit.add_pipeline.Goals.{else-is_none-via-then-is_none+else-is_empty, else-is_none-via-else-is_none}
 

@@ -1,9 +1,9 @@
 use Rattle.std.proofs.Common.{◌∷◌, [], arith, codes, map}
 use Rattle.std.proofs.Math.Seq.{take-append_seam}
-use Rattle.shtree.specs.Shape.{shape_of, shape_of_branch, shape_of_branches}
-use Rattle.shtree.specs.Tree.{branches_of}
-use Rattle.shtree.specs.View.{view_branch, view_case_item, view_entry, view_list}
-use Rattle.shtree.proofs.Seen.{and_or_part_seen, and_or_seen, branch_seen, case_item_seen, case_seen, compound_seen, entry_seen, for_seen, for_words_seen, function_seen, if_else_seen, if_seen, pipeline_part_seen, pipeline_seen}
+use Rattle.shast.specs.Shape.{shape_of, shape_of_branch, shape_of_branches}
+use Rattle.shast.specs.Tree.{branches_of}
+use Rattle.shast.specs.View.{view_branch, view_case_item, view_entry, view_list}
+use Rattle.shast.proofs.Seen.{and_or_part_seen, and_or_seen, branch_seen, case_item_seen, case_seen, compound_seen, entry_seen, for_seen, for_words_seen, function_seen, if_else_seen, if_seen, pipeline_part_seen, pipeline_seen}
 use Rattle.shprint.specs.Marks.{deeper, lines_between, one, text}
 use Rattle.shprint.specs.Printed.{print_branch, print_branches, print_entries}
 use Rattle.shprint.specs.Written.{sheet}

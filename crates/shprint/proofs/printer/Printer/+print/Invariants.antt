@@ -1,5 +1,5 @@
 use Rattle.std.proofs.Common.{◌≡◌, false, drop, length, map}
-use Rattle.shtree.specs.View.{view_branch, view_case_item, view_entry}
+use Rattle.shast.specs.View.{view_branch, view_case_item, view_entry}
 use Rattle.shprint.specs.Printed.{operand_margin}
 use Rattle.shprint.specs.Written.{sheet, written}
 use Rattle.shprint.proofs.Rows.{branch_marks, case_marks, entry_marks, marks_from, parts_left, pipes_left}

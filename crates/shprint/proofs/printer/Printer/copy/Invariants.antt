@@ -1,5 +1,5 @@
 use Rattle.std.proofs.Common.{◌≡◌, ◌++◌, ◌-◌, drop, take}
-use Rattle.shtree.specs.Shape.{text_at}
+use Rattle.shast.specs.Shape.{text_at}
 use Rattle.shprint.proofs.printer.Printer.copy.Given as goal
 
 abbrev pub invariant-runs : goal.invariant-runs

@@ -1,5 +1,5 @@
 use Rattle.std.proofs.Common.{append_assoc, arith}
-use Rattle.shtree.proofs.Seen.{word_seen}
+use Rattle.shast.proofs.Seen.{word_seen}
 use Rattle.shprint.proofs.Writing.{written_document}
 use Rattle.shprint.proofs.printer.Printer.hold_document.Goals as goal
 

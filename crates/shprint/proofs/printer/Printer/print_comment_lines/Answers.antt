@@ -1,6 +1,6 @@
 use Rattle.std.proofs.Common.{arith}
-use Rattle.shtree.specs.declared.tree.Comment.{Comment}
-use Rattle.shtree.specs.View.{view_comment}
+use Rattle.shast.specs.declared.tree.Comment.{Comment}
+use Rattle.shast.specs.View.{view_comment}
 use Rattle.shprint.proofs.Rows.{comment_line, from_more}
 use Rattle.shprint.proofs.Writing.{written_append, written_cons}
 use Rattle.shprint.proofs.printer.Printer.print_comment_lines.Goals as goal

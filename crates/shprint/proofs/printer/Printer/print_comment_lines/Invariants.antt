@@ -1,5 +1,5 @@
 use Rattle.std.proofs.Common.{◌≡◌, map}
-use Rattle.shtree.specs.View.{view_comment}
+use Rattle.shast.specs.View.{view_comment}
 use Rattle.shprint.specs.Written.{sheet, written}
 use Rattle.shprint.proofs.Rows.{comment_line, marks_from}
 use Rattle.shprint.proofs.printer.Printer.print_comment_lines.Given as goal

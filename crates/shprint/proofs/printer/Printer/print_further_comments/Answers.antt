@@ -1,6 +1,6 @@
 use Rattle.std.proofs.Common.{arith}
-use Rattle.shtree.specs.declared.tree.Comment.{Comment}
-use Rattle.shtree.specs.View.{view_comment}
+use Rattle.shast.specs.declared.tree.Comment.{Comment}
+use Rattle.shast.specs.View.{view_comment}
 use Rattle.shprint.proofs.Rows.{from_more, further_comment}
 use Rattle.shprint.proofs.Writing.{written_append, written_cons}
 use Rattle.shprint.proofs.printer.Printer.print_further_comments.Goals as goal

@@ -1,5 +1,5 @@
 use Rattle.std.proofs.Common.{◌≡◌, map}
-use Rattle.shtree.specs.View.{view_comment}
+use Rattle.shast.specs.View.{view_comment}
 use Rattle.shprint.specs.Written.{sheet, written}
 use Rattle.shprint.proofs.Rows.{further_comment, marks_from}
 use Rattle.shprint.proofs.printer.Printer.print_further_comments.Given as goal

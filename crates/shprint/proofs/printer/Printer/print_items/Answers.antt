@@ -1,6 +1,6 @@
 use Rattle.std.proofs.Common.{arith}
-use Rattle.shtree.specs.View.{view_item}
-use Rattle.shtree.proofs.Seen.{item_seen}
+use Rattle.shast.specs.View.{view_item}
+use Rattle.shast.proofs.Seen.{item_seen}
 use Rattle.shprint.proofs.Rows.{from_more, item_marks}
 use Rattle.shprint.proofs.Writing.{written_append}
 use Rattle.shprint.proofs.printer.Printer.print_items.Goals as goal

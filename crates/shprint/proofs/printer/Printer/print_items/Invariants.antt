@@ -1,5 +1,5 @@
 use Rattle.std.proofs.Common.{◌≡◌, map}
-use Rattle.shtree.specs.View.{view_item}
+use Rattle.shast.specs.View.{view_item}
 use Rattle.shprint.specs.Written.{sheet, written}
 use Rattle.shprint.proofs.Rows.{item_marks, marks_from}
 use Rattle.shprint.proofs.printer.Printer.print_items.Given as goal

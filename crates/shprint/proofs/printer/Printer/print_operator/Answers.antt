@@ -1,5 +1,5 @@
 use Rattle.std.proofs.Common.{arith}
-use Rattle.shtree.proofs.Seen.{word_seen}
+use Rattle.shast.proofs.Seen.{word_seen}
 use Rattle.shprint.proofs.Writing.{written_append, written_cons}
 use Rattle.shprint.proofs.printer.Printer.print_operator.Goals as goal
 

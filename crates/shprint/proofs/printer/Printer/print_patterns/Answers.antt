@@ -1,5 +1,5 @@
 use Rattle.std.proofs.Common.{arith}
-use Rattle.shtree.specs.View.{view_word}
+use Rattle.shast.specs.View.{view_word}
 use Rattle.shprint.proofs.Rows.{from_more, pattern_marks}
 use Rattle.shprint.proofs.Writing.{written_append, written_cons}
 use Rattle.shprint.proofs.printer.Printer.print_patterns.Goals as goal

@@ -1,5 +1,5 @@
 use Rattle.std.proofs.Common.{◌≡◌, map}
-use Rattle.shtree.specs.View.{view_word}
+use Rattle.shast.specs.View.{view_word}
 use Rattle.shprint.specs.Written.{sheet, written}
 use Rattle.shprint.proofs.Rows.{pattern_marks, marks_from}
 use Rattle.shprint.proofs.printer.Printer.print_patterns.Given as goal

@@ -1,5 +1,5 @@
 use Rattle.std.proofs.Common.{append-nil, arith}
-use Rattle.shtree.proofs.Seen.{redirection_seen}
+use Rattle.shast.proofs.Seen.{redirection_seen}
 use Rattle.shprint.proofs.Parts.{here_none}
 use Rattle.shprint.proofs.Writing.{written_append, written_cons}
 use Rattle.shprint.proofs.printer.Printer.print_redirection.Goals as goal

@@ -1,7 +1,7 @@
 use Rattle.std.proofs.Common.{◌≡◌, ◌+◌, Some, arith, false, slice_get}
-use Rattle.shtree.proofs.Seen.{item_seen}
-use Rattle.shtree.specs.Shape.{shape_of_item}
-use Rattle.shtree.specs.View.{view_item}
+use Rattle.shast.proofs.Seen.{item_seen}
+use Rattle.shast.specs.Shape.{shape_of_item}
+use Rattle.shast.specs.View.{view_item}
 use Rattle.shprint.specs.Printed.{is_broken_item}
 use Rattle.shprint.proofs.Spaced.{word_is}
 use Rattle.shprint.proofs.printer.Printer.word_behind.Goals as goal

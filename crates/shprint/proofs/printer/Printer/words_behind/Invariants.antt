@@ -1,7 +1,7 @@
 use Rattle.std.proofs.Common.{◌≡◌, ◌≤◌, ◌∷◌, length, map}
-use Rattle.shtree.specs.Shape.{Text, shape_of_items}
-use Rattle.shtree.specs.Tree.{items_of}
-use Rattle.shtree.specs.View.{view_item}
+use Rattle.shast.specs.Shape.{Text, shape_of_items}
+use Rattle.shast.specs.Tree.{items_of}
+use Rattle.shast.specs.View.{view_item}
 use Rattle.shprint.specs.declared.layout.Layout.{Layout}
 use Rattle.shprint.specs.Marks.{text}
 use Rattle.shprint.specs.Printed.{print_items}

@@ -11,10 +11,10 @@ use Rattle.shgrammar.specs.Sights.{State, given}
 use Rattle.shgrammar.specs.Substitutions.{substituted}
 use Rattle.shgrammar.specs.Words.{having}
 use Rattle.shgrammar.specs.Levels.{level}
-use Rattle.shtree.specs.declared.tree.Span.{Span}
-use Rattle.shtree.specs.Bodies.{filled}
-use Rattle.shtree.specs.Tree.{ASubst, subst}
-use Rattle.shtree.specs.View.{view_list, view_subst}
+use Rattle.shast.specs.declared.tree.Span.{Span}
+use Rattle.shast.specs.Bodies.{filled}
+use Rattle.shast.specs.Tree.{ASubst, subst}
+use Rattle.shast.specs.View.{view_list, view_subst}
 use Rattle.shgrammar.proofs.Levels.{substitution_read}
 use Rattle.shgrammar.proofs.PlainBytes.{ordinary_here, piece_and_plain}
 use Rattle.shread.proofs.cursor.Cursor.+commands.Goals as goal

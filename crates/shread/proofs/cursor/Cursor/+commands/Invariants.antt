@@ -9,7 +9,7 @@ use Rattle.shgrammar.specs.Levels.{level}
 use Rattle.shread.specs.Listed.{view_cases, view_listed}
 use Rattle.shgrammar.specs.Lists.{entry_turn, list_so, list_turn}
 use Rattle.shgrammar.specs.Words.{a_piece, contents, having}
-use Rattle.shtree.specs.View.{view_and_or_part, view_branch, view_item, view_pipeline_part, view_subst, view_word}
+use Rattle.shast.specs.View.{view_and_or_part, view_branch, view_item, view_pipeline_part, view_subst, view_word}
 use Rattle.shread.proofs.cursor.Cursor.+commands.Given as goal
 
 -- ---- the way down: to what is read inside, and at last to fewer that may be opened

@@ -3,7 +3,7 @@ use Rattle.shgrammar.specs.Shows.{Shows}
 use Rattle.shread.specs.Clauses.{Keeps, reads, reads_at, state_of, text_of}
 use Rattle.shgrammar.specs.Commands.{join_so, join_turn}
 use Rattle.shgrammar.specs.Form.{many}
-use Rattle.shtree.specs.View.{view_join}
+use Rattle.shast.specs.View.{view_join}
 use Rattle.shread.proofs.cursor.Cursor.join_on.Given as goal
 
 abbrev pub invariant-turns : goal.invariant-turns

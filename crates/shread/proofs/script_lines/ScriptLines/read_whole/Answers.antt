@@ -1,6 +1,6 @@
 use Rattle.std.proofs.Common.{◌≡◌, ◌∙◌, map, refl, sym, subst, false, true, Ok}
 use Rattle.shgrammar.specs.declared.keep.Keep.TheVariants.{Outer}
-use Rattle.shtree.specs.View.{view_entry}
+use Rattle.shast.specs.View.{view_entry}
 use Rattle.shgrammar.specs.Scripts.{line_from}
 use Rattle.shgrammar.specs.Sights.{standing}
 use Rattle.shread.proofs.LineByLine.{fault_told}

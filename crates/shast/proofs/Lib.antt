@@ -1,0 +1,17 @@
+pub mod Last
+pub mod Seen
+pub mod Joined
+pub mod SameForm
+pub mod Shaped
+pub mod Spelled
+pub mod Reach
+pub mod Ends
+pub mod Redirected
+pub mod Going
+pub mod FilledBack
+pub mod FilledBlind
+pub mod OpenSame
+pub mod FilledShape
+pub mod FilledBodies
+pub mod BodiesInOrder
+pub mod Written
