@@ -15,3 +15,7 @@ pub mod FilledShape
 pub mod FilledBodies
 pub mod BodiesInOrder
 pub mod Written
+pub mod MovedOver
+pub mod FormMoved
+pub mod NodesMoved
+pub mod Appended

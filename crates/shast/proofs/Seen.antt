@@ -1,5 +1,5 @@
 -- What the view of a part of a tree is, by the views of what it holds.
-use Rattle.std.proofs.Common.{◌≡◌, map, option_map, rules, Vec, Global, Some, None}
+use Rattle.std.proofs.Common.{◌≡◌, map, Option, option_map, rules, Vec, Global, Some, None}
 use Rattle.shast.specs.declared.tree.AndOr.{AndOr}
 use Rattle.shast.specs.declared.tree.AndOrPart.{AndOrPart}
 use Rattle.shast.specs.declared.tree.Branch.{Branch}
@@ -21,10 +21,16 @@ use Rattle.shast.specs.declared.tree.Form.TheVariants.{rolls-If, rolls-For, roll
 use Rattle.shast.specs.declared.tree.ItemContent.TheVariants.{rolls-Assign}
 use Rattle.shast.specs.declared.tree.Form as the_form
 use Rattle.shast.specs.declared.tree.ItemContent as the_item_content
-use Rattle.shast.specs.declared.tree.Command.TheViews.{out-AndOr, out-AndOrPart, out-Branch, out-CaseItem, out-Compound, out-Entry, out-Function, out-Item, out-Pipeline, out-PipelinePart, out-Redirection, out-Subst, out-Word}
-use Rattle.shast.specs.declared.tree.Command.TheFolds.{fold-roll-Command, fold-roll-Form, fold-roll-ItemContent, fold_out-AndOr, fold_out-AndOrPart, fold_out-Branch, fold_out-CaseItem, fold_out-Compound, fold_out-Entry, fold_out-Function, fold_out-Item, fold_out-Pipeline, fold_out-PipelinePart, fold_out-Redirection, fold_out-Subst, fold_out-Word}
-use Rattle.shast.specs.Tree.{and_or, and_or_parts_of, assign, branch, branches_of, case_in, case_item, cases_of, entry, for_in, formed, function, if_then, in_words, item, items_of, no_else, no_in, otherwise, patterns_of, pipeline, pipeline_parts_of, redirect, simple, subst, substs_of, word}
-use Rattle.shast.specs.View.{view_and_or, view_and_or_part, view_branch, view_case_item, view_command, view_comment, view_compound, view_content, view_entry, view_form, view_function, view_here, view_item, view_item_content, view_join, view_list, view_pipeline, view_pipeline_part, view_redirection, view_subst, view_word}
+use Rattle.shast.specs.declared.tree.Command.TheViews.{out-AndOr, out-AndOrPart, out-Branch, out-CaseItem, out-Compound, out-Entry, out-Function, out-Item, out-List, out-Pipeline, out-PipelinePart, out-Redirection, out-Subst, out-Word, roll-List}
+use Rattle.shast.specs.declared.tree.Command.TheFolds.{fold-roll-Command, fold-roll-Form, fold-roll-ItemContent, fold-roll-List, fold_out-AndOr, fold_out-AndOrPart, fold_out-Branch, fold_out-CaseItem, fold_out-Compound, fold_out-Entry, fold_out-Function, fold_out-Item, fold_out-List, fold_out-Pipeline, fold_out-PipelinePart, fold_out-Redirection, fold_out-Subst, fold_out-Word}
+use Rattle.shast.specs.Tree.{and_or, and_or_parts_of, assign, branch, branches_of, case_in, case_item, cases_of, entries_of, entry, for_in, formed, function, if_then, in_words, item, items_of, no_else, no_in, otherwise, patterns_of, pipeline, pipeline_parts_of, redirect, simple, subst, substs_of, word}
+use Rattle.shast.specs.View.{view_and_or, view_and_or_part, view_branch, view_case_item, view_command, view_comment, view_compound, view_content, view_entry, view_form, view_function, view_here, view_item, view_item_content, view_join, view_list, view_otherwise, view_pipeline, view_pipeline_part, view_redirection, view_subst, view_word}
+
+pub list_seen : (l : List) → view_list l ≡ entries_of (map view_entry (out-List l).entries.items)
+list_seen l = search (rules, fold_out-List)
+
+pub list_made : (entries : Vec Entry Global) → view_list (roll-List (record { entries = entries })) ≡ entries_of (map view_entry entries.items)
+list_made entries = search (rules, fold-roll-List)
 
 pub subst_seen : (s : Subst) → view_subst s ≡ subst (view_list (out-Subst s).list) (out-Subst s).span
 subst_seen s = search (rules, fold_out-Subst)
@@ -80,6 +86,11 @@ if_seen first rest = rw (← rolls-If first rest None) (search (rules, fold-roll
 pub if_else_seen : (first : Branch) (rest : Vec Branch Global) (other : List)
     → view_form (the_form.TheVariants.If first rest (Some other)) ≡ if_then (view_branch first) (branches_of (map view_branch rest.items)) (otherwise (view_list other))
 if_else_seen first rest other = rw (← rolls-If first rest (Some other)) (search (rules, fold-roll-Form))
+
+pub if_all_seen : (first : Branch) (rest : Vec Branch Global) (other : Option List)
+    → view_form (the_form.TheVariants.If first rest other) ≡ if_then (view_branch first) (branches_of (map view_branch rest.items)) (view_otherwise other)
+if_all_seen first rest None = if_seen first rest
+if_all_seen first rest (Some other) = if_else_seen first rest other
 
 pub for_seen : (name : Word) (body : List) → view_form (the_form.TheVariants.For name None body) ≡ for_in (view_word name) no_in (view_list body)
 for_seen name body = rw (← rolls-For name None body) (search (rules, fold-roll-Form))

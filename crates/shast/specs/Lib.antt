@@ -2,7 +2,10 @@ pub mod Tree
 pub mod View
 pub mod Normal
 pub mod Nodes
+pub mod Moved
+pub mod Capped
 pub mod Shape
 pub mod Spelling
 pub mod Bodies
 pub mod Opened
+pub mod Everywhere

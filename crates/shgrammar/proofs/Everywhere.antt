@@ -1,5 +1,6 @@
--- No span of what was read, that of a here-document's body among them, names an offset behind the place where the reading stands then.
-use Rattle.std.proofs.Common.{◌≡◌, sym, subst, ℕ, zero, suc, ◌+◌, ◌≤◌, Bool, Ok, List, List as Row, [], ◌∷◌, Option, Some, None, arith}
+-- No span of what was read, that of a here-document's body among them, names an offset behind the place where the reading stands then;
+-- and each simple command that was read has an item.
+use Rattle.std.proofs.Common.{◌≡◌, sym, subst, ℕ, zero, suc, ◌+◌, ◌≤◌, Bool, true, false, Ok, List, List as Row, [], ◌∷◌, Option, Some, None, arith}
 use Rattle.std.specs.Prelude.{All, unwrap_or}
 use Rattle.std.proofs.lemmas.List.Elements.{All-head, All-nil, All-tail}
 use Rattle.shgrammar.specs.declared.keep.Keep.TheVariants.{Whole}
@@ -23,14 +24,14 @@ use Rattle.shgrammar.specs.Lists.{list_so, none_listed, Listed}
 use Rattle.shgrammar.specs.Compounds.{held_apart, Branched, branched, Closed, is_closing, is_open_paren, is_close_paren, passed, closing, a_branch, elif_turn, an_else, an_if, a_loop, a_group, a_for_name, a_sequential_sep, Headed, word_turn, for_words, a_for_head, behind_remarks, a_for, a_form, a_compound, a_function, under_name, a_case_word, begins_pattern, Patterned, a_pattern, one_pattern, pattern_turn, a_pattern_list, a_body, body_end, ItemEnd, a_double_semicolon, an_item_end, CasesSo, cases_so, one_case, case_turn, a_case_head, a_case}
 use Rattle.shgrammar.specs.Substitutions.{substituted, a_substitution, one_substitution}
 use Rattle.shgrammar.specs.Levels.{most_open, level}
-use Rattle.shgrammar.specs.Lines.{an_open_line, a_line}
+use Rattle.shgrammar.specs.Lines.{an_open_line, a_line, ALine, IsLine, line_read, line_stops, kind_of, EntriesEverywhere}
 use Rattle.shgrammar.specs.Scripts.{the_line}
-use Rattle.shgrammar.specs.Everywhere.{Throughout}
+use Rattle.shast.specs.Everywhere.{IsSome, Throughout}
 use Rattle.shgrammar.proofs.OneOutcome.{is}
 use Rattle.shgrammar.proofs.Holds.{Holds}
-use Rattle.shgrammar.proofs.UpToLimit.{UpTo, Stepped, adds, after, bare_token, ending, first, first_on, gives, in_level, picks, pushes, repeats, sees, stands, stops, unless, in_subst}
-use Rattle.shgrammar.proofs.EachSpan.{AreIn, BranchIn, CaseIn, CommandIn, ElseIn, EntriesIn, EntryIn, ForWordsIn, FormIn, ItemIn, SubstIn, WordIn, bodies_in, branches_in, cases_in, commands_end_low, entries_in, items_in, spans_in, words_in}
-use Rattle.shgrammar.proofs.ListsEverywhere.{Fine, ItemsIn, JoinIn, ListIn, PartedIn, compound_in_by, contents_in, linebreak_in, lines_in, list_in, on_line_in, one_item_in, stopped, word_in}
+use Rattle.shgrammar.proofs.UpToLimit.{UpTo, Stepped, adds, after, bare_token, ending, first, first_on, follows, gives, in_level, in_subst, picks, pushes, repeats, sees, stands, step_so, stops, unless}
+use Rattle.shgrammar.proofs.EachSpan.{AreIn, BranchIn, CaseIn, CommandIn, ElseIn, EntriesIn, EntryIn, ForWordsIn, FormIn, ItemIn, SubstIn, WordIn, all_within, bodies_in, branches_in, cases_in, commands_end_low, entries_in, have_items, items_in, spans_in, words_in}
+use Rattle.shgrammar.proofs.ListsEverywhere.{Fine, ItemsIn, JoinIn, ListIn, PartedIn, SomeItems, compound_in_by, contents_in, linebreak_in, lines_in, list_in, on_line_in, one_item_in, stopped, word_in}
 
 module _ {g : Given} {limit : ℕ} where
   module _ {inner : Inner} (fine : Fine g limit inner) where
@@ -97,7 +98,7 @@ module _ {g : Given} {limit : ℕ} where
 
     word_turn_in : (i : Items) (s : State) → ItemsIn limit i → UpTo g limit (word_turn inner i) (Stepped (ItemsIn limit)) s
     unfolding word_turn
-    word_turn_in i s so = picks (is_word i.next.token) (one_item_in fine i Suffix s so) (gives so)
+    word_turn_in i s so = picks (is_word i.next.token) (follows (one_item_in fine i Suffix s so) (step_so (SomeItems limit) (ItemsIn limit) (λ j all. all.0))) (gives so)
 
     for_words_in : (cs : Row Span) (s : State) → AreIn limit cs → UpTo g limit (for_words inner cs) HeadIn s
     unfolding for_words
@@ -275,8 +276,19 @@ module _ (g : Given) (limit : ℕ) where
 
 -- the entries of a line that is read where it stands in a script
 pub line_throughout : (T : List ℕ) (o : ℕ) (blank newline : Bool) (es : Row AnEntry) (t : State) → does (the_line blank) Whole (given T o) (standing 0) ≡ Ok ((es, newline), t)
-    → (limit : ℕ) → o + t.at ≤ limit → Throughout (IsSpanWithin limit) (entries_of es)
+    → (limit : ℕ) → o + t.at ≤ limit → Throughout (IsSpanWithin limit) IsSome (entries_of es)
 line_throughout T o blank newline es t is limit le =
     let g = given T o in
     let told = (line_in (level_in g limit most_open) blank (standing 0)).told.told in
-    subst (Holds (λ (x : Row AnEntry × Bool) (u : State). o + u.at ≤ limit → Throughout (IsSpanWithin limit) (entries_of x.0))) is told le
+    subst (Holds (λ (x : Row AnEntry × Bool) (u : State). o + u.at ≤ limit → Throughout (IsSpanWithin limit) IsSome (entries_of x.0))) is told le
+
+kind_everywhere : (limit : ℕ) (es : Row AnEntry) (newline : Bool) → Throughout (IsSpanWithin limit) IsSome (entries_of es) → EntriesEverywhere limit (kind_of es newline)
+kind_everywhere limit [] true so = tt
+kind_everywhere limit [] false so = tt
+kind_everywhere limit (e ∷ es) newline so = (all_within limit (entries_of (e ∷ es)) so, have_items limit (entries_of (e ∷ es)) so)
+
+-- those of a line, as far as the line goes
+pub line_everywhere : (T : List ℕ) (l : ALine) → IsLine T l → EntriesEverywhere l.next l.kind
+line_everywhere T l (line_read es newline t k part) =
+    kind_everywhere t.at es newline (line_throughout T 0 false newline es t (sym ((is (the_line false) (given T 0) (standing 0)).only _ _ part)) t.at (omega arith))
+line_everywhere T l (line_stops f k part) = tt

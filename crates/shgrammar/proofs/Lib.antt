@@ -59,3 +59,4 @@ pub mod MovedSubstitutions
 pub mod MovedLine
 pub mod Passing
 pub mod Unquoted
+pub mod Joining

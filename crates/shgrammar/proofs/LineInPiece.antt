@@ -8,9 +8,10 @@ use Rattle.shast.specs.Nodes.{IsSpanWithin, placed_span}
 use Rattle.shast.specs.Shape.{shape_of, text_at}
 use Rattle.shast.specs.Tree.{AnEntry, entries_of, entry}
 use Rattle.shgrammar.specs.declared.fault.Fault.{Fault}
-use Rattle.shgrammar.specs.Everywhere.{Throughout}
+use Rattle.shast.specs.Everywhere.{IsSome, Throughout}
 use Rattle.shgrammar.specs.Form.{Read, does}
-use Rattle.shgrammar.specs.Moved.{Same, SameBy, blanked_row, body_by, carried_entry, moved_entry, moved_fault, outer_entry, placed_body, placed_entry}
+use Rattle.shgrammar.specs.Moved.{Same, SameBy, moved_fault}
+use Rattle.shast.specs.Moved.{blanked_row, body_by, carried_entry, moved_entry, outer_entry, placed_body, placed_entry}
 use Rattle.shgrammar.specs.Scripts.{line_from, line_told, the_line}
 use Rattle.shgrammar.specs.Sights.{State, given, standing}
 use Rattle.shgrammar.proofs.EachSpan.{throughout_so}
@@ -45,22 +46,23 @@ body_moved n S s (suc m) is = text_moved n S s
 -- ---- rows of entries
 
 module _ (B C : List ℕ) (f h : Span → Span) where
-  row_same : (es : Row AnEntry) → Throughout (SameText B C f h) (entries_of es) → shape_of B (entries_of (map (carried_entry f h true) es)) ≡ shape_of C (entries_of es)
+  row_same : (es : Row AnEntry) → Throughout (SameText B C f h) IsSome (entries_of es) → shape_of B (entries_of (map (carried_entry f h true) es)) ≡ shape_of C (entries_of es)
   row_same [] so = refl
-  row_same (e ∷ es) so = rw (entry_same B C f h e so.0, row_same es so.1) refl
+  row_same (e ∷ es) so = rw (entry_same B C f h IsSome e so.0, row_same es so.1) refl
 
-  blanked_same : (blank : Bool) (es : Row AnEntry) → Throughout (SameText B C f h) (entries_of es)
+  blanked_same : (blank : Bool) (es : Row AnEntry) → Throughout (SameText B C f h) IsSome (entries_of es)
       → shape_of B (entries_of (blanked_row blank (map (carried_entry f h true) es))) ≡ shape_of C (entries_of (blanked_row blank es))
   blanked_same blank [] so = refl
-  blanked_same blank (entry what background b comment ∷ es) so = rw (entry_same B C f h (entry what background blank comment) so.0, row_same es so.1) refl
+  blanked_same blank (entry what background b comment ∷ es) so = rw (entry_same B C f h IsSome (entry what background blank comment) so.0, row_same es so.1) refl
 
 -- the entries of a line at n, whose bytes are the first ones of D
-shape_there : (S D : List ℕ) (n m : ℕ) (blank : Bool) (es : Row AnEntry) → take m (drop n S) ≡ take m D → Throughout (IsSpanWithin m) (entries_of es)
+shape_there : (S D : List ℕ) (n m : ℕ) (blank : Bool) (es : Row AnEntry) → take m (drop n S) ≡ take m D → Throughout (IsSpanWithin m) IsSome (entries_of es)
     → shape_of S (entries_of (blanked_row blank (map (moved_entry n) es))) ≡ shape_of D (entries_of (blanked_row blank es))
 shape_there S D n m blank es same within =
     blanked_same S D (placed_span n) (placed_body n) blank es
-    (throughout_so (IsSpanWithin m) (SameText S D (placed_span n) (placed_body n))
-    (λ s low. (text_moved n S s ∙ text_front m (drop n S) D s same low, body_moved n S s s.«end» refl ∙ text_front m (drop n S) D s same low)) (entries_of es) within)
+    (throughout_so (IsSpanWithin m) (SameText S D (placed_span n) (placed_body n)) IsSome IsSome
+    (λ s low. (text_moved n S s ∙ text_front m (drop n S) D s same low, body_moved n S s s.«end» refl ∙ text_front m (drop n S) D s same low))
+    (λ items some. some) (entries_of es) within)
 
 -- ---- the line
 

@@ -75,7 +75,7 @@ line_ended_low inner blank keep g s =
     tells_then keep g {P = λ l t. l.0.1 ≡ true → s.at < t.at} (tells_level keep g (open_ended_low inner blank keep g (own_level s)) (λ x t so. so)) (λ l t so. tells_give keep g so)
 
 -- at the end of the text there is none
-nothing : (blank : Bool) (keep : Keep) (o : ℕ) → does (the_line blank) keep (given [] o) (standing 0) ≡ Ok (([], false), standing 0)
+pub nothing : (blank : Bool) (keep : Keep) (o : ℕ) → does (the_line blank) keep (given [] o) (standing 0) ≡ Ok (([], false), standing 0)
 unfolding a_line an_open_line nothing_waits filled_row next_token on_line many turns turns_below entry_turn a_remark a_comment end_of_line token_at comment_at raw_stands past count_front past_blanks past_continuations count_joined past_below
 nothing blank keep o = refl
 

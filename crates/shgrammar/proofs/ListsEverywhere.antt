@@ -1,7 +1,8 @@
--- Words, commands and lists: no span in them names an offset behind the place where the reading stands then.
-use Rattle.std.proofs.Common.{◌≡◌, refl, ℕ, ◌+◌, ◌≤◌, Bool, false, List as Row, [], Option, Some, None, is_some, arith}
-use Rattle.std.specs.Prelude.{All, MatchOption}
-use Rattle.std.proofs.lemmas.List.Elements.{All-nil}
+-- Words, commands and lists: no span in them names an offset behind the place where the reading stands then, and each simple command has
+-- an item.
+use Rattle.std.proofs.Common.{◌≡◌, refl, ℕ, ◌+◌, ◌≤◌, Bool, false, List as Row, [], Option, Some, None, is_some, ap, ◌∙◌, arith}
+use Rattle.std.specs.Prelude.{All, MatchOption, ◌||◌}
+use Rattle.std.proofs.lemmas.List.Elements.{All-nil, All-push}
 use Rattle.shgrammar.specs.declared.mode.Mode.{Mode}
 use Rattle.shgrammar.specs.declared.mode.Piece.{Piece}
 use Rattle.shgrammar.specs.declared.mode.Piece.TheVariants as pieces
@@ -10,6 +11,7 @@ use Rattle.shgrammar.specs.declared.token.Opener.{Opener}
 use Rattle.shgrammar.specs.declared.token.Position.{Position}
 use Rattle.shgrammar.specs.declared.token.Position.TheVariants.{Command, Prefix, Suffix}
 use Rattle.shgrammar.specs.declared.token.Separator.{Separator}
+use Rattle.shgrammar.specs.declared.token.Token.{Token}
 use Rattle.shast.specs.declared.tree.AndOrOperator.{AndOrOperator}
 use Rattle.shast.specs.declared.tree.RedirectOperator.{RedirectOperator}
 use Rattle.shast.specs.declared.tree.Span.{Span}
@@ -19,15 +21,16 @@ use Rattle.shgrammar.specs.Bytes.{past_continuations, behind}
 use Rattle.shgrammar.specs.Comments.{span, comment_at}
 use Rattle.shgrammar.specs.Sights.{Given, State}
 use Rattle.shgrammar.specs.HereDocuments.{ADelimiter, delimiter_of}
-use Rattle.shgrammar.specs.Form.{Spelled, many}
+use Rattle.shgrammar.specs.Form.{Spelled, push, many}
 use Rattle.shgrammar.specs.Words.{Inner, Held, having, opened, piece_row, a_piece, contents, a_word}
 use Rattle.shgrammar.specs.Commands.{is_pipe, is_bang, begins_simple, begins_redirect, begins_pipeline, behind_word, opener_of, compound_by, and_or_operator_of, breaks, Items, so_many, is_number, redirect_operator_of, is_strip, takes_here, document_by, a_document, a_number, an_operator, operator_by, a_target, one_redirect, behind_redirect, redirect_turn, redirected, as_item, an_item, item_by, item_turn, a_simple, a_bang, a_comment, comment_by, unexpected, with_comment, JoinSo, join_turn, a_join, a_command, Piped, piped, one_command, pipe_turn, a_pipeline, Joined, joined_so, one_pipeline, joined_by, join_pipeline, an_and_or, an_entry, a_worded, is_word, is_paren, separator_of, separator_by, a_separator, past_separator}
 use Rattle.shgrammar.specs.Lists.{ListSo, list_so, none_listed, one_entry, entry_turn, remark_by, a_remark, on_line, list_turn, a_list}
 use Rattle.shgrammar.specs.Compounds.{a_linebreak}
+use Rattle.shast.specs.Everywhere.{IsSome}
 use Rattle.shgrammar.proofs.Ahead.{behind_is}
 use Rattle.shgrammar.proofs.Places.{behind_low}
-use Rattle.shgrammar.proofs.UpToLimit.{UpTo, Stepped, after, bare_token, comment_ends, first, gives, moves, picks, pushes, repeats, sees, stepped, stops, tokens, unless, with_its_bytes}
-use Rattle.shgrammar.proofs.EachSpan.{AndOrIn, AreIn, CommandIn, EntriesIn, EntryIn, HereIn, ItemIn, PartIn, PipeIn, PipelineIn, SomeIn, SubstIn, WordIn, entries_in, items_in, parts_in, pipes_in, substs_in}
+use Rattle.shgrammar.proofs.UpToLimit.{UpTo, Stepped, adds, after, bare_token, comment_ends, first, follows, gives, grows, moves, picks, picks_by, pushes, repeats, sees, step_so, stepped, stops, tokens, unless, with_its_bytes}
+use Rattle.shgrammar.proofs.EachSpan.{AndOrIn, AreIn, CommandIn, EntriesIn, EntryIn, HereIn, ItemIn, PartIn, PipeIn, PipelineIn, SomeIn, SubstIn, WordIn, entries_in, items_in, parts_in, pipes_in, some_pushed, substs_in}
 
 -- ---- what holds of what was read so far
 
@@ -37,6 +40,14 @@ module _ (limit : ℕ) where
 
   abbrev pub ItemsIn : Items → Type 0
   ItemsIn i = All (ItemIn limit) i.items
+
+  -- and there is one
+  abbrev pub SomeItems : Items → Type 0
+  SomeItems i = ItemsIn i × IsSome (items_of i.items)
+
+  -- and there is one, or the token behind them begins one
+  abbrev pub ItemsBegin : Items → Type 0
+  ItemsBegin i = ItemsIn i × (begins_simple i.next.token ≡ false → IsSome (items_of i.items))
 
   abbrev pub PipesIn : Piped → Type 0
   PipesIn p = All (PipeIn limit) p.parts
@@ -61,7 +72,15 @@ pub record Fine (g : Given) (limit : ℕ) (inner : Inner) : Type 0 where
   pub compound : (o : Opener) (s : State) → UpTo g limit (inner.compound o) (λ c. CommandIn limit c.0) s
   pub function : (name : Span) (s : State) → IsSpanWithin limit name → UpTo g limit (inner.function name) (λ c. CommandIn limit c.0) s
 
+-- a token begins no simple command where it begins neither a word nor a redirection
+none_begins : (t : Token) → behind_word t ≡ None → begins_redirect t ≡ false → begins_simple t ≡ false
+none_begins t no_word other = ap (λ (o : Option Position). is_some o || begins_redirect t) no_word ∙ other
+
 module _ {g : Given} {limit : ℕ} where
+  -- one more item
+  one_more : {xs : Row AnItem} {x : AnItem} {s : State} → All (ItemIn limit) xs → ItemIn limit x → UpTo g limit (push xs x) (λ is. All (ItemIn limit) is × IsSome (items_of is)) s
+  one_more {xs = xs} {x = x} all one = adds (All-push (ItemIn limit) xs x all one, some_pushed xs x)
+
   -- where a token is unexpected, nothing is read
   pub stopped : {X : Type 0} {P : X → Type 0} (inner : Inner) (n : Next) {s : State} → UpTo g limit (unexpected {X = X} inner n) P s
   stopped inner n = after (λ w t. stops)
@@ -180,9 +199,9 @@ module _ {g : Given} {limit : ℕ} where
     item_in Prefix broken w so = so
     item_in Suffix broken w so = so
 
-    pub one_item_in : (i : Items) (position : Position) (s : State) → ItemsIn limit i → UpTo g limit (an_item inner i position) (Stepped (ItemsIn limit)) s
+    pub one_item_in : (i : Items) (position : Position) (s : State) → ItemsIn limit i → UpTo g limit (an_item inner i position) (Stepped (SomeItems limit)) s
     unfolding an_item
-    one_item_in i position s so = first (word_in s) (λ w t good. first (pushes (ItemIn limit) so (item_in position (breaks i) w good)) (λ is u all. after (λ n v. gives all)))
+    one_item_in i position s so = first (word_in s) (λ w t good. first (one_more so (item_in position (breaks i) w good)) (λ is u all. after (λ n v. gives all)))
 
     -- ---- redirections
 
@@ -190,31 +209,35 @@ module _ {g : Given} {limit : ℕ} where
     unfolding a_target
     target_in s = after (λ n t. picks (is_word n.token) (with_its_bytes (word_in t)) (stopped inner n))
 
-    redirect_in : (broken : Bool) (position : Position) (is : Row AnItem) (n : Next) (s : State) → All (ItemIn limit) is → UpTo g limit (one_redirect inner broken position is n) (Stepped (ItemsIn limit)) s
+    redirect_in : (broken : Bool) (position : Position) (is : Row AnItem) (n : Next) (s : State) → All (ItemIn limit) is → UpTo g limit (one_redirect inner broken position is n) (Stepped (SomeItems limit)) s
     unfolding one_redirect
     redirect_in broken position is n s so =
         after (λ p t. first (number_in n t) (λ d u one. first (operator_in_by p (redirect_operator_of d.1.token) u) (λ o v two. first (target_in v) (λ w x three.
-        first (document_in o.0 o.1.start (word_span w.0).start w.1 x) (λ h a four. first (pushes (ItemIn limit) so (one, two, three, four)) (λ js y all. after (λ m z. gives all)))))))
+        first (document_in o.0 o.1.start (word_span w.0).start w.1 x) (λ h a four. first (one_more so (one, two, three, four)) (λ js y all. after (λ m z. gives all)))))))
 
     -- ---- simple commands
 
-    item_in_by : (i : Items) (o : Option Position) (s : State) → ItemsIn limit i → UpTo g limit (item_by inner i o) (Stepped (ItemsIn limit)) s
-    item_in_by i (Some position) s so = one_item_in i position s so
-    item_in_by i None s so = picks (begins_redirect i.next.token) (redirect_in (breaks i) (behind_redirect i.place) i.items i.next s so) (gives so)
+    item_in_by : (i : Items) (o : Option Position) (s : State) → behind_word i.next.token ≡ o → ItemsBegin limit i → UpTo g limit (item_by inner i o) (Stepped (SomeItems limit)) s
+    item_in_by i (Some position) s is so = one_item_in i position s so.0
+    item_in_by i None s is so =
+        picks_by (begins_redirect i.next.token) (λ yes. redirect_in (breaks i) (behind_redirect i.place) i.items i.next s so.0)
+        (λ no. gives (so.0, so.1 (none_begins i.next.token is no)))
 
-    item_turn_in : (i : Items) (s : State) → ItemsIn limit i → UpTo g limit (item_turn inner i) (Stepped (ItemsIn limit)) s
+    item_turn_in : (i : Items) (s : State) → ItemsBegin limit i → UpTo g limit (item_turn inner i) (Stepped (SomeItems limit)) s
     unfolding item_turn
-    item_turn_in i s so = item_in_by i (behind_word i.next.token) s so
+    item_turn_in i s so = item_in_by i (behind_word i.next.token) s refl so
 
-    simple_in : (i : Items) (s : State) → ItemsIn limit i → UpTo g limit (a_simple inner i) (λ c. CommandIn limit c.0) s
+    simple_in : (i : Items) (s : State) → ItemsBegin limit i → UpTo g limit (a_simple inner i) (λ c. CommandIn limit c.0) s
     unfolding a_simple
-    simple_in i s so = first (repeats (ItemsIn limit) (item_turn inner) item_turn_in i s so) (λ is t all. gives (items_in limit is.items all))
+    simple_in i s so =
+        first (grows (ItemsBegin limit) (SomeItems limit) (item_turn inner) item_turn_in (λ j all. (all.0, λ no. all.1)) i s so) (λ is t all. gives (all.1, items_in limit is.items all.0))
 
     -- ---- commands
 
     redirect_turn_in : (i : Items) (s : State) → ItemsIn limit i → UpTo g limit (redirect_turn inner i) (Stepped (ItemsIn limit)) s
     unfolding redirect_turn
-    redirect_turn_in i s so = picks (begins_redirect i.next.token) (redirect_in i.next.broken Command i.items i.next s so) (gives so)
+    redirect_turn_in i s so =
+        picks (begins_redirect i.next.token) (follows (redirect_in i.next.broken Command i.items i.next s so) (step_so (SomeItems limit) (ItemsIn limit) (λ j all. all.0))) (gives so)
 
     with_redirects_in : (c : ACommand) (is : Row AnItem) → CommandIn limit c → All (ItemIn limit) is → CommandIn limit (with_redirects c (items_of is))
     with_redirects_in (simple items) is so all = so
@@ -235,13 +258,13 @@ module _ {g : Given} {limit : ℕ} where
     worded_in s =
         after (λ good t. first (word_in t) (λ w u one. after (λ n v.
         picks (is_paren n.token) (picks good (fine.function (word_span w) v (place_in w one)) stops)
-        (first (pushes (ItemIn limit) (All-nil (ItemIn limit)) one) (λ is x all. simple_in (so_many is Suffix n) x all)))))
+        (first (one_more (All-nil (ItemIn limit)) one) (λ is x all. simple_in (so_many is Suffix n) x (all.0, λ no. all.1))))))
 
     command_in : (n : Next) (s : State) → UpTo g limit (a_command inner n) (λ c. CommandIn limit c.0) s
     unfolding a_command
     command_in n s =
         picks (is_word n.token) (worded_in s)
-        (picks (begins_simple n.token) (simple_in (so_many [] Command n) s (All-nil (ItemIn limit))) (compound_in_by n (opener_of n.token) s))
+        (picks_by (begins_simple n.token) (λ yes. simple_in (so_many [] Command n) s (All-nil (ItemIn limit), λ no. absurd (cc))) (λ no. compound_in_by n (opener_of n.token) s))
 
     one_command_in : (p : Piped) (s : State) → PipesIn limit p → UpTo g limit (one_command inner p) (Stepped (PipesIn limit)) s
     unfolding one_command

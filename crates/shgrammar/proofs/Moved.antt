@@ -17,7 +17,8 @@ use Rattle.shgrammar.specs.Comments.{span, comment_at}
 use Rattle.shgrammar.specs.Sights.{Given, given, State, Waiting, Sight, seen, here, the_byte, the_comment, a_document_waits, Move, one_byte}
 use Rattle.shgrammar.specs.HereDocuments.{rest_of_line, past_line, takes_newline, delimiter_below, delimiter_on, delimiter_from, body_by, bodies_from, state_by, first_waiting, waits, bodies_here, own_level, outer_level}
 use Rattle.shgrammar.specs.Form.{raw, nothing_read, change, with_bytes, a_level, Spelled, Told, Read, ◌▸◌, Form, give, see, move, push, stop, both, when, token, many, ends_as, with_end, ended, ended_by, Step, again, done, leads_on, turns, does, moved, grows}
-use Rattle.shgrammar.specs.Moved.{placed_body, moved_fault, moved_waiting, moved_state}
+use Rattle.shast.specs.Moved.{placed_body}
+use Rattle.shgrammar.specs.Moved.{moved_fault, moved_waiting, moved_state}
 use Rattle.shgrammar.specs.Commands.{pick}
 use Rattle.shgrammar.proofs.Turns.{turns_on, turns_rest, turns_done, turns_fault}
 use Rattle.shgrammar.proofs.Places.{next_newline_low}

@@ -4,7 +4,7 @@ use Rattle.std.specs.Prelude.{Some, None}
 use Rattle.shast.specs.declared.tree.Span.{Span}
 use Rattle.shast.specs.Tree.{AnItemContent, AnItem, Items, Entries, AnEntry, AContent, AnAndOr, AndOrParts, APipeline, PipelineParts, ACommand, ACompound, AForm, ABranch, Branches, CaseItems, ACaseItem, Otherwise, no_entry, more_entries, entry, command, remark, and_or, no_and_or, more_and_or, pipeline, no_pipe, more_pipes, simple, compound, function, formed, brace, subshell, if_then, while_do, until_do, for_in, case_in, branch, no_branch, more_branches, no_else, otherwise, no_case, more_cases, case_item, no_item, more_items, item, assign, argument, redirect}
 use Rattle.shast.specs.Bodies.{fill_item_content, fill_item, fill_items, fill_entries, fill_entry, fill_content, fill_and_or, fill_and_or_parts, fill_pipeline, fill_pipes, fill_command, fill_compound, fill_form, fill_branch, fill_branches, fill_else, fill_cases, fill_case, filled, fill_row, filled_row}
-use Rattle.shgrammar.specs.Moved.{carried, carried_entry, carried_content, carried_and_or, carried_and_or_parts, carried_pipeline, carried_pipes, carried_command, carried_compound, carried_form, carried_branch, carried_branches, carried_else, carried_cases, carried_case, carried_items, carried_item, carried_item_content}
+use Rattle.shast.specs.Moved.{carried, carried_entry, carried_content, carried_and_or, carried_and_or_parts, carried_pipeline, carried_pipes, carried_command, carried_compound, carried_form, carried_branch, carried_branches, carried_else, carried_cases, carried_case, carried_items, carried_item, carried_item_content}
 
 module _ (f h : Span → Span) (deep : Bool) where
   abbrev bodies : Row Span → Row Span

@@ -16,7 +16,8 @@ use Rattle.shgrammar.specs.Lists.{Listed, ListSo, list_so, none_listed, is_blank
 use Rattle.shgrammar.specs.Levels.{most_open, level}
 use Rattle.shgrammar.specs.Lines.{end_of_line, an_open_line, a_line}
 use Rattle.shgrammar.specs.Scripts.{line_told, the_line}
-use Rattle.shgrammar.specs.Moved.{placed_entry, blanked_entry, blanked_row, SameBy, LineMoves, carried_content}
+use Rattle.shast.specs.Moved.{placed_entry, blanked_entry, blanked_row, carried_content}
+use Rattle.shgrammar.specs.Moved.{SameBy, LineMoves}
 use Rattle.shgrammar.proofs.Moved.{Place, Any, same, first, step, of_step, Like, Moves, kept, kept_grows, moves_give, moves_then, moves_pick, moves_level, moves_many, moves_newline}
 use Rattle.shgrammar.proofs.MovedBodies.{row_moved}
 use Rattle.shgrammar.proofs.MovedTrees.{pushed_some, span_to, body_to, offset_to, and_or_to, entry_to}

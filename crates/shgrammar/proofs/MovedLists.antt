@@ -20,7 +20,7 @@ use Rattle.shgrammar.specs.Commands.{opener_of, Items, so_many, join_so, a_join_
 use Rattle.shgrammar.specs.Lists.{Listed, ListSo, list_so, none_listed, is_blank_next, next_line, one_entry, entry_turn, remark_by, a_remark, on_line, list_turn, a_list}
 use Rattle.shgrammar.specs.Compounds.{is_open_paren, is_close_paren, passed, closing, Closed, closed, a_branch, Branched, branched, elif_turn, an_else, an_if, a_loop, a_group, a_for_name, a_linebreak, a_sequential_sep, Headed, headed, word_turn, for_words, a_for_head, a_for, a_form, a_compound, a_function, a_case_word, Patterned, patterned, a_pattern, one_pattern, pattern_turn, a_pattern_list, an_open_bracket, a_body, body_end, ItemEnd, item_end, a_double_semicolon, an_item_end, CasesSo, cases_so, one_case, case_turn, a_case_head, a_case}
 use Rattle.shgrammar.specs.Substitutions.{substituted, one_substitution}
-use Rattle.shgrammar.specs.Moved.{carried_patterns}
+use Rattle.shast.specs.Moved.{carried_patterns}
 use Rattle.shgrammar.proofs.Moved.{Place, Any, same, first, of_first, step, of_step, Moves, moves_give, moves_stop, moves_so, moves_then, moves_see, moves_here, moves_on, moves_pushed, moves_push, moves_pick, moves_level, moves_ending, moves_many}
 use Rattle.shgrammar.proofs.MovedBodies.{filled_moved}
 use Rattle.shgrammar.proofs.MovedTrees.{is_empty_map, span_to, body_to, offset_to, word_to, subst_to, command_to, and_or_to, entry_to, list_to, branch_to, else_to, for_words_to, case_to, form_to, items_row, entries_row, branches_row, cases_row, patterns_row, remarks_to, under_name_to, CommandEnds, compound_ends, under_name_ends, EntryEnds, entries_end}

@@ -5,7 +5,7 @@ use Rattle.std.proofs.lemmas.List.Elements.{All-head, All-tail}
 use Rattle.shast.specs.declared.tree.Span.{Span}
 use Rattle.shast.specs.Tree.{AJoin, AHere, Entries, more_entries, entries_of, AnEntry, entry, AContent, command, remark, AnAndOr, and_or, AnAndOrPart, AndOrParts, more_and_or, and_or_parts_of, APipeline, pipeline, APipelinePart, PipelineParts, more_pipes, pipeline_parts_of, ACommand, simple, compound, function, ACompound, formed, with_redirects, AForm, ABranch, more_branches, branches_of, Otherwise, ForWords, ACaseItem, more_cases, cases_of, more_patterns, patterns_of, Items, no_item, more_items, items_of, AnItem, item, assign, argument, redirect, AWord, word, more_substs, substs_of, ASubst}
 use Rattle.shast.specs.Nodes.{placed_span, word_span, item_span, last_item, command_span, compound_span, last_command, pipeline_span, last_pipeline, and_or_span, commands_end}
-use Rattle.shgrammar.specs.Moved.{placed_body, kept_substs, carried, carried_join, carried_here, carried_entry, carried_and_or, carried_and_or_parts, carried_and_or_part, carried_pipeline, carried_pipes, carried_pipe, carried_command, carried_compound, carried_form, carried_branch, carried_branches, carried_else, carried_for_words, carried_cases, carried_case, carried_patterns, carried_items, carried_item, carried_word, carried_substs, carried_subst}
+use Rattle.shast.specs.Moved.{placed_body, kept_substs, carried, carried_join, carried_here, carried_entry, carried_and_or, carried_and_or_parts, carried_and_or_part, carried_pipeline, carried_pipes, carried_pipe, carried_command, carried_compound, carried_form, carried_branch, carried_branches, carried_else, carried_for_words, carried_cases, carried_case, carried_patterns, carried_items, carried_item, carried_word, carried_substs, carried_subst}
 use Rattle.shgrammar.specs.Commands.{is_empty}
 use Rattle.shgrammar.specs.Compounds.{under_name, behind_remarks}
 

@@ -1,5 +1,5 @@
 -- What holds of whatever is read with its tree, unless the reading ends above a limit: the laws of forms for it; and where comments end.
-use Rattle.std.proofs.Common.{◌≡◌, subst, ℕ, ◌+◌, ◌≤◌, Bool, true, false, cond, Ok, Err, List, List as Row, ◌∷◌, ◌++◌, [], Some, None, arith}
+use Rattle.std.proofs.Common.{◌≡◌, refl, subst, ℕ, ◌+◌, ◌≤◌, Bool, true, false, cond, Ok, Err, List, List as Row, ◌∷◌, ◌++◌, [], Some, None, arith}
 use Rattle.std.specs.Prelude.{All}
 use Rattle.std.proofs.lemmas.List.Elements.{All-nil, All-push}
 use Rattle.shgrammar.specs.declared.keep.Keep.TheVariants.{Whole}
@@ -13,7 +13,7 @@ use Rattle.shgrammar.specs.HereDocuments.{own_level}
 use Rattle.shgrammar.specs.Form.{Form, Read, Told, a_level, both, does, ends_as, give, many, move, moved, push, see, stop, token, with_bytes, Step, again, done, step_if, in_substitution}
 use Rattle.shgrammar.specs.Commands.{pick}
 use Rattle.shgrammar.proofs.Places.{next_newline_low}
-use Rattle.shgrammar.proofs.Holds.{Holds, Tells, Turned, low, tells_ending, tells_level, tells_many, tells_so, tells_then, tells_token, tells_with_bytes, tells_inside}
+use Rattle.shgrammar.proofs.Holds.{Holds, Tells, Turned, low, tells_ending, tells_level, tells_so, tells_then, tells_token, tells_until, tells_with_bytes, tells_inside}
 use Rattle.shgrammar.proofs.Within.{before_blanks_low}
 use Rattle.shgrammar.proofs.BodiesHeld.{HoldsWithin, held, unless_above}
 
@@ -48,6 +48,10 @@ Stepped P (done a) = P a
 pub stepped : {A : Type 0} (P : A → Type 0) (b : Bool) (a : A) → P a → Stepped P (step_if b a)
 stepped P true a so = so
 stepped P false a so = so
+
+pub step_so : {A : Type 0} (P Q : A → Type 0) → ((a : A) → P a → Q a) → (c : Step A) → Stepped P c → Stepped Q c
+step_so P Q so (again a) one = so a one
+step_so P Q so (done a) one = so a one
 
 turned : (g : Given) (limit : ℕ) {A : Type 0} (P : A → Type 0) (c : Step A) (t : State) → (g.offset + t.at ≤ limit → Stepped P c) → Turned Whole g (λ a u. g.offset + u.at ≤ limit → P a) c t
 turned g limit P (again a) t so = so
@@ -116,13 +120,17 @@ module _ {g : Given} {limit : ℕ} where
   pub bare_token : {X : Type 0} {how : Told} {r : Form X} {s : State} → UpTo g limit (token how r) (λ x. IsSpanWithin limit x.1) s
   bare_token {r = r} {s = s} = follows (tokens {P = λ x. Unit {0}} (record { told = tells_so Whole g (low r Whole g s) (λ x t on. λ b. tt) })) (λ x so. so.1)
 
-  -- a repetition
-  pub repeats : {A : Type 0} (P : A → Type 0) (turn : A → Form (Step A)) → ((a : A) (s : State) → P a → UpTo g limit (turn a) (Stepped P) s) → (a : A) (s : State) → P a → UpTo g limit (many turn a) P s
-  repeats P turn each a s one =
+  -- a repetition: P holds before the first turn, and Q, from which P follows, behind each
+  pub grows : {A : Type 0} (P Q : A → Type 0) (turn : A → Form (Step A)) → ((a : A) (s : State) → P a → UpTo g limit (turn a) (Stepped Q) s) → ((a : A) → Q a → P a) → (a : A) (s : State) → P a
+      → UpTo g limit (many turn a) Q s
+  grows P Q turn each so a s one =
       record {
-        told = tells_many Whole g turn (λ a t. g.offset + t.at ≤ limit → P a)
-            (λ a t there. tells_so Whole g (unless {P = Stepped P} {r = turn a} {s = t} (λ b. each a t (there b))).told (turned g limit P)) a s (λ b. one);
+        told = tells_until Whole g turn (λ a t. g.offset + t.at ≤ limit → P a) (λ a t. g.offset + t.at ≤ limit → Q a) (λ a t. g.offset + t.at ≤ limit → Q a)
+            (λ a t there. tells_so Whole g (unless {P = Stepped Q} {r = turn a} {s = t} (λ b. each a t (there b))).told (turned g limit Q)) (λ a t there. λ b. so a (there b)) (λ a t there. there) a s (λ b. one);
       }
+
+  pub repeats : {A : Type 0} (P : A → Type 0) (turn : A → Form (Step A)) → ((a : A) (s : State) → P a → UpTo g limit (turn a) (Stepped P) s) → (a : A) (s : State) → P a → UpTo g limit (many turn a) P s
+  repeats P turn each a s one = grows P P turn each (λ b so. so) a s one
 
   -- where the text ends in it, the fault is another one
   pub ending : {X : Type 0} {P : X → Type 0} {kind : FaultKind} {at : ℕ} {r : Form X} {s : State} → UpTo g limit r P s → UpTo g limit (ends_as kind at r) P s
@@ -147,3 +155,7 @@ module _ {g : Given} {limit : ℕ} where
   pub picks : {X : Type 0} {P : X → Type 0} (b : Bool) {r q : Form X} {s : State} → UpTo g limit r P s → UpTo g limit q P s → UpTo g limit (pick b r q) P s
   picks true one two = one
   picks false one two = two
+
+  pub picks_by : {X : Type 0} {P : X → Type 0} (b : Bool) {r q : Form X} {s : State} → (b ≡ true → UpTo g limit r P s) → (b ≡ false → UpTo g limit q P s) → UpTo g limit (pick b r q) P s
+  picks_by true one two = one refl
+  picks_by false one two = two refl

@@ -18,7 +18,7 @@ pub mod Levels
 pub mod Lines
 pub mod Scripts
 pub mod Moved
-pub mod Everywhere
 pub mod Search
 pub mod Plain
 pub mod Unquoting
+pub mod Joined

@@ -5,6 +5,7 @@ use Rattle.shgrammar.specs.declared.token.Next.{Next}
 use Rattle.shgrammar.specs.declared.token.Position.TheVariants.{Command}
 use Rattle.shgrammar.specs.Standing.{raw_stands}
 use Rattle.shast.specs.Bodies.{filled_row}
+use Rattle.shast.specs.Everywhere.{AllWithin, HaveItems}
 use Rattle.shast.specs.Nodes.{AreWithin}
 use Rattle.shast.specs.Tree.{AnEntry, Entries, entries_of}
 use Rattle.shgrammar.specs.HereDocuments.{bodies_here}
@@ -77,3 +78,8 @@ NoFurther T line = (other : List ℕ) (q : ℕ) → take line.next (drop q other
 abbrev pub EntriesWithin : ℕ → AKind → Type 0
 EntriesWithin limit (entries_line es) = AreWithin limit es
 EntriesWithin limit _ = Unit {0}
+
+-- the same of the entries of a line, where it has some
+abbrev pub EntriesEverywhere : ℕ → AKind → Type 0
+EntriesEverywhere limit (entries_line es) = AllWithin limit es × HaveItems es
+EntriesEverywhere limit _ = Unit {0}

@@ -10,7 +10,8 @@ use Rattle.shread.specs.declared.script_lines.ScriptLines.{ScriptLines}
 use Rattle.shgrammar.specs.Commands.{is_empty}
 use Rattle.shread.specs.LineByLine.{Before, IsNextLine, IsWholeLine, LineReads, LineWithin, Rest, Stands, before_of, no_lines, place_of}
 use Rattle.shgrammar.specs.declared.keep.Keep.TheVariants.{Whole}
-use Rattle.shgrammar.specs.Moved.{blanked_row, moved_entry, moved_fault, outer_entry, placed_body}
+use Rattle.shast.specs.Moved.{blanked_row, moved_entry, outer_entry, placed_body}
+use Rattle.shgrammar.specs.Moved.{moved_fault}
 use Rattle.shgrammar.specs.Scripts.{AScript, FirstFault, Outcome, SoFar, faulty, is_blank_line, last_line, line_ended, nothing_yet, with_line}
 use Rattle.shgrammar.specs.Sights.{State}
 use Rattle.shread.proofs.LineByLine.{line_only, line_read}

@@ -4,7 +4,7 @@ use Rattle.std.specs.Prelude.{Some, None}
 use Rattle.shast.specs.declared.tree.Span.{Span}
 use Rattle.shast.specs.Tree.{Entries, no_entry, more_entries, entries_of, AnEntry, entry, AContent, command, remark, AnAndOr, and_or, AndOrParts, no_and_or, more_and_or, APipeline, pipeline, PipelineParts, no_pipe, more_pipes, ACommand, simple, compound, function, ACompound, formed, AForm, brace, subshell, if_then, while_do, until_do, for_in, case_in, ABranch, branch, Branches, no_branch, more_branches, Otherwise, no_else, otherwise, ForWords, no_in, in_words, CaseItems, no_case, more_cases, ACaseItem, case_item, Patterns, no_pattern, more_patterns, Items, no_item, more_items, AnItem, item, assign, argument, redirect, AWord, word}
 use Rattle.shast.specs.Shape.{Text, shape_of, shape_of_and_or, shape_of_and_or_parts, shape_of_branch, shape_of_branches, shape_of_case, shape_of_cases, shape_of_command, shape_of_compound, shape_of_content, shape_of_else, shape_of_entry, shape_of_for_words, shape_of_form, shape_of_item, shape_of_items, shape_of_patterns, shape_of_pipeline, shape_of_pipes, shape_of_word}
-use Rattle.shgrammar.specs.Moved.{blanked_row, carried, carried_entry, carried_content, carried_and_or, carried_and_or_parts, carried_pipeline, carried_pipes, carried_command, carried_compound, carried_form, carried_branch, carried_branches, carried_else, carried_for_words, carried_cases, carried_case, carried_patterns, carried_items, carried_item, carried_word}
+use Rattle.shast.specs.Moved.{blanked_row, carried, carried_entry, carried_content, carried_and_or, carried_and_or_parts, carried_pipeline, carried_pipes, carried_command, carried_compound, carried_form, carried_branch, carried_branches, carried_else, carried_for_words, carried_cases, carried_case, carried_patterns, carried_items, carried_item, carried_word}
 use Rattle.shprint.specs.declared.layout.Layout.{Layout}
 use Rattle.shprint.specs.Printed.{is_brace, is_broken_item, is_one_line, print_and_or, print_and_or_parts, print_bare, print_body, print_branch, print_branches, print_case, print_cases, print_command, print_compound, print_content, print_else, print_entries, print_entry, print_first_pattern, print_for_words, print_form, print_item, print_items, print_only, print_patterns, print_pipeline, print_pipes, print_simple, print_word}
 

@@ -105,7 +105,7 @@ impl<'a> Documents<'a> {
     }
 }
 
-fn shown(alloc: Global, list: &List) -> Result<String, Fail> {
+pub(crate) fn shown(alloc: Global, list: &List) -> Result<String, Fail> {
     let mut text = String::new(alloc);
     write!(text, "{list:?}")?;
     Ok(text)

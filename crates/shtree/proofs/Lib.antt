@@ -2,3 +2,4 @@ pub mod AllFrom
 pub mod Gathering
 pub mod InOrder
 pub mod Placed
+pub mod Carrying

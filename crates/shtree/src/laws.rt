@@ -1,7 +1,9 @@
 //! Laws of the definitions alone, which no code stands behind.
-ghost use Rattle.std.specs.Prelude.{◌≡◌, ◌∷◌, ◌++◌, ◌≤◌, ℕ, Bool, List as Row, Option, Some, false, length, map, true};
+ghost use Rattle.std.specs.Prelude.{◌≡◌, ◌∷◌, ◌++◌, ◌+◌, ◌≤◌, ℕ, Bool, List as Row, Option, Some, false, length, map, true};
 ghost use Rattle.shast.specs.declared.tree.Span.{Span};
-ghost use Rattle.shast.specs.Nodes.{AreWithin, commands_end, entries_nodes};
+ghost use Rattle.shast.specs.Everywhere.{HaveItems};
+ghost use Rattle.shast.specs.Moved.{moved};
+ghost use Rattle.shast.specs.Nodes.{AreWithin, commands_end, entries_nodes, nodes_at, outline};
 ghost use Rattle.shast.specs.Normal.{alone, is_normal, joined, of_command};
 ghost use Rattle.shast.specs.Shape.{Shape, Text, shape_of, text_at};
 ghost use Rattle.shast.specs.Spelling.{spelling};
@@ -93,4 +95,26 @@ pub fn bodies_in_order()
 #[tactic(auto, using(shast::proofs::Going::row_filled))]
 pub fn filled_row()
     ensures { (bodies : Row Span) (entries : Row AnEntry) → entries_of (filled_row bodies entries) ≡ filled bodies (entries_of entries) }
+{}
+
+/// Moving a list by nothing leaves it as it is, and moving it twice moves it by both.
+#[tactic(auto, using(shast::proofs::MovedOver::by_nothing, shast::proofs::MovedOver::by_both))]
+pub fn moving()
+    ensures nothing { (list : Entries) → moved 0 list ≡ list }
+    ensures twice { (one other : ℕ) (list : Entries) → moved other (moved one list) ≡ moved (one + other) list }
+{}
+
+/// The nodes of a moved list, each simple command of which has an item, are those of the list at the greater base; so a limit of what
+/// it names moves as well.
+#[tactic(auto, using(shast::proofs::NodesMoved::outline_moved, shast::proofs::NodesMoved::nodes_at_moved, shast::proofs::NodesMoved::within_moved))]
+pub fn nodes_moved()
+    ensures outline { (base more : ℕ) (list : Entries) → HaveItems list → outline more (moved base list) ≡ outline (base + more) list }
+    ensures nodes_at { (base more at : ℕ) (list : Entries) → HaveItems list → nodes_at more at (moved base list) ≡ nodes_at (base + more) at list }
+    ensures within { (limit base : ℕ) (list : Entries) → HaveItems list → AreWithin limit list → AreWithin (base + limit) (moved base list) }
+{}
+
+/// A list is in normal form wherever it stands.
+#[tactic(auto, using(shast::proofs::FormMoved::form_moved))]
+pub fn form_moved()
+    ensures { (base : ℕ) (list : Entries) → is_normal (moved base list) ≡ is_normal list }
 {}

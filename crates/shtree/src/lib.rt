@@ -1,14 +1,16 @@
 //! The tree of a script of the POSIX shell, and what is asked of it: what an editor asks for, and a test.
 //!
 //! Its types are those of `shast`, which come with it: [`List`] is the row of commands that a script is. [`outline_of`] and
-//! [`nodes_at`] tell what stands where; [`is_normal`] tells whether a reader could have made the tree.
+//! [`nodes_at`] tell what stands where, [`append_at`] puts a list behind another; [`is_normal`] tells whether a reader could have made the tree.
 #![tactic(auto)]
 
+mod append;
 pub mod laws;
 mod nodes;
 mod normal;
 mod visit;
 
+pub use append::append_at;
 pub use nodes::{nodes_at, outline_of};
 pub use normal::is_normal;
 pub use shast::{

@@ -1,7 +1,10 @@
--- What holds of each span of a tree, those of the bodies of here-documents among them.
-use Rattle.std.specs.Prelude.{List as Row, [], ◌∷◌, Option, None, Some}
+-- What holds of each span of a tree, and of each simple command in it.
+use Rattle.std.specs.Prelude.{ℕ, List as Row, [], ◌∷◌, Option, None, Some}
 use Rattle.shast.specs.declared.tree.Span.{Span}
 use Rattle.shast.specs.Tree.{AHere, Entries, no_entry, more_entries, AnEntry, entry, AContent, command, remark, AnAndOr, and_or, AndOrParts, no_and_or, more_and_or, APipeline, pipeline, PipelineParts, no_pipe, more_pipes, ACommand, simple, compound, function, ACompound, formed, AForm, brace, subshell, if_then, while_do, until_do, for_in, case_in, ABranch, branch, Branches, no_branch, more_branches, Otherwise, no_else, otherwise, ForWords, no_in, in_words, CaseItems, no_case, more_cases, ACaseItem, case_item, Patterns, no_pattern, more_patterns, Items, no_item, more_items, AnItem, item, AnItemContent, assign, argument, redirect, AWord, word, Substs, no_subst, more_substs, ASubst, subst}
+use Rattle.shast.specs.Nodes.{IsSpanWithin}
+
+-- ---- what holds of each span of a tree, P, and of the items of each simple command, Q
 
 abbrev pub OfSome : (Span → Type 0) → Option Span → Type 0
 OfSome P None = Unit {0}
@@ -15,7 +18,7 @@ abbrev pub OfHere : (Span → Type 0) → Option AHere → Type 0
 OfHere P None = Unit {0}
 OfHere P (Some h) = P h.body
 
-module _ (P : Span → Type 0) where
+module _ (P : Span → Type 0) (Q : Items → Type 0) where
   abbrev mutual
     pub Throughout : Entries → Type 0
     Throughout no_entry = Unit {0}
@@ -43,7 +46,7 @@ module _ (P : Span → Type 0) where
     InPipes (more_pipes join c cs) = OfEach P join.comments × InCommand c × InPipes cs
 
     pub InCommand : ACommand → Type 0
-    InCommand (simple items) = InItems items
+    InCommand (simple items) = Q items × InItems items
     InCommand (compound c) = InCompound c
     InCommand (function name comments body) = P name × OfEach P comments × InCompound body
 
@@ -106,3 +109,15 @@ module _ (P : Span → Type 0) where
 
     pub InSubst : ASubst → Type 0
     InSubst (subst entries span) = Throughout entries × P span
+
+-- no span of a list, that of the body of a here-document among them, names an offset above this one
+abbrev pub AllWithin : ℕ → Entries → Type 0
+AllWithin limit es = Throughout (IsSpanWithin limit) (λ items. Unit {0}) es
+
+abbrev pub IsSome : Items → Type 0
+IsSome no_item = ⊥
+IsSome (more_items i is) = Unit {0}
+
+-- each simple command of a list has an item
+abbrev pub HaveItems : Entries → Type 0
+HaveItems es = Throughout (λ s. Unit {0}) IsSome es

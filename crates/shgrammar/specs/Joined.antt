@@ -1,0 +1,33 @@
+-- The script of a row of lines, each read as a script of its own.
+use Rattle.std.specs.Prelude.{◌≡◌, ℕ, ◌+◌, Bool, true, false, ◌&&◌, List, List as Row, [], ◌∷◌, drop, length, None, Some}
+use Rattle.shast.specs.Tree.{Entries, no_entry, more_entries}
+use Rattle.shast.specs.Moved.{appended, blanked_entry, moved}
+use Rattle.shgrammar.specs.Lines.{ALine, AKind, blank_line, entries_line, end_line, faulty_line, IsLine}
+use Rattle.shgrammar.specs.Moved.{moved_fault}
+use Rattle.shgrammar.specs.Scripts.{AScript}
+
+-- the first entry is blank, or it is not
+abbrev pub blanked : Bool → Entries → Entries
+blanked blank no_entry = no_entry
+blanked blank (more_entries e es) = more_entries (blanked_entry blank e) es
+
+abbrev pub has_entry : Entries → Bool
+has_entry no_entry = false
+has_entry (more_entries e es) = true
+
+-- One line that begins at the base, behind entries; the gap tells that a blank line is behind the last of them.
+abbrev pub joined_by : (Entries → Bool → AScript) → AKind → Entries → Bool → ℕ → AScript
+joined_by rest blank_line es gap base = rest es true
+joined_by rest (entries_line xs) es gap base = rest (appended es (blanked (gap && has_entry es) (moved base xs))) false
+joined_by rest end_line es gap base = record { entries = es; wrong = None }
+joined_by rest (faulty_line f) es gap base = record { entries = es; wrong = Some (moved_fault base f) }
+
+-- the lines from the base on, behind these entries
+abbrev pub joined : Row ALine → Entries → Bool → ℕ → AScript
+joined [] es gap base = record { entries = es; wrong = None }
+joined (l ∷ ls) es gap base = joined_by (λ es gap. joined ls es gap (base + l.next)) l.kind es gap base
+
+-- The lines of B from p on: ended ones, and one that is not ended, which is the rest.
+pub data AreLines (B : List ℕ) : ℕ → Row ALine → Type 0 where
+  last_of : {p : ℕ} (l : ALine) → IsLine (drop p B) l → l.ended ≡ false → l.next ≡ length (drop p B) → AreLines B p (l ∷ [])
+  more_of : {p : ℕ} (l : ALine) (ls : Row ALine) → IsLine (drop p B) l → l.ended ≡ true → AreLines B (p + l.next) ls → AreLines B p (l ∷ ls)
