@@ -2,7 +2,7 @@
 use shpieces::{PrintError, Printing, print_source};
 use shprint::{Layout, print};
 use shread::Reader;
-use shtests::growths::{refuse, refuses, was_refused};
+use shtests::growths::Growths;
 use shtext::Flat;
 use std::alloc::{AllocError, Global};
 use std::test::Fail;
@@ -13,32 +13,30 @@ const SCRIPT: &[u8] =
 const TEXT: &[u8] =
     b"{\n\tif a && b |\n\t\tc; then\n\t\td\n\tfi\n} # e\n\nf() {\n\tcase g in\n\t$(h))\n\t\ti\n\t\t;;\n\tesac\n}\n";
 
-/// The text of a whole tree, with the nth growth of its printing refused. The tree is there before.
-fn printed(alloc: Global, nth: usize) -> Result<Result<Vec<u8>, AllocError>, Fail> {
+/// The text of a whole tree, with the next growth of its printing refused. The tree is there before.
+fn printed(alloc: Global, growths: &mut Growths) -> Result<Result<Vec<u8>, AllocError>, Fail> {
     let layout = Layout::new(0, false, false, false)?;
     let source = Flat::new(SCRIPT);
     let script = Reader::new(alloc).read_script(&source)?;
     if script.fault.is_some() {
         return Err(Fail::from("a fault"));
     }
-    refuse(alloc, nth);
+    growths.refuse_next();
     Ok(print(alloc, &layout, &script, &source))
 }
 
 #[test]
 fn tree(rt: HostRuntime) -> Result<(), Fail> {
-    let refuses = refuses(rt.alloc());
-    let mut met = 0;
-    for nth in 1..100 {
-        let text = printed(rt.alloc(), nth)?;
-        if !refuses || !was_refused(rt.alloc(), nth) {
+    let mut growths = Growths::of(rt.alloc());
+    for _ in 1..100 {
+        let text = printed(rt.alloc(), &mut growths)?;
+        if !growths.is_met() {
             assert!(rt; text?.as_slice() == TEXT);
             break;
         }
         assert!(rt; text.err() == Some(AllocError));
-        met = nth;
     }
-    assert!(rt; !refuses || 0 < met && met < 99, "{met}");
+    assert!(rt; growths.were_each_refused());
     Ok(())
 }
 
@@ -47,19 +45,17 @@ fn tree(rt: HostRuntime) -> Result<(), Fail> {
 fn source(rt: HostRuntime) -> Result<(), Fail> {
     let layout = Layout::new(0, false, false, false)?;
     let source = Flat::new(SCRIPT);
-    let refuses = refuses(rt.alloc());
-    let mut met = 0;
-    for nth in 1..100 {
-        refuse(rt.alloc(), nth);
+    let mut growths = Growths::of(rt.alloc());
+    for _ in 1..100 {
+        growths.refuse_next();
         let text = print_source(rt.alloc(), &layout, &source);
-        if !refuses || !was_refused(rt.alloc(), nth) {
+        if !growths.is_met() {
             assert!(rt; text?.as_slice() == TEXT);
             break;
         }
         assert!(rt; text.err() == Some(PrintError::Memory));
-        met = nth;
     }
-    assert!(rt; !refuses || 0 < met && met < 99, "{met}");
+    assert!(rt; growths.were_each_refused());
     Ok(())
 }
 
@@ -82,18 +78,16 @@ fn pieces(rt: HostRuntime) -> Result<(), Fail> {
             "{first}"
         );
     }
-    let refuses = refuses(rt.alloc());
-    let mut met = 0;
-    for nth in 1..100 {
-        refuse(rt.alloc(), nth);
+    let mut growths = Growths::of(rt.alloc());
+    for _ in 1..100 {
+        growths.refuse_next();
         let text = in_pieces(rt.alloc(), &layout, SCRIPT.len());
-        if !refuses || !was_refused(rt.alloc(), nth) {
+        if !growths.is_met() {
             assert!(rt; text?.as_slice() == TEXT);
             break;
         }
         assert!(rt; text.err() == Some(PrintError::Memory));
-        met = nth;
     }
-    assert!(rt; !refuses || 0 < met && met < 99, "{met}");
+    assert!(rt; growths.were_each_refused());
     Ok(())
 }

@@ -4,7 +4,7 @@ use shlive::{LiveError, Session, run};
 use shprint::Layout;
 use shread::Reader;
 use shtests::devices::{PAGE, Page, Same};
-use shtests::growths::{refuse, refuses, was_refused};
+use shtests::growths::Growths;
 use shtext::{Input, Output};
 use std::alloc::{AllocError, Global};
 use std::io::Read;
@@ -19,134 +19,123 @@ const NEW: &[u8] = b"while e; do f; done\n";
 #[test]
 fn open(rt: HostRuntime) -> Result<(), Fail> {
     let alloc = rt.alloc();
-    let refuses = refuses(alloc);
+    let mut growths = Growths::of(alloc);
     let layout = Layout::new(0, false, false, false)?;
-    let mut met = 0;
-    for nth in 1..200 {
-        refuse(alloc, nth);
+    for _ in 1..200 {
+        growths.refuse_next();
         let session = Session::open(alloc, Reader::new(alloc), layout, SCRIPT);
-        if !refuses || !was_refused(alloc, nth) {
+        if !growths.is_met() {
             assert!(rt; alike(&session?, &opened(alloc, SCRIPT)?)?);
             break;
         }
         assert!(rt; session.err() == Some(LiveError::Memory));
-        met = nth;
     }
-    assert!(rt; !refuses || 0 < met && met < 199, "{met}");
+    assert!(rt; growths.were_each_refused());
     Ok(())
 }
 
 #[test]
 fn edit(rt: HostRuntime) -> Result<(), Fail> {
     let alloc = rt.alloc();
-    let refuses = refuses(alloc);
-    let mut met = 0;
-    for nth in 1..200 {
+    let mut growths = Growths::of(alloc);
+    for _ in 1..200 {
         let mut session = opened(alloc, SCRIPT)?;
-        refuse(alloc, nth);
+        growths.refuse_next();
         let edited = session.edit(17, 17, NEW);
-        if !refuses || !was_refused(alloc, nth) {
+        if !growths.is_met() {
             assert!(rt; edited == Ok(()) && alike(&session, &opened(alloc, EDITED)?)?);
             break;
         }
         assert!(rt; edited == Err(LiveError::Memory));
-        assert!(rt; alike(&session, &opened(alloc, SCRIPT)?)?, "{nth}");
+        assert!(rt; alike(&session, &opened(alloc, SCRIPT)?)?);
         assert!(rt; session.edit(17, 17, NEW) == Ok(()));
-        assert!(rt; alike(&session, &opened(alloc, EDITED)?)?, "{nth}");
-        met = nth;
+        assert!(rt; alike(&session, &opened(alloc, EDITED)?)?);
     }
-    assert!(rt; !refuses || 0 < met && met < 199, "{met}");
+    assert!(rt; growths.were_each_refused());
     Ok(())
 }
 
 #[test]
 fn outline(rt: HostRuntime) -> Result<(), Fail> {
     let alloc = rt.alloc();
-    let refuses = refuses(alloc);
+    let mut growths = Growths::of(alloc);
     let session = opened(alloc, SCRIPT)?;
     let wanted = session.outline()?;
-    let mut met = 0;
-    for nth in 1..200 {
-        refuse(alloc, nth);
+    for _ in 1..200 {
+        growths.refuse_next();
         let found = session.outline();
-        if !refuses || !was_refused(alloc, nth) {
+        if !growths.is_met() {
             assert!(rt; found? == wanted);
             break;
         }
         assert!(rt; found == Err(AllocError));
-        met = nth;
     }
-    assert!(rt; !refuses || 0 < met && met < 199, "{met}");
+    assert!(rt; growths.were_each_refused());
     Ok(())
 }
 
 #[test]
 fn nodes_at(rt: HostRuntime) -> Result<(), Fail> {
     let alloc = rt.alloc();
-    let refuses = refuses(alloc);
+    let mut growths = Growths::of(alloc);
     let session = opened(alloc, SCRIPT)?;
     let wanted = session.nodes_at(25)?;
-    let mut met = 0;
-    for nth in 1..200 {
-        refuse(alloc, nth);
+    for _ in 1..200 {
+        growths.refuse_next();
         let found = session.nodes_at(25);
-        if !refuses || !was_refused(alloc, nth) {
+        if !growths.is_met() {
             assert!(rt; found? == wanted);
             break;
         }
         assert!(rt; found == Err(AllocError));
-        met = nth;
     }
-    assert!(rt; !refuses || 0 < met && met < 199, "{met}");
+    assert!(rt; growths.were_each_refused());
     Ok(())
 }
 
 #[test]
 fn print(rt: HostRuntime) -> Result<(), Fail> {
     let alloc = rt.alloc();
-    let refuses = refuses(alloc);
+    let mut growths = Growths::of(alloc);
     let session = opened(alloc, SCRIPT)?;
     let wanted = session.print()?;
-    let mut met = 0;
-    for nth in 1..200 {
-        refuse(alloc, nth);
+    for _ in 1..200 {
+        growths.refuse_next();
         let found = session.print();
-        if !refuses || !was_refused(alloc, nth) {
+        if !growths.is_met() {
             assert!(rt; found? == wanted);
             break;
         }
         assert!(rt; found == Err(AllocError));
-        met = nth;
     }
-    assert!(rt; !refuses || 0 < met && met < 199, "{met}");
+    assert!(rt; growths.were_each_refused());
     Ok(())
 }
 
-/// What a run writes on the script with the nth growth refused, and its answer.
+/// What a run writes on the script with the next growth refused, and its answer.
 fn written<R: Read + Drop>(
     alloc: Global,
     requests: R,
-    nth: usize,
+    growths: &mut Growths,
     page: &mut Page,
 ) -> Result<u8, Fail> {
     let mut session = opened(alloc, b"a\nb")?;
     let mut input = Input::new(requests);
     let mut output = Output::new(page);
-    refuse(alloc, nth);
+    growths.refuse_next();
     Ok(run(alloc, &mut session, &mut input, &mut output))
 }
 
 #[test]
 fn requests(rt: HostRuntime) -> Result<(), Fail> {
     let alloc = rt.alloc();
-    let refuses = refuses(alloc);
+    let mut growths = Growths::of(alloc);
     let asked = b"edit 3 3 2\n c\noutline\nprint\nfault\nquit\n";
-    let mut met = 0;
-    for nth in 1..200 {
+    for _ in 1..200 {
         let mut page = page_of(PAGE);
-        let status = written(alloc, asked.as_slice(), nth, &mut page)?;
+        let status = written(alloc, asked.as_slice(), &mut growths, &mut page)?;
         assert!(rt; status == 0);
-        if !refuses || !was_refused(alloc, nth) {
+        if !growths.is_met() {
             assert!(rt;
                 page.text()
                     == b"ok 5 0\noutline 2\n0 1 simple\n2 5 simple\ntext 6\na\nb c\n\nnone\n".as_slice()
@@ -160,10 +149,9 @@ fn requests(rt: HostRuntime) -> Result<(), Fail> {
         ]
         .iter()
         .any(|text| page.text() == *text);
-        assert!(rt; is_told, "{nth}");
-        met = nth;
+        assert!(rt; is_told);
     }
-    assert!(rt; !refuses || 0 < met && met < 199, "{met}");
+    assert!(rt; growths.were_each_refused());
     Ok(())
 }
 
@@ -171,11 +159,11 @@ fn requests(rt: HostRuntime) -> Result<(), Fail> {
 #[test]
 fn open_without_bytes(rt: HostRuntime) -> Result<(), Fail> {
     let alloc = rt.alloc();
-    let refuses = refuses(alloc);
+    let mut growths = Growths::of(alloc);
     let layout = Layout::new(0, false, false, false)?;
-    refuse(alloc, 1);
+    growths.refuse_next();
     let session = Session::open(alloc, Reader::new(alloc), layout, b"");
-    assert!(rt; !refuses || !was_refused(alloc, 1));
+    assert!(rt; !growths.is_met());
     assert!(rt; session?.script_len() == 0);
     Ok(())
 }
@@ -184,10 +172,15 @@ fn open_without_bytes(rt: HostRuntime) -> Result<(), Fail> {
 #[test]
 fn spoiled_payload(rt: HostRuntime) -> Result<(), Fail> {
     let alloc = rt.alloc();
-    let refuses = refuses(alloc);
+    let mut growths = Growths::of(alloc);
     let mut page = page_of(PAGE);
-    let status = written(alloc, b"edit 0 0 1\nxy\nquit\n".as_slice(), 1, &mut page)?;
-    assert!(rt; !refuses || was_refused(alloc, 1));
+    let status = written(
+        alloc,
+        b"edit 0 0 1\nxy\nquit\n".as_slice(),
+        &mut growths,
+        &mut page,
+    )?;
+    assert!(rt; !growths.are_refused() || growths.is_met());
     assert!(rt; status == 0 && page.text() == b"no payload\n".as_slice());
     Ok(())
 }
@@ -196,23 +189,24 @@ fn spoiled_payload(rt: HostRuntime) -> Result<(), Fail> {
 #[test]
 fn without_memory(rt: HostRuntime) -> Result<(), Fail> {
     let alloc = rt.alloc();
-    let refuses = refuses(alloc);
     let mut page = page_of(PAGE);
+    let mut growths = Growths::of(alloc);
     let status = written(
         alloc,
         b"hello\nedit 5 9 4\nabcd\nfault\nat 3\nquit\n".as_slice(),
-        1,
+        &mut growths,
         &mut page,
     )?;
-    assert!(rt; !refuses || !was_refused(alloc, 1));
+    assert!(rt; !growths.is_met());
     assert!(rt; status == 0 && page.text() == b"no request\nno range\nnone\nat 0\n".as_slice());
     let mut page = page_of(PAGE);
     let requests = b"edit 0 0 16777214\n"
         .as_slice()
         .chain(Same(b'x', 16_777_214))
         .chain(b"\nquit\n".as_slice());
-    let status = written(alloc, requests, 1, &mut page)?;
-    assert!(rt; !refuses || !was_refused(alloc, 1));
+    let mut growths = Growths::of(alloc);
+    let status = written(alloc, requests, &mut growths, &mut page)?;
+    assert!(rt; !growths.is_met());
     assert!(rt; status == 0 && page.text() == b"no room\n".as_slice());
     Ok(())
 }

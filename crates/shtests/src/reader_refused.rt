@@ -4,7 +4,7 @@ ghost use Rattle.shread.specs.LineByLine.{bytes_of, place_of};
 ghost use Rattle.shast.specs.Nodes.{AreWithin};
 ghost use Rattle.shast.specs.View.{view_list};
 
-use crate::growths::{refuse, refuses, was_refused};
+use crate::growths::Growths;
 use shread::{Line, LineKind, ReadError, Reader, ScriptLine, ScriptLines, faultless_front};
 use shtext::{Flat, Source};
 use shtree::laws::greater_limit;
@@ -45,21 +45,19 @@ fn reads_line(reader: &mut Reader) -> Result<bool, ReadError> {
 
 #[test]
 fn read_line(rt: HostRuntime) -> Result<(), Fail> {
-    let refuses = refuses(rt.alloc());
-    let mut met = 0;
-    for nth in 1..100 {
+    let mut growths = Growths::of(rt.alloc());
+    for _ in 1..100 {
         let mut reader = begun(rt.alloc())?;
-        refuse(rt.alloc(), nth);
+        growths.refuse_next();
         let read = reads_line(&mut reader);
-        if !refuses || !was_refused(rt.alloc(), nth) {
+        if !growths.is_met() {
             assert!(rt; read?);
             break;
         }
         assert!(rt; matches!(read, Err(ReadError::Memory)) && reader.meter() == 1);
         assert!(rt; reads_line(&mut reader)?);
-        met = nth;
     }
-    assert!(rt; !refuses || 0 < met && met < 99, "{met}");
+    assert!(rt; growths.were_each_refused());
     Ok(())
 }
 
@@ -72,47 +70,45 @@ fn reads_script(reader: &mut Reader) -> Result<bool, ReadError> {
 
 #[test]
 fn read_script(rt: HostRuntime) -> Result<(), Fail> {
-    let refuses = refuses(rt.alloc());
-    let mut met = 0;
-    for nth in 1..100 {
+    let mut growths = Growths::of(rt.alloc());
+    for _ in 1..100 {
         let mut reader = begun(rt.alloc())?;
-        refuse(rt.alloc(), nth);
+        growths.refuse_next();
         let read = reads_script(&mut reader);
-        if !refuses || !was_refused(rt.alloc(), nth) {
+        if !growths.is_met() {
             assert!(rt; read?);
             break;
         }
         assert!(rt; matches!(read, Err(ReadError::Memory)) && reader.meter() == 1);
         assert!(rt; reads_script(&mut reader)?);
-        met = nth;
     }
-    assert!(rt; !refuses || 0 < met && met < 99, "{met}");
+    assert!(rt; growths.were_each_refused());
     Ok(())
 }
 
 /// At the length no growth is asked for: the refusal that was due is still due.
 #[test]
 fn read_line_at_the_length(rt: HostRuntime) -> Result<(), Fail> {
-    let refuses = refuses(rt.alloc());
+    let mut growths = Growths::of(rt.alloc());
     let mut reader = Reader::new(rt.alloc());
-    refuse(rt.alloc(), 1);
+    growths.refuse_next();
     let read = reader.read_line(&Flat::new(TEXT), TEXT.len());
-    let has_grown = was_refused(rt.alloc(), 1);
+    assert!(rt; !growths.is_met());
     let line = read?;
-    assert!(rt; !refuses || !has_grown);
     assert!(rt; matches!(line.kind, LineKind::End));
     assert!(rt; line.next == TEXT.len() && !line.ended && reader.meter() == 0);
     Ok(())
 }
 
 /// Whether a script has no fault, is counted, and no growth was asked for: the refusal that was due is still due.
-fn grows_not(alloc: Global, refuses: bool, script: &[u8]) -> Result<bool, Fail> {
+fn grows_not(alloc: Global, script: &[u8]) -> Result<bool, Fail> {
+    let mut growths = Growths::of(alloc);
     let mut reader = Reader::new(alloc);
-    refuse(alloc, 1);
+    growths.refuse_next();
     let read = reader.first_fault(&Flat::new(script));
-    let has_grown = was_refused(alloc, 1);
+    let has_grown = growths.is_met();
     let has_none = read?.is_none() && reader.meter() == script.len() as u64;
-    Ok(has_none && !(refuses && has_grown))
+    Ok(has_none && !has_grown)
 }
 
 /// What a check does with documents, in its own level and in a substitution.
@@ -121,65 +117,53 @@ const DOCUMENTS: &[u8] = b"a <<A <<-'B' $(c <<C\nc\nC\n)\na\nA\n\tb\n\tB\nd <<D\
 /// Where documents wait a check asks for growths; each is refused in turn.
 #[test]
 fn first_fault_of_documents(rt: HostRuntime) -> Result<(), Fail> {
-    let refuses = refuses(rt.alloc());
-    let mut met = 0;
-    for nth in 1..100 {
+    let mut growths = Growths::of(rt.alloc());
+    for _ in 1..100 {
         let mut reader = Reader::new(rt.alloc());
-        refuse(rt.alloc(), nth);
+        growths.refuse_next();
         let read = reader.first_fault(&Flat::new(DOCUMENTS));
-        if !refuses || !was_refused(rt.alloc(), nth) {
+        if !growths.is_met() {
             assert!(rt; read?.is_none());
             break;
         }
         assert!(rt; matches!(read, Err(ReadError::Memory)) && reader.meter() == 0);
         assert!(rt; reader.first_fault(&Flat::new(DOCUMENTS))?.is_none());
-        met = nth;
     }
-    assert!(rt; !refuses || met > 0);
+    assert!(rt; growths.were_each_refused());
     Ok(())
 }
 
 /// The same where the lines at the front are looked for.
 #[test]
 fn front_of_documents(rt: HostRuntime) -> Result<(), Fail> {
-    let refuses = refuses(rt.alloc());
-    let mut met = 0;
-    for nth in 1..100 {
-        refuse(rt.alloc(), nth);
+    let mut growths = Growths::of(rt.alloc());
+    for _ in 1..100 {
+        growths.refuse_next();
         let count = faultless_front(rt.alloc(), &Flat::new(DOCUMENTS));
-        if !refuses || !was_refused(rt.alloc(), nth) {
+        if !growths.is_met() {
             assert!(rt; count? == DOCUMENTS.len());
             break;
         }
         assert!(rt; matches!(count, Err(ReadError::Memory)));
-        met = nth;
     }
-    assert!(rt; !refuses || met > 0);
+    assert!(rt; growths.were_each_refused());
     Ok(())
 }
 
 /// Without documents a check asks for none.
 #[test]
 fn first_fault(rt: HostRuntime) -> Result<(), Fail> {
-    let refuses = refuses(rt.alloc());
+    assert!(rt; grows_not(rt.alloc(), b"\na=1 'b' $c \"\" d e; g & # h\ni|j&&! k\n")?);
+    assert!(rt; grows_not(rt.alloc(), TEXT)?);
+    assert!(rt; grows_not(rt.alloc(), b"a\\\n=1 i\\\nf \\b # c\n")?);
+    assert!(rt; grows_not(rt.alloc(), b"'a' \"b ${c-\"d\"}\" `e\\`f`")?);
+    assert!(rt; grows_not(rt.alloc(), b"${a#'b'}$((1 + (2)))$$\n")?);
+    assert!(rt; grows_not(rt.alloc(), b"a $(b \"$(c)\" # d\n) e$()\n")?);
+    assert!(rt; grows_not(rt.alloc(), b"for i #c\nin a b\ndo j;done #d\n")?);
+    assert!(rt; grows_not(rt.alloc(), b"f() #a\n{ b; }\ng()(c)\n")?);
     assert!(rt;
         grows_not(
             rt.alloc(),
-            refuses,
-            b"\na=1 'b' $c \"\" d e; g & # h\ni|j&&! k\n"
-        )?
-    );
-    assert!(rt; grows_not(rt.alloc(), refuses, TEXT)?);
-    assert!(rt; grows_not(rt.alloc(), refuses, b"a\\\n=1 i\\\nf \\b # c\n")?);
-    assert!(rt; grows_not(rt.alloc(), refuses, b"'a' \"b ${c-\"d\"}\" `e\\`f`")?);
-    assert!(rt; grows_not(rt.alloc(), refuses, b"${a#'b'}$((1 + (2)))$$\n")?);
-    assert!(rt; grows_not(rt.alloc(), refuses, b"a $(b \"$(c)\" # d\n) e$()\n")?);
-    assert!(rt; grows_not(rt.alloc(), refuses, b"for i #c\nin a b\ndo j;done #d\n")?);
-    assert!(rt; grows_not(rt.alloc(), refuses, b"f() #a\n{ b; }\ng()(c)\n")?);
-    assert!(rt;
-        grows_not(
-            rt.alloc(),
-            refuses,
             b"case i #c\nin #d\n(a|b) j;;#e\nc) #f\nk\nesac #g\n"
         )?
     );
@@ -219,22 +203,20 @@ fn add(
 fn adds(rt: &impl Abort, alloc: Global, list: &List, asked: Asked, count: usize) -> Result<(), Fail>
     requires { AreWithin usize.MAX (view_list list.now) }
 {
-    let refuses = refuses(alloc);
-    let mut met = 0;
-    for nth in 1..100 {
+    let mut growths = Growths::of(alloc);
+    for _ in 1..100 {
         let mut lines = Vec::new(alloc);
         lines.push(EARLIER)?;
-        refuse(alloc, nth);
+        growths.refuse_next();
         let added = add(alloc, list, asked, &mut lines);
-        if !refuses || !was_refused(alloc, nth) {
+        if !growths.is_met() {
             added?;
             assert!(rt; lines.first() == Some(&EARLIER) && lines.len() == count.wrapping_add(1));
             break;
         }
         assert!(rt; added.is_err() && lines.as_slice() == [EARLIER].as_slice());
-        met = nth;
     }
-    assert!(rt; !refuses || 0 < met && met < 99, "{met}");
+    assert!(rt; growths.were_each_refused());
     Ok(())
 }
 
@@ -270,22 +252,20 @@ fn next_line<S: Source>(lines: &mut ScriptLines<'_, S>) -> Result<Option<(usize,
 /// A line that memory was wanted for is read again as if nothing had been.
 #[test]
 fn lines(rt: HostRuntime) -> Result<(), Fail> {
-    let refuses = refuses(rt.alloc());
+    let mut growths = Growths::of(rt.alloc());
     let source = Flat::new(b"a\nb 'c'; d # e\nf");
-    let mut met = 0;
-    for nth in 1..100 {
+    for _ in 1..100 {
         let mut lines = ScriptLines::new(rt.alloc(), &source);
         assert!(rt; next_line(&mut lines)? == Some((1, false)));
-        refuse(rt.alloc(), nth);
+        growths.refuse_next();
         let read = next_line(&mut lines);
-        if !refuses || !was_refused(rt.alloc(), nth) {
+        if !growths.is_met() {
             assert!(rt; read? == Some((2, false)));
             break;
         }
         assert!(rt; matches!(read, Err(ReadError::Memory)));
         assert!(rt; next_line(&mut lines)? == Some((2, false)));
-        met = nth;
     }
-    assert!(rt; !refuses || 0 < met && met < 99, "{met}");
+    assert!(rt; growths.were_each_refused());
     Ok(())
 }

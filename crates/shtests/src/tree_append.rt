@@ -1,5 +1,5 @@
 // A list appended at the base where its text stands is the list that is read there.
-use crate::growths::{refuse, refuses, was_refused};
+use crate::growths::Growths;
 use crate::tree_bodies::shown;
 use crate::tree_built::Script;
 use shread::Reader;
@@ -12,7 +12,9 @@ use std::test::Fail;
 
 /// The first line, and then lines that hold each part of a script.
 const FIRST: &str = "first # one\n";
-const REST: &str = "a=1 'b' $c d$(n # x\n) 2>e <<E; ! if f|\ng;then h;elif i;then :;else j;fi &\nk\nE\ncase o in\n# y\n(p|v) q;; # z\nesac\n\
+
+const REST: &str =
+    "a=1 'b' $c d$(n # x\n) 2>e <<E; ! if f|\nk\nE\ng;then h;elif i;then :;else j;fi &\ncase o in\n# y\n(p|v) q;; # z\nesac\n\
                     i &&\n# w\nn() { j;} >o\nfor r in s t;do (t);done; for u do until v;do w;done;done\nwhile x;do y;done\n# l\n";
 
 fn read(alloc: Global, text: &str) -> Result<List, Fail> {
@@ -77,24 +79,22 @@ fn a_document(rt: HostRuntime) -> Result<(), Fail> {
 #[test]
 fn each_growth(rt: HostRuntime) -> Result<(), Fail> {
     let alloc = rt.alloc();
-    let refuses = refuses(alloc);
+    let mut growths = Growths::of(alloc);
     let rest = read(alloc, REST)?;
     let before = shown(alloc, &read(alloc, FIRST)?)?;
     let wanted = shown(alloc, &read_both(alloc)?)?;
-    let mut met = 0;
-    for nth in 1..200 {
+    for _ in 1..200 {
         let mut list = read(alloc, FIRST)?;
-        refuse(alloc, nth);
+        growths.refuse_next();
         let added = append_at(alloc, &rest, FIRST.len(), &mut list);
-        if !refuses || !was_refused(alloc, nth) {
+        if !growths.is_met() {
             added?;
             assert_eq!(rt; shown(alloc, &list)?.as_str(), wanted.as_str());
             break;
         }
         assert!(rt; added.is_err());
         assert_eq!(rt; shown(alloc, &list)?.as_str(), before.as_str());
-        met = nth;
     }
-    assert!(rt; !refuses || 0 < met && met < 199, "{met}");
+    assert!(rt; growths.were_each_refused());
     Ok(())
 }
