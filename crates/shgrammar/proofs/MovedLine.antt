@@ -156,10 +156,10 @@ module _ (z : Place) (inner : Inner) (fits : Fits z inner) where
 -- ---- the lines of a script
 
 same_line : (deep : Bool) (p : ℕ) (blank : Bool) (x y : Read (Row AnEntry × Bool)) → Like p (first {Y = Bool} (λ es. blanked_row blank (map (placed_entry deep p) es))) Any x y → SameBy deep p blank y x
-same_line deep p blank (Ok ((es, newline), s)) (Ok ((fs, ended), t)) like = (ap (λ (v : Row AnEntry × Bool). v.0) like.0, ap (λ (v : Row AnEntry × Bool). v.1) like.0, ap (λ (v : State). v.at) like.1)
-same_line deep p blank (Ok x) (Err f) like = absurd like
-same_line deep p blank (Err e) (Ok y) like = absurd like
-same_line deep p blank (Err e) (Err f) like = like
+same_line _ p blank (Ok ((es, newline), s)) (Ok ((fs, ended), t)) like = (ap (λ (v : Row AnEntry × Bool). v.0) like.0, ap (λ (v : Row AnEntry × Bool). v.1) like.0, ap (λ (v : State). v.at) like.1)
+same_line _ p blank (Ok x) (Err f) like = absurd like
+same_line _ p blank (Err e) (Ok y) like = absurd like
+same_line _ p blank (Err e) (Err f) like = like
 
 moved_by : (deep : Bool) (B : List ℕ) (p : ℕ) (blank : Bool) → SameBy deep p blank (line_told B (kept deep) blank p p) (line_told B Whole false p 0)
 moved_by deep B p blank =

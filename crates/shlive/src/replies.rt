@@ -1,6 +1,5 @@
 //! The replies to requests whose payload, where they have one, was read.
 ghost use Rattle.std.specs.Prelude.{◌≡◌, ◌||◌, ◌≤◌, ℕ, IfErr, IfOk, List, OnErr, OnOk, Some, codes, is_ok, length, not, option_map};
-ghost use Rattle.shtext.specs.Buffer.{buffer_bytes};
 ghost use Rattle.shtext.specs.Device.{Writes, held_of, output_failed};
 ghost use Rattle.shtext.specs.Edit.{IsAllowed, edited};
 ghost use Rattle.shast.specs.declared.node.NodeLine.{NodeLine};

@@ -1,5 +1,5 @@
 //! A session over a reader and a writer.
-ghost use Rattle.std.specs.Prelude.{◌≡◌, ◌<◌, ◌≤◌, ◌||◌, IfErr, IfOk, ℕ, List, MatchOption, OnOk, false, Some, is_ok, length, not, option_map};
+ghost use Rattle.std.specs.Prelude.{◌≡◌, ◌<◌, ◌||◌, IfErr, ℕ, List, OnOk, false, Some, is_ok, length, not, option_map};
 ghost use Rattle.shtext.specs.Device.{held_of, input_ended, input_failed, left_of, output_failed};
 ghost use Rattle.shlive.specs.Ahead.{IsOpen, ahead_of, too_many};
 ghost use Rattle.shlive.specs.Lines.{Keeps};

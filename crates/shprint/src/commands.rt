@@ -2,12 +2,12 @@
 #![tactic(auto, using(crate::proofs::Writing::written_append, crate::proofs::Writing::written_cons, crate::proofs::Writing::written_none))]
 
 ghost use Rattle.std.specs.Prelude.{◌≡◌, ◌∷◌, ◌++◌, ◌||◌, ℕ, IfOk, List as Row, codes, false, if◌then◌else◌, map};
-ghost use Rattle.shast.specs.Shape.{shape_of, shape_of_and_or, shape_of_and_or_parts, shape_of_bang, shape_of_branch, shape_of_branches, shape_of_case, shape_of_cases, shape_of_command, shape_of_comments, shape_of_compound, shape_of_content, shape_of_else, shape_of_entry, shape_of_for_words, shape_of_form, shape_of_items, shape_of_join, shape_of_pipeline, shape_of_pipes, shape_of_word, Text};
+ghost use Rattle.shast.specs.Shape.{shape_of, shape_of_and_or, shape_of_and_or_parts, shape_of_bang, shape_of_branch, shape_of_branches, shape_of_case, shape_of_cases, shape_of_command, shape_of_comments, shape_of_compound, shape_of_content, shape_of_entry, shape_of_form, shape_of_items, shape_of_join, shape_of_pipeline, shape_of_pipes, shape_of_word, Text};
 ghost use Rattle.shast.specs.Spelling.{and_or_text};
-ghost use Rattle.shast.specs.Tree.{and_or_parts_of, branches_of, cases_of, entries_of, in_words, items_of, otherwise_of, pipeline_parts_of};
+ghost use Rattle.shast.specs.Tree.{and_or_parts_of, branches_of, cases_of, entries_of, in_words, items_of, pipeline_parts_of};
 ghost use Rattle.shast.specs.View.{view_and_or, view_and_or_part, view_branch, view_case_item, view_command, view_comment, view_compound, view_content, view_entry, view_form, view_function, view_item, view_join, view_list, view_pipeline, view_pipeline_part, view_word};
-ghost use Rattle.shprint.specs.Marks.{deeper, line_end, lines_between, one, text};
-ghost use Rattle.shprint.specs.Printed.{breaks_line, case_margin, is_brace, is_one_line, operand_margin, print_and_or, print_and_or_parts, print_background, print_bang, print_blank, print_body, print_branch, print_branches, print_case, print_cases, print_command, print_comment_lines, print_compound, print_content, print_else, print_entries, print_entry, print_for_words, print_form, print_function_gap, print_items, print_only, print_pipeline, print_pipes, print_word};
+ghost use Rattle.shprint.specs.Marks.{deeper, lines_between, one, text};
+ghost use Rattle.shprint.specs.Printed.{breaks_line, case_margin, is_brace, is_one_line, operand_margin, print_and_or, print_and_or_parts, print_background, print_bang, print_blank, print_body, print_branch, print_branches, print_case, print_cases, print_command, print_comment_lines, print_compound, print_content, print_entries, print_entry, print_for_words, print_form, print_function_gap, print_only, print_pipeline, print_pipes};
 ghost use Rattle.shprint.specs.Written.{Prints, sheet, is_bare, is_command, print_condition, print_case_head};
 
 use crate::comments::breaks_line;

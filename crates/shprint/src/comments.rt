@@ -1,7 +1,7 @@
 //! Comments, and the operators that they stand around.
 #![tactic(auto, using(crate::proofs::Writing::written_append, crate::proofs::Writing::written_cons, crate::proofs::Writing::written_none))]
 
-ghost use Rattle.std.specs.Prelude.{◌≡◌, ◌∷◌, ℕ, IfOk, List as Row, codes, map, option_map};
+ghost use Rattle.std.specs.Prelude.{◌≡◌, ℕ, IfOk, List as Row, map, option_map};
 ghost use Rattle.shast.specs.Shape.{shape_of_comment, shape_of_comments, shape_of_join};
 ghost use Rattle.shast.specs.View.{view_comment, view_join};
 ghost use Rattle.shprint.specs.Printed.{breaks_line, print_comment_lines, print_comments, print_further_comments, print_own_comment};

@@ -1,13 +1,13 @@
 //! Words, redirections and patterns: what stands on a line behind something else.
 #![tactic(auto, using(crate::proofs::Writing::written_append, crate::proofs::Writing::written_cons, crate::proofs::Writing::written_none))]
 
-ghost use Rattle.std.specs.Prelude.{◌≡◌, ◌∷◌, ◌++◌, ◌==◌, ◌&&◌, ◌||◌, IfOk, Some, codes, false, map, not, option_map};
-ghost use Rattle.shast.specs.Shape.{bare_at, shape_of_for_words, shape_of_here, shape_of_item, shape_of_items, shape_of_patterns, shape_of_word, text_at};
+ghost use Rattle.std.specs.Prelude.{◌≡◌, ◌++◌, ◌==◌, ◌&&◌, ◌||◌, IfOk, Some, false, map, option_map};
+ghost use Rattle.shast.specs.Shape.{bare_at, shape_of_here, shape_of_item, shape_of_items, shape_of_patterns, shape_of_word, text_at};
 ghost use Rattle.shast.specs.Spelling.{redirect_text};
 ghost use Rattle.shast.specs.Tree.{item, items_of, patterns_of};
 ghost use Rattle.shast.specs.View.{view_here, view_item, view_redirection, view_word};
 ghost use Rattle.shgrammar.specs.HereDocuments.{delimiter_of};
-ghost use Rattle.shprint.specs.Marks.{document, one, text};
+ghost use Rattle.shprint.specs.Marks.{text};
 ghost use Rattle.shprint.specs.Printed.{delimiter_line, duplicates, print_first_pattern, print_gap, print_here, print_item, print_items, print_number, print_operator, print_patterns, print_simple, print_word, would_strip};
 ghost use Rattle.shprint.specs.Written.{Prints};
 

@@ -1,5 +1,5 @@
 -- What the answers of a reader are in the definitions, and its meter.
-use Rattle.std.specs.Prelude.{◌≡◌, ℕ, ◌+◌, ◌-◌, ◌^◌, ◌<◌, ◌≤◌, List, None, Some, length, min}
+use Rattle.std.specs.Prelude.{◌≡◌, ℕ, ◌-◌, ◌<◌, ◌≤◌, List, None, Some, length}
 use Rattle.shread.specs.declared.first_fault.Found.{Found}
 use Rattle.shread.specs.declared.first_fault.Found.TheVariants.{Here, Beyond, Nowhere}
 use Rattle.shread.specs.declared.reader.Reader.{Reader}
@@ -22,10 +22,6 @@ view_line at line = record { kind = view_kind line.kind; next = line.next - at; 
 
 abbrev pub meter_of : Reader → ℕ
 meter_of reader = reader.meter
-
--- a meter after n more bytes; it stays at its greatest number
-abbrev pub raised : ℕ → ℕ → ℕ
-raised meter n = min (meter + n) (2 ^ 64 - 1)
 
 -- what was found in the line at an offset is true of the first fault from there on
 abbrev pub Tells : List ℕ → ℕ → Found → Type 0

@@ -1,5 +1,5 @@
 //! And-or lists: pipelines joined by `&&` and `||` (XCU 2.9.3).
-ghost use Rattle.std.specs.Prelude.{◌≡◌, ◌<◌, ◌≤◌, [], map, IfOk};
+ghost use Rattle.std.specs.Prelude.{◌<◌, ◌≤◌, [], map, IfOk};
 ghost use Rattle.shgrammar.specs.Bytes.{behind};
 ghost use Rattle.shgrammar.specs.Shows.{IsRead, Shows};
 ghost use Rattle.shread.specs.Clauses.{Keeps, Onward, Reads, state_of, text_of};

@@ -5,7 +5,6 @@ ghost use Rattle.shread.specs.Clauses.{Keeps, Onward, reads, Reads, state_of, St
 ghost use Rattle.shgrammar.specs.Compounds.{a_branch, a_form, a_group, a_loop, an_else, an_if, branched, closed, closing, elif_turn, passed};
 ghost use Rattle.shgrammar.specs.Form.{many, Spelled, step_if};
 ghost use Rattle.shgrammar.specs.Levels.{level};
-ghost use Rattle.shgrammar.specs.Tokens.{is_end};
 ghost use Rattle.shast.specs.View.{view_branch, view_command, view_form, view_list, view_otherwise};
 
 use crate::cursor::Cursor;

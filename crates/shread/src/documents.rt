@@ -1,6 +1,6 @@
 //! Here-documents: those that wait, and their bodies (XCU 2.7.4).
-ghost use Rattle.std.specs.Prelude.{◌≡◌, ◌+◌, ◌<◌, ◌≤◌, ◌==◌, ◌&&◌, All, bytes_eq, fold, nat_lt, not, [], map, Ok as Done, IfErr, IfOk, IfSome, List as Row, ◌∷◌, ◌++◌, length, option_map, take, drop, ◌-◌, true, false};
-ghost use Rattle.shread.specs.Clauses.{BodiesFail, BodyRead, end_of, Keeps, Reads, reads, state_of, Stays, text_of, view_waiting};
+ghost use Rattle.std.specs.Prelude.{◌≡◌, ◌+◌, ◌<◌, ◌≤◌, ◌==◌, ◌&&◌, All, bytes_eq, fold, nat_lt, not, [], map, IfErr, IfOk, IfSome, List as Row, ◌∷◌, ◌++◌, length, option_map, drop, ◌-◌, true, false};
+ghost use Rattle.shread.specs.Clauses.{BodiesFail, BodyRead, end_of, Keeps, Reads, state_of, text_of, view_waiting};
 ghost use Rattle.shgrammar.specs.Commands.{a_document, is_strip, nothing_waits, takes_here};
 ghost use Rattle.shgrammar.specs.Form.{change, raw};
 ghost use Rattle.shgrammar.specs.HereDocuments.{bodies_from, bodies_here, delimiter_from, first_waiting, is_delimiter, own_level, past_line, rest_of_line, takes_newline};

@@ -1,5 +1,5 @@
 //! What stands around an operator that joins two operands (XCU 2.9.2, 2.9.3).
-ghost use Rattle.std.specs.Prelude.{◌≡◌, ◌≤◌, IfOk};
+ghost use Rattle.std.specs.Prelude.{◌≤◌, IfOk};
 ghost use Rattle.shread.specs.Clauses.{Keeps, Onward, Reads, state_of, text_of};
 ghost use Rattle.shgrammar.specs.Shows.{Shows};
 ghost use Rattle.shgrammar.specs.Commands.{a_join, join_so, join_turn};

@@ -1,5 +1,5 @@
 //! A line of a script: its entries, and its end (XCU 2.10.2).
-ghost use Rattle.std.specs.Prelude.{◌≡◌, ◌⊎◌, ◌-◌, ◌<◌, ◌≤◌, map, IfOk, false, true};
+ghost use Rattle.std.specs.Prelude.{◌≡◌, ◌⊎◌, ◌-◌, ◌<◌, map, IfOk, false, true};
 ghost use Rattle.shread.specs.Clauses.{Keeps, Onward, Reads, state_of, text_of};
 ghost use Rattle.shgrammar.specs.Shows.{Shows};
 ghost use Rattle.shgrammar.specs.Levels.{level};

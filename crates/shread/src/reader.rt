@@ -1,7 +1,8 @@
 //! The reader: one line, or a whole script.
-ghost use Rattle.std.specs.Prelude.{◌≡◌, ◌+◌, ◌-◌, ◌<◌, ◌≤◌, drop, false, length, true, List as Row, None, IfOk, IfErr, IfSome, IsOk};
+ghost use Rattle.std.specs.Prelude.{◌≡◌, ◌-◌, ◌<◌, ◌≤◌, drop, false, length, true, List as Row, None, IfOk, IfErr, IfSome, IsOk};
 ghost use Rattle.shgrammar.specs.Lines.{EntriesWithin};
-ghost use Rattle.shread.specs.Answers.{meter_of, raised, view_kind, view_line};
+ghost use Rattle.shread.specs.Answers.{meter_of, view_kind, view_line};
+ghost use Rattle.shtext.specs.Meter.{raised};
 ghost use Rattle.shgrammar.specs.Scripts.{view_script};
 ghost use Rattle.shgrammar.specs.Form.{Spelled};
 ghost use Rattle.shgrammar.specs.Lines.{ALine, IsLine, NoFurther, SameBytes};

@@ -2,3 +2,4 @@ pub mod Text
 pub mod Edit
 pub mod Buffer
 pub mod Device
+pub mod Meter

@@ -6,8 +6,8 @@
 ghost use Rattle.std.specs.Prelude.{◌≡◌, ◌-◌, IfOk, map, option_map, OnErr, OnOk, true};
 ghost use Rattle.shast.specs.Capped.{capped, capped_body};
 ghost use Rattle.shast.specs.Everywhere.{AllWithin};
-ghost use Rattle.shast.specs.Moved.{appended, carried, carried_and_or, carried_and_or_part, carried_branch, carried_case, carried_command, carried_compound, carried_content, carried_else, carried_entry, carried_for_words, carried_form, carried_here, carried_item, carried_item_content, carried_join, carried_pipe, carried_pipeline, carried_subst, carried_word, moved};
-ghost use Rattle.shast.specs.Tree.{argument, assign, branches_of, case_in, cases_of, command, entries_of, entry, for_in, for_words_of, if_then, item, remark};
+ghost use Rattle.shast.specs.Moved.{appended, carried, carried_and_or, carried_and_or_part, carried_branch, carried_case, carried_command, carried_compound, carried_content, carried_else, carried_entry, carried_form, carried_here, carried_item, carried_item_content, carried_join, carried_pipe, carried_pipeline, carried_subst, carried_word, moved};
+ghost use Rattle.shast.specs.Tree.{argument, assign, command, entry, item, remark};
 ghost use Rattle.shast.specs.View.{view_and_or, view_and_or_part, view_branch, view_case_item, view_command, view_comment, view_compound, view_content, view_entry, view_form, view_function, view_here, view_item, view_item_content, view_join, view_list, view_otherwise, view_pipeline, view_pipeline_part, view_redirection, view_subst, view_word};
 
 use shast::make::{

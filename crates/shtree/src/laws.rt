@@ -9,7 +9,7 @@ ghost use Rattle.shast.specs.Shape.{Shape, Text, shape_of, text_at};
 ghost use Rattle.shast.specs.Spelling.{spelling};
 ghost use Rattle.shast.specs.Bodies.{filled, filled_row};
 ghost use Rattle.shast.specs.Opened.{bodies_of, opened};
-ghost use Rattle.shast.specs.Tree.{ACommand, AContent, AWord, AnEntry, AnItemContent, Entries, EntriesOf, Items, brace, compound, entries_of, entry, for_in, formed, in_words, item, more_items, no_entry, no_item, remark, simple};
+ghost use Rattle.shast.specs.Tree.{ACommand, AContent, AnEntry, AnItemContent, Entries, EntriesOf, Items, brace, compound, entries_of, entry, formed, item, more_items, no_entry, no_item, remark, simple};
 
 /// The normal form of a list refuses each of these, in a list of one entry.
 pub fn normal_form()

@@ -1,5 +1,5 @@
 //! The nodes of a script's tree, as an editor asks for them: what stands where in the text.
-ghost use Rattle.std.specs.Prelude.{◌≡◌, ◌-◌, ◌++◌, Bool, All, filter, IfOk, map, OnErr, OnOk};
+ghost use Rattle.std.specs.Prelude.{◌≡◌, ◌-◌, ◌++◌, All, filter, IfOk, map, OnErr, OnOk};
 ghost use Rattle.shast.specs.declared.node.NodeLine.{NodeLine};
 ghost use Rattle.shast.specs.Nodes.{AreWithin, by_place, entries_nodes, holds, in_order, in_outline, IsWithin, nodes_at, outline, placed};
 ghost use Rattle.shast.specs.View.{view_list};
