@@ -3,3 +3,4 @@ pub mod Awaited
 pub mod Stops
 pub mod Kept
 pub mod Searches
+pub mod Faultless

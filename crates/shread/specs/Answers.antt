@@ -20,6 +20,11 @@ view_kind (kinds.Faulty fault) = faulty_line fault
 abbrev pub view_line : ℕ → the_line.Line → ALine
 view_line at line = record { kind = view_kind line.kind; next = line.next - at; ended = line.ended }
 
+-- the fault of a line, where it has one, lies within so many bytes
+abbrev pub FaultWithin : ℕ → AKind → Type 0
+FaultWithin limit (faulty_line fault) = fault.at ≤ limit
+FaultWithin limit _ = Unit {0}
+
 abbrev pub meter_of : Reader → ℕ
 meter_of reader = reader.meter
 

@@ -1,6 +1,6 @@
 //! One line of a source, alone or as a script of its own.
 ghost use Rattle.std.specs.Prelude.{◌≡◌, ◌⊎◌, ◌+◌, ◌-◌, ◌^◌, ◌<◌, ◌≤◌, ◌==◌, ℕ, drop, false, length, map, true, IfOk, IsOk};
-ghost use Rattle.shread.specs.Answers.{view_kind, view_line};
+ghost use Rattle.shread.specs.Answers.{FaultWithin, view_kind, view_line};
 ghost use Rattle.shread.specs.Clauses.{Gives, Onward, kept};
 ghost use Rattle.shgrammar.specs.Lines.{kind_of};
 ghost use Rattle.shgrammar.specs.Scripts.{line_of_text, line_told};
@@ -97,13 +97,14 @@ pub(crate) fn ends_in_newline<S: Source>(source: &S, at: usize, len: usize) -> b
 }
 
 /// The line that begins at an offset, read as a script of its own. At the length no memory is wanted.
-#[tactic(auto, unfolding(shgrammar::specs::Scripts::line_of_text), using(shgrammar::proofs::LineKinds::nothing_left))]
+#[tactic(auto, unfolding(shgrammar::specs::Scripts::line_of_text), using(shgrammar::proofs::LineKinds::nothing_left, crate::proofs::Faultless::no_fault_within))]
 pub(crate) fn line_from<S: Source>(alloc: Global, source: &S, at: usize) -> Result<Line, ReadError>
     requires { at ≤ length (S.bytes source.now) }
     ensures value { IfOk result (λ line. view_line at line ≡ line_of_text (drop at (S.bytes source.now))) }
     ensures next { IfOk result (λ line. (at ≤ line.next) × (line.next ≤ length (S.bytes source.now))) }
     ensures onward { IfOk result (λ line. line.ended ≡ true → at < line.next) }
     ensures whole { IfOk result (λ line. line.ended ≡ false → line.next ≡ length (S.bytes source.now)) }
+    ensures fault { IfOk result (λ line. FaultWithin (line.next - at) (view_kind line.kind)) }
     ensures end { at ≡ length (S.bytes source.now) → IsOk result }
 {
     let end = source.len();

@@ -1,7 +1,7 @@
 //! The reader: one line, or a whole script.
 ghost use Rattle.std.specs.Prelude.{◌≡◌, ◌-◌, ◌<◌, ◌≤◌, drop, false, length, true, List as Row, None, IfOk, IfErr, IfSome, IsOk};
 ghost use Rattle.shgrammar.specs.Lines.{EntriesWithin};
-ghost use Rattle.shread.specs.Answers.{meter_of, view_kind, view_line};
+ghost use Rattle.shread.specs.Answers.{FaultWithin, meter_of, view_kind, view_line};
 ghost use Rattle.shtext.specs.Meter.{raised};
 ghost use Rattle.shgrammar.specs.Scripts.{view_script};
 ghost use Rattle.shgrammar.specs.Form.{Spelled};
@@ -79,6 +79,8 @@ impl Reader {
         ensures whole { IfOk result (λ line. line.ended ≡ false → line.next ≡ length (S.bytes source.now)) }
         // No node of its entries names an offset above the line's length.
         ensures within { IfOk result (λ line. EntriesWithin (line.next - at) (view_kind line.kind)) }
+        // Its fault lies within it.
+        ensures fault { IfOk result (λ line. FaultWithin (line.next - at) (view_kind line.kind)) }
         ensures meter { IfOk result (λ line. meter_of self.new ≡ raised (meter_of self.old) (line.next - at)) }
         ensures err { IfErr result (λ e. meter_of self.new ≡ meter_of self.old) }
         ensures end { at ≡ length (S.bytes source.now) → IsOk result }
