@@ -21,6 +21,7 @@ scripts: $(PROGRAM) $(TESTS)
 	tests/run
 	tests/session
 	tests/refused-growths
+	tests/second-reader
 	tests/launcher
 	tests/install
 

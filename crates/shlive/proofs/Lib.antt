@@ -1,4 +1,7 @@
-pub mod Scratch
+pub mod TopLines
+pub mod Walking
+pub mod LastLine
+pub mod Windows
 pub mod Passed
 pub mod Words
 pub mod Numbers

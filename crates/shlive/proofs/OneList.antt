@@ -1,7 +1,7 @@
 -- An input spells one list of requests.
-use Rattle.std.proofs.Common.{◌≡◌, ℕ, zero, suc, ◌+◌, ◌<◌, ◌≤◌, Bool, true, false, cond, List, [], ◌∷◌, ◌++◌, Option, None, Some, length, take, drop, refl, sym, ap, ◌∙◌, arith, append_assoc, append-nil, length-append, length-drop, subst}
+use Rattle.std.proofs.Common.{◌≡◌, ℕ, zero, suc, ◌<◌, ◌≤◌, Bool, true, false, cond, List, [], ◌∷◌, ◌++◌, Option, None, Some, length, take, drop, refl, sym, ap, ◌∙◌, arith, append_assoc, append-nil, length-drop, subst}
 use Rattle.shtext.specs.Text.{is_newline}
-use Rattle.shlive.specs.Requests.{Begins, Ending, EndsBy, Lined, Next, Request, Requests, asks, behind, clean, cut, edit, edit_by, first_line, leaves, left, next_by_line, next_by_order, next_of, none_yet, nothing, one_more, order_of_line, spoiled, unfinished}
+use Rattle.shlive.specs.Requests.{Begins, Ending, EndsBy, Lined, Next, Request, Requests, asks, behind, clean, cut, edit_by, first_line, leaves, left, next_by_line, next_by_order, next_of, none_yet, nothing, one_more, order_of_line, unfinished}
 use Rattle.shlive.specs.declared.order.Order.{Order}
 use Rattle.shlive.specs.declared.order.Order.TheVariants as orders
 

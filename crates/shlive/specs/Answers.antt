@@ -1,10 +1,8 @@
 -- What a session answers for the bytes of a script: what reading them from scratch says.
-use Rattle.std.specs.Prelude.{◌≡◌, ℕ, List, length, Option, None, Some}
-use Rattle.shgrammar.specs.Scripts.{view_script}
+use Rattle.std.specs.Prelude.{◌≡◌, ℕ, List, Option, None, Some}
 use Rattle.shgrammar.specs.Scripts.{AScript, FirstFault, Outcome}
 use Rattle.shgrammar.specs.declared.fault.Fault.{Fault}
-use Rattle.shgrammar.specs.declared.script.Script.{Script}
-use Rattle.shast.specs.Nodes.{AreWithin, nodes_at, outline}
+use Rattle.shast.specs.Nodes.{nodes_at, outline}
 use Rattle.shast.specs.declared.node.NodeLine.{NodeLine}
 use Rattle.shtext.specs.Edit.{Refuses}
 use Rattle.shtext.specs.declared.error.TextError.{TextError}
@@ -50,12 +48,3 @@ abbrev pub IsRefused : List ℕ → ℕ → ℕ → List ℕ → LiveError → T
 IsRefused bytes a b new Range = Refuses bytes a b new text_errors.Range
 IsRefused bytes a b new TooLarge = Refuses bytes a b new text_errors.TooLarge
 IsRefused bytes a b new Memory = Refuses bytes a b new text_errors.Memory
-
--- ---- what a session keeps
-
--- a script is what is read of the bytes, and nothing else is read of them
-pub record IsReadOf (bytes : List ℕ) (script : Script) : Type 0 where
-  pub outcome : Outcome bytes (view_script script)
-  pub only : (a : AScript) → Outcome bytes a → a ≡ view_script script
-  -- it names no offset above their length
-  pub within : AreWithin (length bytes) (view_script script).entries

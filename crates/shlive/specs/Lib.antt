@@ -1,4 +1,5 @@
 pub mod Held
+pub mod HeldLines
 pub mod Answers
 pub mod Kept
 pub mod Waiting

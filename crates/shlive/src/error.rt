@@ -3,8 +3,8 @@ ghost use Rattle.std.specs.Prelude.{◌≡◌};
 ghost use Rattle.shlive.specs.Answers.{as_live};
 ghost use Rattle.shlive.specs.declared.error.LiveError.TheVariants.{Memory};
 
-use shread::ReadError;
 use shtext::TextError;
+use std::alloc::AllocError;
 use thiserror::Error;
 
 /// Why a session does not take a script or an edit. The numbers are fixed, and an edit is tested in their order.
@@ -33,10 +33,10 @@ impl From<TextError> for LiveError {
     }
 }
 
-impl From<ReadError> for LiveError {
+impl From<AllocError> for LiveError {
     ghost from_gives = { λ _ e. e ≡ Memory };
 
-    fn from(_e: ReadError) -> LiveError {
+    fn from(_e: AllocError) -> LiveError {
         LiveError::Memory
     }
 }

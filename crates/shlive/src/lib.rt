@@ -6,6 +6,7 @@
 //! a run is.
 #![tactic(auto)]
 
+mod answers;
 mod error;
 mod incoming;
 pub mod laws;
@@ -17,6 +18,7 @@ mod reply;
 mod serve;
 mod session;
 mod texts;
+mod top_lines;
 
 pub use error::LiveError;
 pub use serve::run;

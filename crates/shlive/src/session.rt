@@ -7,23 +7,27 @@ ghost use Rattle.shgrammar.specs.declared.fault.Fault.{Fault};
 ghost use Rattle.shtext.specs.Buffer.{buffer_bytes};
 ghost use Rattle.shtext.specs.Edit.{IsAllowed, edited, limit};
 ghost use Rattle.shlive.specs.Answers.{HasNodesAt, HasOutline, HasStatus, HasText, IsRefused};
+ghost use Rattle.shlive.specs.HeldLines.{HasReadNoMore, HasReadWindow};
 
+use crate::answers::{list_of_lines, nodes_of_lines, outline_of_lines};
 use crate::error::LiveError;
+use crate::top_lines::{TopLine, TopLines};
 use shprint::{Layout, print};
 use shread::{Fault, Reader, Script};
 use shtext::{Buffer, Source};
-use shtree::{NodeLine, nodes_at, outline_of};
+use shtree::NodeLine;
+use shwindow::HeldLines;
 use std::alloc::{AllocError, Global};
 use std::marker::Model;
 
-/// A script that is edited, with what was read of it. After each edit every answer is that of the edited bytes read from scratch.
+/// A script that is edited, with its lines as they were read. After each edit every answer is that of the edited bytes read from scratch.
 #[derive(Drop)]
 pub struct Session {
     alloc: Global,
-    reader: Reader,
+    reader: TopLines,
     layout: Layout,
     buffer: Buffer,
-    script: Script,
+    lines: HeldLines<TopLine>,
 }
 
 impl Model for Session {
@@ -53,31 +57,35 @@ impl Session {
         ensures err { IfErr result (IsRefused [] 0 0 bytes.now) }
         ensures empty { length bytes.now ≡ 0 → IsOk result }
     {
-        let mut reader = reader;
+        let mut reader = TopLines { reader };
         let buffer = Buffer::from_slice(alloc, bytes)?;
-        let script = reader.read_script(&buffer)?;
+        let lines = HeldLines::read(alloc, &mut reader, &buffer)?;
         Ok(Session {
             alloc,
             reader,
             layout,
             buffer,
-            script,
+            lines,
         })
     }
 
-    /// Puts bytes in the place of those from `a` up to `b`. An edit that is refused changes no answer.
+    /// Puts bytes in the place of those from `a` up to `b`, and reads the window of the edit. An edit that is refused changes no answer;
+    /// for want of memory it has read no more than the window.
     pub fn edit(&mut self, a: usize, b: usize, bytes: &[u8]) -> Result<(), LiveError>
         ensures bytes { OnOk result (self.new.bytes ≡ edited self.old.bytes a b bytes.now) }
         ensures allowed { OnOk result (IsAllowed self.old.bytes a b bytes.now) }
         ensures err { IfErr result (IsRefused self.old.bytes a b bytes.now) }
         ensures kept { OnErr result (self.new.bytes ≡ self.old.bytes) }
         ensures layout { self.new.layout ≡ self.old.layout }
+        ensures window { OnOk result (HasReadWindow self.old.bytes a b bytes.now self.old.meter self.new.meter) }
         ensures meter { IfErr result (λ e. e ≢ LiveError.Memory → self.new.meter ≡ self.old.meter) }
+        ensures within { OnErr result (HasReadNoMore self.old.bytes a b bytes.now self.old.meter self.new.meter) }
     {
         let change = self.buffer.prepare(a, b, bytes)?;
-        let script = self.reader.read_script(&self.buffer.preview(&change))?;
+        let edited = self.buffer.preview(&change);
+        self.lines
+            .edit(&mut self.reader, &edited, a, a + bytes.len(), b)?;
         self.buffer.commit(change);
-        self.script = script;
         Ok(())
     }
 
@@ -119,7 +127,7 @@ impl Session {
     pub fn status(&self) -> u8
         ensures { HasStatus self.now.bytes result }
     {
-        match self.script.fault {
+        match self.fault() {
             None => 0,
             Some(_) => 1,
         }
@@ -130,7 +138,15 @@ impl Session {
         ensures first { FirstFault self.now.bytes result }
         ensures within { IfSome result (λ fault. fault.at ≤ length self.now.bytes) }
     {
-        self.script.fault
+        let last = self.lines.last();
+        let begin = self.buffer.len() - last.len;
+        match last.kind.fault() {
+            None => None,
+            Some(fault) => Some(Fault {
+                kind: fault.kind,
+                at: begin + fault.at,
+            }),
+        }
     }
 
     /// The nodes that an outline shows: all but words, assignments, redirections and comments. Of a faulty script, those of the lines
@@ -138,9 +154,7 @@ impl Session {
     pub fn outline(&self) -> Result<Vec<NodeLine>, AllocError>
         ensures { IfOk result (λ lines. HasOutline self.now.bytes lines.items) }
     {
-        let mut lines = Vec::new(self.alloc);
-        outline_of(self.alloc, &self.script.list, 0, &mut lines)?;
-        Ok(lines)
+        outline_of_lines(self.alloc, &self.lines)
     }
 
     /// The nodes that hold the byte at an offset, the outer before the inner. At or past the end there are none, which takes no memory.
@@ -148,12 +162,10 @@ impl Session {
         ensures nodes { IfOk result (λ lines. HasNodesAt self.now.bytes at lines.items) }
         ensures past { length self.now.bytes ≤ at → IsOk result }
     {
-        let mut lines = Vec::new(self.alloc);
         if self.buffer.len() <= at {
-            return Ok(lines);
+            return Ok(Vec::new(self.alloc));
         }
-        nodes_at(self.alloc, &self.script.list, 0, at, &mut lines)?;
-        Ok(lines)
+        nodes_of_lines(self.alloc, &self.lines, at)
     }
 
     /// The printed text, and none for a faulty script, which takes no memory.
@@ -161,10 +173,12 @@ impl Session {
         ensures text { IfOk result (λ text. HasText self.now.layout self.now.bytes (option_map (λ t. t.items) text)) }
         ensures faulty { (fault : Fault) → FirstFault self.now.bytes (Some fault) → IsOk result }
     {
-        if self.script.fault.is_some() {
+        if self.fault().is_some() {
             return Ok(None);
         }
-        let text = print(self.alloc, &self.layout, &self.script, &self.buffer)?;
+        let list = list_of_lines(self.alloc, &self.lines)?;
+        let script = Script { list, fault: None };
+        let text = print(self.alloc, &self.layout, &script, &self.buffer)?;
         Ok(Some(text))
     }
 
@@ -172,6 +186,6 @@ impl Session {
     pub fn meter(&self) -> u64
         ensures { result ≡ self.now.meter }
     {
-        self.reader.meter()
+        self.reader.reader.meter()
     }
 }

@@ -2,7 +2,7 @@
 //! growths they use.
 //!
 //! Start with the module of what is tested: `printer_..` are the tests of `shprint`, `session_..` those of `shlive`; those in
-//! `.._refused` refuse each growth of memory in turn. `spliced` is the model by which edits are judged.
+//! `.._refused` refuse each growth of memory in turn. `spliced` is the model by which edits are judged, `windows` that of what they read.
 #![tactic(auto)]
 
 #[cfg(test)]
@@ -13,4 +13,8 @@ mod printer_texts;
 mod session_refused;
 #[cfg(test)]
 mod session_runs;
+#[cfg(test)]
+mod session_windows;
 pub mod spliced;
+#[cfg(test)]
+mod windows;

@@ -1,0 +1,121 @@
+-- Each node of a line that a newline ended begins before the line's end.
+use Rattle.std.proofs.Common.{◌≡◌, ℕ, ◌+◌, ◌<◌, ◌≤◌, Bool, true, false, Option, None, Some, Result, Ok, Err, List, List as Row, [], ◌∷◌, refl, sym, ap, subst, ◌∙◌, arith}
+use Rattle.std.specs.Prelude.{All}
+use Rattle.std.proofs.lemmas.Bool.{and_parts}
+use Rattle.std.proofs.lemmas.List.Elements.{All-nil, All-same}
+use Rattle.shast.specs.declared.node.NodeLine.{NodeLine}
+use Rattle.shast.specs.declared.tree.Span.{Span}
+use Rattle.shast.specs.Bodies.{filled_row}
+use Rattle.shast.specs.Everywhere.{IsSome}
+use Rattle.shast.specs.Nodes.{IsSpanWithin, entries_nodes}
+use Rattle.shast.specs.Tree.{AnEntry, entries_of}
+use Rattle.shast.proofs.Going.{row_filled}
+use Rattle.shast.proofs.OpenSame.{filled_nodes}
+use Rattle.shgrammar.specs.declared.fault.Fault.{Fault}
+use Rattle.shgrammar.specs.declared.keep.Keep.{Keep}
+use Rattle.shgrammar.specs.declared.keep.Keep.TheVariants.{Whole}
+use Rattle.shgrammar.specs.declared.token.Next.{Next}
+use Rattle.shgrammar.specs.declared.token.Position.TheVariants.{Command}
+use Rattle.shgrammar.specs.Bytes.{behind}
+use Rattle.shgrammar.specs.Commands.{is_newline, next_token, none_waits, nothing_waits, what_is_wrong}
+use Rattle.shgrammar.specs.Form.{◌▸◌, Read, does, nothing_read}
+use Rattle.shgrammar.specs.HereDocuments.{bodies_here, changed, first_waiting, own_level}
+use Rattle.shgrammar.specs.Levels.{level, most_open}
+use Rattle.shgrammar.specs.Lines.{ALine, IsLine, a_line, an_open_line, end_by, end_of_line, kind_of, line_read, line_stops}
+use Rattle.shgrammar.specs.Lists.{list_so, none_listed, on_line}
+use Rattle.shgrammar.specs.Sights.{Given, State, given, standing}
+use Rattle.shgrammar.specs.Tokens.{is_end}
+use Rattle.shgrammar.specs.Words.{Inner}
+use Rattle.shgrammar.proofs.EachSpan.{EntryIn, entries_in, throughout_so}
+use Rattle.shgrammar.proofs.Everywhere.{level_in}
+use Rattle.shgrammar.proofs.Holds.{Behind, Holds, Tells, change_low, holds_so, holds_then, low, tells_give, tells_level, tells_then}
+use Rattle.shgrammar.proofs.ListsEverywhere.{ListIn, on_line_in}
+use Rattle.shgrammar.proofs.OneOutcome.{is as is_form}
+use Rattle.shgrammar.proofs.Places.{behind_low}
+use Rattle.shheld.proofs.Nodes.{kind_nodes}
+use Rattle.shheld.proofs.Starts.{nodes_begin}
+
+-- ---- a newline leads on
+
+abbrev Ended : State → Bool → State → Type 0
+Ended s newline t = newline ≡ true → s.at < t.at
+
+ended_by : (inner : Inner) (keep : Keep) (g : Given) (s : State) (newline end : Bool) (n : Next) → Holds (Ended s) (does (end_by inner newline end n) keep g s)
+unfolding nothing_waits
+ended_by inner keep g s true end n = by_change (changed bodies_here g (past s)) (λ t is. omega (arith, behind_low g.text s.at, change_low bodies_here g (past s) t is))
+  where
+    past : State → State
+    past u = record { at = behind g.text u.at; waiting = u.waiting; bodies = u.bodies }
+
+    by_change : (x : Result State Fault) → ((t : State) → x ≡ Ok t → s.at < t.at) → Holds (Ended s) (nothing_read x ▸ λ u t. Ok (true, t))
+    by_change (Ok t) so = λ e. so t refl
+    by_change (Err f) so = tt
+ended_by inner keep g s false true n = by_waiting (first_waiting s)
+  where
+    by_waiting : (w : Option ℕ) → Holds (Ended s) (does (none_waits w) keep g s ▸ λ u t. Ok (false, t))
+    by_waiting None = λ e. absurd cc
+    by_waiting (Some b) = tt
+ended_by inner keep g s false false n =
+    holds_then (λ w t. Unit {0}) (Ended s) (does (what_is_wrong inner n) keep g s) _ (holds_so (Behind s) (λ w t. Unit {0}) _ (low (what_is_wrong inner n) keep g s).told (λ c t on. tt)) (λ w t so. tt)
+
+end_ended : (inner : Inner) (keep : Keep) (g : Given) (s : State) (n : Next) → Tells keep g (end_of_line inner n) (Ended s) s
+unfolding end_of_line
+end_ended inner keep g s n = record { told = ended_by inner keep g s (is_newline n.token) (is_end n.token) n }
+
+-- ---- what is read before it
+
+-- what holds up to each limit holds up to where the reading stands
+up_to_here : {X : Type 0} (Q : ℕ → X → Type 0) (o : ℕ) (x : Read X) → ((limit : ℕ) → Holds (λ a t. o + t.at ≤ limit → Q limit a) x) → Holds (λ a t. Q (o + t.at) a) x
+up_to_here Q o (Ok (a, t)) so = so (o + t.at) (omega arith)
+up_to_here Q o (Err f) so = tt
+
+-- each node of these entries begins before this offset
+abbrev BeginBefore : ℕ → Row AnEntry → Type 0
+BeginBefore p es = All (λ (n : NodeLine). n.start < p) (entries_nodes (entries_of es))
+
+abbrev LineBegins : Given → Row AnEntry × Bool → State → Type 0
+LineBegins g x t = x.1 ≡ true → BeginBefore (g.offset + t.at) x.0
+
+begin_before : (limit p : ℕ) (es : Row AnEntry) → limit < p → All (EntryIn limit) es → BeginBefore p es
+begin_before limit p es lt all =
+    nodes_begin (λ n. n < p) (entries_of es)
+    (throughout_so (IsSpanWithin limit) (λ s. s.start < p) IsSome IsSome (λ s within. omega (arith, lt, within.0)) (λ items some. some) (entries_of es) (entries_in limit es all))
+
+module _ (g : Given) where
+  on_line_here : (blank : Bool) (n : Next) (s : State) → Tells Whole g (on_line (level most_open) (list_so (none_listed blank) n)) (λ l t. ListIn (g.offset + t.at) l) s
+  on_line_here blank n s =
+      record {
+        told = up_to_here ListIn g.offset (does (on_line (level most_open) (list_so (none_listed blank) n)) Whole g s)
+            (λ limit. (on_line_in (level_in g limit most_open) (list_so (none_listed blank) n) s (All-nil (EntryIn limit), tt)).told.told);
+      }
+
+  open_line_begins : (blank : Bool) (s : State) → Tells Whole g (an_open_line (level most_open) blank) (LineBegins g) s
+  unfolding an_open_line
+  open_line_begins blank s =
+      tells_then Whole g (low (next_token Command) Whole g s)
+      (λ n t one. tells_then Whole g (on_line_here blank n t)
+      (λ l u all. tells_then Whole g (end_ended (level most_open) Whole g u l.next)
+      (λ newline w more. tells_give Whole g (λ e. begin_before (g.offset + u.at) (g.offset + w.at) l.list.entries (omega (arith, more e)) all.0))))
+
+  filled_begin : (p : ℕ) (bodies : Row Span) (es : Row AnEntry) → BeginBefore p es → BeginBefore p (filled_row bodies es)
+  filled_begin p bodies es so = All-same (λ (n : NodeLine). n.start < p) _ _ (ap entries_nodes (row_filled bodies es) ∙ filled_nodes bodies (entries_of es)) so
+
+  line_begins : (blank : Bool) (s : State) → Tells Whole g (a_line (level most_open) blank) (LineBegins g) s
+  unfolding a_line
+  line_begins blank s =
+      tells_then Whole g {P = λ l t. LineBegins g l.0 t} (tells_level Whole g (open_line_begins blank (own_level s)) (λ x t so. so))
+      (λ l t so. tells_give Whole g (λ e. filled_begin (g.offset + t.at) l.1 l.0.0 (so e)))
+
+kind_begins : (p : ℕ) (es : Row AnEntry) (newline : Bool) → BeginBefore p es → All (λ (n : NodeLine). n.start < p) (kind_nodes (kind_of es newline))
+kind_begins p [] true so = so
+kind_begins p [] false so = so
+kind_begins p (e ∷ es) newline so = so
+
+pub nodes_before_end : (T : List ℕ) (l : ALine) → IsLine T l → l.ended ≡ true → All (λ (n : NodeLine). n.start < l.next) (kind_nodes l.kind)
+nodes_before_end T l (line_read es newline t k part) ended =
+    let both = and_parts _ _ ended in
+    let told = (line_begins (given T 0) false (standing 0)).told in
+    let so = subst (Holds (LineBegins (given T 0))) (sym ((is_form (a_line (level most_open) false) (given T 0) (standing 0)).only _ _ part)) told both.0 in
+    let here : 0 + t.at ≡ t.at = omega arith in
+    kind_begins t.at es newline (subst (λ p. BeginBefore p es) here so)
+nodes_before_end T l (line_stops f k part) ended = absurd cc

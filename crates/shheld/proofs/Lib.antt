@@ -1,0 +1,12 @@
+pub mod TopLines
+pub mod Rows
+pub mod Walks
+pub mod Within
+pub mod Blanked
+pub mod Places
+pub mod Nodes
+pub mod NodesAt
+pub mod Starts
+pub mod BeforeNewline
+pub mod Outlines
+pub mod Codes

@@ -1,0 +1,118 @@
+-- The nodes of a script that hold a byte are those of the line that holds it.
+use Rattle.std.proofs.Common.{◌≡◌, ℕ, ◌+◌, ◌<◌, ◌≤◌, false, List, List as Row, [], ◌∷◌, ◌++◌, Option, None, Some, drop, length, map, option_map, sym, ap, refl, ◌∙◌, arith, append-nil}
+use Rattle.std.specs.Prelude.{All, ◌&&◌, nat_le, nat_lt}
+use Rattle.std.specs.List.{filter}
+use Rattle.std.proofs.lemmas.Bool.Decides.{nat_tests}
+use Rattle.std.proofs.lemmas.List.Elements.{All-head, All-tail, filter-append}
+use Rattle.shast.specs.declared.node.NodeLine.{NodeLine}
+use Rattle.shast.specs.declared.tree.Span.{Span}
+use Rattle.shast.specs.Nodes.{IsWithin, entries_nodes, holds, in_order, nodes_at, placed, placed_span}
+use Rattle.shgrammar.specs.Lines.{AKind, blank_line, entries_line, end_line, faulty_line}
+use Rattle.shgrammar.specs.Scripts.{AScript, Outcome}
+use Rattle.shtree.proofs.InOrder.{filter-in_order}
+use Rattle.shwindow.specs.Lines.{IsRow, extent}
+use Rattle.shwindow.specs.declared.line.HeldLine.{HeldLine}
+use Rattle.shwindow.proofs.Rows.{row_ended, row_extent, row_head, row_rest}
+use Rattle.shheld.specs.TopLines.{IsTopLine, script_of}
+use Rattle.shheld.specs.Walk.{line_nodes_at}
+use Rattle.shheld.proofs.Nodes.{kind_nodes, line_nodes, line_places, lines_nodes, row_nodes, row_places}
+use Rattle.shheld.proofs.Rows.{row_outcome}
+use Rattle.shheld.proofs.TopLines.{top_lines}
+
+-- ---- nodes where a text begins
+
+name_here : (name : Option Span) → option_map (placed_span 0) name ≡ name
+name_here None = refl
+name_here (Some s) =
+    let one : 0 + s.start ≡ s.start = omega arith in
+    let two : 0 + s.«end» ≡ s.«end» = omega arith in
+    rw (one, two) refl
+
+here : (n : NodeLine) → placed 0 n ≡ n
+here n =
+    let one : 0 + n.start ≡ n.start = omega arith in
+    let two : 0 + n.«end» ≡ n.«end» = omega arith in
+    rw (one, two, name_here n.name) refl
+
+pub all_here : (ns : Row NodeLine) → map (placed 0) ns ≡ ns
+all_here [] = refl
+all_here (n ∷ ns) = rw (here n, all_here ns) refl
+
+-- ---- no node holds a byte before its line, or behind it
+
+past : (at s e n : ℕ) → e ≤ n → n ≤ at → (nat_le s at && nat_lt at e) ≡ false
+past at s e n low high = grind (arith, nat_tests)
+
+not_yet : (base at s e : ℕ) → at < base → (nat_le (base + s) at && nat_lt at (base + e)) ≡ false
+not_yet base at s e low = grind (arith, nat_tests)
+
+pub none_past : (at n : ℕ) (ns : Row NodeLine) → All (IsWithin n) ns → n ≤ at → filter (holds at) ns ≡ []
+none_past at n [] within high = refl
+none_past at n (m ∷ ms) within high = rw (past at m.start m.«end» n (All-head (IsWithin n) m ms within).«end» high) (none_past at n ms (All-tail (IsWithin n) m ms within) high)
+
+none_yet : (base at : ℕ) (ns : Row NodeLine) → at < base → filter (holds at) (map (placed base) ns) ≡ []
+none_yet base at [] low = refl
+none_yet base at (n ∷ ns) low = rw (not_yet base at n.start n.«end» low) (none_yet base at ns low)
+
+none_behind : (base at : ℕ) (ls : Row (HeldLine AKind)) → at < base → filter (holds at) (lines_nodes base ls) ≡ []
+none_behind base at [] low = refl
+none_behind base at (l ∷ ls) low =
+    filter-append (holds at) (line_nodes base l) (lines_nodes (base + l.len) ls)
+    ∙ ap (λ ns. ns ++ filter (holds at) (lines_nodes (base + l.len) ls)) (none_yet base at (kind_nodes l.kind) low)
+    ∙ none_behind (base + l.len) at ls (omega arith)
+
+-- of the lines from the base on, none of which is behind the byte, those that stand before one that holds it
+held_by : (T : List ℕ) (before : Row (HeldLine AKind)) (l : HeldLine AKind) (rest : Row (HeldLine AKind)) → IsRow IsTopLine T (before ++ l ∷ rest) → (base at : ℕ)
+    → base + extent before ≤ at → at < base + extent before + l.len → filter (holds at) (lines_nodes base (before ++ l ∷ rest)) ≡ filter (holds at) (line_nodes (base + extent before) l)
+unfolding extent
+held_by T [] l rest row base at low high =
+    let same : base ≡ base + 0 = omega arith in
+    filter-append (holds at) (line_nodes base l) (lines_nodes (base + l.len) rest)
+    ∙ ap (λ ns. filter (holds at) (line_nodes base l) ++ ns) (none_behind (base + l.len) at rest (omega arith))
+    ∙ append-nil (filter (holds at) (line_nodes base l))
+    ∙ ap (λ b. filter (holds at) (line_nodes b l)) same
+held_by T (x ∷ xs) l rest row base at low high =
+    let is = row_head IsTopLine T x (xs ++ l ∷ rest) row in
+    let ended = row_ended IsTopLine T x xs l rest row in
+    let same : base + x.len + extent xs ≡ base + (x.len + extent xs) = omega arith in
+    filter-append (holds at) (line_nodes base x) (lines_nodes (base + x.len) (xs ++ l ∷ rest))
+    ∙ ap (λ ns. ns ++ filter (holds at) (lines_nodes (base + x.len) (xs ++ l ∷ rest))) (none_past at (base + x.len) (line_nodes base x) (line_places T x is base) (omega arith))
+    ∙ held_by (drop x.len T) xs l rest (row_rest IsTopLine T x (xs ++ l ∷ rest) row ended) (base + x.len) at (omega arith) (omega arith)
+    ∙ ap (λ b. filter (holds at) (line_nodes b l)) same
+
+-- ---- the nodes that are asked for
+
+asked : (base at : ℕ) (k : AKind) → in_order (filter (holds at) (map (placed base) (kind_nodes k))) ≡ line_nodes_at base at k
+asked base at blank_line = refl
+asked base at (entries_line xs) = sym (filter-in_order (holds at) (map (placed base) (entries_nodes xs)))
+asked base at end_line = refl
+asked base at (faulty_line f) = refl
+
+script_asked : (B : List ℕ) (row : Row (HeldLine AKind)) → IsRow IsTopLine B row → (at : ℕ) → nodes_at 0 at (script_of row).entries ≡ in_order (filter (holds at) (lines_nodes 0 row))
+script_asked B row is at =
+    filter-in_order (holds at) (map (placed 0) (entries_nodes (script_of row).entries))
+    ∙ ap (λ ns. in_order (filter (holds at) ns)) (all_here (entries_nodes (script_of row).entries) ∙ row_nodes B row is)
+
+-- those of the line that holds the byte
+pub row_nodes_at : (B : List ℕ) (before : Row (HeldLine AKind)) (l : HeldLine AKind) (rest : Row (HeldLine AKind)) → IsRow IsTopLine B (before ++ l ∷ rest) → (at : ℕ)
+    → extent before ≤ at → at < extent before + l.len → nodes_at 0 at (script_of (before ++ l ∷ rest)).entries ≡ line_nodes_at (extent before) at l.kind
+row_nodes_at B before l rest row at low high =
+    let same : 0 + extent before ≡ extent before = omega arith in
+    script_asked B (before ++ l ∷ rest) row at
+    ∙ ap in_order (held_by B before l rest row 0 at (omega arith) (omega arith) ∙ ap (λ b. filter (holds at) (line_nodes b l)) same)
+    ∙ asked (extent before) at l.kind
+
+-- at or past the end there are none
+pub row_nodes_past : (B : List ℕ) (row : Row (HeldLine AKind)) → IsRow IsTopLine B row → (at : ℕ) → length B ≤ at → nodes_at 0 at (script_of row).entries ≡ []
+row_nodes_past B row is at high =
+    script_asked B row is at
+    ∙ ap in_order (none_past at (0 + extent row) (lines_nodes 0 row) (row_places B row is 0) (omega (arith, high, row_extent IsTopLine top_lines B row is)))
+
+-- ---- as an answer for the bytes
+
+pub row_has_nodes : (B : List ℕ) (before : Row (HeldLine AKind)) (l : HeldLine AKind) (rest : Row (HeldLine AKind)) → IsRow IsTopLine B (before ++ l ∷ rest) → (at : ℕ)
+    → extent before ≤ at → at < extent before + l.len → (script : AScript) × Outcome B script × (line_nodes_at (extent before) at l.kind ≡ nodes_at 0 at script.entries)
+row_has_nodes B before l rest row at low high = (script_of (before ++ l ∷ rest), row_outcome B (before ++ l ∷ rest) row, sym (row_nodes_at B before l rest row at low high))
+
+pub row_has_none : (B : List ℕ) (row : Row (HeldLine AKind)) → IsRow IsTopLine B row → (at : ℕ) → length B ≤ at → (script : AScript) × Outcome B script × ([] ≡ nodes_at 0 at script.entries)
+row_has_none B row is at high = (script_of row, row_outcome B row is, sym (row_nodes_past B row is at high))

@@ -1,0 +1,37 @@
+-- The spans and the nodes of a line's entries lie within the line.
+use Rattle.std.proofs.Common.{◌≡◌, ℕ, ◌+◌, ◌-◌, ◌^◌, ◌<◌, ◌≤◌, List, subst, arith}
+use Rattle.shast.specs.Everywhere.{AllWithin, HaveItems}
+use Rattle.shast.specs.Nodes.{AreWithin, IsSpanWithin, entries_nodes}
+use Rattle.shast.specs.Tree.{Entries}
+use Rattle.shast.proofs.Reach.{span_fits_more, within_more}
+use Rattle.shgrammar.specs.Lines.{AKind, EntriesEverywhere, EntriesWithin, entries_line}
+use Rattle.shgrammar.proofs.EachSpan.{throughout_so}
+use Rattle.shgrammar.proofs.Everywhere.{line_everywhere}
+use Rattle.shgrammar.proofs.Within.{entries_within}
+use Rattle.shwindow.specs.declared.line.HeldLine.{HeldLine}
+use Rattle.shheld.specs.TopLines.{IsTopLine, as_read}
+
+pub all_within_more : (limit more : ℕ) (es : Entries) → limit ≤ more → AllWithin limit es → AllWithin more es
+all_within_more limit more es le so =
+    throughout_so (IsSpanWithin limit) (IsSpanWithin more) (λ items. Unit {0}) (λ items. Unit {0}) (span_fits_more limit more le) (λ items one. one) es so
+
+module _ (T : List ℕ) (l : HeldLine AKind) (xs : Entries) (is : IsTopLine T l) (kind_is : l.kind ≡ entries_line xs) where
+  everywhere : EntriesEverywhere l.len (entries_line xs)
+  everywhere = subst (EntriesEverywhere l.len) kind_is (line_everywhere T (as_read l) is)
+
+  pub line_all_within : AllWithin l.len xs
+  line_all_within = everywhere.0
+
+  pub line_have_items : HaveItems xs
+  line_have_items = everywhere.1
+
+  pub line_are_within : AreWithin l.len xs
+  line_are_within = subst (EntriesWithin l.len) kind_is (entries_within T (as_read l) is)
+
+  -- so no offset of a line that stands in a text is past the greatest one that there is
+  module _ (base : ℕ) (fits : base + l.len < 2 ^ 64) where
+    pub line_all_fit : AllWithin (2 ^ 64 - 1 - base) xs
+    line_all_fit = all_within_more l.len (2 ^ 64 - 1 - base) xs (omega (arith, fits)) line_all_within
+
+    pub line_nodes_fit : AreWithin (2 ^ 64 - 1 - base) xs
+    line_nodes_fit = within_more l.len (2 ^ 64 - 1 - base) (entries_nodes xs) (omega (arith, fits)) line_are_within

@@ -1,0 +1,3 @@
+pub mod TopLines
+pub mod Walk
+pub mod Joining

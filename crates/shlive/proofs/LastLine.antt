@@ -1,0 +1,85 @@
+-- The last line that a session holds, and the first fault of its script.
+use Rattle.std.proofs.Common.{◌≡◌, ℕ, ◌+◌, ◌-◌, ◌≤◌, [], ◌∷◌, ◌++◌, List, List as Row, false, is_some, Option, None, Some, length, refl, sym, ap, subst, ◌∙◌, arith}
+use Rattle.shgrammar.specs.declared.fault.Fault.{Fault}
+use Rattle.shgrammar.specs.Lines.{AKind, blank_line, end_line, entries_line, faulty_line}
+use Rattle.shgrammar.specs.Moved.{moved_fault}
+use Rattle.shgrammar.specs.Scripts.{AScript, FirstFault, Outcome}
+use Rattle.shgrammar.proofs.Scripts.{script_only}
+use Rattle.shast.specs.Tree.{Entries}
+use Rattle.shread.specs.Answers.{FaultWithin}
+use Rattle.shwindow.specs.declared.line.HeldLine.{HeldLine}
+use Rattle.shwindow.specs.Lines.{IsRow, extent}
+use Rattle.shheld.specs.TopLines.{script_of}
+use Rattle.shheld.specs.Walk.{fault_at}
+use Rattle.shheld.proofs.Rows.{last_at, row_fault, row_outcome}
+use Rattle.shlive.specs.HeldLines.{IsHeldLine, fault_in}
+use Rattle.shlive.proofs.TopLines.{last_within, row_top}
+
+fault_there : (k : AKind) (base : ℕ) (f : Fault) → fault_in k ≡ Some f → fault_at base k ≡ Some (moved_fault base f)
+fault_there (faulty_line g) base f e = ap (λ (o : Option Fault). moved o) e
+  where
+    moved : Option Fault → Option Fault
+    moved None = None
+    moved (Some h) = Some (moved_fault base h)
+fault_there blank_line base f e = absurd cc
+fault_there (entries_line es) base f e = absurd cc
+fault_there end_line base f e = absurd cc
+
+none_there : (k : AKind) (base : ℕ) → fault_in k ≡ None → fault_at base k ≡ None
+none_there (faulty_line g) base e = absurd cc
+none_there blank_line base e = refl
+none_there (entries_line es) base e = refl
+none_there end_line base e = refl
+
+low_by : (k : AKind) (n : ℕ) (f : Fault) → FaultWithin n k → fault_in k ≡ Some f → f.at ≤ n
+low_by (faulty_line g) n f low e = subst (λ (o : Option Fault). low_of o) e low
+  where
+    low_of : Option Fault → Type 0
+    low_of None = Unit {0}
+    low_of (Some h) = h.at ≤ n
+low_by blank_line n f low e = absurd cc
+low_by (entries_line es) n f low e = absurd cc
+low_by end_line n f low e = absurd cc
+
+module _ (B : List ℕ) (row : Row (HeldLine AKind)) (is : IsRow IsHeldLine B row) (before : Row (HeldLine AKind)) (l : HeldLine AKind) (split : row ≡ before ++ l ∷ []) where
+  last_row : IsRow IsHeldLine B (before ++ l ∷ [])
+  last_row = subst (IsRow IsHeldLine B) split is
+
+  last_end : extent before + l.len ≡ length B
+  last_end = last_at B before l (row_top B (before ++ l ∷ []) last_row)
+
+  pub last_low : l.len ≤ length B
+  last_low = omega (arith, last_end)
+
+  pub fault_low : (f : Fault) → fault_in l.kind ≡ Some f → f.at ≤ l.len
+  fault_low f e = low_by l.kind l.len f (last_within B before l last_row) e
+
+  pub is_fault : (f : Fault) → fault_in l.kind ≡ Some f → FirstFault B (Some (record { kind = f.kind; at = length B - l.len + f.at }))
+  is_fault f e =
+      let base : extent before ≡ length B - l.len = omega (arith, last_end) in
+      subst (FirstFault B) (fault_there l.kind (extent before) f e ∙ ap (λ n. Some (moved_fault n f)) base) (row_fault B before l (row_top B (before ++ l ∷ []) last_row))
+
+  pub is_none : fault_in l.kind ≡ None → FirstFault B None
+  is_none e = subst (FirstFault B) (none_there l.kind (extent before) e) (row_fault B before l (row_top B (before ++ l ∷ []) last_row))
+
+-- ---- the script of the lines
+
+pub one_fault : (B : List ℕ) (f g : Option Fault) → FirstFault B f → FirstFault B g → f ≡ g
+one_fault B f g one two = ap (λ (s : AScript). s.wrong) (script_only B _ one.1 ∙ sym (script_only B _ two.1))
+
+pub none_is : (f : Option Fault) → is_some f ≡ false → f ≡ None
+none_is None e = refl
+none_is (Some f) e = absurd cc
+
+none_some : (f : Fault) → None ≡ Some f → ⊥
+none_some f e = cc
+
+pub no_fault : (B : List ℕ) (f : Option Fault) → FirstFault B f → is_some f ≡ false → (g : Fault) → FirstFault B (Some g) → ⊥
+no_fault B f first none g other = none_some g (sym (none_is f none) ∙ one_fault B f (Some g) first other)
+
+-- where the script has no fault, the entries of its lines are all that is read of it
+pub faultless : (B : List ℕ) (row : Row (HeldLine AKind)) → IsRow IsHeldLine B row → FirstFault B None → (es : Entries) → es ≡ (script_of row).entries → Outcome B (record { entries = es; wrong = None })
+faultless B row is none es same =
+    let all = row_outcome B row (row_top B row is) in
+    let wrong = one_fault B (script_of row).wrong None ((script_of row).entries, all) none in
+    subst (λ es. Outcome B (record { entries = es; wrong = None })) (sym same) (subst (λ w. Outcome B (record { entries = (script_of row).entries; wrong = w })) wrong all)

@@ -1,0 +1,39 @@
+-- The lines that a session holds are the lines of its script.
+use Rattle.std.proofs.Common.{◌≡◌, ◌∷◌, ◌++◌, ℕ, [], true, drop, List, List as Row}
+use Rattle.shgrammar.specs.Lines.{AKind, blank_line, end_line, entries_line, faulty_line}
+use Rattle.shread.specs.Answers.{FaultWithin}
+use Rattle.shwindow.specs.declared.line.HeldLine.{HeldLine}
+use Rattle.shwindow.specs.Lines.{IsRow, last_line, more_lines}
+use Rattle.shwindow.specs.Window.{IsWindow}
+use Rattle.shwindow.proofs.Alike.{same_window}
+use Rattle.shwindow.proofs.Rows.{row_ended, row_head, row_rest}
+use Rattle.shheld.specs.TopLines.{IsTopLine}
+use Rattle.shheld.proofs.Rows.{GoesOn, goes_on}
+use Rattle.shlive.specs.HeldLines.{IsHeldLine}
+
+-- ---- held lines are top-level lines, and those that ended are no others
+
+pub row_top : (B : List ℕ) (hs : Row (HeldLine AKind)) → IsRow IsHeldLine B hs → IsRow IsTopLine B hs
+row_top B _ (last_line is not_ended whole) = last_line is.0 not_ended whole
+row_top B _ (more_lines {h = h} {hs = hs} is ended row) = more_lines is.0 ended (row_top (drop h.len B) hs row)
+
+none_within : (n : ℕ) (k : AKind) → GoesOn k → FaultWithin n k
+none_within n blank_line on = tt
+none_within n (entries_line es) on = tt
+none_within n end_line on = absurd on
+none_within n (faulty_line f) on = absurd on
+
+top_held : (T : List ℕ) (l : HeldLine AKind) → IsTopLine T l → l.ended ≡ true → IsHeldLine T l
+top_held T l is ended = (is, none_within l.len l.kind (goes_on T l is ended))
+
+pub window_top : (B U : List ℕ) (a e b w t : ℕ) → IsWindow IsHeldLine B U a e b w t → IsWindow IsTopLine B U a e b w t
+window_top = same_window IsHeldLine IsTopLine (λ T l is ended. is.0) top_held
+
+pub window_held : (B U : List ℕ) (a e b w t : ℕ) → IsWindow IsTopLine B U a e b w t → IsWindow IsHeldLine B U a e b w t
+window_held = same_window IsTopLine IsHeldLine top_held (λ T l is ended. is.0)
+
+-- ---- the fault of the last line
+
+pub last_within : (B : List ℕ) (xs : Row (HeldLine AKind)) (l : HeldLine AKind) → IsRow IsHeldLine B (xs ++ l ∷ []) → FaultWithin l.len l.kind
+last_within B [] l row = (row_head IsHeldLine B l [] row).1
+last_within B (x ∷ xs) l row = last_within (drop x.len B) xs l (row_rest IsHeldLine B x (xs ++ l ∷ []) row (row_ended IsHeldLine B x xs l [] row))

@@ -1,0 +1,117 @@
+-- A walk over the lines of a script, and the line that holds a byte.
+use Rattle.std.proofs.Common.{◌≡◌, ℕ, ◌+◌, ◌-◌, ◌^◌, ◌<◌, ◌≤◌, [], ◌∷◌, ◌++◌, Bool, true, List, List as Row, Option, None, Some, Result, Ok, Err, length, refl, sym, ap, subst, ◌∙◌, arith, append_assoc}
+use Rattle.std.specs.Prelude.{OnErr, OnOk}
+use Rattle.shast.specs.declared.node.NodeLine.{NodeLine}
+use Rattle.shast.specs.Everywhere.{AllWithin}
+use Rattle.shast.specs.Nodes.{AreWithin}
+use Rattle.shast.specs.Tree.{Entries}
+use Rattle.shgrammar.specs.Lines.{AKind, blank_line, end_line, entries_line, faulty_line}
+use Rattle.shwindow.specs.declared.line.HeldLine.{HeldLine}
+use Rattle.shwindow.specs.Held.{HasLineAt}
+use Rattle.shwindow.specs.Lines.{IsRow, extent}
+use Rattle.shwindow.proofs.Rows.{extent_push}
+use Rattle.shheld.specs.Walk.{Walk, entries_with, has_none, line_nodes_at, line_outline, outlines, with_line}
+use Rattle.shheld.proofs.Places.{row_all_fit, row_line_within, row_nodes_fit}
+use Rattle.shheld.proofs.Rows.{last_at}
+use Rattle.shlive.specs.HeldLines.{IsHeldLine, entries_in}
+use Rattle.shlive.proofs.TopLines.{row_top}
+
+-- these lines of a row are left, and the first of them begins at an offset
+pub record Walked (row left : Row (HeldLine AKind)) (begin : ℕ) : Type 0 where
+  pub done : Row (HeldLine AKind)
+  pub split : row ≡ done ++ left
+  pub begins : begin ≡ extent done
+
+pub walked_start : (row : Row (HeldLine AKind)) → Walked row row 0
+unfolding extent
+walked_start row = record { done = []; split = refl; begins = refl }
+
+module _ (row left : Row (HeldLine AKind)) (begin : ℕ) (l : HeldLine AKind) (rest : Row (HeldLine AKind)) (so : Walked row left begin) (first : left ≡ l ∷ rest) where
+  split_here : row ≡ so.done ++ l ∷ rest
+  split_here = so.split ∙ ap (λ ls. so.done ++ ls) first
+
+  pub walked_more : Walked row rest (begin + l.len)
+  walked_more = record {
+    done = so.done ++ l ∷ [];
+    split = split_here ∙ sym (append_assoc so.done (l ∷ []) rest);
+    begins = ap (λ n. n + l.len) so.begins ∙ sym (extent_push so.done l);
+  }
+
+  module _ (B : List ℕ) (is : IsRow IsHeldLine B row) where
+    here : IsRow IsHeldLine B (so.done ++ l ∷ rest)
+    here = subst (IsRow IsHeldLine B) split_here is
+
+    pub walked_within : begin + l.len ≤ length B
+    walked_within = let within = row_line_within B so.done l rest (row_top B (so.done ++ l ∷ rest) here) in omega (arith, within, so.begins)
+
+    module _ (xs : Entries) (kind_is : l.kind ≡ entries_line xs) (small : length B < 2 ^ 64) where
+      pub walked_all_fit : AllWithin (2 ^ 64 - 1 - begin) xs
+      walked_all_fit = subst (λ n. AllWithin (2 ^ 64 - 1 - n) xs) (sym so.begins) (row_all_fit B so.done l rest (row_top B (so.done ++ l ∷ rest) here) xs kind_is small)
+
+      pub walked_nodes_fit : AreWithin (2 ^ 64 - 1 - begin) xs
+      walked_nodes_fit = subst (λ n. AreWithin (2 ^ 64 - 1 - n) xs) (sym so.begins) (row_nodes_fit B so.done l rest (row_top B (so.done ++ l ∷ rest) here) xs kind_is small)
+
+-- ---- the line that holds a byte
+
+high_by : (B : List ℕ) (at : ℕ) (l : HeldLine AKind) (before behind : Row (HeldLine AKind)) → IsRow IsHeldLine B (before ++ l ∷ behind) → at < length B → ((behind ≡ [] → ⊥) → at < extent before + l.len) → at < extent before + l.len
+high_by B at l before [] is lt past = let whole = last_at B before l (row_top B (before ++ l ∷ []) is) in omega (arith, whole, lt)
+high_by B at l before (k ∷ ks) is lt past = past (λ e. absurd cc)
+
+module _ (B : List ℕ) (row : Row (HeldLine AKind)) (at : ℕ) (l : HeldLine AKind) (begin : ℕ) (is : IsRow IsHeldLine B row) (so : HasLineAt row at l begin) where
+  pub line_there : IsRow IsHeldLine B (so.before ++ l ∷ so.behind)
+  line_there = subst (IsRow IsHeldLine B) so.row is
+
+  pub line_low : extent so.before ≤ at
+  line_low = subst (λ n. n ≤ at) so.begins so.low
+
+  pub line_high : at < length B → at < extent so.before + l.len
+  line_high lt = high_by B at l so.before so.behind line_there lt (λ some. subst (λ n. at < n + l.len) so.begins (so.past some))
+
+-- ---- what a line has
+
+pub entries_are : (k : AKind) (xs : Entries) → entries_in k ≡ Some xs → k ≡ entries_line xs
+entries_are (entries_line es) xs e = ap some_or e
+  where
+    some_or : Option Entries → AKind
+    some_or None = blank_line
+    some_or (Some es) = entries_line es
+entries_are blank_line xs e = absurd cc
+entries_are end_line xs e = absurd cc
+entries_are (faulty_line f) xs e = absurd cc
+
+pub no_nodes_at : (k : AKind) (base at : ℕ) → entries_in k ≡ None → line_nodes_at base at k ≡ []
+no_nodes_at (entries_line es) base at e = absurd cc
+no_nodes_at blank_line base at e = refl
+no_nodes_at end_line base at e = refl
+no_nodes_at (faulty_line f) base at e = refl
+
+pub no_outline : (k : AKind) (base : ℕ) → entries_in k ≡ None → line_outline base k ≡ []
+no_outline (entries_line es) base e = absurd cc
+no_outline blank_line base e = refl
+no_outline end_line base e = refl
+no_outline (faulty_line f) base e = refl
+
+-- a walk over a line goes by its kind and how many bytes it has
+pub with_kind : (so : Walk) (l : HeldLine AKind) (k : AKind) (ended : Bool) → l.kind ≡ k → with_line so (record { kind = k; len = l.len; ended = ended }) ≡ with_line so l
+with_kind so l k ended e = ap (λ k. record { entries = entries_with so k; gap = has_none k; at = so.at + l.len }) (sym e)
+
+pub none_has : (k : AKind) → entries_in k ≡ None → has_none k ≡ true
+none_has (entries_line es) e = absurd cc
+none_has blank_line e = refl
+none_has end_line e = refl
+none_has (faulty_line f) e = refl
+
+-- the outlines so far, and one more
+pub outlined : (ns : Row NodeLine) (begin : ℕ) (l : HeldLine AKind) (rest left : Row (HeldLine AKind)) → left ≡ l ∷ rest
+    → (ns ++ line_outline begin l.kind) ++ outlines (begin + l.len) rest ≡ ns ++ outlines begin left
+outlined ns begin l rest left first = append_assoc ns (line_outline begin l.kind) (outlines (begin + l.len) rest) ∙ sym (ap (λ ls. ns ++ outlines begin ls) first)
+
+-- ---- results
+
+pub on_ok : {T E : Type 0} {P Q : Type 0} (r : Result T E) → OnOk r P → (P → Q) → OnOk r Q
+on_ok (Ok x) p f = f p
+on_ok (Err e) p f = tt
+
+pub on_err : {T E P : Type 0} (r : Result T E) → P → OnErr r P
+on_err (Ok x) p = tt
+on_err (Err e) p = p

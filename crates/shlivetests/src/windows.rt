@@ -1,0 +1,63 @@
+// The window of an edit, told from its definition: the boundaries of the two scripts are those of the lines that the reader reads.
+use crate::spliced::spliced;
+use shread::Reader;
+use shtext::Flat;
+use std::alloc::Global;
+use std::test::Fail;
+
+/// The boundaries of a script: its begin, and the end of each line that ended.
+fn boundaries(alloc: Global, bytes: &[u8]) -> Result<Vec<usize>, Fail> {
+    let source = Flat::new(bytes);
+    let mut reader = Reader::new(alloc);
+    let mut found = Vec::new(alloc);
+    let mut at = 0;
+    found.push(at)?;
+    for _ in 0..bytes.len() {
+        if at > bytes.len() {
+            break;
+        }
+        let line = reader.read_line(&source, at)?;
+        if !line.ended {
+            break;
+        }
+        at = line.next;
+        found.push(at)?;
+    }
+    Ok(found)
+}
+
+/// Where the window begins: at the greatest old boundary that is not behind `a`.
+fn begin(old: &[usize], a: usize) -> usize {
+    let mut begin = 0;
+    for place in old {
+        if *place <= a {
+            begin = *place;
+        }
+    }
+    begin
+}
+
+/// Where it ends, if not with the script: at the least new boundary at or past the end of the new bytes whose old place is a boundary.
+fn end(old: &[usize], new: &[usize], behind: usize, b: usize) -> Option<usize> {
+    for place in new {
+        let there = b.saturating_add(place.saturating_sub(behind));
+        if behind <= *place && old.binary_search(&there).is_ok() {
+            return Some(*place);
+        }
+    }
+    None
+}
+
+/// How many bytes an edit has to read.
+pub(crate) fn window(
+    alloc: Global,
+    bytes: &[u8],
+    (a, b): (usize, usize),
+    new: &[u8],
+) -> Result<usize, Fail> {
+    let made = spliced(alloc, bytes, a, b, new)?;
+    let old = boundaries(alloc, bytes)?;
+    let behind = a.saturating_add(new.len());
+    let end = end(&old, &boundaries(alloc, &made)?, behind, b).unwrap_or(made.len());
+    Ok(end.saturating_sub(begin(&old, a)))
+}

@@ -1,0 +1,292 @@
+-- Lines in blocks, and places among them.
+use Rattle.std.proofs.Common.{None, Some, set, suc, ◌≡◌, ℕ, ◌+◌, ◌<◌, ◌≤◌, List, [], ◌∷◌, ◌++◌, List as Row, length, take, drop, get_or, refl, sym, ap, subst, ◌∙◌, ⊎_elim, arith, append_assoc}
+use Rattle.std.proofs.lemmas.Bool.{cases_lt}
+use Rattle.std.proofs.lemmas.List.{append-nil, drop_all, drop_at, drop-set-lt, get_or_default, get_or_past, get_or-take, length-append, length-set, length-take-le, set-get_or, take-append-drop, take_all, take_at, take_more, take_more_set, take-take}
+use Rattle.std.proofs.Math.Numerals.{add-one}
+use Rattle.std.proofs.Math.Seq.{drop-cons, drop-nil}
+use Rattle.shwindow.specs.Blocks.{IsPlace, block_at, first_of, joined, lines_before, lines_from, replaced}
+use Rattle.shwindow.specs.Lines.{Reads, IsBoundary, IsRow, at_start, extent}
+use Rattle.shwindow.specs.declared.line.HeldLine.{HeldLine}
+use Rattle.shwindow.specs.declared.place.Place.{Place}
+use Rattle.shwindow.proofs.Rows.{extent_append, extent_none, extent_read, extent_whole, row_at}
+
+pub joined_append : {X : Type 0} (js ks : Row (Row X)) → joined (js ++ ks) ≡ joined js ++ joined ks
+unfolding joined
+joined_append [] ks = refl
+joined_append (j ∷ js) ks = ap (λ x. j ++ x) (joined_append js ks) ∙ sym (append_assoc j (joined js) (joined ks))
+
+-- the blocks before one, and those from it on
+pub joined_split : {X : Type 0} (n : ℕ) (ks : Row (Row X)) → joined (take n ks) ++ joined (drop n ks) ≡ joined ks
+joined_split n ks = sym (joined_append (take n ks) (drop n ks)) ∙ ap joined (take-append-drop n ks)
+
+-- one more
+pub joined_push : {X : Type 0} (ks : Row (Row X)) (k : Row X) → joined (ks ++ k ∷ []) ≡ joined ks ++ k
+unfolding joined
+joined_push ks k = joined_append ks (k ∷ []) ∙ ap (λ x. joined ks ++ x) (append-nil k)
+
+-- a block that was read
+pub block_read : {X : Type 0} (ks : Row (Row X)) (n : ℕ) (k : Row X) → n < length ks → k ≡ get_or ks n k → k ≡ block_at ks n
+block_read ks n k low is = is ∙ get_or_default ks n k [] low
+
+pub block_read_of : {X : Type 0} (ks : Row (Row X)) (n : ℕ) (items : Row (Row X)) (k : Row X) → items ≡ ks → n < length items → k ≡ get_or items n k → (n < length ks) × (k ≡ block_at ks n)
+block_read_of {X = X} ks n items k same = subst (λ (items : Row (Row X)). n < length items → k ≡ get_or items n k → (n < length ks) × (k ≡ block_at ks n)) (sym same) (λ low is. (low, block_read ks n k low is))
+
+-- those from one on begin with its lines
+joined_some : {X : Type 0} (n : ℕ) (ks : Row (Row X)) → n < length ks → joined (drop n ks) ≡ block_at ks n ++ joined (drop (n + 1) ks)
+unfolding joined
+joined_some n ks low = ap joined (drop-cons ks n [] low) ∙ ap (λ m. block_at ks n ++ joined (drop m ks)) (sym (add-one n))
+
+joined_none : {X : Type 0} (n : ℕ) (ks : Row (Row X)) → length ks ≤ n → joined (drop n ks) ≡ block_at ks n ++ joined (drop (n + 1) ks)
+unfolding joined
+joined_none n ks high = let none = drop_all n ks high in let more = drop_all (n + 1) ks (omega arith) in let past = get_or_past ks n [] high in rw (none, more, past) refl
+
+pub joined_at : {X : Type 0} (n : ℕ) (ks : Row (Row X)) → joined (drop n ks) ≡ block_at ks n ++ joined (drop (n + 1) ks)
+joined_at n ks = ⊎_elim (λ (low : n < length ks). joined_some n ks low) (λ (high : length ks ≤ n). joined_none n ks high) (cases_lt n (length ks))
+
+-- those up to one end with its lines
+pub joined_more : {X : Type 0} (n : ℕ) (ks : Row (Row X)) → n < length ks → joined (take (n + 1) ks) ≡ joined (take n ks) ++ block_at ks n
+joined_more n ks low = ap joined (take_more ks n [] low) ∙ joined_push (take n ks) (block_at ks n)
+
+set_parts : {X : Type 0} (xs : Row X) (n : ℕ) (x : X) → n < length xs → set xs n x ≡ take n xs ++ x ∷ drop (n + 1) xs
+set_parts xs n x low =
+    sym (take-append-drop (n + 1) (set xs n x))
+    ∙ ap (λ ys. ys ++ drop (n + 1) (set xs n x)) (take_more_set xs n x low)
+    ∙ append_assoc (take n xs) (x ∷ []) (drop (n + 1) (set xs n x))
+    ∙ ap (λ ys. take n xs ++ x ∷ ys) (drop-set-lt (n + 1) xs n x (omega arith))
+
+-- with other lines in one
+pub joined_set : {X : Type 0} (n : ℕ) (ks : Row (Row X)) (k : Row X) → n < length ks → joined (set ks n k) ≡ joined (take n ks) ++ (k ++ joined (drop (n + 1) ks))
+unfolding joined
+joined_set n ks k low = ap joined (set_parts ks n k low) ∙ joined_append (take n ks) (k ∷ drop (n + 1) ks)
+
+-- with more lines in the last one
+pub joined_last : {X : Type 0} (n : ℕ) (ks : Row (Row X)) (k more : Row X) → n + 1 ≡ length ks → k ≡ block_at ks n ++ more → joined (set ks n k) ≡ joined ks ++ more
+unfolding joined
+joined_last n ks k more last is =
+    joined_set n ks k (omega arith)
+    ∙ ap (λ x. joined (take n ks) ++ (k ++ joined x)) (drop_all (n + 1) ks (omega arith))
+    ∙ ap (λ x. joined (take n ks) ++ x) (append-nil k ∙ is)
+    ∙ sym (append_assoc (joined (take n ks)) (block_at ks n) more)
+    ∙ ap (λ x. x ++ more) (sym (joined_more n ks (omega arith)) ∙ ap joined (take_all (n + 1) ks (omega arith)))
+
+-- ---- places
+
+pub place_split : {X : Type 0} (ks : Row (Row X)) (p : Place) → lines_before ks p ++ lines_from ks p ≡ joined ks
+place_split ks p =
+    append_assoc (joined (take p.block ks)) (take p.line (block_at ks p.block)) (lines_from ks p)
+    ∙ ap (λ x. joined (take p.block ks) ++ x) (
+    sym (append_assoc (take p.line (block_at ks p.block)) (drop p.line (block_at ks p.block)) (joined (drop (p.block + 1) ks)))
+    ∙ ap (λ x. x ++ joined (drop (p.block + 1) ks)) (take-append-drop p.line (block_at ks p.block))
+    ∙ sym (joined_at p.block ks)
+    )
+    ∙ joined_split p.block ks
+
+-- a line stands at a place in a block with lines
+pub place_line : {X : Type 0} (ks : Row (Row X)) (p : Place) → IsPlace ks p → 0 < length (block_at ks p.block) → p.line < length (block_at ks p.block)
+place_line ks p place some = ⊎_elim (λ (lt : 0 < p.line). place.line lt) (λ (le : p.line ≤ 0). omega (arith, some, le)) (cases_lt 0 p.line)
+
+-- a place behind the first line of a block stands in a block
+pub place_block : {X : Type 0} (ks : Row (Row X)) (p : Place) → IsPlace ks p → 0 < p.line → p.block < length ks
+place_block ks p place some =
+    ⊎_elim (λ (lt : p.block < length ks). lt)
+    (λ (high : length ks ≤ p.block). let none = ap length (get_or_past ks p.block [] high) in let within = place.line some in absurd (omega (arith, none, within)))
+    (cases_lt p.block (length ks))
+
+-- the line at a place, and those behind it
+pub from_line : {X : Type 0} (ks : Row (Row X)) (p : Place) (d : X) → p.line < length (block_at ks p.block)
+    → lines_from ks p ≡ get_or (block_at ks p.block) p.line d ∷ (drop (p.line + 1) (block_at ks p.block) ++ joined (drop (p.block + 1) ks))
+from_line ks p d low =
+    ap (λ x. x ++ joined (drop (p.block + 1) ks))
+    (drop-cons (block_at ks p.block) p.line d low ∙ ap (λ m. get_or (block_at ks p.block) p.line d ∷ drop m (block_at ks p.block)) (sym (add-one p.line)))
+
+pub from_end : {X : Type 0} (ks : Row (Row X)) (p : Place) → length ks ≤ p.block → lines_from ks p ≡ []
+unfolding joined
+from_end ks p high =
+    let none = get_or_past ks p.block [] high in
+    let more = drop_all (p.block + 1) ks (omega arith) in
+    rw (none, more, drop-nil p.line) refl
+
+pub from_some : {X : Type 0} (ks : Row (Row X)) (p : Place) (x : X) → Some x ≡ first_of (lines_from ks p) → p.block < length ks
+from_some ks p x is =
+    ⊎_elim (λ (lt : p.block < length ks). lt) (λ (high : length ks ≤ p.block). let none = ap first_of (from_end ks p high) in absurd cc) (cases_lt p.block (length ks))
+
+pub from_first : {X : Type 0} (ks : Row (Row X)) (p : Place) (h : X) → p.line < length (block_at ks p.block) → h ≡ get_or (block_at ks p.block) p.line h → first_of (lines_from ks p) ≡ Some h
+from_first ks p h low is = ap first_of (from_line ks p h low) ∙ ap Some (sym is)
+
+pub first_some : {X : Type 0} (xs : Row X) (x : X) → Some x ≡ first_of xs → (ys : Row X) × (xs ≡ x ∷ ys)
+first_some [] x is = absurd cc
+first_some (y ∷ ys) x is = (ys, cc)
+
+pub first_none : {X : Type 0} (xs : Row X) → None ≡ first_of xs → xs ≡ []
+first_none [] is = refl
+first_none (y ∷ ys) is = absurd cc
+
+-- all lines, by one of them, and by the last
+pub by_line : {X : Type 0} (ks : Row (Row X)) (p : Place) (last h : X) (hs : Row X) → lines_from ks p ≡ h ∷ hs → joined ks ++ last ∷ [] ≡ lines_before ks p ++ h ∷ (hs ++ last ∷ [])
+by_line ks p last h hs from = ap (λ x. x ++ last ∷ []) (sym (place_split ks p) ∙ ap (λ x. lines_before ks p ++ x) from) ∙ append_assoc (lines_before ks p) (h ∷ hs) (last ∷ [])
+
+pub by_last : {X : Type 0} (ks : Row (Row X)) (p : Place) (last : X) → lines_from ks p ≡ [] → joined ks ++ last ∷ [] ≡ lines_before ks p ++ last ∷ []
+by_last ks p last from = ap (λ x. x ++ last ∷ []) (sym (place_split ks p) ∙ ap (λ x. lines_before ks p ++ x) from ∙ append-nil (lines_before ks p))
+
+-- the place behind a line, in its block and in the next one
+drop_some : {X : Type 0} (xs : Row X) (n : ℕ) → n < length xs → (x : X) × (drop n xs ≡ x ∷ drop (n + 1) xs)
+drop_some [] n low = absurd (omega arith)
+drop_some (x ∷ xs) n low = (get_or (x ∷ xs) n x, drop-cons (x ∷ xs) n x low ∙ ap (λ m. get_or (x ∷ xs) n x ∷ drop m (x ∷ xs)) (sym (add-one n)))
+
+pub behind_within : {X : Type 0} (ks : Row (Row X)) (p : Place) → p.line < length (block_at ks p.block) → (x : X) × (lines_from ks p ≡ x ∷ lines_from ks (record { block = p.block; line = p.line + 1 }))
+behind_within ks p low = let some = drop_some (block_at ks p.block) p.line low in (some.0, ap (λ x. x ++ joined (drop (p.block + 1) ks)) some.1)
+
+pub behind_out : {X : Type 0} (ks : Row (Row X)) (p : Place) → p.line < length (block_at ks p.block) → length (block_at ks p.block) ≤ p.line + 1
+    → (x : X) × (lines_from ks p ≡ x ∷ lines_from ks (record { block = p.block + 1; line = 0 }))
+behind_out ks p low high =
+    let some = behind_within ks p low in (
+      some.0,
+      some.1
+          ∙ ap (λ x. some.0 ∷ (x ++ joined (drop (p.block + 1) ks))) (drop_all (p.line + 1) (block_at ks p.block) high)
+          ∙ ap (λ x. some.0 ∷ x) (joined_at (p.block + 1) ks),
+    )
+
+-- ---- blocks that are cut and put together
+
+-- a block in two parts
+pub cut_parts : {X : Type 0} (ks : Row (Row X)) (n : ℕ) (k l : Row X) → n < length ks → (new : Row (Row X)) → new ≡ take (n + 1) (set ks n k) ++ l ∷ drop (n + 1) (set ks n k)
+    → (take (n + 1) new ≡ take n ks ++ k ∷ []) × (drop (n + 1) new ≡ l ∷ drop (n + 1) ks) × (take n new ≡ take n ks)
+cut_parts ks n k l low new is =
+    let front = take_more_set ks n k low in
+    let rest = drop-set-lt (n + 1) ks n k (omega arith) in
+    let long : length (take (n + 1) (set ks n k)) ≡ n + 1 = length-take-le (n + 1) (set ks n k) (omega (arith, length-set ks n k)) in
+    let all : new ≡ take (n + 1) (set ks n k) ++ l ∷ drop (n + 1) ks = is ∙ ap (λ x. take (n + 1) (set ks n k) ++ l ∷ x) rest in
+    let here : take (n + 1) new ≡ take n ks ++ k ∷ [] = ap (take (n + 1)) all ∙ take_at (take (n + 1) (set ks n k)) (l ∷ drop (n + 1) ks) (n + 1) long ∙ front in (
+      here,
+      ap (drop (n + 1)) all ∙ drop_at (take (n + 1) (set ks n k)) (l ∷ drop (n + 1) ks) (n + 1) long,
+      sym (take-take n (n + 1) new (omega arith)) ∙ ap (take n) here ∙ take_at (take n ks) (k ∷ []) n (length-take-le n ks (omega arith)),
+    )
+
+-- the lines on both sides of the cut
+pub cut_joined : {X : Type 0} (ks : Row (Row X)) (p : Place) (k l : Row X) → p.block < length ks → k ≡ take p.line (block_at ks p.block) → l ≡ drop p.line (block_at ks p.block) → (new : Row (Row X))
+    → new ≡ take (p.block + 1) (set ks p.block k) ++ l ∷ drop (p.block + 1) (set ks p.block k) → (joined (take (p.block + 1) new) ≡ lines_before ks p) × (joined (drop (p.block + 1) new) ≡ lines_from ks p)
+unfolding joined
+cut_joined ks p k l low before behind new is =
+    let parts = cut_parts ks p.block k l low new is in (
+      ap joined parts.0 ∙ joined_push (take p.block ks) k ∙ ap (λ x. joined (take p.block ks) ++ x) before,
+      ap joined parts.1 ∙ ap (λ x. x ++ joined (drop (p.block + 1) ks)) behind,
+    )
+
+-- no line changes
+pub cut_all : {X : Type 0} (ks new : Row (Row X)) (p : Place) (n : ℕ) → joined (take n new) ≡ lines_before ks p → joined (drop n new) ≡ lines_from ks p → joined new ≡ joined ks
+cut_all ks new p n before from = sym (joined_split n new) ∙ ap (λ x. x ++ joined (drop n new)) before ∙ ap (λ x. lines_before ks p ++ x) from ∙ place_split ks p
+
+-- nor do the blocks before it
+pub front_same : {X : Type 0} (ks new : Row (Row X)) (m n : ℕ) → m ≤ n → take n new ≡ take n ks → take m new ≡ take m ks
+front_same ks new m n low same = sym (take-take m n new low) ∙ ap (take m) same ∙ take-take m n ks low
+
+-- the block behind a block is taken out
+pub taken_out : {X : Type 0} (ks rs : Row (Row X)) (n : ℕ) → n + 1 < length ks → rs ≡ take (n + 1) ks ++ drop (suc (n + 1)) ks
+    → (take (n + 1) rs ≡ take (n + 1) ks) × (drop (n + 1) rs ≡ drop ((n + 1) + 1) ks) × (n < length rs) × (block_at rs n ≡ block_at ks n)
+taken_out ks rs n low is =
+    let long : length (take (n + 1) ks) ≡ n + 1 = length-take-le (n + 1) ks (omega arith) in
+    let front : take (n + 1) rs ≡ take (n + 1) ks = ap (take (n + 1)) is ∙ take_at (take (n + 1) ks) (drop (suc (n + 1)) ks) (n + 1) long in (
+      front,
+      ap (drop (n + 1)) is ∙ drop_at (take (n + 1) ks) (drop (suc (n + 1)) ks) (n + 1) long ∙ ap (λ m. drop m ks) (sym (add-one (n + 1))),
+      omega (arith, ap length is, length-append (take (n + 1) ks) (drop (suc (n + 1)) ks), long),
+      sym (get_or-take (n + 1) rs n [] (omega arith)) ∙ ap (λ x. block_at x n) front ∙ get_or-take (n + 1) ks n [] (omega arith),
+    )
+
+-- and its lines are put behind those of the other, or it is put back: no line changes
+pub merged : {X : Type 0} (ks rs : Row (Row X)) (n : ℕ) (k : Row X) → n + 1 < length ks → rs ≡ take (n + 1) ks ++ drop (suc (n + 1)) ks → k ≡ block_at ks n ++ block_at ks (n + 1) → joined (set rs n k) ≡ joined ks
+merged ks rs n k low is both =
+    let out = taken_out ks rs n low is in
+    let front : take n rs ≡ take n ks = sym (take-take n (n + 1) rs (omega arith)) ∙ ap (take n) out.0 ∙ take-take n (n + 1) ks (omega arith) in
+    joined_set n rs k out.2
+    ∙ ap (λ x. joined x ++ (k ++ joined (drop (n + 1) rs))) front
+    ∙ ap (λ x. joined (take n ks) ++ (k ++ joined x)) out.1
+    ∙ ap (λ x. joined (take n ks) ++ (x ++ joined (drop ((n + 1) + 1) ks))) both
+    ∙ ap (λ x. joined (take n ks) ++ x) (append_assoc (block_at ks n) (block_at ks (n + 1)) (joined (drop ((n + 1) + 1) ks)) ∙ ap (λ x. block_at ks n ++ x) (sym (joined_at (n + 1) ks)) ∙ sym (joined_at n ks))
+    ∙ joined_split n ks
+
+pub put_back : {X : Type 0} (ks rs : Row (Row X)) (n : ℕ) (k l : Row X) → n + 1 < length ks → rs ≡ take (n + 1) ks ++ drop (suc (n + 1)) ks → k ≡ block_at rs n → l ≡ block_at ks (n + 1)
+    → joined (take (n + 1) (set rs n k) ++ l ∷ drop (n + 1) (set rs n k)) ≡ joined ks
+unfolding joined
+put_back ks rs n k l low is same taken =
+    let out = taken_out ks rs n low is in
+    let old : set rs n k ≡ rs = ap (set rs n) same ∙ set-get_or rs n [] in
+    ap (λ x. joined (take (n + 1) x ++ l ∷ drop (n + 1) x)) old
+    ∙ joined_append (take (n + 1) rs) (l ∷ drop (n + 1) rs)
+    ∙ ap (λ x. joined x ++ (l ++ joined (drop (n + 1) rs))) out.0
+    ∙ ap (λ x. joined (take (n + 1) ks) ++ (l ++ joined x)) out.1
+    ∙ ap (λ x. joined (take (n + 1) ks) ++ (x ++ joined (drop ((n + 1) + 1) ks))) taken
+    ∙ ap (λ x. joined (take (n + 1) ks) ++ x) (sym (joined_at (n + 1) ks))
+    ∙ joined_split (n + 1) ks
+
+-- other blocks between
+pub joined_between : {X : Type 0} (ks new : Row (Row X)) (m n : ℕ) → joined (take m ks ++ (new ++ drop n ks)) ≡ replaced ks m n new
+joined_between ks new m n = joined_append (take m ks) (new ++ drop n ks) ∙ ap (λ x. joined (take m ks) ++ x) (joined_append new (drop n ks))
+
+-- ---- bytes of lines in blocks
+
+-- the bytes up to the end of a block
+pub extent_more_blocks : {K : Type 0} (n : ℕ) (ks : Row (Row (HeldLine K))) → n < length ks → extent (joined (take (n + 1) ks)) ≡ extent (joined (take n ks)) + extent (block_at ks n)
+extent_more_blocks n ks low = ap extent (joined_more n ks low) ∙ extent_append (joined (take n ks)) (block_at ks n)
+
+pub extent_blocks : {K : Type 0} (n : ℕ) (ks : Row (Row (HeldLine K))) → extent (joined (take n ks)) ≤ extent (joined ks)
+extent_blocks n ks = let all = ap extent (joined_split n ks) in omega (arith, all, extent_append (joined (take n ks)) (joined (drop n ks)))
+
+pub extent_block : {K : Type 0} (n : ℕ) (ks : Row (Row (HeldLine K))) → n < length ks → extent (block_at ks n) ≤ extent (joined ks)
+extent_block n ks low = omega (arith, extent_more_blocks n ks low, extent_blocks (n + 1) ks)
+
+pub extent_two_blocks : {K : Type 0} (n : ℕ) (ks : Row (Row (HeldLine K))) → n + 1 < length ks → extent (block_at ks n) + extent (block_at ks (n + 1)) ≤ extent (joined ks)
+extent_two_blocks n ks low = omega (arith, extent_more_blocks n ks (omega arith), extent_more_blocks (n + 1) ks low, extent_blocks ((n + 1) + 1) ks)
+
+pub extent_no_blocks : (K : Type 0) → extent {K = K} (joined []) ≡ 0
+unfolding joined
+extent_no_blocks K = extent_none K
+
+-- A place was found for an offset: the first line that ends behind it.
+pub record Found {K : Type 0} (ks : Row (Row (HeldLine K))) (at : ℕ) (p : Place) (begin : ℕ) : Type 0 where
+  pub place : IsPlace ks p
+  pub begin_is : begin ≡ extent (lines_before ks p)
+  pub low : begin ≤ at
+  pub past : (h : HeldLine K) (hs : Row (HeldLine K)) → lines_from ks p ≡ h ∷ hs → at < begin + h.len
+
+-- what was found in the block with a line that ends behind it
+found_at : {K : Type 0} (ks : Row (Row (HeldLine K))) (at : ℕ) (p : Place) (before begin : ℕ) → p.block < length ks → before ≡ extent (joined (take p.block ks)) → p.line < length (block_at ks p.block)
+    → begin ≡ before + extent (take p.line (block_at ks p.block)) → begin ≤ at → at < before + extent (take (p.line + 1) (block_at ks p.block)) → Found ks at p begin
+found_at ks at p before begin low is within begins high past = record {
+  place = record { block = omega arith; line = λ _. within };
+  begin_is = omega (arith, is, begins, extent_append (joined (take p.block ks)) (take p.line (block_at ks p.block)));
+  low = high;
+  past = λ h hs from.
+      let here = from_line ks p h within in
+      let same : h ≡ get_or (block_at ks p.block) p.line h = cc in
+      let more = extent_read p.line (block_at ks p.block) h within same in
+      omega (arith, past, begins, more);
+}
+
+pub found_in : {K : Type 0} (ks : Row (Row (HeldLine K))) (at : ℕ) (p : Place) (k : Row (HeldLine K)) (before begin : ℕ) → p.block < length ks → k ≡ block_at ks p.block → before ≡ extent (joined (take p.block ks)) → at < before + extent k
+    → p.line ≤ length k → begin ≡ before + extent (take p.line k) → begin ≤ at → (p.line < length k → at < before + extent (take (p.line + 1) k)) → Found ks at p begin
+found_in {K = K} ks at p k before begin low same is =
+    subst (λ (k : Row (HeldLine K)). at < before + extent k → p.line ≤ length k → begin ≡ before + extent (take p.line k) → begin ≤ at → (p.line < length k → at < before + extent (take (p.line + 1) k)) → Found ks at p begin)
+    (sym same)
+    (λ past within begins high more.
+    ⊎_elim (λ (here : p.line < length (block_at ks p.block)). found_at ks at p before begin low is here begins high (more here))
+    (λ (none : length (block_at ks p.block) ≤ p.line). let whole = extent_whole p.line (block_at ks p.block) none in absurd (omega (arith, whole, begins, high, past)))
+    (cases_lt p.line (length (block_at ks p.block))))
+
+pub found_end : {K : Type 0} (ks : Row (Row (HeldLine K))) (at : ℕ) (p : Place) (begin : ℕ) → p.block ≡ length ks → IsPlace ks p → lines_from ks p ≡ [] → begin ≡ extent (joined ks) → begin ≤ at → Found ks at p begin
+found_end ks at p begin is place none begins high = record {
+  place = place;
+  begin_is = begins ∙ ap extent (sym (place_split ks p) ∙ ap (λ x. lines_before ks p ++ x) none ∙ append-nil (lines_before ks p));
+  low = high;
+  past = λ h hs from. absurd cc;
+}
+
+module _ {K : Type 0} (Is : List ℕ → HeldLine K → Type 0) (laws : Reads Is) where
+  -- a line begins where blocks end
+  pub block_begins : (B : List ℕ) (js : Row (Row (HeldLine K))) (k : Row (HeldLine K)) (ks : Row (Row (HeldLine K))) → (k ≡ [] → ⊥) → IsRow Is B (joined (js ++ k ∷ ks))
+      → IsBoundary Is B (extent (joined js)) × IsRow Is (drop (extent (joined js)) B) (joined (k ∷ ks))
+  unfolding joined
+  block_begins B js [] ks some row = absurd (some refl)
+  block_begins B js (l ∷ ls) ks some row =
+      let here = row_at Is laws B 0 (joined js) l (ls ++ joined ks) at_start (subst (IsRow Is B) (joined_append js ((l ∷ ls) ∷ ks)) row) in
+      let same : 0 + extent (joined js) ≡ extent (joined js) = omega arith in
+      subst (λ x. IsBoundary Is B x × IsRow Is (drop x B) (l ∷ (ls ++ joined ks))) same here

@@ -1,0 +1,10 @@
+pub mod Boundaries
+pub mod Hands
+pub mod Joined
+pub mod Mending
+pub mod Reading
+pub mod Rows
+pub mod Splices
+pub mod Steps
+pub mod Windows
+pub mod Alike

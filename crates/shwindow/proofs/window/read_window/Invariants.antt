@@ -1,0 +1,19 @@
+use Rattle.std.proofs.Common.{◌≡◌, ◌-◌, ◌≤◌, length}
+use Rattle.shwindow.specs.Blocks.{joined}
+use Rattle.shwindow.specs.Lines.{extent}
+use Rattle.shwindow.specs.Meter.{risen}
+use Rattle.shwindow.specs.Walks.{lines_left}
+use Rattle.shwindow.proofs.Reading.{AtLine}
+use Rattle.shwindow.proofs.window.read_window.Given as goal
+
+abbrev pub invariant-lines : goal.invariant-lines
+invariant-lines g l = record {
+  at : AtLine g.R.LineReader.is_line (g.S.Source.bytes l.source) l.«end» l.old_end l.begin (lines_left l.fn.old) (joined l.lines.blocks.items) l.at l.hand.begin (lines_left l.hand.lines);
+  meter : g.R.LineReader.meter l.reader ≡ risen (g.R.LineReader.meter l.initial.reader) (extent (joined l.lines.blocks.items));
+  blocks : l.hand.lines.blocks ≡ l.fn.old.blocks;
+  last : l.hand.lines.last ≡ l.fn.old.last;
+  order : l.fn.old.place.block ≤ l.hand.lines.place.block;
+}
+
+abbrev pub decreases-lines : goal.decreases-lines
+decreases-lines g l = length (g.S.Source.bytes l.source) - l.at

@@ -1,0 +1,9 @@
+pub mod Lines
+pub mod Window
+pub mod Hand
+pub mod Blocks
+pub mod Laws
+pub mod Meter
+pub mod Walks
+pub mod Reading
+pub mod Held
