@@ -1,5 +1,5 @@
 //! A text that is edited.
-ghost use Rattle.std.specs.Prelude.{◌≡◌, ◌≢◌, ◌+◌, ◌-◌, ◌≤◌, ◌++◌, ℕ, List, [], IfErr, IfOk, IsOk, IsTrue, ◌↔◌, drop, length, take, vec_capacity, vec_len};
+ghost use Rattle.std.specs.Prelude.{◌≡◌, ◌≢◌, ◌+◌, ◌-◌, ◌≤◌, ℕ, List, [], IfErr, IfOk, IsOk, IsTrue, ◌↔◌, length};
 ghost use Rattle.shtext.specs.Buffer.{Fits, buffer_bytes, changed, edited_bytes};
 ghost use Rattle.shtext.specs.Edit.{IsAllowed, Refuses, edited, limit};
 ghost use Rattle.shtext.specs.Text.{IsLineStart, column_of, line_of};
@@ -10,6 +10,7 @@ use crate::error::TextError;
 use crate::line_col::line_col_of;
 use crate::newline::next_newline;
 use crate::source::Source;
+use crate::splice::replace_items;
 use std::alloc::Global;
 
 /// The most bytes that a text has.
@@ -119,31 +120,7 @@ impl Buffer {
         requires { Fits self.old change }
         ensures { buffer_bytes self.new ≡ changed (buffer_bytes self.old) change }
     {
-        self.take_out(change.start, change.end);
-        self.put_in(change.start, &change.new);
-    }
-
-    /// Takes out the bytes between two offsets.
-    fn take_out(&mut self, start: usize, end: usize)
-        requires order { start ≤ end }
-        requires within { end ≤ length (buffer_bytes self.old) }
-        ensures bytes { buffer_bytes self.new ≡ take start (buffer_bytes self.old) ++ drop end (buffer_bytes self.old) }
-        ensures room { vec_capacity self.new.bytes ≡ vec_capacity self.old.bytes }
-    {
-        let count = end - start;
-        let kept = self.bytes.len() - count;
-        self.bytes[start..].rotate_left(count);
-        self.bytes.truncate(kept);
-    }
-
-    /// Puts bytes in at an offset, for which there is room.
-    fn put_in(&mut self, at: usize, new: &[u8])
-        requires within { at ≤ length (buffer_bytes self.old) }
-        requires room { vec_len self.old.bytes + length new.now ≤ vec_capacity self.old.bytes }
-        ensures { buffer_bytes self.new ≡ take at (buffer_bytes self.old) ++ (new.now ++ drop at (buffer_bytes self.old)) }
-    {
-        let _ = self.bytes.extend_from_slice(new);
-        self.bytes[at..].rotate_right(new.len());
+        replace_items(&mut self.bytes, change.start, change.end, change.new);
     }
 
     /// The line and the column of an offset in bytes, which is at most the length. Both count from 1, and the column counts bytes.

@@ -2,8 +2,8 @@
 //!
 //! Start with [`Source`], a text that is read by the byte or by stretches; [`Flat`] is one whose bytes lie in a slice, [`line_col_of`]
 //! tells the line and the column of an offset. [`Buffer`] is a text that is edited: it prepares a [`Change`], previews the [`Edited`]
-//! text, and commits the change. [`Input`] and [`Output`] are a reader and a writer that remember how their devices fared. The
-//! definitions that the contracts cite are in `specs/`.
+//! text, and commits the change. [`Input`] and [`Output`] are a reader and a writer that remember how their devices fared.
+//! [`replace_items`] puts items of a vector in the place of others. The definitions that the contracts cite are in `specs/`.
 #![tactic(auto)]
 
 mod buffer;
@@ -15,6 +15,7 @@ pub mod laws;
 mod line_col;
 mod newline;
 mod source;
+mod splice;
 
 pub use buffer::{Buffer, LIMIT};
 pub use change::Change;
@@ -23,3 +24,4 @@ pub use edited::Edited;
 pub use error::TextError;
 pub use line_col::line_col_of;
 pub use source::{Flat, Source};
+pub use splice::replace_items;

@@ -7,6 +7,7 @@ ghost use Rattle.shwindow.specs.declared.line.HeldLine.{HeldLine};
 use crate::block::{Block, MOST_LINES};
 use crate::line::HeldLine;
 use crate::place::Place;
+use shtext::replace_items;
 use std::alloc::{AllocError, Global};
 
 /// Lines that ended, in order.
@@ -175,7 +176,7 @@ impl<K: Drop> Blocks<K> {
     }
 
     /// Puts other lines in the place of those in the blocks from `from` up to `to`.
-    fn replace(&mut self, from: usize, to: usize, mut new: Blocks<K>) -> Result<(), AllocError>
+    fn replace(&mut self, from: usize, to: usize, new: Blocks<K>) -> Result<(), AllocError>
         requires order { from ≤ to }
         requires within { to ≤ vec_len self.old.blocks }
         requires fits { extent (replaced self.old.blocks.items from to new.blocks.items) < 2 ^ 64 }
@@ -184,7 +185,7 @@ impl<K: Drop> Blocks<K> {
     {
         self.blocks.reserve(new.blocks.len())?;
         let end = from + new.blocks.len();
-        put(&mut self.blocks, from, to, &mut new.blocks);
+        replace_items(&mut self.blocks, from, to, new.blocks);
         self.merge(end);
         self.merge(end.saturating_sub(1));
         self.merge(from.saturating_sub(1));
@@ -210,42 +211,6 @@ impl<K: Drop> Blocks<K> {
             put_one(&mut self.blocks, first + 1, moved);
         }
     }
-}
-
-/// Puts items in the place of those from `from` up to `to`. There is room for them.
-fn put<T: Drop>(into: &mut Vec<T>, from: usize, to: usize, new: &mut Vec<T>)
-    requires order { from ≤ to }
-    requires within { to ≤ vec_len into.old }
-    requires room { vec_len into.old + vec_len new.old ≤ vec_capacity into.old }
-    ensures { into.new.items ≡ take from into.old.items ++ (new.old.items ++ drop to into.old.items) }
-{
-    take_out(into, from, to);
-    put_in(into, from, new);
-}
-
-/// Takes out the items between two places.
-fn take_out<T: Drop>(of: &mut Vec<T>, from: usize, to: usize)
-    requires order { from ≤ to }
-    requires within { to ≤ vec_len of.old }
-    ensures items { of.new.items ≡ take from of.old.items ++ drop to of.old.items }
-    ensures room { vec_capacity of.new ≡ vec_capacity of.old }
-    ensures len { vec_len of.new + (to - from) ≡ vec_len of.old }
-{
-    let count = to - from;
-    let kept = of.len() - count;
-    of[from..].rotate_left(count);
-    of.truncate(kept);
-}
-
-/// Puts items in at a place. There is room for them.
-fn put_in<T: Drop>(into: &mut Vec<T>, at: usize, new: &mut Vec<T>)
-    requires within { at ≤ vec_len into.old }
-    requires room { vec_len into.old + vec_len new.old ≤ vec_capacity into.old }
-    ensures { into.new.items ≡ take at into.old.items ++ (new.old.items ++ drop at into.old.items) }
-{
-    let count = new.len();
-    let _ = into.append(new);
-    into[at..].rotate_right(count);
 }
 
 /// Puts an item in at a place. There is room for it.
