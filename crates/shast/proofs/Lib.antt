@@ -6,6 +6,7 @@ pub mod Shaped
 pub mod Spelled
 pub mod Reach
 pub mod Ends
+pub mod Starts
 pub mod Redirected
 pub mod Going
 pub mod FilledBack

@@ -8,6 +8,7 @@ use Rattle.shast.specs.Tree.{AHere, Entries, no_entry, more_entries, AnEntry, en
 use Rattle.shast.specs.Bodies.{fill_here, fill_item_content, fill_item, fill_items, fill_entries, fill_entry, fill_content, fill_and_or, fill_and_or_parts, fill_pipeline, fill_pipes, fill_command, fill_compound, fill_form, fill_branch, fill_branches, fill_else, fill_cases, fill_case, filled}
 use Rattle.shast.specs.Nodes.{IsSpanWithin, and_or_span, command_span, commands_end, compound_span, item_span, items_span, last_command, last_item, last_pipeline, pipeline_span, word_span}
 use Rattle.shast.specs.Everywhere.{AllWithin, HaveItems, OfSome, OfEach, OfHere, Throughout, InEntry, InContent, InAndOr, InAndOrParts, InPipeline, InPipes, InCommand, InCompound, InForm, InBranch, InBranches, InElse, InForWords, InCases, InCase, InPatterns, InItems, InItem, InItemContent, InWord, InSubsts, InSubst, IsSome}
+use Rattle.shast.proofs.Reach.{span_fits_more}
 
 -- ---- no span above a limit, and an item in each simple command: each kind of part, and rows of them
 
@@ -217,6 +218,11 @@ module _ (P R : Span → Type 0) (Q S : Items → Type 0) (p : (s : Span) → P 
 
     subst_so : (s : ASubst) → InSubst P Q s → InSubst R S s
     subst_so (subst entries span) so = (throughout_so entries so.0, p span so.1)
+
+-- what is within a limit is within each greater one
+pub all_within_more : (limit more : ℕ) (es : Entries) → limit ≤ more → AllWithin limit es → AllWithin more es
+all_within_more limit more es le so =
+    throughout_so (IsSpanWithin limit) (IsSpanWithin more) (λ items. Unit {0}) (λ items. Unit {0}) (span_fits_more limit more le) (λ items one. one) es so
 
 -- ---- a tree with its bodies
 

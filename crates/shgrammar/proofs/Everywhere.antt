@@ -24,13 +24,13 @@ use Rattle.shgrammar.specs.Lists.{list_so, none_listed, Listed}
 use Rattle.shgrammar.specs.Compounds.{held_apart, Branched, branched, Closed, is_closing, is_open_paren, is_close_paren, passed, closing, a_branch, elif_turn, an_else, an_if, a_loop, a_group, a_for_name, a_sequential_sep, Headed, word_turn, for_words, a_for_head, behind_remarks, a_for, a_form, a_compound, a_function, under_name, a_case_word, begins_pattern, Patterned, a_pattern, one_pattern, pattern_turn, a_pattern_list, a_body, body_end, ItemEnd, a_double_semicolon, an_item_end, CasesSo, cases_so, one_case, case_turn, a_case_head, a_case}
 use Rattle.shgrammar.specs.Substitutions.{substituted, a_substitution, one_substitution}
 use Rattle.shgrammar.specs.Levels.{most_open, level}
-use Rattle.shgrammar.specs.Lines.{an_open_line, a_line, ALine, IsLine, line_read, line_stops, kind_of, EntriesEverywhere}
+use Rattle.shgrammar.specs.Lines.{AKind, an_open_line, a_line, ALine, IsLine, blank_line, entries_line, end_line, faulty_line, line_read, line_stops, kind_of, EntriesEverywhere}
 use Rattle.shgrammar.specs.Scripts.{the_line}
 use Rattle.shast.specs.Everywhere.{IsSome, Throughout}
 use Rattle.shgrammar.proofs.OneOutcome.{is}
 use Rattle.shgrammar.proofs.Holds.{Holds}
 use Rattle.shgrammar.proofs.UpToLimit.{UpTo, Stepped, adds, after, bare_token, ending, first, first_on, follows, gives, in_level, in_subst, picks, pushes, repeats, sees, stands, step_so, stops, unless}
-use Rattle.shgrammar.proofs.EachSpan.{AreIn, BranchIn, CaseIn, CommandIn, ElseIn, EntriesIn, EntryIn, ForWordsIn, FormIn, ItemIn, SubstIn, WordIn, all_within, bodies_in, branches_in, cases_in, commands_end_low, entries_in, have_items, items_in, spans_in, words_in}
+use Rattle.shgrammar.proofs.EachSpan.{AreIn, BranchIn, CaseIn, CommandIn, ElseIn, EntriesIn, EntryIn, ForWordsIn, FormIn, ItemIn, SubstIn, WordIn, all_within, all_within_more, bodies_in, branches_in, cases_in, commands_end_low, entries_in, have_items, items_in, spans_in, words_in}
 use Rattle.shgrammar.proofs.ListsEverywhere.{Fine, ItemsIn, JoinIn, ListIn, PartedIn, SomeItems, compound_in_by, contents_in, linebreak_in, lines_in, list_in, on_line_in, one_item_in, stopped, word_in}
 
 module _ {g : Given} {limit : ℕ} where
@@ -286,6 +286,13 @@ kind_everywhere : (limit : ℕ) (es : Row AnEntry) (newline : Bool) → Througho
 kind_everywhere limit [] true so = tt
 kind_everywhere limit [] false so = tt
 kind_everywhere limit (e ∷ es) newline so = (all_within limit (entries_of (e ∷ es)) so, have_items limit (entries_of (e ∷ es)) so)
+
+-- what is within a limit is within each greater one
+pub everywhere_more : (limit more : ℕ) (kind : AKind) → limit ≤ more → EntriesEverywhere limit kind → EntriesEverywhere more kind
+everywhere_more limit more (entries_line es) le so = (all_within_more limit more es le so.0, so.1)
+everywhere_more limit more blank_line le so = tt
+everywhere_more limit more end_line le so = tt
+everywhere_more limit more (faulty_line fault) le so = tt
 
 -- those of a line, as far as the line goes
 pub line_everywhere : (T : List ℕ) (l : ALine) → IsLine T l → EntriesEverywhere l.next l.kind

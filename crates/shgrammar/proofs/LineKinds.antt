@@ -1,5 +1,5 @@
 -- What a line is, by its entries; the line at the end of a text, and the script without a byte.
-use Rattle.std.proofs.Common.{◌≡◌, ℕ, ◌<◌, Bool, true, false, List, [], ◌∷◌, None, length, map, drop, cond, refl, arith}
+use Rattle.std.proofs.Common.{◌≡◌, ℕ, ◌<◌, Bool, true, false, List, [], ◌∷◌, None, length, map, drop, cond, refl, sym, subst, arith}
 use Rattle.std.proofs.Math.Seq.{drop-length}
 use Rattle.shast.specs.Tree.{AnEntry, entries_of}
 use Rattle.shgrammar.specs.Standing.{count_front, raw_stands}
@@ -8,7 +8,7 @@ use Rattle.shgrammar.specs.Tokens.{token_at}
 use Rattle.shgrammar.specs.Comments.{comment_at}
 use Rattle.shgrammar.specs.Form.{many, turns, turns_below}
 use Rattle.shgrammar.specs.Commands.{next_token, nothing_waits, a_comment}
-use Rattle.shgrammar.specs.Lines.{blank_line, end_line, entries_line, kind_of, end_of_line, an_open_line, a_line}
+use Rattle.shgrammar.specs.Lines.{AKind, FaultWithin, blank_line, end_line, entries_line, kind_of, end_of_line, an_open_line, a_line}
 use Rattle.shast.specs.Bodies.{filled_row}
 use Rattle.shgrammar.specs.Lists.{entry_turn, a_remark, on_line}
 use Rattle.shgrammar.specs.Scripts.{line_of_text, script_at, script_below, script_on}
@@ -21,6 +21,15 @@ kind_of_none view (x ∷ xs) newline e = absurd (omega arith)
 pub kind_of_some : {X : Type 0} (view : X → AnEntry) (xs : List X) (newline : Bool) → 0 < length xs → kind_of (map view xs) newline ≡ entries_line (entries_of (map view xs))
 kind_of_some view [] newline lt = absurd (omega arith)
 kind_of_some view (x ∷ xs) newline lt = refl
+
+none_within : (limit : ℕ) (es : List AnEntry) (newline : Bool) → FaultWithin limit (kind_of es newline)
+none_within limit [] true = tt
+none_within limit [] false = tt
+none_within limit (e ∷ es) newline = tt
+
+-- a line without fault has none that could lie behind it
+pub no_fault_within : (limit : ℕ) (kind : AKind) (es : List AnEntry) (newline : Bool) → kind ≡ kind_of es newline → FaultWithin limit kind
+no_fault_within limit kind es newline is = subst (FaultWithin limit) (sym is) (none_within limit es newline)
 
 nothing : line_of_text [] ≡ record { kind = end_line; next = 0; ended = false }
 unfolding line_of_text a_line an_open_line nothing_waits filled_row next_token on_line many turns turns_below entry_turn a_remark a_comment end_of_line token_at comment_at raw_stands past count_front past_blanks past_continuations count_joined past_below

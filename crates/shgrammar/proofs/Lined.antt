@@ -29,7 +29,7 @@ use Rattle.shgrammar.proofs.Holds.{Holds, holds_then, holds_so, Tells, Behind, c
 -- ---- a line that a newline ends
 
 -- a newline leads on
-abbrev Ended : State → Bool → State → Type 0
+abbrev pub Ended : State → Bool → State → Type 0
 Ended s newline t = newline ≡ true → s.at < t.at
 
 ended_by : (inner : Inner) (keep : Keep) (g : Given) (s : State) (newline end : Bool) (n : Next) → Holds (Ended s) (does (end_by inner newline end n) keep g s)
@@ -50,7 +50,7 @@ ended_by inner keep g s false true n = by_waiting (first_waiting s)
 ended_by inner keep g s false false n =
     holds_then (λ w t. Unit {0}) (Ended s) (does (what_is_wrong inner n) keep g s) _ (holds_so (Behind s) (λ w t. Unit {0}) _ (low (what_is_wrong inner n) keep g s).told (λ c t on. tt)) (λ w t so. tt)
 
-end_ended : (inner : Inner) (keep : Keep) (g : Given) (s : State) (n : Next) → Tells keep g (end_of_line inner n) (Ended s) s
+pub end_ended : (inner : Inner) (keep : Keep) (g : Given) (s : State) (n : Next) → Tells keep g (end_of_line inner n) (Ended s) s
 unfolding end_of_line
 end_ended inner keep g s n = record { told = ended_by inner keep g s (is_newline n.token) (is_end n.token) n }
 

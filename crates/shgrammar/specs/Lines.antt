@@ -1,5 +1,5 @@
 -- The lines of a script (XCU 2.10.2), and a line read as a script of its own.
-use Rattle.std.specs.Prelude.{ℕ, ◌-◌, Bool, true, false, ◌&&◌, [], ◌∷◌, List, List as Row, drop, length, take, Ok, Err, ◌≡◌}
+use Rattle.std.specs.Prelude.{ℕ, ◌-◌, ◌≤◌, Bool, true, false, ◌&&◌, [], ◌∷◌, List, List as Row, drop, length, take, Ok, Err, ◌≡◌}
 use Rattle.shgrammar.specs.declared.fault.Fault.{Fault}
 use Rattle.shgrammar.specs.declared.token.Next.{Next}
 use Rattle.shgrammar.specs.declared.token.Position.TheVariants.{Command}
@@ -83,3 +83,8 @@ EntriesWithin limit _ = Unit {0}
 abbrev pub EntriesEverywhere : ℕ → AKind → Type 0
 EntriesEverywhere limit (entries_line es) = AllWithin limit es × HaveItems es
 EntriesEverywhere limit _ = Unit {0}
+
+-- the fault of a line, where it has one, stands at no offset above this one
+abbrev pub FaultWithin : ℕ → AKind → Type 0
+FaultWithin limit (faulty_line fault) = fault.at ≤ limit
+FaultWithin limit _ = Unit {0}

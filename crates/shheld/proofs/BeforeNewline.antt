@@ -1,5 +1,5 @@
 -- Each node of a line that a newline ended begins before the line's end.
-use Rattle.std.proofs.Common.{◌≡◌, ℕ, ◌+◌, ◌<◌, ◌≤◌, Bool, true, false, Option, None, Some, Result, Ok, Err, List, List as Row, [], ◌∷◌, refl, sym, ap, subst, ◌∙◌, arith}
+use Rattle.std.proofs.Common.{◌≡◌, ℕ, ◌+◌, ◌<◌, ◌≤◌, Bool, true, false, Ok, Err, List, List as Row, [], ◌∷◌, sym, ap, subst, ◌∙◌, arith}
 use Rattle.std.specs.Prelude.{All}
 use Rattle.std.proofs.lemmas.Bool.{and_parts}
 use Rattle.std.proofs.lemmas.List.Elements.{All-nil, All-same}
@@ -11,58 +11,26 @@ use Rattle.shast.specs.Nodes.{IsSpanWithin, entries_nodes}
 use Rattle.shast.specs.Tree.{AnEntry, entries_of}
 use Rattle.shast.proofs.Going.{row_filled}
 use Rattle.shast.proofs.OpenSame.{filled_nodes}
-use Rattle.shgrammar.specs.declared.fault.Fault.{Fault}
-use Rattle.shgrammar.specs.declared.keep.Keep.{Keep}
+use Rattle.shast.proofs.Starts.{nodes_begin}
 use Rattle.shgrammar.specs.declared.keep.Keep.TheVariants.{Whole}
 use Rattle.shgrammar.specs.declared.token.Next.{Next}
 use Rattle.shgrammar.specs.declared.token.Position.TheVariants.{Command}
-use Rattle.shgrammar.specs.Bytes.{behind}
-use Rattle.shgrammar.specs.Commands.{is_newline, next_token, none_waits, nothing_waits, what_is_wrong}
-use Rattle.shgrammar.specs.Form.{◌▸◌, Read, does, nothing_read}
-use Rattle.shgrammar.specs.HereDocuments.{bodies_here, changed, first_waiting, own_level}
+use Rattle.shgrammar.specs.Commands.{next_token}
+use Rattle.shgrammar.specs.Form.{Read, does}
+use Rattle.shgrammar.specs.HereDocuments.{own_level}
 use Rattle.shgrammar.specs.Levels.{level, most_open}
-use Rattle.shgrammar.specs.Lines.{ALine, IsLine, a_line, an_open_line, end_by, end_of_line, kind_of, line_read, line_stops}
+use Rattle.shgrammar.specs.Lines.{ALine, IsLine, a_line, an_open_line, kind_of, line_read, line_stops}
 use Rattle.shgrammar.specs.Lists.{list_so, none_listed, on_line}
 use Rattle.shgrammar.specs.Sights.{Given, State, given, standing}
-use Rattle.shgrammar.specs.Tokens.{is_end}
-use Rattle.shgrammar.specs.Words.{Inner}
 use Rattle.shgrammar.proofs.EachSpan.{EntryIn, entries_in, throughout_so}
 use Rattle.shgrammar.proofs.Everywhere.{level_in}
-use Rattle.shgrammar.proofs.Holds.{Behind, Holds, Tells, change_low, holds_so, holds_then, low, tells_give, tells_level, tells_then}
+use Rattle.shgrammar.proofs.Holds.{Holds, Tells, low, tells_give, tells_level, tells_then}
+use Rattle.shgrammar.proofs.Lined.{end_ended}
 use Rattle.shgrammar.proofs.ListsEverywhere.{ListIn, on_line_in}
 use Rattle.shgrammar.proofs.OneOutcome.{is as is_form}
-use Rattle.shgrammar.proofs.Places.{behind_low}
 use Rattle.shheld.proofs.Nodes.{kind_nodes}
-use Rattle.shheld.proofs.Starts.{nodes_begin}
 
--- ---- a newline leads on
-
-abbrev Ended : State → Bool → State → Type 0
-Ended s newline t = newline ≡ true → s.at < t.at
-
-ended_by : (inner : Inner) (keep : Keep) (g : Given) (s : State) (newline end : Bool) (n : Next) → Holds (Ended s) (does (end_by inner newline end n) keep g s)
-unfolding nothing_waits
-ended_by inner keep g s true end n = by_change (changed bodies_here g (past s)) (λ t is. omega (arith, behind_low g.text s.at, change_low bodies_here g (past s) t is))
-  where
-    past : State → State
-    past u = record { at = behind g.text u.at; waiting = u.waiting; bodies = u.bodies }
-
-    by_change : (x : Result State Fault) → ((t : State) → x ≡ Ok t → s.at < t.at) → Holds (Ended s) (nothing_read x ▸ λ u t. Ok (true, t))
-    by_change (Ok t) so = λ e. so t refl
-    by_change (Err f) so = tt
-ended_by inner keep g s false true n = by_waiting (first_waiting s)
-  where
-    by_waiting : (w : Option ℕ) → Holds (Ended s) (does (none_waits w) keep g s ▸ λ u t. Ok (false, t))
-    by_waiting None = λ e. absurd cc
-    by_waiting (Some b) = tt
-ended_by inner keep g s false false n =
-    holds_then (λ w t. Unit {0}) (Ended s) (does (what_is_wrong inner n) keep g s) _ (holds_so (Behind s) (λ w t. Unit {0}) _ (low (what_is_wrong inner n) keep g s).told (λ c t on. tt)) (λ w t so. tt)
-
-end_ended : (inner : Inner) (keep : Keep) (g : Given) (s : State) (n : Next) → Tells keep g (end_of_line inner n) (Ended s) s
-unfolding end_of_line
-end_ended inner keep g s n = record { told = ended_by inner keep g s (is_newline n.token) (is_end n.token) n }
-
--- ---- what is read before it
+-- ---- what is read before the newline
 
 -- what holds up to each limit holds up to where the reading stands
 up_to_here : {X : Type 0} (Q : ℕ → X → Type 0) (o : ℕ) (x : Read X) → ((limit : ℕ) → Holds (λ a t. o + t.at ≤ limit → Q limit a) x) → Holds (λ a t. Q (o + t.at) a) x

@@ -6,7 +6,6 @@ pub mod Blanked
 pub mod Places
 pub mod Nodes
 pub mod NodesAt
-pub mod Starts
 pub mod BeforeNewline
 pub mod Outlines
 pub mod Codes

@@ -1,19 +1,15 @@
 -- The spans and the nodes of a line's entries lie within the line.
-use Rattle.std.proofs.Common.{◌≡◌, ℕ, ◌+◌, ◌-◌, ◌^◌, ◌<◌, ◌≤◌, List, subst, arith}
+use Rattle.std.proofs.Common.{◌≡◌, ℕ, ◌+◌, ◌-◌, ◌^◌, ◌<◌, List, subst, arith}
 use Rattle.shast.specs.Everywhere.{AllWithin, HaveItems}
-use Rattle.shast.specs.Nodes.{AreWithin, IsSpanWithin, entries_nodes}
+use Rattle.shast.specs.Nodes.{AreWithin, entries_nodes}
 use Rattle.shast.specs.Tree.{Entries}
-use Rattle.shast.proofs.Reach.{span_fits_more, within_more}
+use Rattle.shast.proofs.Reach.{within_more}
 use Rattle.shgrammar.specs.Lines.{AKind, EntriesEverywhere, EntriesWithin, entries_line}
-use Rattle.shgrammar.proofs.EachSpan.{throughout_so}
+use Rattle.shgrammar.proofs.EachSpan.{all_within_more}
 use Rattle.shgrammar.proofs.Everywhere.{line_everywhere}
 use Rattle.shgrammar.proofs.Within.{entries_within}
 use Rattle.shwindow.specs.declared.line.HeldLine.{HeldLine}
 use Rattle.shheld.specs.TopLines.{IsTopLine, as_read}
-
-pub all_within_more : (limit more : ℕ) (es : Entries) → limit ≤ more → AllWithin limit es → AllWithin more es
-all_within_more limit more es le so =
-    throughout_so (IsSpanWithin limit) (IsSpanWithin more) (λ items. Unit {0}) (λ items. Unit {0}) (span_fits_more limit more le) (λ items one. one) es so
 
 module _ (T : List ℕ) (l : HeldLine AKind) (xs : Entries) (is : IsTopLine T l) (kind_is : l.kind ≡ entries_line xs) where
   everywhere : EntriesEverywhere l.len (entries_line xs)

@@ -1,12 +1,11 @@
 -- The last line that a session holds, and the first fault of its script.
 use Rattle.std.proofs.Common.{◌≡◌, ℕ, ◌+◌, ◌-◌, ◌≤◌, [], ◌∷◌, ◌++◌, List, List as Row, false, is_some, Option, None, Some, length, refl, sym, ap, subst, ◌∙◌, arith}
 use Rattle.shgrammar.specs.declared.fault.Fault.{Fault}
-use Rattle.shgrammar.specs.Lines.{AKind, blank_line, end_line, entries_line, faulty_line}
+use Rattle.shgrammar.specs.Lines.{AKind, FaultWithin, blank_line, end_line, entries_line, faulty_line}
 use Rattle.shgrammar.specs.Moved.{moved_fault}
 use Rattle.shgrammar.specs.Scripts.{AScript, FirstFault, Outcome}
 use Rattle.shgrammar.proofs.Scripts.{script_only}
 use Rattle.shast.specs.Tree.{Entries}
-use Rattle.shread.specs.Answers.{FaultWithin}
 use Rattle.shwindow.specs.declared.line.HeldLine.{HeldLine}
 use Rattle.shwindow.specs.Lines.{IsRow, extent}
 use Rattle.shheld.specs.TopLines.{script_of}

@@ -1,7 +1,6 @@
 -- The lines that a session holds are the lines of its script.
 use Rattle.std.proofs.Common.{◌≡◌, ◌∷◌, ◌++◌, ℕ, [], true, drop, List, List as Row}
-use Rattle.shgrammar.specs.Lines.{AKind, blank_line, end_line, entries_line, faulty_line}
-use Rattle.shread.specs.Answers.{FaultWithin}
+use Rattle.shgrammar.specs.Lines.{AKind, FaultWithin, blank_line, end_line, entries_line, faulty_line}
 use Rattle.shwindow.specs.declared.line.HeldLine.{HeldLine}
 use Rattle.shwindow.specs.Lines.{IsRow, last_line, more_lines}
 use Rattle.shwindow.specs.Window.{IsWindow}

@@ -2,8 +2,8 @@
 use Rattle.std.specs.Prelude.{◌≡◌, ℕ, ◌-◌, ◌<◌, ◌^◌, List, List as Row, Option, None, Some, length, min}
 use Rattle.shast.specs.Tree.{Entries}
 use Rattle.shgrammar.specs.declared.fault.Fault.{Fault}
-use Rattle.shgrammar.specs.Lines.{AKind, entries_line, faulty_line}
-use Rattle.shread.specs.Answers.{FaultWithin, meter_of}
+use Rattle.shgrammar.specs.Lines.{AKind, FaultWithin, entries_line, faulty_line}
+use Rattle.shread.specs.Answers.{meter_of}
 use Rattle.shread.specs.declared.reader.Reader.{Reader}
 use Rattle.shtext.specs.Meter.{raised}
 use Rattle.shwindow.specs.Lines.{IsRow}
