@@ -1,6 +1,1 @@
 pub mod LineByLine
-pub mod Awaited
-pub mod Stops
-pub mod Kept
-pub mod Searches
-pub mod Faultless

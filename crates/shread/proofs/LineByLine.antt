@@ -6,9 +6,9 @@ use Rattle.shgrammar.specs.declared.fault.Fault.{Fault}
 use Rattle.shast.specs.Tree.{AnEntry, entries_of}
 use Rattle.shgrammar.specs.Sights.{given, standing}
 use Rattle.shgrammar.specs.Form.{Read, may}
-use Rattle.shread.specs.declared.stop.Stop.{Stop}
-use Rattle.shread.specs.declared.stop.Stop.TheVariants.{Wrong}
-use Rattle.shread.specs.Clauses.{Fails}
+use Rattle.shline.specs.declared.stop.Stop.{Stop}
+use Rattle.shline.specs.declared.stop.Stop.TheVariants.{Wrong}
+use Rattle.shline.specs.Clauses.{Fails}
 use Rattle.shgrammar.specs.Commands.{is_empty}
 use Rattle.std.proofs.lemmas.List.{map-append}
 use Rattle.shgrammar.specs.declared.keep.Keep.TheVariants.{Whole}

@@ -8,7 +8,7 @@ use Rattle.shread.specs.declared.reader.LineKind as the_kind
 use Rattle.shread.specs.declared.reader.LineKind.TheVariants as kinds
 use Rattle.shast.specs.View.{view_list}
 use Rattle.shgrammar.specs.Lines.{ALine, AKind, blank_line, entries_line, end_line, faulty_line}
-use Rattle.shgrammar.specs.Scripts.{AScript, first_fault_from}
+use Rattle.shgrammar.specs.Scripts.{first_fault_from}
 
 abbrev pub view_kind : the_kind.LineKind → AKind
 view_kind kinds.Blank = blank_line
@@ -19,11 +19,6 @@ view_kind (kinds.Faulty fault) = faulty_line fault
 -- a line that begins at the offset `at`
 abbrev pub view_line : ℕ → the_line.Line → ALine
 view_line at line = record { kind = view_kind line.kind; next = line.next - at; ended = line.ended }
-
--- the fault of a line, where it has one, lies within so many bytes
-abbrev pub FaultWithin : ℕ → AKind → Type 0
-FaultWithin limit (faulty_line fault) = fault.at ≤ limit
-FaultWithin limit _ = Unit {0}
 
 abbrev pub meter_of : Reader → ℕ
 meter_of reader = reader.meter

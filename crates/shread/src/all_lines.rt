@@ -4,8 +4,8 @@ ghost use Rattle.shgrammar.specs.Scripts.{view_script};
 ghost use Rattle.shgrammar.specs.Scripts.{script_at};
 ghost use Rattle.shast.specs.Nodes.{AreWithin};
 
+use crate::error::ReadError;
 use crate::script_lines::{ScriptLine, ScriptLines};
-use crate::stop::ReadError;
 use shast::Entry;
 use shast::make::list_of;
 use shgrammar::Script;

@@ -3,10 +3,9 @@ ghost use Rattle.std.specs.Prelude.{◌≡◌, ◌≤◌, IfOk, IfSome, length};
 ghost use Rattle.shgrammar.specs.Scripts.{first_fault_from};
 ghost use Rattle.shread.specs.Answers.{Tells};
 
-use crate::cursor::SEEN;
-use crate::one_line::{Told, line_at};
-use crate::stop::{ReadError, Stop};
+use crate::error::ReadError;
 use shgrammar::{Fault, Keep};
+use shline::{SEEN, Stop, Told, line_at};
 use shtext::Source;
 use std::alloc::Global;
 use std::mem;

@@ -2,10 +2,10 @@
 ghost use Rattle.std.specs.Prelude.{◌≡◌, ◌-◌, ◌<◌, ◌≤◌, IfOk, IfSome, None, Some, length, slice_get};
 ghost use Rattle.shgrammar.specs.Search.{LineBefore, MayPass, StopsAt};
 
-use crate::cursor::SEEN;
-use crate::one_line::{Told, ends_in_newline, line_at};
-use crate::stop::{ReadError, Stop};
+use crate::error::ReadError;
+use crate::one_line::ends_in_newline;
 use shgrammar::Keep;
+use shline::{SEEN, Stop, Told, line_at};
 use shtext::Source;
 use std::alloc::Global;
 use std::mem;

@@ -1,72 +1,19 @@
 //! One line of a source, alone or as a script of its own.
-ghost use Rattle.std.specs.Prelude.{◌≡◌, ◌⊎◌, ◌+◌, ◌-◌, ◌^◌, ◌<◌, ◌≤◌, ◌==◌, ℕ, drop, false, length, map, true, IfOk, IsOk};
-ghost use Rattle.shread.specs.Answers.{FaultWithin, view_kind, view_line};
-ghost use Rattle.shread.specs.Clauses.{Gives, Onward, kept};
-ghost use Rattle.shgrammar.specs.Lines.{kind_of};
-ghost use Rattle.shgrammar.specs.Scripts.{line_of_text, line_told};
-ghost use Rattle.shgrammar.specs.Sights.{standing};
+ghost use Rattle.std.specs.Prelude.{◌≡◌, ◌+◌, ◌-◌, ◌^◌, ◌<◌, ◌≤◌, drop, false, length, map, true, IfOk, IsOk};
+ghost use Rattle.shread.specs.Answers.{view_kind, view_line};
+ghost use Rattle.shgrammar.specs.Lines.{FaultWithin, kind_of};
+ghost use Rattle.shgrammar.specs.Scripts.{line_of_text};
 ghost use Rattle.shgrammar.specs.Standing.{raw_stands};
-ghost use Rattle.shast.specs.Nodes.{AreWithin};
-ghost use Rattle.shast.specs.Tree.{entries_of};
 ghost use Rattle.shast.specs.View.{view_entry};
 
-use crate::cursor::{Cursor, KEPT};
-use crate::line::filled_entries;
+use crate::error::ReadError;
 use crate::reader::{Line, LineKind};
-use crate::stop::{ReadError, Stop};
 use shast::Entry;
 use shast::make::list_of;
 use shgrammar::Keep;
+use shline::{KEPT, Stop, Told, line_at};
 use shtext::Source;
 use std::alloc::Global;
-
-/// How many constructs may be open.
-const MOST_OPEN: usize = 100;
-
-/// What was read of a line that has no fault.
-#[derive(Drop)]
-pub(crate) struct Told {
-    pub(crate) entries: Vec<Entry>,
-    /// A newline ends it.
-    pub(crate) newline: bool,
-    /// How many bytes it has.
-    pub(crate) len: usize,
-}
-
-/// The line that begins at an offset, whose own offsets are counted from `origin`. Of its tree this is kept where `KEEP` is `KEPT`.
-#[tactic(auto, unfolding(shgrammar::specs::Lines::a_line), using(shgrammar::proofs::Places::end_is))]
-pub(crate) fn line_at<S: Source, const KEEP: u8>(
-    alloc: Global,
-    source: &S,
-    at: usize,
-    origin: usize,
-    keep: Keep,
-    blank: bool,
-) -> Result<Told, Stop>
-    requires { (at ≤ length (S.bytes source.now)) × (origin ≤ at) }
-    ensures value { Gives (origin + length (drop at (S.bytes source.now)))
-        (λ x. ((map view_entry x.entries.items, x.newline), standing x.len)) result
-        (line_told (S.bytes source.now) (kept KEEP keep) blank at origin) }
-    // No node of its entries names an offset behind it.
-    ensures spans { IfOk result (λ x. (limit : ℕ) → origin + x.len ≤ limit →
-        AreWithin limit (entries_of (map view_entry x.entries.items))) }
-    ensures onward { IfOk result (λ x. Onward 0 x.len x.newline) }
-    ensures within { IfOk result (λ x. at + x.len ≤ length (S.bytes source.now)) }
-    ensures fits { IfOk result (λ x. at + x.len < 2 ^ 64) }
-    ensures newline { IfOk result (λ x. x.newline ≡ true →
-        (raw_stands (drop at (S.bytes source.now)) (x.len - 1) 10 ≡ true) ⊎ (at + x.len ≡ length (S.bytes source.now))) }
-    ensures whole { IfOk result (λ x. x.newline ≡ false → at + x.len ≡ length (S.bytes source.now)) }
-{
-    let mut cursor = Cursor::<S, KEEP>::at_line(alloc, source, at, origin, keep);
-    // It holds no here-document yet: the line's level is its own.
-    let (entries, newline) = cursor.open_line(alloc, blank, MOST_OPEN)?;
-    let len = cursor.at;
-    Ok(Told {
-        entries: filled_entries(entries, cursor.documents.bodies),
-        newline,
-        len,
-    })
-}
 
 /// What a line without fault is.
 #[tactic(auto, using(shgrammar::proofs::LineKinds::kind_of_none, shgrammar::proofs::LineKinds::kind_of_some))]
@@ -97,7 +44,7 @@ pub(crate) fn ends_in_newline<S: Source>(source: &S, at: usize, len: usize) -> b
 }
 
 /// The line that begins at an offset, read as a script of its own. At the length no memory is wanted.
-#[tactic(auto, unfolding(shgrammar::specs::Scripts::line_of_text), using(shgrammar::proofs::LineKinds::nothing_left, crate::proofs::Faultless::no_fault_within))]
+#[tactic(auto, unfolding(shgrammar::specs::Scripts::line_of_text), using(shgrammar::proofs::LineKinds::nothing_left, shgrammar::proofs::LineKinds::no_fault_within))]
 pub(crate) fn line_from<S: Source>(alloc: Global, source: &S, at: usize) -> Result<Line, ReadError>
     requires { at ≤ length (S.bytes source.now) }
     ensures value { IfOk result (λ line. view_line at line ≡ line_of_text (drop at (S.bytes source.now))) }

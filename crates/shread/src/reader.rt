@@ -1,11 +1,10 @@
 //! The reader: one line, or a whole script.
-ghost use Rattle.std.specs.Prelude.{◌≡◌, ◌-◌, ◌<◌, ◌≤◌, drop, false, length, true, List as Row, None, IfOk, IfErr, IfSome, IsOk};
-ghost use Rattle.shgrammar.specs.Lines.{EntriesWithin};
-ghost use Rattle.shread.specs.Answers.{FaultWithin, meter_of, view_kind, view_line};
+ghost use Rattle.std.specs.Prelude.{◌≡◌, ◌-◌, ◌<◌, ◌≤◌, ℕ, drop, false, length, true, List as Row, None, IfOk, IfErr, IfSome, IsOk};
+ghost use Rattle.shread.specs.Answers.{meter_of, view_kind, view_line};
 ghost use Rattle.shtext.specs.Meter.{raised};
 ghost use Rattle.shgrammar.specs.Scripts.{view_script};
 ghost use Rattle.shgrammar.specs.Form.{Spelled};
-ghost use Rattle.shgrammar.specs.Lines.{ALine, IsLine, NoFurther, SameBytes};
+ghost use Rattle.shgrammar.specs.Lines.{ALine, EntriesEverywhere, EntriesWithin, FaultWithin, IsLine, NoFurther, SameBytes};
 ghost use Rattle.shgrammar.specs.Scripts.{AScript, FirstFault, Outcome, Passes};
 ghost use Rattle.shast.specs.Nodes.{AreWithin};
 ghost use Rattle.shast.specs.Normal.{is_normal};
@@ -13,9 +12,9 @@ ghost use Rattle.shast.specs.Shape.{shape_of};
 ghost use Rattle.shast.specs.Spelling.{spelling};
 
 use crate::all_lines::script_from;
+use crate::error::ReadError;
 use crate::first_fault::first_fault_of;
 use crate::one_line::line_from;
-use crate::stop::ReadError;
 use shast::List;
 use shgrammar::{Fault, Script};
 use shtext::Source;
@@ -79,6 +78,8 @@ impl Reader {
         ensures whole { IfOk result (λ line. line.ended ≡ false → line.next ≡ length (S.bytes source.now)) }
         // No node of its entries names an offset above the line's length.
         ensures within { IfOk result (λ line. EntriesWithin (line.next - at) (view_kind line.kind)) }
+        // Nor does any span of theirs, and each simple command has an item.
+        ensures everywhere { IfOk result (λ line. (limit : ℕ) → line.next - at ≤ limit → EntriesEverywhere limit (view_kind line.kind)) }
         // Its fault lies within it.
         ensures fault { IfOk result (λ line. FaultWithin (line.next - at) (view_kind line.kind)) }
         ensures meter { IfOk result (λ line. meter_of self.new ≡ raised (meter_of self.old) (line.next - at)) }

@@ -5,11 +5,11 @@ ghost use Rattle.shgrammar.specs.Search.{StopsAt};
 ghost use Rattle.shast.specs.View.{view_entry};
 ghost use Rattle.shread.specs.LineByLine.{AtStart, GoesOn, IsNextLine, IsWholeLine, LineWithin, Stands, before_of, bytes_of, no_lines, place_of};
 
-use crate::cursor::KEPT;
-use crate::one_line::{Told, ends_in_newline, line_at};
-use crate::stop::{ReadError, Stop};
+use crate::error::ReadError;
+use crate::one_line::ends_in_newline;
 use shast::Entry;
 use shgrammar::{Fault, Keep};
+use shline::{KEPT, Stop, Told, line_at};
 use shtext::Source;
 use std::alloc::Global;
 

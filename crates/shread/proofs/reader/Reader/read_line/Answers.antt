@@ -2,6 +2,7 @@ use Rattle.std.proofs.Common.{drop}
 use Rattle.shgrammar.proofs.Answered.{line_alone, line_answered}
 use Rattle.shgrammar.proofs.SameLine.{no_further, same_bytes}
 use Rattle.shgrammar.proofs.Within.{entries_within}
+use Rattle.shgrammar.proofs.Everywhere.{everywhere_more, line_everywhere}
 use Rattle.shread.proofs.reader.Reader.read_line.Goals as goal
 
 pub returns-clause-only : goal.returns-clause-only
@@ -15,3 +16,6 @@ returns-clause-no_further g c = λ ended. no_further (drop c.args.at (g.S.Source
 
 pub returns-clause-within : goal.returns-clause-within
 returns-clause-within g c = entries_within (drop c.args.at (g.S.Source.bytes c.args.source.now)) _ (line_answered _ _ c.in_ok-line.ensures.value)
+
+pub returns-clause-everywhere : goal.returns-clause-everywhere
+returns-clause-everywhere g c = λ limit le. everywhere_more _ limit _ le (line_everywhere (drop c.args.at (g.S.Source.bytes c.args.source.now)) _ (line_answered _ _ c.in_ok-line.ensures.value))

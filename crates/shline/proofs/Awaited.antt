@@ -1,0 +1,274 @@
+-- What the loops over the lines of a here-document, and over its word, come to.
+use Rattle.std.proofs.Common.{◌≡◌, ℕ, zero, suc, ◌+◌, ◌-◌, ◌==◌, ◌<◌, ◌≤◌, Bool, true, false, not, cond, List, [], ◌∷◌, ◌++◌, List as Row, length, take, drop, map, fold, Option, Some, None, Ok, Err, slice_get, get_or, bytes_eq, refl, sym, ap, ◌∙◌, arith, ⊎_elim}
+use Rattle.std.specs.Prelude.{Result, ◌&&◌, nat_lt}
+use Rattle.std.proofs.lemmas.Bool.{cases_lt, lt-ltb}
+use Rattle.std.proofs.lemmas.Bool.Decides.{nat_tests}
+use Rattle.std.proofs.lemmas.Option.{slice_get_within, slice_get-get_or}
+use Rattle.std.proofs.lemmas.List.{drop-drop, drop_more, length-drop}
+use Rattle.std.proofs.lemmas.Grind.{fold-append}
+use Rattle.shgrammar.specs.declared.keep.Keep.{Keep}
+use Rattle.shast.specs.declared.tree.Span.{Span}
+use Rattle.shgrammar.specs.declared.fault.Fault.{Fault}
+use Rattle.shline.specs.declared.documents.Waiting as the_waiting
+use Rattle.shgrammar.specs.declared.fault.FaultKind.TheVariants.{UnclosedHere}
+use Rattle.shgrammar.specs.Standing.{is_byte, raw_stands, raw_past, count_front, next_newline}
+use Rattle.shgrammar.specs.Comments.{span}
+use Rattle.shline.specs.declared.documents.Documents as the_documents
+use Rattle.shline.specs.declared.stop.Stop.{Stop}
+use Rattle.shline.specs.declared.stop.Stop.TheVariants.{Memory, Wrong}
+use Rattle.shline.specs.Clauses.{BodyRead, Fails, standing_with, view_waiting}
+use Rattle.shgrammar.specs.Sights.{Given}
+use Rattle.shgrammar.specs.HereDocuments.{rest_of_line, stripped, past_line, delimiter_from, bodies_from, bodies_here, state_by}
+use Rattle.shgrammar.specs.Form.{change, does, nothing_read, raw}
+use Rattle.shgrammar.proofs.Stretches.{get_drop}
+
+-- ---- bytes from one place up to another
+
+take_some : (n : ℕ) (X : List ℕ) (b : ℕ) → slice_get X n ≡ Some b → take (suc n) X ≡ take n X ++ b ∷ []
+take_some n [] b is = absurd cc
+take_some zero (c ∷ X) b is = let same : c ≡ b = cc in ap (λ (x : ℕ). x ∷ []) same
+take_some (suc n) (c ∷ X) b is = ap (λ (l : List ℕ). c ∷ l) (take_some n X b is)
+
+pub raw_some : (T : List ℕ) (p q b : ℕ) → p ≤ q → slice_get T q ≡ Some b → raw T p (q + 1) ≡ raw T p q ++ b ∷ []
+raw_some T p q b le is =
+    let many : q + 1 - p ≡ suc (q - p) = omega (arith, le) in
+    let at : p + (q - p) ≡ q = omega (arith, le) in
+    ap (λ n. take n (drop p T)) many ∙ take_some (q - p) (drop p T) b (get_drop p T (q - p) ∙ ap (slice_get T) at ∙ is)
+
+pub raw_nothing : (T : List ℕ) (p : ℕ) → raw T p p ≡ []
+raw_nothing T p = let none : p - p ≡ 0 = omega arith in ap (λ n. take n (drop p T)) none
+
+-- ---- tabs
+
+tab_is_text : (b : ℕ) → (b == 9) ≡ true → (b == 10) ≡ false
+tab_is_text b is = grind (arith, nat_tests, is)
+
+tabs_low_by : (b m n : ℕ) → m ≤ n → (t : Bool) → (b == 9) ≡ t → cond (b == 9) (1 + m) 0 ≤ cond (not (b == 10)) (1 + n) 0
+tabs_low_by b m n le true is = rw (is, tab_is_text b is) (omega (arith, le))
+tabs_low_by b m n le false is = rw is (omega arith)
+
+-- tabs stand in their line
+tabs_low : (X : List ℕ) → count_front (λ b. b == 9) X ≤ count_front (λ b. not (b == 10)) X
+unfolding count_front
+tabs_low [] = omega arith
+tabs_low (b ∷ X) = tabs_low_by b _ _ (tabs_low X) (b == 9) refl
+
+newline_is_no_tab : (b : ℕ) → (b == 10) ≡ true → (b == 9) ≡ false
+newline_is_no_tab b is = grind (arith, nat_tests, is)
+
+tabs_same_by : (b : ℕ) (X : List ℕ) → count_front (λ c. c == 9) (take (count_front (λ c. not (c == 10)) X) X) ≡ count_front (λ c. c == 9) X → (t : Bool) → (b == 10) ≡ t
+    → count_front (λ c. c == 9) (take (cond (not (b == 10)) (1 + count_front (λ c. not (c == 10)) X) 0) (b ∷ X)) ≡ cond (b == 9) (1 + count_front (λ c. c == 9) X) 0
+unfolding count_front
+tabs_same_by b X rest true is = rw (is, newline_is_no_tab b is) refl
+tabs_same_by b X rest false is =
+    let more : 1 + count_front (λ c. not (c == 10)) X ≡ suc (count_front (λ c. not (c == 10)) X) = omega arith in
+    rw (is, more) (ap (λ n. cond (b == 9) (1 + n) 0) rest)
+
+tabs_same : (X : List ℕ) → count_front (λ b. b == 9) (take (count_front (λ b. not (b == 10)) X) X) ≡ count_front (λ b. b == 9) X
+unfolding count_front
+tabs_same [] = refl
+tabs_same (b ∷ X) = tabs_same_by b X (tabs_same X) (b == 10) refl
+
+take_nothing : (n : ℕ) → ◌≡◌ {A = List ℕ} [] (take n [])
+take_nothing zero = refl
+take_nothing (suc n) = refl
+
+drop_take : (t n : ℕ) (X : List ℕ) → drop t (take n X) ≡ take (n - t) (drop t X)
+drop_take zero n X = let same : n ≡ n - 0 = omega arith in ap (λ m. take m X) same
+drop_take (suc t) zero X = let same : 0 ≡ 0 - suc t = omega arith in ap (λ m. take m (drop (suc t) X)) same
+drop_take (suc t) (suc n) [] = take_nothing (suc n - suc t)
+drop_take (suc t) (suc n) (b ∷ X) = let same : n - t ≡ suc n - suc t = omega arith in drop_take t n X ∙ ap (λ m. take m (drop t X)) same
+
+pub tabs_before : (T : List ℕ) (p : ℕ) → raw_past (λ b. b == 9) T p ≤ next_newline T p
+unfolding raw_past
+tabs_before T p = omega (arith, tabs_low (drop p T))
+
+-- a line without its tabs
+pub stripped_line : (T : List ℕ) (p : ℕ) → stripped true (rest_of_line T p) ≡ raw T (raw_past (λ b. b == 9) T p) (next_newline T p)
+unfolding raw_past
+stripped_line T p =
+    let X = drop p T in
+    let n = count_front (λ b. not (b == 10)) X in
+    let t = count_front (λ b. b == 9) X in
+    let line : rest_of_line T p ≡ take n X = ap (λ m. take m X) (omega arith) in
+    let rest : p + n - (p + t) ≡ n - t = omega arith in
+    let there : drop t X ≡ drop (p + t) T = drop-drop t p T in
+    ap (λ l. drop (count_front (λ b. b == 9) l) l) line
+    ∙ ap (λ m. drop m (take n X)) (tabs_same X)
+    ∙ drop_take t n X
+    ∙ ap (take (n - t)) there
+    ∙ ap (λ m. take m (drop (p + t) T)) (sym rest)
+
+-- ---- backslashes at the end of a line
+
+abbrev pub odd : List ℕ → Bool
+odd line = fold (λ o b. b == 92 && not o) false line
+
+abbrev pub flipped : Bool → Bool → Bool
+flipped true x = not x
+flipped false x = x
+
+flip_last : (line : List ℕ) → odd (line ++ 92 ∷ []) ≡ not (odd line)
+flip_last line = fold-append (λ o b. b == 92 && not o) false line (92 ∷ [])
+
+other_last : (line : List ℕ) (b : ℕ) → (b == 92) ≡ false → odd (line ++ b ∷ []) ≡ false
+other_last line b other = fold-append (λ o c. c == 92 && not o) false line (b ∷ []) ∙ rw other refl
+
+byte_is : (x : Option ℕ) (c : ℕ) → is_byte x c ≡ true → x ≡ Some c
+byte_is None c e = absurd cc
+byte_is (Some b) c e = let is : b ≡ c = grind (arith, nat_tests, e) in ap (λ (n : ℕ). Some n) is
+
+flipped_not : (b x : Bool) → flipped (not b) x ≡ flipped b (not x)
+flipped_not true true = refl
+flipped_not true false = refl
+flipped_not false x = refl
+
+-- one more backslash before q
+pub odd_more : (T : List ℕ) (p q : ℕ) (so : Bool) (all : Bool) → p < q → raw_stands T (q - 1) 92 ≡ true → flipped so (odd (raw T p q)) ≡ all → flipped (not so) (odd (raw T p (q - 1))) ≡ all
+unfolding raw_stands
+odd_more T p q so all lt is before =
+    let last : q - 1 + 1 ≡ q = omega (arith, lt) in
+    let here : raw T p q ≡ raw T p (q - 1) ++ 92 ∷ [] = ap (raw T p) (sym last) ∙ raw_some T p (q - 1) 92 (omega (arith, lt)) (byte_is (slice_get T (q - 1)) 92 is) in
+    flipped_not so (odd (raw T p (q - 1))) ∙ ap (flipped so) (sym (ap odd here ∙ flip_last (raw T p (q - 1)))) ∙ before
+
+flipped_false : (b : Bool) → flipped b false ≡ b
+flipped_false true = refl
+flipped_false false = refl
+
+none_or : (T : List ℕ) (p q : ℕ) → p < q → q ≤ length T → raw_stands T (q - 1) 92 ≡ false → odd (raw T p q) ≡ false
+unfolding raw_stands
+none_or T p q lt within other =
+    let last : q - 1 + 1 ≡ q = omega (arith, lt) in
+    let is : slice_get T (q - 1) ≡ Some (get_or T (q - 1) 0) = slice_get-get_or T (q - 1) 0 (omega (arith, lt, within)) in
+    let no : (get_or T (q - 1) 0 == 92) ≡ false = sym (ap (λ x. is_byte x 92) is) ∙ other in
+    ap (λ n. odd (raw T p n)) (sym last) ∙ ap odd (raw_some T p (q - 1) (get_or T (q - 1) 0) (omega (arith, lt)) is) ∙ other_last (raw T p (q - 1)) (get_or T (q - 1) 0) no
+
+-- no more of them
+pub odd_stops : (T : List ℕ) (p q : ℕ) (so all : Bool) → q ≤ length T → (nat_lt p q && raw_stands T (q - 1) 92) ≡ false → flipped so (odd (raw T p q)) ≡ all → so ≡ all
+odd_stops T p q so all within stops before = sym (ap (flipped so) none ∙ flipped_false so) ∙ before
+  where
+    second : (a b : Bool) → (a && b) ≡ false → a ≡ true → b ≡ false
+    second true b e f = e
+    second false b e f = absurd cc
+
+    none : odd (raw T p q) ≡ false
+    none =
+        ⊎_elim (λ lt. none_or T p q lt within (second (nat_lt p q) (raw_stands T (q - 1) 92) stops (lt-ltb p q lt)))
+        (λ ge. let empty : q - p ≡ 0 = omega (arith, ge) in ap (λ n. odd (take n (drop p T))) empty) (cases_lt p q)
+
+-- ---- the bytes of a delimiter
+
+both_false : (a b : Bool) → b ≡ false → (a && b) ≡ false
+both_false true b e = e
+both_false false b e = refl
+
+raw_first : (T : List ℕ) (p q b : ℕ) → p < q → slice_get T p ≡ Some b → raw T p q ≡ b ∷ raw T (p + 1) q
+raw_first T p q b lt is =
+    let many : q - p ≡ suc (q - (p + 1)) = omega (arith, lt) in
+    let long : p < length T = slice_get_within T p b is in
+    let read : Some (get_or T p 0) ≡ Some b = sym (slice_get-get_or T p 0 long) ∙ is in
+    let same : get_or T p 0 ≡ b = cc in
+    ap (λ n. take n (drop p T)) many ∙ ap (take (suc (q - (p + 1)))) (drop_more T p 0 long) ∙ ap (λ (c : ℕ). c ∷ raw T (p + 1) q) same
+
+eq_both : (b : ℕ) (xs ys : List ℕ) → bytes_eq (b ∷ xs) (b ∷ ys) ≡ bytes_eq xs ys
+eq_both b xs ys = let same : (b == b) ≡ true = grind (arith, nat_tests) in rw same refl
+
+eq_first : (b c : ℕ) (xs ys : List ℕ) → (b == c) ≡ false → bytes_eq (b ∷ xs) (c ∷ ys) ≡ false
+eq_first b c xs ys other = rw other refl
+
+pub bytes_more : (T : List ℕ) (p q i : ℕ) (bytes : List ℕ) → p + i < q → i < length bytes → raw_stands T (p + i) (get_or bytes i 0) ≡ true
+    → bytes_eq (raw T (p + i) q) (drop i bytes) ≡ bytes_eq (raw T (p + i + 1) q) (drop (i + 1) bytes)
+unfolding raw_stands
+bytes_more T p q i bytes lt low is =
+    let c = get_or bytes i 0 in
+    rw (raw_first T (p + i) q c lt (byte_is (slice_get T (p + i)) c is), drop_more bytes i 0 low) (eq_both c (raw T (p + i + 1) q) (drop (i + 1) bytes))
+
+pub bytes_other : (T : List ℕ) (p q i : ℕ) (bytes : List ℕ) → p + i < q → q ≤ length T → i < length bytes → raw_stands T (p + i) (get_or bytes i 0) ≡ false
+    → bytes_eq (raw T (p + i) q) (drop i bytes) ≡ false
+unfolding raw_stands
+bytes_other T p q i bytes lt within low other =
+    let c = get_or bytes i 0 in
+    let is : slice_get T (p + i) ≡ Some (get_or T (p + i) 0) = slice_get-get_or T (p + i) 0 (omega (arith, lt, within)) in
+    let no : (get_or T (p + i) 0 == c) ≡ false = sym (ap (λ x. is_byte x c) is) ∙ other in
+    rw (raw_first T (p + i) q (get_or T (p + i) 0) lt is, drop_more bytes i 0 low) (eq_first (get_or T (p + i) 0) c (raw T (p + i + 1) q) (drop (i + 1) bytes) no)
+
+pub bytes_end : (T : List ℕ) (p q i : ℕ) (bytes : List ℕ) → p + i ≡ q → i ≡ length bytes → bytes_eq (raw T (p + i) q) (drop i bytes) ≡ true
+bytes_end T p q i bytes end whole =
+    let none : q - (p + i) ≡ 0 = omega (arith, end) in
+    rw (none, drop_all_of i bytes (omega (arith, whole))) refl
+  where
+    drop_all_of : (n : ℕ) (xs : List ℕ) → length xs ≤ n → drop n xs ≡ []
+    drop_all_of zero [] le = refl
+    drop_all_of zero (x ∷ xs) le = absurd (omega (arith, le))
+    drop_all_of (suc n) [] le = refl
+    drop_all_of (suc n) (x ∷ xs) le = drop_all_of n xs (omega (arith, le))
+
+-- of another length
+pub bytes_short : (T : List ℕ) (p q : ℕ) (bytes : List ℕ) → p ≤ q → q ≤ length T → length bytes < q - p → bytes_eq (raw T p q) bytes ≡ false
+bytes_short T p q bytes le within short = none_long (q - p) (drop p T) bytes (omega (arith, within, length-drop p T)) short
+  where
+    none_long : (n : ℕ) (X ys : List ℕ) → n ≤ length X → length ys < n → bytes_eq (take n X) ys ≡ false
+    none_long zero X ys le lt = absurd (omega (arith, lt))
+    none_long (suc n) [] ys le lt = absurd (omega (arith, le))
+    none_long (suc n) (x ∷ X) [] le lt = refl
+    none_long (suc n) (x ∷ X) (y ∷ ys) le lt = both_false (x == y) (bytes_eq (take n X) ys) (none_long n X ys (omega (arith, le)) (omega (arith, lt)))
+
+pub bytes_long : (T : List ℕ) (p q : ℕ) (bytes : List ℕ) → q - p < length bytes → bytes_eq (raw T p q) bytes ≡ false
+bytes_long T p q bytes long = none_short (q - p) (drop p T) bytes long
+  where
+    none_short : (n : ℕ) (X ys : List ℕ) → n < length ys → bytes_eq (take n X) ys ≡ false
+    none_short zero [] [] lt = absurd (omega (arith, lt))
+    none_short zero X (y ∷ ys) lt = refl
+    none_short zero (x ∷ X) [] lt = absurd (omega (arith, lt))
+    none_short (suc n) [] (y ∷ ys) lt = refl
+    none_short (suc n) [] [] lt = absurd (omega (arith, lt))
+    none_short (suc n) (x ∷ X) [] lt = absurd (omega (arith, lt))
+    none_short (suc n) (x ∷ X) (y ∷ ys) lt = both_false (x == y) (bytes_eq (take n X) ys) (none_short n X ys (omega (arith, lt)))
+
+-- ---- one document after another
+
+one_more : (i : ℕ) → suc i + 1 ≡ suc (i + 1)
+one_more i = omega arith
+
+pub document_more : (g : Given) (ws : Row the_waiting.Waiting) (i : ℕ) (d : the_waiting.Waiting) (bodies : Row Span) (p q : ℕ) → i < length ws → delimiter_from g.text (view_waiting (get_or ws i d)) p ≡ Some q
+    → bodies_from g (drop i (map view_waiting ws)) bodies p ≡ bodies_from g (drop (i + 1) (map view_waiting ws)) (bodies ++ span g.offset p q ∷ []) (past_line g.text q)
+unfolding bodies_from
+document_more g [] i d bodies p q lt found = absurd (omega (arith, lt))
+document_more g (w ∷ ws) zero d bodies p q lt found = rw found refl
+document_more g (w ∷ ws) (suc i) d bodies p q lt found =
+    document_more g ws i d bodies p q (omega (arith, lt)) found ∙ ap (λ n. bodies_from g (drop n (map view_waiting (w ∷ ws))) (bodies ++ span g.offset p q ∷ []) (past_line g.text q)) (sym (one_more i))
+
+pub document_missing : (g : Given) (ws : Row the_waiting.Waiting) (i : ℕ) (d : the_waiting.Waiting) (bodies : Row Span) (p : ℕ) → i < length ws → delimiter_from g.text (view_waiting (get_or ws i d)) p ≡ None
+    → bodies_from g (drop i (map view_waiting ws)) bodies p ≡ Err (record { kind = UnclosedHere; at = (get_or ws i d).operator })
+unfolding bodies_from
+document_missing g [] i d bodies p lt found = absurd (omega (arith, lt))
+document_missing g (w ∷ ws) zero d bodies p lt found = rw found refl
+document_missing g (w ∷ ws) (suc i) d bodies p lt found = document_missing g ws i d bodies p (omega (arith, lt)) found
+
+documents_end : (g : Given) (ws : Row the_waiting.Waiting) (i : ℕ) (bodies : Row Span) (p : ℕ) → length ws ≤ i → bodies_from g (drop i (map view_waiting ws)) bodies p ≡ Ok (bodies, p)
+unfolding bodies_from
+documents_end g [] zero bodies p le = refl
+documents_end g [] (suc i) bodies p le = refl
+documents_end g (w ∷ ws) zero bodies p le = absurd (omega (arith, le))
+documents_end g (w ∷ ws) (suc i) bodies p le = documents_end g ws i bodies p (omega (arith, le))
+
+-- all of them
+pub bodies_read : (keep : Keep) (g : Given) (ws : Row the_waiting.Waiting) (start bodies : Row Span) (i p q : ℕ) → length ws ≤ i → bodies_from g (drop i (map view_waiting ws)) bodies q ≡ bodies_from g (map view_waiting ws) start p
+    → does (change bodies_here) keep g (record { at = p; waiting = map view_waiting ws; bodies = start }) ≡ Ok (tt, record { at = q; waiting = []; bodies = bodies })
+bodies_read keep g ws start bodies i p q le is = ap (λ x. nothing_read (state_by x)) (sym is ∙ documents_end g ws i bodies q le)
+
+pub bodies_stop : (keep : Keep) (g : Given) (ws : Row the_waiting.Waiting) (start bodies : Row Span) (i p q end : ℕ) (e : Stop) (rest : Result (Row Span × ℕ) Fault)
+    → bodies_from g (drop i (map view_waiting ws)) bodies q ≡ bodies_from g (map view_waiting ws) start p → BodyRead end (Err e) (bodies_from g (drop i (map view_waiting ws)) bodies q) rest
+    → Fails end e (does (change bodies_here) keep g (record { at = p; waiting = map view_waiting ws; bodies = start }))
+bodies_stop keep g ws start bodies i p q end Memory rest is stop = tt
+bodies_stop keep g ws start bodies i p q end (Wrong f) rest is stop = (ap (λ x. nothing_read (state_by x)) (sym is ∙ stop.0), stop.1)
+
+none_by : (keep : Keep) (g : Given) (bs : Row Span) (p : ℕ) (ws : Row the_waiting.Waiting) → length ws ≡ 0
+    → does (change bodies_here) keep g (record { at = p; waiting = map view_waiting ws; bodies = bs }) ≡ Ok (tt, record { at = p; waiting = map view_waiting ws; bodies = bs })
+unfolding bodies_from
+none_by keep g bs p [] e = refl
+none_by keep g bs p (w ∷ ws) e = absurd (omega (arith, e))
+
+-- none
+pub none_awaited : (keep : Keep) (g : Given) (d : the_documents.Documents) (p : ℕ) → length d.waiting.items ≡ 0 → does (change bodies_here) keep g (standing_with d p) ≡ Ok (tt, standing_with d p)
+none_awaited keep g d p none = none_by keep g d.bodies.items p d.waiting.items none

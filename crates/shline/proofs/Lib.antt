@@ -1,0 +1,4 @@
+pub mod Awaited
+pub mod Stops
+pub mod Kept
+pub mod Searches

@@ -1,0 +1,45 @@
+-- What stops: a turn of a row, a piece of a word, or what stands behind plain bytes.
+use Rattle.std.proofs.Common.{◌≡◌, ◌∙◌, ◌+◌, ◌≤◌, ℕ, List, List as Row, [], length, refl, subst}
+use Rattle.shgrammar.specs.declared.keep.Keep.{Keep}
+use Rattle.shgrammar.specs.declared.mode.Mode.{Mode}
+use Rattle.shgrammar.specs.declared.mode.Mode.TheVariants.{Plain}
+use Rattle.shline.specs.declared.stop.Stop.{Stop}
+use Rattle.shline.specs.declared.stop.Stop.TheVariants.{Memory, Wrong}
+use Rattle.shast.specs.declared.tree.Span.{Span}
+use Rattle.shast.specs.Tree.{ASubst}
+use Rattle.shline.specs.Clauses.{Fails}
+use Rattle.shgrammar.specs.Sights.{Given, State, Waiting, given}
+use Rattle.shgrammar.specs.Form.{Form, Read, Step, does, many}
+use Rattle.shgrammar.specs.Plain.{ArePlain}
+use Rattle.shgrammar.specs.Words.{Held, Inner, a_piece, a_word, contents, having}
+use Rattle.shgrammar.proofs.PlainBytes.{given_by, placed, plain_contents}
+use Rattle.shgrammar.proofs.Turns.{turns_fault}
+
+module _ {A : Type 0} (turn : A → Form (Step A)) (keep : Keep) (g : Given) where
+  pub many_stop : (a : A) (s : State) (end : ℕ) (e : Stop) → Fails end e (does (turn a) keep g s) → Fails end e (does (many turn a) keep g s)
+  unfolding many
+  many_stop a s end Memory one = tt
+  many_stop a s end (Wrong e) one = (turns_fault g (λ c u. does (turn c) keep g u) a s e one.0, one.1)
+
+-- ---- in a word
+
+stops : (end : ℕ) (e : Stop) (x : Read Held) → Fails end e x → Fails end e (given_by x)
+stops end Memory x stop = tt
+stops end (Wrong f) x stop = (rw (stop.0) refl, stop.1)
+
+module _ (inner : Inner) (keep : Keep) (g : Given) (mode : Mode) (b : ℕ) (ws : Row Waiting) (ds : Row Span) where
+  -- all pieces
+  abbrev all : Row Waiting → Row Span → Held → ℕ → Read Held
+  all vs es h p = does (many (a_piece inner mode b) h) keep g (placed vs es p)
+
+  -- a piece that stops, stops all
+  pub contents_stop : (h : Held) (ss : Row ASubst) (vs : Row Waiting) (es : Row Span) (p s : ℕ) (end : ℕ) (e : Stop) → all ws ds h p ≡ all vs es (having 0 ss) s
+      → Fails end e (does (a_piece inner mode b h) keep g (placed ws ds p)) → Fails end e (does (contents inner mode b ss) keep g (placed vs es s))
+  unfolding contents
+  contents_stop h ss vs es p s end e so stop = stops end e _ (subst (Fails end e) so (many_stop (a_piece inner mode b) keep g h (placed ws ds p) end e stop))
+
+pub word_stops : (inner : Inner) (keep : Keep) (ws : Row Waiting) (ds : Row Span) (T : List ℕ) (o p q end : ℕ) (e : Stop) → ArePlain Plain T p q → p ≤ q → q ≤ length T
+    → Fails end e (does (contents inner Plain (o + p) []) keep (given T o) (placed ws ds q)) → Fails end e (does (a_word inner) keep (given T o) (placed ws ds p))
+unfolding a_word
+word_stops inner keep ws ds T o p q end Memory plain low high rest = tt
+word_stops inner keep ws ds T o p q end (Wrong f) plain low high rest = (rw (plain_contents inner keep (given T o) Plain (o + p) ws ds [] p q plain low high ∙ rest.0) refl, rest.1)

@@ -1,0 +1,106 @@
+use Rattle.std.proofs.Common.{◌≡◌, ℕ, ◌<◌, ◌≤◌, ◌+◌, ◌-◌, ◌∙◌, Ok, List as Row, length, map, ap, sym, arith}
+use Rattle.shgrammar.specs.declared.mode.Piece.TheVariants as pieces
+use Rattle.shgrammar.specs.Bytes.{past_continuations}
+use Rattle.shline.specs.Clauses.{keep_of, standing_with, state_of, text_of, view_waiting}
+use Rattle.shgrammar.specs.Comments.{span}
+use Rattle.shgrammar.specs.Form.{does, grows, pushed}
+use Rattle.shgrammar.specs.HereDocuments.{outer_level, own_level}
+use Rattle.shgrammar.specs.Pieces.{piece_at}
+use Rattle.shgrammar.specs.Plain.{ArePlain}
+use Rattle.shgrammar.specs.Sights.{State, given}
+use Rattle.shgrammar.specs.Substitutions.{substituted}
+use Rattle.shgrammar.specs.Words.{having}
+use Rattle.shgrammar.specs.Levels.{level}
+use Rattle.shast.specs.declared.tree.Span.{Span}
+use Rattle.shast.specs.Bodies.{filled}
+use Rattle.shast.specs.Tree.{ASubst, subst}
+use Rattle.shast.specs.View.{view_list, view_subst}
+use Rattle.shgrammar.proofs.Levels.{substitution_read}
+use Rattle.shgrammar.proofs.PlainBytes.{ordinary_here, piece_and_plain}
+use Rattle.shline.proofs.cursor.Cursor.+commands.Goals as goal
+
+pub contents-pieces-preserved : goal.contents-pieces-preserved
+contents-pieces-preserved g t c =
+    let inv = c.pieces.invariant in
+    let told = c.in_ok-take_piece.ensures in
+    let rest = c.skip_plain.ensures in
+    let was = inv.4 in
+    let text = text_of g.S.Source.bytes c.args.self.now in
+    let piece = rw (was.0, was.1, was.2, was.3, c.if-branch.true, ← rest.same.3) at told.value in
+    let before = c.pieces.self.documents in
+    let behind = c.skip_plain.new.self.documents in
+    let onward : c.pieces.self.at < c.take_piece.new.self.at = rw c.if-branch.true at told.onward in
+    let plain = rw (told.same.0, told.same.1, was.0, was.1) at rest.plain in
+    let within = rw (told.same.0, told.same.1, was.0, was.1) at rest.within in (
+      piece_and_plain (level c.args.room) (keep_of c.args.self.now) (given text c.args.self.now.origin) c.args.mode (c.args.self.now.origin + c.args.opener)
+          (map view_waiting behind.waiting.items) behind.bodies.items (having c.pieces.nested (map view_subst c.pieces.substs.items)) (having c.take_piece.new.nested (map view_subst c.take_piece.new.substs.items)) (map view_waiting before.waiting.items) before.bodies.items c.pieces.self.at c.take_piece.new.self.at c.skip_plain.new.self.at _
+          inv.0 piece onward (omega (arith, rest.onward, within)) plain rest.onward within,
+      omega (arith, inv.1, onward, rest.onward),
+      omega (arith, told.nested, rest.onward),
+      omega (arith, inv.3, onward, rest.onward),
+      (rest.same.0 ∙ told.same.0 ∙ was.0, rest.same.1 ∙ told.same.1 ∙ was.1, rest.same.2 ∙ told.same.2 ∙ was.2, rest.same.4 ∙ told.same.3 ∙ was.3),
+    )
+
+-- the substitution that was read, as one more
+pub one_substitution-returns-in-Ok-clause-value : goal.one_substitution-returns-in-Ok-clause-value
+one_substitution-returns-in-Ok-clause-value g t c =
+    let start = c.args.self.now in
+    let keep = keep_of start in
+    let own = c.open_level-outer.ensures in
+    let same = c.substituted.ensures.same in
+    let shut = c.close_level-bodies.ensures in
+    let after = c.close_level-bodies.new.self in
+    let list = view_list c.in-Ok.list in
+    let inner = state_of c.substituted.new.self in
+    let ss = map view_subst c.args.substs.now.items in
+    let here = given (text_of g.S.Source.bytes start) start.origin in
+    let stands : does (substituted (level c.args.room)) keep here (own_level (state_of start)) ≡ Ok (list, inner) =
+    rw (own.same.0, own.same.1, own.same.2, own.same.3, own.level) at c.in-Ok.ensures.value in
+    let read = substitution_read keep here (state_of start) (level c.args.room) c.args.opener ss list inner stands in
+    let origin : after.origin ≡ start.origin = shut.same.2 ∙ same.2 ∙ own.same.2 in
+    let bodies : c.close_level-bodies.result.items ≡ inner.bodies = shut.bodies in
+    let place : after.at ≡ inner.at = shut.place in
+    let made =
+    rw (shut.same.3, same.3, own.same.3) at c.in_ok-add_subst-in-Ok.ensures.value
+    ∙ ap (λ (bs : Row Span). pushed (grows keep) ss (subst (filled bs list) (span after.origin c.args.opener after.at))) bodies
+    ∙ ap (λ (o : ℕ). pushed (grows keep) ss (subst (filled inner.bodies list) (span o c.args.opener after.at))) origin
+    ∙ ap (λ (p : ℕ). pushed (grows keep) ss (subst (filled inner.bodies list) (span start.origin c.args.opener p))) place in
+    let state : state_of after ≡ outer_level (state_of start) inner =
+    ap (λ d. standing_with d after.at) (shut.outer ∙ own.outer) ∙ ap (standing_with start.documents) place in
+    read ∙ ap (λ (u : State). Ok (pushed (grows keep) ss (subst (filled inner.bodies list) (span start.origin c.args.opener inner.at)), u)) (sym state) ∙ ap (λ (zs : Row ASubst). Ok (zs, state_of after)) (sym made)
+
+-- the token behind an item of a `case`
+pub one_case-returns-in_ok-push-clause-shows : goal.one_case-returns-in_ok-push-clause-shows
+one_case-returns-in_ok-push-clause-shows g t c =
+    let opened = c.open_bracket.ensures.same in
+    let patterns = c.in_ok-patterns.ensures.same in
+    let closer = c.in_ok-closer.ensures.same in
+    let body = c.in_ok-body.ensures.same in
+    rw (body.0, body.1, closer.0, closer.1, patterns.0, patterns.1, opened.0, opened.1) at c.in_ok-end.ensures.shows
+
+-- an ordinary byte of a string, and the plain ones behind it
+pub construct-ordinary-preserved : goal.construct-ordinary-preserved
+construct-ordinary-preserved g t c =
+    let start = c.args.self.now in
+    let inv = c.ordinary.invariant in
+    let was = inv.4 in
+    let old = c.ordinary.self in
+    let new = c.skip_plain-in-Ordinary.new.self in
+    let rest = c.skip_plain-in-Ordinary.ensures in
+    let inside = c.place_here-here.ensures.inside in
+    let text = text_of g.S.Source.bytes start in
+    let here : c.place_here-here.result ≡ past_continuations text old.at = rw (was.0, was.1) at c.place_here-here.ensures.value in
+    let told : c.piece.result ≡ piece_at text c.args.mode 0 old.at = rw (was.0, was.1) at c.piece.ensures.value in
+    let is : c.piece.result ≡ pieces.Ordinary = c.in-Ordinary.is in
+    let plain : ArePlain c.args.mode text (past_continuations text old.at + 1) new.at = rw (was.0, was.1, here) at rest.plain in
+    let low : past_continuations text old.at + 1 ≤ new.at = omega (arith, here, rest.onward) in
+    let high : new.at ≤ length text = rw (was.0, was.1) at rest.within in
+    let on =
+    ordinary_here (level (c.args.room - 1)) (keep_of start) (map view_waiting old.documents.waiting.items) old.documents.bodies.items text start.origin c.args.mode (start.origin + c.args.opener)
+    (map view_subst c.ordinary.substs.items) old.at new.at (sym told ∙ is) plain low high in (
+      rw rest.same.3 (sym on ∙ inv.0),
+      omega (arith, inv.1, inside.0, rest.onward),
+      omega (arith, inv.2, inside.0, rest.onward),
+      inv.3,
+      (rest.same.0 ∙ was.0, rest.same.1 ∙ was.1, rest.same.2 ∙ was.2, rest.same.3 ∙ was.3, rest.same.4 ∙ was.4),
+    )

@@ -1,0 +1,17 @@
+use Rattle.std.proofs.Common.{rules, ◌≡◌, ◌+◌, ◌∙◌, ◌∷◌, ◌++◌, [], Some, drop, get_or, map, sym, ap}
+use Rattle.shline.specs.Clauses.{text_of, view_waiting}
+use Rattle.shgrammar.specs.HereDocuments.{bodies_from, delimiter_from}
+use Rattle.shgrammar.specs.Comments.{span}
+use Rattle.shgrammar.specs.Sights.{given}
+use Rattle.shline.proofs.Awaited.{document_more}
+use Rattle.shline.proofs.cursor.Cursor.body_of.Goals as goal
+
+pub returns-clause-read : goal.returns-clause-read
+returns-clause-read g c = λ bodies.
+    let text = text_of g.S.Source.bytes c.args.self.now in
+    let here = given text c.args.self.now.origin in
+    let ws = c.args.self.now.documents.waiting.items in
+    let rest = drop (c.args.index + 1) (map view_waiting ws) in
+    let found : delimiter_from text (view_waiting (get_or ws c.args.index c.index-document.result.now)) c.args.self.now.at ≡ Some c.in-Some.line = search rules in
+    document_more here ws c.args.index c.index-document.result.now bodies c.args.self.now.at c.in-Some.line c.requires found
+    ∙ ap (bodies_from here rest (bodies ++ span c.args.self.now.origin c.args.self.now.at c.in-Some.line ∷ [])) (sym c.in-Some.ensures.past)

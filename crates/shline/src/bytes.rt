@@ -1,0 +1,240 @@
+//! The bytes of a text as they are read: continuations are removed (XCU 2.2.1).
+ghost use Rattle.std.specs.Prelude.{◌≡◌, ◌<◌, ◌≤◌, length, true, false, IfSome};
+ghost use Rattle.shgrammar.specs.Bytes.{behind, byte_at, ends_word, is_broken_at, past, past_blanks, past_continuations, stands, stands_in};
+ghost use Rattle.shgrammar.specs.Classes.{in_class};
+ghost use Rattle.shgrammar.specs.Shows.{IsRead};
+ghost use Rattle.shline.specs.Clauses.{Stays, text_of};
+ghost use Rattle.shgrammar.specs.Standing.{raw_in};
+
+use crate::cursor::Cursor;
+use shgrammar::{Class, ends_words};
+use shtext::Source;
+
+impl<'a, S: Source, const KEEP: u8> Cursor<'a, S, KEEP> {
+    /// The place past the continuations at a place. Most often none stands there.
+    #[inline(always)]
+    #[tactic(auto, using(shgrammar::proofs::Stretches::joined_none))]
+    pub(crate) fn place(&self, from: usize) -> usize
+        requires { from ≤ length (text_of S.bytes self.now) }
+        ensures value { result ≡ past_continuations (text_of S.bytes self.now) from }
+        ensures inside { (from ≤ result) × (result ≤ length (text_of S.bytes self.now)) }
+        ensures still { past_continuations (text_of S.bytes self.now) result ≡ result }
+    {
+        if self.continues(from) {
+            return self.past_continuations(from);
+        }
+        from
+    }
+
+    /// The place past the continuations here.
+    #[inline(always)]
+    pub(crate) fn place_here(&self) -> usize
+        ensures value { result ≡ past_continuations (text_of S.bytes self.now) self.now.at }
+        ensures inside { (self.now.at ≤ result) × (result ≤ length (text_of S.bytes self.now)) }
+        ensures still { past_continuations (text_of S.bytes self.now) result ≡ result }
+    {
+        self.place(self.at)
+    }
+
+    /// The place past the continuations at a place.
+    #[cold]
+    #[tactic(auto, using(shgrammar::proofs::Stretches::joined_more, shgrammar::proofs::Stretches::joined_none))]
+    fn past_continuations(&self, from: usize) -> usize
+        requires { from ≤ length (text_of S.bytes self.now) }
+        ensures value { result ≡ past_continuations (text_of S.bytes self.now) from }
+        ensures inside { (from ≤ result) × (result ≤ length (text_of S.bytes self.now)) }
+        ensures still { past_continuations (text_of S.bytes self.now) result ≡ result }
+    {
+        let mut at = from;
+        'continuations: while self.continues(at) {
+            at += 2;
+        }
+        at
+    }
+
+    /// The byte that is read at a place, or `None` at the end. Only behind a backslash another byte may be meant.
+    #[inline(always)]
+    #[tactic(auto, using(shgrammar::proofs::Stretches::raw_stays))]
+    pub(crate) fn byte_at(&self, at: usize) -> Option<u8>
+        requires { at ≤ length (text_of S.bytes self.now) }
+        ensures value { result ≡ byte_at (text_of S.bytes self.now) at }
+        ensures inside { IfSome result (λ b. IsRead (text_of S.bytes self.now) at) }
+    {
+        if self.raw_stands(at, b'\\') {
+            return self.raw_byte(self.place(at));
+        }
+        self.raw_byte(at)
+    }
+
+    /// The byte that is read here, or `None` at the end.
+    #[inline(always)]
+    pub(crate) fn byte(&self) -> Option<u8>
+        ensures value { result ≡ byte_at (text_of S.bytes self.now) self.now.at }
+        ensures inside { IfSome result (λ b. IsRead (text_of S.bytes self.now) self.now.at) }
+    {
+        self.byte_at(self.at)
+    }
+
+    /// The place behind the byte that is read at a place.
+    #[inline(always)]
+    #[tactic(auto, unfolding(shgrammar::specs::Bytes::behind))]
+    pub(crate) fn behind(&self, at: usize) -> usize
+        requires within { at ≤ length (text_of S.bytes self.now) }
+        requires some { IsRead (text_of S.bytes self.now) at }
+        ensures value { result ≡ behind (text_of S.bytes self.now) at }
+        ensures past { past_continuations (text_of S.bytes self.now) at < result }
+        ensures inside { (at < result) × (result ≤ length (text_of S.bytes self.now)) }
+    {
+        self.place(at) + 1
+    }
+
+    /// One byte on.
+    #[inline(always)]
+    pub(crate) fn bump(&mut self)
+        requires { IsRead (text_of S.bytes self.old) self.old.at }
+        ensures value { self.new.at ≡ behind (text_of S.bytes self.old) self.old.at }
+        ensures onward { self.old.at < self.new.at }
+        ensures past { past_continuations (text_of S.bytes self.old) self.old.at < self.new.at }
+        ensures same { Stays self.old self.new }
+    {
+        let at = self.at;
+        self.at = self.behind(at);
+    }
+
+    /// The same, where no continuation stands: at the first byte of a token.
+    #[inline(always)]
+    #[tactic(auto, unfolding(shgrammar::specs::Bytes::behind))]
+    pub(crate) fn step(&mut self)
+        requires still { past_continuations (text_of S.bytes self.old) self.old.at ≡ self.old.at }
+        requires some { IsRead (text_of S.bytes self.old) self.old.at }
+        ensures value { self.new.at ≡ behind (text_of S.bytes self.old) self.old.at }
+        ensures onward { self.old.at < self.new.at }
+        ensures past { past_continuations (text_of S.bytes self.old) self.old.at < self.new.at }
+        ensures same { Stays self.old self.new }
+    {
+        self.at += 1;
+    }
+
+    /// Whether this byte is read at a place.
+    #[inline(always)]
+    #[tactic(auto, unfolding(shgrammar::specs::Bytes::stands))]
+    pub(crate) fn stands(&self, at: usize, byte: u8) -> bool
+        requires { at ≤ length (text_of S.bytes self.now) }
+        ensures value { result ≡ stands (text_of S.bytes self.now) at byte }
+        ensures inside { result ≡ true → IsRead (text_of S.bytes self.now) at }
+    {
+        match self.byte_at(at) {
+            Some(found) => found == byte,
+            None => false,
+        }
+    }
+
+    /// Whether this byte is read here.
+    #[inline(always)]
+    pub(crate) fn is_at(&self, byte: u8) -> bool
+        ensures value { result ≡ stands (text_of S.bytes self.now) self.now.at byte }
+        ensures inside { result ≡ true → IsRead (text_of S.bytes self.now) self.now.at }
+    {
+        self.stands(self.at, byte)
+    }
+
+    /// Whether this byte is read behind the one here.
+    #[inline(always)]
+    pub(crate) fn is_next(&self, byte: u8) -> bool
+        requires { IsRead (text_of S.bytes self.now) self.now.at }
+        ensures value { result ≡ stands (text_of S.bytes self.now) (behind (text_of S.bytes self.now) self.now.at) byte }
+        ensures inside { result ≡ true → IsRead (text_of S.bytes self.now) (behind (text_of S.bytes self.now) self.now.at) }
+    {
+        self.stands(self.behind(self.at), byte)
+    }
+
+    /// Whether a byte of this class is read at a place.
+    #[inline(always)]
+    #[tactic(auto, unfolding(shgrammar::specs::Bytes::stands_in))]
+    pub(crate) fn stands_in(&self, at: usize, class: Class) -> bool
+        requires { at ≤ length (text_of S.bytes self.now) }
+        ensures value { result ≡ stands_in (in_class class) (text_of S.bytes self.now) at }
+        ensures inside { result ≡ true → IsRead (text_of S.bytes self.now) at }
+    {
+        match self.byte_at(at) {
+            Some(byte) => class.has(byte),
+            None => false,
+        }
+    }
+
+    /// The place behind the bytes of this class from a place on. Most often no continuation stands among them.
+    #[inline(always)]
+    #[tactic(auto, using(shgrammar::proofs::Unbroken::past_raw, shgrammar::proofs::Unbroken::past_whole, shgrammar::proofs::Unbroken::raw_stops, shgrammar::proofs::Unbroken::none_here))]
+    pub(crate) fn past(&self, from: usize, class: Class) -> usize
+        requires { from ≤ length (text_of S.bytes self.now) }
+        ensures value { result ≡ past (in_class class) (text_of S.bytes self.now) from }
+        ensures inside { (from ≤ result) × (result ≤ length (text_of S.bytes self.now)) }
+        ensures other { stands_in (in_class class) (text_of S.bytes self.now) result ≡ false }
+    {
+        let end = self.raw_past(from, class);
+        if self.continues(end) {
+            return self.past_joined(end, class);
+        }
+        end
+    }
+
+    /// The place behind the bytes of this class from a place on where none stands, unless past continuations.
+    #[cold]
+    #[tactic(auto, using(shgrammar::proofs::Unbroken::joined_on, shgrammar::proofs::Unbroken::joined_here, shgrammar::proofs::Unbroken::raw_stops, shgrammar::proofs::Unbroken::none_here, shgrammar::proofs::Stretches::past_none))]
+    fn past_joined(&self, from: usize, class: Class) -> usize
+        requires within { from ≤ length (text_of S.bytes self.now) }
+        requires none { raw_in (in_class class) (text_of S.bytes self.now) from ≡ false }
+        ensures value { result ≡ past (in_class class) (text_of S.bytes self.now) from }
+        ensures inside { (from ≤ result) × (result ≤ length (text_of S.bytes self.now)) }
+        ensures other { stands_in (in_class class) (text_of S.bytes self.now) result ≡ false }
+    {
+        let mut at = from;
+        'joined: while self.continues(at) {
+            let next = self.past_continuations(at);
+            if !self.raw_in(next, class) {
+                return at;
+            }
+            at = self.raw_past(next, class);
+        }
+        at
+    }
+
+    /// The place where the next token begins, and whether a continuation stands among the blanks before it.
+    #[inline(always)]
+    #[tactic(auto, unfolding(shgrammar::specs::Bytes::is_broken_at), using(shgrammar::proofs::Unbroken::blanks_whole, shgrammar::proofs::Unbroken::blanks_on, shgrammar::proofs::Unbroken::blanks_stop_raw))]
+    pub(crate) fn past_blanks(&self, from: usize) -> (usize, bool)
+        requires { from ≤ length (text_of S.bytes self.now) }
+        ensures place { result.0 ≡ past_blanks (text_of S.bytes self.now) from }
+        ensures broken { result.1 ≡ is_broken_at (text_of S.bytes self.now) from }
+        ensures inside { (from ≤ result.0) × (result.0 ≤ length (text_of S.bytes self.now)) }
+    {
+        let end = self.raw_past(from, Class::Blank);
+        if !self.continues(end) {
+            return (end, false);
+        }
+        (self.place(self.past_joined(end, Class::Blank)), true)
+    }
+
+    /// Whether a word ends at a place.
+    #[inline(always)]
+    #[tactic(auto, unfolding(shgrammar::specs::Bytes::ends_word))]
+    pub(crate) fn ends_at(&self, at: usize) -> bool
+        requires { at ≤ length (text_of S.bytes self.now) }
+        ensures value { result ≡ ends_word (text_of S.bytes self.now) at }
+        ensures inside { result ≡ false → IsRead (text_of S.bytes self.now) at }
+    {
+        match self.byte_at(at) {
+            Some(byte) => ends_words(byte),
+            None => true,
+        }
+    }
+
+    /// Whether a word ends here.
+    #[inline(always)]
+    pub(crate) fn ends_word(&self) -> bool
+        ensures value { result ≡ ends_word (text_of S.bytes self.now) self.now.at }
+        ensures inside { result ≡ false → IsRead (text_of S.bytes self.now) self.now.at }
+    {
+        self.ends_at(self.at)
+    }
+}

@@ -1,0 +1,349 @@
+//! Here-documents: those that wait, and their bodies (XCU 2.7.4).
+ghost use Rattle.std.specs.Prelude.{◌≡◌, ◌+◌, ◌<◌, ◌≤◌, ◌==◌, ◌&&◌, All, bytes_eq, fold, nat_lt, not, [], map, IfErr, IfOk, IfSome, List as Row, ◌∷◌, ◌++◌, length, option_map, drop, ◌-◌, true, false};
+ghost use Rattle.shline.specs.Clauses.{BodiesFail, BodyRead, end_of, Keeps, Reads, state_of, text_of, view_waiting};
+ghost use Rattle.shgrammar.specs.Commands.{a_document, is_strip, nothing_waits, takes_here};
+ghost use Rattle.shgrammar.specs.Form.{change, raw};
+ghost use Rattle.shgrammar.specs.HereDocuments.{bodies_from, bodies_here, delimiter_from, first_waiting, is_delimiter, own_level, past_line, rest_of_line, takes_newline};
+ghost use Rattle.shgrammar.specs.Sights.{given};
+ghost use Rattle.shgrammar.specs.Standing.{next_newline, raw_stands};
+ghost use Rattle.shast.specs.View.{view_here};
+
+use crate::cursor::Cursor;
+use crate::search::Sought;
+use crate::stop::Stop;
+use shast::{HereDocument, RedirectOperator, Span};
+use shgrammar::{Class, Fault, FaultKind, delimiter_of};
+use shtext::Source;
+use std::alloc::{AllocError, Global};
+use std::mem;
+
+/// A here-document that waits for the next newline token.
+#[derive(Drop)]
+pub(crate) struct Waiting {
+    /// The offset of its operator.
+    pub(crate) operator: usize,
+    pub(crate) delimiter: Vec<u8>,
+    /// A part of its delimiter is quoted: nothing is expanded in it.
+    pub(crate) literal: bool,
+    /// Leading tabs are taken off its lines.
+    pub(crate) strip: bool,
+}
+
+/// The here-documents of a script level: those that wait, and the bodies that were read so far, in the order of the operators.
+#[derive(Drop)]
+pub(crate) struct Documents {
+    pub(crate) waiting: Vec<Waiting>,
+    pub(crate) bodies: Vec<Span>,
+}
+
+impl Documents {
+    /// None yet.
+    pub(crate) fn new(alloc: Global) -> Documents
+        ensures { (result.waiting.items ≡ []) × (result.bodies.items ≡ []) }
+    {
+        Documents {
+            waiting: Vec::new(alloc),
+            bodies: Vec::new(alloc),
+        }
+    }
+}
+
+/// Whether a here-document belongs to it.
+fn takes_here(operator: RedirectOperator) -> bool
+    ensures { result ≡ takes_here operator }
+{
+    matches!(
+        operator,
+        RedirectOperator::Here | RedirectOperator::HereStripped
+    )
+}
+
+/// Whether it takes tabs off the lines of its here-document.
+pub(crate) fn is_strip(operator: RedirectOperator) -> bool
+    ensures { result ≡ is_strip operator }
+{
+    matches!(operator, RedirectOperator::HereStripped)
+}
+
+impl<'a, S: Source, const KEEP: u8> Cursor<'a, S, KEEP> {
+    /// The operator of the first here-document that waits.
+    #[inline(always)]
+    pub(crate) fn first_waiting(&self) -> Option<usize>
+        ensures value { result ≡ first_waiting (state_of self.now) }
+        ensures within { IfSome result (λ operator. operator ≤ end_of S.bytes self.now) }
+    {
+        if self.documents.waiting.is_empty() {
+            return None;
+        }
+        Some(self.documents.waiting[0].operator)
+    }
+
+    /// Refuses that a level ends here where a here-document waits.
+    #[inline(always)]
+    #[tactic(auto, unfolding(shgrammar::specs::Commands::nothing_waits))]
+    pub(crate) fn nothing_waits(&self) -> Result<(), Stop>
+        ensures { Reads S.bytes self.now nothing_waits result (λ done. tt) (state_of self.now) }
+    {
+        match self.first_waiting() {
+            Some(operator) => Err(Stop::Wrong(Fault {
+                kind: FaultKind::UnclosedHere,
+                at: operator,
+            })),
+            None => Ok(()),
+        }
+    }
+
+    /// Begins a level of its own, and answers the documents of the one around it.
+    pub(crate) fn open_level(&mut self, alloc: Global) -> Documents
+        ensures level { state_of self.new ≡ own_level (state_of self.old) }
+        ensures outer { result ≡ self.old.documents }
+        ensures same { Keeps self.old self.new }
+    {
+        mem::replace(&mut self.documents, Documents::new(alloc))
+    }
+
+    /// Ends it, and answers the bodies that were read in it.
+    pub(crate) fn close_level(&mut self, outer: Documents) -> Vec<Span>
+        requires { All (λ w. w.operator ≤ end_of S.bytes self.old) outer.waiting.items }
+        ensures bodies { result.items ≡ self.old.documents.bodies.items }
+        ensures place { self.new.at ≡ self.old.at }
+        ensures outer { self.new.documents ≡ outer }
+        ensures same { Keeps self.old self.new }
+    {
+        mem::replace(&mut self.documents, outer).bodies
+    }
+
+    /// The bytes from a place up to this one.
+    #[tactic(auto, using(crate::proofs::Awaited::raw_some, crate::proofs::Awaited::raw_nothing))]
+    fn bytes_from(&self, alloc: Global, start: usize) -> Result<Vec<u8>, AllocError>
+        requires { start ≤ self.now.at }
+        ensures { IfOk result (λ bytes. bytes.items ≡ raw (text_of S.bytes self.now) start self.now.at) }
+    {
+        let mut bytes = Vec::with_capacity(alloc, self.at - start)?;
+        let mut at = start;
+        'bytes: while at < self.at {
+            if let Some(byte) = self.raw_byte(at) {
+                bytes.push(byte)?;
+            }
+            at += 1;
+        }
+        Ok(bytes)
+    }
+
+    /// The here-document of an operator that stands at an offset, if it takes one. Its word stands from a place up to this one.
+    #[tactic(auto, unfolding(shgrammar::specs::Commands::a_document))]
+    pub(crate) fn document(
+        &mut self,
+        alloc: Global,
+        operator: RedirectOperator,
+        mark: usize,
+        start: usize,
+    ) -> Result<Option<HereDocument>, Stop>
+        requires word { start ≤ self.old.at }
+        requires mark { mark ≤ end_of S.bytes self.old }
+        ensures value { Reads S.bytes self.old (a_document operator mark (self.old.origin + start) (raw (text_of S.bytes self.old) start self.old.at)) result
+            (option_map view_here) (state_of self.new) }
+        ensures place { self.new.at ≡ self.old.at }
+        ensures same { Keeps self.old self.new }
+    {
+        if !takes_here(operator) {
+            return Ok(None);
+        }
+        let word = self.bytes_from(alloc, start)?;
+        let Some(delimiter) = delimiter_of(alloc, &word)? else {
+            return Err(self.wrong_at(FaultKind::BadHereWord, start));
+        };
+        let literal = delimiter.literal;
+        let strip = is_strip(operator);
+        self.documents.waiting.push(Waiting {
+            operator: mark,
+            delimiter: delimiter.text,
+            literal,
+            strip,
+        })?;
+        Ok(Some(HereDocument {
+            literal,
+            strip,
+            body: Span { start: 0, end: 0 },
+        }))
+    }
+
+    /// Whether these bytes stand from one place up to another.
+    #[tactic(auto, using(crate::proofs::Awaited::bytes_more, crate::proofs::Awaited::bytes_other, crate::proofs::Awaited::bytes_end, crate::proofs::Awaited::bytes_short, crate::proofs::Awaited::bytes_long))]
+    fn are_bytes(&self, from: usize, end: usize, bytes: &[u8]) -> bool
+        requires { (from ≤ end) × (end ≤ length (text_of S.bytes self.now)) }
+        ensures { result ≡ bytes_eq (raw (text_of S.bytes self.now) from end) bytes.now }
+    {
+        if end - from != bytes.len() {
+            return false;
+        }
+        'bytes: for (index, byte) in bytes.iter().enumerate() {
+            if !self.raw_stands(from + index, *byte) {
+                return false;
+            }
+        }
+        true
+    }
+
+    /// Whether the line from a place up to its end is the delimiter's.
+    #[tactic(auto, using(crate::proofs::Awaited::stripped_line, crate::proofs::Awaited::tabs_before))]
+    fn is_delimiter(&self, document: &Waiting, from: usize, end: usize) -> bool
+        requires { (from ≤ length (text_of S.bytes self.now)) × (end ≡ next_newline (text_of S.bytes self.now) from) × (end ≤ length (text_of S.bytes self.now)) × (from ≤ end) }
+        ensures { result ≡ is_delimiter (view_waiting document.now) (rest_of_line (text_of S.bytes self.now) from) }
+    {
+        if document.strip {
+            return self.are_bytes(self.raw_past(from, Class::Tab), end, &document.delimiter);
+        }
+        self.are_bytes(from, end, &document.delimiter)
+    }
+
+    /// Whether this line ends a document; one that the line before takes in does not.
+    fn ends_here(&self, document: &Waiting, taken: bool, from: usize, end: usize) -> bool
+        requires { (from ≤ length (text_of S.bytes self.now)) × (end ≡ next_newline (text_of S.bytes self.now) from) × (end ≤ length (text_of S.bytes self.now)) × (from ≤ end) }
+        ensures { result ≡ (not taken && is_delimiter (view_waiting document.now) (rest_of_line (text_of S.bytes self.now) from)) }
+    {
+        !taken && self.is_delimiter(document, from, end)
+    }
+
+    /// Whether a backslash stands before a place, and not before that other one.
+    fn is_backslash_before(&self, from: usize, at: usize) -> bool
+        requires { at ≤ length (text_of S.bytes self.now) }
+        ensures value { result ≡ (nat_lt from at && raw_stands (text_of S.bytes self.now) (at - 1) 92) }
+        ensures some { result ≡ true → from < at }
+    {
+        from < at && self.raw_stands(at - 1, b'\\')
+    }
+
+    /// Whether the bytes from one place up to another end in an odd number of backslashes.
+    #[tactic(auto, using(crate::proofs::Awaited::odd_more, crate::proofs::Awaited::odd_stops))]
+    fn ends_odd(&self, from: usize, end: usize) -> bool
+        requires { (from ≤ end) × (end ≤ length (text_of S.bytes self.now)) }
+        ensures { result ≡ fold (λ odd b. b == 92 && not odd) false (raw (text_of S.bytes self.now) from end) }
+    {
+        let mut at = end;
+        let mut odd = false;
+        'backslashes: while self.is_backslash_before(from, at) {
+            at -= 1;
+            odd = !odd;
+        }
+        odd
+    }
+
+    /// Whether a line takes in the one behind it.
+    fn takes_newline(&self, document: &Waiting, from: usize, end: usize) -> bool
+        requires { (from ≤ end) × (end ≡ next_newline (text_of S.bytes self.now) from) × (end ≤ length (text_of S.bytes self.now)) }
+        ensures { result ≡ takes_newline (view_waiting document.now) (rest_of_line (text_of S.bytes self.now) from) }
+    {
+        !document.literal && self.ends_odd(from, end)
+    }
+
+    /// The end of the line at a place, and the place behind it.
+    #[tactic(auto, using(shgrammar::proofs::Places::not_end_low, shgrammar::proofs::Places::end_high))]
+    fn line_end(&self, from: usize) -> (usize, usize)
+        requires { from ≤ length (text_of S.bytes self.now) }
+        ensures end { result.0 ≡ next_newline (text_of S.bytes self.now) from }
+        ensures next { result.1 ≡ past_line (text_of S.bytes self.now) from }
+        ensures inside { (from ≤ result.0) × (result.0 ≤ result.1) × (result.1 ≤ length (text_of S.bytes self.now)) }
+    {
+        let end = self.find(Sought::Byte(b'\n'), from);
+        if self.at_end(end) {
+            return (end, end);
+        }
+        (end, end + 1)
+    }
+
+    /// Where the line begins that ends a document whose body begins at a place, and the place behind that line.
+    #[tactic(auto, using(shgrammar::proofs::Delimiters::none_at_end, shgrammar::proofs::Delimiters::found_here, shgrammar::proofs::Delimiters::on_to_next, shgrammar::proofs::Delimiters::past_line_low))]
+    fn delimiter_line(&self, document: &Waiting, from: usize) -> Option<(usize, usize)>
+        requires { from ≤ length (text_of S.bytes self.now) }
+        ensures value { option_map (λ x. x.0) result ≡ delimiter_from (text_of S.bytes self.now) (view_waiting document.now) from }
+        ensures place { IfSome result (λ x. (from ≤ x.0) × (x.0 ≤ x.1) × (x.1 ≤ length (text_of S.bytes self.now))) }
+        ensures past { IfSome result (λ x. x.1 ≡ past_line (text_of S.bytes self.now) x.0) }
+    {
+        let mut at = from;
+        let mut taken = false;
+        'lines: while !self.at_end(at) {
+            let (end, next) = self.line_end(at);
+            if self.ends_here(document, taken, at, end) {
+                return Some((at, next));
+            }
+            taken = self.takes_newline(document, at, end);
+            at = next;
+        }
+        None
+    }
+
+    /// The body of a document that waits, which begins here, and the place behind its delimiter's line.
+    #[tactic(auto, using(crate::proofs::Awaited::document_missing))]
+    fn body_of(&self, index: usize) -> Result<(Span, usize), Stop>
+        requires { index < length self.now.documents.waiting.items }
+        ensures read { IfOk result (λ x. (bodies : Row Span) →
+            bodies_from (given (text_of S.bytes self.now) self.now.origin) (drop index (map view_waiting self.now.documents.waiting.items)) bodies self.now.at
+            ≡ bodies_from (given (text_of S.bytes self.now) self.now.origin) (drop (index + 1) (map view_waiting self.now.documents.waiting.items)) (bodies ++ x.0 ∷ []) x.1) }
+        ensures wrong { IfErr result (λ e. (bodies : Row Span) →
+            BodiesFail (end_of S.bytes self.now) e
+            (bodies_from (given (text_of S.bytes self.now) self.now.origin) (drop index (map view_waiting self.now.documents.waiting.items)) bodies self.now.at)) }
+        ensures onward { IfOk result (λ x. (self.now.at ≤ x.1) × (x.1 ≤ length (text_of S.bytes self.now))) }
+    {
+        let document = &self.documents.waiting[index];
+        let Some((line, next)) = self.delimiter_line(document, self.at) else {
+            return Err(Stop::Wrong(Fault {
+                kind: FaultKind::UnclosedHere,
+                at: document.operator,
+            }));
+        };
+        let body = Span {
+            start: self.origin + self.at,
+            end: self.origin + line,
+        };
+        Ok((body, next))
+    }
+
+    /// The body of one document that waits, which begins here.
+    fn one_body(&mut self, index: usize) -> Result<(), Stop>
+        requires { index < length self.old.documents.waiting.items }
+        ensures read { BodyRead (end_of S.bytes self.old) result
+            (bodies_from (given (text_of S.bytes self.old) self.old.origin) (drop index (map view_waiting self.old.documents.waiting.items)) self.old.documents.bodies.items self.old.at)
+            (bodies_from (given (text_of S.bytes self.old) self.old.origin) (drop (index + 1) (map view_waiting self.old.documents.waiting.items)) self.new.documents.bodies.items self.new.at) }
+        ensures waiting { IfOk result (λ done. self.new.documents.waiting ≡ self.old.documents.waiting) }
+        ensures onward { IfOk result (λ done. self.old.at ≤ self.new.at) }
+        ensures same { Keeps self.old self.new }
+    {
+        let found = self.body_of(index)?;
+        self.documents.bodies.push(found.0)?;
+        self.at = found.1;
+        Ok(())
+    }
+
+    /// The bodies of the documents that wait, which begin here. None waits any more.
+    #[inline(never)]
+    #[tactic(auto, using(crate::proofs::Awaited::bodies_read, crate::proofs::Awaited::bodies_stop))]
+    pub(crate) fn bodies(&mut self) -> Result<(), Stop>
+        ensures value { Reads S.bytes self.old (change bodies_here) result (λ done. tt) (state_of self.new) }
+        ensures onward { IfOk result (λ done. self.old.at ≤ self.new.at) }
+        ensures same { Keeps self.old self.new }
+    {
+        let mut index = 0;
+        'documents: while index < self.documents.waiting.len() {
+            self.one_body(index)?;
+            index += 1;
+        }
+        self.documents.waiting.clear();
+        Ok(())
+    }
+
+    /// The same; most often none waits.
+    #[inline(always)]
+    #[tactic(auto, using(crate::proofs::Awaited::none_awaited))]
+    pub(crate) fn bodies_here(&mut self) -> Result<(), Stop>
+        ensures value { Reads S.bytes self.old (change bodies_here) result (λ done. tt) (state_of self.new) }
+        ensures onward { IfOk result (λ done. self.old.at ≤ self.new.at) }
+        ensures same { Keeps self.old self.new }
+    {
+        if self.documents.waiting.is_empty() {
+            return Ok(());
+        }
+        self.bodies()?;
+        Ok(())
+    }
+}

@@ -1,0 +1,37 @@
+//! How one line of a script is read: its bytes, its tokens, its words and its commands, into a tree.
+//!
+//! Start with [`line_at`], which the reader of the crate `shread` calls for each top-level line. `Cursor` is a place in a
+//! text; what reads a row of the grammar is a method of it, named as the row is and in a file of its own. What is read is told by the
+//! definitions of the crate `shgrammar`; `specs/Clauses` says in their words what a function here answers.
+#![tactic(auto)]
+
+mod and_or;
+mod between;
+mod bytes;
+mod case;
+mod command;
+mod comment;
+mod compound;
+mod cursor;
+mod documents;
+mod for_loop;
+mod function;
+mod join;
+mod line;
+mod list;
+mod offsets;
+mod piece;
+mod pipeline;
+mod plain;
+mod redirect;
+mod search;
+mod standing;
+mod stop;
+mod substitution;
+mod token;
+mod told;
+mod word;
+
+pub use cursor::{KEPT, SEEN};
+pub use stop::Stop;
+pub use told::{Told, line_at};

@@ -1,0 +1,262 @@
+//! Lists: entries on one line or on many (XCU 2.9.3, 2.10.2).
+ghost use Rattle.std.specs.Prelude.{◌≡◌, ◌≤◌, IfOk, false};
+ghost use Rattle.shline.specs.Clauses.{Keeps, Onward, Reads, state_of, Stays, text_of};
+ghost use Rattle.shgrammar.specs.Shows.{Shows};
+ghost use Rattle.shgrammar.specs.Commands.{past_separator};
+ghost use Rattle.shgrammar.specs.Compounds.{a_body};
+ghost use Rattle.shgrammar.specs.Form.{many, step_if};
+ghost use Rattle.shgrammar.specs.Levels.{level};
+ghost use Rattle.shline.specs.Listed.{view_listed};
+ghost use Rattle.shgrammar.specs.Lists.{a_list, a_remark, entry_turn, list_so, list_turn, next_line, none_listed, on_line};
+ghost use Rattle.shast.specs.View.{view_list};
+
+use crate::cursor::Cursor;
+use crate::stop::Stop;
+use shast::make::{command_entry, comment_entry, list_of};
+use shast::{Entry, List};
+use shgrammar::{Next, Separator};
+use shtext::Source;
+use std::alloc::Global;
+use std::mem;
+
+/// The entries of a list so far.
+#[derive(Drop)]
+pub(crate) struct Listed {
+    pub(crate) entries: Vec<Entry>,
+    /// The next line's first entry is blank.
+    pub(crate) blank: bool,
+    /// One of them stands on this line.
+    pub(crate) begun: bool,
+    /// One of them is a command.
+    pub(crate) commands: bool,
+    /// The offset behind the separator of the last command, where it has one.
+    pub(crate) parted: Option<usize>,
+}
+
+/// The offset behind a separator.
+#[inline(always)]
+fn past_separator(separator: Option<(Separator, usize)>) -> Option<usize>
+    ensures { result ≡ past_separator separator }
+{
+    match separator {
+        Some((_, end)) => Some(end),
+        None => None,
+    }
+}
+
+impl Listed {
+    /// No entry yet, on a line whose first entry may be blank.
+    pub(crate) fn new(alloc: Global, blank: bool) -> Listed
+        ensures { view_listed result ≡ none_listed blank }
+    {
+        Listed {
+            entries: Vec::new(alloc),
+            blank,
+            begun: false,
+            commands: false,
+            parted: None,
+        }
+    }
+
+    /// Behind a newline: a line without entries makes the next entry blank, if one stands before it.
+    fn next_line(&mut self)
+        ensures { view_listed self.new ≡ next_line (view_listed self.old) }
+    {
+        self.blank = !self.begun && !self.entries.is_empty();
+        self.begun = false;
+    }
+}
+
+impl<'a, S: Source, const KEEP: u8> Cursor<'a, S, KEEP> {
+    /// One more entry of a line, if the token here begins one: a command, with what parts it from the next one, and the comment behind
+    /// it on its line. Answers whether another may follow.
+    #[cycle(commands)]
+    #[inline(always)]
+    #[tactic(auto, unfolding(shgrammar::specs::Lists::entry_turn, shgrammar::specs::Lists::one_entry, shgrammar::specs::Commands::an_entry))]
+    fn next_entry(
+        &mut self,
+        alloc: Global,
+        next: &mut Next,
+        listed: &mut Listed,
+        room: usize,
+    ) -> Result<bool, Stop>
+        requires shows { Shows next.old.token (text_of S.bytes self.old) self.old.at }
+        ensures value { Reads S.bytes self.old (entry_turn (level room) (list_so (view_listed listed.old) next.old)) result
+            (λ more. step_if more (list_so (view_listed listed.new) next.new)) (state_of self.new) }
+        ensures shows { IfOk result (λ more. Shows next.new.token (text_of S.bytes self.old) self.new.at) }
+        ensures onward { IfOk result (Onward self.old.at self.new.at) }
+        ensures same { Keeps self.old self.new }
+    {
+        if !next.token.begins_pipeline() {
+            return Ok(false);
+        }
+        let blank = listed.blank && !listed.begun;
+        let and_or = self.and_or(alloc, next, room)?;
+        let separator = self.separator(next);
+        let comment = self.remark(next);
+        listed.begun = true;
+        listed.commands = true;
+        listed.parted = past_separator(separator);
+        if self.grows() {
+            let background = matches!(separator, Some((Separator::Ampersand, _)));
+            listed
+                .entries
+                .push(command_entry(and_or, background, blank, comment))?;
+        } else {
+            // It holds no memory, and what is not dropped needs not be made.
+            mem::forget(and_or);
+        }
+        Ok(separator.is_some())
+    }
+
+    /// All of them.
+    #[cycle(commands)]
+    #[tactic(auto, using(shgrammar::proofs::Turns::many_again, shgrammar::proofs::Turns::many_done, crate::proofs::Stops::many_stop, shgrammar::proofs::Turns::last_entry))]
+    fn entries(
+        &mut self,
+        alloc: Global,
+        next: &mut Next,
+        listed: &mut Listed,
+        room: usize,
+    ) -> Result<(), Stop>
+        requires shows { Shows next.old.token (text_of S.bytes self.old) self.old.at }
+        ensures value { Reads S.bytes self.old (many (entry_turn (level room)) (list_so (view_listed listed.old) next.old)) result
+            (λ done. list_so (view_listed listed.new) next.new) (state_of self.new) }
+        ensures shows { IfOk result (λ done. Shows next.new.token (text_of S.bytes self.old) self.new.at) }
+        ensures onward { IfOk result (λ done. self.old.at ≤ self.new.at) }
+        ensures same { Keeps self.old self.new }
+    {
+        'turns: while self.next_entry(alloc, next, listed, room)? && next.token.begins_pipeline() {}
+        Ok(())
+    }
+
+    /// The comment of a line without entries, or behind its last separator, as an entry.
+    #[inline(always)]
+    #[tactic(auto, unfolding(shgrammar::specs::Lists::a_remark))]
+    fn own_comment(&mut self, next: &mut Next, listed: &mut Listed) -> Result<(), Stop>
+        requires shows { Shows next.old.token (text_of S.bytes self.old) self.old.at }
+        ensures value { Reads S.bytes self.old (a_remark (list_so (view_listed listed.old) next.old)) result
+            (λ done. list_so (view_listed listed.new) next.new) (state_of self.new) }
+        ensures shows { IfOk result (λ done. Shows next.new.token (text_of S.bytes self.old) self.new.at) }
+        ensures onward { IfOk result (λ done. self.old.at ≤ self.new.at) }
+        ensures same { Stays self.old self.new }
+    {
+        if let Some(comment) = self.remark(next) {
+            let blank = listed.blank && !listed.begun;
+            listed.begun = true;
+            if self.grows() {
+                listed.entries.push(comment_entry(comment, blank))?;
+            }
+        }
+        Ok(())
+    }
+
+    /// The entries and the comment of one line. Many lines of a list have neither: what holds the entries is called only for some.
+    #[cycle(commands)]
+    #[inline(always)]
+    #[tactic(auto, unfolding(shgrammar::specs::Lists::on_line), using(shgrammar::proofs::Turns::no_entries))]
+    pub(crate) fn on_line(
+        &mut self,
+        alloc: Global,
+        next: &mut Next,
+        listed: &mut Listed,
+        room: usize,
+    ) -> Result<(), Stop>
+        requires shows { Shows next.old.token (text_of S.bytes self.old) self.old.at }
+        ensures value { Reads S.bytes self.old (on_line (level room) (list_so (view_listed listed.old) next.old)) result
+            (λ done. list_so (view_listed listed.new) next.new) (state_of self.new) }
+        ensures shows { IfOk result (λ done. Shows next.new.token (text_of S.bytes self.old) self.new.at) }
+        ensures onward { IfOk result (λ done. self.old.at ≤ self.new.at) }
+        ensures same { Keeps self.old self.new }
+    {
+        if next.token.begins_pipeline() {
+            self.entries(alloc, next, listed, room)?;
+        }
+        self.own_comment(next, listed)?;
+        Ok(())
+    }
+
+    /// A line of a list. Answers whether another follows.
+    #[cycle(commands)]
+    #[inline(always)]
+    #[tactic(auto, unfolding(shgrammar::specs::Lists::list_turn))]
+    fn list_line(
+        &mut self,
+        alloc: Global,
+        next: &mut Next,
+        listed: &mut Listed,
+        room: usize,
+    ) -> Result<bool, Stop>
+        requires shows { Shows next.old.token (text_of S.bytes self.old) self.old.at }
+        ensures value { Reads S.bytes self.old (list_turn (level room) (list_so (view_listed listed.old) next.old)) result
+            (λ more. step_if more (list_so (view_listed listed.new) next.new)) (state_of self.new) }
+        ensures shows { IfOk result (λ more. Shows next.new.token (text_of S.bytes self.old) self.new.at) }
+        ensures onward { IfOk result (Onward self.old.at self.new.at) }
+        ensures same { Keeps self.old self.new }
+    {
+        self.on_line(alloc, next, listed, room)?;
+        let newline = self.newline(next)?;
+        listed.next_line();
+        Ok(newline)
+    }
+
+    /// All of them.
+    #[cycle(commands)]
+    #[tactic(auto, using(shgrammar::proofs::Turns::many_again, shgrammar::proofs::Turns::many_done, crate::proofs::Stops::many_stop))]
+    pub(crate) fn list_lines(
+        &mut self,
+        alloc: Global,
+        next: &mut Next,
+        listed: &mut Listed,
+        room: usize,
+    ) -> Result<(), Stop>
+        requires shows { Shows next.old.token (text_of S.bytes self.old) self.old.at }
+        ensures value { Reads S.bytes self.old (many (list_turn (level room)) (list_so (view_listed listed.old) next.old)) result
+            (λ done. list_so (view_listed listed.new) next.new) (state_of self.new) }
+        ensures shows { IfOk result (λ done. Shows next.new.token (text_of S.bytes self.old) self.new.at) }
+        ensures onward { IfOk result (λ done. self.old.at ≤ self.new.at) }
+        ensures same { Keeps self.old self.new }
+    {
+        'turns: while self.list_line(alloc, next, listed, room)? {}
+        Ok(())
+    }
+
+    /// The entries of the body of an item of a `case`, which may hold no command.
+    #[cycle(commands)]
+    #[tactic(auto, unfolding(shgrammar::specs::Compounds::a_body))]
+    pub(crate) fn body(
+        &mut self,
+        alloc: Global,
+        next: &mut Next,
+        room: usize,
+    ) -> Result<Listed, Stop>
+        requires shows { Shows next.old.token (text_of S.bytes self.old) self.old.at }
+        ensures value { Reads S.bytes self.old (a_body (level room) next.old) result
+            (λ listed. list_so (view_listed listed) next.new) (state_of self.new) }
+        ensures shows { IfOk result (λ listed. Shows next.new.token (text_of S.bytes self.old) self.new.at) }
+        ensures onward { IfOk result (λ listed. self.old.at ≤ self.new.at) }
+        ensures same { Keeps self.old self.new }
+    {
+        let mut listed = Listed::new(alloc, false);
+        self.list_lines(alloc, next, &mut listed, room)?;
+        Ok(listed)
+    }
+
+    /// A list that holds a command. It ends where no entry may begin; who reads it asks for what has to follow.
+    #[cycle(commands)]
+    #[tactic(auto, unfolding(shgrammar::specs::Lists::a_list))]
+    pub(crate) fn list(&mut self, alloc: Global, next: &mut Next, room: usize) -> Result<List, Stop>
+        requires shows { Shows next.old.token (text_of S.bytes self.old) self.old.at }
+        ensures value { Reads S.bytes self.old (a_list (level room) next.old) result (λ list. (view_list list, next.new)) (state_of self.new) }
+        ensures shows { IfOk result (λ list. Shows next.new.token (text_of S.bytes self.old) self.new.at) }
+        ensures onward { IfOk result (λ list. self.old.at ≤ self.new.at) }
+        ensures same { Keeps self.old self.new }
+    {
+        let mut listed = Listed::new(alloc, false);
+        self.list_lines(alloc, next, &mut listed, room)?;
+        if !listed.commands {
+            return Err(Stop::Wrong(self.what_is_wrong(alloc, next, room)?));
+        }
+        Ok(list_of(listed.entries))
+    }
+}

@@ -1,0 +1,221 @@
+//! Which piece of a word begins at a place, and the pieces that hold no others (XCU 2.2, 2.6).
+ghost use Rattle.std.specs.Prelude.{◌≡◌, ◌≢◌, ◌⊎◌, ◌+◌, ◌<◌, ◌≤◌, length, IfOk, Some, false, true};
+ghost use Rattle.shgrammar.specs.Bytes.{behind, ends, ends_word, past_continuations, stands};
+ghost use Rattle.shgrammar.specs.Shows.{IsRead};
+ghost use Rattle.shline.specs.Clauses.{Reads, state_of, Stays, text_of};
+ghost use Rattle.shgrammar.specs.Form.{step_if};
+ghost use Rattle.shgrammar.specs.Pieces.{bracket_by, byte_by, dollar_at, past_parameter, piece_at, rest_mode};
+ghost use Rattle.shgrammar.specs.Standing.{raw_stands};
+ghost use Rattle.shgrammar.specs.Words.{backquote_turn, backquoted, single};
+
+use crate::cursor::Cursor;
+use crate::search::Sought;
+use crate::stop::Stop;
+use shgrammar::{Class, FaultKind, Mode, Piece, ends_words};
+use shtext::Source;
+
+impl<'a, S: Source, const KEEP: u8> Cursor<'a, S, KEEP> {
+    /// What the `$` at a place begins.
+    #[inline(always)]
+    #[tactic(auto, unfolding(shgrammar::specs::Pieces::dollar_at, shgrammar::specs::Bytes::behind, shgrammar::specs::Bytes::stands))]
+    fn dollar(&self, here: usize) -> Piece
+        requires here { here ≡ past_continuations (text_of S.bytes self.now) self.now.at }
+        requires some { here < length (text_of S.bytes self.now) }
+        ensures value { result ≡ dollar_at (text_of S.bytes self.now) self.now.at }
+        ensures two { (result ≡ Piece.Pid) ⊎ (result ≡ Piece.Subst) ⊎ (result ≡ Piece.Arith) ⊎ (result ≡ Piece.Param) →
+            IsRead (text_of S.bytes self.now) (here + 1) }
+        ensures three { result ≡ Piece.Arith → IsRead (text_of S.bytes self.now) (behind (text_of S.bytes self.now) (here + 1)) }
+        ensures kinds { (result ≢ Piece.Closer) × (result ≢ Piece.Missing) × (result ≢ Piece.Escape) × (result ≢ Piece.Close) }
+    {
+        let next = here + 1;
+        match self.byte_at(next) {
+            Some(b'$') => Piece::Pid,
+            Some(b'(') => {
+                if self.stands(self.behind(next), b'(') {
+                    Piece::Arith
+                } else {
+                    Piece::Subst
+                }
+            }
+            Some(b'{') => Piece::Param,
+            _ => Piece::Ordinary,
+        }
+    }
+
+    /// What the `)` at a place is in arithmetic with so many brackets open.
+    #[inline(always)]
+    #[tactic(auto, unfolding(shgrammar::specs::Bytes::behind))]
+    fn bracket(&self, nested: usize, here: usize) -> Piece
+        requires here { here ≡ past_continuations (text_of S.bytes self.now) self.now.at }
+        requires some { here < length (text_of S.bytes self.now) }
+        ensures value { result ≡ bracket_by nested
+            (stands (text_of S.bytes self.now) (behind (text_of S.bytes self.now) self.now.at) 41) }
+        ensures closer { result ≡ Piece.Closer → IsRead (text_of S.bytes self.now) (here + 1) }
+        ensures close { result ≡ Piece.Close → 0 < nested }
+        ensures kinds { (result ≡ Piece.Closer) ⊎ (result ≡ Piece.Close) ⊎ (result ≡ Piece.BadClose) }
+    {
+        if nested > 0 {
+            return Piece::Close;
+        }
+        if self.stands(here + 1, b')') {
+            Piece::Closer
+        } else {
+            Piece::BadClose
+        }
+    }
+
+    /// The piece that a byte begins which is no backslash, no backquote and no `$`.
+    #[inline(always)]
+    fn byte_piece(&self, mode: Mode, nested: usize, byte: u8, here: usize) -> Piece
+        requires here { here ≡ past_continuations (text_of S.bytes self.now) self.now.at }
+        requires some { here < length (text_of S.bytes self.now) }
+        ensures value { result ≡ byte_by (text_of S.bytes self.now) self.now.at mode nested byte }
+        ensures closer { mode ≡ Mode.Arith → result ≡ Piece.Closer → IsRead (text_of S.bytes self.now) (here + 1) }
+        ensures close { result ≡ Piece.Close → 0 < nested }
+        ensures word { mode ≡ Mode.Plain → ends (Some byte) ≡ false → result ≢ Piece.Closer }
+        ensures kinds { (result ≢ Piece.Missing) × (result ≢ Piece.Escape)
+            × (result ≢ Piece.Pid) × (result ≢ Piece.Subst) × (result ≢ Piece.Arith) × (result ≢ Piece.Param) }
+    {
+        match byte {
+            b'"' => match mode {
+                Mode::Plain | Mode::Brace | Mode::DoubleBrace => Piece::Double,
+                Mode::Double => Piece::Closer,
+                Mode::Arith => Piece::Ordinary,
+            },
+            b'\'' => match mode {
+                Mode::Plain | Mode::Brace => Piece::Single,
+                Mode::Double | Mode::DoubleBrace | Mode::Arith => Piece::Ordinary,
+            },
+            b'}' => match mode {
+                Mode::Brace | Mode::DoubleBrace => Piece::Closer,
+                Mode::Plain | Mode::Double | Mode::Arith => Piece::Ordinary,
+            },
+            b'(' if mode == Mode::Arith => Piece::Open,
+            b')' if mode == Mode::Arith => self.bracket(nested, here),
+            _ if mode == Mode::Plain && ends_words(byte) => Piece::Closer,
+            _ => Piece::Ordinary,
+        }
+    }
+
+    /// The piece that begins here, with so many brackets open in arithmetic; its first byte is read at the place `here`.
+    #[inline(always)]
+    #[tactic(auto, unfolding(shgrammar::specs::Pieces::piece_at, shgrammar::specs::Standing::raw_stands, shgrammar::specs::Bytes::ends_word, shgrammar::specs::Bytes::behind))]
+    pub(crate) fn piece(&self, mode: Mode, nested: usize, here: usize) -> Piece
+        requires here { here ≡ past_continuations (text_of S.bytes self.now) self.now.at }
+        requires within { here ≤ length (text_of S.bytes self.now) }
+        ensures value { result ≡ piece_at (text_of S.bytes self.now) mode nested self.now.at }
+        ensures some { (result ≢ Piece.Missing) × ((mode ≢ Mode.Plain) ⊎ (result ≢ Piece.Closer)) →
+            here < length (text_of S.bytes self.now) }
+        ensures escape { result ≡ Piece.Escape → (here + 2 ≤ length (text_of S.bytes self.now)) ×
+            (raw_stands (text_of S.bytes self.now) here 92 ≡ true) }
+        ensures two { (result ≡ Piece.Pid) ⊎ (result ≡ Piece.Subst) ⊎ (result ≡ Piece.Arith) ⊎ (result ≡ Piece.Param) →
+            IsRead (text_of S.bytes self.now) (here + 1) }
+        ensures three { result ≡ Piece.Arith → IsRead (text_of S.bytes self.now) (behind (text_of S.bytes self.now) (here + 1)) }
+        ensures closer { mode ≡ Mode.Arith → result ≡ Piece.Closer → IsRead (text_of S.bytes self.now) (here + 1) }
+        ensures close { result ≡ Piece.Close → 0 < nested }
+        ensures word { mode ≡ Mode.Plain → ends_word (text_of S.bytes self.now) self.now.at ≡ false → result ≢ Piece.Closer }
+    {
+        match self.raw_byte(here) {
+            None => {
+                if mode == Mode::Plain {
+                    Piece::Closer
+                } else {
+                    Piece::Missing
+                }
+            }
+            Some(b'\\') => {
+                if self.at_end(here + 1) {
+                    Piece::LoneBackslash
+                } else {
+                    Piece::Escape
+                }
+            }
+            Some(b'`') => Piece::Backquote,
+            Some(b'$') => self.dollar(here),
+            Some(byte) => self.byte_piece(mode, nested, byte, here),
+        }
+    }
+
+    /// Passes the parameter of an expansion: a name, digits, a special parameter or nothing.
+    #[tactic(auto, unfolding(shgrammar::specs::Pieces::past_parameter, shgrammar::specs::Bytes::stands_in))]
+    pub(crate) fn parameter(&mut self)
+        ensures value { self.new.at ≡ past_parameter (text_of S.bytes self.old) self.old.at }
+        ensures onward { self.old.at ≤ self.new.at }
+        ensures same { Stays self.old self.new }
+    {
+        let at = self.at;
+        match self.byte_at(at) {
+            Some(b'a'..=b'z' | b'A'..=b'Z' | b'_') => self.at = self.past(at, Class::Name),
+            Some(b'0'..=b'9') => self.at = self.past(at, Class::Digit),
+            Some(b'@' | b'*' | b'#' | b'?' | b'-' | b'$' | b'!') => self.bump(),
+            _ => {}
+        }
+    }
+
+    /// How the rest of an expansion is read that opened in this mode.
+    #[tactic(auto, unfolding(shgrammar::specs::Pieces::rest_mode, shgrammar::specs::Bytes::stands))]
+    pub(crate) fn rest_mode(&self, mode: Mode) -> Mode
+        ensures { result ≡ rest_mode (text_of S.bytes self.now) mode self.now.at }
+    {
+        match self.byte() {
+            Some(b'#' | b'%') => Mode::Brace,
+            _ => mode.braces(),
+        }
+    }
+
+    /// Text in single quotes, from its opener on.
+    #[tactic(auto, unfolding(shgrammar::specs::Words::single, shgrammar::specs::Pieces::past_taken, shgrammar::specs::Bytes::behind), using(shgrammar::proofs::Places::quote_clear))]
+    pub(crate) fn single(&mut self, opener: usize) -> Result<(), Stop>
+        requires opener { opener ≡ past_continuations (text_of S.bytes self.old) self.old.at }
+        requires some { opener < length (text_of S.bytes self.old) }
+        ensures value { Reads S.bytes self.old single result (λ done. tt) (state_of self.new) }
+        ensures onward { IfOk result (λ done. opener < self.new.at) }
+        ensures same { Stays self.old self.new }
+    {
+        let closer = self.next_quote(opener + 1);
+        if self.at_end(closer) {
+            return Err(self.wrong_at(FaultKind::UnclosedSingle, opener));
+        }
+        self.at = closer + 1;
+        Ok(())
+    }
+
+    /// What stands up to the next backquote or backslash. Answers whether more follows: if not, the text is closed.
+    #[tactic(auto, unfolding(shgrammar::specs::Words::backquote_turn, shgrammar::specs::Pieces::past_taken), using(shgrammar::proofs::Places::backslash_next, shgrammar::proofs::Places::backquote_is))]
+    fn backquote_turn(&mut self, opener: usize) -> Result<bool, Stop>
+        requires { opener ≤ self.old.at }
+        ensures value { Reads S.bytes self.old (backquote_turn (self.old.origin + opener) tt) result
+            (λ more. step_if more tt) (state_of self.new) }
+        ensures onward { IfOk result (λ more. self.old.at < self.new.at) }
+        ensures same { Stays self.old self.new }
+    {
+        let at = self.at;
+        let next = self.find(Sought::Either(b'`', b'\\'), at);
+        if self.at_end(next) {
+            return Err(self.wrong_at(FaultKind::UnclosedBackquote, opener));
+        }
+        if self.raw_stands(next, b'`') {
+            self.at = next + 1;
+            return Ok(false);
+        }
+        if self.at_end(next + 1) {
+            return Err(self.wrong_at(FaultKind::UnclosedBackquote, opener));
+        }
+        self.at = next + 2;
+        Ok(true)
+    }
+
+    /// Text in backquotes, from its opener on.
+    #[tactic(auto, unfolding(shgrammar::specs::Words::backquoted, shgrammar::specs::Bytes::behind), using(shgrammar::proofs::Turns::many_again, shgrammar::proofs::Turns::many_done, crate::proofs::Stops::many_stop))]
+    pub(crate) fn backquoted(&mut self, opener: usize) -> Result<(), Stop>
+        requires opener { opener ≡ past_continuations (text_of S.bytes self.old) self.old.at }
+        requires some { opener < length (text_of S.bytes self.old) }
+        ensures value { Reads S.bytes self.old backquoted result (λ done. tt) (state_of self.new) }
+        ensures onward { IfOk result (λ done. opener < self.new.at) }
+        ensures same { Stays self.old self.new }
+    {
+        self.at = opener + 1;
+        'turns: while self.backquote_turn(opener)? {}
+        Ok(())
+    }
+}

@@ -1,0 +1,115 @@
+//! The bytes of a text as they stand, continuations and all.
+ghost use Rattle.std.specs.Prelude.{◌≡◌, ◌+◌, ◌<◌, ◌≤◌, length, slice_get, true, false, IfSome};
+ghost use Rattle.shgrammar.specs.Classes.{in_class};
+ghost use Rattle.shline.specs.Clauses.{text_of};
+ghost use Rattle.shgrammar.specs.Standing.{raw_past, at_end, continues, raw_in, raw_stands};
+ghost use Rattle.shtext.specs.Text.{IsRun};
+
+use crate::cursor::Cursor;
+use shgrammar::Class;
+use shtext::Source;
+
+impl<'a, S: Source, const KEEP: u8> Cursor<'a, S, KEEP> {
+    /// The byte at a place as it stands, or `None` at the end.
+    #[inline(always)]
+    #[tactic(auto, using(shgrammar::proofs::Runs::front_byte, shgrammar::proofs::Runs::front_within))]
+    pub(crate) fn raw_byte(&self, at: usize) -> Option<u8>
+        requires { at ≤ length (text_of S.bytes self.now) }
+        ensures value { result ≡ slice_get (text_of S.bytes self.now) at }
+        ensures inside { IfSome result (λ b. at < length (text_of S.bytes self.now)) }
+    {
+        if at < self.front.len() {
+            return Some(self.front[at]);
+        }
+        self.byte_behind(at)
+    }
+
+    /// The same, where it stands behind the front.
+    #[cold]
+    #[tactic(auto, using(shgrammar::proofs::Stretches::get_drop))]
+    fn byte_behind(&self, at: usize) -> Option<u8>
+        requires { at ≤ length (text_of S.bytes self.now) }
+        ensures value { result ≡ slice_get (text_of S.bytes self.now) at }
+        ensures inside { IfSome result (λ b. at < length (text_of S.bytes self.now)) }
+    {
+        self.source.byte(self.base + at)
+    }
+
+    /// The stretch that begins at a place. Most often it is a part of the front.
+    #[inline(always)]
+    #[tactic(auto, using(shgrammar::proofs::Runs::front_run))]
+    pub(crate) fn run_at(&self, at: usize) -> &[u8]
+        requires { at ≤ length (text_of S.bytes self.now) }
+        ensures { IsRun (S.bytes self.now.source.now) (self.now.base + at) result.now }
+    {
+        if at < self.front.len() {
+            return &self.front[at..];
+        }
+        self.source.run(self.base + at)
+    }
+
+    /// Whether this byte is the one at a place.
+    #[inline(always)]
+    #[tactic(auto, unfolding(shgrammar::specs::Standing::raw_stands))]
+    pub(crate) fn raw_stands(&self, at: usize, byte: u8) -> bool
+        requires { at ≤ length (text_of S.bytes self.now) }
+        ensures value { result ≡ raw_stands (text_of S.bytes self.now) at byte }
+        ensures inside { result ≡ true → at < length (text_of S.bytes self.now) }
+    {
+        match self.raw_byte(at) {
+            Some(found) => found == byte,
+            None => false,
+        }
+    }
+
+    /// Whether the byte at a place is of this class.
+    #[inline(always)]
+    #[tactic(auto, unfolding(shgrammar::specs::Standing::raw_in))]
+    pub(crate) fn raw_in(&self, at: usize, class: Class) -> bool
+        requires { at ≤ length (text_of S.bytes self.now) }
+        ensures value { result ≡ raw_in (in_class class) (text_of S.bytes self.now) at }
+        ensures inside { result ≡ true → at < length (text_of S.bytes self.now) }
+    {
+        match self.raw_byte(at) {
+            Some(byte) => class.has(byte),
+            None => false,
+        }
+    }
+
+    /// Whether the text ends at a place.
+    #[inline(always)]
+    #[tactic(auto, unfolding(shgrammar::specs::Standing::at_end))]
+    pub(crate) fn at_end(&self, at: usize) -> bool
+        requires { at ≤ length (text_of S.bytes self.now) }
+        ensures value { result ≡ at_end (text_of S.bytes self.now) at }
+        ensures inside { result ≡ false → at < length (text_of S.bytes self.now) }
+    {
+        self.raw_byte(at).is_none()
+    }
+
+    /// Whether a continuation stands at a place.
+    #[inline(always)]
+    #[tactic(auto, unfolding(shgrammar::specs::Standing::continues))]
+    pub(crate) fn continues(&self, at: usize) -> bool
+        requires { at ≤ length (text_of S.bytes self.now) }
+        ensures value { result ≡ continues (text_of S.bytes self.now) at }
+        ensures inside { result ≡ true → at + 2 ≤ length (text_of S.bytes self.now) }
+    {
+        self.raw_stands(at, b'\\') && self.raw_stands(at + 1, b'\n')
+    }
+
+    /// The place behind the bytes of this class that stand from a place on.
+    #[inline(always)]
+    #[tactic(auto, using(shgrammar::proofs::Stretches::raw_more, shgrammar::proofs::Stretches::raw_none))]
+    pub(crate) fn raw_past(&self, from: usize, class: Class) -> usize
+        requires { from ≤ length (text_of S.bytes self.now) }
+        ensures value { result ≡ raw_past (in_class class) (text_of S.bytes self.now) from }
+        ensures inside { (from ≤ result) × (result ≤ length (text_of S.bytes self.now)) }
+    {
+        let mut at = from;
+        'bytes: while self.raw_in(at, class) {
+            at += 1;
+        }
+        at
+    }
+}

@@ -1,0 +1,31 @@
+//! What ends a reading before its end: memory, or a fault of the script.
+ghost use Rattle.std.specs.Prelude.{◌≡◌};
+ghost use Rattle.shline.specs.declared.stop.Stop.TheVariants.{Memory};
+
+use shgrammar::Fault;
+use std::alloc::{AllocError, AllocFailed};
+
+/// What ends a row of the grammar before its end.
+#[derive(Clone, Copy)]
+pub enum Stop {
+    /// Memory ran out.
+    Memory,
+    /// The fault at which the reading stops.
+    Wrong(Fault),
+}
+
+impl From<AllocError> for Stop {
+    ghost from_gives = { λ _ e. e ≡ Memory };
+
+    fn from(_e: AllocError) -> Stop {
+        Stop::Memory
+    }
+}
+
+impl<T: Drop> From<AllocFailed<T>> for Stop {
+    ghost from_gives = { λ _ e. e ≡ Memory };
+
+    fn from(_e: AllocFailed<T>) -> Stop {
+        Stop::Memory
+    }
+}

@@ -1,0 +1,135 @@
+//! Command substitutions (XCU 2.6.3).
+ghost use Rattle.std.specs.Prelude.{◌≡◌, ◌+◌, ◌≤◌, ◌==◌, map, IfOk};
+ghost use Rattle.shline.specs.Clauses.{keep_of, Keeps, Reads, state_of};
+ghost use Rattle.shgrammar.specs.Comments.{span};
+ghost use Rattle.shgrammar.specs.Form.{grows, pushed};
+ghost use Rattle.shgrammar.specs.Levels.{level};
+ghost use Rattle.shgrammar.specs.Substitutions.{one_substitution, substituted};
+ghost use Rattle.shast.specs.Bodies.{filled};
+ghost use Rattle.shast.specs.Tree.{subst};
+ghost use Rattle.shast.specs.View.{view_list, view_subst};
+
+use crate::cursor::Cursor;
+use crate::list::Listed;
+use crate::stop::Stop;
+use shast::make::{list_of, subst_of};
+use shast::{List, Span, Subst, put_bodies};
+use shgrammar::{Closing, Fault, FaultKind, Position};
+use shtext::Source;
+use std::alloc::{AllocError, Global};
+
+/// A list with the bodies of its level.
+#[inline(always)]
+fn filled_list(mut list: List, bodies: &[Span]) -> List
+    ensures { view_list result ≡ filled bodies.now (view_list list) }
+{
+    put_bodies(&mut list, bodies);
+    list
+}
+
+impl<'a, S: Source, const KEEP: u8> Cursor<'a, S, KEEP> {
+    /// What stands in a substitution, and its `)`.
+    #[cycle(commands)]
+    #[tactic(auto, unfolding(shgrammar::specs::Substitutions::substituted, shgrammar::specs::Commands::next_token))]
+    fn substituted(&mut self, alloc: Global, room: usize) -> Result<List, Stop>
+        ensures value { Reads S.bytes self.old (substituted (level room)) result view_list (state_of self.new) }
+        ensures onward { IfOk result (λ list. self.old.at ≤ self.new.at) }
+        ensures same { Keeps self.old self.new }
+    {
+        let mut next = self.next_token(Position::Command);
+        let mut listed = Listed::new(alloc, false);
+        self.list_lines(alloc, &mut next, &mut listed, room)?;
+        if !next.token.is_closing(Closing::Paren) {
+            return Err(Stop::Wrong(self.what_is_wrong(alloc, &mut next, room)?));
+        }
+        self.nothing_waits()?;
+        self.bump();
+        Ok(list_of(listed.entries))
+    }
+
+    /// The substitution from a place up to this one, with the bodies of its level, as one more of these, if a tree is grown.
+    #[tactic(auto, using(shgrammar::proofs::Levels::subst_kept, shgrammar::proofs::Levels::subst_left))]
+    fn add_subst(
+        &self,
+        list: List,
+        bodies: Vec<Span>,
+        opener: usize,
+        substs: &mut Vec<Subst>,
+    ) -> Result<(), AllocError>
+        requires { opener ≤ self.now.at }
+        ensures value { IfOk result (λ done. map view_subst substs.new.items
+            ≡ pushed (grows (keep_of self.now)) (map view_subst substs.old.items) (subst (filled bodies.items (view_list list)) (span self.now.origin opener self.now.at))) }
+    {
+        if self.grows() {
+            let list = filled_list(list, &bodies);
+            substs.push(subst_of(list, self.span_from(opener)))?;
+        }
+        Ok(())
+    }
+
+    /// The substitution whose `$` stands at a place, from behind its `(` on, as one more of these, if a tree is grown of what stands in it.
+    #[cycle(commands)]
+    #[inline(always)]
+    #[tactic(auto, unfolding(shgrammar::specs::Substitutions::one_substitution))]
+    fn one_substitution(
+        &mut self,
+        alloc: Global,
+        opener: usize,
+        substs: &mut Vec<Subst>,
+        room: usize,
+    ) -> Result<(), Stop>
+        requires { opener ≤ self.old.at }
+        ensures value { Reads S.bytes self.old
+            (one_substitution (level room) (self.old.origin + opener) (map view_subst substs.old.items)) result
+            (λ done. map view_subst substs.new.items) (state_of self.new) }
+        ensures onward { IfOk result (λ done. self.old.at ≤ self.new.at) }
+        ensures same { Keeps self.old self.new }
+    {
+        let outer = self.open_level(alloc);
+        match self.substituted(alloc, room) {
+            Ok(list) => {
+                let bodies = self.close_level(outer);
+                self.add_subst(list, bodies, opener, substs)?;
+                Ok(())
+            }
+            // The text ends in it.
+            Err(
+                Stop::Wrong(
+                    Fault {
+                        kind: FaultKind::UnexpectedEnd,
+                        ..
+                    },
+                ),
+            ) => Err(self.wrong_at(FaultKind::UnclosedSubst, opener)),
+            Err(stop) => Err(stop),
+        }
+    }
+
+    /// The same, if it may be opened.
+    #[cycle(commands)]
+    #[tactic(auto, using(crate::proofs::Kept::substitution_inside, shgrammar::proofs::Levels::substitution_closed))]
+    pub(crate) fn substitution(
+        &mut self,
+        alloc: Global,
+        opener: usize,
+        substs: &mut Vec<Subst>,
+        room: usize,
+    ) -> Result<(), Stop>
+        requires { opener ≤ self.old.at }
+        ensures value { Reads S.bytes self.old
+            ((level room).substitution (self.old.origin + opener) (map view_subst substs.old.items)) result
+            (λ done. map view_subst substs.new.items) (state_of self.new) }
+        ensures onward { IfOk result (λ done. self.old.at ≤ self.new.at) }
+        ensures same { Keeps self.old self.new }
+    {
+        if room == 0 {
+            return Err(self.wrong_at(FaultKind::TooDeep, opener));
+        }
+        let keep = self.keep;
+        self.keep = keep.inside();
+        let read = self.one_substitution(alloc, opener, substs, room - 1);
+        self.keep = keep;
+        read?;
+        Ok(())
+    }
+}

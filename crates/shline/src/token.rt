@@ -1,0 +1,333 @@
+//! The token that begins at a place (XCU 2.3, 2.4, 2.10.1).
+ghost use Rattle.std.specs.Prelude.{◌≡◌, ◌<◌, ◌≤◌, [], ◌∷◌, None, Some, false, if◌then◌else◌, length};
+ghost use Rattle.shgrammar.specs.Bytes.{past_blanks, past_continuations};
+ghost use Rattle.shgrammar.specs.Shows.{IsRead, Shows};
+ghost use Rattle.shgrammar.specs.Standing.{raw_stands};
+ghost use Rattle.shgrammar.specs.Tokens.{begins_assignment, first_of_words, greater_at, is_name_at, is_number, is_word_at, less_at, next_at, past_digits, past_reserved, reserved_at, token_at, word_by};
+ghost use Rattle.shline.specs.Clauses.{Stays, text_of};
+
+use crate::cursor::Cursor;
+use shast::RedirectOperator;
+use shgrammar::{Class, Next, Position, Reserved, Token, begins_a_word, ends_words};
+use shtext::Source;
+
+impl<'a, S: Source, const KEEP: u8> Cursor<'a, S, KEEP> {
+    /// Whether the word that is spelled so stands at a place. Most often no continuation stands in it.
+    #[inline(always)]
+    #[tactic(auto, using(shgrammar::proofs::Runs::run_letter_more, shgrammar::proofs::Runs::run_letter_other, shgrammar::proofs::Runs::run_word_whole))]
+    fn is_word(&self, from: usize, word: &[u8]) -> bool
+        requires { from ≤ length (text_of S.bytes self.now) }
+        ensures { result ≡ is_word_at (text_of S.bytes self.now) from word.now }
+    {
+        let run = self.run_at(from);
+        if run.len() <= word.len() {
+            return self.is_broken_word(from, word);
+        }
+        'letters: for (index, letter) in word.iter().enumerate() {
+            let byte = run[index];
+            if byte == b'\\' {
+                return self.is_broken_word(from, word);
+            }
+            if byte != *letter {
+                return false;
+            }
+        }
+        let behind = run[word.len()];
+        if behind == b'\\' {
+            return self.is_broken_word(from, word);
+        }
+        ends_words(behind)
+    }
+
+    /// The same, past continuations and stretches of the source.
+    #[cold]
+    #[tactic(auto, using(shgrammar::proofs::Stretches::word_more, shgrammar::proofs::Stretches::word_other, shgrammar::proofs::Stretches::word_whole))]
+    fn is_broken_word(&self, from: usize, word: &[u8]) -> bool
+        requires { from ≤ length (text_of S.bytes self.now) }
+        ensures { result ≡ is_word_at (text_of S.bytes self.now) from word.now }
+    {
+        let mut at = from;
+        'letters: for letter in word {
+            if !self.stands(at, *letter) {
+                return false;
+            }
+            at = self.behind(at);
+        }
+        self.ends_at(at)
+    }
+
+    /// This reserved word, if it stands at a place.
+    #[inline(always)]
+    fn spelled(&self, at: usize, word: &[u8], reserved: Reserved) -> Option<Reserved>
+        requires { at ≤ length (text_of S.bytes self.now) }
+        ensures { result ≡ (if is_word_at (text_of S.bytes self.now) at word.now then Some reserved else None) }
+    {
+        if self.is_word(at, word) {
+            Some(reserved)
+        } else {
+            None
+        }
+    }
+
+    /// This reserved word, or that one, if one of them stands at a place.
+    #[inline(always)]
+    #[tactic(auto, unfolding(shgrammar::specs::Tokens::first_of_words))]
+    fn spelled_as(
+        &self,
+        at: usize,
+        word: &[u8],
+        reserved: Reserved,
+        other: &[u8],
+        second: Reserved,
+    ) -> Option<Reserved>
+        requires { at ≤ length (text_of S.bytes self.now) }
+        ensures { result ≡ first_of_words (text_of S.bytes self.now) at
+            ((word.now, reserved) ∷ (other.now, second) ∷ []) }
+    {
+        if self.is_word(at, word) {
+            return Some(reserved);
+        }
+        self.spelled(at, other, second)
+    }
+
+    /// The reserved word that stands at a place, if one does. Most words begin with a byte that begins none.
+    #[inline(always)]
+    #[tactic(auto, unfolding(shgrammar::specs::Tokens::reserved_words, shgrammar::specs::Tokens::first_of_words, shgrammar::specs::Tokens::is_word_at, shgrammar::specs::Bytes::stands))]
+    fn reserved(&self, at: usize) -> Option<Reserved>
+        requires within { at ≤ length (text_of S.bytes self.now) }
+        requires still { past_continuations (text_of S.bytes self.now) at ≡ at }
+        ensures { result ≡ reserved_at (text_of S.bytes self.now) at }
+    {
+        match self.raw_byte(at) {
+            Some(b'!' | b'{' | b'}' | b'c' | b'd' | b'e' | b'f' | b'i' | b't' | b'u' | b'w') =>
+                self.reserved_by_letters(at),
+            _ => None,
+        }
+    }
+
+    /// The same. The first byte tells which word it may be.
+    #[inline(never)]
+    #[tactic(auto, unfolding(shgrammar::specs::Tokens::reserved_words, shgrammar::specs::Tokens::first_of_words, shgrammar::specs::Tokens::is_word_at, shgrammar::specs::Bytes::stands))]
+    fn reserved_by_letters(&self, at: usize) -> Option<Reserved>
+        requires within { at ≤ length (text_of S.bytes self.now) }
+        requires still { past_continuations (text_of S.bytes self.now) at ≡ at }
+        ensures { result ≡ reserved_at (text_of S.bytes self.now) at }
+    {
+        match self.raw_byte(at) {
+            Some(b'!') => self.spelled(at, b"!", Reserved::Bang),
+            Some(b'{') => self.spelled(at, b"{", Reserved::OpenBrace),
+            Some(b'}') => self.spelled(at, b"}", Reserved::CloseBrace),
+            Some(b'c') => self.spelled(at, b"case", Reserved::Case),
+            Some(b'd') => self.spelled_as(at, b"do", Reserved::Do, b"done", Reserved::Done),
+            Some(b'e') => {
+                if self.is_word(at, b"elif") {
+                    return Some(Reserved::Elif);
+                }
+                self.spelled_as(at, b"else", Reserved::Else, b"esac", Reserved::Esac)
+            }
+            Some(b'f') => self.spelled_as(at, b"fi", Reserved::Fi, b"for", Reserved::For),
+            Some(b'i') => self.spelled_as(at, b"if", Reserved::If, b"in", Reserved::In),
+            Some(b't') => self.spelled(at, b"then", Reserved::Then),
+            Some(b'u') => self.spelled(at, b"until", Reserved::Until),
+            Some(b'w') => self.spelled(at, b"while", Reserved::While),
+            _ => None,
+        }
+    }
+
+    /// Passes the reserved word here.
+    #[tactic(auto, unfolding(shgrammar::specs::Tokens::past_reserved, shgrammar::specs::Bytes::behind))]
+    pub(crate) fn pass_reserved(&mut self)
+        requires { IsRead (text_of S.bytes self.old) self.old.at }
+        ensures value { self.new.at ≡ past_reserved (text_of S.bytes self.old) self.old.at }
+        ensures onward { self.old.at < self.new.at }
+        ensures same { Stays self.old self.new }
+    {
+        let at = self.at;
+        self.at = self.past(self.behind(at), Class::Name);
+    }
+
+    /// Passes the digits here.
+    #[tactic(auto, unfolding(shgrammar::specs::Tokens::past_digits))]
+    pub(crate) fn pass_digits(&mut self)
+        requires { self.old.at ≤ length (text_of S.bytes self.old) }
+        ensures value { self.new.at ≡ past_digits (text_of S.bytes self.old) self.old.at }
+        ensures onward { self.old.at ≤ self.new.at }
+        ensures same { Stays self.old self.new }
+    {
+        let at = self.at;
+        self.at = self.past(at, Class::Digit);
+    }
+
+    /// Whether a NAME and `=` stand at a place. The `=` is asked for first, since most words have none.
+    #[inline(always)]
+    #[tactic(auto, unfolding(shgrammar::specs::Tokens::begins_assignment, shgrammar::specs::Bytes::stands_in))]
+    fn begins_assignment(&self, at: usize) -> bool
+        requires { at ≤ length (text_of S.bytes self.now) }
+        ensures { result ≡ begins_assignment (text_of S.bytes self.now) at }
+    {
+        if !self.stands(self.past(at, Class::Name), b'=') {
+            return false;
+        }
+        matches!(self.byte_at(at), Some(b'a'..=b'z' | b'A'..=b'Z' | b'_'))
+    }
+
+    /// Whether the word at a place is a NAME.
+    #[tactic(auto, unfolding(shgrammar::specs::Tokens::is_name_at, shgrammar::specs::Bytes::stands_in))]
+    pub(crate) fn is_name(&self, at: usize) -> bool
+        requires { at ≤ length (text_of S.bytes self.now) }
+        ensures { result ≡ is_name_at (text_of S.bytes self.now) at }
+    {
+        if !self.ends_at(self.past(at, Class::Name)) {
+            return false;
+        }
+        matches!(self.byte_at(at), Some(b'a'..=b'z' | b'A'..=b'Z' | b'_'))
+    }
+
+    /// Whether digits that `<` or `>` follows stand at a place.
+    #[inline(always)]
+    #[tactic(auto, unfolding(shgrammar::specs::Tokens::is_number))]
+    fn is_number(&self, at: usize) -> bool
+        requires { at ≤ length (text_of S.bytes self.now) }
+        ensures { result ≡ is_number (text_of S.bytes self.now) at }
+    {
+        if !self.stands_in(at, Class::Digit) {
+            return false;
+        }
+        let end = self.past(at, Class::Digit);
+        self.stands(end, b'<') || self.stands(end, b'>')
+    }
+
+    /// The operator of a redirection that begins with `<`; what stands behind that is at a place.
+    #[tactic(auto, unfolding(shgrammar::specs::Tokens::less_at))]
+    fn less(&self, at: usize) -> RedirectOperator
+        requires { at ≤ length (text_of S.bytes self.now) }
+        ensures { result ≡ less_at (text_of S.bytes self.now) at }
+    {
+        if self.stands(at, b'<') {
+            if self.stands(self.behind(at), b'-') {
+                RedirectOperator::HereStripped
+            } else {
+                RedirectOperator::Here
+            }
+        } else if self.stands(at, b'&') {
+            RedirectOperator::DuplicateInput
+        } else if self.stands(at, b'>') {
+            RedirectOperator::ReadWrite
+        } else {
+            RedirectOperator::Input
+        }
+    }
+
+    /// The same of one that begins with `>`.
+    #[tactic(auto, unfolding(shgrammar::specs::Tokens::greater_at))]
+    fn greater(&self, at: usize) -> RedirectOperator
+        requires { at ≤ length (text_of S.bytes self.now) }
+        ensures { result ≡ greater_at (text_of S.bytes self.now) at }
+    {
+        if self.stands(at, b'>') {
+            RedirectOperator::Append
+        } else if self.stands(at, b'&') {
+            RedirectOperator::DuplicateOutput
+        } else if self.stands(at, b'|') {
+            RedirectOperator::Clobber
+        } else {
+            RedirectOperator::Output
+        }
+    }
+
+    /// What the word at a place is in this position of a command.
+    #[inline(always)]
+    fn word_token(&self, at: usize, position: Position) -> Token
+        requires within { at ≤ length (text_of S.bytes self.now) }
+        requires still { past_continuations (text_of S.bytes self.now) at ≡ at }
+        ensures { result ≡ word_by position (text_of S.bytes self.now) at }
+    {
+        if position == Position::Suffix {
+            return Token::Word;
+        }
+        if position == Position::Command {
+            if let Some(reserved) = self.reserved(at) {
+                return Token::Reserved(reserved);
+            }
+        }
+        if self.begins_assignment(at) {
+            Token::Assignment
+        } else {
+            Token::Word
+        }
+    }
+
+    /// What begins at a place where no blank stands.
+    #[inline(always)]
+    #[tactic(auto, unfolding(shgrammar::specs::Tokens::token_at, shgrammar::specs::Tokens::is_number, shgrammar::specs::Bytes::behind, shgrammar::specs::Bytes::stands, shgrammar::specs::Bytes::stands_in, shgrammar::specs::Standing::raw_stands))]
+    fn token(&self, at: usize, position: Position) -> Token
+        requires within { at ≤ length (text_of S.bytes self.now) }
+        requires still { past_continuations (text_of S.bytes self.now) at ≡ at }
+        ensures { result ≡ token_at position (text_of S.bytes self.now) at }
+    {
+        match self.raw_byte(at) {
+            Some(byte) if begins_a_word(byte) => self.word_token(at, position),
+            Some(b'\n') => Token::Newline,
+            _ => self.other_token(at, position),
+        }
+    }
+
+    /// The same, for what is neither a newline nor sure to be a word: it stands apart to keep the code of those small that ask for a token.
+    #[inline(never)]
+    #[tactic(auto, unfolding(shgrammar::specs::Tokens::token_at, shgrammar::specs::Tokens::is_number, shgrammar::specs::Bytes::behind, shgrammar::specs::Bytes::stands, shgrammar::specs::Bytes::stands_in, shgrammar::specs::Standing::raw_stands))]
+    fn other_token(&self, at: usize, position: Position) -> Token
+        requires within { at ≤ length (text_of S.bytes self.now) }
+        requires still { past_continuations (text_of S.bytes self.now) at ≡ at }
+        requires other { raw_stands (text_of S.bytes self.now) at 10 ≡ false }
+        ensures { result ≡ token_at position (text_of S.bytes self.now) at }
+    {
+        match self.raw_byte(at) {
+            None => Token::End,
+            Some(b';') => {
+                if self.stands(self.behind(at), b';') {
+                    Token::DoubleSemicolon
+                } else {
+                    Token::Semicolon
+                }
+            }
+            Some(b'&') => {
+                if self.stands(self.behind(at), b'&') {
+                    Token::AndIf
+                } else {
+                    Token::Ampersand
+                }
+            }
+            Some(b'|') => {
+                if self.stands(self.behind(at), b'|') {
+                    Token::OrIf
+                } else {
+                    Token::Pipe
+                }
+            }
+            Some(b'(') => Token::OpenParen,
+            Some(b')') => Token::CloseParen,
+            Some(b'<') => Token::Redirect(self.less(self.behind(at))),
+            Some(b'>') => Token::Redirect(self.greater(self.behind(at))),
+            Some(b'#') => Token::Comment,
+            Some(b'0'..=b'9') if self.is_number(at) => Token::Number,
+            Some(_) => self.word_token(at, position),
+        }
+    }
+
+    /// To where the next token begins, and what it is in this position of a command.
+    #[inline(always)]
+    #[tactic(auto, using(shgrammar::proofs::Shown::shown, shgrammar::proofs::Shown::blanks_still))]
+    pub(crate) fn next_token(&mut self, position: Position) -> Next
+        ensures value { result ≡ next_at position (text_of S.bytes self.old) self.old.at }
+        ensures place { self.new.at ≡ past_blanks (text_of S.bytes self.old) self.old.at }
+        ensures shows { Shows result.token (text_of S.bytes self.old) self.new.at }
+        ensures inside { self.old.at ≤ self.new.at }
+        ensures same { Stays self.old self.new }
+    {
+        let from = self.at;
+        let (at, broken) = self.past_blanks(from);
+        let token = self.token(at, position);
+        self.at = at;
+        Next { token, broken }
+    }
+}

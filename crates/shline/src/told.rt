@@ -1,0 +1,69 @@
+//! What is told of one line of a source (XCU 2.10.2).
+ghost use Rattle.std.specs.Prelude.{◌≡◌, ◌⊎◌, ◌+◌, ◌-◌, ◌^◌, ◌<◌, ◌≤◌, ℕ, drop, false, length, map, true, IfOk};
+ghost use Rattle.shline.specs.Clauses.{Gives, Onward, kept};
+ghost use Rattle.shgrammar.specs.Scripts.{line_told};
+ghost use Rattle.shgrammar.specs.Sights.{standing};
+ghost use Rattle.shgrammar.specs.Standing.{raw_stands};
+ghost use Rattle.shast.specs.Nodes.{AreWithin};
+ghost use Rattle.shast.specs.Tree.{entries_of};
+ghost use Rattle.shast.specs.View.{view_entry};
+
+use crate::cursor::Cursor;
+use crate::line::filled_entries;
+use crate::stop::Stop;
+use shast::Entry;
+use shgrammar::Keep;
+use shtext::Source;
+use std::alloc::Global;
+
+/// How many constructs may be open.
+const MOST_OPEN: usize = 100;
+
+/// What was read of a line that has no fault.
+#[derive(Drop)]
+pub struct Told {
+    /// Its entries, with spans that count from `origin` of [`line_at`].
+    pub entries: Vec<Entry>,
+    /// A newline ends it.
+    pub newline: bool,
+    /// How many bytes it has.
+    pub len: usize,
+}
+
+/// The line that begins at an offset, whose own offsets are counted from `origin`. Of its tree this is kept where `KEEP` is [`KEPT`]
+/// (`crate::KEPT`), and nothing where it is `SEEN`.
+///
+/// A fault and want of memory are the two errors. The offset is at most the length of the source, and `origin` at most the offset.
+#[tactic(auto, unfolding(shgrammar::specs::Lines::a_line), using(shgrammar::proofs::Places::end_is))]
+pub fn line_at<S: Source, const KEEP: u8>(
+    alloc: Global,
+    source: &S,
+    at: usize,
+    origin: usize,
+    keep: Keep,
+    blank: bool,
+) -> Result<Told, Stop>
+    requires { (at ≤ length (S.bytes source.now)) × (origin ≤ at) }
+    ensures value { Gives (origin + length (drop at (S.bytes source.now)))
+        (λ x. ((map view_entry x.entries.items, x.newline), standing x.len)) result
+        (line_told (S.bytes source.now) (kept KEEP keep) blank at origin) }
+    // No node of its entries names an offset behind it.
+    ensures spans { IfOk result (λ x. (limit : ℕ) → origin + x.len ≤ limit →
+        AreWithin limit (entries_of (map view_entry x.entries.items))) }
+    ensures onward { IfOk result (λ x. Onward 0 x.len x.newline) }
+    ensures within { IfOk result (λ x. at + x.len ≤ length (S.bytes source.now)) }
+    ensures fits { IfOk result (λ x. at + x.len < 2 ^ 64) }
+    ensures newline { IfOk result (λ x. x.newline ≡ true →
+        (raw_stands (drop at (S.bytes source.now)) (x.len - 1) 10 ≡ true) ⊎ (at + x.len ≡ length (S.bytes source.now))) }
+    ensures whole { IfOk result (λ x. x.newline ≡ false → at + x.len ≡ length (S.bytes source.now)) }
+{
+    let mut cursor = Cursor::<S, KEEP>::at_line(alloc, source, at, origin, keep);
+    // It holds no here-document yet: the line's level is its own.
+    let (entries, newline) = cursor.open_line(alloc, blank, MOST_OPEN)?;
+    let len = cursor.at;
+    Ok(Told {
+        entries: filled_entries(entries, cursor.documents.bodies),
+        newline,
+        len,
+    })
+}

@@ -1,9 +1,0 @@
-use Rattle.std.proofs.Common.{◌∙◌, sym, arith}
-use Rattle.shread.specs.Clauses.{text_of}
-use Rattle.shread.proofs.Awaited.{odd_stops}
-use Rattle.shread.proofs.cursor.Cursor.ends_odd.Goals as goal
-
-pub returns : goal.returns
-returns g c =
-    odd_stops (text_of g.S.Source.bytes c.args.self.now) c.args.from c.backslashes.at c.backslashes.odd _ (omega (arith, c.backslashes.invariant.2, c.requires.1))
-    (sym c.is_backslash_before.ensures.value ∙ c.backslashes-test.false) c.backslashes.invariant.0
