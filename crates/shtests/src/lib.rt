@@ -2,10 +2,10 @@
 //! a crate that has tests twice: so the libraries, which have none, are proved once. The tests of what stands above the reader are the crate
 //! `shlivetests`.
 //!
-//! Start with the module of what is tested: `texts` is the tests of `shtext`, `tree_bodies`, `tree_nodes` and `tree_normal` are those of
-//! `shtree`, `reader_..` those of `shread`; those in `.._refused` refuse each growth of memory in turn. The others help: `table` reads
-//! tables of rows, whose cells `cell` joins, `dump` writes trees as short texts, `tree_built` builds trees by hand, `devices` has readers
-//! and writers that fail, and `growths` asks for refusals. `tree_size` is for `tests/bench`.
+//! Start with the module of what is tested: `texts` is the tests of `shtext`, `tree_append`, `tree_bodies`, `tree_nodes` and `tree_normal`
+//! are those of `shtree`, `reader_..` those of `shread`; those in `.._refused` refuse each growth of memory in turn. The others help:
+//! `table` reads tables of rows, whose cells `cell` joins, `dump` writes trees as short texts, `tree_built` builds trees by hand, `devices`
+//! has readers and writers that fail, and `growths` asks for refusals. `tree_size` is for `tests/bench`.
 #![tactic(auto)]
 
 pub mod cell;
@@ -31,6 +31,8 @@ mod table;
 mod text_refused;
 #[cfg(test)]
 mod texts;
+#[cfg(test)]
+mod tree_append;
 #[cfg(test)]
 mod tree_bodies;
 #[cfg(test)]

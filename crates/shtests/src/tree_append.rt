@@ -1,0 +1,96 @@
+// Lists that are appended at the bases where their lines stand are the list of the whole text.
+ghost use Rattle.std.specs.Prelude.{ℕ, ◌-◌, ◌<◌, ◌≤◌, ◌^◌};
+ghost use Rattle.shgrammar.specs.Lines.{EntriesEverywhere};
+ghost use Rattle.shread.specs.Answers.{view_kind};
+
+use crate::growths::Growths;
+use crate::tree_bodies::shown;
+use shread::{Line, LineKind, Reader};
+use shtext::Flat;
+use shtree::make::list_of;
+use shtree::{List, append_at};
+use std::alloc::{AllocError, Global};
+use std::process::Abort;
+use std::test::Fail;
+
+/// The second line holds each part of a script.
+const LINES: &[u8] =
+    b"first # one\na=1 'b' $c d$(n # x\n) 2>e <<E; ! if f|\nk\nE\ng;then h;elif i;then :;else j;fi & case o in\n# y\n(p|v) q;; # z\nesac; i &&\n# w\nn() { j;} >o; for r in s t;do (t);done; for u do until v;do w;done;done; while x;do y;done # l\n# m\n";
+
+/// Where the second line begins.
+const SECOND: usize = 12;
+
+fn list_of_all(alloc: Global) -> Result<List, Fail> {
+    let script = Reader::new(alloc).read_script(&Flat::new(LINES))?;
+    if script.fault.is_some() {
+        return Err(Fail::from("a fault"));
+    }
+    Ok(script.list)
+}
+
+/// Appends the entries of a line that begins at an offset.
+fn add(alloc: Global, line: &Line, at: usize, list: &mut List) -> Result<(), AllocError>
+    requires place { (at ≤ line.now.next) × (line.now.next < 2 ^ 64) }
+    requires spans { (limit : ℕ) → line.now.next - at ≤ limit → EntriesEverywhere limit (view_kind line.now.kind) }
+{
+    match &line.kind {
+        LineKind::Entries(entries) => append_at(alloc, entries, at, list),
+        _ => Ok(()),
+    }
+}
+
+#[test]
+fn each_line(rt: HostRuntime) -> Result<(), Fail> {
+    let alloc = rt.alloc();
+    let mut reader = Reader::new(alloc);
+    let mut list = list_of(Vec::new(alloc));
+    let mut at = 0;
+    for _ in 0..=LINES.len() {
+        if LINES.len() < at {
+            break;
+        }
+        let line = reader.read_line(&Flat::new(LINES), at)?;
+        add(alloc, &line, at, &mut list)?;
+        at = line.next;
+        if !line.ended {
+            break;
+        }
+    }
+    assert_eq!(rt; at, LINES.len());
+    assert_eq!(rt;
+        shown(alloc, &list)?.as_str(),
+        shown(alloc, &list_of_all(alloc)?)?.as_str()
+    );
+    Ok(())
+}
+
+/// The list of the first line alone.
+fn first(alloc: Global) -> Result<List, Fail> {
+    let mut list = list_of(Vec::new(alloc));
+    let line = Reader::new(alloc).read_line(&Flat::new(LINES), 0)?;
+    add(alloc, &line, 0, &mut list)?;
+    Ok(list)
+}
+
+// After a growth that was refused the list is what it was.
+#[test]
+fn each_growth(rt: HostRuntime) -> Result<(), Fail> {
+    let alloc = rt.alloc();
+    let mut growths = Growths::of(alloc);
+    let before = shown(alloc, &first(alloc)?)?;
+    let second = Reader::new(alloc).read_line(&Flat::new(LINES), SECOND)?;
+    for _ in 1..200 {
+        let mut list = first(alloc)?;
+        growths.refuse_next();
+        let added = add(alloc, &second, SECOND, &mut list);
+        if !growths.is_met() {
+            added?;
+            assert!(rt; 1 < list.entries.len());
+            break;
+        }
+        assert!(rt; added.is_err());
+        assert_eq!(rt; shown(alloc, &list)?.as_str(), before.as_str());
+    }
+    assert!(rt; growths.were_each_refused());
+    Ok(())
+}
