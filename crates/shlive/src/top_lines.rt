@@ -32,9 +32,13 @@ impl Model for TopLine {
 }
 
 impl TopLine {
-    fn new(kind: LineKind) -> TopLine
+    /// It is held for long, so the room of its list that no entry takes is given back.
+    fn new(mut kind: LineKind) -> TopLine
         ensures { result ≡ view_kind kind }
     {
+        if let LineKind::Entries(list) = &mut kind {
+            list.entries.shrink_to_fit();
+        }
         TopLine { kind }
     }
 
