@@ -1,11 +1,12 @@
 /* Refuses one growth of a process, counted from where it is asked for. tests/refused-growths loads it by LD_PRELOAD.
 
    A process asks by a request for PTRDIFF_MAX - n bytes, 1 <= n < 65536, which no allocator grants: the nth growth from there on
-   is refused, and no later one. With REFUSE=n in the environment it is the nth growth of the process. To the file named by
-   REFUSE_LOG it writes a line "loaded" at the start, and a line "refused" for each refusal at once. */
+   is refused, and no later one. With REFUSE=n in the environment it is the nth growth of the process. A block that is made smaller
+   is no growth. To the file named by REFUSE_LOG it writes a line "loaded" at the start, and a line "refused" for each refusal at once. */
 #define _GNU_SOURCE
 #include <dlfcn.h>
 #include <fcntl.h>
+#include <malloc.h>
 #include <stddef.h>
 #include <stdint.h>
 #include <stdlib.h>
@@ -55,7 +56,14 @@ void *malloc(size_t size)
     return is_refused() ? NULL : next_malloc(size);
 }
 
+/* A block has less than 16 bytes more than were asked for, but for the smallest ones, which have room for 24. */
+static int is_made_smaller(void *old, size_t size)
+{
+    size_t room = malloc_usable_size(old);
+    return room > 24 && size + 16 <= room;
+}
+
 void *realloc(void *old, size_t size)
 {
-    return is_refused() ? NULL : next_realloc(old, size);
+    return !is_made_smaller(old, size) && is_refused() ? NULL : next_realloc(old, size);
 }
