@@ -6,7 +6,7 @@
 
 PREFIX = /usr/local
 PROGRAM = crates/shform/out/shform
-TESTS = crates/shtests/out/shtests_tests crates/shlivetests/out/shlivetests_tests crates/shform/out/shform_tests
+TESTS = crates/shtreetests/out/shtreetests_tests crates/shtests/out/shtests_tests crates/shlivetests/out/shlivetests_tests crates/shform/out/shform_tests
 
 .PHONY: all test scripts bench install
 

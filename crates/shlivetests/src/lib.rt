@@ -1,5 +1,5 @@
-//! The tests of the printer and of sessions, over their public calls, beside those of the crate `shtests`, whose devices and refused
-//! growths they use.
+//! The tests of the printer and of sessions, over their public calls. The devices and the refused growths that they use are those of the
+//! crate `shtreetests`.
 //!
 //! Start with the module of what is tested: `printer_..` are the tests of `shprint`, `session_..` those of `shlive`; those in
 //! `.._refused` refuse each growth of memory in turn. `spliced` is the model by which edits are judged, `windows` that of what they read.

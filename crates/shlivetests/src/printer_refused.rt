@@ -2,8 +2,8 @@
 use shpieces::{PrintError, Printing, print_source};
 use shprint::{Layout, print};
 use shread::Reader;
-use shtests::growths::Growths;
 use shtext::Flat;
+use shtreetests::growths::Growths;
 use std::alloc::{AllocError, Global};
 use std::test::Fail;
 

@@ -4,8 +4,8 @@ use crate::session_runs::{Dice, alike_at_each, opened, page_of};
 use crate::spliced::spliced;
 use crate::windows::window;
 use shlive::{Session, run};
-use shtests::devices::{PAGE, Tape};
 use shtext::{Input, Output};
+use shtreetests::devices::{PAGE, Tape};
 use std::alloc::Global;
 use std::test::Fail;
 

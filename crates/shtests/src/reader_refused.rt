@@ -4,11 +4,11 @@ ghost use Rattle.shread.specs.LineByLine.{bytes_of, place_of};
 ghost use Rattle.shast.specs.Nodes.{AreWithin};
 ghost use Rattle.shast.specs.View.{view_list};
 
-use crate::growths::Growths;
 use shread::{Line, LineKind, ReadError, Reader, ScriptLine, ScriptLines, faultless_front};
 use shtext::{Flat, Source};
 use shtree::laws::greater_limit;
 use shtree::{List, NodeKind, NodeLine};
+use shtreetests::growths::Growths;
 use std::alloc::{AllocError, Global};
 use std::process::Abort;
 use std::test::Fail;

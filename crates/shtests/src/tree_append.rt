@@ -3,12 +3,12 @@ ghost use Rattle.std.specs.Prelude.{ℕ, ◌-◌, ◌<◌, ◌≤◌, ◌^◌};
 ghost use Rattle.shgrammar.specs.Lines.{EntriesEverywhere};
 ghost use Rattle.shread.specs.Answers.{view_kind};
 
-use crate::growths::Growths;
-use crate::tree_bodies::shown;
 use shread::{Line, LineKind, Reader};
 use shtext::Flat;
 use shtree::make::list_of;
 use shtree::{List, append_at};
+use shtreetests::growths::Growths;
+use shtreetests::shown::shown;
 use std::alloc::{AllocError, Global};
 use std::process::Abort;
 use std::test::Fail;

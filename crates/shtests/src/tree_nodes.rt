@@ -4,11 +4,11 @@ ghost use Rattle.std.specs.Prelude.{◌-◌};
 ghost use Rattle.shast.specs.Nodes.{AreWithin};
 ghost use Rattle.shast.specs.View.{view_list};
 
-use crate::tree_built::Script;
 use shread::Reader;
 use shtext::Flat;
 use shtree::laws::greater_limit;
 use shtree::{List, NodeKind, NodeLine, Span, nodes_at, outline_of};
+use std::alloc::Global;
 use std::process::Abort;
 use std::test::Fail;
 
@@ -24,15 +24,26 @@ const EARLIER: NodeLine = NodeLine {
 
 type Row<'a> = (NodeKind, &'a str, &'a str);
 
-fn placed(span: Span) -> Span {
-    Span {
-        start: BASE.saturating_add(span.start),
-        end: BASE.saturating_add(span.end),
+/// A script whose nodes are told by their texts: each text stands first where its node does.
+#[derive(Clone, Copy)]
+struct Script<'a> {
+    alloc: Global,
+    text: &'a str,
+}
+
+impl<'a> Script<'a> {
+    /// Where the node of this text stands, at the base.
+    fn placed(self, piece: &str) -> Span {
+        let start = BASE.saturating_add(self.text.find(piece).unwrap_or(usize::MAX));
+        Span {
+            start,
+            end: start.saturating_add(piece.len()),
+        }
     }
 }
 
 fn line_of(script: Script, row: &Row) -> NodeLine {
-    let span = placed(script.at(row.1));
+    let span = script.placed(row.1);
     NodeLine {
         start: span.start,
         end: span.end,
@@ -40,7 +51,7 @@ fn line_of(script: Script, row: &Row) -> NodeLine {
         name: if row.2.is_empty() {
             None
         } else {
-            Some(placed(script.at(row.2)))
+            Some(script.placed(row.2))
         },
     }
 }

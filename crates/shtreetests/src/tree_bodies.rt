@@ -1,4 +1,5 @@
 // Documents in each place of a list. The body of each is the text of its delimiter, which tells one from the other.
+use crate::shown::shown;
 use crate::tree_built::Script;
 use shtree::make::{
     and_or_of, argument_of, branch_of, case_item_of, case_of, command_entry, compound_of, for_of,
@@ -103,12 +104,6 @@ impl<'a> Documents<'a> {
         list.entries.push(self.around()?)?;
         Ok(list)
     }
-}
-
-pub(crate) fn shown(alloc: Global, list: &List) -> Result<String, Fail> {
-    let mut text = String::new(alloc);
-    write!(text, "{list:?}")?;
-    Ok(text)
 }
 
 fn spans(script: Script) -> Result<Vec<Span>, AllocError> {
