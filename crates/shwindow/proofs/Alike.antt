@@ -1,5 +1,5 @@
 -- Two readers that have the same lines that ended: then they have the same boundaries and windows.
-use Rattle.std.proofs.Common.{◌≡◌, ℕ, ◌≤◌, true, List}
+use Rattle.std.proofs.Common.{◌≡◌, ℕ, true, List}
 use Rattle.shwindow.specs.declared.line.HeldLine.{HeldLine}
 use Rattle.shwindow.specs.Lines.{IsBoundary, at_start, behind}
 use Rattle.shwindow.specs.Window.{Begins, Ends, IsShared, IsWindow, meets, never}

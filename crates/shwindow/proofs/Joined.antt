@@ -4,8 +4,9 @@ use Rattle.std.proofs.lemmas.Bool.{cases_lt}
 use Rattle.std.proofs.lemmas.List.{append-nil, drop_all, drop_at, drop-set-lt, get_or_default, get_or_past, get_or-take, length-append, length-set, length-take-le, set-get_or, take-append-drop, take_all, take_at, take_more, take_more_set, take-take}
 use Rattle.std.proofs.Math.Numerals.{add-one}
 use Rattle.std.proofs.Math.Seq.{drop-cons, drop-nil}
-use Rattle.shwindow.specs.Blocks.{IsPlace, block_at, first_of, joined, lines_before, lines_from, replaced}
+use Rattle.shwindow.specs.Blocks.{IsPlace, block_at, first_of, joined, lines_before, lines_from}
 use Rattle.shwindow.specs.Lines.{Reads, IsBoundary, IsRow, at_start, extent}
+use Rattle.shwindow.specs.Places.{in_block}
 use Rattle.shwindow.specs.declared.line.HeldLine.{HeldLine}
 use Rattle.shwindow.specs.declared.place.Place.{Place}
 use Rattle.shwindow.proofs.Rows.{extent_append, extent_none, extent_read, extent_whole, row_at}
@@ -23,6 +24,23 @@ joined_split n ks = sym (joined_append (take n ks) (drop n ks)) ∙ ap joined (t
 pub joined_push : {X : Type 0} (ks : Row (Row X)) (k : Row X) → joined (ks ++ k ∷ []) ≡ joined ks ++ k
 unfolding joined
 joined_push ks k = joined_append ks (k ∷ []) ∙ ap (λ x. joined ks ++ x) (append-nil k)
+
+-- one block at most
+pub joined_empty : {X : Type 0} (ks : Row (Row X)) → length ks ≡ 0 → joined ks ≡ []
+unfolding joined
+joined_empty [] none = refl
+joined_empty (k ∷ ks) none = absurd (omega arith)
+
+pub joined_one : {X : Type 0} (ks js : Row (Row X)) (k : Row X) → ks ≡ js ++ k ∷ [] → length ks ≤ 1 → joined ks ≡ k
+joined_one ks js k is few =
+    let long = ap length is in
+    let none : length js ≡ 0 = omega (arith, long, length-append js (k ∷ [])) in
+    ap joined is ∙ joined_push js k ∙ ap (λ x. x ++ k) (joined_empty js none)
+
+pub joined_single : {X : Type 0} (ks : Row (Row X)) → length ks ≡ 1 → joined ks ≡ block_at ks 0
+unfolding joined
+joined_single [] one = absurd (omega arith)
+joined_single (k ∷ ks) one = ap (λ x. k ++ x) (joined_empty ks (omega arith)) ∙ append-nil k
 
 -- a block that was read
 pub block_read : {X : Type 0} (ks : Row (Row X)) (n : ℕ) (k : Row X) → n < length ks → k ≡ get_or ks n k → k ≡ block_at ks n
@@ -219,10 +237,36 @@ put_back ks rs n k l low is same taken =
     ∙ joined_split (n + 1) ks
 
 -- other blocks between
-pub joined_between : {X : Type 0} (ks new : Row (Row X)) (m n : ℕ) → joined (take m ks ++ (new ++ drop n ks)) ≡ replaced ks m n new
+pub joined_between : {X : Type 0} (ks new : Row (Row X)) (m n : ℕ) → joined (take m ks ++ (new ++ drop n ks)) ≡ joined (take m ks) ++ (joined new ++ joined (drop n ks))
 joined_between ks new m n = joined_append (take m ks) (new ++ drop n ks) ∙ ap (λ x. joined (take m ks) ++ x) (joined_append new (drop n ks))
 
+-- a block that keeps the lines before a place
+pub kept_joined : {X : Type 0} (ks : Row (Row X)) (p : Place) (k : Row X) → p.block < length ks → k ≡ take p.line (block_at ks p.block) → joined (take (p.block + 1) (set ks p.block k)) ≡ lines_before ks p
+kept_joined ks p k low is = ap joined (take_more_set ks p.block k low) ∙ joined_push (take p.block ks) k ∙ ap (λ x. joined (take p.block ks) ++ x) is
+
+-- other lines between, in one block
+between_parts : {X : Type 0} (front head new tail rest : Row X) → front ++ ((head ++ (new ++ tail)) ++ rest) ≡ (front ++ head) ++ (new ++ (tail ++ rest))
+between_parts front head new tail rest =
+    ap (λ x. front ++ x) (append_assoc head (new ++ tail) rest ∙ ap (λ x. head ++ x) (append_assoc new tail rest)) ∙ sym (append_assoc front head (new ++ (tail ++ rest)))
+
+pub between_joined : {X : Type 0} (ks : Row (Row X)) (p : Place) (to : ℕ) (new k : Row X) → p.block < length ks → k ≡ take p.line (block_at ks p.block) ++ (new ++ drop to (block_at ks p.block))
+    → joined (set ks p.block k) ≡ lines_before ks p ++ (new ++ lines_from ks (in_block p to))
+between_joined ks p to new k low is =
+    joined_set p.block ks k low
+    ∙ ap (λ x. joined (take p.block ks) ++ (x ++ joined (drop (p.block + 1) ks))) is
+    ∙ between_parts (joined (take p.block ks)) (take p.line (block_at ks p.block)) new (drop to (block_at ks p.block)) (joined (drop (p.block + 1) ks))
+
 -- ---- bytes of lines in blocks
+
+-- those of the block then are among all
+pub extent_between_blocks : {K : Type 0} (ks : Row (Row (HeldLine K))) (p : Place) (to : ℕ) (new : Row (HeldLine K))
+    → extent (take p.line (block_at ks p.block) ++ (new ++ drop to (block_at ks p.block))) ≤ extent (lines_before ks p ++ (new ++ lines_from ks (in_block p to)))
+extent_between_blocks ks p to new =
+    let front = joined (take p.block ks) in
+    let k = take p.line (block_at ks p.block) ++ (new ++ drop to (block_at ks p.block)) in
+    let rest = joined (drop (p.block + 1) ks) in
+    let all = ap extent (between_parts front (take p.line (block_at ks p.block)) new (drop to (block_at ks p.block)) rest) in
+    omega (arith, all, extent_append front (k ++ rest), extent_append k rest)
 
 -- the bytes up to the end of a block
 pub extent_more_blocks : {K : Type 0} (n : ℕ) (ks : Row (Row (HeldLine K))) → n < length ks → extent (joined (take (n + 1) ks)) ≡ extent (joined (take n ks)) + extent (block_at ks n)

@@ -2,6 +2,7 @@ pub mod Boundaries
 pub mod Hands
 pub mod Joined
 pub mod Mending
+pub mod Places
 pub mod Reading
 pub mod Rows
 pub mod Splices

@@ -1,28 +1,26 @@
 -- How a row of held lines is mended: what stays before the window, and what was read.
-use Rattle.std.proofs.Common.{◌≡◌, ℕ, ◌+◌, ◌-◌, ◌<◌, ◌≤◌, true, List, [], ◌∷◌, ◌++◌, List as Row, drop, take, sym, ap, subst, ◌∙◌, refl, arith, append_assoc}
+use Rattle.std.proofs.Common.{◌≡◌, ℕ, ◌+◌, ◌-◌, ◌<◌, ◌≤◌, true, List, [], ◌∷◌, ◌++◌, List as Row, drop, sym, ap, subst, ◌∙◌, refl, arith, append_assoc}
 use Rattle.shwindow.specs.declared.line.HeldLine.{HeldLine}
-use Rattle.shwindow.specs.Blocks.{joined, lines_from}
+use Rattle.shwindow.specs.Blocks.{joined, lines_before, lines_from}
 use Rattle.shwindow.specs.Held.{HasReadNoMore, HasReadWindow}
 use Rattle.shwindow.specs.Lines.{IsBoundary, IsRow, Reads, at_start, extent}
 use Rattle.shwindow.specs.Meter.{RoseWithin, risen}
 use Rattle.shwindow.specs.Reading.{IsBegun}
+use Rattle.shwindow.specs.declared.place.Place.{Place}
 use Rattle.shwindow.specs.Window.{Apart, Begins, Ends}
-use Rattle.shwindow.proofs.Joined.{joined_at, joined_split}
+use Rattle.shwindow.proofs.Joined.{place_split}
 use Rattle.shwindow.proofs.Reading.{push_some, rose}
 use Rattle.shwindow.proofs.Rows.{row_alone, row_at}
 use Rattle.shwindow.proofs.Steps.{begins_here}
 use Rattle.shwindow.proofs.Windows.{begins_only, front_stays, window_only}
 
--- all lines are those before the cut and those behind it
-pub cut_split : {K : Type 0} (ks : Row (Row (HeldLine K))) (n : ℕ) (last : HeldLine K) (hs left : Row (HeldLine K)) → joined ks ++ last ∷ [] ≡ hs → left ≡ joined (drop n ks) ++ last ∷ [] → hs ≡ joined (take n ks) ++ left
-cut_split ks n last hs left all is =
+-- all lines are those before a place and those from it on
+pub cut_split : {K : Type 0} (ks : Row (Row (HeldLine K))) (p : Place) (last : HeldLine K) (hs left : Row (HeldLine K)) → joined ks ++ last ∷ [] ≡ hs → left ≡ lines_from ks p ++ last ∷ [] → hs ≡ lines_before ks p ++ left
+cut_split ks p last hs left all is =
     sym all
-    ∙ ap (λ x. x ++ last ∷ []) (sym (joined_split n ks))
-    ∙ append_assoc (joined (take n ks)) (joined (drop n ks)) (last ∷ [])
-    ∙ ap (λ x. joined (take n ks) ++ x) (sym is)
-
-pub from_block : {K : Type 0} (ks : Row (Row (HeldLine K))) (n : ℕ) (last : HeldLine K) → lines_from ks (record { block = n; line = 0 }) ++ last ∷ [] ≡ joined (drop n ks) ++ last ∷ []
-from_block ks n last = ap (λ x. x ++ last ∷ []) (sym (joined_at n ks))
+    ∙ ap (λ x. x ++ last ∷ []) (sym (place_split ks p))
+    ∙ append_assoc (lines_before ks p) (lines_from ks p) (last ∷ [])
+    ∙ ap (λ x. lines_before ks p ++ x) (sym is)
 
 -- the first line behind the cut ends past a, if it ended
 past_first : {K : Type 0} (Is : List ℕ → HeldLine K → Type 0) (a begin : ℕ) (xs : Row (HeldLine K)) (last : HeldLine K) → ((h : HeldLine K) (hs : Row (HeldLine K)) → xs ≡ h ∷ hs → a < begin + h.len)

@@ -1,6 +1,6 @@
 -- Rows of lines: their bytes, and where their lines begin.
-use Rattle.std.proofs.Common.{◌≡◌, ℕ, ◌+◌, true, false, List, [], ◌∷◌, ◌++◌, List as Row, length, take, drop, get_or, ◌<◌, ◌≤◌, refl, sym, ap, subst, ◌∙◌, arith}
-use Rattle.std.proofs.lemmas.List.{length-drop, drop-drop, take-append-drop, take_more, take_all}
+use Rattle.std.proofs.Common.{◌≡◌, ℕ, ◌+◌, ◌-◌, true, false, List, [], ◌∷◌, ◌++◌, List as Row, length, take, drop, get_or, ◌<◌, ◌≤◌, refl, sym, ap, subst, ◌∙◌, arith}
+use Rattle.std.proofs.lemmas.List.{length-append, length-drop, length-take-le, drop-drop, take-append-drop, take_more, take_all}
 use Rattle.shwindow.specs.declared.line.HeldLine.{HeldLine}
 use Rattle.shwindow.specs.Lines.{Reads, extent, IsRow, last_line, more_lines, IsBoundary, behind}
 
@@ -23,6 +23,21 @@ extent_push (h ∷ hs) l = let rest = extent_push hs l in omega (arith, rest)
 pub extent_split : {K : Type 0} (n : ℕ) (hs : Row (HeldLine K)) → extent (take n hs) + extent (drop n hs) ≡ extent hs
 extent_split n hs = sym (extent_append (take n hs) (drop n hs)) ∙ ap extent (take-append-drop n hs)
 
+-- those between two places too
+pub extent_slice : {K : Type 0} (m n : ℕ) (hs : Row (HeldLine K)) → m ≤ n → extent (take m hs) + (extent (take (n - m) (drop m hs)) + extent (drop n hs)) ≡ extent hs
+extent_slice m n hs low =
+    let there : m + (n - m) ≡ n = omega arith in
+    let rest = ap extent (drop-drop (n - m) m hs ∙ ap (λ x. drop x hs) there) in
+    omega (arith, rest, extent_split m hs, extent_split (n - m) (drop m hs))
+
+-- with other lines in the place of those
+pub extent_between : {K : Type 0} (m n : ℕ) (hs new : Row (HeldLine K)) → extent (take m hs ++ (new ++ drop n hs)) ≡ extent (take m hs) + (extent new + extent (drop n hs))
+extent_between m n hs new = omega (arith, extent_append (take m hs) (new ++ drop n hs), extent_append new (drop n hs))
+
+pub some_between : {X : Type 0} (m n : ℕ) (xs new : Row X) → m ≤ n → n ≤ length xs → n - m < length xs + length new → 0 < length (take m xs ++ (new ++ drop n xs))
+some_between m n xs new low high some =
+    omega (arith, length-append (take m xs) (new ++ drop n xs), length-append new (drop n xs), length-take-le m xs (omega arith), length-drop n xs)
+
 -- the bytes of lines up to one, and with that one
 pub extent_more : {K : Type 0} (n : ℕ) (hs : Row (HeldLine K)) (d : HeldLine K) → n < length hs → extent (take (n + 1) hs) ≡ extent (take n hs) + (get_or hs n d).len
 extent_more n hs d low = ap extent (take_more hs n d low) ∙ extent_push (take n hs) (get_or hs n d)
@@ -36,6 +51,9 @@ extent_take n hs = omega (arith, extent_split n hs)
 
 pub extent_whole : {K : Type 0} (n : ℕ) (hs : Row (HeldLine K)) → length hs ≤ n → extent (take n hs) ≡ extent hs
 extent_whole n hs high = ap extent (take_all n hs high)
+
+pub extent_past : {K : Type 0} (n : ℕ) (hs : Row (HeldLine K)) → length hs ≤ n → extent (drop n hs) ≡ 0
+extent_past n hs high = omega (arith, extent_split n hs, extent_whole n hs high)
 
 -- no lines have none
 pub extent_none : (K : Type 0) → extent {K = K} [] ≡ 0

@@ -26,7 +26,3 @@ pub record IsPlace {X : Type 0} (ks : Row (Row X)) (p : Place) : Type 0 where
 abbrev pub first_of : {X : Type 0} → Row X → Option X
 first_of [] = None
 first_of (x ∷ xs) = Some x
-
--- all lines, with those of other blocks in the place of those from one block up to another
-abbrev pub replaced : {X : Type 0} → Row (Row X) → ℕ → ℕ → Row (Row X) → Row X
-replaced ks m n new = joined (take m ks) ++ (joined new ++ joined (drop n ks))

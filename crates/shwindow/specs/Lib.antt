@@ -2,6 +2,7 @@ pub mod Lines
 pub mod Window
 pub mod Hand
 pub mod Blocks
+pub mod Places
 pub mod Laws
 pub mod Meter
 pub mod Walks

@@ -1,14 +1,15 @@
 //! Some lines that ended, with the sum of their bytes.
-ghost use Rattle.std.specs.Prelude.{◌≡◌, ◌+◌, ◌<◌, ◌≤◌, ◌^◌, ◌++◌, ◌∷◌, [], List as Row, IfErr, IfOk, OnErr, OnOk, drop, length, take};
+ghost use Rattle.std.specs.Prelude.{◌≡◌, ◌+◌, ◌-◌, ◌<◌, ◌≤◌, ◌^◌, ◌++◌, ◌∷◌, [], List as Row, IfErr, IfOk, OnErr, OnOk, drop, length, take, vec_len};
 ghost use Rattle.shwindow.specs.Lines.{extent};
 ghost use Rattle.shwindow.specs.declared.line.HeldLine.{HeldLine};
 
+use crate::items::exchange;
 use crate::line::HeldLine;
 use std::alloc::{AllocError, Global};
 use std::marker::Model;
 
 /// The most lines that a block has.
-pub(crate) const MOST_LINES: usize = 4096;
+pub(crate) const MOST_LINES: usize = 512;
 
 /// Lines that ended, one after the other. There is one at least.
 #[derive(Drop)]
@@ -57,6 +58,13 @@ impl<K: Drop> Block<K> {
         self.len
     }
 
+    /// The lines, as they are held.
+    pub(crate) fn into_lines(self) -> Vec<HeldLine<K>>
+        ensures { result.items ≡ self }
+    {
+        self.lines
+    }
+
     /// Adds a line.
     #[tactic(auto, using(crate::proofs::Rows::extent_push))]
     pub(crate) fn push(&mut self, line: HeldLine<K>) -> Result<(), AllocError>
@@ -83,6 +91,39 @@ impl<K: Drop> Block<K> {
         let len = bytes_of(&lines);
         self.len -= len;
         Ok(Block { lines, len })
+    }
+
+    /// Keeps the lines before one that is not the first.
+    pub(crate) fn keep(&mut self, count: usize)
+        requires some { 0 < count }
+        requires within { count ≤ length self.old }
+        ensures { self.new ≡ take count self.old }
+    {
+        let gone = bytes_of(&self.lines[count..]);
+        self.lines.truncate(count);
+        self.len -= gone;
+    }
+
+    /// Puts other lines in the place of those from `from` up to `to`. Some are left. Where as many come as go, no other line moves, and no
+    /// memory is wanted.
+    pub(crate) fn replace(
+        &mut self,
+        from: usize,
+        to: usize,
+        new: Vec<HeldLine<K>>,
+    ) -> Result<(), AllocError>
+        requires order { from ≤ to }
+        requires within { to ≤ length self.old }
+        requires some { to - from < length self.old + vec_len new }
+        requires fits { extent (take from self.old ++ (new.items ++ drop to self.old)) < 2 ^ 64 }
+        ensures ok { OnOk result (self.new ≡ take from self.old ++ (new.items ++ drop to self.old)) }
+        ensures err { OnErr result (self.new ≡ self.old) }
+    {
+        let gone = bytes_of(&self.lines[from..to]);
+        let come = bytes_of(&new);
+        exchange(&mut self.lines, from, to, new)?;
+        self.len = self.len - gone + come;
+        Ok(())
     }
 
     /// Adds the lines of another, or gives them back where memory is wanting.

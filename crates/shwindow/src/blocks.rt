@@ -1,13 +1,13 @@
 //! Lines that ended, in blocks, so that neither finding a line nor replacing some walks over all of them or moves them.
-ghost use Rattle.std.specs.Prelude.{◌≡◌, ◌+◌, ◌-◌, ◌<◌, ◌≤◌, ◌^◌, ◌++◌, ◌∷◌, [], ℕ, List as Row, OnErr, OnOk, IfOk, drop, false, length, option_map, take, vec_capacity, vec_len};
-ghost use Rattle.shwindow.specs.Blocks.{IsPlace, first_of, joined, lines_before, lines_from, replaced};
+ghost use Rattle.std.specs.Prelude.{◌≡◌, ◌+◌, ◌-◌, ◌<◌, ◌≤◌, ◌^◌, ◌++◌, ◌∷◌, [], ℕ, List as Row, OnErr, OnOk, IfOk, IfSome, IsSome, drop, false, length, option_map, take, vec_capacity, vec_len};
+ghost use Rattle.shwindow.specs.Blocks.{IsPlace, block_at, first_of, joined, lines_before, lines_from};
+ghost use Rattle.shwindow.specs.Places.{IsNotBehind};
 ghost use Rattle.shwindow.specs.Lines.{extent};
 ghost use Rattle.shwindow.specs.declared.line.HeldLine.{HeldLine};
 
 use crate::block::{Block, MOST_LINES};
 use crate::line::HeldLine;
 use crate::place::Place;
-use shtext::replace_items;
 use std::alloc::{AllocError, Global};
 
 /// Lines that ended, in order.
@@ -72,7 +72,7 @@ impl<K: Drop> Blocks<K> {
         requires place { IsPlace self.now.blocks.items place }
         requires within { place.block < vec_len self.now.blocks }
         ensures place { IsPlace self.now.blocks.items result }
-        ensures order { place.block ≤ result.block }
+        ensures order { IsNotBehind place result }
         ensures rest { (line : HeldLine K) × (lines_from self.now.blocks.items place ≡ line ∷ lines_from self.now.blocks.items result) }
     {
         let block = &self.blocks[place.block];
@@ -87,6 +87,30 @@ impl<K: Drop> Blocks<K> {
                 block: place.block + 1,
                 line: 0,
             }
+        }
+    }
+
+    /// How many lines there are, if they are in one block at most.
+    pub(crate) fn few(&self) -> Option<usize>
+        ensures few { IsSome result → vec_len self.now.blocks ≤ 1 }
+        ensures count { IfSome result (λ n. n ≡ length (joined self.now.blocks.items)) }
+    {
+        match self.blocks.len() {
+            0 => Some(0),
+            1 => Some(self.blocks[0].lines().len()),
+            _ => None,
+        }
+    }
+
+    /// The lines, which are in one block at most.
+    pub(crate) fn into_lines(self) -> Vec<HeldLine<K>>
+        requires { vec_len self.blocks ≤ 1 }
+        ensures { result.items ≡ joined self.blocks.items }
+    {
+        let Blocks { alloc, mut blocks } = self;
+        match blocks.pop() {
+            Some(block) => block.into_lines(),
+            None => Vec::new(alloc),
         }
     }
 
@@ -128,7 +152,8 @@ impl<K: Drop> Blocks<K> {
         ensures before { IfOk result (λ n. joined (take n self.new.blocks.items) ≡ lines_before self.old.blocks.items place) }
         ensures from { IfOk result (λ n. joined (drop n self.new.blocks.items) ≡ lines_from self.old.blocks.items place) }
         ensures front { OnOk result (take place.block self.new.blocks.items ≡ take place.block self.old.blocks.items) }
-        ensures order { IfOk result (λ n. (place.block ≤ n) × (n ≤ vec_len self.new.blocks)) }
+        ensures order { IfOk result (λ n. (place.block ≤ n) × (n ≤ vec_len self.new.blocks) × (0 < place.line → n ≡ place.block + 1)) }
+        ensures head { OnOk result (take place.line (block_at self.new.blocks.items place.block) ≡ take place.line (block_at self.old.blocks.items place.block)) }
         ensures err { OnErr result (self.new.blocks.items ≡ self.old.blocks.items) }
     {
         if place.line == 0 {
@@ -141,59 +166,8 @@ impl<K: Drop> Blocks<K> {
         Ok(place.block + 1)
     }
 
-    /// Cuts before the first line that ends behind an offset. Answers the block that begins there, and the offset where it does; behind all
-    /// blocks if no line ends behind it. No line changes.
-    pub(crate) fn begin_at(&mut self, at: usize) -> Result<(usize, usize), AllocError>
-        requires { extent (joined self.old.blocks.items) < 2 ^ 64 }
-        ensures all { joined self.new.blocks.items ≡ joined self.old.blocks.items }
-        ensures within { IfOk result (λ r. r.0 ≤ vec_len self.new.blocks) }
-        ensures begin { IfOk result (λ r. r.1 ≡ extent (joined (take r.0 self.new.blocks.items))) }
-        ensures low { IfOk result (λ r. r.1 ≤ at) }
-        ensures past { IfOk result (λ r. (line : HeldLine K) (lines : Row (HeldLine K)) → joined (drop r.0 self.new.blocks.items) ≡ line ∷ lines →
-            at < r.1 + line.len) }
-    {
-        let (place, begin) = self.find(at);
-        let first = self.cut(place)?;
-        Ok((first, begin))
-    }
-
-    /// Puts other lines in the place of those from a block up to a place.
-    pub(crate) fn replace_lines(
-        &mut self,
-        first: usize,
-        upto: Place,
-        new: Blocks<K>,
-    ) -> Result<(), AllocError>
-        requires place { IsPlace self.old.blocks.items upto }
-        requires order { first ≤ upto.block }
-        requires fits { extent (joined (take first self.old.blocks.items) ++ (joined new.blocks.items ++ lines_from self.old.blocks.items upto)) < 2 ^ 64 }
-        ensures ok { OnOk result (joined self.new.blocks.items ≡
-            joined (take first self.old.blocks.items) ++ (joined new.blocks.items ++ lines_from self.old.blocks.items upto)) }
-        ensures err { OnErr result (joined self.new.blocks.items ≡ joined self.old.blocks.items) }
-    {
-        let end = self.cut(upto)?;
-        self.replace(first, end, new)
-    }
-
-    /// Puts other lines in the place of those in the blocks from `from` up to `to`.
-    fn replace(&mut self, from: usize, to: usize, new: Blocks<K>) -> Result<(), AllocError>
-        requires order { from ≤ to }
-        requires within { to ≤ vec_len self.old.blocks }
-        requires fits { extent (replaced self.old.blocks.items from to new.blocks.items) < 2 ^ 64 }
-        ensures ok { OnOk result (joined self.new.blocks.items ≡ replaced self.old.blocks.items from to new.blocks.items) }
-        ensures err { OnErr result (self.new.blocks.items ≡ self.old.blocks.items) }
-    {
-        self.blocks.reserve(new.blocks.len())?;
-        let end = from + new.blocks.len();
-        replace_items(&mut self.blocks, from, to, new.blocks);
-        self.merge(end);
-        self.merge(end.saturating_sub(1));
-        self.merge(from.saturating_sub(1));
-        Ok(())
-    }
-
     /// Makes one block of a block and the next one, if they have few lines and there is memory. No line changes.
-    fn merge(&mut self, first: usize)
+    pub(crate) fn merge(&mut self, first: usize)
         requires { extent (joined self.old.blocks.items) < 2 ^ 64 }
         ensures { joined self.new.blocks.items ≡ joined self.old.blocks.items }
     {

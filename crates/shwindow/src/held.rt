@@ -82,17 +82,13 @@ impl<K: Drop> HeldLines<K> {
         ensures err { OnErr result ((B : List ℕ) → IsRow R.is_line B self.old → Apart B (S.bytes source.now) start end old_end →
             HasReadNoMore R.is_line B (S.bytes source.now) start end old_end (R.meter reader.old) (R.meter reader.new)) }
     {
-        let (first, begin) = self.blocks.begin_at(start)?;
-        let place = Place {
-            block: first,
-            line: 0,
-        };
+        let (place, begin) = self.blocks.find(start);
         let old = Lines::new(&self.blocks, &self.last, place);
         let alloc = self.blocks.alloc;
         let Window { lines, upto, last } = read_window(
             alloc, reader, source, old, begin, end, old_end,
         )?;
-        self.blocks.replace_lines(first, upto, lines)?;
+        self.blocks.replace_lines(place, upto, lines)?;
         let Some(last) = last else {
             return Ok(());
         };

@@ -14,9 +14,11 @@
 mod block;
 mod blocks;
 mod held;
+mod items;
 mod line;
 mod lines;
 mod place;
+mod replace;
 mod window;
 
 ghost use Rattle.std.specs.Prelude.{List, ℕ};

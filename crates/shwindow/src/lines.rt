@@ -1,6 +1,7 @@
 //! A walk over held lines.
 ghost use Rattle.std.specs.Prelude.{◌≡◌, ◌≤◌, ◌++◌, ◌∷◌, [], vec_len};
 ghost use Rattle.shwindow.specs.Blocks.{IsPlace, lines_from};
+ghost use Rattle.shwindow.specs.Places.{IsNotBehind};
 
 use crate::blocks::Blocks;
 use crate::line::HeldLine;
@@ -40,7 +41,7 @@ impl<'a, K: Drop> Lines<'a, K> {
     /// The place behind the lines that ended.
     pub(crate) fn end(&self) -> Place
         ensures place { IsPlace self.now.blocks.now.blocks.items result }
-        ensures block { result.block ≡ vec_len self.now.blocks.now.blocks }
+        ensures order { IsNotBehind self.now.place result }
         ensures rest { lines_from self.now.blocks.now.blocks.items result ≡ [] }
     {
         self.blocks.end()
@@ -51,7 +52,7 @@ impl<'a, K: Drop> Lines<'a, K> {
         ensures step { YieldsFirstBy (λ line. line.now) lines_left self.old result self.new }
         ensures blocks { self.new.blocks ≡ self.old.blocks }
         ensures last { self.new.last ≡ self.old.last }
-        ensures order { self.old.place.block ≤ self.new.place.block }
+        ensures order { IsNotBehind self.old.place self.new.place }
     {
         if self.past {
             return None;

@@ -9,6 +9,7 @@ use Rattle.shwindow.specs.Reading.{IsBegun}
 use Rattle.shwindow.specs.Meter.{RoseWithin, risen}
 use Rattle.shwindow.specs.Walks.{lines_left}
 use Rattle.shwindow.specs.Window.{Ends}
+use Rattle.shwindow.proofs.Places.{not_behind_itself, not_behind_more}
 use Rattle.shwindow.proofs.Reading.{AtLine, at_last, at_low, at_met, at_more, at_passed, at_start, at_within, old_at_fits, on_err, push_some, risen_more, risen_none, same_from, same_left}
 use Rattle.shwindow.proofs.Rows.{extent_none, extent_push}
 use Rattle.shwindow.proofs.Steps.{NotMet, Past}
@@ -25,7 +26,7 @@ lines-init g c =
       meter = sym (ap (λ read. risen meter (extent read)) none ∙ ap (risen meter) (extent_none g.row.K.Denot) ∙ risen_none meter);
       blocks = refl;
       last = refl;
-      order = omega arith;
+      order = not_behind_itself c.args.old.place;
     }
 
 -- the place is within the text
@@ -68,6 +69,9 @@ returns-then-meets-clause-lines g c =
     c.requires.begun.0 c.requires.begun.1 c.requires.begun.2 (joined c.lines.lines.blocks.items) c.lines.at c.pass.new.self.begin (lines_left c.pass.new.self.lines) (passed g (goal.at.returns-then-meets-clause-lines g c).After-pass) some met.0 (met.1 ∙ (ap (λ n. c.args.old_end + n) c.saturating_sub.ensures)) in
     subst (λ hs. IsRow g.R.LineReader.is_line (drop c.args.begin (g.S.Source.bytes c.args.source.now)) ((joined c.lines.lines.blocks.items) ++ hs)) left row.0
 
+pub returns-then-meets-clause-order : goal.returns-then-meets-clause-order
+returns-then-meets-clause-order g c = not_behind_more c.args.old.place c.lines.hand.lines.place c.pass.new.self.lines.place c.lines.invariant.order c.pass.ensures.order
+
 pub returns-then-meets-clause-ends : goal.returns-then-meets-clause-ends
 returns-then-meets-clause-ends g c = λ B a begun.
     let met = c.meets.ensures.met c.if-meets.true in
@@ -98,6 +102,12 @@ returns-then-not-line-clause-lines g c =
     let row = last_at g (goal.at.returns-then-not-line-clause-lines g c).In_ok-line (passed g (goal.at.returns-then-not-line-clause-lines g c).After-pass) (past g (goal.at.returns-then-not-line-clause-lines g c).After-pass) (not_met g (goal.at.returns-then-not-line-clause-lines g c).After-meets c.if-meets.false) c.if-not-line.true c.requires.begun.0 c.requires.begun.1 c.requires.begun.2 in
     subst (λ hs. IsRow g.R.LineReader.is_line (drop c.args.begin (g.S.Source.bytes c.args.source.now)) ((joined c.lines.lines.blocks.items) ++ (hs ++ c.in_ok-line.line ∷ []))) (sym none) row.0
 
+pub returns-then-not-line-clause-order : goal.returns-then-not-line-clause-order
+returns-then-not-line-clause-order g c =
+    not_behind_more c.args.old.place c.pass.new.self.lines.place c.end.result
+    (not_behind_more c.args.old.place c.lines.hand.lines.place c.pass.new.self.lines.place c.lines.invariant.order c.pass.ensures.order)
+    c.end.ensures.order
+
 pub returns-then-not-line-clause-ends : goal.returns-then-not-line-clause-ends
 returns-then-not-line-clause-ends g c = λ B a begun. (last_at g (goal.at.returns-then-not-line-clause-ends g c).In_ok-line (passed g (goal.at.returns-then-not-line-clause-ends g c).After-pass) (past g (goal.at.returns-then-not-line-clause-ends g c).After-pass) (not_met g (goal.at.returns-then-not-line-clause-ends g c).After-meets c.if-meets.false) c.if-not-line.true B a begun).1
 
@@ -121,14 +131,12 @@ more g c at past not_met ended = at_more g.R.LineReader.is_line g.met.R.LineRead
 pub lines-preserved : goal.lines-preserved
 lines-preserved g c =
     let pushed = c.in_ok-push.ensures in
-    let order = c.lines.invariant.order in
-    let onward = c.pass.ensures.order in
     record {
       at = subst (λ read. AtLine g.R.LineReader.is_line (g.S.Source.bytes c.args.source.now) c.args.«end» c.args.old_end c.args.begin (lines_left c.args.old) read (c.lines.at + c.in_ok-line.line.len) c.pass.new.self.begin (lines_left c.pass.new.self.lines)) (sym pushed) (more g (goal.at.lines-preserved g c).In_ok-line (passed g (goal.at.lines-preserved g c).After-pass) (past g (goal.at.lines-preserved g c).After-pass) (not_met g (goal.at.lines-preserved g c).After-meets c.if-meets.false) c.if-not-line.false);
       meter = read_at g (goal.at.lines-preserved g c).In_ok-line ∙ ap (λ read. risen (g.R.LineReader.meter c.args.reader.now) (extent read)) (sym pushed);
       blocks = blocks_of g (goal.at.lines-preserved g c).After-pass;
       last = c.pass.ensures.last ∙ c.lines.invariant.last;
-      order = omega arith;
+      order = not_behind_more c.args.old.place c.lines.hand.lines.place c.pass.new.self.lines.place c.lines.invariant.order c.pass.ensures.order;
     }
 
 pub returns-in_err-push-clause-err : goal.returns-in_err-push-clause-err

@@ -1,7 +1,8 @@
-use Rattle.std.proofs.Common.{◌≡◌, ◌-◌, ◌≤◌, length}
+use Rattle.std.proofs.Common.{◌≡◌, ◌-◌, length}
 use Rattle.shwindow.specs.Blocks.{joined}
 use Rattle.shwindow.specs.Lines.{extent}
 use Rattle.shwindow.specs.Meter.{risen}
+use Rattle.shwindow.specs.Places.{IsNotBehind}
 use Rattle.shwindow.specs.Walks.{lines_left}
 use Rattle.shwindow.proofs.Reading.{AtLine}
 use Rattle.shwindow.proofs.window.read_window.Given as goal
@@ -12,7 +13,7 @@ invariant-lines g l = record {
   meter : g.R.LineReader.meter l.reader ≡ risen (g.R.LineReader.meter l.initial.reader) (extent (joined l.lines.blocks.items));
   blocks : l.hand.lines.blocks ≡ l.fn.old.blocks;
   last : l.hand.lines.last ≡ l.fn.old.last;
-  order : l.fn.old.place.block ≤ l.hand.lines.place.block;
+  order : IsNotBehind l.fn.old.place l.hand.lines.place;
 }
 
 abbrev pub decreases-lines : goal.decreases-lines
