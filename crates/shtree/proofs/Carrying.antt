@@ -1,5 +1,5 @@
 -- A row of parts, copied one by one, with what f makes of their spans.
-use Rattle.std.proofs.Common.{true, ◌≡◌, ℕ, ◌+◌, ◌<◌, ◌≤◌, List as Row, [], ◌∷◌, ◌++◌, length, map, drop, get_or, refl, sym, ap, ◌∙◌, arith, append_assoc, append-nil}
+use Rattle.std.proofs.Common.{true, ◌≡◌, ℕ, ◌+◌, ◌<◌, ◌≤◌, List as Row, [], ◌∷◌, ◌++◌, length, map, drop, get_or, refl, sym, ap, ◌∙◌, append_assoc, append-nil}
 use Rattle.std.proofs.lemmas.List.{drop_more, map-append, drop_all}
 use Rattle.shast.specs.declared.tree.Span.{Span}
 use Rattle.shast.specs.declared.tree.Entry.{Entry}

@@ -1,11 +1,12 @@
 -- Nodes gathered from one part of a tree after another.
-use Rattle.std.proofs.Common.{◌≡◌, ℕ, zero, suc, ◌+◌, ◌<◌, ◌≤◌, Bool, true, false, List as Row, [], ◌∷◌, ◌++◌, length, map, get_or, refl, ap, arith, add-one, append_assoc}
+use Rattle.std.proofs.Common.{◌≡◌, ℕ, zero, suc, ◌+◌, ◌<◌, ◌≤◌, Bool, true, false, List as Row, [], ◌∷◌, ◌++◌, length, map, get_or, take, refl, ap, ◌∙◌, arith, add-one, append_assoc}
 use Rattle.std.specs.List.{filter}
-use Rattle.std.proofs.lemmas.List.{append-nil}
+use Rattle.std.proofs.Math.Seq.{take-length}
+use Rattle.std.proofs.lemmas.List.{append-nil, length-take, take-append-le}
 use Rattle.std.proofs.lemmas.List.Elements.{filter-append}
 use Rattle.shast.specs.declared.node.NodeLine.{NodeLine}
 use Rattle.shast.specs.declared.tree.Span.{Span}
-use Rattle.shtree.specs.Gathered.{gathered}
+use Rattle.shtree.specs.Gathered.{Begins, gathered}
 use Rattle.shast.specs.Tree.{AnEntry, AnAndOrPart, APipelinePart, ABranch, ACaseItem, AWord, AnItem, ASubst, entries_of, and_or_parts_of, pipeline_parts_of, branches_of, cases_of, patterns_of, items_of, substs_of}
 use Rattle.shast.specs.Nodes.{and_or_parts_nodes, branch_nodes, branches_nodes, case_nodes, cases_nodes, command_nodes, comment_node, entries_nodes, entry_nodes, item_nodes, items_nodes, patterns_nodes, pipeline_nodes, pipes_nodes, subst_nodes, substs_nodes, word_nodes}
 
@@ -34,6 +35,20 @@ gathered_wanted wanted so_far n is = rw is refl
 pub gathered_unwanted : (wanted : NodeLine → Bool) (so_far : Row NodeLine) (n : NodeLine) → wanted n ≡ false → gathered wanted so_far (n ∷ []) ≡ so_far
 unfolding gathered
 gathered_unwanted wanted so_far n is_not = rw is_not (append-nil so_far)
+
+-- ---- what nodes begin with
+
+pub begins_self : (ns : Row NodeLine) → Begins ns ns
+unfolding Begins
+begins_self ns = take-length ns
+
+begins_within : (first ns : Row NodeLine) → take (length first) ns ≡ first → length first ≤ length ns
+begins_within first ns h = omega (arith, length-take (length first) ns, ap length h)
+
+-- nodes more behind them
+pub begins_more : (first ns ms : Row NodeLine) → Begins first ns → Begins first (ns ++ ms)
+unfolding Begins
+begins_more first ns ms h = take-append-le (length first) ns ms (begins_within first ns h) ∙ h
 
 module _ {A : Type 0} (f : A → Row NodeLine) where
   -- the nodes of a row of parts from a place on: what a loop has still to gather

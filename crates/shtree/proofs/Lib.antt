@@ -3,3 +3,4 @@ pub mod Gathering
 pub mod InOrder
 pub mod Placed
 pub mod Carrying
+pub mod Tail

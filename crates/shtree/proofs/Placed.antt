@@ -1,13 +1,14 @@
 -- Nodes at a base: they stand in the order that they have without it.
-use Rattle.std.proofs.Common.{◌≡◌, ℕ, zero, suc, ◌+◌, ◌-◌, ◌<◌, ◌≤◌, Bool, true, false, List as Row, [], ◌∷◌, length, map, set, get_or, refl, sym, ap, ◌∙◌, arith, cond, add-one}
-use Rattle.std.specs.Prelude.{All, ◌&&◌, nat_le, nat_lt}
+use Rattle.std.proofs.Common.{◌≡◌, ℕ, zero, suc, ◌+◌, ◌-◌, ◌<◌, ◌≤◌, Bool, true, false, List as Row, [], ◌∷◌, length, map, set, get_or, refl, sym, ap, ◌∙◌, arith, cond, add-one, zero-add}
+use Rattle.std.specs.Prelude.{All, ◌&&◌, nat_le, nat_lt, Option, None, Some, option_map}
 use Rattle.std.specs.List.{filter}
 use Rattle.std.specs.Ordering.{nat_cmp}
 use Rattle.std.proofs.lemmas.Bool.Decides.{nat_tests}
 use Rattle.std.proofs.lemmas.List.Elements.{All-cons, All-filter, All-head, All-tail}
 use Rattle.shast.specs.declared.node.NodeLine.{NodeLine}
+use Rattle.shast.specs.declared.tree.Span.{Span}
 use Rattle.shast.specs.Tree.{Entries}
-use Rattle.shast.specs.Nodes.{by_place, entries_nodes, holds, in_order, in_outline, inserted, nodes_at, outline, placed}
+use Rattle.shast.specs.Nodes.{by_place, entries_nodes, holds, in_order, in_outline, inserted, nodes_at, outline, placed, placed_span}
 use Rattle.shtree.proofs.InOrder.{before, filter-in_order}
 
 cmp_moved : (b s t : ℕ) → nat_cmp (b + s) (b + t) ≡ nat_cmp s t
@@ -81,7 +82,7 @@ module _ (P : NodeLine → Type 0) where
         | false ↦ All-cons P n (m ∷ ms) h a
       ]
 
-  all_in_order : (ns : Row NodeLine) → All P ns → All P (in_order ns)
+  pub all_in_order : (ns : Row NodeLine) → All P ns → All P (in_order ns)
   all_in_order [] a = a
   all_in_order (n ∷ ns) a = all_inserted n (in_order ns) (All-head P n ns a) (all_in_order ns (All-tail P n ns a))
 
@@ -115,3 +116,15 @@ pub placed_all : (b : ℕ) (ns : Row NodeLine) → placed_from b ns 0 ≡ map (p
 unfolding placed_from
 placed_all b [] = refl
 placed_all b (n ∷ ns) = ap (λ r. placed b n ∷ r) (placed_all b ns)
+
+-- at the base 0 they stand where they do without one
+unplaced_span : (s : Span) → placed_span 0 s ≡ s
+unplaced_span s = rw (zero-add s.start, zero-add s.«end») refl
+
+unplaced_name : (name : Option Span) → option_map (placed_span 0) name ≡ name
+unplaced_name None = refl
+unplaced_name (Some s) = ap (λ t. Some t) (unplaced_span s)
+
+pub placed_nowhere : (ns : Row NodeLine) → map (placed 0) ns ≡ ns
+placed_nowhere [] = refl
+placed_nowhere (n ∷ ns) = rw (zero-add n.start, zero-add n.«end», unplaced_name n.name, placed_nowhere ns) refl

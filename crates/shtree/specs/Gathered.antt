@@ -1,7 +1,15 @@
 -- What a walk over a tree gathers of its nodes.
-use Rattle.std.specs.Prelude.{Bool, List as Row, ◌++◌, filter}
+use Rattle.std.specs.Prelude.{◌≡◌, Bool, List as Row, ◌++◌, filter, length, take}
 use Rattle.shast.specs.declared.node.NodeLine.{NodeLine}
 
 -- those of some nodes that are wanted, behind the nodes so far
 unfoldable pub gathered : (NodeLine → Bool) → Row NodeLine → Row NodeLine → Row NodeLine
 gathered wanted so_far ns = so_far ++ filter wanted ns
+
+-- nodes begin with these
+unfoldable pub Begins : Row NodeLine → Row NodeLine → Type 0
+Begins first ns = take (length first) ns ≡ first
+
+-- whatever the nodes began with, they begin with it still
+abbrev pub Keeps : Row NodeLine → Row NodeLine → Type 0
+Keeps before after = (first : Row NodeLine) → Begins first before → Begins first after

@@ -1,8 +1,9 @@
 //! The nodes of a script's tree, as an editor asks for them: what stands where in the text.
-ghost use Rattle.std.specs.Prelude.{◌≡◌, ◌-◌, ◌++◌, All, filter, IfOk, map, OnErr, OnOk};
+ghost use Rattle.std.specs.Prelude.{◌≡◌, ◌-◌, ◌++◌, All, filter, map, OnErr, OnOk};
 ghost use Rattle.shast.specs.declared.node.NodeLine.{NodeLine};
 ghost use Rattle.shast.specs.Nodes.{AreWithin, by_place, entries_nodes, holds, in_order, in_outline, IsWithin, nodes_at, outline, placed};
 ghost use Rattle.shast.specs.View.{view_list};
+ghost use Rattle.shtree.specs.Gathered.{Begins};
 
 use crate::visit::{Wanted, visit_list};
 use shast::{List, NodeLine};
@@ -27,8 +28,7 @@ pub fn outline_of(
     ensures ok { OnOk result (lines.new.items ≡ lines.old.items ++ outline base (view_list list.now)) }
     ensures err { OnErr result (lines.new.items ≡ lines.old.items) }
 {
-    let found = gather(alloc, list, Outlined)?;
-    add_at(base, found, lines)
+    add_nodes(alloc, list, base, Outlined, lines)
 }
 
 /// Adds the nodes of a list that hold the byte at the offset `at` to `lines`, of every kind.
@@ -53,8 +53,7 @@ pub fn nodes_at(
     if at < base {
         return Ok(());
     }
-    let found = gather(alloc, list, Holding(at - base))?;
-    add_at(base, found, lines)
+    add_nodes(alloc, list, base, Holding(at - base), lines)
 }
 
 /// The nodes that an outline shows.
@@ -81,30 +80,53 @@ impl Wanted for Holding {
     }
 }
 
-/// The nodes that are wanted, in order, with offsets from the list's base.
-///
-/// They are gathered apart, so that a call that runs out of memory leaves the caller's nodes as they are.
-fn gather<W: Wanted>(alloc: Global, list: &List, wanted: W) -> Result<Vec<NodeLine>, AllocError>
-    ensures { IfOk result (λ found. found.items ≡ in_order (filter (W.is_wanted wanted) (entries_nodes (view_list list.now)))) }
-{
-    let mut found = Vec::new(alloc);
-    visit_list(list, wanted, &mut found)?;
-    found.sort_by(by_place)?;
-    Ok(found)
-}
-
-/// Adds nodes of a list that stands from `base` on to `lines`, at their places in the text.
-fn add_at(
+/// Adds the nodes that are wanted of a list that stands from `base` on to `lines`, in order. Where memory runs out, `lines` then holds
+/// what it held before.
+fn add_nodes<W: Wanted>(
+    alloc: Global,
+    list: &List,
     base: usize,
-    mut found: Vec<NodeLine>,
+    wanted: W,
     lines: &mut Vec<NodeLine>,
 ) -> Result<(), AllocError>
-    requires { All (IsWithin (usize.MAX - base)) found.items }
-    ensures ok { OnOk result (lines.new.items ≡ lines.old.items ++ map (placed base) found.items) }
+    requires { AreWithin (usize.MAX - base) (view_list list.now) }
+    ensures ok { OnOk result (lines.new.items ≡ lines.old.items ++ map (placed base) (in_order (filter (W.is_wanted wanted) (entries_nodes (view_list list.now))))) }
     ensures err { OnErr result (lines.new.items ≡ lines.old.items) }
 {
-    place(&mut found, base);
-    lines.extend_from_slice(&found)
+    let held = lines.len();
+    let added = gather(alloc, list, base, wanted, lines);
+    if added.is_err() {
+        lines.truncate(held);
+    }
+    added
+}
+
+/// Gathers the nodes that are wanted behind what `lines` holds, so that a short list asks for no memory but theirs. Where memory runs
+/// out, some of them may stand there.
+fn gather<W: Wanted>(
+    alloc: Global,
+    list: &List,
+    base: usize,
+    wanted: W,
+    lines: &mut Vec<NodeLine>,
+) -> Result<(), AllocError>
+    requires { AreWithin (usize.MAX - base) (view_list list.now) }
+    ensures ok { OnOk result (lines.new.items ≡ lines.old.items ++ map (placed base) (in_order (filter (W.is_wanted wanted) (entries_nodes (view_list list.now))))) }
+    ensures kept { Begins lines.old.items lines.new.items }
+{
+    let held = lines.len();
+    visit_list(list, wanted, lines)?;
+    settle(alloc, lines.slice_mut(held..), base)
+}
+
+/// Puts nodes of a list that stands from `base` on in order, and at their places in the text. Nodes that are in order need no memory.
+fn settle(alloc: Global, found: &mut [NodeLine], base: usize) -> Result<(), AllocError>
+    requires { All (IsWithin (usize.MAX - base)) found.old }
+    ensures { OnOk result (found.new ≡ map (placed base) (in_order found.old)) }
+{
+    found.sort_by(alloc, by_place)?;
+    place(found, base);
+    Ok(())
 }
 
 /// By their starts, at equal starts the longer first.
@@ -120,6 +142,9 @@ fn place(found: &mut [NodeLine], base: usize)
     requires { All (IsWithin (usize.MAX - base)) found.old }
     ensures { found.new ≡ map (placed base) found.old }
 {
+    if base == 0 {
+        return;
+    }
     for line in found.iter_mut() {
         *line = line.placed(base);
     }

@@ -4,7 +4,7 @@
 
 ghost use Rattle.std.specs.Prelude.{◌≡◌, [], ◌∷◌, ◌++◌, Bool, IfOk, false, map, option_map};
 ghost use Rattle.std.specs.Option.{option_to_list};
-ghost use Rattle.shtree.specs.Gathered.{gathered};
+ghost use Rattle.shtree.specs.Gathered.{Keeps, gathered};
 ghost use Rattle.shast.specs.declared.node.NodeLine.{NodeLine};
 ghost use Rattle.shast.specs.Nodes.{and_or_node, and_or_nodes, and_or_parts_nodes, branch_nodes, branches_nodes, case_nodes, cases_nodes, command_nodes, comment_node, compound_nodes, content_nodes, entries_nodes, entry_nodes, form_node, form_nodes, item_nodes, items_nodes, patterns_nodes, pipeline_node, pipeline_nodes, pipes_nodes, subst_nodes, substs_nodes, word_nodes};
 ghost use Rattle.shast.specs.Tree.{and_or_parts_of, branches_of, cases_of, entries_of, item, items_of, patterns_of, pipeline_parts_of, substs_of};
@@ -28,7 +28,8 @@ pub(crate) trait Wanted: Copy {
 /// Adds a node, if it is wanted.
 #[tactic(auto, using(crate::proofs::Gathering::gathered_wanted, crate::proofs::Gathering::gathered_unwanted))]
 fn add<W: Wanted>(line: NodeLine, wanted: W, lines: &mut Vec<NodeLine>) -> Result<(), AllocError>
-    ensures { IfOk result (λ _. lines.new.items ≡ gathered (W.is_wanted wanted) lines.old.items (line ∷ [])) }
+    ensures ok { IfOk result (λ _. lines.new.items ≡ gathered (W.is_wanted wanted) lines.old.items (line ∷ [])) }
+    ensures kept { Keeps lines.old.items lines.new.items }
 {
     if wanted.wants(&line) {
         lines.push(line)?;
@@ -41,7 +42,8 @@ fn add_comment<W: Wanted>(
     wanted: W,
     lines: &mut Vec<NodeLine>,
 ) -> Result<(), AllocError>
-    ensures { IfOk result (λ _. lines.new.items ≡ gathered (W.is_wanted wanted) lines.old.items (comment_node (view_comment comment.now) ∷ [])) }
+    ensures ok { IfOk result (λ _. lines.new.items ≡ gathered (W.is_wanted wanted) lines.old.items (comment_node (view_comment comment.now) ∷ [])) }
+    ensures kept { Keeps lines.old.items lines.new.items }
 {
     add(
         NodeLine::new(NodeKind::Comment, comment.span),
@@ -56,7 +58,8 @@ fn add_own_comment<W: Wanted>(
     wanted: W,
     lines: &mut Vec<NodeLine>,
 ) -> Result<(), AllocError>
-    ensures { IfOk result (λ _. lines.new.items ≡ gathered (W.is_wanted wanted) lines.old.items (map comment_node (option_to_list (option_map view_comment comment.now)))) }
+    ensures ok { IfOk result (λ _. lines.new.items ≡ gathered (W.is_wanted wanted) lines.old.items (map comment_node (option_to_list (option_map view_comment comment.now)))) }
+    ensures kept { Keeps lines.old.items lines.new.items }
 {
     match comment {
         Some(comment) => add_comment(comment, wanted, lines),
@@ -70,7 +73,8 @@ fn add_comments<W: Wanted>(
     wanted: W,
     lines: &mut Vec<NodeLine>,
 ) -> Result<(), AllocError>
-    ensures { IfOk result (λ _. lines.new.items ≡ gathered (W.is_wanted wanted) lines.old.items (map comment_node (map view_comment comments.now))) }
+    ensures ok { IfOk result (λ _. lines.new.items ≡ gathered (W.is_wanted wanted) lines.old.items (map comment_node (map view_comment comments.now))) }
+    ensures kept { Keeps lines.old.items lines.new.items }
 {
     for comment in comments {
         add_comment(comment, wanted, lines)?;
@@ -84,7 +88,8 @@ fn add_and_or<W: Wanted>(
     wanted: W,
     lines: &mut Vec<NodeLine>,
 ) -> Result<(), AllocError>
-    ensures { IfOk result (λ _. lines.new.items ≡ gathered (W.is_wanted wanted) lines.old.items (and_or_node (view_and_or and_or.now))) }
+    ensures ok { IfOk result (λ _. lines.new.items ≡ gathered (W.is_wanted wanted) lines.old.items (and_or_node (view_and_or and_or.now))) }
+    ensures kept { Keeps lines.old.items lines.new.items }
 {
     if and_or.rest.is_empty() {
         return Ok(());
@@ -102,7 +107,8 @@ fn add_pipeline<W: Wanted>(
     wanted: W,
     lines: &mut Vec<NodeLine>,
 ) -> Result<(), AllocError>
-    ensures { IfOk result (λ _. lines.new.items ≡ gathered (W.is_wanted wanted) lines.old.items (pipeline_node (view_pipeline pipeline.now))) }
+    ensures ok { IfOk result (λ _. lines.new.items ≡ gathered (W.is_wanted wanted) lines.old.items (pipeline_node (view_pipeline pipeline.now))) }
+    ensures kept { Keeps lines.old.items lines.new.items }
 {
     if pipeline.bang.is_none() && pipeline.rest.is_empty() {
         return Ok(());
@@ -136,7 +142,8 @@ pub(crate) fn visit_list<W: Wanted>(
     wanted: W,
     lines: &mut Vec<NodeLine>,
 ) -> Result<(), AllocError>
-    ensures { IfOk result (λ _. lines.new.items ≡ gathered (W.is_wanted wanted) lines.old.items (entries_nodes (view_list list.now))) }
+    ensures ok { IfOk result (λ _. lines.new.items ≡ gathered (W.is_wanted wanted) lines.old.items (entries_nodes (view_list list.now))) }
+    ensures kept { Keeps lines.old.items lines.new.items }
 {
     visit_entries(&list.entries, wanted, lines)
 }
@@ -148,7 +155,8 @@ fn visit_entries<W: Wanted>(
     wanted: W,
     lines: &mut Vec<NodeLine>,
 ) -> Result<(), AllocError>
-    ensures { IfOk result (λ _. lines.new.items ≡ gathered (W.is_wanted wanted) lines.old.items (entries_nodes (entries_of (map view_entry entries.now)))) }
+    ensures ok { IfOk result (λ _. lines.new.items ≡ gathered (W.is_wanted wanted) lines.old.items (entries_nodes (entries_of (map view_entry entries.now)))) }
+    ensures kept { Keeps lines.old.items lines.new.items }
 {
     for entry in entries {
         visit_entry(entry, wanted, lines)?;
@@ -162,7 +170,8 @@ fn visit_entry<W: Wanted>(
     wanted: W,
     lines: &mut Vec<NodeLine>,
 ) -> Result<(), AllocError>
-    ensures { IfOk result (λ _. lines.new.items ≡ gathered (W.is_wanted wanted) lines.old.items (entry_nodes (view_entry entry.now))) }
+    ensures ok { IfOk result (λ _. lines.new.items ≡ gathered (W.is_wanted wanted) lines.old.items (entry_nodes (view_entry entry.now))) }
+    ensures kept { Keeps lines.old.items lines.new.items }
 {
     visit_content(&entry.what, wanted, lines)?;
     add_own_comment(&entry.comment, wanted, lines)
@@ -174,7 +183,8 @@ fn visit_content<W: Wanted>(
     wanted: W,
     lines: &mut Vec<NodeLine>,
 ) -> Result<(), AllocError>
-    ensures { IfOk result (λ _. lines.new.items ≡ gathered (W.is_wanted wanted) lines.old.items (content_nodes (view_content content.now))) }
+    ensures ok { IfOk result (λ _. lines.new.items ≡ gathered (W.is_wanted wanted) lines.old.items (content_nodes (view_content content.now))) }
+    ensures kept { Keeps lines.old.items lines.new.items }
 {
     match content {
         Content::AndOr(and_or) => visit_and_or(and_or, wanted, lines),
@@ -188,7 +198,8 @@ fn visit_and_or<W: Wanted>(
     wanted: W,
     lines: &mut Vec<NodeLine>,
 ) -> Result<(), AllocError>
-    ensures { IfOk result (λ _. lines.new.items ≡ gathered (W.is_wanted wanted) lines.old.items (and_or_nodes (view_and_or and_or.now))) }
+    ensures ok { IfOk result (λ _. lines.new.items ≡ gathered (W.is_wanted wanted) lines.old.items (and_or_nodes (view_and_or and_or.now))) }
+    ensures kept { Keeps lines.old.items lines.new.items }
 {
     add_and_or(and_or, wanted, lines)?;
     visit_pipeline(&and_or.first, wanted, lines)?;
@@ -202,7 +213,8 @@ fn visit_and_or_parts<W: Wanted>(
     wanted: W,
     lines: &mut Vec<NodeLine>,
 ) -> Result<(), AllocError>
-    ensures { IfOk result (λ _. lines.new.items ≡ gathered (W.is_wanted wanted) lines.old.items (and_or_parts_nodes (and_or_parts_of (map view_and_or_part parts.now)))) }
+    ensures ok { IfOk result (λ _. lines.new.items ≡ gathered (W.is_wanted wanted) lines.old.items (and_or_parts_nodes (and_or_parts_of (map view_and_or_part parts.now)))) }
+    ensures kept { Keeps lines.old.items lines.new.items }
 {
     for part in parts {
         visit_and_or_part(part, wanted, lines)?;
@@ -216,7 +228,8 @@ fn visit_and_or_part<W: Wanted>(
     wanted: W,
     lines: &mut Vec<NodeLine>,
 ) -> Result<(), AllocError>
-    ensures { IfOk result (λ _. lines.new.items ≡ gathered (W.is_wanted wanted) lines.old.items (map comment_node (view_and_or_part part.now).join.comments ++ pipeline_nodes (view_and_or_part part.now).pipeline)) }
+    ensures ok { IfOk result (λ _. lines.new.items ≡ gathered (W.is_wanted wanted) lines.old.items (map comment_node (view_and_or_part part.now).join.comments ++ pipeline_nodes (view_and_or_part part.now).pipeline)) }
+    ensures kept { Keeps lines.old.items lines.new.items }
 {
     add_comments(&part.join.comments, wanted, lines)?;
     visit_pipeline(&part.pipeline, wanted, lines)
@@ -228,7 +241,8 @@ fn visit_pipeline<W: Wanted>(
     wanted: W,
     lines: &mut Vec<NodeLine>,
 ) -> Result<(), AllocError>
-    ensures { IfOk result (λ _. lines.new.items ≡ gathered (W.is_wanted wanted) lines.old.items (pipeline_nodes (view_pipeline pipeline.now))) }
+    ensures ok { IfOk result (λ _. lines.new.items ≡ gathered (W.is_wanted wanted) lines.old.items (pipeline_nodes (view_pipeline pipeline.now))) }
+    ensures kept { Keeps lines.old.items lines.new.items }
 {
     add_pipeline(pipeline, wanted, lines)?;
     visit_command(&pipeline.first, wanted, lines)?;
@@ -242,7 +256,8 @@ fn visit_pipes<W: Wanted>(
     wanted: W,
     lines: &mut Vec<NodeLine>,
 ) -> Result<(), AllocError>
-    ensures { IfOk result (λ _. lines.new.items ≡ gathered (W.is_wanted wanted) lines.old.items (pipes_nodes (pipeline_parts_of (map view_pipeline_part parts.now)))) }
+    ensures ok { IfOk result (λ _. lines.new.items ≡ gathered (W.is_wanted wanted) lines.old.items (pipes_nodes (pipeline_parts_of (map view_pipeline_part parts.now)))) }
+    ensures kept { Keeps lines.old.items lines.new.items }
 {
     for part in parts {
         visit_pipe(part, wanted, lines)?;
@@ -256,7 +271,8 @@ fn visit_pipe<W: Wanted>(
     wanted: W,
     lines: &mut Vec<NodeLine>,
 ) -> Result<(), AllocError>
-    ensures { IfOk result (λ _. lines.new.items ≡ gathered (W.is_wanted wanted) lines.old.items (map comment_node (view_pipeline_part part.now).join.comments ++ command_nodes (view_pipeline_part part.now).command)) }
+    ensures ok { IfOk result (λ _. lines.new.items ≡ gathered (W.is_wanted wanted) lines.old.items (map comment_node (view_pipeline_part part.now).join.comments ++ command_nodes (view_pipeline_part part.now).command)) }
+    ensures kept { Keeps lines.old.items lines.new.items }
 {
     add_comments(&part.join.comments, wanted, lines)?;
     visit_command(&part.command, wanted, lines)
@@ -268,7 +284,8 @@ fn visit_command<W: Wanted>(
     wanted: W,
     lines: &mut Vec<NodeLine>,
 ) -> Result<(), AllocError>
-    ensures { IfOk result (λ _. lines.new.items ≡ gathered (W.is_wanted wanted) lines.old.items (command_nodes (view_command command.now))) }
+    ensures ok { IfOk result (λ _. lines.new.items ≡ gathered (W.is_wanted wanted) lines.old.items (command_nodes (view_command command.now))) }
+    ensures kept { Keeps lines.old.items lines.new.items }
 {
     match command {
         Command::Simple { items } => {
@@ -290,7 +307,8 @@ fn visit_function<W: Wanted>(
     wanted: W,
     lines: &mut Vec<NodeLine>,
 ) -> Result<(), AllocError>
-    ensures { IfOk result (λ _. lines.new.items ≡ gathered (W.is_wanted wanted) lines.old.items (command_nodes (view_function function.now))) }
+    ensures ok { IfOk result (λ _. lines.new.items ≡ gathered (W.is_wanted wanted) lines.old.items (command_nodes (view_function function.now))) }
+    ensures kept { Keeps lines.old.items lines.new.items }
 {
     let span = function_span(function);
     add(
@@ -308,7 +326,8 @@ fn visit_compound<W: Wanted>(
     wanted: W,
     lines: &mut Vec<NodeLine>,
 ) -> Result<(), AllocError>
-    ensures { IfOk result (λ _. lines.new.items ≡ gathered (W.is_wanted wanted) lines.old.items (compound_nodes (view_compound compound.now))) }
+    ensures ok { IfOk result (λ _. lines.new.items ≡ gathered (W.is_wanted wanted) lines.old.items (compound_nodes (view_compound compound.now))) }
+    ensures kept { Keeps lines.old.items lines.new.items }
 {
     add(
         form_line(&compound.form, compound_span(compound)),
@@ -325,7 +344,8 @@ fn visit_form<W: Wanted>(
     wanted: W,
     lines: &mut Vec<NodeLine>,
 ) -> Result<(), AllocError>
-    ensures { IfOk result (λ _. lines.new.items ≡ gathered (W.is_wanted wanted) lines.old.items (form_nodes (view_form form.now))) }
+    ensures ok { IfOk result (λ _. lines.new.items ≡ gathered (W.is_wanted wanted) lines.old.items (form_nodes (view_form form.now))) }
+    ensures kept { Keeps lines.old.items lines.new.items }
 {
     match form {
         Form::Brace(list) | Form::Subshell(list) => visit_list(list, wanted, lines),
@@ -364,7 +384,8 @@ fn visit_branch<W: Wanted>(
     wanted: W,
     lines: &mut Vec<NodeLine>,
 ) -> Result<(), AllocError>
-    ensures { IfOk result (λ _. lines.new.items ≡ gathered (W.is_wanted wanted) lines.old.items (branch_nodes (view_branch branch.now))) }
+    ensures ok { IfOk result (λ _. lines.new.items ≡ gathered (W.is_wanted wanted) lines.old.items (branch_nodes (view_branch branch.now))) }
+    ensures kept { Keeps lines.old.items lines.new.items }
 {
     visit_list(&branch.condition, wanted, lines)?;
     visit_list(&branch.body, wanted, lines)
@@ -377,7 +398,8 @@ fn visit_branches<W: Wanted>(
     wanted: W,
     lines: &mut Vec<NodeLine>,
 ) -> Result<(), AllocError>
-    ensures { IfOk result (λ _. lines.new.items ≡ gathered (W.is_wanted wanted) lines.old.items (branches_nodes (branches_of (map view_branch branches.now)))) }
+    ensures ok { IfOk result (λ _. lines.new.items ≡ gathered (W.is_wanted wanted) lines.old.items (branches_nodes (branches_of (map view_branch branches.now)))) }
+    ensures kept { Keeps lines.old.items lines.new.items }
 {
     for branch in branches {
         visit_branch(branch, wanted, lines)?;
@@ -392,7 +414,8 @@ fn visit_cases<W: Wanted>(
     wanted: W,
     lines: &mut Vec<NodeLine>,
 ) -> Result<(), AllocError>
-    ensures { IfOk result (λ _. lines.new.items ≡ gathered (W.is_wanted wanted) lines.old.items (cases_nodes (cases_of (map view_case_item items.now)))) }
+    ensures ok { IfOk result (λ _. lines.new.items ≡ gathered (W.is_wanted wanted) lines.old.items (cases_nodes (cases_of (map view_case_item items.now)))) }
+    ensures kept { Keeps lines.old.items lines.new.items }
 {
     for item in items {
         visit_case(item, wanted, lines)?;
@@ -406,7 +429,8 @@ fn visit_case<W: Wanted>(
     wanted: W,
     lines: &mut Vec<NodeLine>,
 ) -> Result<(), AllocError>
-    ensures { IfOk result (λ _. lines.new.items ≡ gathered (W.is_wanted wanted) lines.old.items (case_nodes (view_case_item item.now))) }
+    ensures ok { IfOk result (λ _. lines.new.items ≡ gathered (W.is_wanted wanted) lines.old.items (case_nodes (view_case_item item.now))) }
+    ensures kept { Keeps lines.old.items lines.new.items }
 {
     add(NodeLine::new(NodeKind::Item, item.span), wanted, lines)?;
     add_comments(&item.comments, wanted, lines)?;
@@ -421,7 +445,8 @@ fn visit_patterns<W: Wanted>(
     wanted: W,
     lines: &mut Vec<NodeLine>,
 ) -> Result<(), AllocError>
-    ensures { IfOk result (λ _. lines.new.items ≡ gathered (W.is_wanted wanted) lines.old.items (patterns_nodes (patterns_of (map view_word patterns.now)))) }
+    ensures ok { IfOk result (λ _. lines.new.items ≡ gathered (W.is_wanted wanted) lines.old.items (patterns_nodes (patterns_of (map view_word patterns.now)))) }
+    ensures kept { Keeps lines.old.items lines.new.items }
 {
     for pattern in patterns {
         visit_word(pattern, wanted, lines)?;
@@ -436,7 +461,8 @@ fn visit_items<W: Wanted>(
     wanted: W,
     lines: &mut Vec<NodeLine>,
 ) -> Result<(), AllocError>
-    ensures { IfOk result (λ _. lines.new.items ≡ gathered (W.is_wanted wanted) lines.old.items (items_nodes (items_of (map view_item items.now)))) }
+    ensures ok { IfOk result (λ _. lines.new.items ≡ gathered (W.is_wanted wanted) lines.old.items (items_nodes (items_of (map view_item items.now)))) }
+    ensures kept { Keeps lines.old.items lines.new.items }
 {
     for item in items {
         visit_item(item, wanted, lines)?;
@@ -451,7 +477,8 @@ fn visit_item<W: Wanted>(
     wanted: W,
     lines: &mut Vec<NodeLine>,
 ) -> Result<(), AllocError>
-    ensures { IfOk result (λ _. lines.new.items ≡ gathered (W.is_wanted wanted) lines.old.items (item_nodes (view_item item.now))) }
+    ensures ok { IfOk result (λ _. lines.new.items ≡ gathered (W.is_wanted wanted) lines.old.items (item_nodes (view_item item.now))) }
+    ensures kept { Keeps lines.old.items lines.new.items }
 {
     match &item.what {
         ItemContent::Assign(word) => {
@@ -469,7 +496,8 @@ fn visit_redirection<W: Wanted>(
     wanted: W,
     lines: &mut Vec<NodeLine>,
 ) -> Result<(), AllocError>
-    ensures { IfOk result (λ _. lines.new.items ≡ gathered (W.is_wanted wanted) lines.old.items (item_nodes (item false (view_redirection redirect.now)))) }
+    ensures ok { IfOk result (λ _. lines.new.items ≡ gathered (W.is_wanted wanted) lines.old.items (item_nodes (item false (view_redirection redirect.now)))) }
+    ensures kept { Keeps lines.old.items lines.new.items }
 {
     add(
         NodeLine::new(NodeKind::Redirect, redirection_span(redirect)),
@@ -485,7 +513,8 @@ fn visit_word<W: Wanted>(
     wanted: W,
     lines: &mut Vec<NodeLine>,
 ) -> Result<(), AllocError>
-    ensures { IfOk result (λ _. lines.new.items ≡ gathered (W.is_wanted wanted) lines.old.items (word_nodes (view_word word.now))) }
+    ensures ok { IfOk result (λ _. lines.new.items ≡ gathered (W.is_wanted wanted) lines.old.items (word_nodes (view_word word.now))) }
+    ensures kept { Keeps lines.old.items lines.new.items }
 {
     add(NodeLine::new(NodeKind::Word, word.span), wanted, lines)?;
     visit_substs(&word.substs, wanted, lines)
@@ -498,7 +527,8 @@ fn visit_substs<W: Wanted>(
     wanted: W,
     lines: &mut Vec<NodeLine>,
 ) -> Result<(), AllocError>
-    ensures { IfOk result (λ _. lines.new.items ≡ gathered (W.is_wanted wanted) lines.old.items (substs_nodes (substs_of (map view_subst substs.now)))) }
+    ensures ok { IfOk result (λ _. lines.new.items ≡ gathered (W.is_wanted wanted) lines.old.items (substs_nodes (substs_of (map view_subst substs.now)))) }
+    ensures kept { Keeps lines.old.items lines.new.items }
 {
     for subst in substs {
         visit_subst(subst, wanted, lines)?;
@@ -512,7 +542,8 @@ fn visit_subst<W: Wanted>(
     wanted: W,
     lines: &mut Vec<NodeLine>,
 ) -> Result<(), AllocError>
-    ensures { IfOk result (λ _. lines.new.items ≡ gathered (W.is_wanted wanted) lines.old.items (subst_nodes (view_subst subst.now))) }
+    ensures ok { IfOk result (λ _. lines.new.items ≡ gathered (W.is_wanted wanted) lines.old.items (subst_nodes (view_subst subst.now))) }
+    ensures kept { Keeps lines.old.items lines.new.items }
 {
     add(NodeLine::new(NodeKind::Subst, subst.span), wanted, lines)?;
     visit_list(&subst.list, wanted, lines)

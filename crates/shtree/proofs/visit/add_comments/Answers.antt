@@ -1,4 +1,4 @@
-use Rattle.std.proofs.Common.{arith}
+use Rattle.std.proofs.Common.{arith, rules}
 use Rattle.shast.specs.declared.tree.Comment.{Comment}
 use Rattle.shast.specs.View.{view_comment}
 use Rattle.shtree.proofs.Gathering.{comment_row, from_more, gathered_append}
@@ -7,4 +7,7 @@ use Rattle.shtree.proofs.visit.add_comments.Goals as goal
 pub loop-comment-preserved : goal.loop-comment-preserved
 loop-comment-preserved g c =
     let nothing : Comment = record { span = record { start = 0; «end» = 0 } } in
-    grind (arith, gathered_append, from_more comment_row view_comment c.args.comments.now c.loop-comment.comment-index nothing)
+    record {
+      ok = grind (arith, gathered_append, from_more comment_row view_comment c.args.comments.now c.loop-comment.comment-index nothing);
+      kept = search rules;
+    }
