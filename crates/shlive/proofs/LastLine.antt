@@ -5,7 +5,11 @@ use Rattle.shgrammar.specs.Lines.{AKind, FaultWithin, blank_line, end_line, entr
 use Rattle.shgrammar.specs.Moved.{moved_fault}
 use Rattle.shgrammar.specs.Scripts.{AScript, FirstFault, Outcome}
 use Rattle.shgrammar.proofs.Scripts.{script_only}
-use Rattle.shast.specs.Tree.{Entries}
+use Rattle.shast.specs.Shape.{shape_of}
+use Rattle.shprint.specs.declared.layout.Layout.{Layout}
+use Rattle.shprint.specs.Printed.{printed}
+use Rattle.shprint.specs.ReadBack.{IsTextOf, ReadsBack}
+use Rattle.shprint.proofs.ReadBack.{reads_back}
 use Rattle.shwindow.specs.declared.line.HeldLine.{HeldLine}
 use Rattle.shwindow.specs.Lines.{IsRow, extent}
 use Rattle.shheld.specs.TopLines.{script_of}
@@ -76,9 +80,11 @@ none_some f e = cc
 pub no_fault : (B : List ℕ) (f : Option Fault) → FirstFault B f → is_some f ≡ false → (g : Fault) → FirstFault B (Some g) → ⊥
 no_fault B f first none g other = none_some g (sym (none_is f none) ∙ one_fault B f (Some g) first other)
 
--- where the script has no fault, the entries of its lines are all that is read of it
-pub faultless : (B : List ℕ) (row : Row (HeldLine AKind)) → IsRow IsHeldLine B row → FirstFault B None → (es : Entries) → es ≡ (script_of row).entries → Outcome B (record { entries = es; wrong = None })
-faultless B row is none es same =
+-- where the script has no fault, what is printed for the entries of its lines is its printed text
+pub text_of_row : (y : Layout) (B : List ℕ) (row : Row (HeldLine AKind)) → IsRow IsHeldLine B row → FirstFault B None → (text : List ℕ) → text ≡ printed y (shape_of B (script_of row).entries) → IsTextOf y B text
+text_of_row y B row is none text text_is =
+    let es = (script_of row).entries in
+    let script : AScript = record { entries = es; wrong = None } in
     let all = row_outcome B row (row_top B row is) in
-    let wrong = one_fault B (script_of row).wrong None ((script_of row).entries, all) none in
-    subst (λ es. Outcome B (record { entries = es; wrong = None })) (sym same) (subst (λ w. Outcome B (record { entries = (script_of row).entries; wrong = w })) wrong all)
+    let outcome : Outcome B script = subst (λ w. Outcome B (record { entries = es; wrong = w })) (one_fault B (script_of row).wrong None (es, all) none) all in
+    record { script = script; outcome = outcome; faultless = refl; is = text_is; reads_back = subst (λ t. ReadsBack t (shape_of B es)) (sym text_is) (reads_back y B script outcome) }

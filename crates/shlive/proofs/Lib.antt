@@ -1,6 +1,8 @@
 pub mod TopLines
 pub mod Walking
 pub mod LastLine
+pub mod Placed
+pub mod Printing
 pub mod Windows
 pub mod Passed
 pub mod Words

@@ -1,8 +1,7 @@
 -- A walk over the lines of a script, and the line that holds a byte.
-use Rattle.std.proofs.Common.{◌≡◌, ℕ, ◌+◌, ◌-◌, ◌^◌, ◌<◌, ◌≤◌, [], ◌∷◌, ◌++◌, Bool, true, List, List as Row, Option, None, Some, Result, Ok, Err, length, refl, sym, ap, subst, ◌∙◌, arith, append_assoc}
+use Rattle.std.proofs.Common.{◌≡◌, ℕ, ◌+◌, ◌-◌, ◌^◌, ◌<◌, ◌≤◌, [], ◌∷◌, ◌++◌, true, List, List as Row, Option, None, Some, Result, Ok, Err, drop, length, refl, sym, ap, subst, ◌∙◌, arith, append_assoc}
 use Rattle.std.specs.Prelude.{OnErr, OnOk}
 use Rattle.shast.specs.declared.node.NodeLine.{NodeLine}
-use Rattle.shast.specs.Everywhere.{AllWithin}
 use Rattle.shast.specs.Nodes.{AreWithin}
 use Rattle.shast.specs.Tree.{Entries}
 use Rattle.shgrammar.specs.Lines.{AKind, blank_line, end_line, entries_line, faulty_line}
@@ -10,8 +9,9 @@ use Rattle.shwindow.specs.declared.line.HeldLine.{HeldLine}
 use Rattle.shwindow.specs.Held.{HasLineAt}
 use Rattle.shwindow.specs.Lines.{IsRow, extent}
 use Rattle.shwindow.proofs.Rows.{extent_push}
-use Rattle.shheld.specs.Walk.{Walk, entries_with, has_none, line_nodes_at, line_outline, outlines, with_line}
-use Rattle.shheld.proofs.Places.{row_all_fit, row_line_within, row_nodes_fit}
+use Rattle.shheld.specs.Walk.{has_none, line_nodes_at, line_outline, outlines}
+use Rattle.shheld.proofs.Places.{row_line, row_line_within, row_nodes_fit}
+use Rattle.shheld.specs.TopLines.{IsTopLine}
 use Rattle.shheld.proofs.Rows.{last_at}
 use Rattle.shlive.specs.HeldLines.{IsHeldLine, entries_in}
 use Rattle.shlive.proofs.TopLines.{row_top}
@@ -44,10 +44,11 @@ module _ (row left : Row (HeldLine AKind)) (begin : ℕ) (l : HeldLine AKind) (r
     pub walked_within : begin + l.len ≤ length B
     walked_within = let within = row_line_within B so.done l rest (row_top B (so.done ++ l ∷ rest) here) in omega (arith, within, so.begins)
 
-    module _ (xs : Entries) (kind_is : l.kind ≡ entries_line xs) (small : length B < 2 ^ 64) where
-      pub walked_all_fit : AllWithin (2 ^ 64 - 1 - begin) xs
-      walked_all_fit = subst (λ n. AllWithin (2 ^ 64 - 1 - n) xs) (sym so.begins) (row_all_fit B so.done l rest (row_top B (so.done ++ l ∷ rest) here) xs kind_is small)
+    -- it is the line that begins there
+    pub walked_line : IsTopLine (drop begin B) l
+    walked_line = subst (λ n. IsTopLine (drop n B) l) (sym so.begins) (row_line B so.done l rest (row_top B (so.done ++ l ∷ rest) here))
 
+    module _ (xs : Entries) (kind_is : l.kind ≡ entries_line xs) (small : length B < 2 ^ 64) where
       pub walked_nodes_fit : AreWithin (2 ^ 64 - 1 - begin) xs
       walked_nodes_fit = subst (λ n. AreWithin (2 ^ 64 - 1 - n) xs) (sym so.begins) (row_nodes_fit B so.done l rest (row_top B (so.done ++ l ∷ rest) here) xs kind_is small)
 
@@ -91,10 +92,7 @@ no_outline blank_line base e = refl
 no_outline end_line base e = refl
 no_outline (faulty_line f) base e = refl
 
--- a walk over a line goes by its kind and how many bytes it has
-pub with_kind : (so : Walk) (l : HeldLine AKind) (k : AKind) (ended : Bool) → l.kind ≡ k → with_line so (record { kind = k; len = l.len; ended = ended }) ≡ with_line so l
-with_kind so l k ended e = ap (λ k. record { entries = entries_with so k; gap = has_none k; at = so.at + l.len }) (sym e)
-
+-- what has no entries leaves a gap
 pub none_has : (k : AKind) → entries_in k ≡ None → has_none k ≡ true
 none_has (entries_line es) e = absurd cc
 none_has blank_line e = refl

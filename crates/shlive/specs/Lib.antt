@@ -2,6 +2,8 @@ pub mod Held
 pub mod HeldLines
 pub mod Answers
 pub mod Kept
+pub mod Behind
+pub mod Printing
 pub mod Waiting
 pub mod Ahead
 pub mod Incoming

@@ -1,20 +1,25 @@
 //! What the lines of a script answer, each where it stands.
-ghost use Rattle.std.specs.Prelude.{◌≡◌, ◌+◌, ◌-◌, ◌<◌, ◌≤◌, ◌++◌, ℕ, IfOk, List as Row, OnOk, length};
-ghost use Rattle.shast.specs.Everywhere.{AllWithin};
+ghost use Rattle.std.specs.Prelude.{◌≡◌, ◌+◌, ◌-◌, ◌<◌, ◌≤◌, ◌++◌, ◌&&◌, ℕ, [], IfOk, List as Row, OnOk, length, nat_lt};
 ghost use Rattle.shast.specs.Nodes.{AreWithin};
+ghost use Rattle.shast.specs.Shape.{shape_of};
 ghost use Rattle.shast.specs.Tree.{Entries};
-ghost use Rattle.shast.specs.View.{view_list};
 ghost use Rattle.shgrammar.specs.Lines.{entries_line};
-ghost use Rattle.shheld.specs.Joining.{walk_of};
 ghost use Rattle.shheld.specs.TopLines.{script_of};
-ghost use Rattle.shheld.specs.Walk.{line_nodes_at, line_outline, with_line};
+ghost use Rattle.shheld.specs.Walk.{line_nodes_at, line_outline};
 ghost use Rattle.shlive.specs.Answers.{HasNodesAt, HasOutline};
 ghost use Rattle.shlive.specs.HeldLines.{AreHeld, IsHeldLine};
+ghost use Rattle.shlive.specs.Printing.{PrintsLine};
+ghost use Rattle.shprint.specs.Printed.{print_blank, printed};
+ghost use Rattle.shprint.specs.Written.{Prints};
+ghost use Rattle.shtext.specs.Buffer.{buffer_bytes};
+ghost use Rattle.shtext.specs.Edit.{limit};
 ghost use Rattle.shwindow.specs.Lines.{IsRow};
 
+use crate::behind::Behind;
 use crate::top_lines::TopLine;
-use shheld::Joined;
-use shtree::{List, NodeLine, nodes_at, outline_of};
+use shprint::{Layout, Page, Printer};
+use shtext::Buffer;
+use shtree::{NodeLine, nodes_at, outline_of};
 use shwindow::{HeldLine, HeldLines};
 use std::alloc::{AllocError, Global};
 
@@ -84,30 +89,67 @@ fn add_nodes_at(
     }
 }
 
-/// The entries of all lines, one line after the other.
-pub(crate) fn list_of_lines(alloc: Global, lines: &HeldLines<TopLine>) -> Result<List, AllocError>
-    requires { AreHeld lines.now }
-    ensures { IfOk result (λ list. view_list list ≡ (script_of lines.now).entries) }
+/// The printed text of all lines, whose bytes the buffer holds.
+pub(crate) fn text_of_lines(
+    alloc: Global,
+    layout: &Layout,
+    buffer: &Buffer,
+    lines: &HeldLines<TopLine>,
+) -> Result<Vec<u8>, AllocError>
+    requires small { length (buffer_bytes buffer.now) ≤ limit }
+    requires row { IsRow IsHeldLine (buffer_bytes buffer.now) lines.now }
+    ensures { IfOk result (λ text. text.items ≡ printed layout.now (shape_of (buffer_bytes buffer.now) (script_of lines.now).entries)) }
 {
-    let mut joined = Joined::new(alloc);
+    let printer = Printer {
+        alloc,
+        layout: *layout,
+        source: buffer,
+    };
+    let mut page = Page::new(alloc);
+    let mut gap = false;
+    let mut begin = 0;
     let mut rest = lines.lines();
     'lines: while let Some(line) = rest.next() {
-        add_line(&mut joined, line)?;
+        gap = print_line(&printer, line, begin, gap, &mut page)?;
+        begin += line.len;
     }
-    Ok(joined.into_list())
+    Ok(page.text)
 }
 
-/// Adds the entries of one line more.
-fn add_line(joined: &mut Joined, line: &HeldLine<TopLine>) -> Result<(), AllocError>
-    requires spans { (list : Entries) → line.now.kind ≡ entries_line list → AllWithin (usize.MAX - (walk_of joined.old).at) list }
-    requires fits { (walk_of joined.old).at + line.now.len ≤ usize.MAX }
-    ensures { OnOk result (walk_of joined.new ≡ with_line (walk_of joined.old) line.now) }
+/// Prints a line that begins at an offset, where there is a gap before it or none. Answers whether there is one behind it.
+fn print_line(
+    printer: &Printer<Buffer>,
+    line: &HeldLine<TopLine>,
+    begin: usize,
+    gap: bool,
+    page: &mut Page,
+) -> Result<bool, AllocError>
+    ensures { IfOk result (λ gap_behind. PrintsLine printer.now.layout (buffer_bytes printer.now.source.now) begin line.now gap gap_behind page.old page.new) }
 {
-    match line.kind.list() {
-        Some(list) => joined.add(list, line.len),
-        None => {
-            joined.skip(line.len);
-            Ok(())
-        }
+    let Some(list) = line.kind.list() else {
+        return Ok(true);
+    };
+    print_gap(gap, page)?;
+    let behind = Behind {
+        buffer: printer.source,
+        base: begin,
+    };
+    let printer = Printer {
+        alloc: printer.alloc,
+        layout: printer.layout,
+        source: &behind,
+    };
+    printer.print_entries(&list.entries, page)?;
+    Ok(false)
+}
+
+/// An empty line for a gap between entries. Before the first entry there is none.
+fn print_gap(gap: bool, page: &mut Page) -> Result<(), AllocError>
+    ensures { IfOk result (λ _. page.old.held.items ≡ [] → Prints page.old page.new (print_blank (gap && nat_lt 0 (length page.old.text.items)))) }
+{
+    if gap && !page.text.is_empty() {
+        // The line before has ended, and the bodies of its here-documents wait no more.
+        page.text.push(b'\n')?;
     }
+    Ok(())
 }

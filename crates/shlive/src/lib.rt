@@ -7,6 +7,7 @@
 #![tactic(auto)]
 
 mod answers;
+mod behind;
 mod error;
 mod incoming;
 pub mod laws;

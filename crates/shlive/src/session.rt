@@ -9,11 +9,11 @@ ghost use Rattle.shtext.specs.Edit.{IsAllowed, edited, limit};
 ghost use Rattle.shlive.specs.Answers.{HasNodesAt, HasOutline, HasStatus, HasText, IsRefused};
 ghost use Rattle.shlive.specs.HeldLines.{HasReadNoMore, HasReadWindow};
 
-use crate::answers::{list_of_lines, nodes_of_lines, outline_of_lines};
+use crate::answers::{nodes_of_lines, outline_of_lines, text_of_lines};
 use crate::error::LiveError;
 use crate::top_lines::{TopLine, TopLines};
-use shprint::{Layout, print};
-use shread::{Fault, Reader, Script};
+use shprint::Layout;
+use shread::{Fault, Reader};
 use shtext::{Buffer, Source};
 use shtree::NodeLine;
 use shwindow::HeldLines;
@@ -176,9 +176,7 @@ impl Session {
         if self.fault().is_some() {
             return Ok(None);
         }
-        let list = list_of_lines(self.alloc, &self.lines)?;
-        let script = Script { list, fault: None };
-        let text = print(self.alloc, &self.layout, &script, &self.buffer)?;
+        let text = text_of_lines(self.alloc, &self.layout, &self.buffer, &self.lines)?;
         Ok(Some(text))
     }
 

@@ -1,0 +1,86 @@
+-- The entries of a line that is read alone, where it stands in its script: their shape is that over the bytes from the line on, and no
+-- empty line stands before the first of them.
+use Rattle.std.proofs.Common.{◌≡◌, ℕ, zero, suc, ◌+◌, ◌-◌, Bool, true, false, Ok, List, List as Row, [], ◌∷◌, map, take, drop, refl, sym, ap, subst, ◌∙◌, arith}
+use Rattle.std.proofs.Math.Seq.{drop-drop}
+use Rattle.shast.specs.declared.tree.Span.{Span}
+use Rattle.shast.specs.Everywhere.{AllWithin}
+use Rattle.shast.specs.Moved.{blanked_row, body_by, moved, moved_entry, placed_body}
+use Rattle.shast.specs.Nodes.{IsSpanWithin, placed_span}
+use Rattle.shast.specs.Shape.{shape_of, text_at}
+use Rattle.shast.specs.Tree.{AnEntry, Entries, entries_of, entry, more_entries, no_entry}
+use Rattle.shgrammar.specs.declared.keep.Keep.TheVariants.{Whole}
+use Rattle.shgrammar.specs.Form.{Read}
+use Rattle.shgrammar.specs.Joined.{blanked, has_entry}
+use Rattle.shgrammar.specs.Lines.{AKind, ALine, IsLine, entries_line, kind_of, line_read, line_stops}
+use Rattle.shgrammar.specs.Moved.{Same}
+use Rattle.shgrammar.specs.Scripts.{line_told, the_line}
+use Rattle.shgrammar.specs.Sights.{State, given, standing}
+use Rattle.shgrammar.proofs.EachSpan.{throughout_so}
+use Rattle.shgrammar.proofs.MovedLine.{line_moved}
+use Rattle.shgrammar.proofs.OneOutcome.{is}
+use Rattle.shgrammar.proofs.ShapeMoved.{SameText, shape_same}
+
+-- ---- the shape of a list at a base
+
+module _ (base : ℕ) (B : List ℕ) where
+  text_placed : (s : Span) → text_at B (placed_span base s) ≡ text_at (drop base B) s
+  text_placed s =
+      let size : base + s.«end» - (base + s.start) ≡ s.«end» - s.start = omega arith in
+      ap (λ (k : ℕ). take k (drop (base + s.start) B)) size ∙ ap (take (s.«end» - s.start)) (sym (drop-drop s.start base B))
+
+  -- a body that ends at 0 is empty wherever it stands
+  body_placed : (s : Span) (e : ℕ) → s.«end» ≡ e → text_at B (body_by base s e) ≡ text_at (drop base B) s
+  body_placed s zero ends =
+      let none : s.«end» - s.start ≡ 0 = omega (arith, ends) in
+      ap (λ (k : ℕ). take k (drop s.start B)) none ∙ sym (ap (λ (k : ℕ). take k (drop s.start (drop base B))) none)
+  body_placed s (suc n) ends = text_placed s
+
+  pub shape_placed : (limit : ℕ) (xs : Entries) → AllWithin limit xs → shape_of B (moved base xs) ≡ shape_of (drop base B) xs
+  shape_placed limit xs within =
+      shape_same B (drop base B) (placed_span base) (placed_body base) (λ items. Unit {0}) xs
+      (throughout_so (IsSpanWithin limit) (SameText B (drop base B) (placed_span base) (placed_body base)) (λ items. Unit {0}) (λ items. Unit {0})
+      (λ s low. (text_placed s, body_placed s s.«end» refl)) (λ items so. so) xs within)
+
+-- ---- the first entry
+
+-- there is a first entry, and it is not blank
+pub record BeginsPlain (xs : Entries) : Type 0 where
+  pub some : has_entry xs ≡ true
+  pub plain : blanked false xs ≡ xs
+
+-- wherever the list is moved to
+pub plain_moved : (base : ℕ) (xs : Entries) → BeginsPlain xs → BeginsPlain (moved base xs)
+plain_moved base no_entry is = absurd (no_first is.some)
+  where
+    no_first : false ≡ true → ⊥
+    no_first e = cc
+plain_moved base (more_entries (entry what background blank comment) es) is = record { some = refl; plain = ap (moved base) is.plain }
+
+abbrev first_blank : Row AnEntry → Bool
+first_blank [] = false
+first_blank (entry what background blank comment ∷ es) = blank
+
+abbrev entries_or : AKind → Entries
+entries_or (entries_line xs) = xs
+entries_or _ = no_entry
+
+kind_plain : (es : Row AnEntry) (newline : Bool) (xs : Entries) → kind_of es newline ≡ entries_line xs → es ≡ blanked_row false (map (moved_entry 0) es) → BeginsPlain xs
+kind_plain [] true xs kind_is same = absurd cc
+kind_plain [] false xs kind_is same = absurd cc
+kind_plain (entry what background blank comment ∷ es) newline xs kind_is same =
+    let none : blank ≡ false = ap first_blank same in
+    subst BeginsPlain (ap entries_or kind_is) (record {
+      some = refl;
+      plain = ap (λ (b : Bool). more_entries (entry what background b comment) (entries_of es)) (sym none);
+    })
+
+-- a line that is read alone is the line that is read at 0, with no empty line before it
+row_plain : (T : List ℕ) (es : Row AnEntry) (newline : Bool) (t : State) → Ok ((es, newline), t) ≡ line_told T Whole false 0 0 → es ≡ blanked_row false (map (moved_entry 0) es)
+row_plain T es newline t read =
+    let same : Same 0 false (Ok ((es, newline), t)) (Ok ((es, newline), t)) = subst (λ (r : Read (Row AnEntry × Bool)). Same 0 false r r) (sym read) (line_moved T 0 false) in
+    same.0
+
+pub line_plain : (T : List ℕ) (a : ALine) → IsLine T a → (xs : Entries) → a.kind ≡ entries_line xs → BeginsPlain xs
+line_plain T _ (line_read es newline t k part) xs kind_is =
+    kind_plain es newline xs kind_is (row_plain T es newline t ((is (the_line false) (given T 0) (standing 0)).only (Ok ((es, newline), t)) k part))
+line_plain T _ (line_stops f k part) xs kind_is = absurd cc

@@ -1,0 +1,23 @@
+-- What is printed of the lines of a script, one after the other.
+use Rattle.std.specs.Prelude.{◌≡◌, ℕ, Bool, List, [], drop}
+use Rattle.shast.specs.Shape.{shape_of}
+use Rattle.shgrammar.specs.Lines.{AKind}
+use Rattle.shheld.specs.TopLines.{IsTopLine}
+use Rattle.shheld.specs.Walk.{Walk, with_line}
+use Rattle.shprint.specs.Printed.{print_entries}
+use Rattle.shprint.specs.Written.{sheet, sheet_of, written}
+use Rattle.shprint.specs.declared.layout.Layout.{Layout}
+use Rattle.shprint.specs.declared.page.Page.{Page}
+use Rattle.shwindow.specs.declared.line.HeldLine.{HeldLine}
+
+-- the entries that a walk over lines of the bytes gathered are on the page, and nothing else
+pub record IsPrinted (y : Layout) (bytes : List ℕ) (so : Walk) (page : Page) : Type 0 where
+  pub margin : page.margin.items ≡ []
+  pub is : sheet page ≡ written (sheet_of [] []) (print_entries y [] (shape_of bytes so.entries))
+
+-- The line at a base was printed, with a gap before it and one behind it, or with none: where the lines before it were on the page,
+-- those up to it are.
+abbrev pub PrintsLine : Layout → List ℕ → ℕ → HeldLine AKind → Bool → Bool → Page → Page → Type 0
+PrintsLine y bytes base line gap gap_behind before after =
+    (so : Walk) → so.gap ≡ gap → so.at ≡ base → IsTopLine (drop base bytes) line → IsPrinted y bytes so before
+    → (gap_behind ≡ (with_line so line).gap) × IsPrinted y bytes (with_line so line) after
