@@ -1,17 +1,17 @@
 -- What stands behind the value of a session.
 use Rattle.std.specs.Prelude.{◌≤◌, length}
-use Rattle.shtext.specs.Buffer.{buffer_bytes}
+use Rattle.shgap.specs.Gap.{gap_bytes}
 use Rattle.shtext.specs.Edit.{limit}
 use Rattle.shwindow.specs.Lines.{IsRow}
 use Rattle.shlive.specs.Held.{Held}
 use Rattle.shlive.specs.HeldLines.{IsHeldLine, count_of}
 use Rattle.shlive.specs.declared.session.Session.TheInside.{Inside}
 
--- the bytes of its buffer, its layout, and what its reader has read
+-- the bytes of its text, its layout, and what its reader has read
 abbrev pub held : Inside → Held
-held s = record { bytes = buffer_bytes s.buffer; layout = s.layout; meter = count_of s.reader.reader }
+held s = record { bytes = gap_bytes s.text; layout = s.layout; meter = count_of s.reader.reader }
 
 -- the lines that are held are those of the bytes
 pub record IsKept (s : Inside) : Type 0 where
-  pub small : length (buffer_bytes s.buffer) ≤ limit
-  pub row : IsRow IsHeldLine (buffer_bytes s.buffer) s.lines
+  pub small : length (gap_bytes s.text) ≤ limit
+  pub row : IsRow IsHeldLine (gap_bytes s.text) s.lines

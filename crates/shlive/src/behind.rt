@@ -1,12 +1,13 @@
-//! The rest of a buffer, as a text of its own.
+//! The rest of a text, as a text of its own.
 ghost use Rattle.shlive.specs.Behind.{behind_bytes};
 
-use shtext::{Buffer, Source};
+use shgap::GapText;
+use shtext::Source;
 
-/// The bytes of a buffer from an offset on.
+/// The bytes of a text from an offset on.
 #[derive(Clone, Copy)]
 pub(crate) struct Behind<'a> {
-    pub(crate) buffer: &'a Buffer,
+    pub(crate) text: &'a GapText,
     pub(crate) base: usize,
 }
 
@@ -15,13 +16,13 @@ impl<'a> Source for Behind<'a> {
 
     #[inline]
     fn len(&self) -> usize {
-        self.buffer.len().saturating_sub(self.base)
+        self.text.len().saturating_sub(self.base)
     }
 
     #[inline]
     fn byte(&self, at: usize) -> Option<u8> {
         if at < self.len() {
-            self.buffer.byte(self.base + at)
+            self.text.byte(self.base + at)
         } else {
             None
         }
@@ -30,7 +31,7 @@ impl<'a> Source for Behind<'a> {
     #[inline]
     fn run(&self, at: usize) -> &[u8] {
         if at < self.len() {
-            self.buffer.run(self.base + at)
+            self.text.run(self.base + at)
         } else {
             &[]
         }

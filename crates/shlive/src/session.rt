@@ -4,7 +4,7 @@ ghost use Rattle.shread.specs.Answers.{meter_of};
 ghost use Rattle.shtext.specs.Meter.{raised};
 ghost use Rattle.shgrammar.specs.Scripts.{FirstFault};
 ghost use Rattle.shgrammar.specs.declared.fault.Fault.{Fault};
-ghost use Rattle.shtext.specs.Buffer.{buffer_bytes};
+ghost use Rattle.shgap.specs.Gap.{gap_bytes};
 ghost use Rattle.shtext.specs.Edit.{IsAllowed, edited, limit};
 ghost use Rattle.shlive.specs.Answers.{HasNodesAt, HasOutline, HasStatus, HasText, IsRefused};
 ghost use Rattle.shlive.specs.HeldLines.{HasReadNoMore, HasReadWindow};
@@ -12,9 +12,10 @@ ghost use Rattle.shlive.specs.HeldLines.{HasReadNoMore, HasReadWindow};
 use crate::answers::{nodes_of_lines, outline_of_lines, text_of_lines};
 use crate::error::LiveError;
 use crate::top_lines::{TopLine, TopLines};
+use shgap::GapText;
 use shprint::Layout;
 use shread::{Fault, Reader};
-use shtext::{Buffer, Source};
+use shtext::Source;
 use shtree::NodeLine;
 use shwindow::HeldLines;
 use std::alloc::{AllocError, Global};
@@ -26,7 +27,7 @@ pub struct Session {
     alloc: Global,
     reader: TopLines,
     layout: Layout,
-    buffer: Buffer,
+    text: GapText,
     lines: HeldLines<TopLine>,
 }
 
@@ -58,13 +59,13 @@ impl Session {
         ensures empty { length bytes.now ≡ 0 → IsOk result }
     {
         let mut reader = TopLines { reader };
-        let buffer = Buffer::from_slice(alloc, bytes)?;
-        let lines = HeldLines::read(alloc, &mut reader, &buffer)?;
+        let text = GapText::from_slice(alloc, bytes)?;
+        let lines = HeldLines::read(alloc, &mut reader, &text)?;
         Ok(Session {
             alloc,
             reader,
             layout,
-            buffer,
+            text,
             lines,
         })
     }
@@ -81,12 +82,17 @@ impl Session {
         ensures meter { IfErr result (λ e. e ≢ LiveError.Memory → self.new.meter ≡ self.old.meter) }
         ensures within { OnErr result (HasReadNoMore self.old.bytes a b bytes.now self.old.meter self.new.meter) }
     {
-        let change = self.buffer.prepare(a, b, bytes)?;
-        let edited = self.buffer.preview(&change);
-        self.lines
-            .edit(&mut self.reader, &edited, a, a + bytes.len(), b)?;
-        self.buffer.commit(change);
-        Ok(())
+        // All that may be read of the window lies in one piece.
+        let begin = self.lines.line_at(a).1;
+        let undo = self.text.edit(begin, a, b, bytes)?;
+        let end = a + bytes.len();
+        match self.lines.edit(&mut self.reader, &self.text, a, end, b) {
+            Ok(()) => Ok(()),
+            Err(error) => {
+                self.text.undo(undo);
+                Err(LiveError::from(error))
+            }
+        }
     }
 
     /// Whether so many bytes may be put in the place of those from `a` up to `b`, as far as the script decides that. It takes no memory.
@@ -94,7 +100,7 @@ impl Session {
         ensures ok { IfOk result (λ _. (new : List ℕ) → length new ≡ count → IsAllowed self.now.bytes a b new) }
         ensures err { IfErr result (λ e. (new : List ℕ) → length new ≡ count → IsRefused self.now.bytes a b new e) }
     {
-        match self.buffer.allows(a, b, count) {
+        match self.text.allows(a, b, count) {
             Ok(()) => Ok(()),
             Err(error) => Err(LiveError::from(error)),
         }
@@ -105,14 +111,14 @@ impl Session {
         ensures past { result ≡ true → HasNodesAt self.now.bytes at [] }
         ensures before { result ≡ false → at < length self.now.bytes }
     {
-        self.buffer.len() <= at
+        self.text.len() <= at
     }
 
     /// The bytes.
-    pub(crate) fn bytes(&self) -> &Buffer
-        ensures { buffer_bytes result.now ≡ self.now.bytes }
+    pub(crate) fn bytes(&self) -> &GapText
+        ensures { gap_bytes result.now ≡ self.now.bytes }
     {
-        &self.buffer
+        &self.text
     }
 
     /// How many bytes the script has.
@@ -120,7 +126,7 @@ impl Session {
         ensures length { result ≡ length self.now.bytes }
         ensures limit { result ≤ limit }
     {
-        self.buffer.len()
+        self.text.len()
     }
 
     /// 0 for a script without a fault, 1 for one with a fault.
@@ -139,7 +145,7 @@ impl Session {
         ensures within { IfSome result (λ fault. fault.at ≤ length self.now.bytes) }
     {
         let last = self.lines.last();
-        let begin = self.buffer.len() - last.len;
+        let begin = self.text.len() - last.len;
         match last.kind.fault() {
             None => None,
             Some(fault) => Some(Fault {
@@ -162,7 +168,7 @@ impl Session {
         ensures nodes { IfOk result (λ lines. HasNodesAt self.now.bytes at lines.items) }
         ensures past { length self.now.bytes ≤ at → IsOk result }
     {
-        if self.buffer.len() <= at {
+        if self.text.len() <= at {
             return Ok(Vec::new(self.alloc));
         }
         nodes_of_lines(self.alloc, &self.lines, at)
@@ -176,7 +182,7 @@ impl Session {
         if self.fault().is_some() {
             return Ok(None);
         }
-        let text = text_of_lines(self.alloc, &self.layout, &self.buffer, &self.lines)?;
+        let text = text_of_lines(self.alloc, &self.layout, &self.text, &self.lines)?;
         Ok(Some(text))
     }
 

@@ -1,10 +1,14 @@
 //! The tests of the printer and of sessions, over their public calls. The devices and the refused growths that they use are those of the
 //! crate `shtreetests`.
 //!
-//! Start with the module of what is tested: `printer_..` are the tests of `shprint`, `session_..` those of `shlive`; those in
+//! Start with the module of what is tested: `gap_..` are the tests of `shgap`, `printer_..` those of `shprint`, `session_..` those of `shlive`; those in
 //! `.._refused` refuse each growth of memory in turn. `spliced` is the model by which edits are judged, `windows` that of what they read.
 #![tactic(auto)]
 
+#[cfg(test)]
+mod gap_refused;
+#[cfg(test)]
+mod gap_text;
 #[cfg(test)]
 mod printer_refused;
 #[cfg(test)]

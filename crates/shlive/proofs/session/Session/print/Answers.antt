@@ -1,7 +1,7 @@
 use Rattle.std.proofs.Common.{◌∙◌, None, subst, sym}
 use Rattle.shgrammar.specs.Scripts.{FirstFault}
 use Rattle.shprint.specs.ReadBack.{IsTextOf}
-use Rattle.shtext.specs.Buffer.{buffer_bytes}
+use Rattle.shgap.specs.Gap.{gap_bytes}
 use Rattle.shlive.specs.Held.{Held}
 use Rattle.shlive.proofs.LastLine.{no_fault, none_is, text_of_row}
 use Rattle.shlive.proofs.session.Session.print.Goals as goal
@@ -17,4 +17,4 @@ returns-clause-text c =
     let here = subst (λ (h : Held). FirstFault h.bytes None) (sym c.self.view_is) none in
     let text = c.in_ok-text.text.items in
     subst (λ (h : Held). IsTextOf h.layout h.bytes text) c.self.view_is
-    (text_of_row session.layout (buffer_bytes session.buffer) session.lines c.self.invariant.row here text c.in_ok-text.ensures)
+    (text_of_row session.layout (gap_bytes session.text) session.lines c.self.invariant.row here text c.in_ok-text.ensures)

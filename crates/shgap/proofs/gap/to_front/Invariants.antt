@@ -1,0 +1,15 @@
+use Rattle.std.proofs.Common.{◌-◌, ◌≡◌, ◌+◌, ◌≤◌, ◌<◌, length}
+use Rattle.shgap.specs.Gap.{around}
+use Rattle.shgap.proofs.gap.to_front.Given as goal
+
+abbrev pub invariant-moves : goal.invariant-moves
+invariant-moves l = record {
+  width : l.behind ≡ l.gap + (l.initial.behind - l.initial.gap);
+  up : l.to ≤ l.gap;
+  top : l.behind ≤ length l.bytes;
+  len : length l.bytes ≡ length l.initial.bytes;
+  text : around l.bytes l.gap l.behind ≡ around l.initial.bytes l.initial.gap l.initial.behind;
+}
+
+abbrev pub decreases-moves : goal.decreases-moves
+decreases-moves l = l.gap - l.to
