@@ -1,5 +1,5 @@
 -- A gap that moves leaves the text around it.
-use Rattle.std.proofs.Common.{◌≡◌, ℕ, ◌+◌, ◌-◌, ◌≤◌, List, ◌++◌, length, take, drop, refl, sym, ap, ◌∙◌, arith, append_assoc}
+use Rattle.std.proofs.Common.{◌≡◌, ℕ, ◌+◌, ◌-◌, ◌≤◌, List, ◌++◌, length, take, drop, sym, ap, ◌∙◌, arith, append_assoc}
 use Rattle.std.proofs.lemmas.List.{take-append-le, length-take-le, length-append, take-append-drop, length-drop, drop-drop}
 use Rattle.std.proofs.Math.Seq.{take-add, take-append_seam, take-append-add, drop-append_seam, drop-append-add}
 

@@ -1,5 +1,5 @@
 -- A text among bytes with a gap.
-use Rattle.std.specs.Prelude.{◌≡◌, ℕ, ◌≤◌, ◌++◌, List, length, take, drop, vec_len}
+use Rattle.std.specs.Prelude.{ℕ, ◌≤◌, ◌++◌, List, length, take, drop, vec_len}
 use Rattle.shtext.specs.Edit.{edited, limit}
 use Rattle.shgap.specs.declared.text.GapText.{GapText}
 use Rattle.shgap.specs.declared.undo.Undo.{Undo}

@@ -3,8 +3,8 @@ ghost use Rattle.std.specs.Prelude.{◌≡◌, ◌+◌, ◌≤◌, ◌∷◌, �
 ghost use Rattle.shgap.specs.Gap.{gap_bytes};
 ghost use Rattle.shlive.specs.Replies.{kind_text, name_text, node_text, nodes_text};
 
-use shprint::add_bare;
 use shgap::GapText;
+use shprint::add_bare;
 use shtree::{NodeKind, NodeLine, Span};
 use std::alloc::{AllocError, Global};
 

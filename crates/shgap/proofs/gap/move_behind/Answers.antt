@@ -1,4 +1,3 @@
-use Rattle.std.proofs.Common.{◌≡◌, ℕ, ◌+◌, ◌-◌, ◌≤◌, List, ◌++◌, length, take, drop, arith}
 use Rattle.shgap.proofs.Moves.{behind_moved}
 use Rattle.shgap.proofs.gap.move_behind.Goals as goal
 

@@ -1,4 +1,4 @@
-use Rattle.std.proofs.Common.{◌≡◌, ◌+◌, ◌-◌, ◌≤◌, ◌++◌, ℕ, List, drop, length, take, vec_len, refl, sym, ap, ◌∙◌, arith}
+use Rattle.std.proofs.Common.{◌≡◌, ◌+◌, ◌-◌, ℕ, List, drop, length, take, refl, ap, ◌∙◌}
 use Rattle.shtext.specs.Edit.{edited}
 use Rattle.shtext.proofs.Edits.{undone}
 use Rattle.shgap.specs.Gap.{gap_bytes}
