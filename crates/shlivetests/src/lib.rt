@@ -14,6 +14,8 @@ mod printer_refused;
 #[cfg(test)]
 mod printer_texts;
 #[cfg(test)]
+mod session_blocks;
+#[cfg(test)]
 mod session_refused;
 #[cfg(test)]
 mod session_runs;

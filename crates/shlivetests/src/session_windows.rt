@@ -76,7 +76,7 @@ fn rows(rt: HostRuntime) -> Result<(), Fail> {
 
 /// Whether an edit makes answers those of a session opened anew, where nodes are asked for at one offset of so many, and raises the meter
 /// by the length of the window.
-fn is_right(
+pub(crate) fn is_right(
     alloc: Global,
     session: &mut Session,
     bytes: &mut Vec<u8>,

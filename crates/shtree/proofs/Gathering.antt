@@ -1,6 +1,5 @@
 -- Nodes gathered from one part of a tree after another.
 use Rattle.std.proofs.Common.{◌≡◌, ℕ, zero, suc, ◌+◌, ◌<◌, ◌≤◌, Bool, true, false, List as Row, [], ◌∷◌, ◌++◌, length, map, get_or, take, refl, ap, ◌∙◌, arith, add-one, append_assoc}
-use Rattle.std.specs.List.{filter}
 use Rattle.std.proofs.Math.Seq.{take-length}
 use Rattle.std.proofs.lemmas.List.{append-nil, length-take, take-append-le}
 use Rattle.std.proofs.lemmas.List.Elements.{filter-append}
@@ -13,10 +12,6 @@ use Rattle.shast.specs.Nodes.{and_or_parts_nodes, branch_nodes, branches_nodes, 
 pub gathered_none : (wanted : NodeLine → Bool) (ns : Row NodeLine) → gathered wanted ns [] ≡ ns
 unfolding gathered
 gathered_none wanted ns = append-nil ns
-
-pub gathered_all : (wanted : NodeLine → Bool) (ns : Row NodeLine) → gathered wanted [] ns ≡ filter wanted ns
-unfolding gathered
-gathered_all wanted ns = refl
 
 -- one part and then another
 pub gathered_append : (wanted : NodeLine → Bool) (so_far ms ns : Row NodeLine) → gathered wanted (gathered wanted so_far ms) ns ≡ gathered wanted so_far (ms ++ ns)
