@@ -8,10 +8,11 @@ use crate::undo::Undo;
 use shtext::{LIMIT, Source, TextError, line_col_of};
 use std::alloc::{AllocError, Global};
 
-/// How wide the gap is at least once an edit is made, so that it moves in long steps.
+/// How wide the gap is at least once an edit is made, if there is memory, so that it moves in long steps.
 const SPARE: usize = 4096;
 
-/// A text of at most [`LIMIT`] bytes, which lie in two pieces with a gap between them. An edit costs what lies between it and the gap.
+/// A text of at most [`LIMIT`] bytes, which lie in two pieces with a gap between them. An edit costs what lies between it and the gap, before it
+/// and behind it.
 #[derive(Drop)]
 pub struct GapText {
     /// The bytes before the gap, the gap, and the bytes behind it.
@@ -162,7 +163,12 @@ impl GapText {
         self.allows(a, b, new.len())?;
         self.move_to(a);
         let old = self.copied(b - a)?;
-        self.make_room(new.len() + SPARE)?;
+        // A gap that stays narrow serves as well, in more steps.
+        let widened = self.make_room(new.len() + SPARE);
+        let room = (self.behind - self.gap).saturating_add(b - a);
+        if widened.is_err() && room < new.len() {
+            return Err(TextError::Memory);
+        }
         self.splice(from, a, b, new);
         Ok(Undo {
             start: a,

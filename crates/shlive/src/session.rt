@@ -21,6 +21,9 @@ use shwindow::HeldLines;
 use std::alloc::{AllocError, Global};
 use std::marker::Model;
 
+/// How far before an edit behind a fault the gap of the text may stand.
+const NEAR: usize = 4096;
+
 /// A script that is edited, with its lines as they were read. After each edit every answer is that of the edited bytes read from scratch.
 #[derive(Drop)]
 pub struct Session {
@@ -70,6 +73,18 @@ impl Session {
         })
     }
 
+    /// Where the gap of the text stands best for an edit at an offset: where its window begins, so that what is read lies in one piece.
+    /// What stands far behind a fault is not read, so there the gap stays near the edit: moving it would cost more than the reading.
+    fn gap_before(&self, a: usize) -> usize
+        ensures { result ≤ a }
+    {
+        let begin = self.lines.line_at(a).1;
+        match self.fault() {
+            Some(fault) if fault.at < a => begin.max(a.saturating_sub(NEAR)),
+            _ => begin,
+        }
+    }
+
     /// Puts bytes in the place of those from `a` up to `b`, and reads the window of the edit. An edit that is refused changes no answer;
     /// for want of memory it has read no more than the window.
     pub fn edit(&mut self, a: usize, b: usize, bytes: &[u8]) -> Result<(), LiveError>
@@ -82,8 +97,7 @@ impl Session {
         ensures meter { IfErr result (λ e. e ≢ LiveError.Memory → self.new.meter ≡ self.old.meter) }
         ensures within { OnErr result (HasReadNoMore self.old.bytes a b bytes.now self.old.meter self.new.meter) }
     {
-        // All that may be read of the window lies in one piece.
-        let begin = self.lines.line_at(a).1;
+        let begin = self.gap_before(a);
         let undo = self.text.edit(begin, a, b, bytes)?;
         let end = a + bytes.len();
         match self.lines.edit(&mut self.reader, &self.text, a, end, b) {

@@ -15,7 +15,7 @@ returns-clause-undone c =
     let old : c.in_ok-old.old.items ≡ take (b - a) (drop a text)
     = c.in_ok-old.ensures ∙ ap (λ m. take (b - a) (drop m (gap_bytes c.move_to.new.self))) moved.gap ∙ ap (λ l. take (b - a) (drop a l)) moved.text in
     let made : gap_bytes c.splice.new.self ≡ edited text a b new
-    = c.splice.ensures.text ∙ ap (λ l. edited l a b new) (c.make_room.ensures.text ∙ moved.text) in
+    = c.splice.ensures.text ∙ ap (λ l. edited l a b new) (c.make_room-widened.ensures.text ∙ moved.text) in
     ap (λ l. edited l a (a + length new) c.in_ok-old.old.items) made
     ∙ ap (λ l. edited (edited text a b new) a (a + length new) l) old
     ∙ undone text new a b range.0 range.1
