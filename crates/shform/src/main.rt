@@ -9,7 +9,6 @@
 
 mod asked;
 mod engine;
-mod newlines;
 mod part;
 mod passing;
 mod printed_part;

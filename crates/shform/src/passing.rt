@@ -5,11 +5,10 @@ ghost use Rattle.shform.specs.Part.{EndsLine, Held, Holds, IsFound, IsFoundAt, b
 ghost use Rattle.shgrammar.specs.Moved.{moved_fault};
 ghost use Rattle.shtext.specs.Edit.{limit};
 
-use crate::newlines::newlines_in;
 use crate::part::{Found, Part};
 use crate::sink::Sink;
 use shread::{Fault, ReadError, Reader, faultless_front};
-use shtext::{Flat, line_col_of};
+use shtext::{Flat, line_col_of, newlines_in};
 use std::alloc::{AllocError, Global};
 
 /// How many bytes are held before lines are looked for among them.

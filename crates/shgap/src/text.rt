@@ -5,13 +5,13 @@ ghost use Rattle.shtext.specs.Text.{column_of, line_of};
 
 use crate::gap::{fill, to_back, to_front};
 use crate::undo::Undo;
-use shtext::{LIMIT, Source, TextError, line_col_of};
+use shtext::{Source, TextError, allowed, line_col_of};
 use std::alloc::{AllocError, Global};
 
 /// How wide the gap is at least once an edit is made, if there is memory, so that it moves in long steps.
 const SPARE: usize = 4096;
 
-/// A text of at most [`LIMIT`] bytes, which lie in two pieces with a gap between them. An edit costs what lies between it and the gap, before it
+/// A text of at most `shtext::LIMIT` bytes, which lie in two pieces with a gap between them. An edit costs what lies between it and the gap, before it
 /// and behind it.
 #[derive(Drop)]
 pub struct GapText {
@@ -43,9 +43,7 @@ impl GapText {
                 behind: 0,
             });
         }
-        if bytes.len() > LIMIT {
-            return Err(TextError::TooLarge);
-        }
+        allowed(0, 0, 0, bytes.len())?;
         let bytes = Vec::from_slice(alloc, bytes)?;
         Ok(GapText {
             bytes,
@@ -60,14 +58,7 @@ impl GapText {
         ensures err { IfErr result (λ e. (new : List ℕ) → length new ≡ count → Refuses (gap_bytes self.now) a b new e) }
         ensures no_memory { IfErr result (λ e. e ≢ TextError.Memory) }
     {
-        if a > b || b > self.len() {
-            return Err(TextError::Range);
-        }
-        let kept = self.len() - (b - a);
-        if kept.saturating_add(count) > LIMIT {
-            return Err(TextError::TooLarge);
-        }
-        Ok(())
+        allowed(self.len(), a, b, count)
     }
 
     /// The line and the column of an offset in bytes, which is at most the length. Both count from 1, and the column counts bytes.

@@ -3,3 +3,4 @@ pub mod Newlines
 pub mod Lines
 pub mod Searches
 pub mod Edits
+pub mod Counting

@@ -9,7 +9,7 @@ abbrev pub Quiet : List ℕ → ℕ → ℕ → Type 0
 Quiet B from at = (k : ℕ) → from ≤ k → k < at → is_newline (slice_index B k) ≡ false
 
 -- a test that fails
-no_pass : (x : Bool) → (x ≡ true → ⊥) → x ≡ false
+pub no_pass : (x : Bool) → (x ≡ true → ⊥) → x ≡ false
 no_pass true never = absurd (never refl)
 no_pass false never = refl
 

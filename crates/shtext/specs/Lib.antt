@@ -3,3 +3,4 @@ pub mod Edit
 pub mod Buffer
 pub mod Device
 pub mod Meter
+pub mod Begin

@@ -4,6 +4,7 @@ ghost use Rattle.shtext.specs.Buffer.{Fits, buffer_bytes, changed, edited_bytes}
 ghost use Rattle.shtext.specs.Edit.{IsAllowed, Refuses, edited, limit};
 ghost use Rattle.shtext.specs.Text.{IsLineStart, column_of, line_of};
 
+use crate::allow::{LIMIT, allowed};
 use crate::change::Change;
 use crate::edited::Edited;
 use crate::error::TextError;
@@ -12,9 +13,6 @@ use crate::newline::next_newline;
 use crate::source::Source;
 use crate::splice::replace_items;
 use std::alloc::Global;
-
-/// The most bytes that a text has.
-pub const LIMIT: usize = 16_777_216;
 
 /// A text that is edited in two steps, so that nothing can go wrong once its bytes change: a change is prepared, which takes what memory it
 /// needs, and committed. Between the two its edited text can be read.
@@ -43,28 +41,18 @@ impl Buffer {
         if bytes.is_empty() {
             return Ok(Buffer::new(alloc));
         }
-        if bytes.len() > LIMIT {
-            return Err(TextError::TooLarge);
-        }
+        allowed(0, 0, 0, bytes.len())?;
         let bytes = Vec::from_slice(alloc, bytes)?;
         Ok(Buffer { bytes })
     }
 
     /// Whether so many bytes may be put in the place of those from `a` up to `b`, as far as the text decides that. It takes no memory.
-    #[tactic(auto, using(crate::proofs::Edits::edited_length))]
     pub fn allows(&self, a: usize, b: usize, count: usize) -> Result<(), TextError>
         ensures ok { IfOk result (λ _. (new : List ℕ) → length new ≡ count → IsAllowed (buffer_bytes self.now) a b new) }
         ensures err { IfErr result (λ e. (new : List ℕ) → length new ≡ count → Refuses (buffer_bytes self.now) a b new e) }
         ensures no_memory { IfErr result (λ e. e ≢ TextError.Memory) }
     {
-        if a > b || b > self.bytes.len() {
-            return Err(TextError::Range);
-        }
-        let kept = self.bytes.len() - (b - a);
-        if kept.saturating_add(count) > LIMIT {
-            return Err(TextError::TooLarge);
-        }
-        Ok(())
+        allowed(self.bytes.len(), a, b, count)
     }
 
     /// A change that puts these bytes in the place of those from `a` up to `b`. It fits; no byte of the text changes, whatever is answered.

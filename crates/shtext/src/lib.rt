@@ -1,13 +1,16 @@
 //! The bytes that shform works on: texts, which tell one list of bytes, and the ends that bytes come from and go to.
 //!
 //! Start with [`Source`], a text that is read by the byte or by stretches; [`Flat`] is one whose bytes lie in a slice, [`line_col_of`]
-//! tells the line and the column of an offset. [`Buffer`] is a text that is edited: it prepares a [`Change`], previews the [`Edited`]
-//! text, and commits the change. [`Input`] and [`Output`] are a reader and a writer that remember how their devices fared.
-//! [`replace_items`] puts items of a vector in the place of others. The definitions that the contracts cite are in `specs/`.
+//! tells the line and the column of an offset, and [`newlines_in`] counts the newlines of a stretch. [`Buffer`] is a text that is edited: it
+//! prepares a [`Change`], previews the [`Edited`] text, and commits the change; [`allowed`] tells which edits a text allows. [`Input`] and
+//! [`Output`] are a reader and a writer that remember how their devices fared. [`replace_items`] puts items of a vector in the place of
+//! others. The definitions that the contracts cite are in `specs/`.
 #![tactic(auto)]
 
+mod allow;
 mod buffer;
 mod change;
+mod count;
 mod device;
 mod edited;
 mod error;
@@ -17,8 +20,10 @@ mod newline;
 mod source;
 mod splice;
 
-pub use buffer::{Buffer, LIMIT};
+pub use allow::{LIMIT, allowed};
+pub use buffer::Buffer;
 pub use change::Change;
+pub use count::newlines_in;
 pub use device::{Failed, Input, Output};
 pub use edited::Edited;
 pub use error::TextError;

@@ -1,26 +1,43 @@
-use Rattle.std.proofs.Common.{◌+◌, ◌≤◌, arith, refl, ◌∙◌, ap}
-use Rattle.shtext.proofs.Newlines.{since_start, next_line, in_line}
+use Rattle.std.proofs.Common.{[], ◌≡◌, ◌+◌, ◌<◌, ◌≤◌, List, ℕ, count_by, length, take, refl, sym, ap, ◌∙◌, arith}
+use Rattle.std.proofs.lemmas.List.{get_or-take, length-take-le}
+use Rattle.std.proofs.lemmas.List.Sums.{count_by-le-length}
+use Rattle.std.proofs.Math.Seq.{take-length}
+use Rattle.shtext.specs.Text.{is_newline, line_of}
+use Rattle.shtext.proofs.Counting.{lines}
+use Rattle.shtext.proofs.Newlines.{since_start}
 use Rattle.shtext.proofs.line_col.line_col_of.Goals as goal
 
-pub lines-init : goal.lines-init
-lines-init g c = (omega arith, refl, since_start (g.S.Source.bytes c.args.source.now), omega arith)
+pub runs-init : goal.runs-init
+runs-init g c =
+    let none = since_start [] in
+    record {
+      order = omega arith;
+      within = omega arith;
+      line = refl;
+      since = omega (arith, none);
+      few = omega arith;
+    }
 
-pub lines-preserved : goal.lines-preserved
-lines-preserved g c =
-    let inv = c.lines.invariant in
-    let bytes = g.S.Source.bytes c.args.source.now in
-    let is = c.next_newline-newline.ensures in
-    let low : c.lines.start ≤ c.next_newline-newline.result = is.low in
-    let next = next_line bytes c.lines.start c.next_newline-newline.result is (omega (arith, c.if-newline-at.false, c.requires.within)) in (
-      omega (arith, c.if-newline-at.false),
-      ap (λ m. m + 1) inv.1 ∙ omega (arith, next.0),
-      next.1,
-      omega (arith, inv.3, low),
-    )
-
-pub returns-then-newline-at : goal.returns-then-newline-at
-returns-then-newline-at g c =
-    let inv = c.lines.invariant in
-    let bytes = g.S.Source.bytes c.args.source.now in
-    let here = in_line bytes c.lines.start c.next_newline-newline.result c.next_newline-newline.ensures c.args.at inv.2 inv.0 c.if-newline-at.true in
-    record { line = inv.1 ∙ here.0; column = here.1 }
+pub runs-preserved : goal.runs-preserved
+runs-preserved g c =
+    let bytes : List ℕ = g.S.Source.bytes c.args.source.now in
+    let inv = c.runs.invariant in
+    let whole : List ℕ = c.run-run.result.now in
+    let run : List ℕ = take c.min.result whole in
+    let is = c.run-run.ensures in
+    let short : c.min.result ≤ length whole = omega (arith, c.min.ensures) in
+    let count : length run ≡ c.min.result = length-take-le c.min.result whole short in
+    let fits : c.runs.from + length run ≤ length bytes = omega (arith, count, c.min.ensures, inv.within, c.requires.within) in
+    let same = λ (k : ℕ) (lt : k < length run).
+    is.same k (omega (arith, lt, count, short)) ∙ sym (get_or-take c.min.result whole k 0 (omega (arith, lt, count))) in
+    let since = c.line_begin-start.ensures bytes fits same inv.since in
+    let line : line_of bytes (c.runs.from + length run) ≡ line_of bytes c.runs.from + count_by is_newline run
+    = lines bytes run c.runs.from same (length run) fits (omega arith) ∙ ap (λ l. line_of bytes c.runs.from + count_by is_newline l) (take-length run) in
+    let few : count_by is_newline run ≤ length run = count_by-le-length is_newline run in
+    record {
+      order = omega (arith, since);
+      within = omega (arith, count, c.min.ensures, inv.within);
+      line = omega (arith, line, inv.line, c.newlines_in-line.ensures);
+      since = since;
+      few = omega (arith, few, inv.few, c.newlines_in-line.ensures);
+    }

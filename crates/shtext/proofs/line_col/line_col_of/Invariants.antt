@@ -2,8 +2,14 @@ use Rattle.std.proofs.Common.{◌≡◌, ◌≤◌, ◌+◌, ◌-◌, take}
 use Rattle.shtext.specs.Text.{line_of, since_newline}
 use Rattle.shtext.proofs.line_col.line_col_of.Given as goal
 
-abbrev pub invariant-lines : goal.invariant-lines
-invariant-lines g l = (l.start ≤ l.at) × (l.line ≡ line_of (g.S.Source.bytes l.source) l.start) × (since_newline (take l.start (g.S.Source.bytes l.source)) ≡ 0) × (l.line ≤ l.start + 1)
+abbrev pub invariant-runs : goal.invariant-runs
+invariant-runs g l = record {
+  order : l.start ≤ l.from;
+  within : l.from ≤ l.at;
+  line : l.line ≡ line_of (g.S.Source.bytes l.source) l.from;
+  since : l.start + since_newline (take l.from (g.S.Source.bytes l.source)) ≡ l.from;
+  few : l.line ≤ l.from + 1;
+}
 
-abbrev pub decreases-lines : goal.decreases-lines
-decreases-lines g l = l.at - l.start
+abbrev pub decreases-runs : goal.decreases-runs
+decreases-runs g l = l.at - l.from

@@ -1,6 +1,6 @@
 use Rattle.std.proofs.Common.{◌≡◌, ◌+◌, count_by, length}
 use Rattle.shtext.specs.Text.{is_newline}
-use Rattle.shform.proofs.newlines.newlines_in.Given as goal
+use Rattle.shtext.proofs.count.newlines_in.Given as goal
 
 abbrev pub invariant-rows : goal.invariant-rows
 invariant-rows l = l.newlines + count_by is_newline l.rest ≡ count_by is_newline l.bytes

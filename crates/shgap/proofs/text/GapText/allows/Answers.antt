@@ -1,0 +1,10 @@
+use Rattle.std.proofs.Common.{◌≡◌, ℕ, List, length, sym}
+use Rattle.std.proofs.lemmas.Result.{IfOk-weaker}
+use Rattle.shgap.specs.Gap.{gap_bytes}
+use Rattle.shgap.proofs.text.GapText.allows.Goals as goal
+
+pub returns-clause-ok : goal.returns-clause-ok
+returns-clause-ok c =
+    let text : List ℕ = gap_bytes c.args.self.now in
+    let long : length text ≡ c.len.result = sym c.len.ensures in
+    IfOk-weaker c.allowed.result _ _ (λ _ all new. all text new long) c.allowed.ensures.ok
