@@ -3,7 +3,6 @@ ghost use Rattle.std.specs.Prelude.{◌≡◌, ◌-◌, ◌++◌, All, filter, m
 ghost use Rattle.shast.specs.declared.node.NodeLine.{NodeLine};
 ghost use Rattle.shast.specs.Nodes.{AreWithin, by_place, entries_nodes, holds, in_order, in_outline, IsWithin, nodes_at, outline, placed};
 ghost use Rattle.shast.specs.View.{view_list};
-ghost use Rattle.shtree.specs.Gathered.{Begins};
 
 use crate::visit::{Wanted, visit_list};
 use shast::{List, NodeLine};
@@ -80,8 +79,8 @@ impl Wanted for Holding {
     }
 }
 
-/// Adds the nodes that are wanted of a list that stands from `base` on to `lines`, in order. Where memory runs out, `lines` then holds
-/// what it held before.
+/// Adds the nodes that are wanted of a list that stands from `base` on to `lines`, in order. They are gathered there, so that a short list
+/// asks for no memory but theirs. Where memory runs out, `lines` then holds what it held before.
 fn add_nodes<W: Wanted>(
     alloc: Global,
     list: &List,
@@ -94,29 +93,14 @@ fn add_nodes<W: Wanted>(
     ensures err { OnErr result (lines.new.items ≡ lines.old.items) }
 {
     let held = lines.len();
-    let added = gather(alloc, list, base, wanted, lines);
-    if added.is_err() {
-        lines.truncate(held);
+    if visit_list(list, wanted, lines).is_ok() {
+        let settled = settle(alloc, lines.slice_mut(held..), base);
+        if settled.is_ok() {
+            return settled;
+        }
     }
-    added
-}
-
-/// Gathers the nodes that are wanted behind what `lines` holds, so that a short list asks for no memory but theirs. Where memory runs
-/// out, some of them may stand there.
-fn gather<W: Wanted>(
-    alloc: Global,
-    list: &List,
-    base: usize,
-    wanted: W,
-    lines: &mut Vec<NodeLine>,
-) -> Result<(), AllocError>
-    requires { AreWithin (usize.MAX - base) (view_list list.now) }
-    ensures ok { OnOk result (lines.new.items ≡ lines.old.items ++ map (placed base) (in_order (filter (W.is_wanted wanted) (entries_nodes (view_list list.now))))) }
-    ensures kept { Begins lines.old.items lines.new.items }
-{
-    let held = lines.len();
-    visit_list(list, wanted, lines)?;
-    settle(alloc, lines.slice_mut(held..), base)
+    lines.truncate(held);
+    Err(AllocError)
 }
 
 /// Puts nodes of a list that stands from `base` on in order, and at their places in the text. Nodes that are in order need no memory.

@@ -26,10 +26,11 @@ impl<K: Drop> Blocks<K> {
             lines_before self.old.blocks.items from ++ (joined new.blocks.items ++ lines_from self.old.blocks.items upto)) }
         ensures err { OnErr result (joined self.new.blocks.items ≡ joined self.old.blocks.items) }
     {
-        match self.end_by_count(from, upto, &new) {
-            Some(to) => self.replace_in_block(from, to, new),
-            None => self.replace_blocks(from, upto, new),
+        if let Some(to) = self.end_by_count(from, upto, &new) {
+            return self.replace_in_block(from, to, new);
         }
+        let end = self.cut(upto)?;
+        self.replace_from(from, end, new)
     }
 
     /// The line of a block before which lines give way, where all that do are lines of that block from a place on. It may be the one
@@ -96,20 +97,6 @@ impl<K: Drop> Blocks<K> {
         Ok(())
     }
 
-    /// Puts other lines in the place of those from one place up to another, by blocks.
-    fn replace_blocks(&mut self, from: Place, upto: Place, new: Blocks<K>) -> Result<(), AllocError>
-        requires from { IsPlace self.old.blocks.items from }
-        requires upto { IsPlace self.old.blocks.items upto }
-        requires order { IsNotBehind from upto }
-        requires fits { extent (lines_before self.old.blocks.items from ++ (joined new.blocks.items ++ lines_from self.old.blocks.items upto)) < 2 ^ 64 }
-        ensures ok { OnOk result (joined self.new.blocks.items ≡
-            lines_before self.old.blocks.items from ++ (joined new.blocks.items ++ lines_from self.old.blocks.items upto)) }
-        ensures err { OnErr result (joined self.new.blocks.items ≡ joined self.old.blocks.items) }
-    {
-        let end = self.cut(upto)?;
-        self.replace_from(from, end, new)
-    }
-
     /// Puts other lines in the place of those from a place up to a block. The place may be behind the last line of its block.
     fn replace_from(&mut self, from: Place, to: usize, new: Blocks<K>) -> Result<(), AllocError>
         requires order { from.block ≤ to }
@@ -124,9 +111,12 @@ impl<K: Drop> Blocks<K> {
         let first = self.keep_before(from, to);
         let end = first + new.blocks.len();
         replace_items(&mut self.blocks, first, to, new.blocks);
+        // The pairs at both ends of what is new are tried, and the one before a block that was cut: from the last to the first, since a
+        // merge moves those behind it.
         self.merge(end);
         self.merge(end.saturating_sub(1));
         self.merge(first.saturating_sub(1));
+        self.merge(first.saturating_sub(2));
         Ok(())
     }
 

@@ -26,5 +26,8 @@ merge-requires-2 g c = omega (arith, ap extent (c.merge.ensures ∙ all_lines g 
 pub merge-requires-3 : goal.merge-requires-3
 merge-requires-3 g c = omega (arith, ap extent (c.merge-2.ensures ∙ c.merge.ensures ∙ all_lines g (goal.at.merge-requires-3 g c).After-replace_items), c.requires.fits)
 
+pub merge-requires-4 : goal.merge-requires-4
+merge-requires-4 g c = omega (arith, ap extent (c.merge-3.ensures ∙ c.merge-2.ensures ∙ c.merge.ensures ∙ all_lines g (goal.at.merge-requires-4 g c).After-replace_items), c.requires.fits)
+
 pub returns-clause-ok : goal.returns-clause-ok
-returns-clause-ok g c = c.merge-3.ensures ∙ c.merge-2.ensures ∙ c.merge.ensures ∙ all_lines g (goal.at.returns-clause-ok g c).After-replace_items
+returns-clause-ok g c = c.merge-4.ensures ∙ c.merge-3.ensures ∙ c.merge-2.ensures ∙ c.merge.ensures ∙ all_lines g (goal.at.returns-clause-ok g c).After-replace_items

@@ -4,9 +4,9 @@ use Rattle.shwindow.specs.Blocks.{joined, lines_before, lines_from}
 use Rattle.shwindow.specs.Lines.{extent}
 use Rattle.shwindow.proofs.Joined.{cut_all}
 use Rattle.shwindow.proofs.Places.{same_before}
-use Rattle.shwindow.proofs.blocks.Blocks.replace_blocks.Given.{Over}
-use Rattle.shwindow.proofs.blocks.Blocks.replace_blocks.Goals as goal
-use Rattle.shwindow.proofs.blocks.Blocks.replace_blocks.Goals.{In_ok-end}
+use Rattle.shwindow.proofs.blocks.Blocks.replace_lines.Given.{Over}
+use Rattle.shwindow.proofs.blocks.Blocks.replace_lines.Goals as goal
+use Rattle.shwindow.proofs.blocks.Blocks.replace_lines.Goals.{In_ok-end}
 
 -- all lines then
 all_lines : (g : Over) (c : In_ok-end g) → lines_before c.cut.new.self.blocks.items c.args.from ++ (joined c.args.new.blocks.items ++ joined (drop c.in_ok-end.end c.cut.new.self.blocks.items))
