@@ -2,3 +2,5 @@ pub mod Awaited
 pub mod Stops
 pub mod Kept
 pub mod Searches
+pub mod ByteSets
+pub mod Passed

@@ -25,6 +25,7 @@ mod pipeline;
 mod plain;
 mod redirect;
 mod search;
+mod sets;
 mod standing;
 mod stop;
 mod substitution;

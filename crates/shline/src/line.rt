@@ -67,7 +67,7 @@ impl<'a, S: Source, const KEEP: u8> Cursor<'a, S, KEEP> {
         ensures same { Keeps self.old self.new }
     {
         let mut next = self.next_token(Position::Command);
-        let mut listed = Listed::new(alloc, blank);
+        let mut listed = Listed::of_line(alloc, blank);
         self.on_line(alloc, &mut next, &mut listed, room)?;
         let newline = self.end_of_line(alloc, &mut next, room)?;
         Ok((listed.entries, newline))

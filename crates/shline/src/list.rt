@@ -14,9 +14,9 @@ use crate::cursor::Cursor;
 use crate::stop::Stop;
 use shast::make::{command_entry, comment_entry, list_of};
 use shast::{Entry, List};
-use shgrammar::{Next, Separator};
+use shgrammar::{Next, Separator, Token};
 use shtext::Source;
-use std::alloc::Global;
+use std::alloc::{AllocError, Global};
 use std::mem;
 
 /// The entries of a list so far.
@@ -31,6 +31,8 @@ pub(crate) struct Listed {
     pub(crate) commands: bool,
     /// The offset behind the separator of the last command, where it has one.
     pub(crate) parted: Option<usize>,
+    /// All of them stand on one line.
+    one_line: bool,
 }
 
 /// The offset behind a separator.
@@ -55,7 +57,32 @@ impl Listed {
             begun: false,
             commands: false,
             parted: None,
+            one_line: false,
         }
+    }
+
+    /// The same of a list that has this line alone.
+    pub(crate) fn of_line(alloc: Global, blank: bool) -> Listed
+        ensures { view_listed result ≡ none_listed blank }
+    {
+        let mut listed = Listed::new(alloc, blank);
+        listed.one_line = true;
+        listed
+    }
+
+    /// Makes room for an entry, before this token, that is the first one and the last: it takes room for no more. Most are.
+    #[inline(always)]
+    fn room_for_only(&mut self, behind: Token) -> Result<(), AllocError>
+        ensures { IfOk result (λ done. view_listed self.new ≡ view_listed self.old) }
+    {
+        let goes_on = match behind {
+            Token::Newline => !self.one_line,
+            _ => behind.begins_pipeline(),
+        };
+        if self.entries.is_empty() && !goes_on {
+            self.entries.reserve_exact(1)?;
+        }
+        Ok(())
     }
 
     /// Behind a newline: a line without entries makes the next entry blank, if one stands before it.
@@ -99,6 +126,7 @@ impl<'a, S: Source, const KEEP: u8> Cursor<'a, S, KEEP> {
         listed.parted = past_separator(separator);
         if self.grows() {
             let background = matches!(separator, Some((Separator::Ampersand, _)));
+            listed.room_for_only(next.token)?;
             listed
                 .entries
                 .push(command_entry(and_or, background, blank, comment))?;
@@ -145,6 +173,7 @@ impl<'a, S: Source, const KEEP: u8> Cursor<'a, S, KEEP> {
             let blank = listed.blank && !listed.begun;
             listed.begun = true;
             if self.grows() {
+                listed.room_for_only(next.token)?;
                 listed.entries.push(comment_entry(comment, blank))?;
             }
         }

@@ -1,13 +1,26 @@
 //! The bytes of a text as they stand, continuations and all.
-ghost use Rattle.std.specs.Prelude.{◌≡◌, ◌+◌, ◌<◌, ◌≤◌, length, slice_get, true, false, IfSome};
+ghost use Rattle.std.specs.Prelude.{◌≡◌, ◌+◌, ◌<◌, ◌≤◌, length, slice_get, true, false, IfSome, IsSome};
 ghost use Rattle.shgrammar.specs.Classes.{in_class};
 ghost use Rattle.shline.specs.Clauses.{text_of};
-ghost use Rattle.shgrammar.specs.Standing.{raw_past, at_end, continues, raw_in, raw_stands};
+ghost use Rattle.shgrammar.specs.Standing.{raw_past, at_end, continues, passes, raw_in, raw_stands};
 ghost use Rattle.shtext.specs.Text.{IsRun};
 
 use crate::cursor::Cursor;
+use crate::sets::class_front;
 use shgrammar::Class;
 use shtext::Source;
+
+/// Whether there is a byte, and it is of this class.
+#[inline(always)]
+fn is_in(byte: Option<u8>, class: Class) -> bool
+    ensures value { result ≡ passes (in_class class) byte }
+    ensures some { result ≡ true → IsSome byte }
+{
+    match byte {
+        Some(byte) => class.has(byte),
+        None => false,
+    }
+}
 
 impl<'a, S: Source, const KEEP: u8> Cursor<'a, S, KEEP> {
     /// The byte at a place as it stands, or `None` at the end.
@@ -98,15 +111,61 @@ impl<'a, S: Source, const KEEP: u8> Cursor<'a, S, KEEP> {
         self.raw_stands(at, b'\\') && self.raw_stands(at + 1, b'\n')
     }
 
-    /// The place behind the bytes of this class that stand from a place on.
+    /// The same, where the byte there is known.
     #[inline(always)]
-    #[tactic(auto, using(shgrammar::proofs::Stretches::raw_more, shgrammar::proofs::Stretches::raw_none))]
+    #[tactic(auto, unfolding(shgrammar::specs::Standing::continues, shgrammar::specs::Standing::raw_stands))]
+    pub(crate) fn continues_with(&self, at: usize, byte: Option<u8>) -> bool
+        requires within { at ≤ length (text_of S.bytes self.now) }
+        requires byte { byte ≡ slice_get (text_of S.bytes self.now) at }
+        ensures value { result ≡ continues (text_of S.bytes self.now) at }
+    {
+        match byte {
+            Some(b'\\') => self.continues(at),
+            _ => false,
+        }
+    }
+
+    /// The place behind the bytes of this class that stand from a place on, and the byte there, or `None` at the end. Most often they are
+    /// one or two, and else many.
+    #[inline(always)]
+    #[tactic(auto, unfolding(shgrammar::specs::Standing::raw_in), using(shgrammar::proofs::Stretches::raw_none, crate::proofs::Passed::raw_one, crate::proofs::Passed::raw_two))]
+    pub(crate) fn raw_past_to(&self, from: usize, class: Class) -> (usize, Option<u8>)
+        requires { from ≤ length (text_of S.bytes self.now) }
+        ensures value { result.0 ≡ raw_past (in_class class) (text_of S.bytes self.now) from }
+        ensures byte { result.1 ≡ slice_get (text_of S.bytes self.now) result.0 }
+        ensures inside { (from ≤ result.0) × (result.0 ≤ length (text_of S.bytes self.now)) }
+    {
+        let first = self.raw_byte(from);
+        if !is_in(first, class) {
+            return (from, first);
+        }
+        let second = self.raw_byte(from + 1);
+        if !is_in(second, class) {
+            return (from + 1, second);
+        }
+        let end = self.raw_behind(from + 2, class);
+        (end, self.raw_byte(end))
+    }
+
+    /// The place behind them alone.
+    #[inline(always)]
     pub(crate) fn raw_past(&self, from: usize, class: Class) -> usize
         requires { from ≤ length (text_of S.bytes self.now) }
         ensures value { result ≡ raw_past (in_class class) (text_of S.bytes self.now) from }
         ensures inside { (from ≤ result) × (result ≤ length (text_of S.bytes self.now)) }
     {
-        let mut at = from;
+        self.raw_past_to(from, class).0
+    }
+
+    /// The same, many bytes at once.
+    #[inline(always)]
+    #[tactic(auto, using(shgrammar::proofs::Stretches::raw_more, shgrammar::proofs::Stretches::raw_none))]
+    fn raw_behind(&self, from: usize, class: Class) -> usize
+        requires { from ≤ length (text_of S.bytes self.now) }
+        ensures value { result ≡ raw_past (in_class class) (text_of S.bytes self.now) from }
+        ensures inside { (from ≤ result) × (result ≤ length (text_of S.bytes self.now)) }
+    {
+        let mut at = from + class_front(self.run_at(from), class);
         'bytes: while self.raw_in(at, class) {
             at += 1;
         }

@@ -1,5 +1,5 @@
 //! The token that begins at a place (XCU 2.3, 2.4, 2.10.1).
-ghost use Rattle.std.specs.Prelude.{◌≡◌, ◌<◌, ◌≤◌, [], ◌∷◌, None, Some, false, if◌then◌else◌, length};
+ghost use Rattle.std.specs.Prelude.{◌≡◌, ◌<◌, ◌≤◌, [], ◌∷◌, None, Some, false, if◌then◌else◌, length, slice_get};
 ghost use Rattle.shgrammar.specs.Bytes.{past_blanks, past_continuations};
 ghost use Rattle.shgrammar.specs.Shows.{IsRead, Shows};
 ghost use Rattle.shgrammar.specs.Standing.{raw_stands};
@@ -90,16 +90,17 @@ impl<'a, S: Source, const KEEP: u8> Cursor<'a, S, KEEP> {
         self.spelled(at, other, second)
     }
 
-    /// The reserved word that stands at a place, if one does. Most words begin with a byte that begins none.
+    /// The reserved word that stands at a place, where this byte is the first, if one does. Most words begin with a byte that begins none.
     #[inline(always)]
     #[tactic(auto, unfolding(shgrammar::specs::Tokens::reserved_words, shgrammar::specs::Tokens::first_of_words, shgrammar::specs::Tokens::is_word_at, shgrammar::specs::Bytes::stands))]
-    fn reserved(&self, at: usize) -> Option<Reserved>
+    fn reserved(&self, at: usize, first: u8) -> Option<Reserved>
         requires within { at ≤ length (text_of S.bytes self.now) }
         requires still { past_continuations (text_of S.bytes self.now) at ≡ at }
+        requires first { slice_get (text_of S.bytes self.now) at ≡ Some first }
         ensures { result ≡ reserved_at (text_of S.bytes self.now) at }
     {
-        match self.raw_byte(at) {
-            Some(b'!' | b'{' | b'}' | b'c' | b'd' | b'e' | b'f' | b'i' | b't' | b'u' | b'w') =>
+        match first {
+            b'!' | b'{' | b'}' | b'c' | b'd' | b'e' | b'f' | b'i' | b't' | b'u' | b'w' =>
                 self.reserved_by_letters(at),
             _ => None,
         }
@@ -235,18 +236,19 @@ impl<'a, S: Source, const KEEP: u8> Cursor<'a, S, KEEP> {
         }
     }
 
-    /// What the word at a place is in this position of a command.
+    /// What the word at a place is, which begins with this byte, in this position of a command.
     #[inline(always)]
-    fn word_token(&self, at: usize, position: Position) -> Token
+    fn word_token(&self, at: usize, first: u8, position: Position) -> Token
         requires within { at ≤ length (text_of S.bytes self.now) }
         requires still { past_continuations (text_of S.bytes self.now) at ≡ at }
+        requires first { slice_get (text_of S.bytes self.now) at ≡ Some first }
         ensures { result ≡ word_by position (text_of S.bytes self.now) at }
     {
         if position == Position::Suffix {
             return Token::Word;
         }
         if position == Position::Command {
-            if let Some(reserved) = self.reserved(at) {
+            if let Some(reserved) = self.reserved(at, first) {
                 return Token::Reserved(reserved);
             }
         }
@@ -257,16 +259,17 @@ impl<'a, S: Source, const KEEP: u8> Cursor<'a, S, KEEP> {
         }
     }
 
-    /// What begins at a place where no blank stands.
+    /// What begins at a place where no blank stands, but this byte.
     #[inline(always)]
     #[tactic(auto, unfolding(shgrammar::specs::Tokens::token_at, shgrammar::specs::Tokens::is_number, shgrammar::specs::Bytes::behind, shgrammar::specs::Bytes::stands, shgrammar::specs::Bytes::stands_in, shgrammar::specs::Standing::raw_stands))]
-    fn token(&self, at: usize, position: Position) -> Token
+    fn token(&self, at: usize, byte: Option<u8>, position: Position) -> Token
         requires within { at ≤ length (text_of S.bytes self.now) }
         requires still { past_continuations (text_of S.bytes self.now) at ≡ at }
+        requires byte { byte ≡ slice_get (text_of S.bytes self.now) at }
         ensures { result ≡ token_at position (text_of S.bytes self.now) at }
     {
-        match self.raw_byte(at) {
-            Some(byte) if begins_a_word(byte) => self.word_token(at, position),
+        match byte {
+            Some(first) if begins_a_word(first) => self.word_token(at, first, position),
             Some(b'\n') => Token::Newline,
             _ => self.other_token(at, position),
         }
@@ -310,13 +313,13 @@ impl<'a, S: Source, const KEEP: u8> Cursor<'a, S, KEEP> {
             Some(b'>') => Token::Redirect(self.greater(self.behind(at))),
             Some(b'#') => Token::Comment,
             Some(b'0'..=b'9') if self.is_number(at) => Token::Number,
-            Some(_) => self.word_token(at, position),
+            Some(first) => self.word_token(at, first, position),
         }
     }
 
-    /// To where the next token begins, and what it is in this position of a command.
+    /// To where the next token begins, and what it is in this position of a command. Most often no continuation stands before it.
     #[inline(always)]
-    #[tactic(auto, using(shgrammar::proofs::Shown::shown, shgrammar::proofs::Shown::blanks_still))]
+    #[tactic(auto, using(shgrammar::proofs::Shown::shown, shgrammar::proofs::Shown::blanks_still, shgrammar::proofs::Unbroken::blanks_whole))]
     pub(crate) fn next_token(&mut self, position: Position) -> Next
         ensures value { result ≡ next_at position (text_of S.bytes self.old) self.old.at }
         ensures place { self.new.at ≡ past_blanks (text_of S.bytes self.old) self.old.at }
@@ -325,8 +328,31 @@ impl<'a, S: Source, const KEEP: u8> Cursor<'a, S, KEEP> {
         ensures same { Stays self.old self.new }
     {
         let from = self.at;
+        let (at, byte) = self.raw_past_to(from, Class::Blank);
+        if self.continues_with(at, byte) {
+            return self.next_token_joined(position);
+        }
+        let token = self.token(at, byte, position);
+        self.at = at;
+        Next {
+            token,
+            broken: false,
+        }
+    }
+
+    /// The same, past continuations.
+    #[cold]
+    #[tactic(auto, using(shgrammar::proofs::Shown::shown, shgrammar::proofs::Shown::blanks_still))]
+    fn next_token_joined(&mut self, position: Position) -> Next
+        ensures value { result ≡ next_at position (text_of S.bytes self.old) self.old.at }
+        ensures place { self.new.at ≡ past_blanks (text_of S.bytes self.old) self.old.at }
+        ensures shows { Shows result.token (text_of S.bytes self.old) self.new.at }
+        ensures inside { self.old.at ≤ self.new.at }
+        ensures same { Stays self.old self.new }
+    {
+        let from = self.at;
         let (at, broken) = self.past_blanks(from);
-        let token = self.token(at, position);
+        let token = self.token(at, self.raw_byte(at), position);
         self.at = at;
         Next { token, broken }
     }

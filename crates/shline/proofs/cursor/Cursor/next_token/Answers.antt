@@ -1,8 +1,36 @@
-use Rattle.shline.specs.Clauses.{text_of}
+use Rattle.std.proofs.Common.{◌≡◌, ℕ, false, List, sym, refl, ◌∙◌, arith}
+use Rattle.shgrammar.specs.Bytes.{is_broken_at, past_blanks}
+use Rattle.shgrammar.specs.Classes.{is_blank}
+use Rattle.shgrammar.specs.Standing.{continues, raw_past}
 use Rattle.shgrammar.proofs.Shown.{shown}
+use Rattle.shgrammar.proofs.Stretches.{joined_none}
+use Rattle.shgrammar.proofs.Unbroken.{blanks_whole}
+use Rattle.shline.specs.Clauses.{text_of}
 use Rattle.shline.proofs.cursor.Cursor.next_token.Goals as goal
+
+-- no continuation among the blanks
+whole : (T : List ℕ) (p e : ℕ) → e ≡ raw_past is_blank T p → continues T e ≡ false → (past_blanks T p ≡ e) × (is_broken_at T p ≡ false)
+unfolding is_broken_at
+whole T p e is none =
+    let here : continues T (raw_past is_blank T p) ≡ false = rw is at none in
+    (blanks_whole T p here ∙ sym is, here)
+
+pub token-token-requires : goal.token-token-requires
+token-token-requires g c =
+    let T = text_of g.S.Source.bytes c.args.self.now in
+    let none = sym c.continues_with.ensures.value ∙ c.if-continues_with.false in
+    (omega arith, (c.raw_past_to-at.ensures.inside.1, (joined_none T c.raw_past_to-at.result.0 none, c.raw_past_to-at.ensures.byte)))
+
+pub returns-clause-value : goal.returns-clause-value
+returns-clause-value g c =
+    let T = text_of g.S.Source.bytes c.args.self.now in
+    let none = sym c.continues_with.ensures.value ∙ c.if-continues_with.false in
+    let blanks = whole T c.args.self.now.at c.raw_past_to-at.result.0 c.raw_past_to-at.ensures.value none in
+    rw (blanks.0, blanks.1, c.token-token.ensures) refl
 
 pub returns-clause-shows : goal.returns-clause-shows
 returns-clause-shows g c =
-    let token = c.token-token.ensures in
-    rw (token, c.past_blanks-at.ensures.place) (shown c.args.position (text_of g.S.Source.bytes c.args.self.now) c.args.self.now.at)
+    let T = text_of g.S.Source.bytes c.args.self.now in
+    let none = sym c.continues_with.ensures.value ∙ c.if-continues_with.false in
+    let blanks = whole T c.args.self.now.at c.raw_past_to-at.result.0 c.raw_past_to-at.ensures.value none in
+    rw (c.token-token.ensures, ← blanks.0) (shown c.args.position T c.args.self.now.at)

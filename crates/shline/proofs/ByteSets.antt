@@ -1,0 +1,79 @@
+-- The tables of the sets agree with the definitions, byte by byte.
+use Rattle.std.proofs.Common.{◌≡◌, ℕ, zero, suc, ◌<◌, ◌≤◌, Bool, true, false, ◌&&◌, List, length, slice_index, get_or, Fits, w8, inl, inr, refl, sym, ap, ◌∙◌, arith}
+use Rattle.std.proofs.lemmas.Bool.{and_parts, cases_lt}
+use Rattle.std.proofs.lemmas.List.Sums.{prefix_len-le-length, prefix_len_passes}
+use Rattle.std.specs.List.{prefix_len}
+use Rattle.shscan.specs.Sets.{is_outside}
+use Rattle.shline.specs.declared.sets.TheConstants.{DOUBLE, NO_BLANK, NO_NAME, PLAIN, SPECIAL}
+use Rattle.shgrammar.specs.Classes.{is_blank, is_name}
+use Rattle.shgrammar.specs.Plain.{is_plain}
+use Rattle.shgrammar.specs.declared.mode.Mode.TheVariants.{Plain, Double}
+
+same : Bool → Bool → Bool
+same true b = b
+same false true = false
+same false false = true
+
+same_is : (a b : Bool) → same a b ≡ true → a ≡ b
+unfolding same
+same_is true b e = sym e
+same_is false true e = absurd cc
+same_is false false e = refl
+
+-- the two agree below n
+agree : (ℕ → Bool) → (ℕ → Bool) → ℕ → Bool
+agree f g zero = true
+agree f g (suc n) = same (f n) (g n) && agree f g n
+
+agree_at : (f g : ℕ → Bool) (n k : ℕ) → agree f g n ≡ true → k < n → f k ≡ g k
+unfolding agree
+agree_at f g zero k all low = absurd (omega (arith, low))
+agree_at f g (suc n) k all low =
+    elim (cases_lt k n) [
+      | inl below ↦ agree_at f g n k (and_parts _ _ all).1 below
+      | inr above ↦
+          let here : k ≡ n = omega (arith, low, above) in
+          ap f here ∙ same_is (f n) (g n) (and_parts _ _ all).0 ∙ ap g (sym here)
+    ]
+
+-- each table is that of its set
+
+plain_set : agree (is_outside PLAIN SPECIAL) (is_plain Plain) 256 ≡ true
+unfolding agree same
+plain_set = refl
+
+double_set : agree (is_outside DOUBLE SPECIAL) (is_plain Double) 256 ≡ true
+unfolding agree same
+double_set = refl
+
+blank_set : agree (is_outside NO_BLANK.0 NO_BLANK.1) is_blank 256 ≡ true
+unfolding agree same
+blank_set = refl
+
+name_set : agree (is_outside NO_NAME.0 NO_NAME.1) is_name 256 ≡ true
+unfolding agree same
+name_set = refl
+
+-- the bytes before the first one of a set
+passed : (low high : List ℕ) (test : ℕ → Bool) → agree (is_outside low high) test 256 ≡ true → (run : List ℕ) → ((k : ℕ) → Fits w8 (get_or run k 0))
+    → (n : ℕ) → n ≡ prefix_len (is_outside low high) run → (n ≤ length run) × ((k : ℕ) → k < n → test (slice_index run k) ≡ true)
+passed low high test all run bytes n is = (
+  omega (arith, is, prefix_len-le-length (is_outside low high) run),
+  λ k below. sym (agree_at (is_outside low high) test 256 (slice_index run k) all (bytes k).fits) ∙ prefix_len_passes (is_outside low high) run k 0 (omega (arith, is, below)),
+)
+
+pub plain_passed : (run : List ℕ) → ((k : ℕ) → Fits w8 (get_or run k 0)) → (n : ℕ) → n ≡ prefix_len (is_outside PLAIN SPECIAL) run
+    → (n ≤ length run) × ((k : ℕ) → k < n → is_plain Plain (slice_index run k) ≡ true)
+plain_passed = passed PLAIN SPECIAL (is_plain Plain) plain_set
+
+pub double_passed : (run : List ℕ) → ((k : ℕ) → Fits w8 (get_or run k 0)) → (n : ℕ) → n ≡ prefix_len (is_outside DOUBLE SPECIAL) run
+    → (n ≤ length run) × ((k : ℕ) → k < n → is_plain Double (slice_index run k) ≡ true)
+double_passed = passed DOUBLE SPECIAL (is_plain Double) double_set
+
+pub blanks_passed : (run : List ℕ) → ((k : ℕ) → Fits w8 (get_or run k 0)) → (n : ℕ) → n ≡ prefix_len (is_outside NO_BLANK.0 NO_BLANK.1) run
+    → (n ≤ length run) × ((k : ℕ) → k < n → is_blank (slice_index run k) ≡ true)
+blanks_passed = passed NO_BLANK.0 NO_BLANK.1 is_blank blank_set
+
+pub names_passed : (run : List ℕ) → ((k : ℕ) → Fits w8 (get_or run k 0)) → (n : ℕ) → n ≡ prefix_len (is_outside NO_NAME.0 NO_NAME.1) run
+    → (n ≤ length run) × ((k : ℕ) → k < n → is_name (slice_index run k) ≡ true)
+names_passed = passed NO_NAME.0 NO_NAME.1 is_name name_set

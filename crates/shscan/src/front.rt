@@ -1,0 +1,25 @@
+//! How far it is to the next byte of a set.
+ghost use Rattle.std.specs.Prelude.{◌≡◌};
+ghost use Rattle.std.specs.List.{prefix_len};
+ghost use Rattle.shscan.specs.Sets.{is_outside};
+
+use crate::few::few_outside;
+use crate::row::{ROW, outside_in_row};
+
+/// How many bytes stand before the first one of a set; all of them where none is of it.
+///
+/// A byte is in the set where `low`, by its low four bits, and `high`, by its high four, have a bit in common.
+#[inline(always)]
+pub fn front_outside(run: &[u8], low: [u8; 16], high: [u8; 16]) -> usize
+    ensures { result ≡ prefix_len (is_outside low high) run.now }
+{
+    let mut at = 0;
+    'rows: while run.len() - at >= ROW {
+        let count = outside_in_row(run, at, low, high);
+        if count < ROW {
+            return at + count;
+        }
+        at += ROW;
+    }
+    at + few_outside(&run[at..], low, high)
+}
