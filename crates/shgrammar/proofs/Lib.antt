@@ -59,4 +59,5 @@ pub mod MovedSubstitutions
 pub mod MovedLine
 pub mod Passing
 pub mod Unquoted
+pub mod PlainDelimiters
 pub mod Joining

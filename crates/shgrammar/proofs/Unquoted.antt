@@ -107,12 +107,12 @@ second_false : (a b : Bool) → (a && b) ≡ false → a ≡ true → b ≡ fals
 second_false true b e f = e
 second_false false b e f = absurd cc
 
-unquoted_byte : (q : Quoting) (second : Bool) (b : ℕ) (bs : List ℕ) → (nat_lt 0 (length bs) && is_live q 92 b) ≡ false → unquoted q second (b ∷ bs) ≡ byte_left q second b bs (λ r s. unquoted r s bs)
+pub unquoted_byte : (q : Quoting) (second : Bool) (b : ℕ) (bs : List ℕ) → (nat_lt 0 (length bs) && is_live q 92 b) ≡ false → unquoted q second (b ∷ bs) ≡ byte_left q second b bs (λ r s. unquoted r s bs)
 unfolding unquoted
 unquoted_byte q second b [] other = refl
 unquoted_byte q second b (c ∷ bs) other = rw (second_false (nat_lt 0 (length (c ∷ bs))) (is_live q 92 b) other (lt-ltb _ _ (omega arith))) refl
 
-unquoted_escape : (q : Quoting) (second : Bool) (b c : ℕ) (bs : List ℕ) → is_live q 92 b ≡ true → unquoted q second (b ∷ c ∷ bs) ≡ escape_left q c (unquoted q second bs)
+pub unquoted_escape : (q : Quoting) (second : Bool) (b c : ℕ) (bs : List ℕ) → is_live q 92 b ≡ true → unquoted q second (b ∷ c ∷ bs) ≡ escape_left q c (unquoted q second bs)
 unfolding unquoted
 unquoted_escape q second b c bs is = rw is refl
 
@@ -176,7 +176,7 @@ bare_on word at c =
     ∙ ap (list_any quotes) (bare_pair (get_or word at 0) (get_or word (at + 1) 0) (drop (at + 1 + 1) word) (sym (continues_at word at (omega (arith, le))) ∙ c))
     ∙ ap (λ n. list_any quotes (bare (drop n word))) next
 
-bare_one : (b : ℕ) (bs : List ℕ) → ((c : ℕ) (cs : List ℕ) → bs ≡ c ∷ cs → (b == 92 && c == 10) ≡ false) → bare (b ∷ bs) ≡ b ∷ bare bs
+pub bare_one : (b : ℕ) (bs : List ℕ) → ((c : ℕ) (cs : List ℕ) → bs ≡ c ∷ cs → (b == 92 && c == 10) ≡ false) → bare (b ∷ bs) ≡ b ∷ bare bs
 unfolding bare
 bare_one b [] none = refl
 bare_one b (c ∷ cs) none = rw (none c cs refl) refl

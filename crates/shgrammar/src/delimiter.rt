@@ -1,10 +1,14 @@
 //! The delimiter of a here-document: its word after quote removal (XCU 2.6.7, 2.7.4).
-ghost use Rattle.std.specs.Prelude.{◌≡◌, ◌+◌, ◌<◌, ◌≤◌, ◌==◌, ◌||◌, ℕ, Option, true, get_or, IfOk, IfSome, List as Row, drop, false, length, option_map};
+ghost use Rattle.std.specs.List.{list_all};
+ghost use Rattle.std.specs.Prelude.{◌≡◌, ◌+◌, ◌<◌, ◌≤◌, ◌==◌, ◌||◌, ℕ, Option, Some, true, get_or, IfOk, IfSome, List as Row, drop, false, length, nat_lt, option_map};
 ghost use Rattle.shgrammar.specs.Bytes.{byte_at};
 ghost use Rattle.shgrammar.specs.HereDocuments.{behind_quote, byte_left, delimiter_of, dollar_left, escape_left, is_live, is_quote, is_quoted, not_quoted, stays_before, unquoted};
+ghost use Rattle.shgrammar.specs.Plain.{is_plain};
 ghost use Rattle.shgrammar.specs.Standing.{continues, is_byte, raw_stands};
-ghost use Rattle.shgrammar.specs.Unquoting.{escapes, left_by, left_of, rest_of, view_delimiter, view_quoting};
+ghost use Rattle.shgrammar.specs.Unquoting.{a_delimiter, escapes, is_escaped, is_wrapped, left_by, left_of, plain_part, rest_of, unwrapped, view_delimiter, view_quoting};
+ghost use Rattle.shgrammar.specs.declared.mode.Mode.TheVariants.{Plain};
 
+use crate::mode::Mode;
 use std::alloc::{AllocError, Global};
 
 /// The text of a delimiter, and whether its document is literal.
@@ -265,6 +269,62 @@ fn is_quoted(word: &[u8]) -> bool
     false
 }
 
+/// Whether all bytes of a word are ordinary outside quotes.
+fn are_plain(word: &[u8]) -> bool
+    ensures { result ≡ list_all (is_plain Plain) word.now }
+{
+    'bytes: for byte in word {
+        if !Mode::Plain.is_plain(*byte) {
+            return false;
+        }
+    }
+    true
+}
+
+/// Whether a word has quotes around it: the same at both ends.
+fn is_wrapped(word: &[u8]) -> bool
+    ensures value { result ≡ is_wrapped word.now }
+    ensures inside { result ≡ true → 2 ≤ length word.now }
+{
+    if word.len() < 2 {
+        return false;
+    }
+    let quote = word[0];
+    Quoting::Outside.is_quote(quote) && word[word.len() - 1] == quote
+}
+
+/// Whether a backslash stands before other bytes of a word.
+fn is_escaped(word: &[u8]) -> bool
+    ensures value { result ≡ is_escaped word.now }
+    ensures inside { result ≡ true → 2 ≤ length word.now }
+{
+    word.len() >= 2 && word[0] == b'\\'
+}
+
+/// A word without the quotes around it or the backslash before it, if it has them.
+fn unwrapped(word: &[u8]) -> &[u8]
+    ensures { result.now ≡ unwrapped word.now }
+{
+    if is_wrapped(word) {
+        return &word[1..word.len() - 1];
+    }
+    if is_escaped(word) {
+        return &word[1..];
+    }
+    word
+}
+
+/// The part of a word that quote removal leaves, where it is of ordinary bytes: all of it, all between the quotes around it, or all
+/// behind a backslash. Most delimiters are letters, and are quoted so, or not at all.
+#[tactic(auto, using(crate::proofs::PlainDelimiters::plain_whole))]
+pub fn plain_part(word: &[u8]) -> Option<&[u8]>
+    ensures part { option_map (λ part. part.now) result ≡ plain_part word.now }
+    ensures delimiter { IfSome result (λ part. delimiter_of word.now ≡ Some (a_delimiter part.now (nat_lt (length part.now) (length word.now)))) }
+{
+    let part = unwrapped(word);
+    if are_plain(part) { Some(part) } else { None }
+}
+
 /// The delimiter that a word is, by its bytes as they stand (XCU 2.7.4). One with an expansion or text in backquotes is none.
 ///
 /// # Errors
@@ -273,6 +333,12 @@ fn is_quoted(word: &[u8]) -> bool
 pub fn delimiter_of(alloc: Global, word: &[u8]) -> Result<Option<Delimiter>, AllocError>
     ensures { IfOk result (λ found. option_map view_delimiter found ≡ delimiter_of word.now) }
 {
+    if let Some(part) = plain_part(word) {
+        return Ok(Some(Delimiter {
+            text: Vec::from_slice(alloc, part)?,
+            literal: part.len() < word.len(),
+        }));
+    }
     match unquoted(alloc, word)? {
         Some(text) => Ok(Some(Delimiter {
             text,

@@ -15,7 +15,7 @@ mod script;
 mod token;
 
 pub use class::Class;
-pub use delimiter::{Delimiter, delimiter_of};
+pub use delimiter::{Delimiter, delimiter_of, plain_part};
 pub use fault::{Fault, FaultKind};
 pub use keep::Keep;
 pub use marks::{begins_a_word, ends_words};

@@ -4,8 +4,9 @@ use Rattle.std.specs.Prelude.{Result, ◌&&◌, nat_lt}
 use Rattle.std.proofs.lemmas.Bool.{cases_lt, lt-ltb}
 use Rattle.std.proofs.lemmas.Bool.Decides.{nat_tests}
 use Rattle.std.proofs.lemmas.Option.{slice_get_within, slice_get-get_or}
-use Rattle.std.proofs.lemmas.List.{drop-drop, drop_more, length-drop}
-use Rattle.std.proofs.lemmas.Grind.{fold-append}
+use Rattle.std.proofs.lemmas.List.{drop-drop, drop_more, length-drop, places, take-take}
+use Rattle.std.proofs.lemmas.Grind.{fold-append, same_number_lists}
+use Rattle.shtext.specs.Text.{IsRun}
 use Rattle.shgrammar.specs.declared.keep.Keep.{Keep}
 use Rattle.shast.specs.declared.tree.Span.{Span}
 use Rattle.shgrammar.specs.declared.fault.Fault.{Fault}
@@ -37,6 +38,22 @@ raw_some T p q b le is =
 
 pub raw_nothing : (T : List ℕ) (p : ℕ) → raw T p p ≡ []
 raw_nothing T p = let none : p - p ≡ 0 = omega arith in ap (λ n. take n (drop p T)) none
+
+-- ---- a word in one stretch
+
+module _ (B : List ℕ) (at : ℕ) (run : List ℕ) (is : IsRun B at run) where
+  run_within : length run ≤ length (drop at B)
+  run_within = grind (arith, is.short, is.none, length-drop)
+
+  run_front : take (length run) (drop at B) ≡ run
+  run_front = same_number_lists _ _ (grind (arith, run_within, places)) (λ k lt. grind (arith, run_within, is.same, places))
+
+  run_part : (n : ℕ) → n ≤ length run → take n (drop at B) ≡ take n run
+  run_part n le = sym (take-take n (length run) (drop at B) le) ∙ ap (take n) run_front
+
+-- it stands at the front of that
+pub run_word : (B run : List ℕ) (base p q : ℕ) → IsRun B (base + p) run → q - p ≤ length run → raw (drop base B) p q ≡ take (q - p) run
+run_word B run base p q is le = ap (take (q - p)) (drop-drop p base B) ∙ run_part B (base + p) run is (q - p) le
 
 -- ---- tabs
 

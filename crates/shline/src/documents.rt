@@ -3,16 +3,17 @@ ghost use Rattle.std.specs.Prelude.{◌≡◌, ◌+◌, ◌<◌, ◌≤◌, ◌=
 ghost use Rattle.shline.specs.Clauses.{BodiesFail, BodyRead, end_of, Keeps, Reads, state_of, text_of, view_waiting};
 ghost use Rattle.shgrammar.specs.Commands.{a_document, is_strip, nothing_waits, takes_here};
 ghost use Rattle.shgrammar.specs.Form.{change, raw};
-ghost use Rattle.shgrammar.specs.HereDocuments.{bodies_from, bodies_here, delimiter_from, first_waiting, is_delimiter, own_level, past_line, rest_of_line, takes_newline};
+ghost use Rattle.shgrammar.specs.HereDocuments.{bodies_from, bodies_here, delimiter_from, delimiter_of, first_waiting, is_delimiter, own_level, past_line, rest_of_line, takes_newline};
 ghost use Rattle.shgrammar.specs.Sights.{given};
 ghost use Rattle.shgrammar.specs.Standing.{next_newline, raw_stands};
+ghost use Rattle.shgrammar.specs.Unquoting.{view_delimiter};
 ghost use Rattle.shast.specs.View.{view_here};
 
 use crate::cursor::Cursor;
 use crate::search::Sought;
 use crate::stop::Stop;
 use shast::{HereDocument, RedirectOperator, Span};
-use shgrammar::{Class, Fault, FaultKind, delimiter_of};
+use shgrammar::{Class, Delimiter, Fault, FaultKind, delimiter_of};
 use shtext::Source;
 use std::alloc::{AllocError, Global};
 use std::mem;
@@ -114,6 +115,7 @@ impl<'a, S: Source, const KEEP: u8> Cursor<'a, S, KEEP> {
     }
 
     /// The bytes from a place up to this one.
+    #[cold]
     #[tactic(auto, using(crate::proofs::Awaited::raw_some, crate::proofs::Awaited::raw_nothing))]
     fn bytes_from(&self, alloc: Global, start: usize) -> Result<Vec<u8>, AllocError>
         requires { start ≤ self.now.at }
@@ -128,6 +130,21 @@ impl<'a, S: Source, const KEEP: u8> Cursor<'a, S, KEEP> {
             at += 1;
         }
         Ok(bytes)
+    }
+
+    /// The delimiter that the word from a place up to this one is. Most often the word lies in one stretch, and is read there.
+    #[tactic(auto, using(crate::proofs::Awaited::run_word))]
+    fn delimiter(&self, alloc: Global, start: usize) -> Result<Option<Delimiter>, AllocError>
+        requires { start ≤ self.now.at }
+        ensures { IfOk result (λ found. option_map view_delimiter found ≡ delimiter_of (raw (text_of S.bytes self.now) start self.now.at)) }
+    {
+        let run = self.run_at(start);
+        let length = self.at - start;
+        if length <= run.len() {
+            return delimiter_of(alloc, &run[..length]);
+        }
+        let word = self.bytes_from(alloc, start)?;
+        delimiter_of(alloc, &word)
     }
 
     /// The here-document of an operator that stands at an offset, if it takes one. Its word stands from a place up to this one.
@@ -149,8 +166,7 @@ impl<'a, S: Source, const KEEP: u8> Cursor<'a, S, KEEP> {
         if !takes_here(operator) {
             return Ok(None);
         }
-        let word = self.bytes_from(alloc, start)?;
-        let Some(delimiter) = delimiter_of(alloc, &word)? else {
+        let Some(delimiter) = self.delimiter(alloc, start)? else {
             return Err(self.wrong_at(FaultKind::BadHereWord, start));
         };
         let literal = delimiter.literal;

@@ -8,10 +8,10 @@ use std::alloc::{AllocError, Global};
 use std::test::Fail;
 
 const SCRIPT: &[u8] =
-    b"\n\n{ if a && b |\nc; then d; fi; } # e\n\n\nf() { case g in $(h)) i;; esac; }";
+    b"\n\n{ if a && b |\nc; then d; fi; } # e\n\n\nf() { case g in $(h)) i;; esac; }\nj <<K <<\"L\"M\nk\nK\nl\nLM\n";
 
 const TEXT: &[u8] =
-    b"{\n\tif a && b |\n\t\tc; then\n\t\td\n\tfi\n} # e\n\nf() {\n\tcase g in\n\t$(h))\n\t\ti\n\t\t;;\n\tesac\n}\n";
+    b"{\n\tif a && b |\n\t\tc; then\n\t\td\n\tfi\n} # e\n\nf() {\n\tcase g in\n\t$(h))\n\t\ti\n\t\t;;\n\tesac\n}\nj <<K <<\"L\"M\nk\nK\nl\nLM\n";
 
 /// The text of a whole tree, with the next growth of its printing refused. The tree is there before.
 fn printed(alloc: Global, growths: &mut Growths) -> Result<Result<Vec<u8>, AllocError>, Fail> {

@@ -1,7 +1,7 @@
 //! Words, redirections and patterns: what stands on a line behind something else.
 #![tactic(auto, using(crate::proofs::Writing::written_append, crate::proofs::Writing::written_cons, crate::proofs::Writing::written_none))]
 
-ghost use Rattle.std.specs.Prelude.{◌≡◌, ◌++◌, ◌==◌, ◌&&◌, ◌||◌, IfOk, Some, false, map, option_map};
+ghost use Rattle.std.specs.Prelude.{◌≡◌, ◌++◌, ◌∷◌, ◌==◌, ◌&&◌, ◌||◌, [], IfOk, IfSome, Some, false, map, option_map};
 ghost use Rattle.shast.specs.Shape.{bare_at, shape_of_here, shape_of_item, shape_of_items, shape_of_patterns, shape_of_word, text_at};
 ghost use Rattle.shast.specs.Spelling.{redirect_text};
 ghost use Rattle.shast.specs.Tree.{item, items_of, patterns_of};
@@ -15,7 +15,7 @@ use crate::page::Page;
 use crate::printer::Printer;
 use crate::stretch::word_span;
 use shast::{HereDocument, Item, ItemContent, RedirectOperator, Redirection, Span, Word};
-use shgrammar::delimiter_of;
+use shgrammar::{delimiter_of, plain_part};
 use shtext::Source;
 use std::alloc::AllocError;
 
@@ -144,8 +144,34 @@ impl<'a, S: Source> Printer<'a, S> {
         self.copy_delimiter(word.span, &mut page.held)
     }
 
+    /// The text of the delimiter that the word at this span is, where it stands in the source. Most often it does.
+    #[tactic(auto, using(crate::proofs::Copying::run_enough))]
+    fn delimiter_here(&self, word: Span) -> Option<&[u8]>
+        ensures { IfSome result (λ text. text.now ++ 10 ∷ [] ≡ delimiter_line (delimiter_of (text_at (S.bytes self.now.source.now) word))) }
+    {
+        let length = word.end.checked_sub(word.start)?;
+        let run = self.source.run(word.start);
+        if run.len() < length {
+            return None;
+        }
+        plain_part(&run[..length])
+    }
+
     /// The line of the delimiter that the word at this span is.
     fn copy_delimiter(&self, word: Span, text: &mut Vec<u8>) -> Result<(), AllocError>
+        ensures { IfOk result (λ _. text.new.items ≡ text.old.items ++ delimiter_line (delimiter_of (text_at (S.bytes self.now.source.now) word))) }
+    {
+        let Some(delimiter) = self.delimiter_here(word) else {
+            return self.copy_unquoted(word, text);
+        };
+        text.extend_from_slice(delimiter)?;
+        text.push(b'\n')?;
+        Ok(())
+    }
+
+    /// The same, by a look at each byte of the word.
+    #[cold]
+    fn copy_unquoted(&self, word: Span, text: &mut Vec<u8>) -> Result<(), AllocError>
         ensures { IfOk result (λ _. text.new.items ≡ text.old.items ++ delimiter_line (delimiter_of (text_at (S.bytes self.now.source.now) word))) }
     {
         let mut bytes = Vec::new(self.alloc);

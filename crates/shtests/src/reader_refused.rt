@@ -112,7 +112,8 @@ fn grows_not(alloc: Global, script: &[u8]) -> Result<bool, Fail> {
 }
 
 /// What a check does with documents, in its own level and in a substitution.
-const DOCUMENTS: &[u8] = b"a <<A <<-'B' $(c <<C\nc\nC\n)\na\nA\n\tb\n\tB\nd <<D\nD\n";
+const DOCUMENTS: &[u8] =
+    b"a <<A <<-'B' $(c <<C\nc\nC\n)\na\nA\n\tb\n\tB\nd <<D\nD\ne <<E\"F\"\\G\ng\nEFG\n";
 
 /// Where documents wait a check asks for growths; each is refused in turn.
 #[test]
