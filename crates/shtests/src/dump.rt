@@ -313,7 +313,11 @@ pub(crate) fn dump_script<S: Source>(
 }
 
 /// The dump of a script. A check for faults has to find the same one, and each reading to raise the meter by the length.
-fn dumped<S: Source>(alloc: Global, reader: &mut Reader, source: &S) -> Result<String, Fail> {
+pub(crate) fn dumped<S: Source>(
+    alloc: Global,
+    reader: &mut Reader,
+    source: &S,
+) -> Result<String, Fail> {
     let mut text = String::new(alloc);
     let before = reader.meter();
     let fault = dump_script(&mut text, reader, source)?;

@@ -1,10 +1,11 @@
 // Sources told in stretches, and numbers: what no table of scripts holds.
 use crate::cell::Cell;
-use crate::dump::Judge;
+use crate::dump::{Judge, dumped};
 use crate::reader_trees::ROWS;
 use crate::table::{rows, split};
-use shread::{FaultKind, ReadError};
-use shtext::Source;
+use shread::{FaultKind, ReadError, Reader};
+use shtext::{Flat, Source};
+use std::alloc::Global;
 use std::test::Fail;
 
 /// The numbers of the kinds, which count from 1, and of the error are fixed.
@@ -87,6 +88,60 @@ fn stretches(rt: HostRuntime) -> Result<(), Fail> {
     let mut judge = Judge::new(rt.alloc());
     for row in &rows(rt.alloc(), ROWS)? {
         judge_row(&mut judge, row)?;
+    }
+    judge.verdict()
+}
+
+/// What stands before a run of bytes: a word, a word behind another, a string, a name in an expansion, blanks behind a word.
+const BEFORE: [(&[u8], u8); 5] = [
+    (b"", b'a'),
+    (b"b c", b'='),
+    (b"b \"", b'a'),
+    (b"b ${c", b'_'),
+    (b"b", b' '),
+];
+
+/// What ends it: each byte that is special somewhere, one in no name, and some that end no run.
+const ENDS: [&[u8]; 22] = [
+    b" d", b"\td", b"\nd", b";d", b"&d", b"|d", b"<d", b">d", b"(d", b")d", b"'d'", b"\"d\"",
+    b"$d", b"`d`", b"\\d", b"\\\nd", b"}d", b"{d", b"#d", b"=d", b"\x80d", b"\0d",
+];
+
+/// What stands behind that: more bytes than are looked at at once.
+const BEHIND: &[u8] = b" e\n# some more bytes than are looked at at once\nf \"$g\"\n";
+
+/// A script with a run of so many bytes is read in one piece as it is in short stretches, where each byte is looked at alone.
+fn judge_run(
+    judge: &mut Judge,
+    alloc: Global,
+    before: (&[u8], u8),
+    length: usize,
+    end: &[u8],
+) -> Result<(), Fail> {
+    let mut text = Vec::from_slice(alloc, before.0)?;
+    for _ in 0..length {
+        text.push(before.1)?;
+    }
+    text.extend_from_slice(end)?;
+    text.extend_from_slice(BEHIND)?;
+    let stretches = InStretches {
+        bytes: &text,
+        more: 2,
+    };
+    let wanted = dumped(alloc, &mut Reader::new(alloc), &stretches)?;
+    judge.source(&Flat::new(&text), &text, wanted.as_bytes())
+}
+
+/// Runs of bytes of 0 to 35, on both sides of what is looked at at once.
+#[test]
+fn rows_of_bytes(rt: HostRuntime) -> Result<(), Fail> {
+    let mut judge = Judge::new(rt.alloc());
+    for before in BEFORE {
+        for end in ENDS {
+            for length in 0..36 {
+                judge_run(&mut judge, rt.alloc(), before, length, end)?;
+            }
+        }
     }
     judge.verdict()
 }
