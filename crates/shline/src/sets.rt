@@ -43,26 +43,30 @@ fn plain_by_byte(run: &[u8], mode: Mode) -> usize
     run.len()
 }
 
-/// Whether the first byte is ordinary in a mode.
+/// Whether there is a byte at a place, and it is ordinary in a mode.
 #[inline(always)]
-fn begins_plain(run: &[u8], mode: Mode) -> bool
-    ensures { result ≡ passes (is_plain mode) (slice_get run.now 0) }
+fn is_plain_at(run: &[u8], at: usize, mode: Mode) -> bool
+    ensures value { result ≡ passes (is_plain mode) (slice_get run.now at) }
+    ensures plain { result ≡ true → (at < length run.now) × (is_plain mode (slice_index run.now at) ≡ true) }
 {
-    match run.first() {
+    match run.get(at) {
         Some(byte) => mode.is_plain(*byte),
         None => false,
     }
 }
 
 /// How many bytes at the front are ordinary in a mode. Most bytes stand outside all quotes or in double quotes; many words begin with a
-/// quote or a `$`.
+/// quote or a `$`, and many end behind their first byte. Those are told at less cost than a row of bytes is.
 #[inline(always)]
 pub(crate) fn plain_front(run: &[u8], mode: Mode) -> usize
     ensures within { result ≤ length run.now }
     ensures plain { (k : ℕ) → k < result → is_plain mode (slice_index run.now k) ≡ true }
 {
-    if !begins_plain(run, mode) {
+    if !is_plain_at(run, 0, mode) {
         return 0;
+    }
+    if !is_plain_at(run, 1, mode) {
+        return 1;
     }
     match mode {
         Mode::Plain => front_outside(run, PLAIN, SPECIAL),
