@@ -4,3 +4,4 @@ pub mod Kept
 pub mod Searches
 pub mod ByteSets
 pub mod Passed
+pub mod EmptyLine

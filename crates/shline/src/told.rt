@@ -34,7 +34,7 @@ pub struct Told {
 /// (`crate::KEPT`), and nothing where it is `SEEN`.
 ///
 /// A fault and want of memory are the two errors. The offset is at most the length of the source, and `origin` at most the offset.
-#[tactic(auto, unfolding(shgrammar::specs::Lines::a_line), using(shgrammar::proofs::Places::end_is))]
+#[tactic(auto, unfolding(shgrammar::specs::Lines::a_line, shgrammar::specs::Standing::raw_stands), using(shgrammar::proofs::Places::end_is, crate::proofs::EmptyLine::newline_told, crate::proofs::EmptyLine::newline_stands))]
 pub fn line_at<S: Source, const KEEP: u8>(
     alloc: Global,
     source: &S,
@@ -57,6 +57,16 @@ pub fn line_at<S: Source, const KEEP: u8>(
         (raw_stands (drop at (S.bytes source.now)) (x.len - 1) 10 ≡ true) ⊎ (at + x.len ≡ length (S.bytes source.now))) }
     ensures whole { IfOk result (λ x. x.newline ≡ false → at + x.len ≡ length (S.bytes source.now)) }
 {
+    // The length is asked for its bound alone, as where a cursor is made.
+    let _ = source.len();
+    // Many lines are empty: they need no cursor.
+    if let Some(b'\n') = source.byte(at) {
+        return Ok(Told {
+            entries: Vec::new(alloc),
+            newline: true,
+            len: 1,
+        });
+    }
     let mut cursor = Cursor::<S, KEEP>::at_line(alloc, source, at, origin, keep);
     // It holds no here-document yet: the line's level is its own.
     let (entries, newline) = cursor.open_line(alloc, blank, MOST_OPEN)?;

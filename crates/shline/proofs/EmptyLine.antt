@@ -1,0 +1,65 @@
+-- An empty line: a newline alone.
+use Rattle.std.proofs.Common.{◌≡◌, ℕ, ◌+◌, Bool, true, false, List, [], ◌∷◌, Ok, Some, None, Option, slice_get, drop, refl, sym, ap, subst, ◌∙◌, arith}
+use Rattle.shgrammar.specs.declared.keep.Keep.{Keep}
+use Rattle.shgrammar.specs.Bytes.{behind, is_broken_at, past_blanks, past_continuations}
+use Rattle.shgrammar.specs.Commands.{next_token, nothing_waits, a_comment}
+use Rattle.shgrammar.specs.Comments.{comment_at}
+use Rattle.shgrammar.specs.declared.token.Next.{Next}
+use Rattle.shgrammar.specs.declared.token.Token.TheVariants.{Newline}
+use Rattle.shgrammar.specs.Levels.{level, most_open}
+use Rattle.shgrammar.proofs.Turns.{no_entries}
+use Rattle.shgrammar.proofs.Stretches.{get_drop, joined_none}
+use Rattle.shgrammar.proofs.Unbroken.{blanks_whole}
+use Rattle.shgrammar.specs.HereDocuments.{bodies_from}
+use Rattle.shgrammar.specs.Lines.{a_line, an_open_line, end_of_line}
+use Rattle.shgrammar.specs.Lists.{a_remark, list_so, none_listed, on_line}
+use Rattle.shgrammar.specs.Scripts.{line_told}
+use Rattle.shgrammar.specs.Sights.{given, standing}
+use Rattle.shgrammar.specs.Standing.{continues, count_front, raw_in, raw_past, raw_stands}
+use Rattle.shgrammar.specs.Tokens.{token_at}
+use Rattle.shast.specs.Bodies.{filled_row}
+
+newline_first : Next
+newline_first = record { token = Newline; broken = false }
+
+place : (U : List ℕ) → past_blanks (10 ∷ U) 0 ≡ 0
+unfolding raw_past count_front continues raw_stands
+place U = blanks_whole (10 ∷ U) 0 refl
+
+joins : (U : List ℕ) → past_continuations (10 ∷ U) 0 ≡ 0
+unfolding continues raw_stands
+joins U = joined_none (10 ∷ U) 0 refl
+
+next : (U : List ℕ) → behind (10 ∷ U) 0 ≡ 1
+unfolding behind
+next U = ap (λ n. n + 1) (joins U)
+
+pub told : (U : List ℕ) (keep : Keep) (blank : Bool) (o : ℕ) → line_told (10 ∷ U) keep blank 0 o ≡ Ok (([], true), standing 1)
+unfolding a_line an_open_line nothing_waits filled_row next_token on_line a_remark a_comment end_of_line token_at comment_at raw_stands raw_in raw_past count_front continues is_broken_at bodies_from newline_first
+told U keep blank o =
+    let none = no_entries (level most_open) (list_so (none_listed blank) newline_first) keep (given (10 ∷ U) o) (standing 0) refl in
+    rw (place U, joins U, none, next U) refl
+
+value : Option ℕ → ℕ
+value None = 0
+value (Some b) = b
+
+begun : (T : List ℕ) (keep : Keep) (blank : Bool) (o : ℕ) → slice_get T 0 ≡ Some 10 → line_told T keep blank 0 o ≡ Ok (([], true), standing 1)
+unfolding value
+begun [] keep blank o is = absurd cc
+begun (b ∷ U) keep blank o is =
+    let newline : b ≡ 10 = ap value is in
+    subst (λ c. line_told (c ∷ U) keep blank 0 o ≡ Ok (([], true), standing 1)) (sym newline) (told U keep blank o)
+
+-- a newline is the first byte of the line at p
+pub newline_told : (B : List ℕ) (p : ℕ) (keep : Keep) (blank : Bool) (o : ℕ) → slice_get B p ≡ Some 10 → line_told B keep blank p o ≡ Ok (([], true), standing 1)
+newline_told B p keep blank o first =
+    let here : p + 0 ≡ p = omega arith in
+    begun (drop p B) keep blank o (get_drop p B 0 ∙ ap (slice_get B) here ∙ first)
+
+-- it is the last byte of that line
+pub newline_stands : (B : List ℕ) (p : ℕ) → slice_get B p ≡ Some 10 → raw_stands (drop p B) 0 10 ≡ true
+unfolding raw_stands
+newline_stands B p first =
+    let here : p + 0 ≡ p = omega arith in
+    rw (get_drop p B 0 ∙ ap (slice_get B) here ∙ first) refl
