@@ -107,7 +107,8 @@ impl<'a, S: Source, const KEEP: u8> Cursor<'a, S, KEEP> {
     {
         if next.token.begins_word() {
             let at = self.origin + self.at;
-            self.pass_word(alloc, room)?;
+            let mut substs = Vec::new(alloc);
+            self.pass_word(alloc, &mut substs, room)?;
             return Ok(Fault {
                 kind: FaultKind::Unexpected,
                 at,

@@ -62,7 +62,8 @@ impl<'a, S: Source, const KEEP: u8> Cursor<'a, S, KEEP> {
             return Err(Stop::Wrong(self.what_is_wrong(alloc, next, room)?));
         }
         let start = self.at;
-        let substs = self.pass_word(alloc, room)?;
+        let mut substs = Vec::new(alloc);
+        self.pass_word(alloc, &mut substs, room)?;
         let word = self.word_from(start, substs);
         *next = self.next_token(Position::Command);
         Ok(word)
@@ -86,7 +87,8 @@ impl<'a, S: Source, const KEEP: u8> Cursor<'a, S, KEEP> {
         ensures same { Keeps self.old self.new }
     {
         let start = self.at;
-        let substs = self.pass_word(alloc, room)?;
+        let mut substs = Vec::new(alloc);
+        self.pass_word(alloc, &mut substs, room)?;
         if self.grows() {
             patterns.push(self.word_from(start, substs))?;
         } else {

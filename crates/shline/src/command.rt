@@ -50,7 +50,8 @@ impl<'a, S: Source, const KEEP: u8> Cursor<'a, S, KEEP> {
         ensures same { Keeps self.old self.new }
     {
         let start = self.at;
-        let substs = self.pass_word(alloc, room)?;
+        let mut substs = Vec::new(alloc);
+        self.pass_word(alloc, &mut substs, room)?;
         if !self.grows() {
             mem::forget(substs);
             *next = self.next_token(position);
@@ -160,7 +161,8 @@ impl<'a, S: Source, const KEEP: u8> Cursor<'a, S, KEEP> {
         ensures same { Keeps self.old self.new }
     {
         let start = self.at;
-        let substs = self.pass_word(alloc, room)?;
+        let mut substs = Vec::new(alloc);
+        self.pass_word(alloc, &mut substs, room)?;
         let word = self.word_from(start, substs);
         *next = self.next_token(Position::Suffix);
         if let Token::OpenParen = next.token {

@@ -60,7 +60,8 @@ impl<'a, S: Source, const KEEP: u8> Cursor<'a, S, KEEP> {
             return Err(Stop::Wrong(self.what_is_wrong(alloc, next, room)?));
         }
         let start = self.at;
-        let substs = self.pass_word(alloc, room)?;
+        let mut substs = Vec::new(alloc);
+        self.pass_word(alloc, &mut substs, room)?;
         if !self.is_name(start) {
             return Err(self.wrong_at(FaultKind::BadForName, start));
         }

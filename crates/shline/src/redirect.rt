@@ -84,7 +84,8 @@ impl<'a, S: Source, const KEEP: u8> Cursor<'a, S, KEEP> {
             return Err(Stop::Wrong(self.what_is_wrong(alloc, &mut next, room)?));
         };
         let start = self.at;
-        let substs = self.pass_word(alloc, room)?;
+        let mut substs = Vec::new(alloc);
+        self.pass_word(alloc, &mut substs, room)?;
         Ok((self.word_from(start, substs), start))
     }
 

@@ -1,5 +1,5 @@
 //! Words (XCU 2.3), and how far they go: their pieces in the five modes (XCU 2.2, 2.6).
-ghost use Rattle.std.specs.Prelude.{◌≡◌, ◌≢◌, ◌+◌, ◌<◌, ◌≤◌, length, map, IfOk, List as Row, false, true};
+ghost use Rattle.std.specs.Prelude.{◌≡◌, ◌≢◌, ◌+◌, ◌<◌, ◌≤◌, [], length, map, IfOk, List as Row, false, true};
 ghost use Rattle.shgrammar.specs.Bytes.{ends_word, past_continuations};
 ghost use Rattle.shgrammar.specs.Shows.{IsRead};
 ghost use Rattle.shline.specs.Clauses.{Keeps, Onward, Reads, state_of, Stays, text_of};
@@ -238,24 +238,29 @@ impl<'a, S: Source, const KEEP: u8> Cursor<'a, S, KEEP> {
         Ok(())
     }
 
-    /// Passes the word that begins here, and answers its substitutions. Most words are plain bytes alone.
+    /// Passes the word that begins here, and tells its substitutions. Most words are plain bytes alone.
     #[cycle(commands)]
     #[inline(always)]
     #[tactic(auto, using(shgrammar::proofs::PlainBytes::plain_word, shgrammar::proofs::PlainBytes::word_rest, crate::proofs::Stops::word_stops, shgrammar::proofs::PlainBytes::some_plain))]
-    pub(crate) fn pass_word(&mut self, alloc: Global, room: usize) -> Result<Vec<Subst>, Stop>
-        requires { ends_word (text_of S.bytes self.old) self.old.at ≡ false }
+    pub(crate) fn pass_word(
+        &mut self,
+        alloc: Global,
+        substs: &mut Vec<Subst>,
+        room: usize,
+    ) -> Result<(), Stop>
+        requires word { ends_word (text_of S.bytes self.old) self.old.at ≡ false }
+        requires none { substs.old.items ≡ [] }
         ensures value { Reads S.bytes self.old (a_word (level room)) result
-            (λ substs. word (span self.old.origin self.old.at self.new.at) (substs_of (map view_subst substs.items))) (state_of self.new) }
-        ensures onward { IfOk result (λ substs. self.old.at < self.new.at) }
+            (λ done. word (span self.old.origin self.old.at self.new.at) (substs_of (map view_subst substs.new.items))) (state_of self.new) }
+        ensures onward { IfOk result (λ done. self.old.at < self.new.at) }
         ensures same { Keeps self.old self.new }
     {
         let start = self.at;
-        let mut substs = Vec::new(alloc);
         self.skip_plain(Mode::Plain);
         if !self.ends_word() {
-            self.contents(alloc, Mode::Plain, start, &mut substs, room)?;
+            self.contents(alloc, Mode::Plain, start, substs, room)?;
         }
-        Ok(substs)
+        Ok(())
     }
 
     /// The word from a place to this one, with these substitutions.
