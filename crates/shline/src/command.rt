@@ -1,13 +1,13 @@
 //! Commands, and the simple ones among them (XCU 2.9, 2.9.1).
-ghost use Rattle.std.specs.Prelude.{◌≡◌, ◌<◌, ◌≤◌, false, map, IfOk, Some};
+ghost use Rattle.std.specs.Prelude.{◌≡◌, ◌<◌, ◌≤◌, [], false, map, IfOk, Some};
 ghost use Rattle.shgrammar.specs.Bytes.{ends_word};
-ghost use Rattle.shline.specs.Clauses.{Keeps, Onward, Reads, state_of, text_of};
+ghost use Rattle.shline.specs.Clauses.{keep_of, Keeps, Onward, Reads, state_of, Stays, text_of};
 ghost use Rattle.shgrammar.specs.Shows.{Shows};
 ghost use Rattle.shgrammar.specs.Commands.{a_command, a_simple, a_worded, an_item, as_item, behind_word, item_turn, so_many};
 ghost use Rattle.shgrammar.specs.declared.token.Position.TheVariants.{Suffix};
 ghost use Rattle.shgrammar.specs.declared.token.Position.{Position};
-ghost use Rattle.shgrammar.specs.Form.{again, many, step_if};
-ghost use Rattle.shast.specs.Tree.{item};
+ghost use Rattle.shgrammar.specs.Form.{again, grows, many, pushed, step_if};
+ghost use Rattle.shast.specs.Tree.{argument, item};
 ghost use Rattle.shast.specs.View.{view_command, view_item, view_word};
 ghost use Rattle.shgrammar.specs.Levels.{level};
 
@@ -17,7 +17,7 @@ use shast::make::{argument_of, assign_of, simple_of};
 use shast::{Command, Item, Word};
 use shgrammar::{Next, Position, Token};
 use shtext::Source;
-use std::alloc::Global;
+use std::alloc::{AllocError, Global};
 use std::mem;
 
 /// A word as an item, by the position behind it.
@@ -61,7 +61,7 @@ impl<'a, S: Source, const KEEP: u8> Cursor<'a, S, KEEP> {
         let broken = !items.is_empty() && next.broken;
         *next = self.next_token(position);
         // A command of one word takes room for no more.
-        if items.is_empty() && !next.token.begins_simple() {
+        if items.capacity() == 0 && !next.token.begins_simple() {
             items.reserve_exact(1)?;
         }
         items.push(item_of(word, position, broken))?;
@@ -148,6 +148,31 @@ impl<'a, S: Source, const KEEP: u8> Cursor<'a, S, KEEP> {
         Ok(simple_of(items))
     }
 
+    /// The items so far of a command that begins with this word, before this token.
+    #[inline(always)]
+    fn items_from(
+        &mut self,
+        alloc: Global,
+        word: Word,
+        behind: Token,
+    ) -> Result<Vec<Item>, AllocError>
+        ensures value { IfOk result (λ items. map view_item items.items ≡ pushed (grows (keep_of self.old)) [] (item false (argument (view_word word)))) }
+        ensures place { self.new.at ≡ self.old.at }
+        ensures same { Stays self.old self.new }
+    {
+        let mut items = self.room_for_items(alloc);
+        if self.grows() {
+            // A command of one word takes room for no more.
+            if items.capacity() == 0 && !behind.begins_simple() {
+                items.reserve_exact(1)?;
+            }
+            items.push(argument_of(word, false))?;
+        } else {
+            mem::forget(word);
+        }
+        Ok(items)
+    }
+
     /// The command that begins with the word here: a function, if `(` follows, or a simple command.
     #[cycle(commands)]
     #[tactic(auto, unfolding(shgrammar::specs::Commands::a_worded, shgrammar::specs::Commands::next_token))]
@@ -168,16 +193,7 @@ impl<'a, S: Source, const KEEP: u8> Cursor<'a, S, KEEP> {
         if let Token::OpenParen = next.token {
             return self.named(alloc, word.span, start, next, room);
         }
-        let mut items = Vec::new(alloc);
-        if self.grows() {
-            // A command of one word takes room for no more.
-            if !next.token.begins_simple() {
-                items.reserve_exact(1)?;
-            }
-            items.push(argument_of(word, false))?;
-        } else {
-            mem::forget(word);
-        }
+        let items = self.items_from(alloc, word, next.token)?;
         self.simple(alloc, items, Position::Suffix, next, room)
     }
 
@@ -201,7 +217,8 @@ impl<'a, S: Source, const KEEP: u8> Cursor<'a, S, KEEP> {
         match next.token {
             Token::Word => self.worded(alloc, next, room),
             Token::Assignment | Token::Number | Token::Redirect(_) => {
-                self.simple(alloc, Vec::new(alloc), Position::Command, next, room)
+                let items = self.room_for_items(alloc);
+                self.simple(alloc, items, Position::Command, next, room)
             }
             _ => self.compound_by(alloc, next, room),
         }

@@ -1,8 +1,9 @@
 //! A place in a text.
-ghost use Rattle.std.specs.Prelude.{◌≡◌, ◌+◌, ◌^◌, ◌<◌, ◌≤◌, All, drop, length};
+ghost use Rattle.std.specs.Prelude.{◌≡◌, ◌+◌, ◌^◌, ◌<◌, ◌≤◌, [], All, drop, length};
 ghost use Rattle.shtext.specs.Text.{IsRun};
 
 use crate::documents::Documents;
+use shast::{Entry, Item, Spare};
 use shgrammar::Keep;
 use shtext::Source;
 use std::alloc::Global;
@@ -30,6 +31,8 @@ pub(crate) struct Cursor<'a, S: Source, const KEEP: u8> {
     pub(crate) keep: Keep,
     /// The here-documents of the level in which the reading stands.
     pub(crate) documents: Documents,
+    /// Where a tree takes vectors that have room, if the caller has kept some.
+    spare: Option<&'a mut Spare>,
     ghost begins: { base ≤ length (S.bytes source.now) },
     ghost stretch: { IsRun (S.bytes source.now) base front.now },
     ghost fits: { base + length (drop base (S.bytes source.now)) < 2 ^ 64 },
@@ -39,17 +42,19 @@ pub(crate) struct Cursor<'a, S: Source, const KEEP: u8> {
 }
 
 impl<'a, S: Source, const KEEP: u8> Cursor<'a, S, KEEP> {
-    ghost use Rattle.shline.specs.Clauses.{keep_of, state_of};
+    ghost use Rattle.shline.specs.Clauses.{keep_of, Stays, state_of};
     ghost use Rattle.shgrammar.specs.Form.{grows};
     ghost use Rattle.shgrammar.specs.Sights.{standing};
 
-    /// Where the line at an offset begins, whose own offsets are counted from `origin`, and of which this is kept.
+    /// Where the line at an offset begins, whose own offsets are counted from `origin`, and of which this is kept, in this spare room where
+    /// there is some.
     pub(crate) fn at_line(
         alloc: Global,
         source: &'a S,
         base: usize,
         origin: usize,
         keep: Keep,
+        spare: Option<&'a mut Spare>,
     ) -> Cursor<'a, S, KEEP>
         requires { (base ≤ length (S.bytes source.now)) × (origin ≤ base) }
         ensures { (result.source.now ≡ source.now) × (result.base ≡ base) × (result.origin ≡ origin)
@@ -65,6 +70,7 @@ impl<'a, S: Source, const KEEP: u8> Cursor<'a, S, KEEP> {
             at: 0,
             keep,
             documents: Documents::new(alloc),
+            spare,
         }
     }
 
@@ -74,5 +80,35 @@ impl<'a, S: Source, const KEEP: u8> Cursor<'a, S, KEEP> {
         ensures { result ≡ grows (keep_of self.now) }
     {
         KEEP == KEPT && self.keep.grows()
+    }
+
+    /// A vector for the items of a command: with room, where a tree grows here and some was kept.
+    #[inline(always)]
+    pub(crate) fn room_for_items(&mut self, alloc: Global) -> Vec<Item>
+        ensures empty { result.items ≡ [] }
+        ensures place { self.new.at ≡ self.old.at }
+        ensures same { Stays self.old self.new }
+    {
+        if self.grows()
+            && let Some(spare) = &mut self.spare
+        {
+            return spare.items(alloc);
+        }
+        Vec::new(alloc)
+    }
+
+    /// The same for the entries of a list.
+    #[inline(always)]
+    pub(crate) fn room_for_entries(&mut self, alloc: Global) -> Vec<Entry>
+        ensures empty { result.items ≡ [] }
+        ensures place { self.new.at ≡ self.old.at }
+        ensures same { Stays self.old self.new }
+    {
+        if self.grows()
+            && let Some(spare) = &mut self.spare
+        {
+            return spare.entries(alloc);
+        }
+        Vec::new(alloc)
     }
 }

@@ -35,4 +35,4 @@ mod word;
 
 pub use cursor::{KEPT, SEEN};
 pub use stop::Stop;
-pub use told::{Told, line_at};
+pub use told::{Told, line_at, line_at_with};

@@ -75,14 +75,19 @@ impl Listed {
     fn room_for_only(&mut self, behind: Token) -> Result<(), AllocError>
         ensures { IfOk result (λ done. view_listed self.new ≡ view_listed self.old) }
     {
-        let goes_on = match behind {
-            Token::Newline => !self.one_line,
-            _ => behind.begins_pipeline(),
-        };
-        if self.entries.is_empty() && !goes_on {
+        if self.entries.capacity() == 0 && !self.goes_on(behind) {
             self.entries.reserve_exact(1)?;
         }
         Ok(())
+    }
+
+    /// Whether another entry may follow the one before this token.
+    #[inline(always)]
+    fn goes_on(&self, behind: Token) -> bool {
+        match behind {
+            Token::Newline => !self.one_line,
+            _ => behind.begins_pipeline(),
+        }
     }
 
     /// Behind a newline: a line without entries makes the next entry blank, if one stands before it.
@@ -95,6 +100,24 @@ impl Listed {
 }
 
 impl<'a, S: Source, const KEEP: u8> Cursor<'a, S, KEEP> {
+    /// Makes room for an entry, before this token, in spare room where there is some.
+    #[inline(always)]
+    fn room_for_entry(
+        &mut self,
+        alloc: Global,
+        listed: &mut Listed,
+        behind: Token,
+    ) -> Result<(), AllocError>
+        ensures listed { IfOk result (λ done. view_listed listed.new ≡ view_listed listed.old) }
+        ensures place { self.new.at ≡ self.old.at }
+        ensures same { Stays self.old self.new }
+    {
+        if listed.entries.is_empty() {
+            listed.entries = self.room_for_entries(alloc);
+        }
+        listed.room_for_only(behind)
+    }
+
     /// One more entry of a line, if the token here begins one: a command, with what parts it from the next one, and the comment behind
     /// it on its line. Answers whether another may follow.
     #[cycle(commands)]
@@ -126,7 +149,7 @@ impl<'a, S: Source, const KEEP: u8> Cursor<'a, S, KEEP> {
         listed.parted = past_separator(separator);
         if self.grows() {
             let background = matches!(separator, Some((Separator::Ampersand, _)));
-            listed.room_for_only(next.token)?;
+            self.room_for_entry(alloc, listed, next.token)?;
             listed
                 .entries
                 .push(command_entry(and_or, background, blank, comment))?;
@@ -161,7 +184,12 @@ impl<'a, S: Source, const KEEP: u8> Cursor<'a, S, KEEP> {
     /// The comment of a line without entries, or behind its last separator, as an entry.
     #[inline(always)]
     #[tactic(auto, unfolding(shgrammar::specs::Lists::a_remark))]
-    fn own_comment(&mut self, next: &mut Next, listed: &mut Listed) -> Result<(), Stop>
+    fn own_comment(
+        &mut self,
+        alloc: Global,
+        next: &mut Next,
+        listed: &mut Listed,
+    ) -> Result<(), Stop>
         requires shows { Shows next.old.token (text_of S.bytes self.old) self.old.at }
         ensures value { Reads S.bytes self.old (a_remark (list_so (view_listed listed.old) next.old)) result
             (λ done. list_so (view_listed listed.new) next.new) (state_of self.new) }
@@ -173,7 +201,7 @@ impl<'a, S: Source, const KEEP: u8> Cursor<'a, S, KEEP> {
             let blank = listed.blank && !listed.begun;
             listed.begun = true;
             if self.grows() {
-                listed.room_for_only(next.token)?;
+                self.room_for_entry(alloc, listed, next.token)?;
                 listed.entries.push(comment_entry(comment, blank))?;
             }
         }
@@ -201,7 +229,7 @@ impl<'a, S: Source, const KEEP: u8> Cursor<'a, S, KEEP> {
         if next.token.begins_pipeline() {
             self.entries(alloc, next, listed, room)?;
         }
-        self.own_comment(next, listed)?;
+        self.own_comment(alloc, next, listed)?;
         Ok(())
     }
 

@@ -11,7 +11,7 @@ ghost use Rattle.shast.specs.View.{view_entry};
 use crate::cursor::Cursor;
 use crate::line::filled_entries;
 use crate::stop::Stop;
-use shast::Entry;
+use shast::{Entry, Spare};
 use shgrammar::Keep;
 use shtext::Source;
 use std::alloc::Global;
@@ -34,7 +34,6 @@ pub struct Told {
 /// (`crate::KEPT`), and nothing where it is `SEEN`.
 ///
 /// A fault and want of memory are the two errors. The offset is at most the length of the source, and `origin` at most the offset.
-#[tactic(auto, unfolding(shgrammar::specs::Lines::a_line, shgrammar::specs::Standing::raw_stands), using(shgrammar::proofs::Places::end_is, crate::proofs::EmptyLine::newline_told, crate::proofs::EmptyLine::newline_stands))]
 pub fn line_at<S: Source, const KEEP: u8>(
     alloc: Global,
     source: &S,
@@ -42,6 +41,34 @@ pub fn line_at<S: Source, const KEEP: u8>(
     origin: usize,
     keep: Keep,
     blank: bool,
+) -> Result<Told, Stop>
+    requires { (at ≤ length (S.bytes source.now)) × (origin ≤ at) }
+    ensures value { Gives (origin + length (drop at (S.bytes source.now)))
+        (λ x. ((map view_entry x.entries.items, x.newline), standing x.len)) result
+        (line_told (S.bytes source.now) (kept KEEP keep) blank at origin) }
+    // No node of its entries names an offset behind it.
+    ensures spans { IfOk result (λ x. (limit : ℕ) → origin + x.len ≤ limit →
+        AreWithin limit (entries_of (map view_entry x.entries.items))) }
+    ensures onward { IfOk result (λ x. Onward 0 x.len x.newline) }
+    ensures within { IfOk result (λ x. at + x.len ≤ length (S.bytes source.now)) }
+    ensures fits { IfOk result (λ x. at + x.len < 2 ^ 64) }
+    ensures newline { IfOk result (λ x. x.newline ≡ true →
+        (raw_stands (drop at (S.bytes source.now)) (x.len - 1) 10 ≡ true) ⊎ (at + x.len ≡ length (S.bytes source.now))) }
+    ensures whole { IfOk result (λ x. x.newline ≡ false → at + x.len ≡ length (S.bytes source.now)) }
+{
+    line_at_with::<S, KEEP>(alloc, source, at, origin, keep, blank, None)
+}
+
+/// The same, with the vectors of its tree taken from spare ones, as far as there are any.
+#[tactic(auto, unfolding(shgrammar::specs::Lines::a_line, shgrammar::specs::Standing::raw_stands), using(shgrammar::proofs::Places::end_is, crate::proofs::EmptyLine::newline_told, crate::proofs::EmptyLine::newline_stands))]
+pub fn line_at_with<'a, S: Source, const KEEP: u8>(
+    alloc: Global,
+    source: &'a S,
+    at: usize,
+    origin: usize,
+    keep: Keep,
+    blank: bool,
+    spare: Option<&'a mut Spare>,
 ) -> Result<Told, Stop>
     requires { (at ≤ length (S.bytes source.now)) × (origin ≤ at) }
     ensures value { Gives (origin + length (drop at (S.bytes source.now)))
@@ -67,7 +94,7 @@ pub fn line_at<S: Source, const KEEP: u8>(
             len: 1,
         });
     }
-    let mut cursor = Cursor::<S, KEEP>::at_line(alloc, source, at, origin, keep);
+    let mut cursor = Cursor::<S, KEEP>::at_line(alloc, source, at, origin, keep, spare);
     // It holds no here-document yet: the line's level is its own.
     let (entries, newline) = cursor.open_line(alloc, blank, MOST_OPEN)?;
     let len = cursor.at;

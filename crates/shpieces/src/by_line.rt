@@ -6,6 +6,7 @@ ghost use Rattle.shpieces.specs.Printing.{IsErrorWithin, IsPrinted, moved_error}
 ghost use Rattle.shpieces.specs.Printing.{Answers, IsNoText};
 ghost use Rattle.shprint.specs.ReadBack.{IsTextOf};
 
+use shast::Spare;
 use shgrammar::Fault;
 use shprint::{Layout, Page, Printer};
 use shread::{LinesBefore, ScriptLine, ScriptLines};
@@ -66,8 +67,9 @@ impl Printing {
             source,
         };
         let mut lines = ScriptLines::behind(self.alloc, source, self.before);
+        let mut spare = Spare::new(self.alloc);
         'lines: loop {
-            let Ok(line) = lines.read_whole() else {
+            let Ok(line) = lines.read_whole_with(Some(&mut spare)) else {
                 return Err(AllocError);
             };
             let Some(entries) = line else {
@@ -75,6 +77,7 @@ impl Printing {
                 return Ok(lines.at());
             };
             printer.print_entries(&entries, &mut self.page)?;
+            spare.give_back(entries);
         }
     }
 
@@ -90,12 +93,16 @@ impl Printing {
             source,
         };
         let mut lines = ScriptLines::behind(self.alloc, source, self.before);
+        let mut spare = Spare::new(self.alloc);
         'lines: loop {
-            let Ok(line) = lines.read_next() else {
+            let Ok(line) = lines.read_next_with(Some(&mut spare)) else {
                 return Err(AllocError);
             };
             match line {
-                ScriptLine::Ended(entries) => printer.print_entries(&entries, &mut self.page)?,
+                ScriptLine::Ended(entries) => {
+                    printer.print_entries(&entries, &mut self.page)?;
+                    spare.give_back(entries);
+                }
                 ScriptLine::Last(entries) => {
                     printer.print_entries(&entries, &mut self.page)?;
                     return Ok(None);

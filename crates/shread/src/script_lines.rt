@@ -7,9 +7,9 @@ ghost use Rattle.shread.specs.LineByLine.{AtStart, GoesOn, IsNextLine, IsWholeLi
 
 use crate::error::ReadError;
 use crate::one_line::ends_in_newline;
-use shast::Entry;
+use shast::{Entry, Spare};
 use shgrammar::{Fault, Keep};
-use shline::{KEPT, Stop, Told, line_at};
+use shline::{KEPT, Stop, Told, line_at_with};
 use shtext::Source;
 use std::alloc::Global;
 
@@ -123,14 +123,29 @@ impl<'a, S: Source> ScriptLines<'a, S> {
         // No node of its entries names an offset above the script's length, nor does a fault.
         ensures within { IfOk result (LineWithin (length (bytes_of S.bytes self.old))) }
     {
+        self.read_next_with(None)
+    }
+
+    /// The same, with the vectors of the line's tree taken from spare ones, as far as there are any.
+    pub fn read_next_with(&mut self, spare: Option<&mut Spare>) -> Result<ScriptLine, ReadError>
+        requires { place_of self.old ≤ length (bytes_of S.bytes self.old) }
+        ensures line { IfOk result (λ line. (so : SoFar) → Stands self.old so → IsNextLine (bytes_of S.bytes self.old) so self.old line self.new) }
+        ensures err { IfErr result (λ e. self.new ≡ self.old) }
+        ensures source { bytes_of S.bytes self.new ≡ bytes_of S.bytes self.old }
+        ensures place { IfOk result (λ line. place_of self.new ≤ length (bytes_of S.bytes self.old)) }
+        ensures onward { IfOk result (λ line. GoesOn line → place_of self.old < place_of self.new) }
+        // No node of its entries names an offset above the script's length, nor does a fault.
+        ensures within { IfOk result (LineWithin (length (bytes_of S.bytes self.old))) }
+    {
         let blank = self.is_blank_next();
-        match line_at::<S, KEPT>(
+        match line_at_with::<S, KEPT>(
             self.alloc,
             self.source,
             self.at,
             self.at,
             Keep::Whole,
             blank,
+            spare,
         ) {
             Ok(
                 Told {
@@ -165,14 +180,33 @@ impl<'a, S: Source> ScriptLines<'a, S> {
         ensures place { IfOk result (λ line. place_of self.new ≤ length (bytes_of S.bytes self.old)) }
         ensures onward { IfOk result (λ line. IfSome line (λ entries. place_of self.old < place_of self.new)) }
     {
+        self.read_whole_with(None)
+    }
+
+    /// The same, with the vectors of the line's tree taken from spare ones, as far as there are any.
+    pub fn read_whole_with(
+        &mut self,
+        spare: Option<&mut Spare>,
+    ) -> Result<Option<Vec<Entry>>, ReadError>
+        requires { place_of self.old ≤ length (bytes_of S.bytes self.old) }
+        ensures line { IfOk result (λ line. IfSome line (λ entries. (so : SoFar) → Stands self.old so →
+            IsWholeLine (bytes_of S.bytes self.old) so self.old entries self.new)) }
+        ensures newline { IfOk result (λ line. IfSome line (λ entries. slice_get (bytes_of S.bytes self.old) (place_of self.new - 1) ≡ Some 10)) }
+        ensures none { result ≡ Done None → (self.new ≡ self.old) × StopsAt (bytes_of S.bytes self.old) (place_of self.old) }
+        ensures err { IfErr result (λ e. self.new ≡ self.old) }
+        ensures source { bytes_of S.bytes self.new ≡ bytes_of S.bytes self.old }
+        ensures place { IfOk result (λ line. place_of self.new ≤ length (bytes_of S.bytes self.old)) }
+        ensures onward { IfOk result (λ line. IfSome line (λ entries. place_of self.old < place_of self.new)) }
+    {
         let blank = self.is_blank_next();
-        match line_at::<S, KEPT>(
+        match line_at_with::<S, KEPT>(
             self.alloc,
             self.source,
             self.at,
             self.at,
             Keep::Outer,
             blank,
+            spare,
         ) {
             Ok(
                 Told {

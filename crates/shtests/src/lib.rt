@@ -20,6 +20,8 @@ mod reader_refused;
 #[cfg(test)]
 mod reader_sources;
 #[cfg(test)]
+mod reader_spare;
+#[cfg(test)]
 mod reader_trees;
 #[cfg(test)]
 mod table;

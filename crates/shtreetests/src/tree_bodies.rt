@@ -15,12 +15,21 @@ const NAMES: &str = "ABCDEFGHIJKLMNOPQRSTUV";
 
 /// A script whose documents are open, or have their bodies.
 #[derive(Clone, Copy)]
-struct Documents<'a> {
+pub(crate) struct Documents<'a> {
     script: Script<'a>,
     open: bool,
 }
 
 impl<'a> Documents<'a> {
+    /// Those that have their bodies.
+    pub(crate) fn closed(alloc: Global) -> Documents<'static> {
+        let script = Script { alloc, text: NAMES };
+        Documents {
+            script,
+            open: false,
+        }
+    }
+
     fn redirect(self, name: &str) -> Result<Item, AllocError> {
         self.script
             .here("<<", name, if self.open { "" } else { name })
@@ -96,7 +105,8 @@ impl<'a> Documents<'a> {
         Ok(self.script.entry(simple_of(items)))
     }
 
-    fn whole(self) -> Result<List, AllocError> {
+    /// A list with a document in each place.
+    pub(crate) fn whole(self) -> Result<List, AllocError> {
         let mut list = self.script.only(self.joined()?)?;
         for command in self.forms()? {
             list.entries.push(self.script.entry(command))?;

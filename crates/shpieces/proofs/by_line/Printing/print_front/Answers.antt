@@ -17,8 +17,8 @@ lines-init g c =
       refl,
     )
 
-pub read_whole-requires : goal.read_whole-requires
-read_whole-requires g c = rw (sym c.lines.invariant.2) at c.lines.invariant.3
+pub read_whole_with-requires : goal.read_whole_with-requires
+read_whole_with-requires g c = rw (sym c.lines.invariant.2) at c.lines.invariant.3
 
 pub lines-preserved : goal.lines-preserved
 lines-preserved g c =
@@ -29,10 +29,10 @@ lines-preserved g c =
     let onward = rw c.in-Some.is at c.in-Ok.ensures.onward in
     let low = rw inv.2 at c.in-Ok.ensures.place in
     let done = c.in_ok-print_entries.ensures in (
-      λ y front is. front_behind y bytes c.lines.lines c.read_whole.new.self (sheet c.lines.self.page) (sheet c.print_entries.new.page) c.in-Some.entries front (inv.0 y front is) line onward low
+      λ y front is. front_behind y bytes c.lines.lines c.read_whole_with.new.self (sheet c.lines.self.page) (sheet c.print_entries.new.page) c.in-Some.entries front (inv.0 y front is) line onward low
           (rw (inv.1 ∙ is.1, is.2, c.deref.ensures.value) at done.0),
       done.1 ∙ inv.1,
-      c.read_whole.ensures.source ∙ inv.2,
+      c.read_whole_with.ensures.source ∙ inv.2,
       low,
       λ some. newline,
       inv.5,

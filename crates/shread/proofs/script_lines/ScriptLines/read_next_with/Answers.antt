@@ -1,7 +1,7 @@
 use Rattle.std.proofs.Common.{refl}
 use Rattle.shgrammar.specs.Sights.{standing}
 use Rattle.shread.proofs.LineByLine.{fault_told, line_read}
-use Rattle.shread.proofs.script_lines.ScriptLines.read_next.Goals as goal
+use Rattle.shread.proofs.script_lines.ScriptLines.read_next_with.Goals as goal
 
 pub returns-then-newline-clause-line : goal.returns-then-newline-clause-line
 returns-then-newline-clause-line g c = λ so stood.

@@ -5,8 +5,8 @@ use Rattle.shgrammar.specs.Scripts.{line_from}
 use Rattle.shgrammar.specs.Sights.{standing}
 use Rattle.shread.proofs.LineByLine.{fault_told}
 use Rattle.shgrammar.proofs.Passing.{newline_behind, stops_faulty, stops_unended}
-use Rattle.shread.proofs.script_lines.ScriptLines.read_whole.Goals.{else-newline-via-then-newline+else-ends_in_newline, else-newline-via-else-newline}
-use Rattle.shread.proofs.script_lines.ScriptLines.read_whole.Goals as goal
+use Rattle.shread.proofs.script_lines.ScriptLines.read_whole_with.Goals.{else-newline-via-then-newline+else-ends_in_newline, else-newline-via-else-newline}
+use Rattle.shread.proofs.script_lines.ScriptLines.read_whole_with.Goals as goal
 
 pub returns-then-ends_in_newline-clause-line : goal.returns-then-ends_in_newline-clause-line
 returns-then-ends_in_newline-clause-line g c = λ so stood.

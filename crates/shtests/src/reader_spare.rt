@@ -1,0 +1,133 @@
+// Lines that are read into vectors which earlier lines gave back: they have what they have without.
+use crate::reader_trees::ROWS;
+use crate::table::{rows, split};
+use shast::{Entry, Spare};
+use shread::{LinesBefore, ScriptLine, ScriptLines};
+use shtext::Flat;
+use std::alloc::Global;
+use std::test::Fail;
+
+/// What a line is, as text.
+fn told(alloc: Global, line: &ScriptLine) -> Result<String, Fail> {
+    let mut text = String::new(alloc);
+    write!(text, "{line:?}")?;
+    Ok(text)
+}
+
+/// What entries are, as text.
+fn dumped(alloc: Global, entries: &[Entry]) -> Result<String, Fail> {
+    let mut text = String::new(alloc);
+    write!(text, "{entries:?}")?;
+    Ok(text)
+}
+
+/// The entries of a line without a fault.
+fn entries_of(line: ScriptLine) -> Option<Vec<Entry>> {
+    match line {
+        ScriptLine::Ended(entries) | ScriptLine::Last(entries) => Some(entries),
+        ScriptLine::Faulty(_) => None,
+    }
+}
+
+/// Whether each line of a script is read the same with spare vectors. They are given back for the next one.
+fn are_alike(alloc: Global, script: &[u8], spare: &mut Spare) -> Result<bool, Fail> {
+    let mut rest = script;
+    let mut before = LinesBefore::none();
+    for _ in 0..=script.len() {
+        let source = Flat::new(rest);
+        let mut lines = ScriptLines::behind(alloc, &source, before);
+        let line = lines.read_next()?;
+        let other = ScriptLines::behind(alloc, &source, before).read_next_with(Some(&mut *spare))?;
+        if told(alloc, &line)? != told(alloc, &other)? {
+            return Ok(false);
+        }
+        let Some(entries) = entries_of(other) else {
+            break;
+        };
+        spare.give_back(entries);
+        before = lines.before();
+        rest = rest.get(lines.at()..).unwrap_or(b"");
+    }
+    Ok(true)
+}
+
+/// The same of its whole lines.
+fn are_whole_alike(alloc: Global, script: &[u8], spare: &mut Spare) -> Result<bool, Fail> {
+    let mut rest = script;
+    let mut before = LinesBefore::none();
+    for _ in 0..=script.len() {
+        let source = Flat::new(rest);
+        let mut lines = ScriptLines::behind(alloc, &source, before);
+        let line = lines.read_whole()?;
+        let other = ScriptLines::behind(alloc, &source, before).read_whole_with(Some(&mut *spare))?;
+        let Some(entries) = other else {
+            return Ok(line.is_none());
+        };
+        if dumped(alloc, &line.unwrap_or(Vec::new(alloc)))? != dumped(alloc, &entries)? {
+            return Ok(false);
+        }
+        spare.give_back(entries);
+        before = lines.before();
+        rest = rest.get(lines.at()..).unwrap_or(b"");
+    }
+    Ok(true)
+}
+
+#[test]
+fn the_same_lines(rt: HostRuntime) -> Result<(), Fail> {
+    let alloc = rt.alloc();
+    let mut spare = Spare::new(alloc);
+    for row in &rows(alloc, ROWS)? {
+        let (scripts, _) = split(row)?;
+        for script in scripts {
+            let alike = are_alike(alloc, &script.bytes, &mut spare)?
+                && are_whole_alike(alloc, &script.bytes, &mut spare)?;
+            assert!(rt; alike, "{:?}", script.bytes);
+        }
+    }
+    Ok(())
+}
+
+/// Whether a vector of each kind with room is kept; it is kept no more then.
+fn one_is_kept(alloc: Global, spare: &mut Spare) -> (bool, bool) {
+    let items = spare.items(alloc).capacity() > 0;
+    let entries = spare.entries(alloc).capacity() > 0;
+    (items, entries)
+}
+
+/// A line takes the vectors that the one before it gave back.
+#[test]
+fn taken(rt: HostRuntime) -> Result<(), Fail> {
+    let alloc = rt.alloc();
+    let mut spare = Spare::new(alloc);
+    let source = Flat::new(b"a b\nc d\n");
+    let mut lines = ScriptLines::new(alloc, &source);
+    if let Some(entries) = lines.read_whole_with(Some(&mut spare))? {
+        spare.give_back(entries);
+    }
+    let line = lines.read_whole_with(Some(&mut spare))?;
+    assert!(rt; line.is_some() && one_is_kept(alloc, &mut spare) == (false, false));
+    if let Some(entries) = line {
+        spare.give_back(entries);
+    }
+    assert!(rt; one_is_kept(alloc, &mut spare) == (true, true));
+    Ok(())
+}
+
+/// Commands in a substitution of whose tree nothing is kept take none: it would be lost.
+#[test]
+fn none_taken_where_none_grows(rt: HostRuntime) -> Result<(), Fail> {
+    let alloc = rt.alloc();
+    let mut spare = Spare::new(alloc);
+    let source = Flat::new(b"a; b; c; d; e\na $(b; c | d) \"$({ e; f; })\"\n");
+    let mut lines = ScriptLines::new(alloc, &source);
+    if let Some(entries) = lines.read_whole_with(Some(&mut spare))? {
+        spare.give_back(entries);
+    }
+    let line = lines.read_whole_with(Some(&mut spare))?;
+    assert!(rt; line.is_some());
+    for left in [true, true, true, true, false] {
+        assert!(rt; one_is_kept(alloc, &mut spare) == (left, false));
+    }
+    Ok(())
+}
