@@ -3,15 +3,15 @@ ghost use Rattle.std.specs.Prelude.{◌<◌, ◌≤◌, [], map, IfOk};
 ghost use Rattle.shgrammar.specs.Bytes.{behind};
 ghost use Rattle.shgrammar.specs.Shows.{IsRead, Shows};
 ghost use Rattle.shline.specs.Clauses.{Keeps, Onward, Reads, state_of, text_of};
-ghost use Rattle.shgrammar.specs.Commands.{an_and_or, join_pipeline, joined_so, one_pipeline};
+ghost use Rattle.shgrammar.specs.Commands.{join_pipeline, joined_so, one_pipeline};
 ghost use Rattle.shgrammar.specs.Form.{again, many, step_if};
 ghost use Rattle.shgrammar.specs.Levels.{level};
-ghost use Rattle.shast.specs.View.{view_and_or, view_and_or_part};
+ghost use Rattle.shast.specs.View.{view_and_or_part};
 
 use crate::cursor::Cursor;
 use crate::stop::Stop;
-use shast::make::{and_or_of, and_or_part_of};
-use shast::{AndOr, AndOrOperator, AndOrPart};
+use shast::make::and_or_part_of;
+use shast::{AndOrOperator, AndOrPart};
 use shgrammar::Next;
 use shtext::Source;
 use std::alloc::Global;
@@ -80,7 +80,7 @@ impl<'a, S: Source, const KEEP: u8> Cursor<'a, S, KEEP> {
     #[cycle(commands)]
     #[inline(always)]
     #[tactic(auto, using(shgrammar::proofs::Turns::many_again, shgrammar::proofs::Turns::many_done, crate::proofs::Stops::many_stop))]
-    fn joined_pipelines(
+    pub(crate) fn joined_pipelines(
         &mut self,
         alloc: Global,
         next: &mut Next,
@@ -96,27 +96,5 @@ impl<'a, S: Source, const KEEP: u8> Cursor<'a, S, KEEP> {
         let mut parts = Vec::new(alloc);
         'turns: while self.join_pipeline(alloc, next, &mut parts, room)? {}
         Ok(parts)
-    }
-
-    /// The and-or list that the token here begins.
-    #[cycle(commands)]
-    #[inline(always)]
-    #[tactic(auto, unfolding(shgrammar::specs::Commands::an_and_or))]
-    pub(crate) fn and_or(
-        &mut self,
-        alloc: Global,
-        next: &mut Next,
-        room: usize,
-    ) -> Result<AndOr, Stop>
-        requires shows { Shows next.old.token (text_of S.bytes self.old) self.old.at }
-        ensures value { Reads S.bytes self.old (an_and_or (level room) next.old) result
-            (λ and_or. (view_and_or and_or, next.new)) (state_of self.new) }
-        ensures shows { IfOk result (λ and_or. Shows next.new.token (text_of S.bytes self.old) self.new.at) }
-        ensures onward { IfOk result (λ and_or. self.old.at ≤ self.new.at) }
-        ensures same { Keeps self.old self.new }
-    {
-        let first = self.pipeline(alloc, next, room)?;
-        let rest = self.joined_pipelines(alloc, next, room)?;
-        Ok(and_or_of(first, rest))
     }
 }

@@ -12,7 +12,7 @@ ghost use Rattle.shast.specs.View.{view_list};
 
 use crate::cursor::Cursor;
 use crate::stop::Stop;
-use shast::make::{command_entry, comment_entry, list_of};
+use shast::make::{and_or_of, command_entry, comment_entry, list_of, pipeline_of};
 use shast::{Entry, List};
 use shgrammar::{Next, Separator, Token};
 use shtext::Source;
@@ -122,7 +122,7 @@ impl<'a, S: Source, const KEEP: u8> Cursor<'a, S, KEEP> {
     /// it on its line. Answers whether another may follow.
     #[cycle(commands)]
     #[inline(always)]
-    #[tactic(auto, unfolding(shgrammar::specs::Lists::entry_turn, shgrammar::specs::Lists::one_entry, shgrammar::specs::Commands::an_entry))]
+    #[tactic(auto, unfolding(shgrammar::specs::Lists::entry_turn, shgrammar::specs::Lists::one_entry, shgrammar::specs::Commands::an_entry, shgrammar::specs::Commands::an_and_or, shgrammar::specs::Commands::a_pipeline))]
     fn next_entry(
         &mut self,
         alloc: Global,
@@ -141,7 +141,11 @@ impl<'a, S: Source, const KEEP: u8> Cursor<'a, S, KEEP> {
             return Ok(false);
         }
         let blank = listed.blank && !listed.begun;
-        let and_or = self.and_or(alloc, next, room)?;
+        // Its parts are read here: a pipeline and an and-or list would each be moved out of a `Result`.
+        let bang = self.bang(next);
+        let first = self.command(alloc, next, room)?;
+        let commands = self.pipes(alloc, next, room)?;
+        let pipelines = self.joined_pipelines(alloc, next, room)?;
         let separator = self.separator(next);
         let comment = self.remark(next);
         listed.begun = true;
@@ -150,12 +154,17 @@ impl<'a, S: Source, const KEEP: u8> Cursor<'a, S, KEEP> {
         if self.grows() {
             let background = matches!(separator, Some((Separator::Ampersand, _)));
             self.room_for_entry(alloc, listed, next.token)?;
-            listed
-                .entries
-                .push(command_entry(and_or, background, blank, comment))?;
+            listed.entries.push(command_entry(
+                and_or_of(pipeline_of(bang, first, commands), pipelines),
+                background,
+                blank,
+                comment,
+            ))?;
         } else {
-            // It holds no memory, and what is not dropped needs not be made.
-            mem::forget(and_or);
+            // They hold no memory, and what is not dropped needs not be made.
+            mem::forget(first);
+            mem::forget(commands);
+            mem::forget(pipelines);
         }
         Ok(separator.is_some())
     }

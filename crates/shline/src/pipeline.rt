@@ -20,7 +20,7 @@ impl<'a, S: Source, const KEEP: u8> Cursor<'a, S, KEEP> {
     /// Passes the `!` of a pipeline, if one stands here.
     #[inline(always)]
     #[tactic(auto, unfolding(shgrammar::specs::Commands::a_bang, shgrammar::specs::Commands::next_token))]
-    fn bang(&mut self, next: &mut Next) -> Option<Span>
+    pub(crate) fn bang(&mut self, next: &mut Next) -> Option<Span>
         requires shows { Shows next.old.token (text_of S.bytes self.old) self.old.at }
         ensures value { reads S.bytes self.old (a_bang next.old) ≡ Done ((result, next.new), state_of self.new) }
         ensures shows { Shows next.new.token (text_of S.bytes self.old) self.new.at }
@@ -94,7 +94,7 @@ impl<'a, S: Source, const KEEP: u8> Cursor<'a, S, KEEP> {
     #[cycle(commands)]
     #[inline(always)]
     #[tactic(auto, using(shgrammar::proofs::Turns::many_again, shgrammar::proofs::Turns::many_done, crate::proofs::Stops::many_stop))]
-    fn pipes(
+    pub(crate) fn pipes(
         &mut self,
         alloc: Global,
         next: &mut Next,

@@ -146,9 +146,6 @@ decreases-join_pipeline g l = 128 * l.room + 42
 abbrev pub decreases-joined_pipelines : goal.decreases-joined_pipelines
 decreases-joined_pipelines g l = 128 * l.room + 44
 
-abbrev pub decreases-and_or : goal.decreases-and_or
-decreases-and_or g l = 128 * l.room + 46
-
 abbrev pub decreases-next_entry : goal.decreases-next_entry
 decreases-next_entry g l = 128 * l.room + 50
 
