@@ -14,10 +14,10 @@ fn told(alloc: Global, line: &ScriptLine) -> Result<String, Fail> {
     Ok(text)
 }
 
-/// What entries are, as text.
-fn dumped(alloc: Global, entries: &[Entry]) -> Result<String, Fail> {
+/// What the entries of a line are, if it is whole, as text.
+fn told_whole(alloc: Global, line: &Option<Vec<Entry>>) -> Result<String, Fail> {
     let mut text = String::new(alloc);
-    write!(text, "{entries:?}")?;
+    write!(text, "{line:?}")?;
     Ok(text)
 }
 
@@ -60,12 +60,12 @@ fn are_whole_alike(alloc: Global, script: &[u8], spare: &mut Spare) -> Result<bo
         let mut lines = ScriptLines::behind(alloc, &source, before);
         let line = lines.read_whole()?;
         let other = ScriptLines::behind(alloc, &source, before).read_whole_with(Some(&mut *spare))?;
-        let Some(entries) = other else {
-            return Ok(line.is_none());
-        };
-        if dumped(alloc, &line.unwrap_or(Vec::new(alloc)))? != dumped(alloc, &entries)? {
+        if told_whole(alloc, &line)? != told_whole(alloc, &other)? {
             return Ok(false);
         }
+        let Some(entries) = other else {
+            break;
+        };
         spare.give_back(entries);
         before = lines.before();
         rest = rest.get(lines.at()..).unwrap_or(b"");
