@@ -1,98 +1,196 @@
--- A gap that moves leaves the text around it.
-use Rattle.std.proofs.Common.{◌≡◌, ℕ, ◌+◌, ◌-◌, ◌≤◌, List, ◌++◌, length, take, drop, sym, ap, ◌∙◌, arith, append_assoc}
-use Rattle.std.proofs.lemmas.List.{take-append-le, length-take-le, length-append, take-append-drop, length-drop, drop-drop}
-use Rattle.std.proofs.Math.Seq.{take-add, take-append_seam, take-append-add, drop-append_seam, drop-append-add}
+-- A gap that moves leaves the text around it, and bytes that are put in behind it take the place of others.
+use Rattle.std.proofs.Common.{◌≡◌, ℕ, ◌+◌, ◌-◌, ◌≤◌, List, ◌++◌, length, min, max, take, drop}
+use Rattle.std.proofs.Common.{sym, ap, ◌∙◌, arith, refl, inl, inr, append_assoc}
+use Rattle.std.proofs.lemmas.Bool.{cases_lt}
+use Rattle.std.proofs.lemmas.List.{drop_at, drop-append-le, drop-drop, drop-take, length-append, length-drop}
+use Rattle.std.proofs.lemmas.List.{length-take-le, take_all, take-append-drop, take-append-le, take-take}
+use Rattle.std.proofs.lemmas.List.Edits.{drop-paste, paste-paste, take-paste}
+use Rattle.std.proofs.lemmas.Slice.{put_mid-paste}
+use Rattle.std.proofs.Math.Seq.{drop-append-add, paste, take-add, take-append-add}
+use Rattle.std.specs.List.{copy_within}
+use borrow.Rule.Slice.PartMut.{put_mid}
+use Rattle.shtext.specs.Edit.{edited}
+use Rattle.shgap.specs.Gap.{around}
 
--- the last bytes before it are copied to the end of the gap
-pub behind : (front back : List ℕ) (a c : ℕ) → a + c ≤ length front
-    → take a (front ++ (take c (drop a front) ++ drop c back)) ++ drop (length front) (front ++ (take c (drop a front) ++ drop c back))
-    ≡ take (a + c) (front ++ back) ++ drop (length front + c) (front ++ back)
-behind front back a c within =
-    let moved : List ℕ = take c (drop a front) ++ drop c back in
-    let low : take a (front ++ moved) ≡ take a front = take-append-le a front moved (omega (arith, within)) in
-    let high : drop (length front) (front ++ moved) ≡ moved = drop-append_seam front moved in
-    let before : take (a + c) (front ++ back) ≡ take a front ++ take c (drop a front) = take-append-le (a + c) front back within ∙ take-add a c front in
-    let rest : drop (length front + c) (front ++ back) ≡ drop c back = drop-append-add front back c in
-    ap (λ l. l ++ drop (length front) (front ++ moved)) low ∙ ap (λ l. take a front ++ l) high
-    ∙ sym (append_assoc (take a front) (take c (drop a front)) (drop c back))
-    ∙ ap (λ l. l ++ drop c back) (sym before) ∙ ap (λ l. take (a + c) (front ++ back) ++ l) (sym rest)
+pasted : (d s : List ℕ) (at count : ℕ)
+    → paste d at s count ≡ take at d ++ (take count s ++ drop (at + count) d)
+pasted d s at count = append_assoc (take at d) (take count s) (drop (at + count) d)
 
--- the first bytes behind it are copied to the begin of the gap
-pub before : (front back : List ℕ) (g c : ℕ) → g + c ≤ length front → c ≤ length back
-    → take (g + c) ((take g front ++ (take c back ++ drop (g + c) front)) ++ back) ++ drop (length front + c) ((take g front ++ (take c back ++ drop (g + c) front)) ++ back)
-    ≡ take g (front ++ back) ++ drop (length front) (front ++ back)
-before front back g c within some =
-    let kept : List ℕ = take c back ++ drop (g + c) front in
-    let all : List ℕ = take g front ++ kept in
-    let short : length (take g front) ≡ g = length-take-le g front (omega (arith, within)) in
-    let count : length (take c back) ≡ c = length-take-le c back some in
-    let left : length (drop (g + c) front) ≡ length front - (g + c) = length-drop (g + c) front in
-    let one : length all ≡ length (take g front) + length kept = length-append (take g front) kept in
-    let two : length kept ≡ length (take c back) + length (drop (g + c) front) = length-append (take c back) (drop (g + c) front) in
-    let long : length all ≡ length front = omega (arith, within, short, count, left, one, two) in
-    let first : take (g + c) (all ++ back) ≡ take (g + c) all = take-append-le (g + c) all back (omega (arith, long, within)) in
-    let second : take (g + c) all ≡ take g front ++ take c kept
-    = ap (λ m. take (m + c) all) (sym short) ∙ take-append-add (take g front) kept c in
-    let third : take c kept ≡ take c back = ap (λ m. take m kept) (sym count) ∙ take-append_seam (take c back) (drop (g + c) front) in
-    let fourth : drop (length front + c) (all ++ back) ≡ drop c back = ap (λ m. drop (m + c) (all ++ back)) (sym long) ∙ drop-append-add all back c in
-    let fifth : take g (front ++ back) ≡ take g front = take-append-le g front back (omega (arith, within)) in
-    let sixth : drop (length front) (front ++ back) ≡ back = drop-append_seam front back in
-    ap (λ l. l ++ drop (length front + c) (all ++ back)) (first ∙ second ∙ ap (λ l. take g front ++ l) third)
-    ∙ ap (λ l. (take g front ++ take c back) ++ l) fourth
-    ∙ append_assoc (take g front) (take c back) (drop c back)
-    ∙ ap (λ l. take g front ++ l) (take-append-drop c back)
-    ∙ ap (λ l. l ++ back) (sym fifth) ∙ ap (λ l. take g (front ++ back) ++ l) (sym sixth)
+-- what stands before a place that is copied to is as it was
+take_below : (d s : List ℕ) (n at count : ℕ) → n ≤ at → at ≤ length d
+    → take n (paste d at s count) ≡ take n d
+take_below d s n at count low within =
+    let rest : List ℕ = take count s ++ drop (at + count) d in
+    let long : length (take at d) ≡ at = length-take-le at d within in
+    ap (take n) (pasted d s at count)
+    ∙ take-append-le n (take at d) rest (omega (arith, low, long)) ∙ take-take n at d low
 
--- the same of a gap from g up to h
-pub behind_moved : (bytes front back new : List ℕ) (g h c : ℕ) → c ≤ g → c ≤ h - g → g ≤ h → length front ≡ h - c
-    → bytes ≡ front ++ back → new ≡ take (g - (g - c)) (drop (g - c) front)
-    → take (g - c) (front ++ (new ++ drop c back)) ++ drop (h - c) (front ++ (new ++ drop c back)) ≡ take g bytes ++ drop h bytes
-behind_moved bytes front back new g h c some room order long whole is =
-    let copied : new ≡ take c (drop (g - c) front) = is ∙ ap (λ m. take m (drop (g - c) front)) (omega (arith, some)) in
-    let begin : g - c + c ≡ g = omega (arith, some) in
-    let end : length front + c ≡ h = omega (arith, long, some, room, order) in
-    ap (λ l. take (g - c) (front ++ (l ++ drop c back)) ++ drop (h - c) (front ++ (l ++ drop c back))) copied
-    ∙ ap (λ n. take (g - c) (front ++ (take c (drop (g - c) front) ++ drop c back)) ++ drop n (front ++ (take c (drop (g - c) front) ++ drop c back))) (sym long)
-    ∙ behind front back (g - c) c (omega (arith, long, some, room, order))
-    ∙ ap (λ m. take m (front ++ back) ++ drop (length front + c) (front ++ back)) begin
-    ∙ ap (λ m. take g (front ++ back) ++ drop m (front ++ back)) end
-    ∙ ap (λ l. take g l ++ drop h l) (sym whole)
+-- and what stands from there on
+drop_there : (d s : List ℕ) (at count : ℕ) → at ≤ length d
+    → drop at (paste d at s count) ≡ take count s ++ drop (at + count) d
+drop_there d s at count within =
+    let rest : List ℕ = take count s ++ drop (at + count) d in
+    ap (drop at) (pasted d s at count) ∙ drop_at (take at d) rest at (length-take-le at d within)
 
-pub before_moved : (bytes front back new : List ℕ) (g h c : ℕ) → c ≤ h - g → g ≤ h → length front ≡ h → c ≤ length back
-    → bytes ≡ front ++ back → new ≡ take c back
-    → take (g + c) ((take g front ++ (new ++ drop (g + c) front)) ++ back) ++ drop (h + c) ((take g front ++ (new ++ drop (g + c) front)) ++ back)
-    ≡ take g bytes ++ drop h bytes
-before_moved bytes front back new g h c room order long some whole is =
-    ap (λ l. take (g + c) ((take g front ++ (l ++ drop (g + c) front)) ++ back) ++ drop (h + c) ((take g front ++ (l ++ drop (g + c) front)) ++ back)) is
-    ∙ ap (λ n. take (g + c) ((take g front ++ (take c back ++ drop (g + c) front)) ++ back) ++ drop (n + c) ((take g front ++ (take c back ++ drop (g + c) front)) ++ back)) (sym long)
-    ∙ before front back g c (omega (arith, long, room, order)) some
-    ∙ ap (λ n. take g (front ++ back) ++ drop n (front ++ back)) long
-    ∙ ap (λ l. take g l ++ drop h l) (sym whole)
+-- the bytes from a place up to a gap are copied to its end
+pub to_front : (bytes : List ℕ) (to gap width : ℕ) → to ≤ gap → gap + width ≤ length bytes
+    → around (copy_within bytes to gap (to + width)) to (to + width) ≡ around bytes gap (gap + width)
+to_front bytes to gap width before within =
+    let at : ℕ = to + width in
+    let count : ℕ = gap - to in
+    let moved : List ℕ = take count (drop to bytes) in
+    let low : take to (paste bytes at (drop to bytes) count) ≡ take to bytes
+    = take_below bytes (drop to bytes) to at count (omega arith) (omega arith) in
+    let high : drop at (paste bytes at (drop to bytes) count) ≡ moved ++ drop (at + count) bytes
+    = drop_there bytes (drop to bytes) at count (omega arith) in
+    let end : at + count ≡ gap + width = omega arith in
+    let all : to + count ≡ gap = omega arith in
+    ap (λ l. l ++ drop at (paste bytes at (drop to bytes) count)) low
+    ∙ ap (λ l. take to bytes ++ l) high
+    ∙ sym (append_assoc (take to bytes) moved (drop (at + count) bytes))
+    ∙ ap (λ l. l ++ drop (at + count) bytes) (sym (take-add to count bytes))
+    ∙ ap (λ m. take m bytes ++ drop (at + count) bytes) all
+    ∙ ap (λ m. take gap bytes ++ drop m bytes) end
 
--- bytes that are put into a gap whose end moves on take the place of those that it passes
-pub spliced : (bytes new text : List ℕ) (a b h : ℕ) → a ≤ b → a ≤ h → h ≤ length bytes → a + length new ≤ h + (b - a)
-    → text ≡ take a bytes ++ drop h bytes
-    → take (a + length new) (take a bytes ++ (new ++ drop (a + length new) bytes)) ++ drop (h + (b - a)) (take a bytes ++ (new ++ drop (a + length new) bytes))
-    ≡ take a text ++ (new ++ drop b text)
-spliced bytes new text a b h order low high room is =
-    let rest : List ℕ = drop (a + length new) bytes in
-    let front : List ℕ = take a bytes in
-    let short : length front ≡ a = length-take-le a bytes (omega (arith, low, high)) in
-    let k : ℕ = h + (b - a) - (a + length new) in
-    let there : h + (b - a) ≡ a + (length new + k) = omega (arith, room) in
-    let one : take (a + length new) (front ++ (new ++ rest)) ≡ front ++ new
-    = ap (λ m. take (m + length new) (front ++ (new ++ rest))) (sym short) ∙ take-append-add front (new ++ rest) (length new)
-    ∙ ap (λ l. front ++ l) (take-append_seam new rest) in
-    let two : drop (h + (b - a)) (front ++ (new ++ rest)) ≡ drop k rest
-    = ap (λ m. drop m (front ++ (new ++ rest))) (there ∙ ap (λ m. m + (length new + k)) (sym short))
-    ∙ drop-append-add front (new ++ rest) (length new + k) ∙ drop-append-add new rest k in
-    let three : drop k rest ≡ drop (h + (b - a)) bytes = drop-drop k (a + length new) bytes ∙ ap (λ m. drop m bytes) (omega (arith, room)) in
-    let four : take a text ≡ front = ap (take a) is ∙ ap (λ m. take m (front ++ drop h bytes)) (sym short) ∙ take-append_seam front (drop h bytes) in
-    let past : b ≡ a + (b - a) = omega (arith, order) in
-    let five : drop b text ≡ drop (h + (b - a)) bytes
-    = ap (drop b) is ∙ ap (λ m. drop m (front ++ drop h bytes)) (past ∙ ap (λ m. m + (b - a)) (sym short))
-    ∙ drop-append-add front (drop h bytes) (b - a) ∙ drop-drop (b - a) h bytes in
-    ap (λ l. l ++ drop (h + (b - a)) (front ++ (new ++ rest))) one
-    ∙ ap (λ l. (front ++ new) ++ l) (two ∙ three ∙ sym five)
-    ∙ append_assoc front new (drop b text)
-    ∙ ap (λ l. l ++ (new ++ drop b text)) (sym four)
+-- the bytes behind a gap up to a place are copied to its begin
+pub to_back : (bytes : List ℕ) (gap to width : ℕ) → gap ≤ to → to + width ≤ length bytes
+    → around (copy_within bytes (gap + width) (to + width) gap) to (to + width)
+    ≡ around bytes gap (gap + width)
+to_back bytes gap to width after within =
+    let behind : ℕ = gap + width in
+    let count : ℕ = to + width - behind in
+    let made : List ℕ = paste bytes gap (drop behind bytes) count in
+    let long : length (drop behind bytes) ≡ length bytes - behind = length-drop behind bytes in
+    let is : to ≡ gap + count = omega arith in
+    let end : gap + count + width ≡ behind + count = omega arith in
+    let low : take to made ≡ take gap bytes ++ take count (drop behind bytes)
+    = ap (λ m. take m made) is
+    ∙ take-paste bytes gap (drop behind bytes) count (omega arith) (omega (arith, long)) in
+    let high : drop (to + width) made ≡ drop count (drop behind bytes)
+    = ap (λ m. drop (m + width) made) is ∙ sym (drop-drop width (gap + count) made)
+    ∙ ap (drop width) (drop-paste bytes gap (drop behind bytes) count (omega arith) (omega (arith, long)))
+    ∙ drop-drop width (gap + count) bytes ∙ ap (λ m. drop m bytes) end
+    ∙ sym (drop-drop count behind bytes) in
+    ap (λ l. l ++ drop (to + width) made) low
+    ∙ ap (λ l. (take gap bytes ++ take count (drop behind bytes)) ++ l) high
+    ∙ append_assoc (take gap bytes) (take count (drop behind bytes)) (drop count (drop behind bytes))
+    ∙ ap (λ l. take gap bytes ++ l) (take-append-drop count (drop behind bytes))
+
+-- the bytes behind the gap up to a, and new ones behind them, end where those from b on begin
+filled : (bytes new : List ℕ) (gap behind a b begin : ℕ) → gap ≤ behind → gap ≤ a → a ≤ b
+    → b + (behind - gap) ≤ length bytes → gap ≤ begin → begin + length new ≡ behind + (b - a)
+    → around (paste bytes begin (take (a - gap) (drop behind bytes) ++ new) (a - gap + length new)) gap begin
+    ≡ edited (around bytes gap behind) a b new
+filled bytes new gap behind a b begin order low high within front there =
+    let count : ℕ = a - gap in
+    let rest : List ℕ = drop behind bytes in
+    let all : List ℕ = take count rest ++ new in
+    let size : ℕ = count + length new in
+    let text : List ℕ = around bytes gap behind in
+    let long : length rest ≡ length bytes - behind = length-drop behind bytes in
+    let short : length (take gap bytes) ≡ gap = length-take-le gap bytes (omega arith) in
+    let count_is : length (take count rest) ≡ count = length-take-le count rest (omega (arith, long)) in
+    let size_is : length all ≡ length (take count rest) + length new = length-append (take count rest) new in
+    let made : List ℕ = paste bytes begin all size in
+    let before : take gap made ≡ take gap bytes = take_below bytes all gap begin size front (omega arith) in
+    let end : begin + size ≡ behind + (b - gap) = omega arith in
+    let behind_it : drop begin made ≡ all ++ drop (b - gap) rest
+    = drop_there bytes all begin size (omega arith)
+    ∙ ap (λ l. l ++ drop (begin + size) bytes) (take_all size all (omega (arith, size_is, count_is)))
+    ∙ ap (λ m. all ++ drop m bytes) end
+    ∙ ap (λ l. all ++ l) (sym (drop-drop (b - gap) behind bytes)) in
+    let a_is : a ≡ length (take gap bytes) + count = omega (arith, short) in
+    let b_is : b ≡ length (take gap bytes) + (b - gap) = omega (arith, short) in
+    let first : take a text ≡ take gap bytes ++ take count rest
+    = ap (λ m. take m text) a_is ∙ take-append-add (take gap bytes) rest count in
+    let last : drop b text ≡ drop (b - gap) rest
+    = ap (λ m. drop m text) b_is ∙ drop-append-add (take gap bytes) rest (b - gap) in
+    ap (λ l. l ++ drop begin made) before
+    ∙ ap (λ l. take gap bytes ++ l) (behind_it ∙ append_assoc (take count rest) new (drop (b - gap) rest))
+    ∙ sym (append_assoc (take gap bytes) (take count rest) (new ++ drop (b - gap) rest))
+    ∙ ap (λ l. l ++ (new ++ drop (b - gap) rest)) (sym first)
+    ∙ ap (λ l. take a text ++ (new ++ l)) (sym last)
+
+-- the same of the bytes as they are written: first those that are moved, then the new ones behind them
+pub written : (bytes new moved put : List ℕ) (gap behind a b begin count start size : ℕ)
+    → gap ≤ behind → gap ≤ a → a ≤ b → b + (behind - gap) ≤ length bytes
+    → gap ≤ begin → begin + length new ≡ behind + (b - a)
+    → count ≡ a - gap → start ≡ begin + count → size ≡ length new
+    → moved ≡ paste bytes begin (drop behind bytes) count → put ≡ new
+    → around (put_mid start size moved put) gap begin ≡ edited (around bytes gap behind) a b new
+written bytes new moved put gap behind a b begin count start size
+    order low high within front there count_is start_is size_is moved_is put_is =
+    let rest : List ℕ = drop behind bytes in
+    let long : length rest ≡ length bytes - behind = length-drop behind bytes in
+    let some : List ℕ = take count rest in
+    let short : count ≡ length some = sym (length-take-le count rest (omega (arith, long))) in
+    let same : paste bytes begin rest count ≡ paste bytes begin some count
+    = ap (λ l. take begin bytes ++ l ++ drop (begin + count) bytes) (sym (take-take count count rest (omega arith))) in
+    let made : put_mid start size moved put ≡ paste bytes begin (some ++ new) (count + length new)
+    = put_mid-paste start size moved put new (length new) put_is (sym size_is) refl
+    ∙ ap (λ m. paste moved m new (length new)) start_is
+    ∙ ap (λ l. paste l (begin + count) new (length new)) (moved_is ∙ same)
+    ∙ paste-paste bytes begin some new count (length new) short refl (omega arith) in
+    ap (λ l. around l gap begin) made
+    ∙ ap (λ m. around (paste bytes begin (take m rest ++ new) (m + length new)) gap begin) count_is
+    ∙ filled bytes new gap behind a b begin order low high within front there
+
+-- the text before the gap
+part_before : (bytes : List ℕ) (gap behind a count : ℕ) → a + count ≤ gap → gap ≤ length bytes
+    → take count (drop a (around bytes gap behind)) ≡ take count (drop a bytes)
+part_before bytes gap behind a count low within =
+    let front : List ℕ = drop a (take gap bytes) in
+    let short : length (take gap bytes) ≡ gap = length-take-le gap bytes within in
+    let long : length front ≡ length (take gap bytes) - a = length-drop a (take gap bytes) in
+    let there : gap ≡ a + (gap - a) = omega arith in
+    let is : front ≡ take (gap - a) (drop a bytes)
+    = ap (λ m. drop a (take m bytes)) there ∙ drop-take a (gap - a) bytes in
+    ap (take count) (drop-append-le a (take gap bytes) (drop behind bytes) (omega (arith, short)))
+    ∙ take-append-le count front (drop behind bytes) (omega (arith, short, long))
+    ∙ ap (take count) is
+    ∙ take-take count (gap - a) (drop a bytes) (omega arith)
+
+-- the text behind it
+part_behind : (bytes : List ℕ) (gap behind a : ℕ) → gap ≤ behind → gap ≤ a → gap ≤ length bytes
+    → drop a (around bytes gap behind) ≡ drop (a + (behind - gap)) bytes
+part_behind bytes gap behind a order high within =
+    let text : List ℕ = around bytes gap behind in
+    let short : length (take gap bytes) ≡ gap = length-take-le gap bytes within in
+    let there : a ≡ length (take gap bytes) + (a - gap) = omega (arith, short) in
+    let all : behind + (a - gap) ≡ a + (behind - gap) = omega arith in
+    ap (λ m. drop m text) there ∙ drop-append-add (take gap bytes) (drop behind bytes) (a - gap)
+    ∙ drop-drop (a - gap) behind bytes ∙ ap (λ m. drop m bytes) all
+
+-- the text from a up to b is two stretches of the bytes, where the gap stands among them
+pub parted : (bytes : List ℕ) (gap behind a b seam : ℕ) → gap ≤ behind → gap ≤ length bytes → a ≤ b
+    → seam ≡ max a (min gap b)
+    → take (seam - a) (drop a bytes)
+    ++ take (b + (behind - gap) - (seam + (behind - gap))) (drop (seam + (behind - gap)) bytes)
+    ≡ take (b - a) (drop a (around bytes gap behind))
+parted bytes gap behind a b seam order within ends is =
+    let there : ℕ = seam + (behind - gap) in
+    let text : List ℕ = around bytes gap behind in
+    let first : take (seam - a) (drop a bytes) ≡ take (seam - a) (drop a text)
+    = elim (cases_lt gap a) [
+      | inl past ↦
+          let none : seam - a ≡ 0 = omega arith in
+          ap (λ m. take m (drop a bytes)) none ∙ ap (λ m. take m (drop a text)) (sym none)
+      | inr low ↦ sym (part_before bytes gap behind a (seam - a) (omega arith) within)
+    ] in
+    let second : take (b - seam) (drop there bytes) ≡ take (b - seam) (drop seam text)
+    = elim (cases_lt gap b) [
+      | inl low ↦ ap (take (b - seam)) (sym (part_behind bytes gap behind seam order (omega arith) within))
+      | inr past ↦
+          let none : b - seam ≡ 0 = omega arith in
+          ap (λ m. take m (drop there bytes)) none ∙ ap (λ m. take m (drop seam text)) (sym none)
+    ] in
+    let rest : b + (behind - gap) - there ≡ b - seam = omega arith in
+    let joined : a + (seam - a) ≡ seam = omega arith in
+    let all : seam - a + (b - seam) ≡ b - a = omega arith in
+    ap (λ l. l ++ take (b + (behind - gap) - there) (drop there bytes)) first
+    ∙ ap (λ m. take (seam - a) (drop a text) ++ take m (drop there bytes)) rest
+    ∙ ap (λ l. take (seam - a) (drop a text) ++ l) second
+    ∙ ap (λ m. take (seam - a) (drop a text) ++ take (b - seam) (drop m text)) (sym joined)
+    ∙ ap (λ l. take (seam - a) (drop a text) ++ take (b - seam) l) (sym (drop-drop (seam - a) a text))
+    ∙ sym (take-add (seam - a) (b - seam) (drop a text))
+    ∙ ap (λ m. take m (drop a text)) all

@@ -1,5 +1,5 @@
 //! A text with a gap.
-ghost use Rattle.std.specs.Prelude.{◌≡◌, ◌≢◌, ◌+◌, ◌-◌, ◌≤◌, ◌++◌, ℕ, List, [], IfErr, IfOk, IsOk, OnErr, OnOk, drop, length, take, vec_len};
+ghost use Rattle.std.specs.Prelude.{◌≡◌, ◌≢◌, ◌+◌, ◌-◌, ◌≤◌, ℕ, List, [], IfErr, IfOk, IsOk, OnErr, OnOk, drop, length, take, vec_capacity, vec_len};
 ghost use Rattle.shtext.specs.Edit.{IsAllowed, Refuses, edited, limit};
 ghost use Rattle.shtext.specs.Text.{column_of, line_of};
 
@@ -8,11 +8,11 @@ use crate::undo::Undo;
 use shtext::{Source, TextError, allowed, line_col_of};
 use std::alloc::{AllocError, Global};
 
-/// How wide the gap is at least once an edit is made, if there is memory, so that it moves in long steps.
-const SPARE: usize = 4096;
+#[cfg(test)]
+mod tests;
 
-/// A text of at most `shtext::LIMIT` bytes, which lie in two pieces with a gap between them. An edit costs what lies between it and the gap, before it
-/// and behind it.
+/// A text of at most `shtext::LIMIT` bytes, which lie in two pieces with a gap between them. An edit moves
+/// the bytes between it and the gap, and now and then, where the gap is too narrow, those behind the gap.
 #[derive(Drop)]
 pub struct GapText {
     /// The bytes before the gap, the gap, and the bytes behind it.
@@ -44,11 +44,12 @@ impl GapText {
             });
         }
         allowed(0, 0, 0, bytes.len())?;
+        let len = bytes.len();
         let bytes = Vec::from_slice(alloc, bytes)?;
         Ok(GapText {
             bytes,
-            gap: 0,
-            behind: 0,
+            gap: len,
+            behind: len,
         })
     }
 
@@ -78,53 +79,76 @@ impl GapText {
         ensures len { vec_len self.new.bytes ≡ vec_len self.old.bytes }
     {
         let width = self.behind - self.gap;
-        if width > 0 && to < self.gap {
+        if to < self.gap {
             to_front(&mut self.bytes, self.gap, self.behind, to);
-        } else if width > 0 {
+        } else {
             to_back(&mut self.bytes, self.gap, self.behind, to);
         }
         self.gap = to;
         self.behind = to + width;
     }
 
-    /// Makes the gap wider by so many bytes, and some more where the text is long, so that this is seldom done.
-    fn widen(&mut self, count: usize) -> Result<(), AllocError>
+    /// Makes the gap wider by so many bytes, for which there is memory.
+    fn widen(&mut self, count: usize)
+        requires { vec_len self.old.bytes + count ≤ vec_capacity self.old.bytes }
         ensures text { gap_bytes self.new ≡ gap_bytes self.old }
-        ensures len { OnOk result (vec_len self.old.bytes + count ≤ vec_len self.new.bytes) }
+        ensures len { vec_len self.new.bytes ≡ vec_len self.old.bytes + count }
     {
-        let len = self.len();
-        self.move_to(len);
-        let wanted = self
-            .bytes
-            .len()
-            .saturating_add(count)
-            .saturating_add(len / 8);
-        self.bytes.resize(wanted, 0)?;
-        self.behind = self.bytes.len();
-        Ok(())
+        let len = self.bytes.len();
+        let _ = self.bytes.resize(len + count, 0);
+        self.bytes
+            .copy_within(self.behind..len, self.behind + count);
+        self.behind += count;
     }
 
-    /// Makes the gap at least so wide.
-    fn make_room(&mut self, count: usize) -> Result<(), AllocError>
+    /// Has memory for so many bytes more than the vector has. It asks for some more, as a vector does that
+    /// grows, so that this is seldom done; where that is refused, it asks for what is needed alone.
+    fn reserve(&mut self, count: usize) -> Result<(), AllocError>
         ensures text { gap_bytes self.new ≡ gap_bytes self.old }
-        ensures room { OnOk result (length (gap_bytes self.new) + count ≤ vec_len self.new.bytes) }
+        ensures len { vec_len self.new.bytes ≡ vec_len self.old.bytes }
+        ensures room { OnOk result (vec_len self.new.bytes + count ≤ vec_capacity self.new.bytes) }
     {
-        if self.behind - self.gap < count {
-            self.widen(count)?;
+        if self.bytes.reserve(count).is_err() {
+            self.bytes.reserve_exact(count)?;
         }
         Ok(())
     }
 
-    /// So many of the bytes behind the gap.
-    fn copied(&self, count: usize) -> Result<Vec<u8>, AllocError>
-        requires { self.now.gap + count ≤ length (gap_bytes self.now) }
-        ensures { IfOk result (λ bytes. bytes.items ≡ take count (drop self.now.gap (gap_bytes self.now))) }
+    /// Makes room for so many bytes more than the text has. Where the gap is too narrow it gets wider by an
+    /// eighth of the text too, as far as the vector has memory: so that is seldom done, and no memory is
+    /// touched long before it is needed.
+    fn make_room(&mut self, count: usize) -> Result<(), AllocError>
+        ensures text { gap_bytes self.new ≡ gap_bytes self.old }
+        ensures room { OnOk result (length (gap_bytes self.new) + count ≤ vec_len self.new.bytes) }
     {
-        let end = self.behind + count;
-        Vec::from_slice(*self.bytes.allocator(), &self.bytes[self.behind..end])
+        let width = self.behind - self.gap;
+        if count <= width {
+            return Ok(());
+        }
+        let least = count - width;
+        self.reserve(least)?;
+        let most = self.bytes.capacity() - self.bytes.len();
+        let wanted = least.saturating_add(self.len() / 8);
+        self.widen(wanted.min(most));
+        Ok(())
     }
 
-    /// Puts bytes in the place of those from `a` up to `b`, for which there is room, and moves the gap to an offset that is not behind `a`.
+    /// The bytes from `a` up to `b`, which may stand on both sides of the gap.
+    fn copied(&self, a: usize, b: usize) -> Result<Vec<u8>, AllocError>
+        requires order { a ≤ b }
+        requires within { b ≤ length (gap_bytes self.now) }
+        ensures { IfOk result (λ bytes. bytes.items ≡ take (b - a) (drop a (gap_bytes self.now))) }
+    {
+        let width = self.behind - self.gap;
+        let seam = self.gap.clamp(a, b);
+        let mut copy = Vec::with_capacity(*self.bytes.allocator(), b - a)?;
+        copy.extend_from_slice(&self.bytes[a..seam])?;
+        copy.extend_from_slice(&self.bytes[seam + width..b + width])?;
+        Ok(copy)
+    }
+
+    /// Puts bytes in the place of those from `a` up to `b`, for which there is room, and moves the gap to an
+    /// offset that is not behind `a`. Where none come and none go, no byte moves.
     fn splice(&mut self, from: usize, a: usize, b: usize, new: &[u8])
         requires order { (from ≤ a) × (a ≤ b) }
         requires within { b ≤ length (gap_bytes self.old) }
@@ -133,15 +157,20 @@ impl GapText {
         ensures text { gap_bytes self.new ≡ edited (gap_bytes self.old) a b new.now }
         ensures len { vec_len self.new.bytes ≡ vec_len self.old.bytes }
     {
-        self.move_to(a);
-        fill(&mut self.bytes, a, self.behind, b, new);
-        self.behind += b - a;
-        self.gap += new.len();
+        if a == b && new.is_empty() {
+            return;
+        }
+        self.move_to(self.gap.clamp(from, a));
+        self.behind = fill(&mut self.bytes, self.gap, self.behind, a, b, new);
         self.move_to(from);
     }
 
-    /// Puts bytes in the place of those from `a` up to `b`, and answers what takes that back. From an offset on that is not behind `a` all
-    /// bytes lie in one piece then. No byte changes where it is refused.
+    /// Puts bytes in the place of those from `a` up to `b`, and answers what takes that back. From an offset
+    /// on that is not behind `a` all bytes lie in one piece then, unless none came and none went, which moves
+    /// no byte.
+    ///
+    /// It asks for memory for the bytes that go, and where the edited text needs more than there is room for.
+    /// No byte is moved before there is memory, and none changes where the edit is refused.
     pub fn edit(&mut self, from: usize, a: usize, b: usize, new: &[u8]) -> Result<Undo, TextError>
         requires { from ≤ a }
         ensures bytes { OnOk result (gap_bytes self.new ≡ edited (gap_bytes self.old) a b new.now) }
@@ -152,14 +181,8 @@ impl GapText {
         ensures err { IfErr result (Refuses (gap_bytes self.old) a b new.now) }
     {
         self.allows(a, b, new.len())?;
-        self.move_to(a);
-        let old = self.copied(b - a)?;
-        // A gap that stays narrow serves as well, in more steps.
-        let widened = self.make_room(new.len() + SPARE);
-        let room = (self.behind - self.gap).saturating_add(b - a);
-        if widened.is_err() && room < new.len() {
-            return Err(TextError::Memory);
-        }
+        let old = self.copied(a, b)?;
+        self.make_room(new.len().saturating_sub(b - a))?;
         self.splice(from, a, b, new);
         Ok(Undo {
             start: a,
@@ -173,7 +196,8 @@ impl GapText {
         requires { CanUndo self.old undo }
         ensures { gap_bytes self.new ≡ undone (gap_bytes self.old) undo }
     {
-        self.splice(undo.start, undo.start, undo.end, &undo.old);
+        let from = self.gap.min(undo.start);
+        self.splice(from, undo.start, undo.end, &undo.old);
     }
 }
 

@@ -4,10 +4,10 @@ use Rattle.shgap.proofs.gap.to_back.Given as goal
 
 abbrev pub invariant-moves : goal.invariant-moves
 invariant-moves l = record {
-  width : l.behind ≡ l.gap + (l.initial.behind - l.initial.gap);
-  up : l.gap ≤ l.to;
+  after : l.gap ≤ l.to;
   len : length l.bytes ≡ length l.initial.bytes;
-  text : around l.bytes l.gap l.behind ≡ around l.initial.bytes l.initial.gap l.initial.behind;
+  text : around l.bytes l.gap (l.gap + l.width)
+      ≡ around l.initial.bytes l.initial.gap (l.initial.gap + l.width);
 }
 
 abbrev pub decreases-moves : goal.decreases-moves

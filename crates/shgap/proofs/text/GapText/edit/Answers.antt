@@ -1,4 +1,4 @@
-use Rattle.std.proofs.Common.{◌≡◌, ◌+◌, ◌-◌, ℕ, List, drop, length, take, refl, ap, ◌∙◌}
+use Rattle.std.proofs.Common.{◌≡◌, ◌+◌, ℕ, List, length, refl, ap, ◌∙◌}
 use Rattle.shtext.specs.Edit.{edited}
 use Rattle.shtext.proofs.Edits.{undone}
 use Rattle.shgap.specs.Gap.{gap_bytes}
@@ -11,11 +11,8 @@ returns-clause-undone c =
     let a : ℕ = c.args.a in
     let b : ℕ = c.args.b in
     let range = (c.in_ok-allows.ensures.ok new refl).0 in
-    let moved = c.move_to.ensures in
-    let old : c.in_ok-old.old.items ≡ take (b - a) (drop a text)
-    = c.in_ok-old.ensures ∙ ap (λ m. take (b - a) (drop m (gap_bytes c.move_to.new.self))) moved.gap ∙ ap (λ l. take (b - a) (drop a l)) moved.text in
     let made : gap_bytes c.splice.new.self ≡ edited text a b new
-    = c.splice.ensures.text ∙ ap (λ l. edited l a b new) (c.make_room-widened.ensures.text ∙ moved.text) in
+    = c.splice.ensures.text ∙ ap (λ l. edited l a b new) c.make_room.ensures.text in
     ap (λ l. edited l a (a + length new) c.in_ok-old.old.items) made
-    ∙ ap (λ l. edited (edited text a b new) a (a + length new) l) old
+    ∙ ap (λ l. edited (edited text a b new) a (a + length new) l) c.in_ok-old.ensures
     ∙ undone text new a b range.0 range.1

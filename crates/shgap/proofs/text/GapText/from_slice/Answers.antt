@@ -1,4 +1,4 @@
-use Rattle.std.proofs.Common.{◌≤◌, [], ap, arith, length, refl}
+use Rattle.std.proofs.Common.{◌≡◌, ◌≤◌, [], ap, arith, length, refl}
 use Rattle.std.proofs.lemmas.List.{append-nil}
 use Rattle.std.proofs.lemmas.Result.{err_from_is_err_and}
 use Rattle.shtext.specs.Edit.{IsAllowed, Refuses, limit}
@@ -14,8 +14,10 @@ pub invariant_of-result-2 : goal.invariant_of-result-2
 invariant_of-result-2 c =
     let is : IsAllowed [] 0 0 c.args.bytes.now = c.in_ok-allowed.ensures.ok [] c.args.bytes.now refl refl in
     let small : length c.args.bytes.now ≤ limit = rw (append-nil c.args.bytes.now) at is.1 in
+    let long : length c.in_ok-bytes.bytes.items ≡ length c.args.bytes.now
+    = ap length c.in_ok-bytes.ensures.items in
     record {
       order = omega (arith);
-      within = omega (arith);
-      small = omega (arith, small, ap length c.in_ok-bytes.ensures.items);
+      within = omega (arith, long);
+      small = omega (arith, small, long);
     }
