@@ -97,6 +97,7 @@ impl Session {
         ensures meter { IfErr result (λ e. e ≢ LiveError.Memory → self.new.meter ≡ self.old.meter) }
         ensures within { OnErr result (HasReadNoMore self.old.bytes a b bytes.now self.old.meter self.new.meter) }
     {
+        self.allows(a, b, bytes.len())?;
         let begin = self.gap_before(a);
         let undo = self.text.edit(begin, a, b, bytes)?;
         let end = a + bytes.len();
