@@ -16,44 +16,71 @@ const MOST_KEPT: usize = 32;
 /// The most room of a vector that is kept, so that a long list holds no memory once it is done with.
 const WIDEST: usize = 16;
 
-/// Emptied vectors of trees that are done with: a reader that makes its lists and commands of these asks for memory less often.
+/// Emptied vectors of trees that are done with: a reader that makes its lists and commands of these asks for
+/// memory less often. It asks for no memory itself.
 #[derive(Drop)]
 pub struct Spare {
-    items: Pool<Item>,
-    entries: Pool<Entry>,
+    /// There are none before the first tree comes back: who reads one line alone pays nothing.
+    pools: Option<Pools>,
 }
 
 impl Spare {
-    /// None is kept yet. It asks for no memory.
-    pub fn new(alloc: Global) -> Spare {
-        Spare {
-            items: Pool::new(alloc),
-            entries: Pool::new(alloc),
-        }
+    /// None is kept yet.
+    pub fn new() -> Spare {
+        Spare { pools: None }
     }
 
-    /// A vector for the items of a command. It asks for no memory.
+    /// A vector for the items of a command.
     pub fn items(&mut self, alloc: Global) -> Vec<Item>
         ensures { result.items ≡ [] }
     {
-        self.items.take(alloc)
+        match &mut self.pools {
+            Some(pools) => pools.items.take(alloc),
+            None => Vec::new(alloc),
+        }
     }
 
-    /// A vector for the entries of a list. It asks for no memory.
+    /// A vector for the entries of a list.
     pub fn entries(&mut self, alloc: Global) -> Vec<Entry>
         ensures { result.items ≡ [] }
     {
-        self.entries.take(alloc)
+        match &mut self.pools {
+            Some(pools) => pools.entries.take(alloc),
+            None => Vec::new(alloc),
+        }
     }
 
     /// Drops a list, and keeps its room and that of the lists and commands below it, as far as there is place for it. What stands in
     /// a word is dropped whole.
     ///
-    /// It goes no deeper than a plain drop of the list does, and asks for no memory.
+    /// It goes no deeper than a plain drop of the list does.
     pub fn give_back(&mut self, entries: Vec<Entry>) {
+        if entries.capacity() == 0 {
+            return let_go(entries);
+        }
+        let alloc = *entries.allocator();
         let mut list = List { entries };
-        spare_list(&mut list, self);
+        spare_list(
+            &mut list,
+            self.pools.get_or_insert_with(|| Pools::new(alloc)),
+        );
         let_go(list.entries);
+    }
+}
+
+/// The vectors of both kinds.
+#[derive(Drop)]
+struct Pools {
+    items: Pool<Item>,
+    entries: Pool<Entry>,
+}
+
+impl Pools {
+    fn new(alloc: Global) -> Pools {
+        Pools {
+            items: Pool::new(alloc),
+            entries: Pool::new(alloc),
+        }
     }
 }
 
@@ -122,7 +149,7 @@ fn let_item_go(item: Item) {
 
 /// The parts of a list are moved out of it one by one and taken apart, so that none is gone through twice.
 #[cycle(spare)]
-fn spare_list(list: &mut List, spare: &mut Spare) {
+fn spare_list(list: &mut List, spare: &mut Pools) {
     while let Some(entry) = list.entries.pop() {
         spare_entry(entry, spare);
     }
@@ -133,14 +160,14 @@ fn spare_list(list: &mut List, spare: &mut Spare) {
 }
 
 #[cycle(spare)]
-fn spare_entry(entry: Entry, spare: &mut Spare) {
+fn spare_entry(entry: Entry, spare: &mut Pools) {
     if let Content::AndOr(and_or) = entry.what {
         spare_and_or(and_or, spare);
     }
 }
 
 #[cycle(spare)]
-fn spare_and_or(mut and_or: AndOr, spare: &mut Spare) {
+fn spare_and_or(mut and_or: AndOr, spare: &mut Pools) {
     while let Some(part) = and_or.rest.pop() {
         spare_pipeline(part.pipeline, spare);
     }
@@ -150,7 +177,7 @@ fn spare_and_or(mut and_or: AndOr, spare: &mut Spare) {
 }
 
 #[cycle(spare)]
-fn spare_pipeline(mut pipeline: Pipeline, spare: &mut Spare) {
+fn spare_pipeline(mut pipeline: Pipeline, spare: &mut Pools) {
     while let Some(part) = pipeline.rest.pop() {
         spare_command(part.command, spare);
     }
@@ -162,7 +189,7 @@ fn spare_pipeline(mut pipeline: Pipeline, spare: &mut Spare) {
 /// Nearly each command is a simple one: that case is a part of the callers. The others are not, so that the frames stay small.
 #[cycle(spare)]
 #[inline(always)]
-fn spare_command(command: Command, spare: &mut Spare) {
+fn spare_command(command: Command, spare: &mut Pools) {
     match command {
         Command::Simple { items } => spare_items(items, spare),
         Command::Compound(mut compound) => spare_compound(&mut compound, spare),
@@ -171,7 +198,7 @@ fn spare_command(command: Command, spare: &mut Spare) {
 }
 
 #[inline(always)]
-fn spare_items(mut items: Vec<Item>, spare: &mut Spare) {
+fn spare_items(mut items: Vec<Item>, spare: &mut Pools) {
     while let Some(item) = items.pop() {
         let_item_go(item);
     }
@@ -179,20 +206,20 @@ fn spare_items(mut items: Vec<Item>, spare: &mut Spare) {
 }
 
 /// The same of items that are a part of a compound command.
-fn spare_items_of(items: &mut Vec<Item>, spare: &mut Spare) {
+fn spare_items_of(items: &mut Vec<Item>, spare: &mut Pools) {
     let roomless = Vec::new(*items.allocator());
     spare_items(mem::replace(items, roomless), spare);
 }
 
 #[cycle(spare)]
 #[inline(never)]
-fn spare_compound(compound: &mut Compound, spare: &mut Spare) {
+fn spare_compound(compound: &mut Compound, spare: &mut Pools) {
     spare_form(&mut compound.form, spare);
     spare_items_of(&mut compound.redirects, spare);
 }
 
 #[cycle(spare)]
-fn spare_form(form: &mut Form, spare: &mut Spare) {
+fn spare_form(form: &mut Form, spare: &mut Pools) {
     match form {
         Form::Brace(list) | Form::Subshell(list) => spare_list(list, spare),
         Form::If {
@@ -214,33 +241,33 @@ fn spare_form(form: &mut Form, spare: &mut Spare) {
 }
 
 #[cycle(spare)]
-fn spare_branch(branch: &mut Branch, spare: &mut Spare) {
+fn spare_branch(branch: &mut Branch, spare: &mut Pools) {
     spare_list(&mut branch.condition, spare);
     spare_list(&mut branch.body, spare);
 }
 
 #[cycle(spare)]
-fn spare_branches(branches: &mut [Branch], spare: &mut Spare) {
+fn spare_branches(branches: &mut [Branch], spare: &mut Pools) {
     for branch in branches.iter_mut() {
         spare_branch(branch, spare);
     }
 }
 
 #[cycle(spare)]
-fn spare_else(otherwise: &mut Option<List>, spare: &mut Spare) {
+fn spare_else(otherwise: &mut Option<List>, spare: &mut Pools) {
     if let Some(list) = otherwise {
         spare_list(list, spare);
     }
 }
 
-fn spare_words(words: &mut Option<Vec<Item>>, spare: &mut Spare) {
+fn spare_words(words: &mut Option<Vec<Item>>, spare: &mut Pools) {
     if let Some(items) = words {
         spare_items_of(items, spare);
     }
 }
 
 #[cycle(spare)]
-fn spare_cases(items: &mut [CaseItem], spare: &mut Spare) {
+fn spare_cases(items: &mut [CaseItem], spare: &mut Pools) {
     for item in items.iter_mut() {
         spare_list(&mut item.body, spare);
     }

@@ -50,7 +50,7 @@ fn script(alloc: Global) -> Script<'static> {
 #[test]
 fn nothing_yet(rt: HostRuntime) {
     let alloc = rt.alloc();
-    let mut spare = Spare::new(alloc);
+    let mut spare = Spare::new();
     assert!(rt; items_kept(alloc, &mut spare) == 0 && entries_kept(alloc, &mut spare) == 0);
     spare.give_back(Vec::new(alloc));
     assert!(rt; items_kept(alloc, &mut spare) == 0 && entries_kept(alloc, &mut spare) == 0);
@@ -60,7 +60,7 @@ fn nothing_yet(rt: HostRuntime) {
 #[test]
 fn each_once(rt: HostRuntime) -> Result<(), Fail> {
     let alloc = rt.alloc();
-    let mut spare = Spare::new(alloc);
+    let mut spare = Spare::new();
     spare.give_back(commands(script(alloc), 2)?);
     let first = spare.items(alloc);
     assert!(rt; first.is_empty() && first.capacity() > 0);
@@ -74,7 +74,7 @@ fn each_once(rt: HostRuntime) -> Result<(), Fail> {
 #[test]
 fn each_place(rt: HostRuntime) -> Result<(), Fail> {
     let alloc = rt.alloc();
-    let mut spare = Spare::new(alloc);
+    let mut spare = Spare::new();
     spare.give_back(Documents::closed(alloc).whole()?.entries);
     assert_eq!(rt; items_kept(alloc, &mut spare), 21);
     assert_eq!(rt; entries_kept(alloc, &mut spare), 15);
@@ -85,7 +85,7 @@ fn each_place(rt: HostRuntime) -> Result<(), Fail> {
 fn words_of_a_for(rt: HostRuntime) -> Result<(), Fail> {
     let alloc = rt.alloc();
     let script = script(alloc);
-    let mut spare = Spare::new(alloc);
+    let mut spare = Spare::new();
     let words: Option<Vec<Item>> = Some(script.arguments(&["b"])?);
     let form = for_of(script.word("a"), words, script.run(&["b"])?);
     let compound = Box::new(alloc, script.formed(form, "a"))?;
@@ -98,7 +98,7 @@ fn words_of_a_for(rt: HostRuntime) -> Result<(), Fail> {
 #[test]
 fn too_many(rt: HostRuntime) -> Result<(), Fail> {
     let alloc = rt.alloc();
-    let mut spare = Spare::new(alloc);
+    let mut spare = Spare::new();
     for _ in 0..2 {
         spare.give_back(commands(script(alloc), 40)?);
     }
@@ -110,7 +110,7 @@ fn too_many(rt: HostRuntime) -> Result<(), Fail> {
 #[test]
 fn widest(rt: HostRuntime) -> Result<(), Fail> {
     let alloc = rt.alloc();
-    let mut spare = Spare::new(alloc);
+    let mut spare = Spare::new();
     spare.give_back(commands(script(alloc), 16)?);
     assert!(rt; entries_kept(alloc, &mut spare) == 1);
     spare.give_back(commands(script(alloc), 17)?);
@@ -125,7 +125,7 @@ fn without_memory(rt: HostRuntime) -> Result<(), Fail> {
     let list = commands(script(alloc), 40)?;
     let mut growths = Growths::of(alloc);
     growths.refuse_next();
-    let mut spare = Spare::new(alloc);
+    let mut spare = Spare::new();
     spare.give_back(list);
     let kept = items_kept(alloc, &mut spare);
     let entries = entries_kept(alloc, &mut spare);
