@@ -8,14 +8,14 @@ use Rattle.shread.specs.declared.script_lines.ScriptLine.{ScriptLine}
 use Rattle.shread.specs.declared.script_lines.ScriptLine.TheVariants.{Ended, Last, Faulty}
 use Rattle.shread.specs.declared.script_lines.ScriptLines.{ScriptLines}
 use Rattle.shgrammar.specs.Commands.{is_empty}
-use Rattle.shread.specs.LineByLine.{Before, IsNextLine, IsWholeLine, LineReads, LineWithin, Rest, Stands, before_of, no_lines, place_of}
+use Rattle.shread.specs.LineByLine.{Before, IsOuterLine, IsWholeLine, LineWithin, OuterReads, Rest, Stands, before_of, no_lines, place_of}
 use Rattle.shgrammar.specs.declared.keep.Keep.TheVariants.{Whole}
 use Rattle.shast.specs.Moved.{blanked_row, moved_entry, outer_entry, placed_body}
 use Rattle.shgrammar.specs.Moved.{moved_fault}
 use Rattle.shgrammar.specs.Scripts.{AScript, FirstFault, Outcome, SoFar, faulty, is_blank_line, last_line, line_ended, nothing_yet, with_line}
 use Rattle.shgrammar.specs.Sights.{State}
 use Rattle.shread.proofs.LineByLine.{line_only, line_read}
-use Rattle.shgrammar.proofs.LineInPiece.{There, alone, outer_alone, fault_there, stands_there, told_same}
+use Rattle.shgrammar.proofs.LineInPiece.{There, outer_alone, fault_there, stands_there, told_same}
 use Rattle.shgrammar.proofs.Passing.{line_there}
 use Rattle.shgrammar.proofs.SameLine.{newline_at, same_front}
 use Rattle.shast.specs.Shape.{Text, shape_of, shape_of_entry}
@@ -96,6 +96,16 @@ module _ (y : Layout) (H S : List ℕ) (q n : ℕ) (so : SoFar) (es : List AnEnt
       let read = line_read S so n (is_blank_line so) (Ok ((line, false), there.state)) refl there.read in
       (read.0, last_line line there.state read.0 read.1)
 
+-- what is printed of a line without the trees in its command substitutions is printed of it with them
+outer_printed : (y : Layout) (H : List ℕ) (q : ℕ) (blank : Bool) (line es : List AnEntry) (text then : Sheet)
+    → line ≡ blanked_row blank (map (outer_entry q) es)
+    → then ≡ written text (print_entries y [] (shape_of H (entries_of line)))
+    → then
+    ≡ written text (print_entries y [] (shape_of H (entries_of (blanked_row blank (map (moved_entry q) es)))))
+outer_printed y H q blank line es text then outer is =
+    is ∙ ap (λ (r : List AnEntry). written text (print_entries y [] (shape_of H (entries_of r)))) outer
+    ∙ ap (written text) (line_same y H (placed_span q) (placed_body q) [] blank es)
+
 -- ---- lines at the front of what follows
 
 -- the line at q of H is whole, and its first bytes are taken behind P: whatever follows them, it is read there
@@ -130,8 +140,7 @@ module _ {S : Type 0} (y : Layout) (H : List ℕ) (old new : ScriptLines S) (tex
       let there = λ (more : List ℕ). whole_there H P more q blank es t a.2 some high stands in
       let here = blanked_row blank (map (moved_entry (length P)) es) in
       let alike : is_empty (map view_entry line.items) ≡ is_empty here = ap is_empty a.3 ∙ empty_as blank (outer_entry q) (moved_entry (length P)) es in
-      let then_is : then ≡ written text (print_entries y [] (shape_of H (entries_of (blanked_row blank (map (moved_entry q) es))))) =
-      is ∙ ap (λ (r : List AnEntry). written text (print_entries y [] (shape_of H (entries_of r)))) a.3 ∙ ap (written text) (line_same y H (placed_span q) (placed_body q) [] blank es) in
+      let then_is = outer_printed y H q blank (map view_entry line.items) es text then a.3 is in
       let done : ArePrinted y (P ++ take t.at D) new.before then = record {
         so = with_line b.so here;
         left_so = left_as new.before b.so (map view_entry line.items) here alike w.5;
@@ -191,7 +200,7 @@ module _ {S : Type 0} (y : Layout) (H front : List ℕ) where
         is = b.is H;
       }
 
-  module _ (old new : ScriptLines S) (text then : Sheet) (x : ScriptLine) (b : Between old text) (next : IsNextLine H b.so old x new) where
+  module _ (old new : ScriptLines S) (text then : Sheet) (x : ScriptLine) (b : Between old text) (next : IsOuterLine H b.so old x new) where
     -- then these entries are printed
     abbrev Prints : List AnEntry → Type 0
     Prints es = then ≡ written text (print_entries y [] (shape_of H (entries_of es)))
@@ -205,23 +214,24 @@ module _ {S : Type 0} (y : Layout) (H front : List ℕ) where
       alike : is_empty line ≡ is_empty (blanked_row (is_blank_line b.so) (map (moved_entry (length front + old.at)) es))
       prints : Prints (blanked_row (is_blank_line b.so) (map (moved_entry old.at) es))
 
-    placed : (newline : Bool) (line : List AnEntry) (t : State) → LineReads H b.so old.at (Ok ((line, newline), t)) → Prints line → Placed newline line t.at
+    placed : (newline : Bool) (line : List AnEntry) (t : State)
+        → OuterReads H b.so old.at (Ok ((line, newline), t)) → Prints line → Placed newline line t.at
     placed newline line t read is =
         let q = old.at in
         let n = length front + q in
         let blank = is_blank_line b.so in
-        let a = alone H q blank newline line t (line_only H b.so q _ read) in
+        let a = outer_alone H q blank newline line t read in
         let same : drop n (front ++ H) ≡ drop q H = drop-append-add front H q in
         record {
           es = a.0;
           t = a.1;
           there = stands_there H (front ++ H) q n blank newline a.0 a.1 a.2 (ap (take a.1.at) same) (told_same (front ++ H) H n q same ∙ a.2);
           ends = a.4;
-          alike = ap is_empty a.3 ∙ empty_as blank (moved_entry q) (moved_entry n) a.0;
-          prints = is ∙ ap (λ (r : List AnEntry). written text (print_entries y [] (shape_of H (entries_of r)))) a.3;
+          alike = ap is_empty a.3 ∙ empty_as blank (outer_entry q) (moved_entry n) a.0;
+          prints = outer_printed y H q blank line a.0 text then a.3 is;
         }
 
-    behind_by : (line : Vec Entry Global) → IsNextLine H b.so old (Ended line) new → Prints (map view_entry line.items) → Between new then
+    behind_by : (line : Vec Entry Global) → IsOuterLine H b.so old (Ended line) new → Prints (map view_entry line.items) → Between new then
     behind_by line ((t, ends, read), stands) is =
         let q = old.at in
         let n = length front + q in
@@ -237,7 +247,7 @@ module _ {S : Type 0} (y : Layout) (H front : List ℕ) where
     pub behind_line : (line : Vec Entry Global) → x ≡ Ended line → Prints (map view_entry line.items) → Between new then
     behind_line line this is = behind_by line (rw this at next) is
 
-    last_by : (line : Vec Entry Global) → IsNextLine H b.so old (Last line) new → Prints (map view_entry line.items) → IsTextOf y (front ++ H) then.so_far
+    last_by : (line : Vec Entry Global) → IsOuterLine H b.so old (Last line) new → Prints (map view_entry line.items) → IsTextOf y (front ++ H) then.so_far
     last_by line ((t, ends, read), stands) is =
         let q = old.at in
         let n = length front + q in
@@ -252,7 +262,7 @@ module _ {S : Type 0} (y : Layout) (H front : List ℕ) where
     pub last_printed : (line : Vec Entry Global) → x ≡ Last line → Prints (map view_entry line.items) → IsTextOf y (front ++ H) then.so_far
     last_printed line this is = last_by line (rw this at next) is
 
-    fault_by : (f : Fault) → IsNextLine H b.so old (Faulty f) new → f.at ≤ length H → FirstFault (front ++ H) (Some (moved_fault (length front) f)) × (length front + f.at ≤ length (front ++ H))
+    fault_by : (f : Fault) → IsOuterLine H b.so old (Faulty f) new → f.at ≤ length H → FirstFault (front ++ H) (Some (moved_fault (length front) f)) × (length front + f.at ≤ length (front ++ H))
     fault_by f (read, stays) low =
         let q = old.at in
         let n = length front + q in

@@ -6,7 +6,7 @@ ghost use Rattle.shpieces.specs.Printing.{IsErrorWithin, IsPrinted, moved_error}
 ghost use Rattle.shpieces.specs.Printing.{Answers, IsNoText};
 ghost use Rattle.shprint.specs.ReadBack.{IsTextOf};
 
-use shast::Spare;
+use shast::{Entry, Spare};
 use shgrammar::Fault;
 use shprint::{Layout, Page, Printer};
 use shread::{LinesBefore, ScriptLine, ScriptLines};
@@ -23,6 +23,14 @@ pub enum PrintError {
     /// Memory ran out.
     #[error("out of memory")]
     Memory,
+}
+
+/// Drops a line that was printed, and keeps its room if another one follows: behind the last line nothing
+/// wants it.
+fn give_back_before(follows: bool, entries: Vec<Entry>, spare: &mut Spare) {
+    if follows {
+        spare.give_back(entries);
+    }
 }
 
 /// What is printed so far of a script. Who prints one need hold of it only what is not printed yet.
@@ -67,7 +75,7 @@ impl Printing {
             source,
         };
         let mut lines = ScriptLines::behind(self.alloc, source, self.before);
-        let mut spare = Spare::new(self.alloc);
+        let mut spare = Spare::new();
         'lines: loop {
             let Ok(line) = lines.read_whole_with(Some(&mut spare)) else {
                 return Err(AllocError);
@@ -93,15 +101,15 @@ impl Printing {
             source,
         };
         let mut lines = ScriptLines::behind(self.alloc, source, self.before);
-        let mut spare = Spare::new(self.alloc);
+        let mut spare = Spare::new();
         'lines: loop {
-            let Ok(line) = lines.read_next_with(Some(&mut spare)) else {
+            let Ok(line) = lines.read_outer_with(Some(&mut spare)) else {
                 return Err(AllocError);
             };
             match line {
                 ScriptLine::Ended(entries) => {
                     printer.print_entries(&entries, &mut self.page)?;
-                    spare.give_back(entries);
+                    give_back_before(lines.at() < source.len(), entries, &mut spare);
                 }
                 ScriptLine::Last(entries) => {
                     printer.print_entries(&entries, &mut self.page)?;

@@ -1,5 +1,5 @@
 -- What a line of a script leads on to.
-use Rattle.std.proofs.Common.{◌≡◌, ℕ, ◌++◌, ◌∙◌, Bool, false, Err, List as Row, drop, map, Vec, Global, ap, sym, subst, None, Some}
+use Rattle.std.proofs.Common.{◌≡◌, ℕ, ◌++◌, ◌∙◌, ◌&&◌, Bool, false, Ok, Err, List as Row, drop, map, Vec, Global, ap, refl, sym, subst, None, Some}
 use Rattle.shast.specs.declared.tree.Entry.{Entry}
 use Rattle.shast.specs.View.{view_entry}
 use Rattle.shgrammar.specs.declared.fault.Fault.{Fault}
@@ -11,17 +11,24 @@ use Rattle.shline.specs.declared.stop.Stop.TheVariants.{Wrong}
 use Rattle.shline.specs.Clauses.{Fails}
 use Rattle.shgrammar.specs.Commands.{is_empty}
 use Rattle.std.proofs.lemmas.List.{map-append}
-use Rattle.shgrammar.specs.declared.keep.Keep.TheVariants.{Whole}
+use Rattle.shgrammar.specs.declared.keep.Keep.TheVariants.{Outer, Whole}
 use Rattle.shread.specs.declared.script_lines.ScriptLine.{ScriptLine}
 use Rattle.shread.specs.declared.script_lines.ScriptLine.TheVariants.{Ended, Last, Faulty}
 use Rattle.shread.specs.declared.script_lines.ScriptLines.{ScriptLines}
 use Rattle.shast.specs.Nodes.{AreWithin}
-use Rattle.shread.specs.LineByLine.{IsNextLine, LineReads, LineWithin, Rest, Stands}
+use Rattle.shread.specs.declared.script_lines.LinesBefore.{LinesBefore}
+use Rattle.shread.specs.LineByLine.{Before, IsLine, IsNextLine, IsOuterLine, LineReads, LineWithin, OuterReads, Rest, Stands, is_blank_behind}
 use Rattle.shgrammar.proofs.Within.{more_within}
-use Rattle.shgrammar.specs.Scripts.{AScript, Outcome, SoFar, faulty, is_blank_line, last_line, line_ended, line_from, the_line, with_line}
+use Rattle.shgrammar.specs.Moved.{Same, SameBy}
+use Rattle.shgrammar.specs.Scripts.{AScript, Outcome, SoFar, faulty, is_blank_line, last_line, line_ended, line_from, line_told, the_line, with_line}
+use Rattle.shgrammar.proofs.MovedLine.{line_moved, line_outer}
 use Rattle.shgrammar.proofs.OneOutcome.{is}
 
 -- ---- what is read of a line, where its first entry is blank as the lines before it have it
+
+pub blank_is : (before : LinesBefore) (so : SoFar) → Before before so
+    → is_blank_behind before ≡ is_blank_line so
+blank_is before so stood = ap (λ b. b && before.begun) stood.0 ∙ ap (λ b. so.gap && b) stood.1
 
 pub line_read : (B : Row ℕ) (so : SoFar) (p : ℕ) (blank : Bool) (x : Read (Row AnEntry × Bool)) → blank ≡ is_blank_line so → line_from B Whole blank p ≡ x → LineReads B so p x
 line_read B so p blank x is_blank read =
@@ -31,6 +38,44 @@ line_read B so p blank x is_blank read =
 -- what the grammar reads of a line is what is computed
 pub line_only : (B : Row ℕ) (so : SoFar) (p : ℕ) (x : Read (Row AnEntry × Bool)) → LineReads B so p x → line_from B Whole (is_blank_line so) p ≡ x
 line_only B so p x read = sym ((is (the_line (is_blank_line so)) (given (drop p B) p) (standing 0)).only x read.0 read.1)
+
+-- a fault without the trees in command substitutions is that of the line with them
+whole_fault : (p : ℕ) (blank : Bool) (f : Fault) (x alone : Read (Row AnEntry × Bool))
+    → SameBy false p blank (Err f) alone → Same p blank x alone → x ≡ Err f
+whole_fault p blank f x (Ok y) outer whole = absurd outer
+whole_fault p blank f (Ok x) (Err h) outer whole = absurd whole
+whole_fault p blank f (Err g) (Err h) outer whole = ap Err (whole ∙ sym outer)
+
+outer_read : (B : Row ℕ) (so : SoFar) (p : ℕ) (x : Read (Row AnEntry × Bool))
+    → line_from B Outer (is_blank_line so) p ≡ x → OuterReads B so p x
+outer_read B so p (Ok x) read = read
+outer_read B so p (Err f) read =
+    let blank = is_blank_line so in
+    let alone = line_told B Whole false p 0 in
+    let outer : SameBy false p blank (Err f) alone =
+    subst (λ y. SameBy false p blank y alone) read (line_outer B p blank) in
+    let whole = whole_fault p blank f (line_from B Whole blank p) alone outer (line_moved B p blank) in
+    line_read B so p blank (Err f) refl whole
+
+-- ---- what is read, from what is computed
+
+module _ {S : Type 0} (so : SoFar) (old new : ScriptLines S) where
+  line_by : (reads others : Read (Row AnEntry × Bool) → Type 0)
+      → ((x : Read (Row AnEntry × Bool)) → reads x → others x)
+      → (line : ScriptLine) → IsLine reads so old line new → IsLine others so old line new
+  line_by reads others so_read (Ended es) ((t, ends, read), stands) = ((t, ends, so_read _ read), stands)
+  line_by reads others so_read (Last es) ((t, ends, read), stands) = ((t, ends, so_read _ read), stands)
+  line_by reads others so_read (Faulty f) (read, same) = (so_read _ read, same)
+
+  pub next_line : (B : Row ℕ) (line : ScriptLine)
+      → IsLine (λ x. line_from B Whole (is_blank_line so) old.at ≡ x) so old line new
+      → IsNextLine B so old line new
+  next_line B line is_line = line_by _ _ (λ x. line_read B so old.at (is_blank_line so) x refl) line is_line
+
+  pub outer_line : (B : Row ℕ) (line : ScriptLine)
+      → IsLine (λ x. line_from B Outer (is_blank_line so) old.at ≡ x) so old line new
+      → IsOuterLine B so old line new
+  outer_line B line is_line = line_by _ _ (λ x. outer_read B so old.at x) line is_line
 
 -- ---- what a line leads on to
 

@@ -1,5 +1,5 @@
 -- The lines of a script, read one after the other.
-use Rattle.std.specs.Prelude.{◌≡◌, ◌≤◌, ◌<◌, ℕ, ◌+◌, ◌-◌, Vec, Bool, true, false, List, List as Row, Ok, Err, drop, map, not}
+use Rattle.std.specs.Prelude.{◌≡◌, ◌≤◌, ◌<◌, ℕ, ◌+◌, ◌-◌, Vec, Bool, true, false, ◌&&◌, List, List as Row, Ok, Err, drop, map, not}
 use Rattle.std.specs.Global.{Global}
 use Rattle.shgrammar.specs.declared.keep.Keep.TheVariants.{Outer}
 use Rattle.shread.specs.declared.script_lines.ScriptLine.{ScriptLine}
@@ -20,9 +20,14 @@ use Rattle.shgrammar.specs.Standing.{raw_stands}
 abbrev pub LineReads : List ℕ → SoFar → ℕ → Read (Row AnEntry × Bool) → Type 0
 LineReads B so p x = (k : Row Spelled) × may (the_line (is_blank_line so)) (given (drop p B) p) (standing 0) x k
 
--- the line at p has these entries, and ends before q: by a newline, or where the script ends
-abbrev pub LineEnds : List ℕ → SoFar → ℕ → Row AnEntry → Bool → ℕ → Type 0
-LineEnds B so p es newline q = (t : State) × (q ≡ p + t.at) × LineReads B so p (Ok ((es, newline), t))
+-- The same, but that the trees in command substitutions are left out. A fault is that of the line with them.
+abbrev pub OuterReads : List ℕ → SoFar → ℕ → Read (Row AnEntry × Bool) → Type 0
+OuterReads B so p (Ok x) = line_from B Outer (is_blank_line so) p ≡ Ok x
+OuterReads B so p (Err f) = LineReads B so p (Err f)
+
+-- the line at p, so read, has these entries, and ends before q: by a newline, or where the script ends
+abbrev pub LineEnds : (Read (Row AnEntry × Bool) → Type 0) → ℕ → Row AnEntry → Bool → ℕ → Type 0
+LineEnds reads p es newline q = (t : State) × (q ≡ p + t.at) × reads (Ok ((es, newline), t))
 
 -- the script of lines that gave this and of the lines from p on
 abbrev pub Rest : List ℕ → SoFar → ℕ → AScript → Type 0
@@ -31,6 +36,10 @@ Rest B so p s = (k : Row Spelled) × Lines B so p s k
 -- no line stands before
 abbrev pub no_lines : LinesBefore
 no_lines = record { gap = false; begun = false }
+
+-- whether the first entry behind them is blank
+abbrev pub is_blank_behind : LinesBefore → Bool
+is_blank_behind before = before.gap && before.begun
 
 -- the lines before gave this
 abbrev pub Before : LinesBefore → SoFar → Type 0
@@ -61,14 +70,27 @@ module _ {S : Type 0} where
   -- ended it and is its last byte.
   abbrev pub IsWholeLine : List ℕ → SoFar → ScriptLines S → Vec Entry Global → ScriptLines S → Type 0
   IsWholeLine B so old es new =
-      (t : State) × (new.at ≡ old.at + t.at) × (line_from B Outer (is_blank_line so) old.at ≡ Ok ((map view_entry es.items, true), t)) × (0 < t.at)
+      (t : State) × (new.at ≡ old.at + t.at) × OuterReads B so old.at (Ok ((map view_entry es.items, true), t)) × (0 < t.at)
       × (raw_stands (drop old.at B) (t.at - 1) 10 ≡ true) × Stands new (with_line so (map view_entry es.items))
 
-  -- The line, behind lines that gave this, from `old` to `new`. At a fault nothing moves.
+  -- The line, so read, behind lines that gave this, from `old` to `new`. At a fault nothing moves.
+  abbrev pub IsLine : (Read (Row AnEntry × Bool) → Type 0)
+      → SoFar → ScriptLines S → ScriptLine → ScriptLines S → Type 0
+  IsLine reads so old (Ended es) new =
+      LineEnds reads old.at (map view_entry es.items) true new.at
+      × Stands new (with_line so (map view_entry es.items))
+  IsLine reads so old (Last es) new =
+      LineEnds reads old.at (map view_entry es.items) false new.at
+      × Stands new (with_line so (map view_entry es.items))
+  IsLine reads so old (Faulty f) new = reads (Err f) × (new ≡ old)
+
+  -- the line as the grammar has it
   abbrev pub IsNextLine : List ℕ → SoFar → ScriptLines S → ScriptLine → ScriptLines S → Type 0
-  IsNextLine B so old (Ended es) new = LineEnds B so old.at (map view_entry es.items) true new.at × Stands new (with_line so (map view_entry es.items))
-  IsNextLine B so old (Last es) new = LineEnds B so old.at (map view_entry es.items) false new.at × Stands new (with_line so (map view_entry es.items))
-  IsNextLine B so old (Faulty f) new = LineReads B so old.at (Err f) × (new ≡ old)
+  IsNextLine B so old line new = IsLine (LineReads B so old.at) so old line new
+
+  -- the same, but for the trees in command substitutions
+  abbrev pub IsOuterLine : List ℕ → SoFar → ScriptLines S → ScriptLine → ScriptLines S → Type 0
+  IsOuterLine B so old line new = IsLine (OuterReads B so old.at) so old line new
 
 -- another line follows
 abbrev pub GoesOn : ScriptLine → Type 0

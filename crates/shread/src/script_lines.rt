@@ -1,9 +1,14 @@
 //! The lines of a script, read one after the other, so that who needs no tree of the whole holds that of one line.
-ghost use Rattle.std.specs.Prelude.{◌≡◌, ◌+◌, ◌-◌, ◌^◌, ◌<◌, ◌≤◌, length, map, slice_get, IfErr, IfOk, IfSome, None, Ok as Done, Some};
-ghost use Rattle.shgrammar.specs.Scripts.{SoFar, is_blank_line, with_line};
+ghost use Rattle.std.specs.Prelude.{◌≡◌, ◌+◌, ◌-◌, ◌^◌, ◌<◌, ◌≤◌, ℕ, drop, length, map, slice_get, IfErr, IfOk, IfSome, None, Ok as Done, Some};
+ghost use Rattle.shgrammar.specs.Scripts.{SoFar, is_blank_line, line_from, with_line};
 ghost use Rattle.shgrammar.specs.Search.{StopsAt};
+ghost use Rattle.shgrammar.specs.Sights.{standing};
+ghost use Rattle.shline.specs.Clauses.{Gives, Onward};
+ghost use Rattle.shast.specs.Nodes.{AreWithin};
+ghost use Rattle.shast.specs.Tree.{entries_of};
 ghost use Rattle.shast.specs.View.{view_entry};
-ghost use Rattle.shread.specs.LineByLine.{AtStart, GoesOn, IsNextLine, IsWholeLine, LineWithin, Stands, before_of, bytes_of, no_lines, place_of};
+ghost use Rattle.shread.specs.LineByLine.{AtStart, GoesOn, IsLine, IsNextLine, IsOuterLine, IsWholeLine, LineWithin, Stands};
+ghost use Rattle.shread.specs.LineByLine.{before_of, bytes_of, is_blank_behind, no_lines, place_of};
 
 use crate::error::ReadError;
 use crate::one_line::ends_in_newline;
@@ -93,9 +98,35 @@ impl<'a, S: Source> ScriptLines<'a, S> {
 
     /// Whether the first entry of the next line is blank.
     fn is_blank_next(&self) -> bool
-        ensures { (so : SoFar) → Stands self.now so → result ≡ is_blank_line so }
+        ensures { result ≡ is_blank_behind (before_of self.now) }
     {
         self.before.gap && self.before.begun
+    }
+
+    /// What is told of the next line, of whose tree this is kept.
+    fn tell(&self, keep: Keep, spare: Option<&mut Spare>) -> Result<Told, Stop>
+        requires { place_of self.now ≤ length (bytes_of S.bytes self.now) }
+        ensures value { let bytes = bytes_of S.bytes self.now in
+            let place = place_of self.now in
+            Gives (place + length (drop place bytes))
+            (λ x. ((map view_entry x.entries.items, x.newline), standing x.len)) result
+            (line_from bytes keep (is_blank_behind (before_of self.now)) place) }
+        ensures spans { IfOk result (λ x. (limit : ℕ) → place_of self.now + x.len ≤ limit →
+            AreWithin limit (entries_of (map view_entry x.entries.items))) }
+        ensures onward { IfOk result (λ x. Onward 0 x.len x.newline) }
+        ensures within { IfOk result (λ x. place_of self.now + x.len ≤ length (bytes_of S.bytes self.now)) }
+        ensures fits { IfOk result (λ x. place_of self.now + x.len < 2 ^ 64) }
+    {
+        let blank = self.is_blank_next();
+        line_at_with::<S, KEPT>(
+            self.alloc,
+            self.source,
+            self.at,
+            self.at,
+            keep,
+            blank,
+            spare,
+        )
     }
 
     /// Moves behind a line of so many bytes.
@@ -110,6 +141,43 @@ impl<'a, S: Source> ScriptLines<'a, S> {
             self.before.begun = true;
         }
         self.at += len;
+    }
+
+    /// Reads one more line, of whose tree this is kept.
+    fn read_keeping(
+        &mut self,
+        keep: Keep,
+        spare: Option<&mut Spare>,
+    ) -> Result<ScriptLine, ReadError>
+        requires { place_of self.old ≤ length (bytes_of S.bytes self.old) }
+        ensures line { IfOk result (λ line. (so : SoFar) → Stands self.old so → IsLine
+            (λ x. line_from (bytes_of S.bytes self.old) keep (is_blank_line so) (place_of self.old) ≡ x)
+            so self.old line self.new) }
+        ensures err { IfErr result (λ e. self.new ≡ self.old) }
+        ensures source { bytes_of S.bytes self.new ≡ bytes_of S.bytes self.old }
+        ensures place { IfOk result (λ line. place_of self.new ≤ length (bytes_of S.bytes self.old)) }
+        ensures onward { IfOk result (λ line. GoesOn line → place_of self.old < place_of self.new) }
+        // No node of its entries names an offset above the script's length, nor does a fault.
+        ensures within { IfOk result (LineWithin (length (bytes_of S.bytes self.old))) }
+    {
+        match self.tell(keep, spare) {
+            Ok(
+                Told {
+                    entries,
+                    newline,
+                    len,
+                },
+            ) => {
+                self.pass(&entries, len);
+                if newline {
+                    Ok(ScriptLine::Ended(entries))
+                } else {
+                    Ok(ScriptLine::Last(entries))
+                }
+            }
+            Err(Stop::Wrong(fault)) => Ok(ScriptLine::Faulty(fault)),
+            Err(Stop::Memory) => Err(ReadError::Memory),
+        }
     }
 
     /// Reads one more line. Want of memory is the only error; the line may be read again then.
@@ -137,33 +205,23 @@ impl<'a, S: Source> ScriptLines<'a, S> {
         // No node of its entries names an offset above the script's length, nor does a fault.
         ensures within { IfOk result (LineWithin (length (bytes_of S.bytes self.old))) }
     {
-        let blank = self.is_blank_next();
-        match line_at_with::<S, KEPT>(
-            self.alloc,
-            self.source,
-            self.at,
-            self.at,
-            Keep::Whole,
-            blank,
-            spare,
-        ) {
-            Ok(
-                Told {
-                    entries,
-                    newline,
-                    len,
-                },
-            ) => {
-                self.pass(&entries, len);
-                if newline {
-                    Ok(ScriptLine::Ended(entries))
-                } else {
-                    Ok(ScriptLine::Last(entries))
-                }
-            }
-            Err(Stop::Wrong(fault)) => Ok(ScriptLine::Faulty(fault)),
-            Err(Stop::Memory) => Err(ReadError::Memory),
-        }
+        self.read_keeping(Keep::Whole, spare)
+    }
+
+    /// Reads one more line as [`ScriptLines::read_next_with`] does, but without the trees in the command
+    /// substitutions of its words, which cost memory and time. A fault is the same.
+    pub fn read_outer_with(&mut self, spare: Option<&mut Spare>) -> Result<ScriptLine, ReadError>
+        requires { place_of self.old ≤ length (bytes_of S.bytes self.old) }
+        ensures line { IfOk result (λ line. (so : SoFar) → Stands self.old so →
+            IsOuterLine (bytes_of S.bytes self.old) so self.old line self.new) }
+        ensures err { IfErr result (λ e. self.new ≡ self.old) }
+        ensures source { bytes_of S.bytes self.new ≡ bytes_of S.bytes self.old }
+        ensures place { IfOk result (λ line. place_of self.new ≤ length (bytes_of S.bytes self.old)) }
+        ensures onward { IfOk result (λ line. GoesOn line → place_of self.old < place_of self.new) }
+        // No node of its entries names an offset above the script's length, nor does a fault.
+        ensures within { IfOk result (LineWithin (length (bytes_of S.bytes self.old))) }
+    {
+        self.read_keeping(Keep::Outer, spare)
     }
 
     /// Reads one more line, if it has no fault and a newline ended it that is its last byte: then nothing that follows it in the script
@@ -198,16 +256,7 @@ impl<'a, S: Source> ScriptLines<'a, S> {
         ensures place { IfOk result (λ line. place_of self.new ≤ length (bytes_of S.bytes self.old)) }
         ensures onward { IfOk result (λ line. IfSome line (λ entries. place_of self.old < place_of self.new)) }
     {
-        let blank = self.is_blank_next();
-        match line_at_with::<S, KEPT>(
-            self.alloc,
-            self.source,
-            self.at,
-            self.at,
-            Keep::Outer,
-            blank,
-            spare,
-        ) {
+        match self.tell(Keep::Outer, spare) {
             Ok(
                 Told {
                     entries,

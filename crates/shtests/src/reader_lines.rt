@@ -1,10 +1,11 @@
-// Scripts read line by line: what a line is, where it ends, and that lines come to what the whole script has. The answers are
-// worked out by hand from the grammar; none is what the reader told. `table.rt` and `dump.rt` say how they are written.
+// Scripts read line by line: what a line is, where it ends, and that lines come to what the whole script has.
+// The answers are worked out by hand from the grammar; none is what the reader told. `table.rt` and `dump.rt`
+// say how they are written.
 use crate::cell::{Cell, joined};
 use crate::dump::{Judge, dump_end, dump_fault};
 use crate::reader_trees::ROWS;
 use crate::table::{rows, split};
-use shread::{Fault, Line, LineKind, Reader, ScriptLines, faultless_front};
+use shread::{Fault, Line, LineKind, Reader, ScriptLine, ScriptLines, faultless_front};
 use shtext::Flat;
 use shtree::make::list_of;
 use shtree::{Command, Content, List};
@@ -70,7 +71,8 @@ fn lines(rt: HostRuntime) -> Result<(), Fail> {
     judge.verdict()
 }
 
-/// The front of a script, and how many of its bytes are lines without a fault, each ended by a newline that is its last byte.
+/// The front of a script, and how many of its bytes are lines without a fault, each ended by a newline that
+/// is its last byte.
 const FRONTS: &[u8] = br###"
 ("", 0) ("a", 0) ("a\n", 2) ("\n\n", 2) ("a\nb", 2) ("a\nb\\", 2) ("a\\\n", 0) ("a\\\n\n", 4) ("a\n#b\n c\n'", 8) ("a\n'\n'\nb", 6)
 ("a\n;\nb\n", 2) ("a\n{\nb\n", 2) ("a\n{\nb\n}\n", 8) ("a &&\n", 0) ("a &&\nb\n", 7)
@@ -120,6 +122,38 @@ fn whole_lines(rt: HostRuntime) -> Result<(), Fail> {
     judge.verdict()
 }
 
+/// A script, and its first line, whole or not, without the trees in its command substitutions. A fault moves
+/// nothing.
+const OUTER: &[u8] = br###"
+("$(a)\n", "[0-4] to 5, ended") ("a \"$(b | c)\" d=$(e)", "[0-1 2-12 13-19] to 19")
+("{ a $(b)\n}\nc", "{0-10 [2-3 4-8]} to 11, ended")
+("$(a;;)\n", "fault 11 at 3 to 0") ("a $(b\n", "fault 7 at 2 to 0")
+"###;
+
+fn judge_outer(judge: &mut Judge, alloc: Global, row: &[Cell]) -> Result<(), Fail> {
+    let [script, wanted] = row else {
+        return Err(Fail::from("no row"));
+    };
+    let source = Flat::new(&script.bytes);
+    let mut lines = ScriptLines::new(alloc, &source);
+    let (kind, ended) = match lines.read_outer_with(None)? {
+        ScriptLine::Ended(entries) => (LineKind::Entries(list_of(entries)), true),
+        ScriptLine::Last(entries) => (LineKind::Entries(list_of(entries)), false),
+        ScriptLine::Faulty(fault) => (LineKind::Faulty(fault), false),
+    };
+    let next = lines.at();
+    judge.line(&script.bytes, &Line { kind, next, ended }, &wanted.bytes)
+}
+
+#[test]
+fn outer_lines(rt: HostRuntime) -> Result<(), Fail> {
+    let mut judge = Judge::new(rt.alloc());
+    for row in &rows(rt.alloc(), OUTER)? {
+        judge_outer(&mut judge, rt.alloc(), row)?;
+    }
+    judge.verdict()
+}
+
 /// Reads a script line by line: how many lines ended, how many entries they have, and the fault.
 fn by_lines(reader: &mut Reader, script: &[u8]) -> Result<(usize, usize, Option<Fault>), Fail> {
     let mut entries = 0usize;
@@ -154,7 +188,8 @@ fn by_lines(reader: &mut Reader, script: &[u8]) -> Result<(usize, usize, Option<
     Err(Fail::from("a line ends in another way than one of its kind"))
 }
 
-/// The lines of a script have the entries and the fault that it has as a whole, and the meter rises by its length.
+/// The lines of a script have the entries and the fault that it has as a whole, and the meter rises by its
+/// length.
 pub(crate) fn judge_lines(
     judge: &mut Judge,
     reader: &mut Reader,

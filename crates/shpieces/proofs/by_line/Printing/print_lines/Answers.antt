@@ -15,8 +15,8 @@ lines-init g c =
       omega (arith, start.0),
     )
 
-pub read_next_with-requires : goal.read_next_with-requires
-read_next_with-requires g c = rw (sym c.lines.invariant.2) at c.lines.invariant.3
+pub read_outer_with-requires : goal.read_outer_with-requires
+read_outer_with-requires g c = rw (sym c.lines.invariant.2) at c.lines.invariant.3
 
 pub lines-preserved : goal.lines-preserved
 lines-preserved g c =
@@ -26,10 +26,10 @@ lines-preserved g c =
       λ y front is.
           let b = inv.0 y front is in
           let next = rw inv.2 at (c.in-Ok.ensures.line b.so b.stands) in
-          behind_line y bytes front c.lines.lines c.read_next_with.new.self (sheet c.lines.self.page) (sheet c.print_entries.new.page) c.in-Ok.line b next
+          behind_line y bytes front c.lines.lines c.read_outer_with.new.self (sheet c.lines.self.page) (sheet c.print_entries.new.page) c.in-Ok.line b next
           c.in-Ended.entries c.in-Ended.is (rw (inv.1 ∙ is.1, is.2, c.deref.ensures.value) at done.0),
       done.1 ∙ inv.1,
-      c.read_next_with.ensures.source ∙ inv.2,
+      c.read_outer_with.ensures.source ∙ inv.2,
       rw inv.2 at c.in-Ok.ensures.place,
     )
 
@@ -39,7 +39,7 @@ returns-in-Last-clause-answers g c = λ y front is.
     let inv = c.lines.invariant in
     let b = inv.0 y front is in
     let next = rw inv.2 at (c.in-Ok.ensures.line b.so b.stands) in
-    last_printed y bytes front c.lines.lines c.read_next_with.new.self (sheet c.lines.self.page) (sheet c.print_entries-in-Last.new.page) c.in-Ok.line b next
+    last_printed y bytes front c.lines.lines c.read_outer_with.new.self (sheet c.lines.self.page) (sheet c.print_entries-in-Last.new.page) c.in-Ok.line b next
     c.in-Last.entries c.in-Last.is (rw (inv.1 ∙ is.1, is.2, c.deref-in-Last.ensures.value) at c.in_ok-print_entries-in-Last.ensures.0)
 
 pub returns-in-Faulty-clause-answers : goal.returns-in-Faulty-clause-answers
@@ -48,7 +48,7 @@ returns-in-Faulty-clause-answers g c = λ y front is.
     let inv = c.lines.invariant in
     let b = inv.0 y front is in
     let next = rw inv.2 at (c.in-Ok.ensures.line b.so b.stands) in
-    fault_found y bytes front c.lines.lines c.read_next_with.new.self (sheet c.lines.self.page) (sheet c.lines.self.page) c.in-Ok.line b next
+    fault_found y bytes front c.lines.lines c.read_outer_with.new.self (sheet c.lines.self.page) (sheet c.lines.self.page) c.in-Ok.line b next
     c.in-Faulty.fault c.in-Faulty.is (subst (λ (xs : List _). LineWithin (length xs) c.in-Ok.line) inv.2 c.in-Ok.ensures.within)
 
 pub returns-in-Faulty-clause-within : goal.returns-in-Faulty-clause-within

@@ -1,21 +1,19 @@
-use Rattle.std.proofs.Common.{◌≡◌, ◌∙◌, map, refl, sym, subst, false, true, Ok}
-use Rattle.shgrammar.specs.declared.keep.Keep.TheVariants.{Outer}
+use Rattle.std.proofs.Common.{◌≡◌, ◌∙◌, map, refl, sym, false, true}
 use Rattle.shast.specs.View.{view_entry}
-use Rattle.shgrammar.specs.Scripts.{line_from}
 use Rattle.shgrammar.specs.Sights.{standing}
-use Rattle.shread.proofs.LineByLine.{fault_told}
+use Rattle.shread.specs.LineByLine.{is_blank_behind}
+use Rattle.shread.proofs.LineByLine.{blank_is, fault_told}
 use Rattle.shgrammar.proofs.Passing.{newline_behind, stops_faulty, stops_unended}
 use Rattle.shread.proofs.script_lines.ScriptLines.read_whole_with.Goals.{else-newline-via-then-newline+else-ends_in_newline, else-newline-via-else-newline}
 use Rattle.shread.proofs.script_lines.ScriptLines.read_whole_with.Goals as goal
 
 pub returns-then-ends_in_newline-clause-line : goal.returns-then-ends_in_newline-clause-line
 returns-then-ends_in_newline-clause-line g c = λ so stood.
-    let bytes = g.S.Source.bytes c.args.self.now.source.now in
-    let told = rw c.if-newline.true at c.in-Ok.ensures.value in
+    let told = rw (c.if-newline.true, blank_is c.args.self.now.before so stood) at c.in-Ok.ensures.value in
     let some = rw c.if-newline.true at c.in-Ok.ensures.onward in (
       standing c.in-Ok.field-0.len,
       c.pass.ensures.place,
-      subst (λ b. line_from bytes Outer b c.args.self.now.at ≡ Ok ((map view_entry c.in-Ok.field-0.entries.items, true), standing c.in-Ok.field-0.len)) (c.is_blank_next-blank.ensures so stood) told,
+      told,
       some,
       sym c.ends_in_newline.ensures ∙ c.if-ends_in_newline.true,
       rw c.deref.ensures.value at (c.pass.ensures.stands so stood),
@@ -31,7 +29,9 @@ pub returns-else-newline-clause-none : goal.returns-else-newline-clause-none
 returns-else-newline-clause-none g c = λ is.
     let bytes = g.S.Source.bytes c.args.self.now.source.now in
     let told = c.in-Ok.field-0 in
-    let stops = stops_unended bytes c.args.self.now.at told.len c.is_blank_next-blank.result told.newline (map view_entry told.entries.items) c.in-Ok.ensures.value in (
+    let blank = is_blank_behind c.args.self.now.before in
+    let stops = stops_unended bytes c.args.self.now.at told.len blank told.newline
+    (map view_entry told.entries.items) c.in-Ok.ensures.value in (
       refl,
       elim c.else-newline.branch [
         | else-newline-via-then-newline+else-ends_in_newline w ↦ stops (λ on. sym w.ends_in_newline.ensures ∙ w.if-ends_in_newline.false)
@@ -40,8 +40,10 @@ returns-else-newline-clause-none g c = λ is.
     )
 
 pub returns-in-Err-Wrong-clause-none : goal.returns-in-Err-Wrong-clause-none
-returns-in-Err-Wrong-clause-none g c = λ is. (
-  refl,
-  stops_faulty (g.S.Source.bytes c.args.self.now.source.now) c.args.self.now.at c.is_blank_next-blank.result c.in-Err-Wrong.field-0-0
-      (fault_told _ c.in-Err-Wrong.field-0-0 _ _ c.in-Err-Wrong.field-0-is c.in-Err-Wrong.ensures.value),
-)
+returns-in-Err-Wrong-clause-none g c = λ is.
+    let bytes = g.S.Source.bytes c.args.self.now.source.now in
+    let wrong = c.in-Err-Wrong in
+    let told = fault_told _ wrong.field-0-0 _ _ wrong.field-0-is wrong.ensures.value in (
+      refl,
+      stops_faulty bytes c.args.self.now.at (is_blank_behind c.args.self.now.before) wrong.field-0-0 told,
+    )
