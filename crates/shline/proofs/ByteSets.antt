@@ -4,8 +4,7 @@ use Rattle.std.proofs.lemmas.Bool.{and_parts, cases_lt}
 use Rattle.std.proofs.lemmas.List.Sums.{prefix_len-le-length, prefix_len_passes}
 use Rattle.std.specs.List.{prefix_len}
 use Rattle.shscan.specs.Sets.{is_outside}
-use Rattle.shline.specs.declared.sets.TheConstants.{DOUBLE, NO_BLANK, NO_NAME, PLAIN, SPECIAL}
-use Rattle.shgrammar.specs.Classes.{is_blank, is_name}
+use Rattle.shline.specs.declared.sets.TheConstants.{DOUBLE, PLAIN, SPECIAL}
 use Rattle.shgrammar.specs.Plain.{is_plain}
 use Rattle.shgrammar.specs.declared.mode.Mode.TheVariants.{Plain, Double}
 
@@ -46,14 +45,6 @@ double_set : agree (is_outside DOUBLE SPECIAL) (is_plain Double) 256 ≡ true
 unfolding agree same
 double_set = refl
 
-blank_set : agree (is_outside NO_BLANK.0 NO_BLANK.1) is_blank 256 ≡ true
-unfolding agree same
-blank_set = refl
-
-name_set : agree (is_outside NO_NAME.0 NO_NAME.1) is_name 256 ≡ true
-unfolding agree same
-name_set = refl
-
 -- the bytes before the first one of a set
 passed : (low high : List ℕ) (test : ℕ → Bool) → agree (is_outside low high) test 256 ≡ true → (run : List ℕ) → ((k : ℕ) → Fits w8 (get_or run k 0))
     → (n : ℕ) → n ≡ prefix_len (is_outside low high) run → (n ≤ length run) × ((k : ℕ) → k < n → test (slice_index run k) ≡ true)
@@ -69,11 +60,3 @@ plain_passed = passed PLAIN SPECIAL (is_plain Plain) plain_set
 pub double_passed : (run : List ℕ) → ((k : ℕ) → Fits w8 (get_or run k 0)) → (n : ℕ) → n ≡ prefix_len (is_outside DOUBLE SPECIAL) run
     → (n ≤ length run) × ((k : ℕ) → k < n → is_plain Double (slice_index run k) ≡ true)
 double_passed = passed DOUBLE SPECIAL (is_plain Double) double_set
-
-pub blanks_passed : (run : List ℕ) → ((k : ℕ) → Fits w8 (get_or run k 0)) → (n : ℕ) → n ≡ prefix_len (is_outside NO_BLANK.0 NO_BLANK.1) run
-    → (n ≤ length run) × ((k : ℕ) → k < n → is_blank (slice_index run k) ≡ true)
-blanks_passed = passed NO_BLANK.0 NO_BLANK.1 is_blank blank_set
-
-pub names_passed : (run : List ℕ) → ((k : ℕ) → Fits w8 (get_or run k 0)) → (n : ℕ) → n ≡ prefix_len (is_outside NO_NAME.0 NO_NAME.1) run
-    → (n ≤ length run) × ((k : ℕ) → k < n → is_name (slice_index run k) ≡ true)
-names_passed = passed NO_NAME.0 NO_NAME.1 is_name name_set

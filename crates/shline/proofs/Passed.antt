@@ -1,16 +1,10 @@
--- Bytes of a class that stand one behind another.
-use Rattle.std.proofs.Common.{◌≡◌, ℕ, zero, suc, ◌+◌, ◌<◌, ◌≤◌, Bool, true, false, List, sym, ap, ◌∙◌, arith}
-use Rattle.shgrammar.specs.Standing.{raw_in, raw_past}
-use Rattle.shgrammar.proofs.Stretches.{raw_more, raw_none}
-
--- a stretch of them is passed
-pub raw_passed : (test : ℕ → Bool) (T : List ℕ) (p n : ℕ) → ((k : ℕ) → p ≤ k → k < p + n → raw_in test T k ≡ true) → raw_past test T (p + n) ≡ raw_past test T p
-raw_passed test T p zero all = let here : p + 0 ≡ p = omega arith in ap (raw_past test T) here
-raw_passed test T p (suc n) all =
-    let next : p + suc n ≡ p + n + 1 = omega arith in
-    let last : raw_past test T (p + n) ≡ raw_past test T (p + n + 1) = raw_more test T (p + n) (all (p + n) (omega arith) (omega arith)) in
-    let before : raw_past test T (p + n) ≡ raw_past test T p = raw_passed test T p n (λ k low high. all k low (omega (arith, high))) in
-    ap (raw_past test T) next ∙ sym last ∙ before
+-- Bytes of a class that stand one behind another, and blanks among continuations.
+use Rattle.std.proofs.Common.{◌≡◌, ℕ, ◌+◌, Bool, true, false, List, refl, sym, ap, ◌∙◌, arith}
+use Rattle.shgrammar.specs.Bytes.{behind, past, past_blanks, past_continuations, stands_in}
+use Rattle.shgrammar.specs.Classes.{is_blank}
+use Rattle.shgrammar.specs.Standing.{continues, passes, raw_in, raw_past}
+use Rattle.shgrammar.proofs.Stretches.{joined_more, past_more, past_none, raw_more, raw_none}
+use Rattle.shgrammar.proofs.Unbroken.{blanks_on, blanks_whole}
 
 -- one of them is, or two
 pub raw_one : (test : ℕ → Bool) (T : List ℕ) (p : ℕ) → raw_in test T p ≡ true → raw_in test T (p + 1) ≡ false → raw_past test T p ≡ p + 1
@@ -20,3 +14,25 @@ pub raw_two : (test : ℕ → Bool) (T : List ℕ) (p : ℕ) → raw_in test T p
 raw_two test T p one two =
     let next : p + 2 ≡ p + 1 + 1 = omega arith in
     ap (raw_past test T) next ∙ sym (raw_more test T (p + 1) two) ∙ sym (raw_more test T p one)
+
+-- no blank stands at a place, nor a continuation
+pub no_blanks : (T : List ℕ) (p : ℕ) → continues T p ≡ false → raw_in is_blank T p ≡ false → past_blanks T p ≡ p
+no_blanks T p whole none =
+    let here : raw_past is_blank T p ≡ p = raw_none is_blank T p none in
+    blanks_whole T p (ap (continues T) here ∙ whole) ∙ here
+
+-- where two places have the same place past continuations, the token behind the blanks there is the same
+same_place : (T : List ℕ) (p q : ℕ) (x : Bool) → past_continuations T p ≡ past_continuations T q → stands_in is_blank T p ≡ x → past_blanks T p ≡ past_blanks T q
+unfolding behind past_blanks stands_in
+same_place T p q true same blank =
+    let there : stands_in is_blank T q ≡ true = rw (sym same) blank in
+    ap (past_continuations T) (past_more is_blank T p blank ∙ ap (λ r. past is_blank T (r + 1)) same ∙ sym (past_more is_blank T q there))
+same_place T p q false same blank =
+    let there : stands_in is_blank T q ≡ false = rw (sym same) blank in
+    ap (past_continuations T) (past_none is_blank T p blank) ∙ same ∙ sym (ap (past_continuations T) (past_none is_blank T q there))
+
+-- a continuation among blanks is passed, and the blanks behind it
+pub blanks_over : (T : List ℕ) (p : ℕ) → continues T p ≡ true → past_blanks T (raw_past is_blank T (p + 2)) ≡ past_blanks T p
+unfolding past_blanks
+blanks_over T p joined =
+    sym (blanks_on T (p + 2)) ∙ sym (same_place T p (p + 2) (stands_in is_blank T p) (joined_more T p joined) refl)

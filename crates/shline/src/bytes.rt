@@ -1,7 +1,7 @@
 //! The bytes of a text as they are read: continuations are removed (XCU 2.2.1).
 ghost use Rattle.std.specs.Prelude.{◌≡◌, ◌<◌, ◌≤◌, length, true, false, IfSome};
-ghost use Rattle.shgrammar.specs.Bytes.{behind, byte_at, ends_word, is_broken_at, past, past_blanks, past_continuations, stands, stands_in};
-ghost use Rattle.shgrammar.specs.Classes.{in_class};
+ghost use Rattle.shgrammar.specs.Bytes.{behind, byte_at, ends_word, past, past_blanks, past_continuations, stands, stands_in};
+ghost use Rattle.shgrammar.specs.Classes.{in_class, is_blank};
 ghost use Rattle.shgrammar.specs.Shows.{IsRead};
 ghost use Rattle.shline.specs.Clauses.{Stays, text_of};
 ghost use Rattle.shgrammar.specs.Standing.{raw_in};
@@ -199,20 +199,21 @@ impl<'a, S: Source, const KEEP: u8> Cursor<'a, S, KEEP> {
         at
     }
 
-    /// The place where the next token begins, and whether a continuation stands among the blanks before it.
+    /// The place where the next token begins, from one where no blank stands: behind the continuations there,
+    /// and the blanks among them.
     #[inline(always)]
-    #[tactic(auto, unfolding(shgrammar::specs::Bytes::is_broken_at), using(shgrammar::proofs::Unbroken::blanks_whole, shgrammar::proofs::Unbroken::blanks_on, shgrammar::proofs::Unbroken::blanks_stop_raw))]
-    pub(crate) fn past_blanks(&self, from: usize) -> (usize, bool)
-        requires { from ≤ length (text_of S.bytes self.now) }
-        ensures place { result.0 ≡ past_blanks (text_of S.bytes self.now) from }
-        ensures broken { result.1 ≡ is_broken_at (text_of S.bytes self.now) from }
-        ensures inside { (from ≤ result.0) × (result.0 ≤ length (text_of S.bytes self.now)) }
+    #[tactic(auto, using(crate::proofs::Passed::blanks_over, crate::proofs::Passed::no_blanks, shgrammar::proofs::Unbroken::blanks_stop_raw))]
+    pub(crate) fn past_broken_blanks(&self, from: usize) -> usize
+        requires within { from ≤ length (text_of S.bytes self.now) }
+        requires none { raw_in is_blank (text_of S.bytes self.now) from ≡ false }
+        ensures place { result ≡ past_blanks (text_of S.bytes self.now) from }
+        ensures inside { (from ≤ result) × (result ≤ length (text_of S.bytes self.now)) }
     {
-        let end = self.raw_past(from, Class::Blank);
-        if !self.continues(end) {
-            return (end, false);
+        let mut at = from;
+        'joined: while self.continues(at) {
+            at = self.raw_past(at + 2, Class::Blank);
         }
-        (self.place(self.past_joined(end, Class::Blank)), true)
+        at
     }
 
     /// Whether a word ends at a place.

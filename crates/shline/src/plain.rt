@@ -20,18 +20,4 @@ impl<'a, S: Source, const KEEP: u8> Cursor<'a, S, KEEP> {
         let at = self.at;
         self.at = at + plain_front(self.run_at(at), mode);
     }
-
-    /// The same behind a piece. A word ends behind most.
-    #[inline(always)]
-    pub(crate) fn skip_plain_behind(&mut self, mode: Mode)
-        ensures plain { ArePlain mode (text_of S.bytes self.old) self.old.at self.new.at }
-        ensures onward { self.old.at ≤ self.new.at }
-        ensures within { self.new.at ≤ length (text_of S.bytes self.old) }
-        ensures same { Stays self.old self.new }
-    {
-        if mode == Mode::Plain && self.ends_word() {
-            return;
-        }
-        self.skip_plain(mode);
-    }
 }

@@ -1,11 +1,10 @@
 //! The sets of bytes at which a run of others ends, as the tables that `shscan` takes: the kinds of a byte by its low four bits, and by its
 //! high four.
 ghost use Rattle.std.specs.Prelude.{◌≡◌, ◌<◌, ◌≤◌, ℕ, length, slice_get, slice_index, true};
-ghost use Rattle.shgrammar.specs.Classes.{in_class};
 ghost use Rattle.shgrammar.specs.Plain.{is_plain};
 ghost use Rattle.shgrammar.specs.Standing.{passes};
 
-use shgrammar::{Class, Mode};
+use shgrammar::Mode;
 use shscan::front_outside;
 
 /// Special bytes, by the high four bits: a kind for each half that one has.
@@ -16,18 +15,6 @@ const PLAIN: [u8; 16] = [18, 0, 2, 0, 2, 0, 2, 2, 2, 3, 1, 4, 44, 0, 4, 0];
 
 /// Those that are in double quotes.
 const DOUBLE: [u8; 16] = [16, 0, 2, 0, 2, 0, 0, 0, 0, 0, 0, 0, 8, 0, 0, 0];
-
-/// Bytes that are no blank.
-const NO_BLANK: ([u8; 16], [u8; 16]) = (
-    [3, 7, 7, 7, 7, 7, 7, 7, 7, 5, 7, 7, 7, 7, 7, 7],
-    [2, 1, 4, 1, 1, 1, 1, 1, 1, 1, 1, 1, 1, 1, 1, 1],
-);
-
-/// Bytes that stand in no name.
-const NO_NAME: ([u8; 16], [u8; 16]) = (
-    [5, 1, 1, 1, 1, 1, 1, 1, 1, 1, 3, 27, 27, 27, 27, 19],
-    [1, 1, 1, 2, 4, 8, 4, 16, 1, 1, 1, 1, 1, 1, 1, 1],
-);
 
 /// How many bytes at the front are ordinary in a mode, one by one.
 #[inline(always)]
@@ -72,18 +59,5 @@ pub(crate) fn plain_front(run: &[u8], mode: Mode) -> usize
         Mode::Plain => front_outside(run, PLAIN, SPECIAL),
         Mode::Double => front_outside(run, DOUBLE, SPECIAL),
         Mode::Brace | Mode::DoubleBrace | Mode::Arith => plain_by_byte(run, mode),
-    }
-}
-
-/// How many bytes at the front are of a class, or some of them. Digits, and tabs alone, are few.
-#[inline(always)]
-pub(crate) fn class_front(run: &[u8], class: Class) -> usize
-    ensures within { result ≤ length run.now }
-    ensures members { (k : ℕ) → k < result → in_class class (slice_index run.now k) ≡ true }
-{
-    match class {
-        Class::Blank => front_outside(run, NO_BLANK.0, NO_BLANK.1),
-        Class::Name => front_outside(run, NO_NAME.0, NO_NAME.1),
-        Class::Digit | Class::Tab => 0,
     }
 }

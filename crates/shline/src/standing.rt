@@ -6,7 +6,6 @@ ghost use Rattle.shgrammar.specs.Standing.{raw_past, at_end, continues, passes, 
 ghost use Rattle.shtext.specs.Text.{IsRun};
 
 use crate::cursor::Cursor;
-use crate::sets::class_front;
 use shgrammar::Class;
 use shtext::Source;
 
@@ -125,8 +124,8 @@ impl<'a, S: Source, const KEEP: u8> Cursor<'a, S, KEEP> {
         }
     }
 
-    /// The place behind the bytes of this class that stand from a place on, and the byte there, or `None` at the end. Most often they are
-    /// one or two, and else many.
+    /// The place behind the bytes of this class that stand from a place on, and the byte there, or `None` at
+    /// the end. Most often there are none or one: a test for each is foretold better than a loop.
     #[inline(always)]
     #[tactic(auto, unfolding(shgrammar::specs::Standing::raw_in), using(shgrammar::proofs::Stretches::raw_none, crate::proofs::Passed::raw_one, crate::proofs::Passed::raw_two))]
     pub(crate) fn raw_past_to(&self, from: usize, class: Class) -> (usize, Option<u8>)
@@ -157,7 +156,7 @@ impl<'a, S: Source, const KEEP: u8> Cursor<'a, S, KEEP> {
         self.raw_past_to(from, class).0
     }
 
-    /// The same, many bytes at once.
+    /// The same, byte by byte.
     #[inline(always)]
     #[tactic(auto, using(shgrammar::proofs::Stretches::raw_more, shgrammar::proofs::Stretches::raw_none))]
     fn raw_behind(&self, from: usize, class: Class) -> usize
@@ -165,7 +164,7 @@ impl<'a, S: Source, const KEEP: u8> Cursor<'a, S, KEEP> {
         ensures value { result ≡ raw_past (in_class class) (text_of S.bytes self.now) from }
         ensures inside { (from ≤ result) × (result ≤ length (text_of S.bytes self.now)) }
     {
-        let mut at = from + class_front(self.run_at(from), class);
+        let mut at = from;
         'bytes: while self.raw_in(at, class) {
             at += 1;
         }

@@ -1,8 +1,9 @@
 //! The token that begins at a place (XCU 2.3, 2.4, 2.10.1).
-ghost use Rattle.std.specs.Prelude.{◌≡◌, ◌<◌, ◌≤◌, [], ◌∷◌, None, Some, false, if◌then◌else◌, length, slice_get};
+ghost use Rattle.std.specs.Prelude.{◌≡◌, ◌<◌, ◌≤◌, [], ◌∷◌, None, Some, false, true, if◌then◌else◌, length, slice_get};
 ghost use Rattle.shgrammar.specs.Bytes.{past_blanks, past_continuations};
 ghost use Rattle.shgrammar.specs.Shows.{IsRead, Shows};
-ghost use Rattle.shgrammar.specs.Standing.{raw_stands};
+ghost use Rattle.shgrammar.specs.Classes.{is_blank};
+ghost use Rattle.shgrammar.specs.Standing.{continues, raw_past, raw_stands};
 ghost use Rattle.shgrammar.specs.Tokens.{begins_assignment, first_of_words, greater_at, is_name_at, is_number, is_word_at, less_at, next_at, past_digits, past_reserved, reserved_at, token_at, word_by};
 ghost use Rattle.shline.specs.Clauses.{Stays, text_of};
 
@@ -330,7 +331,7 @@ impl<'a, S: Source, const KEEP: u8> Cursor<'a, S, KEEP> {
         let from = self.at;
         let (at, byte) = self.raw_past_to(from, Class::Blank);
         if self.continues_with(at, byte) {
-            return self.next_token_joined(position);
+            return self.next_token_joined(at, position);
         }
         let token = self.token(at, byte, position);
         self.at = at;
@@ -340,20 +341,25 @@ impl<'a, S: Source, const KEEP: u8> Cursor<'a, S, KEEP> {
         }
     }
 
-    /// The same, past continuations.
-    #[cold]
-    #[tactic(auto, using(shgrammar::proofs::Shown::shown, shgrammar::proofs::Shown::blanks_still))]
-    fn next_token_joined(&mut self, position: Position) -> Next
+    /// The same, where the first blanks from here on end at a continuation.
+    #[inline(never)]
+    #[tactic(auto, unfolding(shgrammar::specs::Bytes::is_broken_at), using(shgrammar::proofs::Shown::shown, shgrammar::proofs::Shown::blanks_still))]
+    fn next_token_joined(&mut self, end: usize, position: Position) -> Next
+        requires end { end ≡ raw_past is_blank (text_of S.bytes self.old) self.old.at }
+        requires within { (self.old.at ≤ end) × (end ≤ length (text_of S.bytes self.old)) }
+        requires joined { continues (text_of S.bytes self.old) end ≡ true }
         ensures value { result ≡ next_at position (text_of S.bytes self.old) self.old.at }
         ensures place { self.new.at ≡ past_blanks (text_of S.bytes self.old) self.old.at }
         ensures shows { Shows result.token (text_of S.bytes self.old) self.new.at }
         ensures inside { self.old.at ≤ self.new.at }
         ensures same { Stays self.old self.new }
     {
-        let from = self.at;
-        let (at, broken) = self.past_blanks(from);
+        let at = self.past_broken_blanks(end);
         let token = self.token(at, self.raw_byte(at), position);
         self.at = at;
-        Next { token, broken }
+        Next {
+            token,
+            broken: true,
+        }
     }
 }

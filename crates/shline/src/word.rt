@@ -233,7 +233,7 @@ impl<'a, S: Source, const KEEP: u8> Cursor<'a, S, KEEP> {
     {
         let mut nested = 0;
         'pieces: while self.take_piece(alloc, mode, opener, &mut nested, substs, room)? {
-            self.skip_plain_behind(mode);
+            self.skip_plain(mode);
         }
         Ok(())
     }

@@ -23,17 +23,17 @@ pub contents-pieces-preserved : goal.contents-pieces-preserved
 contents-pieces-preserved g t c =
     let inv = c.pieces.invariant in
     let told = c.in_ok-take_piece.ensures in
-    let rest = c.skip_plain_behind.ensures in
+    let rest = c.skip_plain.ensures in
     let was = inv.4 in
     let text = text_of g.S.Source.bytes c.args.self.now in
     let piece = rw (was.0, was.1, was.2, was.3, c.if-branch.true, ← rest.same.3) at told.value in
     let before = c.pieces.self.documents in
-    let behind = c.skip_plain_behind.new.self.documents in
+    let behind = c.skip_plain.new.self.documents in
     let onward : c.pieces.self.at < c.take_piece.new.self.at = rw c.if-branch.true at told.onward in
     let plain = rw (told.same.0, told.same.1, was.0, was.1) at rest.plain in
     let within = rw (told.same.0, told.same.1, was.0, was.1) at rest.within in (
       piece_and_plain (level c.args.room) (keep_of c.args.self.now) (given text c.args.self.now.origin) c.args.mode (c.args.self.now.origin + c.args.opener)
-          (map view_waiting behind.waiting.items) behind.bodies.items (having c.pieces.nested (map view_subst c.pieces.substs.items)) (having c.take_piece.new.nested (map view_subst c.take_piece.new.substs.items)) (map view_waiting before.waiting.items) before.bodies.items c.pieces.self.at c.take_piece.new.self.at c.skip_plain_behind.new.self.at _
+          (map view_waiting behind.waiting.items) behind.bodies.items (having c.pieces.nested (map view_subst c.pieces.substs.items)) (having c.take_piece.new.nested (map view_subst c.take_piece.new.substs.items)) (map view_waiting before.waiting.items) before.bodies.items c.pieces.self.at c.take_piece.new.self.at c.skip_plain.new.self.at _
           inv.0 piece onward (omega (arith, rest.onward, within)) plain rest.onward within,
       omega (arith, inv.1, onward, rest.onward),
       omega (arith, told.nested, rest.onward),

@@ -1,8 +1,34 @@
-use Rattle.shline.specs.Clauses.{text_of}
+use Rattle.std.proofs.Common.{◌≡◌, ℕ, true, List, sym, refl, ap, ◌∙◌, arith}
+use Rattle.shgrammar.specs.Bytes.{is_broken_at, past_blanks}
+use Rattle.shgrammar.specs.Classes.{is_blank}
+use Rattle.shgrammar.specs.Standing.{continues, raw_in, raw_past}
 use Rattle.shgrammar.proofs.Shown.{shown}
+use Rattle.shgrammar.proofs.Unbroken.{blanks_on, blanks_stop_raw}
+use Rattle.shline.specs.Clauses.{text_of}
 use Rattle.shline.proofs.cursor.Cursor.next_token_joined.Goals as goal
+
+-- a continuation ends the first blanks: the token stands behind what follows it
+joined : (T : List ℕ) (p e : ℕ) → e ≡ raw_past is_blank T p → continues T e ≡ true → (past_blanks T e ≡ past_blanks T p) × (is_broken_at T p ≡ true)
+unfolding is_broken_at past_blanks
+joined T p e is here = (ap (past_blanks T) is ∙ sym (blanks_on T p), ap (continues T) (sym is) ∙ here)
+
+pub past_broken_blanks-at-requires : goal.past_broken_blanks-at-requires
+past_broken_blanks-at-requires g c =
+    let T = text_of g.S.Source.bytes c.args.self.now in
+    (omega arith, (c.requires.within.1, ap (raw_in is_blank T) c.requires.end ∙ blanks_stop_raw T c.args.self.now.at))
+
+pub returns-clause-value : goal.returns-clause-value
+returns-clause-value g c =
+    let blanks = joined (text_of g.S.Source.bytes c.args.self.now) c.args.self.now.at c.args.end c.requires.end c.requires.joined in
+    rw (c.token-token.ensures, c.past_broken_blanks-at.ensures.place, blanks.0, blanks.1) refl
+
+pub returns-clause-place : goal.returns-clause-place
+returns-clause-place g c =
+    let blanks = joined (text_of g.S.Source.bytes c.args.self.now) c.args.self.now.at c.args.end c.requires.end c.requires.joined in
+    c.past_broken_blanks-at.ensures.place ∙ blanks.0
 
 pub returns-clause-shows : goal.returns-clause-shows
 returns-clause-shows g c =
-    let token = c.token-token.ensures in
-    rw (token, c.past_blanks-at.ensures.place) (shown c.args.position (text_of g.S.Source.bytes c.args.self.now) c.args.self.now.at)
+    let T = text_of g.S.Source.bytes c.args.self.now in
+    let blanks = joined T c.args.self.now.at c.args.end c.requires.end c.requires.joined in
+    rw (c.token-token.ensures, c.past_broken_blanks-at.ensures.place, blanks.0) (shown c.args.position T c.args.self.now.at)
