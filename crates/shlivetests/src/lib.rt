@@ -16,6 +16,8 @@ mod printer_texts;
 #[cfg(test)]
 mod session_blocks;
 #[cfg(test)]
+mod session_blocks_refused;
+#[cfg(test)]
 mod session_refused;
 #[cfg(test)]
 mod session_runs;

@@ -7,7 +7,7 @@ use std::alloc::Global;
 use std::test::Fail;
 
 /// Scripts, and what is printed for each with a tab for each level.
-const SCRIPTS: [(&[u8], &[u8]); 38] = [
+const SCRIPTS: [(&[u8], &[u8]); 43] = [
     (b"", b""),
     (b"if a;then b;fi", b"if a; then\n\tb\nfi\n"),
     (b"i\\\nf a; then b; fi", b"if a; then\n\tb\nfi\n"),
@@ -97,6 +97,23 @@ const SCRIPTS: [(&[u8], &[u8]); 38] = [
     ),
     (b"a <<E \\\nb\nx\nE\n", b"a <<E \\\n\tb\nx\nE\n"),
     (b"cat <<E |\nx\nE\nb\n", b"cat <<E |\nx\nE\n\tb\n"),
+    (
+        b"a=$(b;c) d \"$(e|f)\" ${g:-$(h)} $((1+$(i))) `j;k` >$(l)\n",
+        b"a=$(b;c) d \"$(e|f)\" ${g:-$(h)} $((1+$(i))) `j;k` >$(l)\n",
+    ),
+    (
+        b"a $(b $(c;d) <<E # e\n$(f\nE\n\n\ng) \\\n h\n",
+        b"a $(b $(c;d) <<E # e\n$(f\nE\n\n\ng) \\\n\th\n",
+    ),
+    (
+        b"for x in $(a;b);do c $(d);done\ncase $(e) in $(f)|g) $(h);;esac\n",
+        b"for x in $(a;b); do\n\tc $(d)\ndone\ncase $(e) in\n$(f) | g)\n\t$(h)\n\t;;\nesac\n",
+    ),
+    (
+        b"a $(if b;then c;fi;{ d;} ;(e) ;f(){ g;};while h;do i;done)",
+        b"a $(if b;then c;fi;{ d;} ;(e) ;f(){ g;};while h;do i;done)\n",
+    ),
+    (b"a <<E\n$(b;;\nE\n", b"a <<E\n$(b;;\nE\n"),
 ];
 
 /// A script's printed text.
@@ -132,6 +149,8 @@ fn faulty(rt: HostRuntime) -> Result<(), Fail> {
         (b"a &&\n", FaultKind::UnexpectedEnd, 5),
         (b"for 1 in a; do b; done\n", FaultKind::BadForName, 4),
         (b"my-f() { a; }\n", FaultKind::BadFunctionName, 0),
+        (b"a\nb $(c;;)", FaultKind::Unexpected, 7),
+        (b"a\n\"$(b\n", FaultKind::UnclosedSubst, 3),
     ] {
         let error = print_source(rt.alloc(), &layout, &Flat::new(script)).err();
         assert!(rt;

@@ -6,7 +6,7 @@ use std::alloc::{AllocError, Global};
 use std::test::Fail;
 
 /// So many lines.
-fn lines(alloc: Global, count: usize, line: &[u8]) -> Result<Vec<u8>, AllocError> {
+pub(crate) fn lines(alloc: Global, count: usize, line: &[u8]) -> Result<Vec<u8>, AllocError> {
     let mut bytes = Vec::new(alloc);
     for _ in 0..count {
         bytes.extend_from_slice(line)?;

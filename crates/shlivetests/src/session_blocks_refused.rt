@@ -1,0 +1,37 @@
+// Each growth of an edit refused in turn where lines stand in more than one block: `growths.rt` says how. An
+// edit that took bytes out is taken back then.
+use crate::session_blocks::lines;
+use crate::session_refused::each_refused;
+use std::test::Fail;
+
+/// Nodes are asked for at one offset of so many.
+const STEP: usize = 499;
+
+/// A line of a block that has no room for one more becomes two.
+#[test]
+fn in_a_block(rt: HostRuntime) -> Result<(), Fail> {
+    let script = lines(rt.alloc(), 768, b"a\n")?;
+    each_refused(&rt, rt.alloc(), &script, ((1_200, 1_202), b"b\nc\n"), STEP)
+}
+
+/// The same of a block that would have too many lines, so that it is cut: there are five blocks then, where
+/// there was room for four.
+#[test]
+fn cut(rt: HostRuntime) -> Result<(), Fail> {
+    let script = lines(rt.alloc(), 1_800, b"a\n")?;
+    each_refused(&rt, rt.alloc(), &script, ((1_200, 1_202), b"b\nc\n"), STEP)
+}
+
+/// A line is put in between two such blocks.
+#[test]
+fn between(rt: HostRuntime) -> Result<(), Fail> {
+    let script = lines(rt.alloc(), 1_800, b"a\n")?;
+    each_refused(&rt, rt.alloc(), &script, ((1_024, 1_024), b"b\n"), STEP)
+}
+
+/// A line takes the place of two blocks.
+#[test]
+fn whole(rt: HostRuntime) -> Result<(), Fail> {
+    let script = lines(rt.alloc(), 1_800, b"a\n")?;
+    each_refused(&rt, rt.alloc(), &script, ((1_024, 3_072), b"b\n"), STEP)
+}
