@@ -21,6 +21,8 @@ scripts: $(PROGRAM) $(TESTS)
 	tests/run
 	tests/session
 	tests/refused-growths
+	tests/leaks
+	tests/stack
 	tests/second-reader
 	tests/launcher
 	tests/install
