@@ -160,7 +160,7 @@ fn requests(rt: HostRuntime) -> Result<(), Fail> {
     let alloc = rt.alloc();
     let mut growths = Growths::of(alloc);
     let asked = b"edit 3 3 2\n c\noutline\nprint\nfault\nquit\n";
-    let mut spared = 0;
+    let mut was_spared = false;
     for _ in 1..200 {
         let mut page = page_of(PAGE);
         let status = written(alloc, asked.as_slice(), &mut growths, &mut page)?;
@@ -172,7 +172,8 @@ fn requests(rt: HostRuntime) -> Result<(), Fail> {
             break;
         }
         if is_whole {
-            spared += 1;
+            assert!(rt; !was_spared);
+            was_spared = true;
             continue;
         }
         let is_told = [
@@ -185,7 +186,7 @@ fn requests(rt: HostRuntime) -> Result<(), Fail> {
         assert!(rt; is_told);
     }
     // Where the text is refused memory for more than the edit needs, it asks for that alone.
-    assert!(rt; growths.were_each_refused() && spared < 2);
+    assert!(rt; growths.were_each_refused());
     Ok(())
 }
 
