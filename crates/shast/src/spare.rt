@@ -8,124 +8,90 @@ use crate::tree::{
     Pipeline,
 };
 use std::alloc::Global;
-use std::{array, mem};
+use std::mem;
 
 /// How many vectors of each kind are kept.
-const MOST_KEPT: usize = 32;
+const MOST_KEPT: usize = 128;
 
 /// The most room of a vector that is kept, so that a long list holds no memory once it is done with.
-const WIDEST: usize = 16;
+const WIDEST: usize = 64;
 
 /// Emptied vectors of trees that are done with: a reader that makes its lists and commands of these asks for
-/// memory less often. It asks for no memory itself.
+/// memory less often.
 #[derive(Drop)]
 pub struct Spare {
-    /// There are none before the first tree comes back: who reads one line alone pays nothing.
-    pools: Option<Pools>,
-}
-
-impl Spare {
-    /// None is kept yet.
-    pub fn new() -> Spare {
-        Spare { pools: None }
-    }
-
-    /// A vector for the items of a command.
-    pub fn items(&mut self, alloc: Global) -> Vec<Item>
-        ensures { result.items ≡ [] }
-    {
-        match &mut self.pools {
-            Some(pools) => pools.items.take(alloc),
-            None => Vec::new(alloc),
-        }
-    }
-
-    /// A vector for the entries of a list.
-    pub fn entries(&mut self, alloc: Global) -> Vec<Entry>
-        ensures { result.items ≡ [] }
-    {
-        match &mut self.pools {
-            Some(pools) => pools.entries.take(alloc),
-            None => Vec::new(alloc),
-        }
-    }
-
-    /// Drops a list, and keeps its room and that of the lists and commands below it, as far as there is place for it. What stands in
-    /// a word is dropped whole.
-    ///
-    /// It goes no deeper than a plain drop of the list does.
-    pub fn give_back(&mut self, entries: Vec<Entry>) {
-        if entries.capacity() == 0 {
-            return let_go(entries);
-        }
-        let alloc = *entries.allocator();
-        let mut list = List { entries };
-        spare_list(
-            &mut list,
-            self.pools.get_or_insert_with(|| Pools::new(alloc)),
-        );
-        let_go(list.entries);
-    }
-}
-
-/// The vectors of both kinds.
-#[derive(Drop)]
-struct Pools {
     items: Pool<Item>,
     entries: Pool<Entry>,
 }
 
-impl Pools {
-    fn new(alloc: Global) -> Pools {
-        Pools {
+impl Spare {
+    /// None is kept yet. It asks for no memory.
+    pub fn new(alloc: Global) -> Spare {
+        Spare {
             items: Pool::new(alloc),
             entries: Pool::new(alloc),
         }
     }
+
+    /// A vector for the items of a command. It asks for no memory.
+    pub fn items(&mut self, alloc: Global) -> Vec<Item>
+        ensures { result.items ≡ [] }
+    {
+        self.items.take(alloc)
+    }
+
+    /// A vector for the entries of a list. It asks for no memory.
+    pub fn entries(&mut self, alloc: Global) -> Vec<Entry>
+        ensures { result.items ≡ [] }
+    {
+        self.entries.take(alloc)
+    }
+
+    /// Drops a list, and keeps its room and that of the lists and commands below it, as far as there is place
+    /// for it. What stands in a word is dropped whole.
+    ///
+    /// It goes no deeper than a plain drop of the list does. Where it gets no memory to note what it keeps, it
+    /// keeps less.
+    pub fn give_back(&mut self, entries: Vec<Entry>) {
+        let mut list = List { entries };
+        spare_list(&mut list, self);
+        let_go(list.entries);
+    }
 }
 
-/// Emptied vectors of one kind. They lie in place, so that to keep one asks for no memory.
+/// Emptied vectors of one kind.
 #[derive(Drop)]
 struct Pool<T: Drop> {
-    vectors: [Vec<T>; MOST_KEPT],
-    /// So many of them, from the first on, have room. The others have none.
-    kept: usize,
+    vectors: Vec<Vec<T>>,
 }
 
 impl<T: Drop> Pool<T> {
     fn new(alloc: Global) -> Pool<T> {
         Pool {
-            vectors: array::from_fn(|_| Vec::new(alloc)),
-            kept: 0,
+            vectors: Vec::new(alloc),
         }
     }
 
-    /// The vector that was kept last; where there is none, one with no room yet. What is kept is empty, and looked at once more, so that
-    /// nothing has to be known of the vectors.
+    /// The vector that was kept last; where there is none, one with no room yet. What is kept is empty, and
+    /// looked at once more, so that nothing has to be known of the vectors.
+    #[inline(always)]
     fn take(&mut self, alloc: Global) -> Vec<T>
         ensures { result.items ≡ [] }
     {
-        if let Some(last) = self.kept.checked_sub(1)
-            && let Some(place) = self.vectors.get_mut(last)
-            && place.is_empty()
-        {
-            let taken = mem::replace(place, Vec::new(alloc));
-            self.kept = last;
-            return taken;
+        match self.vectors.pop() {
+            Some(last) if last.is_empty() => last,
+            _ => Vec::new(alloc),
         }
-        Vec::new(alloc)
     }
 
-    /// Keeps a vector, where there is place for it.
+    /// Keeps a vector, where there is place for it, and drops it elsewhere.
     #[inline(always)]
     fn keep(&mut self, emptied: Vec<T>) {
         let room = emptied.capacity();
-        if 0 < room
-            && room <= WIDEST
-            && let Some(place) = self.vectors.get_mut(self.kept)
-        {
-            let_go(mem::replace(place, emptied));
-            self.kept += 1;
+        if 0 < room && room <= WIDEST && self.vectors.len() < MOST_KEPT {
+            let _ = self.vectors.push(emptied);
+        } else {
+            let_go(emptied);
         }
     }
 }
@@ -149,7 +115,7 @@ fn let_item_go(item: Item) {
 
 /// The parts of a list are moved out of it one by one and taken apart, so that none is gone through twice.
 #[cycle(spare)]
-fn spare_list(list: &mut List, spare: &mut Pools) {
+fn spare_list(list: &mut List, spare: &mut Spare) {
     while let Some(entry) = list.entries.pop() {
         spare_entry(entry, spare);
     }
@@ -160,14 +126,14 @@ fn spare_list(list: &mut List, spare: &mut Pools) {
 }
 
 #[cycle(spare)]
-fn spare_entry(entry: Entry, spare: &mut Pools) {
+fn spare_entry(entry: Entry, spare: &mut Spare) {
     if let Content::AndOr(and_or) = entry.what {
         spare_and_or(and_or, spare);
     }
 }
 
 #[cycle(spare)]
-fn spare_and_or(mut and_or: AndOr, spare: &mut Pools) {
+fn spare_and_or(mut and_or: AndOr, spare: &mut Spare) {
     while let Some(part) = and_or.rest.pop() {
         spare_pipeline(part.pipeline, spare);
     }
@@ -177,7 +143,7 @@ fn spare_and_or(mut and_or: AndOr, spare: &mut Pools) {
 }
 
 #[cycle(spare)]
-fn spare_pipeline(mut pipeline: Pipeline, spare: &mut Pools) {
+fn spare_pipeline(mut pipeline: Pipeline, spare: &mut Spare) {
     while let Some(part) = pipeline.rest.pop() {
         spare_command(part.command, spare);
     }
@@ -189,7 +155,7 @@ fn spare_pipeline(mut pipeline: Pipeline, spare: &mut Pools) {
 /// Nearly each command is a simple one: that case is a part of the callers. The others are not, so that the frames stay small.
 #[cycle(spare)]
 #[inline(always)]
-fn spare_command(command: Command, spare: &mut Pools) {
+fn spare_command(command: Command, spare: &mut Spare) {
     match command {
         Command::Simple { items } => spare_items(items, spare),
         Command::Compound(mut compound) => spare_compound(&mut compound, spare),
@@ -198,7 +164,7 @@ fn spare_command(command: Command, spare: &mut Pools) {
 }
 
 #[inline(always)]
-fn spare_items(mut items: Vec<Item>, spare: &mut Pools) {
+fn spare_items(mut items: Vec<Item>, spare: &mut Spare) {
     while let Some(item) = items.pop() {
         let_item_go(item);
     }
@@ -206,20 +172,20 @@ fn spare_items(mut items: Vec<Item>, spare: &mut Pools) {
 }
 
 /// The same of items that are a part of a compound command.
-fn spare_items_of(items: &mut Vec<Item>, spare: &mut Pools) {
+fn spare_items_of(items: &mut Vec<Item>, spare: &mut Spare) {
     let roomless = Vec::new(*items.allocator());
     spare_items(mem::replace(items, roomless), spare);
 }
 
 #[cycle(spare)]
 #[inline(never)]
-fn spare_compound(compound: &mut Compound, spare: &mut Pools) {
+fn spare_compound(compound: &mut Compound, spare: &mut Spare) {
     spare_form(&mut compound.form, spare);
     spare_items_of(&mut compound.redirects, spare);
 }
 
 #[cycle(spare)]
-fn spare_form(form: &mut Form, spare: &mut Pools) {
+fn spare_form(form: &mut Form, spare: &mut Spare) {
     match form {
         Form::Brace(list) | Form::Subshell(list) => spare_list(list, spare),
         Form::If {
@@ -241,33 +207,33 @@ fn spare_form(form: &mut Form, spare: &mut Pools) {
 }
 
 #[cycle(spare)]
-fn spare_branch(branch: &mut Branch, spare: &mut Pools) {
+fn spare_branch(branch: &mut Branch, spare: &mut Spare) {
     spare_list(&mut branch.condition, spare);
     spare_list(&mut branch.body, spare);
 }
 
 #[cycle(spare)]
-fn spare_branches(branches: &mut [Branch], spare: &mut Pools) {
+fn spare_branches(branches: &mut [Branch], spare: &mut Spare) {
     for branch in branches.iter_mut() {
         spare_branch(branch, spare);
     }
 }
 
 #[cycle(spare)]
-fn spare_else(otherwise: &mut Option<List>, spare: &mut Pools) {
+fn spare_else(otherwise: &mut Option<List>, spare: &mut Spare) {
     if let Some(list) = otherwise {
         spare_list(list, spare);
     }
 }
 
-fn spare_words(words: &mut Option<Vec<Item>>, spare: &mut Pools) {
+fn spare_words(words: &mut Option<Vec<Item>>, spare: &mut Spare) {
     if let Some(items) = words {
         spare_items_of(items, spare);
     }
 }
 
 #[cycle(spare)]
-fn spare_cases(items: &mut [CaseItem], spare: &mut Pools) {
+fn spare_cases(items: &mut [CaseItem], spare: &mut Spare) {
     for item in items.iter_mut() {
         spare_list(&mut item.body, spare);
     }

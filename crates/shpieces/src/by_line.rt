@@ -75,7 +75,7 @@ impl Printing {
             source,
         };
         let mut lines = ScriptLines::behind(self.alloc, source, self.before);
-        let mut spare = Spare::new();
+        let mut spare = Spare::new(self.alloc);
         'lines: loop {
             let Ok(line) = lines.read_whole_with(Some(&mut spare)) else {
                 return Err(AllocError);
@@ -101,7 +101,7 @@ impl Printing {
             source,
         };
         let mut lines = ScriptLines::behind(self.alloc, source, self.before);
-        let mut spare = Spare::new();
+        let mut spare = Spare::new(self.alloc);
         'lines: loop {
             let Ok(line) = lines.read_outer_with(Some(&mut spare)) else {
                 return Err(AllocError);

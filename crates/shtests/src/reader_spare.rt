@@ -76,7 +76,7 @@ fn are_whole_alike(alloc: Global, script: &[u8], spare: &mut Spare) -> Result<bo
 #[test]
 fn the_same_lines(rt: HostRuntime) -> Result<(), Fail> {
     let alloc = rt.alloc();
-    let mut spare = Spare::new();
+    let mut spare = Spare::new(alloc);
     for row in &rows(alloc, ROWS)? {
         let (scripts, _) = split(row)?;
         for script in scripts {
@@ -99,7 +99,7 @@ fn one_is_kept(alloc: Global, spare: &mut Spare) -> (bool, bool) {
 #[test]
 fn taken(rt: HostRuntime) -> Result<(), Fail> {
     let alloc = rt.alloc();
-    let mut spare = Spare::new();
+    let mut spare = Spare::new(alloc);
     let source = Flat::new(b"a b\nc d\n");
     let mut lines = ScriptLines::new(alloc, &source);
     if let Some(entries) = lines.read_whole_with(Some(&mut spare))? {
@@ -118,7 +118,7 @@ fn taken(rt: HostRuntime) -> Result<(), Fail> {
 #[test]
 fn none_taken_where_none_grows(rt: HostRuntime) -> Result<(), Fail> {
     let alloc = rt.alloc();
-    let mut spare = Spare::new();
+    let mut spare = Spare::new(alloc);
     let source = Flat::new(b"a; b; c; d; e\na $(b; c | d) \"$({ e; f; })\"\n");
     let mut lines = ScriptLines::new(alloc, &source);
     if let Some(entries) = lines.read_whole_with(Some(&mut spare))? {

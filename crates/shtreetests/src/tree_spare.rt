@@ -9,7 +9,7 @@ use std::alloc::{AllocError, Global};
 use std::test::Fail;
 
 /// So many vectors are asked for: more than are ever kept.
-const ASKED: usize = 100;
+const ASKED: usize = 200;
 
 /// How many vectors of items with room are kept; none is kept any more then.
 fn items_kept(alloc: Global, spare: &mut Spare) -> usize {
@@ -50,7 +50,7 @@ fn script(alloc: Global) -> Script<'static> {
 #[test]
 fn nothing_yet(rt: HostRuntime) {
     let alloc = rt.alloc();
-    let mut spare = Spare::new();
+    let mut spare = Spare::new(alloc);
     assert!(rt; items_kept(alloc, &mut spare) == 0 && entries_kept(alloc, &mut spare) == 0);
     spare.give_back(Vec::new(alloc));
     assert!(rt; items_kept(alloc, &mut spare) == 0 && entries_kept(alloc, &mut spare) == 0);
@@ -60,7 +60,7 @@ fn nothing_yet(rt: HostRuntime) {
 #[test]
 fn each_once(rt: HostRuntime) -> Result<(), Fail> {
     let alloc = rt.alloc();
-    let mut spare = Spare::new();
+    let mut spare = Spare::new(alloc);
     spare.give_back(commands(script(alloc), 2)?);
     let first = spare.items(alloc);
     assert!(rt; first.is_empty() && first.capacity() > 0);
@@ -74,7 +74,7 @@ fn each_once(rt: HostRuntime) -> Result<(), Fail> {
 #[test]
 fn each_place(rt: HostRuntime) -> Result<(), Fail> {
     let alloc = rt.alloc();
-    let mut spare = Spare::new();
+    let mut spare = Spare::new(alloc);
     spare.give_back(Documents::closed(alloc).whole()?.entries);
     assert_eq!(rt; items_kept(alloc, &mut spare), 21);
     assert_eq!(rt; entries_kept(alloc, &mut spare), 15);
@@ -85,7 +85,7 @@ fn each_place(rt: HostRuntime) -> Result<(), Fail> {
 fn words_of_a_for(rt: HostRuntime) -> Result<(), Fail> {
     let alloc = rt.alloc();
     let script = script(alloc);
-    let mut spare = Spare::new();
+    let mut spare = Spare::new(alloc);
     let words: Option<Vec<Item>> = Some(script.arguments(&["b"])?);
     let form = for_of(script.word("a"), words, script.run(&["b"])?);
     let compound = Box::new(alloc, script.formed(form, "a"))?;
@@ -98,11 +98,11 @@ fn words_of_a_for(rt: HostRuntime) -> Result<(), Fail> {
 #[test]
 fn too_many(rt: HostRuntime) -> Result<(), Fail> {
     let alloc = rt.alloc();
-    let mut spare = Spare::new();
+    let mut spare = Spare::new(alloc);
     for _ in 0..2 {
-        spare.give_back(commands(script(alloc), 40)?);
+        spare.give_back(commands(script(alloc), 70)?);
     }
-    assert!(rt; items_kept(alloc, &mut spare) == 32 && entries_kept(alloc, &mut spare) == 0);
+    assert!(rt; items_kept(alloc, &mut spare) == 128 && entries_kept(alloc, &mut spare) == 0);
     Ok(())
 }
 
@@ -110,26 +110,52 @@ fn too_many(rt: HostRuntime) -> Result<(), Fail> {
 #[test]
 fn widest(rt: HostRuntime) -> Result<(), Fail> {
     let alloc = rt.alloc();
-    let mut spare = Spare::new();
-    spare.give_back(commands(script(alloc), 16)?);
+    let mut spare = Spare::new(alloc);
+    spare.give_back(commands(script(alloc), 64)?);
     assert!(rt; entries_kept(alloc, &mut spare) == 1);
-    spare.give_back(commands(script(alloc), 17)?);
+    spare.give_back(commands(script(alloc), 65)?);
     assert!(rt; entries_kept(alloc, &mut spare) == 0);
     Ok(())
 }
 
-/// Nothing is asked for, neither to keep vectors nor to hand them out: the refusal that was due is still due.
+/// A vector that there is no memory to note is dropped, and the others are kept.
 #[test]
 fn without_memory(rt: HostRuntime) -> Result<(), Fail> {
     let alloc = rt.alloc();
-    let list = commands(script(alloc), 40)?;
     let mut growths = Growths::of(alloc);
+    for _ in 1..40 {
+        let list = commands(script(alloc), 20)?;
+        let mut spare = Spare::new(alloc);
+        growths.refuse_next();
+        spare.give_back(list);
+        let is_met = growths.is_met();
+        let items = items_kept(alloc, &mut spare);
+        let entries = entries_kept(alloc, &mut spare);
+        let wanted = if is_met {
+            [(19, 1), (20, 0)]
+        } else {
+            [(20, 1); 2]
+        };
+        assert!(rt; wanted.contains(&(items, entries)));
+        if !is_met {
+            break;
+        }
+    }
+    assert!(rt; growths.were_each_refused());
+    Ok(())
+}
+
+/// To hand out what is kept, or what is not, takes no memory.
+#[test]
+fn handed_out(rt: HostRuntime) -> Result<(), Fail> {
+    let alloc = rt.alloc();
+    let mut growths = Growths::of(alloc);
+    let mut spare = Spare::new(alloc);
+    spare.give_back(commands(script(alloc), 2)?);
     growths.refuse_next();
-    let mut spare = Spare::new();
-    spare.give_back(list);
-    let kept = items_kept(alloc, &mut spare);
+    let items = items_kept(alloc, &mut spare);
     let entries = entries_kept(alloc, &mut spare);
     assert!(rt; !growths.is_met());
-    assert!(rt; kept == 32 && entries == 0);
+    assert!(rt; items == 2 && entries == 1);
     Ok(())
 }
