@@ -5,3 +5,4 @@ pub mod Searches
 pub mod ByteSets
 pub mod Passed
 pub mod EmptyLine
+pub mod TwoBytes

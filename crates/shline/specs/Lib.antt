@@ -1,3 +1,4 @@
+pub mod Beginnings
 pub mod Listed
 pub mod Clauses
 pub mod Sought

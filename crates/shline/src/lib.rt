@@ -24,6 +24,7 @@ mod piece;
 mod pipeline;
 mod plain;
 mod redirect;
+mod reserved;
 mod search;
 mod sets;
 mod standing;

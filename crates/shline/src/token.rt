@@ -1,153 +1,18 @@
 //! The token that begins at a place (XCU 2.3, 2.4, 2.10.1).
-ghost use Rattle.std.specs.Prelude.{◌≡◌, ◌<◌, ◌≤◌, [], ◌∷◌, None, Some, false, true, if◌then◌else◌, length, slice_get};
+ghost use Rattle.std.specs.Prelude.{◌≡◌, ◌≤◌, Some, false, true, length, slice_get};
 ghost use Rattle.shgrammar.specs.Bytes.{past_blanks, past_continuations};
-ghost use Rattle.shgrammar.specs.Shows.{IsRead, Shows};
+ghost use Rattle.shgrammar.specs.Shows.{Shows};
 ghost use Rattle.shgrammar.specs.Classes.{is_blank};
 ghost use Rattle.shgrammar.specs.Standing.{continues, raw_past, raw_stands};
-ghost use Rattle.shgrammar.specs.Tokens.{begins_assignment, first_of_words, greater_at, is_name_at, is_number, is_word_at, less_at, next_at, past_digits, past_reserved, reserved_at, token_at, word_by};
+ghost use Rattle.shgrammar.specs.Tokens.{begins_assignment, greater_at, is_name_at, is_number, less_at, next_at, past_digits, token_at, word_by};
 ghost use Rattle.shline.specs.Clauses.{Stays, text_of};
 
 use crate::cursor::Cursor;
 use shast::RedirectOperator;
-use shgrammar::{Class, Next, Position, Reserved, Token, begins_a_word, ends_words};
+use shgrammar::{Class, Next, Position, Token, begins_a_word};
 use shtext::Source;
 
 impl<'a, S: Source, const KEEP: u8> Cursor<'a, S, KEEP> {
-    /// Whether the word that is spelled so stands at a place. Most often no continuation stands in it.
-    #[inline(always)]
-    #[tactic(auto, using(shgrammar::proofs::Runs::run_letter_more, shgrammar::proofs::Runs::run_letter_other, shgrammar::proofs::Runs::run_word_whole))]
-    fn is_word(&self, from: usize, word: &[u8]) -> bool
-        requires { from ≤ length (text_of S.bytes self.now) }
-        ensures { result ≡ is_word_at (text_of S.bytes self.now) from word.now }
-    {
-        let run = self.run_at(from);
-        if run.len() <= word.len() {
-            return self.is_broken_word(from, word);
-        }
-        'letters: for (index, letter) in word.iter().enumerate() {
-            let byte = run[index];
-            if byte == b'\\' {
-                return self.is_broken_word(from, word);
-            }
-            if byte != *letter {
-                return false;
-            }
-        }
-        let behind = run[word.len()];
-        if behind == b'\\' {
-            return self.is_broken_word(from, word);
-        }
-        ends_words(behind)
-    }
-
-    /// The same, past continuations and stretches of the source.
-    #[cold]
-    #[tactic(auto, using(shgrammar::proofs::Stretches::word_more, shgrammar::proofs::Stretches::word_other, shgrammar::proofs::Stretches::word_whole))]
-    fn is_broken_word(&self, from: usize, word: &[u8]) -> bool
-        requires { from ≤ length (text_of S.bytes self.now) }
-        ensures { result ≡ is_word_at (text_of S.bytes self.now) from word.now }
-    {
-        let mut at = from;
-        'letters: for letter in word {
-            if !self.stands(at, *letter) {
-                return false;
-            }
-            at = self.behind(at);
-        }
-        self.ends_at(at)
-    }
-
-    /// This reserved word, if it stands at a place.
-    #[inline(always)]
-    fn spelled(&self, at: usize, word: &[u8], reserved: Reserved) -> Option<Reserved>
-        requires { at ≤ length (text_of S.bytes self.now) }
-        ensures { result ≡ (if is_word_at (text_of S.bytes self.now) at word.now then Some reserved else None) }
-    {
-        if self.is_word(at, word) {
-            Some(reserved)
-        } else {
-            None
-        }
-    }
-
-    /// This reserved word, or that one, if one of them stands at a place.
-    #[inline(always)]
-    #[tactic(auto, unfolding(shgrammar::specs::Tokens::first_of_words))]
-    fn spelled_as(
-        &self,
-        at: usize,
-        word: &[u8],
-        reserved: Reserved,
-        other: &[u8],
-        second: Reserved,
-    ) -> Option<Reserved>
-        requires { at ≤ length (text_of S.bytes self.now) }
-        ensures { result ≡ first_of_words (text_of S.bytes self.now) at
-            ((word.now, reserved) ∷ (other.now, second) ∷ []) }
-    {
-        if self.is_word(at, word) {
-            return Some(reserved);
-        }
-        self.spelled(at, other, second)
-    }
-
-    /// The reserved word that stands at a place, where this byte is the first, if one does. Most words begin with a byte that begins none.
-    #[inline(always)]
-    #[tactic(auto, unfolding(shgrammar::specs::Tokens::reserved_words, shgrammar::specs::Tokens::first_of_words, shgrammar::specs::Tokens::is_word_at, shgrammar::specs::Bytes::stands))]
-    fn reserved(&self, at: usize, first: u8) -> Option<Reserved>
-        requires within { at ≤ length (text_of S.bytes self.now) }
-        requires still { past_continuations (text_of S.bytes self.now) at ≡ at }
-        requires first { slice_get (text_of S.bytes self.now) at ≡ Some first }
-        ensures { result ≡ reserved_at (text_of S.bytes self.now) at }
-    {
-        match first {
-            b'!' | b'{' | b'}' | b'c' | b'd' | b'e' | b'f' | b'i' | b't' | b'u' | b'w' =>
-                self.reserved_by_letters(at),
-            _ => None,
-        }
-    }
-
-    /// The same. The first byte tells which word it may be.
-    #[inline(never)]
-    #[tactic(auto, unfolding(shgrammar::specs::Tokens::reserved_words, shgrammar::specs::Tokens::first_of_words, shgrammar::specs::Tokens::is_word_at, shgrammar::specs::Bytes::stands))]
-    fn reserved_by_letters(&self, at: usize) -> Option<Reserved>
-        requires within { at ≤ length (text_of S.bytes self.now) }
-        requires still { past_continuations (text_of S.bytes self.now) at ≡ at }
-        ensures { result ≡ reserved_at (text_of S.bytes self.now) at }
-    {
-        match self.raw_byte(at) {
-            Some(b'!') => self.spelled(at, b"!", Reserved::Bang),
-            Some(b'{') => self.spelled(at, b"{", Reserved::OpenBrace),
-            Some(b'}') => self.spelled(at, b"}", Reserved::CloseBrace),
-            Some(b'c') => self.spelled(at, b"case", Reserved::Case),
-            Some(b'd') => self.spelled_as(at, b"do", Reserved::Do, b"done", Reserved::Done),
-            Some(b'e') => {
-                if self.is_word(at, b"elif") {
-                    return Some(Reserved::Elif);
-                }
-                self.spelled_as(at, b"else", Reserved::Else, b"esac", Reserved::Esac)
-            }
-            Some(b'f') => self.spelled_as(at, b"fi", Reserved::Fi, b"for", Reserved::For),
-            Some(b'i') => self.spelled_as(at, b"if", Reserved::If, b"in", Reserved::In),
-            Some(b't') => self.spelled(at, b"then", Reserved::Then),
-            Some(b'u') => self.spelled(at, b"until", Reserved::Until),
-            Some(b'w') => self.spelled(at, b"while", Reserved::While),
-            _ => None,
-        }
-    }
-
-    /// Passes the reserved word here.
-    #[tactic(auto, unfolding(shgrammar::specs::Tokens::past_reserved, shgrammar::specs::Bytes::behind))]
-    pub(crate) fn pass_reserved(&mut self)
-        requires { IsRead (text_of S.bytes self.old) self.old.at }
-        ensures value { self.new.at ≡ past_reserved (text_of S.bytes self.old) self.old.at }
-        ensures onward { self.old.at < self.new.at }
-        ensures same { Stays self.old self.new }
-    {
-        let at = self.at;
-        self.at = self.past(self.behind(at), Class::Name);
-    }
-
     /// Passes the digits here.
     #[tactic(auto, unfolding(shgrammar::specs::Tokens::past_digits))]
     pub(crate) fn pass_digits(&mut self)

@@ -1,0 +1,118 @@
+-- What two bytes tell of reserved words.
+use Rattle.std.proofs.Common.{◌≡◌, ℕ, zero, suc, ◌+◌, ◌<◌, ◌==◌, Bool, true, false, ◌&&◌, ◌||◌, not, inl, inr, List, [], ◌∷◌, List as Row, Some, None, get_or, slice_get, bit_and, refl, sym, ap, ◌∙◌, arith, if◌then◌else◌}
+use Rattle.std.proofs.lemmas.Bool.{and_parts, cases_lt, eqb-true, or_from, or_parts, true≢false}
+use Rattle.shline.specs.declared.reserved.TheConstants.{FIRST, SECOND}
+use Rattle.shline.specs.Beginnings.{may_begin, may_spell}
+use Rattle.shgrammar.specs.Bytes.{behind, past_continuations, stands}
+use Rattle.shgrammar.specs.Standing.{raw_stands}
+use Rattle.shgrammar.specs.Tokens.{first_of_words, is_word_at, reserved_words, Spelling}
+use Rattle.shgrammar.proofs.Stretches.{raw_stays}
+
+-- ---- no word stands that may not begin with the two bytes there
+
+module _ (T : List ℕ) (p a b : ℕ) (still : past_continuations T p ≡ p) (first : slice_get T p ≡ Some a) (second : slice_get T (p + 1) ≡ Some b) where
+  other_two : (c d : ℕ) (ds : List ℕ) (x y : Bool) → (a == c) ≡ x → (b == 92) ≡ y → may_spell (c ∷ d ∷ ds) a b ≡ false → is_word_at T p (c ∷ d ∷ ds) ≡ false
+  unfolding may_spell is_word_at stands behind raw_stands
+  other_two c d ds false y e f bad = rw (still, first, e) refl
+  other_two c d ds true true e f bad = absurd (true≢false (rw (e, f) at bad))
+  other_two c d ds true false e f bad =
+      let whole : raw_stands T (p + 1) 92 ≡ false = rw second f in
+      let there : past_continuations T (p + 1) ≡ p + 1 = raw_stays T (p + 1) whole in
+      let other : (b == d) ≡ false = rw (e, f) at bad in
+      rw (still, first, e, there, second, other) refl
+
+  other_word : (w : List ℕ) → may_spell w a b ≡ false → is_word_at T p w ≡ false
+  unfolding may_spell is_word_at stands
+  other_word [] bad = absurd cc
+  other_word (c ∷ []) bad = rw (still, first, bad) refl
+  other_word (c ∷ d ∷ ds) bad = other_two c d ds (a == c) (b == 92) refl refl bad
+
+  pub none_begins : (ws : Row Spelling) → may_begin ws a b ≡ false → first_of_words T p ws ≡ None
+  unfolding may_begin first_of_words
+  none_begins [] bad = refl
+  none_begins (w ∷ ws) bad =
+      let parts = or_parts (may_spell w.0 a b) (may_begin ws a b) bad in
+      rw (other_word w.0 parts.0) (none_begins ws parts.1)
+
+-- ---- what the tables tell
+
+-- the two bytes have no kind in common
+none : ℕ → ℕ → Bool
+none a b = bit_and (get_or FIRST a 0) (get_or SECOND b 0) == 0
+
+not_true : (x : Bool) → not x ≡ true → x ≡ false
+not_true true e = sym e
+not_true false e = refl
+
+not_not : (x : Bool) → x ≡ not (not x)
+not_not true = refl
+not_not false = refl
+
+-- any byte may stand behind a word of one
+alone : ℕ → Bool
+alone b = none 33 b || (none 123 b || none 125 b)
+
+-- below n it is so for none
+never : (ℕ → Bool) → ℕ → Bool
+never f zero = true
+never f (suc n) = not (f n) && never f n
+
+never_at : (f : ℕ → Bool) (n k : ℕ) → never f n ≡ true → k < n → f k ≡ false
+unfolding never
+never_at f zero k all low = absurd (omega (arith, low))
+never_at f (suc n) k all low =
+    elim (cases_lt k n) [
+      | inl below ↦ never_at f n k (and_parts _ _ all).1 below
+      | inr above ↦
+          let here : k ≡ n = omega (arith, low, above) in
+          ap f here ∙ not_true (f n) (and_parts _ _ all).0
+    ]
+
+never_alone : never alone 256 ≡ true
+unfolding never alone none
+never_alone = refl
+
+module _ (a b : ℕ) (bad : none a b ≡ true) where
+  contrary : (c d : ℕ) → (a == c) ≡ true → (b == d) ≡ true → none c d ≡ false → true ≡ false
+  contrary c d e f some = sym bad ∙ ap (λ x. none x b) (eqb-true a c e) ∙ ap (none c) (eqb-true b d f) ∙ some
+
+  spells_one : (c : ℕ) (x : Bool) → (a == c) ≡ x → none c b ≡ false → may_spell (c ∷ []) a b ≡ false
+  unfolding may_spell
+  spells_one c false e some = e
+  spells_one c true e some = e ∙ sym bad ∙ ap (λ x. none x b) (eqb-true a c e) ∙ some
+
+  two : (c d : ℕ) (ds : List ℕ) (x y z : Bool) → (a == c) ≡ x → (b == 92) ≡ y → (b == d) ≡ z → none c d ≡ false → none c 92 ≡ false → may_spell (c ∷ d ∷ ds) a b ≡ false
+  unfolding may_spell
+  two c d ds false y z e f g some joined = rw e refl
+  two c d ds true true z e f g some joined = absurd (true≢false (contrary c 92 e f joined))
+  two c d ds true false true e f g some joined = absurd (true≢false (contrary c d e g some))
+  two c d ds true false false e f g some joined = rw (e, f, g) refl
+
+  spells_two : (c d : ℕ) (ds : List ℕ) → none c d ≡ false → none c 92 ≡ false → may_spell (c ∷ d ∷ ds) a b ≡ false
+  spells_two c d ds = two c d ds (a == c) (b == 92) (b == d) refl refl refl
+
+  begins_none : b < 256 → may_begin reserved_words a b ≡ false
+  unfolding may_begin reserved_words none alone
+  begins_none low =
+      let one = or_parts (none 33 b) (none 123 b || none 125 b) (never_at alone 256 b never_alone low) in
+      let brackets = or_parts (none 123 b) (none 125 b) one.1 in
+      or_from _ _ (spells_one 33 (a == 33) refl one.0)
+      (or_from _ _ (spells_one 123 (a == 123) refl brackets.0)
+      (or_from _ _ (spells_one 125 (a == 125) refl brackets.1)
+      (or_from _ _ (spells_two 99 97 _ refl refl)
+      (or_from _ _ (spells_two 100 111 _ refl refl)
+      (or_from _ _ (spells_two 100 111 _ refl refl)
+      (or_from _ _ (spells_two 101 108 _ refl refl)
+      (or_from _ _ (spells_two 101 108 _ refl refl)
+      (or_from _ _ (spells_two 101 115 _ refl refl)
+      (or_from _ _ (spells_two 102 105 _ refl refl)
+      (or_from _ _ (spells_two 102 111 _ refl refl)
+      (or_from _ _ (spells_two 105 102 _ refl refl)
+      (or_from _ _ (spells_two 105 110 _ refl refl)
+      (or_from _ _ (spells_two 116 104 _ refl refl)
+      (or_from _ _ (spells_two 117 110 _ refl refl)
+      (or_from _ _ (spells_two 119 104 _ refl refl) refl)))))))))))))))
+
+pub no_kind : (a b : ℕ) → b < 256 → not (bit_and (get_or FIRST a 0) (get_or SECOND b 0) == 0) ≡ false → may_begin reserved_words a b ≡ false
+unfolding none
+no_kind a b low some = begins_none a b (not_not _ ∙ ap not some) low
