@@ -1,5 +1,5 @@
 //! Lists: entries on one line or on many (XCU 2.9.3, 2.10.2).
-ghost use Rattle.std.specs.Prelude.{◌≡◌, ◌≤◌, IfOk, false};
+ghost use Rattle.std.specs.Prelude.{◌≡◌, ◌≤◌, ◌++◌, [], ◌∷◌, IfOk, None, false, map};
 ghost use Rattle.shline.specs.Clauses.{Keeps, Onward, Reads, state_of, Stays, text_of};
 ghost use Rattle.shgrammar.specs.Shows.{Shows};
 ghost use Rattle.shgrammar.specs.Commands.{past_separator};
@@ -8,12 +8,13 @@ ghost use Rattle.shgrammar.specs.Form.{many, step_if};
 ghost use Rattle.shgrammar.specs.Levels.{level};
 ghost use Rattle.shline.specs.Listed.{view_listed};
 ghost use Rattle.shgrammar.specs.Lists.{a_list, a_remark, entry_turn, list_so, list_turn, next_line, none_listed, on_line};
-ghost use Rattle.shast.specs.View.{view_list};
+ghost use Rattle.shast.specs.Tree.{entry, remark};
+ghost use Rattle.shast.specs.View.{view_comment, view_entry, view_list};
 
 use crate::cursor::Cursor;
 use crate::stop::Stop;
 use shast::make::{and_or_of, command_entry, comment_entry, list_of, pipeline_of};
-use shast::{Entry, List};
+use shast::{Comment, Entry, List};
 use shgrammar::{Next, Separator, Token};
 use shtext::Source;
 use std::alloc::{AllocError, Global};
@@ -44,6 +45,16 @@ fn past_separator(separator: Option<(Separator, usize)>) -> Option<usize>
         Some((_, end)) => Some(end),
         None => None,
     }
+}
+
+/// One more entry, which is this comment. It stands apart to keep the frames of nested commands small.
+#[inline(never)]
+fn add_comment(entries: &mut Vec<Entry>, comment: Comment, blank: bool) -> Result<(), AllocError>
+    ensures { IfOk result (λ done. map view_entry entries.new.items ≡
+        map view_entry entries.old.items ++ entry (remark (view_comment comment)) false blank None ∷ []) }
+{
+    entries.push(comment_entry(comment, blank))?;
+    Ok(())
 }
 
 impl Listed {
@@ -211,7 +222,7 @@ impl<'a, S: Source, const KEEP: u8> Cursor<'a, S, KEEP> {
             listed.begun = true;
             if self.grows() {
                 self.room_for_entry(alloc, listed, next.token)?;
-                listed.entries.push(comment_entry(comment, blank))?;
+                add_comment(&mut listed.entries, comment, blank)?;
             }
         }
         Ok(())
