@@ -100,6 +100,8 @@ impl Printing {
             layout: self.layout,
             source,
         };
+        // The text is about as long as the script. Where there is no room for all of it at once, it grows.
+        let _ = self.page.text.reserve_exact(source.len());
         let mut lines = ScriptLines::behind(self.alloc, source, self.before);
         let mut spare = Spare::new(self.alloc);
         'lines: loop {

@@ -9,7 +9,9 @@ lines-init g c =
     let bytes = g.S.Source.bytes c.args.source.now in
     let self = c.args.self.now in
     let start = c.behind-lines.ensures.start in (
-      λ y front is. at_start y bytes front c.behind-lines.result self.before (sheet self.page) start.0 start.1 is.0,
+      λ y front is.
+          let begun = at_start y bytes front c.behind-lines.result self.before (sheet self.page) start.0 start.1 is.0 in
+          rw c.reserve_exact.ensures.items begun,
       refl,
       c.behind-lines.ensures.source,
       omega (arith, start.0),
