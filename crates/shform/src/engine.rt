@@ -16,7 +16,7 @@ use std::alloc::Global;
 use std::io::{Read, Write};
 
 /// The most bytes that are read at once.
-const PIECE: usize = 65_536;
+const PIECE: usize = 16_384;
 
 /// Reads once, into the front of the piece, what follows so many bytes. Answers how many came: none at the end. It never reads past
 /// the first byte beyond the limit.
@@ -45,7 +45,8 @@ fn read_piece<R: Read>(input: &mut Input<R>, piece: &mut [u8], held: usize) -> R
     Ok(count)
 }
 
-/// Reads the input to its end into a sink.
+/// Reads the input to its end into a sink. It stands apart, so that no piece lies on the stack behind it.
+#[inline(never)]
 fn read_into<R: Read, S: Sink>(input: &mut Input<R>, mut sink: S) -> Result<S, Stop>
     requires sound { input_failed input.old ≡ false }
     requires open { input_ended input.old ≡ false }

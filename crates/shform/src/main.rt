@@ -112,6 +112,7 @@ fn on_words(rt: &HostRuntime, error: &clap::Error) -> u8 {
 }
 
 /// Says why words ask for no run.
+#[inline(never)]
 fn on_usage(rt: &HostRuntime, usage: &Usage) -> u8 {
     match usage {
         Usage::Words(error) => on_words(rt, error),

@@ -218,11 +218,13 @@ fn file_of<'a>(matches: &ArgMatches<'a>) -> Option<&'a str>
     }
 }
 
-/// What the words after the program's name ask for.
+/// What the words after the program's name ask for. It stands apart, so that nothing of `clap` lies on the stack while
+/// a script is read.
 ///
 /// # Errors
 ///
 /// [`Usage`], where they ask for no run.
+#[inline(never)]
 pub fn settings<'a>(alloc: Global, words: &'a [&'a str]) -> Result<Settings<'a>, Usage>
     ensures settings { IfOk result (AreSettingsOf (map (λ w. w.now) words.entry.now)) }
     ensures indent { IfOk result (λ s. s.layout.indent ≤ 16) }

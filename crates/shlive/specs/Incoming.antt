@@ -8,4 +8,4 @@ waiting s = record { bytes = take (s.«end» - s.at) (drop s.at s.piece); count 
 
 pub record IsRow (s : Inside) : Type 0 where
   pub order : s.at ≤ s.«end»
-  pub within : s.«end» ≤ 8192
+  pub within : s.«end» ≤ 2048

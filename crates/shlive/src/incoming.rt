@@ -8,7 +8,7 @@ use std::io::Read;
 use std::marker::Model;
 
 /// The most bytes that are read at once.
-const PIECE: usize = 8_192;
+const PIECE: usize = 2_048;
 
 /// As many bytes as no input of a run has.
 const TOO_MANY: u64 = 1 << 63;
