@@ -22,17 +22,21 @@ no_blanks T p whole none =
     blanks_whole T p (ap (continues T) here ∙ whole) ∙ here
 
 -- where two places have the same place past continuations, the token behind the blanks there is the same
-same_place : (T : List ℕ) (p q : ℕ) (x : Bool) → past_continuations T p ≡ past_continuations T q → stands_in is_blank T p ≡ x → past_blanks T p ≡ past_blanks T q
+same_place : (T : List ℕ) (p q : ℕ) (x : Bool) → past_continuations T p ≡ past_continuations T q
+    → stands_in is_blank T p ≡ x → past_blanks T p ≡ past_blanks T q
 unfolding behind past_blanks stands_in
 same_place T p q true same blank =
     let there : stands_in is_blank T q ≡ true = rw (sym same) blank in
-    ap (past_continuations T) (past_more is_blank T p blank ∙ ap (λ r. past is_blank T (r + 1)) same ∙ sym (past_more is_blank T q there))
+    let on = past_more is_blank T p blank ∙ ap (λ r. past is_blank T (r + 1)) same in
+    ap (past_continuations T) (on ∙ sym (past_more is_blank T q there))
 same_place T p q false same blank =
     let there : stands_in is_blank T q ≡ false = rw (sym same) blank in
-    ap (past_continuations T) (past_none is_blank T p blank) ∙ same ∙ sym (ap (past_continuations T) (past_none is_blank T q there))
+    ap (past_continuations T) (past_none is_blank T p blank) ∙ same
+    ∙ sym (ap (past_continuations T) (past_none is_blank T q there))
 
 -- a continuation among blanks is passed, and the blanks behind it
-pub blanks_over : (T : List ℕ) (p : ℕ) → continues T p ≡ true → past_blanks T (raw_past is_blank T (p + 2)) ≡ past_blanks T p
+pub blanks_over : (T : List ℕ) (p : ℕ) → continues T p ≡ true
+    → past_blanks T (raw_past is_blank T (p + 2)) ≡ past_blanks T p
 unfolding past_blanks
 blanks_over T p joined =
     sym (blanks_on T (p + 2)) ∙ sym (same_place T p (p + 2) (stands_in is_blank T p) (joined_more T p joined) refl)

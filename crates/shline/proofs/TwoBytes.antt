@@ -10,8 +10,10 @@ use Rattle.shgrammar.proofs.Stretches.{raw_stays}
 
 -- ---- no word stands that may not begin with the two bytes there
 
-module _ (T : List ℕ) (p a b : ℕ) (still : past_continuations T p ≡ p) (first : slice_get T p ≡ Some a) (second : slice_get T (p + 1) ≡ Some b) where
-  other_two : (c d : ℕ) (ds : List ℕ) (x y : Bool) → (a == c) ≡ x → (b == 92) ≡ y → may_spell (c ∷ d ∷ ds) a b ≡ false → is_word_at T p (c ∷ d ∷ ds) ≡ false
+module _ (T : List ℕ) (p a b : ℕ) (still : past_continuations T p ≡ p)
+    (first : slice_get T p ≡ Some a) (second : slice_get T (p + 1) ≡ Some b) where
+  other_two : (c d : ℕ) (ds : List ℕ) (x y : Bool) → (a == c) ≡ x → (b == 92) ≡ y
+      → may_spell (c ∷ d ∷ ds) a b ≡ false → is_word_at T p (c ∷ d ∷ ds) ≡ false
   unfolding may_spell is_word_at stands behind raw_stands
   other_two c d ds false y e f bad = rw (still, first, e) refl
   other_two c d ds true true e f bad = absurd (true≢false (rw (e, f) at bad))
@@ -81,14 +83,16 @@ module _ (a b : ℕ) (bad : none a b ≡ true) where
   spells_one c false e some = e
   spells_one c true e some = e ∙ sym bad ∙ ap (λ x. none x b) (eqb-true a c e) ∙ some
 
-  two : (c d : ℕ) (ds : List ℕ) (x y z : Bool) → (a == c) ≡ x → (b == 92) ≡ y → (b == d) ≡ z → none c d ≡ false → none c 92 ≡ false → may_spell (c ∷ d ∷ ds) a b ≡ false
+  two : (c d : ℕ) (ds : List ℕ) (x y z : Bool) → (a == c) ≡ x → (b == 92) ≡ y → (b == d) ≡ z
+      → none c d ≡ false → none c 92 ≡ false → may_spell (c ∷ d ∷ ds) a b ≡ false
   unfolding may_spell
   two c d ds false y z e f g some joined = rw e refl
   two c d ds true true z e f g some joined = absurd (true≢false (contrary c 92 e f joined))
   two c d ds true false true e f g some joined = absurd (true≢false (contrary c d e g some))
   two c d ds true false false e f g some joined = rw (e, f, g) refl
 
-  spells_two : (c d : ℕ) (ds : List ℕ) → none c d ≡ false → none c 92 ≡ false → may_spell (c ∷ d ∷ ds) a b ≡ false
+  spells_two : (c d : ℕ) (ds : List ℕ) → none c d ≡ false → none c 92 ≡ false
+      → may_spell (c ∷ d ∷ ds) a b ≡ false
   spells_two c d ds = two c d ds (a == c) (b == 92) (b == d) refl refl refl
 
   begins_none : b < 256 → may_begin reserved_words a b ≡ false
@@ -113,6 +117,7 @@ module _ (a b : ℕ) (bad : none a b ≡ true) where
       (or_from _ _ (spells_two 117 110 _ refl refl)
       (or_from _ _ (spells_two 119 104 _ refl refl) refl)))))))))))))))
 
-pub no_kind : (a b : ℕ) → b < 256 → not (bit_and (get_or FIRST a 0) (get_or SECOND b 0) == 0) ≡ false → may_begin reserved_words a b ≡ false
+pub no_kind : (a b : ℕ) → b < 256 → not (bit_and (get_or FIRST a 0) (get_or SECOND b 0) == 0) ≡ false
+    → may_begin reserved_words a b ≡ false
 unfolding none
 no_kind a b low some = begins_none a b (not_not _ ∙ ap not some) low

@@ -8,7 +8,8 @@ use Rattle.shline.specs.Clauses.{text_of}
 use Rattle.shline.proofs.cursor.Cursor.next_token_joined.Goals as goal
 
 -- a continuation ends the first blanks: the token stands behind what follows it
-joined : (T : List ℕ) (p e : ℕ) → e ≡ raw_past is_blank T p → continues T e ≡ true → (past_blanks T e ≡ past_blanks T p) × (is_broken_at T p ≡ true)
+joined : (T : List ℕ) (p e : ℕ) → e ≡ raw_past is_blank T p → continues T e ≡ true
+    → (past_blanks T e ≡ past_blanks T p) × (is_broken_at T p ≡ true)
 unfolding is_broken_at past_blanks
 joined T p e is here = (ap (past_blanks T) is ∙ sym (blanks_on T p), ap (continues T) (sym is) ∙ here)
 

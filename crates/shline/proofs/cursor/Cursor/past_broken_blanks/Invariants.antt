@@ -7,7 +7,8 @@ use Rattle.shline.proofs.cursor.Cursor.past_broken_blanks.Given as goal
 abbrev pub invariant-joined : goal.invariant-joined
 invariant-joined g l =
     let text = drop l.self.base (g.S.Source.bytes l.self.source.now) in
-    (past_blanks text l.at ≡ past_blanks text l.from) × (l.from ≤ l.at) × (l.at ≤ length text) × (raw_in is_blank text l.at ≡ false)
+    (past_blanks text l.at ≡ past_blanks text l.from) × (l.from ≤ l.at) × (l.at ≤ length text)
+    × (raw_in is_blank text l.at ≡ false)
 
 abbrev pub decreases-joined : goal.decreases-joined
 decreases-joined g l = length (drop l.self.base (g.S.Source.bytes l.self.source.now)) - l.at
