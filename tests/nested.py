@@ -17,7 +17,7 @@ SHAPES = {
     "subshell": (1, "(@)"),
     "subshell redirected": (1, "(@) >a 2>&1"),
     "if": (1, "if @; then b; fi"),
-    "if a # c": (1, "if\n# c\n@ # c\nthen b; fi"),
+    "if on lines": (1, "if\n# c\n@ # c\nthen b; fi"),
     "then": (1, "if a; then @; fi"),
     "elif": (1, "if a; then b; elif @; then c; fi"),
     "elif, its body": (1, "if a; then b; elif c; then @; fi"),

@@ -103,7 +103,7 @@ void *calloc(size_t count, size_t size)
 
 void *aligned_alloc(size_t alignment, size_t size)
 {
-    return is_refused() ? NULL : counted(next_aligned_alloc(alignment, size));
+    return !next_aligned_alloc || is_refused() ? NULL : counted(next_aligned_alloc(alignment, size));
 }
 
 int posix_memalign(void **block, size_t alignment, size_t size)

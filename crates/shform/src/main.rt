@@ -111,7 +111,7 @@ fn on_words(rt: &HostRuntime, error: &clap::Error) -> u8 {
     0
 }
 
-/// Says why words ask for no run.
+/// Says why words ask for no run. It stands apart for the reason that `settings` does.
 #[inline(never)]
 fn on_usage(rt: &HostRuntime, usage: &Usage) -> u8 {
     match usage {

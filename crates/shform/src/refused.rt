@@ -155,8 +155,8 @@ fn print_refused(alloc: Global, nth: usize) -> Result<(u8, Page, Page), LayoutEr
     Ok((status, written, told))
 }
 
-/// The input is read in several growths, its tree in some, and it is printed in some more. Until all that are needed
-/// have been had, nothing is written. Room for the text before it is printed can be done without.
+/// The input is read in several growths, its tree in some, and it is printed in some more. Until all that are
+/// needed have been had, nothing is written. Room for the text before it is printed can be done without.
 #[test]
 fn print(rt: HostRuntime) -> Result<(), Fail> {
     let refuses = refuses(rt.alloc());

@@ -218,8 +218,8 @@ fn file_of<'a>(matches: &ArgMatches<'a>) -> Option<&'a str>
     }
 }
 
-/// What the words after the program's name ask for. It stands apart, so that nothing of `clap` lies on the stack while
-/// a script is read.
+/// What the words after the program's name ask for. It stands apart, so that nothing of `clap` lies on the
+/// stack while a script is read.
 ///
 /// # Errors
 ///

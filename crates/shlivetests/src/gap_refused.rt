@@ -37,15 +37,17 @@ fn narrow(rt: HostRuntime) -> Result<(), Fail> {
     for turn in 1..20 {
         let mut text = GapText::from_slice(alloc, b"a bc\n")?;
         growths.refuse_next();
-        match text.edit(1, 2, 4, b"de") {
+        let edited = text.edit(1, 2, 4, b"de");
+        let is_met = growths.is_met();
+        match edited {
             Ok(undo) => {
                 assert!(rt; is_same(&text, b"a de\n"));
                 text.undo(undo);
             }
-            Err(error) => assert!(rt; turn == 1 && error == TextError::Memory),
+            Err(error) => assert!(rt; is_met && turn == 1 && error == TextError::Memory),
         }
         assert!(rt; is_same(&text, b"a bc\n"));
-        if !growths.is_met() {
+        if !is_met {
             break;
         }
         assert!(rt; turn == 1);
@@ -67,6 +69,7 @@ fn with_room(rt: HostRuntime) -> Result<(), Fail> {
     text.edit(0, 0, 0, b"e")?;
     assert!(rt; !growths.is_met() && is_same(&text, b"eac\nd"));
     text.edit(0, 0, 0, b"f")?;
+    growths = Growths::of(alloc);
     growths.refuse_next();
     for _ in 0..4 {
         text.edit(0, 1, 1, b"g")?;

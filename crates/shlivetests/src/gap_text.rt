@@ -1,5 +1,5 @@
-// What no clause says of a text with a gap: that it answers where there is memory, and that all bytes lie in one
-// piece from the asked place on behind an edit that changes something.
+// What no clause says of a text with a gap: that it answers where there is memory, and that all bytes lie in
+// one piece from the asked place on behind an edit that changes something.
 use crate::session_runs::Dice;
 use crate::spliced::spliced;
 use shgap::GapText;

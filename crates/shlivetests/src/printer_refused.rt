@@ -40,8 +40,8 @@ fn tree(rt: HostRuntime) -> Result<(), Fail> {
     Ok(())
 }
 
-/// Whether a print tells the text, or want of memory where a growth was refused. What is kept for the next line,
-/// and room for the text before it is printed, can be done without.
+/// Whether a print tells the text, or want of memory where a growth was refused. What is kept for the next
+/// line, and room for the text before it is printed, can be done without.
 fn is_right(text: &Result<Vec<u8>, PrintError>, is_met: bool) -> bool {
     match text {
         Ok(text) => text.as_slice() == TEXT,

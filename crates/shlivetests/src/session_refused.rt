@@ -171,6 +171,7 @@ fn requests(rt: HostRuntime) -> Result<(), Fail> {
             assert!(rt; is_whole);
             break;
         }
+        // Where the text is refused memory for more than the edit needs, it asks for that alone.
         if is_whole {
             assert!(rt; !was_spared);
             was_spared = true;
@@ -185,7 +186,6 @@ fn requests(rt: HostRuntime) -> Result<(), Fail> {
         .any(|text| page.text() == *text);
         assert!(rt; is_told);
     }
-    // Where the text is refused memory for more than the edit needs, it asks for that alone.
     assert!(rt; growths.were_each_refused());
     Ok(())
 }

@@ -256,7 +256,7 @@ pub(crate) fn alike_at_each(one: &Session, two: &Session, step: usize) -> Result
         && one.outline()? == two.outline()?
         && one.print()? == two.print()?;
     let mut at = 0;
-    for _ in 0..one.script_len().saturating_add(2) / step.max(1) {
+    for _ in 0..=one.script_len().saturating_add(1) / step.max(1) {
         same = same && one.nodes_at(at)? == two.nodes_at(at)?;
         at = at.saturating_add(step);
     }

@@ -27,7 +27,7 @@ pub enum PrintError {
 
 /// Drops a line that was printed, and keeps its room if another one follows: behind the last line nothing
 /// wants it.
-fn give_back_before(follows: bool, entries: Vec<Entry>, spare: &mut Spare) {
+fn give_back_if(follows: bool, entries: Vec<Entry>, spare: &mut Spare) {
     if follows {
         spare.give_back(entries);
     }
@@ -111,7 +111,7 @@ impl Printing {
             match line {
                 ScriptLine::Ended(entries) => {
                     printer.print_entries(&entries, &mut self.page)?;
-                    give_back_before(lines.at() < source.len(), entries, &mut spare);
+                    give_back_if(lines.at() < source.len(), entries, &mut spare);
                 }
                 ScriptLine::Last(entries) => {
                     printer.print_entries(&entries, &mut self.page)?;
