@@ -3,11 +3,13 @@
      stack KIB PROGRAM WORD ..
 
    Linux draws by lot where the stack lies, and leaves up to 8 KiB of it free. Where it can be asked to, it
-   draws no lot here, and leaves nothing. */
+   draws no lot here, and the stack has these 8 KiB less. */
 #include <stdlib.h>
 #include <sys/personality.h>
 #include <sys/resource.h>
 #include <unistd.h>
+
+enum { LOT = 8 };
 
 int main(int count, char **words)
 {
@@ -16,7 +18,8 @@ int main(int count, char **words)
         return 127;
     rlim_t kib = (rlim_t)atol(words[1]);
     stack.rlim_cur = kib ? kib * 1024 : stack.rlim_max;
-    personality(ADDR_NO_RANDOMIZE);
+    if (personality(ADDR_NO_RANDOMIZE) != -1 && kib > LOT)
+        stack.rlim_cur -= LOT * 1024;
     if (setrlimit(RLIMIT_STACK, &stack) != 0)
         return 127;
     execv(words[2], words + 2);
