@@ -114,3 +114,10 @@ def scripts_of(shape):
     yield Script(f"{shape} (one deeper)", deeper + CORE + last, len(deeper), b": too many open constructs\n")
     yield Script(f"{shape} (all open)", before, len(before) - 1, b"-:")
     yield Script(f"{shape} (the first open)", whole[:-1], len(before), b"-:")
+
+
+def among_lines(shape):
+    """With the most open constructs, among more lines than the program reads at once or holds unread."""
+    before, behind = parts(shape, MOST)
+    lines = 10_000 * b"a b # c\n"
+    return Script(f"{shape} (among lines)", lines + before + CORE + behind + b"\n" + lines, len(lines + before), b"")
