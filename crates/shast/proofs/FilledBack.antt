@@ -113,7 +113,7 @@ module _ {T M : Type 0} where
     entries_none no_entry = refl
     entries_none (more_entries e es) = rw (entry_none e, entries_none es) refl
 
-    entry_none : (e : AnEntryOf T M) → fill_entry e [] ≡ (e, [])
+    pub entry_none : (e : AnEntryOf T M) → fill_entry e [] ≡ (e, [])
     entry_none (entry what background blank comment) = rw (content_none what) refl
 
     content_none : (c : AContentOf T M) → fill_content c [] ≡ (c, [])

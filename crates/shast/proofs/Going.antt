@@ -1,6 +1,7 @@
 -- Bodies go into a row of nodes from a place on: what a loop over a vector of nodes has still to do.
-use Rattle.std.proofs.Common.{◌≡◌, ℕ, zero, suc, ◌+◌, ◌<◌, ◌≤◌, List as Row, [], ◌∷◌, length, map, set, get_or, refl, ap, sym, arith, add-one}
-use Rattle.std.proofs.lemmas.List.{length-map}
+use Rattle.std.proofs.Common.{◌≡◌, ℕ, zero, suc, ◌+◌, ◌<◌, ◌≤◌, List as Row, [], ◌∷◌, length, drop, map, set, get_or, refl, ap, sym, arith, add-one}
+use Rattle.std.proofs.lemmas.List.{drop_all, length-map}
+use Rattle.shast.proofs.FilledBack.{entry_none}
 use Rattle.shast.specs.declared.tree.Span.{Span}
 use Rattle.shast.specs.Tree.{Entries, AnEntry, AnAndOrPart, APipelinePart, ABranch, ACaseItem, AnItem, entries_of, and_or_parts_of, pipeline_parts_of, branches_of, cases_of, items_of}
 use Rattle.shast.specs.Bodies.{fill_entry, fill_entries, fill_pipeline, fill_and_or_part, fill_and_or_parts, fill_command, fill_pipe, fill_pipes, fill_branch, fill_branches, fill_case, fill_cases, fill_item, fill_items, fill_row, filled, filled_row}
@@ -112,3 +113,8 @@ pub filled_some : (bs : Row Span) (es : Entries) → 0 < length bs → filled bs
 unfolding filled
 filled_some [] es some = absurd (omega arith)
 filled_some (b ∷ bs) es some = refl
+
+-- ---- an entry behind the last body
+
+pub none_left : (e : AnEntry) (bs : Row Span) (n : ℕ) → length bs ≤ n → fill_entry e (drop n bs) ≡ (e, drop n bs)
+none_left e bs n over = rw (drop_all n bs over) (entry_none e)

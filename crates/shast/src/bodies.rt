@@ -56,11 +56,14 @@ fn fill_entries(entries: &mut [Entry], bodies: &[Span], next: &mut usize)
 }
 
 #[cycle(fill)]
-#[tactic(auto, unfolding(crate::specs::Bodies::fill_entry))]
+#[tactic(auto, unfolding(crate::specs::Bodies::fill_entry), using(crate::proofs::Going::none_left))]
 fn fill_entry(entry: &mut Entry, bodies: &[Span], next: &mut usize)
     ensures { (view_entry entry.new, drop next.new bodies.now) ≡ fill_entry (view_entry entry.old) (drop next.old bodies.now) }
 {
-    fill_content(&mut entry.what, bodies, next);
+    // Once each body has its place nothing more is looked at.
+    if *next < bodies.len() {
+        fill_content(&mut entry.what, bodies, next);
+    }
 }
 
 #[cycle(fill)]

@@ -84,7 +84,7 @@ impl<T: Drop> Pool<T> {
         }
     }
 
-    /// Keeps a vector, where there is place for it, and drops it elsewhere.
+    /// Keeps a vector, where there is place for it, or drops it.
     #[inline(always)]
     fn keep(&mut self, emptied: Vec<T>) {
         let room = emptied.capacity();
