@@ -137,37 +137,34 @@ impl<'a, S: Source, const KEEP: u8> Cursor<'a, S, KEEP> {
         match byte {
             Some(first) if begins_a_word(first) => self.word_token(at, first, position),
             Some(b'\n') => Token::Newline,
+            Some(b';') if self.stands(at + 1, b';') => Token::DoubleSemicolon,
+            Some(b';') => Token::Semicolon,
             _ => self.other_token(at, position),
         }
     }
 
-    /// The same, for what is neither a newline nor sure to be a word: it stands apart to keep the code of those small that ask for a token.
+    /// The same, for what is neither a newline nor `;` nor surely a word. It stands apart, so that the code
+    /// of those that ask for a token stays small.
     #[inline(never)]
     #[tactic(auto, unfolding(shgrammar::specs::Tokens::token_at, shgrammar::specs::Tokens::is_number, shgrammar::specs::Bytes::behind, shgrammar::specs::Bytes::stands, shgrammar::specs::Bytes::stands_in, shgrammar::specs::Standing::raw_stands))]
     fn other_token(&self, at: usize, position: Position) -> Token
         requires within { at ≤ length (text_of S.bytes self.now) }
         requires still { past_continuations (text_of S.bytes self.now) at ≡ at }
-        requires other { raw_stands (text_of S.bytes self.now) at 10 ≡ false }
+        requires newline { raw_stands (text_of S.bytes self.now) at 10 ≡ false }
+        requires semicolon { raw_stands (text_of S.bytes self.now) at 59 ≡ false }
         ensures { result ≡ token_at position (text_of S.bytes self.now) at }
     {
         match self.raw_byte(at) {
             None => Token::End,
-            Some(b';') => {
-                if self.stands(self.behind(at), b';') {
-                    Token::DoubleSemicolon
-                } else {
-                    Token::Semicolon
-                }
-            }
             Some(b'&') => {
-                if self.stands(self.behind(at), b'&') {
+                if self.stands(at + 1, b'&') {
                     Token::AndIf
                 } else {
                     Token::Ampersand
                 }
             }
             Some(b'|') => {
-                if self.stands(self.behind(at), b'|') {
+                if self.stands(at + 1, b'|') {
                     Token::OrIf
                 } else {
                     Token::Pipe
@@ -175,8 +172,8 @@ impl<'a, S: Source, const KEEP: u8> Cursor<'a, S, KEEP> {
             }
             Some(b'(') => Token::OpenParen,
             Some(b')') => Token::CloseParen,
-            Some(b'<') => Token::Redirect(self.less(self.behind(at))),
-            Some(b'>') => Token::Redirect(self.greater(self.behind(at))),
+            Some(b'<') => Token::Redirect(self.less(at + 1)),
+            Some(b'>') => Token::Redirect(self.greater(at + 1)),
             Some(b'#') => Token::Comment,
             Some(b'0'..=b'9') if self.is_number(at) => Token::Number,
             Some(first) => self.word_token(at, first, position),
