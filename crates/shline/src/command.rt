@@ -1,10 +1,10 @@
 //! Commands, and the simple ones among them (XCU 2.9, 2.9.1).
 ghost use Rattle.std.specs.Prelude.{◌≡◌, ◌<◌, ◌≤◌, [], false, map, IfOk, Some};
 ghost use Rattle.shgrammar.specs.Bytes.{ends_word};
-ghost use Rattle.shline.specs.Clauses.{keep_of, Keeps, Onward, Reads, state_of, Stays, text_of};
+ghost use Rattle.shline.specs.Clauses.{keep_of, Keeps, Onward, Reads, state_of, text_of};
 ghost use Rattle.shgrammar.specs.Shows.{Shows};
 ghost use Rattle.shgrammar.specs.Commands.{a_command, a_simple, a_worded, an_item, as_item, behind_word, item_turn, so_many};
-ghost use Rattle.shgrammar.specs.declared.token.Position.TheVariants.{Suffix};
+ghost use Rattle.shgrammar.specs.declared.token.Position.TheVariants.{Command as AsCommand, Suffix};
 ghost use Rattle.shgrammar.specs.declared.token.Position.{Position};
 ghost use Rattle.shgrammar.specs.Form.{again, grows, many, pushed, step_if};
 ghost use Rattle.shast.specs.Tree.{argument, item};
@@ -59,12 +59,13 @@ impl<'a, S: Source, const KEEP: u8> Cursor<'a, S, KEEP> {
         }
         let word = self.word_from(start, substs);
         let broken = !items.is_empty() && next.broken;
-        *next = self.next_token(position);
-        // A command of one word takes room for no more.
-        if items.capacity() == 0 && !next.token.begins_simple() {
+        // An assignment is most often all of its command: it takes room for no more.
+        if items.capacity() == 0 && position == Position::Prefix {
             items.reserve_exact(1)?;
         }
         items.push(item_of(word, position, broken))?;
+        // Asked for only now, so that the push is done when the items are moved.
+        *next = self.next_token(position);
         Ok(())
     }
 
@@ -124,58 +125,46 @@ impl<'a, S: Source, const KEEP: u8> Cursor<'a, S, KEEP> {
         Ok(())
     }
 
-    /// The simple command that has these items so far. `next` is the token behind them, which stands in the position `place`, and then
-    /// the one behind the command.
+    /// The simple command that begins with the assignment or the redirection here. `next` is the token here,
+    /// and then the one behind the command.
     #[cycle(commands)]
     #[inline(always)]
     #[tactic(auto, unfolding(shgrammar::specs::Commands::a_simple))]
-    fn simple(
-        &mut self,
-        alloc: Global,
-        mut items: Vec<Item>,
-        mut place: Position,
-        next: &mut Next,
-        room: usize,
-    ) -> Result<Command, Stop>
+    fn simple(&mut self, alloc: Global, next: &mut Next, room: usize) -> Result<Command, Stop>
         requires shows { Shows next.old.token (text_of S.bytes self.old) self.old.at }
-        ensures value { Reads S.bytes self.old (a_simple (level room) (so_many (map view_item items.items) place next.old)) result
+        ensures value { Reads S.bytes self.old (a_simple (level room) (so_many [] AsCommand next.old)) result
             (λ command. (view_command command, next.new)) (state_of self.new) }
         ensures shows { IfOk result (λ command. Shows next.new.token (text_of S.bytes self.old) self.new.at) }
         ensures onward { IfOk result (λ command. self.old.at ≤ self.new.at) }
         ensures same { Keeps self.old self.new }
     {
+        let mut items = self.room_for_items(alloc);
+        let mut place = Position::Command;
         self.items(alloc, next, &mut items, &mut place, room)?;
         Ok(simple_of(items))
     }
 
-    /// The items so far of a command that begins with this word, before this token.
+    /// Adds the first word of a command, behind which this token stands.
     #[inline(always)]
-    fn items_from(
-        &mut self,
-        alloc: Global,
-        word: Word,
-        behind: Token,
-    ) -> Result<Vec<Item>, AllocError>
-        ensures value { IfOk result (λ items. map view_item items.items ≡ pushed (grows (keep_of self.old)) [] (item false (argument (view_word word)))) }
-        ensures place { self.new.at ≡ self.old.at }
-        ensures same { Stays self.old self.new }
+    fn add_first(&self, word: Word, behind: Token, items: &mut Vec<Item>) -> Result<(), AllocError>
+        ensures { IfOk result (λ done. map view_item items.new.items ≡
+            pushed (grows (keep_of self.now)) (map view_item items.old.items) (item false (argument (view_word word)))) }
     {
-        let mut items = self.room_for_items(alloc);
-        if self.grows() {
-            // A command of one word takes room for no more.
-            if items.capacity() == 0 && !behind.begins_simple() {
-                items.reserve_exact(1)?;
-            }
-            items.push(argument_of(word, false))?;
-        } else {
+        if !self.grows() {
             mem::forget(word);
+            return Ok(());
         }
-        Ok(items)
+        // A command of one word takes room for no more.
+        if items.capacity() == 0 && !behind.begins_simple() {
+            items.reserve_exact(1)?;
+        }
+        items.push(argument_of(word, false))?;
+        Ok(())
     }
 
     /// The command that begins with the word here: a function, if `(` follows, or a simple command.
     #[cycle(commands)]
-    #[tactic(auto, unfolding(shgrammar::specs::Commands::a_worded, shgrammar::specs::Commands::next_token))]
+    #[tactic(auto, unfolding(shgrammar::specs::Commands::a_worded, shgrammar::specs::Commands::a_simple, shgrammar::specs::Commands::next_token))]
     fn worded(&mut self, alloc: Global, next: &mut Next, room: usize) -> Result<Command, Stop>
         requires shows { Shows next.old.token (text_of S.bytes self.old) self.old.at }
         requires word { behind_word next.old.token ≡ Some Suffix }
@@ -193,8 +182,12 @@ impl<'a, S: Source, const KEEP: u8> Cursor<'a, S, KEEP> {
         if let Token::OpenParen = next.token {
             return self.named(alloc, word.span, start, next, room);
         }
-        let items = self.items_from(alloc, word, next.token)?;
-        self.simple(alloc, items, Position::Suffix, next, room)
+        // Made here and not handed over: a vector that was just pushed to is slow to move.
+        let mut items = self.room_for_items(alloc);
+        self.add_first(word, next.token, &mut items)?;
+        let mut place = Position::Suffix;
+        self.items(alloc, next, &mut items, &mut place, room)?;
+        Ok(simple_of(items))
     }
 
     /// The command that the token here begins.
@@ -217,8 +210,7 @@ impl<'a, S: Source, const KEEP: u8> Cursor<'a, S, KEEP> {
         match next.token {
             Token::Word => self.worded(alloc, next, room),
             Token::Assignment | Token::Number | Token::Redirect(_) => {
-                let items = self.room_for_items(alloc);
-                self.simple(alloc, items, Position::Command, next, room)
+                self.simple(alloc, next, room)
             }
             _ => self.compound_by(alloc, next, room),
         }
