@@ -8,7 +8,7 @@ use Rattle.shline.specs.declared.sets.TheConstants.{DOUBLE, PLAIN, SPECIAL}
 use Rattle.shgrammar.specs.Plain.{is_plain}
 use Rattle.shgrammar.specs.declared.mode.Mode.TheVariants.{Plain, Double}
 
-same : Bool → Bool → Bool
+unfoldable pub same : Bool → Bool → Bool
 same true b = b
 same false true = false
 same false false = true
@@ -20,11 +20,11 @@ same_is false true e = absurd cc
 same_is false false e = refl
 
 -- the two agree below n
-agree : (ℕ → Bool) → (ℕ → Bool) → ℕ → Bool
+unfoldable pub agree : (ℕ → Bool) → (ℕ → Bool) → ℕ → Bool
 agree f g zero = true
 agree f g (suc n) = same (f n) (g n) && agree f g n
 
-agree_at : (f g : ℕ → Bool) (n k : ℕ) → agree f g n ≡ true → k < n → f k ≡ g k
+pub agree_at : (f g : ℕ → Bool) (n k : ℕ) → agree f g n ≡ true → k < n → f k ≡ g k
 unfolding agree
 agree_at f g zero k all low = absurd (omega (arith, low))
 agree_at f g (suc n) k all low =

@@ -2,7 +2,7 @@
 use Rattle.std.proofs.Common.{◌≡◌, ℕ, ◌+◌, Bool, true, false, List, refl, sym, ap, ◌∙◌, arith}
 use Rattle.shgrammar.specs.Bytes.{behind, past, past_blanks, past_continuations, stands_in}
 use Rattle.shgrammar.specs.Classes.{is_blank}
-use Rattle.shgrammar.specs.Standing.{continues, passes, raw_in, raw_past}
+use Rattle.shgrammar.specs.Standing.{continues, raw_in, raw_past}
 use Rattle.shgrammar.proofs.Stretches.{joined_more, past_more, past_none, raw_more, raw_none}
 use Rattle.shgrammar.proofs.Unbroken.{blanks_on, blanks_whole}
 

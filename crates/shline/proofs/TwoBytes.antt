@@ -1,6 +1,7 @@
 -- What two bytes tell of reserved words.
-use Rattle.std.proofs.Common.{◌≡◌, ℕ, zero, suc, ◌+◌, ◌<◌, ◌==◌, Bool, true, false, ◌&&◌, ◌||◌, not, inl, inr, List, [], ◌∷◌, List as Row, Some, None, get_or, slice_get, bit_and, refl, sym, ap, ◌∙◌, arith, if◌then◌else◌}
-use Rattle.std.proofs.lemmas.Bool.{and_parts, cases_lt, eqb-true, or_from, or_parts, true≢false}
+use Rattle.std.proofs.Common.{◌≡◌, ℕ, ◌+◌, ◌<◌, ◌==◌, Bool, true, false, ◌||◌, not, List, [], ◌∷◌, List as Row, Some, None, get_or, slice_get, bit_and, refl, sym, ap, ◌∙◌}
+use Rattle.std.proofs.lemmas.Bool.{eqb-true, or_from, or_parts, true≢false}
+use Rattle.shline.proofs.ByteSets.{agree, agree_at, same}
 use Rattle.shline.specs.declared.reserved.TheConstants.{FIRST, SECOND}
 use Rattle.shline.specs.Beginnings.{may_begin, may_spell}
 use Rattle.shgrammar.specs.Bytes.{behind, past_continuations, stands}
@@ -42,10 +43,6 @@ module _ (T : List ℕ) (p a b : ℕ) (still : past_continuations T p ≡ p)
 none : ℕ → ℕ → Bool
 none a b = bit_and (get_or FIRST a 0) (get_or SECOND b 0) == 0
 
-not_true : (x : Bool) → not x ≡ true → x ≡ false
-not_true true e = sym e
-not_true false e = refl
-
 not_not : (x : Bool) → x ≡ not (not x)
 not_not true = refl
 not_not false = refl
@@ -54,25 +51,10 @@ not_not false = refl
 alone : ℕ → Bool
 alone b = none 33 b || (none 123 b || none 125 b)
 
--- below n it is so for none
-never : (ℕ → Bool) → ℕ → Bool
-never f zero = true
-never f (suc n) = not (f n) && never f n
-
-never_at : (f : ℕ → Bool) (n k : ℕ) → never f n ≡ true → k < n → f k ≡ false
-unfolding never
-never_at f zero k all low = absurd (omega (arith, low))
-never_at f (suc n) k all low =
-    elim (cases_lt k n) [
-      | inl below ↦ never_at f n k (and_parts _ _ all).1 below
-      | inr above ↦
-          let here : k ≡ n = omega (arith, low, above) in
-          ap f here ∙ not_true (f n) (and_parts _ _ all).0
-    ]
-
-never_alone : never alone 256 ≡ true
-unfolding never alone none
-never_alone = refl
+-- no byte does
+none_alone : agree alone (λ b. false) 256 ≡ true
+unfolding agree same alone none
+none_alone = refl
 
 module _ (a b : ℕ) (bad : none a b ≡ true) where
   contrary : (c d : ℕ) → (a == c) ≡ true → (b == d) ≡ true → none c d ≡ false → true ≡ false
@@ -98,7 +80,7 @@ module _ (a b : ℕ) (bad : none a b ≡ true) where
   begins_none : b < 256 → may_begin reserved_words a b ≡ false
   unfolding may_begin reserved_words none alone
   begins_none low =
-      let one = or_parts (none 33 b) (none 123 b || none 125 b) (never_at alone 256 b never_alone low) in
+      let one = or_parts (none 33 b) (none 123 b || none 125 b) (agree_at alone (λ b. false) 256 b none_alone low) in
       let brackets = or_parts (none 123 b) (none 125 b) one.1 in
       or_from _ _ (spells_one 33 (a == 33) refl one.0)
       (or_from _ _ (spells_one 123 (a == 123) refl brackets.0)
