@@ -90,7 +90,7 @@ module _ (f h g fb hb gb : Span → Span) (P : Span → Type 0) (Q : Items → T
     cases_over (more_cases c cs) so = rw (case_over c so.0, cases_over cs so.1) refl
 
     case_over : (c : ACaseItem) → InCase P Q c → carried_case f fb true (carried_case h hb true c) ≡ carried_case g gb true c
-    case_over (case_item comments patterns body span) so = rw (each_over comments so.0, patterns_over patterns so.1, over body so.2, is span so.3) refl
+    case_over (case_item comments patterns body mark) so = rw (each_over comments so.0, patterns_over patterns so.1, over body so.2, is mark.mark so.3) refl
 
     patterns_over : (ws : Patterns) → InPatterns P Q ws → carried_patterns f fb true (carried_patterns h hb true ws) ≡ carried_patterns g gb true ws
     patterns_over no_pattern so = refl
@@ -200,7 +200,7 @@ module _ (f fb : Span → Span) (is : (s : Span) → f s ≡ s) (body_is : (s : 
     cases_same (more_cases c cs) = rw (case_same c, cases_same cs) refl
 
     case_same : (c : ACaseItem) → carried_case f fb true c ≡ c
-    case_same (case_item comments patterns body span) = rw (each_same comments, patterns_same patterns, same body, is span) refl
+    case_same (case_item comments patterns body mark) = rw (each_same comments, patterns_same patterns, same body, is mark.mark) refl
 
     patterns_same : (ws : Patterns) → carried_patterns f fb true ws ≡ ws
     patterns_same no_pattern = refl
@@ -310,7 +310,7 @@ module _ (P : Span → Type 0) (Q : Items → Type 0) (p : (s : Span) → P s) (
     cases_all (more_cases c cs) = (case_all c, cases_all cs)
 
     case_all : (c : ACaseItem) → InCase P Q c
-    case_all (case_item comments patterns body span) = (each_all comments, patterns_all patterns, all body, p span)
+    case_all (case_item comments patterns body mark) = (each_all comments, patterns_all patterns, all body, p mark.mark)
 
     patterns_all : (ws : Patterns) → InPatterns P Q ws
     patterns_all no_pattern = tt

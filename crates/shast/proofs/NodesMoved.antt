@@ -187,8 +187,8 @@ module _ (b : ℕ) where
     cases_there (more_cases c cs) so = two (case_nodes c) _ _ _ (case_there c so.0) (cases_there cs so.1)
 
     case_there : (c : ACaseItem) → InCase Always IsSome c → case_nodes (carried_case f fb true c) ≡ there (case_nodes c)
-    case_there (case_item comments patterns body span) so =
-        one_more (node NodeKind.Item (f span)) (node NodeKind.Item span) _ _ refl
+    case_there (case_item comments patterns body mark) so =
+        one_more (node NodeKind.Item (f mark.mark)) (node NodeKind.Item mark.mark) _ _ refl
         (three (map comment_node comments) (patterns_nodes patterns) (entries_nodes body) _ _ _ (comments_there comments) (patterns_there patterns so.1) (entries_there body so.2))
 
     patterns_there : (ws : Patterns) → InPatterns Always IsSome ws → patterns_nodes (carried_patterns f fb true ws) ≡ there (patterns_nodes ws)

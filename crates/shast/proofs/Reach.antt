@@ -8,7 +8,7 @@ use Rattle.shast.specs.declared.node.NodeLine.{NodeLine}
 use Rattle.shast.specs.declared.tree.RedirectOperator.{RedirectOperator}
 use Rattle.shast.specs.declared.tree.Span.{Span}
 use Rattle.shast.specs.Nodes.{word_nodes, AreWithin, IsSpanWithin, IsWithin, and_or_nodes, and_or_parts_nodes, and_or_span, branch_nodes, branches_nodes, command_nodes, command_span, comment_node, entries_nodes, entry_nodes, form_node, form_nodes, item_nodes, item_span, items_nodes, items_span, last_command, last_item, last_pipeline, node, pipeline_nodes, pipeline_span, pipes_nodes, subst_nodes, substs_nodes, compound_nodes, compound_span, through, case_nodes, cases_nodes, patterns_nodes, commands_end}
-use Rattle.shast.specs.Tree.{AHere, ABranch, ACommand, AForm, APipeline, APipelinePart, ASubst, AWord, AnAndOr, AnAndOrPart, AnEntry, AnItem, Entries, and_or, and_or_parts_of, argument, assign, brace, branches_of, case_in, command, compound, entries_of, entry, for_in, formed, if_then, item, items_of, pipeline, pipeline_parts_of, redirect, remark, simple, subshell, subst, substs_of, until_do, while_do, word, ACompound, function, ACaseItem, case_item, cases_of, patterns_of, more_and_or, more_pipes, no_and_or, no_pipe}
+use Rattle.shast.specs.Tree.{ACaseMark, AHere, ABranch, ACommand, AForm, APipeline, APipelinePart, ASubst, AWord, AnAndOr, AnAndOrPart, AnEntry, AnItem, Entries, and_or, and_or_parts_of, argument, assign, brace, branches_of, case_in, command, compound, entries_of, entry, for_in, formed, if_then, item, items_of, pipeline, pipeline_parts_of, redirect, remark, simple, subshell, subst, substs_of, until_do, while_do, word, ACompound, function, ACaseItem, case_item, cases_of, patterns_of, more_and_or, more_pipes, no_and_or, no_pipe}
 
 nodes_append : (es ls : Row AnEntry) → entries_nodes (entries_of (es ++ ls)) ≡ entries_nodes (entries_of es) ++ entries_nodes (entries_of ls)
 nodes_append [] ls = refl
@@ -206,10 +206,10 @@ module _ (limit : ℕ) where
   fits_patterns [] so = All-nil (IsWithin limit)
   fits_patterns (w ∷ ws) so = both (word_nodes w) (patterns_nodes (patterns_of ws)) (fits_word w (All-head WordFits w ws so)) (fits_patterns ws (All-tail WordFits w ws so))
 
-  pub fits_case : (cs : Row Span) (ws : Row AWord) (es : Entries) (s : Span) → All CommentFits cs → All WordFits ws → AreWithin limit es → IsSpanWithin limit s
+  pub fits_case : (cs : Row Span) (ws : Row AWord) (es : Entries) (s : ACaseMark) → All CommentFits cs → All WordFits ws → AreWithin limit es → IsSpanWithin limit s.mark
       → CaseFits (case_item cs (patterns_of ws) es s)
   fits_case cs ws es s comments patterns body span =
-      first (node NodeKind.Item s) _ (fits_node NodeKind.Item s span)
+      first (node NodeKind.Item s.mark) _ (fits_node NodeKind.Item s.mark span)
       (both (map comment_node cs ++ patterns_nodes (patterns_of ws)) (entries_nodes es) (both (map comment_node cs) _ (fits_comments cs comments) (fits_patterns ws patterns)) body)
 
   fits_cases : (cs : Row ACaseItem) → All CaseFits cs → Nodes (cases_nodes (cases_of cs))

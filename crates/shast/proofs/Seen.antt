@@ -56,7 +56,7 @@ compound_seen c = search (rules, fold_out-Compound)
 pub branch_seen : (b : Branch) → view_branch b ≡ branch (view_list (out-Branch b).condition) (view_list (out-Branch b).body)
 branch_seen b = search (rules, fold_out-Branch)
 
-pub case_item_seen : (c : CaseItem) → view_case_item c ≡ case_item (map view_comment (out-CaseItem c).comments.items) (patterns_of (map view_word (out-CaseItem c).patterns.items)) (view_list (out-CaseItem c).body) (out-CaseItem c).span
+pub case_item_seen : (c : CaseItem) → view_case_item c ≡ case_item (map view_comment (out-CaseItem c).comments.items) (patterns_of (map view_word (out-CaseItem c).patterns.items)) (view_list (out-CaseItem c).body) (record { mark = (out-CaseItem c).span; falls = (out-CaseItem c).falls })
 case_item_seen c = search (rules, fold_out-CaseItem)
 
 pub entry_seen : (e : Entry) → view_entry e ≡ entry (view_content (out-Entry e).what) (out-Entry e).background (out-Entry e).blank (option_map view_comment (out-Entry e).comment)

@@ -135,7 +135,7 @@ for_each = refl
 
 -- the word of a case, the comments before an item and behind the last, and patterns
 matched :
-    shape_of (codes "case a in # b\n(c|d) e;;\n# f\nesac")
-    (one (over (case_in (a_word (at 5 6)) (cases_of (case_item (at 10 13 ∷ []) (patterns_of (a_word (at 15 16) ∷ a_word (at 17 18) ∷ [])) (a_list (at 20 21)) (at 14 23) ∷ [])) (at 24 27 ∷ [])) 0 32))
-    ≡ one (formed_as (case_in (a_word (codes "a")) (cases_of (case_item (codes "# b" ∷ []) (patterns_of (a_word (codes "c") ∷ a_word (codes "d") ∷ [])) (a_list (codes "e")) tt ∷ [])) (codes "# f" ∷ [])))
+    shape_of (codes "case a in # b\n(c|d) e;&\n# f\nesac")
+    (one (over (case_in (a_word (at 5 6)) (cases_of (case_item (at 10 13 ∷ []) (patterns_of (a_word (at 15 16) ∷ a_word (at 17 18) ∷ [])) (a_list (at 20 21)) (record { mark = at 14 23; falls = true }) ∷ [])) (at 24 27 ∷ [])) 0 32))
+    ≡ one (formed_as (case_in (a_word (codes "a")) (cases_of (case_item (codes "# b" ∷ []) (patterns_of (a_word (codes "c") ∷ a_word (codes "d") ∷ [])) (a_list (codes "e")) (record { mark = tt; falls = true }) ∷ [])) (codes "# f" ∷ [])))
 matched = refl

@@ -86,12 +86,14 @@ for_each :
     ≡ codes "for" ∷ codes "a" ∷ codes "in" ∷ codes "b" ∷ codes "c" ∷ codes "do" ∷ codes "d" ∷ codes "done" ∷ codes "for" ∷ codes "e" ∷ codes "do" ∷ codes "f" ∷ codes "done" ∷ []
 for_each = refl
 
--- neither the round bracket before a pattern nor `;;`
+-- neither the round bracket before a pattern nor `;;`; `;&` is a token
 matched :
-    spelling (shape_of (codes "case a in (b|c) d;; *) esac")
-    (list_of (a_compound (case_in (a_word 5 6) (cases_of (case_item [] (patterns_of (a_word 11 12 ∷ a_word 13 14 ∷ [])) (a_list 16 17) nowhere
-    ∷ case_item [] (patterns_of (a_word 20 21 ∷ [])) no_entry nowhere ∷ [])) []))))
-    ≡ codes "case" ∷ codes "a" ∷ codes "in" ∷ codes "b" ∷ codes "|" ∷ codes "c" ∷ codes ")" ∷ codes "d" ∷ codes "*" ∷ codes ")" ∷ codes "esac" ∷ []
+    spelling (shape_of (codes "case a in (b|c) d;& *) e;; *) esac")
+    (list_of (a_compound (case_in (a_word 5 6) (cases_of (case_item [] (patterns_of (a_word 11 12 ∷ a_word 13 14 ∷ [])) (a_list 16 17) (record { mark = nowhere; falls = true })
+    ∷ case_item [] (patterns_of (a_word 20 21 ∷ [])) (a_list 23 24) (record { mark = nowhere; falls = false })
+    ∷ case_item [] (patterns_of (a_word 27 28 ∷ [])) no_entry (record { mark = nowhere; falls = false }) ∷ [])) []))))
+    ≡ codes "case" ∷ codes "a" ∷ codes "in" ∷ codes "b" ∷ codes "|" ∷ codes "c" ∷ codes ")" ∷ codes "d" ∷ codes ";&"
+    ∷ codes "*" ∷ codes ")" ∷ codes "e" ∷ codes "*" ∷ codes ")" ∷ codes "esac" ∷ []
 matched = refl
 
 -- functions

@@ -44,7 +44,7 @@ whole a b c d e f g h i j k l m n o p q =
     (more_entries (of_command (before (if_then (tested d e) (more_branches (tested f g) no_branch) (otherwise (list h))) i))
     (more_entries (of_command (before (while_do (tested j k)) l))
     (more_entries (of_command (before (for_in a_word no_in (list m)) n))
-    (more_entries (of_command (before (case_in a_word (more_cases (case_item [] (more_patterns a_word no_pattern) (list o) 0) no_case) []) p))
+    (more_entries (of_command (before (case_in a_word (more_cases (case_item [] (more_patterns a_word no_pattern) (list o) (record { mark = 0; falls = false })) no_case) []) p))
     (more_entries (of_command (function 0 [] (formed (brace (alone (of_command (simple (more_items (substituted 99) (more_items (document q) no_item)))))) 0 no_item)))
     no_entry)))))
 

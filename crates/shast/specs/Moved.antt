@@ -1,7 +1,7 @@
 -- A list at another base: with each of its spans moved, and one list behind another.
 use Rattle.std.specs.Prelude.{ℕ, zero, suc, Bool, true, false, List as Row, [], ◌∷◌, map, option_map}
 use Rattle.shast.specs.declared.tree.Span.{Span}
-use Rattle.shast.specs.Tree.{AJoin, AHere, Entries, no_entry, more_entries, AnEntry, entry, AContent, command, remark, AnAndOr, and_or, AnAndOrPart, AndOrParts, no_and_or, more_and_or, APipeline, pipeline, APipelinePart, PipelineParts, no_pipe, more_pipes, ACommand, simple, compound, function, ACompound, formed, AForm, brace, subshell, if_then, while_do, until_do, for_in, case_in, ABranch, branch, Branches, no_branch, more_branches, Otherwise, no_else, otherwise, ForWords, no_in, in_words, CaseItems, no_case, more_cases, ACaseItem, case_item, Patterns, no_pattern, more_patterns, Items, no_item, more_items, AnItem, item, AnItemContent, assign, argument, redirect, AWord, word, Substs, no_subst, more_substs, ASubst, subst}
+use Rattle.shast.specs.Tree.{AJoin, AHere, Entries, no_entry, more_entries, AnEntry, entry, AContent, command, remark, AnAndOr, and_or, AnAndOrPart, AndOrParts, no_and_or, more_and_or, APipeline, pipeline, APipelinePart, PipelineParts, no_pipe, more_pipes, ACommand, simple, compound, function, ACompound, formed, AForm, brace, subshell, if_then, while_do, until_do, for_in, case_in, ABranch, branch, Branches, no_branch, more_branches, Otherwise, no_else, otherwise, ForWords, no_in, in_words, CaseItems, no_case, more_cases, ACaseItem, case_item, marked, Patterns, no_pattern, more_patterns, Items, no_item, more_items, AnItem, item, AnItemContent, assign, argument, redirect, AWord, word, Substs, no_subst, more_substs, ASubst, subst}
 use Rattle.shast.specs.Nodes.{placed_span}
 
 -- the substitutions of a word, or none of them
@@ -83,7 +83,7 @@ module _ (f h : Span → Span) where
       carried_cases (more_cases c cs) = more_cases (carried_case c) (carried_cases cs)
 
       pub carried_case : ACaseItem → ACaseItem
-      carried_case (case_item comments patterns body span) = case_item (map f comments) (carried_patterns patterns) (carried body) (f span)
+      carried_case (case_item comments patterns body mark) = case_item (map f comments) (carried_patterns patterns) (carried body) (marked f mark)
 
       pub carried_patterns : Patterns → Patterns
       carried_patterns no_pattern = no_pattern

@@ -168,7 +168,7 @@ abbrev mutual
   cases_nodes (more_cases c cs) = case_nodes c ++ cases_nodes cs
 
   pub case_nodes : ACaseItem → Row NodeLine
-  case_nodes (case_item comments patterns body span) = node NodeKind.Item span ∷ map comment_node comments ++ patterns_nodes patterns ++ entries_nodes body
+  case_nodes (case_item comments patterns body mark) = node NodeKind.Item mark.mark ∷ map comment_node comments ++ patterns_nodes patterns ++ entries_nodes body
 
   pub patterns_nodes : Patterns → Row NodeLine
   patterns_nodes no_pattern = []

@@ -3,7 +3,7 @@
 -- span it is left only that something stands there.
 use Rattle.std.specs.Prelude.{ℕ, ◌-◌, ◌==◌, ◌&&◌, List, [], ◌∷◌, List as Row, map, take, drop, Option, option_map, if◌then◌else◌}
 use Rattle.shast.specs.declared.tree.Span.{Span}
-use Rattle.shast.specs.Tree.{AJoinOf, AJoin, AHereOf, AHere, EntriesOf, Entries, no_entry, more_entries, AnEntryOf, AnEntry, entry, AContentOf, AContent, command, remark, AnAndOrOf, AnAndOr, and_or, AndOrPartsOf, AndOrParts, no_and_or, more_and_or, APipelineOf, APipeline, pipeline, PipelinePartsOf, PipelineParts, no_pipe, more_pipes, ACommandOf, ACommand, simple, compound, function, ACompoundOf, ACompound, formed, AFormOf, AForm, brace, subshell, if_then, while_do, until_do, for_in, case_in, ABranchOf, ABranch, branch, BranchesOf, Branches, no_branch, more_branches, OtherwiseOf, Otherwise, no_else, otherwise, ForWordsOf, ForWords, no_in, in_words, CaseItemsOf, CaseItems, no_case, more_cases, ACaseItemOf, ACaseItem, case_item, PatternsOf, Patterns, no_pattern, more_patterns, ItemsOf, Items, no_item, more_items, AnItemOf, AnItem, item, AnItemContentOf, AnItemContent, assign, argument, redirect, AWordOf, AWord, word, SubstsOf, Substs, no_subst, more_substs, ASubstOf, ASubst, subst}
+use Rattle.shast.specs.Tree.{AJoinOf, AJoin, AHereOf, AHere, EntriesOf, Entries, no_entry, more_entries, AnEntryOf, AnEntry, entry, AContentOf, AContent, command, remark, AnAndOrOf, AnAndOr, and_or, AndOrPartsOf, AndOrParts, no_and_or, more_and_or, APipelineOf, APipeline, pipeline, PipelinePartsOf, PipelineParts, no_pipe, more_pipes, ACommandOf, ACommand, simple, compound, function, ACompoundOf, ACompound, formed, AFormOf, AForm, brace, subshell, if_then, while_do, until_do, for_in, case_in, ABranchOf, ABranch, branch, BranchesOf, Branches, no_branch, more_branches, OtherwiseOf, Otherwise, no_else, otherwise, ForWordsOf, ForWords, no_in, in_words, CaseItemsOf, CaseItems, no_case, more_cases, ACaseItemOf, ACaseItem, case_item, marked, PatternsOf, Patterns, no_pattern, more_patterns, ItemsOf, Items, no_item, more_items, AnItemOf, AnItem, item, AnItemContentOf, AnItemContent, assign, argument, redirect, AWordOf, AWord, word, SubstsOf, Substs, no_subst, more_substs, ASubstOf, ASubst, subst}
 
 -- ---- texts
 
@@ -118,7 +118,7 @@ module _ (B : List ℕ) where
     shape_of_cases (more_cases c cs) = more_cases (shape_of_case c) (shape_of_cases cs)
 
     pub shape_of_case : ACaseItem → Shape ACaseItemOf
-    shape_of_case (case_item comments patterns body span) = case_item (shape_of_comments comments) (shape_of_patterns patterns) (shape_of body) (shape_of_mark span)
+    shape_of_case (case_item comments patterns body mark) = case_item (shape_of_comments comments) (shape_of_patterns patterns) (shape_of body) (marked shape_of_mark mark)
 
     pub shape_of_patterns : Patterns → Shape PatternsOf
     shape_of_patterns no_pattern = no_pattern

@@ -38,6 +38,11 @@ abbrev pub spell_background : Bool → Tokens
 spell_background true = codes "&" ∷ []
 spell_background false = []
 
+-- `;&` is a token of the spelling, `;;` is none (XCU 2.9.4.3)
+abbrev pub spell_falls : Bool → Tokens
+spell_falls true = codes ";&" ∷ []
+spell_falls false = []
+
 abbrev pub spell_bang : Option (Unit {0}) → Tokens
 spell_bang None = []
 spell_bang (Some mark) = codes "!" ∷ []
@@ -132,4 +137,4 @@ abbrev mutual
   spell_cases (more_cases c cs) = spell_case c ++ spell_cases cs
 
   pub spell_case : Shape ACaseItemOf → Tokens
-  spell_case (case_item comments patterns body mark) = spell_first_pattern patterns ++ codes ")" ∷ spelling body
+  spell_case (case_item comments patterns body mark) = spell_first_pattern patterns ++ (codes ")" ∷ (spelling body ++ spell_falls mark.falls))

@@ -19,6 +19,16 @@ pub record AHereOf (T : Type 0) : Type 0 where
   pub strip : Bool
   pub body : T
 
+-- Where an item of a case stands, and whether it falls through: `;&` ends it, and the next one is run too.
+-- What more is told of an item, beside its comments and its trees, goes here.
+pub record ACaseMarkOf (M : Type 0) : Type 0 where
+  pub mark : M
+  pub falls : Bool
+
+-- the same of another mark
+abbrev pub marked : {M N : Type 0} → (M → N) → ACaseMarkOf M → ACaseMarkOf N
+marked f m = record { mark = f m.mark; falls = m.falls }
+
 mutual
   -- a list
   pub data EntriesOf (T M : Type 0) : Type 0 where
@@ -90,9 +100,9 @@ mutual
     no_case : CaseItemsOf T M
     more_cases : ACaseItemOf T M → CaseItemsOf T M → CaseItemsOf T M
 
-  -- an item of a case: the comments before it, its patterns, its body, its span
+  -- an item of a case: the comments before it, its patterns, its body, and its mark
   pub data ACaseItemOf (T M : Type 0) : Type 0 where
-    case_item : Row T → PatternsOf T M → EntriesOf T M → M → ACaseItemOf T M
+    case_item : Row T → PatternsOf T M → EntriesOf T M → ACaseMarkOf M → ACaseItemOf T M
 
   pub data PatternsOf (T M : Type 0) : Type 0 where
     no_pattern : PatternsOf T M
@@ -124,6 +134,9 @@ mutual
   -- a substitution: its list and its span
   pub data ASubstOf (T M : Type 0) : Type 0 where
     subst : EntriesOf T M → M → ASubstOf T M
+
+abbrev pub ACaseMark : Type 0
+ACaseMark = ACaseMarkOf Span
 
 -- an operator of an and-or list with its operand
 pub record AnAndOrPartOf (T M : Type 0) : Type 0 where

@@ -78,7 +78,7 @@ abbrev pub branch_step : Seen Branch-F → ABranch
 branch_step b = branch b.condition b.body
 
 abbrev pub case_item_step : Seen CaseItem-F → ACaseItem
-case_item_step c = case_item (map view_comment c.comments.items) (patterns_of c.patterns.items) c.body c.span
+case_item_step c = case_item (map view_comment c.comments.items) (patterns_of c.patterns.items) c.body (record { mark = c.span; falls = c.falls })
 
 abbrev pub compound_step : Seen Compound-F → ACompound
 compound_step c = formed c.form c.span (items_of c.redirects.items)

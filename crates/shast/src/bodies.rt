@@ -60,7 +60,7 @@ fn fill_entries(entries: &mut [Entry], bodies: &[Span], next: &mut usize)
 fn fill_entry(entry: &mut Entry, bodies: &[Span], next: &mut usize)
     ensures { (view_entry entry.new, drop next.new bodies.now) ≡ fill_entry (view_entry entry.old) (drop next.old bodies.now) }
 {
-    // Once each body has its place nothing more is looked at.
+    // Once each body has its place no further entry is looked into.
     if *next < bodies.len() {
         fill_content(&mut entry.what, bodies, next);
     }

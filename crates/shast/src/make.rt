@@ -195,14 +195,21 @@ pub fn case_of(word: Word, items: Vec<CaseItem>, tail: Vec<Comment>) -> Form
 }
 
 /// An item of a `case`: the comments before it, its patterns, what it runs, and where it stands.
-pub fn case_item_of(comments: Vec<Comment>, patterns: Vec<Word>, body: List, span: Span) -> CaseItem
-    ensures { view_case_item result ≡ case_item (map view_comment comments.items) (patterns_of (map view_word patterns.items)) (view_list body) span }
+pub fn case_item_of(
+    comments: Vec<Comment>,
+    patterns: Vec<Word>,
+    body: List,
+    span: Span,
+    falls: bool,
+) -> CaseItem
+    ensures { view_case_item result ≡ case_item (map view_comment comments.items) (patterns_of (map view_word patterns.items)) (view_list body) (record { mark = span; falls = falls }) }
 {
     CaseItem {
         comments,
         patterns,
         body,
         span,
+        falls,
     }
 }
 

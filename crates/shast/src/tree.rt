@@ -174,8 +174,11 @@ pub struct CaseItem {
     pub comments: Vec<Comment>,
     pub patterns: Vec<Word>,
     pub body: List,
-    /// From its `(` or its first pattern to after its `;;`; without one to the end of its last token that is no newline.
+    /// From its `(` or its first pattern to after its `;;` or `;&`; without one to the end of its last token
+    /// that is no newline.
     pub span: Span,
+    /// `;&` ends it: the next item is run too.
+    pub falls: bool,
 }
 
 /// A part of a simple command, a word of a `for`, or a redirection of a compound command.
