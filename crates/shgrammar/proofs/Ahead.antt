@@ -13,6 +13,7 @@ use Rattle.shgrammar.specs.Tokens.{Spelling, is_word_at, first_of_words, reserve
 use Rattle.shgrammar.proofs.Stretches.{place_low, past_more, past_none, stands_in_low, joined_none, joined_more, raw_more, raw_none}
 use Rattle.shgrammar.proofs.Places.{must_fail, behind_low, past_low}
 use Rattle.shgrammar.proofs.SameBytes.{Kept, WordEnds, goes_on, Safe, at_limit, halts, one_byte, two_bytes, Place, inside, outside, Here, no_backslash, on_no_backslash, continued, safe_high, safe_low, safe_place, safe_behind, none_same, pair_same, place, raw_same, here_byte, here_behind}
+use Rattle.shgrammar.specs.declared.edition.Edition.{Edition}
 
 pub behind_is : (T : List ℕ) (p : ℕ) → behind T p ≡ past_continuations T p + 1
 unfolding behind
@@ -100,8 +101,8 @@ pub not_false : (b : Bool) → not b ≡ true → b ≡ false
 not_false true f = absurd cc
 not_false false f = refl
 
-pub record ListEnds (T T2 : List ℕ) (a L : ℕ) (to : ℕ → ℕ) (c : ℕ) : Type 0 where
-  pub kept : Kept T T2 a (L + 1) to
+pub record ListEnds (edition : Edition) (T T2 : List ℕ) (a L : ℕ) (to : ℕ → ℕ) (c : ℕ) : Type 0 where
+  pub kept : Kept edition T T2 a (L + 1) to
   pub under : a ≤ L
   pub byte : slice_get T L ≡ Some c
   pub ender : Ender c
@@ -109,8 +110,8 @@ pub record ListEnds (T T2 : List ℕ) (a L : ℕ) (to : ℕ → ℕ) (c : ℕ) :
 pub not_backslash : (c : ℕ) → Ender c → (c == 92) ≡ false
 not_backslash c e = let f = e.ends_it in grind (arith, nat_tests)
 
-module _ {T T2 : List ℕ} {a L : ℕ} {to : ℕ → ℕ} {c : ℕ} (E : ListEnds T T2 a L to c) where
-  pub K : Kept T T2 a L to
+module _ {edition : Edition} {T T2 : List ℕ} {a L : ℕ} {to : ℕ → ℕ} {c : ℕ} (E : ListEnds edition T T2 a L to c) where
+  pub K : Kept edition T T2 a L to
   K = record { under = E.under; on = E.kept.on; same = λ r low lt. E.kept.same r low (omega (arith, lt)) }
 
   limit_clear : raw_stands T L 92 ≡ false
@@ -342,7 +343,7 @@ module _ {T T2 : List ℕ} {a L : ℕ} {to : ℕ → ℕ} {c : ℕ} (E : ListEnd
   token_by position {p = p} (Some b) s is =
       same_if (is_newline b) _ _ _ _ (λ e. refl)
       (λ e. same_if (b == 59) _ _ _ _
-      (λ f. let next = next_safe (λ x. x == 59) (goes_one c 59 refl E.ender.no_semicolon) s (rw is f) in rw (same_behind s, same_stands next 59) refl)
+      (λ f. let next = next_safe (λ x. x == 59) (goes_one c 59 refl E.ender.no_semicolon) s (rw is f) in rw (same_behind s, same_stands next 59, same_stands next 38) refl)
       (λ f. same_if (b == 38) _ _ _ _
       (λ g. let next = next_safe (λ x. x == 38) (goes_one c 38 refl E.ender.no_ampersand) s (rw is g) in rw (same_behind s, same_stands next 38) refl)
       (λ g. same_if (b == 124) _ _ _ _

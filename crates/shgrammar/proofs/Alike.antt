@@ -1,6 +1,8 @@
 -- A form goes the same way with its tree and without, whatever was read before.
 use Rattle.std.proofs.Common.{◌≡◌, ℕ, zero, suc, ◌+◌, ◌-◌, ◌<◌, Bool, true, false, not, ◌&&◌, ◌||◌, cond, Result, Ok, Err, List as Row, [], ◌∷◌, ◌++◌, length, Option, Some, None, is_some, refl, sym, ap, subst, ◌∙◌, arith}
 use Rattle.std.proofs.lemmas.Bool.{ltb-true}
+use Rattle.shgrammar.specs.declared.mode.Escaping.{Escaping}
+use Rattle.shgrammar.specs.declared.mode.Escaping.TheVariants as escapings
 use Rattle.shgrammar.specs.declared.keep.Keep.TheVariants.{Nothing, Whole}
 use Rattle.shgrammar.specs.declared.fault.Fault.{Fault}
 use Rattle.shgrammar.specs.declared.fault.FaultKind.{FaultKind}
@@ -21,18 +23,19 @@ use Rattle.shast.specs.declared.tree.RedirectOperator.{RedirectOperator}
 use Rattle.shast.specs.Tree.{ACommand, ASubst, AnEntry, AnItem, AWord}
 use Rattle.shgrammar.specs.Comments.{span}
 use Rattle.shgrammar.specs.Sights.{Given, State, Sight, seen, the_piece, Move}
-use Rattle.shgrammar.specs.HereDocuments.{ADelimiter, delimiter_of, Change, changed, own_level, outer_level}
+use Rattle.shgrammar.specs.HereDocuments.{ADelimiter, Change, changed, own_level, outer_level}
 use Rattle.shgrammar.specs.Form.{raw, nothing_read, change, with_bytes, a_level, Spelled, Told, Read, ◌▸◌, Form, give, see, move, push, stop, both, when, token, many, ends_as, with_end, ◌>>=◌, Step, again, done, step_if, leads_on, turns, does, in_substitution}
-use Rattle.shgrammar.specs.Words.{single, backquote_turn, backquoted, Inner, Held, having, opened, piece_row, a_piece, contents, a_word}
+use Rattle.shgrammar.specs.Words.{single, escaped_turn, backquoted, Inner, Held, having, opened, piece_row, a_piece, contents, a_word}
 use Rattle.shgrammar.specs.Levels.{level}
 use Rattle.shgrammar.specs.Tokens.{is_end}
-use Rattle.shgrammar.specs.Commands.{pick, is_newline, is_semicolon, a_semicolon, a_join_of, is_pipe, is_bang, begins_simple, begins_word, begins_redirect, begins_pipeline, opener_of, compound_by, and_or_operator_of, next_token, Items, so_many, breaks, behind_word, is_number, redirect_operator_of, takes_here, is_long, is_strip, document_by, a_document, none_waits, nothing_waits, a_number, an_operator, operator_by, a_target, one_redirect, behind_redirect, redirect_turn, redirected, an_item, item_by, item_turn, a_simple, comment_by, a_comment, a_newline, what_is_wrong, unexpected, JoinSo, join_so, with_comment, join_turn, a_join, a_command, a_bang, Piped, piped, one_command, pipe_turn, a_pipeline, Joined, joined_so, one_pipeline, joined_by, join_pipeline, an_and_or, separator_of, separator_by, a_separator, Entered, an_entry, a_worded, is_word, is_paren, named, ASeparator, past_separator, is_double_semicolon}
+use Rattle.shgrammar.specs.Commands.{pick, is_newline, is_semicolon, a_semicolon, a_join_of, is_pipe, is_bang, begins_simple, begins_word, begins_redirect, begins_pipeline, opener_of, compound_by, and_or_operator_of, next_token, Items, so_many, breaks, behind_word, is_number, redirect_operator_of, takes_here, is_long, is_strip, document_by, a_document, none_waits, nothing_waits, a_number, an_operator, operator_by, a_target, one_redirect, behind_redirect, redirect_turn, redirected, an_item, item_by, item_turn, a_simple, comment_by, a_comment, a_newline, what_is_wrong, unexpected, JoinSo, join_so, with_comment, join_turn, a_join, a_command, a_bang, Piped, piped, one_command, pipe_turn, a_pipeline, Joined, joined_so, one_pipeline, joined_by, join_pipeline, an_and_or, separator_of, separator_by, a_separator, Entered, an_entry, a_worded, is_word, is_paren, named, ASeparator, past_separator, ends_item, falls_through}
 use Rattle.shgrammar.specs.Lines.{end_of_line, an_open_line, a_line}
 use Rattle.shgrammar.specs.Lists.{Listed, ListSo, list_so, none_listed, with_command, next_line, one_entry, entry_turn, remark_by, a_remark, on_line, list_turn, a_list}
-use Rattle.shgrammar.specs.Compounds.{is_closing, is_open_paren, is_close_paren, passed, closing, Closed, closed, a_branch, Branched, branched, elif_turn, an_else, an_if, a_loop, a_group, a_for_name, a_linebreak, a_sequential_sep, Headed, word_turn, for_words, a_for_head, a_for, a_form, a_compound, a_function, a_case_word, begins_pattern, Patterned, a_pattern, one_pattern, pattern_turn, a_pattern_list, an_open_bracket, a_body, ItemEnd, a_double_semicolon, an_item_end, CasesSo, cases_so, one_case, case_turn, a_case_head, a_case}
+use Rattle.shgrammar.specs.Compounds.{is_closing, is_open_paren, is_close_paren, passed, closing, Closed, closed, a_branch, Branched, branched, elif_turn, an_else, an_if, a_loop, a_group, a_for_name, a_linebreak, a_sequential_sep, Headed, word_turn, for_words, a_for_head, a_for, a_form, a_compound, a_function, a_case_word, begins_pattern, Patterned, a_pattern, one_pattern, pattern_turn, a_pattern_list, an_open_bracket, a_body, ItemEnd, an_ender, an_item_end, CasesSo, cases_so, one_case, case_turn, a_case_head, a_case}
 use Rattle.shgrammar.specs.Substitutions.{substituted, a_substitution, one_substitution}
 use Rattle.shgrammar.proofs.Turns.{turns_on, turns_rest, turns_done, turns_fault}
 use Rattle.shast.specs.Nodes.{word_span}
+use Rattle.shgrammar.specs.Words.{dollar_single}
 
 -- both give something, of which S holds, and end in one state; or both stop with one fault
 abbrev pub Like : {X Y : Type 0} → (X → Y → Type 0) → Read X → Read Y → Type 0
@@ -224,9 +227,9 @@ module _ (g : Given) where
   unfolding single
   alike_single = alike_see (λ b. alike_on (alike_on (alike_when alike_stop (alike_move tt))))
 
-  alike_backquote_turn : (b : ℕ) (u v : Unit {0}) → Alike (SameStep All) (backquote_turn b u) (backquote_turn b v)
-  unfolding backquote_turn
-  alike_backquote_turn b u v = alike_on (alike_when alike_stop (alike_when alike_stop (alike_see (λ last. alike_on (alike_give (same_if last))))))
+  alike_escaped_turn : (how : Escaping) (b : ℕ) (u v : Unit {0}) → Alike (SameStep All) (escaped_turn how b u) (escaped_turn how b v)
+  unfolding escaped_turn
+  alike_escaped_turn how b u v = alike_on (alike_when alike_stop (alike_when alike_stop (alike_see (λ last. alike_on (alike_give (same_if last))))))
     where
       same_if : (last : Bool) → SameStep (All {X = Unit {0}} {Y = Unit {0}}) (step_if (not last) tt) (step_if (not last) tt)
       same_if true = tt
@@ -234,7 +237,11 @@ module _ (g : Given) where
 
   alike_backquoted : Alike All backquoted backquoted
   unfolding backquoted
-  alike_backquoted = alike_see (λ b. alike_on (alike_many All (backquote_turn b) (backquote_turn b) (λ u v same. alike_backquote_turn b u v) tt tt tt))
+  alike_backquoted = alike_see (λ b. alike_on (alike_many All (escaped_turn escapings.Backquotes b) (escaped_turn escapings.Backquotes b) (λ u v same. alike_escaped_turn escapings.Backquotes b u v) tt tt tt))
+
+  alike_dollar_single : Alike All dollar_single dollar_single
+  unfolding dollar_single
+  alike_dollar_single = alike_see (λ b. alike_on (alike_on (alike_many All (escaped_turn escapings.DollarSingle b) (escaped_turn escapings.DollarSingle b) (λ u v same. alike_escaped_turn escapings.DollarSingle b u v) tt tt tt)))
 
   -- words, where what may be opened goes the same way
   abbrev SameNext : {X Y : Type 0} → X × Next → Y × Next → Type 0
@@ -256,6 +263,7 @@ module _ (g : Given) where
     alike_piece_by mode b h i pieces.LoneBackslash same = alike_see (λ q. alike_stop)
     alike_piece_by mode b h i pieces.Escape same = alike_on (alike_on (alike_give same))
     alike_piece_by mode b h i pieces.Single same = alike_then alike_single (λ x y so. alike_give same)
+    alike_piece_by mode b h i pieces.DollarSingle same = alike_then alike_dollar_single (λ x y so. alike_give same)
     alike_piece_by mode b h i pieces.Double same = alike_see (λ q. alike_on (alike_opened _ q h i same))
     alike_piece_by mode b h i pieces.Backquote same = alike_then alike_backquoted (λ x y so. alike_give same)
     alike_piece_by mode b h i pieces.Pid same = alike_on (alike_on (alike_give same))
@@ -350,7 +358,7 @@ module _ (g : Given) where
 
     alike_document : (o : RedirectOperator) (b p : ℕ) (k : Spelled) → Alike (λ x y. x ≡ y) (a_document o b p k) (a_document o b p k)
     unfolding a_document
-    alike_document o b p k = alike_pick (takes_here o) _ refl (alike_document_by b p (is_strip o) (delimiter_of k)) (alike_give refl)
+    alike_document o b p k = alike_pick (takes_here o) _ refl (alike_see (λ d. alike_document_by b p (is_strip o) d)) (alike_give refl)
 
     alike_document_at : (o q : RedirectOperator × Span) (x y : AWord × Spelled) → o ≡ q → SameTarget x y
         → Alike (λ h i. h ≡ i) (a_document o.0 o.1.start (word_span x.0).start x.1) (a_document q.0 q.1.start (word_span y.0).start y.1)
@@ -709,15 +717,15 @@ module _ (g : Given) where
     abbrev SameItemEnd : ItemEnd → ItemEnd → Type 0
     SameItemEnd e f = e.next ≡ f.next
 
-    alike_double_semicolon : Alike SameItemEnd a_double_semicolon a_double_semicolon
-    unfolding a_double_semicolon
-    alike_double_semicolon =
-        alike_on (alike_on (alike_see (λ p. alike_then (alike_next _) (λ n m same. alike_then (alike_linebreak [] [] n m same) (λ l k is. alike_give is.1)))))
+    alike_ender : (b : Bool) → Alike SameItemEnd (an_ender b) (an_ender b)
+    unfolding an_ender
+    alike_ender b =
+        alike_then (alike_token {S = λ x y. x ≡ y} {R = λ x y. Unit {0}} (alike_on (alike_move refl)) (λ x y z so. tt)) (λ x y any. (alike_see (λ p. alike_then (alike_next _) (λ n m same. alike_then (alike_linebreak [] [] n m same) (λ l k is. alike_give is.1)))))
 
     alike_item_end : (p q : ℕ) (n m : Next) → n ≡ m → Alike SameItemEnd (an_item_end inner p n) (an_item_end inner q m)
     unfolding an_item_end
     alike_item_end p q n m same =
-        rw (← same) (alike_pick (is_double_semicolon n.token) _ refl alike_double_semicolon (alike_pick (is_closing closings.Esac n.token) _ refl (alike_give refl) (alike_unexpected n)))
+        rw (← same) (alike_pick (ends_item n.token) _ refl (alike_ender (falls_through n.token)) (alike_pick (is_closing closings.Esac n.token) _ refl (alike_give refl) (alike_unexpected n)))
 
     abbrev SameCases : CasesSo → CasesSo → Type 0
     SameCases c d = c.next ≡ d.next

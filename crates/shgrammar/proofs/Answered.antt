@@ -3,23 +3,24 @@ use Rattle.std.proofs.Common.{◌≡◌, ℕ, List, sym, ap, subst, ◌∙◌}
 use Rattle.shgrammar.specs.Lines.{ALine, IsLine}
 use Rattle.shgrammar.specs.Scripts.{AScript, Outcome, FirstFault, script_at, line_of_text, first_fault_from}
 use Rattle.shgrammar.proofs.Scripts.{line_is, line_only, script_is, script_only}
+use Rattle.shgrammar.specs.declared.edition.Edition.{Edition}
 
-pub line_answered : (T : List ℕ) (l : ALine) → l ≡ line_of_text T → IsLine T l
-line_answered T l is = subst (IsLine T) (sym is) (line_is T)
+pub line_answered : (edition : Edition) → (T : List ℕ) (l : ALine) → l ≡ line_of_text edition T → IsLine edition T l
+line_answered edition T l is = subst (IsLine edition T) (sym is) (line_is edition T)
 
-pub line_alone : (T : List ℕ) (l : ALine) → l ≡ line_of_text T → (a : ALine) → IsLine T a → a ≡ l
-line_alone T l is a other = line_only T a other ∙ sym is
+pub line_alone : (edition : Edition) → (T : List ℕ) (l : ALine) → l ≡ line_of_text edition T → (a : ALine) → IsLine edition T a → a ≡ l
+line_alone edition T l is a other = line_only edition T a other ∙ sym is
 
-pub script_answered : (B : List ℕ) (s : AScript) → s ≡ script_at B → Outcome B s
-script_answered B s is = subst (Outcome B) (sym is) (script_is B)
+pub script_answered : (edition : Edition) → (B : List ℕ) (s : AScript) → s ≡ script_at edition B → Outcome edition B s
+script_answered edition B s is = subst (Outcome edition B) (sym is) (script_is edition B)
 
-pub script_alone : (B : List ℕ) (s : AScript) → s ≡ script_at B → (a : AScript) → Outcome B a → a ≡ s
-script_alone B s is a other = script_only B a other ∙ sym is
+pub script_alone : (edition : Edition) → (B : List ℕ) (s : AScript) → s ≡ script_at edition B → (a : AScript) → Outcome edition B a → a ≡ s
+script_alone edition B s is a other = script_only edition B a other ∙ sym is
 
-pub fault_answered : (B : List ℕ) (f : _) → f ≡ first_fault_from B 0 → FirstFault B f
+pub fault_answered : (edition : Edition) → (B : List ℕ) (f : _) → f ≡ first_fault_from edition B 0 → FirstFault edition B f
 unfolding first_fault_from script_at
-fault_answered B f is = ((script_at B).entries, subst (λ z. Outcome B (record { entries = (script_at B).entries; wrong = z })) (sym is) (script_is B))
+fault_answered edition B f is = ((script_at edition B).entries, subst (λ z. Outcome edition B (record { entries = (script_at edition B).entries; wrong = z })) (sym is) (script_is edition B))
 
-pub fault_alone : (B : List ℕ) (f : _) → f ≡ first_fault_from B 0 → (a : AScript) → Outcome B a → a.wrong ≡ f
+pub fault_alone : (edition : Edition) → (B : List ℕ) (f : _) → f ≡ first_fault_from edition B 0 → (a : AScript) → Outcome edition B a → a.wrong ≡ f
 unfolding first_fault_from script_at
-fault_alone B f is a other = ap (λ (s : AScript). s.wrong) (script_only B a other) ∙ sym is
+fault_alone edition B f is a other = ap (λ (s : AScript). s.wrong) (script_only edition B a other) ∙ sym is

@@ -12,9 +12,9 @@ use Rattle.shgrammar.specs.Comments.{span}
 use Rattle.shgrammar.specs.Standing.{is_byte}
 use Rattle.shgrammar.specs.Bytes.{ends, ends_word, byte_at, stands}
 use Rattle.shast.specs.Tree.{ASubst, AWord, AWordOf, word, substs_of}
-use Rattle.shgrammar.specs.Sights.{Sight, seen, Move, Given, State, standing}
+use Rattle.shgrammar.specs.Sights.{Sight, seen, Move, Given, given, State, standing}
 use Rattle.shgrammar.specs.Form.{moved, many, Spelled, as_it_stands, Read, ◌▸◌, Form, give, see, move, both, token, Step, again, done, does, Comes, may, raw, Just, just, Then, and_then, or_stops, OneToken, whole, broken_off}
-use Rattle.shgrammar.specs.Words.{Held, having, opened, piece_row, a_piece, single, backquote_turn, backquoted, Inner, contents, a_word}
+use Rattle.shgrammar.specs.Words.{Held, having, opened, piece_row, a_piece, single, escaped_turn, backquoted, Inner, contents, a_word}
 use Rattle.shgrammar.specs.Levels.{level, IsWord}
 use Rattle.shgrammar.proofs.Stretches.{get_drop}
 use Rattle.shgrammar.proofs.Holds.{tells_seen, tells_many, tells_level, tells_any, Holds, holds_then, Tells, Turned, tells_so, tells_then, tells_when, tells_token, Behind, low, tells_inside}
@@ -25,6 +25,8 @@ use Rattle.shgrammar.proofs.WordsElsewhere.{everywhere, substs_shape}
 use Rattle.shgrammar.proofs.Spelling.{raw_at}
 use Rattle.shgrammar.proofs.OneOutcome.{is}
 use Rattle.shgrammar.proofs.SameLine.{same_front}
+use Rattle.shgrammar.specs.declared.edition.Edition.{Edition}
+use Rattle.shgrammar.specs.Words.{dollar_single}
 
 just_is : {X : Type 0} {x : X} {t : State} (y : Read X) (k : Row Spelled) → Just x t y k → (y ≡ Ok (x, t)) × (k ≡ [])
 just_is y k just = (refl, refl)
@@ -73,8 +75,8 @@ same_front_of A B p q n r same lt = sym (get_drop q B r) ∙ same_front n (drop 
 abbrev pub from_to : ℕ → ℕ → ℕ → ℕ
 from_to p q r = q + (r - p)
 
-pub kept : (T U : List ℕ) (p q n : ℕ) → take n (drop q U) ≡ take n (drop p T) → Kept T U p (p + n) (from_to p q)
-kept T U p q n same = record {
+pub kept : (edition : Edition) (T U : List ℕ) (p q n : ℕ) → take n (drop q U) ≡ take n (drop p T) → Kept edition T U p (p + n) (from_to p q)
+kept edition T U p q n same = record {
   under = omega arith;
   on = λ r k from. omega (arith, from);
   same = λ r from lt. let is : p + (r - p) ≡ r = omega (arith, from) in same_front_of T U p q n (r - p) same (omega (arith, lt, from)) ∙ ap (slice_get T) is;
@@ -91,8 +93,12 @@ padded_is (suc o) T = padded_is o T
 
 module _ (room : ℕ) (g h : Given) (p q n : ℕ) (same : take n (drop q h.text) ≡ take n (drop p g.text)) (ender : ends (byte_at h.text (q + n)) ≡ true) (no_open : is_byte (byte_at h.text (q + n)) 40 ≡ false)
     (B C : List ℕ) (stands_in : g.text ≡ drop g.offset B) (stands_there : h.text ≡ drop h.offset C) where
-  K : Kept g.text h.text p (p + n) (from_to p q)
-  K = kept g.text h.text p q n same
+  -- the other text, read by the edition of this one
+  abbrev k : Given
+  k = given g.edition h.text h.offset
+
+  K : Kept g.edition g.text h.text p (p + n) (from_to p q)
+  K = kept g.edition g.text h.text p q n same
 
   begin_there : from_to p q p ≡ q
   begin_there = omega arith
@@ -110,7 +116,7 @@ module _ (room : ℕ) (g h : Given) (p q n : ℕ) (same : take n (drop q h.text)
   over s = there K g.offset h.offset s
 
   abbrev there_is : {X : Type 0} → (X → X → Type 0) → Form X → X → State → Type 0
-  there_is {X = X} S r x t = t.at ≡ p + n → (y : X) × ((does r Whole h (over (standing p)) ≡ Ok (y, over t)) × S x y)
+  there_is {X = X} S r x t = t.at ≡ p + n → (y : X) × ((does r Whole k (over (standing p)) ≡ Ok (y, over t)) × S x y)
 
   abbrev inner : Inner
   inner = level room
@@ -123,7 +129,7 @@ module _ (room : ℕ) (g h : Given) (p q n : ℕ) (same : take n (drop q h.text)
 
   contents_by : Holds (there_is SameSubsts holds_there) (does (contents inner Plain (g.offset + p) []) Whole g (standing p))
   contents_by =
-      let local = (everywhere room).local g.text h.text p (p + n) (from_to p q) K g.offset h.offset B C stands_in stands_there here_ends here_no_open in
+      let local = (everywhere room).local g.edition g.text h.text p (p + n) (from_to p q) K g.offset h.offset B C stands_in stands_there here_ends here_no_open in
       word_in K g.offset h.offset B C here_ends here_no_open inner local (g.offset + p) (h.offset + from_to p q p) (standing p) (omega arith)
 
   -- the bytes of a span
@@ -155,12 +161,12 @@ module _ (room : ℕ) (g h : Given) (p q n : ℕ) (same : take n (drop q h.text)
       (λ x t found is. let f = found is in ((f.0, span h.offset (from_to p q p) (from_to p q t.at)), (rw f.1.0 refl, (f.1.1, texts_same t.at is)))))
       (λ x t found is. let f = found is in (word f.0.1 (substs_of f.0.0), (rw f.1.0 refl, words_same x f.0 f.1.1)))
 
-  word_there : (w : AWord) → does (a_word (level room)) Whole g (standing p) ≡ Ok (w, standing (p + n)) → (v : AWord) × ((does (a_word (level room)) Whole h (standing q) ≡ Ok (v, standing (q + n))) × SameShape w v)
+  word_there : (w : AWord) → does (a_word (level room)) Whole g (standing p) ≡ Ok (w, standing (p + n)) → (v : AWord) × ((does (a_word (level room)) Whole k (standing q) ≡ Ok (v, standing (q + n))) × SameShape w v)
   word_there w is =
       let found = subst (Holds (there_is SameShape (a_word inner))) is word_by refl in (
         found.0,
         (
-          subst (λ r. does (a_word (level room)) Whole h (standing r) ≡ Ok (found.0, standing (q + n))) begin_there (subst (λ r. does (a_word (level room)) Whole h (standing (from_to p q p)) ≡ Ok (found.0, standing r)) end_there found.1.0),
+          subst (λ r. does (a_word (level room)) Whole k (standing r) ≡ Ok (found.0, standing (q + n))) begin_there (subst (λ r. does (a_word (level room)) Whole k (standing (from_to p q p)) ≡ Ok (found.0, standing r)) end_there found.1.0),
           found.1.1,
         ),
       )
@@ -179,13 +185,13 @@ word_may room h q n v e =
 -- the word that is read there, and that its shape is the same
 pub same_word : (room : ℕ) (g h : Given) (p q n : ℕ) (w : AWord) (told : Row Spelled) → may (a_word (level room)) g (standing p) (Ok (w, standing (p + n))) told → take n (drop q h.text) ≡ take n (drop p g.text)
     → ends_word h.text (q + n) ≡ true → stands h.text (q + n) 40 ≡ false → (B C : List ℕ) → g.text ≡ drop g.offset B → h.text ≡ drop h.offset C
-    → WordOf room h q n C (shape_of_word B w)
+    → WordOf room (given g.edition h.text h.offset) q n C (shape_of_word B w)
 unfolding ends_word stands
 same_word room g h p q n w told part same ender no_open B C stands_in stands_there =
     let v = word_there room g h p q n same ender no_open B C stands_in stands_there w (sym ((is (a_word (level room)) g (standing p)).only _ _ part)) in
-    (v.0, (word_may room h q n v.0 v.1.0, sym v.1.1))
+    (v.0, (word_may room (given g.edition h.text h.offset) q n v.0 v.1.0, sym v.1.1))
 
-pub anywhere : (room : ℕ) (g h : Given) (p q n : ℕ) → IsWord room g p n → take n (drop q h.text) ≡ take n (drop p g.text) → ends_word h.text (q + n) ≡ true → stands h.text (q + n) 40 ≡ false → IsWord room h q n
+pub anywhere : (room : ℕ) (g h : Given) (p q n : ℕ) → IsWord room g p n → take n (drop q h.text) ≡ take n (drop p g.text) → ends_word h.text (q + n) ≡ true → stands h.text (q + n) 40 ≡ false → IsWord room (given g.edition h.text h.offset) q n
 anywhere room g h p q n (w, part) same ender no_open =
     let v = same_word room g h p q n w _ part same ender no_open (padded g.offset g.text) (padded h.offset h.text) (padded_is g.offset g.text) (padded_is h.offset h.text) in
     (v.0, v.1.0)
@@ -228,9 +234,14 @@ module _ (g : Given) where
   single_still s = sees (moves (moves (tells_when Whole g (same tt) (same (refl, refl)))))
 
   backquoted_still : (s : State) → W backquoted s
-  unfolding backquoted backquote_turn
+  unfolding backquoted escaped_turn
   backquoted_still s =
       sees (moves (turns_still _ (λ u t. moves (tells_when Whole g (same tt) (tells_when Whole g (same tt) (sees (moves still))))) tt _))
+
+  dollar_single_still : (s : State) → W dollar_single s
+  unfolding dollar_single escaped_turn
+  dollar_single_still s =
+      sees (moves (moves (turns_still _ (λ u t. moves (tells_when Whole g (same tt) (tells_when Whole g (same tt) (sees (moves still))))) tt _)))
 
   -- what may be opened leaves it so
   record Quiet (inner : Inner) : Type 0 where
@@ -247,6 +258,7 @@ module _ (g : Given) where
     piece_still mode b h pieces.LoneBackslash s = sees (same tt)
     piece_still mode b h pieces.Escape s = moves (moves still)
     piece_still mode b h pieces.Single s = goes (single_still s) (λ x t. still)
+    piece_still mode b h pieces.DollarSingle s = goes (dollar_single_still s) (λ x t. still)
     piece_still mode b h pieces.Double s = sees (moves (opened_still _ _ h _))
     piece_still mode b h pieces.Backquote s = goes (backquoted_still s) (λ x t. still)
     piece_still mode b h pieces.Pid s = moves (moves still)

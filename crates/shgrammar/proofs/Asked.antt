@@ -2,20 +2,25 @@
 use Rattle.std.proofs.Common.{◌≡◌, ℕ, zero, suc, ◌+◌, ◌-◌, ◌≤◌, ◌<◌, ◌==◌, Bool, true, false, not, cond, ◌||◌, List, [], ◌∷◌, take, drop, Option, Some, None, slice_get, refl, sym, ap, subst, ◌∙◌, arith, ⊎_elim}
 use Rattle.std.proofs.lemmas.Bool.{both_ways, cases_lt, cases_Bool}
 use Rattle.std.proofs.lemmas.Bool.Decides.{nat_tests}
+use Rattle.shgrammar.specs.declared.mode.Escaping.{Escaping}
+use Rattle.shgrammar.specs.declared.mode.Escaping.TheVariants as escapings
 use Rattle.shgrammar.specs.declared.mode.Mode.{Mode}
 use Rattle.shgrammar.specs.declared.mode.Mode.TheVariants.{Plain, Double, Brace, DoubleBrace, Arith}
 use Rattle.shgrammar.specs.Classes.{is_letter, is_digit, is_name, is_blank, is_special}
 use Rattle.shgrammar.specs.Standing.{is_byte, is_none, at_end, raw_in, raw_stands, raw_past, next_of, next_newline, before_blanks, passes, continues}
 use Rattle.shgrammar.specs.Bytes.{past, past_blanks, past_continuations, byte_at, behind, stands, stands_in}
 use Rattle.shgrammar.specs.Comments.{span, comment_at, past_comment}
-use Rattle.shgrammar.specs.Pieces.{dollar_by, dollar_at, byte_by, piece_by, piece_at, past_taken, next_quote, next_in_backquotes, is_last_backslash, past_parameter, rest_mode, past_closer}
+use Rattle.shgrammar.specs.Pieces.{dollar_by, dollar_at, byte_by, piece_by, piece_at, past_taken, next_quote, is_last_backslash, past_parameter, rest_mode, past_closer}
 use Rattle.shgrammar.specs.Tokens.{past_digits, past_reserved}
-use Rattle.shgrammar.specs.Sights.{Move, joined, one_taken, the_closer, the_parameter, a_quote_on, in_backquotes_on, blanks, a_comment_on, the_reserved, the_digits, one_byte as byte_on, to as leads}
+use Rattle.shgrammar.specs.Sights.{Move, joined, one_taken, the_closer, the_parameter, a_quote_on, blanks, a_comment_on, the_reserved, the_digits, one_byte as byte_on, to as leads}
 use Rattle.shgrammar.specs.Form.{raw}
 use Rattle.shgrammar.proofs.Stretches.{place_low, joined_more, raw_more, get_drop, blanks_before, no_blanks_before}
-use Rattle.shgrammar.proofs.Places.{must_fail, place_same, behind_low, raw_past_low, raw_past_stops, raw_past_all, next_in_backquotes_low, next_of_low, next_newline_low, parameter_low, reserved_low, digits_low, blanks_low}
+use Rattle.shgrammar.proofs.Places.{next_escaped_low, must_fail, place_same, behind_low, raw_past_low, raw_past_stops, raw_past_all, next_of_low, next_newline_low, parameter_low, reserved_low, digits_low, blanks_low}
 use Rattle.shgrammar.proofs.SameBytes.{Safe, halts, one_byte, two_bytes, goes_on, safe_high, safe_low, safe_escape, safe_place, no_backslash, continued, raw_there, byte_other}
 use Rattle.shgrammar.proofs.Ahead.{ListEnds, ender, not_backslash, K, Goes, goes_name, goes_digit, goes_one, behind_is, same_if, same_and, seen, same_byte, same_behind, same_stands, same_stands_in, same_place, next_safe, past_safe, past_back, blanks_safe, blanks_back, same_raw_in}
+use Rattle.shgrammar.specs.declared.edition.Edition.{Edition}
+use Rattle.shgrammar.specs.Sights.{escaped_on}
+use Rattle.shgrammar.specs.Pieces.{closes_by, next_escaped}
 
 -- what is looked for ahead from p on is found before the newline, or the `)`, at M, or at it
 abbrev pub Good : List ℕ → ℕ → ℕ → ℕ → Type 0
@@ -26,7 +31,7 @@ none_there : (T : List ℕ) (p : ℕ) → continues T (past_continuations T p) �
 none_there T p = must_fail _ (λ c. let is = place_same T p in let more = joined_more T (past_continuations T p) c in let low = place_low T (past_continuations T p + 2) in absurd (omega (arith, is, more, low)))
 
 -- U has the bytes of T from a up to the place M, where the same byte ends what is looked for in both; `to` says where
-module _ {T U : List ℕ} {a M : ℕ} {to : ℕ → ℕ} {limit : ℕ} (E : ListEnds T U a M to limit) where
+module _ {edition : Edition} {T U : List ℕ} {a M : ℕ} {to : ℕ → ℕ} {limit : ℕ} (E : ListEnds edition T U a M to limit) where
   abbrev G : ℕ → Type 0
   G p = Good T a M p
 
@@ -151,9 +156,10 @@ module _ {T U : List ℕ} {a M : ℕ} {to : ℕ → ℕ} {limit : ℕ} (E : List
   quote_other None c e f = refl
   quote_other (Some b) c e f = grind (arith, nat_tests)
 
-  backquote_other : (x : Option ℕ) → passes (λ b. not (b == 96 || b == 92)) x ≡ false → is_byte x 10 ≡ false
-  backquote_other None e = refl
-  backquote_other (Some b) e = grind (arith, nat_tests)
+  escaped_other : (how : Escaping) (x : Option ℕ) → passes (λ b. not (b == closes_by how || b == 92)) x ≡ false → is_byte x 10 ≡ false
+  escaped_other how None e = refl
+  escaped_other escapings.Backquotes (Some b) e = grind (arith, nat_tests)
+  escaped_other escapings.DollarSingle (Some b) e = grind (arith, nat_tests)
 
   pub moves_one : (p : ℕ) → raw_stands T p 92 ≡ false → Moves (λ T p. p + 1) p
   moves_one p e = (omega arith, λ low s. (good_back p low (no_backslash T p e) s, sym (on p 1 low)))
@@ -328,12 +334,13 @@ module _ {T U : List ℕ} {a M : ℕ} {to : ℕ → ℕ} {limit : ℕ} (E : List
         found_good (λ x. not (x == 39)) p p low (omega arith) (quote_other (slice_get T (next_of 39 T p)) 10 refl (raw_past_stops (λ x. not (x == 39)) T p)) s,
   )
 
-  pub moves_backquotes : (p : ℕ) → Moves next_in_backquotes p
+  pub moves_escaped : (how : Escaping) (p : ℕ) → Moves (next_escaped how) p
   unfolding raw_in raw_stands
-  moves_backquotes p = (
-    next_in_backquotes_low T p,
+  moves_escaped how p = (
+    next_escaped_low how T p,
     λ low s.
-        found_good (λ x. not (x == 96 || x == 92)) p p low (omega arith) (backquote_other (slice_get T (next_in_backquotes T p)) (raw_past_stops (λ x. not (x == 96 || x == 92)) T p)) s,
+        found_good (λ x. not (x == closes_by how || x == 92)) p p low (omega arith)
+        (escaped_other how (slice_get T (next_escaped how T p)) (raw_past_stops (λ x. not (x == closes_by how || x == 92)) T p)) s,
   )
 
   pub moves_comment : (p : ℕ) → Moves past_comment p
@@ -393,7 +400,7 @@ module _ {T U : List ℕ} {a M : ℕ} {to : ℕ → ℕ} {limit : ℕ} (E : List
   moves (the_closer mode) p = (moves_closer mode p).1
   moves the_parameter p = (moves_parameter p).1
   moves a_quote_on p = (moves_quote p).1
-  moves in_backquotes_on p = (moves_backquotes p).1
+  moves (escaped_on how) p = (moves_escaped how p).1
   moves blanks p = (moves_blanks p).1
   moves a_comment_on p = (moves_comment p).1
   moves the_reserved p = (moves_reserved p).1

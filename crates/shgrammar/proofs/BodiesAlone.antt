@@ -12,6 +12,7 @@ use Rattle.shgrammar.specs.HereDocuments.{rest_of_line, past_line, is_delimiter,
 use Rattle.shgrammar.proofs.Stretches.{get_drop}
 use Rattle.shgrammar.proofs.Places.{next_newline_low}
 use Rattle.shgrammar.proofs.Delimiters.{between, bodies_go, past_line_high}
+use Rattle.shgrammar.specs.declared.edition.Edition.{Edition}
 
 abbrev pub is_text : ℕ → Bool
 is_text b = not (b == 10)
@@ -194,24 +195,24 @@ same_span o u p r q is =
     ap (λ (s : ℕ). from_to s (o + (p + q))) is ∙ ap (λ (s : ℕ). from_to (u + r) s) last
 
 -- L stands in one text from p on, and in another from r on, and its last byte is a newline: bodies that end in L end there in both
-module _ (T U Y Z : List ℕ) (o u : ℕ) where
+module _ (edition : Edition) (T U Y Z : List ℕ) (o u : ℕ) where
   abbrev Same : Row Waiting → Row Span → ℕ → ℕ → Row Span × ℕ → Type 0
-  Same ws bodies p r x = bodies_from (given U u) ws bodies r ≡ done (x.0, r + (x.1 - p))
+  Same ws bodies p r x = bodies_from (given edition U u) ws bodies r ≡ done (x.0, r + (x.1 - p))
 
   abbrev Alike : Row Waiting → Row Span × ℕ → Type 0
   Alike ws x = (bodies : Row Span) (L : List ℕ) (p r : ℕ) → p ≤ length T → r ≤ length U → o + p ≡ u + r → drop p T ≡ L ++ Y → drop r U ≡ L ++ Z → closed L ≡ true
-      → bodies_from (given T o) ws bodies p ≡ Ok x → x.1 ≤ p + length L → Same ws bodies p r x
+      → bodies_from (given edition T o) ws bodies p ≡ Ok x → x.1 ≤ p + length L → Same ws bodies p r x
 
   behind_in : (V W L : List ℕ) (p k : ℕ) → drop p V ≡ L ++ W → k ≤ length L → drop (p + k) V ≡ drop k L ++ W
   behind_in V W L p k here le = sym (drop-drop k p V) ∙ ap (drop k) here ∙ drop-append-le k L W le
 
   one_alike : (w : Waiting) (ws : Row Waiting) (x : Row Span × ℕ) → Alike ws x → (bodies : Row Span) (L : List ℕ) (p r : ℕ) → p ≤ length T → r ≤ length U → o + p ≡ u + r
-      → drop p T ≡ L ++ Y → drop r U ≡ L ++ Z → closed L ≡ true → (d : Option ℕ) → delimiter_from T w p ≡ d → body_by (bodies_from (given T o) ws) (given T o) w bodies p d ≡ Ok x
-      → x.1 ≤ p + length L → body_by (bodies_from (given U u) ws) (given U u) w bodies r (delimiter_from U w r) ≡ done (x.0, r + (x.1 - p))
+      → drop p T ≡ L ++ Y → drop r U ≡ L ++ Z → closed L ≡ true → (d : Option ℕ) → delimiter_from T w p ≡ d → body_by (bodies_from (given edition T o) ws) (given edition T o) w bodies p d ≡ Ok x
+      → x.1 ≤ p + length L → body_by (bodies_from (given edition U u) ws) (given edition U u) w bodies r (delimiter_from U w r) ≡ done (x.0, r + (x.1 - p))
   one_alike w ws x more bodies L p r within inside off here there so None found read low = absurd cc
   one_alike w ws x more bodies L p r within inside off here there so (Some d) found read low =
       let one = between T w false p d found in
-      let go = bodies_go (given T o) ws (bodies ++ span o p d ∷ []) (past_line T d) x read (past_line_high T d) in
+      let go = bodies_go (given edition T o) ws (bodies ++ span o p d ∷ []) (past_line T d) x read (past_line_high T d) in
       let q = d - p in
       let is : d ≡ p + q = omega (arith, one.0) in
       let before : q < length L = omega (arith, go.0, low, one.0, one.1, next_newline_low T d) in
@@ -221,11 +222,11 @@ module _ (T U Y Z : List ℕ) (o u : ℕ) where
       let met : delimiter_from U w r ≡ Some (r + q) = same_delimiter w T U L Y Z p r q within inside here there so before (found ∙ ap (λ (n : ℕ). Some n) is) in
       let past : past_line T d ≡ p + k = ap (past_line T) is ∙ mine.0 in
       let same : bodies ++ span o p d ∷ [] ≡ bodies ++ span u r (r + q) ∷ [] = ap (λ s. bodies ++ s ∷ []) (ap (span o p) is ∙ same_span o u p r q off) in
-      let read_on : bodies_from (given T o) ws (bodies ++ span u r (r + q) ∷ []) (p + k) ≡ Ok x = ap (λ b. bodies_from (given T o) ws b (p + k)) (sym same) ∙ ap (bodies_from (given T o) ws (bodies ++ span o p d ∷ [])) (sym past) ∙ read in
+      let read_on : bodies_from (given edition T o) ws (bodies ++ span u r (r + q) ∷ []) (p + k) ≡ Ok x = ap (λ b. bodies_from (given edition T o) ws b (p + k)) (sym same) ∙ ap (bodies_from (given edition T o) ws (bodies ++ span o p d ∷ [])) (sym past) ∙ read in
       let left : length (drop k L) ≡ length L - k = length-drop k L in
       let high : p + k ≤ x.1 = omega (arith, go.0, past) in
-      ap (body_by (bodies_from (given U u) ws) (given U u) w bodies r) met
-      ∙ ap (bodies_from (given U u) ws (bodies ++ span u r (r + q) ∷ [])) other.0
+      ap (body_by (bodies_from (given edition U u) ws) (given edition U u) w bodies r) met
+      ∙ ap (bodies_from (given edition U u) ws (bodies ++ span u r (r + q) ∷ [])) other.0
       ∙ more (bodies ++ span u r (r + q) ∷ []) (drop k L) (p + k) (r + k) (omega (arith, past, past_line_high T d)) (omega (arith, other.0, past_line_high U (r + q))) (omega (arith, off))
       (behind_in T Y L p k here mine.1) (behind_in U Z L r k there mine.1) (closed_drop k L so) read_on (omega (arith, low, left, mine.1))
       ∙ ap (λ (n : ℕ). done (x.0, n)) (omega (arith, high))

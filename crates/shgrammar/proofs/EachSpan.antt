@@ -191,7 +191,7 @@ module _ (P R : Span → Type 0) (Q S : Items → Type 0) (p : (s : Span) → P 
     cases_so (more_cases c cs) so = (case_so c so.0, cases_so cs so.1)
 
     case_so : (c : ACaseItem) → InCase P Q c → InCase R S c
-    case_so (case_item comments patterns body span) so = (each_so comments so.0, patterns_so patterns so.1, throughout_so body so.2, p span so.3)
+    case_so (case_item comments patterns body mark) so = (each_so comments so.0, patterns_so patterns so.1, throughout_so body so.2, p mark.mark so.3)
 
     patterns_so : (ws : Patterns) → InPatterns P Q ws → InPatterns R S ws
     patterns_so no_pattern so = tt
@@ -354,7 +354,7 @@ module _ (P : Span → Type 0) (Q : Items → Type 0) (keeps : (items : Items) (
         ((x.0, y.0), y.1)
 
     fills_case : (c : ACaseItem) (ts : Row Span) → InCase P Q c → All P ts → Kept (InCase P Q) (fill_case c ts)
-    fills_case (case_item comments patterns body span) ts so all =
+    fills_case (case_item comments patterns body mark) ts so all =
         let x = fills body ts so.2 all in
         ((so.0, so.1, x.0, so.3), x.1)
 

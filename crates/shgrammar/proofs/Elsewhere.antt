@@ -37,6 +37,7 @@ use Rattle.shast.specs.Shape.{Shape, shape_of_word}
 use Rattle.shast.specs.Tree.{SubstsOf, word as shape_word}
 use Rattle.shgrammar.proofs.CommentsElsewhere.{byte_behind, stretch_length}
 use Rattle.shgrammar.proofs.WordsWithin.{word_ends}
+use Rattle.shgrammar.specs.declared.edition.Edition.{Edition}
 
 -- ---- tests of ordinary bytes
 
@@ -89,7 +90,7 @@ held P y x t is so = subst (Holds P) is so
 
 -- ---- a word that ends at the limit, in a text and in another one that has its bytes
 
-module _ {T U : List ℕ} {a L : ℕ} {to : ℕ → ℕ} (K : Kept T U a L to) (W : WordEnds T U L to) (o room : ℕ) where
+module _ {edition : Edition} {T U : List ℕ} {a L : ℕ} {to : ℕ → ℕ} (K : Kept edition T U a L to) (W : WordEnds T U L to) (o room : ℕ) where
   abbrev B : List ℕ
   B = padded o T
 
@@ -103,37 +104,37 @@ module _ {T U : List ℕ} {a L : ℕ} {to : ℕ → ℕ} (K : Kept T U a L to) (
     start : Held
     found : Held
     last : State
-    goes : does (loop (a_piece (level room) Plain opener) start) Whole (given T o) (standing r) ≡ Ok (found, last)
+    goes : does (loop (a_piece (level room) Plain opener) start) Whole (given edition T o) (standing r) ≡ Ok (found, last)
     there : last.at ≡ L
 
   -- what ends at the limit began so
   abbrev Begins : ℕ → {X : Type 0} → X → State → Type 0
   Begins p x t = t.at ≡ L → Goes p
 
-  word_begins : (p : ℕ) → a ≤ p → Holds (Begins p) (does (a_word (level room)) Whole (given T o) (standing p))
+  word_begins : (p : ℕ) → a ≤ p → Holds (Begins p) (does (a_word (level room)) Whole (given edition T o) (standing p))
   unfolding a_word contents many
   word_begins p low =
-      holds_then (Begins p) (Begins p) (does (token as_it_stands (contents (level room) Plain (o + p) [])) Whole (given T o) (standing p)) _
-      (holds_then (Begins p) (Begins p) (does (contents (level room) Plain (o + p) []) Whole (given T o) (standing p)) _
-      (holds_then (λ x t. does (loop (a_piece (level room) Plain (o + p)) (having 0 [])) Whole (given T o) (standing p) ≡ Ok (x, t)) (Begins p)
-      (does (loop (a_piece (level room) Plain (o + p)) (having 0 [])) Whole (given T o) (standing p)) _
-      (self (does (loop (a_piece (level room) Plain (o + p)) (having 0 [])) Whole (given T o) (standing p)))
+      holds_then (Begins p) (Begins p) (does (token as_it_stands (contents (level room) Plain (o + p) [])) Whole (given edition T o) (standing p)) _
+      (holds_then (Begins p) (Begins p) (does (contents (level room) Plain (o + p) []) Whole (given edition T o) (standing p)) _
+      (holds_then (λ x t. does (loop (a_piece (level room) Plain (o + p)) (having 0 [])) Whole (given edition T o) (standing p) ≡ Ok (x, t)) (Begins p)
+      (does (loop (a_piece (level room) Plain (o + p)) (having 0 [])) Whole (given edition T o) (standing p)) _
+      (self (does (loop (a_piece (level room) Plain (o + p)) (having 0 [])) Whole (given edition T o) (standing p)))
       (λ x t is at. record { low = low; opener = o + p; start = having 0 []; found = x; last = t; goes = is; there = at }))
       (λ x t so. so))
       (λ x t so. so)
 
-  word_goes : (p n : ℕ) → a ≤ p → p + n ≡ L → IsWord room (given T o) p n → Goes p
+  word_goes : (p n : ℕ) → a ≤ p → p + n ≡ L → IsWord room (given edition T o) p n → Goes p
   word_goes p n low end (w, part) =
-      let is_read = (is (a_word (level room)) (given T o) (standing p)).only _ _ part in
-      held (Begins p) (does (a_word (level room)) Whole (given T o) (standing p)) w (standing (p + n)) (sym is_read) (word_begins p low) end
+      let is_read = (is (a_word (level room)) (given edition T o) (standing p)).only _ _ part in
+      held (Begins p) (does (a_word (level room)) Whole (given edition T o) (standing p)) w (standing (p + n)) (sym is_read) (word_begins p low) end
 
   -- the same byte is read there, or the word ends
   place_of : {r : ℕ} → Goes r → Here T U a L to r ⊎ (r ≡ L)
   place_of {r = r} w =
       ⊎_elim inl (λ e. inr e.1)
-      (held (λ x t. t.at ≡ L → From K o o B C Plain r) (does (loop (a_piece (level room) Plain w.opener) w.start) Whole (given T o) (standing r)) w.found w.last w.goes
+      (held (λ x t. t.at ≡ L → From K o o B C Plain r) (does (loop (a_piece (level room) Plain w.opener) w.start) Whole (given edition T o) (standing r)) w.found w.last w.goes
       (word_from K o o B C W.there (λ e. W.closed) (level room)
-      ((everywhere room).local T U a L to K o o B C (padded_is o T) (padded_is o U) W.there (λ e. W.closed)) w.opener w.start (standing r) w.low) w.there)
+      ((everywhere room).local edition T U a L to K o o B C (padded_is o T) (padded_is o U) W.there (λ e. W.closed)) w.opener w.start (standing r) w.low) w.there)
 
   inside_of : {r : ℕ} → Goes r → ends (byte_at T r) ≡ false → Here T U a L to r
   inside_of w e = ⊎_elim (λ i. i) (λ at. absurd (both_ways (ends (byte_at T L)) (subst (λ r. ends (byte_at T r) ≡ false) at e) W.here)) (place_of w)
@@ -143,7 +144,7 @@ module _ {T U : List ℕ} {a L : ℕ} {to : ℕ → ℕ} (K : Kept T U a L to) (
 
   -- an ordinary byte is a piece
   ordinary_turn : (r b opener : ℕ) (c : Held) → byte_at T r ≡ Some b → is_plain Plain b ≡ true
-      → does (a_piece (level room) Plain opener c) Whole (given T o) (standing r) ≡ Ok (again c, standing (behind T r))
+      → does (a_piece (level room) Plain opener c) Whole (given edition T o) (standing r) ≡ Ok (again c, standing (behind T r))
   unfolding a_piece piece_at
   ordinary_turn r b opener c is plain = rw (is, ordinary_by T r Plain c.nested b plain) refl
 
@@ -161,8 +162,8 @@ module _ {T U : List ℕ} {a L : ℕ} {to : ℕ → ℕ} (K : Kept T U a L to) (
     next_by {r = r} w (Some b) is e =
         let b_plain = plain b e in
         let lt = slice_get_within T (past_continuations T r) b is in
-        let leads : leads_on (given T o) (standing r) (standing (behind T r)) ≡ true = lt-ltb _ _ (omega (arith, lt, place_low T r, behind_is T r)) in
-        let more = turns_on (given T o) (λ c s. does (a_piece (level room) Plain w.opener c) Whole (given T o) s) w.start w.start (standing r) (standing (behind T r))
+        let leads : leads_on (given edition T o) (standing r) (standing (behind T r)) ≡ true = lt-ltb _ _ (omega (arith, lt, place_low T r, behind_is T r)) in
+        let more = turns_on (given edition T o) (λ c s. does (a_piece (level room) Plain w.opener c) Whole (given edition T o) s) w.start w.start (standing r) (standing (behind T r))
         (ordinary_turn r b w.opener w.start is b_plain) leads in (
           record {
             low = omega (arith, w.low, behind_low T r);
@@ -267,6 +268,7 @@ item_is_word tokens.End e = absurd cc
 item_is_word tokens.Newline e = absurd cc
 item_is_word tokens.Semicolon e = absurd cc
 item_is_word tokens.DoubleSemicolon e = absurd cc
+item_is_word tokens.SemicolonAmpersand e = absurd cc
 item_is_word tokens.Ampersand e = absurd cc
 item_is_word tokens.AndIf e = absurd cc
 item_is_word tokens.OrIf e = absurd cc
@@ -303,7 +305,7 @@ neither false x y one two so = two so
 pub item_byte : (position : Position) (T : List ℕ) (p b : ℕ) → Item (token_of position T p (Some b)) → ItemByte b × (is_number T p ≡ false)
 item_byte position T p b so =
     let newline = item_else (is_newline b) _ _ (λ e. absurd cc) so in
-    let semicolon = item_else (b == 59) _ _ (λ e. neither (stands T (behind T p) 59) _ _ (λ f. absurd cc) (λ f. absurd cc) e) newline.1 in
+    let semicolon = item_else (b == 59) _ _ (λ e. neither (stands T (behind T p) 59) _ _ (λ f. absurd cc) (λ f. neither (stands T (behind T p) 38) _ _ (λ g. absurd cc) (λ g. absurd cc) f) e) newline.1 in
     let ampersand = item_else (b == 38) _ _ (λ e. neither (stands T (behind T p) 38) _ _ (λ f. absurd cc) (λ f. absurd cc) e) semicolon.1 in
     let bar = item_else (b == 124) _ _ (λ e. neither (stands T (behind T p) 124) _ _ (λ f. absurd cc) (λ f. absurd cc) e) ampersand.1 in
     let open_paren = item_else (b == 40) _ _ (λ e. absurd cc) bar.1 in
@@ -387,9 +389,9 @@ pub record ReadAt (room : ℕ) (position : Position) (token : Token) (w : List �
 
 -- wherever these bytes stand, before what may follow an item, they are a word with substitutions of these shapes, and this token in
 -- this position
-pub record ItemAnywhere (room : ℕ) (position : Position) (token : Token) (w : List ℕ) (ss : Shape SubstsOf) : Type 0 where
+pub record ItemAnywhere (edition : Edition) (room : ℕ) (position : Position) (token : Token) (w : List ℕ) (ss : Shape SubstsOf) : Type 0 where
   pub some : 0 < length w
-  pub there : (g : Given) (q : ℕ) (zs : List ℕ) → drop q g.text ≡ w ++ zs → follows zs ≡ true → ReadAt room position token w ss g q
+  pub there : (g : Given) (q : ℕ) (zs : List ℕ) → drop q g.text ≡ w ++ zs → follows zs ≡ true → ReadAt room position token w ss (given edition g.text g.offset) q
 
 -- and a NAME
 abbrev pub NameAnywhere : List ℕ → Type 0
@@ -432,8 +434,8 @@ module _ (room : ℕ) (position : Position) (g : Given) (p n : ℕ) (word : IsWo
     same : take n (drop q h.text) ≡ w
     same = ap (take n) is_there ∙ take_at w zs n size
 
-    K : Kept g.text h.text p (p + n) (from_to p q)
-    K = kept g.text h.text p q n same
+    K : Kept g.edition g.text h.text p (p + n) (from_to p q)
+    K = kept g.edition g.text h.text p q n same
 
     limit_byte : byte_at h.text (from_to p q (p + n)) ≡ Some next.byte
     limit_byte = let end : from_to p q (p + n) ≡ q + n = omega arith in ap (byte_at h.text) end ∙ next_byte
@@ -466,38 +468,38 @@ module _ (room : ℕ) (position : Position) (g : Given) (p n : ℕ) (word : IsWo
 
     -- over the bytes B it has this shape
     module _ (B : List ℕ) (stands_in_B : g.text ≡ drop g.offset B) (ss : Shape SubstsOf) (shape : shape_of_word B word.0 ≡ shape_word w ss) where
-      word_there : (C : List ℕ) → h.text ≡ drop h.offset C → WordOf room h q n C (shape_word w ss)
+      word_there : (C : List ℕ) → h.text ≡ drop h.offset C → WordOf room (given g.edition h.text h.offset) q n C (shape_word w ss)
       unfolding ends_word stands
       word_there C stands_in_C =
           let v = same_word room g h p q n word.0 _ word.1 same (ap ends next_byte ∙ next.ends_it) (ap (λ x. is_byte x 40) next_byte ∙ next.no_open) B C stands_in_B stands_in_C in
           (v.0, (v.1.0, v.1.1 ∙ shape))
 
-      read_at : ReadAt room position (token_at position g.text p) w ss h q
+      read_at : ReadAt room position (token_at position g.text p) w ss (given g.edition h.text h.offset) q
       read_at = record {
         place = subst (λ r. past_continuations h.text r ≡ r) begin (inside.there ∙ ap (from_to p q) place);
         no_blank = subst (λ r. stands_in is_blank h.text r ≡ false) begin (here_stands_in K inside is_blank ∙ no_blank);
         token_is = subst (λ r. token_at position h.text r ≡ token_at position g.text p) begin same_token;
-        word = λ C stands_in_C. subst (λ m. WordOf room h q m C (shape_word w ss)) (sym size) (word_there C stands_in_C);
+        word = λ C stands_in_C. subst (λ m. WordOf room (given g.edition h.text h.offset) q m C (shape_word w ss)) (sym size) (word_there C stands_in_C);
       }
 
-  item_there : (B : List ℕ) → g.text ≡ drop g.offset B → (ss : Shape SubstsOf) → shape_of_word B word.0 ≡ shape_word w ss → ItemAnywhere room position (token_at position g.text p) w ss
+  item_there : (B : List ℕ) → g.text ≡ drop g.offset B → (ss : Shape SubstsOf) → shape_of_word B word.0 ≡ shape_word w ss → ItemAnywhere g.edition room position (token_at position g.text p) w ss
   item_there B stands_in_B ss shape = record { some = has_byte; there = λ h q zs is_there following. read_at h q zs is_there following B stands_in_B ss shape }
 
   names : is_name_at g.text p ≡ true → NameAnywhere w
-  names name T q zs is_there following = name_there (given T 0) q zs is_there following name
+  names name T q zs is_there following = name_there (given g.edition T 0) q zs is_there following name
 
 -- what is a word where it stands is one anywhere, and the same token
 pub token_anywhere : (room : ℕ) (position : Position) (token : Token) (g : Given) (p n : ℕ) (word : IsWord room g p n)
     → past_continuations g.text p ≡ p → stands_in is_blank g.text p ≡ false → token_at position g.text p ≡ token → is_a_word token ≡ true
-    → (B : List ℕ) → g.text ≡ drop g.offset B → (ss : Shape SubstsOf) → shape_of_word B word.0 ≡ shape_word (take n (drop p g.text)) ss → ItemAnywhere room position token (take n (drop p g.text)) ss
+    → (B : List ℕ) → g.text ≡ drop g.offset B → (ss : Shape SubstsOf) → shape_of_word B word.0 ≡ shape_word (take n (drop p g.text)) ss → ItemAnywhere g.edition room position token (take n (drop p g.text)) ss
 token_anywhere room position _ g p n word place no_blank token_is item B stands_in_B ss shape =
-    subst (λ (t : Token). ItemAnywhere room position t (take n (drop p g.text)) ss) token_is
+    subst (λ (t : Token). ItemAnywhere g.edition room position t (take n (drop p g.text)) ss) token_is
     (item_there room position g p n word place no_blank (subst (λ (t : Token). is_a_word t ≡ true) (sym token_is) item) B stands_in_B ss shape)
 
 -- what is an item where it stands is one anywhere
 pub item_anywhere : (room : ℕ) (position : Position) (token : Token) (g : Given) (p n : ℕ) (word : IsWord room g p n)
     → past_continuations g.text p ≡ p → stands_in is_blank g.text p ≡ false → token_at position g.text p ≡ token → is_some (behind_word token) ≡ true
-    → (B : List ℕ) → g.text ≡ drop g.offset B → (ss : Shape SubstsOf) → shape_of_word B word.0 ≡ shape_word (take n (drop p g.text)) ss → ItemAnywhere room position token (take n (drop p g.text)) ss
+    → (B : List ℕ) → g.text ≡ drop g.offset B → (ss : Shape SubstsOf) → shape_of_word B word.0 ≡ shape_word (take n (drop p g.text)) ss → ItemAnywhere g.edition room position token (take n (drop p g.text)) ss
 item_anywhere room position t g p n word place no_blank token_is item = token_anywhere room position t g p n word place no_blank token_is (item_is_word t item)
 
 -- and so is a NAME

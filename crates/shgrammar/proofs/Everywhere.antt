@@ -19,9 +19,9 @@ use Rattle.shgrammar.specs.Sights.{Given, given, State, standing}
 use Rattle.shgrammar.specs.HereDocuments.{own_level}
 use Rattle.shgrammar.specs.Form.{Spelled, does}
 use Rattle.shgrammar.specs.Words.{Inner}
-use Rattle.shgrammar.specs.Commands.{is_pipe, begins_word, opener_of, Items, so_many, is_word, is_double_semicolon}
+use Rattle.shgrammar.specs.Commands.{is_pipe, begins_word, opener_of, Items, so_many, is_word, ends_item, falls_through}
 use Rattle.shgrammar.specs.Lists.{list_so, none_listed, Listed}
-use Rattle.shgrammar.specs.Compounds.{held_apart, Branched, branched, Closed, is_closing, is_open_paren, is_close_paren, passed, closing, a_branch, elif_turn, an_else, an_if, a_loop, a_group, a_for_name, a_sequential_sep, Headed, word_turn, for_words, a_for_head, behind_remarks, a_for, a_form, a_compound, a_function, under_name, a_case_word, begins_pattern, Patterned, a_pattern, one_pattern, pattern_turn, a_pattern_list, a_body, body_end, ItemEnd, a_double_semicolon, an_item_end, CasesSo, cases_so, one_case, case_turn, a_case_head, a_case}
+use Rattle.shgrammar.specs.Compounds.{held_apart, Branched, branched, Closed, is_closing, is_open_paren, is_close_paren, passed, closing, a_branch, elif_turn, an_else, an_if, a_loop, a_group, a_for_name, a_sequential_sep, Headed, word_turn, for_words, a_for_head, behind_remarks, a_for, a_form, a_compound, a_function, under_name, a_case_word, begins_pattern, Patterned, a_pattern, one_pattern, pattern_turn, a_pattern_list, a_body, body_end, ItemEnd, an_ender, an_item_end, CasesSo, cases_so, one_case, case_turn, a_case_head, a_case}
 use Rattle.shgrammar.specs.Substitutions.{substituted, a_substitution, one_substitution}
 use Rattle.shgrammar.specs.Levels.{most_open, level}
 use Rattle.shgrammar.specs.Lines.{AKind, an_open_line, a_line, ALine, IsLine, blank_line, entries_line, end_line, faulty_line, line_read, line_stops, kind_of, EntriesEverywhere}
@@ -32,6 +32,7 @@ use Rattle.shgrammar.proofs.Holds.{Holds}
 use Rattle.shgrammar.proofs.UpToLimit.{UpTo, Stepped, adds, after, bare_token, ending, first, first_on, follows, gives, in_level, in_subst, picks, pushes, repeats, sees, stands, step_so, stops, unless}
 use Rattle.shgrammar.proofs.EachSpan.{AreIn, BranchIn, CaseIn, CommandIn, ElseIn, EntriesIn, EntryIn, ForWordsIn, FormIn, ItemIn, SubstIn, WordIn, all_within, all_within_more, bodies_in, branches_in, cases_in, commands_end_low, entries_in, have_items, items_in, spans_in, words_in}
 use Rattle.shgrammar.proofs.ListsEverywhere.{Fine, ItemsIn, JoinIn, ListIn, PartedIn, SomeItems, compound_in_by, contents_in, linebreak_in, lines_in, list_in, on_line_in, one_item_in, stopped, word_in}
+use Rattle.shgrammar.specs.declared.edition.Edition.{Edition}
 
 module _ {g : Given} {limit : ℕ} where
   module _ {inner : Inner} (fine : Fine g limit inner) where
@@ -160,15 +161,15 @@ module _ {g : Given} {limit : ℕ} where
     abbrev ItemEndIn : ItemEnd → Type 0
     ItemEndIn e = (e.at ≤ limit) × AreIn limit e.comments
 
-    double_semicolon_in : (s : State) → UpTo g limit a_double_semicolon ItemEndIn s
-    unfolding a_double_semicolon
-    double_semicolon_in s =
-        after (λ x t. after (λ y u. first stands (λ p v low. after (λ n w. first (linebreak_in [] n w (All-nil (IsSpanWithin limit))) (λ l z so. gives (low, so))))))
+    ender_in : (b : Bool) (s : State) → UpTo g limit (an_ender b) ItemEndIn s
+    unfolding an_ender
+    ender_in b s =
+        after (λ y u. first stands (λ p v low. after (λ n w. first (linebreak_in [] n w (All-nil (IsSpanWithin limit))) (λ l z so. gives (low, so)))))
 
     item_end_in : (there : ℕ) (n : Next) (s : State) → there ≤ limit → UpTo g limit (an_item_end inner there n) ItemEndIn s
     unfolding an_item_end
     item_end_in there n s low =
-        picks (is_double_semicolon n.token) (double_semicolon_in s) (picks (is_closing closings.Esac n.token) (gives (low, All-nil (IsSpanWithin limit))) (stopped inner n))
+        picks (ends_item n.token) (ender_in (falls_through n.token) s) (picks (is_closing closings.Esac n.token) (gives (low, All-nil (IsSpanWithin limit))) (stopped inner n))
 
     -- the items so far, and the comments behind them
     abbrev CasesIn : CasesSo → Type 0
@@ -275,10 +276,10 @@ module _ (g : Given) (limit : ℕ) where
 -- ---- the lines of a script
 
 -- the entries of a line that is read where it stands in a script
-pub line_throughout : (T : List ℕ) (o : ℕ) (blank newline : Bool) (es : Row AnEntry) (t : State) → does (the_line blank) Whole (given T o) (standing 0) ≡ Ok ((es, newline), t)
+pub line_throughout : (edition : Edition) → (T : List ℕ) (o : ℕ) (blank newline : Bool) (es : Row AnEntry) (t : State) → does (the_line blank) Whole (given edition T o) (standing 0) ≡ Ok ((es, newline), t)
     → (limit : ℕ) → o + t.at ≤ limit → Throughout (IsSpanWithin limit) IsSome (entries_of es)
-line_throughout T o blank newline es t is limit le =
-    let g = given T o in
+line_throughout edition T o blank newline es t is limit le =
+    let g = given edition T o in
     let told = (line_in (level_in g limit most_open) blank (standing 0)).told.told in
     subst (Holds (λ (x : Row AnEntry × Bool) (u : State). o + u.at ≤ limit → Throughout (IsSpanWithin limit) IsSome (entries_of x.0))) is told le
 
@@ -295,7 +296,7 @@ everywhere_more limit more end_line le so = tt
 everywhere_more limit more (faulty_line fault) le so = tt
 
 -- those of a line, as far as the line goes
-pub line_everywhere : (T : List ℕ) (l : ALine) → IsLine T l → EntriesEverywhere l.next l.kind
-line_everywhere T l (line_read es newline t k part) =
-    kind_everywhere t.at es newline (line_throughout T 0 false newline es t (sym ((is (the_line false) (given T 0) (standing 0)).only _ _ part)) t.at (omega arith))
-line_everywhere T l (line_stops f k part) = tt
+pub line_everywhere : (edition : Edition) → (T : List ℕ) (l : ALine) → IsLine edition T l → EntriesEverywhere l.next l.kind
+line_everywhere edition T l (line_read es newline t k part) =
+    kind_everywhere t.at es newline (line_throughout edition T 0 false newline es t (sym ((is (the_line false) (given edition T 0) (standing 0)).only _ _ part)) t.at (omega arith))
+line_everywhere edition T l (line_stops f k part) = tt

@@ -24,16 +24,17 @@ use Rattle.shgrammar.proofs.Delimiters.{between, bodies_low}
 use Rattle.shgrammar.proofs.Shifted.{shifted, from_to, state_from}
 use Rattle.shgrammar.proofs.BodiesThere.{move_span, move_waiting, moved_to, bodies_over, waits_over, first_over, change_good}
 use Rattle.shgrammar.proofs.Spelling.{raw_at}
+use Rattle.shgrammar.specs.declared.edition.Edition.{Edition}
 
-module _ {T U : List ℕ} {a M : ℕ} {to : ℕ → ℕ} {limit : ℕ} (E : ListEnds T U a M to limit) (o o2 : ℕ) (B B2 : List ℕ) (stands : T ≡ drop o B) (stands_there : U ≡ drop o2 B2) where
+module _ {edition : Edition} {T U : List ℕ} {a M : ℕ} {to : ℕ → ℕ} {limit : ℕ} (E : ListEnds edition T U a M to limit) (o o2 : ℕ) (B B2 : List ℕ) (stands : T ≡ drop o B) (stands_there : U ≡ drop o2 B2) where
   abbrev G : ℕ → Type 0
   G p = Good T a M p
 
   abbrev g : Given
-  g = given T o
+  g = given edition T o
 
   abbrev h : Given
-  h = given U o2
+  h = given edition U o2
 
   -- the state, elsewhere
   abbrev pub over : State → State

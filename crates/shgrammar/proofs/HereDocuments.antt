@@ -1,4 +1,5 @@
 -- Words with the delimiters that they are, and texts with the bodies in them: what the definitions have to give.
+use Rattle.shgrammar.specs.declared.edition.Edition.TheVariants.{Y2017}
 use Rattle.std.proofs.Common.{◌≡◌, refl, ℕ, Bool, true, false, List, [], ◌∷◌, Option, Some, None}
 use Rattle.std.specs.Prelude.{codes, Ok, Err}
 use Rattle.shast.specs.Shape.{bare}
@@ -102,13 +103,13 @@ empty_line = refl
 
 -- two documents, the second at the end of the text
 pub two_bodies :
-    bodies_from (given (codes "<<E <<F\na\nE\nF") 100) (waits false false 100 (codes "E") ∷ waits false false 104 (codes "F") ∷ []) [] 8
+    bodies_from (given Y2017 (codes "<<E <<F\na\nE\nF") 100) (waits false false 100 (codes "E") ∷ waits false false 104 (codes "F") ∷ []) [] 8
     ≡ Ok (span 100 8 10 ∷ span 100 12 12 ∷ [], 13)
 unfolding bodies_from delimiter_on delimiter_below at_end raw_past count_front
 two_bodies = refl
 
 pub second_unclosed :
-    bodies_from (given (codes "<<E <<F\na\nE\n") 100) (waits false false 100 (codes "E") ∷ waits false false 104 (codes "F") ∷ []) [] 8
+    bodies_from (given Y2017 (codes "<<E <<F\na\nE\n") 100) (waits false false 100 (codes "E") ∷ waits false false 104 (codes "F") ∷ []) [] 8
     ≡ Err (record { kind = UnclosedHere; at = 104 })
 unfolding bodies_from delimiter_on delimiter_below at_end raw_past count_front
 second_unclosed = refl

@@ -11,14 +11,16 @@ use Rattle.shgrammar.specs.Standing.{raw_stands}
 use Rattle.shgrammar.specs.Bytes.{behind}
 use Rattle.shgrammar.specs.Comments.{span, past_comment}
 use Rattle.shgrammar.specs.Pieces.{past_taken, past_closer}
-use Rattle.shgrammar.specs.Sights.{Given, State, Sight, seen, Move, one_byte, joined, one_taken, the_closer, the_parameter, a_quote_on, in_backquotes_on, blanks, a_comment_on, the_reserved, the_digits, to}
+use Rattle.shgrammar.specs.Sights.{Given, State, Sight, seen, Move, one_byte, joined, one_taken, the_closer, the_parameter, a_quote_on, blanks, a_comment_on, the_reserved, the_digits, to}
 use Rattle.shgrammar.specs.HereDocuments.{Change, waits, bodies_here, changed, bodies_from, state_by, own_level, outer_level}
 use Rattle.shgrammar.specs.declared.fault.Fault.{Fault}
 use Rattle.shgrammar.specs.Form.{Spelled, raw, nothing_read, change, with_bytes, a_level, Read, ◌▸◌, Form, give, see, move, push, stop, both, when, Told, token, loop, many, ends_as, with_end, Step, again, done, leads_on, moved, turns, does, in_substitution, inside}
 use Rattle.shgrammar.proofs.Stretches.{place_low}
-use Rattle.shgrammar.proofs.Places.{behind_low, blanks_low, next_in_backquotes_low, next_newline_low, next_of_low, parameter_low, reserved_low, digits_low}
+use Rattle.shgrammar.proofs.Places.{behind_low, blanks_low, next_newline_low, next_of_low, parameter_low, reserved_low, digits_low}
 use Rattle.shgrammar.proofs.Delimiters.{bodies_low}
 use Rattle.shgrammar.proofs.Turns.{turns_on, turns_rest, turns_done, turns_fault}
+use Rattle.shgrammar.specs.Sights.{escaped_on}
+use Rattle.shgrammar.proofs.Places.{next_escaped_low}
 
 -- P holds of what is read and of the state behind it; of a fault nothing is said
 abbrev pub Holds : {X : Type 0} → (X → State → Type 0) → Read X → Type 0
@@ -204,7 +206,7 @@ move_low one_taken T p = taken_low T p
 move_low (the_closer mode) T p = closer_low mode T p
 move_low the_parameter T p = parameter_low T p
 move_low a_quote_on T p = next_of_low 39 T p
-move_low in_backquotes_on T p = next_in_backquotes_low T p
+move_low (escaped_on how) T p = next_escaped_low how T p
 move_low blanks T p = blanks_low T p
 move_low a_comment_on T p = comment_low T p
 move_low the_reserved T p = reserved_low T p

@@ -3,17 +3,19 @@
 use Rattle.std.proofs.Common.{◌≡◌, ℕ, zero, suc, ◌+◌, ◌-◌, ◌≤◌, ◌<◌, ◌==◌, Bool, true, false, not, ◌||◌, Ok, Err, List, length, refl, sym, ap, subst, ◌∙◌, arith, ⊎_elim}
 use Rattle.std.proofs.lemmas.Bool.{both_ways, cases_Bool, cond_both, ltb-true}
 use Rattle.std.proofs.lemmas.Option.{slice_get_within, slice_get-get_or}
+use Rattle.shgrammar.specs.declared.mode.Escaping.{Escaping}
+use Rattle.shgrammar.specs.declared.mode.Escaping.TheVariants as escapings
 use Rattle.shgrammar.specs.declared.keep.Keep.TheVariants.{Whole}
 use Rattle.shgrammar.specs.declared.mode.Mode.{Mode}
 use Rattle.shgrammar.specs.Classes.{is_letter, is_digit, is_name, is_special}
 use Rattle.shgrammar.specs.Standing.{is_byte, is_none, at_end, raw_stands}
 use Rattle.shgrammar.specs.Bytes.{past, past_continuations, byte_at, behind, stands_in}
-use Rattle.shgrammar.specs.Pieces.{past_taken, next_quote, next_in_backquotes, is_last_backslash, past_parameter, rest_mode}
+use Rattle.shgrammar.specs.Pieces.{past_taken, next_quote, is_last_backslash, past_parameter, rest_mode}
 use Rattle.shgrammar.specs.Sights.{Given, given, State}
 use Rattle.shgrammar.specs.Form.{Read, Form, Step, again, done, step_if, loop, many, leads_on, turns, does}
-use Rattle.shgrammar.specs.Words.{single, backquote_turn, backquoted}
+use Rattle.shgrammar.specs.Words.{single, escaped_turn, backquoted}
 use Rattle.shgrammar.proofs.Stretches.{place_low, past_more, past_none, stands_in_low}
-use Rattle.shgrammar.proofs.Places.{behind_low, next_of_low, next_in_backquotes_low}
+use Rattle.shgrammar.proofs.Places.{behind_low, next_of_low}
 use Rattle.shgrammar.proofs.Shifted.{state_from}
 use Rattle.shgrammar.proofs.Turns.{turns_on, turns_rest, turns_done, turns_fault}
 use Rattle.shgrammar.proofs.Holds.{Holds, Behind, low, holds_so}
@@ -22,6 +24,10 @@ use Rattle.shgrammar.proofs.SameBytes.{Kept, Here, here, here_behind, here_stand
 use Rattle.shgrammar.proofs.Ahead.{behind_is}
 use Rattle.shgrammar.proofs.NoFurther.{less_same}
 use Rattle.shgrammar.proofs.OneOutcome.{is}
+use Rattle.shgrammar.specs.declared.edition.Edition.{Edition}
+use Rattle.shgrammar.specs.Pieces.{closes_by, next_escaped}
+use Rattle.shgrammar.specs.Words.{dollar_single}
+use Rattle.shgrammar.proofs.Places.{next_escaped_low}
 
 taken_one : (T : List ℕ) (q : ℕ) → raw_stands T q 92 ≡ false → past_taken T q ≡ q + 1
 unfolding past_taken
@@ -34,7 +40,7 @@ taken_two T q e = rw e refl
 taken_low : (T : List ℕ) (q : ℕ) → q < past_taken T q
 taken_low T q = ⊎_elim (λ e. omega (arith, taken_two T q e)) (λ e. omega (arith, taken_one T q e)) (cases_Bool (raw_stands T q 92))
 
-module _ {T U : List ℕ} {a L : ℕ} {to : ℕ → ℕ} (K : Kept T U a L to) where
+module _ {edition : Edition} {T U : List ℕ} {a L : ℕ} {to : ℕ → ℕ} (K : Kept edition T U a L to) where
   -- a byte before the limit is read at p
   abbrev pub In : ℕ → Type 0
   In p = Here T U a L to p
@@ -115,12 +121,12 @@ module _ {T U : List ℕ} {a L : ℕ} {to : ℕ → ℕ} (K : Kept T U a L to) w
   unfolding rest_mode
   rest_in mode p i = rw (here_stands K i 35, here_stands K i 37) refl
 
-module _ {T U : List ℕ} {a L : ℕ} {to : ℕ → ℕ} (K : Kept T U a L to) (o o2 : ℕ) where
+module _ {edition : Edition} {T U : List ℕ} {a L : ℕ} {to : ℕ → ℕ} (K : Kept edition T U a L to) (o o2 : ℕ) where
   abbrev pub g : Given
-  g = given T o
+  g = given edition T o
 
   abbrev pub h : Given
-  h = given U o2
+  h = given edition U o2
 
   -- the state, elsewhere
   abbrev pub there : State → State
@@ -239,20 +245,20 @@ module _ {T U : List ℕ} {a L : ℕ} {to : ℕ → ℕ} (K : Kept T U a L to) (
   abbrev UpTo : ℕ → Type 0
   UpTo p = p ≤ L
 
-  module _ (b b2 : ℕ) where
-    abbrev BackquoteTurn : Unit {0} → State → Step (Unit {0}) → State → Type 0
-    BackquoteTurn c s x t = Turned (λ (c d : Unit {0}). Unit {0}) (backquote_turn b) (backquote_turn b2) Below UpTo c s x t
+  module _ (how : Escaping) (b b2 : ℕ) where
+    abbrev EscapedTurn : Unit {0} → State → Step (Unit {0}) → State → Type 0
+    EscapedTurn c s x t = Turned (λ (c d : Unit {0}). Unit {0}) (escaped_turn how b) (escaped_turn how b2) Below UpTo c s x t
 
-    backquote_each : (c : Unit {0}) (s : State) → a ≤ s.at → Holds (BackquoteTurn c s) (does (backquote_turn b c) Whole g s)
-    unfolding backquote_turn
-    backquote_each c s from =
-        cond_both (at_end T q) _ _ (Holds (BackquoteTurn c s)) (λ e. tt)
-        (λ e. cond_both (is_last_backslash T q) _ _ (Holds (BackquoteTurn c s)) (λ f. tt) (λ f. found e f (raw_stands T q 96) refl))
+    escaped_each : (c : Unit {0}) (s : State) → a ≤ s.at → Holds (EscapedTurn c s) (does (escaped_turn how b c) Whole g s)
+    unfolding escaped_turn
+    escaped_each c s from =
+        cond_both (at_end T q) _ _ (Holds (EscapedTurn c s)) (λ e. tt)
+        (λ e. cond_both (is_last_backslash T q) _ _ (Holds (EscapedTurn c s)) (λ f. tt) (λ f. found e f (raw_stands T q (closes_by how)) refl))
       where
         q : ℕ
-        q = next_in_backquotes T s.at
+        q = next_escaped how T s.at
 
-        by_last : (x : Bool) → Goal (λ (c d : Unit {0}). Unit {0}) (backquote_turn b) (backquote_turn b2) Below UpTo s (step_if (not x) tt) (at (past_taken T q) s) → past_taken T q ≤ L
+        by_last : (x : Bool) → Goal (λ (c d : Unit {0}). Unit {0}) (escaped_turn how b) (escaped_turn how b2) Below UpTo s (step_if (not x) tt) (at (past_taken T q) s) → past_taken T q ≤ L
         by_last true goal = goal
         by_last false goal = goal.0
 
@@ -260,28 +266,28 @@ module _ {T U : List ℕ} {a L : ℕ} {to : ℕ → ℕ} (K : Kept T U a L to) (
         like true = tt
         like false = tt
 
-        found : at_end T q ≡ false → is_last_backslash T q ≡ false → (x : Bool) → raw_stands T q 96 ≡ x → BackquoteTurn c s (step_if (not x) tt) (at (past_taken T q) s)
+        found : at_end T q ≡ false → is_last_backslash T q ≡ false → (x : Bool) → raw_stands T q (closes_by how) ≡ x → EscapedTurn c s (step_if (not x) tt) (at (past_taken T q) s)
         found e f x is goal =
             let le = by_last x goal in
-            let onward = next_in_backquotes_low T s.at in
+            let onward = next_escaped_low how T s.at in
             let lt : q < L = omega (arith, le, taken_low T q) in
             let low_q : a ≤ q = omega (arith, from, onward) in (
               omega (arith, onward, lt),
               λ d so. (
                 step_if (not x) tt,
-                (rw (raw_there K (λ b. not (b == 96 || b == 92)) s.at from lt, same_end K q low_q lt, e, same_last K q low_q le f, raw_same K q 96 low_q lt, is, same_taken K q low_q lt) refl, like x),
+                (rw (raw_there K (λ b. not (b == closes_by how || b == 92)) s.at from lt, same_end K q low_q lt, e, same_last K q low_q le f, raw_same K q (closes_by how) low_q lt, is, same_taken K q low_q lt) refl, like x),
               ),
             )
 
   pub backquotes_in : (s : State) → a ≤ s.at → Clear K s.at → Holds (Ends backquoted (In K) s) (does backquoted Whole g s)
   unfolding backquoted many
   backquotes_in s from e =
-      holds_so _ (Ends backquoted (In K) s) (does (loop (backquote_turn b) tt) Whole g inside)
-      (looped (λ (c d : Unit {0}). Unit {0}) (backquote_turn b) (backquote_turn b2) Below UpTo (λ p lt. omega (arith, lt)) (λ p le. le) (backquote_each b b2) tt inside (omega (arith, from, behind_low T s.at)))
+      holds_so _ (Ends backquoted (In K) s) (does (loop (escaped_turn escapings.Backquotes b) tt) Whole g inside)
+      (looped (λ (c d : Unit {0}). Unit {0}) (escaped_turn escapings.Backquotes b) (escaped_turn escapings.Backquotes b2) Below UpTo (λ p lt. omega (arith, lt)) (λ p le. le) (escaped_each escapings.Backquotes b b2) tt inside (omega (arith, from, behind_low T s.at)))
       (λ x t ends le. let w = ends le in
       let i = clear K s.at from (omega (arith, w.0, behind_is T s.at)) e in
       let f = w.1 tt tt in
-      (i, (f.0, subst (λ (p : ℕ). turns h (λ u v. does (backquote_turn b2 u) Whole h v) tt (there_at p s) ≡ Ok (f.0, there t)) (sym (here_behind K i)) f.1.0)))
+      (i, (f.0, subst (λ (p : ℕ). turns h (λ u v. does (escaped_turn escapings.Backquotes b2 u) Whole h v) tt (there_at p s) ≡ Ok (f.0, there t)) (sym (here_behind K i)) f.1.0)))
     where
       b : ℕ
       b = o + past_continuations T s.at
@@ -291,3 +297,30 @@ module _ {T U : List ℕ} {a L : ℕ} {to : ℕ → ℕ} (K : Kept T U a L to) (
 
       inside : State
       inside = at (behind T s.at) s
+
+  -- the quote behind the `$` is before the limit too
+  pub dollar_single_in : (s : State) → a ≤ s.at → Clear K s.at → Clear K (behind T s.at) → Holds (Ends dollar_single (λ p. In K p × In K (behind T p)) s) (does dollar_single Whole g s)
+  unfolding dollar_single many
+  dollar_single_in s from e e2 =
+      holds_so _ (Ends dollar_single (λ p. In K p × In K (behind T p)) s) (does (loop (escaped_turn escapings.DollarSingle b) tt) Whole g inside)
+      (looped (λ (c d : Unit {0}). Unit {0}) (escaped_turn escapings.DollarSingle b) (escaped_turn escapings.DollarSingle b2) Below UpTo (λ p lt. omega (arith, lt)) (λ p le. le) (escaped_each escapings.DollarSingle b b2) tt inside
+      (omega (arith, from, behind_low T s.at, behind_low T (behind T s.at))))
+      (λ x t ends le. let w = ends le in
+      let j = clear K (behind T s.at) (omega (arith, from, behind_low T s.at)) (omega (arith, w.0, behind_is T (behind T s.at))) e2 in
+      let i = clear K s.at from (omega (arith, w.0, behind_is T s.at, behind_low T (behind T s.at))) e in
+      let f = w.1 tt tt in (
+        (i, j),
+        (
+          f.0,
+          subst (λ (p : ℕ). turns h (λ u v. does (escaped_turn escapings.DollarSingle b2 u) Whole h v) tt (there_at p s) ≡ Ok (f.0, there t)) (sym (ap (behind U) (here_behind K i) ∙ here_behind K j)) f.1.0,
+        ),
+      ))
+    where
+      b : ℕ
+      b = o + past_continuations T s.at
+
+      b2 : ℕ
+      b2 = o2 + past_continuations U (to s.at)
+
+      inside : State
+      inside = at (behind T (behind T s.at)) s

@@ -58,6 +58,8 @@ pub mod MovedLists
 pub mod MovedSubstitutions
 pub mod MovedLine
 pub mod Passing
+pub mod DollarSingles
+pub mod Editions
 pub mod Unquoted
 pub mod PlainDelimiters
 pub mod Joining

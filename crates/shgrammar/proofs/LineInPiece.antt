@@ -18,6 +18,7 @@ use Rattle.shgrammar.proofs.EachSpan.{throughout_so}
 use Rattle.shgrammar.proofs.Everywhere.{line_throughout}
 use Rattle.shgrammar.proofs.MovedLine.{line_moved, line_outer}
 use Rattle.shgrammar.proofs.ShapeMoved.{SameText, entry_same}
+use Rattle.shgrammar.specs.declared.edition.Edition.{Edition}
 
 -- ---- texts
 
@@ -67,34 +68,34 @@ shape_there S D n m blank es same within =
 -- ---- the line
 
 -- what the line at q of H has, that reads as these entries by itself, where it stands at n of S
-pub record There (H S : List ℕ) (q n : ℕ) (blank newline : Bool) (es : Row AnEntry) (t : State) : Type 0 where
+pub record There (edition : Edition) (H S : List ℕ) (q n : ℕ) (blank newline : Bool) (es : Row AnEntry) (t : State) : Type 0 where
   pub state : State
-  pub read : line_from S Whole blank n ≡ Ok ((blanked_row blank (map (moved_entry n) es), newline), state)
+  pub read : line_from edition S Whole blank n ≡ Ok ((blanked_row blank (map (moved_entry n) es), newline), state)
   pub at : state.at ≡ t.at
   pub shape : shape_of S (entries_of (blanked_row blank (map (moved_entry n) es))) ≡ shape_of H (entries_of (blanked_row blank (map (moved_entry q) es)))
 
-alone_by : (deep : Bool) (H : List ℕ) (q : ℕ) (blank newline : Bool) (es : Row AnEntry) (t : State) (z : Read (Row AnEntry × Bool)) → line_told H Whole false q 0 ≡ z → SameBy deep q blank (Ok ((es, newline), t)) z
-    → (fs : Row AnEntry) × (u : State) × (line_told H Whole false q 0 ≡ Ok ((fs, newline), u)) × (es ≡ blanked_row blank (map (placed_entry deep q) fs)) × (t.at ≡ u.at)
-alone_by deep H q blank newline es t (Ok ((fs, ended), u)) is same =
+alone_by : (edition : Edition) → (deep : Bool) (H : List ℕ) (q : ℕ) (blank newline : Bool) (es : Row AnEntry) (t : State) (z : Read (Row AnEntry × Bool)) → line_told edition H Whole false q 0 ≡ z → SameBy deep q blank (Ok ((es, newline), t)) z
+    → (fs : Row AnEntry) × (u : State) × (line_told edition H Whole false q 0 ≡ Ok ((fs, newline), u)) × (es ≡ blanked_row blank (map (placed_entry deep q) fs)) × (t.at ≡ u.at)
+alone_by edition deep H q blank newline es t (Ok ((fs, ended), u)) is same =
     (fs, u, is ∙ ap (λ (b : Bool). Ok ((fs, b), u)) (sym same.1), same.0, same.2)
-alone_by deep H q blank newline es t (Err f) is same = absurd same
+alone_by edition deep H q blank newline es t (Err f) is same = absurd same
 
 -- the line by itself
-pub alone : (H : List ℕ) (q : ℕ) (blank newline : Bool) (es : Row AnEntry) (t : State) → line_from H Whole blank q ≡ Ok ((es, newline), t)
-    → (fs : Row AnEntry) × (u : State) × (line_told H Whole false q 0 ≡ Ok ((fs, newline), u)) × (es ≡ blanked_row blank (map (moved_entry q) fs)) × (t.at ≡ u.at)
-alone H q blank newline es t read =
-    alone_by true H q blank newline es t (line_told H Whole false q 0) refl (subst (λ (y : Read (Row AnEntry × Bool)). Same q blank y (line_told H Whole false q 0)) read (line_moved H q blank))
+pub alone : (edition : Edition) → (H : List ℕ) (q : ℕ) (blank newline : Bool) (es : Row AnEntry) (t : State) → line_from edition H Whole blank q ≡ Ok ((es, newline), t)
+    → (fs : Row AnEntry) × (u : State) × (line_told edition H Whole false q 0 ≡ Ok ((fs, newline), u)) × (es ≡ blanked_row blank (map (moved_entry q) fs)) × (t.at ≡ u.at)
+alone edition H q blank newline es t read =
+    alone_by edition true H q blank newline es t (line_told edition H Whole false q 0) refl (subst (λ (y : Read (Row AnEntry × Bool)). Same q blank y (line_told edition H Whole false q 0)) read (line_moved edition H q blank))
 
 -- the same of one that was read without the trees in its command substitutions
-pub outer_alone : (H : List ℕ) (q : ℕ) (blank newline : Bool) (es : Row AnEntry) (t : State) → line_from H Outer blank q ≡ Ok ((es, newline), t)
-    → (fs : Row AnEntry) × (u : State) × (line_told H Whole false q 0 ≡ Ok ((fs, newline), u)) × (es ≡ blanked_row blank (map (outer_entry q) fs)) × (t.at ≡ u.at)
-outer_alone H q blank newline es t read =
-    alone_by false H q blank newline es t (line_told H Whole false q 0) refl (subst (λ (y : Read (Row AnEntry × Bool)). SameBy false q blank y (line_told H Whole false q 0)) read (line_outer H q blank))
+pub outer_alone : (edition : Edition) → (H : List ℕ) (q : ℕ) (blank newline : Bool) (es : Row AnEntry) (t : State) → line_from edition H Outer blank q ≡ Ok ((es, newline), t)
+    → (fs : Row AnEntry) × (u : State) × (line_told edition H Whole false q 0 ≡ Ok ((fs, newline), u)) × (es ≡ blanked_row blank (map (outer_entry q) fs)) × (t.at ≡ u.at)
+outer_alone edition H q blank newline es t read =
+    alone_by edition false H q blank newline es t (line_told edition H Whole false q 0) refl (subst (λ (y : Read (Row AnEntry × Bool)). SameBy false q blank y (line_told edition H Whole false q 0)) read (line_outer edition H q blank))
 
-there_by : (H S : List ℕ) (q n : ℕ) (blank newline : Bool) (es : Row AnEntry) (t : State) (x z : Read (Row AnEntry × Bool)) → line_from S Whole blank n ≡ x → z ≡ Ok ((es, newline), t) → Same n blank x z
+there_by : (edition : Edition) → (H S : List ℕ) (q n : ℕ) (blank newline : Bool) (es : Row AnEntry) (t : State) (x z : Read (Row AnEntry × Bool)) → line_from edition S Whole blank n ≡ x → z ≡ Ok ((es, newline), t) → Same n blank x z
     → shape_of S (entries_of (blanked_row blank (map (moved_entry n) es))) ≡ shape_of H (entries_of (blanked_row blank (map (moved_entry q) es)))
-    → There H S q n blank newline es t
-there_by H S q n blank newline es t (Ok ((gs, ended), v)) z is z_is same shape =
+    → There edition H S q n blank newline es t
+there_by edition H S q n blank newline es t (Ok ((gs, ended), v)) z is z_is same shape =
     let moved = rw z_is at same in
     record {
       state = v;
@@ -102,34 +103,34 @@ there_by H S q n blank newline es t (Ok ((gs, ended), v)) z is z_is same shape =
       at = moved.2;
       shape = shape;
     }
-there_by H S q n blank newline es t (Err f) z is z_is same shape = let moved = rw z_is at same in absurd moved
+there_by edition H S q n blank newline es t (Err f) z is z_is same shape = let moved = rw z_is at same in absurd moved
 
 -- a line of H that stands at n of S, and is read there by itself as it is in H
-pub stands_there : (H S : List ℕ) (q n : ℕ) (blank newline : Bool) (es : Row AnEntry) (t : State) → line_told H Whole false q 0 ≡ Ok ((es, newline), t) → take t.at (drop n S) ≡ take t.at (drop q H)
-    → line_told S Whole false n 0 ≡ Ok ((es, newline), t) → There H S q n blank newline es t
-stands_there H S q n blank newline es t read same again =
-    let within = line_throughout (drop q H) 0 false newline es t read t.at (omega arith) in
+pub stands_there : (edition : Edition) → (H S : List ℕ) (q n : ℕ) (blank newline : Bool) (es : Row AnEntry) (t : State) → line_told edition H Whole false q 0 ≡ Ok ((es, newline), t) → take t.at (drop n S) ≡ take t.at (drop q H)
+    → line_told edition S Whole false n 0 ≡ Ok ((es, newline), t) → There edition H S q n blank newline es t
+stands_there edition H S q n blank newline es t read same again =
+    let within = line_throughout edition (drop q H) 0 false newline es t read t.at (omega arith) in
     let shape = shape_there S (drop q H) n t.at blank es same within ∙ sym (shape_there H (drop q H) q t.at blank es refl within) in
-    there_by H S q n blank newline es t (line_from S Whole blank n) (line_told S Whole false n 0) refl again (line_moved S n blank) shape
+    there_by edition H S q n blank newline es t (line_from edition S Whole blank n) (line_told edition S Whole false n 0) refl again (line_moved edition S n blank) shape
 
 -- ---- its fault
 
-fault_by : (S : List ℕ) (p q : ℕ) (blank : Bool) (f : Fault) (x y z : Read (Row AnEntry × Bool)) → line_from S Whole blank (p + q) ≡ x → Same (p + q) blank x z → Same q blank (Err f) y → z ≡ y
-    → line_from S Whole blank (p + q) ≡ Err (moved_fault p f)
-fault_by S p q blank f x (Ok y) z is there here same = absurd here
-fault_by S p q blank f (Ok x) (Err g) z is there here same = let moved = rw same at there in absurd moved
-fault_by S p q blank f (Err h) (Err g) z is there here same =
+fault_by : (edition : Edition) → (S : List ℕ) (p q : ℕ) (blank : Bool) (f : Fault) (x y z : Read (Row AnEntry × Bool)) → line_from edition S Whole blank (p + q) ≡ x → Same (p + q) blank x z → Same q blank (Err f) y → z ≡ y
+    → line_from edition S Whole blank (p + q) ≡ Err (moved_fault p f)
+fault_by edition S p q blank f x (Ok y) z is there here same = absurd here
+fault_by edition S p q blank f (Ok x) (Err g) z is there here same = let moved = rw same at there in absurd moved
+fault_by edition S p q blank f (Err h) (Err g) z is there here same =
     let moved = rw same at there in
     let sum : p + q + g.at ≡ p + (q + g.at) = omega arith in
     is ∙ ap Err (moved ∙ ap (λ (at : ℕ). record { kind = g.kind; at = at }) sum ∙ sym (ap (moved_fault p) here))
 
 -- the same text from there on
-pub told_same : (S H : List ℕ) (n q : ℕ) → drop n S ≡ drop q H → line_told S Whole false n 0 ≡ line_told H Whole false q 0
-told_same S H n q same = ap (λ (T : List ℕ). does (the_line false) Whole (given T 0) (standing 0)) same
+pub told_same : (edition : Edition) → (S H : List ℕ) (n q : ℕ) → drop n S ≡ drop q H → line_told edition S Whole false n 0 ≡ line_told edition H Whole false q 0
+told_same edition S H n q same = ap (λ (T : List ℕ). does (the_line false) Whole (given edition T 0) (standing 0)) same
 
 -- its fault is the same
-pub fault_there : (H S : List ℕ) (p q : ℕ) (blank : Bool) (f : Fault) → line_from H Whole blank q ≡ Err f → drop (p + q) S ≡ drop q H → line_from S Whole blank (p + q) ≡ Err (moved_fault p f)
-fault_there H S p q blank f read same =
-    fault_by S p q blank f (line_from S Whole blank (p + q)) (line_told H Whole false q 0) (line_told S Whole false (p + q) 0) refl (line_moved S (p + q) blank)
-    (subst (λ (y : Read (Row AnEntry × Bool)). Same q blank y (line_told H Whole false q 0)) read (line_moved H q blank))
-    (told_same S H (p + q) q same)
+pub fault_there : (edition : Edition) → (H S : List ℕ) (p q : ℕ) (blank : Bool) (f : Fault) → line_from edition H Whole blank q ≡ Err f → drop (p + q) S ≡ drop q H → line_from edition S Whole blank (p + q) ≡ Err (moved_fault p f)
+fault_there edition H S p q blank f read same =
+    fault_by edition S p q blank f (line_from edition S Whole blank (p + q)) (line_told edition H Whole false q 0) (line_told edition S Whole false (p + q) 0) refl (line_moved edition S (p + q) blank)
+    (subst (λ (y : Read (Row AnEntry × Bool)). Same q blank y (line_told edition H Whole false q 0)) read (line_moved edition H q blank))
+    (told_same edition S H (p + q) q same)

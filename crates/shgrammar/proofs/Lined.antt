@@ -25,6 +25,7 @@ use Rattle.shgrammar.specs.Lists.{list_so, none_listed, entry_turn, a_remark, on
 use Rattle.shgrammar.specs.Scripts.{AScript, SoFar, is_blank_line, with_line, the_line, line_from, script_by, script_below, script_on}
 use Rattle.shgrammar.proofs.Places.{behind_low}
 use Rattle.shgrammar.proofs.Holds.{Holds, holds_then, holds_so, Tells, Behind, change_low, tells_give, tells_level, tells_then, tells_so, low}
+use Rattle.shgrammar.specs.declared.edition.Edition.{Edition}
 
 -- ---- a line that a newline ends
 
@@ -75,9 +76,9 @@ line_ended_low inner blank keep g s =
     tells_then keep g {P = λ l t. l.0.1 ≡ true → s.at < t.at} (tells_level keep g (open_ended_low inner blank keep g (own_level s)) (λ x t so. so)) (λ l t so. tells_give keep g so)
 
 -- at the end of the text there is none
-pub nothing : (blank : Bool) (keep : Keep) (o : ℕ) → does (the_line blank) keep (given [] o) (standing 0) ≡ Ok (([], false), standing 0)
+pub nothing : (edition : Edition) → (blank : Bool) (keep : Keep) (o : ℕ) → does (the_line blank) keep (given edition [] o) (standing 0) ≡ Ok (([], false), standing 0)
 unfolding a_line an_open_line nothing_waits filled_row next_token on_line many turns turns_below entry_turn a_remark a_comment end_of_line token_at comment_at raw_stands past count_front past_blanks past_continuations count_joined past_below
-nothing blank keep o = refl
+nothing edition blank keep o = refl
 
 flag : Read (Row AnEntry × Bool) → Bool
 flag (Ok ((es, newline), t)) = newline
@@ -87,18 +88,18 @@ clash : {X : Type 0} (es : Row AnEntry) (t u : State) → ◌≡◌ {A = Read (R
 unfolding flag
 clash es t u e = let no : false ≡ true = ap flag e in absurd cc
 
-some_text : (B : List ℕ) (keep : Keep) (blank : Bool) (p : ℕ) (es : Row AnEntry) (t : State) → line_from B keep blank p ≡ Ok ((es, true), t) → p < length B
-some_text B keep blank p es t is =
+some_text : (edition : Edition) → (B : List ℕ) (keep : Keep) (blank : Bool) (p : ℕ) (es : Row AnEntry) (t : State) → line_from edition B keep blank p ≡ Ok ((es, true), t) → p < length B
+some_text edition B keep blank p es t is =
     ⊎_elim (λ lt. lt)
-    (λ ge. clash es t (standing 0) (sym (nothing blank keep p) ∙ ap (λ T. does (the_line blank) keep (given T p) (standing 0)) (sym (drop_all p B ge)) ∙ is))
+    (λ ge. clash es t (standing 0) (sym (nothing edition blank keep p) ∙ ap (λ T. does (the_line blank) keep (given edition T p) (standing 0)) (sym (drop_all p B ge)) ∙ is))
     (cases_lt p (length B))
 
-onward : (B : List ℕ) (keep : Keep) (blank : Bool) (p : ℕ) (es : Row AnEntry) (t : State) → line_from B keep blank p ≡ Ok ((es, true), t) → 0 < t.at
-onward B keep blank p es t is = subst (Holds (LineEnded (standing 0))) is (line_ended_low (level most_open) blank keep (given (drop p B) p) (standing 0)).told refl
+onward : (edition : Edition) → (B : List ℕ) (keep : Keep) (blank : Bool) (p : ℕ) (es : Row AnEntry) (t : State) → line_from edition B keep blank p ≡ Ok ((es, true), t) → 0 < t.at
+onward edition B keep blank p es t is = subst (Holds (LineEnded (standing 0))) is (line_ended_low (level most_open) blank keep (given edition (drop p B) p) (standing 0)).told refl
 
 -- it leaves less of the text
-pub leaves_less : (B : List ℕ) (keep : Keep) (blank : Bool) (p : ℕ) (es : Row AnEntry) (t : State) → line_from B keep blank p ≡ Ok ((es, true), t) → length B - (p + t.at) < length B - p
-leaves_less B keep blank p es t is = omega (arith, some_text B keep blank p es t is, onward B keep blank p es t is)
+pub leaves_less : (edition : Edition) → (B : List ℕ) (keep : Keep) (blank : Bool) (p : ℕ) (es : Row AnEntry) (t : State) → line_from edition B keep blank p ≡ Ok ((es, true), t) → length B - (p + t.at) < length B - p
+leaves_less edition B keep blank p es t is = omega (arith, some_text edition B keep blank p es t is, onward edition B keep blank p es t is)
 
 -- ---- the lines from a place on
 
@@ -109,31 +110,31 @@ same_by B f h so p (Ok ((es, false), t)) same = refl
 same_by B f h so p (Err f') same = refl
 
 -- with enough lines, how many they are does not matter
-enough : (B : List ℕ) (n m : ℕ) (so : SoFar) (p : ℕ) → length B - p < n → length B - p < m → script_below B n so p ≡ script_below B m so p
+enough : (edition : Edition) → (B : List ℕ) (n m : ℕ) (so : SoFar) (p : ℕ) → length B - p < n → length B - p < m → script_below edition B n so p ≡ script_below edition B m so p
 unfolding script_below
-enough B zero m so p low_n low_m = absurd (omega arith)
-enough B (suc n) zero so p low_n low_m = absurd (omega arith)
-enough B (suc n) (suc m) so p low_n low_m =
-    same_by B (script_below B n) (script_below B m) so p (line_from B Whole (is_blank_line so) p)
-    (λ es t is. let less = leaves_less B Whole (is_blank_line so) p es t is in enough B n m (with_line so es) (p + t.at) (omega (arith, less, low_n)) (omega (arith, less, low_m)))
+enough edition B zero m so p low_n low_m = absurd (omega arith)
+enough edition B (suc n) zero so p low_n low_m = absurd (omega arith)
+enough edition B (suc n) (suc m) so p low_n low_m =
+    same_by B (script_below edition B n) (script_below edition B m) so p (line_from edition B Whole (is_blank_line so) p)
+    (λ es t is. let less = leaves_less edition B Whole (is_blank_line so) p es t is in enough edition B n m (with_line so es) (p + t.at) (omega (arith, less, low_n)) (omega (arith, less, low_m)))
 
 -- by what the next line gives, where the first entry of a line may be blank by the flag
-module _ (B : List ℕ) (so : SoFar) (p : ℕ) (blank : Bool) (is_blank : blank ≡ is_blank_line so) where
-  the_next : (x : Read (Row AnEntry × Bool)) → line_from B Whole blank p ≡ x → line_from B Whole (is_blank_line so) p ≡ x
-  the_next x is = ap (λ b. line_from B Whole b p) (sym is_blank) ∙ is
+module _ (edition : Edition) (B : List ℕ) (so : SoFar) (p : ℕ) (blank : Bool) (is_blank : blank ≡ is_blank_line so) where
+  the_next : (x : Read (Row AnEntry × Bool)) → line_from edition B Whole blank p ≡ x → line_from edition B Whole (is_blank_line so) p ≡ x
+  the_next x is = ap (λ b. line_from edition B Whole b p) (sym is_blank) ∙ is
 
   -- a line that leads on to what the lines give then
-  pub line_more : (es : Row AnEntry) (t : State) (then : SoFar) → line_from B Whole blank p ≡ Ok ((es, true), t) → then ≡ with_line so es → script_on B so p ≡ script_on B then (p + t.at)
+  pub line_more : (es : Row AnEntry) (t : State) (then : SoFar) → line_from edition B Whole blank p ≡ Ok ((es, true), t) → then ≡ with_line so es → script_on edition B so p ≡ script_on edition B then (p + t.at)
   unfolding script_on script_below
   line_more es t then is same =
       let here = the_next _ is in
-      let less = leaves_less B Whole (is_blank_line so) p es t here in
-      rw here (enough B (length B - p) (suc (length B - (p + t.at))) (with_line so es) (p + t.at) less (omega arith) ∙ ap (λ z. script_below B (suc (length B - (p + t.at))) z (p + t.at)) (sym same))
+      let less = leaves_less edition B Whole (is_blank_line so) p es t here in
+      rw here (enough edition B (length B - p) (suc (length B - (p + t.at))) (with_line so es) (p + t.at) less (omega arith) ∙ ap (λ z. script_below edition B (suc (length B - (p + t.at))) z (p + t.at)) (sym same))
 
-  pub line_last : (es : Row AnEntry) (t : State) (then : SoFar) → line_from B Whole blank p ≡ Ok ((es, false), t) → then ≡ with_line so es → script_on B so p ≡ record { entries = entries_of then.entries; wrong = None }
+  pub line_last : (es : Row AnEntry) (t : State) (then : SoFar) → line_from edition B Whole blank p ≡ Ok ((es, false), t) → then ≡ with_line so es → script_on edition B so p ≡ record { entries = entries_of then.entries; wrong = None }
   unfolding script_on script_below
   line_last es t then is same = rw (the_next _ is) (ap (λ (z : SoFar). record { entries = entries_of z.entries; wrong = None }) (sym same))
 
-  pub line_faulty : (f : Fault) → line_from B Whole blank p ≡ Err f → script_on B so p ≡ record { entries = entries_of so.entries; wrong = Some f }
+  pub line_faulty : (f : Fault) → line_from edition B Whole blank p ≡ Err f → script_on edition B so p ≡ record { entries = entries_of so.entries; wrong = Some f }
   unfolding script_on script_below
   line_faulty f is = rw (the_next _ is) refl

@@ -22,18 +22,22 @@ use Rattle.shgrammar.specs.Comments.{span, comment_at, past_comment}
 use Rattle.shgrammar.specs.Sights.{Given, given, State, Move, a_comment_on, here, is_a_name}
 use Rattle.shgrammar.specs.Form.{change, Told, Read, Form, give, move, push, token, many, ◌>>=◌, ◌>>◌, Step, step_if, does, Spelled}
 use Rattle.shgrammar.specs.Words.{Inner, a_word}
-use Rattle.shgrammar.specs.Commands.{is_strip, document, document_by, a_document, is_empty, pick, next_token, is_newline, is_semicolon, a_semicolon, a_join_of, is_pipe, is_bang, begins_simple, begins_word, begins_redirect, begins_pipeline, opener_of, compound_by, and_or_operator_of, Items, so_many, breaks, behind_word, is_number, redirect_operator_of, takes_here, is_long, a_number, an_operator, operator_by, a_target, one_redirect, behind_redirect, redirect_turn, redirected, as_item, an_item, item_by, item_turn, a_simple, comment_by, a_comment, a_newline, unexpected, JoinSo, join_so, with_comment, join_turn, a_join, a_command, a_bang, Piped, piped, one_command, pipe_turn, a_pipeline, Joined, joined_so, one_pipeline, joined_by, join_pipeline, an_and_or, separator_of, separator_by, a_separator, is_background, ASeparator, past_separator, Entered, an_entry, is_word, is_paren, is_double_semicolon, named, a_worded}
+use Rattle.shgrammar.specs.Commands.{is_strip, document, document_by, a_document, is_empty, pick, next_token, is_newline, is_semicolon, a_semicolon, a_join_of, is_pipe, is_bang, begins_simple, begins_word, begins_redirect, begins_pipeline, opener_of, compound_by, and_or_operator_of, Items, so_many, breaks, behind_word, is_number, redirect_operator_of, takes_here, is_long, a_number, an_operator, operator_by, a_target, one_redirect, behind_redirect, redirect_turn, redirected, as_item, an_item, item_by, item_turn, a_simple, comment_by, a_comment, a_newline, unexpected, JoinSo, join_so, with_comment, join_turn, a_join, a_command, a_bang, Piped, piped, one_command, pipe_turn, a_pipeline, Joined, joined_so, one_pipeline, joined_by, join_pipeline, an_and_or, separator_of, separator_by, a_separator, is_background, ASeparator, past_separator, Entered, an_entry, is_word, is_paren, ends_item, falls_through, named, a_worded}
 use Rattle.shgrammar.specs.Lists.{Listed, ListSo, list_so, none_listed, is_blank_next, with_command, next_line, one_entry, entry_turn, remark_by, a_remark, on_line, list_turn, a_list}
-use Rattle.shgrammar.specs.Compounds.{a_linebreak, is_closing, is_open_paren, is_close_paren, passed, closing, Closed, a_branch, Branched, branched, elif_turn, an_else, an_if, a_loop, a_group, a_for_name, a_sequential_sep, Headed, word_turn, for_words, a_for_head, behind_remarks, a_for, a_form, held_apart, a_compound, under_name, a_function, a_case_word, begins_pattern, Patterned, a_pattern, one_pattern, pattern_turn, a_pattern_list, an_open_bracket, a_body, ItemEnd, a_double_semicolon, an_item_end, CasesSo, cases_so, one_case, case_turn, a_case_head, a_case}
+use Rattle.shgrammar.specs.Compounds.{a_linebreak, is_closing, is_open_paren, is_close_paren, passed, closing, Closed, a_branch, Branched, branched, elif_turn, an_else, an_if, a_loop, a_group, a_for_name, a_sequential_sep, Headed, word_turn, for_words, a_for_head, behind_remarks, a_for, a_form, held_apart, a_compound, under_name, a_function, a_case_word, begins_pattern, Patterned, a_pattern, one_pattern, pattern_turn, a_pattern_list, an_open_bracket, a_body, ItemEnd, an_ender, an_item_end, CasesSo, cases_so, one_case, case_turn, a_case_head, a_case}
 use Rattle.shgrammar.proofs.Holds.{Holds, move_low}
 use Rattle.shgrammar.proofs.Within.{before_blanks_low}
 use Rattle.shgrammar.proofs.Alike.{SameStep}
 use Rattle.shgrammar.proofs.Ahead.{ListEnds, same_next, same_name}
 use Rattle.shgrammar.proofs.Asked.{Good, high, comment_end, same_raw_stands}
-use Rattle.shgrammar.specs.HereDocuments.{ADelimiter, delimiter_of, waits}
+use Rattle.shgrammar.specs.HereDocuments.{ADelimiter, waits}
 use Rattle.shgrammar.proofs.Shifted.{shifted}
 use Rattle.shgrammar.proofs.BodiesThere.{move_span}
 use Rattle.shgrammar.proofs.GoingOn.{go_bodies, go_waits, go_place, go_with_bytes, over, Back, good, Found, Goes, go_give, go_push, go_see, go_move, go_then, go_so, go_stopped, go_pick, go_at, go_token, go_many, same_texts, go_any, go_stop}
+use Rattle.shgrammar.specs.declared.edition.Edition.{Edition}
+use Rattle.shgrammar.specs.Tokens.{next_in}
+use Rattle.shast.specs.Tree.{ACaseMark}
+use Rattle.shgrammar.specs.Sights.{the_delimiter}
 
 -- ---- rows of the same shapes
 
@@ -87,15 +91,15 @@ module _ (B : List ℕ) where
   entries_shape [] = refl
   entries_shape (e ∷ es) = rw (entries_shape es) refl
 
-module _ {T U : List ℕ} {a M : ℕ} {to : ℕ → ℕ} {limit : ℕ} (E : ListEnds T U a M to limit) (o o2 : ℕ) (B B2 : List ℕ) (stands : T ≡ drop o B) (stands_there : U ≡ drop o2 B2) where
+module _ {edition : Edition} {T U : List ℕ} {a M : ℕ} {to : ℕ → ℕ} {limit : ℕ} (E : ListEnds edition T U a M to limit) (o o2 : ℕ) (B B2 : List ℕ) (stands : T ≡ drop o B) (stands_there : U ≡ drop o2 B2) where
   abbrev G : ℕ → Type 0
   G p = Good T a M p
 
   abbrev g : Given
-  g = given T o
+  g = given edition T o
 
   abbrev h : Given
-  h = given U o2
+  h = given edition U o2
 
   abbrev pub Goes2 : {X Y : Type 0} → (X → Y → Type 0) → Form X → Form Y → Type 0
   Goes2 S r q = Goes E o o2 B B2 stands stands_there S r q
@@ -135,7 +139,7 @@ module _ {T U : List ℕ} {a M : ℕ} {to : ℕ → ℕ} {limit : ℕ} (E : List
 
   pub next : (position : Position) → Goes2 (λ n m. n ≡ m) (next_token position) (next_token position)
   unfolding next_token
-  next position = then (go_see E o o2 B B2 stands stands_there (λ s from e. same_next E position e)) (λ n m same. then moves_on (λ x y all. gives same))
+  next position = then (go_see E o o2 B B2 stands stands_there (λ s from e. ap (next_in edition) (same_next E position e))) (λ n m same. then moves_on (λ x y all. gives same))
 
   abbrev pub SameText : Option Span → Option Span → Type 0
   SameText c d = option_map (text_at B) c ≡ option_map (text_at B2) d
@@ -383,7 +387,7 @@ module _ {T U : List ℕ} {a M : ℕ} {to : ℕ → ℕ} {limit : ℕ} (E : List
 
     document_same : (z : RedirectOperator) (b c p q : ℕ) (k : Spelled) → shifted (o + a) (o2 + to a) b ≡ c → Goes2 SameHere (a_document z b p k) (a_document z c q k)
     unfolding a_document
-    document_same z b c p q k is = picks (takes_here z) _ refl (document_by_same b c p q (is_strip z) (delimiter_of k) is) (gives refl)
+    document_same z b c p q k is = picks (takes_here z) _ refl (then (go_see E o o2 B B2 stands stands_there {l = the_delimiter k} (λ s from e. refl)) (λ d f same. rw (← same) (document_by_same b c p q (is_strip z) d is))) (gives refl)
 
     document_at : (x y : RedirectOperator × Span) (w v : AWord × Spelled) → SameOperator x y → SameTarget w v
         → Goes2 SameHere (a_document x.0 x.1.start (word_span w.0).start w.1) (a_document y.0 y.1.start (word_span v.0).start v.1)
@@ -776,22 +780,22 @@ module _ {T U : List ℕ} {a M : ℕ} {to : ℕ → ℕ} {limit : ℕ} (E : List
     abbrev SameItemEnd : ItemEnd → ItemEnd → Type 0
     SameItemEnd e d = SameComments e.comments d.comments × (e.next ≡ d.next)
 
-    double_semicolon_same : Goes2 SameItemEnd a_double_semicolon a_double_semicolon
-    unfolding a_double_semicolon
-    double_semicolon_same =
-        then moves_on (λ x y all. then moves_on (λ u v two. then (go_any E o o2 B B2 stands stands_there {l = here})
-        (λ p q any. then (next Command) (λ n m same. then (linebreak [] [] n m refl same) (λ l k so. gives so.1)))))
+    ender_same : (b : Bool) → Goes2 SameItemEnd (an_ender b) (an_ender b)
+    unfolding an_ender
+    ender_same b =
+        then two_marks (λ x y all. then (go_any E o o2 B B2 stands stands_there {l = here})
+        (λ p q any. then (next Command) (λ n m same. then (linebreak [] [] n m refl same) (λ l k so. gives so.1))))
 
     item_end_same : (p q : ℕ) (n m : Next) → n ≡ m → Goes2 SameItemEnd (an_item_end inner p n) (an_item_end inner q m)
     unfolding an_item_end
     item_end_same p q n m same =
-        picks _ _ (ap (λ (k : Next). is_double_semicolon k.token) same) double_semicolon_same
+        picks _ _ (ap (λ (k : Next). ends_item k.token) same) (subst (λ (c : Bool). Goes2 SameItemEnd (an_ender (falls_through n.token)) (an_ender c)) (ap (λ (k : Next). falls_through k.token) same) (ender_same (falls_through n.token)))
         (picks _ _ (ap (λ (k : Next). is_closing closings.Esac k.token) same) (gives (refl, same)) (stopped n))
 
-    case_shape : (cs ds : Row Span) (p q : Patterned) (l m : ListSo) (s z : Span) → SameComments cs ds → SamePatterned p q → SameList l m
+    case_shape : (cs ds : Row Span) (p q : Patterned) (l m : ListSo) (s z : ACaseMark) → s.falls ≡ z.falls → SameComments cs ds → SamePatterned p q → SameList l m
         → shape_of_case B (case_item cs (patterns_of p.patterns) (entries_of l.list.entries) s) ≡ shape_of_case B2 (case_item ds (patterns_of q.patterns) (entries_of m.list.entries) z)
-    case_shape cs ds p q l m s z one two three =
-        let patterns = patterns_shape B p.patterns ∙ ap patterns_of two.0 ∙ sym (patterns_shape B2 q.patterns) in rw (one, patterns, list_shape l m three) refl
+    case_shape cs ds p q l m s z falling one two three =
+        let patterns = patterns_shape B p.patterns ∙ ap patterns_of two.0 ∙ sym (patterns_shape B2 q.patterns) in rw (one, patterns, list_shape l m three, falling) refl
 
     abbrev SameCases : CasesSo → CasesSo → Type 0
     SameCases c d = (map (shape_of_case B) c.items ≡ map (shape_of_case B2) d.items) × (SameComments c.comments d.comments × (c.next ≡ d.next))
@@ -804,7 +808,7 @@ module _ {T U : List ℕ} {a M : ℕ} {to : ℕ → ℕ} {limit : ℕ} (E : List
         (λ l k body. then (item_end_same _ _ l.next k.next body.1) (λ e f ended.
         then (pushes {S = λ is js. map (shape_of_case B) is ≡ map (shape_of_case B2) js}
         (rows_more (shape_of_case B) (shape_of_case B2) c.items _ d.items _ same.0
-        (case_shape c.comments d.comments p q l k (record { start = s; «end» = e.at }) (record { start = z; «end» = f.at }) same.1.0 so body)))
+        (case_shape c.comments d.comments p q l k (record { mark = record { start = s; «end» = e.at }; falls = falls_through l.next.token }) (record { mark = record { start = z; «end» = f.at }; falls = falls_through k.next.token }) (ap (λ (n : Next). falls_through n.token) body.1) same.1.0 so body)))
         (λ is js all. gives (all, ended))))))))
 
     case_on : (c d : CasesSo) → SameCases c d → Goes2 (SameStep SameCases) (case_turn inner c) (case_turn inner d)

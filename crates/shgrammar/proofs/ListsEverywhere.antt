@@ -20,7 +20,7 @@ use Rattle.shast.specs.Tree.{ACommand, AnItem, ASubst, AWord, formed, item, item
 use Rattle.shgrammar.specs.Bytes.{past_continuations, behind}
 use Rattle.shgrammar.specs.Comments.{span, comment_at}
 use Rattle.shgrammar.specs.Sights.{Given, State}
-use Rattle.shgrammar.specs.HereDocuments.{ADelimiter, delimiter_of}
+use Rattle.shgrammar.specs.HereDocuments.{ADelimiter}
 use Rattle.shgrammar.specs.Form.{Spelled, push, many}
 use Rattle.shgrammar.specs.Words.{Inner, Held, having, opened, piece_row, a_piece, contents, a_word}
 use Rattle.shgrammar.specs.Commands.{is_pipe, is_bang, begins_simple, begins_redirect, begins_pipeline, behind_word, opener_of, compound_by, and_or_operator_of, breaks, Items, so_many, is_number, redirect_operator_of, is_strip, takes_here, document_by, a_document, a_number, an_operator, operator_by, a_target, one_redirect, behind_redirect, redirect_turn, redirected, as_item, an_item, item_by, item_turn, a_simple, a_bang, a_comment, comment_by, unexpected, with_comment, JoinSo, join_turn, a_join, a_command, Piped, piped, one_command, pipe_turn, a_pipeline, Joined, joined_so, one_pipeline, joined_by, join_pipeline, an_and_or, an_entry, a_worded, is_word, is_paren, separator_of, separator_by, a_separator, past_separator}
@@ -103,7 +103,7 @@ module _ {g : Given} {limit : ℕ} where
 
   document_in : (o : RedirectOperator) (b p : ℕ) (bytes : Spelled) (s : State) → UpTo g limit (a_document o b p bytes) (HereIn limit) s
   unfolding a_document
-  document_in o b p bytes s = picks (takes_here o) (document_in_by b p (is_strip o) (delimiter_of bytes) s) (gives tt)
+  document_in o b p bytes s = picks (takes_here o) (after (λ d t. document_in_by b p (is_strip o) d t)) (gives tt)
 
   -- ---- comments and joins
 
@@ -163,6 +163,7 @@ module _ {g : Given} {limit : ℕ} where
     piece_in_by mode b h pieces.LoneBackslash s so = after (λ q t. stops)
     piece_in_by mode b h pieces.Escape s so = after (λ x t. after (λ y u. gives so))
     piece_in_by mode b h pieces.Single s so = after (λ x t. gives so)
+    piece_in_by mode b h pieces.DollarSingle s so = after (λ x t. gives so)
     piece_in_by mode b h pieces.Double s so = after (λ q t. after (λ x u. opened_in _ q h u so))
     piece_in_by mode b h pieces.Backquote s so = after (λ x t. gives so)
     piece_in_by mode b h pieces.Pid s so = after (λ x t. after (λ y u. gives so))

@@ -23,20 +23,22 @@ use Rattle.shgrammar.specs.Commands.{pick}
 use Rattle.shgrammar.proofs.Turns.{turns_on, turns_rest, turns_done, turns_fault}
 use Rattle.shgrammar.proofs.Places.{next_newline_low}
 use Rattle.shgrammar.proofs.Delimiters.{between}
+use Rattle.shgrammar.specs.declared.edition.Edition.{Edition}
 
 -- a text, the offset of its first byte, and how much further it stands the other time
 pub record Place : Type 0 where
   pub text : List ℕ
   pub offset : ℕ
+  pub edition : Edition
   pub base : ℕ
   -- whether the trees in command substitutions are kept there
   pub deep : Bool
 
 abbrev pub by_itself : Place → Given
-by_itself z = given z.text z.offset
+by_itself z = given z.edition z.text z.offset
 
 abbrev pub elsewhere : Place → Given
-elsewhere z = given z.text (z.base + z.offset)
+elsewhere z = given z.edition z.text (z.base + z.offset)
 
 -- what is kept there
 abbrev pub kept : Bool → Keep
@@ -317,11 +319,11 @@ abbrev moved_bodies : ℕ → Bodies → Bodies
 moved_bodies k (Ok x) = Ok (map (placed_body k) x.0, x.1)
 moved_bodies k (Err f) = Err (moved_fault k f)
 
-module _ (T : List ℕ) (k o : ℕ) where
+module _ (edition : Edition) (T : List ℕ) (k o : ℕ) where
   body_step : (w : Waiting) (ws : Row Waiting) (bodies : Row Span) (p : ℕ) → 1 ≤ p
-      → ((bs : Row Span) (q : ℕ) → 1 ≤ q → bodies_from (given T (k + o)) (map (moved_waiting k) ws) (map (placed_body k) bs) q ≡ moved_bodies k (bodies_from (given T o) ws bs q))
+      → ((bs : Row Span) (q : ℕ) → 1 ≤ q → bodies_from (given edition T (k + o)) (map (moved_waiting k) ws) (map (placed_body k) bs) q ≡ moved_bodies k (bodies_from (given edition T o) ws bs q))
       → (d : Option ℕ) → delimiter_from T w p ≡ d
-      → body_by (bodies_from (given T (k + o)) (map (moved_waiting k) ws)) (given T (k + o)) (moved_waiting k w) (map (placed_body k) bodies) p d ≡ moved_bodies k (body_by (bodies_from (given T o) ws) (given T o) w bodies p d)
+      → body_by (bodies_from (given edition T (k + o)) (map (moved_waiting k) ws)) (given edition T (k + o)) (moved_waiting k w) (map (placed_body k) bodies) p d ≡ moved_bodies k (body_by (bodies_from (given edition T o) ws) (given edition T o) w bodies p d)
   body_step w ws bodies p from more None found = refl
   body_step w ws bodies p from more (Some q) found =
       let low = between T w false p q found in
@@ -332,7 +334,7 @@ module _ (T : List ℕ) (k o : ℕ) where
       rw (← row) (more (bodies ++ span o p q ∷ []) (past_line T q) (omega (arith, from, low.0, low.1, next_newline_low T q)))
 
   -- bodies that begin behind a newline
-  bodies_moved : (ws : Row Waiting) (bodies : Row Span) (p : ℕ) → 1 ≤ p → bodies_from (given T (k + o)) (map (moved_waiting k) ws) (map (placed_body k) bodies) p ≡ moved_bodies k (bodies_from (given T o) ws bodies p)
+  bodies_moved : (ws : Row Waiting) (bodies : Row Span) (p : ℕ) → 1 ≤ p → bodies_from (given edition T (k + o)) (map (moved_waiting k) ws) (map (placed_body k) bodies) p ≡ moved_bodies k (bodies_from (given edition T o) ws bodies p)
   unfolding bodies_from
   bodies_moved [] bodies p from = refl
   bodies_moved (w ∷ ws) bodies p from = rw (same_from k T w p) (body_step w ws bodies p from (λ bs q low. bodies_moved ws bs q low) (delimiter_from T w p) refl)
@@ -346,4 +348,4 @@ module _ {z : Place} {Y : Type 0} (d : Y → Y) (Q : Y → Type 0) (f h : Unit {
   -- the bodies behind a newline
   pub moves_newline : Moves z d Q (both (move one_byte) (λ u. both (change bodies_here) f)) (both (move one_byte) (λ u. both (change bodies_here) h))
   unfolding behind
-  moves_newline = record { like = λ s. change_like _ _ (bodies_moved z.text z.base z.offset s.waiting s.bodies (behind z.text s.at) (omega arith)) }
+  moves_newline = record { like = λ s. change_like _ _ (bodies_moved z.edition z.text z.base z.offset s.waiting s.bodies (behind z.text s.at) (omega arith)) }

@@ -12,7 +12,7 @@ use Rattle.shgrammar.specs.declared.token.Opener.{Opener}
 use Rattle.shgrammar.specs.declared.token.Position.{Position}
 use Rattle.shgrammar.specs.declared.token.Position.TheVariants.{Command, Prefix, Suffix}
 use Rattle.shgrammar.specs.declared.token.Separator.{Separator}
-use Rattle.shgrammar.specs.HereDocuments.{ADelimiter, delimiter_of}
+use Rattle.shgrammar.specs.HereDocuments.{ADelimiter}
 use Rattle.shgrammar.specs.Form.{Spelled, give, many, Step, again, done, step_if}
 use Rattle.shgrammar.specs.Words.{Inner}
 use Rattle.shgrammar.specs.Commands.{is_empty, begins_redirect, begins_simple, behind_word, redirect_operator_of, Items, so_many, breaks, as_item, an_item, a_number, is_strip, an_operator, operator_by, a_target, document, document_by, a_document, one_redirect, behind_redirect, item_by, item_turn, a_simple, a_newline, a_semicolon, none_waits, nothing_waits, JoinSo, join_so, a_join_of, with_comment, join_turn, a_join, redirect_turn, redirected, compound_by, opener_of, named, a_worded, a_command, a_bang, Piped, piped, one_command, pipe_turn, a_pipeline, Joined, joined_so, one_pipeline, joined_by, join_pipeline, and_or_operator_of, an_and_or, ASeparator, separator_by, separator_of, a_separator}
@@ -132,7 +132,7 @@ module _ (z : Place) where
 
   moves_document : (o : RedirectOperator) (b p : ℕ) (bytes : Spelled) → Moves z (option_map (here_to k)) Any (a_document o b p bytes) (a_document o (k + b) (k + p) bytes)
   unfolding a_document
-  moves_document o b p bytes = moves_pick _ (moves_document_by b p (is_strip o) (delimiter_of bytes)) (moves_give refl tt)
+  moves_document o b p bytes = moves_pick _ (moves_see (λ s. refl) (λ d. moves_document_by b p (is_strip o) d)) (moves_give refl tt)
 
   moves_document_at : (o : RedirectOperator × Span) (w : AWord × Spelled)
       → Moves z (option_map (here_to k)) Any (a_document o.0 o.1.start (word_span w.0).start w.1) (a_document o.0 (k + o.1.start) (word_span (word_to k deep w.0)).start w.1)

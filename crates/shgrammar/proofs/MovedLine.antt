@@ -24,6 +24,7 @@ use Rattle.shgrammar.proofs.MovedTrees.{pushed_some, span_to, body_to, offset_to
 use Rattle.shgrammar.proofs.MovedWords.{Fits, moves_next, moves_comment, moves_unexpected}
 use Rattle.shgrammar.proofs.MovedCommands.{is_some_map, moves_if, moves_nothing_waits, moves_and_or, parted_to, moves_separator}
 use Rattle.shgrammar.proofs.MovedSubstitutions.{moves_inner}
+use Rattle.shgrammar.specs.declared.edition.Edition.{Edition}
 
 -- ---- the first entry of a row
 
@@ -161,16 +162,16 @@ same_line _ p blank (Ok x) (Err f) like = absurd like
 same_line _ p blank (Err e) (Ok y) like = absurd like
 same_line _ p blank (Err e) (Err f) like = like
 
-moved_by : (deep : Bool) (B : List ℕ) (p : ℕ) (blank : Bool) → SameBy deep p blank (line_told B (kept deep) blank p p) (line_told B Whole false p 0)
-moved_by deep B p blank =
-    let z : Place = record { text = drop p B; offset = 0; base = p; deep = deep } in
+moved_by : (edition : Edition) → (deep : Bool) (B : List ℕ) (p : ℕ) (blank : Bool) → SameBy deep p blank (line_told edition B (kept deep) blank p p) (line_told edition B Whole false p 0)
+moved_by edition deep B p blank =
+    let z : Place = record { text = drop p B; offset = 0; edition = edition; base = p; deep = deep } in
     let none : p + 0 ≡ p = omega arith in
-    subst (λ (o : ℕ). SameBy deep p blank (does (the_line blank) (kept deep) (given (drop p B) o) (standing 0)) (does (the_line false) Whole (given (drop p B) 0) (standing 0))) none
+    subst (λ (o : ℕ). SameBy deep p blank (does (the_line blank) (kept deep) (given edition (drop p B) o) (standing 0)) (does (the_line false) Whole (given edition (drop p B) 0) (standing 0))) none
     (same_line deep p blank _ _ ((line_as z (level most_open) (moves_inner z most_open) blank false).like (standing 0)))
 
-pub line_moved : (B : List ℕ) → LineMoves B
-line_moved B p blank = moved_by true B p blank
+pub line_moved : (edition : Edition) → (B : List ℕ) → LineMoves edition B
+line_moved edition B p blank = moved_by edition true B p blank
 
 -- the same without the trees in command substitutions
-pub line_outer : (B : List ℕ) (p : ℕ) (blank : Bool) → SameBy false p blank (line_told B Outer blank p p) (line_told B Whole false p 0)
-line_outer B p blank = moved_by false B p blank
+pub line_outer : (edition : Edition) → (B : List ℕ) (p : ℕ) (blank : Bool) → SameBy false p blank (line_told edition B Outer blank p p) (line_told edition B Whole false p 0)
+line_outer edition B p blank = moved_by edition false B p blank

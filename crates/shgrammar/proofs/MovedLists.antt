@@ -18,7 +18,7 @@ use Rattle.shgrammar.specs.Form.{Spelled, many}
 use Rattle.shgrammar.specs.Words.{Inner}
 use Rattle.shgrammar.specs.Commands.{opener_of, Items, so_many, join_so, a_join_of, ASeparator, is_background, past_separator, Entered, an_entry}
 use Rattle.shgrammar.specs.Lists.{Listed, ListSo, list_so, none_listed, is_blank_next, next_line, one_entry, entry_turn, remark_by, a_remark, on_line, list_turn, a_list}
-use Rattle.shgrammar.specs.Compounds.{is_open_paren, is_close_paren, passed, closing, Closed, closed, a_branch, Branched, branched, elif_turn, an_else, an_if, a_loop, a_group, a_for_name, a_linebreak, a_sequential_sep, Headed, headed, word_turn, for_words, a_for_head, a_for, a_form, a_compound, a_function, a_case_word, Patterned, patterned, a_pattern, one_pattern, pattern_turn, a_pattern_list, an_open_bracket, a_body, body_end, ItemEnd, item_end, a_double_semicolon, an_item_end, CasesSo, cases_so, one_case, case_turn, a_case_head, a_case}
+use Rattle.shgrammar.specs.Compounds.{is_open_paren, is_close_paren, passed, closing, Closed, closed, a_branch, Branched, branched, elif_turn, an_else, an_if, a_loop, a_group, a_for_name, a_linebreak, a_sequential_sep, Headed, headed, word_turn, for_words, a_for_head, a_for, a_form, a_compound, a_function, a_case_word, Patterned, patterned, a_pattern, one_pattern, pattern_turn, a_pattern_list, an_open_bracket, a_body, body_end, ItemEnd, item_end, an_ender, an_item_end, CasesSo, cases_so, one_case, case_turn, a_case_head, a_case}
 use Rattle.shgrammar.specs.Substitutions.{substituted, one_substitution}
 use Rattle.shast.specs.Moved.{carried_patterns}
 use Rattle.shgrammar.proofs.Moved.{Place, Any, same, first, of_first, step, of_step, Moves, moves_give, moves_stop, moves_so, moves_then, moves_see, moves_here, moves_on, moves_pushed, moves_push, moves_pick, moves_level, moves_ending, moves_many}
@@ -26,6 +26,10 @@ use Rattle.shgrammar.proofs.MovedBodies.{filled_moved}
 use Rattle.shgrammar.proofs.MovedTrees.{is_empty_map, span_to, body_to, offset_to, word_to, subst_to, command_to, and_or_to, entry_to, list_to, branch_to, else_to, for_words_to, case_to, form_to, items_row, entries_row, branches_row, cases_row, patterns_row, remarks_to, under_name_to, CommandEnds, compound_ends, under_name_ends, EntryEnds, entries_end}
 use Rattle.shgrammar.proofs.MovedWords.{Fits, moves_next, moves_mark, moves_comment, moves_word, moves_unexpected}
 use Rattle.shgrammar.proofs.MovedCommands.{is_some_map, moves_if, of_any, items_to, SomeItems, moves_line_end, moves_semicolon, moves_nothing_waits, join_so_to, moves_joins, moves_item, moves_compound_by, moves_and_or, parted_to, moves_separator}
+use Rattle.shgrammar.proofs.Moved.{moves_token}
+use Rattle.shast.specs.Tree.{marked}
+use Rattle.shgrammar.proofs.Moved.{moves_move}
+use Rattle.shgrammar.specs.Commands.{falls_through}
 
 module _ (z : Place) where
   abbrev k : ℕ
@@ -231,13 +235,13 @@ module _ (z : Place) where
     abbrev item_end_to : ItemEnd → ItemEnd
     item_end_to e = item_end (k + e.at) (map (span_to k) e.comments) e.next
 
-    moves_double_semicolon : Moves z item_end_to Any a_double_semicolon a_double_semicolon
-    unfolding a_double_semicolon
-    moves_double_semicolon = moves_on (moves_on (moves_here (λ p. moves_then (moves_next z _) (λ n so. moves_then (moves_linebreak [] n) (λ l all. moves_give refl tt)))))
+    moves_ender : (b : Bool) → Moves z item_end_to Any (an_ender b) (an_ender b)
+    unfolding an_ender
+    moves_ender b = moves_then (moves_token (moves_on moves_move)) (λ x so. (moves_here (λ p. moves_then (moves_next z _) (λ n so. moves_then (moves_linebreak [] n) (λ l all. moves_give refl tt)))))
 
     moves_item_end : (p : ℕ) (n : Next) → Moves z item_end_to Any (an_item_end inner p n) (an_item_end inner (k + p) n)
     unfolding an_item_end
-    moves_item_end p n = moves_pick _ moves_double_semicolon (moves_pick _ (moves_give refl tt) (moves_unexpected z inner fits n))
+    moves_item_end p n = moves_pick _ (moves_ender (falls_through n.token)) (moves_pick _ (moves_give refl tt) (moves_unexpected z inner fits n))
 
     end_or : (o : Option ℕ) (p q : ℕ) → q ≡ k + p → unwrap_or (option_map (offset_to k) o) q ≡ k + unwrap_or o p
     end_or None p q is = is
@@ -256,8 +260,8 @@ module _ (z : Place) where
     moves_one_case c =
         moves_here (λ p. moves_then (moves_bracket c.next) (λ n so. moves_then (moves_patterns n) (λ ps so2. moves_then (moves_closing closings.Paren ps.next)
         (λ e so3. moves_then (moves_body e.1) (λ b all. moves_then (moves_item_end_at e.0.«end» b all) (λ f so4. moves_pushed (case_to k deep) refl
-        (ap (λ ws. case_item (map (span_to k) c.comments) ws (entries_of (map (entry_to k deep) b.list.entries)) (span_to k (record { start = p; «end» = f.at }))) (patterns_row k deep ps.patterns)
-        ∙ ap (λ (es : Entries). case_item (map (span_to k) c.comments) (carried_patterns (span_to k) (body_to k) deep (patterns_of ps.patterns)) es (span_to k (record { start = p; «end» = f.at }))) (entries_row k deep b.list.entries))
+        (ap (λ ws. case_item (map (span_to k) c.comments) ws (entries_of (map (entry_to k deep) b.list.entries)) (marked (span_to k) (record { mark = record { start = p; «end» = f.at }; falls = falls_through b.next.token }))) (patterns_row k deep ps.patterns)
+        ∙ ap (λ (es : Entries). case_item (map (span_to k) c.comments) (carried_patterns (span_to k) (body_to k) deep (patterns_of ps.patterns)) es (marked (span_to k) (record { mark = record { start = p; «end» = f.at }; falls = falls_through b.next.token }))) (entries_row k deep b.list.entries))
         (moves_give refl tt)))))))
 
     moves_case_turn : (c : CasesSo) → Moves z (step cases_so_to) (of_step Any) (case_turn inner c) (case_turn inner (cases_so_to c))

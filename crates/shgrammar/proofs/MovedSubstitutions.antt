@@ -17,7 +17,7 @@ use Rattle.shgrammar.proofs.MovedWords.{Fits, moves_contents}
 
 -- the same place, with all trees
 abbrev pub with_all : Place → Place
-with_all z = record { text = z.text; offset = z.offset; base = z.base; deep = true }
+with_all z = record { text = z.text; offset = z.offset; edition = z.edition; base = z.base; deep = true }
 
 module _ (z : Place) (inner : Inner) (fits : Fits (with_all z) inner) (fits_without : FitsWithout (elsewhere z) inner) (b : ℕ) (ss : Row ASubst) where
   abbrev k : ℕ

@@ -2,6 +2,8 @@
 use Rattle.std.proofs.Common.{◌≡◌, ℕ, ◌+◌, Bool, true, false, not, List as Row, [], Option, Some, None, option_map, refl, ap, subst}
 use Rattle.shast.specs.declared.tree.Span.{Span}
 use Rattle.shast.specs.Tree.{ASubst, word}
+use Rattle.shgrammar.specs.declared.mode.Escaping.{Escaping}
+use Rattle.shgrammar.specs.declared.mode.Escaping.TheVariants as escapings
 use Rattle.shgrammar.specs.declared.fault.FaultKind.{FaultKind}
 use Rattle.shgrammar.specs.declared.mode.Mode.{Mode}
 use Rattle.shgrammar.specs.declared.mode.Mode.TheVariants.{Plain}
@@ -12,11 +14,12 @@ use Rattle.shgrammar.specs.declared.token.Opener.{Opener}
 use Rattle.shgrammar.specs.declared.token.Position.{Position}
 use Rattle.shgrammar.specs.Sights.{Move}
 use Rattle.shgrammar.specs.Form.{Told, move, token, step_if}
-use Rattle.shgrammar.specs.Words.{single, backquote_turn, backquoted, Inner, Held, having, opened, piece_row, a_piece, contents, a_word}
+use Rattle.shgrammar.specs.Words.{single, escaped_turn, backquoted, Inner, Held, having, opened, piece_row, a_piece, contents, a_word}
 use Rattle.shgrammar.specs.Tokens.{is_end}
 use Rattle.shgrammar.specs.Commands.{next_token, comment_by, a_comment, wrong_with, what_is_wrong, unexpected}
 use Rattle.shgrammar.proofs.Moved.{Place, Any, same, each, first, of_first, step, of_step, Moves, moves_give, moves_move, moves_stop, moves_then, moves_see, moves_here, moves_byte, moves_see_comment, moves_see_waiting, moves_on, moves_pick, moves_when, moves_token, moves_many}
 use Rattle.shgrammar.proofs.MovedTrees.{span_to, offset_to, word_to, command_to, substs_row, CommandEnds, kept_none, substs_to}
+use Rattle.shgrammar.specs.Words.{dollar_single}
 
 module _ (z : Place) where
   abbrev k : ℕ
@@ -35,9 +38,9 @@ module _ (z : Place) where
   same_if c true a = refl
   same_if c false a = refl
 
-  moves_backquote_turn : (b : ℕ) (u : Unit {0}) → Moves z (step same) (of_step Any) (backquote_turn b u) (backquote_turn (k + b) u)
-  unfolding backquote_turn
-  moves_backquote_turn b u =
+  moves_escaped_turn : (how : Escaping) (b : ℕ) (u : Unit {0}) → Moves z (step same) (of_step Any) (escaped_turn how b u) (escaped_turn how (k + b) u)
+  unfolding escaped_turn
+  moves_escaped_turn how b u =
       moves_on (moves_when (λ s. refl) moves_stop (moves_when (λ s. refl) moves_stop (moves_see (λ s. refl) (λ last. moves_on (moves_give (same_if same (not last) tt) (any_if (not last)))))))
     where
       any_if : (b : Bool) → of_step (Any {X = Unit {0}}) (step_if b tt)
@@ -46,7 +49,11 @@ module _ (z : Place) where
 
   moves_backquoted : Moves z same Any backquoted backquoted
   unfolding backquoted
-  moves_backquoted = moves_byte (λ b. moves_on (moves_many same Any Any (backquote_turn b) (backquote_turn (k + b)) (λ u so. moves_backquote_turn b u) (λ u so. tt) tt tt))
+  moves_backquoted = moves_byte (λ b. moves_on (moves_many same Any Any (escaped_turn escapings.Backquotes b) (escaped_turn escapings.Backquotes (k + b)) (λ u so. moves_escaped_turn escapings.Backquotes b u) (λ u so. tt) tt tt))
+
+  moves_dollar_single : Moves z same Any dollar_single dollar_single
+  unfolding dollar_single
+  moves_dollar_single = moves_byte (λ b. moves_on (moves_on (moves_many same Any Any (escaped_turn escapings.DollarSingle b) (escaped_turn escapings.DollarSingle (k + b)) (λ u so. moves_escaped_turn escapings.DollarSingle b u) (λ u so. tt) tt tt)))
 
   -- ---- tokens and comments
 
@@ -87,6 +94,7 @@ module _ (z : Place) where
     moves_piece_by mode b h pieces.LoneBackslash = moves_byte (λ q. moves_stop)
     moves_piece_by mode b h pieces.Escape = moves_on (moves_on (moves_give refl tt))
     moves_piece_by mode b h pieces.Single = moves_then moves_single (λ u so. moves_give refl tt)
+    moves_piece_by mode b h pieces.DollarSingle = moves_then moves_dollar_single (λ u so. moves_give refl tt)
     moves_piece_by mode b h pieces.Double = moves_byte (λ q. moves_on (moves_opened _ q h))
     moves_piece_by mode b h pieces.Backquote = moves_then moves_backquoted (λ u so. moves_give refl tt)
     moves_piece_by mode b h pieces.Pid = moves_on (moves_on (moves_give refl tt))

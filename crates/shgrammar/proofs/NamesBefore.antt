@@ -34,6 +34,7 @@ use Rattle.shgrammar.proofs.Anywhere.{WordOf, from_to, kept, word_may}
 use Rattle.shgrammar.proofs.Spelling.{raw_at}
 use Rattle.shast.specs.Shape.{text_at}
 use Rattle.shgrammar.proofs.CommentsElsewhere.{byte_behind, stretch_length}
+use Rattle.shgrammar.specs.declared.edition.Edition.{Edition}
 
 -- ---- the word that a NAME is
 
@@ -52,19 +53,19 @@ byte_in : (test : ℕ → Bool) (T : List ℕ) (r : ℕ) → stands_in test T r 
 unfolding stands_in
 byte_in test T r e = passed_byte test (byte_at T r) e
 
-module _ (room : ℕ) (T : List ℕ) (o opener : ℕ) where
+module _ (edition : Edition) (room : ℕ) (T : List ℕ) (o opener : ℕ) where
   -- a byte of a NAME is a piece
-  name_turn : (r b : ℕ) (c : Held) → byte_at T r ≡ Some b → is_name b ≡ true → does (a_piece (level room) Plain opener c) Whole (given T o) (standing r) ≡ Ok (again c, standing (behind T r))
+  name_turn : (r b : ℕ) (c : Held) → byte_at T r ≡ Some b → is_name b ≡ true → does (a_piece (level room) Plain opener c) Whole (given edition T o) (standing r) ≡ Ok (again c, standing (behind T r))
   unfolding a_piece piece_at
   name_turn r b c is_b e = rw (is_b, ordinary_by T r Plain c.nested b (name_plain b e)) refl
 
-  end_turn : (r : ℕ) (c : Held) → ends_word T r ≡ true → does (a_piece (level room) Plain opener c) Whole (given T o) (standing r) ≡ Ok (done c, standing r)
+  end_turn : (r : ℕ) (c : Held) → ends_word T r ≡ true → does (a_piece (level room) Plain opener c) Whole (given edition T o) (standing r) ≡ Ok (done c, standing r)
   unfolding a_piece piece_at ends_word
   end_turn r c e = rw (closer_at T r c.nested (byte_at T r) e) refl
 
   -- up to where the NAME ends
   names_on : (n r : ℕ) (c : Held) → length T - r < n → ends_word T (past is_name T r) ≡ true
-      → does (many (a_piece (level room) Plain opener) c) Whole (given T o) (standing r) ≡ Ok (c, standing (past is_name T r))
+      → does (many (a_piece (level room) Plain opener) c) Whole (given edition T o) (standing r) ≡ Ok (c, standing (past is_name T r))
   names_on zero r c few e = absurd (omega arith)
   names_on (suc n) r c few e =
       ⊎_elim
@@ -72,18 +73,18 @@ module _ (room : ℕ) (T : List ℕ) (o opener : ℕ) where
       let b = byte_in is_name T r f in
       let inside = stands_in_low is_name T r f in
       let high : behind T r ≤ length T = omega (arith, inside, behind_is T r) in
-      many_again (a_piece (level room) Plain opener) Whole (given T o) c c (standing r) (standing (behind T r)) (name_turn r b.0 c b.1 b.2) (behind_low T r) high
+      many_again (a_piece (level room) Plain opener) Whole (given edition T o) c c (standing r) (standing (behind T r)) (name_turn r b.0 c b.1 b.2) (behind_low T r) high
       ∙ names_on n (behind T r) c (omega (arith, few, high, behind_low T r)) (subst (λ q. ends_word T q ≡ true) more e)
       ∙ ap (λ (q : ℕ). Ok (c, standing q)) (sym more))
       (λ (f : stands_in is_name T r ≡ false). let none = past_none is_name T r f in
-      many_done (a_piece (level room) Plain opener) Whole (given T o) c c (standing r) (standing r) (end_turn r c (subst (λ q. ends_word T q ≡ true) none e))
+      many_done (a_piece (level room) Plain opener) Whole (given edition T o) c c (standing r) (standing r) (end_turn r c (subst (λ q. ends_word T q ≡ true) none e))
       ∙ ap (λ (q : ℕ). Ok (c, standing q)) (sym none))
       (cases_Bool (stands_in is_name T r))
 
-name_is_word : (room : ℕ) (T : List ℕ) (o p : ℕ) → ends_word T (past is_name T p) ≡ true
-    → does (a_word (level room)) Whole (given T o) (standing p) ≡ Ok (word (span o p (past is_name T p)) no_subst, standing (past is_name T p))
+name_is_word : (edition : Edition) → (room : ℕ) (T : List ℕ) (o p : ℕ) → ends_word T (past is_name T p) ≡ true
+    → does (a_word (level room)) Whole (given edition T o) (standing p) ≡ Ok (word (span o p (past is_name T p)) no_subst, standing (past is_name T p))
 unfolding a_word contents
-name_is_word room T o p e = rw (names_on room T o (o + p) (suc (length T - p)) p (having 0 []) (omega arith) e) refl
+name_is_word edition room T o p e = rw (names_on edition room T o (o + p) (suc (length T - p)) p (having 0 []) (omega arith) e) refl
 
 -- where what was read ends
 abbrev place_in : Read AWord → ℕ
@@ -131,7 +132,7 @@ module _ (room : ℕ) (g : Given) (p n : ℕ) (read : IsWord room g p n) (still 
   ended = word_ends room g p n read (omega (arith, below))
 
   end_is : past is_name T p ≡ p + n
-  end_is = sym (ap place_in ((is (a_word (level room)) g (standing p)).only _ _ read.1 ∙ name_is_word room T g.offset p (name_parts T p name).1))
+  end_is = sym (ap place_in ((is (a_word (level room)) g (standing p)).only _ _ read.1 ∙ name_is_word g.edition room T g.offset p (name_parts T p name).1))
 
   size : length w ≡ n
   size = stretch_length T p n ended.0
@@ -161,8 +162,8 @@ module _ (room : ℕ) (g : Given) (p n : ℕ) (read : IsWord room g p n) (still 
     abbrev to : ℕ → ℕ
     to = from_to p q
 
-    K : Kept T U p L to
-    K = kept T U p q n (ap (take n) is_there ∙ take_at w (40 ∷ zs) n size)
+    K : Kept g.edition T U p L to
+    K = kept g.edition T U p q n (ap (take n) is_there ∙ take_at w (40 ∷ zs) n size)
 
     limit_is : to L ≡ q + n
     limit_is = omega arith
@@ -314,18 +315,18 @@ module _ (room : ℕ) (g : Given) (p n : ℕ) (read : IsWord room g p n) (still 
     end_there : past is_name U q ≡ q + n
     end_there = ap (past is_name U) (sym begin_is) ∙ past_name ∙ limit_is
 
-    word_there : (o : ℕ) → does (a_word (level room)) Whole (given U o) (standing q) ≡ Ok (word (span o q (q + n)) no_subst, standing (q + n))
-    word_there o = name_is_word room U o q ends_there ∙ ap (λ (x : ℕ). Ok (word (span o q x) no_subst, standing x)) end_there
+    word_there : (edition : Edition) (o : ℕ) → does (a_word (level room)) Whole (given edition U o) (standing q) ≡ Ok (word (span o q (q + n)) no_subst, standing (q + n))
+    word_there edition o = name_is_word edition room U o q ends_there ∙ ap (λ (x : ℕ). Ok (word (span o q x) no_subst, standing x)) end_there
 
-    text_there : (o : ℕ) (C : List ℕ) → U ≡ drop o C → text_at C (span o q (q + n)) ≡ w
-    text_there o C stands =
+    text_there : (edition : Edition) (o : ℕ) (C : List ℕ) → U ≡ drop o C → text_at C (span o q (q + n)) ≡ w
+    text_there edition o C stands =
         let less : q + n - q ≡ n = omega arith in
-        sym (raw_at C (given U o) stands q (q + n)) ∙ ap (λ m. take m (drop q U)) less ∙ ap (take n) is_there ∙ take_at w (40 ∷ zs) n size
+        sym (raw_at C (given edition U o) stands q (q + n)) ∙ ap (λ m. take m (drop q U)) less ∙ ap (take n) is_there ∙ take_at w (40 ∷ zs) n size
 
-    shape_there : (o : ℕ) (C : List ℕ) → U ≡ drop o C → WordOf room (given U o) q n C (word w no_subst)
-    shape_there o C stands =
+    shape_there : (edition : Edition) (o : ℕ) (C : List ℕ) → U ≡ drop o C → WordOf room (given edition U o) q n C (word w no_subst)
+    shape_there edition o C stands =
         let v = word (span o q (q + n)) no_subst in
-        (v, (word_may room (given U o) q n v (word_there o), ap (λ t. word t no_subst) (text_there o C stands)))
+        (v, (word_may room (given edition U o) q n v (word_there edition o), ap (λ t. word t no_subst) (text_there edition o C stands)))
 
   before_there : (h : Given) (q : ℕ) (zs : List ℕ) → drop q h.text ≡ w ++ 40 ∷ zs → ReadAt room Command tokens.Word w no_subst h q
   before_there h q zs is_there =
@@ -334,7 +335,7 @@ module _ (room : ℕ) (g : Given) (p n : ℕ) (read : IsWord room g p n) (still 
         place = subst (λ r. past_continuations h.text r ≡ r) begin ((begins h.text q zs is_there).there ∙ ap (from_to p q) still);
         no_blank = subst (λ r. stands_in is_blank h.text r ≡ false) begin (blank_there h.text q zs is_there);
         token_is = subst (λ r. token_at Command h.text r ≡ tokens.Word) begin (token_there h.text q zs is_there);
-        word = λ C stands. subst (λ m. WordOf room h q m C (word w no_subst)) (sym size) (shape_there h.text q zs is_there h.offset C stands);
+        word = λ C stands. subst (λ m. WordOf room h q m C (word w no_subst)) (sym size) (shape_there h.text q zs is_there h.edition h.offset C stands);
       }
 
   names_there : (U : List ℕ) (q : ℕ) (zs : List ℕ) → drop q U ≡ w ++ 40 ∷ zs → is_name_at U q ≡ true

@@ -9,7 +9,7 @@ use Rattle.shgrammar.specs.declared.mode.Mode.TheVariants.{Plain, Double, Brace,
 use Rattle.shast.specs.declared.tree.Span.{Span}
 use Rattle.shast.specs.Shape.{bare}
 use Rattle.shgrammar.specs.Comments.{span}
-use Rattle.shgrammar.specs.Sights.{Given, given, State, Sight, here, the_byte, the_piece, the_rest, the_end, a_backquote, last_backslash, the_token, the_comment, is_a_name, a_document_waits, seen}
+use Rattle.shgrammar.specs.Sights.{Given, given, State, Sight, here, the_byte, the_piece, the_rest, the_end, a_raw, last_backslash, the_token, the_comment, is_a_name, a_document_waits, seen}
 use Rattle.shgrammar.specs.HereDocuments.{Change, changed, own_level}
 use Rattle.shgrammar.specs.Form.{change, with_bytes, a_level, Changed, changes, cannot, WithBytes, with_its_bytes, without_bytes, OwnLevel, level_read, level_stops, Spelled, Told, untold, as_it_stands, bared, by, tell, Read, Form, give, see, move, push, stop, both, when, token, loop, ends_as, Step, again, done, Just, just, Halts, halted, Then, and_then, or_stops, holds, fails, raw, OneToken, whole, broken_off, leads_on, Turns, last, rests, more, halts, Ending, goes_through, stops_inside, moved, may, in_substitution}
 use Rattle.shgrammar.proofs.OneOutcome.{is}
@@ -17,6 +17,10 @@ use Rattle.shgrammar.proofs.Holds.{Holds, Behind, low}
 use Rattle.shgrammar.proofs.Ahead.{ListEnds, same_name, same_place, same_next}
 use Rattle.shgrammar.proofs.BodiesThere.{change_there}
 use Rattle.shgrammar.proofs.Asked.{Good, NoBracket, newline_near, high, on, moves, same_end_here, same_raw_stands, same_last_backslash, same_comment, same_piece, same_mode, same_raw}
+use Rattle.shgrammar.specs.declared.edition.Edition.{Edition}
+use Rattle.shgrammar.specs.Tokens.{next_in}
+use Rattle.shgrammar.specs.Pieces.{piece_in}
+use Rattle.shgrammar.specs.Sights.{the_delimiter}
 
 -- what may be read is not before where it begins
 pub behind : {X : Type 0} (r : Form X) (g : Given) (s : State) (y : Read X) (k : Row Spelled) → may r g s y k → Holds (Behind s) y
@@ -31,15 +35,15 @@ less_same x y z w one two =
     not_less : (m n : ℕ) → n ≤ m → ltb m n ≡ false
     not_less m n le = ⊎_elim (λ (e : ltb m n ≡ true). let lt = ltb-true m n e in absurd (omega (arith, lt, le))) (λ (e : ltb m n ≡ false). e) (cases_Bool (ltb m n))
 
-module _ {T U : List ℕ} {a M : ℕ} {to : ℕ → ℕ} (E : ListEnds T U a M to 10) (o o2 : ℕ) (off : (p : ℕ) → a ≤ p → o2 + to p ≡ o + p) where
+module _ {edition : Edition} {T U : List ℕ} {a M : ℕ} {to : ℕ → ℕ} (E : ListEnds edition T U a M to 10) (o o2 : ℕ) (off : (p : ℕ) → a ≤ p → o2 + to p ≡ o + p) where
   abbrev G : ℕ → Type 0
   G p = Good T a M p
 
   abbrev g : Given
-  g = given T o
+  g = given edition T o
 
   abbrev h : Given
-  h = given U o2
+  h = given edition U o2
 
   -- the state, elsewhere
   abbrev pub there : State → State
@@ -68,15 +72,16 @@ module _ {T U : List ℕ} {a M : ℕ} {to : ℕ → ℕ} (E : ListEnds T U a M t
   same_seen : {X : Type 0} (l : Sight X) (s : State) → a ≤ s.at → G s.at → seen l h (there s) ≡ seen l g s
   same_seen here s from good = off s.at from
   same_seen the_byte s from good = rw (same_place E good) (off _ (omega (arith, from, Rattle.shgrammar.proofs.Stretches.place_low T s.at)))
-  same_seen (the_piece mode n) s from good = same_piece E mode n s.at (no_bracket mode) good
+  same_seen (the_piece mode n) s from good = ap (piece_in edition mode) (same_piece E mode n s.at (no_bracket mode) good)
   same_seen (the_rest mode) s from good = same_mode E mode s.at good
   same_seen the_end s from good = same_end_here E s.at from good
-  same_seen a_backquote s from good = same_raw_stands E s.at 96 from (high E good)
+  same_seen (a_raw c) s from good = same_raw_stands E s.at c from (high E good)
   same_seen last_backslash s from good = same_last_backslash E s.at from good
-  same_seen (the_token position) s from good = same_next E position good
+  same_seen (the_token position) s from good = ap (next_in edition) (same_next E position good)
   same_seen the_comment s from good = same_comment E o o2 spans s.at good (λ e. newline_near E refl s.at (high E good))
   same_seen is_a_name s from good = same_name E good
   same_seen a_document_waits s from good = refl
+  same_seen (the_delimiter bytes) s from good = refl
 
   -- ---- whether a turn leads on
 

@@ -31,6 +31,7 @@ use Rattle.shast.proofs.OpenSame.{first_filled, all_filled}
 use Rattle.shgrammar.specs.Scripts.{AScript, SoFar, is_blank_line, line_from, script_by, script_below, script_on, script_at, nothing_yet}
 use Rattle.shgrammar.proofs.Holds.{tells_with_bytes, tells_level, Holds, Tells, Turned, tells_give, tells_then, tells_token, tells_many, tells_after, tells_ending, tells_pushed, tells_inside}
 use Rattle.shast.specs.Nodes.{word_span}
+use Rattle.shgrammar.specs.declared.edition.Edition.{Edition}
 
 -- ---- rows that grow at their end
 
@@ -227,6 +228,7 @@ module _ (g : Given) where
     normal_piece_by mode b h pieces.LoneBackslash s so = record { told = tt }
     normal_piece_by mode b h pieces.Escape s so = after (λ x t. after (λ y u. tells_give Whole g so))
     normal_piece_by mode b h pieces.Single s so = after (λ x t. tells_give Whole g so)
+    normal_piece_by mode b h pieces.DollarSingle s so = after (λ x t. tells_give Whole g so)
     normal_piece_by mode b h pieces.Double s so = after (λ q t. after (λ x u. normal_opened _ q h u so))
     normal_piece_by mode b h pieces.Backquote s so = after (λ x t. tells_give Whole g so)
     normal_piece_by mode b h pieces.Pid s so = after (λ x t. after (λ y u. tells_give Whole g so))
@@ -633,13 +635,13 @@ module _ (g : Given) where
 
 -- ---- a script
 
-module _ (B : List ℕ) where
+module _ (edition : Edition) (B : List ℕ) where
   -- what holds of the entries of a line, whose first one may be blank
   abbrev LineHolds : Bool → Row AnEntry × Bool → State → Type 0
   LineHolds blank x t = (blank ≡ false → first_not_blank (entries_of x.0) ≡ true) × (are_normal (entries_of x.0) ≡ true)
 
-  line_so_far : (blank : Bool) (p : ℕ) → Holds (LineHolds blank) (line_from B Whole blank p)
-  line_so_far blank p = let g = given (drop p B) p in (normal_line g (level most_open) (normal_level g most_open) blank (standing 0)).told
+  line_so_far : (blank : Bool) (p : ℕ) → Holds (LineHolds blank) (line_from edition B Whole blank p)
+  line_so_far blank p = let g = given edition (drop p B) p in (normal_line g (level most_open) (normal_level g most_open) blank (standing 0)).told
 
   script_so : (rest : SoFar → ℕ → AScript) (so : SoFar) (p : ℕ) → ((to : SoFar) (q : ℕ) → is_normal (entries_of to.entries) ≡ true → is_normal (rest to q).entries ≡ true)
       → is_normal (entries_of so.entries) ≡ true → (x : Read (Row AnEntry × Bool)) → Holds (LineHolds (is_blank_line so)) x → is_normal (script_by rest so p x).entries ≡ true
@@ -647,14 +649,14 @@ module _ (B : List ℕ) where
   script_so rest so p more list (Ok ((es, false), t)) line = script_more so.gap so.entries es list line.0 line.1
   script_so rest so p more list (Err f) line = list
 
-  below_normal : (n : ℕ) (so : SoFar) (p : ℕ) → is_normal (entries_of so.entries) ≡ true → is_normal (script_below B n so p).entries ≡ true
+  below_normal : (n : ℕ) (so : SoFar) (p : ℕ) → is_normal (entries_of so.entries) ≡ true → is_normal (script_below edition B n so p).entries ≡ true
   unfolding script_below
   below_normal zero so p list = list
-  below_normal (suc n) so p list = script_so (script_below B n) so p (λ to q good. below_normal n to q good) list _ (line_so_far (is_blank_line so) p)
+  below_normal (suc n) so p list = script_so (script_below edition B n) so p (λ to q good. below_normal n to q good) list _ (line_so_far (is_blank_line so) p)
 
-  script_normal : is_normal (script_at B).entries ≡ true
+  script_normal : is_normal (script_at edition B).entries ≡ true
   unfolding script_at script_on
   script_normal = below_normal _ nothing_yet 0 refl
 
-pub script_in_normal_form : (B : List ℕ) (s : AScript) → s ≡ script_at B → is_normal s.entries ≡ true
-script_in_normal_form B s e = ap (λ (x : AScript). is_normal x.entries) e ∙ script_normal B
+pub script_in_normal_form : (edition : Edition) → (B : List ℕ) (s : AScript) → s ≡ script_at edition B → is_normal s.entries ≡ true
+script_in_normal_form edition B s e = ap (λ (x : AScript). is_normal x.entries) e ∙ script_normal edition B

@@ -25,6 +25,12 @@ use Rattle.shgrammar.proofs.SameBytes.{Kept, Here, here, here_byte, here_behind,
 use Rattle.shgrammar.proofs.Ahead.{behind_is}
 use Rattle.shgrammar.proofs.Inside.{there_at, clear, before, high, taken_two, same_taken, same_end, parameter_in, rest_in, there, at, Ends, quote_in, backquotes_in, Turned, Looped, Goal, looped}
 use Rattle.shgrammar.proofs.OneOutcome.{is}
+use Rattle.shgrammar.specs.declared.edition.Edition.{Edition}
+use Rattle.shgrammar.specs.Pieces.{piece_in, quotes_singly}
+use Rattle.shgrammar.specs.Tokens.{is_later}
+use Rattle.shgrammar.specs.Words.{dollar_single}
+use Rattle.shgrammar.proofs.Inside.{dollar_single_in}
+use Rattle.std.proofs.Common.{◌&&◌}
 
 -- it does not end a word
 abbrev pub Closed : Mode → Type 0
@@ -34,15 +40,15 @@ Closed _ = Unit {0}
 not_plain : (mode : Mode) → Closed mode → mode ≡ Plain → ⊥
 not_plain mode closed is = subst Closed is closed
 
-module _ {T U : List ℕ} {a L : ℕ} {to : ℕ → ℕ} (K : Kept T U a L to) (o o2 : ℕ) (B B2 : List ℕ) where
+module _ {edition : Edition} {T U : List ℕ} {a L : ℕ} {to : ℕ → ℕ} (K : Kept edition T U a L to) (o o2 : ℕ) (B B2 : List ℕ) where
   abbrev Inside : ℕ → Type 0
   Inside p = Here T U a L to p
 
   abbrev g : Given
-  g = given T o
+  g = given edition T o
 
   abbrev h : Given
-  h = given U o2
+  h = given edition U o2
 
   abbrev over : State → State
   over s = there K o o2 s
@@ -97,12 +103,13 @@ module _ {T U : List ℕ} {a L : ℕ} {to : ℕ → ℕ} (K : Kept T U a L to) (
   abbrev Other : ℕ → Type 0
   Other b = ((b == 92) ≡ false) × (((b == 96) ≡ false) × ((b == 36) ≡ false))
 
-  other_piece : (mode : Mode) (n p b : ℕ) → byte_at T p ≡ Some b → Other b → Inside p → piece_at U mode n (to p) ≡ byte_by U (to p) mode n b
+  other_piece : (mode : Mode) (n p b : ℕ) → byte_at T p ≡ Some b → Other b → Inside p → piece_in edition mode (piece_at U mode n (to p)) ≡ piece_in edition mode (byte_by U (to p) mode n b)
   unfolding piece_at
   other_piece mode n p b is e i = rw (here_byte K i, is, e.0, e.1.0, e.1.1) refl
 
   -- by a `$`
-  dollar_piece : (mode : Mode) (n p b : ℕ) → byte_at T p ≡ Some b → (b == 92) ≡ false → (b == 96) ≡ false → (b == 36) ≡ true → Inside p → piece_at U mode n (to p) ≡ dollar_by U (to (behind T p)) (byte_at U (to (behind T p)))
+  dollar_piece : (mode : Mode) (n p b : ℕ) → byte_at T p ≡ Some b → (b == 92) ≡ false → (b == 96) ≡ false → (b == 36) ≡ true → Inside p
+      → piece_in edition mode (piece_at U mode n (to p)) ≡ piece_in edition mode (dollar_by U (to (behind T p)) (byte_at U (to (behind T p))))
   unfolding piece_at dollar_at
   dollar_piece mode n p b is e f d i = rw (here_byte K i, is, e, f, d, here_behind K i) refl
 
@@ -114,7 +121,8 @@ module _ {T U : List ℕ} {a L : ℕ} {to : ℕ → ℕ} (K : Kept T U a L to) (
     limit_dollar q (Some b) e f =
         let one : (b == 36) ≡ false = grind (arith, nat_tests) in
         let two : (b == 123) ≡ false = grind (arith, nat_tests) in
-        rw (one, f, two) refl
+        let three : (b == 39) ≡ false = grind (arith, nat_tests) in
+        rw (one, f, two, three) refl
 
     -- a word ends at the limit
     limit_piece : (x : Option ℕ) (n : ℕ) → ends x ≡ true → piece_by U (to L) Plain n x ≡ pieces.Closer
@@ -146,7 +154,11 @@ module _ {T U : List ℕ} {a L : ℕ} {to : ℕ → ℕ} (K : Kept T U a L to) (
       Again x = Holds Turn (does (piece_row inner mode b c x) Whole g s)
 
       abbrev Told : Piece → Type 0
-      Told x = piece_at U mode n (to p) ≡ x
+      Told x = piece_in edition mode (piece_at U mode n (to p)) ≡ x
+
+      -- the piece that the edition has
+      abbrev Known : Piece → Type 0
+      Known x = Again (piece_in edition mode x)
 
       abbrev Found : (Step Held → Type 0) → State → Held → Read (Step Held) → Type 0
       Found P t d x = (y : Step Held) × ((x ≡ Ok (y, over t)) × P y)
@@ -155,7 +167,7 @@ module _ {T U : List ℕ} {a L : ℕ} {to : ℕ → ℕ} (K : Kept T U a L to) (
       row_there : (x : Piece) → Told x → (d : Held) → Agree c d → (P : Step Held → Type 0) (t : State) → Found P t d (does (piece_row inner mode b2 d x) Whole h (over s)) → Found P t d (does (a_piece inner mode b2 d) Whole h (over s))
       unfolding a_piece
       row_there x told d so P t found =
-          (found.0, (subst (λ (z : Piece). does (piece_row inner mode b2 d z) Whole h (over s) ≡ Ok (found.0, over t)) (sym told ∙ ap (λ m. piece_at U mode m (to p)) so.0) found.1.0, found.1.1))
+          (found.0, (subst (λ (z : Piece). does (piece_row inner mode b2 d z) Whole h (over s) ≡ Ok (found.0, over t)) (sym told ∙ ap (λ m. piece_in edition mode (piece_at U mode m (to p))) so.0) found.1.0, found.1.1))
 
       leads_byte : past_continuations T p < length T → leads_on g s (placed q s) ≡ true
       leads_byte lt = lt-ltb _ _ (omega (arith, lt, behind_is T p, place_low T p))
@@ -210,6 +222,12 @@ module _ {T U : List ℕ} {a L : ℕ} {to : ℕ → ℕ} (K : Kept T U a L to) (
 
       backquote : is_byte (byte_at T p) 92 ≡ false → (Inside p → Told pieces.Backquote) → Again pieces.Backquote
       backquote e told = text_row pieces.Backquote backquoted (backquotes_in K o o2 s from e) told (λ d. refl)
+
+      dollar_quoted : is_byte (byte_at T p) 92 ≡ false → is_byte (byte_at T q) 92 ≡ false → (Inside p → Inside q → Told pieces.DollarSingle) → Again pieces.DollarSingle
+      dollar_quoted e e2 told =
+          holds_then (Ends K o o2 dollar_single (λ r. Inside r × Inside (behind T r)) s) Turn (does dollar_single Whole g s) (λ u v. Ok (again c, v)) (dollar_single_in K o o2 s from e e2)
+          (λ u t ends goal. let w = ends goal.0 in
+          (inl w.0.0, λ d so. row_there pieces.DollarSingle (told w.0.0 w.0.1) d so (SameStep Agree (again c)) t (again d, (rw w.1.1 refl, so))))
 
       goal_high : (x : Step Held) (t : State) → Goal K o o2 Agree (a_piece inner mode b) (a_piece inner mode b2) (From mode) (Last mode) s x t → t.at ≤ L
       goal_high (again d) t goal = goal.0
@@ -296,8 +314,13 @@ module _ {T U : List ℕ} {a L : ℕ} {to : ℕ → ℕ} (K : Kept T U a L to) (
       -- ---- by the byte
 
       -- a `$` that begins nothing
-      lone_dollar : is_byte (byte_at T q) 40 ≡ false → From mode q → (Inside q → dollar_by U (to q) (byte_at U (to q)) ≡ pieces.Ordinary) → dollar_by U (to q) (byte_at U (to q)) ≡ pieces.Ordinary
-      lone_dollar none next inside = ⊎_elim inside (λ end. limit_dollar (to q) (byte_at U (to q)) (subst (λ r. ends (byte_at U (to r)) ≡ true) (sym end.1) ender) (subst (λ r. is_byte (byte_at U (to r)) 40 ≡ false) (sym end.1) (no_open (subst (λ r. is_byte (byte_at T r) 40 ≡ false) end.1 none)))) next
+      lone_dollar : is_byte (byte_at T q) 40 ≡ false → From mode q → (Inside q → piece_in edition mode (dollar_by U (to q) (byte_at U (to q))) ≡ pieces.Ordinary)
+          → piece_in edition mode (dollar_by U (to q) (byte_at U (to q))) ≡ pieces.Ordinary
+      lone_dollar none next inside =
+          ⊎_elim inside
+          (λ end. ap (piece_in edition mode)
+          (limit_dollar (to q) (byte_at U (to q)) (subst (λ r. ends (byte_at U (to r)) ≡ true) (sym end.1) ender) (subst (λ r. is_byte (byte_at U (to r)) 40 ≡ false) (sym end.1) (no_open (subst (λ r. is_byte (byte_at T r) 40 ≡ false) end.1 none)))))
+          next
 
       module _ (v : ℕ) (is : byte_at T p ≡ Some v) where
         lt : past_continuations T p < length T
@@ -307,29 +330,33 @@ module _ {T U : List ℕ} {a L : ℕ} {to : ℕ → ℕ} (K : Kept T U a L to) (
           no_backslash : is_byte (byte_at T p) 92 ≡ false
           no_backslash = rw is e
 
-          dollar_row : (v == 96) ≡ false → (v == 36) ≡ true → (y : Option ℕ) → byte_at T q ≡ y → Again (dollar_by T q y)
+          dollar_row : (v == 96) ≡ false → (v == 36) ≡ true → (y : Option ℕ) → byte_at T q ≡ y → Known (dollar_by T q y)
           dollar_row f d None is2 = ordinary no_backslash lt (λ i next. dollar_piece mode n p v is e f d i ∙ lone_dollar (rw is2 refl) next (λ j. rw (here_byte K j, is2) refl))
           dollar_row f d (Some w) is2 =
-              cond_both (w == 36) _ _ Again
+              cond_both (w == 36) _ _ Known
               (λ m. twice (rw is2 (grind (arith, nat_tests))) (λ i j. dollar_piece mode n p v is e f d i ∙ rw (here_byte K j, is2, m) refl))
-              (λ m. cond_both (w == 40) _ _ Again
-              (λ k. cond_both (stands T (behind T q) 40) _ _ Again
+              (λ m. cond_both (w == 40) _ _ Known
+              (λ k. cond_both (stands T (behind T q) 40) _ _ Known
               (λ z. arithmetic (λ i j l. dollar_piece mode n p v is e f d i ∙ rw (here_byte K j, is2, m, k, here_behind K j, here_stands K l 40, z) refl))
               (λ z. substitution (λ i j l. dollar_piece mode n p v is e f d i ∙ rw (here_byte K j, is2, m, k, here_behind K j, here_stands K l 40, z) refl)))
-              (λ k. cond_both (w == 123) _ _ Again
+              (λ k. cond_both (w == 123) _ _ Known
               (λ z. parameter (λ i j. dollar_piece mode n p v is e f d i ∙ rw (here_byte K j, is2, m, k, z) refl))
-              (λ z. ordinary no_backslash lt (λ i next. dollar_piece mode n p v is e f d i ∙ lone_dollar (rw is2 k) next (λ j. rw (here_byte K j, is2, m, k, z) refl)))))
+              (λ z. cond_both (w == 39) _ _ Known
+              (λ x. cond_both (is_later edition && quotes_singly mode) _ _ Again
+              (λ y. dollar_quoted no_backslash (rw is2 (grind (arith, nat_tests))) (λ i j. dollar_piece mode n p v is e f d i ∙ rw (here_byte K j, is2, m, k, z, x, y) refl))
+              (λ y. ordinary no_backslash lt (λ i next. dollar_piece mode n p v is e f d i ∙ lone_dollar (rw is2 k) next (λ j. rw (here_byte K j, is2, m, k, z, x, y) refl))))
+              (λ x. ordinary no_backslash lt (λ i next. dollar_piece mode n p v is e f d i ∙ lone_dollar (rw is2 k) next (λ j. rw (here_byte K j, is2, m, k, z, x) refl))))))
 
           backquote_told : (v == 96) ≡ true → Inside p → Told pieces.Backquote
           unfolding piece_at
           backquote_told f i = rw (here_byte K i, is, e, f) refl
 
-        some_row : (Other v → Again (byte_by T p mode n v)) → Again (piece_by T p mode n (Some v))
+        some_row : (Other v → Known (byte_by T p mode n v)) → Known (piece_by T p mode n (Some v))
         unfolding dollar_at
         some_row other =
-            cond_both (v == 92) _ _ Again (λ e. cond_both (at_end T q) _ _ Again (λ f. tt) (λ f. escape v is e f))
-            (λ e. cond_both (v == 96) _ _ Again (λ f. backquote (no_backslash e) (backquote_told e f))
-            (λ f. cond_both (v == 36) _ _ Again (λ d. dollar_row e f d (byte_at T q) refl) (λ d. other (e, (f, d)))))
+            cond_both (v == 92) _ _ Known (λ e. cond_both (at_end T q) _ _ Known (λ f. tt) (λ f. escape v is e f))
+            (λ e. cond_both (v == 96) _ _ Known (λ f. backquote (no_backslash e) (backquote_told e f))
+            (λ f. cond_both (v == 36) _ _ Known (λ d. dollar_row e f d (byte_at T q) refl) (λ d. other (e, (f, d)))))
 
     -- ---- by the mode
 
@@ -337,15 +364,18 @@ module _ {T U : List ℕ} {a L : ℕ} {to : ℕ → ℕ} (K : Kept T U a L to) (
       abbrev AgainIn : Mode → Piece → Type 0
       AgainIn mode x = Again inner local mode b b2 c s from x
 
+      abbrev KnownIn : Mode → Piece → Type 0
+      KnownIn mode x = AgainIn mode (piece_in edition mode x)
+
       word_end : AgainIn Plain pieces.Closer
       unfolding piece_at
       word_end goal =
           (inr (refl, goal.1 refl), λ d so. row_there inner local Plain b b2 c s from pieces.Closer (ended (goal.1 refl)) d so (SameStep Agree (done c)) (placed s.at s) (done d, (refl, so)))
         where
-          ended : s.at ≡ L → piece_at U Plain c.nested (to s.at) ≡ pieces.Closer
-          ended is = subst (λ r. piece_by U (to r) Plain c.nested (byte_at U (to r)) ≡ pieces.Closer) (sym is) (limit_piece (byte_at U (to L)) c.nested ender)
+          ended : s.at ≡ L → piece_in edition Plain (piece_at U Plain c.nested (to s.at)) ≡ pieces.Closer
+          ended is = ap (piece_in edition Plain) (subst (λ r. piece_by U (to r) Plain c.nested (byte_at U (to r)) ≡ pieces.Closer) (sym is) (limit_piece (byte_at U (to L)) c.nested ender))
 
-      none_row : (mode : Mode) → AgainIn mode (piece_by T s.at mode c.nested None)
+      none_row : (mode : Mode) → KnownIn mode (piece_by T s.at mode c.nested None)
       none_row Plain = word_end
       none_row Double = tt
       none_row Brace = tt
@@ -359,44 +389,44 @@ module _ {T U : List ℕ} {a L : ℕ} {to : ℕ → ℕ} (K : Kept T U a L to) (
         clear_here : is_byte (byte_at T s.at) 92 ≡ false
         clear_here = rw is other.0
 
-        told : (mode : Mode) → Inside s.at → piece_at U mode c.nested (to s.at) ≡ byte_by U (to s.at) mode c.nested v
+        told : (mode : Mode) → Inside s.at → piece_in edition mode (piece_at U mode c.nested (to s.at)) ≡ piece_in edition mode (byte_by U (to s.at) mode c.nested v)
         told mode i = other_piece mode c.nested s.at v is other i
 
         bracket_clear : (r : ℕ) → stands T r 41 ≡ true → is_byte (byte_at T r) 92 ≡ false
         unfolding stands
         bracket_clear r e = byte_other (byte_at T r) 41 92 refl e
 
-        bracket_row : (m : ℕ) → c.nested ≡ m → (two : Bool) → stands T (behind T s.at) 41 ≡ two → (v == 41) ≡ true → AgainIn Arith (bracket_by m two)
+        bracket_row : (m : ℕ) → c.nested ≡ m → (two : Bool) → stands T (behind T s.at) 41 ≡ two → (v == 41) ≡ true → KnownIn Arith (bracket_by m two)
         bracket_row zero none true follows e =
             closer_two inner local Arith b b2 c s from (λ V r. refl) (bracket_clear (behind T s.at) follows)
             (λ i j. told Arith i ∙ rw (e, none, here_behind K i, here_stands K j 41, follows) refl)
         bracket_row zero none false follows e = tt
         bracket_row (suc m) some_open x follows e = closing inner local Arith b b2 c s from clear_here some (λ i next. told Arith i ∙ rw (e, some_open) refl)
 
-        by_mode : (mode : Mode) → AgainIn mode (byte_by T s.at mode c.nested v)
+        by_mode : (mode : Mode) → KnownIn mode (byte_by T s.at mode c.nested v)
         by_mode Plain =
-            cond_both (ends (Some v)) _ _ (AgainIn Plain) (λ e. word_end)
-            (λ e. cond_both (v == 39) _ _ (AgainIn Plain) (λ f. quoted inner local Plain b b2 c s from clear_here (λ i. told Plain i ∙ rw (e, f) refl))
-            (λ f. cond_both (v == 34) _ _ (AgainIn Plain) (λ d. string inner local Plain b b2 c s from (λ i. told Plain i ∙ rw (e, f, d) refl))
+            cond_both (ends (Some v)) _ _ (KnownIn Plain) (λ e. word_end)
+            (λ e. cond_both (v == 39) _ _ (KnownIn Plain) (λ f. quoted inner local Plain b b2 c s from clear_here (λ i. told Plain i ∙ rw (e, f) refl))
+            (λ f. cond_both (v == 34) _ _ (KnownIn Plain) (λ d. string inner local Plain b b2 c s from (λ i. told Plain i ∙ rw (e, f, d) refl))
             (λ d. ordinary inner local Plain b b2 c s from clear_here some (λ i next. told Plain i ∙ rw (e, f, d) refl))))
         by_mode Double =
-            cond_both (v == 34) _ _ (AgainIn Double) (λ e. closer inner local Double b b2 c s from (λ V r. refl) clear_here (λ i. told Double i ∙ rw e refl))
+            cond_both (v == 34) _ _ (KnownIn Double) (λ e. closer inner local Double b b2 c s from (λ V r. refl) clear_here (λ i. told Double i ∙ rw e refl))
             (λ e. ordinary inner local Double b b2 c s from clear_here some (λ i next. told Double i ∙ rw e refl))
         by_mode Brace =
-            cond_both (v == 125) _ _ (AgainIn Brace) (λ e. closer inner local Brace b b2 c s from (λ V r. refl) clear_here (λ i. told Brace i ∙ rw e refl))
-            (λ e. cond_both (v == 39) _ _ (AgainIn Brace) (λ f. quoted inner local Brace b b2 c s from clear_here (λ i. told Brace i ∙ rw (e, f) refl))
-            (λ f. cond_both (v == 34) _ _ (AgainIn Brace) (λ d. string inner local Brace b b2 c s from (λ i. told Brace i ∙ rw (e, f, d) refl))
+            cond_both (v == 125) _ _ (KnownIn Brace) (λ e. closer inner local Brace b b2 c s from (λ V r. refl) clear_here (λ i. told Brace i ∙ rw e refl))
+            (λ e. cond_both (v == 39) _ _ (KnownIn Brace) (λ f. quoted inner local Brace b b2 c s from clear_here (λ i. told Brace i ∙ rw (e, f) refl))
+            (λ f. cond_both (v == 34) _ _ (KnownIn Brace) (λ d. string inner local Brace b b2 c s from (λ i. told Brace i ∙ rw (e, f, d) refl))
             (λ d. ordinary inner local Brace b b2 c s from clear_here some (λ i next. told Brace i ∙ rw (e, f, d) refl))))
         by_mode DoubleBrace =
-            cond_both (v == 125) _ _ (AgainIn DoubleBrace) (λ e. closer inner local DoubleBrace b b2 c s from (λ V r. refl) clear_here (λ i. told DoubleBrace i ∙ rw e refl))
-            (λ e. cond_both (v == 34) _ _ (AgainIn DoubleBrace) (λ d. string inner local DoubleBrace b b2 c s from (λ i. told DoubleBrace i ∙ rw (e, d) refl))
+            cond_both (v == 125) _ _ (KnownIn DoubleBrace) (λ e. closer inner local DoubleBrace b b2 c s from (λ V r. refl) clear_here (λ i. told DoubleBrace i ∙ rw e refl))
+            (λ e. cond_both (v == 34) _ _ (KnownIn DoubleBrace) (λ d. string inner local DoubleBrace b b2 c s from (λ i. told DoubleBrace i ∙ rw (e, d) refl))
             (λ d. ordinary inner local DoubleBrace b b2 c s from clear_here some (λ i next. told DoubleBrace i ∙ rw (e, d) refl)))
         by_mode Arith =
-            cond_both (v == 41) _ _ (AgainIn Arith) (λ e. bracket_row c.nested refl (stands T (behind T s.at) 41) refl e)
-            (λ e. cond_both (v == 40) _ _ (AgainIn Arith) (λ f. opening inner local Arith b b2 c s from clear_here some (λ i next. told Arith i ∙ rw (e, f) refl))
+            cond_both (v == 41) _ _ (KnownIn Arith) (λ e. bracket_row c.nested refl (stands T (behind T s.at) 41) refl e)
+            (λ e. cond_both (v == 40) _ _ (KnownIn Arith) (λ f. opening inner local Arith b b2 c s from clear_here some (λ i next. told Arith i ∙ rw (e, f) refl))
             (λ f. ordinary inner local Arith b b2 c s from clear_here some (λ i next. told Arith i ∙ rw (e, f) refl)))
 
-      by_byte : (mode : Mode) (x : Option ℕ) → byte_at T s.at ≡ x → AgainIn mode (piece_by T s.at mode c.nested x)
+      by_byte : (mode : Mode) (x : Option ℕ) → byte_at T s.at ≡ x → KnownIn mode (piece_by T s.at mode c.nested x)
       by_byte mode None is = none_row mode
       by_byte mode (Some v) is = some_row inner local mode b b2 c s from v is (λ other. by_mode v is other mode)
 

@@ -7,7 +7,9 @@ use Rattle.std.proofs.lemmas.Option.{slice_get_within, slice_get-get_or}
 use Rattle.shgrammar.specs.Classes.{is_blank, is_digit, is_name, is_letter, is_special}
 use Rattle.shgrammar.specs.Standing.{is_byte, is_none, raw_stands, raw_in, at_end, raw_past, next_of, passes, count_front, next_newline}
 use Rattle.shgrammar.specs.Bytes.{stands, ends_word, stands_in, past, past_below, past_blanks, count_joined, past_continuations, byte_at, behind}
-use Rattle.shgrammar.specs.Pieces.{next_in_backquotes, past_parameter}
+use Rattle.shgrammar.specs.declared.mode.Escaping.{Escaping}
+use Rattle.shgrammar.specs.declared.mode.Escaping.TheVariants as escapings
+use Rattle.shgrammar.specs.Pieces.{closes_by, next_escaped, past_parameter}
 use Rattle.shgrammar.specs.Tokens.{past_digits, past_reserved}
 use Rattle.shgrammar.proofs.Stretches.{get_drop, place_low, stands_in_low}
 
@@ -179,8 +181,8 @@ pub next_newline_high : (T : List ℕ) (p : ℕ) → p ≤ length T → next_new
 next_newline_high T p within = next_of_high 10 T p within
 
 -- the next backquote or backslash
-pub next_in_backquotes_low : (T : List ℕ) (p : ℕ) → p ≤ next_in_backquotes T p
-next_in_backquotes_low T p = raw_past_low (λ c. not (c == 96 || c == 92)) T p
+pub next_escaped_low : (how : Escaping) (T : List ℕ) (p : ℕ) → p ≤ next_escaped how T p
+next_escaped_low how T p = raw_past_low (λ c. not (c == closes_by how || c == 92)) T p
 
 -- ---- stretches of what is read
 
@@ -292,22 +294,24 @@ pub quote_clear : (T : List ℕ) (p : ℕ) → raw_stands T (next_of 39 T p) 92 
 unfolding raw_in raw_stands
 quote_clear T p = quote_other (slice_get T (next_of 39 T p)) (raw_past_stops (λ c. not (c == 39)) T p)
 
--- ---- text in backquotes
+-- ---- text in which a backslash takes one byte
 
-backslash_by : (b : Option ℕ) → is_none b ≡ false → is_byte b 96 ≡ false → passes (λ c. not (c == 96 || c == 92)) b ≡ false → is_byte b 92 ≡ true
-backslash_by None some other e = absurd cc
-backslash_by (Some b) some other e = grind (arith, nat_tests)
+backslash_by : (how : Escaping) (b : Option ℕ) → is_none b ≡ false → is_byte b (closes_by how) ≡ false → passes (λ c. not (c == closes_by how || c == 92)) b ≡ false → is_byte b 92 ≡ true
+backslash_by how None some other e = absurd cc
+backslash_by escapings.Backquotes (Some b) some other e = grind (arith, nat_tests)
+backslash_by escapings.DollarSingle (Some b) some other e = grind (arith, nat_tests)
 
--- what stops a search in backquotes and is no backquote is a backslash
-pub backslash_next : (T : List ℕ) (p : ℕ) → at_end T (next_in_backquotes T p) ≡ false → raw_stands T (next_in_backquotes T p) 96 ≡ false → raw_stands T (next_in_backquotes T p) 92 ≡ true
+-- what stops a search in it and does not close it is a backslash
+pub backslash_next : (how : Escaping) (T : List ℕ) (p : ℕ) → at_end T (next_escaped how T p) ≡ false → raw_stands T (next_escaped how T p) (closes_by how) ≡ false → raw_stands T (next_escaped how T p) 92 ≡ true
 unfolding raw_stands raw_in at_end
-backslash_next T p some other = backslash_by (slice_get T (next_in_backquotes T p)) some other (raw_past_stops (λ c. not (c == 96 || c == 92)) T p)
+backslash_next how T p some other = backslash_by how (slice_get T (next_escaped how T p)) some other (raw_past_stops (λ c. not (c == closes_by how || c == 92)) T p)
 
-quote_by : (b : Option ℕ) → is_byte b 96 ≡ true → is_byte b 92 ≡ false
-quote_by None e = absurd cc
-quote_by (Some b) e = grind (arith, nat_tests)
+closer_by : (how : Escaping) (b : Option ℕ) → is_byte b (closes_by how) ≡ true → is_byte b 92 ≡ false
+closer_by how None e = absurd cc
+closer_by escapings.Backquotes (Some b) e = grind (arith, nat_tests)
+closer_by escapings.DollarSingle (Some b) e = grind (arith, nat_tests)
 
--- a backquote is no backslash
-pub backquote_is : (T : List ℕ) (p : ℕ) → raw_stands T p 96 ≡ true → raw_stands T p 92 ≡ false
+-- what closes it is no backslash
+pub closer_is : (how : Escaping) (T : List ℕ) (p : ℕ) → raw_stands T p (closes_by how) ≡ true → raw_stands T p 92 ≡ false
 unfolding raw_stands
-backquote_is T p e = quote_by (slice_get T p) e
+closer_is how T p e = closer_by how (slice_get T p) e

@@ -5,7 +5,7 @@ use Rattle.shgrammar.specs.declared.mode.Mode.TheVariants.{Plain, Double, Brace,
 use Rattle.shgrammar.specs.declared.mode.Piece.TheVariants as pieces
 use Rattle.shgrammar.specs.Standing.{raw_in, passes}
 use Rattle.shgrammar.specs.Bytes.{ends, ends_word, byte_at, behind, past_continuations}
-use Rattle.shgrammar.specs.Pieces.{piece_by, piece_at, past_closer}
+use Rattle.shgrammar.specs.Pieces.{piece_by, piece_at, piece_in, past_closer}
 use Rattle.shgrammar.specs.Comments.{span}
 use Rattle.shgrammar.specs.Sights.{Given, State, Waiting, given}
 use Rattle.shast.specs.declared.tree.Span.{Span}
@@ -21,6 +21,7 @@ use Rattle.shgrammar.proofs.Places.{word_longer}
 use Rattle.shgrammar.proofs.Stretches.{place_low}
 use Rattle.shgrammar.proofs.Unbroken.{stays}
 use Rattle.shgrammar.proofs.Levels.{level_below}
+use Rattle.shgrammar.specs.declared.edition.Edition.{Edition}
 
 -- ---- a plain byte
 
@@ -159,18 +160,18 @@ module _ (inner : Inner) (keep : Keep) (g : Given) (mode : Mode) (b : ℕ) (ws :
   contents_done h ss vs es p s q so last = ap given_by (sym so ∙ many_done (a_piece inner mode b) keep g h h (placed ws ds p) (placed ws ds q) last)
 
   -- plain bytes, and what closes behind them
-  pub plain_closed : (ss : Row ASubst) (p q : ℕ) → ArePlain mode g.text p q → p ≤ q → q ≤ length g.text → piece_at g.text mode 0 q ≡ pieces.Closer
+  pub plain_closed : (ss : Row ASubst) (p q : ℕ) → ArePlain mode g.text p q → p ≤ q → q ≤ length g.text → piece_in g.edition mode (piece_at g.text mode 0 q) ≡ pieces.Closer
       → does (contents inner mode b ss) keep g (placed ws ds p) ≡ Ok (ss, placed ws ds (past_closer g.text mode q))
   unfolding contents a_piece
   plain_closed ss p q plain low high end =
       ap given_by (plain_turns (having 0 ss) p q plain low high ∙ many_done (a_piece inner mode b) keep g (having 0 ss) (having 0 ss) (placed ws ds q) (placed ws ds (past_closer g.text mode q)) (rw end refl))
 
-  ordinary_piece : (h : Held) (p : ℕ) → piece_at g.text mode h.nested p ≡ pieces.Ordinary → turn h (placed ws ds p) ≡ Ok (again h, placed ws ds (past_continuations g.text p + 1))
+  ordinary_piece : (h : Held) (p : ℕ) → piece_in g.edition mode (piece_at g.text mode h.nested p) ≡ pieces.Ordinary → turn h (placed ws ds p) ≡ Ok (again h, placed ws ds (past_continuations g.text p + 1))
   unfolding a_piece behind
   ordinary_piece h p ordinary = rw ordinary refl
 
   -- an ordinary byte, and the plain ones behind it
-  pub ordinary_contents : (ss : Row ASubst) (p q : ℕ) → piece_at g.text mode 0 p ≡ pieces.Ordinary → ArePlain mode g.text (past_continuations g.text p + 1) q
+  pub ordinary_contents : (ss : Row ASubst) (p q : ℕ) → piece_in g.edition mode (piece_at g.text mode 0 p) ≡ pieces.Ordinary → ArePlain mode g.text (past_continuations g.text p + 1) q
       → past_continuations g.text p + 1 ≤ q → q ≤ length g.text → does (contents inner mode b ss) keep g (placed ws ds p) ≡ does (contents inner mode b ss) keep g (placed ws ds q)
   unfolding contents
   ordinary_contents ss p q ordinary plain low high =
@@ -186,32 +187,32 @@ module _ (inner : Inner) (keep : Keep) (g : Given) (mode : Mode) (b : ℕ) (ws :
   plain_contents ss p q plain low high = ap given_by (plain_turns (having 0 ss) p q plain low high)
 
 -- what closes a construct
-pub closed_here : (inner : Inner) (keep : Keep) (ws : Row Waiting) (ds : Row Span) (T : List ℕ) (o : ℕ) (mode : Mode) (b : ℕ) (ss : Row ASubst) (q : ℕ) → q ≤ length T → piece_at T mode 0 q ≡ pieces.Closer
-    → does (contents inner mode b ss) keep (given T o) (placed ws ds q) ≡ Ok (ss, placed ws ds (past_closer T mode q))
-closed_here inner keep ws ds T o mode b ss q high end =
-    plain_closed inner keep (given T o) mode b ws ds ss q q (λ k low below. absurd (omega (arith, low, below))) (omega arith) high end
+pub closed_here : (edition : Edition) → (inner : Inner) (keep : Keep) (ws : Row Waiting) (ds : Row Span) (T : List ℕ) (o : ℕ) (mode : Mode) (b : ℕ) (ss : Row ASubst) (q : ℕ) → q ≤ length T → piece_in edition mode (piece_at T mode 0 q) ≡ pieces.Closer
+    → does (contents inner mode b ss) keep (given edition T o) (placed ws ds q) ≡ Ok (ss, placed ws ds (past_closer T mode q))
+closed_here edition inner keep ws ds T o mode b ss q high end =
+    plain_closed inner keep (given edition T o) mode b ws ds ss q q (λ k low below. absurd (omega (arith, low, below))) (omega arith) high end
 
 -- an ordinary byte, and the plain ones behind it
-pub ordinary_here : (inner : Inner) (keep : Keep) (ws : Row Waiting) (ds : Row Span) (T : List ℕ) (o : ℕ) (mode : Mode) (b : ℕ) (ss : Row ASubst) (p q : ℕ) → piece_at T mode 0 p ≡ pieces.Ordinary
+pub ordinary_here : (edition : Edition) → (inner : Inner) (keep : Keep) (ws : Row Waiting) (ds : Row Span) (T : List ℕ) (o : ℕ) (mode : Mode) (b : ℕ) (ss : Row ASubst) (p q : ℕ) → piece_in edition mode (piece_at T mode 0 p) ≡ pieces.Ordinary
     → ArePlain mode T (past_continuations T p + 1) q → past_continuations T p + 1 ≤ q → q ≤ length T
-    → does (contents inner mode b ss) keep (given T o) (placed ws ds p) ≡ does (contents inner mode b ss) keep (given T o) (placed ws ds q)
-ordinary_here inner keep ws ds T o mode b ss p q piece plain low high =
-    ordinary_contents inner keep (given T o) mode b ws ds ss p q piece plain low high
+    → does (contents inner mode b ss) keep (given edition T o) (placed ws ds p) ≡ does (contents inner mode b ss) keep (given edition T o) (placed ws ds q)
+ordinary_here edition inner keep ws ds T o mode b ss p q piece plain low high =
+    ordinary_contents inner keep (given edition T o) mode b ws ds ss p q piece plain low high
 
 -- plain bytes at the begin of a construct, by how many more may be opened
-pub plain_begin : (room : ℕ) (keep : Keep) (ws : Row Waiting) (ds : Row Span) (T : List ℕ) (o : ℕ) (mode : Mode) (b : ℕ) (ss : Row ASubst) (p q : ℕ) → 0 < room → ArePlain mode T p q → p ≤ q → q ≤ length T
-    → does ((level room).construct mode b ss) keep (given T o) (placed ws ds p) ≡ does (contents (level (room - 1)) mode b ss) keep (given T o) (placed ws ds q)
-plain_begin room keep ws ds T o mode b ss p q some plain low high =
-    level_below keep (given T o) (placed ws ds p) room mode b ss some ∙ plain_contents (level (room - 1)) keep (given T o) mode b ws ds ss p q plain low high
+pub plain_begin : (edition : Edition) → (room : ℕ) (keep : Keep) (ws : Row Waiting) (ds : Row Span) (T : List ℕ) (o : ℕ) (mode : Mode) (b : ℕ) (ss : Row ASubst) (p q : ℕ) → 0 < room → ArePlain mode T p q → p ≤ q → q ≤ length T
+    → does ((level room).construct mode b ss) keep (given edition T o) (placed ws ds p) ≡ does (contents (level (room - 1)) mode b ss) keep (given edition T o) (placed ws ds q)
+plain_begin edition room keep ws ds T o mode b ss p q some plain low high =
+    level_below keep (given edition T o) (placed ws ds p) room mode b ss some ∙ plain_contents (level (room - 1)) keep (given edition T o) mode b ws ds ss p q plain low high
 
 -- a word of plain bytes
-pub plain_word : (inner : Inner) (keep : Keep) (ws : Row Waiting) (ds : Row Span) (T : List ℕ) (o p q : ℕ) → ArePlain Plain T p q → p ≤ q → q ≤ length T → ends_word T q ≡ true
-    → does (a_word inner) keep (given T o) (placed ws ds p) ≡ Ok (word (span o p q) no_subst, placed ws ds q)
+pub plain_word : (edition : Edition) → (inner : Inner) (keep : Keep) (ws : Row Waiting) (ds : Row Span) (T : List ℕ) (o p q : ℕ) → ArePlain Plain T p q → p ≤ q → q ≤ length T → ends_word T q ≡ true
+    → does (a_word inner) keep (given edition T o) (placed ws ds p) ≡ Ok (word (span o p q) no_subst, placed ws ds q)
 unfolding a_word
-plain_word inner keep ws ds T o p q plain low high end = rw (plain_closed inner keep (given T o) Plain (o + p) ws ds [] p q plain low high (word_closes T q end)) refl
+plain_word edition inner keep ws ds T o p q plain low high end = rw (plain_closed inner keep (given edition T o) Plain (o + p) ws ds [] p q plain low high (ap (piece_in edition Plain) (word_closes T q end))) refl
 
 -- plain bytes at the begin of a word, and what follows them
-pub word_rest : (inner : Inner) (keep : Keep) (ws : Row Waiting) (ds : Row Span) (T : List ℕ) (o p q : ℕ) (ss : Row ASubst) (t : State) → ArePlain Plain T p q → p ≤ q → q ≤ length T
-    → does (contents inner Plain (o + p) []) keep (given T o) (placed ws ds q) ≡ Ok (ss, t) → does (a_word inner) keep (given T o) (placed ws ds p) ≡ Ok (word (span o p t.at) (substs_of ss), t)
+pub word_rest : (edition : Edition) → (inner : Inner) (keep : Keep) (ws : Row Waiting) (ds : Row Span) (T : List ℕ) (o p q : ℕ) (ss : Row ASubst) (t : State) → ArePlain Plain T p q → p ≤ q → q ≤ length T
+    → does (contents inner Plain (o + p) []) keep (given edition T o) (placed ws ds q) ≡ Ok (ss, t) → does (a_word inner) keep (given edition T o) (placed ws ds p) ≡ Ok (word (span o p t.at) (substs_of ss), t)
 unfolding a_word
-word_rest inner keep ws ds T o p q ss t plain low high rest = rw (plain_contents inner keep (given T o) Plain (o + p) ws ds [] p q plain low high ∙ rest) refl
+word_rest edition inner keep ws ds T o p q ss t plain low high rest = rw (plain_contents inner keep (given edition T o) Plain (o + p) ws ds [] p q plain low high ∙ rest) refl

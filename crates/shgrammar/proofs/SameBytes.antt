@@ -6,9 +6,10 @@ use Rattle.shgrammar.specs.Standing.{is_byte, passes, raw_stands, raw_in, raw_pa
 use Rattle.shgrammar.specs.Bytes.{ends, past_continuations, byte_at, behind, stands, stands_in}
 use Rattle.shgrammar.proofs.Stretches.{joined_more, joined_none, place_low, raw_is}
 use Rattle.shgrammar.proofs.Places.{must_fail, behind_low, raw_past_low, raw_past_all, raw_past_stops}
+use Rattle.shgrammar.specs.declared.edition.Edition.{Edition}
 
 -- `to` says where the places of the first text from `a` on are in the second; the bytes are the same below L
-pub record Kept (T T2 : List ℕ) (a L : ℕ) (to : ℕ → ℕ) : Type 0 where
+pub record Kept (edition : Edition) (T T2 : List ℕ) (a L : ℕ) (to : ℕ → ℕ) : Type 0 where
   pub under : a ≤ L
   pub on : (p k : ℕ) → a ≤ p → to (p + k) ≡ to p + k
   pub same : (r : ℕ) → a ≤ r → r < L → slice_get T2 (to r) ≡ slice_get T r
@@ -73,7 +74,7 @@ pub continued : (T : List ℕ) (p : ℕ) → continues T p ≡ true → (raw_sta
 unfolding continues
 continued T p e = and_parts _ _ e
 
-module _ {T T2 : List ℕ} {a L : ℕ} {to : ℕ → ℕ} (K : Kept T T2 a L to) where
+module _ {edition : Edition} {T T2 : List ℕ} {a L : ℕ} {to : ℕ → ℕ} (K : Kept edition T T2 a L to) where
   -- ---- where it is safe
 
   pub safe_high : {p : ℕ} → Safe T a L p → p ≤ L

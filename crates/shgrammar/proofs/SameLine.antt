@@ -31,13 +31,14 @@ use Rattle.shgrammar.proofs.BodiesThere.{read_to_limit}
 use Rattle.shgrammar.proofs.TokensShown.{Begins, Fine, newline_here, shown_level, shown_next, shown_on_line}
 use Rattle.shgrammar.proofs.Asked.{Good}
 use Rattle.shgrammar.proofs.NoFurther.{back, behind as onward, there, elsewhere}
+use Rattle.shgrammar.specs.declared.edition.Edition.{Edition}
 
-module _ {T U : List ℕ} {a M : ℕ} {to : ℕ → ℕ} (E : ListEnds T U a M to 10) (o o2 : ℕ) (off : (p : ℕ) → a ≤ p → o2 + to p ≡ o + p) where
+module _ {edition : Edition} {T U : List ℕ} {a M : ℕ} {to : ℕ → ℕ} (E : ListEnds edition T U a M to 10) (o o2 : ℕ) (off : (p : ℕ) → a ≤ p → o2 + to p ≡ o + p) where
   abbrev g : Given
-  g = given T o
+  g = given edition T o
 
   abbrev h : Given
-  h = given U o2
+  h = given edition U o2
 
   -- a line that ends behind the newline
   abbrev Closed : Read (Row AnEntry × Bool) → Type 0
@@ -172,8 +173,8 @@ pub newline_at : (T : List ℕ) (p : ℕ) → raw_stands T p 10 ≡ true → sli
 unfolding raw_stands
 newline_at T p e = byte_is (slice_get T p) e
 
-pub same_texts : (T U : List ℕ) (M : ℕ) → ((r : ℕ) → r < M + 1 → slice_get U r ≡ slice_get T r) → slice_get T M ≡ Some 10 → ListEnds T U 0 M (λ p. p) 10
-same_texts T U M same byte = record {
+pub same_texts : (edition : Edition) (T U : List ℕ) (M : ℕ) → ((r : ℕ) → r < M + 1 → slice_get U r ≡ slice_get T r) → slice_get T M ≡ Some 10 → ListEnds edition T U 0 M (λ p. p) 10
+same_texts edition T U M same byte = record {
   kept = record { under = omega arith; on = λ p k from. refl; same = λ r from lt. same r lt };
   under = omega arith;
   byte = byte;
@@ -185,17 +186,17 @@ unfolding raw_stands
 same_raw T U p is e = ap (λ b. is_byte b 10) is ∙ e
 
 -- U has the bytes of T up to where its line ends
-ended_alone : (T U : List ℕ) (l : ALine) → IsLine T l → l.ended ≡ true → ((r : ℕ) → r < l.next → slice_get U r ≡ slice_get T r) → IsLine U l
-ended_alone T U l (line_read es newline t k part) ended same =
+ended_alone : (edition : Edition) → (T U : List ℕ) (l : ALine) → IsLine edition T l → l.ended ≡ true → ((r : ℕ) → r < l.next → slice_get U r ≡ slice_get T r) → IsLine edition U l
+ended_alone edition T U l (line_read es newline t k part) ended same =
     let both = and_parts _ _ ended in
     let M = t.at - 1 in
     let inner = level most_open in
-    let some : 0 < t.at = subst (Holds (λ (x : Row AnEntry × Bool) (u : State). x.1 ≡ true → 0 < u.at)) (sym ((is_form (a_line inner false) (given T 0) (standing 0)).only _ _ part)) (line_ended_low inner false Whole (given T 0) (standing 0)).told both.0 in
-    let E = same_texts T U M (λ r lt. same r (omega (arith, lt, some))) (newline_at T M both.1) in
-    let again = line_again E 0 0 (λ p from. refl) inner (shown_level (given T 0) most_open) false (standing 0) (omega arith) (Ok ((es, newline), t)) k part (both.0, omega (arith, some)) in
+    let some : 0 < t.at = subst (Holds (λ (x : Row AnEntry × Bool) (u : State). x.1 ≡ true → 0 < u.at)) (sym ((is_form (a_line inner false) (given edition T 0) (standing 0)).only _ _ part)) (line_ended_low inner false Whole (given edition T 0) (standing 0)).told both.0 in
+    let E = same_texts edition T U M (λ r lt. same r (omega (arith, lt, some))) (newline_at T M both.1) in
+    let again = line_again E 0 0 (λ p from. refl) inner (shown_level (given edition T 0) most_open) false (standing 0) (omega arith) (Ok ((es, newline), t)) k part (both.0, omega (arith, some)) in
     let there_too : raw_stands U M 10 ≡ true = same_raw T U M (same M (omega (arith, some))) both.1 in
-    subst (λ (c : Bool). IsLine U (record { kind = kind_of es newline; next = t.at; ended = newline && c })) (there_too ∙ sym both.1) (line_read es newline t again.1.0 again.1.1)
-ended_alone T U l (line_stops f k part) ended same = absurd cc
+    subst (λ (c : Bool). IsLine edition U (record { kind = kind_of es newline; next = t.at; ended = newline && c })) (there_too ∙ sym both.1) (line_read es newline t again.1.0 again.1.1)
+ended_alone edition T U l (line_stops f k part) ended same = absurd cc
 
 pub get_take : (n : ℕ) (B : List ℕ) (r : ℕ) → r < n → slice_get (take n B) r ≡ slice_get B r
 get_take zero B r lt = absurd (omega arith)
@@ -206,8 +207,8 @@ get_take (suc n) (b ∷ B) (suc r) lt = get_take n B r (omega arith)
 pub same_front : (n : ℕ) (T U : List ℕ) → take n U ≡ take n T → (r : ℕ) → r < n → slice_get U r ≡ slice_get T r
 same_front n T U is r lt = sym (get_take n U r lt) ∙ ap (λ B. slice_get B r) is ∙ get_take n T r lt
 
-pub no_further : (T : List ℕ) (l : ALine) → IsLine T l → l.ended ≡ true → NoFurther T l
-no_further T l is ended other q same = ended_alone T (drop q other) l is ended (same_front l.next T (drop q other) same)
+pub no_further : (edition : Edition) → (T : List ℕ) (l : ALine) → IsLine edition T l → l.ended ≡ true → NoFurther edition T l
+no_further edition T l is ended other q same = ended_alone edition T (drop q other) l is ended (same_front l.next T (drop q other) same)
 
-pub same_bytes : (T : List ℕ) (l : ALine) → IsLine T l → SameBytes T l
-same_bytes T l is other q same = subst (λ U. IsLine U l) (sym same) is
+pub same_bytes : (edition : Edition) → (T : List ℕ) (l : ALine) → IsLine edition T l → SameBytes edition T l
+same_bytes edition T l is other q same = subst (λ U. IsLine edition U l) (sym same) is

@@ -7,6 +7,7 @@ use Rattle.shgrammar.specs.Sights.{given, State, Waiting}
 use Rattle.shgrammar.specs.HereDocuments.{rest_of_line, past_line, takes_newline, delimiter_below, delimiter_on, delimiter_from, body_by, bodies_from}
 use Rattle.shgrammar.proofs.Places.{next_newline_low}
 use Rattle.shgrammar.proofs.Delimiters.{between}
+use Rattle.shgrammar.specs.declared.edition.Edition.{Edition}
 
 -- the offset x, where the offset k goes to l
 abbrev pub shifted : ℕ → ℕ → ℕ → ℕ
@@ -40,13 +41,13 @@ pub same_from : (k l : ℕ) (T : List ℕ) (w : Waiting) (p : ℕ) → delimiter
 unfolding delimiter_on
 same_from k l T w p = same_below k l _ T w _ p
 
-module _ (T : List ℕ) (o u k l low : ℕ) (begins : k ≤ o + low) (off : (p : ℕ) → low ≤ p → l + (o + p - k) ≡ u + p) where
+module _ (edition : Edition) (T : List ℕ) (o u k l low : ℕ) (begins : k ≤ o + low) (off : (p : ℕ) → low ≤ p → l + (o + p - k) ≡ u + p) where
   abbrev Moved : Row Waiting → Row Span → ℕ → Row Span × ℕ → Type 0
-  Moved ws bodies p x = bodies_from (given T u) (map (waiting_from k l) ws) (map (span_from k l) bodies) p ≡ Ok (map (span_from k l) x.0, x.1)
+  Moved ws bodies p x = bodies_from (given edition T u) (map (waiting_from k l) ws) (map (span_from k l) bodies) p ≡ Ok (map (span_from k l) x.0, x.1)
 
   one_moved : (w : Waiting) (ws : Row Waiting) (bodies : Row Span) (p : ℕ) (x : Row Span × ℕ) → low ≤ p
-      → ((bs : Row Span) (q : ℕ) → low ≤ q → bodies_from (given T o) ws bs q ≡ Ok x → Moved ws bs q x)
-      → (d : Option ℕ) → delimiter_from T w p ≡ d → body_by (bodies_from (given T o) ws) (given T o) w bodies p d ≡ Ok x → Moved (w ∷ ws) bodies p x
+      → ((bs : Row Span) (q : ℕ) → low ≤ q → bodies_from (given edition T o) ws bs q ≡ Ok x → Moved ws bs q x)
+      → (d : Option ℕ) → delimiter_from T w p ≡ d → body_by (bodies_from (given edition T o) ws) (given edition T o) w bodies p d ≡ Ok x → Moved (w ∷ ws) bodies p x
   unfolding bodies_from
   one_moved w ws bodies p x from more None found read = absurd cc
   one_moved w ws bodies p x from more (Some q) found read =
@@ -56,7 +57,7 @@ module _ (T : List ℕ) (o u k l low : ℕ) (begins : k ≤ o + low) (off : (p :
       map-append (span_from k l) bodies (span o p q ∷ []) ∙ ap (λ (s : Span). map (span_from k l) bodies ++ s ∷ []) (span_is k l u o p q (off p from) (omega (arith, begins, from)) one.0) in
       rw (same_from k l T w p, found, ← here) next
 
-  pub moved : (ws : Row Waiting) (bodies : Row Span) (p : ℕ) (x : Row Span × ℕ) → low ≤ p → bodies_from (given T o) ws bodies p ≡ Ok x → Moved ws bodies p x
+  pub moved : (ws : Row Waiting) (bodies : Row Span) (p : ℕ) (x : Row Span × ℕ) → low ≤ p → bodies_from (given edition T o) ws bodies p ≡ Ok x → Moved ws bodies p x
   unfolding bodies_from
   moved [] bodies p x from read = let is : (bodies, p) ≡ x = cc in ap (λ (y : Row Span × ℕ). Ok (map (span_from k l) y.0, y.1)) is
   moved (w ∷ ws) bodies p x from read = one_moved w ws bodies p x from (λ bs q. moved ws bs q x) (delimiter_from T w p) refl read

@@ -13,7 +13,10 @@ use Rattle.shgrammar.specs.Standing.{is_byte, is_none, passes, raw_stands, at_en
 use Rattle.shgrammar.specs.Bytes.{byte_at, behind, ends, ends_word, past_blanks, past_continuations, stands, stands_in}
 use Rattle.shast.specs.declared.tree.RedirectOperator.{RedirectOperator}
 use Rattle.shgrammar.specs.Commands.{is_long, is_strip, redirect_operator_of}
-use Rattle.shgrammar.specs.Tokens.{first_word, greater_at, is_comment, is_end, is_number, less_at, token_at, token_of, word_by, word_of}
+use Rattle.shgrammar.specs.declared.edition.Edition.{Edition}
+use Rattle.shgrammar.specs.Commands.{falls_through}
+use Rattle.std.proofs.Common.{cond}
+use Rattle.shgrammar.specs.Tokens.{first_word, greater_at, is_comment, is_end, is_later, is_number, less_at, token_in, token_at, token_of, word_by, word_of}
 use Rattle.shgrammar.specs.Shows.{IsRead, Shows}
 use Rattle.shgrammar.proofs.Places.{blanks_stop, place_same}
 
@@ -40,6 +43,7 @@ Byte T p b tokens.Newline = is_byte b 10 ≡ true
 Byte T p b tokens.AndIf = IsRead T (behind T p)
 Byte T p b tokens.OrIf = IsRead T (behind T p)
 Byte T p b tokens.DoubleSemicolon = IsRead T (behind T p)
+Byte T p b tokens.SemicolonAmpersand = IsRead T (behind T p)
 Byte T p b (tokens.Redirect o) = (is_long o ≡ true → IsRead T (behind T p)) × (is_strip o ≡ true → IsRead T (behind T (behind T p)))
 Byte T p b (tokens.Reserved r) = ends b ≡ false
 Byte T p b tokens.Assignment = ends b ≡ false
@@ -100,7 +104,7 @@ module _ (T : List ℕ) (p : ℕ) where
   token_byte position (Some b) blank =
       let P = Byte T p (Some b) in
       cond_both (is_newline b) _ _ P (λ e. e)
-      (λ n. cond_both (b == 59) _ _ P (λ e. cond_both (stands T (behind T p) 59) _ _ P (λ f. stands_read T (behind T p) 59 f) (λ f. tt))
+      (λ n. cond_both (b == 59) _ _ P (λ e. cond_both (stands T (behind T p) 59) _ _ P (λ f. stands_read T (behind T p) 59 f) (λ f. cond_both (stands T (behind T p) 38) _ _ P (λ g. stands_read T (behind T p) 38 g) (λ g. tt)))
       (λ e. cond_both (b == 38) _ _ P (λ f. cond_both (stands T (behind T p) 38) _ _ P (λ g. stands_read T (behind T p) 38 g) (λ g. tt))
       (λ f. cond_both (b == 124) _ _ P (λ g. cond_both (stands T (behind T p) 124) _ _ P (λ h. stands_read T (behind T p) 124 h) (λ h. tt))
       (λ i. cond_both (b == 40) _ _ P (λ g. tt)
@@ -138,6 +142,7 @@ shows_by T p tokens.End still some e none = (λ f. absurd cc, some, λ f. absurd
 shows_by T p tokens.Newline still some e none = (λ f. absurd cc, some, λ f. ap (λ q. is_byte (slice_get T q) 10) (sym still) ∙ e, λ f. absurd cc, λ o f. absurd cc, none, still, λ f. absurd cc, λ f. absurd cc, λ o f. absurd cc, λ o f. absurd cc)
 shows_by T p tokens.Semicolon still some e none = (λ f. absurd cc, some, λ f. absurd cc, λ f. absurd cc, λ o f. absurd cc, none, still, λ f. absurd cc, λ f. absurd cc, λ o f. absurd cc, λ o f. absurd cc)
 shows_by T p tokens.DoubleSemicolon still some e none = (λ f. absurd cc, some, λ f. absurd cc, λ f. absurd cc, λ o f. absurd cc, none, still, λ f. absurd cc, λ f. e, λ o f. absurd cc, λ o f. absurd cc)
+shows_by T p tokens.SemicolonAmpersand still some e none = (λ f. absurd cc, some, λ f. absurd cc, λ f. absurd cc, λ o f. absurd cc, none, still, λ f. absurd cc, λ f. e, λ o f. absurd cc, λ o f. absurd cc)
 shows_by T p tokens.Ampersand still some e none = (λ f. absurd cc, some, λ f. absurd cc, λ f. absurd cc, λ o f. absurd cc, none, still, λ f. absurd cc, λ f. absurd cc, λ o f. absurd cc, λ o f. absurd cc)
 shows_by T p tokens.AndIf still some e none = (λ f. absurd cc, some, λ f. absurd cc, λ f. absurd cc, λ o f. e, none, still, λ f. absurd cc, λ f. absurd cc, λ o f. absurd cc, λ o f. absurd cc)
 shows_by T p tokens.OrIf still some e none = (λ f. absurd cc, some, λ f. absurd cc, λ f. absurd cc, λ o f. e, none, still, λ f. absurd cc, λ f. absurd cc, λ o f. absurd cc, λ o f. absurd cc)
@@ -162,3 +167,39 @@ shown position T p =
     let q = past_blanks T p in
     shows_by T q _ (blanks_still T p) (λ e. some_read T _ _ refl (some_byte T q position (byte_at T q) e)) (token_byte T q position (byte_at T q) (blanks_stop T p))
     (λ e. ap (λ r. is_byte (slice_get T r) 35) (sym (blanks_still T p)) ∙ no_hash T q position (byte_at T q) _ refl e)
+
+-- the token that an edition has in its place says no more of them
+shows_later : (T : List ℕ) (p : ℕ) (later : Bool) → Shows tokens.SemicolonAmpersand T p → Shows (cond later tokens.SemicolonAmpersand tokens.Semicolon) T p
+shows_later T p true so = so
+shows_later T p false so = (λ f. absurd cc, so.1, λ f. absurd cc, λ f. absurd cc, λ o f. absurd cc, so.5, so.6, λ f. absurd cc, λ f. absurd cc, λ o f. absurd cc, λ o f. absurd cc)
+
+pub shows_in : (edition : Edition) (t : Token) (T : List ℕ) (p : ℕ) → Shows t T p → Shows (token_in edition t) T p
+shows_in edition tokens.SemicolonAmpersand T p so = shows_later T p (is_later edition) so
+shows_in edition tokens.End T p so = so
+shows_in edition tokens.Newline T p so = so
+shows_in edition tokens.Semicolon T p so = so
+shows_in edition tokens.DoubleSemicolon T p so = so
+shows_in edition tokens.Ampersand T p so = so
+shows_in edition tokens.AndIf T p so = so
+shows_in edition tokens.OrIf T p so = so
+shows_in edition tokens.Pipe T p so = so
+shows_in edition tokens.OpenParen T p so = so
+shows_in edition tokens.CloseParen T p so = so
+shows_in edition (tokens.Redirect o) T p so = so
+shows_in edition tokens.Comment T p so = so
+shows_in edition tokens.Number T p so = so
+shows_in edition (tokens.Reserved r) T p so = so
+shows_in edition tokens.Assignment T p so = so
+shows_in edition tokens.Word T p so = so
+
+pub shown_in : (edition : Edition) (position : Position) (T : List ℕ) (p : ℕ) → Shows (token_in edition (token_at position T (past_blanks T p))) T (past_blanks T p)
+shown_in edition position T p = shows_in edition (token_at position T (past_blanks T p)) T (past_blanks T p) (shown position T p)
+
+-- a token falls through in a later edition alone
+falls_by : (later : Bool) → falls_through (cond later tokens.SemicolonAmpersand tokens.Semicolon) ≡ true → later ≡ true
+falls_by true e = refl
+falls_by false e = absurd cc
+
+pub falls_later : (edition : Edition) (t : Token) → falls_through (token_in edition t) ≡ true → is_later edition ≡ true
+falls_later edition tokens.SemicolonAmpersand e = falls_by (is_later edition) e
+falls_later edition _ e = absurd cc

@@ -20,20 +20,26 @@ use Rattle.shgrammar.specs.Comments.{span}
 use Rattle.shgrammar.specs.Sights.{Given, given, State, standing, Sight, Move}
 use Rattle.shgrammar.specs.Form.{change, with_bytes, a_level, Changed, changes, cannot, WithBytes, with_its_bytes, without_bytes, OwnLevel, level_read, level_stops, Spelled, Read, Step, again, done, step_if, Form, give, see, move, push, stop, both, Told, by, tell, token, many, Just, just, Halts, halted, Then, and_then, or_stops, OneToken, whole, broken_off, Turns, last, rests, more, halts, raw, may}
 use Rattle.shgrammar.specs.Words.{Inner, a_word}
-use Rattle.shgrammar.specs.Commands.{pick, next_token, is_newline, is_semicolon, a_semicolon, is_pipe, is_bang, begins_simple, begins_word, begins_redirect, begins_pipeline, opener_of, compound_by, and_or_operator_of, Items, so_many, behind_word, is_number, redirect_operator_of, takes_here, is_strip, document_by, a_document, none_waits, nothing_waits, a_number, an_operator, operator_by, a_target, one_redirect, behind_redirect, redirect_turn, redirected, as_item, breaks, an_item, item_by, item_turn, a_simple, unexpected, comment_by, a_comment, a_newline, with_comment, JoinSo, join_turn, a_join, a_command, a_bang, Piped, piped, one_command, pipe_turn, a_pipeline, Joined, joined_so, one_pipeline, joined_by, join_pipeline, an_and_or, separator_of, told_separator, separator_by, a_separator, is_background, an_entry, a_worded, is_word, is_paren, is_double_semicolon}
+use Rattle.shgrammar.specs.Commands.{pick, next_token, is_newline, is_semicolon, a_semicolon, is_pipe, is_bang, begins_simple, begins_word, begins_redirect, begins_pipeline, opener_of, compound_by, and_or_operator_of, Items, so_many, behind_word, is_number, redirect_operator_of, takes_here, is_strip, document_by, a_document, none_waits, nothing_waits, a_number, an_operator, operator_by, a_target, one_redirect, behind_redirect, redirect_turn, redirected, as_item, breaks, an_item, item_by, item_turn, a_simple, unexpected, comment_by, a_comment, a_newline, with_comment, JoinSo, join_turn, a_join, a_command, a_bang, Piped, piped, one_command, pipe_turn, a_pipeline, Joined, joined_so, one_pipeline, joined_by, join_pipeline, an_and_or, separator_of, told_separator, separator_by, a_separator, is_background, an_entry, a_worded, is_word, is_paren, ends_item, falls_through}
 use Rattle.shgrammar.specs.Lists.{ListSo, list_so, none_listed, is_blank_next, one_entry, entry_turn, remark_by, a_remark, on_line, list_turn, a_list}
-use Rattle.shgrammar.specs.Compounds.{Branched, branched, is_closing, opener_text, closing_text, passed, closing, a_group, a_branch, elif_turn, an_else, an_if, a_loop, a_for_name, a_linebreak, a_sequential_sep, Headed, word_turn, for_words, a_for_head, behind_remarks, a_for, a_form, a_compound, a_function, under_name, a_case_word, begins_pattern, Patterned, a_pattern, one_pattern, pattern_turn, a_pattern_list, an_open_bracket, a_body, a_double_semicolon, an_item_end, CasesSo, cases_so, one_case, case_turn, a_case_head, a_case}
+use Rattle.shgrammar.specs.Compounds.{Branched, branched, is_closing, opener_text, closing_text, passed, closing, a_group, a_branch, elif_turn, an_else, an_if, a_loop, a_for_name, a_linebreak, a_sequential_sep, Headed, word_turn, for_words, a_for_head, behind_remarks, a_for, a_form, a_compound, a_function, under_name, a_case_word, begins_pattern, Patterned, a_pattern, one_pattern, pattern_turn, a_pattern_list, an_open_bracket, a_body, an_ender, an_item_end, CasesSo, cases_so, one_case, case_turn, a_case_head, a_case}
 use Rattle.shgrammar.specs.Levels.{most_open, level}
 use Rattle.shgrammar.specs.Tokens.{is_end}
 use Rattle.shgrammar.specs.Lines.{an_open_line, a_line, end_of_line}
 use Rattle.shgrammar.specs.declared.fault.Fault.{Fault}
-use Rattle.shgrammar.specs.HereDocuments.{ADelimiter, delimiter_of, Change, changed, own_level}
+use Rattle.shgrammar.specs.HereDocuments.{ADelimiter, Change, changed, own_level}
 use Rattle.shast.specs.Bodies.{filled_row}
 use Rattle.shast.proofs.Going.{row_filled}
 use Rattle.shast.proofs.FilledShape.{shape_filled}
 use Rattle.shast.proofs.OpenSame.{filled_spelling}
 use Rattle.shgrammar.specs.Scripts.{AScript, SoFar, Lines, line_ended, last_line, faulty, Passes, nothing_yet}
 use Rattle.shast.specs.Nodes.{word_span}
+use Rattle.shgrammar.specs.declared.edition.Edition.{Edition}
+use Rattle.shast.specs.Spelling.{spell_falls}
+use Rattle.shgrammar.specs.declared.token.Token.{Token}
+use Rattle.std.proofs.lemmas.Bool.{or_parts}
+use Rattle.shgrammar.specs.Commands.{is_double_semicolon}
+use Rattle.shgrammar.specs.Compounds.{item_end}
 
 -- ---- rows that grow at their end
 
@@ -279,10 +285,12 @@ module _ (g : Given) where
   unfolding an_open_bracket
   silent_bracket n s = pass_pick (is_paren n.token) (pass_on pass_move (λ u v. silent_next Command v)) (pass_give refl)
 
-  silent_double_semicolon : (s : State) → Passing a_double_semicolon Silent s
-  unfolding a_double_semicolon
-  silent_double_semicolon s =
-      pass_on pass_move (λ u v. pass_on pass_move (λ w x. pass_on pass_see (λ p t. pass_on (silent_next Command t) (λ n z. pass_on (silent_linebreak [] n z) (λ l y. pass_give refl)))))
+  pass_ender : (falling : Bool) (s : State) → Passing (an_ender falling) (λ e k. k ≡ spell_falls falling) s
+  unfolding an_ender
+  pass_ender true s =
+      pass_then pass_text (λ u v k so. pass_on pass_see (λ p t. pass_on (silent_next Command t) (λ n z. pass_on (silent_linebreak [] n z) (λ l y. pass_give (append-nil k ∙ so)))))
+  pass_ender false s =
+      pass_on (pass_token (λ u v. refl)) (λ u v. pass_on pass_see (λ p t. pass_on (silent_next Command t) (λ n z. pass_on (silent_linebreak [] n z) (λ l y. pass_give refl))))
 
   pass_unexpected : {X : Type 0} {P : X → Row Spelled → Type 0} (inner : Inner) (n : Next) (s : State) → Passing (unexpected inner n) P s
   pass_unexpected inner n s = pass_then any (λ w t k so. pass_stop)
@@ -358,7 +366,7 @@ module _ (B : List ℕ) (g : Given) (stands : g.text ≡ drop g.offset B) where
 
     silent_document : (o : RedirectOperator) (b p : ℕ) (bytes : Spelled) (s : State) → Passing g (a_document o b p bytes) (Silent g) s
     unfolding a_document
-    silent_document o b p bytes s = pass_pick g (takes_here o) (silent_document_by b p (is_strip o) (delimiter_of bytes) s) (pass_give g refl)
+    silent_document o b p bytes s = pass_pick g (takes_here o) (pass_on g (pass_see g) (λ d t. silent_document_by b p (is_strip o) d t)) (pass_give g refl)
 
     pass_redirect : (i : Items) (broken : Bool) (position : Position) (n : Next) (s : State) → Passing g (one_redirect inner broken position i.items n) (Grows g spelled_items i) s
     unfolding one_redirect
@@ -669,10 +677,19 @@ module _ (B : List ℕ) (g : Given) (stands : g.text ≡ drop g.offset B) where
     unfolding a_body
     pass_body n s = pass_so g (pass_many g spelled_list (list_turn inner) pass_list_turn (list_so (none_listed false) n) s) (λ l k so. sym so)
 
-    silent_item_end : (there : ℕ) (n : Next) (s : State) → Passing g (an_item_end inner there n) (Silent g) s
+    -- nothing but an ender falls through
+    no_ender : (t : Token) → ends_item t ≡ false → spell_falls (falls_through t) ≡ []
+    no_ender t e = rw ((or_parts (is_double_semicolon t) (falls_through t) e).1) refl
+
+    pass_item_end : (there : ℕ) (n : Next) (s : State) → Passing g (an_item_end inner there n) (λ e k. k ≡ spell_falls (falls_through n.token)) s
     unfolding an_item_end
-    silent_item_end there n s =
-        pass_pick g (is_double_semicolon n.token) (silent_double_semicolon g s) (pass_pick g (is_closing closings.Esac n.token) (pass_give g refl) (pass_unexpected g inner n s))
+    pass_item_end there n s =
+        pass_ends (ends_item n.token) refl
+      where
+        pass_ends : (b : Bool) → ends_item n.token ≡ b
+            → Passing g (pick b (an_ender (falls_through n.token)) (pick (is_closing closings.Esac n.token) (give (item_end there [] n)) (unexpected inner n))) (λ e k. k ≡ spell_falls (falls_through n.token)) s
+        pass_ends true e = pass_ender g (falls_through n.token) s
+        pass_ends false e = pass_pick g (is_closing closings.Esac n.token) (pass_give g (sym (no_ender n.token e))) (pass_unexpected g inner n s)
 
     abbrev spelled_cases : CasesSo → Tokens
     spelled_cases c = spell_cases (shape_of_cases B (cases_of c.items))
@@ -682,9 +699,9 @@ module _ (B : List ℕ) (g : Given) (stands : g.text ≡ drop g.offset B) where
     pass_one_case c s =
         pass_on g (pass_see g) (λ p t. pass_on g (silent_bracket g c.next t) (λ n u. pass_then g (pass_patterns n u) (λ ps v k1 one.
         pass_then g (pass_closing closings.Paren ps.next v) (λ k w k2 two. pass_then g (pass_body k.1 w) (λ b x k3 three.
-        pass_on g (silent_item_end _ b.next x) (λ e y. pass_pushed g (λ z. pass_give g
+        pass_then g (pass_item_end _ b.next x) (λ e y k4 four. pass_pushed g (λ z. pass_give g
         (cases_last B c.items _ ∙ ap (λ q. spelled_cases c ++ q)
-        (rw (one, two, three) (ap (λ q. spell_first_pattern (shape_of_patterns B (patterns_of ps.patterns)) ++ (codes ")" ∷ q)) (sym (append-nil _))))))))))))
+        (rw (one, two, three, four) (ap (λ q. spell_first_pattern (shape_of_patterns B (patterns_of ps.patterns)) ++ (codes ")" ∷ q)) (ap (λ q. spelling (shape_of B (entries_of b.list.entries)) ++ q) (sym (append-nil _)))))))))))))
 
     pass_case_turn : (c : CasesSo) (s : State) → Passing g (case_turn inner c) (Grows g spelled_cases c) s
     unfolding case_turn
@@ -768,12 +785,12 @@ module _ (B : List ℕ) (g : Given) (stands : g.text ≡ drop g.offset B) where
 
 -- ---- a script
 
-module _ (B : List ℕ) where
-  line_spelled : (blank : Bool) (p : ℕ) (es : Row AnEntry) (newline : Bool) (t : State) (k : Row Spelled) → may (a_line (level most_open) blank) (given (drop p B) p) (standing 0) (Ok ((es, newline), t)) k
+module _ (edition : Edition) (B : List ℕ) where
+  line_spelled : (blank : Bool) (p : ℕ) (es : Row AnEntry) (newline : Bool) (t : State) (k : Row Spelled) → may (a_line (level most_open) blank) (given edition (drop p B) p) (standing 0) (Ok ((es, newline), t)) k
       → k ≡ spelling (shape_of B (entries_of es))
-  line_spelled blank p es newline t k part = let g = given (drop p B) p in (pass_line B g refl (level most_open) (pass_level B g refl most_open) blank (standing 0)).passing (Ok ((es, newline), t)) k part
+  line_spelled blank p es newline t k part = let g = given edition (drop p B) p in (pass_line B g refl (level most_open) (pass_level B g refl most_open) blank (standing 0)).passing (Ok ((es, newline), t)) k part
 
-  lines_spelled : (so : SoFar) (p : ℕ) (s : AScript) (k : Row Spelled) → Lines B so p s k → s.wrong ≡ None → spelling (shape_of B s.entries) ≡ spelling (shape_of B (entries_of so.entries)) ++ k
+  lines_spelled : (so : SoFar) (p : ℕ) (s : AScript) (k : Row Spelled) → Lines edition B so p s k → s.wrong ≡ None → spelling (shape_of B s.entries) ≡ spelling (shape_of B (entries_of so.entries)) ++ k
   lines_spelled so p s m (line_ended {l = l} es t k part rest) none =
       lines_spelled _ _ s l rest none ∙ ap (λ z. z ++ l) (entries_joined B so.entries es ∙ ap (λ z. spelling (shape_of B (entries_of so.entries)) ++ z) (sym (line_spelled _ p es true t k part)))
       ∙ append_assoc (spelling (shape_of B (entries_of so.entries))) k l
@@ -781,5 +798,5 @@ module _ (B : List ℕ) where
   lines_spelled so p s m (faulty f k part) none = absurd cc
 
 -- the tokens passed in a faultless script are those that the shape of its tree spells
-pub script_spelled : (B : List ℕ) (s : AScript) → s.wrong ≡ None → (k : Row Spelled) → Passes B s k → k ≡ spelling (shape_of B s.entries)
-script_spelled B s none k passes = sym (lines_spelled B nothing_yet 0 s k passes none)
+pub script_spelled : (edition : Edition) → (B : List ℕ) (s : AScript) → s.wrong ≡ None → (k : Row Spelled) → Passes edition B s k → k ≡ spelling (shape_of B s.entries)
+script_spelled edition B s none k passes = sym (lines_spelled edition B nothing_yet 0 s k passes none)

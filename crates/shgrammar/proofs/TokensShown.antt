@@ -20,16 +20,18 @@ use Rattle.shast.specs.Tree.{ACommand, AnItem, AWord}
 use Rattle.shtext.specs.Text.{is_newline as is_newline_byte}
 use Rattle.shgrammar.specs.Bytes.{byte_at, behind, past_continuations, stands}
 use Rattle.shgrammar.specs.Comments.{comment_at}
-use Rattle.shgrammar.specs.Tokens.{begins_assignment, first_word, is_number, reserved_at, token_at, token_of, word_by, word_of}
+use Rattle.shgrammar.specs.Tokens.{begins_assignment, first_word, is_number, reserved_at, is_later, token_at, token_in, token_of, word_by, word_of}
 use Rattle.shgrammar.specs.Sights.{Given, State}
 use Rattle.shgrammar.specs.Form.{Spelled, Form, push, both, many, step_if}
 use Rattle.shgrammar.specs.Words.{Inner}
-use Rattle.shgrammar.specs.Commands.{pick, next_token, is_newline, is_semicolon, a_semicolon, is_pipe, is_bang, begins_simple, begins_word, begins_redirect, begins_pipeline, opener_of, compound_by, and_or_operator_of, Items, so_many, breaks, behind_word, one_redirect, behind_redirect, redirect_turn, redirected, an_item, item_by, item_turn, a_simple, unexpected, comment_by, a_comment, a_newline, with_comment, JoinSo, join_turn, a_join, a_command, a_bang, Piped, piped, one_command, pipe_turn, a_pipeline, Joined, joined_so, one_pipeline, joined_by, join_pipeline, an_and_or, separator_of, separator_by, a_separator, an_entry, is_paren, is_word, a_worded, is_double_semicolon}
+use Rattle.shgrammar.specs.Commands.{pick, next_token, is_newline, is_semicolon, a_semicolon, is_pipe, is_bang, begins_simple, begins_word, begins_redirect, begins_pipeline, opener_of, compound_by, and_or_operator_of, Items, so_many, breaks, behind_word, one_redirect, behind_redirect, redirect_turn, redirected, an_item, item_by, item_turn, a_simple, unexpected, comment_by, a_comment, a_newline, with_comment, JoinSo, join_turn, a_join, a_command, a_bang, Piped, piped, one_command, pipe_turn, a_pipeline, Joined, joined_so, one_pipeline, joined_by, join_pipeline, an_and_or, separator_of, separator_by, a_separator, an_entry, is_paren, is_word, a_worded, ends_item, falls_through}
 use Rattle.shgrammar.specs.Lists.{ListSo, list_so, none_listed, one_entry, entry_turn, remark_by, a_remark, on_line, list_turn, a_list}
-use Rattle.shgrammar.specs.Compounds.{Branched, branched, Closed, is_closing, is_open_paren, is_close_paren, passed, closing, a_branch, elif_turn, an_else, an_if, a_loop, a_group, a_for_name, a_linebreak, a_sequential_sep, Headed, word_turn, for_words, a_for_head, a_for, a_form, a_compound, a_function, a_case_word, begins_pattern, Patterned, a_pattern, one_pattern, pattern_turn, a_pattern_list, a_body, ItemEnd, a_double_semicolon, an_item_end, CasesSo, cases_so, one_case, case_turn, a_case_head, a_case}
+use Rattle.shgrammar.specs.Compounds.{Branched, branched, Closed, is_closing, is_open_paren, is_close_paren, passed, closing, a_branch, elif_turn, an_else, an_if, a_loop, a_group, a_for_name, a_linebreak, a_sequential_sep, Headed, word_turn, for_words, a_for_head, a_for, a_form, a_compound, a_function, a_case_word, begins_pattern, Patterned, a_pattern, one_pattern, pattern_turn, a_pattern_list, a_body, ItemEnd, an_ender, an_item_end, CasesSo, cases_so, one_case, case_turn, a_case_head, a_case}
 use Rattle.shgrammar.specs.Levels.{level}
 use Rattle.shgrammar.proofs.Shown.{blanks_still}
 use Rattle.shgrammar.proofs.Holds.{Tells, Turned, tells_give, tells_then, tells_many, tells_after, tells_seen, tells_pushed}
+use Rattle.shgrammar.specs.declared.edition.Edition.{Edition}
+use Rattle.std.proofs.Common.{ap}
 
 module _ (g : Given) where
   abbrev N : {X : Type 0} → Form X → (X → State → Type 0) → State → Type 0
@@ -43,7 +45,7 @@ module _ (g : Given) where
 
   -- this token begins here, in some position of a command
   abbrev pub Begins : Next → State → Type 0
-  Begins n t = (position : Position) × ((n.token ≡ token_at position g.text t.at) × (past_continuations g.text t.at ≡ t.at))
+  Begins n t = (position : Position) × ((n.token ≡ token_in g.edition (token_at position g.text t.at)) × (past_continuations g.text t.at ≡ t.at))
 
   abbrev pub Behind : {X : Type 0} → X × Next → State → Type 0
   Behind x t = Begins x.1 t
@@ -363,16 +365,16 @@ module _ (g : Given) where
     abbrev EndShown : ItemEnd → State → Type 0
     EndShown e t = Begins e.next t
 
-    shown_double_semicolon : (s : State) → N a_double_semicolon EndShown s
-    unfolding a_double_semicolon
-    shown_double_semicolon s =
-        after (λ x t. after (λ y u. after (λ p v. tells_then Whole g (shown_next Command v)
-        (λ n w one. tells_then Whole g (shown_linebreak [] n w one) (λ l z good. tells_give Whole g good)))))
+    shown_ender : (b : Bool) (s : State) → N (an_ender b) EndShown s
+    unfolding an_ender
+    shown_ender b s =
+        after (λ y u. after (λ p v. tells_then Whole g (shown_next Command v)
+        (λ n w one. tells_then Whole g (shown_linebreak [] n w one) (λ l z good. tells_give Whole g good))))
 
     shown_item_end : (there : ℕ) (n : Next) (s : State) → Begins n s → N (an_item_end inner there n) EndShown s
     unfolding an_item_end
     shown_item_end there n s so =
-        picked (is_double_semicolon n.token) (shown_double_semicolon s) (picked (is_closing closings.Esac n.token) (tells_give Whole g so) (stopped n))
+        picked (ends_item n.token) (shown_ender (falls_through n.token) s) (picked (is_closing closings.Esac n.token) (tells_give Whole g so) (stopped n))
 
     abbrev CasesShown : CasesSo → State → Type 0
     CasesShown c t = Begins c.next t
@@ -461,7 +463,7 @@ close_byte : (position : Position) (T : List ℕ) (p : ℕ) (x : Option ℕ) →
 close_byte position T p None is = absurd cc
 close_byte position T p (Some b) is =
     let newline = paren_else (is_newline_byte b) _ _ (λ e. absurd cc) is in
-    let semicolon = paren_else (b == 59) _ _ (λ e. paren_both (stands T (behind T p) 59) _ _ (λ f. absurd cc) (λ f. absurd cc) e) newline.1 in
+    let semicolon = paren_else (b == 59) _ _ (λ e. paren_both (stands T (behind T p) 59) _ _ (λ f. absurd cc) (λ f. paren_both (stands T (behind T p) 38) _ _ (λ g. absurd cc) (λ g. absurd cc) f) e) newline.1 in
     let ampersand = paren_else (b == 38) _ _ (λ e. paren_both (stands T (behind T p) 38) _ _ (λ f. absurd cc) (λ f. absurd cc) e) semicolon.1 in
     let bar = paren_else (b == 124) _ _ (λ e. paren_both (stands T (behind T p) 124) _ _ (λ f. absurd cc) (λ f. absurd cc) e) ampersand.1 in
     let open_paren = paren_else (b == 40) _ _ (λ e. absurd cc) bar.1 in
@@ -474,10 +476,20 @@ closes_by : (t : Token) → is_closing closings.Paren t ≡ true → t ≡ token
 closes_by tokens.CloseParen e = refl
 closes_by _ e = absurd cc
 
+-- an edition has it where the text has it
+closes_in : (later : Bool) → is_closing closings.Paren (cond later tokens.SemicolonAmpersand tokens.Semicolon) ≡ true → ⊥
+closes_in true e = absurd cc
+closes_in false e = absurd cc
+
+closes_of : (edition : Edition) (t : Token) → is_closing closings.Paren (token_in edition t) ≡ true → t ≡ tokens.CloseParen
+closes_of edition tokens.CloseParen e = refl
+closes_of edition tokens.SemicolonAmpersand e = absurd (closes_in (is_later edition) e)
+closes_of edition _ e = absurd cc
+
 -- where a row hands on a `)`, that byte stands
 pub paren_here : (g : Given) (n : Next) (t : State) → Begins g n t → is_closing closings.Paren n.token ≡ true → (byte_at g.text t.at ≡ Some 41) × (past_continuations g.text t.at ≡ t.at)
 unfolding token_at
-paren_here g n t (position, (token, still)) closes = (close_byte position g.text t.at (byte_at g.text t.at) (sym token ∙ closes_by n.token closes), still)
+paren_here g n t (position, (token, still)) closes = (close_byte position g.text t.at (byte_at g.text t.at) (closes_of g.edition _ (ap (is_closing closings.Paren) (sym token) ∙ closes)), still)
 
 -- ---- a newline
 
@@ -506,7 +518,7 @@ newline_byte : (position : Position) (T : List ℕ) (p : ℕ) (x : Option ℕ) �
 newline_byte position T p None is = absurd cc
 newline_byte position T p (Some b) is =
     let here : (b == 10) ≡ true = newline_else (is_newline_byte b) _ is (λ e.
-    newline_both (b == 59) _ _ (λ f. newline_both (stands T (behind T p) 59) _ _ (λ h. absurd cc) (λ h. absurd cc) f)
+    newline_both (b == 59) _ _ (λ f. newline_both (stands T (behind T p) 59) _ _ (λ h. absurd cc) (λ h. newline_both (stands T (behind T p) 38) _ _ (λ i. absurd cc) (λ i. absurd cc) h) f)
     (λ f. newline_both (b == 38) _ _ (λ h. newline_both (stands T (behind T p) 38) _ _ (λ i. absurd cc) (λ i. absurd cc) h)
     (λ h. newline_both (b == 124) _ _ (λ i. newline_both (stands T (behind T p) 124) _ _ (λ j. absurd cc) (λ j. absurd cc) i)
     (λ i. newline_both (b == 40) _ _ (λ j. absurd cc)
@@ -522,7 +534,16 @@ newline_is : (t : Token) → is_newline t ≡ true → t ≡ tokens.Newline
 newline_is tokens.Newline e = refl
 newline_is _ e = absurd cc
 
+newline_in : (later : Bool) → is_newline (cond later tokens.SemicolonAmpersand tokens.Semicolon) ≡ true → ⊥
+newline_in true e = absurd cc
+newline_in false e = absurd cc
+
+newline_of : (edition : Edition) (t : Token) → is_newline (token_in edition t) ≡ true → t ≡ tokens.Newline
+newline_of edition tokens.Newline e = refl
+newline_of edition tokens.SemicolonAmpersand e = absurd (newline_in (is_later edition) e)
+newline_of edition _ e = absurd cc
+
 -- where a row hands on a newline, that byte stands
 pub newline_here : (g : Given) (n : Next) (t : State) → Begins g n t → is_newline n.token ≡ true → (byte_at g.text t.at ≡ Some 10) × (past_continuations g.text t.at ≡ t.at)
 unfolding token_at
-newline_here g n t (position, (token, still)) is = (newline_byte position g.text t.at (byte_at g.text t.at) (sym token ∙ newline_is n.token is), still)
+newline_here g n t (position, (token, still)) is = (newline_byte position g.text t.at (byte_at g.text t.at) (newline_of g.edition _ (ap is_newline (sym token) ∙ is)), still)

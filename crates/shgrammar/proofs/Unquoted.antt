@@ -70,7 +70,7 @@ rest_byte word p =
     let none : 0 + n ≡ n = omega arith in
     ap (slice_get (drop p word)) none ∙ get_drop p word n
 
-rest_stands : (word : List ℕ) (p c : ℕ) → stands (drop p word) 0 c ≡ is_byte (byte_at word p) c
+pub rest_stands : (word : List ℕ) (p c : ℕ) → stands (drop p word) 0 c ≡ is_byte (byte_at word p) c
 unfolding stands
 rest_stands word p c = ap (λ b. is_byte b c) (rest_byte word p)
 

@@ -33,9 +33,9 @@ use Rattle.shgrammar.specs.Sights.{Given, given, State, standing, here, one_byte
 use Rattle.shgrammar.specs.HereDocuments.{own_level}
 use Rattle.shgrammar.specs.Form.{with_bytes, a_level, Spelled, Told, Read, Form, give, move, push, both, many, token, ends_as, does, Step, again, done, step_if, pushed, see, grows, inside}
 use Rattle.shgrammar.specs.Words.{Inner, Held, having, opened, piece_row, a_piece, contents, a_word}
-use Rattle.shgrammar.specs.Commands.{pick, is_pipe, is_bang, begins_simple, begins_word, begins_redirect, begins_pipeline, opener_of, compound_by, and_or_operator_of, breaks, Items, so_many, behind_word, is_number, redirect_operator_of, is_strip, a_number, an_operator, operator_by, a_target, one_redirect, behind_redirect, redirect_turn, redirected, as_item, an_item, item_by, item_turn, a_simple, a_bang, a_comment, comment_by, unexpected, with_comment, JoinSo, join_turn, a_join, a_command, Piped, piped, one_command, pipe_turn, a_pipeline, Joined, joined_so, one_pipeline, joined_by, join_pipeline, an_and_or, is_background, an_entry, a_worded, is_word, is_paren, separator_of, separator_by, a_separator, past_separator, is_double_semicolon}
+use Rattle.shgrammar.specs.Commands.{pick, is_pipe, is_bang, begins_simple, begins_word, begins_redirect, begins_pipeline, opener_of, compound_by, and_or_operator_of, breaks, Items, so_many, behind_word, is_number, redirect_operator_of, is_strip, a_number, an_operator, operator_by, a_target, one_redirect, behind_redirect, redirect_turn, redirected, as_item, an_item, item_by, item_turn, a_simple, a_bang, a_comment, comment_by, unexpected, with_comment, JoinSo, join_turn, a_join, a_command, Piped, piped, one_command, pipe_turn, a_pipeline, Joined, joined_so, one_pipeline, joined_by, join_pipeline, an_and_or, is_background, an_entry, a_worded, is_word, is_paren, separator_of, separator_by, a_separator, past_separator, ends_item, falls_through}
 use Rattle.shgrammar.specs.Lists.{ListSo, list_so, none_listed, is_blank_next, one_entry, entry_turn, remark_by, a_remark, on_line, list_turn, a_list, Listed}
-use Rattle.shgrammar.specs.Compounds.{Branched, branched, Closed, is_closing, is_open_paren, is_close_paren, passed, closing, a_branch, elif_turn, an_else, an_if, a_loop, a_group, a_for_name, a_linebreak, a_sequential_sep, Headed, word_turn, for_words, a_for_head, behind_remarks, a_for, a_form, held_apart, a_compound, a_function, under_name, a_case_word, begins_pattern, Patterned, a_pattern, one_pattern, pattern_turn, a_pattern_list, a_body, body_end, ItemEnd, a_double_semicolon, an_item_end, CasesSo, cases_so, one_case, case_turn, a_case_head, a_case}
+use Rattle.shgrammar.specs.Compounds.{Branched, branched, Closed, is_closing, is_open_paren, is_close_paren, passed, closing, a_branch, elif_turn, an_else, an_if, a_loop, a_group, a_for_name, a_linebreak, a_sequential_sep, Headed, word_turn, for_words, a_for_head, behind_remarks, a_for, a_form, held_apart, a_compound, a_function, under_name, a_case_word, begins_pattern, Patterned, a_pattern, one_pattern, pattern_turn, a_pattern_list, a_body, body_end, ItemEnd, an_ender, an_item_end, CasesSo, cases_so, one_case, case_turn, a_case_head, a_case}
 use Rattle.shgrammar.specs.Substitutions.{substituted, a_substitution, one_substitution}
 use Rattle.shgrammar.specs.Levels.{most_open, level}
 use Rattle.shgrammar.specs.Lines.{an_open_line, a_line, ALine, IsLine, line_read, line_stops, kind_of}
@@ -46,6 +46,7 @@ use Rattle.shgrammar.proofs.Ahead.{behind_is}
 use Rattle.shgrammar.proofs.Places.{behind_low, next_newline_low}
 use Rattle.shgrammar.proofs.Holds.{Holds, Tells, Turned, tells_with_bytes, tells_level, tells_give, tells_then, tells_token, tells_many, tells_so, tells_ending, tells_seen, tells_moved, low, tells_inside}
 use Rattle.shgrammar.specs.declared.keep.Keep.TheVariants.{Whole}
+use Rattle.shgrammar.specs.declared.edition.Edition.{Edition}
 
 -- ---- comments
 
@@ -167,6 +168,7 @@ module _ (keep : Keep) (g : Given) (limit : ℕ) where
     piece_fits_by mode b h pieces.LoneBackslash s so = record { told = tt }
     piece_fits_by mode b h pieces.Escape s so = after (λ x t. after (λ y u. gives so))
     piece_fits_by mode b h pieces.Single s so = after (λ x t. gives so)
+    piece_fits_by mode b h pieces.DollarSingle s so = after (λ x t. gives so)
     piece_fits_by mode b h pieces.Double s so = after (λ q t. after (λ x u. opened_fits _ q h u so))
     piece_fits_by mode b h pieces.Backquote s so = after (λ x t. gives so)
     piece_fits_by mode b h pieces.Pid s so = after (λ x t. after (λ y u. gives so))
@@ -554,15 +556,15 @@ module _ (keep : Keep) (g : Given) (limit : ℕ) where
     abbrev ItemEndFits : ItemEnd → Type 0
     ItemEndFits e = (e.at ≤ limit) × All (CommentFits limit) e.comments
 
-    double_semicolon_fits : (s : State) → R a_double_semicolon ItemEndFits s
-    unfolding a_double_semicolon
-    double_semicolon_fits s =
-        after (λ x t. after (λ y u. first (here_fits u) (λ p v low. after (λ n w. first (linebreak_fits [] n w (All-nil (CommentFits limit))) (λ l z so. gives (low, so))))))
+    ender_fits : (b : Bool) (s : State) → R (an_ender b) ItemEndFits s
+    unfolding an_ender
+    ender_fits b s =
+        after (λ y u. first (here_fits u) (λ p v low. after (λ n w. first (linebreak_fits [] n w (All-nil (CommentFits limit))) (λ l z so. gives (low, so)))))
 
     item_end_fits : (there : ℕ) (n : Next) (s : State) → there ≤ limit → R (an_item_end inner there n) ItemEndFits s
     unfolding an_item_end
     item_end_fits there n s low =
-        picks (is_double_semicolon n.token) (double_semicolon_fits s) (picks (is_closing closings.Esac n.token) (gives (low, All-nil (CommentFits limit))) (stopped n))
+        picks (ends_item n.token) (ender_fits (falls_through n.token) s) (picks (is_closing closings.Esac n.token) (gives (low, All-nil (CommentFits limit))) (stopped n))
 
     -- the items so far, and the comments behind them
     abbrev CasesFit : CasesSo → Type 0
@@ -574,7 +576,7 @@ module _ (keep : Keep) (g : Given) (limit : ℕ) where
         first (here_fits s) (λ p t begin. after (λ n u. first (patterns_fit n u) (λ ps v words. first (closing_fits closings.Paren ps.next v)
         (λ k w last. first (body_fits k.1 w) (λ b x body. first (item_end_fits _ b.next x (body_end_fits k.0.«end» b.list last.1 body.0 body.1))
         (λ e y end. let entries = fits_entries limit b.list.entries body.0 in
-        first (pushes (CaseFits limit) so.0 (fits_case limit c.comments ps.patterns (entries_of b.list.entries) _ so.1 words entries (begin, end.0))) (λ is z all. gives (all, end.1))))))))
+        first (pushes (CaseFits limit) so.0 (fits_case limit c.comments ps.patterns (entries_of b.list.entries) (record { mark = record { start = p; «end» = e.at }; falls = falls_through b.next.token }) so.1 words entries (begin, end.0))) (λ is z all. gives (all, end.1))))))))
 
     case_turn_fits : (c : CasesSo) (s : State) → CasesFit c → R (case_turn inner c) (Stepped CasesFit) s
     unfolding case_turn
@@ -663,10 +665,10 @@ level_fits keep g limit (suc room) =
 -- ---- lines
 
 -- the entries of a line, with its tree or without
-pub line_within : (T : List ℕ) (o : ℕ) (keep : Keep) (blank newline : Bool) (es : Row AnEntry) (t : State) → does (the_line blank) keep (given T o) (standing 0) ≡ Ok ((es, newline), t)
+pub line_within : (edition : Edition) → (T : List ℕ) (o : ℕ) (keep : Keep) (blank newline : Bool) (es : Row AnEntry) (t : State) → does (the_line blank) keep (given edition T o) (standing 0) ≡ Ok ((es, newline), t)
     → (limit : ℕ) → o + t.at ≤ limit → AreWithin limit (entries_of es)
-line_within T o keep blank newline es t is limit le =
-    let g = given T o in
+line_within edition T o keep blank newline es t is limit le =
+    let g = given edition T o in
     let told = (line_fits keep g limit (level most_open) (level_fits keep g limit most_open) blank (standing 0)).told in
     subst (Holds (λ (x : Row AnEntry × Bool) (u : State). o + u.at ≤ limit → AreWithin limit (entries_of x.0))) is told le
 
@@ -676,10 +678,10 @@ kind_within limit [] false so = tt
 kind_within limit (e ∷ es) newline so = so
 
 -- those of a line, as far as the line goes
-pub entries_within : (T : List ℕ) (l : ALine) → IsLine T l → EntriesWithin l.next l.kind
-entries_within T l (line_read es newline t k part) =
-    kind_within t.at es newline (line_within T 0 Whole false newline es t (sym ((is (the_line false) (given T 0) (standing 0)).only _ _ part)) t.at (omega arith))
-entries_within T l (line_stops f k part) = tt
+pub entries_within : (edition : Edition) → (T : List ℕ) (l : ALine) → IsLine edition T l → EntriesWithin l.next l.kind
+entries_within edition T l (line_read es newline t k part) =
+    kind_within t.at es newline (line_within edition T 0 Whole false newline es t (sym ((is (the_line false) (given edition T 0) (standing 0)).only _ _ part)) t.at (omega arith))
+entries_within edition T l (line_stops f k part) = tt
 
 -- ---- scripts
 

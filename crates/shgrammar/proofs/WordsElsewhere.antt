@@ -15,7 +15,7 @@ use Rattle.shast.specs.Tree.{ASubst, AWord, Entries, entries_of, subst as a_subs
 use Rattle.shgrammar.specs.Standing.{is_byte}
 use Rattle.shgrammar.specs.Bytes.{ends, ends_word, byte_at, behind, past_blanks, past_continuations}
 use Rattle.shgrammar.specs.Comments.{span}
-use Rattle.shgrammar.specs.Tokens.{next_at}
+use Rattle.shgrammar.specs.Tokens.{next_at, next_in}
 use Rattle.shgrammar.specs.Sights.{Given, given, State, one_byte}
 use Rattle.shgrammar.specs.Form.{moved, Read, ◌▸◌, Form, give, move, ◌>>◌, many, with_end, does}
 use Rattle.shgrammar.specs.Words.{Inner, contents, a_word}
@@ -38,6 +38,7 @@ use Rattle.shgrammar.proofs.GoingOn.{over, Back, good, Found, Goes, go_stop, go_
 use Rattle.shgrammar.proofs.ListsElsewhere.{Fine, SameCommand, SameList, SameWord, compound_same, function_same, lines, list_shape, next, rows_more}
 use Rattle.shgrammar.proofs.TokensShown.{Begins, paren_here, shown_level, shown_lines, shown_next}
 use Rattle.shgrammar.proofs.WordsWithin.{Last, contents_end, stays_in}
+use Rattle.shgrammar.specs.declared.edition.Edition.{Edition}
 
 pub substs_shape : (B : List ℕ) (ss : Row ASubst) → shape_of_substs B (substs_of ss) ≡ substs_of (map (shape_of_subst B) ss)
 substs_shape B [] = refl
@@ -46,11 +47,11 @@ substs_shape B (s ∷ ss) = rw (substs_shape B ss) refl
 -- whatever two texts, and wherever: constructs and substitutions before a byte that ends words, compound commands and functions before
 -- a `)`
 pub record Everywhere (inner : Inner) : Type 0 where
-  pub local : (T U : List ℕ) (a L : ℕ) (to : ℕ → ℕ) (K : Kept T U a L to) (o o2 : ℕ) (B B2 : List ℕ) → T ≡ drop o B → U ≡ drop o2 B2 → ends (byte_at U (to L)) ≡ true
+  pub local : (edition : Edition) (T U : List ℕ) (a L : ℕ) (to : ℕ → ℕ) (K : Kept edition T U a L to) (o o2 : ℕ) (B B2 : List ℕ) → T ≡ drop o B → U ≡ drop o2 B2 → ends (byte_at U (to L)) ≡ true
       → (is_byte (byte_at T L) 40 ≡ false → is_byte (byte_at U (to L)) 40 ≡ false) → Local K o o2 B B2 inner
-  pub compound : (T U : List ℕ) (a M : ℕ) (to : ℕ → ℕ) (limit : ℕ) (E : ListEnds T U a M to limit) (o o2 : ℕ) (B B2 : List ℕ) (stands : T ≡ drop o B) (stands_there : U ≡ drop o2 B2) (c : Opener)
+  pub compound : (edition : Edition) (T U : List ℕ) (a M : ℕ) (to : ℕ → ℕ) (limit : ℕ) (E : ListEnds edition T U a M to limit) (o o2 : ℕ) (B B2 : List ℕ) (stands : T ≡ drop o B) (stands_there : U ≡ drop o2 B2) (c : Opener)
       → Goes E o o2 B B2 stands stands_there (SameCommand E o o2 B B2 stands stands_there) (inner.compound c) (inner.compound c)
-  pub function : (T U : List ℕ) (a M : ℕ) (to : ℕ → ℕ) (limit : ℕ) (E : ListEnds T U a M to limit) (o o2 : ℕ) (B B2 : List ℕ) (stands : T ≡ drop o B) (stands_there : U ≡ drop o2 B2) (name new : Span)
+  pub function : (edition : Edition) (T U : List ℕ) (a M : ℕ) (to : ℕ → ℕ) (limit : ℕ) (E : ListEnds edition T U a M to limit) (o o2 : ℕ) (B B2 : List ℕ) (stands : T ≡ drop o B) (stands_there : U ≡ drop o2 B2) (name new : Span)
       → text_at B name ≡ text_at B2 new → Goes E o o2 B B2 stands stands_there (SameCommand E o o2 B B2 stands stands_there) (inner.function name) (inner.function new)
 
 module _ (room : ℕ) (all : Everywhere (level room)) where
@@ -59,15 +60,15 @@ module _ (room : ℕ) (all : Everywhere (level room)) where
 
   -- ---- a word of a list
 
-  module _ {T U : List ℕ} {a M : ℕ} {to : ℕ → ℕ} {limit : ℕ} (E : ListEnds T U a M to limit) (o o2 : ℕ) (B B2 : List ℕ) (stands : T ≡ drop o B) (stands_there : U ≡ drop o2 B2) where
+  module _ {edition : Edition} {T U : List ℕ} {a M : ℕ} {to : ℕ → ℕ} {limit : ℕ} (E : ListEnds edition T U a M to limit) (o o2 : ℕ) (B B2 : List ℕ) (stands : T ≡ drop o B) (stands_there : U ≡ drop o2 B2) where
     abbrev FoundWord : State → AWord → State → Type 0
     FoundWord s w t = Found E o o2 B B2 stands stands_there (SameWord E o o2 B B2 stands stands_there) (a_word inner) s w t
 
     -- the bytes are the same up to its end
-    kept_to : (e : ℕ) → a ≤ e → e ≤ M → Kept T U a e to
+    kept_to : (e : ℕ) → a ≤ e → e ≤ M → Kept edition T U a e to
     kept_to e low le = record { under = low; on = E.kept.on; same = λ r from lt. E.kept.same r from (omega (arith, lt, le)) }
 
-    word_there : (s : State) (ss : Row ASubst) (t : State) → a ≤ s.at → s.at ≤ t.at → ends_word T t.at ≡ true → does (contents inner Plain (o + s.at) []) Whole (given T o) s ≡ Ok (ss, t)
+    word_there : (s : State) (ss : Row ASubst) (t : State) → a ≤ s.at → s.at ≤ t.at → ends_word T t.at ≡ true → does (contents inner Plain (o + s.at) []) Whole (given edition T o) s ≡ Ok (ss, t)
         → FoundWord s (word (span o s.at t.at) (substs_of ss)) t
     unfolding a_word ends_word
     word_there s ss t from onward ender is e =
@@ -76,25 +77,25 @@ module _ (room : ℕ) (all : Everywhere (level room)) where
         let K = kept_to t.at (omega (arith, from, onward)) le in
         let ends_there = ap ends byte ∙ ender in
         let open_there : is_byte (byte_at T t.at) 40 ≡ false → is_byte (byte_at U (to t.at)) 40 ≡ false = λ f. ap (λ x. is_byte x 40) byte ∙ f in
-        let local = all.local T U a t.at to K o o2 B B2 stands stands_there ends_there open_there in
+        let local = all.local edition T U a t.at to K o o2 B B2 stands stands_there ends_there open_there in
         let w = subst (Holds (Ended K o o2 B B2 ends_there open_there inner local (o2 + to s.at) s)) is (word_in K o o2 B B2 ends_there open_there inner local (o + s.at) (o2 + to s.at) s from) refl in (
           word (span o2 (to s.at) (to t.at)) (substs_of w.0),
           (rw w.1.0 refl, rw (same_texts E o o2 B B2 stands stands_there s.at t.at from (omega (arith, from, onward)) le, substs_shape B ss, w.1.1, sym (substs_shape B2 w.0)) refl),
         )
 
-    word_by : (s : State) → a ≤ s.at → (x : Read (Row ASubst)) → does (contents inner Plain (o + s.at) []) Whole (given T o) s ≡ x → Holds (Behind s) x → (s.at ≤ length T → Holds (λ ss t. Last (given T o) Plain t) x)
+    word_by : (s : State) → a ≤ s.at → (x : Read (Row ASubst)) → does (contents inner Plain (o + s.at) []) Whole (given edition T o) s ≡ x → Holds (Behind s) x → (s.at ≤ length T → Holds (λ ss t. Last (given edition T o) Plain t) x)
         → Holds (FoundWord s) (◌▸◌ {Y = AWord} x (λ ss t. Ok (word (span o s.at t.at) (substs_of ss), t)))
     word_by s from (Ok (ss, t)) is onward last =
         λ e. let le : t.at < length T = omega (arith, high E e, slice_get_within T M limit E.byte) in
         word_there s ss t from onward ((last (omega (arith, onward, le))).1 refl) is e
     word_by s from (Err f) is onward last = tt
 
-    word_go : (s : State) → a ≤ s.at → Holds (FoundWord s) (does (a_word inner) Whole (given T o) s)
+    word_go : (s : State) → a ≤ s.at → Holds (FoundWord s) (does (a_word inner) Whole (given edition T o) s)
     unfolding a_word
     word_go s from =
         let body = contents inner Plain (o + s.at) [] in
-        subst (Holds (FoundWord s)) (joined (does body Whole (given T o) s))
-        (word_by s from (does body Whole (given T o) s) refl (low body Whole (given T o) s).told (λ le. contents_end (given T o) inner (stays_in (given T o) room) Plain (o + s.at) [] s le))
+        subst (Holds (FoundWord s)) (joined (does body Whole (given edition T o) s))
+        (word_by s from (does body Whole (given edition T o) s) refl (low body Whole (given edition T o) s).told (λ le. contents_end (given edition T o) inner (stays_in (given edition T o) room) Plain (o + s.at) [] s le))
       where
         joined : (x : Read (Row ASubst))
             → ◌▸◌ {Y = AWord} x (λ ss t. Ok (word (span o s.at t.at) (substs_of ss), t)) ≡ ◌▸◌ {Y = AWord} (◌▸◌ {Y = Row ASubst × Span} x (λ ss t. Ok ((ss, span o s.at t.at), t))) (λ w t. Ok (word w.1 (substs_of w.0), t))
@@ -104,21 +105,21 @@ module _ (room : ℕ) (all : Everywhere (level room)) where
     fine : Fine E o o2 B B2 stands stands_there inner
     fine = record {
       word = record { go = word_go };
-      compound = all.compound T U a M to limit E o o2 B B2 stands stands_there;
-      function = all.function T U a M to limit E o o2 B B2 stands stands_there;
+      compound = all.compound edition T U a M to limit E o o2 B B2 stands stands_there;
+      function = all.function edition T U a M to limit E o o2 B B2 stands stands_there;
     }
 
   -- ---- a substitution
 
-  module _ {T U : List ℕ} {a L : ℕ} {to : ℕ → ℕ} (K : Kept T U a L to) (o o2 : ℕ) (B B2 : List ℕ) (stands : T ≡ drop o B) (stands_there : U ≡ drop o2 B2) where
+  module _ {edition : Edition} {T U : List ℕ} {a L : ℕ} {to : ℕ → ℕ} (K : Kept edition T U a L to) (o o2 : ℕ) (B B2 : List ℕ) (stands : T ≡ drop o B) (stands_there : U ≡ drop o2 B2) where
     abbrev g : Given
-    g = given T o
+    g = given edition T o
 
     abbrev h : Given
-    h = given U o2
+    h = given edition U o2
 
     -- its `)` is the limit of its list
-    limit_at : (M : ℕ) → a ≤ M → M + 1 ≤ L → slice_get T M ≡ Some 41 → ListEnds T U a M to 41
+    limit_at : (M : ℕ) → a ≤ M → M + 1 ≤ L → slice_get T M ≡ Some 41 → ListEnds edition T U a M to 41
     limit_at M from le is = record {
       kept = record { under = omega (arith, from); on = K.on; same = λ r low lt. K.same r low (omega (arith, lt, le)) };
       under = from;
@@ -148,7 +149,7 @@ module _ (room : ℕ) (all : Everywhere (level room)) where
       s = own_level outer
 
       abbrev the_next : Next
-      the_next = next_at Command T s.at
+      the_next = next_in edition (next_at Command T s.at)
 
       abbrev start : State
       start = record { at = past_blanks T s.at; waiting = s.waiting; bodies = s.bodies }
@@ -169,7 +170,7 @@ module _ (room : ℕ) (all : Everywhere (level room)) where
         byte = ap (slice_get T) (sym shown.1) ∙ shown.0
 
         module _ (le : M + 1 ≤ L) where
-          E : ListEnds T U a M to 41
+          E : ListEnds edition T U a M to 41
           E = limit_at M (omega (arith, from, still, onward)) le byte
 
           abbrev over_there : State → State
@@ -293,19 +294,19 @@ module _ (room : ℕ) (all : Everywhere (level room)) where
 pub everywhere : (room : ℕ) → Everywhere (level room)
 unfolding level
 everywhere zero = record {
-  local = λ T U a L to K o o2 B B2 stands stands_there ender no_open. record { construct = λ mode closed b b2 ss s from. tt; substitution = λ b b2 ss s from. tt };
-  compound = λ T U a M to limit E o o2 B B2 stands stands_there c. go_stopped E o o2 B B2 stands stands_there;
-  function = λ T U a M to limit E o o2 B B2 stands stands_there name new same. go_stop E o o2 B B2 stands stands_there;
+  local = λ edition T U a L to K o o2 B B2 stands stands_there ender no_open. record { construct = λ mode closed b b2 ss s from. tt; substitution = λ b b2 ss s from. tt };
+  compound = λ edition T U a M to limit E o o2 B B2 stands stands_there c. go_stopped E o o2 B B2 stands stands_there;
+  function = λ edition T U a M to limit E o o2 B B2 stands stands_there name new same. go_stop E o o2 B B2 stands stands_there;
 }
 everywhere (suc room) =
     record {
-      local = λ T U a L to K o o2 B B2 stands stands_there ender no_open.
+      local = λ edition T U a L to K o o2 B B2 stands stands_there ender no_open.
           record {
             construct = λ mode closed b b2 ss s from.
-                construct_in K o o2 B B2 ender no_open (level room) ((everywhere room).local T U a L to K o o2 B B2 stands stands_there ender no_open) mode closed b b2 ss s from;
+                construct_in K o o2 B B2 ender no_open (level room) ((everywhere room).local edition T U a L to K o o2 B B2 stands stands_there ender no_open) mode closed b b2 ss s from;
             substitution = λ b b2 ss s from. substitution_there room (everywhere room) K o o2 B B2 stands stands_there b b2 ss s from;
           };
-      compound = λ T U a M to limit E o o2 B B2 stands stands_there c. compound_same E o o2 B B2 stands stands_there (level room) (fine room (everywhere room) E o o2 B B2 stands stands_there) c;
-      function = λ T U a M to limit E o o2 B B2 stands stands_there name new same.
+      compound = λ edition T U a M to limit E o o2 B B2 stands stands_there c. compound_same E o o2 B B2 stands stands_there (level room) (fine room (everywhere room) E o o2 B B2 stands stands_there) c;
+      function = λ edition T U a M to limit E o o2 B B2 stands stands_there name new same.
           function_same E o o2 B B2 stands stands_there (level room) (fine room (everywhere room) E o o2 B B2 stands stands_there) name new same;
     }

@@ -12,11 +12,12 @@ use Rattle.shgrammar.specs.Comments.{span}
 use Rattle.shgrammar.specs.HereDocuments.{own_level, outer_level}
 use Rattle.shgrammar.specs.Sights.{Given, State, standing, Sight, seen, Move}
 use Rattle.shgrammar.specs.Form.{Form, give, see, move, push, stop, both, when, token, many, a_level, Told, Step, again, done, Read, ◌▸◌, does, may, moved, leads_on, turns, turns_below, next, Spelled, in_substitution}
-use Rattle.shgrammar.specs.Words.{Held, having, opened, piece_row, a_piece, single, backquote_turn, backquoted, Inner, contents, a_word}
+use Rattle.shgrammar.specs.Words.{Held, having, opened, piece_row, a_piece, single, escaped_turn, backquoted, Inner, contents, a_word}
 use Rattle.shgrammar.specs.Substitutions.{a_substitution, one_substitution}
 use Rattle.shgrammar.specs.Levels.{level}
 use Rattle.shgrammar.proofs.OneOutcome.{is}
 use Rattle.shgrammar.proofs.Anywhere.{word_told}
+use Rattle.shgrammar.specs.Words.{dollar_single}
 
 -- a place, where that waits which waits at t
 abbrev pub place_of : State → ℕ → State
@@ -120,9 +121,14 @@ module _ (g : Given) where
   single_blind = blind_sees (λ s t. refl) (λ b. blind_moves (blind_moves (blind_when (λ s t. refl) blind_stop blind_move)))
 
   backquoted_blind : Blind backquoted
-  unfolding backquoted backquote_turn
+  unfolding backquoted escaped_turn
   backquoted_blind =
       blind_sees (λ s t. refl) (λ b. blind_moves (blind_many _ (λ u. blind_moves (blind_when (λ s t. refl) blind_stop (blind_when (λ s t. refl) blind_stop (blind_sees (λ s t. refl) (λ x. blind_moves blind_give))))) tt))
+
+  dollar_single_blind : Blind dollar_single
+  unfolding dollar_single escaped_turn
+  dollar_single_blind =
+      blind_sees (λ s t. refl) (λ b. blind_moves (blind_moves (blind_many _ (λ u. blind_moves (blind_when (λ s t. refl) blind_stop (blind_when (λ s t. refl) blind_stop (blind_sees (λ s t. refl) (λ x. blind_moves blind_give))))) tt)))
 
   record Blinds (inner : Inner) : Type 0 where
     construct : (mode : Mode) (b : ℕ) (ss : Row ASubst) → Blind (inner.construct mode b ss)
@@ -138,6 +144,7 @@ module _ (g : Given) where
     piece_blind mode b h pieces.LoneBackslash = blind_sees (λ s t. refl) (λ x. blind_stop)
     piece_blind mode b h pieces.Escape = blind_moves (blind_moves blind_give)
     piece_blind mode b h pieces.Single = blind_both single_blind (λ x. blind_give)
+    piece_blind mode b h pieces.DollarSingle = blind_both dollar_single_blind (λ x. blind_give)
     piece_blind mode b h pieces.Double = blind_sees (λ s t. refl) (λ x. blind_moves (opened_blind _ _ h))
     piece_blind mode b h pieces.Backquote = blind_both backquoted_blind (λ x. blind_give)
     piece_blind mode b h pieces.Pid = blind_moves (blind_moves blind_give)

@@ -2,6 +2,8 @@
 use Rattle.std.proofs.Common.{◌≡◌, ℕ, zero, suc, ◌+◌, ◌-◌, ◌≤◌, ◌<◌, ◌==◌, Bool, true, false, not, Ok, Err, List, List as Row, [], length, Option, Some, None, refl, sym, subst, ◌∙◌, arith}
 use Rattle.std.proofs.lemmas.Bool.{cond_both}
 use Rattle.std.proofs.lemmas.Option.{slice_get_within}
+use Rattle.shgrammar.specs.declared.mode.Escaping.{Escaping}
+use Rattle.shgrammar.specs.declared.mode.Escaping.TheVariants as escapings
 use Rattle.shgrammar.specs.declared.keep.Keep.TheVariants.{Whole}
 use Rattle.shgrammar.specs.declared.mode.Mode.{Mode}
 use Rattle.shgrammar.specs.declared.mode.Mode.TheVariants.{Plain, Double, Brace, DoubleBrace, Arith}
@@ -11,11 +13,11 @@ use Rattle.shgrammar.specs.declared.token.Closing.TheVariants as closings
 use Rattle.shgrammar.specs.declared.token.Position.TheVariants.{Command}
 use Rattle.shgrammar.specs.Standing.{raw_stands, at_end}
 use Rattle.shgrammar.specs.Bytes.{ends, ends_word, past_continuations, byte_at, behind, stands}
-use Rattle.shgrammar.specs.Pieces.{dollar_by, dollar_at, bracket_by, byte_by, piece_by, piece_at, end_by, past_taken, past_closer, past_parameter, next_quote, next_in_backquotes, is_last_backslash, rest_mode}
+use Rattle.shgrammar.specs.Pieces.{dollar_by, dollar_at, bracket_by, byte_by, piece_by, piece_at, end_by, past_taken, past_closer, past_parameter, next_quote, is_last_backslash, rest_mode}
 use Rattle.shast.specs.Tree.{ASubst, entries_of}
 use Rattle.shgrammar.specs.Sights.{Given, State, standing, one_byte}
 use Rattle.shgrammar.specs.Form.{Read, Form, give, move, ◌>>◌, Step, again, done, step_if, as_it_stands, token, many, does}
-use Rattle.shgrammar.specs.Words.{single, backquote_turn, backquoted, Inner, Held, having, opened, piece_row, a_piece, contents, a_word}
+use Rattle.shgrammar.specs.Words.{single, escaped_turn, backquoted, Inner, Held, having, opened, piece_row, a_piece, contents, a_word}
 use Rattle.shgrammar.specs.HereDocuments.{first_waiting, own_level}
 use Rattle.shgrammar.specs.Commands.{none_waits, nothing_waits, pick, unexpected}
 use Rattle.shgrammar.specs.Lists.{ListSo}
@@ -23,12 +25,17 @@ use Rattle.shgrammar.specs.Compounds.{is_closing}
 use Rattle.shgrammar.specs.Substitutions.{substituted, a_substitution, one_substitution}
 use Rattle.shgrammar.specs.Levels.{level, IsWord}
 use Rattle.shgrammar.proofs.Stretches.{place_low}
-use Rattle.shgrammar.proofs.Places.{behind_low, behind_high, stands_low, not_end_low, next_of_low, next_in_backquotes_low, parameter_low, parameter_high, quote_clear}
+use Rattle.shgrammar.proofs.Places.{behind_low, behind_high, stands_low, not_end_low, next_of_low, parameter_low, parameter_high, quote_clear}
 use Rattle.shgrammar.proofs.Turns.{turns_fault, many_again, many_done}
 use Rattle.shgrammar.proofs.Holds.{tells_level, Holds, holds_then, Tells, Turned, tells_then, tells_many, tells_after, tells_seen, tells_ending, Behind, low, tells_inside}
 use Rattle.shgrammar.proofs.TokensShown.{Begins, Fine, paren_here, shown_level, shown_lines, shown_next}
 use Rattle.shgrammar.proofs.Ahead.{behind_is}
 use Rattle.shgrammar.proofs.OneOutcome.{is}
+use Rattle.shgrammar.specs.Pieces.{closes_by, next_escaped, piece_in, quotes_singly}
+use Rattle.shgrammar.specs.Words.{dollar_single}
+use Rattle.shgrammar.specs.Tokens.{is_later}
+use Rattle.shgrammar.proofs.Places.{next_escaped_low}
+use Rattle.std.proofs.Common.{◌&&◌}
 
 -- behind a byte, or two
 taken_on : (T : List ℕ) (q : ℕ) → q < length T → (raw_stands T q 92 ≡ true → q + 1 < length T) → (q < past_taken T q) × (past_taken T q ≤ length T)
@@ -89,7 +96,7 @@ module _ (g : Given) where
       q : ℕ
       q = next_quote T (behind T s.at)
 
-  module _ (s0 : State) (b : ℕ) where
+  module _ (s0 : State) (how : Escaping) (b : ℕ) where
     abbrev LaterEnds : Step (Unit {0}) → State → Type 0
     LaterEnds x t = Turned Whole g (On s0) x t
 
@@ -97,24 +104,31 @@ module _ (g : Given) where
     later_step true t so = so
     later_step false t so = so
 
-    backquote_each : (u : Unit {0}) (s : State) → On s0 u s → Tells Whole g (backquote_turn b u) LaterEnds s
-    unfolding backquote_turn
-    backquote_each u s so =
+    escaped_each : (u : Unit {0}) (s : State) → On s0 u s → Tells Whole g (escaped_turn how b u) LaterEnds s
+    unfolding escaped_turn
+    escaped_each u s so =
         record {
           told = cond_both (at_end T q) _ _ (Holds LaterEnds) (λ e. tt)
               (λ e. cond_both (is_last_backslash T q) _ _ (Holds LaterEnds) (λ f. tt)
               (λ f. let w = taken_on T q (not_end_low T q e) (not_last T q f) in
-              later_step (not (raw_stands T q 96)) (placed (past_taken T q) s) (omega (arith, so.0, w.0, next_in_backquotes_low T s.at), w.1)));
+              later_step (not (raw_stands T q (closes_by how))) (placed (past_taken T q) s) (omega (arith, so.0, w.0, next_escaped_low how T s.at), w.1)));
         }
       where
         q : ℕ
-        q = next_in_backquotes T s.at
+        q = next_escaped how T s.at
 
   backquoted_on : (s : State) → past_continuations T s.at < length T → Holds (On s) (does backquoted Whole g s)
   unfolding backquoted
   backquoted_on s lt =
       let b = g.offset + past_continuations T s.at in
-      (tells_many Whole g (backquote_turn b) (On s) (backquote_each s b) tt (placed (behind T s.at) s) (behind_low T s.at, behind_high T s.at lt)).told
+      (tells_many Whole g (escaped_turn escapings.Backquotes b) (On s) (escaped_each s escapings.Backquotes b) tt (placed (behind T s.at) s) (behind_low T s.at, behind_high T s.at lt)).told
+
+  dollar_single_on : (s : State) → past_continuations T (behind T s.at) < length T → Holds (On s) (does dollar_single Whole g s)
+  unfolding dollar_single
+  dollar_single_on s lt =
+      let b = g.offset + past_continuations T s.at in
+      (tells_many Whole g (escaped_turn escapings.DollarSingle b) (On s) (escaped_each s escapings.DollarSingle b) tt (placed (behind T (behind T s.at)) s)
+      (omega (arith, behind_low T s.at, behind_low T (behind T s.at)), behind_high T (behind T s.at) lt)).told
 
   -- ---- pieces
 
@@ -139,6 +153,7 @@ module _ (g : Given) where
   Needs mode p pieces.LoneBackslash = Unit {0}
   Needs mode p pieces.Escape = past_continuations T p + 1 < length T
   Needs mode p pieces.Single = past_continuations T p < length T
+  Needs mode p pieces.DollarSingle = past_continuations T (behind T p) < length T
   Needs mode p pieces.Double = past_continuations T p < length T
   Needs mode p pieces.Backquote = past_continuations T p < length T
   Needs mode p pieces.Pid = past_continuations T (behind T p) < length T
@@ -170,7 +185,7 @@ module _ (g : Given) where
         let next = slice_get_within T (past_continuations T (behind T p)) v is in
         cond_both (v == 36) _ _ (Needs mode p) (λ e. next)
         (λ e. cond_both (v == 40) _ _ (Needs mode p) (λ f. cond_both (stands T (behind T (behind T p)) 40) _ _ (Needs mode p) (λ d. stands_low T (behind T (behind T p)) 40 d) (λ d. tt))
-        (λ f. cond_both (v == 123) _ _ (Needs mode p) (λ d. next) (λ d. lt)))
+        (λ f. cond_both (v == 123) _ _ (Needs mode p) (λ d. next) (λ d. cond_both (v == 39) _ _ (Needs mode p) (λ z. next) (λ z. lt))))
 
     byte_needs : (mode : Mode) (v : ℕ) → byte_at T p ≡ Some v → past_continuations T p < length T → Needs mode p (byte_by T p mode n v)
     unfolding ends_word
@@ -199,6 +214,25 @@ module _ (g : Given) where
     unfolding piece_at
     needs = needs_by (byte_at T p) refl
 
+    -- and so does the piece that the edition has
+    needs_known : (x : Piece) → Needs mode p x → Needs mode p (piece_in g.edition mode x)
+    needs_known pieces.DollarSingle so = cond_both (is_later g.edition && quotes_singly mode) _ _ (Needs mode p) (λ e. so) (λ e. omega (arith, so, place_low T (behind T p), behind_is T p))
+    needs_known pieces.Closer so = so
+    needs_known pieces.Missing so = so
+    needs_known pieces.LoneBackslash so = so
+    needs_known pieces.Escape so = so
+    needs_known pieces.Single so = so
+    needs_known pieces.Double so = so
+    needs_known pieces.Backquote so = so
+    needs_known pieces.Pid so = so
+    needs_known pieces.Subst so = so
+    needs_known pieces.Arith so = so
+    needs_known pieces.Param so = so
+    needs_known pieces.Open so = so
+    needs_known pieces.Close so = so
+    needs_known pieces.BadClose so = so
+    needs_known pieces.Ordinary so = so
+
   closer_last : (mode : Mode) (p : ℕ) → p ≤ length T → Closes mode p → (past_closer T mode p ≤ length T) × (mode ≡ Plain → ends_word T (past_closer T mode p) ≡ true)
   closer_last Plain p le so = (le, λ e. so)
   closer_last Double p le so = (behind_high T p so, λ e. absurd cc)
@@ -224,6 +258,7 @@ module _ (g : Given) where
     row pieces.LoneBackslash so = tt
     row pieces.Escape so = let w = taken_on T (past_continuations T p) (omega (arith, so)) (λ e. so) in (omega (arith, w.0, place_low T p), w.1)
     row pieces.Single so = holds_then (On s) Turn (does single Whole g s) (λ u t. Ok (again c, t)) (single_on s) (λ u t on. on)
+    row pieces.DollarSingle so = holds_then (On s) Turn (does dollar_single Whole g s) (λ u t. Ok (again c, t)) (dollar_single_on s so) (λ u t on. on)
     row pieces.Double so = opens Double _ (placed (behind T p) s) (behind_low T p) (behind_high T p so)
     row pieces.Backquote so = holds_then (On s) Turn (does backquoted Whole g s) (λ u t. Ok (again c, t)) (backquoted_on s so) (λ u t on. on)
     row pieces.Pid so = (omega (arith, behind_low T p, behind_low T (behind T p)), behind_high T (behind T p) so)
@@ -243,7 +278,7 @@ module _ (g : Given) where
 
     piece_turn : Holds Turn (does (a_piece inner mode b c) Whole g s)
     unfolding a_piece
-    piece_turn = row (piece_at T mode c.nested p) (needs mode c.nested p)
+    piece_turn = row (piece_in g.edition mode (piece_at T mode c.nested p)) (needs_known mode c.nested p (piece_at T mode c.nested p) (needs mode c.nested p))
 
   -- ---- constructs in constructs, and words
 

@@ -20,8 +20,8 @@ use Rattle.shast.specs.declared.tree.Span.{Span}
 use Rattle.shast.specs.Tree.{AHere, AJoin, AnItem, AnItemContent, AWord, AnEntry, ACommand, APipeline, APipelinePart, AnAndOr, AnAndOrPart, item, assign, argument, redirect, items_of, simple, with_redirects, pipeline, pipeline_parts_of, and_or, and_or_parts_of, entry, command}
 use Rattle.shast.specs.Nodes.{word_span}
 use Rattle.shast.specs.Spelling.{and_or_text, redirect_text}
-use Rattle.shgrammar.specs.Sights.{Waiting, here, the_token, the_comment, is_a_name, a_document_waits, blanks, one_byte, a_comment_on, the_digits}
-use Rattle.shgrammar.specs.HereDocuments.{ADelimiter, delimiter_of, waits, bodies_here}
+use Rattle.shgrammar.specs.Sights.{Waiting, here, the_token, the_comment, is_a_name, a_document_waits, the_delimiter, blanks, one_byte, a_comment_on, the_digits}
+use Rattle.shgrammar.specs.HereDocuments.{ADelimiter, waits, bodies_here}
 use Rattle.shgrammar.specs.Form.{Form, give, see, move, push, stop, Told, untold, bared, by, token, many, change, with_bytes, Spelled, ◌>>=◌, ◌>>◌, Step, again, done, step_if}
 use Rattle.shgrammar.specs.Tokens.{is_end}
 use Rattle.shgrammar.specs.Words.{Inner, a_word}
@@ -64,6 +64,15 @@ is_word _ = false
 abbrev pub is_double_semicolon : Token → Bool
 is_double_semicolon tokens.DoubleSemicolon = true
 is_double_semicolon _ = false
+
+-- it ends an item of a `case`, and the next one is run too
+abbrev pub falls_through : Token → Bool
+falls_through tokens.SemicolonAmpersand = true
+falls_through _ = false
+
+-- it ends an item of a `case`
+abbrev pub ends_item : Token → Bool
+ends_item t = is_double_semicolon t || falls_through t
 
 abbrev pub is_bang : Token → Bool
 is_bang (tokens.Reserved reserved.Bang) = true
@@ -218,7 +227,7 @@ document_by b p strip None = stop BadHereWord p
 
 -- the here-document of an operator at b, if it takes one, whose word is at p and has these bytes
 unfoldable pub a_document : RedirectOperator → ℕ → ℕ → Spelled → Form (Option AHere)
-a_document o b p bytes = pick (takes_here o) (document_by b p (is_strip o) (delimiter_of bytes)) (give None)
+a_document o b p bytes = pick (takes_here o) (see (the_delimiter bytes) >>= document_by b p (is_strip o)) (give None)
 
 -- the redirection that begins here, as one more of these items, and the token behind it, which stands in this position
 unfoldable pub one_redirect : Inner → Bool → Position → Row AnItem → Next → Form (Step Items)

@@ -15,9 +15,9 @@ use Rattle.shast.specs.declared.tree.Span.{Span}
 use Rattle.shast.specs.Nodes.{through, commands_end}
 use Rattle.shast.specs.Tree.{Entries, entry, remark, more_entries, ACommand, simple, compound, function, formed, AForm, brace, subshell, if_then, while_do, until_do, for_in, AWord, ForWords, no_in, in_words, items_of, ABranch, branch, branches_of, Otherwise, no_else, otherwise, no_item, case_in, ACaseItem, case_item, cases_of, patterns_of, entries_of}
 use Rattle.shgrammar.specs.Sights.{here, is_a_name, Move, one_byte, the_reserved}
-use Rattle.shgrammar.specs.Form.{Form, Spelled, give, see, move, push, stop, by, token, many, ◌>>=◌, ◌>>◌, Step, again, done}
+use Rattle.shgrammar.specs.Form.{Form, Spelled, Told, untold, give, see, move, push, stop, by, token, many, ◌>>=◌, ◌>>◌, Step, again, done}
 use Rattle.shgrammar.specs.Words.{Inner, a_word}
-use Rattle.shgrammar.specs.Commands.{next_token, pick, begins_word, opener_of, compound_by, unexpected, a_semicolon, JoinSo, join_so, a_join_of, join_turn, Items, so_many, an_item, is_word, is_pipe, is_paren, is_double_semicolon}
+use Rattle.shgrammar.specs.Commands.{next_token, pick, begins_word, opener_of, compound_by, unexpected, a_semicolon, JoinSo, join_so, a_join_of, join_turn, Items, so_many, an_item, is_word, is_pipe, is_paren, ends_item, falls_through}
 use Rattle.shgrammar.specs.Lists.{a_list, Listed, ListSo, list_so, none_listed, list_turn}
 
 -- ---- what opens, parts and closes the lists of a compound command
@@ -257,15 +257,20 @@ pub record ItemEnd : Type 0 where
 abbrev pub item_end : ℕ → Row Span → Next → ItemEnd
 item_end p cs n = record { at = p; comments = cs; next = n }
 
--- `;;` here, with newlines and comments behind it; a tree does not tell it
-unfoldable pub a_double_semicolon : Form ItemEnd
-a_double_semicolon =
-    move one_byte >> move one_byte >> see here >>= λ p. next_token Command >>= λ n. a_linebreak [] n >>= λ l. give (item_end p l.join.comments l.next)
+-- a `;;` is not told, a `;&` is
+abbrev pub ender_told : Bool → Told
+ender_told true = by (codes ";&")
+ender_told false = untold
 
--- An item ends behind its `;;`. The last one of a case may have none: then it ends there.
+-- `;;` here, or `;&`, with newlines and comments behind it
+unfoldable pub an_ender : Bool → Form ItemEnd
+an_ender falling =
+    token (ender_told falling) (move one_byte >> move one_byte) >> see here >>= λ p. next_token Command >>= λ n. a_linebreak [] n >>= λ l. give (item_end p l.join.comments l.next)
+
+-- An item ends behind its `;;` or `;&`. The last one of a case may have none: then it ends there.
 unfoldable pub an_item_end : Inner → ℕ → Next → Form ItemEnd
 an_item_end inner there n =
-    pick (is_double_semicolon n.token) a_double_semicolon
+    pick (ends_item n.token) (an_ender (falls_through n.token))
     (pick (is_closing closings.Esac n.token) (give (item_end there [] n)) (unexpected inner n))
 
 -- the items so far, the comments behind them, and the token behind those
@@ -286,7 +291,7 @@ one_case inner c =
     closing inner closings.Paren ps.next >>= λ k.
     a_body inner k.1 >>= λ b.
     an_item_end inner (body_end k.0.«end» b.list) b.next >>= λ e.
-    push c.items (case_item c.comments (patterns_of ps.patterns) (entries_of b.list.entries) (record { start = p; «end» = e.at })) >>= λ is.
+    push c.items (case_item c.comments (patterns_of ps.patterns) (entries_of b.list.entries) (record { mark = record { start = p; «end» = e.at }; falls = falls_through b.next.token })) >>= λ is.
     give (again (cases_so is e.comments e.next))
 
 -- one more, or none: `esac` ends them

@@ -8,6 +8,8 @@ use Rattle.shgrammar.specs.declared.fault.FaultKind.TheVariants.{UnclosedHere}
 use Rattle.shgrammar.specs.Standing.{at_end, count_front, next_newline}
 use Rattle.shgrammar.specs.Bytes.{stands}
 use Rattle.shgrammar.specs.Comments.{span}
+use Rattle.shgrammar.specs.declared.edition.Edition.{Edition}
+use Rattle.shgrammar.specs.Tokens.{is_later}
 use Rattle.shgrammar.specs.States.{Given, State, Waiting}
 
 -- ---- delimiters
@@ -79,6 +81,19 @@ pub record ADelimiter : Type 0 where
 -- the delimiter that a word is, by its bytes as they stand; one with an expansion is none
 abbrev pub delimiter_of : List ℕ → Option ADelimiter
 delimiter_of bytes = option_map (λ text. record { text = text; literal = is_quoted bytes }) (unquoted not_quoted false bytes)
+
+-- Text in dollar-single quotes stands in these bytes of a word; whether the next `$` is the second of `$$`.
+unfoldable pub has_dollar_single : Quoting → Bool → List ℕ → Bool
+has_dollar_single q second [] = false
+has_dollar_single q second (b ∷ []) = false
+has_dollar_single q second (b ∷ c ∷ bs) = if is_live q 92 b then has_dollar_single q second bs
+    else (if is_quote q b then has_dollar_single (behind_quote q b) false (c ∷ bs)
+    else (if is_live q 36 b then (not second && is_quote q 39 && stands (c ∷ bs) 0 39) || has_dollar_single q (not second && stands (c ∷ bs) 0 36) (c ∷ bs)
+    else has_dollar_single q second (c ∷ bs)))
+
+-- the delimiter that an edition has: text in dollar-single quotes makes none, where the edition has it
+abbrev pub delimiter_in : Edition → List ℕ → Option ADelimiter
+delimiter_in edition bytes = if is_later edition && has_dollar_single not_quoted false bytes then None else delimiter_of bytes
 
 -- ---- the line of a delimiter
 

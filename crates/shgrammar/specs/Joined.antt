@@ -1,5 +1,6 @@
 -- The script of a row of lines, each read as a script of its own.
 use Rattle.std.specs.Prelude.{◌≡◌, ℕ, ◌+◌, Bool, true, false, ◌&&◌, List, List as Row, [], ◌∷◌, drop, length, None, Some}
+use Rattle.shgrammar.specs.declared.edition.Edition.{Edition}
 use Rattle.shast.specs.Tree.{Entries, no_entry, more_entries}
 use Rattle.shast.specs.Moved.{appended, blanked_entry, moved}
 use Rattle.shgrammar.specs.Lines.{ALine, AKind, blank_line, entries_line, end_line, faulty_line, IsLine}
@@ -28,6 +29,6 @@ joined [] es gap base = record { entries = es; wrong = None }
 joined (l ∷ ls) es gap base = joined_by (λ es gap. joined ls es gap (base + l.next)) l.kind es gap base
 
 -- The lines of B from p on: ended ones, and one that is not ended, which is the rest.
-pub data AreLines (B : List ℕ) : ℕ → Row ALine → Type 0 where
-  last_of : {p : ℕ} (l : ALine) → IsLine (drop p B) l → l.ended ≡ false → l.next ≡ length (drop p B) → AreLines B p (l ∷ [])
-  more_of : {p : ℕ} (l : ALine) (ls : Row ALine) → IsLine (drop p B) l → l.ended ≡ true → AreLines B (p + l.next) ls → AreLines B p (l ∷ ls)
+pub data AreLines (edition : Edition) (B : List ℕ) : ℕ → Row ALine → Type 0 where
+  last_of : {p : ℕ} (l : ALine) → IsLine edition (drop p B) l → l.ended ≡ false → l.next ≡ length (drop p B) → AreLines edition B p (l ∷ [])
+  more_of : {p : ℕ} (l : ALine) (ls : Row ALine) → IsLine edition (drop p B) l → l.ended ≡ true → AreLines edition B (p + l.next) ls → AreLines edition B p (l ∷ ls)

@@ -10,6 +10,7 @@ pub mod Sights
 pub mod Form
 pub mod Words
 pub mod Commands
+pub mod By2017
 pub mod Lists
 pub mod Compounds
 pub mod Substitutions

@@ -1,5 +1,6 @@
 -- The lines of a script (XCU 2.10.2), and a line read as a script of its own.
 use Rattle.std.specs.Prelude.{ℕ, ◌-◌, ◌≤◌, Bool, true, false, ◌&&◌, [], ◌∷◌, List, List as Row, drop, length, take, Ok, Err, ◌≡◌}
+use Rattle.shgrammar.specs.declared.edition.Edition.{Edition}
 use Rattle.shgrammar.specs.declared.fault.Fault.{Fault}
 use Rattle.shgrammar.specs.declared.token.Next.{Next}
 use Rattle.shgrammar.specs.declared.token.Position.TheVariants.{Command}
@@ -59,20 +60,20 @@ abbrev pub is_ended : List ℕ → Bool → ℕ → Bool
 is_ended T newline q = newline && raw_stands T (q - 1) 10
 
 -- the line with which the text begins
-pub data IsLine (T : List ℕ) : ALine → Type 0 where
-  line_read : (es : Row AnEntry) (newline : Bool) (t : State) (k : Row Spelled) → may (a_line (level most_open) false) (given T 0) (standing 0) (Ok ((es, newline), t)) k
-      → IsLine T (record { kind = kind_of es newline; next = t.at; ended = is_ended T newline t.at })
-  line_stops : (f : Fault) (k : Row Spelled) → may (a_line (level most_open) false) (given T 0) (standing 0) (Err f) k → IsLine T (record { kind = faulty_line f; next = length T; ended = false })
+pub data IsLine (edition : Edition) (T : List ℕ) : ALine → Type 0 where
+  line_read : (es : Row AnEntry) (newline : Bool) (t : State) (k : Row Spelled) → may (a_line (level most_open) false) (given edition T 0) (standing 0) (Ok ((es, newline), t)) k
+      → IsLine edition T (record { kind = kind_of es newline; next = t.at; ended = is_ended T newline t.at })
+  line_stops : (f : Fault) (k : Row Spelled) → may (a_line (level most_open) false) (given edition T 0) (standing 0) (Err f) k → IsLine edition T (record { kind = faulty_line f; next = length T; ended = false })
 
 -- ---- what a line may look at
 
 -- wherever the bytes T stand, they have this line
-abbrev pub SameBytes : List ℕ → ALine → Type 0
-SameBytes T line = (other : List ℕ) (q : ℕ) → drop q other ≡ T → IsLine (drop q other) line
+abbrev pub SameBytes : Edition → List ℕ → ALine → Type 0
+SameBytes edition T line = (other : List ℕ) (q : ℕ) → drop q other ≡ T → IsLine edition (drop q other) line
 
 -- where the bytes of T up to the end of the line stand, they have this line, whatever follows
-abbrev pub NoFurther : List ℕ → ALine → Type 0
-NoFurther T line = (other : List ℕ) (q : ℕ) → take line.next (drop q other) ≡ take line.next T → IsLine (drop q other) line
+abbrev pub NoFurther : Edition → List ℕ → ALine → Type 0
+NoFurther edition T line = (other : List ℕ) (q : ℕ) → take line.next (drop q other) ≡ take line.next T → IsLine edition (drop q other) line
 
 -- no node of a line's entries names an offset above this one
 abbrev pub EntriesWithin : ℕ → AKind → Type 0

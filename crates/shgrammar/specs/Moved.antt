@@ -1,5 +1,6 @@
 -- A line that stands elsewhere in a script: its tree with each of its spans moved, and what is read there.
-use Rattle.std.specs.Prelude.{◌≡◌, ℕ, zero, suc, ◌+◌, Bool, true, false, List, List as Row, [], ◌∷◌, map, option_map, Ok, Err}
+use Rattle.std.specs.Prelude.{◌≡◌, ℕ, ◌+◌, Bool, true, false, List, List as Row, map, Ok, Err}
+use Rattle.shgrammar.specs.declared.edition.Edition.{Edition}
 use Rattle.shgrammar.specs.declared.keep.Keep.TheVariants.{Whole}
 use Rattle.shast.specs.Tree.{AnEntry}
 use Rattle.shast.specs.Moved.{blanked_row, placed_body, placed_entry}
@@ -30,5 +31,5 @@ abbrev pub Same : ℕ → Bool → Read (Row AnEntry × Bool) → Read (Row AnEn
 Same p blank x y = SameBy true p blank x y
 
 -- a line at p has the entries of the line by itself, moved by p, the first of them blank where that is said
-abbrev pub LineMoves : List ℕ → Type 0
-LineMoves B = (p : ℕ) (blank : Bool) → Same p blank (line_told B Whole blank p p) (line_told B Whole false p 0)
+abbrev pub LineMoves : Edition → List ℕ → Type 0
+LineMoves edition B = (p : ℕ) (blank : Bool) → Same p blank (line_told edition B Whole blank p p) (line_told edition B Whole false p 0)

@@ -1,7 +1,11 @@
 -- The pieces of a word: what begins one in each mode (XCU 2.2, 2.6).
 use Rattle.std.specs.Prelude.{ℕ, zero, suc, ◌+◌, ◌==◌, Bool, true, false, ◌&&◌, ◌||◌, List, Option, None, Some, if◌then◌else◌}
 use Rattle.shgrammar.specs.declared.fault.FaultKind.{FaultKind}
-use Rattle.shgrammar.specs.declared.fault.FaultKind.TheVariants.{UnclosedDouble, UnclosedParam, UnclosedArith, UnexpectedEnd}
+use Rattle.shgrammar.specs.declared.fault.FaultKind.TheVariants.{UnclosedBackquote, UnclosedDollarSingle, UnclosedDouble, UnclosedParam, UnclosedArith, UnexpectedEnd}
+use Rattle.shgrammar.specs.declared.edition.Edition.{Edition}
+use Rattle.shgrammar.specs.Tokens.{is_later}
+use Rattle.shgrammar.specs.declared.mode.Escaping.{Escaping}
+use Rattle.shgrammar.specs.declared.mode.Escaping.TheVariants as escapings
 use Rattle.shgrammar.specs.declared.mode.Mode.{Mode}
 use Rattle.shgrammar.specs.declared.mode.Mode.TheVariants.{Plain, Double, Brace, DoubleBrace, Arith}
 use Rattle.shgrammar.specs.declared.mode.Piece.{Piece}
@@ -17,7 +21,8 @@ abbrev pub dollar_by : List ℕ → ℕ → Option ℕ → Piece
 dollar_by T q None = pieces.Ordinary
 dollar_by T q (Some b) = if b == 36 then pieces.Pid
     else (if b == 40 then (if stands T (behind T q) 40 then pieces.Arith else pieces.Subst)
-    else (if b == 123 then pieces.Param else pieces.Ordinary))
+    else (if b == 123 then pieces.Param
+    else (if b == 39 then pieces.DollarSingle else pieces.Ordinary)))
 
 -- what the `$` at p begins
 unfoldable pub dollar_at : List ℕ → ℕ → Piece
@@ -55,6 +60,20 @@ piece_by T p mode n (Some b) = if b == 92 then (if at_end T (behind T p) then pi
 unfoldable pub piece_at : List ℕ → Mode → ℕ → ℕ → Piece
 piece_at T mode n p = piece_by T p mode n (byte_at T p)
 
+-- ---- editions
+
+-- where single quotes quote
+abbrev pub quotes_singly : Mode → Bool
+quotes_singly Plain = true
+quotes_singly Brace = true
+quotes_singly _ = false
+
+-- The piece that an edition has in the place of this one: POSIX.1-2017 has no `$'`. Where single quotes do
+-- not quote, no edition has it.
+abbrev pub piece_in : Edition → Mode → Piece → Piece
+piece_in edition mode pieces.DollarSingle = if is_later edition && quotes_singly mode then pieces.DollarSingle else pieces.Ordinary
+piece_in edition mode piece = piece
+
 -- ---- where pieces lead
 
 -- behind the byte that stands at p; a backslash takes the byte behind it
@@ -83,9 +102,20 @@ unclosed Arith = UnclosedArith
 abbrev pub next_quote : List ℕ → ℕ → ℕ
 next_quote T p = next_of 39 T p
 
--- the next backquote or backslash, or the end (XCU 2.6.3)
-abbrev pub next_in_backquotes : List ℕ → ℕ → ℕ
-next_in_backquotes T p = next_such (λ b. b == 96 || b == 92) T p
+-- In backquotes (XCU 2.6.3), and in dollar-single quotes (POSIX.1-2024, XCU 2.2.4), a backslash takes one
+-- byte. The byte that closes such text:
+abbrev pub closes_by : Escaping → ℕ
+closes_by escapings.Backquotes = 96
+closes_by escapings.DollarSingle = 39
+
+-- the fault where the text ends in it
+abbrev pub unclosed_in : Escaping → FaultKind
+unclosed_in escapings.Backquotes = UnclosedBackquote
+unclosed_in escapings.DollarSingle = UnclosedDollarSingle
+
+-- the next such byte or backslash, or the end
+abbrev pub next_escaped : Escaping → List ℕ → ℕ → ℕ
+next_escaped how T p = next_such (λ b. b == closes_by how || b == 92) T p
 
 -- a backslash at p is the last byte
 abbrev pub is_last_backslash : List ℕ → ℕ → Bool

@@ -1,5 +1,6 @@
 -- A script as a whole: its lines, one after the other (XCU 2.10.2).
 use Rattle.std.specs.Prelude.{ℕ, zero, suc, ◌+◌, ◌-◌, Bool, true, false, ◌&&◌, not, [], ◌++◌, List, List as Row, drop, length, Option, None, Some, Ok, Err}
+use Rattle.shgrammar.specs.declared.edition.Edition.{Edition}
 use Rattle.shgrammar.specs.declared.keep.Keep.{Keep}
 use Rattle.shgrammar.specs.declared.keep.Keep.TheVariants.{Whole}
 use Rattle.shgrammar.specs.declared.script.Script as the_script
@@ -34,36 +35,36 @@ abbrev pub the_line : Bool → Form (Row AnEntry × Bool)
 the_line blank = a_line (level most_open) blank
 
 -- the lines from p on, and the tokens passed
-pub data Lines (B : List ℕ) : SoFar → ℕ → AScript → Row Spelled → Type 0 where
+pub data Lines (edition : Edition) (B : List ℕ) : SoFar → ℕ → AScript → Row Spelled → Type 0 where
   line_ended : {so : SoFar} {p : ℕ} {s : AScript} {l : Row Spelled} (es : Row AnEntry) (t : State) (k : Row Spelled)
-      → may (the_line (is_blank_line so)) (given (drop p B) p) (standing 0) (Ok ((es, true), t)) k → Lines B (with_line so es) (p + t.at) s l → Lines B so p s (k ++ l)
-  last_line : {so : SoFar} {p : ℕ} (es : Row AnEntry) (t : State) (k : Row Spelled) → may (the_line (is_blank_line so)) (given (drop p B) p) (standing 0) (Ok ((es, false), t)) k
-      → Lines B so p (record { entries = entries_of (so.entries ++ es); wrong = None }) k
-  faulty : {so : SoFar} {p : ℕ} (f : Fault) (k : Row Spelled) → may (the_line (is_blank_line so)) (given (drop p B) p) (standing 0) (Err f) k
-      → Lines B so p (record { entries = entries_of so.entries; wrong = Some f }) k
+      → may (the_line (is_blank_line so)) (given edition (drop p B) p) (standing 0) (Ok ((es, true), t)) k → Lines edition B (with_line so es) (p + t.at) s l → Lines edition B so p s (k ++ l)
+  last_line : {so : SoFar} {p : ℕ} (es : Row AnEntry) (t : State) (k : Row Spelled) → may (the_line (is_blank_line so)) (given edition (drop p B) p) (standing 0) (Ok ((es, false), t)) k
+      → Lines edition B so p (record { entries = entries_of (so.entries ++ es); wrong = None }) k
+  faulty : {so : SoFar} {p : ℕ} (f : Fault) (k : Row Spelled) → may (the_line (is_blank_line so)) (given edition (drop p B) p) (standing 0) (Err f) k
+      → Lines edition B so p (record { entries = entries_of so.entries; wrong = Some f }) k
 
 abbrev pub nothing_yet : SoFar
 nothing_yet = record { entries = []; gap = false }
 
 -- what is read of the bytes of a script, and the tokens passed
-abbrev pub Passes : List ℕ → AScript → Row Spelled → Type 0
-Passes B s k = Lines B nothing_yet 0 s k
+abbrev pub Passes : Edition → List ℕ → AScript → Row Spelled → Type 0
+Passes edition B s k = Lines edition B nothing_yet 0 s k
 
-abbrev pub Outcome : List ℕ → AScript → Type 0
-Outcome B s = (k : Row Spelled) × Passes B s k
+abbrev pub Outcome : Edition → List ℕ → AScript → Type 0
+Outcome edition B s = (k : Row Spelled) × Passes edition B s k
 
 -- the first fault of a script, or that it has none
-abbrev pub FirstFault : List ℕ → Option Fault → Type 0
-FirstFault B f = (es : Entries) × Outcome B (record { entries = es; wrong = f })
+abbrev pub FirstFault : Edition → List ℕ → Option Fault → Type 0
+FirstFault edition B f = (es : Entries) × Outcome edition B (record { entries = es; wrong = f })
 
 -- ---- what is computed
 
 -- the line that begins at p, whose own offsets count from o on; and as it stands in the script
-abbrev pub line_told : List ℕ → Keep → Bool → ℕ → ℕ → Read (Row AnEntry × Bool)
-line_told B keep blank p o = does (the_line blank) keep (given (drop p B) o) (standing 0)
+abbrev pub line_told : Edition → List ℕ → Keep → Bool → ℕ → ℕ → Read (Row AnEntry × Bool)
+line_told edition B keep blank p o = does (the_line blank) keep (given edition (drop p B) o) (standing 0)
 
-abbrev pub line_from : List ℕ → Keep → Bool → ℕ → Read (Row AnEntry × Bool)
-line_from B keep blank p = line_told B keep blank p p
+abbrev pub line_from : Edition → List ℕ → Keep → Bool → ℕ → Read (Row AnEntry × Bool)
+line_from edition B keep blank p = line_told edition B keep blank p p
 
 abbrev pub script_by : (SoFar → ℕ → AScript) → SoFar → ℕ → Read (Row AnEntry × Bool) → AScript
 script_by rest so p (Ok ((es, true), t)) = rest (with_line so es) (p + t.at)
@@ -71,16 +72,16 @@ script_by rest so p (Ok ((es, false), t)) = record { entries = entries_of (so.en
 script_by rest so p (Err f) = record { entries = entries_of so.entries; wrong = Some f }
 
 -- with less than n bytes left
-unfoldable pub script_below : List ℕ → ℕ → SoFar → ℕ → AScript
-script_below B zero so p = record { entries = entries_of so.entries; wrong = None }
-script_below B (suc n) so p = script_by (script_below B n) so p (line_from B Whole (is_blank_line so) p)
+unfoldable pub script_below : Edition → List ℕ → ℕ → SoFar → ℕ → AScript
+script_below edition B zero so p = record { entries = entries_of so.entries; wrong = None }
+script_below edition B (suc n) so p = script_by (script_below edition B n) so p (line_from edition B Whole (is_blank_line so) p)
 
 -- the lines from p on
-unfoldable pub script_on : List ℕ → SoFar → ℕ → AScript
-script_on B so p = script_below B (suc (length B - p)) so p
+unfoldable pub script_on : Edition → List ℕ → SoFar → ℕ → AScript
+script_on edition B so p = script_below edition B (suc (length B - p)) so p
 
-unfoldable pub script_at : List ℕ → AScript
-script_at B = script_on B nothing_yet 0
+unfoldable pub script_at : Edition → List ℕ → AScript
+script_at edition B = script_on edition B nothing_yet 0
 
 -- ---- one line read as a script of its own, and the first fault from a place on
 
@@ -88,11 +89,11 @@ abbrev pub line_of : List ℕ → Read (Row AnEntry × Bool) → ALine
 line_of T (Ok ((es, newline), t)) = record { kind = kind_of es newline; next = t.at; ended = is_ended T newline t.at }
 line_of T (Err f) = record { kind = faulty_line f; next = length T; ended = false }
 
-unfoldable pub line_of_text : List ℕ → ALine
-line_of_text T = line_of T (does (the_line false) Whole (given T 0) (standing 0))
+unfoldable pub line_of_text : Edition → List ℕ → ALine
+line_of_text edition T = line_of T (does (the_line false) Whole (given edition T 0) (standing 0))
 
-unfoldable pub first_fault_from : List ℕ → ℕ → Option Fault
-first_fault_from B p = (script_on B nothing_yet p).wrong
+unfoldable pub first_fault_from : Edition → List ℕ → ℕ → Option Fault
+first_fault_from edition B p = (script_on edition B nothing_yet p).wrong
 
 -- a script that was read
 abbrev pub view_script : the_script.Script → AScript

@@ -1,5 +1,6 @@
 -- A search for the first fault, a line at a time.
 use Rattle.std.specs.Prelude.{◌≡◌, ℕ, ◌+◌, ◌-◌, ◌<◌, ◌≤◌, List, List as Row, Ok, Option, drop, length, option_map, take, false, true}
+use Rattle.shgrammar.specs.declared.edition.Edition.{Edition}
 use Rattle.shgrammar.specs.declared.keep.Keep.TheVariants.{Nothing}
 use Rattle.shgrammar.specs.Moved.{moved_fault}
 use Rattle.shast.specs.Tree.{AnEntry}
@@ -9,19 +10,19 @@ use Rattle.shgrammar.specs.Standing.{raw_stands}
 use Rattle.shgrammar.specs.declared.fault.Fault.{Fault}
 
 -- The first n of these bytes may be passed: whatever follows them in a script, its first fault is that behind them.
-abbrev pub MayPass : List ℕ → ℕ → Type 0
-MayPass bytes n = (script : List ℕ) (f : Option Fault) → take n script ≡ take n bytes → FirstFault (drop n script) f → FirstFault script (option_map (moved_fault n) f)
+abbrev pub MayPass : Edition → List ℕ → ℕ → Type 0
+MayPass edition bytes n = (script : List ℕ) (f : Option Fault) → take n script ≡ take n bytes → FirstFault edition (drop n script) f → FirstFault edition script (option_map (moved_fault n) f)
 
 -- the line at an offset has no fault, and a newline ended it and is its last byte, before the offset q
-abbrev pub LineBefore : List ℕ → ℕ → ℕ → Type 0
-LineBefore bytes p q =
-    (es : Row AnEntry) × (t : State) × (line_told bytes Nothing false p 0 ≡ Ok ((es, true), t)) × (q ≡ p + t.at) × (0 < t.at) × (q ≤ length bytes)
+abbrev pub LineBefore : Edition → List ℕ → ℕ → ℕ → Type 0
+LineBefore edition bytes p q =
+    (es : Row AnEntry) × (t : State) × (line_told edition bytes Nothing false p 0 ≡ Ok ((es, true), t)) × (q ≡ p + t.at) × (0 < t.at) × (q ≤ length bytes)
     × (raw_stands (drop p bytes) (t.at - 1) 10 ≡ true)
 
 -- no such line begins at an offset
-abbrev pub StopsAt : List ℕ → ℕ → Type 0
-StopsAt bytes p = (q : ℕ) → LineBefore bytes p q → ⊥
+abbrev pub StopsAt : Edition → List ℕ → ℕ → Type 0
+StopsAt edition bytes p = (q : ℕ) → LineBefore edition bytes p q → ⊥
 
 -- the same as `MayPass`, as it is computed
-abbrev pub ArePassed : List ℕ → ℕ → Type 0
-ArePassed bytes n = (script : List ℕ) → take n script ≡ take n bytes → first_fault_from script 0 ≡ first_fault_from script n
+abbrev pub ArePassed : Edition → List ℕ → ℕ → Type 0
+ArePassed edition bytes n = (script : List ℕ) → take n script ≡ take n bytes → first_fault_from edition script 0 ≡ first_fault_from edition script n

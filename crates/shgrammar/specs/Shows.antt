@@ -7,7 +7,7 @@ use Rattle.shast.specs.declared.tree.RedirectOperator.{RedirectOperator}
 use Rattle.shgrammar.specs.Standing.{raw_stands, at_end}
 use Rattle.shgrammar.specs.Bytes.{behind, past_continuations, ends_word}
 use Rattle.shgrammar.specs.Tokens.{is_comment, is_end}
-use Rattle.shgrammar.specs.Commands.{and_or_operator_of, begins_word, is_double_semicolon, is_long, is_strip, redirect_operator_of}
+use Rattle.shgrammar.specs.Commands.{and_or_operator_of, begins_word, ends_item, is_long, is_strip, redirect_operator_of}
 use Rattle.shgrammar.specs.Compounds.{begins_pattern}
 
 -- a byte is read at p
@@ -19,6 +19,6 @@ Shows token T p =
     (begins_word token ≡ true → ends_word T p ≡ false)
     × (is_end token ≡ false → IsRead T p) × (token ≡ tokens.Newline → raw_stands T p 10 ≡ true) × (token ≡ tokens.End → at_end T p ≡ true)
     × ((operator : AndOrOperator) → and_or_operator_of token ≡ Some operator → IsRead T (behind T p)) × (is_comment token ≡ false → raw_stands T p 35 ≡ false) × (past_continuations T p ≡ p)
-    × (begins_pattern token ≡ true → ends_word T p ≡ false) × (is_double_semicolon token ≡ true → IsRead T (behind T p))
+    × (begins_pattern token ≡ true → ends_word T p ≡ false) × (ends_item token ≡ true → IsRead T (behind T p))
     × ((operator : RedirectOperator) → redirect_operator_of token ≡ Some operator → is_long operator ≡ true → IsRead T (behind T p))
     × ((operator : RedirectOperator) → redirect_operator_of token ≡ Some operator → is_strip operator ≡ true → IsRead T (behind T (behind T p)))

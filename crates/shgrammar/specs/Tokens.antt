@@ -1,5 +1,7 @@
 -- Tokens: what begins at a place where no blank stands (XCU 2.3, 2.4, 2.10.1).
 use Rattle.std.specs.Prelude.{ℕ, Bool, true, false, ◌==◌, ◌&&◌, ◌||◌, List, [], ◌∷◌, List as Row, Option, Some, None, codes, if◌then◌else◌}
+use Rattle.shgrammar.specs.declared.edition.Edition.{Edition}
+use Rattle.shgrammar.specs.declared.edition.Edition.TheVariants.{Y2017, Y2024}
 use Rattle.shgrammar.specs.declared.token.Next.{Next}
 use Rattle.shgrammar.specs.declared.token.Position.{Position}
 use Rattle.shgrammar.specs.declared.token.Position.TheVariants.{Command, Prefix, Suffix}
@@ -87,11 +89,15 @@ greater_at T p = if stands T p 62 then redirects.Append
     else (if stands T p 38 then redirects.DuplicateOutput
     else (if stands T p 124 then redirects.Clobber else redirects.Output))
 
+-- what begins with a `;`, behind which p is
+abbrev pub semicolon_at : List ℕ → ℕ → Token
+semicolon_at T p = if stands T p 59 then tokens.DoubleSemicolon else (if stands T p 38 then tokens.SemicolonAmpersand else tokens.Semicolon)
+
 -- by the byte at p, or none; of several operators the longest one
 abbrev pub token_of : Position → List ℕ → ℕ → Option ℕ → Token
 token_of position T p None = tokens.End
 token_of position T p (Some b) = if is_newline b then tokens.Newline
-    else (if b == 59 then (if stands T (behind T p) 59 then tokens.DoubleSemicolon else tokens.Semicolon)
+    else (if b == 59 then semicolon_at T (behind T p)
     else (if b == 38 then (if stands T (behind T p) 38 then tokens.AndIf else tokens.Ampersand)
     else (if b == 124 then (if stands T (behind T p) 124 then tokens.OrIf else tokens.Pipe)
     else (if b == 40 then tokens.OpenParen
@@ -118,3 +124,19 @@ token_at position T p = token_of position T p (byte_at T p)
 -- the next token from p on: what it is, and whether a continuation stands before it
 abbrev pub next_at : Position → List ℕ → ℕ → Next
 next_at position T p = record { token = token_at position T (past_blanks T p); broken = is_broken_at T p }
+
+-- ---- editions
+
+-- an edition later than POSIX.1-2017
+abbrev pub is_later : Edition → Bool
+is_later Y2017 = false
+is_later Y2024 = true
+
+-- The token that an edition has in the place of this one. POSIX.1-2017 has no `;&`: a `;` stands there, and
+-- an `&` behind it.
+abbrev pub token_in : Edition → Token → Token
+token_in edition tokens.SemicolonAmpersand = if is_later edition then tokens.SemicolonAmpersand else tokens.Semicolon
+token_in edition token = token
+
+abbrev pub next_in : Edition → Next → Next
+next_in edition n = record { token = token_in edition n.token; broken = n.broken }

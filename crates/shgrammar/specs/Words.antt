@@ -1,6 +1,8 @@
 -- Words and their pieces (XCU 2.2, 2.3, 2.6).
 use Rattle.std.specs.Prelude.{ℕ, Bool, true, false, ◌+◌, ◌-◌, not, List as Row, []}
-use Rattle.shgrammar.specs.declared.fault.FaultKind.TheVariants.{UnclosedSingle, UnclosedBackquote, BadArithClose, LoneBackslash}
+use Rattle.shgrammar.specs.declared.mode.Escaping.{Escaping}
+use Rattle.shgrammar.specs.declared.mode.Escaping.TheVariants as escapings
+use Rattle.shgrammar.specs.declared.fault.FaultKind.TheVariants.{UnclosedSingle, BadArithClose, LoneBackslash}
 use Rattle.shgrammar.specs.declared.mode.Mode.{Mode}
 use Rattle.shgrammar.specs.declared.mode.Mode.TheVariants.{Plain, Double, Arith}
 use Rattle.shgrammar.specs.declared.mode.Piece.{Piece}
@@ -9,8 +11,8 @@ use Rattle.shgrammar.specs.declared.token.Next.{Next}
 use Rattle.shgrammar.specs.declared.token.Opener.{Opener}
 use Rattle.shast.specs.declared.tree.Span.{Span}
 use Rattle.shast.specs.Tree.{AWord, ACommand, ASubst, word, substs_of}
-use Rattle.shgrammar.specs.Pieces.{unclosed}
-use Rattle.shgrammar.specs.Sights.{here, the_byte, the_piece, the_rest, the_end, a_backquote, last_backslash, one_byte, joined, one_taken, the_closer, the_parameter, a_quote_on, in_backquotes_on}
+use Rattle.shgrammar.specs.Pieces.{unclosed, closes_by, unclosed_in}
+use Rattle.shgrammar.specs.Sights.{here, the_byte, the_piece, the_rest, the_end, a_raw, last_backslash, one_byte, joined, one_taken, the_closer, the_parameter, a_quote_on, escaped_on}
 use Rattle.shgrammar.specs.Form.{Form, give, see, move, stop, when, as_it_stands, token, many, ◌>>=◌, ◌>>◌, Step, again, done, step_if}
 
 -- ---- text that is not read
@@ -19,17 +21,21 @@ use Rattle.shgrammar.specs.Form.{Form, give, see, move, stop, when, as_it_stands
 unfoldable pub single : Form (Unit {0})
 single = see the_byte >>= λ b. move one_byte >> move a_quote_on >> when the_end (stop UnclosedSingle b) (move one_taken)
 
--- up to the next backquote or backslash, which takes one byte; or to the closing one (XCU 2.6.3)
-unfoldable pub backquote_turn : ℕ → Unit {0} → Form (Step (Unit {0}))
-backquote_turn b u =
-    move in_backquotes_on >>
-    when the_end (stop UnclosedBackquote b)
-    (when last_backslash (stop UnclosedBackquote b)
-    (see a_backquote >>= λ last. move one_taken >> give (step_if (not last) tt)))
+-- up to the next closing byte or backslash, which takes one byte; or to the closing one
+unfoldable pub escaped_turn : Escaping → ℕ → Unit {0} → Form (Step (Unit {0}))
+escaped_turn how b u =
+    move (escaped_on how) >>
+    when the_end (stop (unclosed_in how) b)
+    (when last_backslash (stop (unclosed_in how) b)
+    (see (a_raw (closes_by how)) >>= λ last. move one_taken >> give (step_if (not last) tt)))
 
 -- text in backquotes, from its opener on
 unfoldable pub backquoted : Form (Unit {0})
-backquoted = see the_byte >>= λ b. move one_byte >> many (backquote_turn b) tt
+backquoted = see the_byte >>= λ b. move one_byte >> many (escaped_turn escapings.Backquotes b) tt
+
+-- text in dollar-single quotes, from its `$` on
+unfoldable pub dollar_single : Form (Unit {0})
+dollar_single = see the_byte >>= λ b. move one_byte >> move one_byte >> many (escaped_turn escapings.DollarSingle b) tt
 
 -- ---- what may be opened
 
@@ -67,6 +73,7 @@ piece_row inner mode b h pieces.Missing = stop (unclosed mode) b
 piece_row inner mode b h pieces.LoneBackslash = see the_byte >>= λ q. stop LoneBackslash q
 piece_row inner mode b h pieces.Escape = move joined >> move one_taken >> give (again h)
 piece_row inner mode b h pieces.Single = single >> give (again h)
+piece_row inner mode b h pieces.DollarSingle = dollar_single >> give (again h)
 piece_row inner mode b h pieces.Double = see the_byte >>= λ q. move one_byte >> opened inner Double q h
 piece_row inner mode b h pieces.Backquote = backquoted >> give (again h)
 piece_row inner mode b h pieces.Pid = move one_byte >> move one_byte >> give (again h)

@@ -2,12 +2,13 @@
 ghost use Rattle.std.specs.List.{list_all};
 ghost use Rattle.std.specs.Prelude.{◌≡◌, ◌+◌, ◌<◌, ◌≤◌, ◌==◌, ◌||◌, ℕ, Option, Some, true, get_or, IfOk, IfSome, List as Row, drop, false, length, nat_lt, option_map};
 ghost use Rattle.shgrammar.specs.Bytes.{byte_at};
-ghost use Rattle.shgrammar.specs.HereDocuments.{behind_quote, byte_left, delimiter_of, dollar_left, escape_left, is_live, is_quote, is_quoted, not_quoted, stays_before, unquoted};
+ghost use Rattle.shgrammar.specs.HereDocuments.{behind_quote, byte_left, delimiter_in, delimiter_of, dollar_left, escape_left, has_dollar_single, is_live, is_quote, is_quoted, not_quoted, stays_before, unquoted};
 ghost use Rattle.shgrammar.specs.Plain.{is_plain};
 ghost use Rattle.shgrammar.specs.Standing.{continues, is_byte, raw_stands};
 ghost use Rattle.shgrammar.specs.Unquoting.{a_delimiter, escapes, is_escaped, is_wrapped, left_by, left_of, plain_part, rest_of, unwrapped, view_delimiter, view_quoting};
 ghost use Rattle.shgrammar.specs.declared.mode.Mode.TheVariants.{Plain};
 
+use crate::edition::Edition;
 use crate::mode::Mode;
 use std::alloc::{AllocError, Global};
 
@@ -325,6 +326,35 @@ pub fn plain_part(word: &[u8]) -> Option<&[u8]>
     if are_plain(part) { Some(part) } else { None }
 }
 
+/// Whether text in dollar-single quotes stands in a word.
+#[tactic(auto, using(crate::proofs::DollarSingles::has_escape, crate::proofs::DollarSingles::has_quote, crate::proofs::DollarSingles::has_here, crate::proofs::DollarSingles::has_dollar, crate::proofs::DollarSingles::has_other, crate::proofs::DollarSingles::has_none))]
+fn has_dollar_single(word: &[u8]) -> bool
+    ensures { result ≡ has_dollar_single not_quoted false word.now }
+{
+    let mut quoting = Quoting::Outside;
+    let mut second = false;
+    let mut at = 0;
+    'bytes: while at + 1 < word.len() {
+        let byte = word[at];
+        if quoting.is_live(b'\\', byte) {
+            at += 2;
+            continue;
+        }
+        if quoting.is_quote(byte) {
+            quoting = quoting.behind(byte);
+            second = false;
+        } else if quoting.is_live(b'$', byte) {
+            let next = byte_at(word, at + 1);
+            if !second && quoting.is_quote(b'\'') && is_byte(next, b'\'') {
+                return true;
+            }
+            second = !second && is_byte(next, b'$');
+        }
+        at += 1;
+    }
+    false
+}
+
 /// The delimiter that a word is, by its bytes as they stand (XCU 2.7.4). One with an expansion or text in backquotes is none.
 ///
 /// # Errors
@@ -346,4 +376,23 @@ pub fn delimiter_of(alloc: Global, word: &[u8]) -> Result<Option<Delimiter>, All
         })),
         None => Ok(None),
     }
+}
+
+/// The delimiter that a word is in an edition: one with text in dollar-single quotes is none, where the
+/// edition has them.
+///
+/// # Errors
+///
+/// Memory ran out.
+pub fn delimiter_in(
+    alloc: Global,
+    edition: Edition,
+    word: &[u8],
+) -> Result<Option<Delimiter>, AllocError>
+    ensures { IfOk result (λ found. option_map view_delimiter found ≡ delimiter_in edition word.now) }
+{
+    if edition.is_later() && has_dollar_single(word) {
+        return Ok(None);
+    }
+    delimiter_of(alloc, word)
 }

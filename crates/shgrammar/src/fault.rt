@@ -33,6 +33,8 @@ pub enum FaultKind {
     BadFunctionName = 14,
     /// More than 100 constructs are open; at the first byte of the last opener, for a function at its name.
     TooDeep = 15,
+    /// A `$'` is not closed (POSIX.1-2024, XCU 2.2.4); at the `$`.
+    UnclosedDollarSingle = 16,
 }
 
 /// The first fault of a script from left to right.

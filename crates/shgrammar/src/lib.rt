@@ -7,6 +7,7 @@
 
 mod class;
 mod delimiter;
+mod edition;
 mod fault;
 mod keep;
 mod marks;
@@ -15,10 +16,11 @@ mod script;
 mod token;
 
 pub use class::Class;
-pub use delimiter::{Delimiter, delimiter_of, plain_part};
+pub use delimiter::{Delimiter, delimiter_in, delimiter_of, plain_part};
+pub use edition::Edition;
 pub use fault::{Fault, FaultKind};
 pub use keep::Keep;
 pub use marks::{begins_a_word, ends_words};
-pub use mode::{Mode, Piece};
+pub use mode::{Escaping, Mode, Piece};
 pub use script::Script;
 pub use token::{Closing, Next, Opener, Position, Reserved, Separator, Token};

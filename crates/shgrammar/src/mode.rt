@@ -1,7 +1,8 @@
 //! How the bytes of a word are read: the modes, and the pieces that they take.
 ghost use Rattle.std.specs.Prelude.{◌≡◌};
-ghost use Rattle.shgrammar.specs.Pieces.{braces_in, unclosed};
+ghost use Rattle.shgrammar.specs.Pieces.{braces_in, closes_by, piece_in, quotes_singly, unclosed, unclosed_in};
 
+use crate::edition::Edition;
 use crate::fault::FaultKind;
 
 /// Where in a word a place is (XCU 2.2, 2.6).
@@ -32,6 +33,8 @@ pub enum Piece {
     Escape,
     /// Text in single quotes.
     Single,
+    /// `$'`: text in dollar-single quotes, which POSIX.1-2017 has not.
+    DollarSingle,
     /// A string in double quotes.
     Double,
     /// Text in backquotes.
@@ -54,7 +57,60 @@ pub enum Piece {
     Ordinary,
 }
 
+impl Piece {
+    /// The piece that an edition has in its place, in this mode.
+    #[inline(always)]
+    pub fn in_edition(self, edition: Edition, mode: Mode) -> Piece
+        ensures { result ≡ piece_in edition mode self }
+    {
+        match self {
+            Piece::DollarSingle if !(edition.is_later() && mode.quotes_singly()) => Piece::Ordinary,
+            _ => self,
+        }
+    }
+}
+
+/// Text in which a backslash takes the byte behind it, and which the next other closing byte ends.
+#[derive(Clone, Copy, Debug, PartialEq, Eq)]
+pub enum Escaping {
+    /// Text in backquotes (XCU 2.6.3).
+    Backquotes,
+    /// Text in dollar-single quotes (POSIX.1-2024, XCU 2.2.4).
+    DollarSingle,
+}
+
+impl Escaping {
+    /// The byte that closes it.
+    #[inline(always)]
+    pub fn closer(self) -> u8
+        ensures { result ≡ closes_by self }
+    {
+        match self {
+            Escaping::Backquotes => b'`',
+            Escaping::DollarSingle => b'\'',
+        }
+    }
+
+    /// The fault where the text ends in it.
+    pub fn unclosed(self) -> FaultKind
+        ensures { result ≡ unclosed_in self }
+    {
+        match self {
+            Escaping::Backquotes => FaultKind::UnclosedBackquote,
+            Escaping::DollarSingle => FaultKind::UnclosedDollarSingle,
+        }
+    }
+}
+
 impl Mode {
+    /// Whether single quotes quote here.
+    #[inline(always)]
+    pub fn quotes_singly(self) -> bool
+        ensures { result ≡ quotes_singly self }
+    {
+        matches!(self, Mode::Plain | Mode::Brace)
+    }
+
     /// The fault of text that ends inside. Nobody asks it of `Plain`: there the end ends the word.
     pub fn unclosed(self) -> FaultKind
         ensures { result ≡ unclosed self }

@@ -1,6 +1,6 @@
 //! Tokens: what may begin where one begins (XCU 2.3, 2.4, 2.10.1).
 ghost use Rattle.std.specs.Prelude.{◌≡◌, IfSome, false, true};
-ghost use Rattle.shgrammar.specs.Commands.{and_or_operator_of, begins_pipeline, begins_redirect, begins_simple, begins_word, behind_redirect, behind_word, opener_of, redirect_operator_of, separator_of};
+ghost use Rattle.shgrammar.specs.Commands.{and_or_operator_of, begins_pipeline, begins_redirect, begins_simple, begins_word, behind_redirect, behind_word, ends_item, falls_through, opener_of, redirect_operator_of, separator_of};
 ghost use Rattle.shgrammar.specs.Compounds.{begins_pattern, behind_opener, is_closing};
 ghost use Rattle.shgrammar.specs.Tokens.{is_end};
 
@@ -16,6 +16,8 @@ pub enum Token {
     Semicolon,
     /// `;;`
     DoubleSemicolon,
+    /// `;&`, which POSIX.1-2017 has not.
+    SemicolonAmpersand,
     /// `&`
     Ampersand,
     /// `&&`
@@ -147,6 +149,22 @@ impl Token {
             (Closing::Esac, Token::Reserved(Reserved::Esac)) => true,
             _ => false,
         }
+    }
+
+    /// Whether an item of a `case` that ends here falls through.
+    #[inline(always)]
+    pub fn falls_through(self) -> bool
+        ensures { result ≡ falls_through self }
+    {
+        matches!(self, Token::SemicolonAmpersand)
+    }
+
+    /// Whether this token ends an item of a `case`.
+    #[inline(always)]
+    pub fn ends_item(self) -> bool
+        ensures { result ≡ ends_item self }
+    {
+        matches!(self, Token::DoubleSemicolon | Token::SemicolonAmpersand)
     }
 
     /// The operator of an and-or list that this token is, if it is one.
