@@ -18,6 +18,7 @@ use Rattle.shgrammar.specs.Sights.{given, standing}
 use Rattle.shgrammar.specs.Standing.{continues, count_front, raw_in, raw_past, raw_stands}
 use Rattle.shgrammar.specs.Tokens.{token_at}
 use Rattle.shast.specs.Bodies.{filled_row}
+use Rattle.shgrammar.specs.declared.edition.Edition.{Edition}
 
 newline_first : Next
 newline_first = record { token = Newline; broken = false }
@@ -34,28 +35,28 @@ next : (U : List ℕ) → behind (10 ∷ U) 0 ≡ 1
 unfolding behind
 next U = ap (λ n. n + 1) (joins U)
 
-pub told : (U : List ℕ) (keep : Keep) (blank : Bool) (o : ℕ) → line_told (10 ∷ U) keep blank 0 o ≡ Ok (([], true), standing 1)
+pub told : (edition : Edition) (U : List ℕ) (keep : Keep) (blank : Bool) (o : ℕ) → line_told edition (10 ∷ U) keep blank 0 o ≡ Ok (([], true), standing 1)
 unfolding a_line an_open_line nothing_waits filled_row next_token on_line a_remark a_comment end_of_line token_at comment_at raw_stands raw_in raw_past count_front continues is_broken_at bodies_from newline_first
-told U keep blank o =
-    let none = no_entries (level most_open) (list_so (none_listed blank) newline_first) keep (given (10 ∷ U) o) (standing 0) refl in
+told edition U keep blank o =
+    let none = no_entries (level most_open) (list_so (none_listed blank) newline_first) keep (given edition (10 ∷ U) o) (standing 0) refl in
     rw (place U, joins U, none, next U) refl
 
 value : Option ℕ → ℕ
 value None = 0
 value (Some b) = b
 
-begun : (T : List ℕ) (keep : Keep) (blank : Bool) (o : ℕ) → slice_get T 0 ≡ Some 10 → line_told T keep blank 0 o ≡ Ok (([], true), standing 1)
+begun : (edition : Edition) (T : List ℕ) (keep : Keep) (blank : Bool) (o : ℕ) → slice_get T 0 ≡ Some 10 → line_told edition T keep blank 0 o ≡ Ok (([], true), standing 1)
 unfolding value
-begun [] keep blank o is = absurd cc
-begun (b ∷ U) keep blank o is =
+begun edition [] keep blank o is = absurd cc
+begun edition (b ∷ U) keep blank o is =
     let newline : b ≡ 10 = ap value is in
-    subst (λ c. line_told (c ∷ U) keep blank 0 o ≡ Ok (([], true), standing 1)) (sym newline) (told U keep blank o)
+    subst (λ c. line_told edition (c ∷ U) keep blank 0 o ≡ Ok (([], true), standing 1)) (sym newline) (told edition U keep blank o)
 
 -- a newline is the first byte of the line at p
-pub newline_told : (B : List ℕ) (p : ℕ) (keep : Keep) (blank : Bool) (o : ℕ) → slice_get B p ≡ Some 10 → line_told B keep blank p o ≡ Ok (([], true), standing 1)
-newline_told B p keep blank o first =
+pub newline_told : (edition : Edition) (B : List ℕ) (p : ℕ) (keep : Keep) (blank : Bool) (o : ℕ) → slice_get B p ≡ Some 10 → line_told edition B keep blank p o ≡ Ok (([], true), standing 1)
+newline_told edition B p keep blank o first =
     let here : p + 0 ≡ p = omega arith in
-    begun (drop p B) keep blank o (get_drop p B 0 ∙ ap (slice_get B) here ∙ first)
+    begun edition (drop p B) keep blank o (get_drop p B 0 ∙ ap (slice_get B) here ∙ first)
 
 -- it is the last byte of that line
 pub newline_stands : (B : List ℕ) (p : ℕ) → slice_get B p ≡ Some 10 → raw_stands (drop p B) 0 10 ≡ true

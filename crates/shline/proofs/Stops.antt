@@ -14,6 +14,7 @@ use Rattle.shgrammar.specs.Plain.{ArePlain}
 use Rattle.shgrammar.specs.Words.{Held, Inner, a_piece, a_word, contents, having}
 use Rattle.shgrammar.proofs.PlainBytes.{given_by, placed, plain_contents}
 use Rattle.shgrammar.proofs.Turns.{turns_fault}
+use Rattle.shgrammar.specs.declared.edition.Edition.{Edition}
 
 module _ {A : Type 0} (turn : A → Form (Step A)) (keep : Keep) (g : Given) where
   pub many_stop : (a : A) (s : State) (end : ℕ) (e : Stop) → Fails end e (does (turn a) keep g s) → Fails end e (does (many turn a) keep g s)
@@ -38,8 +39,8 @@ module _ (inner : Inner) (keep : Keep) (g : Given) (mode : Mode) (b : ℕ) (ws :
   unfolding contents
   contents_stop h ss vs es p s end e so stop = stops end e _ (subst (Fails end e) so (many_stop (a_piece inner mode b) keep g h (placed ws ds p) end e stop))
 
-pub word_stops : (inner : Inner) (keep : Keep) (ws : Row Waiting) (ds : Row Span) (T : List ℕ) (o p q end : ℕ) (e : Stop) → ArePlain Plain T p q → p ≤ q → q ≤ length T
-    → Fails end e (does (contents inner Plain (o + p) []) keep (given T o) (placed ws ds q)) → Fails end e (does (a_word inner) keep (given T o) (placed ws ds p))
+pub word_stops : (edition : Edition) (inner : Inner) (keep : Keep) (ws : Row Waiting) (ds : Row Span) (T : List ℕ) (o p q end : ℕ) (e : Stop) → ArePlain Plain T p q → p ≤ q → q ≤ length T
+    → Fails end e (does (contents inner Plain (o + p) []) keep (given edition T o) (placed ws ds q)) → Fails end e (does (a_word inner) keep (given edition T o) (placed ws ds p))
 unfolding a_word
-word_stops inner keep ws ds T o p q end Memory plain low high rest = tt
-word_stops inner keep ws ds T o p q end (Wrong f) plain low high rest = (rw (plain_contents inner keep (given T o) Plain (o + p) ws ds [] p q plain low high ∙ rest.0) refl, rest.1)
+word_stops edition inner keep ws ds T o p q end Memory plain low high rest = tt
+word_stops edition inner keep ws ds T o p q end (Wrong f) plain low high rest = (rw (plain_contents inner keep (given edition T o) Plain (o + p) ws ds [] p q plain low high ∙ rest.0) refl, rest.1)

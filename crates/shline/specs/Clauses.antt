@@ -18,11 +18,11 @@ text_of bytes cursor = drop cursor.base (bytes cursor.source.now)
 
 -- the text, and how it is read, stay as they are
 abbrev pub Keeps : {S : Type 0} {k : ℕ} {g : _} → Cursor S k g → Cursor S k g → Type 0
-Keeps old new = (new.source ≡ old.source) × (new.base ≡ old.base) × (new.origin ≡ old.origin) × (new.keep ≡ old.keep)
+Keeps old new = (new.source ≡ old.source) × (new.base ≡ old.base) × (new.origin ≡ old.origin) × (new.how ≡ old.how)
 
 -- only the place may differ
 abbrev pub Stays : {S : Type 0} {k : ℕ} {g : _} → Cursor S k g → Cursor S k g → Type 0
-Stays old new = (new.source ≡ old.source) × (new.base ≡ old.base) × (new.origin ≡ old.origin) × (new.documents ≡ old.documents) × (new.keep ≡ old.keep)
+Stays old new = (new.source ≡ old.source) × (new.base ≡ old.base) × (new.origin ≡ old.origin) × (new.documents ≡ old.documents) × (new.how ≡ old.how)
 
 abbrev pub view_waiting : the_waiting.Waiting → Waiting
 view_waiting w = record { operator = w.operator; delimiter = w.delimiter.items; literal = w.literal; strip = w.strip }
@@ -40,11 +40,11 @@ abbrev pub kept : ℕ → Keep → Keep
 kept k keep = if k == 1 then keep else Nothing
 
 abbrev pub keep_of : {S : Type 0} {k : ℕ} {g : _} → Cursor S k g → Keep
-keep_of {k = k} cursor = kept k cursor.keep
+keep_of {k = k} cursor = kept k cursor.how.keep
 
 -- what a form gives from a state on in a cursor's text
 abbrev pub reads_at : {S X : Type 0} {k : ℕ} {g : _} → (S → List ℕ) → Cursor S k g → Form X → State → Read X
-reads_at bytes cursor form s = does form (keep_of cursor) (given (text_of bytes cursor) cursor.origin) s
+reads_at bytes cursor form s = does form (keep_of cursor) (given cursor.how.edition (text_of bytes cursor) cursor.origin) s
 
 -- and from where the cursor stands
 abbrev pub reads : {S X : Type 0} {k : ℕ} {g : _} → (S → List ℕ) → Cursor S k g → Form X → Read X

@@ -3,7 +3,8 @@ ghost use Rattle.std.specs.Prelude.{◌≡◌, ◌<◌, ◌≤◌, [], false, ma
 ghost use Rattle.shgrammar.specs.Bytes.{behind, ends_word};
 ghost use Rattle.shgrammar.specs.Shows.{IsRead, Shows};
 ghost use Rattle.shline.specs.Clauses.{Keeps, Onward, reads, Reads, state_of, Stays, text_of};
-ghost use Rattle.shgrammar.specs.Compounds.{a_case, a_case_head, a_case_word, a_double_semicolon, a_pattern, a_pattern_list, an_item_end, an_open_bracket, body_end, case_turn, closed, item_end, one_case, one_pattern, pattern_turn, patterned};
+ghost use Rattle.shgrammar.specs.Commands.{falls_through};
+ghost use Rattle.shgrammar.specs.Compounds.{a_case, a_case_head, a_case_word, an_ender, a_pattern, a_pattern_list, an_item_end, an_open_bracket, body_end, case_turn, closed, item_end, one_case, one_pattern, pattern_turn, patterned};
 ghost use Rattle.shgrammar.specs.Form.{again, many, step_if};
 ghost use Rattle.shgrammar.specs.Levels.{level};
 ghost use Rattle.shline.specs.Listed.{view_cases, view_listed};
@@ -203,14 +204,14 @@ impl<'a, S: Source, const KEEP: u8> Cursor<'a, S, KEEP> {
         }
     }
 
-    /// Passes the `;;` here and tells the offset behind it; the newlines and comments behind that go into `lines`. `next` is set to the
-    /// token behind them.
-    #[tactic(auto, unfolding(shgrammar::specs::Compounds::a_double_semicolon, shgrammar::specs::Commands::next_token))]
-    fn double_semicolon(&mut self, next: &mut Next, lines: &mut Join) -> Result<usize, Stop>
+    /// Passes the `;;` or `;&` here and tells the offset behind it; the newlines and comments behind that go
+    /// into `lines`. `next` is set to the token behind them.
+    #[tactic(auto, unfolding(shgrammar::specs::Compounds::an_ender, shgrammar::specs::Commands::next_token))]
+    fn ender(&mut self, next: &mut Next, lines: &mut Join) -> Result<usize, Stop>
         requires none { (view_join lines.old).comments ≡ [] }
         requires first { IsRead (text_of S.bytes self.old) self.old.at }
         requires second { IsRead (text_of S.bytes self.old) (behind (text_of S.bytes self.old) self.old.at) }
-        ensures value { Reads S.bytes self.old a_double_semicolon result
+        ensures value { Reads S.bytes self.old (an_ender (falls_through next.old.token)) result
             (λ end. item_end end (view_join lines.new).comments next.new) (state_of self.new) }
         ensures shows { IfOk result (λ end. Shows next.new.token (text_of S.bytes self.old) self.new.at) }
         ensures onward { IfOk result (λ end. self.old.at ≤ self.new.at) }
@@ -224,8 +225,8 @@ impl<'a, S: Source, const KEEP: u8> Cursor<'a, S, KEEP> {
         Ok(end)
     }
 
-    /// The end of an item: behind its `;;`, whose comments go into `lines`, or at `there` before `esac`. `next` is the token here, and
-    /// then the one behind it.
+    /// The end of an item: behind its `;;` or `;&`, whose comments go into `lines`, or at `there` before
+    /// `esac`. `next` is the token here, and then the one behind it.
     #[cycle(commands)]
     #[tactic(auto, unfolding(shgrammar::specs::Compounds::an_item_end))]
     fn item_end(
@@ -244,8 +245,8 @@ impl<'a, S: Source, const KEEP: u8> Cursor<'a, S, KEEP> {
         ensures onward { IfOk result (λ end. self.old.at ≤ self.new.at) }
         ensures same { Keeps self.old self.new }
     {
-        if let Token::DoubleSemicolon = next.token {
-            return self.double_semicolon(next, lines);
+        if next.token.ends_item() {
+            return self.ender(next, lines);
         }
         if !next.token.is_closing(Closing::Esac) {
             return Err(Stop::Wrong(self.what_is_wrong(alloc, next, room)?));
@@ -277,13 +278,14 @@ impl<'a, S: Source, const KEEP: u8> Cursor<'a, S, KEEP> {
         let body = self.body(alloc, next, room)?;
         let there = body_end(closer.end, &body);
         let lines = mem::replace(&mut cases.lines, no_lines(alloc));
+        let falls = next.token.falls_through();
         let end = self.item_end(alloc, there, next, &mut cases.lines, room)?;
         if self.grows() {
             let list = list_of(body.entries);
             let span = Span { start, end };
             cases
                 .items
-                .push(case_item_of(lines.comments, patterns, list, span))?;
+                .push(case_item_of(lines.comments, patterns, list, span, falls))?;
         } else {
             mem::forget(lines);
             mem::forget(patterns);

@@ -4,7 +4,7 @@ ghost use Rattle.shtext.specs.Text.{IsRun};
 
 use crate::documents::Documents;
 use shast::{Entry, Item, Spare};
-use shgrammar::Keep;
+use shgrammar::{Edition, Keep};
 use shtext::Source;
 use std::alloc::Global;
 
@@ -13,6 +13,15 @@ pub const KEPT: u8 = 1;
 
 /// `KEEP` of one that only sees how far the reading goes, and grows no vector of a tree.
 pub const SEEN: u8 = 0;
+
+/// By which edition a text is read, and what of its tree is kept.
+#[derive(Clone, Copy)]
+pub(crate) struct How {
+    /// The tree that grows, where `KEEP` is `KEPT`.
+    pub(crate) keep: Keep,
+    /// The edition of the grammar.
+    pub(crate) edition: Edition,
+}
 
 /// A place in the text that a source holds from `base` on.
 ///
@@ -27,8 +36,8 @@ pub(crate) struct Cursor<'a, S: Source, const KEEP: u8> {
     pub(crate) base: usize,
     pub(crate) origin: usize,
     pub(crate) at: usize,
-    /// The tree that grows here, where `KEEP` is `KEPT`.
-    pub(crate) keep: Keep,
+    /// How the text is read.
+    pub(crate) how: How,
     /// The here-documents of the level in which the reading stands.
     pub(crate) documents: Documents,
     /// Where a tree takes vectors that have room, if the caller has kept some.
@@ -47,18 +56,19 @@ impl<'a, S: Source, const KEEP: u8> Cursor<'a, S, KEEP> {
     ghost use Rattle.shgrammar.specs.Sights.{standing};
 
     /// Where the line at an offset begins, whose own offsets are counted from `origin`, and of which this is kept, in this spare room where
-    /// there is some.
+    /// there is some, by this edition.
     pub(crate) fn at_line(
         alloc: Global,
         source: &'a S,
         base: usize,
         origin: usize,
+        edition: Edition,
         keep: Keep,
         spare: Option<&'a mut Spare>,
     ) -> Cursor<'a, S, KEEP>
         requires { (base ≤ length (S.bytes source.now)) × (origin ≤ base) }
         ensures { (result.source.now ≡ source.now) × (result.base ≡ base) × (result.origin ≡ origin)
-            × (state_of result ≡ standing 0) × (result.keep ≡ keep) }
+            × (state_of result ≡ standing 0) × (result.how.keep ≡ keep) × (result.how.edition ≡ edition) }
     {
         // The length is asked for its bound alone: no offset in the text overflows.
         let _ = source.len();
@@ -68,7 +78,7 @@ impl<'a, S: Source, const KEEP: u8> Cursor<'a, S, KEEP> {
             base,
             origin,
             at: 0,
-            keep,
+            how: How { keep, edition },
             documents: Documents::new(alloc),
             spare,
         }
@@ -79,7 +89,7 @@ impl<'a, S: Source, const KEEP: u8> Cursor<'a, S, KEEP> {
     pub(crate) fn grows(&self) -> bool
         ensures { result ≡ grows (keep_of self.now) }
     {
-        KEEP == KEPT && self.keep.grows()
+        KEEP == KEPT && self.how.keep.grows()
     }
 
     /// A vector for the items of a command: with room, where a tree grows here and some was kept.

@@ -3,7 +3,7 @@ ghost use Rattle.std.specs.Prelude.{◌≡◌, ◌+◌, ◌<◌, ◌≤◌, ◌=
 ghost use Rattle.shline.specs.Clauses.{BodiesFail, BodyRead, end_of, Keeps, Reads, state_of, text_of, view_waiting};
 ghost use Rattle.shgrammar.specs.Commands.{a_document, is_strip, nothing_waits, takes_here};
 ghost use Rattle.shgrammar.specs.Form.{change, raw};
-ghost use Rattle.shgrammar.specs.HereDocuments.{bodies_from, bodies_here, delimiter_from, delimiter_of, first_waiting, is_delimiter, own_level, past_line, rest_of_line, takes_newline};
+ghost use Rattle.shgrammar.specs.HereDocuments.{bodies_from, bodies_here, delimiter_from, delimiter_in, first_waiting, is_delimiter, own_level, past_line, rest_of_line, takes_newline};
 ghost use Rattle.shgrammar.specs.Sights.{given};
 ghost use Rattle.shgrammar.specs.Standing.{next_newline, raw_stands};
 ghost use Rattle.shgrammar.specs.Unquoting.{view_delimiter};
@@ -13,7 +13,7 @@ use crate::cursor::Cursor;
 use crate::search::Sought;
 use crate::stop::Stop;
 use shast::{HereDocument, RedirectOperator, Span};
-use shgrammar::{Class, Delimiter, Fault, FaultKind, delimiter_of};
+use shgrammar::{Class, Delimiter, Fault, FaultKind, delimiter_in};
 use shtext::Source;
 use std::alloc::{AllocError, Global};
 use std::mem;
@@ -136,15 +136,15 @@ impl<'a, S: Source, const KEEP: u8> Cursor<'a, S, KEEP> {
     #[tactic(auto, using(crate::proofs::Awaited::run_word))]
     fn delimiter(&self, alloc: Global, start: usize) -> Result<Option<Delimiter>, AllocError>
         requires { start ≤ self.now.at }
-        ensures { IfOk result (λ found. option_map view_delimiter found ≡ delimiter_of (raw (text_of S.bytes self.now) start self.now.at)) }
+        ensures { IfOk result (λ found. option_map view_delimiter found ≡ delimiter_in self.now.how.edition (raw (text_of S.bytes self.now) start self.now.at)) }
     {
         let run = self.run_at(start);
         let length = self.at - start;
         if length <= run.len() {
-            return delimiter_of(alloc, &run[..length]);
+            return delimiter_in(alloc, self.how.edition, &run[..length]);
         }
         let word = self.bytes_from(alloc, start)?;
-        delimiter_of(alloc, &word)
+        delimiter_in(alloc, self.how.edition, &word)
     }
 
     /// The here-document of an operator that stands at an offset, if it takes one. Its word stands from a place up to this one.
@@ -294,11 +294,11 @@ impl<'a, S: Source, const KEEP: u8> Cursor<'a, S, KEEP> {
     fn body_of(&self, index: usize) -> Result<(Span, usize), Stop>
         requires { index < length self.now.documents.waiting.items }
         ensures read { IfOk result (λ x. (bodies : Row Span) →
-            bodies_from (given (text_of S.bytes self.now) self.now.origin) (drop index (map view_waiting self.now.documents.waiting.items)) bodies self.now.at
-            ≡ bodies_from (given (text_of S.bytes self.now) self.now.origin) (drop (index + 1) (map view_waiting self.now.documents.waiting.items)) (bodies ++ x.0 ∷ []) x.1) }
+            bodies_from (given self.now.how.edition (text_of S.bytes self.now) self.now.origin) (drop index (map view_waiting self.now.documents.waiting.items)) bodies self.now.at
+            ≡ bodies_from (given self.now.how.edition (text_of S.bytes self.now) self.now.origin) (drop (index + 1) (map view_waiting self.now.documents.waiting.items)) (bodies ++ x.0 ∷ []) x.1) }
         ensures wrong { IfErr result (λ e. (bodies : Row Span) →
             BodiesFail (end_of S.bytes self.now) e
-            (bodies_from (given (text_of S.bytes self.now) self.now.origin) (drop index (map view_waiting self.now.documents.waiting.items)) bodies self.now.at)) }
+            (bodies_from (given self.now.how.edition (text_of S.bytes self.now) self.now.origin) (drop index (map view_waiting self.now.documents.waiting.items)) bodies self.now.at)) }
         ensures onward { IfOk result (λ x. (self.now.at ≤ x.1) × (x.1 ≤ length (text_of S.bytes self.now))) }
     {
         let document = &self.documents.waiting[index];
@@ -319,8 +319,8 @@ impl<'a, S: Source, const KEEP: u8> Cursor<'a, S, KEEP> {
     fn one_body(&mut self, index: usize) -> Result<(), Stop>
         requires { index < length self.old.documents.waiting.items }
         ensures read { BodyRead (end_of S.bytes self.old) result
-            (bodies_from (given (text_of S.bytes self.old) self.old.origin) (drop index (map view_waiting self.old.documents.waiting.items)) self.old.documents.bodies.items self.old.at)
-            (bodies_from (given (text_of S.bytes self.old) self.old.origin) (drop (index + 1) (map view_waiting self.old.documents.waiting.items)) self.new.documents.bodies.items self.new.at) }
+            (bodies_from (given self.old.how.edition (text_of S.bytes self.old) self.old.origin) (drop index (map view_waiting self.old.documents.waiting.items)) self.old.documents.bodies.items self.old.at)
+            (bodies_from (given self.old.how.edition (text_of S.bytes self.old) self.old.origin) (drop (index + 1) (map view_waiting self.old.documents.waiting.items)) self.new.documents.bodies.items self.new.at) }
         ensures waiting { IfOk result (λ done. self.new.documents.waiting ≡ self.old.documents.waiting) }
         ensures onward { IfOk result (λ done. self.old.at ≤ self.new.at) }
         ensures same { Keeps self.old self.new }

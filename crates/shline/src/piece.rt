@@ -3,15 +3,15 @@ ghost use Rattle.std.specs.Prelude.{◌≡◌, ◌≢◌, ◌⊎◌, ◌+◌, �
 ghost use Rattle.shgrammar.specs.Bytes.{behind, ends, ends_word, past_continuations, stands};
 ghost use Rattle.shgrammar.specs.Shows.{IsRead};
 ghost use Rattle.shline.specs.Clauses.{Reads, state_of, Stays, text_of};
-ghost use Rattle.shgrammar.specs.Form.{step_if};
-ghost use Rattle.shgrammar.specs.Pieces.{bracket_by, byte_by, dollar_at, past_parameter, piece_at, rest_mode};
+ghost use Rattle.shgrammar.specs.Form.{many, step_if};
+ghost use Rattle.shgrammar.specs.Pieces.{bracket_by, byte_by, dollar_at, past_parameter, piece_at, piece_in, rest_mode};
 ghost use Rattle.shgrammar.specs.Standing.{raw_stands};
-ghost use Rattle.shgrammar.specs.Words.{backquote_turn, backquoted, single};
+ghost use Rattle.shgrammar.specs.Words.{backquoted, dollar_single, escaped_turn, single};
 
 use crate::cursor::Cursor;
 use crate::search::Sought;
 use crate::stop::Stop;
-use shgrammar::{Class, FaultKind, Mode, Piece, ends_words};
+use shgrammar::{Class, Escaping, FaultKind, Mode, Piece, ends_words};
 use shtext::Source;
 
 impl<'a, S: Source, const KEEP: u8> Cursor<'a, S, KEEP> {
@@ -22,7 +22,7 @@ impl<'a, S: Source, const KEEP: u8> Cursor<'a, S, KEEP> {
         requires here { here ≡ past_continuations (text_of S.bytes self.now) self.now.at }
         requires some { here < length (text_of S.bytes self.now) }
         ensures value { result ≡ dollar_at (text_of S.bytes self.now) self.now.at }
-        ensures two { (result ≡ Piece.Pid) ⊎ (result ≡ Piece.Subst) ⊎ (result ≡ Piece.Arith) ⊎ (result ≡ Piece.Param) →
+        ensures two { (result ≡ Piece.Pid) ⊎ (result ≡ Piece.Subst) ⊎ (result ≡ Piece.Arith) ⊎ (result ≡ Piece.Param) ⊎ (result ≡ Piece.DollarSingle) →
             IsRead (text_of S.bytes self.now) (here + 1) }
         ensures three { result ≡ Piece.Arith → IsRead (text_of S.bytes self.now) (behind (text_of S.bytes self.now) (here + 1)) }
         ensures kinds { (result ≢ Piece.Closer) × (result ≢ Piece.Missing) × (result ≢ Piece.Escape) × (result ≢ Piece.Close) }
@@ -38,6 +38,7 @@ impl<'a, S: Source, const KEEP: u8> Cursor<'a, S, KEEP> {
                 }
             }
             Some(b'{') => Piece::Param,
+            Some(b'\'') => Piece::DollarSingle,
             _ => Piece::Ordinary,
         }
     }
@@ -103,12 +104,12 @@ impl<'a, S: Source, const KEEP: u8> Cursor<'a, S, KEEP> {
     pub(crate) fn piece(&self, mode: Mode, nested: usize, here: usize) -> Piece
         requires here { here ≡ past_continuations (text_of S.bytes self.now) self.now.at }
         requires within { here ≤ length (text_of S.bytes self.now) }
-        ensures value { result ≡ piece_at (text_of S.bytes self.now) mode nested self.now.at }
+        ensures value { result ≡ piece_in self.now.how.edition mode (piece_at (text_of S.bytes self.now) mode nested self.now.at) }
         ensures some { (result ≢ Piece.Missing) × ((mode ≢ Mode.Plain) ⊎ (result ≢ Piece.Closer)) →
             here < length (text_of S.bytes self.now) }
         ensures escape { result ≡ Piece.Escape → (here + 2 ≤ length (text_of S.bytes self.now)) ×
             (raw_stands (text_of S.bytes self.now) here 92 ≡ true) }
-        ensures two { (result ≡ Piece.Pid) ⊎ (result ≡ Piece.Subst) ⊎ (result ≡ Piece.Arith) ⊎ (result ≡ Piece.Param) →
+        ensures two { (result ≡ Piece.Pid) ⊎ (result ≡ Piece.Subst) ⊎ (result ≡ Piece.Arith) ⊎ (result ≡ Piece.Param) ⊎ (result ≡ Piece.DollarSingle) →
             IsRead (text_of S.bytes self.now) (here + 1) }
         ensures three { result ≡ Piece.Arith → IsRead (text_of S.bytes self.now) (behind (text_of S.bytes self.now) (here + 1)) }
         ensures closer { mode ≡ Mode.Arith → result ≡ Piece.Closer → IsRead (text_of S.bytes self.now) (here + 1) }
@@ -131,7 +132,7 @@ impl<'a, S: Source, const KEEP: u8> Cursor<'a, S, KEEP> {
                 }
             }
             Some(b'`') => Piece::Backquote,
-            Some(b'$') => self.dollar(here),
+            Some(b'$') => self.dollar(here).in_edition(self.how.edition, mode),
             Some(byte) => self.byte_piece(mode, nested, byte, here),
         }
     }
@@ -180,33 +181,47 @@ impl<'a, S: Source, const KEEP: u8> Cursor<'a, S, KEEP> {
         Ok(())
     }
 
-    /// What stands up to the next backquote or backslash. Answers whether more follows: if not, the text is closed.
-    #[tactic(auto, unfolding(shgrammar::specs::Words::backquote_turn, shgrammar::specs::Pieces::past_taken), using(shgrammar::proofs::Places::backslash_next, shgrammar::proofs::Places::backquote_is))]
-    fn backquote_turn(&mut self, opener: usize) -> Result<bool, Stop>
+    /// What stands up to the next closing byte or backslash. Answers whether more follows: if not, the text
+    /// is closed.
+    #[tactic(auto, unfolding(shgrammar::specs::Words::escaped_turn, shgrammar::specs::Pieces::past_taken), using(shgrammar::proofs::Places::backslash_next, shgrammar::proofs::Places::closer_is))]
+    fn escaped_turn(&mut self, escaping: Escaping, opener: usize) -> Result<bool, Stop>
         requires { opener ≤ self.old.at }
-        ensures value { Reads S.bytes self.old (backquote_turn (self.old.origin + opener) tt) result
+        ensures value { Reads S.bytes self.old (escaped_turn escaping (self.old.origin + opener) tt) result
             (λ more. step_if more tt) (state_of self.new) }
         ensures onward { IfOk result (λ more. self.old.at < self.new.at) }
         ensures same { Stays self.old self.new }
     {
         let at = self.at;
-        let next = self.find(Sought::Either(b'`', b'\\'), at);
+        let next = self.find(Sought::Either(escaping.closer(), b'\\'), at);
         if self.at_end(next) {
-            return Err(self.wrong_at(FaultKind::UnclosedBackquote, opener));
+            return Err(self.wrong_at(escaping.unclosed(), opener));
         }
-        if self.raw_stands(next, b'`') {
+        if self.raw_stands(next, escaping.closer()) {
             self.at = next + 1;
             return Ok(false);
         }
         if self.at_end(next + 1) {
-            return Err(self.wrong_at(FaultKind::UnclosedBackquote, opener));
+            return Err(self.wrong_at(escaping.unclosed(), opener));
         }
         self.at = next + 2;
         Ok(true)
     }
 
+    /// Text in which a backslash takes one byte, from behind its opener on, which stands at a place.
+    #[tactic(auto, using(shgrammar::proofs::Turns::many_again, shgrammar::proofs::Turns::many_done, crate::proofs::Stops::many_stop))]
+    fn escaped(&mut self, escaping: Escaping, opener: usize) -> Result<(), Stop>
+        requires { opener ≤ self.old.at }
+        ensures value { Reads S.bytes self.old (many (escaped_turn escaping (self.old.origin + opener)) tt) result
+            (λ done. tt) (state_of self.new) }
+        ensures onward { IfOk result (λ done. self.old.at < self.new.at) }
+        ensures same { Stays self.old self.new }
+    {
+        'turns: while self.escaped_turn(escaping, opener)? {}
+        Ok(())
+    }
+
     /// Text in backquotes, from its opener on.
-    #[tactic(auto, unfolding(shgrammar::specs::Words::backquoted, shgrammar::specs::Bytes::behind), using(shgrammar::proofs::Turns::many_again, shgrammar::proofs::Turns::many_done, crate::proofs::Stops::many_stop))]
+    #[tactic(auto, unfolding(shgrammar::specs::Words::backquoted, shgrammar::specs::Bytes::behind))]
     pub(crate) fn backquoted(&mut self, opener: usize) -> Result<(), Stop>
         requires opener { opener ≡ past_continuations (text_of S.bytes self.old) self.old.at }
         requires some { opener < length (text_of S.bytes self.old) }
@@ -215,7 +230,20 @@ impl<'a, S: Source, const KEEP: u8> Cursor<'a, S, KEEP> {
         ensures same { Stays self.old self.new }
     {
         self.at = opener + 1;
-        'turns: while self.backquote_turn(opener)? {}
-        Ok(())
+        self.escaped(Escaping::Backquotes, opener)
+    }
+
+    /// Text in dollar-single quotes, from its `$` on.
+    #[tactic(auto, unfolding(shgrammar::specs::Words::dollar_single, shgrammar::specs::Bytes::behind), using(shgrammar::proofs::Stretches::place_low))]
+    pub(crate) fn dollar_single(&mut self, opener: usize) -> Result<(), Stop>
+        requires opener { opener ≡ past_continuations (text_of S.bytes self.old) self.old.at }
+        requires some { opener < length (text_of S.bytes self.old) }
+        requires two { IsRead (text_of S.bytes self.old) (opener + 1) }
+        ensures value { Reads S.bytes self.old dollar_single result (λ done. tt) (state_of self.new) }
+        ensures onward { IfOk result (λ done. opener < self.new.at) }
+        ensures same { Stays self.old self.new }
+    {
+        self.at = self.behind(opener + 1);
+        self.escaped(Escaping::DollarSingle, opener)
     }
 }

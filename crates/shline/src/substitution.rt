@@ -9,7 +9,7 @@ ghost use Rattle.shast.specs.Bodies.{filled};
 ghost use Rattle.shast.specs.Tree.{subst};
 ghost use Rattle.shast.specs.View.{view_list, view_subst};
 
-use crate::cursor::Cursor;
+use crate::cursor::{Cursor, How};
 use crate::list::Listed;
 use crate::stop::Stop;
 use shast::make::{list_of, subst_of};
@@ -125,10 +125,13 @@ impl<'a, S: Source, const KEEP: u8> Cursor<'a, S, KEEP> {
         if room == 0 {
             return Err(self.wrong_at(FaultKind::TooDeep, opener));
         }
-        let keep = self.keep;
-        self.keep = keep.inside();
+        let how = self.how;
+        self.how = How {
+            keep: how.keep.inside(),
+            ..how
+        };
         let read = self.one_substitution(alloc, opener, substs, room - 1);
-        self.keep = keep;
+        self.how = how;
         read?;
         Ok(())
     }

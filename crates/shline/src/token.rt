@@ -4,7 +4,7 @@ ghost use Rattle.shgrammar.specs.Bytes.{past_blanks, past_continuations};
 ghost use Rattle.shgrammar.specs.Shows.{Shows};
 ghost use Rattle.shgrammar.specs.Classes.{is_blank};
 ghost use Rattle.shgrammar.specs.Standing.{continues, raw_past, raw_stands};
-ghost use Rattle.shgrammar.specs.Tokens.{begins_assignment, greater_at, is_name_at, is_number, less_at, next_at, past_digits, token_at, word_by};
+ghost use Rattle.shgrammar.specs.Tokens.{begins_assignment, greater_at, is_name_at, is_number, less_at, next_at, next_in, past_digits, semicolon_at, token_at, token_in, word_by};
 ghost use Rattle.shline.specs.Clauses.{Stays, text_of};
 
 use crate::cursor::Cursor;
@@ -108,7 +108,7 @@ impl<'a, S: Source, const KEEP: u8> Cursor<'a, S, KEEP> {
         requires within { at ≤ length (text_of S.bytes self.now) }
         requires still { past_continuations (text_of S.bytes self.now) at ≡ at }
         requires first { slice_get (text_of S.bytes self.now) at ≡ Some first }
-        ensures { result ≡ word_by position (text_of S.bytes self.now) at }
+        ensures { result ≡ token_in self.now.how.edition (word_by position (text_of S.bytes self.now) at) }
     {
         if position == Position::Suffix {
             return Token::Word;
@@ -125,6 +125,20 @@ impl<'a, S: Source, const KEEP: u8> Cursor<'a, S, KEEP> {
         }
     }
 
+    /// What begins with a `;`; what stands behind that is at a place.
+    #[inline(always)]
+    #[tactic(auto, unfolding(shgrammar::specs::Bytes::stands))]
+    fn semicolon_token(&self, at: usize) -> Token
+        requires { at ≤ length (text_of S.bytes self.now) }
+        ensures { result ≡ token_in self.now.how.edition (semicolon_at (text_of S.bytes self.now) at) }
+    {
+        match self.byte_at(at) {
+            Some(b';') => Token::DoubleSemicolon,
+            Some(b'&') if self.how.edition.is_later() => Token::SemicolonAmpersand,
+            _ => Token::Semicolon,
+        }
+    }
+
     /// What begins at a place where no blank stands, but this byte.
     #[inline(always)]
     #[tactic(auto, unfolding(shgrammar::specs::Tokens::token_at, shgrammar::specs::Tokens::is_number, shgrammar::specs::Bytes::behind, shgrammar::specs::Bytes::stands, shgrammar::specs::Bytes::stands_in, shgrammar::specs::Standing::raw_stands))]
@@ -132,13 +146,12 @@ impl<'a, S: Source, const KEEP: u8> Cursor<'a, S, KEEP> {
         requires within { at ≤ length (text_of S.bytes self.now) }
         requires still { past_continuations (text_of S.bytes self.now) at ≡ at }
         requires byte { byte ≡ slice_get (text_of S.bytes self.now) at }
-        ensures { result ≡ token_at position (text_of S.bytes self.now) at }
+        ensures { result ≡ token_in self.now.how.edition (token_at position (text_of S.bytes self.now) at) }
     {
         match byte {
             Some(first) if begins_a_word(first) => self.word_token(at, first, position),
             Some(b'\n') => Token::Newline,
-            Some(b';') if self.stands(at + 1, b';') => Token::DoubleSemicolon,
-            Some(b';') => Token::Semicolon,
+            Some(b';') => self.semicolon_token(at + 1),
             _ => self.other_token(at, position),
         }
     }
@@ -152,7 +165,7 @@ impl<'a, S: Source, const KEEP: u8> Cursor<'a, S, KEEP> {
         requires still { past_continuations (text_of S.bytes self.now) at ≡ at }
         requires newline { raw_stands (text_of S.bytes self.now) at 10 ≡ false }
         requires semicolon { raw_stands (text_of S.bytes self.now) at 59 ≡ false }
-        ensures { result ≡ token_at position (text_of S.bytes self.now) at }
+        ensures { result ≡ token_in self.now.how.edition (token_at position (text_of S.bytes self.now) at) }
     {
         match self.raw_byte(at) {
             None => Token::End,
@@ -182,9 +195,9 @@ impl<'a, S: Source, const KEEP: u8> Cursor<'a, S, KEEP> {
 
     /// To where the next token begins, and what it is in this position of a command. Most often no continuation stands before it.
     #[inline(always)]
-    #[tactic(auto, using(shgrammar::proofs::Shown::shown, shgrammar::proofs::Shown::blanks_still, shgrammar::proofs::Unbroken::blanks_whole))]
+    #[tactic(auto, using(shgrammar::proofs::Shown::shown_in, shgrammar::proofs::Shown::blanks_still, shgrammar::proofs::Unbroken::blanks_whole))]
     pub(crate) fn next_token(&mut self, position: Position) -> Next
-        ensures value { result ≡ next_at position (text_of S.bytes self.old) self.old.at }
+        ensures value { result ≡ next_in self.old.how.edition (next_at position (text_of S.bytes self.old) self.old.at) }
         ensures place { self.new.at ≡ past_blanks (text_of S.bytes self.old) self.old.at }
         ensures shows { Shows result.token (text_of S.bytes self.old) self.new.at }
         ensures inside { self.old.at ≤ self.new.at }
@@ -205,12 +218,12 @@ impl<'a, S: Source, const KEEP: u8> Cursor<'a, S, KEEP> {
 
     /// The same, where the first blanks from here on end at a continuation.
     #[inline(never)]
-    #[tactic(auto, unfolding(shgrammar::specs::Bytes::is_broken_at), using(shgrammar::proofs::Shown::shown, shgrammar::proofs::Shown::blanks_still))]
+    #[tactic(auto, unfolding(shgrammar::specs::Bytes::is_broken_at), using(shgrammar::proofs::Shown::shown_in, shgrammar::proofs::Shown::blanks_still))]
     fn next_token_joined(&mut self, end: usize, position: Position) -> Next
         requires end { end ≡ raw_past is_blank (text_of S.bytes self.old) self.old.at }
         requires within { (self.old.at ≤ end) × (end ≤ length (text_of S.bytes self.old)) }
         requires joined { continues (text_of S.bytes self.old) end ≡ true }
-        ensures value { result ≡ next_at position (text_of S.bytes self.old) self.old.at }
+        ensures value { result ≡ next_in self.old.how.edition (next_at position (text_of S.bytes self.old) self.old.at) }
         ensures place { self.new.at ≡ past_blanks (text_of S.bytes self.old) self.old.at }
         ensures shows { Shows result.token (text_of S.bytes self.old) self.new.at }
         ensures inside { self.old.at ≤ self.new.at }

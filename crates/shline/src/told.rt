@@ -12,7 +12,7 @@ use crate::cursor::Cursor;
 use crate::line::filled_entries;
 use crate::stop::Stop;
 use shast::{Entry, Spare};
-use shgrammar::Keep;
+use shgrammar::{Edition, Keep};
 use shtext::Source;
 use std::alloc::Global;
 
@@ -39,13 +39,14 @@ pub fn line_at<S: Source, const KEEP: u8>(
     source: &S,
     at: usize,
     origin: usize,
+    edition: Edition,
     keep: Keep,
     blank: bool,
 ) -> Result<Told, Stop>
     requires { (at ≤ length (S.bytes source.now)) × (origin ≤ at) }
     ensures value { Gives (origin + length (drop at (S.bytes source.now)))
         (λ x. ((map view_entry x.entries.items, x.newline), standing x.len)) result
-        (line_told (S.bytes source.now) (kept KEEP keep) blank at origin) }
+        (line_told edition (S.bytes source.now) (kept KEEP keep) blank at origin) }
     // No node of its entries names an offset behind it.
     ensures spans { IfOk result (λ x. (limit : ℕ) → origin + x.len ≤ limit →
         AreWithin limit (entries_of (map view_entry x.entries.items))) }
@@ -56,7 +57,7 @@ pub fn line_at<S: Source, const KEEP: u8>(
         (raw_stands (drop at (S.bytes source.now)) (x.len - 1) 10 ≡ true) ⊎ (at + x.len ≡ length (S.bytes source.now))) }
     ensures whole { IfOk result (λ x. x.newline ≡ false → at + x.len ≡ length (S.bytes source.now)) }
 {
-    line_at_with::<S, KEEP>(alloc, source, at, origin, keep, blank, None)
+    line_at_with::<S, KEEP>(alloc, source, at, origin, edition, keep, blank, None)
 }
 
 /// The same, with the vectors of its tree taken from spare ones, as far as there are any.
@@ -66,6 +67,7 @@ pub fn line_at_with<'a, S: Source, const KEEP: u8>(
     source: &'a S,
     at: usize,
     origin: usize,
+    edition: Edition,
     keep: Keep,
     blank: bool,
     spare: Option<&'a mut Spare>,
@@ -73,7 +75,7 @@ pub fn line_at_with<'a, S: Source, const KEEP: u8>(
     requires { (at ≤ length (S.bytes source.now)) × (origin ≤ at) }
     ensures value { Gives (origin + length (drop at (S.bytes source.now)))
         (λ x. ((map view_entry x.entries.items, x.newline), standing x.len)) result
-        (line_told (S.bytes source.now) (kept KEEP keep) blank at origin) }
+        (line_told edition (S.bytes source.now) (kept KEEP keep) blank at origin) }
     // No node of its entries names an offset behind it.
     ensures spans { IfOk result (λ x. (limit : ℕ) → origin + x.len ≤ limit →
         AreWithin limit (entries_of (map view_entry x.entries.items))) }
@@ -94,7 +96,7 @@ pub fn line_at_with<'a, S: Source, const KEEP: u8>(
             len: 1,
         });
     }
-    let mut cursor = Cursor::<S, KEEP>::at_line(alloc, source, at, origin, keep, spare);
+    let mut cursor = Cursor::<S, KEEP>::at_line(alloc, source, at, origin, edition, keep, spare);
     // It holds no here-document yet: the line's level is its own.
     let (entries, newline) = cursor.open_line(alloc, blank, MOST_OPEN)?;
     let len = cursor.at;

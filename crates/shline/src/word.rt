@@ -1,5 +1,5 @@
 //! Words (XCU 2.3), and how far they go: their pieces in the five modes (XCU 2.2, 2.6).
-ghost use Rattle.std.specs.Prelude.{◌≡◌, ◌≢◌, ◌+◌, ◌<◌, ◌≤◌, [], length, map, IfOk, List as Row, false, true};
+ghost use Rattle.std.specs.Prelude.{◌≡◌, ◌≢◌, ◌⊎◌, ◌+◌, ◌<◌, ◌≤◌, [], length, map, IfOk, List as Row, false, true};
 ghost use Rattle.shgrammar.specs.Bytes.{ends_word, past_continuations};
 ghost use Rattle.shgrammar.specs.Shows.{IsRead};
 ghost use Rattle.shline.specs.Clauses.{Keeps, Onward, Reads, state_of, Stays, text_of};
@@ -94,7 +94,7 @@ impl<'a, S: Source, const KEEP: u8> Cursor<'a, S, KEEP> {
         requires some { piece ≢ Piece.Missing → here < length (text_of S.bytes self.old) }
         requires escape { piece ≡ Piece.Escape → (here + 2 ≤ length (text_of S.bytes self.old)) ×
             (raw_stands (text_of S.bytes self.old) here 92 ≡ true) }
-        requires two { piece ≡ Piece.Pid → IsRead (text_of S.bytes self.old) (here + 1) }
+        requires two { (piece ≡ Piece.Pid) ⊎ (piece ≡ Piece.DollarSingle) → IsRead (text_of S.bytes self.old) (here + 1) }
         requires opener { opener ≤ self.old.at }
         requires nested { nested.old ≤ self.old.at }
         requires close { piece ≡ Piece.Close → 0 < nested.old }
@@ -111,6 +111,7 @@ impl<'a, S: Source, const KEEP: u8> Cursor<'a, S, KEEP> {
             Piece::BadClose => return Err(self.wrong_at(FaultKind::BadArithClose, here)),
             Piece::Escape => self.at = here + 2,
             Piece::Single => self.single(here)?,
+            Piece::DollarSingle => self.dollar_single(here)?,
             Piece::Backquote => self.backquoted(here)?,
             Piece::Open => {
                 *nested += 1;

@@ -14,12 +14,12 @@ use Rattle.shline.proofs.told.line_at_with.Goals as goal
 pub returns-clause-value : goal.returns-clause-value
 returns-clause-value g c =
     let at_line = c.at_line-cursor.ensures in
-    let here = given (drop c.args.at (g.S.Source.bytes c.args.source.now)) c.args.origin in
+    let here = given c.args.edition (drop c.args.at (g.S.Source.bytes c.args.source.now)) c.args.origin in
     let inner = state_of c.open_line.new.self in
     let es = map view_entry c.in_ok-entries.entries.items in
     let newline = c.in_ok-entries.newline in
     let inside : does (an_open_line (level most_open) c.args.blank) (kept g.row.KEEP c.args.keep) here (standing 0) ≡ Ok ((es, newline), inner) =
-    rw (at_line.0, at_line.1, at_line.2, at_line.3, at_line.4) at c.in_ok-entries.ensures.value in
+    rw (at_line.0, at_line.1, at_line.2, at_line.3, at_line.4, at_line.5) at c.in_ok-entries.ensures.value in
     line_read (kept g.row.KEEP c.args.keep) here (standing 0) (level most_open) c.args.blank newline es inner inside
     ∙ ap (λ (zs : Row AnEntry). Ok ((zs, newline), standing inner.at)) (sym c.filled_entries.ensures)
 
@@ -27,13 +27,13 @@ pub returns-clause-spans : goal.returns-clause-spans
 returns-clause-spans g c =
     let at_line = c.at_line-cursor.ensures in
     let bytes = g.S.Source.bytes c.args.source.now in
-    let here = given (drop c.args.at bytes) c.args.origin in
+    let here = given c.args.edition (drop c.args.at bytes) c.args.origin in
     let inner = state_of c.open_line.new.self in
     let es = map view_entry c.in_ok-entries.entries.items in
     let newline = c.in_ok-entries.newline in
     let inside : does (an_open_line (level most_open) c.args.blank) (kept g.row.KEEP c.args.keep) here (standing 0) ≡ Ok ((es, newline), inner) =
-    rw (at_line.0, at_line.1, at_line.2, at_line.3, at_line.4) at c.in_ok-entries.ensures.value in
-    let told : line_told bytes (kept g.row.KEEP c.args.keep) c.args.blank c.args.at c.args.origin ≡ Ok ((map view_entry c.filled_entries.result.items, newline), standing inner.at) =
+    rw (at_line.0, at_line.1, at_line.2, at_line.3, at_line.4, at_line.5) at c.in_ok-entries.ensures.value in
+    let told : line_told c.args.edition bytes (kept g.row.KEEP c.args.keep) c.args.blank c.args.at c.args.origin ≡ Ok ((map view_entry c.filled_entries.result.items, newline), standing inner.at) =
     line_read (kept g.row.KEEP c.args.keep) here (standing 0) (level most_open) c.args.blank newline es inner inside
     ∙ ap (λ (zs : Row AnEntry). Ok ((zs, newline), standing inner.at)) (sym c.filled_entries.ensures) in
-    line_within (drop c.args.at bytes) c.args.origin (kept g.row.KEEP c.args.keep) c.args.blank _ _ (standing inner.at) told
+    line_within c.args.edition (drop c.args.at bytes) c.args.origin (kept g.row.KEEP c.args.keep) c.args.blank _ _ (standing inner.at) told

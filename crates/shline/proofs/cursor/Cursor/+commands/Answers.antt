@@ -5,7 +5,7 @@ use Rattle.shline.specs.Clauses.{keep_of, standing_with, state_of, text_of, view
 use Rattle.shgrammar.specs.Comments.{span}
 use Rattle.shgrammar.specs.Form.{does, grows, pushed}
 use Rattle.shgrammar.specs.HereDocuments.{outer_level, own_level}
-use Rattle.shgrammar.specs.Pieces.{piece_at}
+use Rattle.shgrammar.specs.Pieces.{piece_at, piece_in}
 use Rattle.shgrammar.specs.Plain.{ArePlain}
 use Rattle.shgrammar.specs.Sights.{State, given}
 use Rattle.shgrammar.specs.Substitutions.{substituted}
@@ -32,7 +32,7 @@ contents-pieces-preserved g t c =
     let onward : c.pieces.self.at < c.take_piece.new.self.at = rw c.if-branch.true at told.onward in
     let plain = rw (told.same.0, told.same.1, was.0, was.1) at rest.plain in
     let within = rw (told.same.0, told.same.1, was.0, was.1) at rest.within in (
-      piece_and_plain (level c.args.room) (keep_of c.args.self.now) (given text c.args.self.now.origin) c.args.mode (c.args.self.now.origin + c.args.opener)
+      piece_and_plain (level c.args.room) (keep_of c.args.self.now) (given c.args.self.now.how.edition text c.args.self.now.origin) c.args.mode (c.args.self.now.origin + c.args.opener)
           (map view_waiting behind.waiting.items) behind.bodies.items (having c.pieces.nested (map view_subst c.pieces.substs.items)) (having c.take_piece.new.nested (map view_subst c.take_piece.new.substs.items)) (map view_waiting before.waiting.items) before.bodies.items c.pieces.self.at c.take_piece.new.self.at c.skip_plain.new.self.at _
           inv.0 piece onward (omega (arith, rest.onward, within)) plain rest.onward within,
       omega (arith, inv.1, onward, rest.onward),
@@ -53,7 +53,7 @@ one_substitution-returns-in-Ok-clause-value g t c =
     let list = view_list c.in-Ok.list in
     let inner = state_of c.substituted.new.self in
     let ss = map view_subst c.args.substs.now.items in
-    let here = given (text_of g.S.Source.bytes start) start.origin in
+    let here = given start.how.edition (text_of g.S.Source.bytes start) start.origin in
     let stands : does (substituted (level c.args.room)) keep here (own_level (state_of start)) ≡ Ok (list, inner) =
     rw (own.same.0, own.same.1, own.same.2, own.same.3, own.level) at c.in-Ok.ensures.value in
     let read = substitution_read keep here (state_of start) (level c.args.room) c.args.opener ss list inner stands in
@@ -90,13 +90,13 @@ construct-ordinary-preserved g t c =
     let inside = c.place_here-here.ensures.inside in
     let text = text_of g.S.Source.bytes start in
     let here : c.place_here-here.result ≡ past_continuations text old.at = rw (was.0, was.1) at c.place_here-here.ensures.value in
-    let told : c.piece.result ≡ piece_at text c.args.mode 0 old.at = rw (was.0, was.1) at c.piece.ensures.value in
+    let told : c.piece.result ≡ piece_in start.how.edition c.args.mode (piece_at text c.args.mode 0 old.at) = rw (was.0, was.1, was.4) at c.piece.ensures.value in
     let is : c.piece.result ≡ pieces.Ordinary = c.in-Ordinary.is in
     let plain : ArePlain c.args.mode text (past_continuations text old.at + 1) new.at = rw (was.0, was.1, here) at rest.plain in
     let low : past_continuations text old.at + 1 ≤ new.at = omega (arith, here, rest.onward) in
     let high : new.at ≤ length text = rw (was.0, was.1) at rest.within in
     let on =
-    ordinary_here (level (c.args.room - 1)) (keep_of start) (map view_waiting old.documents.waiting.items) old.documents.bodies.items text start.origin c.args.mode (start.origin + c.args.opener)
+    ordinary_here start.how.edition (level (c.args.room - 1)) (keep_of start) (map view_waiting old.documents.waiting.items) old.documents.bodies.items text start.origin c.args.mode (start.origin + c.args.opener)
     (map view_subst c.ordinary.substs.items) old.at new.at (sym told ∙ is) plain low high in (
       rw rest.same.3 (sym on ∙ inv.0),
       omega (arith, inv.1, inside.0, rest.onward),

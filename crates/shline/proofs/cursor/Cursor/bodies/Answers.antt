@@ -7,7 +7,7 @@ use Rattle.shline.proofs.cursor.Cursor.bodies.Goals as goal
 
 pub returns-clause-value : goal.returns-clause-value
 returns-clause-value g c =
-    let here = given (text_of g.S.Source.bytes c.args.self.now) c.args.self.now.origin in
+    let here = given c.args.self.now.how.edition (text_of g.S.Source.bytes c.args.self.now) c.args.self.now.origin in
     let start = c.args.self.now.documents in
     let bodies = c.documents.self.documents.bodies.items in
     let same = ap (λ v. length v.items) c.documents.invariant.1 in

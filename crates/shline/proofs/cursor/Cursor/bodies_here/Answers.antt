@@ -9,4 +9,4 @@ pub returns-then-is_empty-clause-value : goal.returns-then-is_empty-clause-value
 returns-then-is_empty-clause-value g c =
     let start = c.args.self.now in
     let none : length start.documents.waiting.items ≡ 0 = grind (arith, nat_tests, c.is_empty.ensures, c.if-is_empty.true) in
-    none_awaited (keep_of start) (given (text_of g.S.Source.bytes start) start.origin) start.documents start.at none
+    none_awaited (keep_of start) (given start.how.edition (text_of g.S.Source.bytes start) start.origin) start.documents start.at none

@@ -9,7 +9,7 @@ use Rattle.shline.proofs.cursor.Cursor.body_of.Goals as goal
 pub returns-clause-read : goal.returns-clause-read
 returns-clause-read g c = λ bodies.
     let text = text_of g.S.Source.bytes c.args.self.now in
-    let here = given text c.args.self.now.origin in
+    let here = given c.args.self.now.how.edition text c.args.self.now.origin in
     let ws = c.args.self.now.documents.waiting.items in
     let rest = drop (c.args.index + 1) (map view_waiting ws) in
     let found : delimiter_from text (view_waiting (get_or ws c.args.index c.index-document.result.now)) c.args.self.now.at ≡ Some c.in-Some.line = search rules in

@@ -13,8 +13,8 @@ returns-in_ok-bodies_here-in-Newline-clause-newline g c = λ e.
     let text = text_of g.S.Source.bytes start in
     let same = c.step.ensures.same in
     let shows = c.requires.shows in
-    let read = rw (same.0, same.1, same.2) at c.in_ok-bodies_here-in-Newline.ensures.value in
+    let read = rw (same.0, same.1, same.2, same.4) at c.in_ok-bodies_here-in-Newline.ensures.value in
     let is : c.step.new.self.at ≡ behind text start.at = c.step.ensures.value in
     let newline : raw_stands text (c.step.new.self.at - 1) 10 ≡ true =
     ap (λ (q : ℕ). raw_stands text (q - 1) 10) is ∙ ap (λ (q : ℕ). raw_stands text q 10) (behind_back text start.at ∙ shows.6) ∙ shows.2 c.in-Newline.is in
-    ends_line (keep_of start) (given text start.origin) (state_of c.step.new.self) (state_of c.bodies_here.new.self) read newline
+    ends_line (keep_of start) (given start.how.edition text start.origin) (state_of c.step.new.self) (state_of c.bodies_here.new.self) read newline

@@ -2,7 +2,7 @@ use Rattle.std.proofs.Common.{◌≡◌, ℕ, false, List, sym, refl, ◌∙◌,
 use Rattle.shgrammar.specs.Bytes.{is_broken_at, past_blanks}
 use Rattle.shgrammar.specs.Classes.{is_blank}
 use Rattle.shgrammar.specs.Standing.{continues, raw_past}
-use Rattle.shgrammar.proofs.Shown.{shown}
+use Rattle.shgrammar.proofs.Shown.{shown_in}
 use Rattle.shgrammar.proofs.Stretches.{joined_none}
 use Rattle.shgrammar.proofs.Unbroken.{blanks_whole}
 use Rattle.shline.specs.Clauses.{text_of}
@@ -33,4 +33,4 @@ returns-clause-shows g c =
     let T = text_of g.S.Source.bytes c.args.self.now in
     let none = sym c.continues_with.ensures.value ∙ c.if-continues_with.false in
     let blanks = whole T c.args.self.now.at c.raw_past_to-at.result.0 c.raw_past_to-at.ensures.value none in
-    rw (c.token-token.ensures, ← blanks.0) (shown c.args.position T c.args.self.now.at)
+    rw (c.token-token.ensures, ← blanks.0) (shown_in c.args.self.now.how.edition c.args.position T c.args.self.now.at)

@@ -2,7 +2,7 @@ use Rattle.std.proofs.Common.{◌≡◌, ℕ, true, List, sym, refl, ap, ◌∙�
 use Rattle.shgrammar.specs.Bytes.{is_broken_at, past_blanks}
 use Rattle.shgrammar.specs.Classes.{is_blank}
 use Rattle.shgrammar.specs.Standing.{continues, raw_in, raw_past}
-use Rattle.shgrammar.proofs.Shown.{shown}
+use Rattle.shgrammar.proofs.Shown.{shown_in}
 use Rattle.shgrammar.proofs.Unbroken.{blanks_on, blanks_stop_raw}
 use Rattle.shline.specs.Clauses.{text_of}
 use Rattle.shline.proofs.cursor.Cursor.next_token_joined.Goals as goal
@@ -32,4 +32,4 @@ pub returns-clause-shows : goal.returns-clause-shows
 returns-clause-shows g c =
     let T = text_of g.S.Source.bytes c.args.self.now in
     let blanks = joined T c.args.self.now.at c.args.end c.requires.end c.requires.joined in
-    rw (c.token-token.ensures, c.past_broken_blanks-at.ensures.place, blanks.0) (shown c.args.position T c.args.self.now.at)
+    rw (c.token-token.ensures, c.past_broken_blanks-at.ensures.place, blanks.0) (shown_in c.args.self.now.how.edition c.args.position T c.args.self.now.at)
