@@ -1,1 +1,2 @@
 pub mod LineByLine
+pub mod Outcome2017

@@ -2,6 +2,7 @@
 use Rattle.std.proofs.Common.{◌≡◌, ℕ, ◌++◌, ◌∙◌, ◌&&◌, Bool, false, Ok, Err, List as Row, drop, map, Vec, Global, ap, refl, sym, subst, None, Some}
 use Rattle.shast.specs.declared.tree.Entry.{Entry}
 use Rattle.shast.specs.View.{view_entry}
+use Rattle.shgrammar.specs.declared.edition.Edition.{Edition}
 use Rattle.shgrammar.specs.declared.fault.Fault.{Fault}
 use Rattle.shast.specs.Tree.{AnEntry, entries_of}
 use Rattle.shgrammar.specs.Sights.{given, standing}
@@ -30,14 +31,14 @@ pub blank_is : (before : LinesBefore) (so : SoFar) → Before before so
     → is_blank_behind before ≡ is_blank_line so
 blank_is before so stood = ap (λ b. b && before.begun) stood.0 ∙ ap (λ b. so.gap && b) stood.1
 
-pub line_read : (B : Row ℕ) (so : SoFar) (p : ℕ) (blank : Bool) (x : Read (Row AnEntry × Bool)) → blank ≡ is_blank_line so → line_from B Whole blank p ≡ x → LineReads B so p x
-line_read B so p blank x is_blank read =
-    let one = (is (the_line blank) (given (drop p B) p) (standing 0)).some in
-    (one.0, subst (λ b. may (the_line b) (given (drop p B) p) (standing 0) x one.0) is_blank (subst (λ y. may (the_line blank) (given (drop p B) p) (standing 0) y one.0) read one.1))
+pub line_read : (edition : Edition) (B : Row ℕ) (so : SoFar) (p : ℕ) (blank : Bool) (x : Read (Row AnEntry × Bool)) → blank ≡ is_blank_line so → line_from edition B Whole blank p ≡ x → LineReads edition B so p x
+line_read edition B so p blank x is_blank read =
+    let one = (is (the_line blank) (given edition (drop p B) p) (standing 0)).some in
+    (one.0, subst (λ b. may (the_line b) (given edition (drop p B) p) (standing 0) x one.0) is_blank (subst (λ y. may (the_line blank) (given edition (drop p B) p) (standing 0) y one.0) read one.1))
 
 -- what the grammar reads of a line is what is computed
-pub line_only : (B : Row ℕ) (so : SoFar) (p : ℕ) (x : Read (Row AnEntry × Bool)) → LineReads B so p x → line_from B Whole (is_blank_line so) p ≡ x
-line_only B so p x read = sym ((is (the_line (is_blank_line so)) (given (drop p B) p) (standing 0)).only x read.0 read.1)
+pub line_only : (edition : Edition) (B : Row ℕ) (so : SoFar) (p : ℕ) (x : Read (Row AnEntry × Bool)) → LineReads edition B so p x → line_from edition B Whole (is_blank_line so) p ≡ x
+line_only edition B so p x read = sym ((is (the_line (is_blank_line so)) (given edition (drop p B) p) (standing 0)).only x read.0 read.1)
 
 -- a fault without the trees in command substitutions is that of the line with them
 whole_fault : (p : ℕ) (blank : Bool) (f : Fault) (x alone : Read (Row AnEntry × Bool))
@@ -46,16 +47,16 @@ whole_fault p blank f x (Ok y) outer whole = absurd outer
 whole_fault p blank f (Ok x) (Err h) outer whole = absurd whole
 whole_fault p blank f (Err g) (Err h) outer whole = ap Err (whole ∙ sym outer)
 
-outer_read : (B : Row ℕ) (so : SoFar) (p : ℕ) (x : Read (Row AnEntry × Bool))
-    → line_from B Outer (is_blank_line so) p ≡ x → OuterReads B so p x
-outer_read B so p (Ok x) read = read
-outer_read B so p (Err f) read =
+outer_read : (edition : Edition) (B : Row ℕ) (so : SoFar) (p : ℕ) (x : Read (Row AnEntry × Bool))
+    → line_from edition B Outer (is_blank_line so) p ≡ x → OuterReads edition B so p x
+outer_read edition B so p (Ok x) read = read
+outer_read edition B so p (Err f) read =
     let blank = is_blank_line so in
-    let alone = line_told B Whole false p 0 in
+    let alone = line_told edition B Whole false p 0 in
     let outer : SameBy false p blank (Err f) alone =
-    subst (λ y. SameBy false p blank y alone) read (line_outer B p blank) in
-    let whole = whole_fault p blank f (line_from B Whole blank p) alone outer (line_moved B p blank) in
-    line_read B so p blank (Err f) refl whole
+    subst (λ y. SameBy false p blank y alone) read (line_outer edition B p blank) in
+    let whole = whole_fault p blank f (line_from edition B Whole blank p) alone outer (line_moved edition B p blank) in
+    line_read edition B so p blank (Err f) refl whole
 
 -- ---- what is read, from what is computed
 
@@ -68,36 +69,36 @@ module _ {S : Type 0} (so : SoFar) (old new : ScriptLines S) where
   line_by reads others so_read (Faulty f) (read, same) = (so_read _ read, same)
 
   pub next_line : (B : Row ℕ) (line : ScriptLine)
-      → IsLine (λ x. line_from B Whole (is_blank_line so) old.at ≡ x) so old line new
+      → IsLine (λ x. line_from old.edition B Whole (is_blank_line so) old.at ≡ x) so old line new
       → IsNextLine B so old line new
-  next_line B line is_line = line_by _ _ (λ x. line_read B so old.at (is_blank_line so) x refl) line is_line
+  next_line B line is_line = line_by _ _ (λ x. line_read old.edition B so old.at (is_blank_line so) x refl) line is_line
 
   pub outer_line : (B : Row ℕ) (line : ScriptLine)
-      → IsLine (λ x. line_from B Outer (is_blank_line so) old.at ≡ x) so old line new
+      → IsLine (λ x. line_from old.edition B Outer (is_blank_line so) old.at ≡ x) so old line new
       → IsOuterLine B so old line new
-  outer_line B line is_line = line_by _ _ (λ x. outer_read B so old.at x) line is_line
+  outer_line B line is_line = line_by _ _ (λ x. outer_read old.edition B so old.at x) line is_line
 
 -- ---- what a line leads on to
 
 module _ {S : Type 0} where
   -- Where the line ended by a newline: what the lines behind it give is what they give with it. Else it is the script's last, or its
   -- first fault stands in it.
-  abbrev pub Leads : Row ℕ → SoFar → ScriptLines S → ScriptLine → ScriptLines S → Type 0
-  Leads B so old (Ended es) new = Stands new (with_line so (map view_entry es.items))
-      × ((s : AScript) → Rest B (with_line so (map view_entry es.items)) new.at s → Rest B so old.at s)
-  Leads B so old (Last es) new = Rest B so old.at (record { entries = entries_of (so.entries ++ map view_entry es.items); wrong = None })
-  Leads B so old (Faulty f) new = Rest B so old.at (record { entries = entries_of so.entries; wrong = Some f })
+  abbrev pub Leads : Edition → Row ℕ → SoFar → ScriptLines S → ScriptLine → ScriptLines S → Type 0
+  Leads edition B so old (Ended es) new = Stands new (with_line so (map view_entry es.items))
+      × ((s : AScript) → Rest edition B (with_line so (map view_entry es.items)) new.at s → Rest edition B so old.at s)
+  Leads edition B so old (Last es) new = Rest edition B so old.at (record { entries = entries_of (so.entries ++ map view_entry es.items); wrong = None })
+  Leads edition B so old (Faulty f) new = Rest edition B so old.at (record { entries = entries_of so.entries; wrong = Some f })
 
   module _ (B : Row ℕ) (so : SoFar) (old new : ScriptLines S) where
-    leads : (x : ScriptLine) → IsNextLine B so old x new → Leads B so old x new
+    leads : (x : ScriptLine) → IsNextLine B so old x new → Leads old.edition B so old x new
     leads (Ended es) ((t, ends, read), stands) =
-        (stands, λ s rest. let on = subst (λ q. Rest B (with_line so (map view_entry es.items)) q s) ends rest in (read.0 ++ on.0, line_ended (map view_entry es.items) t read.0 read.1 on.1))
+        (stands, λ s rest. let on = subst (λ q. Rest old.edition B (with_line so (map view_entry es.items)) q s) ends rest in (read.0 ++ on.0, line_ended (map view_entry es.items) t read.0 read.1 on.1))
     leads (Last es) ((t, ends, read), stands) = (read.0, last_line (map view_entry es.items) t read.0 read.1)
     leads (Faulty f) (read, same) = (read.0, faulty f read.0 read.1)
 
-    -- the same, where the bytes are those of another source
-    pub leads_in : (other : Row ℕ) (x : ScriptLine) → other ≡ B → IsNextLine other so old x new → Leads B so old x new
-    leads_in other x same next = leads x (subst (λ b. IsNextLine b so old x new) same next)
+    -- the same, where the bytes are those of another source, and the edition has another name
+    pub leads_in : (other : Row ℕ) (edition : Edition) (x : ScriptLine) → other ≡ B → old.edition ≡ edition → IsNextLine other so old x new → Leads edition B so old x new
+    leads_in other edition x same by next = subst (λ e. Leads e B so old x new) by (leads x (subst (λ b. IsNextLine b so old x new) same next))
 
 -- a stop for a fault tells that the reading stops there
 pub fault_told : (e : Stop) (f : Fault) (end : ℕ) (x : Read (Row AnEntry × Bool)) → e ≡ Wrong f → Fails end e x → x ≡ Err f
@@ -112,24 +113,24 @@ so_far xs gap = record { entries = map view_entry xs; gap = gap }
 all_is : (before all line : Row Entry) → all ≡ before ++ line → map view_entry all ≡ map view_entry before ++ map view_entry line
 all_is before all line is = ap (map view_entry) is ∙ map-append view_entry before line
 
-module _ {S : Type 0} (B : Row ℕ) (before all : Row Entry) (old new : ScriptLines S) (x : ScriptLine) (leads : Leads B (so_far before old.before.gap) old x new)
-    (from : (s : AScript) → Rest B (so_far before old.before.gap) old.at s → Outcome B s) where
+module _ {S : Type 0} (edition : Edition) (B : Row ℕ) (before all : Row Entry) (old new : ScriptLines S) (x : ScriptLine) (leads : Leads edition B (so_far before old.before.gap) old x new)
+    (from : (s : AScript) → Rest edition B (so_far before old.before.gap) old.at s → Outcome edition B s) where
   pub ended_on : (line : Vec Entry Global) → x ≡ Ended line → all ≡ before ++ line.items
-      → Stands new (so_far all new.before.gap) × ((s : AScript) → Rest B (so_far all new.before.gap) new.at s → Outcome B s)
+      → Stands new (so_far all new.before.gap) × ((s : AScript) → Rest edition B (so_far all new.before.gap) new.at s → Outcome edition B s)
   ended_on line this all_are =
       let lead = rw this at leads in
       let same : with_line (so_far before old.before.gap) (map view_entry line.items) ≡ so_far all new.before.gap =
       ap (λ es. record { entries = es; gap = is_empty (map view_entry line.items) }) (sym (all_is before all line.items all_are))
       ∙ ap (λ gap. so_far all gap) (sym lead.0.0) in (
         subst (Stands new) same lead.0,
-        λ s rest. from s (lead.1 s (subst (λ so. Rest B so new.at s) (sym same) rest)),
+        λ s rest. from s (lead.1 s (subst (λ so. Rest edition B so new.at s) (sym same) rest)),
       )
 
-  pub last_on : (line : Vec Entry Global) → x ≡ Last line → all ≡ before ++ line.items → Outcome B (record { entries = entries_of (map view_entry all); wrong = None })
+  pub last_on : (line : Vec Entry Global) → x ≡ Last line → all ≡ before ++ line.items → Outcome edition B (record { entries = entries_of (map view_entry all); wrong = None })
   last_on line this all_are =
-      subst (λ es. Outcome B (record { entries = entries_of es; wrong = None })) (sym (all_is before all line.items all_are)) (from _ (rw this at leads))
+      subst (λ es. Outcome edition B (record { entries = entries_of es; wrong = None })) (sym (all_is before all line.items all_are)) (from _ (rw this at leads))
 
-  pub faulty_on : (f : Fault) → x ≡ Faulty f → Outcome B (record { entries = entries_of (map view_entry before); wrong = Some f })
+  pub faulty_on : (f : Fault) → x ≡ Faulty f → Outcome edition B (record { entries = entries_of (map view_entry before); wrong = Some f })
   faulty_on f this = from _ (rw this at leads)
 
 module _ (limit : ℕ) (before all : Row Entry) (x : ScriptLine) (within : LineWithin limit x) (low : AreWithin limit (entries_of (map view_entry before))) where

@@ -1,2 +1,3 @@
 pub mod Answers
 pub mod LineByLine
+pub mod Outcome2017

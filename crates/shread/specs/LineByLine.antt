@@ -1,6 +1,7 @@
 -- The lines of a script, read one after the other.
 use Rattle.std.specs.Prelude.{◌≡◌, ◌≤◌, ◌<◌, ℕ, ◌+◌, ◌-◌, Vec, Bool, true, false, ◌&&◌, List, List as Row, Ok, Err, drop, map, not}
 use Rattle.std.specs.Global.{Global}
+use Rattle.shgrammar.specs.declared.edition.Edition.{Edition}
 use Rattle.shgrammar.specs.declared.keep.Keep.TheVariants.{Outer}
 use Rattle.shread.specs.declared.script_lines.ScriptLine.{ScriptLine}
 use Rattle.shread.specs.declared.script_lines.ScriptLine.TheVariants.{Ended, Last, Faulty}
@@ -17,21 +18,21 @@ use Rattle.shgrammar.specs.Sights.{State, given, standing}
 use Rattle.shgrammar.specs.Standing.{raw_stands}
 
 -- what the grammar reads of the line at p, behind lines that gave this
-abbrev pub LineReads : List ℕ → SoFar → ℕ → Read (Row AnEntry × Bool) → Type 0
-LineReads B so p x = (k : Row Spelled) × may (the_line (is_blank_line so)) (given (drop p B) p) (standing 0) x k
+abbrev pub LineReads : Edition → List ℕ → SoFar → ℕ → Read (Row AnEntry × Bool) → Type 0
+LineReads edition B so p x = (k : Row Spelled) × may (the_line (is_blank_line so)) (given edition (drop p B) p) (standing 0) x k
 
 -- The same, but that the trees in command substitutions are left out. A fault is that of the line with them.
-abbrev pub OuterReads : List ℕ → SoFar → ℕ → Read (Row AnEntry × Bool) → Type 0
-OuterReads B so p (Ok x) = line_from B Outer (is_blank_line so) p ≡ Ok x
-OuterReads B so p (Err f) = LineReads B so p (Err f)
+abbrev pub OuterReads : Edition → List ℕ → SoFar → ℕ → Read (Row AnEntry × Bool) → Type 0
+OuterReads edition B so p (Ok x) = line_from edition B Outer (is_blank_line so) p ≡ Ok x
+OuterReads edition B so p (Err f) = LineReads edition B so p (Err f)
 
 -- the line at p, so read, has these entries, and ends before q: by a newline, or where the script ends
 abbrev pub LineEnds : (Read (Row AnEntry × Bool) → Type 0) → ℕ → Row AnEntry → Bool → ℕ → Type 0
 LineEnds reads p es newline q = (t : State) × (q ≡ p + t.at) × reads (Ok ((es, newline), t))
 
 -- the script of lines that gave this and of the lines from p on
-abbrev pub Rest : List ℕ → SoFar → ℕ → AScript → Type 0
-Rest B so p s = (k : Row Spelled) × Lines B so p s k
+abbrev pub Rest : Edition → List ℕ → SoFar → ℕ → AScript → Type 0
+Rest edition B so p s = (k : Row Spelled) × Lines edition B so p s k
 
 -- no line stands before
 abbrev pub no_lines : LinesBefore
@@ -49,6 +50,10 @@ module _ {S : Type 0} where
   -- the bytes of the script, where its source tells them
   abbrev pub bytes_of : (S → List ℕ) → ScriptLines S → List ℕ
   bytes_of bytes lines = bytes lines.source.now
+
+  -- by which it is read
+  abbrev pub edition_of : ScriptLines S → Edition
+  edition_of lines = lines.edition
 
   -- where the next line begins
   abbrev pub place_of : ScriptLines S → ℕ
@@ -70,7 +75,7 @@ module _ {S : Type 0} where
   -- ended it and is its last byte.
   abbrev pub IsWholeLine : List ℕ → SoFar → ScriptLines S → Vec Entry Global → ScriptLines S → Type 0
   IsWholeLine B so old es new =
-      (t : State) × (new.at ≡ old.at + t.at) × OuterReads B so old.at (Ok ((map view_entry es.items, true), t)) × (0 < t.at)
+      (t : State) × (new.at ≡ old.at + t.at) × OuterReads old.edition B so old.at (Ok ((map view_entry es.items, true), t)) × (0 < t.at)
       × (raw_stands (drop old.at B) (t.at - 1) 10 ≡ true) × Stands new (with_line so (map view_entry es.items))
 
   -- The line, so read, behind lines that gave this, from `old` to `new`. At a fault nothing moves.
@@ -86,11 +91,11 @@ module _ {S : Type 0} where
 
   -- the line as the grammar has it
   abbrev pub IsNextLine : List ℕ → SoFar → ScriptLines S → ScriptLine → ScriptLines S → Type 0
-  IsNextLine B so old line new = IsLine (LineReads B so old.at) so old line new
+  IsNextLine B so old line new = IsLine (LineReads old.edition B so old.at) so old line new
 
   -- the same, but for the trees in command substitutions
   abbrev pub IsOuterLine : List ℕ → SoFar → ScriptLines S → ScriptLine → ScriptLines S → Type 0
-  IsOuterLine B so old line new = IsLine (OuterReads B so old.at) so old line new
+  IsOuterLine B so old line new = IsLine (OuterReads old.edition B so old.at) so old line new
 
 -- another line follows
 abbrev pub GoesOn : ScriptLine → Type 0

@@ -8,7 +8,7 @@ use crate::error::ReadError;
 use crate::script_lines::{ScriptLine, ScriptLines};
 use shast::Entry;
 use shast::make::list_of;
-use shgrammar::Script;
+use shgrammar::{Edition, Script};
 use shtext::Source;
 use std::alloc::Global;
 
@@ -24,8 +24,12 @@ fn add(entries: &mut Vec<Entry>, mut line: Vec<Entry>) -> Result<(), ReadError>
 
 /// A whole script. One without a byte wants no memory.
 #[tactic(auto, using(shgrammar::proofs::LineKinds::nothing_read))]
-pub(crate) fn script_from<S: Source>(alloc: Global, source: &S) -> Result<Script, ReadError>
-    ensures value { IfOk result (λ script. view_script script ≡ script_at (S.bytes source.now)) }
+pub(crate) fn script_from<S: Source>(
+    alloc: Global,
+    edition: Edition,
+    source: &S,
+) -> Result<Script, ReadError>
+    ensures value { IfOk result (λ script. view_script script ≡ script_at edition (S.bytes source.now)) }
     ensures spans { IfOk result (λ script. AreWithin (length (S.bytes source.now)) (view_script script).entries) }
     ensures fault { IfOk result (λ script. IfSome script.fault (λ f. f.at ≤ length (S.bytes source.now))) }
     ensures empty { length (S.bytes source.now) ≡ 0 → IsOk result }
@@ -37,7 +41,7 @@ pub(crate) fn script_from<S: Source>(alloc: Global, source: &S) -> Result<Script
             fault: None,
         });
     }
-    let mut lines = ScriptLines::new(alloc, source);
+    let mut lines = ScriptLines::new(alloc, edition, source);
     'lines: loop {
         match lines.read_next()? {
             ScriptLine::Ended(line) => add(&mut entries, line)?,

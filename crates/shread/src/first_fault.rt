@@ -4,7 +4,7 @@ ghost use Rattle.shgrammar.specs.Scripts.{first_fault_from};
 ghost use Rattle.shread.specs.Answers.{Tells};
 
 use crate::error::ReadError;
-use shgrammar::{Fault, Keep};
+use shgrammar::{Edition, Fault, Keep};
 use shline::{SEEN, Stop, Told, line_at};
 use shtext::Source;
 use std::alloc::Global;
@@ -23,11 +23,16 @@ enum Found {
 
 /// Reads the line at an offset.
 #[tactic(auto, using(shgrammar::proofs::FirstFault::here_within, shgrammar::proofs::FirstFault::beyond, shgrammar::proofs::FirstFault::nowhere))]
-fn look<S: Source>(alloc: Global, source: &S, at: usize) -> Result<Found, ReadError>
+fn look<S: Source>(
+    alloc: Global,
+    edition: Edition,
+    source: &S,
+    at: usize,
+) -> Result<Found, ReadError>
     requires { at ≤ length (S.bytes source.now) }
-    ensures { IfOk result (Tells (S.bytes source.now) at) }
+    ensures { IfOk result (Tells edition (S.bytes source.now) at) }
 {
-    match line_at::<S, SEEN>(alloc, source, at, at, Keep::Nothing, false) {
+    match line_at::<S, SEEN>(alloc, source, at, at, edition, Keep::Nothing, false) {
         Ok(
             Told {
                 entries,
@@ -50,14 +55,15 @@ fn look<S: Source>(alloc: Global, source: &S, at: usize) -> Result<Found, ReadEr
 /// The first fault of a script.
 pub(crate) fn first_fault_of<S: Source>(
     alloc: Global,
+    edition: Edition,
     source: &S,
 ) -> Result<Option<Fault>, ReadError>
-    ensures fault { IfOk result (λ fault. fault ≡ first_fault_from (S.bytes source.now) 0) }
+    ensures fault { IfOk result (λ fault. fault ≡ first_fault_from edition (S.bytes source.now) 0) }
     ensures within { IfOk result (λ fault. IfSome fault (λ f. f.at ≤ length (S.bytes source.now))) }
 {
     let mut at = 0;
     'lines: loop {
-        match look(alloc, source, at)? {
+        match look(alloc, edition, source, at)? {
             Found::Here(fault) => return Ok(Some(fault)),
             Found::Beyond(next) => at = next,
             Found::Nowhere => return Ok(None),

@@ -4,19 +4,24 @@ ghost use Rattle.shgrammar.specs.Search.{LineBefore, MayPass, StopsAt};
 
 use crate::error::ReadError;
 use crate::one_line::ends_in_newline;
-use shgrammar::Keep;
+use shgrammar::{Edition, Keep};
 use shline::{SEEN, Stop, Told, line_at};
 use shtext::Source;
 use std::alloc::Global;
 use std::mem;
 
 /// The place behind the line that begins at an offset, if it has no fault and a newline ended it that is its last byte.
-fn behind_line<S: Source>(alloc: Global, source: &S, at: usize) -> Result<Option<usize>, ReadError>
+fn behind_line<S: Source>(
+    alloc: Global,
+    edition: Edition,
+    source: &S,
+    at: usize,
+) -> Result<Option<usize>, ReadError>
     requires { at ≤ length (S.bytes source.now) }
-    ensures some { IfOk result (λ next. IfSome next (λ p. LineBefore (S.bytes source.now) at p)) }
-    ensures none { IfOk result (λ next. next ≡ None → StopsAt (S.bytes source.now) at) }
+    ensures some { IfOk result (λ next. IfSome next (λ p. LineBefore edition (S.bytes source.now) at p)) }
+    ensures none { IfOk result (λ next. next ≡ None → StopsAt edition (S.bytes source.now) at) }
 {
-    match line_at::<S, SEEN>(alloc, source, at, 0, Keep::Nothing, false) {
+    match line_at::<S, SEEN>(alloc, source, at, 0, edition, Keep::Nothing, false) {
         Ok(
             Told {
                 entries,
@@ -40,15 +45,19 @@ fn behind_line<S: Source>(alloc: Global, source: &S, at: usize) -> Result<Option
 ///
 /// The source may be the front of a script. Whatever follows these lines there, the first fault of the script is that behind them.
 /// So who looks for it alone need not hold them.
-pub fn faultless_front<S: Source>(alloc: Global, source: &S) -> Result<usize, ReadError>
-    ensures passed { IfOk result (λ n. MayPass (S.bytes source.now) n) }
+pub fn faultless_front<S: Source>(
+    alloc: Global,
+    edition: Edition,
+    source: &S,
+) -> Result<usize, ReadError>
+    ensures passed { IfOk result (λ n. MayPass edition (S.bytes source.now) n) }
     ensures within { IfOk result (λ n. n ≤ length (S.bytes source.now)) }
     ensures newline { IfOk result (λ n. 0 < n → slice_get (S.bytes source.now) (n - 1) ≡ Some 10) }
     // They are all: no such line follows.
-    ensures all { IfOk result (StopsAt (S.bytes source.now)) }
+    ensures all { IfOk result (StopsAt edition (S.bytes source.now)) }
 {
     let mut at = 0;
-    'lines: while let Some(next) = behind_line(alloc, source, at)? {
+    'lines: while let Some(next) = behind_line(alloc, edition, source, at)? {
         at = next;
     }
     Ok(at)

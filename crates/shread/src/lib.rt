@@ -19,4 +19,4 @@ pub use error::ReadError;
 pub use front::faultless_front;
 pub use reader::{Line, LineKind, Reader};
 pub use script_lines::{LinesBefore, ScriptLine, ScriptLines};
-pub use shgrammar::{Fault, FaultKind, Script};
+pub use shgrammar::{Edition, Fault, FaultKind, Script};

@@ -10,7 +10,7 @@ use crate::error::ReadError;
 use crate::reader::{Line, LineKind};
 use shast::Entry;
 use shast::make::list_of;
-use shgrammar::Keep;
+use shgrammar::{Edition, Keep};
 use shline::{KEPT, Stop, Told, line_at};
 use shtext::Source;
 use std::alloc::Global;
@@ -45,9 +45,14 @@ pub(crate) fn ends_in_newline<S: Source>(source: &S, at: usize, len: usize) -> b
 
 /// The line that begins at an offset, read as a script of its own. At the length no memory is wanted.
 #[tactic(auto, unfolding(shgrammar::specs::Scripts::line_of_text), using(shgrammar::proofs::LineKinds::nothing_left, shgrammar::proofs::LineKinds::no_fault_within))]
-pub(crate) fn line_from<S: Source>(alloc: Global, source: &S, at: usize) -> Result<Line, ReadError>
+pub(crate) fn line_from<S: Source>(
+    alloc: Global,
+    edition: Edition,
+    source: &S,
+    at: usize,
+) -> Result<Line, ReadError>
     requires { at ≤ length (S.bytes source.now) }
-    ensures value { IfOk result (λ line. view_line at line ≡ line_of_text (drop at (S.bytes source.now))) }
+    ensures value { IfOk result (λ line. view_line at line ≡ line_of_text edition (drop at (S.bytes source.now))) }
     ensures next { IfOk result (λ line. (at ≤ line.next) × (line.next ≤ length (S.bytes source.now))) }
     ensures onward { IfOk result (λ line. line.ended ≡ true → at < line.next) }
     ensures whole { IfOk result (λ line. line.ended ≡ false → line.next ≡ length (S.bytes source.now)) }
@@ -62,7 +67,7 @@ pub(crate) fn line_from<S: Source>(alloc: Global, source: &S, at: usize) -> Resu
             ended: false,
         });
     }
-    match line_at::<S, KEPT>(alloc, source, at, 0, Keep::Whole, false) {
+    match line_at::<S, KEPT>(alloc, source, at, 0, edition, Keep::Whole, false) {
         Ok(
             Told {
                 entries,

@@ -8,12 +8,12 @@ ghost use Rattle.shast.specs.Nodes.{AreWithin};
 ghost use Rattle.shast.specs.Tree.{entries_of};
 ghost use Rattle.shast.specs.View.{view_entry};
 ghost use Rattle.shread.specs.LineByLine.{AtStart, GoesOn, IsLine, IsNextLine, IsOuterLine, IsWholeLine, LineWithin, Stands};
-ghost use Rattle.shread.specs.LineByLine.{before_of, bytes_of, is_blank_behind, no_lines, place_of};
+ghost use Rattle.shread.specs.LineByLine.{before_of, bytes_of, edition_of, is_blank_behind, no_lines, place_of};
 
 use crate::error::ReadError;
 use crate::one_line::ends_in_newline;
 use shast::{Entry, Spare};
-use shgrammar::{Fault, Keep};
+use shgrammar::{Edition, Fault, Keep};
 use shline::{KEPT, Stop, Told, line_at_with};
 use shtext::Source;
 use std::alloc::Global;
@@ -50,10 +50,11 @@ impl LinesBefore {
     }
 }
 
-/// The lines of a script, from some line on.
+/// The lines of a script by one edition, from some line on.
 #[derive(Drop)]
 pub struct ScriptLines<'a, S: Source> {
     alloc: Global,
+    edition: Edition,
     source: &'a S,
     /// Where the next line begins.
     at: usize,
@@ -62,20 +63,28 @@ pub struct ScriptLines<'a, S: Source> {
 
 impl<'a, S: Source> ScriptLines<'a, S> {
     /// All lines of the script that the source is.
-    pub fn new(alloc: Global, source: &'a S) -> ScriptLines<'a, S>
+    pub fn new(alloc: Global, edition: Edition, source: &'a S) -> ScriptLines<'a, S>
         ensures source { bytes_of S.bytes result ≡ S.bytes source.entry.now }
+        ensures edition { edition_of result ≡ edition }
         ensures start { AtStart result }
     {
-        ScriptLines::behind(alloc, source, LinesBefore::none())
+        ScriptLines::behind(alloc, edition, source, LinesBefore::none())
     }
 
     /// The lines of the source, which is what follows some lines of a script.
-    pub fn behind(alloc: Global, source: &'a S, before: LinesBefore) -> ScriptLines<'a, S>
+    pub fn behind(
+        alloc: Global,
+        edition: Edition,
+        source: &'a S,
+        before: LinesBefore,
+    ) -> ScriptLines<'a, S>
         ensures source { bytes_of S.bytes result ≡ S.bytes source.entry.now }
+        ensures edition { edition_of result ≡ edition }
         ensures start { (place_of result ≡ 0) × (before_of result ≡ before) }
     {
         ScriptLines {
             alloc,
+            edition,
             source,
             at: 0,
             before,
@@ -110,7 +119,7 @@ impl<'a, S: Source> ScriptLines<'a, S> {
             let place = place_of self.now in
             Gives (place + length (drop place bytes))
             (λ x. ((map view_entry x.entries.items, x.newline), standing x.len)) result
-            (line_from bytes keep (is_blank_behind (before_of self.now)) place) }
+            (line_from (edition_of self.now) bytes keep (is_blank_behind (before_of self.now)) place) }
         ensures spans { IfOk result (λ x. (limit : ℕ) → place_of self.now + x.len ≤ limit →
             AreWithin limit (entries_of (map view_entry x.entries.items))) }
         ensures onward { IfOk result (λ x. Onward 0 x.len x.newline) }
@@ -123,6 +132,7 @@ impl<'a, S: Source> ScriptLines<'a, S> {
             self.source,
             self.at,
             self.at,
+            self.edition,
             keep,
             blank,
             spare,
@@ -135,6 +145,7 @@ impl<'a, S: Source> ScriptLines<'a, S> {
         ensures stands { (so : SoFar) → Stands self.old so → Stands self.new (with_line so (map view_entry entries.now)) }
         ensures place { place_of self.new ≡ place_of self.old + len }
         ensures source { bytes_of S.bytes self.new ≡ bytes_of S.bytes self.old }
+        ensures edition { edition_of self.new ≡ edition_of self.old }
     {
         self.before.gap = entries.is_empty();
         if !self.before.gap {
@@ -151,10 +162,11 @@ impl<'a, S: Source> ScriptLines<'a, S> {
     ) -> Result<ScriptLine, ReadError>
         requires { place_of self.old ≤ length (bytes_of S.bytes self.old) }
         ensures line { IfOk result (λ line. (so : SoFar) → Stands self.old so → IsLine
-            (λ x. line_from (bytes_of S.bytes self.old) keep (is_blank_line so) (place_of self.old) ≡ x)
+            (λ x. line_from (edition_of self.old) (bytes_of S.bytes self.old) keep (is_blank_line so) (place_of self.old) ≡ x)
             so self.old line self.new) }
         ensures err { IfErr result (λ e. self.new ≡ self.old) }
         ensures source { bytes_of S.bytes self.new ≡ bytes_of S.bytes self.old }
+        ensures edition { edition_of self.new ≡ edition_of self.old }
         ensures place { IfOk result (λ line. place_of self.new ≤ length (bytes_of S.bytes self.old)) }
         ensures onward { IfOk result (λ line. GoesOn line → place_of self.old < place_of self.new) }
         // No node of its entries names an offset above the script's length, nor does a fault.
@@ -186,6 +198,7 @@ impl<'a, S: Source> ScriptLines<'a, S> {
         ensures line { IfOk result (λ line. (so : SoFar) → Stands self.old so → IsNextLine (bytes_of S.bytes self.old) so self.old line self.new) }
         ensures err { IfErr result (λ e. self.new ≡ self.old) }
         ensures source { bytes_of S.bytes self.new ≡ bytes_of S.bytes self.old }
+        ensures edition { edition_of self.new ≡ edition_of self.old }
         ensures place { IfOk result (λ line. place_of self.new ≤ length (bytes_of S.bytes self.old)) }
         ensures onward { IfOk result (λ line. GoesOn line → place_of self.old < place_of self.new) }
         // No node of its entries names an offset above the script's length, nor does a fault.
@@ -200,6 +213,7 @@ impl<'a, S: Source> ScriptLines<'a, S> {
         ensures line { IfOk result (λ line. (so : SoFar) → Stands self.old so → IsNextLine (bytes_of S.bytes self.old) so self.old line self.new) }
         ensures err { IfErr result (λ e. self.new ≡ self.old) }
         ensures source { bytes_of S.bytes self.new ≡ bytes_of S.bytes self.old }
+        ensures edition { edition_of self.new ≡ edition_of self.old }
         ensures place { IfOk result (λ line. place_of self.new ≤ length (bytes_of S.bytes self.old)) }
         ensures onward { IfOk result (λ line. GoesOn line → place_of self.old < place_of self.new) }
         // No node of its entries names an offset above the script's length, nor does a fault.
@@ -216,6 +230,7 @@ impl<'a, S: Source> ScriptLines<'a, S> {
             IsOuterLine (bytes_of S.bytes self.old) so self.old line self.new) }
         ensures err { IfErr result (λ e. self.new ≡ self.old) }
         ensures source { bytes_of S.bytes self.new ≡ bytes_of S.bytes self.old }
+        ensures edition { edition_of self.new ≡ edition_of self.old }
         ensures place { IfOk result (λ line. place_of self.new ≤ length (bytes_of S.bytes self.old)) }
         ensures onward { IfOk result (λ line. GoesOn line → place_of self.old < place_of self.new) }
         // No node of its entries names an offset above the script's length, nor does a fault.
@@ -232,9 +247,10 @@ impl<'a, S: Source> ScriptLines<'a, S> {
         ensures line { IfOk result (λ line. IfSome line (λ entries. (so : SoFar) → Stands self.old so →
             IsWholeLine (bytes_of S.bytes self.old) so self.old entries self.new)) }
         ensures newline { IfOk result (λ line. IfSome line (λ entries. slice_get (bytes_of S.bytes self.old) (place_of self.new - 1) ≡ Some 10)) }
-        ensures none { result ≡ Done None → (self.new ≡ self.old) × StopsAt (bytes_of S.bytes self.old) (place_of self.old) }
+        ensures none { result ≡ Done None → (self.new ≡ self.old) × StopsAt (edition_of self.old) (bytes_of S.bytes self.old) (place_of self.old) }
         ensures err { IfErr result (λ e. self.new ≡ self.old) }
         ensures source { bytes_of S.bytes self.new ≡ bytes_of S.bytes self.old }
+        ensures edition { edition_of self.new ≡ edition_of self.old }
         ensures place { IfOk result (λ line. place_of self.new ≤ length (bytes_of S.bytes self.old)) }
         ensures onward { IfOk result (λ line. IfSome line (λ entries. place_of self.old < place_of self.new)) }
     {
@@ -250,9 +266,10 @@ impl<'a, S: Source> ScriptLines<'a, S> {
         ensures line { IfOk result (λ line. IfSome line (λ entries. (so : SoFar) → Stands self.old so →
             IsWholeLine (bytes_of S.bytes self.old) so self.old entries self.new)) }
         ensures newline { IfOk result (λ line. IfSome line (λ entries. slice_get (bytes_of S.bytes self.old) (place_of self.new - 1) ≡ Some 10)) }
-        ensures none { result ≡ Done None → (self.new ≡ self.old) × StopsAt (bytes_of S.bytes self.old) (place_of self.old) }
+        ensures none { result ≡ Done None → (self.new ≡ self.old) × StopsAt (edition_of self.old) (bytes_of S.bytes self.old) (place_of self.old) }
         ensures err { IfErr result (λ e. self.new ≡ self.old) }
         ensures source { bytes_of S.bytes self.new ≡ bytes_of S.bytes self.old }
+        ensures edition { edition_of self.new ≡ edition_of self.old }
         ensures place { IfOk result (λ line. place_of self.new ≤ length (bytes_of S.bytes self.old)) }
         ensures onward { IfOk result (λ line. IfSome line (λ entries. place_of self.old < place_of self.new)) }
     {

@@ -2,7 +2,7 @@ use Rattle.std.proofs.Common.{◌≡◌, ◌≤◌, ◌-◌, length, map}
 use Rattle.shast.specs.Nodes.{AreWithin}
 use Rattle.shast.specs.Tree.{entries_of}
 use Rattle.shast.specs.View.{view_entry}
-use Rattle.shread.specs.LineByLine.{Rest, Stands, bytes_of, place_of}
+use Rattle.shread.specs.LineByLine.{Rest, Stands, bytes_of, edition_of, place_of}
 use Rattle.shgrammar.specs.Scripts.{AScript, Outcome, SoFar}
 use Rattle.shread.proofs.all_lines.script_from.Given as goal
 
@@ -10,8 +10,8 @@ abbrev pub invariant-lines : goal.invariant-lines
 invariant-lines g l =
     let bytes = g.S.Source.bytes l.source in
     let so : SoFar = record { entries = map view_entry l.entries.items; gap = l.lines.before.gap } in
-    Stands l.lines so × ((s : AScript) → Rest bytes so (place_of l.lines) s → Outcome bytes s) × AreWithin (length bytes) (entries_of so.entries)
-    × (bytes_of g.S.Source.bytes l.lines ≡ bytes) × (place_of l.lines ≤ length bytes)
+    Stands l.lines so × ((s : AScript) → Rest l.fn.edition bytes so (place_of l.lines) s → Outcome l.fn.edition bytes s) × AreWithin (length bytes) (entries_of so.entries)
+    × (bytes_of g.S.Source.bytes l.lines ≡ bytes) × (place_of l.lines ≤ length bytes) × (edition_of l.lines ≡ l.fn.edition)
 
 abbrev pub decreases-lines : goal.decreases-lines
 decreases-lines g l = length (g.S.Source.bytes l.source) - place_of l.lines

@@ -5,7 +5,7 @@ use Rattle.shread.proofs.front.faultless_front.Given as goal
 abbrev pub invariant-lines : goal.invariant-lines
 invariant-lines g l =
     let bytes = g.S.Source.bytes l.source in
-    (l.at ≤ length bytes) × ArePassed bytes l.at × (0 < l.at → slice_get bytes (l.at - 1) ≡ Some 10)
+    (l.at ≤ length bytes) × ArePassed l.edition bytes l.at × (0 < l.at → slice_get bytes (l.at - 1) ≡ Some 10)
 
 abbrev pub decreases-lines : goal.decreases-lines
 decreases-lines g l = length (g.S.Source.bytes l.source) - l.at

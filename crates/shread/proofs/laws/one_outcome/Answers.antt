@@ -5,8 +5,8 @@ use Rattle.shread.proofs.laws.one_outcome.Goals as goal
 
 pub returns : goal.returns
 returns c = record {
-  script = λ bytes a b p q. script_only bytes a p ∙ sym (script_only bytes b q);
-  some_script = λ bytes. (script_at bytes, script_is bytes);
-  line = λ bytes a b p q. line_only bytes a p ∙ sym (line_only bytes b q);
-  some_line = λ bytes. (line_of_text bytes, line_is bytes);
+  script = λ e bytes a b p q. script_only e bytes a p ∙ sym (script_only e bytes b q);
+  some_script = λ e bytes. (script_at e bytes, script_is e bytes);
+  line = λ e bytes a b p q. line_only e bytes a p ∙ sym (line_only e bytes b q);
+  some_line = λ e bytes. (line_of_text e bytes, line_is e bytes);
 }

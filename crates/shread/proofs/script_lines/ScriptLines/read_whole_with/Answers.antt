@@ -30,7 +30,7 @@ returns-else-newline-clause-none g c = λ is.
     let bytes = g.S.Source.bytes c.args.self.now.source.now in
     let told = c.in-Ok.field-0 in
     let blank = is_blank_behind c.args.self.now.before in
-    let stops = stops_unended bytes c.args.self.now.at told.len blank told.newline
+    let stops = stops_unended c.args.self.now.edition bytes c.args.self.now.at told.len blank told.newline
     (map view_entry told.entries.items) c.in-Ok.ensures.value in (
       refl,
       elim c.else-newline.branch [
@@ -45,5 +45,5 @@ returns-in-Err-Wrong-clause-none g c = λ is.
     let wrong = c.in-Err-Wrong in
     let told = fault_told _ wrong.field-0-0 _ _ wrong.field-0-is wrong.ensures.value in (
       refl,
-      stops_faulty bytes c.args.self.now.at (is_blank_behind c.args.self.now.before) wrong.field-0-0 told,
+      stops_faulty c.args.self.now.edition bytes c.args.self.now.at (is_blank_behind c.args.self.now.before) wrong.field-0-0 told,
     )
