@@ -40,6 +40,10 @@ pub written_text : (s : Sheet) (x : Text) → written s (text x ∷ []) ≡ shee
 unfolding written laid_behind held_behind
 written_text s x = ap (λ r. sheet_of (s.so_far ++ r) s.held) (append-nil x)
 
+-- a text without a byte
+pub written_nothing : (s : Sheet) (x : Text) → x ≡ [] → s ≡ written s (text x ∷ [])
+written_nothing s x none = sym (written_text s x ∙ ap (λ t. sheet_of (s.so_far ++ t) s.held) none ∙ ap (λ t. sheet_of t s.held) (append-nil s.so_far))
+
 pub written_line : (s : Sheet) → written s (line_end ∷ []) ≡ sheet_of ((s.so_far ++ 10 ∷ []) ++ s.held) []
 unfolding written laid_behind held_behind
 written_line s = rw (append_assoc, append-nil) refl

@@ -54,6 +54,10 @@ impl Page {
     pub(crate) fn begin_line(&mut self) -> Result<(), AllocError>
         ensures { IfOk result (λ _. Prints self.old self.new (text self.old.margin.items ∷ [])) }
     {
+        // Most lines of a script begin at its margin.
+        if self.margin.is_empty() {
+            return Ok(());
+        }
         self.text.extend_from_slice(&self.margin)
     }
 
