@@ -2,7 +2,9 @@
 use Rattle.std.proofs.Common.{◌≡◌, ◌∙◌, ℕ, zero-add, IfErr, IfOk, Result, ◌+◌, ◌-◌, ◌≤◌, ◌<◌, Bool, true, false, not, List, [], ◌∷◌, ◌++◌, Vec, Global, length, map, take, drop, Ok, Err, None, Some, refl, ap, subst, sym, append_assoc, append-nil, arith, length-append, length-drop, length-take}
 use Rattle.std.proofs.lemmas.List.{take-append-le}
 use Rattle.std.proofs.Math.Seq.{drop-append_seam, drop-append-add, take-add, take-take}
+use Rattle.shgrammar.specs.declared.edition.Edition.{Edition}
 use Rattle.shgrammar.specs.declared.fault.Fault.{Fault}
+use Rattle.shgrammar.specs.Form.{Read}
 use Rattle.shread.specs.declared.script_lines.LinesBefore.{LinesBefore}
 use Rattle.shread.specs.declared.script_lines.ScriptLine.{ScriptLine}
 use Rattle.shread.specs.declared.script_lines.ScriptLine.TheVariants.{Ended, Last, Faulty}
@@ -71,7 +73,7 @@ begun_as (e ∷ before) es fs is = refl
 left_as : (left : LinesBefore) (so : SoFar) (es fs : List AnEntry) → is_empty es ≡ is_empty fs → Before left (with_line so es) → Before left (with_line so fs)
 left_as left so es fs is stands = (stands.0 ∙ is, stands.1 ∙ ap not (begun_as so.entries es fs is))
 
-module _ (y : Layout) (H S : List ℕ) (q n : ℕ) (so : SoFar) (newline : Bool) (es : List AnEntry) (t : State) (there : There H S q n (is_blank_line so) newline es t) where
+module _ (edition : Edition) (y : Layout) (H S : List ℕ) (q n : ℕ) (so : SoFar) (newline : Bool) (es : List AnEntry) (t : State) (there : There edition H S q n (is_blank_line so) newline es t) where
   abbrev here : List AnEntry
   here = blanked_row (is_blank_line so) (map (moved_entry n) es)
 
@@ -80,20 +82,20 @@ module _ (y : Layout) (H S : List ℕ) (q n : ℕ) (so : SoFar) (newline : Bool)
   sheet_more text then text_is is =
       is ∙ ap (λ r. written text (print_entries y [] r)) (sym there.shape) ∙ line_behind y S so.entries here text text_is
 
-module _ (y : Layout) (H S : List ℕ) (q n : ℕ) (so : SoFar) (es : List AnEntry) (t : State) where
+module _ (edition : Edition) (y : Layout) (H S : List ℕ) (q n : ℕ) (so : SoFar) (es : List AnEntry) (t : State) where
   -- what is read behind a line is read with it
-  rest_more : There H S q n (is_blank_line so) true es t → (s : AScript) (p : ℕ) → p ≡ n + t.at → Rest S (with_line so (blanked_row (is_blank_line so) (map (moved_entry n) es))) p s → Rest S so n s
+  rest_more : There edition H S q n (is_blank_line so) true es t → (s : AScript) (p : ℕ) → p ≡ n + t.at → Rest edition S (with_line so (blanked_row (is_blank_line so) (map (moved_entry n) es))) p s → Rest edition S so n s
   rest_more there s p ends rest =
       let line = blanked_row (is_blank_line so) (map (moved_entry n) es) in
-      let read = line_read S so n (is_blank_line so) (Ok ((line, true), there.state)) refl there.read in
+      let read = line_read edition S so n (is_blank_line so) (Ok ((line, true), there.state)) refl there.read in
       let place : p ≡ n + there.state.at = omega (arith, ends, there.at) in
-      let on = subst (λ (k : ℕ). Rest S (with_line so line) k s) place rest in
+      let on = subst (λ (k : ℕ). Rest edition S (with_line so line) k s) place rest in
       (read.0 ++ on.0, line_ended line there.state read.0 read.1 on.1)
 
-  rest_last : There H S q n (is_blank_line so) false es t → Rest S so n (record { entries = entries_of (so.entries ++ blanked_row (is_blank_line so) (map (moved_entry n) es)); wrong = None })
+  rest_last : There edition H S q n (is_blank_line so) false es t → Rest edition S so n (record { entries = entries_of (so.entries ++ blanked_row (is_blank_line so) (map (moved_entry n) es)); wrong = None })
   rest_last there =
       let line = blanked_row (is_blank_line so) (map (moved_entry n) es) in
-      let read = line_read S so n (is_blank_line so) (Ok ((line, false), there.state)) refl there.read in
+      let read = line_read edition S so n (is_blank_line so) (Ok ((line, false), there.state)) refl there.read in
       (read.0, last_line line there.state read.0 read.1)
 
 -- what is printed of a line without the trees in its command substitutions is printed of it with them
@@ -109,9 +111,9 @@ outer_printed y H q blank line es text then outer is =
 -- ---- lines at the front of what follows
 
 -- the line at q of H is whole, and its first bytes are taken behind P: whatever follows them, it is read there
-whole_there : (H P more : List ℕ) (q : ℕ) (blank : Bool) (es : List AnEntry) (t : State) → Rattle.shgrammar.specs.Scripts.line_told H Whole false q 0 ≡ Ok ((es, true), t) → 0 < t.at → q + t.at ≤ length H
-    → Rattle.shgrammar.specs.Standing.raw_stands (drop q H) (t.at - 1) 10 ≡ true → There H (P ++ (take t.at (drop q H) ++ more)) q (length P) blank true es t
-whole_there H P more q blank es t read some low stands =
+whole_there : (edition : Edition) (H P more : List ℕ) (q : ℕ) (blank : Bool) (es : List AnEntry) (t : State) → Rattle.shgrammar.specs.Scripts.line_told edition H Whole false q 0 ≡ Ok ((es, true), t) → 0 < t.at → q + t.at ≤ length H
+    → Rattle.shgrammar.specs.Standing.raw_stands (drop q H) (t.at - 1) 10 ≡ true → There edition H (P ++ (take t.at (drop q H) ++ more)) q (length P) blank true es t
+whole_there edition H P more q blank es t read some low stands =
     let D = drop q H in
     let L = t.at in
     let S = P ++ (take L D ++ more) in
@@ -119,61 +121,62 @@ whole_there H P more q blank es t read some low stands =
     let same : take L (drop (length P) S) ≡ take L D =
     ap (take L) (drop-append_seam P (take L D ++ more)) ∙ take-append-le L (take L D) more size ∙ take-take L L D (omega arith) in
     let up : L ≡ L - 1 + 1 = omega (arith, some) in
-    stands_there H S q (length P) blank true es t read same
-    (line_there D (drop (length P) S) (L - 1) es t up (newline_at D (L - 1) stands) (λ r lt. same_front L D (drop (length P) S) same r (omega (arith, lt, up))) read)
+    stands_there edition H S q (length P) blank true es t read same
+    (line_there edition D (drop (length P) S) (L - 1) es t up (newline_at D (L - 1) stands) (λ r lt. same_front L D (drop (length P) S) same r (omega (arith, lt, up))) read)
 
-module _ {S : Type 0} (y : Layout) (H : List ℕ) (old new : ScriptLines S) (text then : Sheet) (line : Vec Entry Global) where
-  one_more : (P : List ℕ) → ArePrinted y P old.before text → ((so : SoFar) → Stands old so → IsWholeLine H so old line new) → new.at ≤ length H
-      → then ≡ written text (print_entries y [] (shape_of H (entries_of (map view_entry line.items)))) → (L : ℕ) → new.at ≡ old.at + L → ArePrinted y (P ++ take L (drop old.at H)) new.before then
+module _ {S : Type 0} (edition : Edition) (y : Layout) (H : List ℕ) (old new : ScriptLines S) (by : old.edition ≡ edition) (text then : Sheet) (line : Vec Entry Global) where
+  one_more : (P : List ℕ) → ArePrinted edition y P old.before text → ((so : SoFar) → Stands old so → IsWholeLine H so old line new) → new.at ≤ length H
+      → then ≡ written text (print_entries y [] (shape_of H (entries_of (map view_entry line.items)))) → (L : ℕ) → new.at ≡ old.at + L → ArePrinted edition y (P ++ take L (drop old.at H)) new.before then
   one_more P b whole low is L ends_at =
       let q = old.at in
       let D = drop q H in
       let w = whole b.so b.left_so in
       let blank = is_blank_line b.so in
-      let a = outer_alone H q blank true (map view_entry line.items) w.0 w.2 in
+      let reads = subst (λ e. OuterReads e H b.so q (Ok ((map view_entry line.items, true), w.0))) by w.2 in
+      let a = outer_alone edition H q blank true (map view_entry line.items) w.0 reads in
       let es = a.0 in
       let t = a.1 in
       let size : t.at ≡ L = omega (arith, a.4, w.1, ends_at) in
       let some : 0 < t.at = omega (arith, a.4, w.3) in
       let high : q + t.at ≤ length H = omega (arith, size, ends_at, low) in
       let stands : Rattle.shgrammar.specs.Standing.raw_stands D (t.at - 1) 10 ≡ true = subst (λ (k : ℕ). Rattle.shgrammar.specs.Standing.raw_stands D (k - 1) 10 ≡ true) a.4 w.4 in
-      let there = λ (more : List ℕ). whole_there H P more q blank es t a.2 some high stands in
+      let there = λ (more : List ℕ). whole_there edition H P more q blank es t a.2 some high stands in
       let here = blanked_row blank (map (moved_entry (length P)) es) in
       let alike : is_empty (map view_entry line.items) ≡ is_empty here = ap is_empty a.3 ∙ empty_as blank (outer_entry q) (moved_entry (length P)) es in
       let then_is = outer_printed y H q blank (map view_entry line.items) es text then a.3 is in
-      let done : ArePrinted y (P ++ take t.at D) new.before then = record {
+      let done : ArePrinted edition y (P ++ take t.at D) new.before then = record {
         so = with_line b.so here;
         left_so = left_as new.before b.so (map view_entry line.items) here alike w.5;
         from = λ more s rest.
             let same : P ++ take t.at D ++ more ≡ P ++ (take t.at D ++ more) = append_assoc P (take t.at D) more in
             let at : length (P ++ take t.at D) ≡ length P + t.at = omega (arith, length-append P (take t.at D), length-take t.at D, length-drop q H, high) in
-            let on = subst (λ (X : List ℕ). Rest X (with_line b.so here) (length (P ++ take t.at D)) s) same rest in
-            subst (λ (X : List ℕ). Outcome X s) (sym same) (b.from (take t.at D ++ more) s (rest_more y H (P ++ (take t.at D ++ more)) q (length P) b.so es t (there more) s (length (P ++ take t.at D)) at on));
+            let on = subst (λ (X : List ℕ). Rest edition X (with_line b.so here) (length (P ++ take t.at D)) s) same rest in
+            subst (λ (X : List ℕ). Outcome edition X s) (sym same) (b.from (take t.at D ++ more) s (rest_more edition y H (P ++ (take t.at D ++ more)) q (length P) b.so es t (there more) s (length (P ++ take t.at D)) at on));
         is = λ more.
             let same : P ++ take t.at D ++ more ≡ P ++ (take t.at D ++ more) = append_assoc P (take t.at D) more in
-            sheet_more y H (P ++ (take t.at D ++ more)) q (length P) b.so true es t (there more) text then (b.is (take t.at D ++ more)) then_is
+            sheet_more edition y H (P ++ (take t.at D ++ more)) q (length P) b.so true es t (there more) text then (b.is (take t.at D ++ more)) then_is
             ∙ sym (ap (λ (X : List ℕ). sheet_with y X (b.so.entries ++ here)) same);
       } in
-      subst (λ (k : ℕ). ArePrinted y (P ++ take k D) new.before then) size done
+      subst (λ (k : ℕ). ArePrinted edition y (P ++ take k D) new.before then) size done
 
-  pub front_behind : (front : List ℕ) → ArePrinted y (front ++ take old.at H) old.before text → ((so : SoFar) → Stands old so → IsWholeLine H so old line new) → old.at < new.at → new.at ≤ length H
-      → then ≡ written text (print_entries y [] (shape_of H (entries_of (map view_entry line.items)))) → ArePrinted y (front ++ take new.at H) new.before then
+  pub front_behind : (front : List ℕ) → ArePrinted edition y (front ++ take old.at H) old.before text → ((so : SoFar) → Stands old so → IsWholeLine H so old line new) → old.at < new.at → new.at ≤ length H
+      → then ≡ written text (print_entries y [] (shape_of H (entries_of (map view_entry line.items)))) → ArePrinted edition y (front ++ take new.at H) new.before then
   front_behind front b whole onward low is =
       let L = new.at - old.at in
       let ends : new.at ≡ old.at + L = omega (arith, onward) in
       let pieces : front ++ take new.at H ≡ front ++ take old.at H ++ take L (drop old.at H) =
       ap (λ (k : ℕ). front ++ take k H) ends ∙ ap (λ (xs : List ℕ). front ++ xs) (take-add old.at L H) ∙ sym (append_assoc front (take old.at H) (take L (drop old.at H))) in
-      subst (λ (X : List ℕ). ArePrinted y X new.before then) (sym pieces) (one_more (front ++ take old.at H) b whole low is L ends)
+      subst (λ (X : List ℕ). ArePrinted edition y X new.before then) (sym pieces) (one_more (front ++ take old.at H) b whole low is L ends)
 
 -- nothing was read of what follows
-pub start_printed : (y : Layout) (front H : List ℕ) (left now : LinesBefore) (p : ℕ) (s : Sheet) → p ≡ 0 → now ≡ left → ArePrinted y front left s → ArePrinted y (front ++ take p H) now s
-start_printed y front H left now p s start same b =
+pub start_printed : (edition : Edition) (y : Layout) (front H : List ℕ) (left now : LinesBefore) (p : ℕ) (s : Sheet) → p ≡ 0 → now ≡ left → ArePrinted edition y front left s → ArePrinted edition y (front ++ take p H) now s
+start_printed edition y front H left now p s start same b =
     let none : front ++ take p H ≡ front = ap (λ (k : ℕ). front ++ take k H) start ∙ append-nil front in
-    subst (λ (X : List ℕ). ArePrinted y X now s) (sym none) (subst (λ (l : LinesBefore). ArePrinted y front l s) (sym same) b)
+    subst (λ (X : List ℕ). ArePrinted edition y X now s) (sym none) (subst (λ (l : LinesBefore). ArePrinted edition y front l s) (sym same) b)
 
 -- nothing is printed
-pub none_printed : (y : Layout) (left : LinesBefore) (s : Sheet) → left ≡ no_lines → s ≡ sheet_of [] [] → ArePrinted y [] left s
-none_printed y left s none empty = record {
+pub none_printed : (edition : Edition) (y : Layout) (left : LinesBefore) (s : Sheet) → left ≡ no_lines → s ≡ sheet_of [] [] → ArePrinted edition y [] left s
+none_printed edition y left s none empty = record {
   so = nothing_yet;
   left_so = subst (λ (l : LinesBefore). Before l nothing_yet) (sym none) (refl, refl);
   from = λ more s rest. rest;
@@ -182,25 +185,25 @@ none_printed y left s none empty = record {
 
 -- ---- what follows, up to the end
 
-module _ {S : Type 0} (y : Layout) (H front : List ℕ) where
+module _ {S : Type 0} (edition : Edition) (y : Layout) (H front : List ℕ) where
   -- between two lines: what they gave is printed, and what the lines to come give is the script with it
   pub record Between (lines : ScriptLines S) (printed_so : Sheet) : Type 0 where
     pub so : SoFar
     pub stands : Stands lines so
-    pub from : (s : AScript) → Rest (front ++ H) so (length front + place_of lines) s → Outcome (front ++ H) s
+    pub from : (s : AScript) → Rest edition (front ++ H) so (length front + place_of lines) s → Outcome edition (front ++ H) s
     pub is : printed_so ≡ sheet_with y (front ++ H) so.entries
 
-  pub at_start : (lines : ScriptLines S) (left : LinesBefore) (s : Sheet) → place_of lines ≡ 0 → before_of lines ≡ left → ArePrinted y front left s → Between lines s
+  pub at_start : (lines : ScriptLines S) (left : LinesBefore) (s : Sheet) → place_of lines ≡ 0 → before_of lines ≡ left → ArePrinted edition y front left s → Between lines s
   at_start lines left s start same b =
       let place : length front + place_of lines ≡ length front = omega (arith, start) in
       record {
         so = b.so;
         stands = subst (λ (l : LinesBefore). Before l b.so) (sym same) b.left_so;
-        from = λ z rest. b.from H z (subst (λ (p : ℕ). Rest (front ++ H) b.so p z) place rest);
+        from = λ z rest. b.from H z (subst (λ (p : ℕ). Rest edition (front ++ H) b.so p z) place rest);
         is = b.is H;
       }
 
-  module _ (old new : ScriptLines S) (text then : Sheet) (x : ScriptLine) (b : Between old text) (next : IsOuterLine H b.so old x new) where
+  module _ (old new : ScriptLines S) (by : old.edition ≡ edition) (text then : Sheet) (x : ScriptLine) (b : Between old text) (next : IsOuterLine H b.so old x new) where
     -- then these entries are printed
     abbrev Prints : List AnEntry → Type 0
     Prints es = then ≡ written text (print_entries y [] (shape_of H (entries_of es)))
@@ -209,23 +212,27 @@ module _ {S : Type 0} (y : Layout) (H front : List ℕ) where
     record Placed (newline : Bool) (line : List AnEntry) (size : ℕ) : Type 0 where
       es : List AnEntry
       t : State
-      there : There H (front ++ H) old.at (length front + old.at) (is_blank_line b.so) newline es t
+      there : There edition H (front ++ H) old.at (length front + old.at) (is_blank_line b.so) newline es t
       ends : size ≡ t.at
       alike : is_empty line ≡ is_empty (blanked_row (is_blank_line b.so) (map (moved_entry (length front + old.at)) es))
       prints : Prints (blanked_row (is_blank_line b.so) (map (moved_entry old.at) es))
 
+    -- what is read by the edition of the lines
+    reads_by : (r : Read (List AnEntry × Bool)) → OuterReads old.edition H b.so old.at r → OuterReads edition H b.so old.at r
+    reads_by r read = subst (λ e. OuterReads e H b.so old.at r) by read
+
     placed : (newline : Bool) (line : List AnEntry) (t : State)
-        → OuterReads H b.so old.at (Ok ((line, newline), t)) → Prints line → Placed newline line t.at
+        → OuterReads edition H b.so old.at (Ok ((line, newline), t)) → Prints line → Placed newline line t.at
     placed newline line t read is =
         let q = old.at in
         let n = length front + q in
         let blank = is_blank_line b.so in
-        let a = outer_alone H q blank newline line t read in
+        let a = outer_alone edition H q blank newline line t read in
         let same : drop n (front ++ H) ≡ drop q H = drop-append-add front H q in
         record {
           es = a.0;
           t = a.1;
-          there = stands_there H (front ++ H) q n blank newline a.0 a.1 a.2 (ap (take a.1.at) same) (told_same (front ++ H) H n q same ∙ a.2);
+          there = stands_there edition H (front ++ H) q n blank newline a.0 a.1 a.2 (ap (take a.1.at) same) (told_same edition (front ++ H) H n q same ∙ a.2);
           ends = a.4;
           alike = ap is_empty a.3 ∙ empty_as blank (outer_entry q) (moved_entry n) a.0;
           prints = outer_printed y H q blank line a.0 text then a.3 is;
@@ -235,59 +242,59 @@ module _ {S : Type 0} (y : Layout) (H front : List ℕ) where
     behind_by line ((t, ends, read), stands) is =
         let q = old.at in
         let n = length front + q in
-        let p = placed true (map view_entry line.items) t read is in
+        let p = placed true (map view_entry line.items) t (reads_by (Ok ((map view_entry line.items, true), t)) read) is in
         let here = blanked_row (is_blank_line b.so) (map (moved_entry n) p.es) in
         record {
           so = with_line b.so here;
           stands = left_as new.before b.so (map view_entry line.items) here p.alike stands;
-          from = λ s rest. b.from s (rest_more y H (front ++ H) q n b.so p.es p.t p.there s (length front + new.at) (omega (arith, ends, p.ends)) rest);
-          is = sheet_more y H (front ++ H) q n b.so true p.es p.t p.there text then b.is p.prints;
+          from = λ s rest. b.from s (rest_more edition y H (front ++ H) q n b.so p.es p.t p.there s (length front + new.at) (omega (arith, ends, p.ends)) rest);
+          is = sheet_more edition y H (front ++ H) q n b.so true p.es p.t p.there text then b.is p.prints;
         }
 
     pub behind_line : (line : Vec Entry Global) → x ≡ Ended line → Prints (map view_entry line.items) → Between new then
     behind_line line this is = behind_by line (rw this at next) is
 
-    last_by : (line : Vec Entry Global) → IsOuterLine H b.so old (Last line) new → Prints (map view_entry line.items) → IsTextOf y (front ++ H) then.so_far
+    last_by : (line : Vec Entry Global) → IsOuterLine H b.so old (Last line) new → Prints (map view_entry line.items) → IsTextOf edition y (front ++ H) then.so_far
     last_by line ((t, ends, read), stands) is =
         let q = old.at in
         let n = length front + q in
-        let p = placed false (map view_entry line.items) t read is in
+        let p = placed false (map view_entry line.items) t (reads_by (Ok ((map view_entry line.items, false), t)) read) is in
         let all = entries_of (b.so.entries ++ blanked_row (is_blank_line b.so) (map (moved_entry n) p.es)) in
         let script : AScript = record { entries = all; wrong = None } in
-        let outcome : Outcome (front ++ H) script = b.from script (rest_last y H (front ++ H) q n b.so p.es p.t p.there) in
+        let outcome : Outcome edition (front ++ H) script = b.from script (rest_last edition y H (front ++ H) q n b.so p.es p.t p.there) in
         let told : then.so_far ≡ printed y (shape_of (front ++ H) all) =
-        ap (λ s. s.so_far) (sheet_more y H (front ++ H) q n b.so false p.es p.t p.there text then b.is p.prints ∙ written_first (print_entries y [] (shape_of (front ++ H) all))) in
-        record { script = script; outcome = outcome; faultless = refl; is = told; reads_back = subst (λ t. ReadsBack t (shape_of (front ++ H) all)) (sym told) (reads_back y (front ++ H) script outcome) }
+        ap (λ s. s.so_far) (sheet_more edition y H (front ++ H) q n b.so false p.es p.t p.there text then b.is p.prints ∙ written_first (print_entries y [] (shape_of (front ++ H) all))) in
+        record { script = script; outcome = outcome; faultless = refl; is = told; reads_back = subst (λ t. ReadsBack edition t (shape_of (front ++ H) all)) (sym told) (reads_back edition y (front ++ H) script outcome) }
 
-    pub last_printed : (line : Vec Entry Global) → x ≡ Last line → Prints (map view_entry line.items) → IsTextOf y (front ++ H) then.so_far
+    pub last_printed : (line : Vec Entry Global) → x ≡ Last line → Prints (map view_entry line.items) → IsTextOf edition y (front ++ H) then.so_far
     last_printed line this is = last_by line (rw this at next) is
 
-    fault_by : (f : Fault) → IsOuterLine H b.so old (Faulty f) new → f.at ≤ length H → FirstFault (front ++ H) (Some (moved_fault (length front) f)) × (length front + f.at ≤ length (front ++ H))
+    fault_by : (f : Fault) → IsOuterLine H b.so old (Faulty f) new → f.at ≤ length H → FirstFault edition (front ++ H) (Some (moved_fault (length front) f)) × (length front + f.at ≤ length (front ++ H))
     fault_by f (read, stays) low =
         let q = old.at in
         let n = length front + q in
         let blank = is_blank_line b.so in
-        let there = fault_there H (front ++ H) (length front) q blank f (line_only H b.so q _ read) (drop-append-add front H q) in
-        let line = line_read (front ++ H) b.so n blank _ refl there in (
+        let there = fault_there edition H (front ++ H) (length front) q blank f (line_only edition H b.so q _ (reads_by (Err f) read)) (drop-append-add front H q) in
+        let line = line_read edition (front ++ H) b.so n blank _ refl there in (
           (entries_of b.so.entries, b.from _ (line.0, faulty (moved_fault (length front) f) line.0 line.1)),
           omega (arith, low, length-append front H),
         )
 
-    pub fault_found : (f : Fault) → x ≡ Faulty f → LineWithin (length H) x → FirstFault (front ++ H) (Some (moved_fault (length front) f)) × (length front + f.at ≤ length (front ++ H))
+    pub fault_found : (f : Fault) → x ≡ Faulty f → LineWithin (length H) x → FirstFault edition (front ++ H) (Some (moved_fault (length front) f)) × (length front + f.at ≤ length (front ++ H))
     fault_found f this within = fault_by f (rw this at next) (rw this at within)
 
 -- ---- a script that follows nothing
 
-pub source_printed : (y : Layout) (H : List ℕ) (start : Printing) (r : Result (Vec ℕ Global) PrintError) → IsPrinted y [] start
-    → IfOk r (λ text. (z : Layout) (front : List ℕ) → IsPrinted z front start → IsTextOf z (front ++ H) text.items) → IfOk r (λ text. IsTextOf y H text.items)
-source_printed y H start (Ok text) is told = told y [] is
-source_printed y H start (Err e) is told = tt
+pub source_printed : (edition : Edition) (y : Layout) (H : List ℕ) (start : Printing) (r : Result (Vec ℕ Global) PrintError) → IsPrinted edition y [] start
+    → IfOk r (λ text. (f : Edition) (z : Layout) (front : List ℕ) → IsPrinted f z front start → IsTextOf f z (front ++ H) text.items) → IfOk r (λ text. IsTextOf edition y H text.items)
+source_printed edition y H start (Ok text) is told = told edition y [] is
+source_printed edition y H start (Err e) is told = tt
 
-not_moved : (H : List ℕ) (e : PrintError) → IsNoText H (moved_error 0 e) → IsNoText H e
-not_moved H (PrintErrors.Faulty f) refused = subst (λ (g : Fault). IsNoText H (PrintErrors.Faulty g)) (ap (λ (at : ℕ). record { kind = f.kind; at = at }) (zero-add f.at)) refused
-not_moved H PrintErrors.Memory refused = tt
+not_moved : (edition : Edition) (H : List ℕ) (e : PrintError) → IsNoText edition H (moved_error 0 e) → IsNoText edition H e
+not_moved edition H (PrintErrors.Faulty f) refused = subst (λ (g : Fault). IsNoText edition H (PrintErrors.Faulty g)) (ap (λ (at : ℕ). record { kind = f.kind; at = at }) (zero-add f.at)) refused
+not_moved edition H PrintErrors.Memory refused = tt
 
-pub source_refused : (y : Layout) (H : List ℕ) (start : Printing) (r : Result (Vec ℕ Global) PrintError) → IsPrinted y [] start
-    → IfErr r (λ e. (z : Layout) (front : List ℕ) → IsPrinted z front start → IsNoText (front ++ H) (moved_error (length front) e)) → IfErr r (IsNoText H)
-source_refused y H start (Ok text) is told = tt
-source_refused y H start (Err e) is told = not_moved H e (told y [] is)
+pub source_refused : (edition : Edition) (y : Layout) (H : List ℕ) (start : Printing) (r : Result (Vec ℕ Global) PrintError) → IsPrinted edition y [] start
+    → IfErr r (λ e. (f : Edition) (z : Layout) (front : List ℕ) → IsPrinted f z front start → IsNoText f (front ++ H) (moved_error (length front) e)) → IfErr r (IsNoText edition H)
+source_refused edition y H start (Ok text) is told = tt
+source_refused edition y H start (Err e) is told = not_moved edition H e (told edition y [] is)

@@ -2,6 +2,7 @@
 use Rattle.std.specs.Prelude.{◌≡◌, ◌≤◌, ℕ, ◌++◌, List, [], length, Option, None, Some}
 use Rattle.shread.specs.declared.script_lines.LinesBefore.{LinesBefore}
 use Rattle.shread.specs.LineByLine.{Before, Rest}
+use Rattle.shgrammar.specs.declared.edition.Edition.{Edition}
 use Rattle.shgrammar.specs.declared.fault.Fault.{Fault}
 use Rattle.shgrammar.specs.Moved.{moved_fault}
 use Rattle.shgrammar.specs.Scripts.{AScript, FirstFault, Outcome, SoFar}
@@ -16,25 +17,30 @@ use Rattle.shprint.specs.ReadBack.{IsTextOf}
 use Rattle.shprint.specs.Written.{Sheet, sheet, sheet_of, written}
 
 -- why bytes have no printed text: their first fault, or that memory ran out
-abbrev pub IsNoText : List ℕ → PrintError → Type 0
-IsNoText bytes (Faulty fault) = FirstFault bytes (Some fault) × (fault.at ≤ length bytes)
-IsNoText bytes Memory = Unit {0}
+abbrev pub IsNoText : Edition → List ℕ → PrintError → Type 0
+IsNoText edition bytes (Faulty fault) = FirstFault edition bytes (Some fault) × (fault.at ≤ length bytes)
+IsNoText edition bytes Memory = Unit {0}
 
 -- what was printed for bytes, and their first fault
-abbrev pub Answers : Layout → List ℕ → List ℕ → Option Fault → Type 0
-Answers layout bytes text None = IsTextOf layout bytes text
-Answers layout bytes text (Some fault) = FirstFault bytes (Some fault) × (fault.at ≤ length bytes)
+abbrev pub Answers : Edition → Layout → List ℕ → List ℕ → Option Fault → Type 0
+Answers edition layout bytes text None = IsTextOf edition layout bytes text
+Answers edition layout bytes text (Some fault) = FirstFault edition bytes (Some fault) × (fault.at ≤ length bytes)
 
 -- The front of a script is lines without a fault, which leave this for the next one to know, and this is printed for them. Whatever
 -- follows it, the script is that of these lines and of what is read behind them.
-pub record ArePrinted (y : Layout) (front : List ℕ) (left : LinesBefore) (so_far : Sheet) : Type 0 where
+pub record ArePrinted (edition : Edition) (y : Layout) (front : List ℕ) (left : LinesBefore) (so_far : Sheet) : Type 0 where
   pub so : SoFar
   pub left_so : Before left so
-  pub from : (more : List ℕ) (s : AScript) → Rest (front ++ more) so (length front) s → Outcome (front ++ more) s
+  pub from : (more : List ℕ) (s : AScript) → Rest edition (front ++ more) so (length front) s → Outcome edition (front ++ more) s
   pub is : (more : List ℕ) → so_far ≡ written (sheet_of [] []) (print_entries y [] (shape_of (front ++ more) (entries_of so.entries)))
 
-abbrev pub IsPrinted : Layout → List ℕ → Printing → Type 0
-IsPrinted y front printing = ArePrinted y front printing.before (sheet printing.page) × (printing.page.margin.items ≡ []) × (printing.layout ≡ y)
+-- by which the script is read
+abbrev pub edition_of : Printing → Edition
+edition_of printing = printing.edition
+
+abbrev pub IsPrinted : Edition → Layout → List ℕ → Printing → Type 0
+IsPrinted edition y front printing =
+    ArePrinted edition y front printing.before (sheet printing.page) × (printing.page.margin.items ≡ []) × (printing.layout ≡ y) × (printing.edition ≡ edition)
 
 -- an error of what follows so many bytes
 abbrev pub moved_error : ℕ → PrintError → PrintError

@@ -2,12 +2,12 @@
 ghost use Rattle.std.specs.Prelude.{◌≡◌, ◌-◌, ◌<◌, ◌≤◌, ◌++◌, ℕ, [], IfErr, IfOk, IfSome, List as Row, Some, length, option_map, slice_get, take};
 ghost use Rattle.shgrammar.specs.Moved.{moved_fault};
 ghost use Rattle.shgrammar.specs.Search.{StopsAt};
-ghost use Rattle.shpieces.specs.Printing.{IsErrorWithin, IsPrinted, moved_error};
+ghost use Rattle.shpieces.specs.Printing.{IsErrorWithin, IsPrinted, edition_of, moved_error};
 ghost use Rattle.shpieces.specs.Printing.{Answers, IsNoText};
 ghost use Rattle.shprint.specs.ReadBack.{IsTextOf};
 
 use shast::{Entry, Spare};
-use shgrammar::Fault;
+use shgrammar::{Edition, Fault};
 use shprint::{Layout, Page, Printer};
 use shread::{LinesBefore, ScriptLine, ScriptLines};
 use shtext::Source;
@@ -37,18 +37,20 @@ fn give_back_if(follows: bool, entries: Vec<Entry>, spare: &mut Spare) {
 #[derive(Drop)]
 pub struct Printing {
     alloc: Global,
+    edition: Edition,
     layout: Layout,
     page: Page,
     before: LinesBefore,
 }
 
 impl Printing {
-    /// Nothing is printed, and will be by the layout's rules.
-    pub fn new(alloc: Global, layout: &Layout) -> Printing
-        ensures { IsPrinted layout.now [] result }
+    /// Nothing is printed, and will be by the layout's rules, of a script that is read by an edition.
+    pub fn new(alloc: Global, edition: Edition, layout: &Layout) -> Printing
+        ensures { IsPrinted edition layout.now [] result }
     {
         Printing {
             alloc,
+            edition,
             layout: *layout,
             page: Page::new(alloc),
             before: LinesBefore::none(),
@@ -62,19 +64,19 @@ impl Printing {
     ///
     /// [`AllocError`], where memory runs out. Then nothing more may be printed.
     pub fn print_front<S: Source>(&mut self, source: &S) -> Result<usize, AllocError>
-        ensures printed { IfOk result (λ n. (y : Layout) (front : Row ℕ) → IsPrinted y front self.old →
-            IsPrinted y (front ++ take n (S.bytes source.now)) self.new) }
+        ensures printed { IfOk result (λ n. (e : Edition) (y : Layout) (front : Row ℕ) → IsPrinted e y front self.old →
+            IsPrinted e y (front ++ take n (S.bytes source.now)) self.new) }
         ensures within { IfOk result (λ n. n ≤ length (S.bytes source.now)) }
         ensures newline { IfOk result (λ n. 0 < n → slice_get (S.bytes source.now) (n - 1) ≡ Some 10) }
         // They are all: no such line follows.
-        ensures all { IfOk result (StopsAt (S.bytes source.now)) }
+        ensures all { IfOk result (StopsAt (edition_of self.old) (S.bytes source.now)) }
     {
         let printer = Printer {
             alloc: self.alloc,
             layout: self.layout,
             source,
         };
-        let mut lines = ScriptLines::behind(self.alloc, source, self.before);
+        let mut lines = ScriptLines::behind(self.alloc, self.edition, source, self.before);
         let mut spare = Spare::new(self.alloc);
         'lines: loop {
             let Ok(line) = lines.read_whole_with(Some(&mut spare)) else {
@@ -91,8 +93,8 @@ impl Printing {
 
     /// Prints the lines of what follows, up to the end of the script. Answers the first fault there, which ends the printing.
     fn print_lines<S: Source>(&mut self, source: &S) -> Result<Option<Fault>, AllocError>
-        ensures answers { IfOk result (λ fault. (y : Layout) (front : Row ℕ) → IsPrinted y front self.old →
-            Answers y (front ++ S.bytes source.now) self.new.page.text.items (option_map (moved_fault (length front)) fault)) }
+        ensures answers { IfOk result (λ fault. (e : Edition) (y : Layout) (front : Row ℕ) → IsPrinted e y front self.old →
+            Answers e y (front ++ S.bytes source.now) self.new.page.text.items (option_map (moved_fault (length front)) fault)) }
         ensures within { IfOk result (λ fault. IfSome fault (λ f. f.at ≤ length (S.bytes source.now))) }
     {
         let printer = Printer {
@@ -102,7 +104,7 @@ impl Printing {
         };
         // The text is about as long as the script. Where there is no room for all of it at once, it grows.
         let _ = self.page.text.reserve_exact(source.len());
-        let mut lines = ScriptLines::behind(self.alloc, source, self.before);
+        let mut lines = ScriptLines::behind(self.alloc, self.edition, source, self.before);
         let mut spare = Spare::new(self.alloc);
         'lines: loop {
             let Ok(line) = lines.read_outer_with(Some(&mut spare)) else {
@@ -129,10 +131,10 @@ impl Printing {
     ///
     /// [`PrintError`]: the first fault, whose offset counts from where `source` begins, or want of memory.
     pub fn print_rest<S: Source>(mut self, source: &S) -> Result<Vec<u8>, PrintError>
-        ensures printed { IfOk result (λ text. (y : Layout) (front : Row ℕ) → IsPrinted y front self →
-            IsTextOf y (front ++ S.bytes source.now) text.items) }
-        ensures err { IfErr result (λ e. (y : Layout) (front : Row ℕ) → IsPrinted y front self →
-            IsNoText (front ++ S.bytes source.now) (moved_error (length front) e)) }
+        ensures printed { IfOk result (λ text. (e : Edition) (y : Layout) (front : Row ℕ) → IsPrinted e y front self →
+            IsTextOf e y (front ++ S.bytes source.now) text.items) }
+        ensures err { IfErr result (λ error. (e : Edition) (y : Layout) (front : Row ℕ) → IsPrinted e y front self →
+            IsNoText e (front ++ S.bytes source.now) (moved_error (length front) error)) }
         ensures within { IfErr result (IsErrorWithin (length (S.bytes source.now))) }
     {
         match self.print_lines(source) {
@@ -143,18 +145,19 @@ impl Printing {
     }
 }
 
-/// Reads a script and prints it by the layout's rules.
+/// Reads a script by an edition and prints it by the layout's rules.
 ///
 /// # Errors
 ///
 /// [`PrintError`]: a fault of the script, or want of memory.
 pub fn print_source<S: Source>(
     alloc: Global,
+    edition: Edition,
     layout: &Layout,
     source: &S,
 ) -> Result<Vec<u8>, PrintError>
-    ensures printed { IfOk result (λ text. IsTextOf layout.now (S.bytes source.now) text.items) }
-    ensures err { IfErr result (IsNoText (S.bytes source.now)) }
+    ensures printed { IfOk result (λ text. IsTextOf edition layout.now (S.bytes source.now) text.items) }
+    ensures err { IfErr result (IsNoText edition (S.bytes source.now)) }
 {
-    Printing::new(alloc, layout).print_rest(source)
+    Printing::new(alloc, edition, layout).print_rest(source)
 }

@@ -9,6 +9,7 @@ use Rattle.shast.specs.Opened.{open_item, open_item_content, open_items, opened,
 use Rattle.shast.proofs.FilledBack.{filled_back}
 use Rattle.shast.proofs.FilledShape.{shape_filled}
 use Rattle.shast.proofs.Going.{row_filled}
+use Rattle.shgrammar.specs.declared.edition.Edition.{Edition}
 use Rattle.shgrammar.specs.declared.token.Position.{Position}
 use Rattle.shprint.proofs.Good.{GoodItems, none_more, one_more, of_argument, of_for}
 
@@ -36,12 +37,12 @@ module _ (B : List ℕ) where
 
 -- ---- the words of a `for`
 
-pub for_words_open : {room : ℕ} {position last : Position} {is : Shape ItemsOf} → GoodItems room of_for position is last → open_items [] is ≡ is
+pub for_words_open : {edition : Edition} {room : ℕ} {position last : Position} {is : Shape ItemsOf} → GoodItems edition room of_for position is last → open_items [] is ≡ is
 unfolding open_items open_item open_item_content
 for_words_open none_more = refl
 for_words_open (one_more (of_argument good) others) = rw (for_words_open others) refl
 
-pub for_words_bodies : {room : ℕ} {position last : Position} {is : Shape ItemsOf} → GoodItems room of_for position is last → (ts : Row Text) → items_bodies is ts ≡ ts
+pub for_words_bodies : {edition : Edition} {room : ℕ} {position last : Position} {is : Shape ItemsOf} → GoodItems edition room of_for position is last → (ts : Row Text) → items_bodies is ts ≡ ts
 unfolding items_bodies item_bodies item_content_bodies
 for_words_bodies none_more ts = refl
 for_words_bodies (one_more (of_argument good) others) ts = for_words_bodies others ts

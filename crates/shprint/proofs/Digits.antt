@@ -52,7 +52,7 @@ token_counts position T p None = λ e. absurd cc
 token_counts position T p (Some b) =
     let here = is_number_at T p in
     neither here (is_newline_byte b) _ _ (λ e. absurd cc)
-    (neither here (b == 59) _ _ (neither here (stands T (behind T p) 59) _ _ (λ e. absurd cc) (λ e. absurd cc))
+    (neither here (b == 59) _ _ (neither here (stands T (behind T p) 59) _ _ (λ e. absurd cc) (neither here (stands T (behind T p) 38) _ _ (λ e. absurd cc) (λ e. absurd cc)))
     (neither here (b == 38) _ _ (neither here (stands T (behind T p) 38) _ _ (λ e. absurd cc) (λ e. absurd cc))
     (neither here (b == 124) _ _ (neither here (stands T (behind T p) 124) _ _ (λ e. absurd cc) (λ e. absurd cc))
     (neither here (b == 40) _ _ (λ e. absurd cc)

@@ -1,16 +1,18 @@
 -- What a shape has so that its printed text is read back, beside its normal form: its words are words wherever they stand, its comments
 -- comments, and no more constructs are open than may be. What was read has it (proofs/Readable); what has it is read back (proofs/ReadBack).
 use Rattle.std.specs.Prelude.{◌≡◌, ℕ, zero, suc, Bool, true, false, ◌&&◌, [], ◌∷◌, List as Row, Option, None, Some}
+use Rattle.shgrammar.specs.declared.edition.Edition.{Edition}
 use Rattle.shgrammar.specs.declared.token.Position.{Position}
 use Rattle.shgrammar.specs.declared.token.Position.TheVariants.{Command, Prefix, Suffix}
 use Rattle.shgrammar.specs.declared.token.Token.{Token}
 use Rattle.shgrammar.specs.declared.token.Token.TheVariants as tokens
 use Rattle.shgrammar.specs.Classes.{is_digit}
+use Rattle.shgrammar.specs.Tokens.{is_later}
 use Rattle.shgrammar.specs.Commands.{begins_word, behind_redirect, behind_word, is_strip, takes_here}
-use Rattle.shgrammar.specs.HereDocuments.{ADelimiter, delimiter_of}
+use Rattle.shgrammar.specs.HereDocuments.{ADelimiter, delimiter_in}
 use Rattle.shgrammar.proofs.BodiesAnywhere.{DocumentAnywhere}
 use Rattle.shgrammar.specs.Compounds.{begins_pattern}
-use Rattle.shgrammar.proofs.Elsewhere.{ItemAnywhere, NameAnywhere}
+use Rattle.shgrammar.proofs.Elsewhere.{ItemAnywhere, NameAnywhere, is_a_word}
 use Rattle.shgrammar.proofs.NamesBefore.{NameBefore}
 use Rattle.shgrammar.proofs.CommentsElsewhere.{CommentAnywhere}
 use Rattle.shast.specs.declared.tree.RedirectOperator.{RedirectOperator}
@@ -44,23 +46,23 @@ GoodNumber (Some []) = ⊥
 GoodNumber (Some (b ∷ bs)) = all_digits (b ∷ bs) ≡ true
 
 -- a here-document of an operator and a word with these bytes: its body ends where the delimiter's line begins, wherever they stand
-pub record GoodDocument (o : RedirectOperator) (t : Text) (h : AHereOf Text) : Type 0 where
+pub record GoodDocument (edition : Edition) (o : RedirectOperator) (t : Text) (h : AHereOf Text) : Type 0 where
   pub takes : takes_here o ≡ true
   pub d : ADelimiter
-  pub delimits : delimiter_of t ≡ Some d
+  pub delimits : delimiter_in edition t ≡ Some d
   pub literal : h.literal ≡ d.literal
   pub strip : h.strip ≡ is_strip o
   pub reads : DocumentAnywhere (is_strip o) d h.body
 
-abbrev pub GoodHere : RedirectOperator → Text → Option (AHereOf Text) → Type 0
-GoodHere o t None = takes_here o ≡ false
-GoodHere o t (Some h) = GoodDocument o t h
+abbrev pub GoodHere : Edition → RedirectOperator → Text → Option (AHereOf Text) → Type 0
+GoodHere edition o t None = takes_here o ≡ false
+GoodHere edition o t (Some h) = GoodDocument edition o t h
 
 -- a redirection, by its parts
-pub record GoodRedirect (room : ℕ) (number : Option Text) (o : RedirectOperator) (t : Text) (ss : Shape SubstsOf) (h : Option (AHereOf Text)) : Type 0 where
+pub record GoodRedirect (edition : Edition) (room : ℕ) (number : Option Text) (o : RedirectOperator) (t : Text) (ss : Shape SubstsOf) (h : Option (AHereOf Text)) : Type 0 where
   pub digits : GoodNumber number
-  pub document : GoodHere o t h
-  pub reads : ItemAnywhere room Suffix tokens.Word t ss
+  pub document : GoodHere edition o t h
+  pub reads : ItemAnywhere edition room Suffix tokens.Word t ss
 
 abbrev pub a_redirect_of : Bool → Option Text → RedirectOperator → Text → Shape SubstsOf → Option (AHereOf Text) → Shape AnItemOf
 a_redirect_of broken number o t ss h = item broken (redirect number o tt (word t ss) h)
@@ -72,148 +74,149 @@ pub data Kind : Type 0 where
   of_compound : Kind
 
 -- an item from one position to another, where so many constructs may be open
-pub data GoodItem (room : ℕ) : Kind → Position → Shape AnItemOf → Position → Type 0 where
-  of_word : {position next : Position} {token : Token} {broken : Bool} {t : Text} {ss : Shape SubstsOf} → behind_word token ≡ Some next → ItemAnywhere room position token t ss
-      → GoodItem room of_command position (an_item_of broken next (word t ss)) next
-  of_argument : {broken : Bool} {t : Text} {ss : Shape SubstsOf} → ItemAnywhere room Suffix tokens.Word t ss → GoodItem room of_for Suffix (an_item_of broken Suffix (word t ss)) Suffix
-  of_redirect : {position : Position} {broken : Bool} {number : Option Text} {o : RedirectOperator} {t : Text} {ss : Shape SubstsOf} {h : Option (AHereOf Text)} → GoodRedirect room number o t ss h
-      → GoodItem room of_command position (a_redirect_of broken number o t ss h) (behind_redirect position)
-  of_redirect_behind : {broken : Bool} {number : Option Text} {o : RedirectOperator} {t : Text} {ss : Shape SubstsOf} {h : Option (AHereOf Text)} → GoodRedirect room number o t ss h
-      → GoodItem room of_compound Command (a_redirect_of broken number o t ss h) Command
+pub data GoodItem (edition : Edition) (room : ℕ) : Kind → Position → Shape AnItemOf → Position → Type 0 where
+  of_word : {position next : Position} {token : Token} {broken : Bool} {t : Text} {ss : Shape SubstsOf} → behind_word token ≡ Some next → ItemAnywhere edition room position token t ss
+      → GoodItem edition room of_command position (an_item_of broken next (word t ss)) next
+  of_argument : {broken : Bool} {t : Text} {ss : Shape SubstsOf} → ItemAnywhere edition room Suffix tokens.Word t ss → GoodItem edition room of_for Suffix (an_item_of broken Suffix (word t ss)) Suffix
+  of_redirect : {position : Position} {broken : Bool} {number : Option Text} {o : RedirectOperator} {t : Text} {ss : Shape SubstsOf} {h : Option (AHereOf Text)} → GoodRedirect edition room number o t ss h
+      → GoodItem edition room of_command position (a_redirect_of broken number o t ss h) (behind_redirect position)
+  of_redirect_behind : {broken : Bool} {number : Option Text} {o : RedirectOperator} {t : Text} {ss : Shape SubstsOf} {h : Option (AHereOf Text)} → GoodRedirect edition room number o t ss h
+      → GoodItem edition room of_compound Command (a_redirect_of broken number o t ss h) Command
 
 -- items of one kind, from one position to another
-pub data GoodItems (room : ℕ) (kind : Kind) : Position → Shape ItemsOf → Position → Type 0 where
-  none_more : {position : Position} → GoodItems room kind position no_item position
-  one_more : {position next last : Position} {i : Shape AnItemOf} {is : Shape ItemsOf} → GoodItem room kind position i next → GoodItems room kind next is last → GoodItems room kind position (more_items i is) last
+pub data GoodItems (edition : Edition) (room : ℕ) (kind : Kind) : Position → Shape ItemsOf → Position → Type 0 where
+  none_more : {position : Position} → GoodItems edition room kind position no_item position
+  one_more : {position next last : Position} {i : Shape AnItemOf} {is : Shape ItemsOf} → GoodItem edition room kind position i next → GoodItems edition room kind next is last → GoodItems edition room kind position (more_items i is) last
 
 abbrev pub SomeItem : Shape ItemsOf → Type 0
 SomeItem no_item = ⊥
 SomeItem (more_items i is) = Unit {0}
 
 -- a simple command
-pub record GoodSimple (room : ℕ) (is : Shape ItemsOf) : Type 0 where
+pub record GoodSimple (edition : Edition) (room : ℕ) (is : Shape ItemsOf) : Type 0 where
   pub last : Position
-  pub items : GoodItems room of_command Command is last
+  pub items : GoodItems edition room of_command Command is last
   pub some : SomeItem is
 
 -- the words of a for
-pub record GoodWords (room : ℕ) (is : Shape ItemsOf) : Type 0 where
+pub record GoodWords (edition : Edition) (room : ℕ) (is : Shape ItemsOf) : Type 0 where
   pub last : Position
-  pub items : GoodItems room of_for Suffix is last
+  pub items : GoodItems edition room of_for Suffix is last
 
 -- the redirections behind a compound command
-pub record GoodRedirects (room : ℕ) (is : Shape ItemsOf) : Type 0 where
+pub record GoodRedirects (edition : Edition) (room : ℕ) (is : Shape ItemsOf) : Type 0 where
   pub last : Position
-  pub items : GoodItems room of_compound Command is last
+  pub items : GoodItems edition room of_compound Command is last
 
-abbrev pub GoodForWords : ℕ → Shape ForWordsOf → Type 0
-GoodForWords room no_in = Unit {0}
-GoodForWords room (in_words items) = GoodWords room items
+abbrev pub GoodForWords : Edition → ℕ → Shape ForWordsOf → Type 0
+GoodForWords edition room no_in = Unit {0}
+GoodForWords edition room (in_words items) = GoodWords edition room items
 
 -- a word that begins with such a token in this position, wherever it stands
-pub record GoodWord (room : ℕ) (position : Position) (begins : Token → Bool) (w : Shape AWordOf) : Type 0 where
+pub record GoodWord (edition : Edition) (room : ℕ) (position : Position) (begins : Token → Bool) (w : Shape AWordOf) : Type 0 where
   pub t : Text
   pub ss : Shape SubstsOf
   pub is : w ≡ word t ss
   pub token : Token
   pub begin : begins token ≡ true
-  pub reads : ItemAnywhere room position token t ss
+  pub word_is : is_a_word token ≡ true
+  pub reads : ItemAnywhere edition room position token t ss
 
 -- the patterns behind the first one
-abbrev pub GoodMorePatterns : ℕ → Shape PatternsOf → Type 0
-GoodMorePatterns room no_pattern = Unit {0}
-GoodMorePatterns room (more_patterns w ws) = GoodWord room Suffix begins_word w × GoodMorePatterns room ws
+abbrev pub GoodMorePatterns : Edition → ℕ → Shape PatternsOf → Type 0
+GoodMorePatterns edition room no_pattern = Unit {0}
+GoodMorePatterns edition room (more_patterns w ws) = GoodWord edition room Suffix begins_word w × GoodMorePatterns edition room ws
 
-abbrev pub GoodPatterns : ℕ → Shape PatternsOf → Type 0
-GoodPatterns room no_pattern = ⊥
-GoodPatterns room (more_patterns w ws) = GoodWord room Command begins_pattern w × GoodMorePatterns room ws
+abbrev pub GoodPatterns : Edition → ℕ → Shape PatternsOf → Type 0
+GoodPatterns edition room no_pattern = ⊥
+GoodPatterns edition room (more_patterns w ws) = GoodWord edition room Command begins_pattern w × GoodMorePatterns edition room ws
 
 -- the name of a for: a word that is a NAME, wherever it stands
-pub record GoodName (room : ℕ) (name : Shape AWordOf) : Type 0 where
+pub record GoodName (edition : Edition) (room : ℕ) (name : Shape AWordOf) : Type 0 where
   pub t : Text
   pub ss : Shape SubstsOf
   pub is : name ≡ word t ss
   pub token : Token
   pub begins : begins_word token ≡ true
-  pub reads : ItemAnywhere room Suffix token t ss
+  pub reads : ItemAnywhere edition room Suffix token t ss
   pub names : NameAnywhere t
 
 abbrev mutual
-  pub GoodEntries : ℕ → Shape EntriesOf → Type 0
-  GoodEntries room no_entry = Unit {0}
-  GoodEntries room (more_entries e es) = GoodEntry room e × GoodEntries room es
+  pub GoodEntries : Edition → ℕ → Shape EntriesOf → Type 0
+  GoodEntries edition room no_entry = Unit {0}
+  GoodEntries edition room (more_entries e es) = GoodEntry edition room e × GoodEntries edition room es
 
-  pub GoodEntry : ℕ → Shape AnEntryOf → Type 0
-  GoodEntry room (entry what background blank comment) = GoodContent room what × GoodOwnComment comment
+  pub GoodEntry : Edition → ℕ → Shape AnEntryOf → Type 0
+  GoodEntry edition room (entry what background blank comment) = GoodContent edition room what × GoodOwnComment comment
 
-  pub GoodContent : ℕ → Shape AContentOf → Type 0
-  GoodContent room (command a) = GoodAndOr room a
-  GoodContent room (remark c) = CommentAnywhere c
+  pub GoodContent : Edition → ℕ → Shape AContentOf → Type 0
+  GoodContent edition room (command a) = GoodAndOr edition room a
+  GoodContent edition room (remark c) = CommentAnywhere c
 
-  pub GoodAndOr : ℕ → Shape AnAndOrOf → Type 0
-  GoodAndOr room (and_or first rest) = GoodPipeline room first × GoodParts room rest
+  pub GoodAndOr : Edition → ℕ → Shape AnAndOrOf → Type 0
+  GoodAndOr edition room (and_or first rest) = GoodPipeline edition room first × GoodParts edition room rest
 
-  pub GoodParts : ℕ → Shape AndOrPartsOf → Type 0
-  GoodParts room no_and_or = Unit {0}
-  GoodParts room (more_and_or operator j p ps) = GoodComments j.comments × GoodPipeline room p × GoodParts room ps
+  pub GoodParts : Edition → ℕ → Shape AndOrPartsOf → Type 0
+  GoodParts edition room no_and_or = Unit {0}
+  GoodParts edition room (more_and_or operator j p ps) = GoodComments j.comments × GoodPipeline edition room p × GoodParts edition room ps
 
-  pub GoodPipeline : ℕ → Shape APipelineOf → Type 0
-  GoodPipeline room (pipeline bang first rest) = GoodCommand room first × GoodPipes room rest
+  pub GoodPipeline : Edition → ℕ → Shape APipelineOf → Type 0
+  GoodPipeline edition room (pipeline bang first rest) = GoodCommand edition room first × GoodPipes edition room rest
 
-  pub GoodPipes : ℕ → Shape PipelinePartsOf → Type 0
-  GoodPipes room no_pipe = Unit {0}
-  GoodPipes room (more_pipes j c cs) = GoodComments j.comments × GoodCommand room c × GoodPipes room cs
+  pub GoodPipes : Edition → ℕ → Shape PipelinePartsOf → Type 0
+  GoodPipes edition room no_pipe = Unit {0}
+  GoodPipes edition room (more_pipes j c cs) = GoodComments j.comments × GoodCommand edition room c × GoodPipes edition room cs
 
   -- a function is open while its body is read
-  pub GoodCommand : ℕ → Shape ACommandOf → Type 0
-  GoodCommand room (simple items) = GoodSimple room items
-  GoodCommand room (compound c) = GoodCompound room c
-  GoodCommand zero (function name comments body) = ⊥
-  GoodCommand (suc room) (function name comments body) = NameBefore (suc room) name × GoodComments comments × GoodCompound room body
+  pub GoodCommand : Edition → ℕ → Shape ACommandOf → Type 0
+  GoodCommand edition room (simple items) = GoodSimple edition room items
+  GoodCommand edition room (compound c) = GoodCompound edition room c
+  GoodCommand edition zero (function name comments body) = ⊥
+  GoodCommand edition (suc room) (function name comments body) = NameBefore (suc room) name × GoodComments comments × GoodCompound edition room body
 
   -- a compound command is open while what it holds is read, and not while its redirections are
-  pub GoodCompound : ℕ → Shape ACompoundOf → Type 0
-  GoodCompound zero (formed form mark redirects) = ⊥
-  GoodCompound (suc room) (formed form mark redirects) = GoodForm room form × GoodRedirects (suc room) redirects
+  pub GoodCompound : Edition → ℕ → Shape ACompoundOf → Type 0
+  GoodCompound edition zero (formed form mark redirects) = ⊥
+  GoodCompound edition (suc room) (formed form mark redirects) = GoodForm edition room form × GoodRedirects edition (suc room) redirects
 
-  pub GoodForm : ℕ → Shape AFormOf → Type 0
-  GoodForm room (brace es) = GoodEntries room es
-  GoodForm room (subshell es) = GoodEntries room es
-  GoodForm room (if_then first rest other) = GoodBranch room first × GoodBranches room rest × GoodElse room other
-  GoodForm room (while_do b) = GoodBranch room b
-  GoodForm room (until_do b) = GoodBranch room b
-  GoodForm room (for_in name words body) = GoodName room name × GoodForWords room words × GoodEntries room body
-  GoodForm room (case_in w items tail) = GoodWord room Suffix begins_word w × GoodCases room items × GoodComments tail
+  pub GoodForm : Edition → ℕ → Shape AFormOf → Type 0
+  GoodForm edition room (brace es) = GoodEntries edition room es
+  GoodForm edition room (subshell es) = GoodEntries edition room es
+  GoodForm edition room (if_then first rest other) = GoodBranch edition room first × GoodBranches edition room rest × GoodElse edition room other
+  GoodForm edition room (while_do b) = GoodBranch edition room b
+  GoodForm edition room (until_do b) = GoodBranch edition room b
+  GoodForm edition room (for_in name words body) = GoodName edition room name × GoodForWords edition room words × GoodEntries edition room body
+  GoodForm edition room (case_in w items tail) = GoodWord edition room Suffix begins_word w × GoodCases edition room items × GoodComments tail
 
-  pub GoodCases : ℕ → Shape CaseItemsOf → Type 0
-  GoodCases room no_case = Unit {0}
-  GoodCases room (more_cases c cs) = GoodCase room c × GoodCases room cs
+  pub GoodCases : Edition → ℕ → Shape CaseItemsOf → Type 0
+  GoodCases edition room no_case = Unit {0}
+  GoodCases edition room (more_cases c cs) = GoodCase edition room c × GoodCases edition room cs
 
-  pub GoodCase : ℕ → Shape ACaseItemOf → Type 0
-  GoodCase room (case_item comments patterns body mark) = GoodComments comments × GoodPatterns room patterns × GoodEntries room body
+  pub GoodCase : Edition → ℕ → Shape ACaseItemOf → Type 0
+  GoodCase edition room (case_item comments patterns body mark) = GoodComments comments × GoodPatterns edition room patterns × GoodEntries edition room body × (mark.falls ≡ true → is_later edition ≡ true)
 
-  pub GoodBranch : ℕ → Shape ABranchOf → Type 0
-  GoodBranch room (branch condition body) = GoodEntries room condition × GoodEntries room body
+  pub GoodBranch : Edition → ℕ → Shape ABranchOf → Type 0
+  GoodBranch edition room (branch condition body) = GoodEntries edition room condition × GoodEntries edition room body
 
-  pub GoodBranches : ℕ → Shape BranchesOf → Type 0
-  GoodBranches room no_branch = Unit {0}
-  GoodBranches room (more_branches b bs) = GoodBranch room b × GoodBranches room bs
+  pub GoodBranches : Edition → ℕ → Shape BranchesOf → Type 0
+  GoodBranches edition room no_branch = Unit {0}
+  GoodBranches edition room (more_branches b bs) = GoodBranch edition room b × GoodBranches edition room bs
 
-  pub GoodElse : ℕ → Shape OtherwiseOf → Type 0
-  GoodElse room no_else = Unit {0}
-  GoodElse room (otherwise es) = GoodEntries room es
+  pub GoodElse : Edition → ℕ → Shape OtherwiseOf → Type 0
+  GoodElse edition room no_else = Unit {0}
+  GoodElse edition room (otherwise es) = GoodEntries edition room es
 
 -- the body of a function, where so many constructs may be open before it
-abbrev pub GoodBody : ℕ → Shape ACompoundOf → Type 0
-GoodBody zero body = ⊥
-GoodBody (suc room) body = GoodCompound room body
+abbrev pub GoodBody : Edition → ℕ → Shape ACompoundOf → Type 0
+GoodBody edition zero body = ⊥
+GoodBody edition (suc room) body = GoodCompound edition room body
 
 -- a function, by its parts
-pub record GoodFunction (room : ℕ) (name : Text) (comments : Row Text) (body : Shape ACompoundOf) : Type 0 where
+pub record GoodFunction (edition : Edition) (room : ℕ) (name : Text) (comments : Row Text) (body : Shape ACompoundOf) : Type 0 where
   pub before : NameBefore room name
   pub own : GoodComments comments
-  pub inside : GoodBody room body
+  pub inside : GoodBody edition room body
 
-pub parts_of_function : (room : ℕ) (name : Text) (comments : Row Text) (body : Shape ACompoundOf) → GoodCommand room (function name comments body) → GoodFunction room name comments body
-parts_of_function zero name comments body good = absurd good
-parts_of_function (suc room) name comments body good = record { before = good.0; own = good.1; inside = good.2 }
+pub parts_of_function : (edition : Edition) (room : ℕ) (name : Text) (comments : Row Text) (body : Shape ACompoundOf) → GoodCommand edition room (function name comments body) → GoodFunction edition room name comments body
+parts_of_function edition zero name comments body good = absurd good
+parts_of_function edition (suc room) name comments body good = record { before = good.0; own = good.1; inside = good.2 }

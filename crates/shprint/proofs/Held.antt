@@ -4,6 +4,7 @@ use Rattle.std.proofs.Common.{◌≡◌, ◌∙◌, ℕ, suc, ◌+◌, ◌-◌, 
 use Rattle.std.proofs.lemmas.List.{drop-drop, length-append, length-drop, map-append}
 use Rattle.shast.specs.declared.tree.Span.{Span}
 use Rattle.shast.specs.Shape.{Text, text_at}
+use Rattle.shgrammar.specs.declared.edition.Edition.{Edition}
 use Rattle.shgrammar.specs.Comments.{span}
 use Rattle.shgrammar.specs.States.{Given, given, State, Waiting}
 use Rattle.shgrammar.specs.HereDocuments.{ADelimiter, body_by, bodies_from, bodies_here, delimiter_from, past_line, state_by, waits}
@@ -85,7 +86,7 @@ one_waits {g = g} h x p =
 
 -- ---- one text, from the offset o of the printed text on
 
-module _ (B T : List ℕ) (o : ℕ) (here : drop o B ≡ T) where
+module _ (edition : Edition) (B T : List ℕ) (o : ℕ) (here : drop o B ≡ T) where
   -- the bodies of all documents so far, read or not
   abbrev pub texts_of : Held → Row Text
   texts_of h = map (text_at B) h.bodies ++ map (λ (x : Document). x.bytes) h.waiting
@@ -99,7 +100,7 @@ module _ (B T : List ℕ) (o : ℕ) (here : drop o B ≡ T) where
   -- bodies that are read from p on
   pub record BodiesRead (xs : Row Document) (bodies : Row Span) (p : ℕ) : Type 0 where
     pub spans : Row Span
-    pub reads : bodies_from (given T o) (map as_waiting xs) bodies p ≡ Ok (bodies ++ spans, p + length (held_bytes xs))
+    pub reads : bodies_from (given edition T o) (map as_waiting xs) bodies p ≡ Ok (bodies ++ spans, p + length (held_bytes xs))
     pub texts : map (text_at B) spans ≡ map (λ (x : Document). x.bytes) xs
 
   within_by : (p n : ℕ) (w zs : List ℕ) → p ≤ length T → drop p T ≡ w ++ zs → n ≡ length w → p + n ≤ length T
@@ -126,8 +127,8 @@ module _ (B T : List ℕ) (o : ℕ) (here : drop o B ≡ T) where
       let last : f + length (held_bytes xs) ≡ p + length (bytes_of x ++ held_bytes xs) = let n = length-append (bytes_of x) (held_bytes xs) in omega (arith, n) in
       record {
         spans = s ∷ others.spans;
-        reads = ap (body_by (bodies_from (given T o) (map as_waiting xs)) (given T o) (as_waiting x) bodies p) found
-            ∙ ap (bodies_from (given T o) (map as_waiting xs) (bodies ++ s ∷ [])) past ∙ others.reads
+        reads = ap (body_by (bodies_from (given edition T o) (map as_waiting xs)) (given edition T o) (as_waiting x) bodies p) found
+            ∙ ap (bodies_from (given edition T o) (map as_waiting xs) (bodies ++ s ∷ [])) past ∙ others.reads
             ∙ rw (append_assoc, last) refl;
         texts = rw (text_of_span p x.bytes (x.d.text ++ 10 ∷ rest) parts, others.texts) refl;
       }
@@ -142,7 +143,7 @@ module _ (B T : List ℕ) (o : ℕ) (here : drop o B ≡ T) where
     pub q : ℕ
     pub on : p + 1 ≤ q
     pub within : q ≤ length T
-    pub reads : Gives (given T o) (change bodies_here) (state h (p + 1)) tt (state later q)
+    pub reads : Gives (given edition T o) (change bodies_here) (state h (p + 1)) tt (state later q)
     pub at : StandsAt later q ms
     pub none : later.waiting ≡ []
     pub texts : texts_of later ≡ texts_of h

@@ -24,11 +24,17 @@ list_seen l = search (rules, fold_out-List)
 pub written_parts : (t : Sheet) (ms ns os ps : Marks) → written (written (written t ms) ns) (os ++ ps) ≡ written t (ms ++ ns ++ os ++ ps)
 written_parts t ms ns os ps = rw (written_append t ms ns, written_append t (ms ++ ns) (os ++ ps)) (ap (written t) (sym (append_assoc (ms ++ ns) os ps)))
 
--- the parts of an item of a `case`
-pub written_case : (t : Sheet) (m closer : Text) (comments patterns body : Marks)
-    → written (written (written (written (written (written t comments) (text m ∷ [])) patterns) (text closer ∷ [])) body) (line_end ∷ [])
-    ≡ written t (comments ++ (text m ∷ patterns ++ (text closer ∷ body ++ (line_end ∷ []))))
-written_case t m closer comments patterns body = grind (arith, written_append, written_cons)
+-- the parts of an item of a `case`, and what ends it
+written_item : (t : Sheet) (m closer : Text) (comments patterns body tail : Marks)
+    → written (written (written (written (written (written t comments) (text m ∷ [])) patterns) (text closer ∷ [])) body) tail
+    ≡ written t (comments ++ (text m ∷ patterns ++ (text closer ∷ body ++ tail)))
+written_item t m closer comments patterns body tail = grind (arith, written_append, written_cons)
+
+pub written_case : (t : Sheet) (m closer ender : Text) (comments patterns body : Marks)
+    → written (written (written (written (written (written (written t comments) (text m ∷ [])) patterns) (text closer ∷ [])) body) (text ender ∷ [])) (line_end ∷ [])
+    ≡ written t (comments ++ (text m ∷ patterns ++ (text closer ∷ body ++ (text ender ∷ line_end ∷ []))))
+written_case t m closer ender comments patterns body =
+    written_append _ (text ender ∷ []) (line_end ∷ []) ∙ written_item t m closer comments patterns body (text ender ∷ line_end ∷ [])
 
 -- where no here-document is
 pub here_none : (w : Shape AWordOf) → print_here w None ≡ []
@@ -83,12 +89,12 @@ module _ (B : List ℕ) (y : Layout) (m : Text) where
 
   -- ---- the body of an item of a `case`
 
-  pub body_none : (es : Row Entry) → length es ≡ 0 → print_body y m (shape_of B (entries_of (map view_entry es))) ≡ one (codes " ;;")
+  pub body_none : (es : Row Entry) → length es ≡ 0 → print_body y m (shape_of B (entries_of (map view_entry es))) ≡ one (codes " ")
   body_none [] e = refl
   body_none (x ∷ es) e = absurd (omega (arith, e))
 
   pub body_some : (es : Row Entry) → 0 < length es → print_body y m (shape_of B (entries_of (map view_entry es)))
-      ≡ line_end ∷ print_entries y (deeper y m) (shape_of B (entries_of (map view_entry es))) ++ (text (deeper y m) ∷ text (codes ";;") ∷ [])
+      ≡ line_end ∷ print_entries y (deeper y m) (shape_of B (entries_of (map view_entry es))) ++ one (deeper y m)
   body_some [] lt = absurd (omega (arith, lt))
   body_some (x ∷ es) lt = refl
 

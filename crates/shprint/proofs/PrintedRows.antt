@@ -5,6 +5,7 @@ use Rattle.std.proofs.lemmas.Bool.{both_ways, cases_lt, lt-ltb, and_from, and_pa
 use Rattle.std.proofs.lemmas.Bool.Decides.{nat_tests}
 use Rattle.std.proofs.lemmas.Option.{slice_get_within}
 use Rattle.std.proofs.lemmas.List.{length-drop, map-append}
+use Rattle.shgrammar.specs.declared.edition.Edition.{Edition}
 use Rattle.shgrammar.specs.declared.token.Next.{Next}
 use Rattle.shgrammar.specs.declared.token.Closing.{Closing}
 use Rattle.shgrammar.specs.declared.token.Closing.TheVariants as closings
@@ -22,24 +23,24 @@ use Rattle.shgrammar.specs.Classes.{is_blank}
 use Rattle.shgrammar.specs.Bytes.{ends, behind, stands, past_continuations, byte_at, past_blanks, is_broken_at}
 use Rattle.shgrammar.specs.Comments.{span, comment_at}
 use Rattle.shgrammar.specs.Standing.{is_byte, raw_stands}
-use Rattle.shgrammar.specs.Tokens.{is_end, is_comment, past_reserved, token_of, token_at, next_at}
-use Rattle.shgrammar.specs.Sights.{Given, State, given, standing, here as the_place, is_a_name, a_document_waits, the_token, the_comment, blanks, one_byte, the_reserved, the_digits, a_comment_on}
+use Rattle.shgrammar.specs.Tokens.{is_end, is_comment, is_later, past_reserved, token_in, token_of, token_at, next_in, next_at}
+use Rattle.shgrammar.specs.Sights.{Given, State, given, standing, here as the_place, is_a_name, a_document_waits, the_token, the_comment, blanks, one_byte, the_reserved, the_delimiter, the_digits, a_comment_on}
 use Rattle.shgrammar.specs.Form.{a_level, level_read, raw, with_bytes, with_its_bytes, Spelled, Form, ◌>>=◌, ◌>>◌, by, bared, Step, give, move, leads_on, again, done, many, step_if}
 use Rattle.shgrammar.specs.Words.{Inner, a_word}
 use Rattle.shgrammar.specs.Levels.{most_open, level}
 use Rattle.shast.specs.Nodes.{through, word_span}
 use Rattle.shast.specs.Normal.{is_normal_form, is_normal_else, are_normal_branches, is_normal_branch, is_whole, is_command, holds_command, is_normal_entry, first_not_blank, are_normal, is_normal_and_or, are_normal_and_ors, is_normal_pipeline, are_normal_pipes, first_not_broken, is_normal_join, is_normal_compound, is_normal_command, are_normal_words, are_normal_cases, is_normal_case, are_normal_patterns}
-use Rattle.shgrammar.specs.Compounds.{a_compound, is_open_paren, behind_opener, a_for, a_for_head, a_for_name, a_linebreak, a_sequential_sep, for_words, word_turn, headed, an_if, a_group, a_form, opener_text, Closed, a_loop, an_else, elif_turn, branched, a_branch, passed, closing, closing_text, is_closing, is_close_paren, under_name, a_function, a_case, a_case_head, a_case_word, begins_pattern, patterned, a_pattern, one_pattern, pattern_turn, a_pattern_list, an_open_bracket, a_body, body_end, item_end, an_item_end, a_double_semicolon, cases_so, one_case, case_turn}
+use Rattle.shgrammar.specs.Compounds.{a_compound, is_open_paren, behind_opener, a_for, a_for_head, a_for_name, a_linebreak, a_sequential_sep, for_words, word_turn, headed, an_if, a_group, a_form, opener_text, Closed, a_loop, an_else, elif_turn, branched, a_branch, passed, closing, closing_text, is_closing, is_close_paren, under_name, a_function, a_case, a_case_head, a_case_word, begins_pattern, patterned, a_pattern, one_pattern, pattern_turn, a_pattern_list, an_open_bracket, a_body, body_end, item_end, an_item_end, an_ender, ender_told, cases_so, one_case, case_turn}
 use Rattle.shgrammar.specs.Lines.{a_line, an_open_line, end_of_line}
 use Rattle.shgrammar.specs.Lists.{Listed, list_so, none_listed, one_entry, entry_turn, a_remark, on_line, list_turn, a_list}
-use Rattle.shgrammar.specs.Commands.{nothing_waits, a_document, open_document, is_strip, Entered, a_semicolon, is_semicolon, an_entry, a_separator, separator_of, told_separator, is_background, an_and_or, one_pipeline, join_pipeline, joined_so, a_bang, a_pipeline, begins_pipeline, and_or_operator_of, is_pipe, piped, one_command, pipe_turn, a_command, a_newline, a_comment, join_turn, join_so, a_join_of, a_join, begins_simple, opener_of, is_newline, is_bang, is_empty, next_token, pick, Items, behind_word, begins_word, begins_redirect, is_number, redirect_operator_of, is_long, a_number, an_operator, operator_by, a_target, one_redirect, behind_redirect, redirect_turn, redirected, so_many, breaks, as_item, an_item, item_turn, a_simple, is_word, is_paren, a_worded, compound_by, ASeparator, past_separator, is_double_semicolon}
+use Rattle.shgrammar.specs.Commands.{nothing_waits, a_document, open_document, is_strip, Entered, a_semicolon, is_semicolon, an_entry, a_separator, separator_of, told_separator, is_background, an_and_or, one_pipeline, join_pipeline, joined_so, a_bang, a_pipeline, begins_pipeline, and_or_operator_of, is_pipe, piped, one_command, pipe_turn, a_command, a_newline, a_comment, join_turn, join_so, a_join_of, a_join, begins_simple, opener_of, is_newline, is_bang, is_empty, next_token, pick, Items, behind_word, begins_word, begins_redirect, is_number, redirect_operator_of, is_long, a_number, an_operator, operator_by, a_target, one_redirect, behind_redirect, redirect_turn, redirected, so_many, breaks, as_item, an_item, item_turn, a_simple, is_word, is_paren, a_worded, compound_by, ASeparator, past_separator, ends_item, falls_through}
 use Rattle.shgrammar.proofs.Places.{must_fail, blanks_low}
 use Rattle.shgrammar.proofs.Anywhere.{WordOf, word_span as spanned}
 use Rattle.shgrammar.specs.HereDocuments.{delimiter_of}
 use Rattle.shast.specs.Bodies.{fill_row, filled_row}
 use Rattle.shast.specs.Opened.{here_bodies, item_bodies, item_content_bodies, items_bodies, entries_bodies, entry_bodies, content_bodies, and_or_bodies, and_or_parts_bodies, pipeline_bodies, pipes_bodies, command_bodies, compound_bodies, form_bodies, branch_bodies, branches_bodies, else_bodies, cases_bodies, case_bodies, open_here, open_item, open_item_content, open_items, opened, open_entry, open_content, open_and_or, open_and_or_parts, open_pipeline, open_pipes, open_command, open_compound, open_form, open_branch, open_branches, open_else, open_cases, open_case}
 use Rattle.shgrammar.proofs.WordsWaiting.{word_waiting}
-use Rattle.shgrammar.proofs.Elsewhere.{follows, ItemAnywhere}
+use Rattle.shgrammar.proofs.Elsewhere.{follows, is_a_word, item_is_word, ItemAnywhere}
 use Rattle.shgrammar.proofs.CommentsElsewhere.{CommentAnywhere}
 use Rattle.shast.specs.declared.tree.AndOrOperator.{AndOrOperator}
 use Rattle.shast.specs.declared.tree.AndOrOperator.TheVariants.{And, Or}
@@ -48,11 +49,11 @@ use Rattle.shast.specs.declared.tree.RedirectOperator.TheVariants as redirects
 use Rattle.shast.specs.declared.tree.Span.{Span}
 use Rattle.shast.specs.Spelling.{and_or_text, redirect_text}
 use Rattle.shast.specs.Shape.{shape_of_here, Text, Shape, bare, bare_at, text_at, shape_of_items, shape_of_item, shape_of_command, shape_of_comments, shape_of_join, shape_of_pipes, shape_of_bang, shape_of_pipeline, shape_of_and_or, shape_of_and_or_parts, shape_of_comment, shape_of_entry, shape_of, shape_of_branch, shape_of_branches, shape_of_else, shape_of_form, shape_of_for_words, shape_of_word, shape_of_compound, shape_of_patterns, shape_of_case, shape_of_cases}
-use Rattle.shast.specs.Tree.{AHere, AHereOf, AWordOf, ForWordsOf, ForWords, no_in, in_words, AJoinOf, AJoin, AnItemOf, AnItem, AWord, ABranchOf, ABranch, branch, BranchesOf, no_branch, more_branches, branches_of, OtherwiseOf, Otherwise, no_else, otherwise, EntriesOf, Entries, no_entry, more_entries, entries_of, AContentOf, remark, AnEntryOf, AnEntry, entry, command, AnAndOr, AnAndOrOf, and_or, AnAndOrPart, and_or_parts_of, APipeline, APipelineOf, pipeline, AndOrPartsOf, no_and_or, more_and_or, PipelinePartsOf, no_pipe, more_pipes, APipelinePart, pipeline_parts_of, ACompoundOf, formed, ACommandOf, ACommand, compound, function, item, AFormOf, AForm, brace, subshell, if_then, while_do, until_do, for_in, case_in, items_of, ItemsOf, no_item, more_items, redirect, with_redirects, simple, SubstsOf, no_subst, word, argument, PatternsOf, no_pattern, more_patterns, patterns_of, CaseItemsOf, no_case, more_cases, cases_of, ACaseItemOf, ACaseItem, case_item}
+use Rattle.shast.specs.Tree.{AHere, AHereOf, AWordOf, ForWordsOf, ForWords, no_in, in_words, AJoinOf, AJoin, AnItemOf, AnItem, AWord, ABranchOf, ABranch, branch, BranchesOf, no_branch, more_branches, branches_of, OtherwiseOf, Otherwise, no_else, otherwise, EntriesOf, Entries, no_entry, more_entries, entries_of, AContentOf, remark, AnEntryOf, AnEntry, entry, command, AnAndOr, AnAndOrOf, and_or, AnAndOrPart, and_or_parts_of, APipeline, APipelineOf, pipeline, AndOrPartsOf, no_and_or, more_and_or, PipelinePartsOf, no_pipe, more_pipes, APipelinePart, pipeline_parts_of, ACompoundOf, formed, ACommandOf, ACommand, compound, function, item, AFormOf, AForm, brace, subshell, if_then, while_do, until_do, for_in, case_in, items_of, ItemsOf, no_item, more_items, redirect, with_redirects, simple, SubstsOf, no_subst, word, argument, PatternsOf, no_pattern, more_patterns, patterns_of, CaseItemsOf, no_case, more_cases, cases_of, ACaseItemOf, ACaseItem, ACaseMark, ACaseMarkOf, case_item}
 use Rattle.shprint.specs.declared.layout.Layout.{Layout}
 use Rattle.shprint.specs.Marks.{text, line_end, document, Marks, laid, laid_behind, one, step, deeper, lines_between}
-use Rattle.shprint.specs.Printed.{delimiter_line, print_here, print_for_words, print_word, print_form, print_branch, print_branches, print_else, is_one_line, print_only, print_content, print_entry, print_entries, print_blank, print_background, print_own_comment, print_and_or, print_bang, print_pipeline, print_and_or_parts, print_join, print_pipes, print_compound, print_command, operand_margin, breaks_line, print_comments, print_further_comments, print_gap, print_number, duplicates, would_strip, is_broken_item, print_item, print_items, print_simple, print_function_gap, is_brace, print_cases, print_patterns, print_first_pattern, print_body, print_comment_lines, case_margin}
-use Rattle.shprint.proofs.Tokens.{NoDash, Reads, is_here, none_first, end_here, for_here, in_here, if_here, then_here, elif_here, else_here, fi_here, while_here, until_here, do_here, done_here, brace_here, close_brace_here, open_token, close_token, semicolon_token, Keyword, ampersand_token, bang_here, pipe_token, and_token, or_token, first, byte_here, newline_token, start_here, skip, text_here, Gap, Start, all_blank, blank_gap, blanks_gap, broken_gap, no_gap, next_behind, next_one, kind_of, item_no_round, no_word, no_item_token, NoLonger, space_no_longer, word_no_longer, redirect_token, NumberHere, number_token, angle_first, angle_clear, angle_no_blank, RedirectThere, redirect_is_item, redirect_no_word, double_semicolon_token, case_here, esac_here}
+use Rattle.shprint.specs.Printed.{delimiter_line, print_here, print_for_words, print_word, print_form, print_branch, print_branches, print_else, is_one_line, print_only, print_content, print_entry, print_entries, print_blank, print_background, print_own_comment, print_and_or, print_bang, print_pipeline, print_and_or_parts, print_join, print_pipes, print_compound, print_command, operand_margin, breaks_line, print_comments, print_further_comments, print_gap, print_number, duplicates, would_strip, is_broken_item, print_item, print_items, print_simple, print_function_gap, is_brace, print_cases, print_patterns, print_first_pattern, ender, print_body, print_comment_lines, case_margin}
+use Rattle.shprint.proofs.Tokens.{NoDash, Reads, is_here, none_first, end_here, for_here, in_here, if_here, then_here, elif_here, else_here, fi_here, while_here, until_here, do_here, done_here, brace_here, close_brace_here, open_token, close_token, semicolon_token, Keyword, ampersand_token, bang_here, pipe_token, and_token, or_token, first, byte_here, newline_token, start_here, skip, text_here, Gap, Start, all_blank, blank_gap, blanks_gap, broken_gap, no_gap, next_behind, next_one, kind_of, item_no_round, no_word, no_item_token, NoLonger, space_no_longer, word_no_longer, redirect_token, NumberHere, number_token, angle_first, angle_clear, angle_no_blank, RedirectThere, redirect_is_item, redirect_no_word, double_semicolon_token, falls_token, falls_stays, delimiter_stays, word_stays, case_here, esac_here}
 use Rattle.shprint.proofs.Digits.{bare_of_digits}
 use Rattle.shprint.proofs.Gives.{Gives, gives, gives_on, told_here, ◌⟫◌, given_here, seen_here, moved_here, pushed_here, first_of, second_of, last_turn, one_turn}
 use Rattle.shprint.proofs.Held.{Document, Held, Followed, Emptied, bytes_more, emptied, held_bytes, lay, no_bytes, nothing_held, one_waits, state, text_of_span, texts_of, with_document}
@@ -137,6 +138,7 @@ no_other tokens.End e = absurd cc
 no_other tokens.Newline e = absurd cc
 no_other tokens.Semicolon e = absurd cc
 no_other tokens.DoubleSemicolon e = absurd cc
+no_other tokens.SemicolonAmpersand e = absurd cc
 no_other tokens.AndIf e = absurd cc
 no_other tokens.Ampersand e = absurd cc
 no_other tokens.OrIf e = absurd cc
@@ -180,9 +182,9 @@ none_filled (b ∷ bs) = refl
 
 -- ---- one text, from the offset o of the printed text on
 
-module _ (B T : List ℕ) (o : ℕ) (here : drop o B ≡ T) where
+module _ (edition : Edition) (B T : List ℕ) (o : ℕ) (here : drop o B ≡ T) where
   abbrev g : Given
-  g = given T o
+  g = given edition T o
 
   -- what is printed stands here
   abbrev pub At : Held → ℕ → Marks → Type 0
@@ -190,7 +192,7 @@ module _ (B T : List ℕ) (o : ℕ) (here : drop o B ≡ T) where
 
   -- the bodies of all documents behind a row, read or not, are those before it, and then these
   abbrev pub Adds : Held → Held → (Row Text → Row Text) → Type 0
-  Adds h later more = (ts : Row Text) → texts_of B T o here later ++ ts ≡ texts_of B T o here h ++ more ts
+  Adds h later more = (ts : Row Text) → texts_of edition B T o here later ++ ts ≡ texts_of edition B T o here h ++ more ts
 
   -- no document stands in it
   abbrev pub no_more : Row Text → Row Text
@@ -201,7 +203,7 @@ module _ (B T : List ℕ) (o : ℕ) (here : drop o B ≡ T) where
 
   -- the text of a span
   pub span_text : (p : ℕ) (w zs : List ℕ) → drop p T ≡ w ++ zs → text_at B (span o p (p + length w)) ≡ w
-  span_text p w zs at = text_of_span B T o here p w zs at
+  span_text p w zs at = text_of_span edition B T o here p w zs at
 
   -- something stands at p
   pub some_here : (p c : ℕ) (xs : List ℕ) → drop p T ≡ c ∷ xs → p < length T
@@ -211,15 +213,31 @@ module _ (B T : List ℕ) (o : ℕ) (here : drop o B ≡ T) where
   pub leads : (h later : Held) (p q : ℕ) → p < q → p < length T → leads_on g (state h p) (state later q) ≡ true
   leads h later p q on within = lt-ltb _ _ (omega (arith, on, within))
 
+  -- the token at p, and the next one from e on, as the edition has them
+  abbrev told : Position → ℕ → Token
+  told position p = token_in edition (token_at position T p)
+
+  abbrev asked : Position → ℕ → Next
+  asked position e = next_in edition (next_at position T e)
+
+  asked_behind : {e q : ℕ} {broken : Bool} (position : Position) → Gap T e q broken → asked position e ≡ record { token = told position q; broken = broken }
+  asked_behind position gap = ap (next_in edition) (next_behind position gap)
+
+  tell : {s t : Token} → s ≡ t → token_in edition s ≡ token_in edition t
+  tell e = ap (token_in edition) e
+
+  tell_word : {s t : Token} → is_a_word t ≡ true → s ≡ t → token_in edition s ≡ t
+  tell_word {t = t} is e = tell e ∙ word_stays edition t is
+
   -- the next token, asked for at e
-  pub next_read : (h : Held) (position : Position) (e : ℕ) → Gives g (next_token position) (state h e) (next_at position T e) (state h (past_blanks T e))
+  pub next_read : (h : Held) (position : Position) (e : ℕ) → Gives g (next_token position) (state h e) (asked position e) (state h (past_blanks T e))
   unfolding next_token
   next_read h position e = seen_here (the_token position) ⟫ moved_here blanks ⟫ given_here
 
   -- A token that begins no item stands behind e, whatever was asked for.
   pub record Behind (e : ℕ) : Type 0 where
     pub token : Token
-    pub seen_as : (position : Position) → next_at position T e ≡ record { token = token; broken = false }
+    pub seen_as : (position : Position) → asked position e ≡ record { token = token; broken = false }
     pub no_item : begins_simple token ≡ false
     pub no_round : is_paren token ≡ false
 
@@ -230,20 +248,20 @@ module _ (B T : List ℕ) (o : ℕ) (here : drop o B ≡ T) where
     pub later : Held
     pub at : At later «end» rest
     pub texts : Adds h later more
-    pub reads : Gives g r (state h p) (value, next_at Command T «end») (state later (past_blanks T «end»))
+    pub reads : Gives g r (state h p) (value, asked Command «end») (state later (past_blanks T «end»))
     pub is : Is value
 
   -- What follows begins with this token, whatever is asked for, with no continuation before it.
   pub record Follower (rest : Marks) (t : Token) : Type 0 where
     pub follow : Followed rest
     pub no_round : is_paren t ≡ false
-    pub seen_as : (h : Held) (e : ℕ) → At h e rest → (position : Position) → next_at position T e ≡ record { token = t; broken = false }
+    pub seen_as : (h : Held) (e : ℕ) → At h e rest → (position : Position) → asked position e ≡ record { token = t; broken = false }
 
   -- what a compound command opens with
   pub record Opens (p : ℕ) (opener_is : Opener) : Type 0 where
     pub start : Start T p
-    pub no_item : begins_simple (token_at Command T p) ≡ false
-    pub opener : opener_of (token_at Command T p) ≡ Some opener_is
+    pub no_item : begins_simple (told Command p) ≡ false
+    pub opener : opener_of (told Command p) ≡ Some opener_is
 
   module _ (room : ℕ) where
     abbrev inner : Inner
@@ -274,7 +292,7 @@ module _ (B T : List ℕ) (o : ℕ) (here : drop o B ≡ T) where
       pub «end» : ℕ
       pub later : Held
       pub at : At later «end» rest
-      pub reads : Gives g (turn_of kind (so_many acc position n)) (state h p) (again (so_many (acc ++ it ∷ []) next (next_at next T «end»))) (state later (past_blanks T «end»))
+      pub reads : Gives g (turn_of kind (so_many acc position n)) (state h p) (again (so_many (acc ++ it ∷ []) next (asked next «end»))) (state later (past_blanks T «end»))
       pub on : leads_on g (state h p) (state later (past_blanks T «end»)) ≡ true
       pub is : shape_of_item B it ≡ open_item [] (with_broken (broken_by kind (so_many acc position n)) i)
       pub texts : Adds h later (item_bodies i)
@@ -311,7 +329,7 @@ module _ (B T : List ℕ) (o : ℕ) (here : drop o B ≡ T) where
 
     -- a word as an item
     word_item : (h : Held) (next : Position) (w : Text) (ss : Shape SubstsOf) (acc : Row AnItem) (place : Position) (n : Next) (p : ℕ) (v : WordOf room g p (length w) B (word w ss))
-        → Gives g (an_item inner (so_many acc place n) next) (state h p) (again (so_many (acc ++ item (breaks (so_many acc place n)) (as_item next v.0) ∷ []) next (next_at next T (p + length w)))) (state h (past_blanks T (p + length w)))
+        → Gives g (an_item inner (so_many acc place n) next) (state h p) (again (so_many (acc ++ item (breaks (so_many acc place n)) (as_item next v.0) ∷ []) next (asked next (p + length w)))) (state h (past_blanks T (p + length w)))
     unfolding an_item
     word_item h next w ss acc place n p v = printed_word h w ss p v ⟫ pushed_here acc _ ⟫ next_read h next (p + length w) ⟫ given_here
 
@@ -368,9 +386,9 @@ module _ (B T : List ℕ) (o : ℕ) (here : drop o B ≡ T) where
       shape : option_map (bare_at B) value ≡ number
 
     module _ (k : RedirectOperator) (ms : Marks) (no_dash : (h : Held) (q : ℕ) → At h q ms → NoDash k T q) (longer : (h : Held) (q : ℕ) → At h q ms → NoLonger T q) where
-      operator_there : (h : Held) (position : Position) (p : ℕ) → At h p (text (redirect_text k) ∷ ms) → token_at position T p ≡ tokens.Redirect k
+      operator_there : (h : Held) (position : Position) (p : ℕ) → At h p (text (redirect_text k) ∷ ms) → told position p ≡ tokens.Redirect k
       operator_there h position p at =
-          redirect_token position k T p (lay h ms) (no_dash h (p + length (redirect_text k)) (at_text h p (redirect_text k) ms at)) (longer h (p + length (redirect_text k)) (at_text h p (redirect_text k) ms at)) (at ∙ laid_text h (redirect_text k) ms)
+          tell (redirect_token position k T p (lay h ms) (no_dash h (p + length (redirect_text k)) (at_text h p (redirect_text k) ms at)) (longer h (p + length (redirect_text k)) (at_text h p (redirect_text k) ms at)) (at ∙ laid_text h (redirect_text k) ms))
 
       -- the digits of a number, and what stands behind them
       number_there : (h : Held) (position : Position) (d : ℕ) (ds : Text) (p : ℕ) → GoodNumber (Some (d ∷ ds)) → At h p (text (d ∷ ds) ∷ text (redirect_text k) ∷ ms) → NumberHere position T p (d ∷ ds)
@@ -384,7 +402,7 @@ module _ (B T : List ℕ) (o : ℕ) (here : drop o B ≡ T) where
           let a = angle_first k in
           start_here (byte_here T p a.0 (a.1 ++ lay h ms) (angle_clear a.0 a.3) (at ∙ laid_text h (redirect_text k) ms ∙ ap (λ z. z ++ lay h ms) a.2)) (angle_no_blank a.0 a.3)
 
-      number_read : (h : Held) (position : Position) (number : Option Text) (n : Next) (p : ℕ) → GoodNumber number → n.token ≡ token_at position T p → At h p (print_number number ++ (text (redirect_text k) ∷ ms)) → NumberRead h number k n p ms
+      number_read : (h : Held) (position : Position) (number : Option Text) (n : Next) (p : ℕ) → GoodNumber number → n.token ≡ told position p → At h p (print_number number ++ (text (redirect_text k) ∷ ms)) → NumberRead h number k n p ms
       unfolding a_number
       number_read h position None n p digits token_is at =
           let is = token_is ∙ operator_there h position p at in
@@ -396,26 +414,26 @@ module _ (B T : List ℕ) (o : ℕ) (here : drop o B ≡ T) where
           let at_q = at_text h p (d ∷ ds) (text (redirect_text k) ∷ ms) at in
           let gap = no_gap (operator_start h q at_q) in
           let moved : Gives g (move the_digits) (state h p) tt (state h q) = subst (λ r. Gives g (move the_digits) (state h p) tt (state h r)) number.past_it (moved_here the_digits) in
-          let read : Gives g (a_number n) (state h p) (Some (span o p q), next_at Suffix T q) (state h (past_blanks T q)) =
-          first_of _ _ (ap is_number (token_is ∙ number.token)) (told_here bared moved ⟫ next_read h Suffix q ⟫ given_here) in
+          let read : Gives g (a_number n) (state h p) (Some (span o p q), asked Suffix q) (state h (past_blanks T q)) =
+          first_of _ _ (ap is_number (token_is ∙ tell number.token)) (told_here bared moved ⟫ next_read h Suffix q ⟫ given_here) in
           record {
             value = Some (span o p q);
-            next = next_at Suffix T q;
+            next = asked Suffix q;
             q = q;
-            reads = subst (λ r. Gives g (a_number n) (state h p) (Some (span o p q), next_at Suffix T q) (state h r)) gap.blanks read;
-            token_is = ap (λ (n : Next). n.token) (next_behind Suffix gap) ∙ operator_there h Suffix q at_q;
+            reads = subst (λ r. Gives g (a_number n) (state h p) (Some (span o p q), asked Suffix q) (state h r)) gap.blanks read;
+            token_is = ap (λ (n : Next). n.token) (asked_behind Suffix gap) ∙ operator_there h Suffix q at_q;
             at = at_q;
             low = omega arith;
             shape = ap (λ t. Some (bare t)) (span_text p (d ∷ ds) _ (at ∙ laid_text h (d ∷ ds) (text (redirect_text k) ∷ ms))) ∙ ap Some (bare_of_digits (d ∷ ds) digits);
           }
 
       -- the token with which a redirection begins
-      redirect_begins : (h : Held) (position : Position) (number : Option Text) (p : ℕ) → GoodNumber number → At h p (print_number number ++ (text (redirect_text k) ∷ ms)) → RedirectThere position T p
+      redirect_begins : (h : Held) (position : Position) (number : Option Text) (p : ℕ) → GoodNumber number → At h p (print_number number ++ (text (redirect_text k) ∷ ms)) → RedirectThere edition position T p
       redirect_begins h position None p digits at =
           let is = operator_there h position p at in record { start = operator_start h p at; redirect = ap begins_redirect is; no_word = ap behind_word is }
       redirect_begins h position (Some []) p digits at = absurd digits
       redirect_begins h position (Some (d ∷ ds)) p digits at =
-          let number = number_there h position d ds p digits at in record { start = number.start; redirect = ap begins_redirect number.token; no_word = ap behind_word number.token }
+          let number = number_there h position d ds p digits at in record { start = number.start; redirect = ap begins_redirect (tell number.token); no_word = ap behind_word (tell number.token) }
 
     -- the word of a redirection, behind its operator
     record TargetThere (h : Held) (k : RedirectOperator) (e : ℕ) (t : Text) (rest : Marks) : Type 0 where
@@ -450,7 +468,7 @@ module _ (B T : List ℕ) (o : ℕ) (here : drop o B ≡ T) where
     no_dash_word redirects.HereStripped e t zs at some place other = tt
     no_dash_word redirects.Clobber e t zs at some place other = tt
 
-    target_there : (h : Held) (k : RedirectOperator) (spaced : Bool) (e : ℕ) (t : Text) (ss : Shape SubstsOf) (rest : Marks) → (spaced ≡ false → would_strip k t ≡ false) → ItemAnywhere room Suffix tokens.Word t ss → Followed rest
+    target_there : (h : Held) (k : RedirectOperator) (spaced : Bool) (e : ℕ) (t : Text) (ss : Shape SubstsOf) (rest : Marks) → (spaced ≡ false → would_strip k t ≡ false) → ItemAnywhere edition room Suffix tokens.Word t ss → Followed rest
         → At h e ((if spaced then one (codes " ") else []) ++ (text t ∷ rest)) → TargetThere h k e t rest
     target_there h k true e t ss rest dash good follow at =
         let there = at ∙ laid_text h (codes " ") (text t ∷ rest) in
@@ -484,7 +502,7 @@ module _ (B T : List ℕ) (o : ℕ) (here : drop o B ≡ T) where
       shape : option_map (shape_of_here B) value ≡ open_here [] doc
       texts : Adds h later (here_bodies doc)
 
-    document_read : (h : Held) (k : RedirectOperator) (b p : ℕ) (t : Text) (f : ℕ) (ss : Shape SubstsOf) (doc : Option (AHereOf Text)) (rest : Marks) → GoodHere k t doc → At h f (print_here (word t ss) doc ++ rest)
+    document_read : (h : Held) (k : RedirectOperator) (b p : ℕ) (t : Text) (f : ℕ) (ss : Shape SubstsOf) (doc : Option (AHereOf Text)) (rest : Marks) → GoodHere edition k t doc → At h f (print_here (word t ss) doc ++ rest)
         → DocumentRead h k b p t f doc rest
     unfolding a_document laid_behind
     document_read h k b p t f ss None rest none at = record {
@@ -497,7 +515,7 @@ module _ (B T : List ℕ) (o : ℕ) (here : drop o B ≡ T) where
     }
     document_read h k b p t f ss (Some d) rest good at =
         let x : Document = record { b = b; strip = is_strip k; d = good.d; bytes = d.body; good = good.reads } in
-        let line : delimiter_line (delimiter_of t) ≡ good.d.text ++ 10 ∷ [] = ap delimiter_line good.delimits in
+        let line : delimiter_line (delimiter_of t) ≡ good.d.text ++ 10 ∷ [] = ap delimiter_line (delimiter_stays edition t good.d good.delimits) in
         let bytes : held_bytes h.waiting ++ (d.body ++ delimiter_line (delimiter_of t)) ≡ held_bytes (h.waiting ++ x ∷ []) = ap (λ r. held_bytes h.waiting ++ (d.body ++ r)) line ∙ sym (bytes_more h.waiting x) in
         let M = map (text_at B) h.bodies in
         let W = map (λ (x : Document). x.bytes) h.waiting in
@@ -506,7 +524,7 @@ module _ (B T : List ℕ) (o : ℕ) (here : drop o B ≡ T) where
           value = Some (open_document (is_strip k) good.d);
           later = with_document h x;
           at = at ∙ ap (λ held. laid_behind held rest) bytes;
-          reads = first_of _ _ good.takes (rw good.delimits (one_waits h x f ⟫ given_here));
+          reads = first_of _ _ good.takes (seen_here (the_delimiter t) ⟫ rw good.delimits (one_waits h x f ⟫ given_here));
           shape = rw (good.literal, good.strip) refl;
           texts = λ ts. ap (λ r. (M ++ r) ++ ts) bodies ∙ ap (λ r. r ++ ts) (sym (append_assoc M W (d.body ∷ []))) ∙ append_assoc (M ++ W) (d.body ∷ []) ts;
         }
@@ -520,13 +538,13 @@ module _ (B T : List ℕ) (o : ℕ) (here : drop o B ≡ T) where
       «end» : ℕ
       later : Held
       at : At later «end» rest
-      reads : Gives g (one_redirect inner broken next acc n) (state h p) (again (so_many (acc ++ it ∷ []) next (next_at next T «end»))) (state later (past_blanks T «end»))
+      reads : Gives g (one_redirect inner broken next acc n) (state h p) (again (so_many (acc ++ it ∷ []) next (asked next «end»))) (state later (past_blanks T «end»))
       on : leads_on g (state h p) (state later (past_blanks T «end»)) ≡ true
       is : shape_of_item B it ≡ open_item [] i
       texts : Adds h later (item_bodies i)
 
     -- one redirection
-    module _ (y : Layout) (number : Option Text) (k : RedirectOperator) (t : Text) (ss : Shape SubstsOf) (doc : Option (AHereOf Text)) (good : GoodRedirect room number k t ss doc) (rest : Marks) (follow : Followed rest) where
+    module _ (y : Layout) (number : Option Text) (k : RedirectOperator) (t : Text) (ss : Shape SubstsOf) (doc : Option (AHereOf Text)) (good : GoodRedirect edition room number k t ss doc) (rest : Marks) (follow : Followed rest) where
       abbrev spaced : Bool
       spaced = (y.space_redirects && not (duplicates k)) || would_strip k t
 
@@ -564,7 +582,7 @@ module _ (B T : List ℕ) (o : ℕ) (here : drop o B ≡ T) where
       no_dash_at : (h : Held) (e : ℕ) → At h e behind_operator → NoDash k T e
       no_dash_at h e at = (target_at h e at).no_dash
 
-      redirect_there : (h : Held) (position : Position) (b : Bool) (p : ℕ) → At h p (print_item y (a_redirect_of b number k t ss doc) ++ rest) → RedirectThere position T p
+      redirect_there : (h : Held) (position : Position) (b : Bool) (p : ℕ) → At h p (print_item y (a_redirect_of b number k t ss doc) ++ rest) → RedirectThere edition position T p
       redirect_there h position b p at = redirect_begins k behind_operator no_dash_at no_longer_at h position number p good.digits (at ∙ ap (lay h) (redirect_printed b))
 
       redirect_shape : (broken : Bool) (d : Option Span) (s : Span) (w : AWord) (v : Option AHere) → option_map (bare_at B) d ≡ number → shape_of_word B w ≡ word t ss → option_map (shape_of_here B) v ≡ open_here [] doc
@@ -572,7 +590,7 @@ module _ (B T : List ℕ) (o : ℕ) (here : drop o B ≡ T) where
       unfolding open_item open_item_content
       redirect_shape broken d s w v digits is waits = rw (digits, is, waits) refl
 
-      redirect_read : (h : Held) (position : Position) (broken b : Bool) (acc : Row AnItem) (next : Position) (n : Next) (p : ℕ) → n.token ≡ token_at position T p → At h p (print_item y (a_redirect_of b number k t ss doc) ++ rest)
+      redirect_read : (h : Held) (position : Position) (broken b : Bool) (acc : Row AnItem) (next : Position) (n : Next) (p : ℕ) → n.token ≡ told position p → At h p (print_item y (a_redirect_of b number k t ss doc) ++ rest)
           → RedirectRead h broken acc next n p (a_redirect_of broken number k t ss doc) rest
       unfolding one_redirect a_target an_operator item_bodies item_content_bodies
       redirect_read h position broken b acc next n p token_is at =
@@ -585,7 +603,7 @@ module _ (B T : List ℕ) (o : ℕ) (here : drop o B ≡ T) where
           let v = (good.reads.there g q (lay h behind_word_marks) (at_q ∙ laid_text h t behind_word_marks) (document_follows doc held)).word B (sym here) in
           let f = q + length t in
           let found = good.reads.there g w.f (lay h behind_word_marks) (w.at ∙ laid_text h t behind_word_marks) (document_follows doc held) in
-          let word_is : is_word (next_at Suffix T e).token ≡ true = ap (λ (n : Next). is_word n.token) (next_behind Suffix w.gap) ∙ ap is_word found.token_is in
+          let word_is : is_word (asked Suffix e).token ≡ true = ap (λ (n : Next). is_word n.token) (asked_behind Suffix w.gap) ∙ ap is_word (tell found.token_is) in
           let moves = operator_moves h k d.q (lay h behind_operator) (d.at ∙ laid_text h (redirect_text k) behind_operator) in
           let operator : Gives g (operator_by (o + p) (redirect_operator_of d.next.token)) (state h d.q) (k, span o d.q e) (state h e) =
           rw d.token_is (told_here (by (redirect_text k)) moves ⟫ given_here) in
@@ -617,32 +635,32 @@ module _ (B T : List ℕ) (o : ℕ) (here : drop o B ≡ T) where
     -- where an item is printed
     pub record ItemThere (position : Position) (p : ℕ) : Type 0 where
       pub start : Start T p
-      pub begins : begins_simple (token_at position T p) ≡ true
+      pub begins : begins_simple (told position p) ≡ true
 
-    word_there : (h : Held) (position next : Position) (token : Token) (w : Text) (ss : Shape SubstsOf) → behind_word token ≡ Some next → ItemAnywhere room position token w ss → (p : ℕ) (rest : Marks) → Followed rest
+    word_there : (h : Held) (position next : Position) (token : Token) (w : Text) (ss : Shape SubstsOf) → behind_word token ≡ Some next → ItemAnywhere edition room position token w ss → (p : ℕ) (rest : Marks) → Followed rest
         → At h p (text w ∷ rest) → ItemThere position p
     word_there h position next token w ss some good p rest follow at =
         let found = good.there g p (lay h rest) (at ∙ laid_text h w rest) (follow (held_bytes h.waiting)) in
-        record { start = record { place = found.place; no_blank = found.no_blank }; begins = ap begins_simple found.token_is ∙ item_begins token next some }
+        record { start = record { place = found.place; no_blank = found.no_blank }; begins = ap begins_simple (tell_word (item_is_word token (ap is_some some)) found.token_is) ∙ item_begins token next some }
 
-    pub item_there : (h : Held) {kind : Kind} {position next : Position} {i : Shape AnItemOf} (y : Layout) → GoodItem room kind position i next → (p : ℕ) (rest : Marks) → Followed rest → At h p (print_item y i ++ rest)
+    pub item_there : (h : Held) {kind : Kind} {position next : Position} {i : Shape AnItemOf} (y : Layout) → GoodItem edition room kind position i next → (p : ℕ) (rest : Marks) → Followed rest → At h p (print_item y i ++ rest)
         → ItemThere position p
     item_there h y (of_word {position = position} {next = next} {token = token} {broken = b} {t = t} {ss = ss} some good) p rest follow at =
         word_there h position next token t ss some good p rest follow (at ∙ ap (λ ms. lay h (ms ++ rest)) (item_printed y b next t ss))
     item_there h y (of_argument {broken = b} {t = t} {ss = ss} good) p rest follow at = word_there h Suffix Suffix tokens.Word t ss refl good p rest follow at
     item_there h y (of_redirect {position = position} {broken = b} {number = number} {o = k} {t = t} {ss = ss} {h = doc} good) p rest follow at =
-        let r = redirect_there y number k t ss doc good rest follow h position b p at in record { start = r.start; begins = redirect_is_item (token_at position T p) r.redirect }
+        let r = redirect_there y number k t ss doc good rest follow h position b p at in record { start = r.start; begins = redirect_is_item (told position p) r.redirect }
     item_there h y (of_redirect_behind {broken = b} {number = number} {o = k} {t = t} {ss = ss} {h = doc} good) p rest follow at =
-        let r = redirect_there y number k t ss doc good rest follow h Command b p at in record { start = r.start; begins = redirect_is_item (token_at Command T p) r.redirect }
+        let r = redirect_there y number k t ss doc good rest follow h Command b p at in record { start = r.start; begins = redirect_is_item (told Command p) r.redirect }
 
-    pub item_read : (h : Held) {kind : Kind} {position next : Position} {i : Shape AnItemOf} (y : Layout) → GoodItem room kind position i next → (acc : Row AnItem) (n : Next) (p : ℕ) (rest : Marks) → n.token ≡ token_at position T p
+    pub item_read : (h : Held) {kind : Kind} {position next : Position} {i : Shape AnItemOf} (y : Layout) → GoodItem edition room kind position i next → (acc : Row AnItem) (n : Next) (p : ℕ) (rest : Marks) → n.token ≡ told position p
         → Followed rest → At h p (print_item y i ++ rest) → ItemRead h kind acc position n p next i rest
     unfolding item_turn word_turn redirect_turn an_item item_bodies item_content_bodies
     item_read h y (of_word {position = position} {next = next} {token = token} {broken = b} {t = w} {ss = ss} some good) acc n p rest token_is follow at =
         let at_p = at ∙ ap (λ ms. lay h (ms ++ rest)) (item_printed y b next w ss) in
         let found = good.there g p (lay h rest) (at_p ∙ laid_text h w rest) (follow (held_bytes h.waiting)) in
         let v = found.word B (sym here) in
-        let is_here : n.token ≡ token = token_is ∙ found.token_is in
+        let is_here : n.token ≡ token = token_is ∙ tell_word (item_is_word token (ap is_some some)) found.token_is in
         record {
           it = item (breaks (so_many acc position n)) (as_item next v.0);
           «end» = p + length w;
@@ -661,7 +679,7 @@ module _ (B T : List ℕ) (o : ℕ) (here : drop o B ≡ T) where
           «end» = p + length w;
           later = h;
           at = at_text h p w rest at;
-          reads = first_of _ _ (ap is_word (token_is ∙ found.token_is)) (word_item h Suffix w ss acc Suffix n p v);
+          reads = first_of _ _ (ap is_word (token_is ∙ tell found.token_is)) (word_item h Suffix w ss acc Suffix n p v);
           on = word_on h w p rest good.some at;
           is = item_shape Suffix _ v.0 (word w ss) v.1.1;
           texts = word_adds h b Suffix (word w ss);
@@ -688,13 +706,13 @@ module _ (B T : List ℕ) (o : ℕ) (here : drop o B ≡ T) where
       pub «end» : ℕ
       pub later : Held
       pub at : At later «end» rest
-      pub reads : Gives g (many (turn_of kind) (so_many acc position n)) (state h p) (so_many (acc ++ more_items_read) last (next_at Command T «end»)) (state later (past_blanks T «end»))
+      pub reads : Gives g (many (turn_of kind) (so_many acc position n)) (state h p) (so_many (acc ++ more_items_read) last (asked Command «end»)) (state later (past_blanks T «end»))
       pub shape : Shapes more_items_read ≡ open_items [] is
       pub texts : Adds h later (items_bodies is)
 
     -- one more item before others
     items_on : (h : Held) {kind : Kind} {acc : Row AnItem} {position : Position} {n : Next} {p : ℕ} {next last : Position} {i : Shape AnItemOf} {is : Shape ItemsOf} {ms rest : Marks} (one : ItemRead h kind acc position n p next i ms)
-        → broken_by kind (so_many acc position n) ≡ is_broken_item i → ItemsRead one.later kind (acc ++ one.it ∷ []) next (next_at next T one.«end») (past_blanks T one.«end») last is rest
+        → broken_by kind (so_many acc position n) ≡ is_broken_item i → ItemsRead one.later kind (acc ++ one.it ∷ []) next (asked next one.«end») (past_blanks T one.«end») last is rest
         → ItemsRead h kind acc position n p last (more_items i is) rest
     unfolding open_items items_bodies
     items_on h {kind = kind} {acc = acc} {position = position} {n = n} {p = p} {last = last} {i = i} {is = is} one same others = record {
@@ -702,7 +720,7 @@ module _ (B T : List ℕ) (o : ℕ) (here : drop o B ≡ T) where
       «end» = others.«end»;
       later = others.later;
       at = others.at;
-      reads = subst (λ is. Gives g (many (turn_of kind) (so_many acc position n)) (state h p) (so_many is last (next_at Command T others.«end»)) (state others.later (past_blanks T others.«end»)))
+      reads = subst (λ is. Gives g (many (turn_of kind) (so_many acc position n)) (state h p) (so_many is last (asked Command others.«end»)) (state others.later (past_blanks T others.«end»)))
           (append_assoc acc (one.it ∷ []) others.more_items_read) (one_turn (turn_of kind) one.reads one.on others.reads);
       shape = ap2 (one.is ∙ ap (λ b. open_item [] (with_broken b i)) same ∙ ap (λ i. open_item [] i) (same_broken i)) others.shape;
       texts = λ ts. others.texts ts ∙ one.texts (items_bodies is ts);
@@ -718,7 +736,7 @@ module _ (B T : List ℕ) (o : ℕ) (here : drop o B ≡ T) where
     item_stops h of_for acc position n p none = second_of _ _ (no_item_token n.token none).word given_here
     item_stops h of_compound acc position n p none = second_of _ _ (no_item_token n.token none).redirect given_here
 
-    no_items_on : (h : Held) (kind : Kind) (acc : Row AnItem) (position : Position) (n : Next) (e : ℕ) (rest : Marks) → At h e rest → next_at Command T e ≡ n → begins_simple n.token ≡ false
+    no_items_on : (h : Held) (kind : Kind) (acc : Row AnItem) (position : Position) (n : Next) (e : ℕ) (rest : Marks) → At h e rest → asked Command e ≡ n → begins_simple n.token ≡ false
         → ItemsRead h kind acc position n (past_blanks T e) position no_item rest
     unfolding open_items items_bodies
     no_items_on h kind acc position n e rest at same none = record {
@@ -811,10 +829,10 @@ module _ (B T : List ℕ) (o : ℕ) (here : drop o B ≡ T) where
       -- the next item, behind a gap
       record NextItem (h : Held) (position : Position) (i : Shape AnItemOf) (is : Shape ItemsOf) (e : ℕ) : Type 0 where
         at : At h (past_blanks T e) (print_item y i ++ (print_items y m is ++ rest))
-        broken : (next_at position T e).broken ≡ is_broken_item i
-        begins : begins_simple (next_at position T e).token ≡ true
+        broken : (asked position e).broken ≡ is_broken_item i
+        begins : begins_simple (asked position e).token ≡ true
 
-      next_item : (h : Held) {kind : Kind} {position next : Position} {i : Shape AnItemOf} (is : Shape ItemsOf) (e : ℕ) → GoodItem room kind position i next → At h e (print_items y m (more_items i is) ++ rest) → NextItem h position i is e
+      next_item : (h : Held) {kind : Kind} {position next : Position} {i : Shape AnItemOf} (is : Shape ItemsOf) (e : ℕ) → GoodItem edition room kind position i next → At h e (print_items y m (more_items i is) ++ rest) → NextItem h position i is e
       next_item h {position = position} {i = i} is e one at =
           let ms = print_item y i ++ (print_items y m is ++ rest) in
           let gap = gap_read h y m (is_broken_item i) e ms blank c cs some_margin (at ∙ ap (lay h) (more_printed y m i is rest)) in
@@ -823,17 +841,17 @@ module _ (B T : List ℕ) (o : ℕ) (here : drop o B ≡ T) where
           record {
             at = subst (λ q. At h q ms) (sym passed.blanks) gap.at;
             broken = passed.breaks;
-            begins = ap (λ (n : Next). begins_simple n.token) (next_behind position passed) ∙ there.begins;
+            begins = ap (λ (n : Next). begins_simple n.token) (asked_behind position passed) ∙ there.begins;
           }
 
-      items_read : {kind : Kind} (h : Held) {position last : Position} {is : Shape ItemsOf} → GoodItems room kind position is last → (acc : Row AnItem) (e : ℕ) → Unbroken kind acc is
-          → At h e (print_items y m is ++ rest) → ItemsRead h kind acc position (next_at position T e) (past_blanks T e) last is rest
+      items_read : {kind : Kind} (h : Held) {position last : Position} {is : Shape ItemsOf} → GoodItems edition room kind position is last → (acc : Row AnItem) (e : ℕ) → Unbroken kind acc is
+          → At h e (print_items y m is ++ rest) → ItemsRead h kind acc position (asked position e) (past_blanks T e) last is rest
       items_read {kind = kind} h {position = position} none_more acc e first at =
           let b = behind h e at in
-          no_items_on h kind acc position (next_at position T e) e rest at (b.seen_as Command ∙ sym (b.seen_as position)) (ap (λ (n : Next). begins_simple n.token) (b.seen_as position) ∙ b.no_item)
+          no_items_on h kind acc position (asked position e) e rest at (b.seen_as Command ∙ sym (b.seen_as position)) (ap (λ (n : Next). begins_simple n.token) (b.seen_as position) ∙ b.no_item)
       items_read {kind = kind} h {position = position} (one_more {i = i} {is = is} good others) acc e first at =
           let it = next_item h is e good at in
-          let n = next_at position T e in
+          let n = asked position e in
           let one = item_read h y good acc n (past_blanks T e) (print_items y m is ++ rest) refl (items_follow y m is rest follow) it.at in
           items_on h one (broken_is kind acc position n i is first it.broken) (items_read one.later others (acc ++ one.it ∷ []) one.«end» (unbroken_on kind acc one.it is) one.at)
 
@@ -844,7 +862,7 @@ module _ (B T : List ℕ) (o : ℕ) (here : drop o B ≡ T) where
       first_unbroken n (item b what) is first = sym (first_not b first)
 
       -- all items of a simple command, and the token behind them
-      simple_items : (h : Held) {last : Position} {is : Shape ItemsOf} (n : Next) (p : ℕ) → GoodItems room of_command Command is last → SomeItem is → first_not_broken is ≡ true → n.token ≡ token_at Command T p
+      simple_items : (h : Held) {last : Position} {is : Shape ItemsOf} (n : Next) (p : ℕ) → GoodItems edition room of_command Command is last → SomeItem is → first_not_broken is ≡ true → n.token ≡ told Command p
           → At h p (print_simple y m is ++ rest) → ItemsRead h of_command [] Command n p last is rest
       simple_items h n p none_more some first token_is at = absurd some
       simple_items h n p (one_more {i = i} {is = is} good others) some first token_is at =
@@ -853,7 +871,7 @@ module _ (B T : List ℕ) (o : ℕ) (here : drop o B ≡ T) where
           items_on h one (first_unbroken n i is first) (items_read one.later others (one.it ∷ []) one.«end» (λ e. absurd cc) one.at)
 
       -- a simple command
-      pub simple_read : (h : Held) (is : Shape ItemsOf) (n : Next) (p : ℕ) → GoodSimple room is → first_not_broken is ≡ true → n.token ≡ token_at Command T p → At h p (print_simple y m is ++ rest)
+      pub simple_read : (h : Held) (is : Shape ItemsOf) (n : Next) (p : ℕ) → GoodSimple edition room is → first_not_broken is ≡ true → n.token ≡ told Command p → At h p (print_simple y m is ++ rest)
           → Got h (a_simple inner (so_many [] Command n)) p rest (command_bodies (simple is)) (λ c. shape_of_command B c ≡ open_command [] (simple is))
       unfolding a_simple open_command command_bodies
       simple_read h is n p good first token_is at =
@@ -861,12 +879,12 @@ module _ (B T : List ℕ) (o : ℕ) (here : drop o B ≡ T) where
           record { value = simple (items_of r.more_items_read); «end» = r.«end»; later = r.later; at = r.at; texts = r.texts; reads = r.reads ⟫ given_here; is = ap (λ is. simple is) r.shape }
 
       -- no `(` stands behind a word
-      next_round : (h : Held) {position last : Position} {is : Shape ItemsOf} → GoodItems room of_command position is last → (e : ℕ) → At h e (print_items y m is ++ rest) → is_paren (next_at position T e).token ≡ false
+      next_round : (h : Held) {position last : Position} {is : Shape ItemsOf} → GoodItems edition room of_command position is last → (e : ℕ) → At h e (print_items y m is ++ rest) → is_paren (asked position e).token ≡ false
       next_round h {position = position} none_more e at = let b = behind h e at in ap (λ (n : Next). is_paren n.token) (b.seen_as position) ∙ b.no_round
-      next_round h {position = position} (one_more {is = is} good others) e at = item_no_round (next_at position T e).token (next_item h is e good at).begins
+      next_round h {position = position} (one_more {is = is} good others) e at = item_no_round (asked position e).token (next_item h is e good at).begins
 
       -- a simple command that begins with a word
-      worded_read : (h : Held) {last : Position} {w : Text} {ss : Shape SubstsOf} {is : Shape ItemsOf} (p : ℕ) → ItemAnywhere room Command tokens.Word w ss → GoodItems room of_command Suffix is last → At h p (text w ∷ (print_items y m is ++ rest))
+      worded_read : (h : Held) {last : Position} {w : Text} {ss : Shape SubstsOf} {is : Shape ItemsOf} (p : ℕ) → ItemAnywhere edition room Command tokens.Word w ss → GoodItems edition room of_command Suffix is last → At h p (text w ∷ (print_items y m is ++ rest))
           → Got h (a_worded inner) p rest (command_bodies (simple (more_items (an_item_of false Suffix (word w ss)) is)))
           (λ c. shape_of_command B c ≡ open_command [] (simple (more_items (an_item_of false Suffix (word w ss)) is)))
       unfolding a_worded a_simple open_command open_items command_bodies items_bodies item_bodies item_content_bodies
@@ -890,7 +908,7 @@ module _ (B T : List ℕ) (o : ℕ) (here : drop o B ≡ T) where
           }
 
       -- one that begins with another item
-      other_read : (h : Held) (is : Shape ItemsOf) (n : Next) (p : ℕ) → GoodSimple room is → first_not_broken is ≡ true → n.token ≡ token_at Command T p → At h p (print_simple y m is ++ rest) → is_word n.token ≡ false → begins_simple n.token ≡ true
+      other_read : (h : Held) (is : Shape ItemsOf) (n : Next) (p : ℕ) → GoodSimple edition room is → first_not_broken is ≡ true → n.token ≡ told Command p → At h p (print_simple y m is ++ rest) → is_word n.token ≡ false → begins_simple n.token ≡ true
           → Got h (a_command inner n) p rest (command_bodies (simple is)) (λ c. shape_of_command B c ≡ open_command [] (simple is))
       unfolding a_command
       other_read h is n p good first token_is at no_word begins =
@@ -898,21 +916,21 @@ module _ (B T : List ℕ) (o : ℕ) (here : drop o B ≡ T) where
           record { value = r.value; «end» = r.«end»; later = r.later; at = r.at; texts = r.texts; reads = second_of _ _ no_word (first_of _ _ begins r.reads); is = r.is }
 
       -- a simple command, by what it begins with
-      pub simple_command : (h : Held) (is : Shape ItemsOf) (n : Next) (p : ℕ) → GoodSimple room is → first_not_broken is ≡ true → n.token ≡ token_at Command T p → At h p (print_simple y m is ++ rest)
+      pub simple_command : (h : Held) (is : Shape ItemsOf) (n : Next) (p : ℕ) → GoodSimple edition room is → first_not_broken is ≡ true → n.token ≡ told Command p → At h p (print_simple y m is ++ rest)
           → Got h (a_command inner n) p rest (command_bodies (simple is)) (λ c. shape_of_command B c ≡ open_command [] (simple is))
       unfolding a_command
       simple_command h all n p good first token_is at = by_items h good.items good.some first at
         where
-          by_items : (h : Held) {last : Position} {is : Shape ItemsOf} → GoodItems room of_command Command is last → SomeItem is → first_not_broken is ≡ true → At h p (print_simple y m is ++ rest)
+          by_items : (h : Held) {last : Position} {is : Shape ItemsOf} → GoodItems edition room of_command Command is last → SomeItem is → first_not_broken is ≡ true → At h p (print_simple y m is ++ rest)
               → Got h (a_command inner n) p rest (command_bodies (simple is)) (λ c. shape_of_command B c ≡ open_command [] (simple is))
           by_items h none_more some first at = absurd some
           by_items h {last = last} (one_more {is = is} (of_word {next = next} {token = token} {broken = b} {t = w} {ss = ss} is_item one) others) some first at =
               let there = at ∙ ap (lay h) (simple_printed (an_item_of b next (word w ss)) is) ∙ ap (λ ms. lay h (ms ++ (print_items y m is ++ rest))) (item_printed y b next w ss) in
               let found = one.there g p (lay h (print_items y m is ++ rest)) (there ∙ laid_text h w (print_items y m is ++ rest)) (items_follow y m is rest follow (held_bytes h.waiting)) in
-              let token_here : n.token ≡ token = token_is ∙ found.token_is in
+              let token_here : n.token ≡ token = token_is ∙ tell_word (item_is_word token (ap is_some is_item)) found.token_is in
               ⊎_elim
               (λ (k : (token ≡ tokens.Word) × (next ≡ Suffix)).
-              let r = worded_read h p (subst (λ (t : Token). ItemAnywhere room Command t w ss) k.0 one) (subst (λ (q : Position). GoodItems room of_command q is last) k.1 others) there in
+              let r = worded_read h p (subst (λ (t : Token). ItemAnywhere edition room Command t w ss) k.0 one) (subst (λ (q : Position). GoodItems edition room of_command q is last) k.1 others) there in
               let same : more_items (an_item_of false Suffix (word w ss)) is ≡ more_items (an_item_of b next (word w ss)) is = rw (first_item b next (word w ss) is first, k.1) refl in
               subst (λ is. Got h (a_command inner n) p rest (command_bodies (simple is)) (λ c. shape_of_command B c ≡ open_command [] (simple is))) same
               (record { value = r.value; «end» = r.«end»; later = r.later; at = r.at; texts = r.texts; reads = first_of _ _ (ap is_word (token_here ∙ k.0)) r.reads; is = r.is }))
@@ -933,25 +951,25 @@ module _ (B T : List ℕ) (o : ℕ) (here : drop o B ≡ T) where
     no_byte p c xs x e at = ap (λ b. is_byte b x) (first T p c xs at) ∙ e
 
     -- behind e the line ends
-    pub newline_next : (h : Held) (position : Position) (e : ℕ) (ms : Marks) → At h e (line_end ∷ ms) → (next_at position T e ≡ record { token = tokens.Newline; broken = false }) × (past_blanks T e ≡ e)
+    pub newline_next : (h : Held) (position : Position) (e : ℕ) (ms : Marks) → At h e (line_end ∷ ms) → (asked position e ≡ record { token = tokens.Newline; broken = false }) × (past_blanks T e ≡ e)
     newline_next h position e ms at =
         let there = at ∙ laid_line h ms in
         let gap = no_gap (start_here (byte_here T e 10 (after_line h ms) refl there) refl) in
-        (next_behind position gap ∙ ap (λ t. record { token = t; broken = false }) (newline_token position T e (after_line h ms) there), gap.blanks)
+        (asked_behind position gap ∙ ap (λ t. record { token = token_in edition t; broken = false }) (newline_token position T e (after_line h ms) there), gap.blanks)
 
     pub record NewlineRead (h : Held) (n : Next) (p : ℕ) (ms : Marks) : Type 0 where
       pub later : Held
       pub q : ℕ
       pub on : p + 1 ≤ q
       pub at : At later q ms
-      pub reads : Gives g (a_newline n) (state h p) (true, next_at Command T q) (state later (past_blanks T q))
+      pub reads : Gives g (a_newline n) (state h p) (true, asked Command q) (state later (past_blanks T q))
       pub texts : Adds h later no_more
 
     -- a newline, and the bodies that wait for it
     pub newline_read : (h : Held) (n : Next) (p : ℕ) (ms : Marks) → is_newline n.token ≡ true → At h p (line_end ∷ ms) → NewlineRead h n p ms
     unfolding a_newline
     newline_read h n p ms is at =
-        let line = emptied B T o here h p ms at in
+        let line = emptied edition B T o here h p ms at in
         let moved = one_moved h p (byte_here T p 10 (after_line h ms) refl (at ∙ laid_line h ms)).behind_it in
         record {
           later = line.later;
@@ -972,7 +990,7 @@ module _ (B T : List ℕ) (o : ℕ) (here : drop o B ≡ T) where
 
     -- a comment, up to the end of its line
     pub comment_read : (h : Held) (c : Text) (n : Next) (p : ℕ) (ms : Marks) → CommentAnywhere c → At h p (text c ∷ line_end ∷ ms)
-        → Gives g (a_comment n) (state h p) (Some (span o p (p + length c)), next_at Command T (p + length c)) (state h (past_blanks T (p + length c)))
+        → Gives g (a_comment n) (state h p) (Some (span o p (p + length c)), asked Command (p + length c)) (state h (past_blanks T (p + length c)))
     unfolding a_comment
     comment_read h c n p ms good at =
         let found = good.there T o p (after_line h ms) (at ∙ laid_text h c (line_end ∷ ms) ∙ ap (λ z. c ++ z) (laid_line h ms)) in
@@ -1000,7 +1018,7 @@ module _ (B T : List ℕ) (o : ℕ) (here : drop o B ≡ T) where
     pub record Operand (p : ℕ) : Type 0 where
       pub start : Start T p
       pub no_comment : raw_stands T p 35 ≡ false
-      pub no_newline : is_newline (token_at Command T p) ≡ false
+      pub no_newline : is_newline (told Command p) ≡ false
 
     or_true : (b : Bool) → (b || true) ≡ true
     or_true true = refl
@@ -1023,7 +1041,7 @@ module _ (B T : List ℕ) (o : ℕ) (here : drop o B ≡ T) where
       pub later : Held
       pub q : ℕ
       pub at : At later q ms
-      pub reads : Gives g (join_turn (join_so (a_join_of b acc) n)) (state h p) (again (join_so (a_join_of true all) (next_at Command T q))) (state later (past_blanks T q))
+      pub reads : Gives g (join_turn (join_so (a_join_of b acc) n)) (state h p) (again (join_so (a_join_of true all) (asked Command q))) (state later (past_blanks T q))
       pub on : leads_on g (state h p) (state later (past_blanks T q)) ≡ true
       pub texts : Adds h later no_more
 
@@ -1039,8 +1057,8 @@ module _ (B T : List ℕ) (o : ℕ) (here : drop o B ≡ T) where
         let line = newline_next h Command e ms behind_it in
         let s = span o p e in
         let at_e = subst (λ q. At h q (line_end ∷ ms)) (sym line.1) behind_it in
-        let r = newline_read h (next_at Command T e) (past_blanks T e) ms (ap (λ (n : Next). is_newline n.token) line.0) at_e in
-        let z = next_at Command T r.q in
+        let r = newline_read h (asked Command e) (past_blanks T e) ms (ap (λ (n : Next). is_newline n.token) line.0) at_e in
+        let z = asked Command r.q in
         let last_state = state r.later (past_blanks T r.q) in
         record {
           later = r.later;
@@ -1057,7 +1075,7 @@ module _ (B T : List ℕ) (o : ℕ) (here : drop o B ≡ T) where
     newline_join_turn h b acc n p ms is at =
         let there = at ∙ laid_line h ms in
         let r = newline_read h n p ms is at in
-        let z = next_at Command T r.q in
+        let z = asked Command r.q in
         let last_state = state r.later (past_blanks T r.q) in
         record {
           later = r.later;
@@ -1078,7 +1096,7 @@ module _ (B T : List ℕ) (o : ℕ) (here : drop o B ≡ T) where
       pub later : Held
       pub reads : Gives g (many join_turn (join_so (a_join_of b acc) n)) (state h p) (join_so (a_join_of true (acc ++ comments)) next) (state later q)
       pub at : At later q ms
-      pub token_is : next.token ≡ token_at Command T q
+      pub token_is : next.token ≡ told Command q
       pub shape : shape_of_comments B comments ≡ cs
       pub texts : Adds h later no_more
 
@@ -1100,24 +1118,24 @@ module _ (B T : List ℕ) (o : ℕ) (here : drop o B ≡ T) where
       pub later : Held
       pub reads : Gives g (a_join false) (state h e) (join, next) (state later q)
       pub at : At later q ms
-      pub token_is : next.token ≡ token_at Command T q
+      pub token_is : next.token ≡ told Command q
       pub shape : shape_of_join B join ≡ j
       pub texts : Adds h later no_more
 
     module _ (d : Text) (blank : all_blank d ≡ true) (ms : Marks) (operand : (h : Held) (p : ℕ) → At h p ms → Operand p) where
       -- behind a newline the margin of the operand
-      operand_line : (h : Held) (b : Bool) (acc : Row Span) (e : ℕ) → At h e (text d ∷ ms) → JoinLines h true acc (next_at Command T e) (past_blanks T e) [] ms
+      operand_line : (h : Held) (b : Bool) (acc : Row Span) (e : ℕ) → At h e (text d ∷ ms) → JoinLines h true acc (asked Command e) (past_blanks T e) [] ms
       operand_line h b acc e at =
           let q = past_blanks T e in
           let behind_it = at_text h e d ms at in
           let gap = margin_gap h d e ms blank at (operand h (e + length d) behind_it).start in
           let at_q = subst (λ r. At h r ms) (sym gap.blanks) behind_it in
           let it = operand h q at_q in
-          let last_one = last_join_turn h true acc (next_at Command T e) q it.no_comment it.no_newline in
+          let last_one = last_join_turn h true acc (asked Command e) q it.no_comment it.no_newline in
           record {
             comments = [];
             q = q;
-            next = next_at Command T e;
+            next = asked Command e;
             reads = rw (append-nil acc) (last_turn join_turn last_one);
             later = h;
             at = at_q;
@@ -1155,7 +1173,7 @@ module _ (B T : List ℕ) (o : ℕ) (here : drop o B ≡ T) where
           let margin_behind = at_text turn.later turn.q d (text c2 ∷ further cs) turn.at in
           let gap = margin_gap turn.later d turn.q (text c2 ∷ further cs) blank turn.at (further_start turn.later c2 cs (turn.q + length d) good.1.0 margin_behind) in
           let at_q = subst (λ r. At turn.later r (text c2 ∷ further cs)) (sym gap.blanks) margin_behind in
-          let rest = comment_lines turn.later c2 cs true (acc ++ s ∷ []) (next_at Command T turn.q) (past_blanks T turn.q) good.1 at_q in
+          let rest = comment_lines turn.later c2 cs true (acc ++ s ∷ []) (asked Command turn.q) (past_blanks T turn.q) good.1 at_q in
           record {
             comments = s ∷ rest.comments;
             q = rest.q;
@@ -1169,7 +1187,7 @@ module _ (B T : List ℕ) (o : ℕ) (here : drop o B ≡ T) where
           }
 
       -- the line is broken
-      join_of : (h : Held) (e : ℕ) (cs : Row Text) → JoinLines h (is_broken_at T e) [] (next_at Command T e) (past_blanks T e) cs ms → JoinRead h e (record { broken = true; comments = cs }) ms
+      join_of : (h : Held) (e : ℕ) (cs : Row Text) → JoinLines h (is_broken_at T e) [] (asked Command e) (past_blanks T e) cs ms → JoinRead h e (record { broken = true; comments = cs }) ms
       unfolding a_join
       join_of h e cs r = record {
         join = a_join_of true r.comments;
@@ -1192,19 +1210,19 @@ module _ (B T : List ℕ) (o : ℕ) (here : drop o B ≡ T) where
           let q = past_blanks T e in
           let at_q = subst (λ r. At h r ms) (sym gap.blanks) behind_it in
           let it = operand h q at_q in
-          let n = next_at Command T e in
+          let n = asked Command e in
           let last_one : Gives g (many join_turn (join_so (a_join_of false []) n)) (state h q) (join_so (a_join_of false []) n) (state h q) =
           last_turn join_turn (last_join_turn h false [] n q it.no_comment it.no_newline) in
           let turns = subst (λ b. Gives g (many join_turn (join_so (a_join_of b []) n)) (state h q) (join_so (a_join_of false []) n) (state h q)) (sym gap.breaks) last_one in
           record { join = a_join_of false []; q = q; next = n; reads = next_read h Command e ⟫ turns ⟫ given_here; later = h; at = at_q; token_is = refl; shape = refl; texts = λ ts. refl }
 
       -- a newline without a comment
-      newline_lines : (h : Held) (b : Bool) (e : ℕ) → At h e (line_end ∷ text d ∷ ms) → JoinLines h b [] (next_at Command T e) (past_blanks T e) [] ms
+      newline_lines : (h : Held) (b : Bool) (e : ℕ) → At h e (line_end ∷ text d ∷ ms) → JoinLines h b [] (asked Command e) (past_blanks T e) [] ms
       newline_lines h b e at =
           let line = newline_next h Command e (text d ∷ ms) at in
           let q = past_blanks T e in
           let at_q = subst (λ r. At h r (line_end ∷ text d ∷ ms)) (sym line.1) at in
-          let turn = newline_join_turn h b [] (next_at Command T e) q (text d ∷ ms) (ap (λ (n : Next). is_newline n.token) line.0) at_q in
+          let turn = newline_join_turn h b [] (asked Command e) q (text d ∷ ms) (ap (λ (n : Next). is_newline n.token) line.0) at_q in
           let rest = operand_line turn.later true [] turn.q turn.at in
           record {
             comments = rest.comments;
@@ -1219,11 +1237,11 @@ module _ (B T : List ℕ) (o : ℕ) (here : drop o B ≡ T) where
           }
 
       -- comments
-      commented : (h : Held) (b : Bool) (c : Text) (cs : Row Text) (e : ℕ) → GoodComments (c ∷ cs) → At h e (text (codes " ") ∷ text c ∷ further cs) → JoinLines h b [] (next_at Command T e) (past_blanks T e) (c ∷ cs) ms
+      commented : (h : Held) (b : Bool) (c : Text) (cs : Row Text) (e : ℕ) → GoodComments (c ∷ cs) → At h e (text (codes " ") ∷ text c ∷ further cs) → JoinLines h b [] (asked Command e) (past_blanks T e) (c ∷ cs) ms
       commented h b c cs e good at =
           let behind_it = at_text h e (codes " ") (text c ∷ further cs) at in
           let gap = margin_gap h (codes " ") e (text c ∷ further cs) refl at (further_start h c cs (e + 1) good.0 behind_it) in
-          comment_lines h c cs b [] (next_at Command T e) (past_blanks T e) good (subst (λ r. At h r (text c ∷ further cs)) (sym gap.blanks) behind_it)
+          comment_lines h c cs b [] (asked Command e) (past_blanks T e) good (subst (λ r. At h r (text c ∷ further cs)) (sym gap.blanks) behind_it)
 
     -- what stands behind an operator
     abbrev pub join_rest : Layout → Text → AJoinOf Text → Marks
@@ -1274,7 +1292,7 @@ module _ (B T : List ℕ) (o : ℕ) (here : drop o B ≡ T) where
       seen_as = λ h e at position.
           let gap = space_then h e 124 [] ms refl refl at in
           let there = at_text h e (codes " ") (text (codes "|") ∷ ms) at ∙ laid_text h (codes "|") ms ∙ ap (λ z. 124 ∷ z) (parted h).is in
-          next_behind position gap ∙ ap (λ t. record { token = t; broken = false }) (pipe_token position T (e + 1) (parted h).c (parted h).cs (parted h).no_backslash (parted h).no_bar there);
+          asked_behind position gap ∙ ap (λ t. record { token = token_in edition t; broken = false }) (pipe_token position T (e + 1) (parted h).c (parted h).cs (parted h).no_backslash (parted h).no_bar there);
     }
 
     abbrev pub operator_token : AndOrOperator → Token
@@ -1288,14 +1306,14 @@ module _ (B T : List ℕ) (o : ℕ) (here : drop o B ≡ T) where
       no_round = refl;
       seen_as = λ h e at position.
           let there = at_text h e (codes " ") (text (codes "&&") ∷ ms) at ∙ laid_text h (codes "&&") ms in
-          next_behind position (space_then h e 38 (38 ∷ []) ms refl refl at) ∙ ap (λ t. record { token = t; broken = false }) (and_token position T (e + 1) (lay h ms) there);
+          asked_behind position (space_then h e 38 (38 ∷ []) ms refl refl at) ∙ ap (λ t. record { token = token_in edition t; broken = false }) (and_token position T (e + 1) (lay h ms) there);
     }
     operator_follower Or ms = record {
       follow = λ held. refl;
       no_round = refl;
       seen_as = λ h e at position.
           let there = at_text h e (codes " ") (text (codes "||") ∷ ms) at ∙ laid_text h (codes "||") ms in
-          next_behind position (space_then h e 124 (124 ∷ []) ms refl refl at) ∙ ap (λ t. record { token = t; broken = false }) (or_token position T (e + 1) (lay h ms) there);
+          asked_behind position (space_then h e 124 (124 ∷ []) ms refl refl at) ∙ ap (λ t. record { token = token_in edition t; broken = false }) (or_token position T (e + 1) (lay h ms) there);
     }
 
     -- ---- commands
@@ -1303,11 +1321,11 @@ module _ (B T : List ℕ) (o : ℕ) (here : drop o B ≡ T) where
     -- a command begins here
     pub record Begins (p : ℕ) : Type 0 where
       pub start : Start T p
-      pub command : begins_command (token_at Command T p) ≡ true
+      pub command : begins_command (told Command p) ≡ true
 
-    no_sharp : (p : ℕ) → past_continuations T p ≡ p → is_comment (token_at Command T p) ≡ false → raw_stands T p 35 ≡ false
+    no_sharp : (p : ℕ) → past_continuations T p ≡ p → is_comment (told Command p) ≡ false → raw_stands T p 35 ≡ false
     unfolding raw_stands token_at
-    no_sharp p place none = must_fail (is_byte (slice_get T p) 35) (λ e. both_ways (is_comment (token_of Command T p (byte_at T p))) none (ap (λ b. is_comment (token_of Command T p b)) (ap (slice_get T) place ∙ sharp (slice_get T p) e)))
+    no_sharp p place none = must_fail (is_byte (slice_get T p) 35) (λ e. both_ways (is_comment (token_in edition (token_of Command T p (byte_at T p)))) none (ap (λ b. is_comment (token_in edition (token_of Command T p b))) (ap (slice_get T) place ∙ sharp (slice_get T p) e)))
       where
         sharp : (x : Option ℕ) → is_byte x 35 ≡ true → x ≡ Some 35
         sharp None e = absurd cc
@@ -1315,7 +1333,7 @@ module _ (B T : List ℕ) (o : ℕ) (here : drop o B ≡ T) where
 
     begins_operand : (p : ℕ) → Begins p → Operand p
     begins_operand p b =
-        let other = no_other (token_at Command T p) b.command in
+        let other = no_other (told Command p) b.command in
         record { start = b.start; no_comment = no_sharp p b.start.place other.comment; no_newline = other.newline }
 
     -- a compound command and the redirections behind it
@@ -1325,10 +1343,10 @@ module _ (B T : List ℕ) (o : ℕ) (here : drop o B ≡ T) where
     abbrev redirects_of : Shape ACompoundOf → Shape ItemsOf
     redirects_of (formed form mark redirects) = redirects
 
-    good_redirects : (c : Shape ACompoundOf) → GoodCompound room c → GoodRedirects room (redirects_of c)
+    good_redirects : (c : Shape ACompoundOf) → GoodCompound edition room c → GoodRedirects edition room (redirects_of c)
     good_redirects c good = by_room room c good
       where
-        by_room : (room : ℕ) (c : Shape ACompoundOf) → GoodCompound room c → GoodRedirects room (redirects_of c)
+        by_room : (room : ℕ) (c : Shape ACompoundOf) → GoodCompound edition room c → GoodRedirects edition room (redirects_of c)
         by_room zero (formed form mark redirects) good = absurd good
         by_room (suc room) (formed form mark redirects) good = good.1
 
@@ -1352,10 +1370,10 @@ module _ (B T : List ℕ) (o : ℕ) (here : drop o B ≡ T) where
 
       -- what is known of the compound commands at this level
       pub record Fine : Type 0 where
-        pub opens : (h : Held) (m : Text) (c : Shape ACompoundOf) (p : ℕ) (rest : Marks) → GoodCompound room c → At h p (print_compound y m c ++ rest) → (o : Opener) × Opens p o
-        pub back : (h : Held) (m : Text) (c : Shape ACompoundOf) (p : ℕ) (rest : Marks) (o : Opener) → all_blank m ≡ true → GoodCompound room c → is_normal_compound c ≡ true
+        pub opens : (h : Held) (m : Text) (c : Shape ACompoundOf) (p : ℕ) (rest : Marks) → GoodCompound edition room c → At h p (print_compound y m c ++ rest) → (o : Opener) × Opens p o
+        pub back : (h : Held) (m : Text) (c : Shape ACompoundOf) (p : ℕ) (rest : Marks) (o : Opener) → all_blank m ≡ true → GoodCompound edition room c → is_normal_compound c ≡ true
             → Followed rest → Opens p o → At h p (print_compound y m (bare_compound c) ++ rest) → Got h (inner.compound o) p rest (compound_bodies (bare_compound c)) (λ v. shape_of_command B v ≡ open_command [] (compound (bare_compound c)))
-        pub function_back : (h : Held) (m : Text) (name : Span) (cs : Row Text) (body : Shape ACompoundOf) (p : ℕ) (rest : Marks) (t : Token) → all_blank m ≡ true → GoodComments cs → GoodBody room body
+        pub function_back : (h : Held) (m : Text) (name : Span) (cs : Row Text) (body : Shape ACompoundOf) (p : ℕ) (rest : Marks) (t : Token) → all_blank m ≡ true → GoodComments cs → GoodBody edition room body
             → is_normal_compound body ≡ true → Follower rest t → begins_simple t ≡ false → At h p (text (codes "()") ∷ (print_function_gap y m cs body ++ (print_compound y m body ++ rest)))
             → Got h (inner.function name) p rest (compound_bodies body) (λ v. shape_of_command B v ≡ open_command [] (function (text_at B name) cs body))
 
@@ -1366,7 +1384,7 @@ module _ (B T : List ℕ) (o : ℕ) (here : drop o B ≡ T) where
         opens_by : (t : Token) (o : Opener) → opener_of t ≡ Some o → begins_command t ≡ true
         opens_by t o e = rw e (or_true (begins_simple t))
 
-        simple_begins : (h : Held) (m : Text) {last : Position} {is : Shape ItemsOf} (p : ℕ) (rest : Marks) → GoodItems room of_command Command is last → SomeItem is → Followed rest
+        simple_begins : (h : Held) (m : Text) {last : Position} {is : Shape ItemsOf} (p : ℕ) (rest : Marks) → GoodItems edition room of_command Command is last → SomeItem is → Followed rest
             → At h p (print_simple y m is ++ rest) → ItemThere Command p
         simple_begins h m p rest none_more some follow at = absurd some
         simple_begins h m p rest (one_more {i = i} {is = is} good others) some follow at =
@@ -1385,18 +1403,18 @@ module _ (B T : List ℕ) (o : ℕ) (here : drop o B ≡ T) where
         name_there h m name cs body p rest at =
             at ∙ ap (lay h) (function_is m name cs body rest) ∙ laid_text h name (text (codes "()") ∷ function_rest m cs body rest) ∙ ap (λ z. name ++ z) (laid_text h (codes "()") (function_rest m cs body rest))
 
-        pub command_begins : (h : Held) (m : Text) (c : Shape ACommandOf) (p : ℕ) (rest : Marks) → GoodCommand room c → Followed rest → At h p (print_command y m c ++ rest) → Begins p
+        pub command_begins : (h : Held) (m : Text) (c : Shape ACommandOf) (p : ℕ) (rest : Marks) → GoodCommand edition room c → Followed rest → At h p (print_command y m c ++ rest) → Begins p
         command_begins h m (simple is) p rest good follow at =
-            let b = simple_begins h m p rest good.items good.some follow at in record { start = b.start; command = begins_by (token_at Command T p) b.begins }
+            let b = simple_begins h m p rest good.items good.some follow at in record { start = b.start; command = begins_by (told Command p) b.begins }
         command_begins h m (compound c) p rest good follow at =
-            let b = fine.opens h m c p rest good at in record { start = b.1.start; command = opens_by (token_at Command T p) b.0 b.1.opener }
+            let b = fine.opens h m c p rest good at in record { start = b.1.start; command = opens_by (told Command p) b.0 b.1.opener }
         command_begins h m (function name comments body) p rest good follow at =
-            let before = (parts_of_function room name comments body good).before in
+            let before = (parts_of_function edition room name comments body good).before in
             let found = before.there g p _ (name_there h m name comments body p rest at) in
-            record { start = record { place = found.place; no_blank = found.no_blank }; command = begins_by (token_at Command T p) (ap begins_simple found.token_is) }
+            record { start = record { place = found.place; no_blank = found.no_blank }; command = begins_by (told Command p) (ap begins_simple (tell found.token_is)) }
 
-        function_command : (h : Held) (m name : Text) (cs : Row Text) (body : Shape ACompoundOf) (n : Next) (p : ℕ) (rest : Marks) (t : Token) → all_blank m ≡ true → GoodFunction room name cs body → is_normal_compound body ≡ true
-            → Follower rest t → begins_simple t ≡ false → n.token ≡ token_at Command T p → At h p (print_command y m (function name cs body) ++ rest) → Got h (a_command inner n) p rest (command_bodies (function name cs body)) (λ v. shape_of_command B v ≡ open_command [] (function name cs body))
+        function_command : (h : Held) (m name : Text) (cs : Row Text) (body : Shape ACompoundOf) (n : Next) (p : ℕ) (rest : Marks) (t : Token) → all_blank m ≡ true → GoodFunction edition room name cs body → is_normal_compound body ≡ true
+            → Follower rest t → begins_simple t ≡ false → n.token ≡ told Command p → At h p (print_command y m (function name cs body) ++ rest) → Got h (a_command inner n) p rest (command_bodies (function name cs body)) (λ v. shape_of_command B v ≡ open_command [] (function name cs body))
         unfolding a_command a_worded open_command command_bodies
         function_command h m name cs body n p rest t blank good normal f none token_is at =
             let there = name_there h m name cs body p rest at in
@@ -1407,25 +1425,25 @@ module _ (B T : List ℕ) (o : ℕ) (here : drop o B ≡ T) where
             let at_e = at_text h p name (text (codes "()") ∷ X) (at ∙ ap (lay h) (function_is m name cs body rest)) in
             let head = at_e ∙ laid_text h (codes "()") X in
             let gap = no_gap (start_here (byte_here T e 40 (41 ∷ lay h X) refl head) refl) in
-            let paren = ap (λ (n : Next). is_paren n.token) (next_behind Suffix gap) ∙ ap is_paren (open_token Suffix T e (41 ∷ lay h X) head) in
+            let paren = ap (λ (n : Next). is_paren n.token) (asked_behind Suffix gap) ∙ ap is_paren (tell (open_token Suffix T e (41 ∷ lay h X) head)) in
             let r = fine.function_back h m (span o p e) cs body e rest t blank good.own good.inside normal f none at_e in
             let name_is = good.before.names T p _ there in
             let place : word_span v.0 ≡ span o p e = ap word_span (spanned inner g (state h p) (state h e) v.0 _ (printed_word h name no_subst p v).reads).1 in
-            let on_blank = subst (λ q. Gives g (inner.function (span o p e)) (state h q) (r.value, next_at Command T r.«end») (state r.later (past_blanks T r.«end»))) (sym gap.blanks) r.reads in
-            let behind_name = subst (λ z. Gives g (inner.function z) (state h (past_blanks T e)) (r.value, next_at Command T r.«end») (state r.later (past_blanks T r.«end»))) (sym place) on_blank in
+            let on_blank = subst (λ q. Gives g (inner.function (span o p e)) (state h q) (r.value, asked Command r.«end») (state r.later (past_blanks T r.«end»))) (sym gap.blanks) r.reads in
+            let behind_name = subst (λ z. Gives g (inner.function z) (state h (past_blanks T e)) (r.value, asked Command r.«end») (state r.later (past_blanks T r.«end»))) (sym place) on_blank in
             record {
               value = r.value;
               «end» = r.«end»;
               later = r.later;
               at = r.at;
               texts = r.texts;
-              reads = first_of _ _ (ap is_word (token_is ∙ found.token_is)) (seen_here is_a_name ⟫ printed_word h name no_subst p v ⟫ next_read h Suffix e ⟫ first_of _ _ paren (first_of _ _ name_is behind_name));
+              reads = first_of _ _ (ap is_word (token_is ∙ tell found.token_is)) (seen_here is_a_name ⟫ printed_word h name no_subst p v ⟫ next_read h Suffix e ⟫ first_of _ _ paren (first_of _ _ name_is behind_name));
               is = r.is ∙ ap (λ z. open_command [] (function z cs body)) (span_text p name (40 ∷ 41 ∷ lay h X) there);
             }
 
         -- a compound command with the redirections behind it
-        pub whole_compound : (h : Held) (m : Text) (c : Shape ACompoundOf) (n : Next) (p : ℕ) (rest : Marks) (t : Token) → all_blank m ≡ true → GoodCompound room c → is_normal_compound c ≡ true
-            → Follower rest t → begins_simple t ≡ false → n.token ≡ token_at Command T p → At h p (print_compound y m c ++ rest) → Got h (compound_by inner n (opener_of n.token)) p rest (compound_bodies c) (λ v. shape_of_command B v ≡ open_command [] (compound c))
+        pub whole_compound : (h : Held) (m : Text) (c : Shape ACompoundOf) (n : Next) (p : ℕ) (rest : Marks) (t : Token) → all_blank m ≡ true → GoodCompound edition room c → is_normal_compound c ≡ true
+            → Follower rest t → begins_simple t ≡ false → n.token ≡ told Command p → At h p (print_compound y m c ++ rest) → Got h (compound_by inner n (opener_of n.token)) p rest (compound_bodies c) (λ v. shape_of_command B v ≡ open_command [] (compound c))
         unfolding redirected
         whole_compound h m c n p rest t blank good normal f none token_is at =
             let P = print_items y m (redirects_of c) in
@@ -1434,20 +1452,20 @@ module _ (B T : List ℕ) (o : ℕ) (here : drop o B ≡ T) where
             let d = deeper_some y m in
             let r = fine.back h m c p (P ++ rest) b.0 blank good normal (items_follow y m (redirects_of c) rest f.follow) b.1 (at ∙ ap (lay h) (compound_printed m c rest)) in
             let is = items_read y m d.0 d.1 (deeper_blank y m blank) d.2 rest f.follow (follower_behind f none) r.later (good_redirects c good).items [] r.«end» tt r.at in
-            let read : Gives g (inner.compound b.0 >>= redirected inner) (state h p) (with_redirects r.value (items_of is.more_items_read), next_at Command T is.«end») (state is.later (past_blanks T is.«end»)) =
+            let read : Gives g (inner.compound b.0 >>= redirected inner) (state h p) (with_redirects r.value (items_of is.more_items_read), asked Command is.«end») (state is.later (past_blanks T is.«end»)) =
             r.reads ⟫ (is.reads ⟫ given_here) in
             record {
               value = with_redirects r.value (items_of is.more_items_read);
               «end» = is.«end»;
               later = is.later;
               at = is.at;
-              texts = λ ts. is.texts ts ∙ r.texts (items_bodies (redirects_of c) ts) ∙ ap (λ us. texts_of B T o here h ++ us) (bodies_parted c ts);
+              texts = λ ts. is.texts ts ∙ r.texts (items_bodies (redirects_of c) ts) ∙ ap (λ us. texts_of edition B T o here h ++ us) (bodies_parted c ts);
               reads = rw opener_is read;
               is = with_shape r.value is.more_items_read c r.is is.shape;
             }
 
-        pub command_read : (h : Held) (m : Text) (c : Shape ACommandOf) (n : Next) (p : ℕ) (rest : Marks) (t : Token) → all_blank m ≡ true → GoodCommand room c → is_normal_command c ≡ true
-            → Follower rest t → begins_simple t ≡ false → n.token ≡ token_at Command T p → At h p (print_command y m c ++ rest) → Got h (a_command inner n) p rest (command_bodies c) (λ v. shape_of_command B v ≡ open_command [] c)
+        pub command_read : (h : Held) (m : Text) (c : Shape ACommandOf) (n : Next) (p : ℕ) (rest : Marks) (t : Token) → all_blank m ≡ true → GoodCommand edition room c → is_normal_command c ≡ true
+            → Follower rest t → begins_simple t ≡ false → n.token ≡ told Command p → At h p (print_command y m c ++ rest) → Got h (a_command inner n) p rest (command_bodies c) (λ v. shape_of_command B v ≡ open_command [] c)
         unfolding a_command command_bodies
         command_read h m (simple is) n p rest t blank good normal f none token_is at =
             let d = deeper_some y m in
@@ -1455,8 +1473,8 @@ module _ (B T : List ℕ) (o : ℕ) (here : drop o B ≡ T) where
         command_read h m (compound c) n p rest t blank good normal f none token_is at =
             let b = fine.opens h m c p rest good at in
             let r = whole_compound h m c n p rest t blank good normal f none token_is at in
-            record { value = r.value; «end» = r.«end»; later = r.later; at = r.at; texts = r.texts; reads = second_of _ _ (ap is_word token_is ∙ no_word (token_at Command T p) b.1.no_item) (second_of _ _ (ap begins_simple token_is ∙ b.1.no_item) r.reads); is = r.is }
-        command_read h m (function name comments body) n p rest t blank good normal f none token_is at = function_command h m name comments body n p rest t blank (parts_of_function room name comments body good) normal f none token_is at
+            record { value = r.value; «end» = r.«end»; later = r.later; at = r.at; texts = r.texts; reads = second_of _ _ (ap is_word token_is ∙ no_word (told Command p) b.1.no_item) (second_of _ _ (ap begins_simple token_is ∙ b.1.no_item) r.reads); is = r.is }
+        command_read h m (function name comments body) n p rest t blank good normal f none token_is at = function_command h m name comments body n p rest t blank (parts_of_function edition room name comments body good) normal f none token_is at
 
         -- ---- pipelines
 
@@ -1490,7 +1508,7 @@ module _ (B T : List ℕ) (o : ℕ) (here : drop o B ≡ T) where
           «end» : ℕ
           later : Held
           at : At later «end» rest
-          reads : Gives g (many (pipe_turn inner) (piped acc n)) (state h p) (piped (acc ++ parts) (next_at Command T «end»)) (state later (past_blanks T «end»))
+          reads : Gives g (many (pipe_turn inner) (piped acc n)) (state h p) (piped (acc ++ parts) (asked Command «end»)) (state later (past_blanks T «end»))
           shape : shape_of_pipes B (pipeline_parts_of parts) ≡ open_pipes [] cs
           texts : Adds h later (pipes_bodies cs)
 
@@ -1512,14 +1530,14 @@ module _ (B T : List ℕ) (o : ℕ) (here : drop o B ≡ T) where
           «end» : ℕ
           later : Held
           at : At later «end» ms
-          reads : Gives g (pipe_turn inner (piped acc n)) (state h p) (again (piped (acc ++ part ∷ []) (next_at Command T «end»))) (state later (past_blanks T «end»))
+          reads : Gives g (pipe_turn inner (piped acc n)) (state h p) (again (piped (acc ++ part ∷ []) (asked Command «end»))) (state later (past_blanks T «end»))
           on : leads_on g (state h p) (state later (past_blanks T «end»)) ≡ true
           join_is : shape_of_join B part.join ≡ j
           command_is : shape_of_command B part.command ≡ open_command [] c
           texts : Adds h later (command_bodies c)
 
         one_pipe : (h : Held) (m : Text) (d : Text) (j : AJoinOf Text) (c : Shape ACommandOf) (acc : Row APipelinePart) (n : Next) (q : ℕ) (ms : Marks) (t : Token) → all_blank m ≡ true → all_blank d ≡ true
-            → is_normal_join j ≡ true → GoodComments j.comments → GoodCommand room c → is_normal_command c ≡ true → Follower ms t → begins_simple t ≡ false
+            → is_normal_join j ≡ true → GoodComments j.comments → GoodCommand edition room c → is_normal_command c ≡ true → Follower ms t → begins_simple t ≡ false
             → is_pipe n.token ≡ true → n.broken ≡ false → At h q (text (codes "|") ∷ (join_rest y m j ++ (print_command y d c ++ ms))) → PipeRead h acc n q j c ms
         unfolding pipe_turn one_command
         one_pipe h m d j c acc n q ms t blank blank_d normal_j good_j good normal f none is_it unbroken at =
@@ -1545,8 +1563,8 @@ module _ (B T : List ℕ) (o : ℕ) (here : drop o B ≡ T) where
               texts = λ ts. cr.texts ts ∙ jr.texts (command_bodies c ts);
             }
 
-        pipes_read : (h : Held) (m : Text) (b : Bool) (cs : Shape PipelinePartsOf) (acc : Row APipelinePart) (e : ℕ) (rest : Marks) (t : Token) → all_blank m ≡ true → GoodPipes room cs → are_normal_pipes cs ≡ true
-            → Follower rest t → begins_simple t ≡ false → is_pipe t ≡ false → At h e (print_pipes y m b cs ++ rest) → PipesRead h acc (next_at Command T e) (past_blanks T e) cs rest
+        pipes_read : (h : Held) (m : Text) (b : Bool) (cs : Shape PipelinePartsOf) (acc : Row APipelinePart) (e : ℕ) (rest : Marks) (t : Token) → all_blank m ≡ true → GoodPipes edition room cs → are_normal_pipes cs ≡ true
+            → Follower rest t → begins_simple t ≡ false → is_pipe t ≡ false → At h e (print_pipes y m b cs ++ rest) → PipesRead h acc (asked Command e) (past_blanks T e) cs rest
         unfolding pipe_turn open_pipes pipes_bodies
         pipes_read h m b no_pipe acc e rest t blank good normal f none no_pipe_it at = record {
           parts = [];
@@ -1569,7 +1587,7 @@ module _ (B T : List ℕ) (o : ℕ) (here : drop o B ≡ T) where
             let q = past_blanks T e in
             let at_q = subst (λ r. At h r (text (codes "|") ∷ (join_rest y m j ++ X))) (sym gap.blanks) (at_text h e (codes " ") (text (codes "|") ∷ (join_rest y m j ++ X)) there) in
             let follow = pipes_follow m (b || breaks_line j) cs rest t f none in
-            let one = one_pipe h m d j c acc (next_at Command T e) q ms follow.token blank (operand_blank y m (b || breaks_line j) blank) first_parts.0 good.0 good.1 first_parts.1 follow.follower follow.no_item
+            let one = one_pipe h m d j c acc (asked Command e) q ms follow.token blank (operand_blank y m (b || breaks_line j) blank) first_parts.0 good.0 good.1 first_parts.1 follow.follower follow.no_item
             (ap (λ (n : Next). is_pipe n.token) n_is) (ap (λ (n : Next). n.broken) n_is) at_q in
             let others = pipes_read one.later m (b || breaks_line j) cs (acc ++ one.part ∷ []) one.«end» rest t blank good.2 parts.1 f none no_pipe_it one.at in
             record {
@@ -1577,7 +1595,7 @@ module _ (B T : List ℕ) (o : ℕ) (here : drop o B ≡ T) where
               «end» = others.«end»;
               later = others.later;
               at = others.at;
-              reads = pipes_more h one.later others.later acc (next_at Command T e) q one.part (next_at Command T one.«end») (past_blanks T one.«end») others.parts (next_at Command T others.«end») (past_blanks T others.«end») one.reads one.on others.reads;
+              reads = pipes_more h one.later others.later acc (asked Command e) q one.part (asked Command one.«end») (past_blanks T one.«end») others.parts (asked Command others.«end») (past_blanks T others.«end») one.reads one.on others.reads;
               shape = pipes_shape one.part others.parts j c cs one.join_is one.command_is others.shape;
               texts = λ ts. others.texts ts ∙ one.texts (pipes_bodies cs ts);
             }
@@ -1585,7 +1603,7 @@ module _ (B T : List ℕ) (o : ℕ) (here : drop o B ≡ T) where
         -- a pipeline begins here
         pub record PipelineBegins (p : ℕ) : Type 0 where
           pub operand : Operand p
-          pub begins : begins_pipeline (token_at Command T p) ≡ true
+          pub begins : begins_pipeline (told Command p) ≡ true
 
         or_between : (a b c : Bool) → (a || c) ≡ true → ((a || b) || c) ≡ true
         or_between true b c e = refl
@@ -1593,17 +1611,17 @@ module _ (B T : List ℕ) (o : ℕ) (here : drop o B ≡ T) where
 
         command_pipeline : (p : ℕ) → Begins p → PipelineBegins p
         command_pipeline p b =
-            let t = token_at Command T p in
+            let t = told Command p in
             record { operand = begins_operand p b; begins = or_between (begins_simple t) (is_bang t) (is_some (opener_of t)) b.command }
 
-        bang_begins : (h : Held) (p : ℕ) (ms : Marks) → At h p (text (codes "! ") ∷ ms) → PipelineBegins p × (is_bang (token_at Command T p) ≡ true)
+        bang_begins : (h : Held) (p : ℕ) (ms : Marks) → At h p (text (codes "! ") ∷ ms) → PipelineBegins p × (is_bang (told Command p) ≡ true)
         bang_begins h p ms at =
             let k = bang_here T p 32 (lay h ms) refl refl (at ∙ laid_text h (codes "! ") ms) in (
               record {
-                operand = record { start = k.start; no_comment = no_sharp p k.start.place (ap is_comment k.token); no_newline = ap is_newline k.token };
-                begins = ap begins_pipeline k.token;
+                operand = record { start = k.start; no_comment = no_sharp p k.start.place (ap is_comment (tell k.token)); no_newline = ap is_newline (tell k.token) };
+                begins = ap begins_pipeline (tell k.token);
               },
-              ap is_bang k.token,
+              ap is_bang (tell k.token),
             )
 
         pipeline_marks : (m : Text) (bang : Option (Unit {0})) (c : Shape ACommandOf) (cs : Shape PipelinePartsOf) (rest : Marks)
@@ -1613,7 +1631,7 @@ module _ (B T : List ℕ) (o : ℕ) (here : drop o B ≡ T) where
             let P = print_pipes y m false cs in
             append_assoc (print_bang bang ++ C) P rest ∙ append_assoc (print_bang bang) C (P ++ rest)
 
-        pub pipeline_begins : (h : Held) (m : Text) (x : Shape APipelineOf) (p : ℕ) (rest : Marks) (t : Token) → GoodPipeline room x → Follower rest t → begins_simple t ≡ false
+        pub pipeline_begins : (h : Held) (m : Text) (x : Shape APipelineOf) (p : ℕ) (rest : Marks) (t : Token) → GoodPipeline edition room x → Follower rest t → begins_simple t ≡ false
             → At h p (print_pipeline y m x ++ rest) → PipelineBegins p
         pipeline_begins h m (pipeline None c cs) p rest t good f none at =
             command_pipeline p (command_begins h m c p (print_pipes y m false cs ++ rest) good.0 (pipes_follow m false cs rest t f none).follower.follow (at ∙ ap (lay h) (pipeline_marks m None c cs rest)))
@@ -1627,13 +1645,13 @@ module _ (B T : List ℕ) (o : ℕ) (here : drop o B ≡ T) where
           q : ℕ
           reads : Gives g (a_bang n) (state h p) (value, next) (state h q)
           at : At h q ms
-          token_is : next.token ≡ token_at Command T q
+          token_is : next.token ≡ told Command q
           shape : shape_of_bang value ≡ bang
 
-        bang_read : (h : Held) (n : Next) (p : ℕ) (bang : Option (Unit {0})) (ms : Marks) → ((q : ℕ) → At h q ms → Begins q) → n.token ≡ token_at Command T p → At h p (print_bang bang ++ ms) → BangRead h n p bang ms
+        bang_read : (h : Held) (n : Next) (p : ℕ) (bang : Option (Unit {0})) (ms : Marks) → ((q : ℕ) → At h q ms → Begins q) → n.token ≡ told Command p → At h p (print_bang bang ++ ms) → BangRead h n p bang ms
         unfolding a_bang
         bang_read h n p None ms begins token_is at =
-            let other = no_other (token_at Command T p) (begins p at).command in
+            let other = no_other (told Command p) (begins p at).command in
             record { value = None; next = n; q = p; reads = second_of _ _ (ap is_bang token_is ∙ other.bang) given_here; at = at; token_is = token_is; shape = refl }
         bang_read h n p (Some mark) ms begins token_is at =
             let there = at ∙ laid_text h (codes "! ") ms in
@@ -1644,7 +1662,7 @@ module _ (B T : List ℕ) (o : ℕ) (here : drop o B ≡ T) where
             let gap = margin_gap h (codes " ") (p + 1) ms refl space (begins (p + 1 + 1) behind_it).start in
             record {
               value = Some (span o p (p + 1));
-              next = next_at Command T (p + 1);
+              next = asked Command (p + 1);
               q = past_blanks T (p + 1);
               reads = first_of _ _ (ap is_bang token_is ∙ (bang_begins h p ms at).1) (told_here (by (codes "!")) moved ⟫ next_read h Command (p + 1) ⟫ given_here);
               at = subst (λ q. At h q ms) (sym gap.blanks) behind_it;
@@ -1658,8 +1676,8 @@ module _ (B T : List ℕ) (o : ℕ) (here : drop o B ≡ T) where
         unfolding open_pipeline
         pipeline_shape b c ps bang d cs e f i = rw (e, f, i) refl
 
-        pub pipeline_read : (h : Held) (m : Text) (x : Shape APipelineOf) (n : Next) (p : ℕ) (rest : Marks) (t : Token) → all_blank m ≡ true → GoodPipeline room x → is_normal_pipeline x ≡ true
-            → Follower rest t → begins_simple t ≡ false → is_pipe t ≡ false → n.token ≡ token_at Command T p → At h p (print_pipeline y m x ++ rest)
+        pub pipeline_read : (h : Held) (m : Text) (x : Shape APipelineOf) (n : Next) (p : ℕ) (rest : Marks) (t : Token) → all_blank m ≡ true → GoodPipeline edition room x → is_normal_pipeline x ≡ true
+            → Follower rest t → begins_simple t ≡ false → is_pipe t ≡ false → n.token ≡ told Command p → At h p (print_pipeline y m x ++ rest)
             → Got h (a_pipeline inner n) p rest (pipeline_bodies x) (λ v. shape_of_pipeline B v ≡ open_pipeline [] x)
         unfolding a_pipeline pipeline_bodies
         pipeline_read h m (pipeline bang c cs) n p rest t blank good normal f none no_pipe_it token_is at =
@@ -1743,7 +1761,7 @@ module _ (B T : List ℕ) (o : ℕ) (here : drop o B ≡ T) where
           «end» : ℕ
           later : Held
           at : At later «end» ms
-          reads : Gives g (join_pipeline inner (joined_so acc n)) (state h p) (again (joined_so (acc ++ part ∷ []) (next_at Command T «end»))) (state later (past_blanks T «end»))
+          reads : Gives g (join_pipeline inner (joined_so acc n)) (state h p) (again (joined_so (acc ++ part ∷ []) (asked Command «end»))) (state later (past_blanks T «end»))
           on : leads_on g (state h p) (state later (past_blanks T «end»)) ≡ true
           operator_is : part.operator ≡ k
           join_is : shape_of_join B part.join ≡ j
@@ -1759,7 +1777,7 @@ module _ (B T : List ℕ) (o : ℕ) (here : drop o B ≡ T) where
         operator_here h Or q ms at = some_here q 124 (124 ∷ lay h ms) (at ∙ laid_text h (codes "||") ms)
 
         one_part : (h : Held) (m : Text) (d : Text) (k : AndOrOperator) (j : AJoinOf Text) (x : Shape APipelineOf) (acc : Row AnAndOrPart) (n : Next) (q : ℕ) (ms : Marks) (t : Token)
-            → all_blank m ≡ true → all_blank d ≡ true → is_normal_join j ≡ true → GoodComments j.comments → GoodPipeline room x → is_normal_pipeline x ≡ true → Follower ms t → begins_simple t ≡ false
+            → all_blank m ≡ true → all_blank d ≡ true → is_normal_join j ≡ true → GoodComments j.comments → GoodPipeline edition room x → is_normal_pipeline x ≡ true → Follower ms t → begins_simple t ≡ false
             → is_pipe t ≡ false → and_or_operator_of n.token ≡ Some k → n.broken ≡ false → At h q (text (and_or_text k) ∷ (join_rest y m j ++ (print_pipeline y d x ++ ms))) → PartRead h acc n q k j x ms
         unfolding join_pipeline one_pipeline
         one_part h m d k j x acc n q ms t blank blank_d normal_j good_j good normal f none no_pipe_it is_it unbroken at =
@@ -1790,7 +1808,7 @@ module _ (B T : List ℕ) (o : ℕ) (here : drop o B ≡ T) where
           «end» : ℕ
           later : Held
           at : At later «end» rest
-          reads : Gives g (many (join_pipeline inner) (joined_so acc n)) (state h p) (joined_so (acc ++ parts) (next_at Command T «end»)) (state later (past_blanks T «end»))
+          reads : Gives g (many (join_pipeline inner) (joined_so acc n)) (state h p) (joined_so (acc ++ parts) (asked Command «end»)) (state later (past_blanks T «end»))
           shape : shape_of_and_or_parts B (and_or_parts_of parts) ≡ open_and_or_parts [] xs
           texts : Adds h later (and_or_parts_bodies xs)
 
@@ -1812,15 +1830,15 @@ module _ (B T : List ℕ) (o : ℕ) (here : drop o B ≡ T) where
         operator_gap h And e ms at = space_then h e 38 (38 ∷ []) ms refl refl at
         operator_gap h Or e ms at = space_then h e 124 (124 ∷ []) ms refl refl at
 
-        parts_read : (h : Held) (m : Text) (b : Bool) (xs : Shape AndOrPartsOf) (acc : Row AnAndOrPart) (e : ℕ) (rest : Marks) (t : Token) → all_blank m ≡ true → GoodParts room xs → are_normal_and_ors xs ≡ true
-            → Follower rest t → begins_simple t ≡ false → is_pipe t ≡ false → and_or_operator_of t ≡ None → At h e (print_and_or_parts y m b xs ++ rest) → PartsRead h acc (next_at Command T e) (past_blanks T e) xs rest
+        parts_read : (h : Held) (m : Text) (b : Bool) (xs : Shape AndOrPartsOf) (acc : Row AnAndOrPart) (e : ℕ) (rest : Marks) (t : Token) → all_blank m ≡ true → GoodParts edition room xs → are_normal_and_ors xs ≡ true
+            → Follower rest t → begins_simple t ≡ false → is_pipe t ≡ false → and_or_operator_of t ≡ None → At h e (print_and_or_parts y m b xs ++ rest) → PartsRead h acc (asked Command e) (past_blanks T e) xs rest
         unfolding open_and_or_parts and_or_parts_bodies
         parts_read h m b no_and_or acc e rest t blank good normal f none no_pipe_it no_operator at = record {
           parts = [];
           «end» = e;
           later = h;
           at = at;
-          reads = rw (append-nil acc) (last_turn (join_pipeline inner) (no_part h acc (next_at Command T e) (past_blanks T e) (ap (λ (n : Next). and_or_operator_of n.token) (f.seen_as h e at Command) ∙ no_operator)));
+          reads = rw (append-nil acc) (last_turn (join_pipeline inner) (no_part h acc (asked Command e) (past_blanks T e) (ap (λ (n : Next). and_or_operator_of n.token) (f.seen_as h e at Command) ∙ no_operator)));
           shape = refl;
           texts = λ ts. refl;
         }
@@ -1836,7 +1854,7 @@ module _ (B T : List ℕ) (o : ℕ) (here : drop o B ≡ T) where
             let q = past_blanks T e in
             let at_q = subst (λ r. At h r (text (and_or_text k) ∷ (join_rest y m j ++ X))) (sym gap.blanks) (at_text h e (codes " ") (text (and_or_text k) ∷ (join_rest y m j ++ X)) there) in
             let follow = parts_follow m (b || breaks_line j) xs rest t f none no_pipe_it in
-            let one = one_part h m d k j x acc (next_at Command T e) q ms follow.token blank (operand_blank y m (b || breaks_line j) blank) first_parts.0 good.0 good.1 first_parts.1 follow.follower follow.no_item follow.no_pipe_it
+            let one = one_part h m d k j x acc (asked Command e) q ms follow.token blank (operand_blank y m (b || breaks_line j) blank) first_parts.0 good.0 good.1 first_parts.1 follow.follower follow.no_item follow.no_pipe_it
             (ap (λ (n : Next). and_or_operator_of n.token) n_is ∙ (operator_no_item k).2) (ap (λ (n : Next). n.broken) n_is) at_q in
             let others = parts_read one.later m (b || breaks_line j) xs (acc ++ one.part ∷ []) one.«end» rest t blank good.2 parts.1 f none no_pipe_it no_operator one.at in
             record {
@@ -1844,7 +1862,7 @@ module _ (B T : List ℕ) (o : ℕ) (here : drop o B ≡ T) where
               «end» = others.«end»;
               later = others.later;
               at = others.at;
-              reads = parts_more h one.later others.later acc (next_at Command T e) q one.part (next_at Command T one.«end») (past_blanks T one.«end») others.parts (next_at Command T others.«end») (past_blanks T others.«end») one.reads one.on others.reads;
+              reads = parts_more h one.later others.later acc (asked Command e) q one.part (asked Command one.«end») (past_blanks T one.«end») others.parts (asked Command others.«end») (past_blanks T others.«end») one.reads one.on others.reads;
               shape = parts_shape one.part others.parts k j x xs one.operator_is one.join_is one.pipeline_is others.shape;
               texts = λ ts. others.texts ts ∙ one.texts (and_or_parts_bodies xs ts);
             }
@@ -1852,7 +1870,7 @@ module _ (B T : List ℕ) (o : ℕ) (here : drop o B ≡ T) where
         and_or_marks : (m : Text) (x : Shape APipelineOf) (xs : Shape AndOrPartsOf) (rest : Marks) → print_and_or y m (and_or x xs) ++ rest ≡ print_pipeline y m x ++ (print_and_or_parts y m false xs ++ rest)
         and_or_marks m x xs rest = append_assoc (print_pipeline y m x) (print_and_or_parts y m false xs) rest
 
-        pub and_or_begins : (h : Held) (m : Text) (a : Shape AnAndOrOf) (p : ℕ) (rest : Marks) (t : Token) → GoodAndOr room a → Follower rest t → begins_simple t ≡ false → is_pipe t ≡ false
+        pub and_or_begins : (h : Held) (m : Text) (a : Shape AnAndOrOf) (p : ℕ) (rest : Marks) (t : Token) → GoodAndOr edition room a → Follower rest t → begins_simple t ≡ false → is_pipe t ≡ false
             → At h p (print_and_or y m a ++ rest) → PipelineBegins p
         and_or_begins h m (and_or x xs) p rest t good f none no_pipe_it at =
             let follow = parts_follow m false xs rest t f none no_pipe_it in
@@ -1863,8 +1881,8 @@ module _ (B T : List ℕ) (o : ℕ) (here : drop o B ≡ T) where
         unfolding open_and_or
         and_or_shape p ps x xs e f = rw (e, f) refl
 
-        pub and_or_read : (h : Held) (m : Text) (a : Shape AnAndOrOf) (n : Next) (p : ℕ) (rest : Marks) (t : Token) → all_blank m ≡ true → GoodAndOr room a → is_normal_and_or a ≡ true
-            → Follower rest t → begins_simple t ≡ false → is_pipe t ≡ false → and_or_operator_of t ≡ None → n.token ≡ token_at Command T p → At h p (print_and_or y m a ++ rest)
+        pub and_or_read : (h : Held) (m : Text) (a : Shape AnAndOrOf) (n : Next) (p : ℕ) (rest : Marks) (t : Token) → all_blank m ≡ true → GoodAndOr edition room a → is_normal_and_or a ≡ true
+            → Follower rest t → begins_simple t ≡ false → is_pipe t ≡ false → and_or_operator_of t ≡ None → n.token ≡ told Command p → At h p (print_and_or y m a ++ rest)
             → Got h (an_and_or inner n) p rest (and_or_bodies a) (λ v. shape_of_and_or B v ≡ open_and_or [] a)
         unfolding an_and_or and_or_bodies
         and_or_read h m (and_or x xs) n p rest t blank good normal f none no_pipe_it no_operator token_is at =
@@ -1905,9 +1923,9 @@ module _ (B T : List ℕ) (o : ℕ) (here : drop o B ≡ T) where
         unfolding laid_behind
         line_follower rest = record { follow = λ held. refl; no_round = refl; seen_as = λ h e at position. (newline_next h position e rest at).0 }
 
-        sharp_token : (position : Position) (q : ℕ) → byte_at T q ≡ Some 35 → token_at position T q ≡ tokens.Comment
+        sharp_token : (position : Position) (q : ℕ) → byte_at T q ≡ Some 35 → told position q ≡ tokens.Comment
         unfolding token_at
-        sharp_token position q e = ap (token_of position T q) e
+        sharp_token position q e = tell (ap (token_of position T q) e)
 
         comment_follower : (c : Text) (rest : Marks) → CommentAnywhere c → Follower (text (codes " ") ∷ text c ∷ line_end ∷ rest) tokens.Comment
         unfolding laid_behind
@@ -1918,7 +1936,7 @@ module _ (B T : List ℕ) (o : ℕ) (here : drop o B ≡ T) where
               let behind_it = at_text h e (codes " ") (text c ∷ line_end ∷ rest) at in
               let found = good.there T o (e + 1) (after_line h rest) (behind_it ∙ laid_text h c (line_end ∷ rest) ∙ ap (λ z. c ++ z) (laid_line h rest)) in
               let gap = margin_gap h (codes " ") e (text c ∷ line_end ∷ rest) refl at (comment_start h c (e + 1) rest good behind_it) in
-              next_behind position gap ∙ ap (λ t. record { token = t; broken = false }) (sharp_token position (e + 1) found.4);
+              asked_behind position gap ∙ ap (λ t. record { token = t; broken = false }) (sharp_token position (e + 1) found.4);
         }
 
         background_follower : (ms : Marks) → ((h : Held) → Parted (lay h ms)) → Follower (text (codes " &") ∷ ms) tokens.Ampersand
@@ -1931,7 +1949,7 @@ module _ (B T : List ℕ) (o : ℕ) (here : drop o B ≡ T) where
               let amp = next_one T e 32 (38 ∷ lay h ms) there in
               let start = start_here (byte_here T (e + 1) 38 (lay h ms) refl amp) refl in
               let gap = blank_gap refl there (no_gap start) in
-              next_behind position gap ∙ ap (λ t. record { token = t; broken = false }) (ampersand_token position T (e + 1) (parted h).c (parted h).cs (parted h).no_backslash (parted h).no_ampersand (amp ∙ ap (λ z. 38 ∷ z) (parted h).is));
+              asked_behind position gap ∙ ap (λ t. record { token = token_in edition t; broken = false }) (ampersand_token position T (e + 1) (parted h).c (parted h).cs (parted h).no_backslash (parted h).no_ampersand (amp ∙ ap (λ z. 38 ∷ z) (parted h).is));
         }
 
         entry_follow : (background : Bool) (comment : Option Text) (rest : Marks) → GoodOwnComment comment → EntryFollow (entry_rest background comment rest)
@@ -1950,7 +1968,7 @@ module _ (B T : List ℕ) (o : ℕ) (here : drop o B ≡ T) where
           separator : Option ASeparator
           f : ℕ
           at : At h f ms
-          reads : Gives g (a_separator (next_at Command T e)) (state h (past_blanks T e)) (separator, next_at Command T f) (state h (past_blanks T f))
+          reads : Gives g (a_separator (asked Command e)) (state h (past_blanks T e)) (separator, asked Command f) (state h (past_blanks T f))
           is_it : is_background separator ≡ background
           parted_is : is_some (past_separator separator) ≡ background
 
@@ -1959,7 +1977,7 @@ module _ (B T : List ℕ) (o : ℕ) (here : drop o B ≡ T) where
         no_separator h n q e = rw e given_here
 
         some_separator : (h : Held) (n : Next) (q : ℕ) (k : Separator) → separator_of n.token ≡ Some k → behind T q ≡ q + 1
-            → Gives g (a_separator n) (state h q) (Some (k, o + (q + 1)), next_at Command T (q + 1)) (state h (past_blanks T (q + 1)))
+            → Gives g (a_separator n) (state h q) (Some (k, o + (q + 1)), asked Command (q + 1)) (state h (past_blanks T (q + 1)))
         unfolding a_separator
         some_separator h n q k e behind_is =
             let moved : Gives g (move one_byte) (state h q) tt (state h (q + 1)) = subst (λ p. Gives g (move one_byte) (state h q) tt (state h p)) behind_is (moved_here one_byte) in
@@ -1980,7 +1998,7 @@ module _ (B T : List ℕ) (o : ℕ) (here : drop o B ≡ T) where
               separator = Some (Ampersand, o + (q + 1));
               f = q + 1;
               at = r_q.rest;
-              reads = some_separator h (next_at Command T e) q Ampersand (ap (λ (n : Next). separator_of n.token) n_is) r_q.behind_it;
+              reads = some_separator h (asked Command e) q Ampersand (ap (λ (n : Next). separator_of n.token) n_is) r_q.behind_it;
               is_it = refl;
               parted_is = refl;
             }
@@ -1988,7 +2006,7 @@ module _ (B T : List ℕ) (o : ℕ) (here : drop o B ≡ T) where
           separator = None;
           f = e;
           at = at;
-          reads = no_separator h (next_at Command T e) (past_blanks T e) (ap (λ (n : Next). separator_of n.token) ((line_follower rest).seen_as h e at Command));
+          reads = no_separator h (asked Command e) (past_blanks T e) (ap (λ (n : Next). separator_of n.token) ((line_follower rest).seen_as h e at Command));
           is_it = refl;
           parted_is = refl;
         }
@@ -1996,7 +2014,7 @@ module _ (B T : List ℕ) (o : ℕ) (here : drop o B ≡ T) where
           separator = None;
           f = e;
           at = at;
-          reads = no_separator h (next_at Command T e) (past_blanks T e) (ap (λ (n : Next). separator_of n.token) ((comment_follower c rest good).seen_as h e at Command));
+          reads = no_separator h (asked Command e) (past_blanks T e) (ap (λ (n : Next). separator_of n.token) ((comment_follower c rest good).seen_as h e at Command));
           is_it = refl;
           parted_is = refl;
         }
@@ -2006,7 +2024,7 @@ module _ (B T : List ℕ) (o : ℕ) (here : drop o B ≡ T) where
           own : Option Span
           «end» : ℕ
           at : At h «end» (line_end ∷ rest)
-          reads : Gives g (a_comment (next_at Command T f)) (state h (past_blanks T f)) (own, next_at Command T «end») (state h (past_blanks T «end»))
+          reads : Gives g (a_comment (asked Command f)) (state h (past_blanks T f)) (own, asked Command «end») (state h (past_blanks T «end»))
           shape : option_map (shape_of_comment B) own ≡ comment
 
         own_read : (h : Held) (comment : Option Text) (rest : Marks) (f : ℕ) → GoodOwnComment comment → At h f (print_own_comment comment ++ (line_end ∷ rest)) → OwnRead h f comment rest
@@ -2017,7 +2035,7 @@ module _ (B T : List ℕ) (o : ℕ) (here : drop o B ≡ T) where
               own = None;
               «end» = f;
               at = at;
-              reads = no_comment_read h (next_at Command T f) (past_blanks T f) (no_byte (past_blanks T f) 10 (after_line h rest) 35 refl (at_q ∙ laid_line h rest));
+              reads = no_comment_read h (asked Command f) (past_blanks T f) (no_byte (past_blanks T f) 10 (after_line h rest) 35 refl (at_q ∙ laid_line h rest));
               shape = refl;
             }
         own_read h (Some c) rest f good at =
@@ -2029,7 +2047,7 @@ module _ (B T : List ℕ) (o : ℕ) (here : drop o B ≡ T) where
               own = Some (span o q (q + length c));
               «end» = q + length c;
               at = at_text h q c (line_end ∷ rest) at_q;
-              reads = comment_read h c (next_at Command T f) q rest good at_q;
+              reads = comment_read h c (asked Command f) q rest good at_q;
               shape = ap Some (comment_shape h c q (line_end ∷ rest) at_q);
             }
 
@@ -2040,7 +2058,7 @@ module _ (B T : List ℕ) (o : ℕ) (here : drop o B ≡ T) where
           pub later : Held
           pub at : At later «end» (line_end ∷ rest)
           pub parted : Option ℕ
-          pub reads : Gives g (an_entry inner blank n) (state h p) (record { entry = value; parted = parted; next = next_at Command T «end» }) (state later (past_blanks T «end»))
+          pub reads : Gives g (an_entry inner blank n) (state h p) (record { entry = value; parted = parted; next = asked Command «end» }) (state later (past_blanks T «end»))
           pub parted_is : is_some parted ≡ background
           pub shape : shape_of_entry B value ≡ open_entry [] (entry (command a) background blank comment)
           pub texts : Adds h later (entry_bodies (entry (command a) background blank comment))
@@ -2054,8 +2072,8 @@ module _ (B T : List ℕ) (o : ℕ) (here : drop o B ≡ T) where
         unfolding open_entry open_content
         entry_shape blank background a c x comment e f = rw (e, f) refl
 
-        pub entry_read : (h : Held) (m : Text) (blank : Bool) (a : Shape AnAndOrOf) (background : Bool) (comment : Option Text) (n : Next) (p : ℕ) (rest : Marks) → all_blank m ≡ true → GoodAndOr room a
-            → GoodOwnComment comment → is_normal_and_or a ≡ true → n.token ≡ token_at Command T p → At h p (print_and_or y m a ++ entry_rest background comment rest) → EntryRead h blank n p a background comment rest
+        pub entry_read : (h : Held) (m : Text) (blank : Bool) (a : Shape AnAndOrOf) (background : Bool) (comment : Option Text) (n : Next) (p : ℕ) (rest : Marks) → all_blank m ≡ true → GoodAndOr edition room a
+            → GoodOwnComment comment → is_normal_and_or a ≡ true → n.token ≡ told Command p → At h p (print_and_or y m a ++ entry_rest background comment rest) → EntryRead h blank n p a background comment rest
         unfolding an_entry entry_bodies content_bodies
         entry_read h m blank a background comment n p rest is_blank_m good good_c normal token_is at =
             let follow = entry_follow background comment rest good_c in
@@ -2063,7 +2081,7 @@ module _ (B T : List ℕ) (o : ℕ) (here : drop o B ≡ T) where
             let sr = separator_read ar.later background comment rest ar.«end» good_c ar.at in
             let cr = own_read ar.later comment rest sr.f good_c sr.at in
             let last_state = state ar.later (past_blanks T cr.«end») in
-            let n_end = next_at Command T cr.«end» in
+            let n_end = asked Command cr.«end» in
             let is_entered = entered_is blank ar.value sr.separator cr.own n_end background sr.is_it in
             record {
               value = entry (command ar.value) background blank cr.own;
@@ -2107,7 +2125,7 @@ module _ (B T : List ℕ) (o : ℕ) (here : drop o B ≡ T) where
 
         -- the end of a line
         record LineEnd (h : Held) (e : ℕ) (rest : Marks) : Type 0 where
-          n_is : next_at Command T e ≡ record { token = tokens.Newline; broken = false }
+          n_is : asked Command e ≡ record { token = tokens.Newline; broken = false }
           q_is : past_blanks T e ≡ e
           at_q : At h (past_blanks T e) (line_end ∷ rest)
           no_comment_q : raw_stands T (past_blanks T e) 35 ≡ false
@@ -2125,23 +2143,23 @@ module _ (B T : List ℕ) (o : ℕ) (here : drop o B ≡ T) where
           pub parted : Option ℕ
           pub later : Held
           pub at : At later «end» (line_end ∷ rest)
-          pub reads : Gives g (on_line inner (list_so (at_line_start acc blank commands before) n)) (state h p) (list_so (on_this_line (acc ++ value ∷ []) blank (commands || is_a_command) parted) (next_at Command T «end»)) (state later (past_blanks T «end»))
+          pub reads : Gives g (on_line inner (list_so (at_line_start acc blank commands before) n)) (state h p) (list_so (on_this_line (acc ++ value ∷ []) blank (commands || is_a_command) parted) (asked Command «end»)) (state later (past_blanks T «end»))
           pub shape : shape_of_entry B value ≡ open_entry [] e
           pub texts : Adds h later (entry_bodies e)
 
         one_entry_by : (h : Held) (acc : Row AnEntry) (blank commands : Bool) (before : Option ℕ) (n : Next) (p : ℕ) (a : Shape AnAndOrOf) (background : Bool) (comment : Option Text) (rest : Marks)
             → begins_pipeline n.token ≡ true → p < length T → (r : EntryRead h (blank && true) n p a background comment rest) → p < past_blanks T r.«end»
-            → Gives g (many (entry_turn inner) (list_so (at_line_start acc blank commands before) n)) (state h p) (list_so (on_this_line (acc ++ r.value ∷ []) blank true r.parted) (next_at Command T r.«end»)) (state r.later (past_blanks T r.«end»))
+            → Gives g (many (entry_turn inner) (list_so (at_line_start acc blank commands before) n)) (state h p) (list_so (on_this_line (acc ++ r.value ∷ []) blank true r.parted) (asked Command r.«end»)) (state r.later (past_blanks T r.«end»))
         unfolding entry_turn one_entry
         one_entry_by h acc blank commands before n p a true comment rest begins within r on =
             let line = line_end_here r.later r.«end» rest r.at in
-            let more = list_so (on_this_line (acc ++ r.value ∷ []) blank true r.parted) (next_at Command T r.«end») in
+            let more = list_so (on_this_line (acc ++ r.value ∷ []) blank true r.parted) (asked Command r.«end») in
             let turned = first_of _ _ begins (r.reads ⟫ pushed_here acc r.value ⟫ given_here) in
             let read_one = subst (λ b. Gives g (entry_turn inner (list_so (at_line_start acc blank commands before) n)) (state h p) (step_if b more) (state r.later (past_blanks T r.«end»))) r.parted_is turned in
             one_turn (entry_turn inner) read_one (leads h r.later p (past_blanks T r.«end») on within)
-            (last_turn (entry_turn inner) (no_entry_turn r.later (on_this_line (acc ++ r.value ∷ []) blank true r.parted) (next_at Command T r.«end») (past_blanks T r.«end») (ap (λ (n : Next). begins_pipeline n.token) line.n_is)))
+            (last_turn (entry_turn inner) (no_entry_turn r.later (on_this_line (acc ++ r.value ∷ []) blank true r.parted) (asked Command r.«end») (past_blanks T r.«end») (ap (λ (n : Next). begins_pipeline n.token) line.n_is)))
         one_entry_by h acc blank commands before n p a false comment rest begins within r on =
-            let more = list_so (on_this_line (acc ++ r.value ∷ []) blank true r.parted) (next_at Command T r.«end») in
+            let more = list_so (on_this_line (acc ++ r.value ∷ []) blank true r.parted) (asked Command r.«end») in
             let turned = first_of _ _ begins (r.reads ⟫ pushed_here acc r.value ⟫ given_here) in
             last_turn (entry_turn inner)
             (subst (λ b. Gives g (entry_turn inner (list_so (at_line_start acc blank commands before) n)) (state h p) (step_if b more) (state r.later (past_blanks T r.«end»))) r.parted_is turned)
@@ -2151,12 +2169,12 @@ module _ (B T : List ℕ) (o : ℕ) (here : drop o B ≡ T) where
         pipeline_within p b = by_byte (byte_at T p) refl
           where
             by_byte : (x : Option ℕ) → byte_at T p ≡ x → p < length T
-            by_byte None e = absurd (both_ways (begins_pipeline (token_of Command T p (byte_at T p))) (ap (λ x. begins_pipeline (token_of Command T p x)) e) b.begins)
+            by_byte None e = absurd (both_ways (begins_pipeline (token_in edition (token_of Command T p (byte_at T p)))) (ap (λ x. begins_pipeline (token_in edition (token_of Command T p x))) e) b.begins)
             by_byte (Some c) e = slice_get_within T p c (ap (slice_get T) (sym b.operand.start.place) ∙ e)
 
         -- a command on its line
         command_on_line : (h : Held) (m : Text) (acc : Row AnEntry) (blank commands : Bool) (before : Option ℕ) (a : Shape AnAndOrOf) (background : Bool) (comment : Option Text) (n : Next) (p : ℕ) (rest : Marks) → all_blank m ≡ true
-            → GoodAndOr room a → GoodOwnComment comment → is_normal_and_or a ≡ true → n.token ≡ token_at Command T p → At h p (print_and_or y m a ++ entry_rest background comment rest)
+            → GoodAndOr edition room a → GoodOwnComment comment → is_normal_and_or a ≡ true → n.token ≡ told Command p → At h p (print_and_or y m a ++ entry_rest background comment rest)
             → OnLine h acc blank commands before n p (entry (command a) background blank comment) true rest
         unfolding on_line entry_bodies content_bodies
         command_on_line h m acc blank commands before a background comment n p rest blank_m good good_c normal token_is at =
@@ -2173,17 +2191,17 @@ module _ (B T : List ℕ) (o : ℕ) (here : drop o B ≡ T) where
               parted = r.parted;
               later = r.later;
               at = r.at;
-              reads = subst (λ c. Gives g (on_line inner (list_so (at_line_start acc blank commands before) n)) (state h p) (list_so (on_this_line (acc ++ r.value ∷ []) blank c r.parted) (next_at Command T r.«end»)) (state r.later (past_blanks T r.«end»)))
-                  (sym (or_true commands)) (turns ⟫ no_remark r.later (on_this_line (acc ++ r.value ∷ []) blank true r.parted) (next_at Command T r.«end») (past_blanks T r.«end») line.no_comment_q);
+              reads = subst (λ c. Gives g (on_line inner (list_so (at_line_start acc blank commands before) n)) (state h p) (list_so (on_this_line (acc ++ r.value ∷ []) blank c r.parted) (asked Command r.«end»)) (state r.later (past_blanks T r.«end»)))
+                  (sym (or_true commands)) (turns ⟫ no_remark r.later (on_this_line (acc ++ r.value ∷ []) blank true r.parted) (asked Command r.«end») (past_blanks T r.«end») line.no_comment_q);
               shape = r.shape ∙ ap (λ b. open_entry [] (entry (command a) background b comment)) (and_true blank);
               texts = r.texts;
             }
           where
             must_move : (h : Held) (p q : ℕ) → p ≤ q → PipelineBegins p → At h q (line_end ∷ rest) → p < q
-            must_move h p q low b at_q = ⊎_elim (λ lt. lt) (λ ge. let same : p ≡ q = omega (arith, low, ge) in absurd (both_ways (is_newline (token_at Command T p)) b.operand.no_newline (ap is_newline (newline_token Command T p (after_line h rest) (subst (λ r. drop r T ≡ 10 ∷ after_line h rest) (sym same) (at_q ∙ laid_line h rest)))))) (cases_lt p q)
+            must_move h p q low b at_q = ⊎_elim (λ lt. lt) (λ ge. let same : p ≡ q = omega (arith, low, ge) in absurd (both_ways (is_newline (told Command p)) b.operand.no_newline (ap is_newline (tell (newline_token Command T p (after_line h rest) (subst (λ r. drop r T ≡ 10 ∷ after_line h rest) (sym same) (at_q ∙ laid_line h rest))))))) (cases_lt p q)
 
         -- a comment on a line of its own
-        remark_on_line : (h : Held) (acc : Row AnEntry) (blank commands : Bool) (before : Option ℕ) (c : Text) (n : Next) (p : ℕ) (rest : Marks) → CommentAnywhere c → n.token ≡ token_at Command T p → At h p (text c ∷ line_end ∷ rest)
+        remark_on_line : (h : Held) (acc : Row AnEntry) (blank commands : Bool) (before : Option ℕ) (c : Text) (n : Next) (p : ℕ) (rest : Marks) → CommentAnywhere c → n.token ≡ told Command p → At h p (text c ∷ line_end ∷ rest)
             → OnLine h acc blank commands before n p (entry (remark c) false blank None) false rest
         unfolding on_line a_remark open_entry open_content entry_bodies content_bodies
         remark_on_line h acc blank commands before c n p rest good token_is at =
@@ -2197,7 +2215,7 @@ module _ (B T : List ℕ) (o : ℕ) (here : drop o B ≡ T) where
               parted = before;
               later = h;
               at = at_text h p c (line_end ∷ rest) at;
-              reads = subst (λ k. Gives g (on_line inner (list_so (at_line_start acc blank commands before) n)) (state h p) (list_so (on_this_line (acc ++ v ∷ []) blank k before) (next_at Command T e)) (state h (past_blanks T e)))
+              reads = subst (λ k. Gives g (on_line inner (list_so (at_line_start acc blank commands before) n)) (state h p) (list_so (on_this_line (acc ++ v ∷ []) blank k before) (asked Command e)) (state h (past_blanks T e)))
                   (sym (or_false commands))
                   (last_turn (entry_turn inner) (no_entry_turn h (at_line_start acc blank commands before) n p (ap begins_pipeline is_sharp)) ⟫ (comment_read h c n p rest good at ⟫ (pushed_here acc v ⟫ given_here)));
               shape = remark_shape h blank c p at;
@@ -2208,7 +2226,7 @@ module _ (B T : List ℕ) (o : ℕ) (here : drop o B ≡ T) where
             remark_shape h blank c p at = rw (comment_shape h c p (line_end ∷ rest) at, and_true blank) refl
 
         entry_on_line : (h : Held) (m : Text) (acc : Row AnEntry) (blank commands : Bool) (before : Option ℕ) (what : Shape AContentOf) (background : Bool) (comment : Option Text) (n : Next) (p : ℕ) (rest : Marks) → all_blank m ≡ true
-            → GoodContent room what → GoodOwnComment comment → is_normal_entry (entry what background blank comment) ≡ true → n.token ≡ token_at Command T p
+            → GoodContent edition room what → GoodOwnComment comment → is_normal_entry (entry what background blank comment) ≡ true → n.token ≡ told Command p
             → At h p (print_content y m what ++ entry_rest background comment rest) → OnLine h acc blank commands before n p (entry what background blank comment) (is_command (entry what background blank comment)) rest
         entry_on_line h m acc blank commands before (command a) background comment n p rest blank_m good good_c normal token_is at =
             command_on_line h m acc blank commands before a background comment n p rest blank_m good good_c normal token_is at
@@ -2216,7 +2234,7 @@ module _ (B T : List ℕ) (o : ℕ) (here : drop o B ≡ T) where
         entry_on_line h m acc blank commands before (remark c) true comment n p rest blank_m good good_c normal token_is at = absurd cc
         entry_on_line h m acc blank commands before (remark c) false (Some d) n p rest blank_m good good_c normal token_is at = absurd cc
 
-        content_start : (h : Held) (m : Text) (what : Shape AContentOf) (background blank : Bool) (comment : Option Text) (p : ℕ) (rest : Marks) → GoodContent room what → GoodOwnComment comment
+        content_start : (h : Held) (m : Text) (what : Shape AContentOf) (background blank : Bool) (comment : Option Text) (p : ℕ) (rest : Marks) → GoodContent edition room what → GoodOwnComment comment
             → is_normal_entry (entry what background blank comment) ≡ true → At h p (print_content y m what ++ entry_rest background comment rest) → Start T p
         content_start h m (command a) background blank comment p rest good good_c normal at =
             let follow = entry_follow background comment rest good_c in
@@ -2232,7 +2250,7 @@ module _ (B T : List ℕ) (o : ℕ) (here : drop o B ≡ T) where
           parted : Option ℕ
           later : Held
           at : At later f rest
-          reads : Gives g (list_turn inner (list_so (at_line_start acc blank commands before) n)) (state h p) (again (list_so (at_line_start (acc ++ value ∷ []) false (commands || is_command x) parted) (next_at Command T f))) (state later (past_blanks T f))
+          reads : Gives g (list_turn inner (list_so (at_line_start acc blank commands before) n)) (state h p) (again (list_so (at_line_start (acc ++ value ∷ []) false (commands || is_command x) parted) (asked Command f))) (state later (past_blanks T f))
           on : leads_on g (state h p) (state later (past_blanks T f)) ≡ true
           shape : shape_of_entry B value ≡ open_entry [] x
           texts : Adds h later (entry_bodies x)
@@ -2244,7 +2262,7 @@ module _ (B T : List ℕ) (o : ℕ) (here : drop o B ≡ T) where
             let q = past_blanks T r.«end» in
             let low = gives_on (on_line inner (list_so (at_line_start acc blank commands before) n)) _ _ _ r.reads in
             let within = some_here q 10 (after_line r.later rest) (line.at_q ∙ laid_line r.later rest) in
-            let z = newline_read r.later (next_at Command T r.«end») q rest (ap (λ (n : Next). is_newline n.token) line.n_is) line.at_q in
+            let z = newline_read r.later (asked Command r.«end») q rest (ap (λ (n : Next). is_newline n.token) line.n_is) line.at_q in
             record {
               value = r.value;
               f = z.q;
@@ -2262,8 +2280,8 @@ module _ (B T : List ℕ) (o : ℕ) (here : drop o B ≡ T) where
           later : Held
           q : ℕ
           at : At later q rest
-          reads : Gives g (list_turn inner (list_so (at_line_start acc blank commands before) (next_at Command T e))) (state h (past_blanks T e))
-              (again (list_so (at_line_start acc (not (is_empty acc)) commands before) (next_at Command T q))) (state later (past_blanks T q))
+          reads : Gives g (list_turn inner (list_so (at_line_start acc blank commands before) (asked Command e))) (state h (past_blanks T e))
+              (again (list_so (at_line_start acc (not (is_empty acc)) commands before) (asked Command q))) (state later (past_blanks T q))
           on : leads_on g (state h (past_blanks T e)) (state later (past_blanks T q)) ≡ true
           texts : Adds h later no_more
 
@@ -2272,20 +2290,20 @@ module _ (B T : List ℕ) (o : ℕ) (here : drop o B ≡ T) where
         empty_line h acc blank commands before e rest at =
             let line = line_end_here h e rest at in
             let p = past_blanks T e in
-            let z = newline_read h (next_at Command T e) p rest (ap (λ (n : Next). is_newline n.token) line.n_is) line.at_q in
+            let z = newline_read h (asked Command e) p rest (ap (λ (n : Next). is_newline n.token) line.n_is) line.at_q in
             record {
               later = z.later;
               q = z.q;
               at = z.at;
-              reads = nothing_on_line h (at_line_start acc blank commands before) (next_at Command T e) p (ap (λ (n : Next). begins_pipeline n.token) line.n_is) line.no_comment_q ⟫ z.reads ⟫ given_here;
+              reads = nothing_on_line h (at_line_start acc blank commands before) (asked Command e) p (ap (λ (n : Next). begins_pipeline n.token) line.n_is) line.no_comment_q ⟫ z.reads ⟫ given_here;
               on = leads h z.later p (past_blanks T z.q) (omega (arith, z.on, blanks_low T z.q)) (some_here p 10 (after_line h rest) (line.at_q ∙ laid_line h rest));
               texts = z.texts;
             }
 
         -- what ends a list begins none of its lines
         pub record Closes (e : ℕ) : Type 0 where
-          pub no_entry_it : begins_pipeline (token_at Command T (past_blanks T e)) ≡ false
-          pub no_newline_it : is_newline (token_at Command T (past_blanks T e)) ≡ false
+          pub no_entry_it : begins_pipeline (told Command (past_blanks T e)) ≡ false
+          pub no_newline_it : is_newline (told Command (past_blanks T e)) ≡ false
           pub no_comment_it : raw_stands T (past_blanks T e) 35 ≡ false
 
         pub record ListRead (h : Held) (acc : Row AnEntry) (commands : Bool) (before : Option ℕ) (n : Next) (p : ℕ) (es : Shape EntriesOf) (rest : Marks) : Type 0 where
@@ -2295,15 +2313,15 @@ module _ (B T : List ℕ) (o : ℕ) (here : drop o B ≡ T) where
           pub parted : Option ℕ
           pub later : Held
           pub at : At later «end» rest
-          pub reads : Gives g (many (list_turn inner) (list_so (at_line_start acc false commands before) n)) (state h p) (list_so (at_line_start (acc ++ value) blank (commands || holds_command es) parted) (next_at Command T «end»)) (state later (past_blanks T «end»))
+          pub reads : Gives g (many (list_turn inner) (list_so (at_line_start acc false commands before) n)) (state h p) (list_so (at_line_start (acc ++ value) blank (commands || holds_command es) parted) (asked Command «end»)) (state later (past_blanks T «end»))
           pub shape : shape_of B (entries_of value) ≡ opened [] es
           pub texts : Adds h later (entries_bodies es)
 
         list_ends : (h : Held) (acc : Row AnEntry) (blank commands : Bool) (before : Option ℕ) (e : ℕ) → Closes e
-            → Gives g (list_turn inner (list_so (at_line_start acc blank commands before) (next_at Command T e))) (state h (past_blanks T e)) (done (list_so (at_line_start acc (not (is_empty acc)) commands before) (next_at Command T e))) (state h (past_blanks T e))
+            → Gives g (list_turn inner (list_so (at_line_start acc blank commands before) (asked Command e))) (state h (past_blanks T e)) (done (list_so (at_line_start acc (not (is_empty acc)) commands before) (asked Command e))) (state h (past_blanks T e))
         unfolding list_turn
         list_ends h acc blank commands before e c =
-            nothing_on_line h (at_line_start acc blank commands before) (next_at Command T e) (past_blanks T e) c.no_entry_it c.no_comment_it ⟫ no_newline_read h (next_at Command T e) (past_blanks T e) c.no_newline_it ⟫ given_here
+            nothing_on_line h (at_line_start acc blank commands before) (asked Command e) (past_blanks T e) c.no_entry_it c.no_comment_it ⟫ no_newline_read h (asked Command e) (past_blanks T e) c.no_newline_it ⟫ given_here
 
         pub entry_marks : (d : Text) (what : Shape AContentOf) (background blank : Bool) (comment : Option Text) (es : Shape EntriesOf) (rest : Marks)
             → print_entries y d (more_entries (entry what background blank comment) es) ++ rest
@@ -2330,8 +2348,8 @@ module _ (B T : List ℕ) (o : ℕ) (here : drop o B ≡ T) where
           parted : Option ℕ
           later : Held
           at : At later «end» rest
-          reads : Gives g (many (list_turn inner) (list_so (at_line_start acc first_blank commands before) (next_at Command T e))) (state h (past_blanks T e))
-              (list_so (at_line_start (acc ++ value) blank (commands || holds_command es) parted) (next_at Command T «end»)) (state later (past_blanks T «end»))
+          reads : Gives g (many (list_turn inner) (list_so (at_line_start acc first_blank commands before) (asked Command e))) (state h (past_blanks T e))
+              (list_so (at_line_start (acc ++ value) blank (commands || holds_command es) parted) (asked Command «end»)) (state later (past_blanks T «end»))
           shape : shape_of B (entries_of value) ≡ opened [] es
           texts : Adds h later (entries_bodies es)
 
@@ -2352,23 +2370,23 @@ module _ (B T : List ℕ) (o : ℕ) (here : drop o B ≡ T) where
 
         -- the first line of a row of them, from where its margin begins
         first_line : (h : Held) (d : Text) (acc : Row AnEntry) (blank commands : Bool) (before : Option ℕ) (what : Shape AContentOf) (background : Bool) (comment : Option Text) (e : ℕ) (rest : Marks) → all_blank d ≡ true
-            → GoodContent room what → GoodOwnComment comment → is_normal_entry (entry what background blank comment) ≡ true → At h e (text d ∷ (print_content y d what ++ entry_rest background comment rest))
-            → LineRead h acc blank commands before (next_at Command T e) (past_blanks T e) (entry what background blank comment) rest
+            → GoodContent edition room what → GoodOwnComment comment → is_normal_entry (entry what background blank comment) ≡ true → At h e (text d ∷ (print_content y d what ++ entry_rest background comment rest))
+            → LineRead h acc blank commands before (asked Command e) (past_blanks T e) (entry what background blank comment) rest
         first_line h d acc blank commands before what background comment e rest blank_d good good_c normal at =
             let ms = print_content y d what ++ entry_rest background comment rest in
             let behind_it = at_text h e d ms at in
             let gap = margin_gap h d e ms blank_d at (content_start h d what background blank comment (e + length d) rest good good_c normal behind_it) in
             let q = past_blanks T e in
             let at_q = subst (λ r. At h r ms) (sym gap.blanks) behind_it in
-            line_by h acc blank commands before (next_at Command T e) q (entry what background blank comment) rest (entry_on_line h d acc blank commands before what background comment (next_at Command T e) q rest blank_d good good_c normal refl at_q)
+            line_by h acc blank commands before (asked Command e) q (entry what background blank comment) rest (entry_on_line h d acc blank commands before what background comment (asked Command e) q rest blank_d good good_c normal refl at_q)
 
         blank_first : (acc : Row AnEntry) → (is_empty acc ≡ true → false ≡ true) → is_empty acc ≡ false
         blank_first [] e = absurd (both_ways false refl (e refl))
         blank_first (x ∷ xs) e = refl
 
         list_by : (h : Held) (d : Text) (what : Shape AContentOf) (background blank : Bool) (comment : Option Text) (es : Shape EntriesOf) (acc : Row AnEntry) (commands : Bool) (before : Option ℕ) (e : ℕ) (rest : Marks) → all_blank d ≡ true
-            → GoodEntries room (more_entries (entry what background blank comment) es) → are_normal (more_entries (entry what background blank comment) es) ≡ true
-            → ((h : Held) (acc : Row AnEntry) (commands : Bool) (before : Option ℕ) (f : ℕ) → is_empty acc ≡ false → At h f (print_entries y d es ++ rest) → ListRead h acc commands before (next_at Command T f) (past_blanks T f) es rest)
+            → GoodEntries edition room (more_entries (entry what background blank comment) es) → are_normal (more_entries (entry what background blank comment) es) ≡ true
+            → ((h : Held) (acc : Row AnEntry) (commands : Bool) (before : Option ℕ) (f : ℕ) → is_empty acc ≡ false → At h f (print_entries y d es ++ rest) → ListRead h acc commands before (asked Command f) (past_blanks T f) es rest)
             → At h e (text d ∷ (print_content y d what ++ entry_rest background comment (print_entries y d es ++ rest))) → ListBy h acc blank commands before e (more_entries (entry what background blank comment) es) rest
         unfolding entries_bodies
         list_by h d what background blank comment es acc commands before e rest blank_d good normal others_by at =
@@ -2383,14 +2401,14 @@ module _ (B T : List ℕ) (o : ℕ) (here : drop o B ≡ T) where
               parted = others.parted;
               later = others.later;
               at = others.at;
-              reads = list_turned h one_line.later others.later acc blank commands before one_line.parted others.parted (next_at Command T e) (past_blanks T e) one_line.value (is_command x) (next_at Command T one_line.f) (past_blanks T one_line.f) others.value others.blank (holds_command es)
-                  (next_at Command T others.«end») (past_blanks T others.«end») one_line.reads one_line.on others.reads;
+              reads = list_turned h one_line.later others.later acc blank commands before one_line.parted others.parted (asked Command e) (past_blanks T e) one_line.value (is_command x) (asked Command one_line.f) (past_blanks T one_line.f) others.value others.blank (holds_command es)
+                  (asked Command others.«end») (past_blanks T others.«end») one_line.reads one_line.on others.reads;
               shape = entries_shape one_line.value others.value x es one_line.shape others.shape;
               texts = λ ts. others.texts ts ∙ one_line.texts (entries_bodies es ts);
             }
 
-        pub list_read : (h : Held) (d : Text) (es : Shape EntriesOf) (acc : Row AnEntry) (commands : Bool) (before : Option ℕ) (e : ℕ) (rest : Marks) → all_blank d ≡ true → GoodEntries room es → are_normal es ≡ true
-            → (is_empty acc ≡ true → first_not_blank es ≡ true) → ((h : Held) (f : ℕ) → At h f rest → Closes f) → At h e (print_entries y d es ++ rest) → ListRead h acc commands before (next_at Command T e) (past_blanks T e) es rest
+        pub list_read : (h : Held) (d : Text) (es : Shape EntriesOf) (acc : Row AnEntry) (commands : Bool) (before : Option ℕ) (e : ℕ) (rest : Marks) → all_blank d ≡ true → GoodEntries edition room es → are_normal es ≡ true
+            → (is_empty acc ≡ true → first_not_blank es ≡ true) → ((h : Held) (f : ℕ) → At h f rest → Closes f) → At h e (print_entries y d es ++ rest) → ListRead h acc commands before (asked Command e) (past_blanks T e) es rest
         unfolding opened entries_bodies
         list_read h d no_entry acc commands before e rest blank_d good normal first closes at =
             let c = closes h e at in
@@ -2401,8 +2419,8 @@ module _ (B T : List ℕ) (o : ℕ) (here : drop o B ≡ T) where
               parted = before;
               later = h;
               at = at;
-              reads = subst (λ k. Gives g (many (list_turn inner) (list_so (at_line_start acc false commands before) (next_at Command T e))) (state h (past_blanks T e)) (list_so (at_line_start (acc ++ []) (not (is_empty acc)) k before) (next_at Command T e)) (state h (past_blanks T e))) (sym (or_false commands))
-                  (subst (λ es. Gives g (many (list_turn inner) (list_so (at_line_start acc false commands before) (next_at Command T e))) (state h (past_blanks T e)) (list_so (at_line_start es (not (is_empty acc)) commands before) (next_at Command T e)) (state h (past_blanks T e))) (sym (append-nil acc))
+              reads = subst (λ k. Gives g (many (list_turn inner) (list_so (at_line_start acc false commands before) (asked Command e))) (state h (past_blanks T e)) (list_so (at_line_start (acc ++ []) (not (is_empty acc)) k before) (asked Command e)) (state h (past_blanks T e))) (sym (or_false commands))
+                  (subst (λ es. Gives g (many (list_turn inner) (list_so (at_line_start acc false commands before) (asked Command e))) (state h (past_blanks T e)) (list_so (at_line_start es (not (is_empty acc)) commands before) (asked Command e)) (state h (past_blanks T e))) (sym (append-nil acc))
                   (last_turn (list_turn inner) (list_ends h acc false commands before e c)));
               shape = refl;
               texts = λ ts. refl;
@@ -2419,7 +2437,7 @@ module _ (B T : List ℕ) (o : ℕ) (here : drop o B ≡ T) where
             let others = list_by line.later d what background true comment es acc commands before line.q rest blank_d good normal
             (λ k more_acc some past f filled there. list_read k d es more_acc some past f rest blank_d good.1 (and_parts _ _ normal).1 (λ none. absurd (both_ways (is_empty more_acc) filled none)) closes there) line.at in
             let flag : not (is_empty acc) ≡ true = ap not filled in
-            let one_line = subst (λ b. Gives g (list_turn inner (list_so (at_line_start acc false commands before) (next_at Command T e))) (state h (past_blanks T e)) (again (list_so (at_line_start acc b commands before) (next_at Command T line.q))) (state line.later (past_blanks T line.q))) flag line.reads in
+            let one_line = subst (λ b. Gives g (list_turn inner (list_so (at_line_start acc false commands before) (asked Command e))) (state h (past_blanks T e)) (again (list_so (at_line_start acc b commands before) (asked Command line.q))) (state line.later (past_blanks T line.q))) flag line.reads in
             record {
               value = others.value;
               «end» = others.«end»;
@@ -2435,7 +2453,7 @@ module _ (B T : List ℕ) (o : ℕ) (here : drop o B ≡ T) where
         -- ---- lists
 
         list_of : (h later : Held) (es : Shape EntriesOf) (n : Next) (p : ℕ) (rest : Marks) (acc : Row AnEntry) (blank : Bool) (parted : Option ℕ) (e : ℕ)
-            → Gives g (many (list_turn inner) (list_so (none_listed false) n)) (state h p) (list_so (at_line_start acc blank (holds_command es) parted) (next_at Command T e)) (state later (past_blanks T e))
+            → Gives g (many (list_turn inner) (list_so (none_listed false) n)) (state h p) (list_so (at_line_start acc blank (holds_command es) parted) (asked Command e)) (state later (past_blanks T e))
             → holds_command es ≡ true → At later e rest → Adds h later (entries_bodies es) → shape_of B (entries_of acc) ≡ opened [] es
             → Got h (a_list inner n) p rest (entries_bodies es) (λ v. shape_of B v ≡ opened [] es)
         unfolding a_list
@@ -2443,15 +2461,15 @@ module _ (B T : List ℕ) (o : ℕ) (here : drop o B ≡ T) where
             record { value = entries_of acc; «end» = e; later = later; at = at; texts = texts; reads = turns ⟫ first_of _ _ holds_it given_here; is = shape }
 
         -- a list on lines of its own, from the end of the line before it
-        pub block_read : (h : Held) (d : Text) (es : Shape EntriesOf) (e : ℕ) (rest : Marks) → all_blank d ≡ true → GoodEntries room es → is_whole es ≡ true → are_normal es ≡ true
+        pub block_read : (h : Held) (d : Text) (es : Shape EntriesOf) (e : ℕ) (rest : Marks) → all_blank d ≡ true → GoodEntries edition room es → is_whole es ≡ true → are_normal es ≡ true
             → ((h : Held) (f : ℕ) → At h f rest → Closes f) → At h e (line_end ∷ (print_entries y d es ++ rest))
-            → Got h (a_list inner (next_at Command T e)) (past_blanks T e) rest (entries_bodies es) (λ v. shape_of B v ≡ opened [] es)
+            → Got h (a_list inner (asked Command e)) (past_blanks T e) rest (entries_bodies es) (λ v. shape_of B v ≡ opened [] es)
         block_read h d es e rest blank_d good whole normal closes at =
             let line = empty_line h [] false false None e (print_entries y d es ++ rest) at in
             let parts = and_parts _ _ whole in
             let r = list_read line.later d es [] false None line.q rest blank_d good normal (λ none. parts.1) closes line.at in
             let turns = one_turn (list_turn inner) line.reads line.on r.reads in
-            list_of h r.later es (next_at Command T e) (past_blanks T e) rest r.value r.blank r.parted r.«end» turns parts.0 r.at (λ ts. r.texts ts ∙ line.texts (entries_bodies es ts)) r.shape
+            list_of h r.later es (asked Command e) (past_blanks T e) rest r.value r.blank r.parted r.«end» turns parts.0 r.at (λ ts. r.texts ts ∙ line.texts (entries_bodies es ts)) r.shape
 
         -- ---- words that open, part and close
 
@@ -2485,20 +2503,20 @@ module _ (B T : List ℕ) (o : ℕ) (here : drop o B ≡ T) where
 
         -- a reserved word behind a margin
         record KeywordRead (h : Held) (e : ℕ) (r : Reserved) (ms : Marks) : Type 0 where
-          token_is : token_at Command T (past_blanks T e) ≡ tokens.Reserved r
+          token_is : told Command (past_blanks T e) ≡ tokens.Reserved r
           no_comment_it : raw_stands T (past_blanks T e) 35 ≡ false
           s : Span
           f : ℕ
           at : At h f ms
-          reads : (label : Spelled) (position : Position) → Gives g (passed label false position) (state h (past_blanks T e)) (s, next_at position T f) (state h (past_blanks T f))
+          reads : (label : Spelled) (position : Position) → Gives g (passed label false position) (state h (past_blanks T e)) (s, asked position f) (state h (past_blanks T f))
 
-        passed_by : (h : Held) (label : Spelled) (position : Position) (q f : ℕ) → past_reserved T q ≡ f → Gives g (passed label false position) (state h q) (span o q f, next_at position T f) (state h (past_blanks T f))
+        passed_by : (h : Held) (label : Spelled) (position : Position) (q f : ℕ) → past_reserved T q ≡ f → Gives g (passed label false position) (state h q) (span o q f, asked position f) (state h (past_blanks T f))
         unfolding passed
         passed_by h label position q f is =
             let moved : Gives g (move the_reserved) (state h q) tt (state h f) = subst (λ p. Gives g (move the_reserved) (state h q) tt (state h p)) is (moved_here the_reserved) in
             told_here (by label) moved ⟫ next_read h position f ⟫ given_here
 
-        passed_paren : (h : Held) (label : Spelled) (q : ℕ) → behind T q ≡ q + 1 → Gives g (passed label true Command) (state h q) (span o q (q + 1), next_at Command T (q + 1)) (state h (past_blanks T (q + 1)))
+        passed_paren : (h : Held) (label : Spelled) (q : ℕ) → behind T q ≡ q + 1 → Gives g (passed label true Command) (state h q) (span o q (q + 1), asked Command (q + 1)) (state h (past_blanks T (q + 1)))
         unfolding passed
         passed_paren h label q is =
             let moved : Gives g (move one_byte) (state h q) tt (state h (q + 1)) = subst (λ p. Gives g (move one_byte) (state h q) tt (state h p)) is (moved_here one_byte) in
@@ -2513,8 +2531,8 @@ module _ (B T : List ℕ) (o : ℕ) (here : drop o B ≡ T) where
             let at_q = subst (λ p. At h p (text w ∷ ms)) (sym gap.blanks) behind_it in
             let kq = key h q (at_q ∙ laid_text h w ms) in
             record {
-              token_is = kq.token;
-              no_comment_it = no_sharp q kq.start.place (ap is_comment kq.token);
+              token_is = tell kq.token;
+              no_comment_it = no_sharp q kq.start.place (ap is_comment (tell kq.token));
               s = span o q (q + length w);
               f = q + length w;
               at = at_text h q w ms at_q;
@@ -2529,7 +2547,7 @@ module _ (B T : List ℕ) (o : ℕ) (here : drop o B ≡ T) where
 
         -- what has to stand here
         closing_read : (h : Held) (c : Closing) (r : Reserved) (e : ℕ) (ms : Marks) → is_closing c (tokens.Reserved r) ≡ true → is_close_paren c ≡ false → (k : KeywordRead h e r ms)
-            → Gives g (closing inner c (next_at Command T e)) (state h (past_blanks T e)) (k.s, next_at Command T k.f) (state h (past_blanks T k.f))
+            → Gives g (closing inner c (asked Command e)) (state h (past_blanks T e)) (k.s, asked Command k.f) (state h (past_blanks T k.f))
         unfolding closing
         closing_read h c r e ms is_it no_paren k = first_of _ _ (ap (is_closing c) k.token_is ∙ is_it) (rw no_paren (k.reads (closing_text c) Command))
 
@@ -2542,7 +2560,7 @@ module _ (B T : List ℕ) (o : ℕ) (here : drop o B ≡ T) where
           no_round = refl;
           seen_as = λ h e at position.
               let there = at ∙ laid_text h (codes "; ") ms in
-              next_behind position (no_gap (start_here (byte_here T e 59 (32 ∷ lay h ms) refl there) refl)) ∙ ap (λ t. record { token = t; broken = false }) (semicolon_token position T e 32 (lay h ms) refl refl there);
+              asked_behind position (no_gap (start_here (byte_here T e 59 (32 ∷ lay h ms) refl there) refl)) ∙ ap (λ t. record { token = token_in edition t; broken = false }) (semicolon_token position T e 32 (lay h ms) refl refl refl there);
         }
 
         -- a condition, and the word that parts it from what it runs
@@ -2551,7 +2569,7 @@ module _ (B T : List ℕ) (o : ℕ) (here : drop o B ≡ T) where
           e : ℕ
           later : Held
           key : KeywordRead later e r ms
-          reads : Gives g (a_list inner (next_at Command T f)) (state h (past_blanks T f)) (value, next_at Command T e) (state later (past_blanks T e))
+          reads : Gives g (a_list inner (asked Command f)) (state h (past_blanks T f)) (value, asked Command e) (state later (past_blanks T e))
           shape : shape_of B value ≡ opened [] es
           texts : Adds h later (entries_bodies es)
 
@@ -2564,12 +2582,12 @@ module _ (B T : List ℕ) (o : ℕ) (here : drop o B ≡ T) where
           f : ℕ
           later : Held
           at : At later f (text (codes " ") ∷ ms)
-          reads : Gives g (an_entry inner false n) (state h p) (record { entry = value; parted = Some (o + f); next = next_at Command T f }) (state later (past_blanks T f))
+          reads : Gives g (an_entry inner false n) (state h p) (record { entry = value; parted = Some (o + f); next = asked Command f }) (state later (past_blanks T f))
           on : p < past_blanks T f
           shape : shape_of_entry B value ≡ open_entry [] (entry (command a) false false None)
           texts : Adds h later (and_or_bodies a)
 
-        short_read : (h : Held) (m : Text) (a : Shape AnAndOrOf) (n : Next) (p : ℕ) (ms : Marks) → all_blank m ≡ true → GoodAndOr room a → is_normal_and_or a ≡ true → n.token ≡ token_at Command T p
+        short_read : (h : Held) (m : Text) (a : Shape AnAndOrOf) (n : Next) (p : ℕ) (ms : Marks) → all_blank m ≡ true → GoodAndOr edition room a → is_normal_and_or a ≡ true → n.token ≡ told Command p
             → ((h : Held) (f : ℕ) → At h f (text (codes " ") ∷ ms) → Closes f) → At h p (print_and_or y m a ++ (text (codes "; ") ∷ ms)) → ShortRead h n p a ms
         unfolding an_entry open_entry open_content
         short_read h m a n p ms blank good normal token_is closes at =
@@ -2588,14 +2606,14 @@ module _ (B T : List ℕ) (o : ℕ) (here : drop o B ≡ T) where
               f = q + 1;
               later = k;
               at = behind_it;
-              reads = ar.reads ⟫ some_separator k (next_at Command T ar.«end») q Semicolon (ap (λ (n : Next). separator_of n.token) n_is) r_q.behind_it
-                  ⟫ no_comment_read k (next_at Command T (q + 1)) (past_blanks T (q + 1)) (closes k (q + 1) behind_it).no_comment_it ⟫ given_here;
+              reads = ar.reads ⟫ some_separator k (asked Command ar.«end») q Semicolon (ap (λ (n : Next). separator_of n.token) n_is) r_q.behind_it
+                  ⟫ no_comment_read k (asked Command (q + 1)) (past_blanks T (q + 1)) (closes k (q + 1) behind_it).no_comment_it ⟫ given_here;
               on = omega (arith, low, blanks_low T (q + 1));
               shape = ap (λ a. entry (command a) false false None) ar.is;
               texts = ar.texts;
             }
 
-        short_line : (h : Held) (m : Text) (a : Shape AnAndOrOf) (f : ℕ) (w : Text) (r : Reserved) (ms : Marks) → all_blank m ≡ true → GoodAndOr room a → is_normal_and_or a ≡ true → Key w r ms
+        short_line : (h : Held) (m : Text) (a : Shape AnAndOrOf) (f : ℕ) (w : Text) (r : Reserved) (ms : Marks) → all_blank m ≡ true → GoodAndOr edition room a → is_normal_and_or a ≡ true → Key w r ms
             → begins_pipeline (tokens.Reserved r) ≡ false → At h f (text (codes " ") ∷ (print_and_or y m a ++ (text (codes "; ") ∷ text w ∷ ms))) → CondRead h f (one_command_list a) r ms
         unfolding list_turn on_line entry_turn one_entry a_list opened entries_bodies entry_bodies content_bodies
         short_line h m a f w r ms blank good normal key none at =
@@ -2607,13 +2625,13 @@ module _ (B T : List ℕ) (o : ℕ) (here : drop o B ≡ T) where
             let p = past_blanks T f in
             let at_p = subst (λ q. At h q A) (sym gap.blanks) behind_it in
             let b = begins p at_p in
-            let n = next_at Command T f in
+            let n = asked Command f in
             let closes = keyword_closes (codes " ") w r ms refl key none in
             let one_read = short_read h m a n p (text w ∷ ms) blank good normal refl closes at_p in
             let k = one_read.later in
             let c = closes k one_read.f one_read.at in
             let v = one_read.value in
-            let z = next_at Command T one_read.f in
+            let z = asked Command one_read.f in
             let q = past_blanks T one_read.f in
             let past = Some (o + one_read.f) in
             let l = on_this_line (v ∷ []) false true past in
@@ -2640,11 +2658,11 @@ module _ (B T : List ℕ) (o : ℕ) (here : drop o B ≡ T) where
         abbrev cond_marks : Text → Shape EntriesOf → Marks
         cond_marks m es = if is_one_line es then text (codes " ") ∷ print_only y m es ++ one (codes "; ") else lines_between m (print_entries y (deeper y m) es)
 
-        cond_read : (h : Held) (m : Text) (es : Shape EntriesOf) (f : ℕ) (w : Text) (r : Reserved) (ms : Marks) → all_blank m ≡ true → GoodEntries room es → is_whole es ≡ true → are_normal es ≡ true → Key w r ms
+        cond_read : (h : Held) (m : Text) (es : Shape EntriesOf) (f : ℕ) (w : Text) (r : Reserved) (ms : Marks) → all_blank m ≡ true → GoodEntries edition room es → is_whole es ≡ true → are_normal es ≡ true → Key w r ms
             → begins_pipeline (tokens.Reserved r) ≡ false → At h f (cond_marks m es ++ (text w ∷ ms)) → CondRead h f es r ms
         cond_read h m es f w r ms blank good whole normal key none at = by_form h (one_line_or_more es) good whole normal at
           where
-            by_form : (h : Held) {js : Shape EntriesOf} → OneLine js → GoodEntries room js → is_whole js ≡ true → are_normal js ≡ true → At h f (cond_marks m js ++ (text w ∷ ms)) → CondRead h f js r ms
+            by_form : (h : Held) {js : Shape EntriesOf} → OneLine js → GoodEntries edition room js → is_whole js ≡ true → are_normal js ≡ true → At h f (cond_marks m js ++ (text w ∷ ms)) → CondRead h f js r ms
             by_form h (on_one a true) good whole normal at = absurd cc
             by_form h (on_one a false) good whole normal at =
                 short_line h m a f w r ms blank good.0.0 (and_parts _ _ normal).0 key none (at ∙ ap (λ ks. lay h (text (codes " ") ∷ ks)) (append_assoc (print_and_or y m a) (one (codes "; ")) (text w ∷ ms)))
@@ -2663,7 +2681,7 @@ module _ (B T : List ℕ) (o : ℕ) (here : drop o B ≡ T) where
           e : ℕ
           later : Held
           key : KeywordRead later e r ms
-          reads : Gives g (a_list inner (next_at Command T f)) (state h (past_blanks T f)) (value, next_at Command T e) (state later (past_blanks T e))
+          reads : Gives g (a_list inner (asked Command f)) (state h (past_blanks T f)) (value, asked Command e) (state later (past_blanks T e))
           shape : shape_of B value ≡ opened [] es
           texts : Adds h later (entries_bodies es)
 
@@ -2673,7 +2691,7 @@ module _ (B T : List ℕ) (o : ℕ) (here : drop o B ≡ T) where
         between_is : (m : Text) (es : Shape EntriesOf) (ms : Marks) → lines_between m (print_entries y (deeper y m) es) ++ ms ≡ block_marks m es ms
         between_is m es ms = ap (λ ks. line_end ∷ ks) (append_assoc (print_entries y (deeper y m) es) (one m) ms)
 
-        body_read : (h : Held) (m : Text) (es : Shape EntriesOf) (f : ℕ) (w : Text) (r : Reserved) (ms : Marks) → all_blank m ≡ true → GoodEntries room es → is_whole es ≡ true → are_normal es ≡ true → Key w r ms
+        body_read : (h : Held) (m : Text) (es : Shape EntriesOf) (f : ℕ) (w : Text) (r : Reserved) (ms : Marks) → all_blank m ≡ true → GoodEntries edition room es → is_whole es ≡ true → are_normal es ≡ true → Key w r ms
             → begins_pipeline (tokens.Reserved r) ≡ false → At h f (block_marks m es (text w ∷ ms)) → BlockRead h f es r ms
         body_read h m es f w r ms blank good whole normal key none at =
             let got = block_read h (deeper y m) es f (text m ∷ text w ∷ ms) (deeper_blank y m blank) good whole normal (keyword_closes m w r ms blank key none) at in
@@ -2753,7 +2771,7 @@ module _ (B T : List ℕ) (o : ℕ) (here : drop o B ≡ T) where
           e : ℕ
           later : Held
           at : At later e ms
-          reads : Gives g (a_branch inner (next_at Command T f)) (state h (past_blanks T f)) (value, next_at Command T e) (state later (past_blanks T e))
+          reads : Gives g (a_branch inner (asked Command f)) (state h (past_blanks T f)) (value, asked Command e) (state later (past_blanks T e))
           shape : shape_of_branch B value ≡ open_branch [] b
           texts : Adds h later (branch_bodies b)
 
@@ -2767,7 +2785,7 @@ module _ (B T : List ℕ) (o : ℕ) (here : drop o B ≡ T) where
         unfolding open_branch
         branch_shape c b condition body e f = rw (e, f) refl
 
-        branch_read : (h : Held) (m : Text) (condition body : Shape EntriesOf) (f : ℕ) (ms : Marks) → all_blank m ≡ true → GoodBranch room (branch condition body) → is_normal_branch (branch condition body) ≡ true
+        branch_read : (h : Held) (m : Text) (condition body : Shape EntriesOf) (f : ℕ) (ms : Marks) → all_blank m ≡ true → GoodBranch edition room (branch condition body) → is_normal_branch (branch condition body) ≡ true
             → FirstWord ms → At h f (branch_marks m (codes "then") condition body ms) → BranchRead h f (branch condition body) (text m ∷ ms)
         unfolding a_branch branch_bodies
         branch_read h m condition body f ms blank good normal next_word at =
@@ -2802,16 +2820,16 @@ module _ (B T : List ℕ) (o : ℕ) (here : drop o B ≡ T) where
           e : ℕ
           later : Held
           at : At later e rest
-          reads : Gives g r (state h p) (record { what = value; closer = closer; next = next_at Command T e }) (state later (past_blanks T e))
+          reads : Gives g r (state h p) (record { what = value; closer = closer; next = asked Command e }) (state later (past_blanks T e))
           is : Is value
           texts : Adds h later more
 
         done_key : (ms : Marks) → Ends ms → Key (codes "done") reserved.Done ms
         done_key ms e = key_by (codes "done") reserved.Done ms e (λ p x xs clear stops at. done_here T p x xs clear stops at)
 
-        loop_read : (h : Held) (m : Text) (condition body : Shape EntriesOf) (f : ℕ) (rest : Marks) → all_blank m ≡ true → GoodBranch room (branch condition body) → is_normal_branch (branch condition body) ≡ true
+        loop_read : (h : Held) (m : Text) (condition body : Shape EntriesOf) (f : ℕ) (rest : Marks) → all_blank m ≡ true → GoodBranch edition room (branch condition body) → is_normal_branch (branch condition body) ≡ true
             → Ends rest → At h f (branch_marks m (codes "do") condition body (text (codes "done") ∷ rest))
-            → Finished h ABranch (a_loop inner (next_at Command T f)) (past_blanks T f) rest (branch_bodies (branch condition body)) (λ v. shape_of_branch B v ≡ open_branch [] (branch condition body))
+            → Finished h ABranch (a_loop inner (asked Command f)) (past_blanks T f) rest (branch_bodies (branch condition body)) (λ v. shape_of_branch B v ≡ open_branch [] (branch condition body))
         unfolding a_loop branch_bodies
         loop_read h m condition body f rest blank good normal stop at =
             let one_of = and_parts _ _ normal in
@@ -2841,11 +2859,11 @@ module _ (B T : List ℕ) (o : ℕ) (here : drop o B ≡ T) where
           f : ℕ
           later : Held
           key : KeywordRead later f reserved.Fi rest
-          reads : Gives g (an_else inner (next_at Command T e)) (state h (past_blanks T e)) (value, next_at Command T f) (state later (past_blanks T f))
+          reads : Gives g (an_else inner (asked Command e)) (state h (past_blanks T e)) (value, asked Command f) (state later (past_blanks T f))
           shape : shape_of_else B value ≡ open_else [] other
           texts : Adds h later (else_bodies other)
 
-        else_read : (h : Held) (m : Text) (other : Shape OtherwiseOf) (e : ℕ) (rest : Marks) → all_blank m ≡ true → GoodElse room other → is_normal_else other ≡ true → Ends rest
+        else_read : (h : Held) (m : Text) (other : Shape OtherwiseOf) (e : ℕ) (rest : Marks) → all_blank m ≡ true → GoodElse edition room other → is_normal_else other ≡ true → Ends rest
             → At h e (text m ∷ else_rest m other rest) → ElseRead h e other rest
         unfolding an_else else_first open_else else_bodies
         else_read h m no_else e rest blank good normal stop at =
@@ -2872,7 +2890,7 @@ module _ (B T : List ℕ) (o : ℕ) (here : drop o B ≡ T) where
           f : ℕ
           later : Held
           at : At later f ms
-          reads : Gives g (many (elif_turn inner) (branched acc (next_at Command T e))) (state h (past_blanks T e)) (branched (acc ++ value) (next_at Command T f)) (state later (past_blanks T f))
+          reads : Gives g (many (elif_turn inner) (branched acc (asked Command e))) (state h (past_blanks T e)) (branched (acc ++ value) (asked Command f)) (state later (past_blanks T f))
           shape : shape_of_branches B (branches_of value) ≡ open_branches [] bs
           texts : Adds h later (branches_bodies bs)
 
@@ -2903,7 +2921,7 @@ module _ (B T : List ℕ) (o : ℕ) (here : drop o B ≡ T) where
             let low = some_word (e + length m) w (lay h ms) some (behind_it ∙ laid_text h w ms) in
             let is = gap.blanks in omega (arith, low, is)
 
-        branches_read : (h : Held) (m : Text) (bs : Shape BranchesOf) (other : Shape OtherwiseOf) (acc : Row ABranch) (e : ℕ) (rest : Marks) → all_blank m ≡ true → GoodBranches room bs → are_normal_branches bs ≡ true
+        branches_read : (h : Held) (m : Text) (bs : Shape BranchesOf) (other : Shape OtherwiseOf) (acc : Row ABranch) (e : ℕ) (rest : Marks) → all_blank m ≡ true → GoodBranches edition room bs → are_normal_branches bs ≡ true
             → Ends rest → At h e (text m ∷ if_rest m bs other rest) → BranchesRead h acc e bs (text m ∷ else_rest m other rest)
         unfolding elif_turn open_branches branches_bodies
         branches_read h m no_branch other acc e rest blank good normal stop at =
@@ -2928,7 +2946,7 @@ module _ (B T : List ℕ) (o : ℕ) (here : drop o B ≡ T) where
             let k = keyword_read h m (codes "elif") reserved.Elif e X blank key there in
             let k_f = keyword_f h m (codes "elif") reserved.Elif e X blank key there in
             let b = branch_read h m condition body k.f Z blank good.0 parts.0 (if_first m bs other rest stop) k.at in
-            let low = gives_on (a_branch inner (next_at Command T k.f)) _ _ _ b.reads in
+            let low = gives_on (a_branch inner (asked Command k.f)) _ _ _ b.reads in
             let start = (key h (e + length m) (at_text h e m (text (codes "elif") ∷ X) there ∙ laid_text h (codes "elif") X)).start in
             let within = keyword_within h m (codes "elif") e X (omega arith) blank start there in
             let others = branches_read b.later m bs other (acc ++ b.value ∷ []) b.e rest blank good.1 parts.1 stop b.at in
@@ -2937,7 +2955,7 @@ module _ (B T : List ℕ) (o : ℕ) (here : drop o B ≡ T) where
               f = others.f;
               later = others.later;
               at = others.at;
-              reads = branches_turned h b.later others.later acc (next_at Command T e) (past_blanks T e) b.value (next_at Command T b.e) (past_blanks T b.e) others.value (next_at Command T others.f) (past_blanks T others.f)
+              reads = branches_turned h b.later others.later acc (asked Command e) (past_blanks T e) b.value (asked Command b.e) (past_blanks T b.e) others.value (asked Command others.f) (past_blanks T others.f)
                   (first_of _ _ (ap (is_closing closings.Elif) k.token_is) (k.reads (closing_text closings.Elif) Command ⟫ b.reads ⟫ pushed_here acc b.value ⟫ given_here))
                   (leads h b.later (past_blanks T e) (past_blanks T b.e) (omega (arith, low, k_f, blanks_low T k.f)) within) others.reads;
               shape = branches_shape b.value others.value (branch condition body) bs b.shape others.shape;
@@ -2952,9 +2970,9 @@ module _ (B T : List ℕ) (o : ℕ) (here : drop o B ≡ T) where
         if_shape v vs w b bs other e f i = rw (e, f, i) refl
 
         if_read : (h : Held) (m : Text) (condition body : Shape EntriesOf) (bs : Shape BranchesOf) (other : Shape OtherwiseOf) (f : ℕ) (rest : Marks) → all_blank m ≡ true
-            → GoodForm room (if_then (branch condition body) bs other) → is_normal_form (if_then (branch condition body) bs other) ≡ true → Ends rest
+            → GoodForm edition room (if_then (branch condition body) bs other) → is_normal_form (if_then (branch condition body) bs other) ≡ true → Ends rest
             → At h f (branch_marks m (codes "then") condition body (if_rest m bs other rest))
-            → Finished h AForm (an_if inner (next_at Command T f)) (past_blanks T f) rest (form_bodies (if_then (branch condition body) bs other)) (λ v. shape_of_form B v ≡ open_form [] (if_then (branch condition body) bs other))
+            → Finished h AForm (an_if inner (asked Command f)) (past_blanks T f) rest (form_bodies (if_then (branch condition body) bs other)) (λ v. shape_of_form B v ≡ open_form [] (if_then (branch condition body) bs other))
         unfolding an_if form_bodies
         if_read h m condition body bs other f rest blank good normal stop at =
             let one_of = and_parts _ _ normal in
@@ -2980,10 +2998,10 @@ module _ (B T : List ℕ) (o : ℕ) (here : drop o B ≡ T) where
           value : AWord
           e : ℕ
           at : At h e ms
-          reads : Gives g (a_for_name inner (next_at Suffix T f)) (state h (past_blanks T f)) (value, next_at Command T e) (state h (past_blanks T e))
+          reads : Gives g (a_for_name inner (asked Suffix f)) (state h (past_blanks T f)) (value, asked Command e) (state h (past_blanks T e))
           shape : shape_of_word B value ≡ name
 
-        name_read : (h : Held) (name : Shape AWordOf) (f : ℕ) (ms : Marks) → GoodName room name → Followed ms → At h f (text (codes " ") ∷ (print_word name ++ ms)) → NameRead h f name ms
+        name_read : (h : Held) (name : Shape AWordOf) (f : ℕ) (ms : Marks) → GoodName edition room name → Followed ms → At h f (text (codes " ") ∷ (print_word name ++ ms)) → NameRead h f name ms
         unfolding a_for_name
         name_read h name f ms good follow at =
             let t = good.t in
@@ -2996,7 +3014,7 @@ module _ (B T : List ℕ) (o : ℕ) (here : drop o B ≡ T) where
             let at_q = subst (λ r. At h r (text t ∷ ms)) (sym gap.blanks) behind_it in
             let there_q = at_q ∙ laid_text h t ms in
             let v = (good.reads.there g q (lay h ms) there_q (follow (held_bytes h.waiting))).word B (sym here) in
-            let begins = ap (λ (n : Next). begins_word n.token) (next_behind Suffix gap) ∙ ap begins_word found.token_is ∙ good.begins in
+            let begins = ap (λ (n : Next). begins_word n.token) (asked_behind Suffix gap) ∙ ap begins_word (tell_word (item_is_word good.token good.begins) found.token_is) ∙ good.begins in
             record {
               value = v.0;
               e = e;
@@ -3040,13 +3058,13 @@ module _ (B T : List ℕ) (o : ℕ) (here : drop o B ≡ T) where
           e : ℕ
           later : Held
           key : KeywordRead later e reserved.Do ms
-          reads : Gives g (a_for_head inner (next_at Command T f)) (state h (past_blanks T f)) (headed value (join_so (a_join_of false []) (next_at Command T e))) (state later (past_blanks T e))
+          reads : Gives g (a_for_head inner (asked Command f)) (state h (past_blanks T f)) (headed value (join_so (a_join_of false []) (asked Command e))) (state later (past_blanks T e))
           shape : shape_of_for_words B value ≡ words
           texts : Adds h later no_more
 
         -- `;` and the word behind it
         sep_read : (h : Held) (e : ℕ) (w : Text) (r : Reserved) (ms : Marks) → Key w r ms → At h e (text (codes "; ") ∷ text w ∷ ms)
-            → (k : KeywordRead h (past_blanks T e + 1) r ms) × Gives g (a_sequential_sep inner [] (next_at Command T e)) (state h (past_blanks T e)) (join_so (a_join_of false []) (next_at Command T (past_blanks T e + 1))) (state h (past_blanks T (past_blanks T e + 1)))
+            → (k : KeywordRead h (past_blanks T e + 1) r ms) × Gives g (a_sequential_sep inner [] (asked Command e)) (state h (past_blanks T e)) (join_so (a_join_of false []) (asked Command (past_blanks T e + 1))) (state h (past_blanks T (past_blanks T e + 1)))
         unfolding a_sequential_sep a_semicolon
         sep_read h e w r ms key at =
             let there = at ∙ laid_text h (codes "; ") (text w ∷ ms) in
@@ -3058,10 +3076,10 @@ module _ (B T : List ℕ) (o : ℕ) (here : drop o B ≡ T) where
             let moved : Gives g (move one_byte) (state h q) tt (state h (q + 1)) = subst (λ p. Gives g (move one_byte) (state h q) tt (state h p)) r_q.behind_it (moved_here one_byte) in (
               k,
               first_of _ _ (ap (λ (n : Next). is_semicolon n.token) n_is) (moved ⟫ next_read h Command (q + 1) ⟫ given_here)
-                  ⟫ no_lines h (next_at Command T (q + 1)) (past_blanks T (q + 1)) k.no_comment_it (ap is_newline k.token_is) ⟫ given_here,
+                  ⟫ no_lines h (asked Command (q + 1)) (past_blanks T (q + 1)) k.no_comment_it (ap is_newline k.token_is) ⟫ given_here,
             )
 
-        words_read : (h : Held) (m : Text) (items : Shape ItemsOf) (f : ℕ) (ms : Marks) → all_blank m ≡ true → GoodForWords room (in_words items) → are_normal_words (in_words items) ≡ true → Ends ms
+        words_read : (h : Held) (m : Text) (items : Shape ItemsOf) (f : ℕ) (ms : Marks) → all_blank m ≡ true → GoodForWords edition room (in_words items) → are_normal_words (in_words items) ≡ true → Ends ms
             → At h f (head_marks m (in_words items) ms) → HeadRead h f (in_words items) ms
         unfolding a_for_head for_words
         words_read h m items f ms blank good normal stop at =
@@ -3073,7 +3091,7 @@ module _ (B T : List ℕ) (o : ℕ) (here : drop o B ≡ T) where
             let k = keyword_read h (codes " ") (codes "in") reserved.In f (P ++ X) refl (in_key (P ++ X) stops) at in
             let is = items_read y m some_margin.0 some_margin.1 (deeper_blank y m blank) some_margin.2 X follower.follow (follower_behind follower refl) h good.items [] k.f (λ none. (and_parts _ _ normal).0) k.at in
             let sep = sep_read is.later is.«end» (codes "do") reserved.Do ms (do_key ms stop) is.at in
-            let n = next_at Command T f in
+            let n = asked Command f in
             let q = past_blanks T f in
             record {
               value = in_words (items_of is.more_items_read);
@@ -3083,15 +3101,15 @@ module _ (B T : List ℕ) (o : ℕ) (here : drop o B ≡ T) where
               reads = no_semicolon h n q (ap is_semicolon k.token_is) ⟫ no_lines h n q k.no_comment_it (ap is_newline k.token_is)
                   ⟫ first_of _ _ (ap (is_closing closings.In) k.token_is) (k.reads (closing_text closings.In) Suffix ⟫ is.reads ⟫ sep.1 ⟫ given_here);
               shape = ap in_words (is.shape ∙ for_words_open good.items);
-              texts = λ ts. is.texts ts ∙ ap (λ us. texts_of B T o here h ++ us) (for_words_bodies good.items ts);
+              texts = λ ts. is.texts ts ∙ ap (λ us. texts_of edition B T o here h ++ us) (for_words_bodies good.items ts);
             }
 
-        head_read : (h : Held) (m : Text) (words : Shape ForWordsOf) (f : ℕ) (ms : Marks) → all_blank m ≡ true → GoodForWords room words → are_normal_words words ≡ true → Ends ms
+        head_read : (h : Held) (m : Text) (words : Shape ForWordsOf) (f : ℕ) (ms : Marks) → all_blank m ≡ true → GoodForWords edition room words → are_normal_words words ≡ true → Ends ms
             → At h f (head_marks m words ms) → HeadRead h f words ms
         unfolding a_for_head
         head_read h m no_in f ms blank good normal stop at =
             let k = keyword_read h (codes " ") (codes "do") reserved.Do f ms refl (do_key ms stop) at in
-            let n = next_at Command T f in
+            let n = asked Command f in
             let q = past_blanks T f in
             record {
               value = no_in;
@@ -3109,9 +3127,9 @@ module _ (B T : List ℕ) (o : ℕ) (here : drop o B ≡ T) where
         unfolding open_form
         for_shape v ws b name words body e f i = rw (e, f, i) refl
 
-        for_read : (h : Held) (m : Text) (name : Shape AWordOf) (words : Shape ForWordsOf) (body : Shape EntriesOf) (f : ℕ) (rest : Marks) → all_blank m ≡ true → GoodForm room (for_in name words body)
+        for_read : (h : Held) (m : Text) (name : Shape AWordOf) (words : Shape ForWordsOf) (body : Shape EntriesOf) (f : ℕ) (rest : Marks) → all_blank m ≡ true → GoodForm edition room (for_in name words body)
             → is_normal_form (for_in name words body) ≡ true → Ends rest → At h f (text (codes " ") ∷ (print_word name ++ head_marks m words (block_marks m body (text (codes "done") ∷ rest))))
-            → Finished h AForm (a_for inner (next_at Suffix T f)) (past_blanks T f) rest (form_bodies (for_in name words body)) (λ v. shape_of_form B v ≡ open_form [] (for_in name words body))
+            → Finished h AForm (a_for inner (asked Suffix f)) (past_blanks T f) rest (form_bodies (for_in name words body)) (λ v. shape_of_form B v ≡ open_form [] (for_in name words body))
         unfolding a_for a_group form_bodies
         for_read h m name words body f rest blank good normal stop at =
             let one_of = and_parts _ _ normal in
@@ -3133,12 +3151,12 @@ module _ (B T : List ℕ) (o : ℕ) (here : drop o B ≡ T) where
             }
 
         -- behind a margin a `)` closes
-        paren_line : (h : Held) (m : Text) (e : ℕ) (ms : Marks) → all_blank m ≡ true → At h e (text m ∷ text (codes ")") ∷ ms) → (token_at Command T (past_blanks T e) ≡ tokens.CloseParen) × At h (past_blanks T e) (text (codes ")") ∷ ms)
+        paren_line : (h : Held) (m : Text) (e : ℕ) (ms : Marks) → all_blank m ≡ true → At h e (text m ∷ text (codes ")") ∷ ms) → (told Command (past_blanks T e) ≡ tokens.CloseParen) × At h (past_blanks T e) (text (codes ")") ∷ ms)
         paren_line h m e ms blank at =
             let behind_it = at_text h e m (text (codes ")") ∷ ms) at in
             let gap = margin_gap h m e (text (codes ")") ∷ ms) blank at (start_here (byte_here T (e + length m) 41 (lay h ms) refl (behind_it ∙ laid_text h (codes ")") ms)) refl) in
             let at_q = subst (λ q. At h q (text (codes ")") ∷ ms)) (sym gap.blanks) behind_it in
-            (close_token Command T (past_blanks T e) (lay h ms) (at_q ∙ laid_text h (codes ")") ms), at_q)
+            (tell (close_token Command T (past_blanks T e) (lay h ms) (at_q ∙ laid_text h (codes ")") ms)), at_q)
 
         paren_closes : (m : Text) (ms : Marks) → all_blank m ≡ true → (h : Held) (e : ℕ) → At h e (text m ∷ text (codes ")") ∷ ms) → Closes e
         paren_closes m ms blank h e at =
@@ -3152,8 +3170,8 @@ module _ (B T : List ℕ) (o : ℕ) (here : drop o B ≡ T) where
         brace_key : (ms : Marks) → Ends ms → Key (codes "}") reserved.CloseBrace ms
         brace_key ms e = key_by (codes "}") reserved.CloseBrace ms e (λ p x xs clear stops at. close_brace_here T p x xs clear stops at)
 
-        group_read : (h : Held) (m : Text) (es : Shape EntriesOf) (f : ℕ) (rest : Marks) → all_blank m ≡ true → GoodEntries room es → is_whole es ≡ true → are_normal es ≡ true → Ends rest
-            → At h f (block_marks m es (text (codes "}") ∷ rest)) → Finished h Entries (a_group inner closings.Brace (next_at Command T f)) (past_blanks T f) rest (entries_bodies es) (λ v. shape_of B v ≡ opened [] es)
+        group_read : (h : Held) (m : Text) (es : Shape EntriesOf) (f : ℕ) (rest : Marks) → all_blank m ≡ true → GoodEntries edition room es → is_whole es ≡ true → are_normal es ≡ true → Ends rest
+            → At h f (block_marks m es (text (codes "}") ∷ rest)) → Finished h Entries (a_group inner closings.Brace (asked Command f)) (past_blanks T f) rest (entries_bodies es) (λ v. shape_of B v ≡ opened [] es)
         unfolding a_group
         group_read h m es f rest blank good whole normal stop at =
             let b = body_read h m es f (codes "}") reserved.CloseBrace rest blank good whole normal (brace_key rest stop) refl at in
@@ -3168,8 +3186,8 @@ module _ (B T : List ℕ) (o : ℕ) (here : drop o B ≡ T) where
               is = b.shape;
             }
 
-        subshell_read : (h : Held) (m : Text) (es : Shape EntriesOf) (f : ℕ) (rest : Marks) → all_blank m ≡ true → GoodEntries room es → is_whole es ≡ true → are_normal es ≡ true
-            → At h f (block_marks m es (text (codes ")") ∷ rest)) → Finished h Entries (a_group inner closings.Paren (next_at Command T f)) (past_blanks T f) rest (entries_bodies es) (λ v. shape_of B v ≡ opened [] es)
+        subshell_read : (h : Held) (m : Text) (es : Shape EntriesOf) (f : ℕ) (rest : Marks) → all_blank m ≡ true → GoodEntries edition room es → is_whole es ≡ true → are_normal es ≡ true
+            → At h f (block_marks m es (text (codes ")") ∷ rest)) → Finished h Entries (a_group inner closings.Paren (asked Command f)) (past_blanks T f) rest (entries_bodies es) (λ v. shape_of B v ≡ opened [] es)
         unfolding a_group closing
         subshell_read h m es f rest blank good whole normal at =
             let b = block_read h (deeper y m) es f (text m ∷ text (codes ")") ∷ rest) (deeper_blank y m blank) good whole normal (paren_closes m rest blank) at in
@@ -3196,20 +3214,20 @@ module _ (B T : List ℕ) (o : ℕ) (here : drop o B ≡ T) where
         key_operand : (h : Held) (w : Text) (r : Reserved) (ms : Marks) → Key w r ms → (p : ℕ) → At h p (text w ∷ ms) → Operand p
         key_operand h w r ms key p at =
             let k = key h p (at ∙ laid_text h w ms) in
-            record { start = k.start; no_comment = no_sharp p k.start.place (ap is_comment k.token); no_newline = ap is_newline k.token }
+            record { start = k.start; no_comment = no_sharp p k.start.place (ap is_comment (tell k.token)); no_newline = ap is_newline (tell k.token) }
 
         -- a word behind a margin
         record WordAt (h : Held) (position : Position) (begins : Token → Bool) (f : ℕ) (w : Shape AWordOf) (ms : Marks) : Type 0 where
           value : AWord
           e : ℕ
           at : At h e ms
-          begin : begins (token_at position T (past_blanks T f)) ≡ true
+          begin : begins (told position (past_blanks T f)) ≡ true
           reads : Gives g (a_word inner) (state h (past_blanks T f)) value (state h e)
           on : past_blanks T f < e
           within : past_blanks T f < length T
           shape : shape_of_word B value ≡ w
 
-        word_at : (h : Held) (position : Position) (begins : Token → Bool) (m : Text) (w : Shape AWordOf) (f : ℕ) (ms : Marks) → all_blank m ≡ true → GoodWord room position begins w → Followed ms
+        word_at : (h : Held) (position : Position) (begins : Token → Bool) (m : Text) (w : Shape AWordOf) (f : ℕ) (ms : Marks) → all_blank m ≡ true → GoodWord edition room position begins w → Followed ms
             → At h f (text m ∷ (print_word w ++ ms)) → WordAt h position begins f w ms
         word_at h position begins m w f ms blank good follow at =
             let t = good.t in
@@ -3228,7 +3246,7 @@ module _ (B T : List ℕ) (o : ℕ) (here : drop o B ≡ T) where
               value = v.0;
               e = e;
               at = at_text h q t ms at_q;
-              begin = ap begins again_there.token_is ∙ good.begin;
+              begin = ap begins (tell_word good.word_is again_there.token_is) ∙ good.begin;
               reads = printed_word h t good.ss q v;
               on = omega (arith, some);
               within = some_word q t (lay h ms) some there_q;
@@ -3254,24 +3272,24 @@ module _ (B T : List ℕ) (o : ℕ) (here : drop o B ≡ T) where
         more_follows (more_patterns w ws) ms held = refl
 
         -- a `)` stands here
-        bracket_next : (h : Held) (position : Position) (e : ℕ) (ms : Marks) → At h e (text (codes ")") ∷ ms) → (next_at position T e ≡ record { token = tokens.CloseParen; broken = false }) × (past_blanks T e ≡ e)
+        bracket_next : (h : Held) (position : Position) (e : ℕ) (ms : Marks) → At h e (text (codes ")") ∷ ms) → (asked position e ≡ record { token = tokens.CloseParen; broken = false }) × (past_blanks T e ≡ e)
         bracket_next h position e ms at =
             let there = at ∙ laid_text h (codes ")") ms in
             let gap = no_gap (start_here (byte_here T e 41 (lay h ms) refl there) refl) in
-            (next_behind position gap ∙ ap (λ t. record { token = t; broken = false }) (close_token position T e (lay h ms) there), gap.blanks)
+            (asked_behind position gap ∙ ap (λ t. record { token = token_in edition t; broken = false }) (close_token position T e (lay h ms) there), gap.blanks)
 
         record PatternsRead (h : Held) (acc : Row AWord) (f : ℕ) (ws : Shape PatternsOf) (ms : Marks) : Type 0 where
           value : Row AWord
           e : ℕ
           at : At h e (text (codes ")") ∷ ms)
-          reads : Gives g (many (pattern_turn inner) (patterned acc (next_at Suffix T f))) (state h (past_blanks T f)) (patterned (acc ++ value) (next_at Suffix T e)) (state h (past_blanks T e))
+          reads : Gives g (many (pattern_turn inner) (patterned acc (asked Suffix f))) (state h (past_blanks T f)) (patterned (acc ++ value) (asked Suffix e)) (state h (past_blanks T e))
           shape : shape_of_patterns B (patterns_of value) ≡ ws
 
         patterns_shape : (v : AWord) (vs : Row AWord) (w : Shape AWordOf) (ws : Shape PatternsOf) → shape_of_word B v ≡ w → shape_of_patterns B (patterns_of vs) ≡ ws
             → shape_of_patterns B (patterns_of (v ∷ vs)) ≡ more_patterns w ws
         patterns_shape v vs w ws e f = rw (e, f) refl
 
-        patterns_read : (h : Held) (ws : Shape PatternsOf) (acc : Row AWord) (f : ℕ) (ms : Marks) → GoodMorePatterns room ws → At h f (more_marks ws ms) → PatternsRead h acc f ws ms
+        patterns_read : (h : Held) (ws : Shape PatternsOf) (acc : Row AWord) (f : ℕ) (ms : Marks) → GoodMorePatterns edition room ws → At h f (more_marks ws ms) → PatternsRead h acc f ws ms
         unfolding pattern_turn one_pattern a_pattern
         patterns_read h no_pattern acc f ms good at = record {
           value = [];
@@ -3293,8 +3311,8 @@ module _ (B T : List ℕ) (o : ℕ) (here : drop o B ≡ T) where
             let moved : Gives g (move one_byte) (state h q) tt (state h (q + 1)) = subst (λ p. Gives g (move one_byte) (state h q) tt (state h p)) r_q.behind_it (moved_here one_byte) in
             let v = word_at h Suffix begins_word (codes " ") w (q + 1) (more_marks ws ms) refl good.0 (more_follows ws ms) r_q.rest in
             let others = patterns_read h ws (acc ++ v.value ∷ []) v.e ms good.1 v.at in
-            let n = next_at Suffix T f in
-            let turned : Gives g (pattern_turn inner (patterned acc n)) (state h q) (again (patterned (acc ++ v.value ∷ []) (next_at Suffix T v.e))) (state h (past_blanks T v.e)) =
+            let n = asked Suffix f in
+            let turned : Gives g (pattern_turn inner (patterned acc n)) (state h q) (again (patterned (acc ++ v.value ∷ []) (asked Suffix v.e))) (state h (past_blanks T v.e)) =
             first_of _ _ (ap (λ (n : Next). is_pipe n.token) n_is)
             (told_here (by (codes "|")) moved ⟫ next_read h Suffix (q + 1) ⟫ first_of _ _ v.begin ((v.reads ⟫ pushed_here acc v.value ⟫ next_read h Suffix v.e ⟫ given_here) ⟫ given_here)) in
             let on = leads h h q (past_blanks T v.e) (omega (arith, v.on, blanks_low T (q + 1), blanks_low T v.e)) (some_here q 124 (lay h X) there_q) in
@@ -3302,7 +3320,7 @@ module _ (B T : List ℕ) (o : ℕ) (here : drop o B ≡ T) where
               value = v.value ∷ others.value;
               e = others.e;
               at = others.at;
-              reads = subst (λ all. Gives g (many (pattern_turn inner) (patterned acc n)) (state h q) (patterned all (next_at Suffix T others.e)) (state h (past_blanks T others.e)))
+              reads = subst (λ all. Gives g (many (pattern_turn inner) (patterned acc n)) (state h q) (patterned all (asked Suffix others.e)) (state h (past_blanks T others.e)))
                   (append_assoc acc (v.value ∷ []) others.value) (one_turn (pattern_turn inner) turned on others.reads);
               shape = patterns_shape v.value others.value w ws v.shape others.shape;
             }
@@ -3319,6 +3337,7 @@ module _ (B T : List ℕ) (o : ℕ) (here : drop o B ≡ T) where
         first_pattern tokens.Newline e = absurd cc
         first_pattern tokens.Semicolon e = absurd cc
         first_pattern tokens.DoubleSemicolon e = absurd cc
+        first_pattern tokens.SemicolonAmpersand e = absurd cc
         first_pattern tokens.Ampersand e = absurd cc
         first_pattern tokens.AndIf e = absurd cc
         first_pattern tokens.OrIf e = absurd cc
@@ -3350,11 +3369,11 @@ module _ (B T : List ℕ) (o : ℕ) (here : drop o B ≡ T) where
         first_pattern tokens.Assignment e = record { bracket = refl; esac = refl; newline = refl; comment = refl }
         first_pattern tokens.Word e = record { bracket = refl; esac = refl; newline = refl; comment = refl }
 
-        pattern_operand : (h : Held) (w : Shape AWordOf) (ms : Marks) → GoodWord room Command begins_pattern w → Followed ms → (p : ℕ) → At h p (print_word w ++ ms) → Operand p
+        pattern_operand : (h : Held) (w : Shape AWordOf) (ms : Marks) → GoodWord edition room Command begins_pattern w → Followed ms → (p : ℕ) → At h p (print_word w ++ ms) → Operand p
         pattern_operand h w ms good follow p at =
             let there = at ∙ ap (λ w. lay h (print_word w ++ ms)) good.is ∙ laid_text h good.t ms in
             let found = good.reads.there g p (lay h ms) there (follow (held_bytes h.waiting)) in
-            let other = first_pattern _ (ap begins_pattern found.token_is ∙ good.begin) in
+            let other = first_pattern _ (ap begins_pattern (tell_word good.word_is found.token_is) ∙ good.begin) in
             record { start = record { place = found.place; no_blank = found.no_blank }; no_comment = no_sharp p found.place other.comment; no_newline = other.newline }
 
         -- ---- comments before an item
@@ -3365,12 +3384,12 @@ module _ (B T : List ℕ) (o : ℕ) (here : drop o B ≡ T) where
           e : ℕ
           later : Held
           at : At later e (text m ∷ ms)
-          reads : Gives g (many join_turn (join_so (a_join_of b acc) n)) (state h p) (join_so (a_join_of true (acc ++ comments)) (next_at Command T e)) (state later (past_blanks T e))
+          reads : Gives g (many join_turn (join_so (a_join_of b acc) n)) (state h p) (join_so (a_join_of true (acc ++ comments)) (asked Command e)) (state later (past_blanks T e))
           shape : shape_of_comments B comments ≡ cs
           texts : Adds h later no_more
 
         module _ (d m : Text) (blank_d : all_blank d ≡ true) (blank_m : all_blank m ≡ true) (ms : Marks) (operand : (h : Held) (p : ℕ) → At h p ms → Operand p) where
-          lines_read : (h : Held) (cs : Row Text) (acc : Row Span) (e : ℕ) → GoodComments cs → At h e (print_comment_lines d cs ++ (text m ∷ ms)) → LinesRead h true acc (next_at Command T e) (past_blanks T e) cs m ms
+          lines_read : (h : Held) (cs : Row Text) (acc : Row Span) (e : ℕ) → GoodComments cs → At h e (print_comment_lines d cs ++ (text m ∷ ms)) → LinesRead h true acc (asked Command e) (past_blanks T e) cs m ms
           lines_read h [] acc e good at =
               let behind_it = at_text h e m ms at in
               let gap = margin_gap h m e ms blank_m at (operand h (e + length m) behind_it).start in
@@ -3381,7 +3400,7 @@ module _ (B T : List ℕ) (o : ℕ) (here : drop o B ≡ T) where
                 e = e;
                 later = h;
                 at = at;
-                reads = rw (append-nil acc) (last_turn join_turn (last_join_turn h true acc (next_at Command T e) q it.no_comment it.no_newline));
+                reads = rw (append-nil acc) (last_turn join_turn (last_join_turn h true acc (asked Command e) q it.no_comment it.no_newline));
                 shape = refl;
                 texts = λ ts. refl;
               }
@@ -3393,24 +3412,24 @@ module _ (B T : List ℕ) (o : ℕ) (here : drop o B ≡ T) where
               let q = past_blanks T e in
               let at_q = subst (λ r. At h r (text c ∷ more)) (sym gap.blanks) behind_it in
               let s = span o q (q + length c) in
-              let turn = comment_join_turn h c true acc (next_at Command T e) q others_marks good.0 at_q in
+              let turn = comment_join_turn h c true acc (asked Command e) q others_marks good.0 at_q in
               let rest = lines_read turn.later cs (acc ++ s ∷ []) turn.q good.1 turn.at in
               record {
                 comments = s ∷ rest.comments;
                 e = rest.e;
                 later = rest.later;
                 at = rest.at;
-                reads = joined h rest.later true (next_at Command T e) q acc s rest.comments (past_blanks T rest.e) (next_at Command T rest.e) (one_turn join_turn turn.reads turn.on rest.reads);
+                reads = joined h rest.later true (asked Command e) q acc s rest.comments (past_blanks T rest.e) (asked Command rest.e) (one_turn join_turn turn.reads turn.on rest.reads);
                 shape = cons_shape s rest.comments c cs (comment_shape h c q more at_q) rest.shape;
                 texts = λ ts. rest.texts ts ∙ turn.texts ts;
               }
 
           -- from the end of the line before them
-          break_read : (h : Held) (cs : Row Text) (e : ℕ) → GoodComments cs → At h e (line_end ∷ (print_comment_lines d cs ++ (text m ∷ ms))) → LinesRead h false [] (next_at Command T e) (past_blanks T e) cs m ms
+          break_read : (h : Held) (cs : Row Text) (e : ℕ) → GoodComments cs → At h e (line_end ∷ (print_comment_lines d cs ++ (text m ∷ ms))) → LinesRead h false [] (asked Command e) (past_blanks T e) cs m ms
           break_read h cs e good at =
               let X = print_comment_lines d cs ++ (text m ∷ ms) in
               let line = line_end_here h e X at in
-              let turn = newline_join_turn h false [] (next_at Command T e) (past_blanks T e) X (ap (λ (n : Next). is_newline n.token) line.n_is) line.at_q in
+              let turn = newline_join_turn h false [] (asked Command e) (past_blanks T e) X (ap (λ (n : Next). is_newline n.token) line.n_is) line.at_q in
               let rest = lines_read turn.later cs [] turn.q good turn.at in
               record {
                 comments = rest.comments;
@@ -3422,79 +3441,96 @@ module _ (B T : List ℕ) (o : ℕ) (here : drop o B ≡ T) where
                 texts = λ ts. rest.texts ts ∙ turn.texts ts;
               }
 
-        -- ---- `;;`
+        -- ---- `;;` and `;&`
 
-        record DoubleRead (h : Held) (e : ℕ) (ms : Marks) : Type 0 where
-          token_is : token_at Command T (past_blanks T e) ≡ tokens.DoubleSemicolon
+        abbrev ender_token : Bool → Token
+        ender_token true = tokens.SemicolonAmpersand
+        ender_token false = tokens.DoubleSemicolon
+
+        ender_ends : (falls : Bool) → ends_item (ender_token falls) ≡ true
+        ender_ends true = refl
+        ender_ends false = refl
+
+        falls_as : (falls : Bool) → falls_through (ender_token falls) ≡ falls
+        falls_as true = refl
+        falls_as false = refl
+
+        begins_none : (falls : Bool) → (begins_pipeline (ender_token falls) ≡ false) × (is_newline (ender_token falls) ≡ false)
+        begins_none true = (refl, refl)
+        begins_none false = (refl, refl)
+
+        record EnderRead (h : Held) (e : ℕ) (falls : Bool) (ms : Marks) : Type 0 where
+          token_is : told Command (past_blanks T e) ≡ ender_token falls
           no_comment_it : raw_stands T (past_blanks T e) 35 ≡ false
           f : ℕ
           at : At h f ms
           low : past_blanks T e < f
-          one_on : Gives g (move one_byte) (state h (past_blanks T e)) tt (state h (past_blanks T e + 1))
-          two_on : Gives g (move one_byte) (state h (past_blanks T e + 1)) tt (state h f)
+          on : Gives g (move one_byte >> move one_byte) (state h (past_blanks T e)) tt (state h f)
 
-        double_read : (h : Held) (m : Text) (e : ℕ) (ms : Marks) → all_blank m ≡ true → At h e (text m ∷ text (codes ";;") ∷ ms) → DoubleRead h e ms
-        double_read h m e ms blank at =
-            let there = at_text h e m (text (codes ";;") ∷ ms) at ∙ laid_text h (codes ";;") ms in
-            let gap = margin_gap h m e (text (codes ";;") ∷ ms) blank at (start_here (byte_here T (e + length m) 59 (59 ∷ lay h ms) refl there) refl) in
+        -- a `;` and another byte, which are this ender
+        ender_by : (h : Held) (m : Text) (e d : ℕ) (falls : Bool) (ms : Marks) → all_blank m ≡ true → (d == 92) ≡ false
+            → ((q : ℕ) (xs : Text) → drop q T ≡ 59 ∷ d ∷ xs → told Command q ≡ ender_token falls) → At h e (text m ∷ text (59 ∷ d ∷ []) ∷ ms) → EnderRead h e falls ms
+        ender_by h m e d falls ms blank clear token_is at =
+            let there = at_text h e m (text (59 ∷ d ∷ []) ∷ ms) at ∙ laid_text h (59 ∷ d ∷ []) ms in
+            let gap = margin_gap h m e (text (59 ∷ d ∷ []) ∷ ms) blank at (start_here (byte_here T (e + length m) 59 (d ∷ lay h ms) refl there) refl) in
             let q = past_blanks T e in
-            let at_q : drop q T ≡ 59 ∷ 59 ∷ lay h ms = subst (λ r. drop r T ≡ 59 ∷ 59 ∷ lay h ms) (sym gap.blanks) there in
-            let one_byte_on = byte_here T q 59 (59 ∷ lay h ms) refl at_q in
-            let two_bytes_on = byte_here T (q + 1) 59 (lay h ms) refl one_byte_on.rest in
+            let at_q : drop q T ≡ 59 ∷ d ∷ lay h ms = subst (λ r. drop r T ≡ 59 ∷ d ∷ lay h ms) (sym gap.blanks) there in
+            let behind_it = byte_behind q 59 d (lay h ms) at_q in
             record {
-              token_is = double_semicolon_token Command T q (lay h ms) at_q;
-              no_comment_it = no_byte q 59 (59 ∷ lay h ms) 35 refl at_q;
+              token_is = token_is q (lay h ms) at_q;
+              no_comment_it = no_byte q 59 (d ∷ lay h ms) 35 refl at_q;
               f = q + 1 + 1;
-              at = two_bytes_on.rest;
+              at = next_one T (q + 1) d (lay h ms) behind_it;
               low = omega arith;
-              one_on = subst (λ p. Gives g (move one_byte) (state h q) tt (state h p)) one_byte_on.behind_it (moved_here one_byte);
-              two_on = subst (λ p. Gives g (move one_byte) (state h (q + 1)) tt (state h p)) two_bytes_on.behind_it (moved_here one_byte);
+              on = byte_moved h q 59 (d ∷ lay h ms) refl at_q ⟫ byte_moved h (q + 1) d (lay h ms) clear behind_it;
             }
 
-        double_closes : (m : Text) (ms : Marks) → all_blank m ≡ true → (h : Held) (e : ℕ) → At h e (text m ∷ text (codes ";;") ∷ ms) → Closes e
-        double_closes m ms blank h e at =
-            let d = double_read h m e ms blank at in
-            record { no_entry_it = ap begins_pipeline d.token_is; no_newline_it = ap is_newline d.token_is; no_comment_it = d.no_comment_it }
+        ender_read : (h : Held) (m : Text) (e : ℕ) (falls : Bool) (ms : Marks) → all_blank m ≡ true → (falls ≡ true → is_later edition ≡ true) → At h e (text m ∷ text (ender falls) ∷ ms) → EnderRead h e falls ms
+        ender_read h m e true ms blank later at = ender_by h m e 38 true ms blank refl (λ q xs there. tell (falls_token Command T q xs there) ∙ falls_stays edition (later refl)) at
+        ender_read h m e false ms blank later at = ender_by h m e 59 false ms blank refl (λ q xs there. tell (double_semicolon_token Command T q xs there)) at
+
+        ender_closes : (m : Text) (falls : Bool) (ms : Marks) → all_blank m ≡ true → (falls ≡ true → is_later edition ≡ true) → (h : Held) (e : ℕ) → At h e (text m ∷ text (ender falls) ∷ ms) → Closes e
+        ender_closes m falls ms blank later h e at =
+            let d = ender_read h m e falls ms blank later at in
+            let none = begins_none falls in
+            record { no_entry_it = ap begins_pipeline d.token_is ∙ none.0; no_newline_it = ap is_newline d.token_is ∙ none.1; no_comment_it = d.no_comment_it }
 
         -- ---- bodies
 
-        record BodyRead (h : Held) (f : ℕ) (body : Shape EntriesOf) (ms : Marks) : Type 0 where
+        record BodyRead (h : Held) (f : ℕ) (body : Shape EntriesOf) (falls : Bool) (ms : Marks) : Type 0 where
           list : Listed
           e : ℕ
           later : Held
-          ended : DoubleRead later e (line_end ∷ ms)
-          reads : Gives g (a_body inner (next_at Command T f)) (state h (past_blanks T f)) (list_so list (next_at Command T e)) (state later (past_blanks T e))
+          ended : EnderRead later e falls (line_end ∷ ms)
+          reads : Gives g (a_body inner (asked Command f)) (state h (past_blanks T f)) (list_so list (asked Command e)) (state later (past_blanks T e))
           shape : shape_of B (entries_of list.entries) ≡ opened [] body
           texts : Adds h later (entries_bodies body)
 
-        item_body_read : (h : Held) (m : Text) (body : Shape EntriesOf) (f : ℕ) (ms : Marks) → all_blank m ≡ true → GoodEntries room body → first_not_blank body ≡ true → are_normal body ≡ true
-            → At h f (print_body y m body ++ (line_end ∷ ms)) → BodyRead h f body ms
+        item_body_read : (h : Held) (m : Text) (body : Shape EntriesOf) (falls : Bool) (f : ℕ) (ms : Marks) → all_blank m ≡ true → (falls ≡ true → is_later edition ≡ true) → GoodEntries edition room body → first_not_blank body ≡ true → are_normal body ≡ true
+            → At h f (print_body y m body ++ (text (ender falls) ∷ line_end ∷ ms)) → BodyRead h f body falls ms
         unfolding a_body opened entries_bodies
-        item_body_read h m no_entry f ms blank good first normal at =
-            let X = line_end ∷ ms in
-            let there = at ∙ laid_text h (codes " ;;") X ∙ sym (laid_text h (codes " ") (text (codes ";;") ∷ X) ∙ ap (λ z. 32 ∷ z) (laid_text h (codes ";;") X)) in
-            record {
-              list = at_line_start [] false false None;
-              e = f;
-              later = h;
-              ended = double_read h (codes " ") f X refl there;
-              reads = last_turn (list_turn inner) (list_ends h [] false false None f (double_closes (codes " ") X refl h f there));
-              shape = refl;
-              texts = λ ts. refl;
-            }
-        item_body_read h m (more_entries x es) f ms blank good first normal at =
+        item_body_read h m no_entry falls f ms blank later good first normal at = record {
+          list = at_line_start [] false false None;
+          e = f;
+          later = h;
+          ended = ender_read h (codes " ") f falls (line_end ∷ ms) refl later at;
+          reads = last_turn (list_turn inner) (list_ends h [] false false None f (ender_closes (codes " ") falls (line_end ∷ ms) refl later h f at));
+          shape = refl;
+          texts = λ ts. refl;
+        }
+        item_body_read h m (more_entries x es) falls f ms blank later good first normal at =
             let d = deeper y m in
             let E = print_entries y d (more_entries x es) in
-            let Z = text d ∷ text (codes ";;") ∷ line_end ∷ ms in
-            let there : At h f (line_end ∷ (E ++ Z)) = at ∙ ap (lay h) (append_assoc (line_end ∷ E) (text d ∷ text (codes ";;") ∷ []) (line_end ∷ ms)) in
+            let Z = text d ∷ text (ender falls) ∷ line_end ∷ ms in
+            let there : At h f (line_end ∷ (E ++ Z)) = at ∙ ap (lay h) (append_assoc (line_end ∷ E) (text d ∷ []) (text (ender falls) ∷ line_end ∷ ms)) in
             let line = empty_line h [] false false None f (E ++ Z) there in
-            let closes = double_closes d (line_end ∷ ms) (deeper_blank y m blank) in
+            let closes = ender_closes d falls (line_end ∷ ms) (deeper_blank y m blank) later in
             let r = list_read line.later d (more_entries x es) [] false None line.q Z (deeper_blank y m blank) good normal (λ none. first) closes line.at in
             record {
               list = at_line_start r.value r.blank (holds_command (more_entries x es)) r.parted;
               e = r.«end»;
               later = r.later;
-              ended = double_read r.later d r.«end» (line_end ∷ ms) (deeper_blank y m blank) r.at;
+              ended = ender_read r.later d r.«end» falls (line_end ∷ ms) (deeper_blank y m blank) later r.at;
               reads = one_turn (list_turn inner) line.reads line.on r.reads;
               shape = r.shape;
               texts = λ ts. r.texts ts ∙ line.texts (entries_bodies (more_entries x es) ts);
@@ -3517,13 +3553,13 @@ module _ (B T : List ℕ) (o : ℕ) (here : drop o B ≡ T) where
         items_marks m (more_cases (case_item cs no_pattern body mark) items) tail rest = []
         items_marks m (more_cases (case_item cs (more_patterns w ws) body mark) items) tail rest =
             print_word w ++ more_marks ws (print_body y (case_margin y m) body
-            ++ (line_end ∷ (print_comment_lines (case_margin y m) (first_comments items tail) ++ (text (items_margin m items) ∷ items_marks m items tail rest))))
+            ++ (text (ender mark.falls) ∷ line_end ∷ (print_comment_lines (case_margin y m) (first_comments items tail) ++ (text (items_margin m items) ∷ items_marks m items tail rest))))
 
         -- with the comments before them
         abbrev next_marks : Text → Shape CaseItemsOf → Row Text → Marks → Marks
         next_marks m items tail rest = print_comment_lines (case_margin y m) (first_comments items tail) ++ (text (items_margin m items) ∷ items_marks m items tail rest)
 
-        items_are : (m : Text) (items : Shape CaseItemsOf) (tail : Row Text) (rest : Marks) → GoodCases room items
+        items_are : (m : Text) (items : Shape CaseItemsOf) (tail : Row Text) (rest : Marks) → GoodCases edition room items
             → Alike (print_cases y (case_margin y m) items ++ (print_comment_lines (case_margin y m) tail ++ (text m ∷ text (codes "esac") ∷ rest))) (next_marks m items tail rest)
         unfolding laid_behind
         items_are m no_case tail rest good held = refl
@@ -3533,22 +3569,23 @@ module _ (B T : List ℕ) (o : ℕ) (here : drop o B ≡ T) where
             let C = print_comment_lines P cs in
             let F = text P ∷ print_first_pattern (more_patterns w ws) in
             let D = text (codes ")") ∷ print_body y P body in
-            let L = line_end ∷ [] in
+            let E = text (ender mark.falls) in
+            let L = E ∷ line_end ∷ [] in
             let I = print_cases y P items in
             let R = print_comment_lines P tail ++ (text m ∷ text (codes "esac") ∷ rest) in
             let N = next_marks m items tail rest in
             let parts = append_assoc (C ++ (F ++ (D ++ L))) I R ∙ append_assoc C (F ++ (D ++ L)) (I ++ R)
-            ∙ ap (λ ks. C ++ ks) (append_assoc F (D ++ L) (I ++ R) ∙ ap (λ ks. F ++ ks) (append_assoc D L (I ++ R)) ∙ ap (λ ks. text P ∷ ks) (append_assoc (print_word w) (print_patterns ws) (D ++ (line_end ∷ (I ++ R))))) in
-            let ended = laid_same (print_body y P body) (line_end ∷ (I ++ R)) (line_end ∷ N) (λ held. ap (λ z. 10 ∷ held ++ z) (items_are m items tail rest good.1 [])) in
-            let behind_patterns : Alike (print_patterns ws ++ (D ++ (line_end ∷ (I ++ R)))) (more_marks ws (print_body y P body ++ (line_end ∷ N))) =
-            λ held. laid_same (print_patterns ws) (D ++ (line_end ∷ (I ++ R))) (D ++ (line_end ∷ N)) (λ held. ap (λ z. 41 ∷ z) (ended held)) held ∙ more_are ws (print_body y P body ++ (line_end ∷ N)) held in
+            ∙ ap (λ ks. C ++ ks) (append_assoc F (D ++ L) (I ++ R) ∙ ap (λ ks. F ++ ks) (append_assoc D L (I ++ R)) ∙ ap (λ ks. text P ∷ ks) (append_assoc (print_word w) (print_patterns ws) (D ++ (E ∷ line_end ∷ (I ++ R))))) in
+            let ended = laid_same (print_body y P body) (E ∷ line_end ∷ (I ++ R)) (E ∷ line_end ∷ N) (λ held. ap (λ z. ender mark.falls ++ (10 ∷ held ++ z)) (items_are m items tail rest good.1 [])) in
+            let behind_patterns : Alike (print_patterns ws ++ (D ++ (E ∷ line_end ∷ (I ++ R)))) (more_marks ws (print_body y P body ++ (E ∷ line_end ∷ N))) =
+            λ held. laid_same (print_patterns ws) (D ++ (E ∷ line_end ∷ (I ++ R))) (D ++ (E ∷ line_end ∷ N)) (λ held. ap (λ z. 41 ∷ z) (ended held)) held ∙ more_are ws (print_body y P body ++ (E ∷ line_end ∷ N)) held in
             ap (laid_behind held) parts ∙ laid_same C _ _ (λ held. ap (λ z. P ++ z) (laid_same (print_word w) _ _ behind_patterns held)) held
 
-        items_operand : (h : Held) (m : Text) (items : Shape CaseItemsOf) (tail : Row Text) (rest : Marks) → GoodCases room items → Ends rest → (p : ℕ) → At h p (items_marks m items tail rest) → Operand p
+        items_operand : (h : Held) (m : Text) (items : Shape CaseItemsOf) (tail : Row Text) (rest : Marks) → GoodCases edition room items → Ends rest → (p : ℕ) → At h p (items_marks m items tail rest) → Operand p
         items_operand h m no_case tail rest good stop p at = key_operand h (codes "esac") reserved.Esac rest (esac_key rest stop) p at
         items_operand h m (more_cases (case_item cs no_pattern body mark) items) tail rest good stop p at = absurd good.0.1
         items_operand h m (more_cases (case_item cs (more_patterns w ws) body mark) items) tail rest good stop p at =
-            pattern_operand h w (more_marks ws (print_body y (case_margin y m) body ++ (line_end ∷ next_marks m items tail rest))) good.0.1.0 (more_follows ws _) p at
+            pattern_operand h w (more_marks ws (print_body y (case_margin y m) body ++ (text (ender mark.falls) ∷ line_end ∷ next_marks m items tail rest))) good.0.1.0 (more_follows ws _) p at
 
         margin_blank : (m : Text) → all_blank m ≡ true → all_blank (case_margin y m) ≡ true
         margin_blank m blank = cond_both y.case_indent (deeper y m) m (λ t. all_blank t ≡ true) (λ e. deeper_blank y m blank) (λ e. blank)
@@ -3557,7 +3594,7 @@ module _ (B T : List ℕ) (o : ℕ) (here : drop o B ≡ T) where
         items_blank m no_case blank = blank
         items_blank m (more_cases c items) blank = margin_blank m blank
 
-        first_good : (items : Shape CaseItemsOf) (tail : Row Text) → GoodCases room items → GoodComments tail → GoodComments (first_comments items tail)
+        first_good : (items : Shape CaseItemsOf) (tail : Row Text) → GoodCases edition room items → GoodComments tail → GoodComments (first_comments items tail)
         first_good no_case tail good comments = comments
         first_good (more_cases (case_item cs ps body mark) items) tail good comments = good.0.0
 
@@ -3568,26 +3605,26 @@ module _ (B T : List ℕ) (o : ℕ) (here : drop o B ≡ T) where
           f : ℕ
           later : Held
           key : KeywordRead later f reserved.Esac rest
-          reads : Gives g (many (case_turn inner) (cases_so acc before (next_at Command T e))) (state h (past_blanks T e)) (cases_so (acc ++ value) comments (next_at Command T f)) (state later (past_blanks T f))
+          reads : Gives g (many (case_turn inner) (cases_so acc before (asked Command e))) (state h (past_blanks T e)) (cases_so (acc ++ value) comments (asked Command f)) (state later (past_blanks T f))
           shape : shape_of_cases B (cases_of value) ≡ open_cases [] items
           texts : Adds h later (cases_bodies items)
           tail_shape : shape_of_comments B comments ≡ tail
 
-        item_shape_of : (cs : Row Span) (v : AWord) (vs : Row AWord) (es : Row AnEntry) (s : Span) (comments : Row Text) (w : Shape AWordOf) (ws : Shape PatternsOf) (body : Shape EntriesOf) (mark : Unit {0})
-            → shape_of_comments B cs ≡ comments → shape_of_word B v ≡ w → shape_of_patterns B (patterns_of vs) ≡ ws → shape_of B (entries_of es) ≡ opened [] body
+        item_shape_of : (cs : Row Span) (v : AWord) (vs : Row AWord) (es : Row AnEntry) (s : ACaseMark) (comments : Row Text) (w : Shape AWordOf) (ws : Shape PatternsOf) (body : Shape EntriesOf) (mark : ACaseMarkOf (Unit {0}))
+            → s.falls ≡ mark.falls → shape_of_comments B cs ≡ comments → shape_of_word B v ≡ w → shape_of_patterns B (patterns_of vs) ≡ ws → shape_of B (entries_of es) ≡ opened [] body
             → shape_of_case B (case_item cs (patterns_of (v ∷ vs)) (entries_of es) s) ≡ open_case [] (case_item comments (more_patterns w ws) body mark)
         unfolding open_case
-        item_shape_of cs v vs es s comments w ws body mark e f i k = rw (e, f, i, k) refl
+        item_shape_of cs v vs es s comments w ws body mark falls e f i k = rw (e, f, i, k, falls) refl
 
         cases_shape : (v : ACaseItem) (vs : Row ACaseItem) (c : Shape ACaseItemOf) (cs : Shape CaseItemsOf) → shape_of_case B v ≡ open_case [] c → shape_of_cases B (cases_of vs) ≡ open_cases [] cs
             → shape_of_cases B (cases_of (v ∷ vs)) ≡ open_cases [] (more_cases c cs)
         unfolding open_cases
         cases_shape v vs c cs e f = rw (e, f) refl
 
-        cases_read : (h : Held) (m : Text) (items : Shape CaseItemsOf) (tail : Row Text) (acc : Row ACaseItem) (before : Row Span) (e : ℕ) (rest : Marks) → all_blank m ≡ true → GoodCases room items → GoodComments tail
+        cases_read : (h : Held) (m : Text) (items : Shape CaseItemsOf) (tail : Row Text) (acc : Row ACaseItem) (before : Row Span) (e : ℕ) (rest : Marks) → all_blank m ≡ true → GoodCases edition room items → GoodComments tail
             → are_normal_cases items ≡ true → Ends rest → shape_of_comments B before ≡ first_comments items tail → At h e (text (items_margin m items) ∷ items_marks m items tail rest)
             → CasesRead h acc before e items tail rest
-        unfolding case_turn one_case an_open_bracket a_pattern_list a_pattern closing an_item_end a_double_semicolon a_linebreak open_cases cases_bodies case_bodies
+        unfolding case_turn one_case an_open_bracket a_pattern_list a_pattern closing an_item_end an_ender a_linebreak open_cases cases_bodies case_bodies
         cases_read h m no_case tail acc before e rest blank good comments normal stop same at =
             let k = keyword_read h m (codes "esac") reserved.Esac e rest blank (esac_key rest stop) at in
             record {
@@ -3606,32 +3643,34 @@ module _ (B T : List ℕ) (o : ℕ) (here : drop o B ≡ T) where
             let P = case_margin y m in
             let blank_p = margin_blank m blank in
             let N = next_marks m items tail rest in
-            let D = print_body y P body ++ (line_end ∷ N) in
+            let D = print_body y P body ++ (text (ender mark.falls) ∷ line_end ∷ N) in
             let parts = and_parts (is_normal_case (case_item cs (more_patterns w ws) body mark)) (are_normal_cases items) normal in
             let one_of = and_parts (are_normal_patterns (more_patterns w ws) && first_not_blank body) (are_normal body) parts.0 in
             let two_of = and_parts (are_normal_patterns (more_patterns w ws)) (first_not_blank body) one_of.0 in
             let v = word_at h Command begins_pattern P w e (more_marks ws D) blank_p good.0.1.0 (more_follows ws D) at in
             let q = past_blanks T e in
-            let n = next_at Command T e in
-            let other = first_pattern (token_at Command T q) v.begin in
+            let n = asked Command e in
+            let other = first_pattern (told Command q) v.begin in
             let vs = patterns_read h ws (v.value ∷ []) v.e D good.0.1.1 v.at in
             let bracket = bracket_next h Suffix vs.e D vs.at in
             let z = past_blanks T vs.e in
             let r_z = byte_here T z 41 (lay h D) refl (subst (λ p. drop p T ≡ 41 ∷ lay h D) (sym bracket.1) (vs.at ∙ laid_text h (codes ")") D)) in
-            let b = item_body_read h P body (z + 1) N blank_p good.0.2 two_of.1 one_of.1 r_z.rest in
+            let b = item_body_read h P body mark.falls (z + 1) N blank_p good.0.3 good.0.2 two_of.1 one_of.1 r_z.rest in
             let d = b.ended in
             let l = break_read P (items_margin m items) blank_p (items_blank m items blank) (items_marks m items tail rest) (λ h. items_operand h m items tail rest good.1 stop) b.later (first_comments items tail) d.f (first_good items tail good.1 comments) d.at in
             let s = span o q d.f in
-            let it = case_item before (patterns_of (v.value ∷ vs.value)) (entries_of b.list.entries) s in
+            let falls_is : falls_through (asked Command b.e).token ≡ mark.falls = ap falls_through d.token_is ∙ falls_as mark.falls in
+            let it_mark : ACaseMark = record { mark = s; falls = falls_through (asked Command b.e).token } in
+            let it = case_item before (patterns_of (v.value ∷ vs.value)) (entries_of b.list.entries) it_mark in
             let others = cases_read l.later m items tail (acc ++ it ∷ []) l.comments l.e rest blank good.1 comments parts.1 stop l.shape l.at in
-            let body_low = gives_on (a_body inner (next_at Command T (z + 1))) _ _ _ b.reads in
-            let patterns_low = gives_on (many (pattern_turn inner) (patterned (v.value ∷ []) (next_at Suffix T v.e))) _ _ _ vs.reads in
-            let lines_low = gives_on (many join_turn (join_so (a_join_of false []) (next_at Command T d.f))) _ _ _ l.reads in
-            let ended : Gives g (an_item_end inner (body_end (o + (z + 1)) b.list) (next_at Command T b.e)) (state b.later (past_blanks T b.e)) (item_end (o + d.f) l.comments (next_at Command T l.e)) (state l.later (past_blanks T l.e)) =
-            first_of _ _ (ap is_double_semicolon d.token_is) (d.one_on ⟫ d.two_on ⟫ seen_here the_place ⟫ next_read b.later Command d.f ⟫ l.reads ⟫ given_here) in
-            let listed : Gives g (a_pattern_list inner n) (state h q) (patterned (v.value ∷ vs.value) (next_at Suffix T vs.e)) (state h z) =
+            let body_low = gives_on (a_body inner (asked Command (z + 1))) _ _ _ b.reads in
+            let patterns_low = gives_on (many (pattern_turn inner) (patterned (v.value ∷ []) (asked Suffix v.e))) _ _ _ vs.reads in
+            let lines_low = gives_on (many join_turn (join_so (a_join_of false []) (asked Command d.f))) _ _ _ l.reads in
+            let ended : Gives g (an_item_end inner (body_end (o + (z + 1)) b.list) (asked Command b.e)) (state b.later (past_blanks T b.e)) (item_end (o + d.f) l.comments (asked Command l.e)) (state l.later (past_blanks T l.e)) =
+            first_of _ _ (ap ends_item d.token_is ∙ ender_ends mark.falls) (told_here (ender_told (falls_through (asked Command b.e).token)) d.on ⟫ seen_here the_place ⟫ next_read b.later Command d.f ⟫ l.reads ⟫ given_here) in
+            let listed : Gives g (a_pattern_list inner n) (state h q) (patterned (v.value ∷ vs.value) (asked Suffix vs.e)) (state h z) =
             first_of _ _ v.begin ((v.reads ⟫ pushed_here [] v.value ⟫ next_read h Suffix v.e ⟫ given_here) ⟫ vs.reads) in
-            let turned : Gives g (case_turn inner (cases_so acc before n)) (state h q) (again (cases_so (acc ++ it ∷ []) l.comments (next_at Command T l.e))) (state l.later (past_blanks T l.e)) =
+            let turned : Gives g (case_turn inner (cases_so acc before n)) (state h q) (again (cases_so (acc ++ it ∷ []) l.comments (asked Command l.e))) (state l.later (past_blanks T l.e)) =
             second_of _ _ other.esac
             (seen_here the_place ⟫ second_of _ _ other.bracket given_here ⟫ listed
             ⟫ first_of _ _ (ap (λ (n : Next). is_closing closings.Paren n.token) bracket.0) (passed_paren h (closing_text closings.Paren) z r_z.behind_it)
@@ -3644,9 +3683,9 @@ module _ (B T : List ℕ) (o : ℕ) (here : drop o B ≡ T) where
               f = others.f;
               later = others.later;
               key = others.key;
-              reads = subst (λ all. Gives g (many (case_turn inner) (cases_so acc before n)) (state h q) (cases_so all others.comments (next_at Command T others.f)) (state others.later (past_blanks T others.f)))
+              reads = subst (λ all. Gives g (many (case_turn inner) (cases_so acc before n)) (state h q) (cases_so all others.comments (asked Command others.f)) (state others.later (past_blanks T others.f)))
                   (append_assoc acc (it ∷ []) others.value) (one_turn (case_turn inner) turned on others.reads);
-              shape = cases_shape it others.value (case_item cs (more_patterns w ws) body mark) items (item_shape_of before v.value vs.value b.list.entries s cs w ws body mark same v.shape vs.shape b.shape) others.shape;
+              shape = cases_shape it others.value (case_item cs (more_patterns w ws) body mark) items (item_shape_of before v.value vs.value b.list.entries it_mark cs w ws body mark falls_is same v.shape vs.shape b.shape) others.shape;
               texts = λ ts. others.texts ts ∙ l.texts (cases_bodies items ts) ∙ b.texts (cases_bodies items ts);
               tail_shape = others.tail_shape;
             }
@@ -3664,9 +3703,9 @@ module _ (B T : List ℕ) (o : ℕ) (here : drop o B ≡ T) where
         unfolding open_form
         case_shape v vs cs w items tail e f i = rw (e, f, i) refl
 
-        case_read : (h : Held) (m : Text) (w : Shape AWordOf) (items : Shape CaseItemsOf) (tail : Row Text) (f : ℕ) (rest : Marks) → all_blank m ≡ true → GoodForm room (case_in w items tail)
+        case_read : (h : Held) (m : Text) (w : Shape AWordOf) (items : Shape CaseItemsOf) (tail : Row Text) (f : ℕ) (rest : Marks) → all_blank m ≡ true → GoodForm edition room (case_in w items tail)
             → is_normal_form (case_in w items tail) ≡ true → Ends rest → At h f (text (codes " ") ∷ (print_word w ++ case_marks m items tail rest))
-            → Finished h AForm (a_case inner (next_at Suffix T f)) (past_blanks T f) rest (form_bodies (case_in w items tail)) (λ v. shape_of_form B v ≡ open_form [] (case_in w items tail))
+            → Finished h AForm (a_case inner (asked Suffix f)) (past_blanks T f) rest (form_bodies (case_in w items tail)) (λ v. shape_of_form B v ≡ open_form [] (case_in w items tail))
         unfolding a_case a_case_head a_case_word a_linebreak form_bodies
         case_read h m w items tail f rest blank good normal stop at =
             let parts = and_parts _ _ normal in
@@ -3683,7 +3722,7 @@ module _ (B T : List ℕ) (o : ℕ) (here : drop o B ≡ T) where
               later = c.later;
               at = c.key.at;
               texts = λ ts. c.texts ts ∙ l.texts (cases_bodies items ts);
-              reads = (first_of _ _ v.begin (v.reads ⟫ next_read h Command v.e ⟫ given_here) ⟫ no_lines h (next_at Command T v.e) (past_blanks T v.e) k.no_comment_it (ap is_newline k.token_is)
+              reads = (first_of _ _ v.begin (v.reads ⟫ next_read h Command v.e ⟫ given_here) ⟫ no_lines h (asked Command v.e) (past_blanks T v.e) k.no_comment_it (ap is_newline k.token_is)
                   ⟫ closing_read h closings.In reserved.In v.e X refl refl k ⟫ l.reads ⟫ given_here) ⟫ c.reads ⟫ closing_read c.later closings.Esac reserved.Esac c.f rest refl refl c.key ⟫ given_here;
               is = case_shape v.value c.value c.comments w items tail v.shape c.shape c.tail_shape;
             }
@@ -3707,7 +3746,7 @@ module _ (B T : List ℕ) (o : ℕ) (here : drop o B ≡ T) where
         opener_for (for_in name words body) = openers.For
         opener_for (case_in w items tail) = openers.Case
 
-        form_is : (m : Text) (form : Shape AFormOf) (rest : Marks) → GoodForm room form → Alike (print_form y m form ++ rest) (text (opener_text (opener_for form)) ∷ form_rest m form rest)
+        form_is : (m : Text) (form : Shape AFormOf) (rest : Marks) → GoodForm edition room form → Alike (print_form y m form ++ rest) (text (opener_text (opener_for form)) ∷ form_rest m form rest)
         unfolding laid_behind
         form_is m (brace es) rest good held =
             ap (λ ks. laid_behind held (text (codes "{") ∷ ks)) (append_assoc (lines_between m (print_entries y (deeper y m) es)) (one (codes "}")) rest ∙ between_is m es (text (codes "}") ∷ rest))
@@ -3741,8 +3780,8 @@ module _ (B T : List ℕ) (o : ℕ) (here : drop o B ≡ T) where
             let parts = append_assoc W ((H ++ C) ++ E) rest ∙ ap (λ ks. W ++ ks) (append_assoc (H ++ C) E rest ∙ append_assoc H C (E ++ rest)) in
             ap (laid_behind held) parts ∙ ap (λ z. codes "case " ++ z) (laid_same (print_word w) _ (case_marks m items tail rest) (λ held. ap (λ z. codes " in" ++ (10 ∷ held ++ z)) (items_are m items tail rest good.1 [])) held)
 
-        form_read : (h : Held) (m : Text) (form : Shape AFormOf) (f : ℕ) (rest : Marks) → all_blank m ≡ true → GoodForm room form → is_normal_form form ≡ true → Ends rest → At h f (form_rest m form rest)
-            → Finished h AForm (a_form inner (opener_for form) (next_at (behind_opener (opener_for form)) T f)) (past_blanks T f) rest (form_bodies form) (λ v. shape_of_form B v ≡ open_form [] form)
+        form_read : (h : Held) (m : Text) (form : Shape AFormOf) (f : ℕ) (rest : Marks) → all_blank m ≡ true → GoodForm edition room form → is_normal_form form ≡ true → Ends rest → At h f (form_rest m form rest)
+            → Finished h AForm (a_form inner (opener_for form) (asked (behind_opener (opener_for form)) f)) (past_blanks T f) rest (form_bodies form) (λ v. shape_of_form B v ≡ open_form [] form)
         unfolding open_form form_bodies
         form_read h m (brace es) f rest blank good normal stop at =
             let parts = and_parts _ _ normal in
@@ -3770,14 +3809,14 @@ module _ (B T : List ℕ) (o : ℕ) (here : drop o B ≡ T) where
           s : Span
           f : ℕ
           at : At h f ms
-          reads : Gives g (passed (opener_text k) (is_open_paren k) (behind_opener k)) (state h p) (s, next_at (behind_opener k) T f) (state h (past_blanks T f))
+          reads : Gives g (passed (opener_text k) (is_open_paren k) (behind_opener k)) (state h p) (s, asked (behind_opener k) f) (state h (past_blanks T f))
 
         opened_by : (h : Held) (k : Opener) (r : Reserved) (p : ℕ) (ms : Marks) → is_open_paren k ≡ false → begins_simple (tokens.Reserved r) ≡ false → opener_of (tokens.Reserved r) ≡ Some k → Key (opener_text k) r ms
             → At h p (text (opener_text k) ∷ ms) → Opened h p k ms
         opened_by h k r p ms no_paren none opener_is key at =
             let it = key h p (at ∙ laid_text h (opener_text k) ms) in
             record {
-              opens = record { start = it.start; no_item = ap begins_simple it.token ∙ none; opener = ap opener_of it.token ∙ opener_is };
+              opens = record { start = it.start; no_item = ap begins_simple (tell it.token) ∙ none; opener = ap opener_of (tell it.token) ∙ opener_is };
               s = span o p (p + length (opener_text k));
               f = p + length (opener_text k);
               at = at_text h p (opener_text k) ms at;
@@ -3788,7 +3827,7 @@ module _ (B T : List ℕ) (o : ℕ) (here : drop o B ≡ T) where
         opened_paren h p ms at =
             let there = at ∙ laid_text h (codes "(") ms in
             let r = byte_here T p 40 (lay h ms) refl there in
-            let token_is = open_token Command T p (lay h ms) there in
+            let token_is = tell (open_token Command T p (lay h ms) there) in
             record {
               opens = record { start = start_here r refl; no_item = ap begins_simple token_is; opener = ap opener_of token_is };
               s = span o p (p + 1);
@@ -3797,7 +3836,7 @@ module _ (B T : List ℕ) (o : ℕ) (here : drop o B ≡ T) where
               reads = passed_paren h (codes "(") p r.behind_it;
             }
 
-        form_opened : (h : Held) (m : Text) (form : Shape AFormOf) (p : ℕ) (rest : Marks) → GoodForm room form → At h p (text (opener_text (opener_for form)) ∷ form_rest m form rest) → Opened h p (opener_for form) (form_rest m form rest)
+        form_opened : (h : Held) (m : Text) (form : Shape AFormOf) (p : ℕ) (rest : Marks) → GoodForm edition room form → At h p (text (opener_text (opener_for form)) ∷ form_rest m form rest) → Opened h p (opener_for form) (form_rest m form rest)
         form_opened h m (brace es) p rest good at =
             opened_by h openers.Brace reserved.OpenBrace p (form_rest m (brace es) rest) refl refl refl (key_by (codes "{") reserved.OpenBrace (form_rest m (brace es) rest) (line_end_end _) (λ p x xs clear stops at. brace_here T p x xs clear stops at)) at
         form_opened h m (subshell es) p rest good at = opened_paren h p (form_rest m (subshell es) rest) at
@@ -3817,20 +3856,20 @@ module _ (B T : List ℕ) (o : ℕ) (here : drop o B ≡ T) where
             let ms = print_word w ++ case_marks m items tail rest in
             opened_by h openers.Case reserved.Case p (text (codes " ") ∷ ms) refl refl refl (key_by (codes "case") reserved.Case (text (codes " ") ∷ ms) (space_end ms) (λ p x xs clear stops at. case_here T p x xs clear stops at)) at
 
-        compound_is : (m : Text) (form : Shape AFormOf) (mark : Unit {0}) (redirects : Shape ItemsOf) (rest : Marks) → GoodForm room form
+        compound_is : (m : Text) (form : Shape AFormOf) (mark : Unit {0}) (redirects : Shape ItemsOf) (rest : Marks) → GoodForm edition room form
             → Alike (print_compound y m (formed form mark redirects) ++ rest) (text (opener_text (opener_for form)) ∷ form_rest m form (print_items y m redirects ++ rest))
         compound_is m form mark redirects rest good held =
             ap (laid_behind held) (append_assoc (print_form y m form) (print_items y m redirects) rest) ∙ form_is m form (print_items y m redirects ++ rest) good held
 
         -- a compound command opens so, one level further out
-        pub compound_opens : (h : Held) (m : Text) (c : Shape ACompoundOf) (p : ℕ) (rest : Marks) → GoodCompound (suc room) c → At h p (print_compound y m c ++ rest) → (k : Opener) × Opens p k
+        pub compound_opens : (h : Held) (m : Text) (c : Shape ACompoundOf) (p : ℕ) (rest : Marks) → GoodCompound edition (suc room) c → At h p (print_compound y m c ++ rest) → (k : Opener) × Opens p k
         compound_opens h m (formed form mark redirects) p rest good at =
             (opener_for form, (form_opened h m form p (print_items y m redirects ++ rest) good.0 (at ∙ compound_is m form mark redirects rest good.0 (held_bytes h.waiting))).opens)
 
         opener_same : (k l : Opener) (p : ℕ) → Opens p k → Opens p l → k ≡ l
         opener_same k l p one two = let same : ◌≡◌ {A = Option Opener} (Some k) (Some l) = sym one.opener ∙ two.opener in cc
 
-        pub compound_read : (h : Held) (m : Text) (c : Shape ACompoundOf) (p : ℕ) (rest : Marks) (k : Opener) → all_blank m ≡ true → GoodCompound (suc room) c → is_normal_compound c ≡ true
+        pub compound_read : (h : Held) (m : Text) (c : Shape ACompoundOf) (p : ℕ) (rest : Marks) (k : Opener) → all_blank m ≡ true → GoodCompound edition (suc room) c → is_normal_compound c ≡ true
             → Followed rest → Opens p k → At h p (print_compound y m (bare_compound c) ++ rest) → Got h (a_compound inner k) p rest (compound_bodies (bare_compound c)) (λ v. shape_of_command B v ≡ open_command [] (compound (bare_compound c)))
         unfolding a_compound open_command open_compound open_items compound_bodies items_bodies
         compound_read h m (formed form mark redirects) p rest k blank good normal follow opens at =
@@ -3858,13 +3897,13 @@ module _ (B T : List ℕ) (o : ℕ) (here : drop o B ≡ T) where
           next : Next
           q : ℕ
           later : Held
-          reads : Gives g (a_linebreak [] (next_at Command T e)) (state h (past_blanks T e)) (join_so (a_join_of broken comments) next) (state later q)
+          reads : Gives g (a_linebreak [] (asked Command e)) (state h (past_blanks T e)) (join_so (a_join_of broken comments) next) (state later q)
           at : At later q ms
-          token_is : next.token ≡ token_at Command T q
+          token_is : next.token ≡ told Command q
           shape : shape_of_comments B comments ≡ cs
           texts : Adds h later no_more
 
-        broken_lines : (h : Held) (e : ℕ) (cs : Row Text) (ms : Marks) → JoinLines h false [] (next_at Command T e) (past_blanks T e) cs ms → GapLines h e cs ms
+        broken_lines : (h : Held) (e : ℕ) (cs : Row Text) (ms : Marks) → JoinLines h false [] (asked Command e) (past_blanks T e) cs ms → GapLines h e cs ms
         unfolding a_linebreak
         broken_lines h e cs ms r = record { comments = r.comments; broken = true; next = r.next; q = r.q; later = r.later; reads = r.reads; at = r.at; token_is = r.token_is; shape = r.shape; texts = r.texts }
 
@@ -3882,9 +3921,9 @@ module _ (B T : List ℕ) (o : ℕ) (here : drop o B ≡ T) where
               record {
                 comments = [];
                 broken = false;
-                next = next_at Command T e;
+                next = asked Command e;
                 q = q;
-                reads = last_turn join_turn (last_join_turn h false [] (next_at Command T e) q it.no_comment it.no_newline);
+                reads = last_turn join_turn (last_join_turn h false [] (asked Command e) q it.no_comment it.no_newline);
                 later = h;
                 at = at_q;
                 token_is = refl;
@@ -3906,7 +3945,7 @@ module _ (B T : List ℕ) (o : ℕ) (here : drop o B ≡ T) where
         under_shape name ss (function other ds body) c cs e f = absurd cc
 
         -- the brackets behind a name, and the body, one level further out
-        pub function_read : (h : Held) (m : Text) (name : Span) (cs : Row Text) (body : Shape ACompoundOf) (p : ℕ) (rest : Marks) (t : Token) → all_blank m ≡ true → GoodComments cs → GoodCompound room body
+        pub function_read : (h : Held) (m : Text) (name : Span) (cs : Row Text) (body : Shape ACompoundOf) (p : ℕ) (rest : Marks) (t : Token) → all_blank m ≡ true → GoodComments cs → GoodCompound edition room body
             → is_normal_compound body ≡ true → Follower rest t → begins_simple t ≡ false → At h p (text (codes "()") ∷ function_rest m cs body rest)
             → Got h (a_function inner name) p rest (compound_bodies body) (λ v. shape_of_command B v ≡ open_command [] (function (text_at B name) cs body))
         unfolding a_function closing
@@ -3916,9 +3955,9 @@ module _ (B T : List ℕ) (o : ℕ) (here : drop o B ≡ T) where
             let r = byte_here T p 40 (41 ∷ lay h X) refl (at ∙ laid_text h (codes "()") X) in
             let r2 = byte_here T (p + 1) 41 (lay h X) refl r.rest in
             let gap = no_gap (start_here r2 refl) in
-            let closes = ap (λ (n : Next). is_closing closings.Paren n.token) (next_behind Command gap) ∙ ap (is_closing closings.Paren) (close_token Command T (p + 1) (lay h X) r.rest) in
-            let closed = subst (λ q. Gives g (passed (closing_text closings.Paren) true Command) (state h q) (span o (p + 1) (p + 1 + 1), next_at Command T (p + 1 + 1)) (state h (past_blanks T (p + 1 + 1)))) (sym gap.blanks) (passed_paren h (closing_text closings.Paren) (p + 1) r2.behind_it) in
-            let operand : (h : Held) (q : ℕ) → At h q ms → Operand q = λ h q at. let b = fine.opens h m body q rest good at in begins_operand q (record { start = b.1.start; command = opens_by (token_at Command T q) b.0 b.1.opener }) in
+            let closes = ap (λ (n : Next). is_closing closings.Paren n.token) (asked_behind Command gap) ∙ ap (is_closing closings.Paren) (tell (close_token Command T (p + 1) (lay h X) r.rest)) in
+            let closed = subst (λ q. Gives g (passed (closing_text closings.Paren) true Command) (state h q) (span o (p + 1) (p + 1 + 1), asked Command (p + 1 + 1)) (state h (past_blanks T (p + 1 + 1)))) (sym gap.blanks) (passed_paren h (closing_text closings.Paren) (p + 1) r2.behind_it) in
+            let operand : (h : Held) (q : ℕ) → At h q ms → Operand q = λ h q at. let b = fine.opens h m body q rest good at in begins_operand q (record { start = b.1.start; command = opens_by (told Command q) b.0 b.1.opener }) in
             let lines = function_gap m blank ms operand h cs body (p + 1 + 1) own r2.rest in
             let back = whole_compound lines.later m body lines.next lines.q rest t blank good normal f none lines.token_is lines.at in
             record {
@@ -3933,7 +3972,7 @@ module _ (B T : List ℕ) (o : ℕ) (here : drop o B ≡ T) where
 
   -- ---- at every level
 
-  none_at_all : (c : Shape ACompoundOf) → GoodCompound zero c → ⊥
+  none_at_all : (c : Shape ACompoundOf) → GoodCompound edition zero c → ⊥
   none_at_all (formed form mark redirects) good = good
 
   pub fine : (y : Layout) (room : ℕ) → Fine room y
@@ -3974,10 +4013,10 @@ module _ (B T : List ℕ) (o : ℕ) (here : drop o B ≡ T) where
     first_at q ms at = at ∙ ap (λ held. laid_behind held ms) (sym no_bytes)
 
     -- the newline behind what stands on the line
-    ended_by : (h : Held) (n : Next) (q : ℕ) (rest : Marks) → is_newline n.token ≡ true → At h q (line_end ∷ rest) → (line : Emptied B T o here h q rest) × Gives g (end_of_line top n) (state h q) true (state line.later line.q)
+    ended_by : (h : Held) (n : Next) (q : ℕ) (rest : Marks) → is_newline n.token ≡ true → At h q (line_end ∷ rest) → (line : Emptied edition B T o here h q rest) × Gives g (end_of_line top n) (state h q) true (state line.later line.q)
     unfolding end_of_line
     ended_by h n q rest is at =
-        let line = emptied B T o here h q rest at in
+        let line = emptied edition B T o here h q rest at in
         let moved = one_moved most_open h q (byte_here T q 10 (after_line h rest) refl (at ∙ laid_line h rest)).behind_it in
         (line, first_of _ _ is (moved ⟫ line.reads ⟫ given_here))
 
@@ -3988,10 +4027,10 @@ module _ (B T : List ℕ) (o : ℕ) (here : drop o B ≡ T) where
     -- the bodies of a line are those that its entries lack
     bodies_are : (h : Held) (more : Row Text → Row Text) → h.waiting ≡ [] → Adds nothing_held h more → map (text_at B) h.bodies ≡ more []
     bodies_are h more none texts =
-        let all : texts_of B T o here h ≡ map (text_at B) h.bodies = ap (λ (xs : Row Document). map (text_at B) h.bodies ++ map (λ (x : Document). x.bytes) xs) none ∙ append-nil (map (text_at B) h.bodies) in
-        sym all ∙ sym (append-nil (texts_of B T o here h)) ∙ texts []
+        let all : texts_of edition B T o here h ≡ map (text_at B) h.bodies = ap (λ (xs : Row Document). map (text_at B) h.bodies ++ map (λ (x : Document). x.bytes) xs) none ∙ append-nil (map (text_at B) h.bodies) in
+        sym all ∙ sym (append-nil (texts_of edition B T o here h)) ∙ texts []
 
-    pub entry_line : (blank : Bool) (what : Shape AContentOf) (background : Bool) (comment : Option Text) (rest : Marks) → GoodContent most_open what → GoodOwnComment comment
+    pub entry_line : (blank : Bool) (what : Shape AContentOf) (background : Bool) (comment : Option Text) (rest : Marks) → GoodContent edition most_open what → GoodOwnComment comment
         → is_normal_entry (entry what background blank comment) ≡ true → drop 0 T ≡ laid (text [] ∷ (print_content y [] what ++ entry_rest most_open y (fine y most_open) background comment rest))
         → EntryLine blank (entry what background blank comment) rest
     unfolding a_line an_open_line
@@ -4003,12 +4042,12 @@ module _ (B T : List ℕ) (o : ℕ) (here : drop o B ≡ T) where
         let gap = margin_gap most_open h [] 0 ms refl at_h (content_start most_open y (fine y most_open) h [] what background blank comment 0 rest good good_c normal behind_it) in
         let p = past_blanks T 0 in
         let at_p = subst (λ q. At h q ms) (sym gap.blanks) behind_it in
-        let n = next_at Command T 0 in
+        let n = asked Command 0 in
         let x = entry what background blank comment in
         let r = entry_on_line most_open y (fine y most_open) h [] [] blank false None what background comment n p rest refl good good_c normal refl at_p in
         let line = line_end_here most_open y (fine y most_open) r.later r.«end» rest r.at in
         let q = past_blanks T r.«end» in
-        let z = ended_by r.later (next_at Command T r.«end») q rest (ap (λ (n : Next). is_newline n.token) line.n_is) line.at_q in
+        let z = ended_by r.later (asked Command r.«end») q rest (ap (λ (n : Next). is_newline n.token) line.n_is) line.at_q in
         let k = z.0.later in
         let all : Adds nothing_held k (entry_bodies x) = λ ts. ap (λ us. us ++ ts) z.0.texts ∙ r.texts ts in
         let v = entry_filled B r.value k.bodies x r.shape (bodies_are k (entry_bodies x) z.0.none all) in
@@ -4030,7 +4069,7 @@ module _ (B T : List ℕ) (o : ℕ) (here : drop o B ≡ T) where
         let h = nothing_held in
         let line = line_end_here most_open y (fine y most_open) h 0 rest (first_at 0 (line_end ∷ rest) at) in
         let q = past_blanks T 0 in
-        let n = next_at Command T 0 in
+        let n = asked Command 0 in
         let z = ended_by h n q rest (ap (λ (n : Next). is_newline n.token) line.n_is) line.at_q in
         let k = z.0.later in
         let whole : Gives g (an_open_line top blank) (standing 0) ([], true) (state k z.0.q) =
@@ -4047,9 +4086,9 @@ module _ (B T : List ℕ) (o : ℕ) (here : drop o B ≡ T) where
     end_line_read blank at =
         let h = nothing_held in
         let it = end_here T 0 at in
-        let n = next_at Command T 0 in
+        let n = asked Command 0 in
         let q = past_blanks T 0 in
-        let token_is : n.token ≡ tokens.End = ap (token_at Command T) it.gap.blanks ∙ it.token Command in
+        let token_is : n.token ≡ tokens.End = ap (told Command) it.gap.blanks ∙ tell (it.token Command) in
         let at_q = subst (λ p. drop p T ≡ []) (sym it.gap.blanks) at in
         let whole : Gives g (an_open_line top blank) (standing 0) ([], false) (state h q) =
         next_read h Command 0 ⟫ nothing_on_line most_open y (fine y most_open) h (none_listed blank) n q (ap begins_pipeline token_is) (no_byte_end T q 35 at_q)

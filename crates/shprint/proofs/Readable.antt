@@ -9,6 +9,7 @@ use Rattle.shgrammar.specs.declared.token.Closing.TheVariants as closings
 use Rattle.shgrammar.specs.declared.token.Next.{Next}
 use Rattle.shgrammar.specs.declared.token.Opener.{Opener}
 use Rattle.shgrammar.specs.declared.token.Opener.TheVariants as openers
+use Rattle.shgrammar.specs.declared.edition.Edition.{Edition}
 use Rattle.shgrammar.specs.declared.token.Position.{Position}
 use Rattle.shgrammar.specs.declared.token.Position.TheVariants.{Command, Prefix, Suffix}
 use Rattle.shgrammar.specs.declared.token.Separator.{Separator}
@@ -18,24 +19,26 @@ use Rattle.shgrammar.specs.declared.token.Token.{Token}
 use Rattle.shgrammar.specs.declared.token.Token.TheVariants as tokens
 use Rattle.shast.specs.declared.tree.AndOrOperator.{AndOrOperator}
 use Rattle.shast.specs.declared.tree.Span.{Span}
-use Rattle.shast.specs.Tree.{AHere, AHereOf, AJoin, AnAndOr, APipeline, Otherwise, ForWords, APipelinePart, AnAndOrPart, ACommand, ABranch, AForm, Entries, pipeline_parts_of, and_or_parts_of, branches_of, AnEntry, AnItem, AWord, item, entry, remark, entries_of, items_of, ItemsOf, no_item, more_items, AnItemOf, AWordOf, ASubst, SubstsOf, word, substs_of, ACompound, compound, argument, ACaseItem, cases_of, patterns_of, AFormOf, formed, redirect, with_redirects, command, and_or, pipeline, simple, function, brace, subshell, if_then, while_do, until_do, for_in, case_in, branch, otherwise, no_else, case_item}
+use Rattle.shast.specs.Tree.{AHere, AHereOf, AJoin, AnAndOr, APipeline, Otherwise, ForWords, APipelinePart, AnAndOrPart, ACommand, ABranch, AForm, Entries, pipeline_parts_of, and_or_parts_of, branches_of, AnEntry, AnItem, AWord, item, entry, remark, entries_of, items_of, ItemsOf, no_item, more_items, AnItemOf, AWordOf, ASubst, SubstsOf, word, substs_of, ACompound, compound, argument, ACaseItem, ACaseMark, cases_of, patterns_of, AFormOf, formed, redirect, with_redirects, command, and_or, pipeline, simple, function, brace, subshell, if_then, while_do, until_do, for_in, case_in, branch, otherwise, no_else, case_item}
 use Rattle.shast.specs.Shape.{Text, Shape, bare_at, text_at, shape_of, shape_of_comment, shape_of_comments, shape_of_entry, shape_of_and_or, shape_of_and_or_parts, shape_of_pipeline, shape_of_pipes, shape_of_command, shape_of_form, shape_of_branch, shape_of_branches, shape_of_else, shape_of_for_words, shape_of_items, shape_of_item, shape_of_word, shape_of_substs, shape_of_compound, shape_of_patterns, shape_of_cases, shape_of_case, shape_of_here}
 use Rattle.shgrammar.specs.Classes.{is_blank}
 use Rattle.shgrammar.specs.Bytes.{past_continuations, past_blanks, stands_in}
 use Rattle.shgrammar.specs.Comments.{span, comment_at}
-use Rattle.shgrammar.specs.Tokens.{is_name_at, token_at}
-use Rattle.shgrammar.specs.Sights.{Given, given, State, standing, Sight, seen, Move, one_byte, to}
+use Rattle.shgrammar.specs.Tokens.{is_later, is_name_at, token_at, token_in}
+use Rattle.shgrammar.specs.Sights.{Given, given, State, standing, Sight, seen, Move, one_byte, to, the_delimiter}
 use Rattle.shgrammar.specs.States.{Waiting}
-use Rattle.shgrammar.specs.HereDocuments.{ADelimiter, bodies_here, delimiter_of}
-use Rattle.shgrammar.specs.Form.{Spelled, Read, Form, see, move, push, stop, give, ◌>>◌, both, when, token, loop, ends_as, change, with_bytes, a_level, in_substitution, many, Step, again, done, step_if, may, raw}
+use Rattle.shgrammar.specs.HereDocuments.{ADelimiter, bodies_here, delimiter_in}
+use Rattle.shgrammar.specs.Form.{Spelled, Read, Form, see, move, push, stop, give, ◌>>=◌, ◌>>◌, both, when, token, loop, ends_as, change, with_bytes, a_level, in_substitution, many, Step, again, done, step_if, may, raw, does}
 use Rattle.shgrammar.specs.Words.{Inner, a_word}
-use Rattle.shgrammar.specs.Commands.{pick, next_token, is_newline, is_semicolon, a_semicolon, is_pipe, is_bang, begins_simple, begins_word, begins_redirect, begins_pipeline, opener_of, compound_by, and_or_operator_of, Items, so_many, behind_word, is_number, redirect_operator_of, takes_here, a_number, an_operator, operator_by, a_target, one_redirect, behind_redirect, redirect_turn, redirected, as_item, breaks, an_item, item_by, item_turn, a_simple, unexpected, comment_by, a_comment, a_newline, with_comment, JoinSo, join_turn, a_join, a_command, a_bang, Piped, piped, one_command, pipe_turn, a_pipeline, Joined, joined_so, one_pipeline, joined_by, join_pipeline, an_and_or, separator_of, separator_by, a_separator, an_entry, is_word, is_paren, a_worded, ASeparator, past_separator, is_double_semicolon, a_document, document_by, open_document, is_long, is_strip, nothing_waits}
+use Rattle.shgrammar.specs.Commands.{pick, next_token, is_newline, is_semicolon, a_semicolon, is_pipe, is_bang, begins_simple, begins_word, begins_redirect, begins_pipeline, opener_of, compound_by, and_or_operator_of, Items, so_many, behind_word, is_number, redirect_operator_of, takes_here, a_number, an_operator, operator_by, a_target, one_redirect, behind_redirect, redirect_turn, redirected, as_item, breaks, an_item, item_by, item_turn, a_simple, unexpected, comment_by, a_comment, a_newline, with_comment, JoinSo, join_turn, a_join, a_command, a_bang, Piped, piped, one_command, pipe_turn, a_pipeline, Joined, joined_so, one_pipeline, joined_by, join_pipeline, an_and_or, separator_of, separator_by, a_separator, an_entry, is_word, is_paren, a_worded, ASeparator, past_separator, ends_item, falls_through, a_document, document_by, open_document, is_long, is_strip, nothing_waits}
 use Rattle.shgrammar.specs.Lists.{ListSo, list_so, none_listed, is_blank_next, one_entry, entry_turn, remark_by, a_remark, on_line, list_turn, a_list}
-use Rattle.shgrammar.specs.Compounds.{Branched, branched, Closed, is_closing, passed, closing, a_group, a_branch, elif_turn, an_else, an_if, a_loop, behind_opener, a_for_name, a_linebreak, a_sequential_sep, Headed, word_turn, for_words, a_for_head, behind_remarks, a_for, a_form, a_compound, under_name, a_function, a_case_word, begins_pattern, Patterned, a_pattern, one_pattern, pattern_turn, a_pattern_list, an_open_bracket, a_body, ItemEnd, a_double_semicolon, an_item_end, CasesSo, cases_so, one_case, case_turn, a_case_head, a_case}
+use Rattle.shgrammar.specs.Compounds.{Branched, branched, Closed, is_closing, passed, closing, a_group, a_branch, elif_turn, an_else, an_if, a_loop, behind_opener, a_for_name, a_linebreak, a_sequential_sep, Headed, word_turn, for_words, a_for_head, behind_remarks, a_for, a_form, a_compound, under_name, a_function, a_case_word, begins_pattern, Patterned, a_pattern, one_pattern, pattern_turn, a_pattern_list, an_open_bracket, a_body, ItemEnd, an_ender, an_item_end, CasesSo, cases_so, one_case, case_turn, a_case_head, a_case}
 use Rattle.shgrammar.specs.Levels.{most_open, level}
 use Rattle.shgrammar.specs.Lines.{a_line, an_open_line, end_by, end_of_line}
 use Rattle.shgrammar.specs.Tokens.{is_end}
 use Rattle.shgrammar.specs.Scripts.{AScript, SoFar, Lines, line_ended, last_line, faulty, nothing_yet, Outcome}
+use Rattle.shgrammar.proofs.Shown.{falls_later}
+use Rattle.shgrammar.proofs.TokensShown.{shown_level, shown_lines}
 use Rattle.shgrammar.proofs.Places.{place_same, blanks_stop}
 use Rattle.shgrammar.proofs.OneOutcome.{is}
 use Rattle.shgrammar.proofs.Holds.{Holds, Tells, Stepped, tells_after, tells_change, tells_give, tells_level, tells_then, tells_token, tells_so, tells_until, tells_seen, tells_moved, tells_pushed, tells_with_bytes}
@@ -45,7 +48,7 @@ use Rattle.shgrammar.proofs.WordsWaiting.{blind_word, onto, place_of}
 use Rattle.shgrammar.proofs.Spelling.{raw_at}
 use Rattle.shgrammar.proofs.Elsewhere.{ItemAnywhere, NameAnywhere, is_a_word, item_is_word, token_anywhere, item_anywhere, name_anywhere}
 use Rattle.shgrammar.proofs.CommentsElsewhere.{CommentAnywhere, comment_is, comment_anywhere}
-use Rattle.shprint.proofs.Tokens.{word_token}
+use Rattle.shprint.proofs.Tokens.{told_so, word_token}
 use Rattle.shprint.proofs.Digits.{digits_good, number_here}
 use Rattle.shprint.proofs.Due.{Due, due_at, BodyOf, Docs, DocsAt, Feeds, no_docs, docs_more, docs_done, done_docs, docs_read, Opens, opens_nothing, opens_so, opens_one, opens_two, opens_both, opens_document, opens_none, opens_last, opens_some, fill_all, SomeOf, some_last}
 use Rattle.shast.specs.Bodies.{fill_here, fill_item_content, fill_item, fill_items, fill_entries, fill_entry, fill_content, fill_and_or, fill_and_or_part, fill_pipeline, fill_pipe, fill_command, fill_compound, fill_form, fill_branch, fill_else, fill_case, filled_row}
@@ -63,17 +66,17 @@ with_last no_item i = more_items i no_item
 with_last (more_items j is) i = more_items j (with_last is i)
 
 -- what a compound command holds: it is open while that is read
-abbrev GoodUnder : ℕ → Shape AFormOf → Type 0
-GoodUnder zero form = ⊥
-GoodUnder (suc room) form = GoodForm room form
+abbrev GoodUnder : Edition → ℕ → Shape AFormOf → Type 0
+GoodUnder edition zero form = ⊥
+GoodUnder edition (suc room) form = GoodForm edition room form
 
 -- with redirections behind it
-compound_with : (room : ℕ) (form : Shape AFormOf) (more : Shape ItemsOf) → GoodUnder room form → GoodRedirects room more → GoodCompound room (formed form tt more)
-compound_with zero form more good redirects = absurd good
-compound_with (suc room) form more good redirects = (good, redirects)
+compound_with : (edition : Edition) (room : ℕ) (form : Shape AFormOf) (more : Shape ItemsOf) → GoodUnder edition room form → GoodRedirects edition room more → GoodCompound edition room (formed form tt more)
+compound_with edition zero form more good redirects = absurd good
+compound_with edition (suc room) form more good redirects = (good, redirects)
 
-items_more : {room : ℕ} {kind : Kind} {first position next : Position} {i : Shape AnItemOf} {is : Shape ItemsOf} → GoodItems room kind first is position → GoodItem room kind position i next
-    → GoodItems room kind first (with_last is i) next
+items_more : {edition : Edition} {room : ℕ} {kind : Kind} {first position next : Position} {i : Shape AnItemOf} {is : Shape ItemsOf} → GoodItems edition room kind first is position → GoodItem edition room kind position i next
+    → GoodItems edition room kind first (with_last is i) next
 items_more none_more one = one_more one none_more
 items_more (one_more other rest) one = one_more other (items_more rest one)
 
@@ -92,38 +95,38 @@ module _ (B : List ℕ) where
   comments_more [] c all one = (one, tt)
   comments_more (d ∷ cs) c all one = (all.0, comments_more cs c all.1 one)
 
-  module _ (room : ℕ) where
-    pipes_more : (ps : Row APipelinePart) (p : APipelinePart) → GoodPipes room (shape_of_pipes B (pipeline_parts_of ps)) → GoodComments (shape_of_comments B p.join.comments)
-        → GoodCommand room (shape_of_command B p.command) → GoodPipes room (shape_of_pipes B (pipeline_parts_of (ps ++ p ∷ [])))
+  module _ (edition : Edition) (room : ℕ) where
+    pipes_more : (ps : Row APipelinePart) (p : APipelinePart) → GoodPipes edition room (shape_of_pipes B (pipeline_parts_of ps)) → GoodComments (shape_of_comments B p.join.comments)
+        → GoodCommand edition room (shape_of_command B p.command) → GoodPipes edition room (shape_of_pipes B (pipeline_parts_of (ps ++ p ∷ [])))
     pipes_more [] p all join one = (join, one, tt)
     pipes_more (q ∷ ps) p (other, first, all) join one = (other, first, pipes_more ps p all join one)
 
-    joined_more : (ps : Row AnAndOrPart) (p : AnAndOrPart) → GoodParts room (shape_of_and_or_parts B (and_or_parts_of ps)) → GoodComments (shape_of_comments B p.join.comments)
-        → GoodPipeline room (shape_of_pipeline B p.pipeline) → GoodParts room (shape_of_and_or_parts B (and_or_parts_of (ps ++ p ∷ [])))
+    joined_more : (ps : Row AnAndOrPart) (p : AnAndOrPart) → GoodParts edition room (shape_of_and_or_parts B (and_or_parts_of ps)) → GoodComments (shape_of_comments B p.join.comments)
+        → GoodPipeline edition room (shape_of_pipeline B p.pipeline) → GoodParts edition room (shape_of_and_or_parts B (and_or_parts_of (ps ++ p ∷ [])))
     joined_more [] p all join one = (join, one, tt)
     joined_more (q ∷ ps) p (other, first, all) join one = (other, first, joined_more ps p all join one)
 
-    branches_more : (bs : Row ABranch) (b : ABranch) → GoodBranches room (shape_of_branches B (branches_of bs)) → GoodBranch room (shape_of_branch B b)
-        → GoodBranches room (shape_of_branches B (branches_of (bs ++ b ∷ [])))
+    branches_more : (bs : Row ABranch) (b : ABranch) → GoodBranches edition room (shape_of_branches B (branches_of bs)) → GoodBranch edition room (shape_of_branch B b)
+        → GoodBranches edition room (shape_of_branches B (branches_of (bs ++ b ∷ [])))
     branches_more [] b all one = (one, tt)
     branches_more (c ∷ bs) b all one = (all.0, branches_more bs b all.1 one)
 
-    patterns_more : (ws : Row AWord) (w : AWord) → GoodMorePatterns room (shape_of_patterns B (patterns_of ws)) → GoodWord room Suffix begins_word (shape_of_word B w)
-        → GoodMorePatterns room (shape_of_patterns B (patterns_of (ws ++ w ∷ [])))
+    patterns_more : (ws : Row AWord) (w : AWord) → GoodMorePatterns edition room (shape_of_patterns B (patterns_of ws)) → GoodWord edition room Suffix begins_word (shape_of_word B w)
+        → GoodMorePatterns edition room (shape_of_patterns B (patterns_of (ws ++ w ∷ [])))
     patterns_more [] w all one = (one, tt)
     patterns_more (v ∷ ws) w all one = (all.0, patterns_more ws w all.1 one)
 
     -- one more pattern, behind others
-    patterns_last : (ws : Row AWord) (w : AWord) → GoodPatterns room (shape_of_patterns B (patterns_of ws)) → GoodWord room Suffix begins_word (shape_of_word B w)
-        → GoodPatterns room (shape_of_patterns B (patterns_of (ws ++ w ∷ [])))
+    patterns_last : (ws : Row AWord) (w : AWord) → GoodPatterns edition room (shape_of_patterns B (patterns_of ws)) → GoodWord edition room Suffix begins_word (shape_of_word B w)
+        → GoodPatterns edition room (shape_of_patterns B (patterns_of (ws ++ w ∷ [])))
     patterns_last [] w all one = absurd all
     patterns_last (v ∷ ws) w all one = (all.0, patterns_more ws w all.1 one)
 
-    cases_more : (cs : Row ACaseItem) (c : ACaseItem) → GoodCases room (shape_of_cases B (cases_of cs)) → GoodCase room (shape_of_case B c) → GoodCases room (shape_of_cases B (cases_of (cs ++ c ∷ [])))
+    cases_more : (cs : Row ACaseItem) (c : ACaseItem) → GoodCases edition room (shape_of_cases B (cases_of cs)) → GoodCase edition room (shape_of_case B c) → GoodCases edition room (shape_of_cases B (cases_of (cs ++ c ∷ [])))
     cases_more [] c all one = (one, tt)
     cases_more (d ∷ cs) c all one = (all.0, cases_more cs c all.1 one)
 
-    entries_join : (es ls : Row AnEntry) → GoodEntries room (shape_of B (entries_of es)) → GoodEntries room (shape_of B (entries_of ls)) → GoodEntries room (shape_of B (entries_of (es ++ ls)))
+    entries_join : (es ls : Row AnEntry) → GoodEntries edition room (shape_of B (entries_of es)) → GoodEntries edition room (shape_of B (entries_of ls)) → GoodEntries edition room (shape_of B (entries_of (es ++ ls)))
     entries_join [] ls all more = more
     entries_join (e ∷ es) ls all more = (all.0, entries_join es ls all.1 more)
 
@@ -133,6 +136,7 @@ pattern_is_word tokens.End e = absurd cc
 pattern_is_word tokens.Newline e = absurd cc
 pattern_is_word tokens.Semicolon e = absurd cc
 pattern_is_word tokens.DoubleSemicolon e = absurd cc
+pattern_is_word tokens.SemicolonAmpersand e = absurd cc
 pattern_is_word tokens.Ampersand e = absurd cc
 pattern_is_word tokens.AndIf e = absurd cc
 pattern_is_word tokens.OrIf e = absurd cc
@@ -286,6 +290,18 @@ module _ (g : Given) where
   so_adds : {X : Type 0} {P Q : X → Row Due → ℕ → Type 0} {D : Row Due} {r : Form X} {p : ℕ} → Adds D r P p → ((x : X) (E : Row Due) (e : ℕ) → P x E e → Q x E e) → Adds D r Q p
   so_adds one so = record { adds = λ s docs. tells_so Whole g (one.adds s docs) (λ x t good. (good.0, good.1, so x good.0 t.at good.2)) }
 
+  hold_both : {X : Type 0} (P Q : X → State → Type 0) (y : Read X) → Holds P y → Holds Q y → Holds (λ x t. P x t × Q x t) y
+  hold_both P Q (Ok (x, t)) one two = (one, two)
+  hold_both P Q (Err f) one two = tt
+
+  -- what else is told of it
+  and_told : {X : Type 0} {P : X → Row Due → ℕ → Type 0} {R : X → State → Type 0} {Q : X → Type 0} {D : Row Due} {r : Form X} {p : ℕ} → Adds D r P p → ((s : State) → Tells Whole g r R (place_of s p))
+      → ((x : X) (t : State) → R x t → Q x) → Adds D r (λ x E e. P x E e × Q x) p
+  and_told {P = P} {R = R} {r = r} {p = p} one other so = record {
+    adds = λ s docs. tells_so Whole g {P = λ x t. Grown P x t × R x t} (record { told = hold_both (Grown P) R (does r Whole g (place_of s p)) (one.adds s docs).told (other s).told })
+        (λ x t both. (both.0.0, both.0.1, (both.0.2, so x t both.1)));
+  }
+
   add_sees : {X Y : Type 0} {Q : Y → Row Due → ℕ → Type 0} {D : Row Due} {f : Sight X} {q : X → Form Y} {p : ℕ} → ((s : State) → seen f g (place_of s p) ≡ seen f g (standing p))
       → Adds D (q (seen f g (standing p))) Q p → Adds D (both (see f) q) Q p
   add_sees {Q = Q} {q = q} {p = p} same rest = record { adds = λ s docs. tells_seen Whole g (subst (λ x. Tells Whole g (q x) (Grown Q) (place_of s p)) (sym (same s)) (rest.adds s docs)) }
@@ -329,7 +345,11 @@ module _ (g : Given) where
   record Stands (position : Position) (n : Next) (p : ℕ) : Type 0 where
     pub place : past_continuations g.text p ≡ p
     pub no_blank : stands_in is_blank g.text p ≡ false
-    pub token_is : token_at position g.text p ≡ n.token
+    pub token_is : token_in g.edition (token_at position g.text p) ≡ n.token
+
+  -- a word is one in the text too
+  word_so : {position : Position} {n : Next} {p : ℕ} → Stands position n p → is_a_word n.token ≡ true → token_at position g.text p ≡ n.token
+  word_so {position = position} {n = n} {p = p} so is = told_so is_a_word refl refl g.edition (token_at position g.text p) n.token so.token_is is
 
   reads_next : (position : Position) (p : ℕ) → Reads (next_token position) (Stands position) p
   unfolding next_token past_blanks
@@ -463,47 +483,47 @@ module _ (B : List ℕ) (g : Given) (here : g.text ≡ drop g.offset B) where
     -- ---- parts of a list, where these documents are open
 
     abbrev OpenItem : Kind → Position → Row Due → AnItem → Row Due → Position → Type 0
-    OpenItem kind position D i E next = Opens g fill_item (λ j. GoodItem room kind position (shape_of_item B j) next) D i E
+    OpenItem kind position D i E next = Opens g fill_item (λ j. GoodItem g.edition room kind position (shape_of_item B j) next) D i E
 
     abbrev OpenItems : Kind → Position → Row Due → Row AnItem → Row Due → Position → Type 0
-    OpenItems kind begin D is E last = Opens g (fill_all g fill_item) (λ js. GoodItems room kind begin (shape_of_items B (items_of js)) last) D is E
+    OpenItems kind begin D is E last = Opens g (fill_all g fill_item) (λ js. GoodItems g.edition room kind begin (shape_of_items B (items_of js)) last) D is E
 
     abbrev OpenCommand : Row Due → ACommand → Row Due → Type 0
-    OpenCommand D c E = Opens g fill_command (λ d. GoodCommand room (shape_of_command B d)) D c E
+    OpenCommand D c E = Opens g fill_command (λ d. GoodCommand g.edition room (shape_of_command B d)) D c E
 
     abbrev OpenCompound : Row Due → ACompound → Row Due → Type 0
-    OpenCompound D c E = Opens g fill_compound (λ d. GoodCompound room (shape_of_compound B d)) D c E
+    OpenCompound D c E = Opens g fill_compound (λ d. GoodCompound g.edition room (shape_of_compound B d)) D c E
 
     -- what a compound command holds
     abbrev OpenUnder : Row Due → AForm → Row Due → Type 0
-    OpenUnder D f E = Opens g fill_form (λ h. GoodUnder room (shape_of_form B h)) D f E
+    OpenUnder D f E = Opens g fill_form (λ h. GoodUnder g.edition room (shape_of_form B h)) D f E
 
     abbrev OpenForm : Row Due → AForm → Row Due → Type 0
-    OpenForm D f E = Opens g fill_form (λ h. GoodForm room (shape_of_form B h)) D f E
+    OpenForm D f E = Opens g fill_form (λ h. GoodForm g.edition room (shape_of_form B h)) D f E
 
     abbrev OpenPipeline : Row Due → APipeline → Row Due → Type 0
-    OpenPipeline D x E = Opens g fill_pipeline (λ y. GoodPipeline room (shape_of_pipeline B y)) D x E
+    OpenPipeline D x E = Opens g fill_pipeline (λ y. GoodPipeline g.edition room (shape_of_pipeline B y)) D x E
 
     abbrev OpenAndOr : Row Due → AnAndOr → Row Due → Type 0
-    OpenAndOr D x E = Opens g fill_and_or (λ y. GoodAndOr room (shape_of_and_or B y)) D x E
+    OpenAndOr D x E = Opens g fill_and_or (λ y. GoodAndOr g.edition room (shape_of_and_or B y)) D x E
 
     abbrev OpenEntry : Row Due → AnEntry → Row Due → Type 0
-    OpenEntry D x E = Opens g fill_entry (λ y. GoodEntry room (shape_of_entry B y)) D x E
+    OpenEntry D x E = Opens g fill_entry (λ y. GoodEntry g.edition room (shape_of_entry B y)) D x E
 
     abbrev OpenRow : Row Due → Row AnEntry → Row Due → Type 0
-    OpenRow D es E = Opens g (fill_all g fill_entry) (λ ls. GoodEntries room (shape_of B (entries_of ls))) D es E
+    OpenRow D es E = Opens g (fill_all g fill_entry) (λ ls. GoodEntries g.edition room (shape_of B (entries_of ls))) D es E
 
     abbrev OpenEntries : Row Due → Entries → Row Due → Type 0
-    OpenEntries D es E = Opens g fill_entries (λ ls. GoodEntries room (shape_of B ls)) D es E
+    OpenEntries D es E = Opens g fill_entries (λ ls. GoodEntries g.edition room (shape_of B ls)) D es E
 
     abbrev OpenBranch : Row Due → ABranch → Row Due → Type 0
-    OpenBranch D x E = Opens g fill_branch (λ y. GoodBranch room (shape_of_branch B y)) D x E
+    OpenBranch D x E = Opens g fill_branch (λ y. GoodBranch g.edition room (shape_of_branch B y)) D x E
 
     abbrev OpenElse : Row Due → Otherwise → Row Due → Type 0
-    OpenElse D x E = Opens g fill_else (λ y. GoodElse room (shape_of_else B y)) D x E
+    OpenElse D x E = Opens g fill_else (λ y. GoodElse g.edition room (shape_of_else B y)) D x E
 
     abbrev OpenCase : Row Due → ACaseItem → Row Due → Type 0
-    OpenCase D x E = Opens g fill_case (λ y. GoodCase room (shape_of_case B y)) D x E
+    OpenCase D x E = Opens g fill_case (λ y. GoodCase g.edition room (shape_of_case B y)) D x E
 
     list_opens : {D E : Row Due} (es : Row AnEntry) → OpenRow D es E → OpenEntries D (entries_of es) E
     list_opens es all = opens_one g (entries_of es) entries_of (entries_going es) (λ ls good. good) all
@@ -523,7 +543,7 @@ module _ (B : List ℕ) (g : Given) (here : g.text ≡ drop g.offset B) where
     ItemsOn C i D p = ItemsSo C i D p × SomeOf g i.items
 
     abbrev ItemsDone : Row Due → Items → Row Due → ℕ → Type 0
-    ItemsDone C i D p = Opens g fill_items (λ is. GoodSimple room (shape_of_items B is)) C (items_of i.items) D
+    ItemsDone C i D p = Opens g fill_items (λ is. GoodSimple g.edition room (shape_of_items B is)) C (items_of i.items) D
 
     some_item : (is : Row AnItem) → SomeOf g is → SomeItem (shape_of_items B (items_of is))
     some_item [] some = some
@@ -545,16 +565,16 @@ module _ (B : List ℕ) (g : Given) (here : g.text ≡ drop g.offset B) where
     substs_in read = shape_of_substs B (substs_of read.substs)
 
     reads_anywhere : (position : Position) (n : Next) (p q : ℕ) (w : AWord) → begins_word n.token ≡ true → Stands g position n p → (read : WordRead g room p w q)
-        → ItemAnywhere room position n.token (text_of p q) (substs_in read)
+        → ItemAnywhere g.edition room position n.token (text_of p q) (substs_in read)
     reads_anywhere position n p q w is stands read =
-        let anywhere = item_anywhere room position n.token g p (q - p) (w, read.part) stands.place stands.no_blank stands.token_is is B here (substs_in read) (word_shape p q w read) in
-        subst (λ (t : Text). ItemAnywhere room position n.token t (substs_in read)) (raw_at B g here p q) anywhere
+        let anywhere = item_anywhere room position n.token g p (q - p) (w, read.part) stands.place stands.no_blank (word_so g stands (item_is_word n.token is)) is B here (substs_in read) (word_shape p q w read) in
+        subst (λ (t : Text). ItemAnywhere g.edition room position n.token t (substs_in read)) (raw_at B g here p q) anywhere
 
     -- one more item of this shape
-    one_more_good : (kind : Kind) (begin position next : Position) (is : Row AnItem) (i : AnItem) (j : Shape AnItemOf) → shape_of_item B i ≡ j → GoodItem room kind position j next
-        → GoodItems room kind begin (shape_of_items B (items_of is)) position → GoodItems room kind begin (shape_of_items B (items_of (is ++ i ∷ []))) next
+    one_more_good : (kind : Kind) (begin position next : Position) (is : Row AnItem) (i : AnItem) (j : Shape AnItemOf) → shape_of_item B i ≡ j → GoodItem g.edition room kind position j next
+        → GoodItems g.edition room kind begin (shape_of_items B (items_of is)) position → GoodItems g.edition room kind begin (shape_of_items B (items_of (is ++ i ∷ []))) next
     one_more_good kind begin position next is i j shape one good =
-        subst (λ (s : Shape ItemsOf). GoodItems room kind begin s next) (sym (items_last B is i ∙ ap (with_last (shape_of_items B (items_of is))) shape)) (items_more good one)
+        subst (λ (s : Shape ItemsOf). GoodItems g.edition room kind begin s next) (sym (items_last B is i ∙ ap (with_last (shape_of_items B (items_of is))) shape)) (items_more good one)
 
     one_more_open : {C D E : Row Due} (kind : Kind) (begin position next : Position) (is : Row AnItem) (i : AnItem) → OpenItem kind position D i E next → OpenItems kind begin C is D position
         → OpenItems kind begin C (is ++ i ∷ []) E next
@@ -562,7 +582,7 @@ module _ (B : List ℕ) (g : Given) (here : g.text ≡ drop g.offset B) where
         opens_last g is i (λ js j good more. one_more_good kind begin position next js j (shape_of_item B j) refl more good) all one
 
     -- a word is no document
-    word_open : {D : Row Due} (kind : Kind) (broken : Bool) (position next place : Position) (w : AWord) → GoodItem room kind position (shape_of_item B (item broken (as_item place w))) next
+    word_open : {D : Row Due} (kind : Kind) (broken : Bool) (position next place : Position) (w : AWord) → GoodItem g.edition room kind position (shape_of_item B (item broken (as_item place w))) next
         → OpenItem kind position D (item broken (as_item place w)) D next
     unfolding fill_item fill_item_content
     word_open kind broken position next place w good = opens_nothing g (item broken (as_item place w)) (λ ts. word_filled broken place w ts) good
@@ -579,7 +599,7 @@ module _ (B : List ℕ) (g : Given) (here : g.text ≡ drop g.offset B) where
         let shape = item_is B broken next w (word (text_of p q) (substs_in read)) (ap (shape_of_word B) read.is) in
         let one = of_word some (reads_anywhere position n p q w (ap is_some some) stands read) in
         one_more_open of_command begin position next is (item broken (as_item next w))
-        (word_open of_command broken position next next w (subst (λ (s : Shape AnItemOf). GoodItem room of_command position s next) (sym shape) one)) good
+        (word_open of_command broken position next next w (subst (λ (s : Shape AnItemOf). GoodItem g.edition room of_command position s next) (sym shape) one)) good
 
     reads_item : (C : Row Due) (i : Items) (next : Position) (D : Row Due) (p : ℕ) → behind_word i.next.token ≡ Some next → ItemsSo C i D p
         → Adds g D (an_item inner i next) (Turns g (ItemsOn C) (ItemsDone C)) p
@@ -599,7 +619,7 @@ module _ (B : List ℕ) (g : Given) (here : g.text ≡ drop g.offset B) where
     unfolding a_number
     reads_number position n p so =
         picks g (is_number n.token)
-        (λ is. first g (record { reads = λ D s docs. record { told = (docs, digits_good B g here p (number_here position g.text p n.token so.token_is is)) } })
+        (λ is. first g (record { reads = λ D s docs. record { told = (docs, digits_good B g here p (number_here position g.text p n.token (told_so is_number refl refl g.edition (token_at position g.text p) n.token so.token_is is) is)) } })
         (λ x e good. first g (reads_next g Suffix e) (λ m f stands. gives g good)))
         (gives g tt)
 
@@ -614,7 +634,7 @@ module _ (B : List ℕ) (g : Given) (here : g.text ≡ drop g.offset B) where
 
     -- the word of a redirection, and its bytes
     abbrev TargetGood : AWord × Spelled → ℕ → Type 0
-    TargetGood x e = (ss : Shape SubstsOf) × (shape_of_word B x.0 ≡ word x.1 ss) × ItemAnywhere room Suffix tokens.Word x.1 ss
+    TargetGood x e = (ss : Shape SubstsOf) × (shape_of_word B x.0 ≡ word x.1 ss) × ItemAnywhere g.edition room Suffix tokens.Word x.1 ss
 
     reads_target : (p : ℕ) → Reads g (a_target inner) TargetGood p
     unfolding a_target
@@ -625,45 +645,45 @@ module _ (B : List ℕ) (g : Given) (here : g.text ≡ drop g.offset B) where
         first_so : (n : Next) (e : ℕ) → n.token ≡ tokens.Word → Stands g Suffix n e → Reads g (with_bytes (a_word inner)) TargetGood e
         first_so n e is stands =
             with_its_bytes g (reads_word g room e) (λ w q read.
-            let anywhere = subst (λ (t : Token). ItemAnywhere room Suffix t (text_of e q) (substs_in read)) is (reads_anywhere Suffix n e q w (ap begins_word is) stands read) in (
+            let anywhere = subst (λ (t : Token). ItemAnywhere g.edition room Suffix t (text_of e q) (substs_in read)) is (reads_anywhere Suffix n e q w (ap begins_word is) stands read) in (
               substs_in read,
               word_shape e q w read,
-              subst (λ (t : Text). ItemAnywhere room Suffix tokens.Word t (substs_in read)) (sym (raw_at B g here e q)) anywhere,
+              subst (λ (t : Text). ItemAnywhere g.edition room Suffix tokens.Word t (substs_in read)) (sym (raw_at B g here e q)) anywhere,
             ))
 
     abbrev OpenHere : RedirectOperator → Text → Row Due → Option AHere → Row Due → Type 0
-    OpenHere o t D h E = Opens g fill_here (λ x. GoodHere o t (option_map (shape_of_here B) x)) D h E
+    OpenHere o t D h E = Opens g fill_here (λ x. GoodHere g.edition o t (option_map (shape_of_here B) x)) D h E
 
     -- the document of an operator at b, whose word has these bytes
     reads_document : (o : RedirectOperator) (b at : ℕ) (t : Text) (D : Row Due) (p : ℕ) → Adds g D (a_document o b at t) (λ h E e. OpenHere o t D h E) p
     unfolding a_document
     reads_document o b at t D p = by_here (takes_here o) refl
       where
-        good : (d : ADelimiter) → takes_here o ≡ true → delimiter_of t ≡ Some d → (s : Span) → BodyOf g (due_at b (is_strip o) d) s
-            → GoodHere o t (Some (shape_of_here B (record { literal = d.literal; strip = is_strip o; body = s })))
+        good : (d : ADelimiter) → takes_here o ≡ true → delimiter_in g.edition t ≡ Some d → (s : Span) → BodyOf g (due_at b (is_strip o) d) s
+            → GoodHere g.edition o t (Some (shape_of_here B (record { literal = d.literal; strip = is_strip o; body = s })))
         good d takes is s body =
             let text : raw g.text body.p body.q ≡ text_at B s = raw_at B g here body.p body.q ∙ ap (text_at B) (sym body.is) in
             record { takes = takes; d = d; delimits = is; literal = refl; strip = refl; reads = subst (DocumentAnywhere (is_strip o) d) text body.reads }
 
-        by_delimiter : (d : Option ADelimiter) → takes_here o ≡ true → delimiter_of t ≡ d → Adds g D (document_by b at (is_strip o) d) (λ h E e. OpenHere o t D h E) p
+        by_delimiter : (d : Option ADelimiter) → takes_here o ≡ true → delimiter_in g.edition t ≡ d → Adds g D (document_by b at (is_strip o) d) (λ h E e. OpenHere o t D h E) p
         by_delimiter None takes is = add_stops g
         by_delimiter (Some d) takes is =
             let x = due_at b (is_strip o) d in
             record { adds = λ s docs. record { told = (D ++ x ∷ [], docs_more g x docs, opens_document g x (open_document (is_strip o) d) (good d takes is)) } }
 
-        by_here : (c : Bool) → takes_here o ≡ c → Adds g D (pick c (document_by b at (is_strip o) (delimiter_of t)) (give None)) (λ h E e. OpenHere o t D h E) p
-        by_here true is = by_delimiter (delimiter_of t) is refl
+        by_here : (c : Bool) → takes_here o ≡ c → Adds g D (pick c (see (the_delimiter t) >>= document_by b at (is_strip o)) (give None)) (λ h E e. OpenHere o t D h E) p
+        by_here true is = add_sees g (λ s. refl) (by_delimiter (delimiter_in g.edition t) is refl)
         by_here false is = add_gives g (opens_nothing g None (λ ts. refl) is)
 
     -- a redirection, by its shape
     abbrev IsRedirect : Bool → Shape AnItemOf → Type 0
-    IsRedirect broken s = (number : Option Text) × (o : RedirectOperator) × (t : Text) × (ss : Shape SubstsOf) × (h : Option (AHereOf Text)) × (s ≡ a_redirect_of broken number o t ss h) × GoodRedirect room number o t ss h
+    IsRedirect broken s = (number : Option Text) × (o : RedirectOperator) × (t : Text) × (ss : Shape SubstsOf) × (h : Option (AHereOf Text)) × (s ≡ a_redirect_of broken number o t ss h) × GoodRedirect g.edition room number o t ss h
 
     abbrev OpenRedirect : Bool → Row Due → AnItem → Row Due → Type 0
     OpenRedirect broken D i E = Opens g fill_item (λ j. IsRedirect broken (shape_of_item B j)) D i E
 
     redirect_open : {D E : Row Due} (broken : Bool) (d : Option Span) (o : RedirectOperator) (s : Span) (w : AWord) (h : Option AHere) (t : Text) (ss : Shape SubstsOf) → GoodNumber (bare_number d)
-        → shape_of_word B w ≡ word t ss → ItemAnywhere room Suffix tokens.Word t ss → OpenHere o t D h E → OpenRedirect broken D (item broken (redirect d o s w h)) E
+        → shape_of_word B w ≡ word t ss → ItemAnywhere g.edition room Suffix tokens.Word t ss → OpenHere o t D h E → OpenRedirect broken D (item broken (redirect d o s w h)) E
     unfolding fill_item fill_item_content
     redirect_open broken d o s w h t ss number is reads document =
         opens_one g (item broken (redirect d o s w h)) (λ x. item broken (redirect d o s w x)) (λ ts. refl)
@@ -689,8 +709,8 @@ module _ (B : List ℕ) (g : Given) (here : g.text ≡ drop g.offset B) where
         on_done (again j) E e on = on
         on_done (done j) E e on = simple_is C j E e on
 
-        is_item : (s : Shape AnItemOf) → IsRedirect (breaks i) s → GoodItem room of_command i.place s (behind_redirect i.place)
-        is_item s (number, o, t, ss, h, is, good) = subst (λ (r : Shape AnItemOf). GoodItem room of_command i.place r (behind_redirect i.place)) (sym is) (of_redirect good)
+        is_item : (s : Shape AnItemOf) → IsRedirect (breaks i) s → GoodItem g.edition room of_command i.place s (behind_redirect i.place)
+        is_item s (number, o, t, ss, h, is, good) = subst (λ (r : Shape AnItemOf). GoodItem g.edition room of_command i.place r (behind_redirect i.place)) (sym is) (of_redirect good)
 
         by_redirect : (b : Bool) → begins_redirect i.next.token ≡ b → behind_word i.next.token ≡ None
             → Adds g D (pick b (one_redirect inner (breaks i) (behind_redirect i.place) i.items i.next) (give (done i))) (Turns g (ItemsOn C) (ItemsDone C)) p
@@ -743,8 +763,8 @@ module _ (B : List ℕ) (g : Given) (here : g.text ≡ drop g.offset B) where
         pub good : OpenItems of_compound Command C r.items D Command
         pub stands : Stands g Command r.next p
 
-      is_behind : (broken : Bool) (s : Shape AnItemOf) → IsRedirect broken s → GoodItem room of_compound Command s Command
-      is_behind broken s (number, o, t, ss, h, is, good) = subst (λ (r : Shape AnItemOf). GoodItem room of_compound Command r Command) (sym is) (of_redirect_behind good)
+      is_behind : (broken : Bool) (s : Shape AnItemOf) → IsRedirect broken s → GoodItem g.edition room of_compound Command s Command
+      is_behind broken s (number, o, t, ss, h, is, good) = subst (λ (r : Shape AnItemOf). GoodItem g.edition room of_compound Command r Command) (sym is) (of_redirect_behind good)
 
       reads_redirect_turn : (C : Row Due) (r : Items) (D : Row Due) (p : ℕ) → RedirectsSo C r D p → Adds g D (redirect_turn inner r) (Turns g (RedirectsSo C) (RedirectsSo C)) p
       unfolding redirect_turn
@@ -758,7 +778,7 @@ module _ (B : List ℕ) (g : Given) (here : g.text ≡ drop g.offset B) where
       unfolding fill_compound
       compound_open form mark is one more =
           opens_two g (formed form mark (items_of is)) (λ f js. formed f mark (items_of js)) (λ ts. rw (items_going is (fill_form form ts).1) refl)
-          (λ f js good all. compound_with room (shape_of_form B f) (shape_of_items B (items_of js)) good (record { last = Command; items = all })) one more
+          (λ f js good all. compound_with g.edition room (shape_of_form B f) (shape_of_items B (items_of js)) good (record { last = Command; items = all })) one more
 
       reads_redirected : (C : Row Due) (c : ACommand × Next) (D : Row Due) (p : ℕ) → Bare_is C c D p → Adds g D (redirected inner c) (Compound_is C) p
       unfolding redirected
@@ -778,7 +798,7 @@ module _ (B : List ℕ) (g : Given) (here : g.text ≡ drop g.offset B) where
       -- a word that is a NAME is one before `(`
       named_before : (n : Next) (p q : ℕ) (w : AWord) → n.token ≡ tokens.Word → Stands g Command n p → WordRead g room p w q → is_name_at g.text p ≡ true → NameBefore room (text_at B (word_span w))
       named_before n p q w is so read name =
-          let before = name_before room g p (q - p) (w, read.part) so.place (so.token_is ∙ is) name in
+          let before = name_before room g p (q - p) (w, read.part) so.place (word_so g so (ap is_a_word is) ∙ is) name in
           let place : word_span w ≡ span g.offset p q = ap word_span read.is in
           subst (NameBefore room) (raw_at B g here p q ∙ ap (text_at B) (sym place)) before
 
@@ -802,14 +822,14 @@ module _ (B : List ℕ) (g : Given) (here : g.text ≡ drop g.offset B) where
       -- ---- pipelines
 
       abbrev PipesGood : Row Due → Piped → Row Due → ℕ → Type 0
-      PipesGood C x D p = Opens g (fill_all g fill_pipe) (λ ps. GoodPipes room (shape_of_pipes B (pipeline_parts_of ps))) C x.parts D
+      PipesGood C x D p = Opens g (fill_all g fill_pipe) (λ ps. GoodPipes g.edition room (shape_of_pipes B (pipeline_parts_of ps))) C x.parts D
 
       pipe_more : {C D E : Row Due} (ps : Row APipelinePart) (j : AJoin) (c : ACommand) → Comments j.comments → OpenCommand D c E
-          → Opens g (fill_all g fill_pipe) (λ qs. GoodPipes room (shape_of_pipes B (pipeline_parts_of qs))) C ps D
-          → Opens g (fill_all g fill_pipe) (λ qs. GoodPipes room (shape_of_pipes B (pipeline_parts_of qs))) C (ps ++ record { join = j; command = c } ∷ []) E
-      pipe_more {D = D} {E = E} ps j c comments one all = opens_last g ps (record { join = j; command = c }) (λ qs q good more. pipes_more B room qs q good more.0 more.1) all part
+          → Opens g (fill_all g fill_pipe) (λ qs. GoodPipes g.edition room (shape_of_pipes B (pipeline_parts_of qs))) C ps D
+          → Opens g (fill_all g fill_pipe) (λ qs. GoodPipes g.edition room (shape_of_pipes B (pipeline_parts_of qs))) C (ps ++ record { join = j; command = c } ∷ []) E
+      pipe_more {D = D} {E = E} ps j c comments one all = opens_last g ps (record { join = j; command = c }) (λ qs q good more. pipes_more B g.edition room qs q good more.0 more.1) all part
         where
-          part : Opens g fill_pipe (λ (q : APipelinePart). Comments q.join.comments × GoodCommand room (shape_of_command B q.command)) D (record { join = j; command = c }) E
+          part : Opens g fill_pipe (λ (q : APipelinePart). Comments q.join.comments × GoodCommand g.edition room (shape_of_command B q.command)) D (record { join = j; command = c }) E
           part = opens_one g (record { join = j; command = c }) (λ d. record { join = j; command = d }) (λ ts. refl) (λ d good. (comments, good)) one
 
       reads_one_command : (C : Row Due) (x : Piped) (D : Row Due) (p : ℕ) → PipesGood C x D p → Adds g D (one_command inner x) (Turns g (PipesGood C) (PipesGood C)) p
@@ -823,7 +843,7 @@ module _ (B : List ℕ) (g : Given) (here : g.text ≡ drop g.offset B) where
       reads_pipe_turn C x D p so = add_picks g (is_pipe x.next.token) (λ is. reads_one_command C x D p so) (add_gives g so)
 
       pipeline_open : {C D E : Row Due} (bang : Option Span) (c : ACommand) (ps : Row APipelinePart) → OpenCommand C c D
-          → Opens g (fill_all g fill_pipe) (λ qs. GoodPipes room (shape_of_pipes B (pipeline_parts_of qs))) D ps E → OpenPipeline C (pipeline bang c (pipeline_parts_of ps)) E
+          → Opens g (fill_all g fill_pipe) (λ qs. GoodPipes g.edition room (shape_of_pipes B (pipeline_parts_of qs))) D ps E → OpenPipeline C (pipeline bang c (pipeline_parts_of ps)) E
       unfolding fill_pipeline
       pipeline_open bang c ps one all =
           opens_two g (pipeline bang c (pipeline_parts_of ps)) (λ d qs. pipeline bang d (pipeline_parts_of qs)) (λ ts. rw (pipes_going ps (fill_command c ts).1) refl) (λ d qs good more. (good, more)) one all
@@ -838,15 +858,15 @@ module _ (B : List ℕ) (g : Given) (here : g.text ≡ drop g.offset B) where
       -- ---- and-or lists
 
       abbrev JoinedGood : Row Due → Joined → Row Due → ℕ → Type 0
-      JoinedGood C a D p = Opens g (fill_all g fill_and_or_part) (λ ps. GoodParts room (shape_of_and_or_parts B (and_or_parts_of ps))) C a.parts D
+      JoinedGood C a D p = Opens g (fill_all g fill_and_or_part) (λ ps. GoodParts g.edition room (shape_of_and_or_parts B (and_or_parts_of ps))) C a.parts D
 
       part_more : {C D E : Row Due} (ps : Row AnAndOrPart) (o : AndOrOperator) (j : AJoin) (x : APipeline) → Comments j.comments → OpenPipeline D x E
-          → Opens g (fill_all g fill_and_or_part) (λ qs. GoodParts room (shape_of_and_or_parts B (and_or_parts_of qs))) C ps D
-          → Opens g (fill_all g fill_and_or_part) (λ qs. GoodParts room (shape_of_and_or_parts B (and_or_parts_of qs))) C (ps ++ record { operator = o; join = j; pipeline = x } ∷ []) E
+          → Opens g (fill_all g fill_and_or_part) (λ qs. GoodParts g.edition room (shape_of_and_or_parts B (and_or_parts_of qs))) C ps D
+          → Opens g (fill_all g fill_and_or_part) (λ qs. GoodParts g.edition room (shape_of_and_or_parts B (and_or_parts_of qs))) C (ps ++ record { operator = o; join = j; pipeline = x } ∷ []) E
       part_more {D = D} {E = E} ps o j x comments one all =
-          opens_last g ps (record { operator = o; join = j; pipeline = x }) (λ qs q good more. joined_more B room qs q good more.0 more.1) all part
+          opens_last g ps (record { operator = o; join = j; pipeline = x }) (λ qs q good more. joined_more B g.edition room qs q good more.0 more.1) all part
         where
-          part : Opens g fill_and_or_part (λ (q : AnAndOrPart). Comments q.join.comments × GoodPipeline room (shape_of_pipeline B q.pipeline)) D (record { operator = o; join = j; pipeline = x }) E
+          part : Opens g fill_and_or_part (λ (q : AnAndOrPart). Comments q.join.comments × GoodPipeline g.edition room (shape_of_pipeline B q.pipeline)) D (record { operator = o; join = j; pipeline = x }) E
           part = opens_one g (record { operator = o; join = j; pipeline = x }) (λ y. record { operator = o; join = j; pipeline = y }) (λ ts. refl) (λ y good. (comments, good)) one
 
       reads_one_pipeline : (C : Row Due) (a : Joined) (o : AndOrOperator) (D : Row Due) (p : ℕ) → JoinedGood C a D p → Adds g D (one_pipeline inner a o) (Turns g (JoinedGood C) (JoinedGood C)) p
@@ -864,7 +884,7 @@ module _ (B : List ℕ) (g : Given) (here : g.text ≡ drop g.offset B) where
           by_operator None = add_gives g so
 
       and_or_open : {C D E : Row Due} (x : APipeline) (ps : Row AnAndOrPart) → OpenPipeline C x D
-          → Opens g (fill_all g fill_and_or_part) (λ qs. GoodParts room (shape_of_and_or_parts B (and_or_parts_of qs))) D ps E → OpenAndOr C (and_or x (and_or_parts_of ps)) E
+          → Opens g (fill_all g fill_and_or_part) (λ qs. GoodParts g.edition room (shape_of_and_or_parts B (and_or_parts_of qs))) D ps E → OpenAndOr C (and_or x (and_or_parts_of ps)) E
       unfolding fill_and_or
       and_or_open x ps one all =
           opens_two g (and_or x (and_or_parts_of ps)) (λ y qs. and_or y (and_or_parts_of qs)) (λ ts. rw (and_or_parts_going ps (fill_pipeline x ts).1) refl) (λ y qs good more. (good, more)) one all
@@ -902,7 +922,7 @@ module _ (B : List ℕ) (g : Given) (here : g.text ≡ drop g.offset B) where
       ListOn C l D p = Listing C l D p × Stands g Command l.next p
 
       entry_more : {C D E : Row Due} (es : Row AnEntry) (e : AnEntry) → OpenRow C es D → OpenEntry D e E → OpenRow C (es ++ e ∷ []) E
-      entry_more es e all one = opens_last g es e (λ ls l good more. entries_join B room ls (l ∷ []) good (more, tt)) all one
+      entry_more es e all one = opens_last g es e (λ ls l good more. entries_join B g.edition room ls (l ∷ []) good (more, tt)) all one
 
       reads_one_entry : (C : Row Due) (l : ListSo) (D : Row Due) (p : ℕ) → ListOn C l D p → Adds g D (one_entry inner l) (Turns g (ListOn C) (Listing C)) p
       unfolding one_entry
@@ -966,24 +986,24 @@ module _ (B : List ℕ) (g : Given) (here : g.text ≡ drop g.offset B) where
           by_end false false = tells_after Whole g (λ w t. record { told = tt })
 
       -- the entries of a line, with their bodies
-      line_filled : (E : Row Due) (es : Row AnEntry) (bs : Row Span) → OpenRow [] es E → Feeds g E bs [] → GoodEntries room (shape_of B (entries_of (filled_row bs es)))
+      line_filled : (E : Row Due) (es : Row AnEntry) (bs : Row Span) → OpenRow [] es E → Feeds g E bs [] → GoodEntries g.edition room (shape_of B (entries_of (filled_row bs es)))
       line_filled E es bs all feeds =
           let r = all.fills bs [] feeds in
           let is : entries_of (filled_row bs es) ≡ entries_of (fill_all g fill_entry es r.0).0 =
           row_filled bs es ∙ filled_is bs (entries_of es) ∙ ap (λ (x : Entries × Row Span). x.0) (entries_going es bs) ∙ ap (λ ts. entries_of (fill_all g fill_entry es ts).0) r.1 in
-          subst (λ (ls : Entries). GoodEntries room (shape_of B ls)) (sym is) r.2
+          subst (λ (ls : Entries). GoodEntries g.edition room (shape_of B ls)) (sym is) r.2
 
-      reads_open_line : (blank : Bool) (p : ℕ) → Tells Whole g (an_open_line inner blank) (λ x t. GoodEntries room (shape_of B (entries_of (filled_row t.bodies x.0)))) (standing p)
+      reads_open_line : (blank : Bool) (p : ℕ) → Tells Whole g (an_open_line inner blank) (λ x t. GoodEntries g.edition room (shape_of B (entries_of (filled_row t.bodies x.0)))) (standing p)
       unfolding an_open_line
       reads_open_line blank p =
           tells_then Whole g ((reads_next g Command p).reads [] (standing p) (no_docs g)) (λ n t so.
           tells_then Whole g ((reads_on_line [] (list_so (none_listed blank) n) [] t.at (opens_none g fill_entry tt, so.1)).adds t so.0) (λ l u all.
           tells_then Whole g (line_ends l.next all.0 u all.1) (λ newline v done. tells_give Whole g (line_filled all.0 l.list.entries v.bodies all.2 done))))
 
-      reads_line : (blank : Bool) (p : ℕ) → Tells Whole g (a_line inner blank) (λ x t. GoodEntries room (shape_of B (entries_of x.0))) (standing p)
+      reads_line : (blank : Bool) (p : ℕ) → Tells Whole g (a_line inner blank) (λ x t. GoodEntries g.edition room (shape_of B (entries_of x.0))) (standing p)
       unfolding a_line
       reads_line blank p =
-          tells_then Whole g (tells_level Whole g {Q = λ l t. GoodEntries room (shape_of B (entries_of (filled_row l.1 l.0.0)))} (reads_open_line blank p) (λ x t good. good)) (λ l t good. tells_give Whole g good)
+          tells_then Whole g (tells_level Whole g {Q = λ l t. GoodEntries g.edition room (shape_of B (entries_of (filled_row l.1 l.0.0)))} (reads_open_line blank p) (λ x t good. good)) (λ l t good. tells_give Whole g good)
 
       -- ---- compound commands
 
@@ -1002,7 +1022,7 @@ module _ (B : List ℕ) (g : Given) (here : g.text ≡ drop g.offset B) where
           add_first g (reads_list t.1 C f stands) (λ b E h two. add_gives g (branch_open c.0 b.0 one two))))
 
       abbrev OpenBranches : Row Due → Row ABranch → Row Due → Type 0
-      OpenBranches D bs E = Opens g (fill_all g fill_branch) (λ xs. GoodBranches room (shape_of_branches B (branches_of xs))) D bs E
+      OpenBranches D bs E = Opens g (fill_all g fill_branch) (λ xs. GoodBranches g.edition room (shape_of_branches B (branches_of xs))) D bs E
 
       abbrev BranchesGood : Row Due → Branched → Row Due → ℕ → Type 0
       BranchesGood C b D p = OpenBranches C b.branches D
@@ -1011,7 +1031,7 @@ module _ (B : List ℕ) (g : Given) (here : g.text ≡ drop g.offset B) where
       unfolding elif_turn
       reads_elif C b D p so =
           add_picks g (is_closing closings.Elif b.next.token)
-          (λ is. behind g (reads_passed g _ _ _ p) (λ k e stands. add_first g (reads_branch k.1 D e stands) (λ x E f good. add_pushes g (add_gives g (opens_last g b.branches x.0 (branches_more B room) so good)))))
+          (λ is. behind g (reads_passed g _ _ _ p) (λ k e stands. add_first g (reads_branch k.1 D e stands) (λ x E f good. add_pushes g (add_gives g (opens_last g b.branches x.0 (branches_more B g.edition room) so good)))))
           (add_gives g so)
 
       else_open : {D E : Row Due} (es : Entries) → OpenEntries D es E → OpenElse D (otherwise es) E
@@ -1051,11 +1071,12 @@ module _ (B : List ℕ) (g : Given) (here : g.text ≡ drop g.offset B) where
 
       -- ---- `for`
 
-      for_name : (n : Next) (p q : ℕ) (w : AWord) → Stands g Suffix n p → begins_word n.token ≡ true → WordRead g room p w q → is_name_at g.text p ≡ true → GoodName room (shape_of_word B w)
+      for_name : (n : Next) (p q : ℕ) (w : AWord) → Stands g Suffix n p → begins_word n.token ≡ true → WordRead g room p w q → is_name_at g.text p ≡ true → GoodName g.edition room (shape_of_word B w)
       for_name n p q w so begins read name =
-          let item = subst (λ (t : Token). begins_word t ≡ true) (sym so.token_is) begins in
+          let same = word_so g so (item_is_word n.token begins) in
+          let item = subst (λ (t : Token). begins_word t ≡ true) (sym same) begins in
           let ss = shape_of_substs B (substs_of read.substs) in
-          let anywhere = item_anywhere room Suffix n.token g p (q - p) (w, read.part) so.place so.no_blank so.token_is begins B here ss (word_shape p q w read) in
+          let anywhere = item_anywhere room Suffix n.token g p (q - p) (w, read.part) so.place so.no_blank same begins B here ss (word_shape p q w read) in
           let names = name_anywhere room Suffix g p (q - p) (w, read.part) so.place so.no_blank item name in
           record {
             t = text_at B (span g.offset p q);
@@ -1063,11 +1084,11 @@ module _ (B : List ℕ) (g : Given) (here : g.text ≡ drop g.offset B) where
             is = ap (shape_of_word B) read.is;
             token = n.token;
             begins = begins;
-            reads = subst (λ (t : Text). ItemAnywhere room Suffix n.token t ss) (raw_at B g here p q) anywhere;
+            reads = subst (λ (t : Text). ItemAnywhere g.edition room Suffix n.token t ss) (raw_at B g here p q) anywhere;
             names = subst NameAnywhere (raw_at B g here p q) names;
           }
 
-      reads_for_name : (n : Next) (p : ℕ) → Stands g Suffix n p → Reads g (a_for_name inner n) (λ x e. GoodName room (shape_of_word B x.0) × Stands g Command x.1 e) p
+      reads_for_name : (n : Next) (p : ℕ) → Stands g Suffix n p → Reads g (a_for_name inner n) (λ x e. GoodName g.edition room (shape_of_word B x.0) × Stands g Command x.1 e) p
       unfolding a_for_name
       reads_for_name n p so =
           picks g (begins_word n.token)
@@ -1083,13 +1104,13 @@ module _ (B : List ℕ) (g : Given) (here : g.text ≡ drop g.offset B) where
 
       -- the words so far, and the token behind them
       record WordsSo (i : Items) (p : ℕ) : Type 0 where
-        pub good : GoodItems room of_for Suffix (items i) Suffix
+        pub good : GoodItems g.edition room of_for Suffix (items i) Suffix
         pub stands : Stands g Suffix i.next p
 
       abbrev WordsDone : Items → ℕ → Type 0
-      WordsDone i p = GoodWords room (items i)
+      WordsDone i p = GoodWords g.edition room (items i)
 
-      words_are : (i : Items) (p : ℕ) → WordsSo i p → GoodWords room (items i)
+      words_are : (i : Items) (p : ℕ) → WordsSo i p → GoodWords g.edition room (items i)
       words_are i p so = record { last = Suffix; items = so.good }
 
       reads_word_turn : (i : Items) (p : ℕ) → WordsSo i p → Reads g (word_turn inner i) (Turned g WordsSo WordsDone) p
@@ -1098,7 +1119,7 @@ module _ (B : List ℕ) (g : Given) (here : g.text ≡ drop g.offset B) where
           picks g (is_word i.next.token)
           (λ is. first g (reads_word g room p) (λ w q read. pushes g (first g (reads_next g Suffix q) (λ n e stands.
           let same = word_token i.next.token is in
-          let anywhere = subst (λ (t : Token). ItemAnywhere room Suffix t (text_of p q) (substs_in read)) same (reads_anywhere Suffix i.next p q w (ap begins_word same) so.stands read) in
+          let anywhere = subst (λ (t : Token). ItemAnywhere g.edition room Suffix t (text_of p q) (substs_in read)) same (reads_anywhere Suffix i.next p q w (ap begins_word same) so.stands read) in
           gives g (record {
             good = one_more_good of_for Suffix Suffix Suffix i.items (item (breaks i) (argument w)) (an_item_of (breaks i) Suffix (word (text_of p q) (substs_in read)))
                 (item_is B (breaks i) Suffix w (word (text_of p q) (substs_in read)) (ap (shape_of_word B) read.is)) (of_argument anywhere) so.good;
@@ -1107,7 +1128,7 @@ module _ (B : List ℕ) (g : Given) (here : g.text ≡ drop g.offset B) where
           (gives g (words_are i p so))
 
       abbrev HeadGood : Headed → ℕ → Type 0
-      HeadGood h e = GoodForWords room (shape_of_for_words B h.words) × Comments h.comments × Stands g Command h.next e
+      HeadGood h e = GoodForWords g.edition room (shape_of_for_words B h.words) × Comments h.comments × Stands g Command h.next e
 
       reads_for_words : (cs : Row Span) (p : ℕ) → Comments cs → Reads g (for_words inner cs) HeadGood p
       unfolding for_words
@@ -1122,7 +1143,7 @@ module _ (B : List ℕ) (g : Given) (here : g.text ≡ drop g.offset B) where
           first g (reads_semicolon g (Unit {0}) n p (λ y. so)) (λ s e one. first g (reads_linebreak (Unit {0}) [] s.1 e tt one.0) (λ l f two.
           picks g (not s.0 && is_closing closings.In l.next.token) (λ is. reads_for_words l.join.comments f two.0) (gives g (tt, two.0, two.1 (inl tt)))))
 
-      remarks_good : (cs : Row Span) (es : Entries) → Comments cs → GoodEntries room (shape_of B es) → GoodEntries room (shape_of B (behind_remarks cs es))
+      remarks_good : (cs : Row Span) (es : Entries) → Comments cs → GoodEntries g.edition room (shape_of B es) → GoodEntries g.edition room (shape_of B (behind_remarks cs es))
       remarks_good [] es all so = so
       remarks_good (c ∷ cs) es all so = ((all.0, tt), remarks_good cs es all.1 so)
 
@@ -1131,7 +1152,7 @@ module _ (B : List ℕ) (g : Given) (here : g.text ≡ drop g.offset B) where
       remarks_filled [] es ts = refl
       remarks_filled (c ∷ cs) es ts = rw (remarks_filled cs es ts) refl
 
-      for_open : {D E : Row Due} (name : AWord) (words : ForWords) (cs : Row Span) (es : Entries) → GoodName room (shape_of_word B name) → GoodForWords room (shape_of_for_words B words) → Comments cs
+      for_open : {D E : Row Due} (name : AWord) (words : ForWords) (cs : Row Span) (es : Entries) → GoodName g.edition room (shape_of_word B name) → GoodForWords g.edition room (shape_of_for_words B words) → Comments cs
           → OpenEntries D es E → OpenForm D (for_in name words (behind_remarks cs es)) E
       unfolding fill_form
       for_open name words cs es one two comments body =
@@ -1147,20 +1168,21 @@ module _ (B : List ℕ) (g : Given) (here : g.text ≡ drop g.offset B) where
       -- ---- `case`
 
       good_word : (position : Position) (begins : Token → Bool) (n : Next) (p q : ℕ) (w : AWord) → Stands g position n p → begins n.token ≡ true → is_a_word n.token ≡ true → WordRead g room p w q
-          → GoodWord room position begins (shape_of_word B w)
+          → GoodWord g.edition room position begins (shape_of_word B w)
       good_word position begins n p q w so begin is_word read =
           let ss = shape_of_substs B (substs_of read.substs) in
-          let anywhere = token_anywhere room position n.token g p (q - p) (w, read.part) so.place so.no_blank so.token_is is_word B here ss (word_shape p q w read) in
+          let anywhere = token_anywhere room position n.token g p (q - p) (w, read.part) so.place so.no_blank (word_so g so is_word) is_word B here ss (word_shape p q w read) in
           record {
             t = text_at B (span g.offset p q);
             ss = ss;
             is = ap (shape_of_word B) read.is;
             token = n.token;
             begin = begin;
-            reads = subst (λ (t : Text). ItemAnywhere room position n.token t ss) (raw_at B g here p q) anywhere;
+            word_is = is_word;
+            reads = subst (λ (t : Text). ItemAnywhere g.edition room position n.token t ss) (raw_at B g here p q) anywhere;
           }
 
-      reads_case_word : (n : Next) (p : ℕ) → Stands g Suffix n p → Reads g (a_case_word inner n) (λ x e. GoodWord room Suffix begins_word (shape_of_word B x.0) × Stands g Command x.1 e) p
+      reads_case_word : (n : Next) (p : ℕ) → Stands g Suffix n p → Reads g (a_case_word inner n) (λ x e. GoodWord g.edition room Suffix begins_word (shape_of_word B x.0) × Stands g Command x.1 e) p
       unfolding a_case_word
       reads_case_word n p so =
           picks g (begins_word n.token)
@@ -1169,10 +1191,10 @@ module _ (B : List ℕ) (g : Given) (here : g.text ≡ drop g.offset B) where
           (stopped g inner n)
 
       abbrev PatternsGood : Patterned → ℕ → Type 0
-      PatternsGood x p = GoodPatterns room (shape_of_patterns B (patterns_of x.patterns))
+      PatternsGood x p = GoodPatterns g.edition room (shape_of_patterns B (patterns_of x.patterns))
 
       reads_pattern : (position : Position) (begins : Token → Bool) (ws : Row AWord) (n : Next) (p : ℕ) → Stands g position n p → begins n.token ≡ true → is_a_word n.token ≡ true
-          → ((w : AWord) → GoodWord room position begins (shape_of_word B w) → GoodPatterns room (shape_of_patterns B (patterns_of (ws ++ w ∷ [])))) → Reads g (a_pattern inner ws) PatternsGood p
+          → ((w : AWord) → GoodWord g.edition room position begins (shape_of_word B w) → GoodPatterns g.edition room (shape_of_patterns B (patterns_of (ws ++ w ∷ [])))) → Reads g (a_pattern inner ws) PatternsGood p
       unfolding a_pattern
       reads_pattern position begins ws n p so begin is_word all =
           first g (reads_word g room p) (λ w q read. pushes g (first g (reads_next g Suffix q) (λ m e stands. gives g (all w (good_word position begins n p q w so begin is_word read)))))
@@ -1181,7 +1203,7 @@ module _ (B : List ℕ) (g : Given) (here : g.text ≡ drop g.offset B) where
       unfolding one_pattern
       reads_one_pattern x p so =
           after g tt (λ y e. first g (reads_next g Suffix e) (λ n f stands. picks g (begins_word n.token)
-          (λ begins. first g (reads_pattern Suffix begins_word x.patterns n f stands begins (item_is_word n.token begins) (λ w one. patterns_last B room x.patterns w so one)) (λ y h good. gives g good))
+          (λ begins. first g (reads_pattern Suffix begins_word x.patterns n f stands begins (item_is_word n.token begins) (λ w one. patterns_last B g.edition room x.patterns w so one)) (λ y h good. gives g good))
           (stopped g inner n)))
 
       reads_pattern_turn : (x : Patterned) (p : ℕ) → PatternsGood x p → Reads g (pattern_turn inner x) (Turned g PatternsGood PatternsGood) p
@@ -1200,9 +1222,15 @@ module _ (B : List ℕ) (g : Given) (here : g.text ≡ drop g.offset B) where
       unfolding an_open_bracket
       reads_bracket n p so = picks g (is_paren n.token) (λ is. after g tt (λ u e. reads_next g Command e)) (gives g so)
 
-      reads_body : (n : Next) (D : Row Due) (p : ℕ) → Stands g Command n p → Adds g D (a_body inner n) (Listing D) p
+      -- it falls through in a later edition alone
+      abbrev FallsLater : Next → Type 0
+      FallsLater n = falls_through n.token ≡ true → is_later g.edition ≡ true
+
+      reads_body : (n : Next) (D : Row Due) (p : ℕ) → Stands g Command n p → Adds g D (a_body inner n) (λ l E e. Listing D l E e × FallsLater l.next) p
       unfolding a_body
-      reads_body n D p so = reads_lines n D p so
+      reads_body n D p so =
+          and_told g (reads_lines n D p so) (λ s. shown_lines g inner (shown_level g room) n (place_of s p) (Command, (sym so.token_is, so.place)))
+          (λ l t begins falls. falls_later g.edition (token_at begins.0 g.text t.at) (ap falls_through (sym begins.1.0) ∙ falls))
 
       -- before another item the next token stands where a command may begin
       abbrev Onward : Next → ℕ → Type 0
@@ -1211,20 +1239,20 @@ module _ (B : List ℕ) (g : Given) (here : g.text ≡ drop g.offset B) where
       abbrev EndGood : ItemEnd → ℕ → Type 0
       EndGood x e = Comments x.comments × Onward x.next e
 
-      reads_double_semicolon : (p : ℕ) → Reads g a_double_semicolon EndGood p
-      unfolding a_double_semicolon
-      reads_double_semicolon p =
-          after g tt (λ x e. after g tt (λ y f. after g tt (λ q h. first g (reads_next g Command h) (λ n i stands.
-          first g (reads_linebreak (Unit {0}) [] n i tt (λ y. stands)) (λ l j so. gives g (so.0, (λ no. so.1 (inl tt))))))))
+      reads_ender : (falling : Bool) (p : ℕ) → Reads g (an_ender falling) EndGood p
+      unfolding an_ender
+      reads_ender falling p =
+          after g (tt, (λ u. tt)) (λ y f. after g tt (λ q h. first g (reads_next g Command h) (λ n i stands.
+          first g (reads_linebreak (Unit {0}) [] n i tt (λ y. stands)) (λ l j so. gives g (so.0, (λ no. so.1 (inl tt)))))))
 
       reads_item_end : (there : ℕ) (n : Next) (p : ℕ) → Reads g (an_item_end inner there n) EndGood p
       unfolding an_item_end
       reads_item_end there n p =
-          picks g (is_double_semicolon n.token) (λ is. reads_double_semicolon p)
+          picks g (ends_item n.token) (λ is. reads_ender (falls_through n.token) p)
           (picks g (is_closing closings.Esac n.token) (λ is. gives g (tt, (λ no. absurd (both_ways (is_closing closings.Esac n.token) no is)))) (stopped g inner n))
 
       abbrev OpenCases : Row Due → Row ACaseItem → Row Due → Type 0
-      OpenCases D cs E = Opens g (fill_all g fill_case) (λ xs. GoodCases room (shape_of_cases B (cases_of xs))) D cs E
+      OpenCases D cs E = Opens g (fill_all g fill_case) (λ xs. GoodCases g.edition room (shape_of_cases B (cases_of xs))) D cs E
 
       abbrev CasesDone : Row Due → CasesSo → Row Due → ℕ → Type 0
       CasesDone C c D p = OpenCases C c.items D × Comments c.comments
@@ -1232,11 +1260,11 @@ module _ (B : List ℕ) (g : Given) (here : g.text ≡ drop g.offset B) where
       abbrev CasesOn : Row Due → CasesSo → Row Due → ℕ → Type 0
       CasesOn C c D p = OpenCases C c.items D × Comments c.comments × Onward c.next p
 
-      case_open : {D E : Row Due} (cs : Row Span) (ws : Row AWord) (es : Row AnEntry) (mark : Span) → Comments cs → GoodPatterns room (shape_of_patterns B (patterns_of ws)) → OpenRow D es E
+      case_open : {D E : Row Due} (cs : Row Span) (ws : Row AWord) (es : Row AnEntry) (mark : ACaseMark) → Comments cs → GoodPatterns g.edition room (shape_of_patterns B (patterns_of ws)) → (mark.falls ≡ true → is_later g.edition ≡ true) → OpenRow D es E
           → OpenCase D (case_item cs (patterns_of ws) (entries_of es) mark) E
       unfolding fill_case
-      case_open cs ws es mark comments words body =
-          opens_one g (case_item cs (patterns_of ws) (entries_of es) mark) (λ ls. case_item cs (patterns_of ws) (entries_of ls) mark) (λ ts. rw (entries_going es ts) refl) (λ ls good. (comments, words, good)) body
+      case_open cs ws es mark comments words falls body =
+          opens_one g (case_item cs (patterns_of ws) (entries_of es) mark) (λ ls. case_item cs (patterns_of ws) (entries_of ls) mark) (λ ts. rw (entries_going es ts) refl) (λ ls good. (comments, words, good, falls)) body
 
       reads_one_case : (C : Row Due) (c : CasesSo) (D : Row Due) (p : ℕ) → CasesOn C c D p → Stands g Command c.next p → Adds g D (one_case inner c) (Turns g (CasesOn C) (CasesDone C)) p
       unfolding one_case
@@ -1244,7 +1272,7 @@ module _ (B : List ℕ) (g : Given) (here : g.text ≡ drop g.offset B) where
           add_sees g (λ s. refl) (behind g (reads_bracket c.next p stands) (λ n e begin. behind g (reads_patterns n e begin) (λ ps f words.
           behind g (reads_closing g inner closings.Paren ps.next f) (λ k h behind_it. add_first g (reads_body k.1 D h behind_it) (λ b E i body.
           behind g (reads_item_end _ b.next i) (λ e j end.
-          add_pushes g (add_gives g (opens_last g c.items _ (cases_more B room) so.0 (case_open c.comments ps.patterns b.list.entries _ so.1 words body), end.0, end.1))))))))
+          add_pushes g (add_gives g (opens_last g c.items _ (cases_more B g.edition room) so.0 (case_open c.comments ps.patterns b.list.entries _ so.1 words body.1 body.0), end.0, end.1))))))))
 
       reads_case_turn : (C : Row Due) (c : CasesSo) (D : Row Due) (p : ℕ) → CasesOn C c D p → Adds g D (case_turn inner c) (Turns g (CasesOn C) (CasesDone C)) p
       unfolding case_turn
@@ -1255,14 +1283,14 @@ module _ (B : List ℕ) (g : Given) (here : g.text ≡ drop g.offset B) where
           by_end false is = reads_one_case C c D p so (so.2 is)
 
       reads_case_head : (n : Next) (p : ℕ) → Stands g Suffix n p
-          → Reads g (a_case_head inner n) (λ h e. GoodWord room Suffix begins_word (shape_of_word B h.0) × Comments h.1 × Stands g Command h.2 e) p
+          → Reads g (a_case_head inner n) (λ h e. GoodWord g.edition room Suffix begins_word (shape_of_word B h.0) × Comments h.1 × Stands g Command h.2 e) p
       unfolding a_case_head
       reads_case_head n p so =
           first g (reads_case_word n p so) (λ w e one. first g (reads_linebreak (Unit {0}) [] w.1 e tt (λ y. one.1)) (λ l f two.
           first g (reads_closing g inner closings.In l.next f) (λ i h stands. first g (reads_linebreak (Unit {0}) l.join.comments i.1 h two.0 (λ y. stands)) (λ k j three.
           gives g (one.0, three.0, three.1 (inl tt))))))
 
-      cases_open : {D E : Row Due} (w : AWord) (cs : Row ACaseItem) (tail : Row Span) → GoodWord room Suffix begins_word (shape_of_word B w) → Comments tail → OpenCases D cs E
+      cases_open : {D E : Row Due} (w : AWord) (cs : Row ACaseItem) (tail : Row Span) → GoodWord g.edition room Suffix begins_word (shape_of_word B w) → Comments tail → OpenCases D cs E
           → OpenForm D (case_in w (cases_of cs) tail) E
       unfolding fill_form
       cases_open w cs tail one comments all = opens_one g (case_in w (cases_of cs) tail) (λ xs. case_in w (cases_of xs) tail) (λ ts. rw (cases_going cs ts) refl) (λ xs good. (one, good, comments)) all
@@ -1309,7 +1337,7 @@ module _ (B : List ℕ) (g : Given) (here : g.text ≡ drop g.offset B) where
       -- ---- functions
 
       abbrev OpenFunction : Row Due → ACommand → Row Due → Type 0
-      OpenFunction D c E = Opens g fill_command (λ d. GoodCommand (suc room) (shape_of_command B d)) D c E
+      OpenFunction D c E = Opens g fill_command (λ d. GoodCommand g.edition (suc room) (shape_of_command B d)) D c E
 
       under_good : {D E : Row Due} (name : Span) (cs : Row Span) (c : ACommand) (body : ACompound) → c ≡ compound body → NameBefore (suc room) (text_at B name) → Comments cs → OpenCompound D body E
           → OpenFunction D (under_name name cs c) E
@@ -1334,19 +1362,19 @@ module _ (B : List ℕ) (g : Given) (here : g.text ≡ drop g.offset B) where
 
 -- ---- a script
 
-module _ (B : List ℕ) where
-  line_good : (blank : Bool) (p : ℕ) (es : Row AnEntry) (newline : Bool) (t : State) (k : Row Spelled) → may (a_line (level most_open) blank) (given (drop p B) p) (standing 0) (Ok ((es, newline), t)) k
-      → GoodEntries most_open (shape_of B (entries_of es))
+module _ (edition : Edition) (B : List ℕ) where
+  line_good : (blank : Bool) (p : ℕ) (es : Row AnEntry) (newline : Bool) (t : State) (k : Row Spelled) → may (a_line (level most_open) blank) (given edition (drop p B) p) (standing 0) (Ok ((es, newline), t)) k
+      → GoodEntries edition most_open (shape_of B (entries_of es))
   line_good blank p es newline t k part =
-      let g = given (drop p B) p in
+      let g = given edition (drop p B) p in
       let line = reads_line B g refl most_open (reads_level B g refl most_open) blank 0 in
-      subst (Holds (λ x t. GoodEntries most_open (shape_of B (entries_of x.0)))) (sym ((is (a_line (level most_open) blank) g (standing 0)).only _ _ part)) line.told
+      subst (Holds (λ x t. GoodEntries edition most_open (shape_of B (entries_of x.0)))) (sym ((is (a_line (level most_open) blank) g (standing 0)).only _ _ part)) line.told
 
-  lines_good : (so : SoFar) (p : ℕ) (s : AScript) (k : Row Spelled) → Lines B so p s k → GoodEntries most_open (shape_of B (entries_of so.entries)) → GoodEntries most_open (shape_of B s.entries)
-  lines_good so p s m (line_ended {l = l} es t k part rest) good = lines_good _ _ s l rest (entries_join B most_open so.entries es good (line_good _ p es true t k part))
-  lines_good so p s m (last_line es t k part) good = entries_join B most_open so.entries es good (line_good _ p es false t k part)
+  lines_good : (so : SoFar) (p : ℕ) (s : AScript) (k : Row Spelled) → Lines edition B so p s k → GoodEntries edition most_open (shape_of B (entries_of so.entries)) → GoodEntries edition most_open (shape_of B s.entries)
+  lines_good so p s m (line_ended {l = l} es t k part rest) good = lines_good _ _ s l rest (entries_join B edition most_open so.entries es good (line_good _ p es true t k part))
+  lines_good so p s m (last_line es t k part) good = entries_join B edition most_open so.entries es good (line_good _ p es false t k part)
   lines_good so p s m (faulty f k part) good = good
 
 -- what was read of a script has a good shape
-pub script_readable : (B : List ℕ) (s : AScript) → Outcome B s → GoodEntries most_open (shape_of B s.entries)
-script_readable B s is = lines_good B nothing_yet 0 s is.0 is.1 tt
+pub script_readable : (edition : Edition) (B : List ℕ) (s : AScript) → Outcome edition B s → GoodEntries edition most_open (shape_of B s.entries)
+script_readable edition B s is = lines_good edition B nothing_yet 0 s is.0 is.1 tt

@@ -3,6 +3,7 @@ use Rattle.std.proofs.Common.{◌≡◌, ℕ, suc, ◌+◌, ◌==◌, Bool, true
 use Rattle.std.proofs.lemmas.Bool.{and_from, and_parts, both_ways}
 use Rattle.std.proofs.lemmas.Bool.Decides.{nat_tests}
 use Rattle.std.proofs.lemmas.List.{drop-drop}
+use Rattle.shgrammar.specs.declared.edition.Edition.{Edition}
 use Rattle.shgrammar.specs.declared.token.Position.{Position}
 use Rattle.shgrammar.specs.declared.token.Position.TheVariants.{Command, Prefix, Suffix}
 use Rattle.shgrammar.specs.declared.token.Reserved.{Reserved}
@@ -12,16 +13,18 @@ use Rattle.shgrammar.specs.declared.token.Token.TheVariants as tokens
 use Rattle.shgrammar.specs.Classes.{is_blank, is_digit, is_name}
 use Rattle.shgrammar.specs.Standing.{is_byte, passes, raw_stands, raw_in, raw_past, continues}
 use Rattle.shgrammar.specs.Bytes.{ends, past, past_continuations, byte_at, behind, stands, stands_in, past_blanks, is_broken_at}
-use Rattle.shgrammar.specs.Tokens.{Spelling, is_word_at, first_of_words, reserved_words, reserved_at, past_reserved, past_digits, begins_assignment, is_number, first_word, less_at, greater_at, token_of, token_at, next_at}
+use Rattle.shgrammar.specs.Tokens.{Spelling, is_word_at, first_of_words, reserved_words, reserved_at, past_reserved, past_digits, begins_assignment, is_number, first_word, less_at, greater_at, token_of, token_at, token_in, is_later, next_at}
 use Rattle.shtext.specs.Text.{is_newline}
 use Rattle.shgrammar.proofs.Stretches.{get_drop, joined_none, joined_more, place_low, past_more, past_none, raw_more, raw_none}
 use Rattle.shgrammar.proofs.Places.{must_fail}
 use Rattle.shgrammar.proofs.SameBytes.{no_backslash}
 use Rattle.shgrammar.proofs.Ahead.{behind_is, spelled_none, spelled_more, ender}
 use Rattle.shgrammar.specs.Commands.{is_word, is_paren, begins_redirect, begins_simple, begins_word, behind_word}
+use Rattle.shgrammar.specs.HereDocuments.{ADelimiter, delimiter_in, delimiter_of}
 use Rattle.shast.specs.declared.tree.RedirectOperator.{RedirectOperator}
 use Rattle.shast.specs.declared.tree.RedirectOperator.TheVariants as redirects
 use Rattle.shast.specs.Spelling.{redirect_text}
+use Rattle.shgrammar.proofs.Elsewhere.{is_a_word}
 use Rattle.shprint.proofs.Good.{all_digits}
 
 -- ---- the bytes from a place on
@@ -190,9 +193,9 @@ close_token position T p xs at = token_here position (byte_here T p 41 xs refl a
 second : {T : List ℕ} {p c d : ℕ} {xs : List ℕ} (x : ℕ) → (d == 92) ≡ false → Reads T p c (d ∷ xs) → stands T (behind T p) x ≡ (d == x)
 second {T = T} {p = p} {d = d} {xs = xs} x clear r = ap (λ q. stands T q x) r.behind_it ∙ is_here x (byte_here T (p + 1) d xs clear r.rest)
 
-pub semicolon_token : (position : Position) (T : List ℕ) (p d : ℕ) (xs : List ℕ) → (d == 92) ≡ false → (d == 59) ≡ false → drop p T ≡ 59 ∷ d ∷ xs → token_at position T p ≡ tokens.Semicolon
-semicolon_token position T p d xs clear other at =
-    let r = byte_here T p 59 (d ∷ xs) refl at in token_here position r ∙ rw (second 59 clear r, other) refl
+pub semicolon_token : (position : Position) (T : List ℕ) (p d : ℕ) (xs : List ℕ) → (d == 92) ≡ false → (d == 59) ≡ false → (d == 38) ≡ false → drop p T ≡ 59 ∷ d ∷ xs → token_at position T p ≡ tokens.Semicolon
+semicolon_token position T p d xs clear other no_ampersand at =
+    let r = byte_here T p 59 (d ∷ xs) refl at in token_here position r ∙ rw (second 59 clear r, other, second 38 clear r, no_ampersand) refl
 
 pub ampersand_token : (position : Position) (T : List ℕ) (p d : ℕ) (xs : List ℕ) → (d == 92) ≡ false → (d == 38) ≡ false → drop p T ≡ 38 ∷ d ∷ xs → token_at position T p ≡ tokens.Ampersand
 ampersand_token position T p d xs clear other at =
@@ -209,6 +212,10 @@ and_token position T p xs at =
 pub or_token : (position : Position) (T : List ℕ) (p : ℕ) (xs : List ℕ) → drop p T ≡ 124 ∷ 124 ∷ xs → token_at position T p ≡ tokens.OrIf
 or_token position T p xs at =
     let r = byte_here T p 124 (124 ∷ xs) refl at in token_here position r ∙ rw (second 124 refl r) refl
+
+pub falls_token : (position : Position) (T : List ℕ) (p : ℕ) (xs : List ℕ) → drop p T ≡ 59 ∷ 38 ∷ xs → token_at position T p ≡ tokens.SemicolonAmpersand
+falls_token position T p xs at =
+    let r = byte_here T p 59 (38 ∷ xs) refl at in token_here position r ∙ rw (second 59 refl r, second 38 refl r) refl
 
 pub double_semicolon_token : (position : Position) (T : List ℕ) (p : ℕ) (xs : List ℕ) → drop p T ≡ 59 ∷ 59 ∷ xs → token_at position T p ≡ tokens.DoubleSemicolon
 double_semicolon_token position T p xs at =
@@ -393,6 +400,34 @@ module _ (T : List ℕ) (p x : ℕ) (xs : List ℕ) (clear : (x == 92) ≡ false
   unfolding reserved_words
   in_here at = keyword_here T p _ x _ xs reserved.In (λ T p e. rw e refl) refl refl refl refl refl clear stops at
 
+-- ---- editions
+
+by_edition : (P : Token → Bool) → P tokens.Semicolon ≡ false → P tokens.SemicolonAmpersand ≡ false → (later : Bool) (u : Token) → cond later tokens.SemicolonAmpersand tokens.Semicolon ≡ u → P u ≡ true → ⊥
+by_edition P one two true u same e = both_ways (P u) (ap P (sym same) ∙ two) e
+by_edition P one two false u same e = both_ways (P u) (ap P (sym same) ∙ one) e
+
+-- what an edition has in a place is what the text has, where it is no `;`
+pub told_so : (P : Token → Bool) → P tokens.Semicolon ≡ false → P tokens.SemicolonAmpersand ≡ false → (edition : Edition) (t u : Token) → token_in edition t ≡ u → P u ≡ true → t ≡ u
+told_so P one two edition tokens.SemicolonAmpersand u same e = absurd (by_edition P one two (is_later edition) u same e)
+told_so P one two edition _ u same e = same
+
+-- an edition has no other token in the place of a word
+pub word_stays : (edition : Edition) (t : Token) → is_a_word t ≡ true → token_in edition t ≡ t
+word_stays edition tokens.SemicolonAmpersand e = absurd cc
+word_stays edition _ e = refl
+
+-- `;&` is a token of its own in a later edition
+pub falls_stays : (edition : Edition) → is_later edition ≡ true → token_in edition tokens.SemicolonAmpersand ≡ tokens.SemicolonAmpersand
+falls_stays edition e = rw e refl
+
+-- a delimiter of an edition is one of each
+delimiter_by : (c : Bool) (x : Option ADelimiter) (d : ADelimiter) → cond c None x ≡ Some d → x ≡ Some d
+delimiter_by true x d e = absurd cc
+delimiter_by false x d e = e
+
+pub delimiter_stays : (edition : Edition) (bytes : List ℕ) (d : ADelimiter) → delimiter_in edition bytes ≡ Some d → delimiter_of bytes ≡ Some d
+delimiter_stays edition bytes d e = delimiter_by _ (delimiter_of bytes) d e
+
 -- ---- words and assignments
 
 -- an item of a simple command is a word or an assignment
@@ -401,6 +436,7 @@ kind_of tokens.End next e = absurd cc
 kind_of tokens.Newline next e = absurd cc
 kind_of tokens.Semicolon next e = absurd cc
 kind_of tokens.DoubleSemicolon next e = absurd cc
+kind_of tokens.SemicolonAmpersand next e = absurd cc
 kind_of tokens.Ampersand next e = absurd cc
 kind_of tokens.AndIf next e = absurd cc
 kind_of tokens.OrIf next e = absurd cc
@@ -419,6 +455,7 @@ word_token tokens.End e = absurd cc
 word_token tokens.Newline e = absurd cc
 word_token tokens.Semicolon e = absurd cc
 word_token tokens.DoubleSemicolon e = absurd cc
+word_token tokens.SemicolonAmpersand e = absurd cc
 word_token tokens.Ampersand e = absurd cc
 word_token tokens.AndIf e = absurd cc
 word_token tokens.OrIf e = absurd cc
@@ -476,10 +513,10 @@ pub redirect_no_word : (t : Token) → begins_redirect t ≡ true → is_word t 
 redirect_no_word t redirect = must_fail (is_word t) (λ e. both_ways (begins_redirect t) (ap begins_redirect (word_token t e)) redirect)
 
 -- where a redirection begins
-pub record RedirectThere (position : Position) (T : List ℕ) (p : ℕ) : Type 0 where
+pub record RedirectThere (edition : Edition) (position : Position) (T : List ℕ) (p : ℕ) : Type 0 where
   pub start : Start T p
-  pub redirect : begins_redirect (token_at position T p) ≡ true
-  pub no_word : behind_word (token_at position T p) ≡ None
+  pub redirect : begins_redirect (token_in edition (token_at position T p)) ≡ true
+  pub no_word : behind_word (token_in edition (token_at position T p)) ≡ None
 
 -- no byte that would make an operator longer is read here
 pub record NoLonger (T : List ℕ) (q : ℕ) : Type 0 where

@@ -2,7 +2,7 @@
 use Rattle.std.specs.Prelude.{ℕ, ◌++◌, List, codes, decimal}
 use Rattle.shgrammar.specs.declared.fault.Fault.{Fault}
 use Rattle.shgrammar.specs.declared.fault.FaultKind.{FaultKind}
-use Rattle.shgrammar.specs.declared.fault.FaultKind.TheVariants.{UnclosedSingle, UnclosedDouble, UnclosedBackquote, UnclosedParam, UnclosedArith, BadArithClose, UnclosedSubst, LoneBackslash, UnclosedHere, BadHereWord, Unexpected, UnexpectedEnd, BadForName, BadFunctionName, TooDeep}
+use Rattle.shgrammar.specs.declared.fault.FaultKind.TheVariants.{UnclosedSingle, UnclosedDouble, UnclosedBackquote, UnclosedParam, UnclosedArith, BadArithClose, UnclosedSubst, LoneBackslash, UnclosedHere, BadHereWord, Unexpected, UnexpectedEnd, BadForName, BadFunctionName, TooDeep, UnclosedDollarSingle}
 
 -- what is said of a fault of this kind
 abbrev pub text_of_kind : FaultKind → List ℕ
@@ -21,6 +21,7 @@ text_of_kind UnexpectedEnd = codes "unexpected end"
 text_of_kind BadForName = codes "bad name after for"
 text_of_kind BadFunctionName = codes "bad function name"
 text_of_kind TooDeep = codes "too many open constructs"
+text_of_kind UnclosedDollarSingle = codes "unclosed dollar-single quote"
 
 -- NAME:LINE:COL: TEXT, and a newline
 abbrev pub message_text : List ℕ → ℕ → ℕ → Fault → List ℕ

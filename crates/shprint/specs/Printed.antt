@@ -153,6 +153,11 @@ print_first_pattern (more_patterns w ws) = print_word w ++ print_patterns ws
 abbrev pub case_margin : Layout → Text → Text
 case_margin y margin = if y.case_indent then deeper y margin else margin
 
+-- what ends an item of a `case`, which falls through or does not
+abbrev pub ender : Bool → Text
+ender true = codes ";&"
+ender false = codes ";;"
+
 -- ---- lists, and all that holds them
 
 abbrev mutual
@@ -235,15 +240,16 @@ abbrev mutual
   print_cases y margin no_case = []
   print_cases y margin (more_cases c cs) = print_case y margin c ++ print_cases y margin cs
 
-  -- a body without entries stands on the line of its patterns
+  -- behind entries the ender has a line of its own, as deep as they stand
   pub print_case : Layout → Text → Shape ACaseItemOf → Marks
   print_case y margin (case_item comments patterns body mark) =
-      print_comment_lines margin comments ++ (text margin ∷ print_first_pattern patterns ++ (text (codes ")") ∷ print_body y margin body ++ (line_end ∷ [])))
+      print_comment_lines margin comments ++ (text margin ∷ print_first_pattern patterns ++ (text (codes ")") ∷ print_body y margin body ++ (text (ender mark.falls) ∷ line_end ∷ [])))
 
+  -- without entries a body stands on the line of the patterns
   pub print_body : Layout → Text → Shape EntriesOf → Marks
-  print_body y margin no_entry = one (codes " ;;")
+  print_body y margin no_entry = one (codes " ")
   print_body y margin (more_entries e es) =
-      line_end ∷ print_entry y (deeper y margin) e ++ print_entries y (deeper y margin) es ++ (text (deeper y margin) ∷ text (codes ";;") ∷ [])
+      line_end ∷ print_entry y (deeper y margin) e ++ print_entries y (deeper y margin) es ++ one (deeper y margin)
 
 -- the marks of a script
 abbrev pub print_script : Layout → Shape EntriesOf → Marks

@@ -7,7 +7,7 @@ ghost use Rattle.shast.specs.Spelling.{and_or_text};
 ghost use Rattle.shast.specs.Tree.{and_or_parts_of, branches_of, cases_of, entries_of, in_words, items_of, pipeline_parts_of};
 ghost use Rattle.shast.specs.View.{view_and_or, view_and_or_part, view_branch, view_case_item, view_command, view_comment, view_compound, view_content, view_entry, view_form, view_function, view_item, view_join, view_list, view_pipeline, view_pipeline_part, view_word};
 ghost use Rattle.shprint.specs.Marks.{deeper, lines_between, one, text};
-ghost use Rattle.shprint.specs.Printed.{breaks_line, case_margin, is_brace, is_one_line, operand_margin, print_and_or, print_and_or_parts, print_background, print_bang, print_blank, print_body, print_branch, print_branches, print_case, print_cases, print_command, print_comment_lines, print_compound, print_content, print_entries, print_entry, print_for_words, print_form, print_function_gap, print_only, print_pipeline, print_pipes};
+ghost use Rattle.shprint.specs.Printed.{breaks_line, case_margin, ender, is_brace, is_one_line, operand_margin, print_and_or, print_and_or_parts, print_background, print_bang, print_blank, print_body, print_branch, print_branches, print_case, print_cases, print_command, print_comment_lines, print_compound, print_content, print_entries, print_entry, print_for_words, print_form, print_function_gap, print_only, print_pipeline, print_pipes};
 ghost use Rattle.shprint.specs.Written.{Prints, sheet, is_bare, is_command, print_condition, print_case_head};
 
 use crate::comments::breaks_line;
@@ -28,6 +28,13 @@ fn and_or_text(operator: AndOrOperator) -> &'static [u8]
         AndOrOperator::And => b"&&",
         AndOrOperator::Or => b"||",
     }
+}
+
+/// What ends an item of a `case`, which falls through or does not.
+fn ender(falls: bool) -> &'static [u8]
+    ensures { result.now ≡ ender falls }
+{
+    if falls { b";&" } else { b";;" }
 }
 
 fn is_command(content: &Content) -> bool
@@ -457,17 +464,19 @@ impl<'a, S: Source> Printer<'a, S> {
         self.print_first_pattern(&item.patterns, page)?;
         page.put(b")")?;
         self.print_body(&item.body, page)?;
+        page.put(ender(item.falls))?;
         page.end_line()
     }
 
-    /// The body of an item of a `case`: without entries it stands on the line of the patterns.
+    /// The body of an item of a `case`, up to its ender, which has a line of its own behind entries. Without
+    /// them it stands on the line of the patterns.
     #[cycle(print)]
     fn print_body(&self, body: &List, page: &mut Page) -> Result<(), AllocError>
         ensures { IfOk result (λ _. Prints page.old page.new
             (print_body self.now.layout page.old.margin.items (shape_of (S.bytes self.now.source.now) (view_list body.now)))) }
     {
         if body.entries.is_empty() {
-            return page.put(b" ;;");
+            return page.put(b" ");
         }
         page.end_line()?;
         let home = page.margin.len();
@@ -475,6 +484,6 @@ impl<'a, S: Source> Printer<'a, S> {
         self.print_entries(&body.entries, page)?;
         page.begin_line()?;
         page.margin.truncate(home);
-        page.put(b";;")
+        Ok(())
     }
 }

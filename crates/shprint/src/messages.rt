@@ -26,6 +26,7 @@ fn text_of(kind: FaultKind) -> &'static [u8]
         FaultKind::BadForName => b"bad name after for",
         FaultKind::BadFunctionName => b"bad function name",
         FaultKind::TooDeep => b"too many open constructs",
+        FaultKind::UnclosedDollarSingle => b"unclosed dollar-single quote",
     }
 }
 

@@ -3,11 +3,12 @@
 
 ghost use Rattle.std.specs.Prelude.{◌≡◌, [], ◌∷◌, ◌++◌, IfOk, None};
 ghost use Rattle.shgrammar.specs.Scripts.{view_script};
+ghost use Rattle.shgrammar.specs.declared.edition.Edition.{Edition};
 ghost use Rattle.shgrammar.specs.Scripts.{Outcome};
 ghost use Rattle.shast.specs.Shape.{bare_at, shape_of, text_at};
 ghost use Rattle.shprint.specs.Marks.{text};
 ghost use Rattle.shprint.specs.Printed.{printed};
-ghost use Rattle.shprint.specs.ReadBack.{ReadsBack};
+ghost use Rattle.shprint.specs.ReadBack.{IsOutcome, ReadsBack};
 ghost use Rattle.shprint.specs.Written.{Prints};
 
 use crate::bare::add_bare;
@@ -62,7 +63,8 @@ impl<'a, S: Source> Printer<'a, S> {
     }
 }
 
-/// The printed text of a script, by the layout's rules. The script is what a reader read of the source, and has no fault.
+/// The printed text of a script, by the layout's rules. The script is what a reader of some edition read of
+/// the source, and has no fault.
 ///
 /// # Errors
 ///
@@ -73,12 +75,15 @@ pub fn print<S: Source>(
     script: &Script,
     source: &S,
 ) -> Result<Vec<u8>, AllocError>
-    requires outcome { Outcome (S.bytes source.now) (view_script script.now) }
+    requires outcome { IsOutcome (S.bytes source.now) (view_script script.now) }
     requires faultless { script.now.fault ≡ None }
     ensures printed { IfOk result (λ text. text.items ≡
         printed layout.now (shape_of (S.bytes source.now) (view_script script.now).entries)) }
-    // The text is a script without a fault, of the same shape, and no other.
-    ensures reads_back { IfOk result (λ text. ReadsBack text.items (shape_of (S.bytes source.now) (view_script script.now).entries)) }
+    // Under each edition by which the script was read, the text is one without a fault, of the same shape,
+    // and no other.
+    ensures reads_back { IfOk result (λ text. (edition : Edition) →
+        Outcome edition (S.bytes source.now) (view_script script.now) →
+        ReadsBack edition text.items (shape_of (S.bytes source.now) (view_script script.now).entries)) }
 {
     let printer = Printer {
         alloc,

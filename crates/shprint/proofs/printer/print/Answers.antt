@@ -16,4 +16,4 @@ returns g c =
     let shape = shape_of bytes (view_script c.args.script.now).entries in
     let all : sheet c.print_entries.new.page ≡ sheet_of (printed c.args.layout.now shape) (held_behind [] (print_script c.args.layout.now shape)) = grind (arith, written_first, list_seen) in
     let is : c.print_entries.new.page.text.items ≡ printed c.args.layout.now shape = ap (λ s. s.so_far) all in
-    record { printed = is; reads_back = subst (λ t. ReadsBack t shape) (sym is) (reads_back c.args.layout.now bytes (view_script c.args.script.now) c.requires.outcome) }
+    record { printed = is; reads_back = λ edition outcome. subst (λ t. ReadsBack edition t shape) (sym is) (reads_back edition c.args.layout.now bytes (view_script c.args.script.now) outcome) }

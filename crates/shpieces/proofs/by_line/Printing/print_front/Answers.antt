@@ -9,12 +9,14 @@ lines-init g c =
     let bytes = g.S.Source.bytes c.args.source.now in
     let self = c.args.self.now in
     let start = c.behind-lines.ensures.start in (
-      λ y front is. start_printed y front bytes self.before c.behind-lines.result.before c.behind-lines.result.at (sheet self.page) start.0 start.1 is.0,
+      λ e y front is. start_printed e y front bytes self.before c.behind-lines.result.before c.behind-lines.result.at (sheet self.page) start.0 start.1 is.0,
       refl,
       c.behind-lines.ensures.source,
       omega (arith, start.0),
       λ some. absurd (omega (arith, some, start.0)),
       refl,
+      refl,
+      c.behind-lines.ensures.edition,
     )
 
 pub read_whole_with-requires : goal.read_whole_with-requires
@@ -29,21 +31,23 @@ lines-preserved g c =
     let onward = rw c.in-Some.is at c.in-Ok.ensures.onward in
     let low = rw inv.2 at c.in-Ok.ensures.place in
     let done = c.in_ok-print_entries.ensures in (
-      λ y front is. front_behind y bytes c.lines.lines c.read_whole_with.new.self (sheet c.lines.self.page) (sheet c.print_entries.new.page) c.in-Some.entries front (inv.0 y front is) line onward low
+      λ e y front is. front_behind e y bytes c.lines.lines c.read_whole_with.new.self (inv.7 ∙ is.3) (sheet c.lines.self.page) (sheet c.print_entries.new.page) c.in-Some.entries front (inv.0 e y front is) line onward low
           (rw (inv.1 ∙ is.1, is.2, c.deref.ensures.value) at done.0),
       done.1 ∙ inv.1,
       c.read_whole_with.ensures.source ∙ inv.2,
       low,
       λ some. newline,
       inv.5,
+      inv.6,
+      c.read_whole_with.ensures.edition ∙ inv.7,
     )
 
 pub returns-in_default-line-clause-printed : goal.returns-in_default-line-clause-printed
-returns-in_default-line-clause-printed g c = λ y front is.
+returns-in_default-line-clause-printed g c = λ e y front is.
     let inv = c.lines.invariant in
     let none : c.in-Ok.line ≡ None = search rules in
     let same = (c.in-Ok.ensures.none (ap Ok none)).0 in
-    (rw (sym c.before-self.ensures, sym c.at.ensures) at (rw (sym same) at (inv.0 y front is)), inv.1 ∙ is.1, inv.5 ∙ is.2)
+    (rw (sym c.before-self.ensures, sym c.at.ensures) at (rw (sym same) at (inv.0 e y front is)), inv.1 ∙ is.1, inv.5 ∙ is.2, inv.6 ∙ is.3)
 
 pub returns-in_default-line-clause-within : goal.returns-in_default-line-clause-within
 returns-in_default-line-clause-within g c =
@@ -62,4 +66,4 @@ returns-in_default-line-clause-all g c =
     let none : c.in-Ok.line ≡ None = search rules in
     let both = c.in-Ok.ensures.none (ap Ok none) in
     let place = c.at.ensures ∙ ap (λ lines. place_of lines) both.0 in
-    rw (sym place) at (rw c.lines.invariant.2 at both.1)
+    rw (sym place) at (rw (c.lines.invariant.2, c.lines.invariant.7) at both.1)

@@ -1,5 +1,6 @@
 use Rattle.std.proofs.Common.{◌≡◌, ℕ, ◌-◌, ◌<◌, ◌≤◌, ◌++◌, List, Some, length, slice_get, take}
-use Rattle.shread.specs.LineByLine.{before_of, bytes_of, place_of}
+use Rattle.shgrammar.specs.declared.edition.Edition.{Edition}
+use Rattle.shread.specs.LineByLine.{before_of, bytes_of, edition_of, place_of}
 use Rattle.shprint.specs.declared.layout.Layout.{Layout}
 use Rattle.shpieces.specs.Printing.{ArePrinted, IsPrinted}
 use Rattle.shprint.specs.Written.{sheet}
@@ -9,9 +10,10 @@ abbrev pub invariant-lines : goal.invariant-lines
 invariant-lines g l =
     let bytes = g.S.Source.bytes l.source in
     let place = place_of l.lines in
-    ((y : Layout) (front : List ℕ) → IsPrinted y front l.fn.self → ArePrinted y (front ++ take place bytes) (before_of l.lines) (sheet l.self.page))
+    ((e : Edition) (y : Layout) (front : List ℕ) → IsPrinted e y front l.fn.self → ArePrinted e y (front ++ take place bytes) (before_of l.lines) (sheet l.self.page))
     × (l.self.page.margin.items ≡ l.fn.self.page.margin.items) × (bytes_of g.S.Source.bytes l.lines ≡ bytes) × (place ≤ length bytes)
     × (0 < place → slice_get bytes (place - 1) ≡ Some 10) × (l.self.layout ≡ l.fn.self.layout)
+    × (l.self.edition ≡ l.fn.self.edition) × (edition_of l.lines ≡ l.fn.self.edition)
 
 abbrev pub decreases-lines : goal.decreases-lines
 decreases-lines g l = length (g.S.Source.bytes l.source) - place_of l.lines

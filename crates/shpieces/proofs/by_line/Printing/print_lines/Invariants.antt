@@ -1,5 +1,6 @@
 use Rattle.std.proofs.Common.{◌≡◌, ℕ, ◌-◌, ◌≤◌, List, length}
-use Rattle.shread.specs.LineByLine.{bytes_of, place_of}
+use Rattle.shgrammar.specs.declared.edition.Edition.{Edition}
+use Rattle.shread.specs.LineByLine.{bytes_of, edition_of, place_of}
 use Rattle.shprint.specs.declared.layout.Layout.{Layout}
 use Rattle.shpieces.specs.Printing.{IsPrinted}
 use Rattle.shprint.specs.Written.{sheet}
@@ -9,8 +10,9 @@ use Rattle.shpieces.proofs.by_line.Printing.print_lines.Given as goal
 abbrev pub invariant-lines : goal.invariant-lines
 invariant-lines g l =
     let bytes = g.S.Source.bytes l.source in
-    ((y : Layout) (front : List ℕ) → IsPrinted y front l.fn.self → Between y bytes front l.lines (sheet l.self.page))
+    ((e : Edition) (y : Layout) (front : List ℕ) → IsPrinted e y front l.fn.self → Between e y bytes front l.lines (sheet l.self.page))
     × (l.self.page.margin.items ≡ l.fn.self.page.margin.items) × (bytes_of g.S.Source.bytes l.lines ≡ bytes) × (place_of l.lines ≤ length bytes)
+    × (edition_of l.lines ≡ l.fn.self.edition)
 
 abbrev pub decreases-lines : goal.decreases-lines
 decreases-lines g l = length (g.S.Source.bytes l.source) - place_of l.lines
