@@ -12,6 +12,7 @@ use Rattle.shast.specs.Tree.{AnEntry, entries_of}
 use Rattle.shast.proofs.Going.{row_filled}
 use Rattle.shast.proofs.OpenSame.{filled_nodes}
 use Rattle.shast.proofs.Starts.{nodes_begin}
+use Rattle.shgrammar.specs.declared.edition.Edition.{Edition}
 use Rattle.shgrammar.specs.declared.keep.Keep.TheVariants.{Whole}
 use Rattle.shgrammar.specs.declared.token.Next.{Next}
 use Rattle.shgrammar.specs.declared.token.Position.TheVariants.{Command}
@@ -79,11 +80,11 @@ kind_begins p [] true so = so
 kind_begins p [] false so = so
 kind_begins p (e ∷ es) newline so = so
 
-pub nodes_before_end : (T : List ℕ) (l : ALine) → IsLine T l → l.ended ≡ true → All (λ (n : NodeLine). n.start < l.next) (kind_nodes l.kind)
-nodes_before_end T l (line_read es newline t k part) ended =
+pub nodes_before_end : (edition : Edition) (T : List ℕ) (l : ALine) → IsLine edition T l → l.ended ≡ true → All (λ (n : NodeLine). n.start < l.next) (kind_nodes l.kind)
+nodes_before_end edition T l (line_read es newline t k part) ended =
     let both = and_parts _ _ ended in
-    let told = (line_begins (given T 0) false (standing 0)).told in
-    let so = subst (Holds (LineBegins (given T 0))) (sym ((is_form (a_line (level most_open) false) (given T 0) (standing 0)).only _ _ part)) told both.0 in
+    let told = (line_begins (given edition T 0) false (standing 0)).told in
+    let so = subst (Holds (LineBegins (given edition T 0))) (sym ((is_form (a_line (level most_open) false) (given edition T 0) (standing 0)).only _ _ part)) told both.0 in
     let here : 0 + t.at ≡ t.at = omega arith in
     kind_begins t.at es newline (subst (λ p. BeginBefore p es) here so)
-nodes_before_end T l (line_stops f k part) ended = absurd cc
+nodes_before_end edition T l (line_stops f k part) ended = absurd cc

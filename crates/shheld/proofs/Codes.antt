@@ -1,5 +1,5 @@
 -- A code of what a line is: trees as trees of numbers, from which they can be read back. A value that contracts name has to have one.
-use Rattle.std.proofs.Common.{◌≡◌, ℕ, zero, suc, Bool, true, false, List as Row, [], ◌∷◌, Option, None, Some, refl, ◌⊎◌, inl, inr}
+use Rattle.std.proofs.Common.{◌≡◌, zero, suc, Bool, true, false, List as Row, [], ◌∷◌, Option, None, Some, refl, ◌⊎◌, inl, inr}
 use Rattle.std.specs.Coded.{code_by}
 use base.Stored.{Coded, Gv, coded_bool, coded⊎, gnil, gnum, gcons}
 use Rattle.shast.specs.declared.tree.Span.{Span}
@@ -10,7 +10,7 @@ use Rattle.shast.specs.declared.tree.AndOrOperator.{AndOrOperator}
 use Rattle.shast.specs.declared.tree.AndOrOperator.TheVariants as ops
 use Rattle.shast.specs.declared.tree.RedirectOperator.{RedirectOperator}
 use Rattle.shast.specs.declared.tree.RedirectOperator.TheVariants as reds
-use Rattle.shast.specs.Tree.{AJoin, AHere, Entries, no_entry, more_entries, AnEntry, entry, AContent, command, remark, AnAndOr, and_or, AndOrParts, no_and_or, more_and_or, APipeline, pipeline, PipelineParts, no_pipe, more_pipes, ACommand, simple, compound, function, ACompound, formed, AForm, brace, subshell, if_then, while_do, until_do, for_in, case_in, ABranch, branch, Branches, no_branch, more_branches, Otherwise, no_else, otherwise, ForWords, no_in, in_words, CaseItems, no_case, more_cases, ACaseItem, case_item, Patterns, no_pattern, more_patterns, Items, no_item, more_items, AnItem, item, AnItemContent, assign, argument, redirect, AWord, word, Substs, no_subst, more_substs, ASubst, subst}
+use Rattle.shast.specs.Tree.{ACaseMark, AJoin, AHere, Entries, no_entry, more_entries, AnEntry, entry, AContent, command, remark, AnAndOr, and_or, AndOrParts, no_and_or, more_and_or, APipeline, pipeline, PipelineParts, no_pipe, more_pipes, ACommand, simple, compound, function, ACompound, formed, AForm, brace, subshell, if_then, while_do, until_do, for_in, case_in, ABranch, branch, Branches, no_branch, more_branches, Otherwise, no_else, otherwise, ForWords, no_in, in_words, CaseItems, no_case, more_cases, ACaseItem, case_item, Patterns, no_pattern, more_patterns, Items, no_item, more_items, AnItem, item, AnItemContent, assign, argument, redirect, AWord, word, Substs, no_subst, more_substs, ASubst, subst}
 
 -- ---- what is no tree
 
@@ -156,6 +156,19 @@ from_ohere = from_option to_here from_here back_here
 pub back_ohere : (x : Option AHere) → from_ohere (to_ohere x) ≡ x
 back_ohere = back_option to_here from_here back_here
 
+abbrev pub any_mark : ACaseMark
+any_mark = record { mark = any_span; falls = false }
+
+abbrev pub to_mark : ACaseMark → Gv
+to_mark m = gcons (to_span m.mark) (to_bool m.falls)
+
+abbrev pub from_mark : Gv → ACaseMark
+from_mark (gcons a b) = record { mark = from_span a; falls = from_bool b }
+from_mark _ = any_mark
+
+pub back_mark : (x : ACaseMark) → from_mark (to_mark x) ≡ x
+back_mark x = λ i. record { mark = back_span x.mark i; falls = back_bool x.falls i }
+
 -- ---- trees
 
 abbrev pub any_command : ACommand
@@ -183,7 +196,7 @@ abbrev pub any_branch : ABranch
 any_branch = branch no_entry no_entry
 
 abbrev pub any_case : ACaseItem
-any_case = case_item [] no_pattern no_entry any_span
+any_case = case_item [] no_pattern no_entry any_mark
 
 abbrev pub any_word : AWord
 any_word = word any_span no_subst
@@ -260,7 +273,7 @@ abbrev mutual
   to_cases (more_cases a b) = gcons (gnum 1) (gcons (to_case a) (to_cases b))
 
   pub to_case : ACaseItem → Gv
-  to_case (case_item a b c d) = gcons (to_spans a) (gcons (to_patterns b) (gcons (to_entries c) (to_span d)))
+  to_case (case_item a b c d) = gcons (to_spans a) (gcons (to_patterns b) (gcons (to_entries c) (to_mark d)))
 
   pub to_patterns : Patterns → Gv
   to_patterns no_pattern = gcons (gnum 0) gnil
@@ -366,7 +379,7 @@ abbrev mutual
   from_cases _ = no_case
 
   pub from_case : Gv → ACaseItem
-  from_case (gcons a (gcons b (gcons c d))) = case_item (from_spans a) (from_patterns b) (from_entries c) (from_span d)
+  from_case (gcons a (gcons b (gcons c d))) = case_item (from_spans a) (from_patterns b) (from_entries c) (from_mark d)
   from_case _ = any_case
 
   pub from_patterns : Gv → Patterns
@@ -465,7 +478,7 @@ mutual
   back_cases (more_cases a b) = λ i. more_cases (back_case a i) (back_cases b i)
 
   pub back_case : (x : ACaseItem) → from_case (to_case x) ≡ x
-  back_case (case_item a b c d) = λ i. case_item (back_spans a i) (back_patterns b i) (back_entries c i) (back_span d i)
+  back_case (case_item a b c d) = λ i. case_item (back_spans a i) (back_patterns b i) (back_entries c i) (back_mark d i)
 
   pub back_patterns : (x : Patterns) → from_patterns (to_patterns x) ≡ x
   back_patterns no_pattern = refl

@@ -8,6 +8,7 @@ use Rattle.shast.specs.Nodes.{AreWithin, IsWithin, entries_nodes, entry_nodes, p
 use Rattle.shast.specs.Tree.{Entries, entry, more_entries, no_entry}
 use Rattle.shast.proofs.NodesMoved.{nodes_moved, within_moved}
 use Rattle.shast.proofs.Reach.{within_more}
+use Rattle.shgrammar.specs.declared.edition.Edition.{Edition}
 use Rattle.shgrammar.specs.Joined.{blanked, has_entry}
 use Rattle.shgrammar.specs.Lines.{AKind, EntriesEverywhere, EntriesWithin, blank_line, entries_line, end_line, faulty_line}
 use Rattle.shgrammar.proofs.Everywhere.{line_everywhere}
@@ -53,16 +54,16 @@ nodes_with n so (entries_line xs) all =
 nodes_with n so end_line all = sym (append-nil (entries_nodes so.entries))
 nodes_with n so (faulty_line f) all = sym (append-nil (entries_nodes so.entries))
 
-walk_nodes : (T : List ℕ) (row : Row (HeldLine AKind)) → IsRow IsTopLine T row → (so : Walk) → entries_nodes (with_lines so row).entries ≡ entries_nodes so.entries ++ lines_nodes so.at row
-walk_nodes T _ (last_line {h = h} is not_ended whole) so =
-    nodes_with h.len so h.kind (line_everywhere T (as_read h) is) ∙ ap (λ ns. entries_nodes so.entries ++ ns) (sym (append-nil (line_nodes so.at h)))
-walk_nodes T _ (more_lines {h = h} {hs = hs} is ended row) so =
-    walk_nodes (drop h.len T) hs row (with_line so h)
-    ∙ ap (λ ns. ns ++ lines_nodes (so.at + h.len) hs) (nodes_with h.len so h.kind (line_everywhere T (as_read h) is))
+walk_nodes : (edition : Edition) (T : List ℕ) (row : Row (HeldLine AKind)) → IsRow (IsTopLine edition) T row → (so : Walk) → entries_nodes (with_lines so row).entries ≡ entries_nodes so.entries ++ lines_nodes so.at row
+walk_nodes edition T _ (last_line {h = h} is not_ended whole) so =
+    nodes_with h.len so h.kind (line_everywhere edition T (as_read h) is) ∙ ap (λ ns. entries_nodes so.entries ++ ns) (sym (append-nil (line_nodes so.at h)))
+walk_nodes edition T _ (more_lines {h = h} {hs = hs} is ended row) so =
+    walk_nodes edition (drop h.len T) hs row (with_line so h)
+    ∙ ap (λ ns. ns ++ lines_nodes (so.at + h.len) hs) (nodes_with h.len so h.kind (line_everywhere edition T (as_read h) is))
     ∙ append_assoc (entries_nodes so.entries) (line_nodes so.at h) (lines_nodes (so.at + h.len) hs)
 
-pub row_nodes : (B : List ℕ) (row : Row (HeldLine AKind)) → IsRow IsTopLine B row → entries_nodes (script_of row).entries ≡ lines_nodes 0 row
-row_nodes B row is = ap entries_nodes (row_entries B row is) ∙ walk_nodes B row is no_line
+pub row_nodes : (edition : Edition) (B : List ℕ) (row : Row (HeldLine AKind)) → IsRow (IsTopLine edition) B row → entries_nodes (script_of row).entries ≡ lines_nodes 0 row
+row_nodes edition B row is = ap entries_nodes (row_entries edition B row is) ∙ walk_nodes edition B row is no_line
 
 pub lines_nodes_append : (base : ℕ) (xs ys : Row (HeldLine AKind)) → lines_nodes base (xs ++ ys) ≡ lines_nodes base xs ++ lines_nodes (base + extent xs) ys
 unfolding extent
@@ -81,21 +82,21 @@ kind_places base n end_line all so = All-nil (IsWithin (base + n))
 kind_places base n (faulty_line f) all so = All-nil (IsWithin (base + n))
 
 -- the nodes of a line lie within it
-pub line_places : (T : List ℕ) (l : HeldLine AKind) → IsTopLine T l → (base : ℕ) → All (IsWithin (base + l.len)) (line_nodes base l)
-line_places T l is base = kind_places base l.len l.kind (line_everywhere T (as_read l) is) (entries_within T (as_read l) is)
+pub line_places : (edition : Edition) (T : List ℕ) (l : HeldLine AKind) → IsTopLine edition T l → (base : ℕ) → All (IsWithin (base + l.len)) (line_nodes base l)
+line_places edition T l is base = kind_places base l.len l.kind (line_everywhere edition T (as_read l) is) (entries_within edition T (as_read l) is)
 
 -- and so those of all lines
-pub row_places : (T : List ℕ) (row : Row (HeldLine AKind)) → IsRow IsTopLine T row → (base : ℕ) → All (IsWithin (base + extent row)) (lines_nodes base row)
+pub row_places : (edition : Edition) (T : List ℕ) (row : Row (HeldLine AKind)) → IsRow (IsTopLine edition) T row → (base : ℕ) → All (IsWithin (base + extent row)) (lines_nodes base row)
 unfolding extent
-row_places T _ (last_line {h = h} is not_ended whole) base =
-    All-append (IsWithin (base + (h.len + 0))) (line_nodes base h) [] (within_more (base + h.len) (base + (h.len + 0)) (line_nodes base h) (omega arith) (line_places T h is base)) (All-nil (IsWithin (base + (h.len + 0))))
-row_places T _ (more_lines {h = h} {hs = hs} is ended row) base =
+row_places edition T _ (last_line {h = h} is not_ended whole) base =
+    All-append (IsWithin (base + (h.len + 0))) (line_nodes base h) [] (within_more (base + h.len) (base + (h.len + 0)) (line_nodes base h) (omega arith) (line_places edition T h is base)) (All-nil (IsWithin (base + (h.len + 0))))
+row_places edition T _ (more_lines {h = h} {hs = hs} is ended row) base =
     All-append (IsWithin (base + (h.len + extent hs))) (line_nodes base h) (lines_nodes (base + h.len) hs)
-    (within_more (base + h.len) (base + (h.len + extent hs)) (line_nodes base h) (omega arith) (line_places T h is base))
-    (within_more (base + h.len + extent hs) (base + (h.len + extent hs)) (lines_nodes (base + h.len) hs) (omega arith) (row_places (drop h.len T) hs row (base + h.len)))
+    (within_more (base + h.len) (base + (h.len + extent hs)) (line_nodes base h) (omega arith) (line_places edition T h is base))
+    (within_more (base + h.len + extent hs) (base + (h.len + extent hs)) (lines_nodes (base + h.len) hs) (omega arith) (row_places edition (drop h.len T) hs row (base + h.len)))
 
 -- no node of the script names an offset above its length
-pub row_are_within : (B : List ℕ) (row : Row (HeldLine AKind)) → IsRow IsTopLine B row → AreWithin (length B) (script_of row).entries
-row_are_within B row is =
-    All-same (IsWithin (length B)) _ _ (row_nodes B row is)
-    (within_more (0 + extent row) (length B) (lines_nodes 0 row) (omega (arith, row_extent IsTopLine top_lines B row is)) (row_places B row is 0))
+pub row_are_within : (edition : Edition) (B : List ℕ) (row : Row (HeldLine AKind)) → IsRow (IsTopLine edition) B row → AreWithin (length B) (script_of row).entries
+row_are_within edition B row is =
+    All-same (IsWithin (length B)) _ _ (row_nodes edition B row is)
+    (within_more (0 + extent row) (length B) (lines_nodes 0 row) (omega (arith, row_extent (IsTopLine edition) (top_lines edition) B row is)) (row_places edition B row is 0))

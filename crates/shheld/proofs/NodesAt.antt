@@ -7,6 +7,7 @@ use Rattle.std.proofs.lemmas.List.Elements.{All-head, All-tail, filter-append}
 use Rattle.shast.specs.declared.node.NodeLine.{NodeLine}
 use Rattle.shast.specs.declared.tree.Span.{Span}
 use Rattle.shast.specs.Nodes.{IsWithin, entries_nodes, holds, in_order, nodes_at, placed, placed_span}
+use Rattle.shgrammar.specs.declared.edition.Edition.{Edition}
 use Rattle.shgrammar.specs.Lines.{AKind, blank_line, entries_line, end_line, faulty_line}
 use Rattle.shgrammar.specs.Scripts.{AScript, Outcome}
 use Rattle.shtree.proofs.InOrder.{filter-in_order}
@@ -62,22 +63,22 @@ none_behind base at (l ∷ ls) low =
     ∙ none_behind (base + l.len) at ls (omega arith)
 
 -- of the lines from the base on, none of which is behind the byte, those that stand before one that holds it
-held_by : (T : List ℕ) (before : Row (HeldLine AKind)) (l : HeldLine AKind) (rest : Row (HeldLine AKind)) → IsRow IsTopLine T (before ++ l ∷ rest) → (base at : ℕ)
+held_by : (edition : Edition) (T : List ℕ) (before : Row (HeldLine AKind)) (l : HeldLine AKind) (rest : Row (HeldLine AKind)) → IsRow (IsTopLine edition) T (before ++ l ∷ rest) → (base at : ℕ)
     → base + extent before ≤ at → at < base + extent before + l.len → filter (holds at) (lines_nodes base (before ++ l ∷ rest)) ≡ filter (holds at) (line_nodes (base + extent before) l)
 unfolding extent
-held_by T [] l rest row base at low high =
+held_by edition T [] l rest row base at low high =
     let same : base ≡ base + 0 = omega arith in
     filter-append (holds at) (line_nodes base l) (lines_nodes (base + l.len) rest)
     ∙ ap (λ ns. filter (holds at) (line_nodes base l) ++ ns) (none_behind (base + l.len) at rest (omega arith))
     ∙ append-nil (filter (holds at) (line_nodes base l))
     ∙ ap (λ b. filter (holds at) (line_nodes b l)) same
-held_by T (x ∷ xs) l rest row base at low high =
-    let is = row_head IsTopLine T x (xs ++ l ∷ rest) row in
-    let ended = row_ended IsTopLine T x xs l rest row in
+held_by edition T (x ∷ xs) l rest row base at low high =
+    let is = row_head (IsTopLine edition) T x (xs ++ l ∷ rest) row in
+    let ended = row_ended (IsTopLine edition) T x xs l rest row in
     let same : base + x.len + extent xs ≡ base + (x.len + extent xs) = omega arith in
     filter-append (holds at) (line_nodes base x) (lines_nodes (base + x.len) (xs ++ l ∷ rest))
-    ∙ ap (λ ns. ns ++ filter (holds at) (lines_nodes (base + x.len) (xs ++ l ∷ rest))) (none_past at (base + x.len) (line_nodes base x) (line_places T x is base) (omega arith))
-    ∙ held_by (drop x.len T) xs l rest (row_rest IsTopLine T x (xs ++ l ∷ rest) row ended) (base + x.len) at (omega arith) (omega arith)
+    ∙ ap (λ ns. ns ++ filter (holds at) (lines_nodes (base + x.len) (xs ++ l ∷ rest))) (none_past at (base + x.len) (line_nodes base x) (line_places edition T x is base) (omega arith))
+    ∙ held_by edition (drop x.len T) xs l rest (row_rest (IsTopLine edition) T x (xs ++ l ∷ rest) row ended) (base + x.len) at (omega arith) (omega arith)
     ∙ ap (λ b. filter (holds at) (line_nodes b l)) same
 
 -- ---- the nodes that are asked for
@@ -88,31 +89,31 @@ asked base at (entries_line xs) = sym (filter-in_order (holds at) (map (placed b
 asked base at end_line = refl
 asked base at (faulty_line f) = refl
 
-script_asked : (B : List ℕ) (row : Row (HeldLine AKind)) → IsRow IsTopLine B row → (at : ℕ) → nodes_at 0 at (script_of row).entries ≡ in_order (filter (holds at) (lines_nodes 0 row))
-script_asked B row is at =
+script_asked : (edition : Edition) (B : List ℕ) (row : Row (HeldLine AKind)) → IsRow (IsTopLine edition) B row → (at : ℕ) → nodes_at 0 at (script_of row).entries ≡ in_order (filter (holds at) (lines_nodes 0 row))
+script_asked edition B row is at =
     filter-in_order (holds at) (map (placed 0) (entries_nodes (script_of row).entries))
-    ∙ ap (λ ns. in_order (filter (holds at) ns)) (all_here (entries_nodes (script_of row).entries) ∙ row_nodes B row is)
+    ∙ ap (λ ns. in_order (filter (holds at) ns)) (all_here (entries_nodes (script_of row).entries) ∙ row_nodes edition B row is)
 
 -- those of the line that holds the byte
-pub row_nodes_at : (B : List ℕ) (before : Row (HeldLine AKind)) (l : HeldLine AKind) (rest : Row (HeldLine AKind)) → IsRow IsTopLine B (before ++ l ∷ rest) → (at : ℕ)
+pub row_nodes_at : (edition : Edition) (B : List ℕ) (before : Row (HeldLine AKind)) (l : HeldLine AKind) (rest : Row (HeldLine AKind)) → IsRow (IsTopLine edition) B (before ++ l ∷ rest) → (at : ℕ)
     → extent before ≤ at → at < extent before + l.len → nodes_at 0 at (script_of (before ++ l ∷ rest)).entries ≡ line_nodes_at (extent before) at l.kind
-row_nodes_at B before l rest row at low high =
+row_nodes_at edition B before l rest row at low high =
     let same : 0 + extent before ≡ extent before = omega arith in
-    script_asked B (before ++ l ∷ rest) row at
-    ∙ ap in_order (held_by B before l rest row 0 at (omega arith) (omega arith) ∙ ap (λ b. filter (holds at) (line_nodes b l)) same)
+    script_asked edition B (before ++ l ∷ rest) row at
+    ∙ ap in_order (held_by edition B before l rest row 0 at (omega arith) (omega arith) ∙ ap (λ b. filter (holds at) (line_nodes b l)) same)
     ∙ asked (extent before) at l.kind
 
 -- at or past the end there are none
-pub row_nodes_past : (B : List ℕ) (row : Row (HeldLine AKind)) → IsRow IsTopLine B row → (at : ℕ) → length B ≤ at → nodes_at 0 at (script_of row).entries ≡ []
-row_nodes_past B row is at high =
-    script_asked B row is at
-    ∙ ap in_order (none_past at (0 + extent row) (lines_nodes 0 row) (row_places B row is 0) (omega (arith, high, row_extent IsTopLine top_lines B row is)))
+pub row_nodes_past : (edition : Edition) (B : List ℕ) (row : Row (HeldLine AKind)) → IsRow (IsTopLine edition) B row → (at : ℕ) → length B ≤ at → nodes_at 0 at (script_of row).entries ≡ []
+row_nodes_past edition B row is at high =
+    script_asked edition B row is at
+    ∙ ap in_order (none_past at (0 + extent row) (lines_nodes 0 row) (row_places edition B row is 0) (omega (arith, high, row_extent (IsTopLine edition) (top_lines edition) B row is)))
 
 -- ---- as an answer for the bytes
 
-pub row_has_nodes : (B : List ℕ) (before : Row (HeldLine AKind)) (l : HeldLine AKind) (rest : Row (HeldLine AKind)) → IsRow IsTopLine B (before ++ l ∷ rest) → (at : ℕ)
-    → extent before ≤ at → at < extent before + l.len → (script : AScript) × Outcome B script × (line_nodes_at (extent before) at l.kind ≡ nodes_at 0 at script.entries)
-row_has_nodes B before l rest row at low high = (script_of (before ++ l ∷ rest), row_outcome B (before ++ l ∷ rest) row, sym (row_nodes_at B before l rest row at low high))
+pub row_has_nodes : (edition : Edition) (B : List ℕ) (before : Row (HeldLine AKind)) (l : HeldLine AKind) (rest : Row (HeldLine AKind)) → IsRow (IsTopLine edition) B (before ++ l ∷ rest) → (at : ℕ)
+    → extent before ≤ at → at < extent before + l.len → (script : AScript) × Outcome edition B script × (line_nodes_at (extent before) at l.kind ≡ nodes_at 0 at script.entries)
+row_has_nodes edition B before l rest row at low high = (script_of (before ++ l ∷ rest), row_outcome edition B (before ++ l ∷ rest) row, sym (row_nodes_at edition B before l rest row at low high))
 
-pub row_has_none : (B : List ℕ) (row : Row (HeldLine AKind)) → IsRow IsTopLine B row → (at : ℕ) → length B ≤ at → (script : AScript) × Outcome B script × ([] ≡ nodes_at 0 at script.entries)
-row_has_none B row is at high = (script_of row, row_outcome B row is, sym (row_nodes_past B row is at high))
+pub row_has_none : (edition : Edition) (B : List ℕ) (row : Row (HeldLine AKind)) → IsRow (IsTopLine edition) B row → (at : ℕ) → length B ≤ at → (script : AScript) × Outcome edition B script × ([] ≡ nodes_at 0 at script.entries)
+row_has_none edition B row is at high = (script_of row, row_outcome edition B row is, sym (row_nodes_past edition B row is at high))

@@ -6,6 +6,7 @@ use Rattle.std.proofs.lemmas.Bool.Decides.{nat_tests}
 use Rattle.std.proofs.lemmas.List.Elements.{All-append, All-cons, All-head, All-map, All-nil, All-tail, All-weaker, filter-append}
 use Rattle.shast.specs.declared.node.NodeLine.{NodeLine}
 use Rattle.shast.specs.Nodes.{entries_nodes, in_order, in_outline, inserted, outline, placed}
+use Rattle.shgrammar.specs.declared.edition.Edition.{Edition}
 use Rattle.shgrammar.specs.Lines.{AKind, blank_line, entries_line, end_line, faulty_line}
 use Rattle.shgrammar.specs.Scripts.{AScript, Outcome}
 use Rattle.shtree.proofs.InOrder.{before}
@@ -65,10 +66,10 @@ in_order_append p (m ∷ ms) ns low high =
 
 -- ---- the nodes of lines in order
 
-line_begins : (T : List ℕ) (l : HeldLine AKind) → IsTopLine T l → l.ended ≡ true → (base : ℕ) → All (Before (base + l.len)) (line_nodes base l)
-line_begins T l is ended base =
+line_begins : (edition : Edition) (T : List ℕ) (l : HeldLine AKind) → IsTopLine edition T l → l.ended ≡ true → (base : ℕ) → All (Before (base + l.len)) (line_nodes base l)
+line_begins edition T l is ended base =
     All-map (Before (base + l.len)) (placed base) (kind_nodes l.kind)
-    (All-weaker (Before l.len) (λ n. Before (base + l.len) (placed base n)) (λ n low. omega (arith, low)) (kind_nodes l.kind) (nodes_before_end T (as_read l) is ended))
+    (All-weaker (Before l.len) (λ n. Before (base + l.len) (placed base n)) (λ n low. omega (arith, low)) (kind_nodes l.kind) (nodes_before_end edition T (as_read l) is ended))
 
 placed_from : (p base : ℕ) (ns : Row NodeLine) → p ≤ base → All (From p) (map (placed base) ns)
 placed_from p base [] le = All-nil (From p)
@@ -86,19 +87,19 @@ line_is base (entries_line xs) = refl
 line_is base end_line = refl
 line_is base (faulty_line f) = refl
 
-rows_outline : (T : List ℕ) (row : Row (HeldLine AKind)) → IsRow IsTopLine T row → (base : ℕ) → filter in_outline (in_order (lines_nodes base row)) ≡ outlines base row
-rows_outline T _ (last_line {h = h} is not_ended whole) base =
+rows_outline : (edition : Edition) (T : List ℕ) (row : Row (HeldLine AKind)) → IsRow (IsTopLine edition) T row → (base : ℕ) → filter in_outline (in_order (lines_nodes base row)) ≡ outlines base row
+rows_outline edition T _ (last_line {h = h} is not_ended whole) base =
     ap (λ ns. filter in_outline (in_order ns)) (append-nil (line_nodes base h)) ∙ line_is base h.kind ∙ sym (append-nil (line_outline base h.kind))
-rows_outline T _ (more_lines {h = h} {hs = hs} is ended row) base =
-    ap (filter in_outline) (in_order_append (base + h.len) (line_nodes base h) (lines_nodes (base + h.len) hs) (line_begins T h is ended base) (lines_from (base + h.len) (base + h.len) hs (omega arith)))
+rows_outline edition T _ (more_lines {h = h} {hs = hs} is ended row) base =
+    ap (filter in_outline) (in_order_append (base + h.len) (line_nodes base h) (lines_nodes (base + h.len) hs) (line_begins edition T h is ended base) (lines_from (base + h.len) (base + h.len) hs (omega arith)))
     ∙ filter-append in_outline (in_order (line_nodes base h)) (in_order (lines_nodes (base + h.len) hs))
     ∙ ap (λ ns. ns ++ filter in_outline (in_order (lines_nodes (base + h.len) hs))) (line_is base h.kind)
-    ∙ ap (λ ns. line_outline base h.kind ++ ns) (rows_outline (drop h.len T) hs row (base + h.len))
+    ∙ ap (λ ns. line_outline base h.kind ++ ns) (rows_outline edition (drop h.len T) hs row (base + h.len))
 
-pub row_outline : (B : List ℕ) (row : Row (HeldLine AKind)) → IsRow IsTopLine B row → outline 0 (script_of row).entries ≡ outlines 0 row
-row_outline B row is =
-    ap (λ ns. filter in_outline (in_order ns)) (all_here (entries_nodes (script_of row).entries) ∙ row_nodes B row is) ∙ rows_outline B row is 0
+pub row_outline : (edition : Edition) (B : List ℕ) (row : Row (HeldLine AKind)) → IsRow (IsTopLine edition) B row → outline 0 (script_of row).entries ≡ outlines 0 row
+row_outline edition B row is =
+    ap (λ ns. filter in_outline (in_order ns)) (all_here (entries_nodes (script_of row).entries) ∙ row_nodes edition B row is) ∙ rows_outline edition B row is 0
 
 -- as an answer for the bytes
-pub row_has_outline : (B : List ℕ) (row : Row (HeldLine AKind)) → IsRow IsTopLine B row → (script : AScript) × Outcome B script × (outlines 0 row ≡ outline 0 script.entries)
-row_has_outline B row is = (script_of row, row_outcome B row is, sym (row_outline B row is))
+pub row_has_outline : (edition : Edition) (B : List ℕ) (row : Row (HeldLine AKind)) → IsRow (IsTopLine edition) B row → (script : AScript) × Outcome edition B script × (outlines 0 row ≡ outline 0 script.entries)
+row_has_outline edition B row is = (script_of row, row_outcome edition B row is, sym (row_outline edition B row is))

@@ -2,6 +2,7 @@
 use Rattle.std.proofs.Common.{◌≡◌, ℕ, ◌+◌, Bool, true, false, List, List as Row, [], ◌∷◌, ◌++◌, Option, drop, length, map, sym, ap, subst, refl, ◌∙◌, arith}
 use Rattle.std.proofs.lemmas.List.{drop-drop}
 use Rattle.shast.specs.Tree.{Entries}
+use Rattle.shgrammar.specs.declared.edition.Edition.{Edition}
 use Rattle.shgrammar.specs.declared.fault.Fault.{Fault}
 use Rattle.shgrammar.specs.Joined.{AreLines, joined, joined_by, last_of, more_of}
 use Rattle.shgrammar.specs.Lines.{AKind, ALine, IsLine, blank_line, entries_line, end_line, faulty_line, line_read, line_stops}
@@ -17,18 +18,18 @@ use Rattle.shheld.proofs.TopLines.{top_lines}
 
 -- ---- the script of a row
 
-lines_by : (B : List ℕ) (p : ℕ) (T : List ℕ) (row : Row (HeldLine AKind)) → T ≡ drop p B → IsRow IsTopLine T row → AreLines B p (map as_read row)
-lines_by B p T _ at (last_line {h = h} is not_ended whole) =
-    last_of (as_read h) (subst (λ U. IsTopLine U h) at is) not_ended (whole ∙ ap length at)
-lines_by B p T _ at (more_lines {h = h} {hs = hs} is ended row) =
-    more_of (as_read h) (map as_read hs) (subst (λ U. IsTopLine U h) at is) ended
-    (lines_by B (p + h.len) (drop h.len T) hs (ap (drop h.len) at ∙ drop-drop h.len p B) row)
+lines_by : (edition : Edition) (B : List ℕ) (p : ℕ) (T : List ℕ) (row : Row (HeldLine AKind)) → T ≡ drop p B → IsRow (IsTopLine edition) T row → AreLines edition B p (map as_read row)
+lines_by edition B p T _ at (last_line {h = h} is not_ended whole) =
+    last_of (as_read h) (subst (λ U. IsTopLine edition U h) at is) not_ended (whole ∙ ap length at)
+lines_by edition B p T _ at (more_lines {h = h} {hs = hs} is ended row) =
+    more_of (as_read h) (map as_read hs) (subst (λ U. IsTopLine edition U h) at is) ended
+    (lines_by edition B (p + h.len) (drop h.len T) hs (ap (drop h.len) at ∙ drop-drop h.len p B) row)
 
-pub row_lines : (B : List ℕ) (row : Row (HeldLine AKind)) → IsRow IsTopLine B row → AreLines B 0 (map as_read row)
-row_lines B row is = lines_by B 0 B row refl is
+pub row_lines : (edition : Edition) (B : List ℕ) (row : Row (HeldLine AKind)) → IsRow (IsTopLine edition) B row → AreLines edition B 0 (map as_read row)
+row_lines edition B row is = lines_by edition B 0 B row refl is
 
-pub row_outcome : (B : List ℕ) (row : Row (HeldLine AKind)) → IsRow IsTopLine B row → Outcome B (script_of row)
-row_outcome B row is = script_joined B (map as_read row) (row_lines B row is)
+pub row_outcome : (edition : Edition) (B : List ℕ) (row : Row (HeldLine AKind)) → IsRow (IsTopLine edition) B row → Outcome edition B (script_of row)
+row_outcome edition B row is = script_joined edition B (map as_read row) (row_lines edition B row is)
 
 -- ---- its entries
 
@@ -39,14 +40,14 @@ GoesOn (entries_line xs) = Unit {0}
 GoesOn end_line = ⊥
 GoesOn (faulty_line f) = ⊥
 
-kind_on : (T : List ℕ) (a : ALine) → IsLine T a → a.ended ≡ true → GoesOn a.kind
-kind_on T a (line_read [] true t k part) ended = tt
-kind_on T a (line_read [] false t k part) ended = absurd cc
-kind_on T a (line_read (e ∷ es) newline t k part) ended = tt
-kind_on T a (line_stops f k part) ended = absurd cc
+kind_on : (edition : Edition) (T : List ℕ) (a : ALine) → IsLine edition T a → a.ended ≡ true → GoesOn a.kind
+kind_on edition T a (line_read [] true t k part) ended = tt
+kind_on edition T a (line_read [] false t k part) ended = absurd cc
+kind_on edition T a (line_read (e ∷ es) newline t k part) ended = tt
+kind_on edition T a (line_stops f k part) ended = absurd cc
 
-pub goes_on : (T : List ℕ) (l : HeldLine AKind) → IsTopLine T l → l.ended ≡ true → GoesOn l.kind
-goes_on T l is ended = kind_on T (as_read l) is ended
+pub goes_on : (edition : Edition) (T : List ℕ) (l : HeldLine AKind) → IsTopLine edition T l → l.ended ≡ true → GoesOn l.kind
+goes_on edition T l is ended = kind_on edition T (as_read l) is ended
 
 on_by : (k : AKind) → GoesOn k → (rest : Entries → Bool → AScript) (so : Walk) → joined_by rest k so.entries so.gap so.at ≡ rest (entries_with so k) (has_none k)
 on_by blank_line so rest walk = refl
@@ -58,8 +59,8 @@ abbrev from_walk : Walk → Row (HeldLine AKind) → AScript
 from_walk so row = joined (map as_read row) so.entries so.gap so.at
 
 -- a line that ended is one step of the walk
-pub line_on : (T : List ℕ) (l : HeldLine AKind) → IsTopLine T l → l.ended ≡ true → (ls : Row (HeldLine AKind)) (so : Walk) → from_walk so (l ∷ ls) ≡ from_walk (with_line so l) ls
-line_on T l is ended ls so = on_by l.kind (goes_on T l is ended) (λ es gap. joined (map as_read ls) es gap (so.at + l.len)) so
+pub line_on : (edition : Edition) (T : List ℕ) (l : HeldLine AKind) → IsTopLine edition T l → l.ended ≡ true → (ls : Row (HeldLine AKind)) (so : Walk) → from_walk so (l ∷ ls) ≡ from_walk (with_line so l) ls
+line_on edition T l is ended ls so = on_by l.kind (goes_on edition T l is ended) (λ es gap. joined (map as_read ls) es gap (so.at + l.len)) so
 
 -- and so is the last one
 pub line_last : (l : HeldLine AKind) (so : Walk) → from_walk so (l ∷ []) ≡ record { entries = (with_line so l).entries; wrong = fault_at so.at l.kind }
@@ -71,47 +72,47 @@ line_last l so = by_kind l.kind
     by_kind end_line = refl
     by_kind (faulty_line f) = refl
 
-entries_from : (T : List ℕ) (row : Row (HeldLine AKind)) → IsRow IsTopLine T row → (so : Walk) → (from_walk so row).entries ≡ (with_lines so row).entries
-entries_from T _ (last_line {h = h} is not_ended whole) so = ap (λ (s : AScript). s.entries) (line_last h so)
-entries_from T _ (more_lines {h = h} {hs = hs} is ended row) so = ap (λ (s : AScript). s.entries) (line_on T h is ended hs so) ∙ entries_from (drop h.len T) hs row (with_line so h)
+entries_from : (edition : Edition) (T : List ℕ) (row : Row (HeldLine AKind)) → IsRow (IsTopLine edition) T row → (so : Walk) → (from_walk so row).entries ≡ (with_lines so row).entries
+entries_from edition T _ (last_line {h = h} is not_ended whole) so = ap (λ (s : AScript). s.entries) (line_last h so)
+entries_from edition T _ (more_lines {h = h} {hs = hs} is ended row) so = ap (λ (s : AScript). s.entries) (line_on edition T h is ended hs so) ∙ entries_from edition (drop h.len T) hs row (with_line so h)
 
 -- the entries of the script are what a walk over the row gathers
-pub row_entries : (B : List ℕ) (row : Row (HeldLine AKind)) → IsRow IsTopLine B row → (script_of row).entries ≡ (with_lines no_line row).entries
-row_entries B row is = entries_from B row is no_line
+pub row_entries : (edition : Edition) (B : List ℕ) (row : Row (HeldLine AKind)) → IsRow (IsTopLine edition) B row → (script_of row).entries ≡ (with_lines no_line row).entries
+row_entries edition B row is = entries_from edition B row is no_line
 
 -- ---- its first fault
 
-fault_from : (T : List ℕ) (ended : Row (HeldLine AKind)) (last : HeldLine AKind) → IsRow IsTopLine T (ended ++ last ∷ []) → (so : Walk)
+fault_from : (edition : Edition) (T : List ℕ) (ended : Row (HeldLine AKind)) (last : HeldLine AKind) → IsRow (IsTopLine edition) T (ended ++ last ∷ []) → (so : Walk)
     → (from_walk so (ended ++ last ∷ [])).wrong ≡ fault_at (so.at + extent ended) last.kind
 unfolding extent
-fault_from T [] last row so =
+fault_from edition T [] last row so =
     let here : so.at ≡ so.at + 0 = omega arith in
     ap (λ (s : AScript). s.wrong) (line_last last so) ∙ ap (λ n. fault_at n last.kind) here
-fault_from T (h ∷ hs) last row so =
-    let is = row_head IsTopLine T h (hs ++ last ∷ []) row in
-    let ended = row_ended IsTopLine T h hs last [] row in
+fault_from edition T (h ∷ hs) last row so =
+    let is = row_head (IsTopLine edition) T h (hs ++ last ∷ []) row in
+    let ended = row_ended (IsTopLine edition) T h hs last [] row in
     let there : so.at + h.len + extent hs ≡ so.at + (h.len + extent hs) = omega arith in
-    ap (λ (s : AScript). s.wrong) (line_on T h is ended (hs ++ last ∷ []) so)
-    ∙ fault_from (drop h.len T) hs last (row_rest IsTopLine T h (hs ++ last ∷ []) row ended) (with_line so h)
+    ap (λ (s : AScript). s.wrong) (line_on edition T h is ended (hs ++ last ∷ []) so)
+    ∙ fault_from edition (drop h.len T) hs last (row_rest (IsTopLine edition) T h (hs ++ last ∷ []) row ended) (with_line so h)
     ∙ ap (λ n. fault_at n last.kind) there
 
 -- where the last line begins
-pub last_at : (B : List ℕ) (ended : Row (HeldLine AKind)) (last : HeldLine AKind) → IsRow IsTopLine B (ended ++ last ∷ []) → extent ended + last.len ≡ length B
-last_at B ended last row = sym (extent_push ended last) ∙ row_extent IsTopLine top_lines B (ended ++ last ∷ []) row
+pub last_at : (edition : Edition) (B : List ℕ) (ended : Row (HeldLine AKind)) (last : HeldLine AKind) → IsRow (IsTopLine edition) B (ended ++ last ∷ []) → extent ended + last.len ≡ length B
+last_at edition B ended last row = sym (extent_push ended last) ∙ row_extent (IsTopLine edition) (top_lines edition) B (ended ++ last ∷ []) row
 
-pub row_wrong : (B : List ℕ) (ended : Row (HeldLine AKind)) (last : HeldLine AKind) → IsRow IsTopLine B (ended ++ last ∷ []) → (script_of (ended ++ last ∷ [])).wrong ≡ fault_at (extent ended) last.kind
-row_wrong B ended last row =
+pub row_wrong : (edition : Edition) (B : List ℕ) (ended : Row (HeldLine AKind)) (last : HeldLine AKind) → IsRow (IsTopLine edition) B (ended ++ last ∷ []) → (script_of (ended ++ last ∷ [])).wrong ≡ fault_at (extent ended) last.kind
+row_wrong edition B ended last row =
     let here : 0 + extent ended ≡ extent ended = omega arith in
-    fault_from B ended last row no_line ∙ ap (λ n. fault_at n last.kind) here
+    fault_from edition B ended last row no_line ∙ ap (λ n. fault_at n last.kind) here
 
 -- the first fault is that of the last line, if it has one
-pub row_fault : (B : List ℕ) (ended : Row (HeldLine AKind)) (last : HeldLine AKind) → IsRow IsTopLine B (ended ++ last ∷ []) → FirstFault B (fault_at (extent ended) last.kind)
-row_fault B ended last row =
-    let all = row_outcome B (ended ++ last ∷ []) row in
-    ((script_of (ended ++ last ∷ [])).entries, subst (λ w. Outcome B (record { entries = (script_of (ended ++ last ∷ [])).entries; wrong = w })) (row_wrong B ended last row) all)
+pub row_fault : (edition : Edition) (B : List ℕ) (ended : Row (HeldLine AKind)) (last : HeldLine AKind) → IsRow (IsTopLine edition) B (ended ++ last ∷ []) → FirstFault edition B (fault_at (extent ended) last.kind)
+row_fault edition B ended last row =
+    let all = row_outcome edition B (ended ++ last ∷ []) row in
+    ((script_of (ended ++ last ∷ [])).entries, subst (λ w. Outcome edition B (record { entries = (script_of (ended ++ last ∷ [])).entries; wrong = w })) (row_wrong edition B ended last row) all)
 
 -- and there is no other
-pub row_fault_only : (B : List ℕ) (ended : Row (HeldLine AKind)) (last : HeldLine AKind) → IsRow IsTopLine B (ended ++ last ∷ []) → (f : Option Fault) → FirstFault B f → f ≡ fault_at (extent ended) last.kind
-row_fault_only B ended last row f first =
-    let same = script_only B _ first.1 ∙ sym (script_only B _ (row_fault B ended last row).1) in
+pub row_fault_only : (edition : Edition) (B : List ℕ) (ended : Row (HeldLine AKind)) (last : HeldLine AKind) → IsRow (IsTopLine edition) B (ended ++ last ∷ []) → (f : Option Fault) → FirstFault edition B f → f ≡ fault_at (extent ended) last.kind
+row_fault_only edition B ended last row f first =
+    let same = script_only edition B _ first.1 ∙ sym (script_only edition B _ (row_fault edition B ended last row).1) in
     ap (λ (s : AScript). s.wrong) same

@@ -4,6 +4,7 @@ use Rattle.std.proofs.lemmas.Bool.{and_parts}
 use Rattle.std.proofs.lemmas.Option.{slice_get_within}
 use Rattle.shast.specs.Tree.{AnEntry}
 use Rattle.std.specs.Prelude.{List as Row}
+use Rattle.shgrammar.specs.declared.edition.Edition.{Edition}
 use Rattle.shgrammar.specs.declared.keep.Keep.TheVariants.{Whole}
 use Rattle.shgrammar.specs.Levels.{level, most_open}
 use Rattle.shgrammar.specs.Lines.{AKind, ALine, IsLine, a_line, line_read, line_stops}
@@ -21,8 +22,8 @@ use Rattle.shheld.specs.TopLines.{IsTopLine, as_read}
 abbrev held : ALine → HeldLine AKind
 held l = record { kind = l.kind; len = l.next; ended = l.ended }
 
-only : (T : List ℕ) (l m : HeldLine AKind) → IsTopLine T l → IsTopLine T m → l ≡ m
-only T l m one two = ap held (line_only T (as_read l) one ∙ sym (line_only T (as_read m) two))
+only : (edition : Edition) (T : List ℕ) (l m : HeldLine AKind) → IsTopLine edition T l → IsTopLine edition T m → l ≡ m
+only edition T l m one two = ap held (line_only edition T (as_read l) one ∙ sym (line_only edition T (as_read m) two))
 
 byte_within : (T : List ℕ) (p : ℕ) (b : Option ℕ) → slice_get T p ≡ b → is_byte b 10 ≡ true → p < length T
 byte_within T p None is e = absurd cc
@@ -33,20 +34,20 @@ unfolding raw_stands
 stands_within T p e = byte_within T p (slice_get T p) refl e
 
 -- a line that ended has bytes, and they are the text's
-ended_by : (T : List ℕ) (a : ALine) → IsLine T a → a.ended ≡ true → (0 < a.next) × (a.next ≤ length T)
-ended_by T a (line_read es newline t k part) ended =
+ended_by : (edition : Edition) (T : List ℕ) (a : ALine) → IsLine edition T a → a.ended ≡ true → (0 < a.next) × (a.next ≤ length T)
+ended_by edition T a (line_read es newline t k part) ended =
     let both = and_parts _ _ ended in
-    let some : 0 < t.at = subst (Holds (λ (x : Row AnEntry × Bool) (u : State). x.1 ≡ true → 0 < u.at)) (sym ((is_form (a_line (level most_open) false) (given T 0) (standing 0)).only _ _ part))
-    (line_ended_low (level most_open) false Whole (given T 0) (standing 0)).told both.0
+    let some : 0 < t.at = subst (Holds (λ (x : Row AnEntry × Bool) (u : State). x.1 ≡ true → 0 < u.at)) (sym ((is_form (a_line (level most_open) false) (given edition T 0) (standing 0)).only _ _ part))
+    (line_ended_low (level most_open) false Whole (given edition T 0) (standing 0)).told both.0
     in
     let high = stands_within T (t.at - 1) both.1 in
     (some, omega (arith, some, high))
-ended_by T a (line_stops f k part) ended = absurd cc
+ended_by edition T a (line_stops f k part) ended = absurd cc
 
-pub top_lines : Reads IsTopLine
-top_lines = record {
-  only = only;
-  onward = λ T l is ended. (ended_by T (as_read l) is ended).0;
-  within = λ T l is ended. (ended_by T (as_read l) is ended).1;
-  alone = λ T U l is ended same. no_further T (as_read l) is ended U 0 same;
+pub top_lines : (edition : Edition) → Reads (IsTopLine edition)
+top_lines edition = record {
+  only = only edition;
+  onward = λ T l is ended. (ended_by edition T (as_read l) is ended).0;
+  within = λ T l is ended. (ended_by edition T (as_read l) is ended).1;
+  alone = λ T U l is ended same. no_further edition T (as_read l) is ended U 0 same;
 }

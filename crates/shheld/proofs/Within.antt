@@ -4,6 +4,7 @@ use Rattle.shast.specs.Everywhere.{AllWithin, HaveItems}
 use Rattle.shast.specs.Nodes.{AreWithin, entries_nodes}
 use Rattle.shast.specs.Tree.{Entries}
 use Rattle.shast.proofs.Reach.{within_more}
+use Rattle.shgrammar.specs.declared.edition.Edition.{Edition}
 use Rattle.shgrammar.specs.Lines.{AKind, EntriesEverywhere, EntriesWithin, entries_line}
 use Rattle.shgrammar.proofs.EachSpan.{all_within_more}
 use Rattle.shgrammar.proofs.Everywhere.{line_everywhere}
@@ -11,9 +12,9 @@ use Rattle.shgrammar.proofs.Within.{entries_within}
 use Rattle.shwindow.specs.declared.line.HeldLine.{HeldLine}
 use Rattle.shheld.specs.TopLines.{IsTopLine, as_read}
 
-module _ (T : List ℕ) (l : HeldLine AKind) (xs : Entries) (is : IsTopLine T l) (kind_is : l.kind ≡ entries_line xs) where
+module _ (edition : Edition) (T : List ℕ) (l : HeldLine AKind) (xs : Entries) (is : IsTopLine edition T l) (kind_is : l.kind ≡ entries_line xs) where
   everywhere : EntriesEverywhere l.len (entries_line xs)
-  everywhere = subst (EntriesEverywhere l.len) kind_is (line_everywhere T (as_read l) is)
+  everywhere = subst (EntriesEverywhere l.len) kind_is (line_everywhere edition T (as_read l) is)
 
   pub line_all_within : AllWithin l.len xs
   line_all_within = everywhere.0
@@ -22,7 +23,7 @@ module _ (T : List ℕ) (l : HeldLine AKind) (xs : Entries) (is : IsTopLine T l)
   line_have_items = everywhere.1
 
   pub line_are_within : AreWithin l.len xs
-  line_are_within = subst (EntriesWithin l.len) kind_is (entries_within T (as_read l) is)
+  line_are_within = subst (EntriesWithin l.len) kind_is (entries_within edition T (as_read l) is)
 
   -- so no offset of a line that stands in a text is past the greatest one that there is
   module _ (base : ℕ) (fits : base + l.len < 2 ^ 64) where

@@ -1,6 +1,7 @@
 -- The top-level lines of a script as a session holds them, and the window of an edit.
 use Rattle.std.specs.Prelude.{ℕ, ◌+◌, false, List, List as Row, length, map}
 use Rattle.shast.specs.Tree.{no_entry}
+use Rattle.shgrammar.specs.declared.edition.Edition.{Edition}
 use Rattle.shgrammar.specs.Joined.{joined}
 use Rattle.shgrammar.specs.Scripts.{AScript}
 use Rattle.shgrammar.specs.Lines.{AKind, ALine, IsLine}
@@ -12,8 +13,8 @@ abbrev pub as_read : HeldLine AKind → ALine
 as_read l = record { kind = l.kind; next = l.len; ended = l.ended }
 
 -- the line with which a text begins, read as a script of its own
-abbrev pub IsTopLine : List ℕ → HeldLine AKind → Type 0
-IsTopLine text l = IsLine text (as_read l)
+abbrev pub IsTopLine : Edition → List ℕ → HeldLine AKind → Type 0
+IsTopLine edition text l = IsLine edition text (as_read l)
 
 -- the script of the lines of a row, one behind the other
 abbrev pub script_of : Row (HeldLine AKind) → AScript
@@ -21,5 +22,5 @@ script_of row = joined (map as_read row) no_entry false 0
 
 -- The window of an edit of the bytes, from w up to t: it begins at the greatest boundary not after a. It ends at the least boundary of the
 -- new text that is not before the end of the new bytes and whose old place is a boundary too; where there is none, at the end.
-abbrev pub HasWindow : List ℕ → ℕ → ℕ → List ℕ → ℕ → ℕ → Type 0
-HasWindow bytes a b new w t = IsWindow IsTopLine bytes (edited bytes a b new) a (a + length new) b w t
+abbrev pub HasWindow : Edition → List ℕ → ℕ → ℕ → List ℕ → ℕ → ℕ → Type 0
+HasWindow edition bytes a b new w t = IsWindow (IsTopLine edition) bytes (edited bytes a b new) a (a + length new) b w t

@@ -8,6 +8,7 @@ use Rattle.shast.specs.Moved.{blanked_row, body_by, moved, moved_entry, placed_b
 use Rattle.shast.specs.Nodes.{IsSpanWithin, placed_span}
 use Rattle.shast.specs.Shape.{shape_of, text_at}
 use Rattle.shast.specs.Tree.{AnEntry, Entries, entries_of, entry, more_entries, no_entry}
+use Rattle.shgrammar.specs.declared.edition.Edition.{Edition}
 use Rattle.shgrammar.specs.declared.keep.Keep.TheVariants.{Whole}
 use Rattle.shgrammar.specs.Form.{Read}
 use Rattle.shgrammar.specs.Joined.{blanked, has_entry}
@@ -75,12 +76,12 @@ kind_plain (entry what background blank comment ∷ es) newline xs kind_is same 
     })
 
 -- a line that is read alone is the line that is read at 0, with no empty line before it
-row_plain : (T : List ℕ) (es : Row AnEntry) (newline : Bool) (t : State) → Ok ((es, newline), t) ≡ line_told T Whole false 0 0 → es ≡ blanked_row false (map (moved_entry 0) es)
-row_plain T es newline t read =
-    let same : Same 0 false (Ok ((es, newline), t)) (Ok ((es, newline), t)) = subst (λ (r : Read (Row AnEntry × Bool)). Same 0 false r r) (sym read) (line_moved T 0 false) in
+row_plain : (edition : Edition) (T : List ℕ) (es : Row AnEntry) (newline : Bool) (t : State) → Ok ((es, newline), t) ≡ line_told edition T Whole false 0 0 → es ≡ blanked_row false (map (moved_entry 0) es)
+row_plain edition T es newline t read =
+    let same : Same 0 false (Ok ((es, newline), t)) (Ok ((es, newline), t)) = subst (λ (r : Read (Row AnEntry × Bool)). Same 0 false r r) (sym read) (line_moved edition T 0 false) in
     same.0
 
-pub line_plain : (T : List ℕ) (a : ALine) → IsLine T a → (xs : Entries) → a.kind ≡ entries_line xs → BeginsPlain xs
-line_plain T _ (line_read es newline t k part) xs kind_is =
-    kind_plain es newline xs kind_is (row_plain T es newline t ((is (the_line false) (given T 0) (standing 0)).only (Ok ((es, newline), t)) k part))
-line_plain T _ (line_stops f k part) xs kind_is = absurd cc
+pub line_plain : (edition : Edition) (T : List ℕ) (a : ALine) → IsLine edition T a → (xs : Entries) → a.kind ≡ entries_line xs → BeginsPlain xs
+line_plain edition T _ (line_read es newline t k part) xs kind_is =
+    kind_plain es newline xs kind_is (row_plain edition T es newline t ((is (the_line false) (given edition T 0) (standing 0)).only (Ok ((es, newline), t)) k part))
+line_plain edition T _ (line_stops f k part) xs kind_is = absurd cc

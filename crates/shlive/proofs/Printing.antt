@@ -1,6 +1,7 @@
 -- The lines of a script printed one after the other: on the page stands what is printed for the entries that a walk over them gathers.
 use Rattle.std.proofs.Common.{◌≡◌, ℕ, suc, ◌&&◌, Bool, true, false, nat_lt, List, [], ◌∷◌, ◌++◌, None, length, drop, refl, sym, ap, ◌∙◌, arith, append_assoc}
 use Rattle.std.proofs.lemmas.Bool.Decides.{nat_tests}
+use Rattle.shgrammar.specs.declared.edition.Edition.{Edition}
 use Rattle.shast.specs.Everywhere.{AllWithin}
 use Rattle.shast.specs.Moved.{appended, moved}
 use Rattle.shast.specs.Shape.{Shape, Text, shape_of, shape_of_entry}
@@ -118,10 +119,10 @@ module _ (y : Layout) (B : List ℕ) (so : Walk) (before : Page) (is : IsPrinted
   pub none_printed : (l : HeldLine AKind) → entries_in l.kind ≡ None → IsPrinted y B (with_line so l) before
   none_printed l none = record { margin = is.margin; is = is.is ∙ ap (λ es. written (sheet_of [] []) (marks y B es)) (sym (none_with so l.kind none)) }
 
-  pub line_printed : (l : HeldLine AKind) (xs : Entries) → l.kind ≡ entries_line xs → IsTopLine (drop so.at B) l
+  pub line_printed : (edition : Edition) (l : HeldLine AKind) (xs : Entries) → l.kind ≡ entries_line xs → IsTopLine edition (drop so.at B) l
       → (mid after : Page) → Prints before mid (print_blank (so.gap && nat_lt 0 (length before.text.items)))
       → Prints mid after (print_entries y mid.margin.items (shape_of (drop so.at B) xs)) → IsPrinted y B (with_line so l) after
-  line_printed l xs kind_is line mid after gap entries =
+  line_printed edition l xs kind_is line mid after gap entries =
       let margin : mid.margin.items ≡ [] = gap.1 ∙ is.margin in
       let blank = print_blank (so.gap && has_entry so.entries) in
       let here = print_entries y [] (shape_of (drop so.at B) xs) in
@@ -131,7 +132,7 @@ module _ (y : Layout) (B : List ℕ) (so : Walk) (before : Page) (is : IsPrinted
       let all : sheet after ≡ written empty (marks y B so.entries ++ (blank ++ here)) =
       entries.0 ∙ ap (λ m. written (sheet mid) (print_entries y m (shape_of (drop so.at B) xs))) margin ∙ ap (λ s. written s here) up_to
       ∙ written_append empty (marks y B so.entries ++ blank) here ∙ ap (written empty) (append_assoc (marks y B so.entries) blank here) in
-      let more = marks_more y B so.entries so.gap so.at l.len xs (line_plain (drop so.at B) (as_read l) line xs kind_is) (line_all_within (drop so.at B) l xs line kind_is) in
+      let more = marks_more y B so.entries so.gap so.at l.len xs (line_plain edition (drop so.at B) (as_read l) line xs kind_is) (line_all_within edition (drop so.at B) l xs line kind_is) in
       record {
         margin = entries.1 ∙ margin;
         is = all ∙ ap (written empty) (sym more) ∙ ap (λ k. written empty (marks y B (entries_with so k))) (sym kind_is);

@@ -3,11 +3,11 @@ use Rattle.std.proofs.Common.{◌≡◌, ℕ, ◌≤◌, Bool, false, true, List
 use Rattle.std.specs.Io.KnownBytes.{Appends}
 use Rattle.shtext.specs.Device.{Writes}
 use Rattle.shtext.proofs.Known.{Appends-trans, Writes-after}
-use Rattle.shprint.specs.declared.layout.Layout.{Layout}
+use Rattle.shlive.specs.Held.{How}
 use Rattle.shlive.specs.Ahead.{Ahead, Takes, too_many}
 use Rattle.shlive.specs.Replies.{Replies}
 use Rattle.shlive.specs.Replies as of_replies
-use Rattle.shlive.specs.Requests.{Begins, Ending, EndsBy, Request, asks, clean, cut, left, next_of, nothing}
+use Rattle.shlive.specs.Requests.{Begins, Ending, EndsBy, Request, asks, clean, cut, left, next_of}
 use Rattle.shlive.specs.Requests as of_requests
 use Rattle.shlive.specs.Runs.{Ended, HasAnswer, IsRun}
 use Rattle.shlive.specs.Turns.{EndsAs, Replied, Spells, Stays}
@@ -16,23 +16,23 @@ use Rattle.shlive.specs.declared.serve.End.TheVariants.{Clean, Quit, Cut, Unread
 use Rattle.shlive.proofs.Taken.{takes_both}
 
 -- what was done so far: these requests were taken, and these replies written
-pub record SoFar (layout : Layout) (bytes after : List ℕ) (old new : Ahead) (held holds : Option (List ℕ)) : Type 0 where
+pub record SoFar (how : How) (bytes after : List ℕ) (old new : Ahead) (held holds : Option (List ℕ)) : Type 0 where
   pub taken : List ℕ
   pub asked : List Request
   pub told : List ℕ
   pub takes : Takes old new taken
   pub begins : (rest : List ℕ) → Begins (taken ++ rest) asked rest
-  pub answered : Replies layout bytes asked told after
+  pub answered : Replies how bytes asked told after
   pub written : Appends held holds told
 
-module _ (layout : Layout) (bytes mid after : List ℕ) (old now new : Ahead) (held has holds : Option (List ℕ)) (so : SoFar layout bytes mid old now held has) where
+module _ (how : How) (bytes mid after : List ℕ) (old now new : Ahead) (held has holds : Option (List ℕ)) (so : SoFar how bytes mid old now held has) where
   begins_more : (taken : List ℕ) (request : Request) → Spells next_of taken (asks request) → (rest : List ℕ)
       → Begins ((so.taken ++ taken) ++ rest) (so.asked ++ request ∷ []) rest
   begins_more taken request spelled rest =
       of_requests.one_more request rest (subst (λ l. Begins l so.asked (taken ++ rest)) (sym (append_assoc so.taken taken rest)) (so.begins (taken ++ rest))) (spelled rest)
 
   -- one more request, and its reply
-  pub goes_on : Replied next_of layout mid after now new has holds false → SoFar layout bytes after old new held holds
+  pub goes_on : Replied next_of how mid after now new has holds false → SoFar how bytes after old new held holds
   goes_on r = record {
     taken = so.taken ++ r.taken;
     asked = so.asked ++ r.request ∷ [];
@@ -55,8 +55,8 @@ module _ (layout : Layout) (bytes mid after : List ℕ) (old now new : Ahead) (h
     long taken t many = let count = t.counted in omega (arith, many, count, zero)
 
     stayed : («end» : End) (s : Stays next_of «end» mid after now new failed ended has holds broken)
-        → ((t : Takes old new (so.taken ++ s.taken)) → Ended «end» t.more so.asked failed ended broken) → HasAnswer «end» after status
-        → IsRun layout bytes after old.left new.left failed ended held holds broken status
+        → ((t : Takes old new (so.taken ++ s.taken)) → Ended «end» t.more so.asked failed ended broken) → HasAnswer how.edition «end» after status
+        → IsRun how bytes after old.left new.left failed ended held holds broken status
     stayed why s ends answer =
         let t : Takes old new (so.taken ++ s.taken) = takes_both old now new so.taken s.taken _ so.takes s.takes refl in
         record {
@@ -65,7 +65,7 @@ module _ (layout : Layout) (bytes mid after : List ℕ) (old now new : Ahead) (h
           replies = so.told;
           «end» = why;
           consumed = t.consumed;
-          answered = subst (Replies layout bytes so.asked so.told) (sym s.same) so.answered;
+          answered = subst (Replies how bytes so.asked so.told) (sym s.same) so.answered;
           written = subst (λ b. Writes held holds b so.told) (sym s.sound) (subst (λ h. Appends held h so.told) (sym s.silent) so.written);
           ends = ends t;
           status = answer;
@@ -78,8 +78,8 @@ module _ (layout : Layout) (bytes mid after : List ℕ) (old now new : Ahead) (h
     all_taken : (taken : List ℕ) (e : Ending) → new.waiting.bytes ≡ [] → EndsBy (next_of taken) e → EndsBy (next_of (taken ++ new.waiting.bytes)) e
     all_taken taken e none ends = subst (λ l. EndsBy (next_of l) e) (sym (ap (λ l. taken ++ l) none ∙ append-nil taken)) ends
 
-    pub ended_run : («end» : End) → EndsAs next_of «end» layout mid after now new failed ended has holds broken → HasAnswer «end» after status
-        → IsRun layout bytes after old.left new.left failed ended held holds broken status
+    pub ended_run : («end» : End) → EndsAs next_of «end» how mid after now new failed ended has holds broken → HasAnswer how.edition «end» after status
+        → IsRun how bytes after old.left new.left failed ended held holds broken status
     ended_run Clean s answer =
         stayed Clean s (λ t. ((s.taken ++ new.waiting.bytes, begun s.taken t, none_left s.taken new.waiting.bytes s.none.0 s.none.2.2), s.none.2.0, s.none.2.1, s.sound)) answer
     ended_run Quit s answer =

@@ -4,6 +4,7 @@ use Rattle.std.specs.Prelude.{OnErr, OnOk}
 use Rattle.shast.specs.declared.node.NodeLine.{NodeLine}
 use Rattle.shast.specs.Nodes.{AreWithin}
 use Rattle.shast.specs.Tree.{Entries}
+use Rattle.shgrammar.specs.declared.edition.Edition.{Edition}
 use Rattle.shgrammar.specs.Lines.{AKind, blank_line, end_line, entries_line, faulty_line}
 use Rattle.shwindow.specs.declared.line.HeldLine.{HeldLine}
 use Rattle.shwindow.specs.Held.{HasLineAt}
@@ -37,36 +38,36 @@ module _ (row left : Row (HeldLine AKind)) (begin : ℕ) (l : HeldLine AKind) (r
     begins = ap (λ n. n + l.len) so.begins ∙ sym (extent_push so.done l);
   }
 
-  module _ (B : List ℕ) (is : IsRow IsHeldLine B row) where
-    here : IsRow IsHeldLine B (so.done ++ l ∷ rest)
-    here = subst (IsRow IsHeldLine B) split_here is
+  module _ (edition : Edition) (B : List ℕ) (is : IsRow (IsHeldLine edition) B row) where
+    here : IsRow (IsHeldLine edition) B (so.done ++ l ∷ rest)
+    here = subst (IsRow (IsHeldLine edition) B) split_here is
 
     pub walked_within : begin + l.len ≤ length B
-    walked_within = let within = row_line_within B so.done l rest (row_top B (so.done ++ l ∷ rest) here) in omega (arith, within, so.begins)
+    walked_within = let within = row_line_within edition B so.done l rest (row_top edition B (so.done ++ l ∷ rest) here) in omega (arith, within, so.begins)
 
     -- it is the line that begins there
-    pub walked_line : IsTopLine (drop begin B) l
-    walked_line = subst (λ n. IsTopLine (drop n B) l) (sym so.begins) (row_line B so.done l rest (row_top B (so.done ++ l ∷ rest) here))
+    pub walked_line : IsTopLine edition (drop begin B) l
+    walked_line = subst (λ n. IsTopLine edition (drop n B) l) (sym so.begins) (row_line edition B so.done l rest (row_top edition B (so.done ++ l ∷ rest) here))
 
     module _ (xs : Entries) (kind_is : l.kind ≡ entries_line xs) (small : length B < 2 ^ 64) where
       pub walked_nodes_fit : AreWithin (2 ^ 64 - 1 - begin) xs
-      walked_nodes_fit = subst (λ n. AreWithin (2 ^ 64 - 1 - n) xs) (sym so.begins) (row_nodes_fit B so.done l rest (row_top B (so.done ++ l ∷ rest) here) xs kind_is small)
+      walked_nodes_fit = subst (λ n. AreWithin (2 ^ 64 - 1 - n) xs) (sym so.begins) (row_nodes_fit edition B so.done l rest (row_top edition B (so.done ++ l ∷ rest) here) xs kind_is small)
 
 -- ---- the line that holds a byte
 
-high_by : (B : List ℕ) (at : ℕ) (l : HeldLine AKind) (before behind : Row (HeldLine AKind)) → IsRow IsHeldLine B (before ++ l ∷ behind) → at < length B → ((behind ≡ [] → ⊥) → at < extent before + l.len) → at < extent before + l.len
-high_by B at l before [] is lt past = let whole = last_at B before l (row_top B (before ++ l ∷ []) is) in omega (arith, whole, lt)
-high_by B at l before (k ∷ ks) is lt past = past (λ e. absurd cc)
+high_by : (edition : Edition) (B : List ℕ) (at : ℕ) (l : HeldLine AKind) (before behind : Row (HeldLine AKind)) → IsRow (IsHeldLine edition) B (before ++ l ∷ behind) → at < length B → ((behind ≡ [] → ⊥) → at < extent before + l.len) → at < extent before + l.len
+high_by edition B at l before [] is lt past = let whole = last_at edition B before l (row_top edition B (before ++ l ∷ []) is) in omega (arith, whole, lt)
+high_by edition B at l before (k ∷ ks) is lt past = past (λ e. absurd cc)
 
-module _ (B : List ℕ) (row : Row (HeldLine AKind)) (at : ℕ) (l : HeldLine AKind) (begin : ℕ) (is : IsRow IsHeldLine B row) (so : HasLineAt row at l begin) where
-  pub line_there : IsRow IsHeldLine B (so.before ++ l ∷ so.behind)
-  line_there = subst (IsRow IsHeldLine B) so.row is
+module _ (edition : Edition) (B : List ℕ) (row : Row (HeldLine AKind)) (at : ℕ) (l : HeldLine AKind) (begin : ℕ) (is : IsRow (IsHeldLine edition) B row) (so : HasLineAt row at l begin) where
+  pub line_there : IsRow (IsHeldLine edition) B (so.before ++ l ∷ so.behind)
+  line_there = subst (IsRow (IsHeldLine edition) B) so.row is
 
   pub line_low : extent so.before ≤ at
   line_low = subst (λ n. n ≤ at) so.begins so.low
 
   pub line_high : at < length B → at < extent so.before + l.len
-  line_high lt = high_by B at l so.before so.behind line_there lt (λ some. subst (λ n. at < n + l.len) so.begins (so.past some))
+  line_high lt = high_by edition B at l so.before so.behind line_there lt (λ some. subst (λ n. at < n + l.len) so.begins (so.past some))
 
 -- ---- what a line has
 

@@ -1,6 +1,7 @@
 -- What a session answers for the bytes of a script: what reading them from scratch says.
 use Rattle.std.specs.Prelude.{◌≡◌, ℕ, List, Option, None, Some}
 use Rattle.shgrammar.specs.Scripts.{AScript, FirstFault, Outcome}
+use Rattle.shgrammar.specs.declared.edition.Edition.{Edition}
 use Rattle.shgrammar.specs.declared.fault.Fault.{Fault}
 use Rattle.shast.specs.Nodes.{nodes_at, outline}
 use Rattle.shast.specs.declared.node.NodeLine.{NodeLine}
@@ -8,7 +9,7 @@ use Rattle.shtext.specs.Edit.{Refuses}
 use Rattle.shtext.specs.declared.error.TextError.{TextError}
 use Rattle.shtext.specs.declared.error.TextError.TheVariants as text_errors
 use Rattle.shprint.specs.ReadBack.{IsTextOf}
-use Rattle.shprint.specs.declared.layout.Layout.{Layout}
+use Rattle.shlive.specs.Held.{How}
 use Rattle.shlive.specs.declared.error.LiveError.{LiveError}
 use Rattle.shlive.specs.declared.error.LiveError.TheVariants.{Range, TooLarge, Memory}
 
@@ -19,21 +20,21 @@ abbrev pub status_of : Option Fault → ℕ
 status_of None = 0
 status_of (Some fault) = 1
 
-abbrev pub HasStatus : List ℕ → ℕ → Type 0
-HasStatus bytes status = (fault : Option Fault) × FirstFault bytes fault × (status ≡ status_of fault)
+abbrev pub HasStatus : Edition → List ℕ → ℕ → Type 0
+HasStatus edition bytes status = (fault : Option Fault) × FirstFault edition bytes fault × (status ≡ status_of fault)
 
 -- the outline of what is read of the bytes; of a faulty script, of the lines before its fault
-abbrev pub HasOutline : List ℕ → List NodeLine → Type 0
-HasOutline bytes lines = (script : AScript) × Outcome bytes script × (lines ≡ outline 0 script.entries)
+abbrev pub HasOutline : Edition → List ℕ → List NodeLine → Type 0
+HasOutline edition bytes lines = (script : AScript) × Outcome edition bytes script × (lines ≡ outline 0 script.entries)
 
 -- the nodes that hold the byte at an offset
-abbrev pub HasNodesAt : List ℕ → ℕ → List NodeLine → Type 0
-HasNodesAt bytes at lines = (script : AScript) × Outcome bytes script × (lines ≡ nodes_at 0 at script.entries)
+abbrev pub HasNodesAt : Edition → List ℕ → ℕ → List NodeLine → Type 0
+HasNodesAt edition bytes at lines = (script : AScript) × Outcome edition bytes script × (lines ≡ nodes_at 0 at script.entries)
 
 -- the printed text, which reads back; a faulty script has none
-abbrev pub HasText : Layout → List ℕ → Option (List ℕ) → Type 0
-HasText layout bytes (Some text) = IsTextOf layout bytes text
-HasText layout bytes None = (fault : Fault) × FirstFault bytes (Some fault)
+abbrev pub HasText : How → List ℕ → Option (List ℕ) → Type 0
+HasText how bytes (Some text) = IsTextOf how.edition how.layout bytes text
+HasText how bytes None = (fault : Fault) × FirstFault how.edition bytes (Some fault)
 
 -- ---- refusals
 

@@ -1,10 +1,16 @@
 -- What a session holds, as its callers see it.
 use Rattle.std.specs.Prelude.{ℕ, List}
+use Rattle.shgrammar.specs.declared.edition.Edition.{Edition}
 use Rattle.shprint.specs.declared.layout.Layout.{Layout}
 
--- The bytes of its script, the layout by which it prints, and how many bytes it read so far. The tree that it keeps is no part of
--- this: what a session answers is said of the bytes alone.
+-- how a session reads its script, and how it prints it: as long as it is open
+pub record How : Type 0 where
+  pub edition : Edition
+  pub layout : Layout
+
+-- The bytes of its script, how it reads and prints them, and how many bytes it read so far. The tree that it
+-- keeps is no part of this: what a session answers is said of the bytes alone.
 pub record Held : Type 0 where
   pub bytes : List ℕ
-  pub layout : Layout
+  pub how : How
   pub meter : ℕ

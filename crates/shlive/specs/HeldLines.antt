@@ -1,6 +1,7 @@
 -- The top-level lines of a script as a session holds them, and what is read of a script that is edited.
 use Rattle.std.specs.Prelude.{◌≡◌, ℕ, ◌-◌, ◌<◌, ◌^◌, List, List as Row, Option, None, Some, length, min}
 use Rattle.shast.specs.Tree.{Entries}
+use Rattle.shgrammar.specs.declared.edition.Edition.{Edition}
 use Rattle.shgrammar.specs.declared.fault.Fault.{Fault}
 use Rattle.shgrammar.specs.Lines.{AKind, FaultWithin, entries_line, faulty_line}
 use Rattle.shread.specs.Answers.{meter_of}
@@ -12,12 +13,12 @@ use Rattle.shwindow.specs.declared.line.HeldLine.{HeldLine}
 use Rattle.shheld.specs.TopLines.{HasWindow, IsTopLine}
 
 -- a line is the one with which a text begins, and its fault, where it has one, lies within it
-abbrev pub IsHeldLine : List ℕ → HeldLine AKind → Type 0
-IsHeldLine text line = IsTopLine text line × FaultWithin line.len line.kind
+abbrev pub IsHeldLine : Edition → List ℕ → HeldLine AKind → Type 0
+IsHeldLine edition text line = IsTopLine edition text line × FaultWithin line.len line.kind
 
 -- lines are those of a text
-abbrev pub AreHeld : Row (HeldLine AKind) → Type 0
-AreHeld lines = (bytes : List ℕ) × IsRow IsHeldLine bytes lines × (length bytes < 2 ^ 64)
+abbrev pub AreHeld : Edition → Row (HeldLine AKind) → Type 0
+AreHeld edition lines = (bytes : List ℕ) × IsRow (IsHeldLine edition) bytes lines × (length bytes < 2 ^ 64)
 
 abbrev pub entries_in : AKind → Option Entries
 entries_in (entries_line es) = Some es
@@ -34,9 +35,9 @@ abbrev pub count_of : Reader → ℕ
 count_of reader = min (meter_of reader) (2 ^ 64 - 1)
 
 -- a meter rose by the length of the window of an edit
-abbrev pub HasReadWindow : List ℕ → ℕ → ℕ → List ℕ → ℕ → ℕ → Type 0
-HasReadWindow bytes a b new before meter = (w t : ℕ) × HasWindow bytes a b new w t × (meter ≡ raised before (t - w))
+abbrev pub HasReadWindow : Edition → List ℕ → ℕ → ℕ → List ℕ → ℕ → ℕ → Type 0
+HasReadWindow edition bytes a b new before meter = (w t : ℕ) × HasWindow edition bytes a b new w t × (meter ≡ raised before (t - w))
 
 -- or by no more
-abbrev pub HasReadNoMore : List ℕ → ℕ → ℕ → List ℕ → ℕ → ℕ → Type 0
-HasReadNoMore bytes a b new before meter = (w t : ℕ) → HasWindow bytes a b new w t → RoseWithin (t - w) before meter
+abbrev pub HasReadNoMore : Edition → List ℕ → ℕ → ℕ → List ℕ → ℕ → ℕ → Type 0
+HasReadNoMore edition bytes a b new before meter = (w t : ℕ) → HasWindow edition bytes a b new w t → RoseWithin (t - w) before meter

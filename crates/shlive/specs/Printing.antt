@@ -1,6 +1,7 @@
 -- What is printed of the lines of a script, one after the other.
 use Rattle.std.specs.Prelude.{◌≡◌, ℕ, Bool, List, [], drop}
 use Rattle.shast.specs.Shape.{shape_of}
+use Rattle.shgrammar.specs.declared.edition.Edition.{Edition}
 use Rattle.shgrammar.specs.Lines.{AKind}
 use Rattle.shheld.specs.TopLines.{IsTopLine}
 use Rattle.shheld.specs.Walk.{Walk, with_line}
@@ -17,7 +18,7 @@ pub record IsPrinted (y : Layout) (bytes : List ℕ) (so : Walk) (page : Page) :
 
 -- The line at a base was printed, with a gap before it and one behind it, or with none: where the lines before it were on the page,
 -- those up to it are.
-abbrev pub PrintsLine : Layout → List ℕ → ℕ → HeldLine AKind → Bool → Bool → Page → Page → Type 0
-PrintsLine y bytes base line gap gap_behind before after =
-    (so : Walk) → so.gap ≡ gap → so.at ≡ base → IsTopLine (drop base bytes) line → IsPrinted y bytes so before
+abbrev pub PrintsLine : Edition → Layout → List ℕ → ℕ → HeldLine AKind → Bool → Bool → Page → Page → Type 0
+PrintsLine edition y bytes base line gap gap_behind before after =
+    (so : Walk) → so.gap ≡ gap → so.at ≡ base → IsTopLine edition (drop base bytes) line → IsPrinted y bytes so before
     → (gap_behind ≡ (with_line so line).gap) × IsPrinted y bytes (with_line so line) after

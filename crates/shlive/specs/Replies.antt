@@ -1,6 +1,7 @@
 -- The replies to requests: a fold that holds the bytes of a script and nothing else.
 use Rattle.std.specs.Prelude.{◌≡◌, ◌⊎◌, ℕ, ◌<◌, ◌++◌, [], ◌∷◌, List, flat_map, length, Option, None, Some, codes, decimal}
 use Rattle.shgrammar.specs.Scripts.{FirstFault}
+use Rattle.shgrammar.specs.declared.edition.Edition.{Edition}
 use Rattle.shgrammar.specs.declared.fault.Fault.{Fault}
 use Rattle.shgrammar.specs.declared.fault.FaultKind.{FaultKind}
 use Rattle.shgrammar.specs.declared.fault.FaultKind.TheVariants as faults
@@ -11,7 +12,7 @@ use Rattle.shast.specs.declared.node.NodeLine.{NodeLine}
 use Rattle.shast.specs.declared.tree.Span.{Span}
 use Rattle.shtext.specs.Edit.{IsAllowed, edited}
 use Rattle.shtext.specs.Text.{column_of, line_of}
-use Rattle.shprint.specs.declared.layout.Layout.{Layout}
+use Rattle.shlive.specs.Held.{How}
 use Rattle.shlive.specs.Answers.{HasNodesAt, HasOutline, HasStatus, HasText, IsRefused}
 use Rattle.shlive.specs.Requests.{Request, edit, spoiled, outline, at, fault, print, unknown}
 use Rattle.shlive.specs.declared.error.LiveError.{LiveError}
@@ -67,6 +68,7 @@ number_of_kind faults.UnexpectedEnd = 12
 number_of_kind faults.BadForName = 13
 number_of_kind faults.BadFunctionName = 14
 number_of_kind faults.TooDeep = 15
+number_of_kind faults.UnclosedDollarSingle = 16
 
 -- fault AT LINE COL NUMBER
 abbrev pub fault_text : List ℕ → Option Fault → List ℕ
@@ -96,31 +98,31 @@ abbrev pub IsNoMemory : List ℕ → Type 0
 IsNoMemory reply = reply ≡ codes "no memory\n"
 
 -- the reply to an edit, and the bytes after it: those of a refused one stay
-abbrev pub IsEditReply : List ℕ → ℕ → ℕ → List ℕ → List ℕ → List ℕ → Type 0
-IsEditReply bytes a b new reply after =
-    (IsAllowed bytes a b new × (after ≡ edited bytes a b new) × ((status : ℕ) × HasStatus after status × (reply ≡ ok_text (length after) status)))
+abbrev pub IsEditReply : Edition → List ℕ → ℕ → ℕ → List ℕ → List ℕ → List ℕ → Type 0
+IsEditReply edition bytes a b new reply after =
+    (IsAllowed bytes a b new × (after ≡ edited bytes a b new) × ((status : ℕ) × HasStatus edition after status × (reply ≡ ok_text (length after) status)))
     ⊎ ((error : LiveError) × IsRefused bytes a b new error × (reply ≡ refusal_text error) × (after ≡ bytes))
 
 -- The reply to a request on the bytes of a script. Memory may run out where a tree or a text is made.
-abbrev pub IsReply : Layout → List ℕ → Request → List ℕ → Type 0
-IsReply layout bytes (edit a b new) reply = ⊥
-IsReply layout bytes spoiled reply = reply ≡ codes "no payload\n"
-IsReply layout bytes outline reply = ((lines : List NodeLine) × HasOutline bytes lines × (reply ≡ nodes_text (codes "outline") bytes lines)) ⊎ IsNoMemory reply
-IsReply layout bytes (at p) reply =
-    ((lines : List NodeLine) × HasNodesAt bytes p lines × (reply ≡ nodes_text (codes "at") bytes lines)) ⊎ ((p < length bytes) × IsNoMemory reply)
-IsReply layout bytes fault reply = (first : Option Fault) × FirstFault bytes first × (reply ≡ fault_text bytes first)
-IsReply layout bytes print reply =
-    ((text : Option (List ℕ)) × HasText layout bytes text × (reply ≡ printed_text text)) ⊎ (FirstFault bytes None × IsNoMemory reply)
-IsReply layout bytes unknown reply = reply ≡ codes "no request\n"
+abbrev pub IsReply : How → List ℕ → Request → List ℕ → Type 0
+IsReply how bytes (edit a b new) reply = ⊥
+IsReply how bytes spoiled reply = reply ≡ codes "no payload\n"
+IsReply how bytes outline reply = ((lines : List NodeLine) × HasOutline how.edition bytes lines × (reply ≡ nodes_text (codes "outline") bytes lines)) ⊎ IsNoMemory reply
+IsReply how bytes (at p) reply =
+    ((lines : List NodeLine) × HasNodesAt how.edition bytes p lines × (reply ≡ nodes_text (codes "at") bytes lines)) ⊎ ((p < length bytes) × IsNoMemory reply)
+IsReply how bytes fault reply = (first : Option Fault) × FirstFault how.edition bytes first × (reply ≡ fault_text bytes first)
+IsReply how bytes print reply =
+    ((text : Option (List ℕ)) × HasText how bytes text × (reply ≡ printed_text text)) ⊎ (FirstFault how.edition bytes None × IsNoMemory reply)
+IsReply how bytes unknown reply = reply ≡ codes "no request\n"
 
 -- a request, its reply, and the bytes after it: an edit alone changes them
-abbrev pub Step : Layout → List ℕ → Request → List ℕ → List ℕ → Type 0
-Step layout bytes (edit a b new) reply after = IsEditReply bytes a b new reply after
-Step layout bytes request reply after = IsReply layout bytes request reply × (after ≡ bytes)
+abbrev pub Step : How → List ℕ → Request → List ℕ → List ℕ → Type 0
+Step how bytes (edit a b new) reply after = IsEditReply how.edition bytes a b new reply after
+Step how bytes request reply after = IsReply how bytes request reply × (after ≡ bytes)
 
 -- requests on the bytes of a script, the replies to them, and the bytes after them
-pub data Replies (layout : Layout) (bytes : List ℕ) : List Request → List ℕ → List ℕ → Type 0 where
-  none_yet : Replies layout bytes [] [] bytes
+pub data Replies (how : How) (bytes : List ℕ) : List Request → List ℕ → List ℕ → Type 0 where
+  none_yet : Replies how bytes [] [] bytes
   one_more : {requests : List Request} {replies mid : List ℕ} (request : Request) (reply after : List ℕ)
-      → Replies layout bytes requests replies mid → Step layout mid request reply after
-      → Replies layout bytes (requests ++ request ∷ []) (replies ++ reply) after
+      → Replies how bytes requests replies mid → Step how mid request reply after
+      → Replies how bytes (requests ++ request ∷ []) (replies ++ reply) after

@@ -1,8 +1,9 @@
 -- A run of a session over a reader and a writer.
 use Rattle.std.specs.Prelude.{◌≡◌, ℕ, ◌≤◌, Bool, true, false, List, length, Option}
 use Rattle.std.specs.Io.KnownBytes.{Consumes}
+use Rattle.shgrammar.specs.declared.edition.Edition.{Edition}
 use Rattle.shtext.specs.Device.{Writes}
-use Rattle.shprint.specs.declared.layout.Layout.{Layout}
+use Rattle.shlive.specs.Held.{How}
 use Rattle.shlive.specs.Ahead.{too_many}
 use Rattle.shlive.specs.Answers.{HasStatus}
 use Rattle.shlive.specs.Replies.{Replies}
@@ -21,21 +22,21 @@ Ended TooLong read requests failed ended broken = ((rest : List ℕ) × Begins r
 Ended Unwritable read requests failed ended broken = ((rest : List ℕ) × Begins read requests rest) × (failed ≡ false) × (broken ≡ true)
 
 -- the status of a run: that of the script then held, where the input ended between two requests or a request ended the run
-abbrev pub HasAnswer : End → List ℕ → ℕ → Type 0
-HasAnswer Clean bytes status = HasStatus bytes status
-HasAnswer Quit bytes status = HasStatus bytes status
-HasAnswer end bytes status = status ≡ 2
+abbrev pub HasAnswer : Edition → End → List ℕ → ℕ → Type 0
+HasAnswer edition Clean bytes status = HasStatus edition bytes status
+HasAnswer edition Quit bytes status = HasStatus edition bytes status
+HasAnswer edition end bytes status = status ≡ 2
 
 -- The run of a session: the bytes of its script before and after it; the bytes that the reader had and has left, whether a read failed
 -- or met the end; the bytes that the writer held and holds, whether a write failed; and the answer.
-pub record IsRun (layout : Layout) (bytes after : List ℕ) (had has : Option (List ℕ)) (failed ended : Bool)
+pub record IsRun (how : How) (bytes after : List ℕ) (had has : Option (List ℕ)) (failed ended : Bool)
     (held holds : Option (List ℕ)) (broken : Bool) (answer : ℕ) : Type 0 where
   pub read : List ℕ
   pub requests : List Request
   pub replies : List ℕ
   pub «end» : End
   pub consumed : Consumes had has read
-  pub answered : Replies layout bytes requests replies after
+  pub answered : Replies how bytes requests replies after
   pub written : Writes held holds broken replies
   pub ends : Ended «end» read requests failed ended broken
-  pub status : HasAnswer «end» after answer
+  pub status : HasAnswer how.edition «end» after answer

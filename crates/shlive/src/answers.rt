@@ -3,6 +3,7 @@ ghost use Rattle.std.specs.Prelude.{◌≡◌, ◌+◌, ◌-◌, ◌<◌, ◌≤
 ghost use Rattle.shast.specs.Nodes.{AreWithin};
 ghost use Rattle.shast.specs.Shape.{shape_of};
 ghost use Rattle.shast.specs.Tree.{Entries};
+ghost use Rattle.shgrammar.specs.declared.edition.Edition.{Edition};
 ghost use Rattle.shgrammar.specs.Lines.{entries_line};
 ghost use Rattle.shheld.specs.TopLines.{script_of};
 ghost use Rattle.shheld.specs.Walk.{line_nodes_at, line_outline};
@@ -28,8 +29,9 @@ pub(crate) fn outline_of_lines(
     alloc: Global,
     lines: &HeldLines<TopLine>,
 ) -> Result<Vec<NodeLine>, AllocError>
-    requires { AreHeld lines.now }
-    ensures { IfOk result (λ nodes. (bytes : Row ℕ) → IsRow IsHeldLine bytes lines.now → HasOutline bytes nodes.items) }
+    requires { (edition : Edition) × AreHeld edition lines.now }
+    ensures { IfOk result (λ nodes. (edition : Edition) (bytes : Row ℕ) → IsRow (IsHeldLine edition) bytes lines.now →
+        HasOutline edition bytes nodes.items) }
 {
     let mut nodes = Vec::new(alloc);
     let mut begin = 0;
@@ -63,8 +65,9 @@ pub(crate) fn nodes_of_lines(
     lines: &HeldLines<TopLine>,
     at: usize,
 ) -> Result<Vec<NodeLine>, AllocError>
-    requires { AreHeld lines.now }
-    ensures { IfOk result (λ nodes. (bytes : Row ℕ) → IsRow IsHeldLine bytes lines.now → at < length bytes → HasNodesAt bytes at nodes.items) }
+    requires { (edition : Edition) × AreHeld edition lines.now }
+    ensures { IfOk result (λ nodes. (edition : Edition) (bytes : Row ℕ) → IsRow (IsHeldLine edition) bytes lines.now →
+        at < length bytes → HasNodesAt edition bytes at nodes.items) }
 {
     let mut nodes = Vec::new(alloc);
     let (line, begin) = lines.line_at(at);
@@ -97,7 +100,7 @@ pub(crate) fn text_of_lines(
     lines: &HeldLines<TopLine>,
 ) -> Result<Vec<u8>, AllocError>
     requires small { length (gap_bytes source.now) ≤ limit }
-    requires row { IsRow IsHeldLine (gap_bytes source.now) lines.now }
+    requires row { (edition : Edition) × IsRow (IsHeldLine edition) (gap_bytes source.now) lines.now }
     ensures { IfOk result (λ text. text.items ≡ printed layout.now (shape_of (gap_bytes source.now) (script_of lines.now).entries)) }
 {
     let printer = Printer {
@@ -124,7 +127,7 @@ fn print_line(
     gap: bool,
     page: &mut Page,
 ) -> Result<bool, AllocError>
-    ensures { IfOk result (λ gap_behind. PrintsLine printer.now.layout (gap_bytes printer.now.source.now) begin line.now gap gap_behind page.old page.new) }
+    ensures { IfOk result (λ gap_behind. (edition : Edition) → PrintsLine edition printer.now.layout (gap_bytes printer.now.source.now) begin line.now gap gap_behind page.old page.new) }
 {
     let Some(list) = line.kind.list() else {
         return Ok(true);

@@ -51,7 +51,7 @@ fn edit_kept(
     ensures err { IfErr result (λ e. (new : List ℕ) → length new ≡ count → AreKept (option_map (λ v. v.items) payload) new →
         IsRefused session.old.bytes a b new e) }
     ensures kept { OnErr result (session.new.bytes ≡ session.old.bytes) }
-    ensures layout { session.new.layout ≡ session.old.layout }
+    ensures how { session.new.how ≡ session.old.how }
 {
     if let Err(error) = session.allows(a, b, count) {
         return Err(error);
@@ -89,9 +89,9 @@ pub(crate) fn reply_to_edit<W: Write>(
     count: usize,
     payload: Option<Vec<u8>>,
 ) -> Result<(), Failed>
-    ensures layout { session.new.layout ≡ session.old.layout }
+    ensures how { session.new.how ≡ session.old.how }
     ensures tells { (new : List ℕ) → length new ≡ count → AreKept (option_map (λ v. v.items) payload) new →
-        Tells session.old.layout session.old.bytes (edit a b new) session.new.bytes (held_of W.contents output.old) (held_of W.contents output.new) (not (is_ok result)) }
+        Tells session.old.how session.old.bytes (edit a b new) session.new.bytes (held_of W.contents output.old) (held_of W.contents output.new) (not (is_ok result)) }
     ensures failed { output_failed output.new ≡ (output_failed output.old || not (is_ok result)) }
 {
     if let Err(error) = edit_kept(session, a, b, count, payload) {
@@ -102,7 +102,7 @@ pub(crate) fn reply_to_edit<W: Write>(
 
 /// What is said of an outline.
 fn outline_text(alloc: Global, session: &Session) -> Result<Vec<u8>, AllocError>
-    ensures { IfOk result (λ text. (nodes : List NodeLine) × HasOutline session.now.bytes nodes × (text.items ≡ nodes_text (codes "outline") session.now.bytes nodes)) }
+    ensures { IfOk result (λ text. (nodes : List NodeLine) × HasOutline session.now.how.edition session.now.bytes nodes × (text.items ≡ nodes_text (codes "outline") session.now.bytes nodes)) }
 {
     let nodes = session.outline()?;
     nodes_text(alloc, b"outline", session.bytes(), &nodes)
@@ -114,7 +114,7 @@ pub(crate) fn reply_to_outline<W: Write>(
     session: &Session,
     output: &mut Output<W>,
 ) -> Result<(), Failed>
-    ensures tells { Tells session.now.layout session.now.bytes outline session.now.bytes (held_of W.contents output.old) (held_of W.contents output.new) (not (is_ok result)) }
+    ensures tells { Tells session.now.how session.now.bytes outline session.now.bytes (held_of W.contents output.old) (held_of W.contents output.new) (not (is_ok result)) }
     ensures failed { output_failed output.new ≡ (output_failed output.old || not (is_ok result)) }
 {
     match outline_text(alloc, session) {
@@ -125,7 +125,7 @@ pub(crate) fn reply_to_outline<W: Write>(
 
 /// What is said of the nodes at an offset.
 fn at_text(alloc: Global, session: &Session, at: usize) -> Result<Vec<u8>, AllocError>
-    ensures { IfOk result (λ text. (nodes : List NodeLine) × HasNodesAt session.now.bytes at nodes × (text.items ≡ nodes_text (codes "at") session.now.bytes nodes)) }
+    ensures { IfOk result (λ text. (nodes : List NodeLine) × HasNodesAt session.now.how.edition session.now.bytes at nodes × (text.items ≡ nodes_text (codes "at") session.now.bytes nodes)) }
 {
     let nodes = session.nodes_at(at)?;
     nodes_text(alloc, b"at", session.bytes(), &nodes)
@@ -138,7 +138,7 @@ pub(crate) fn reply_to_at<W: Write>(
     output: &mut Output<W>,
     at: usize,
 ) -> Result<(), Failed>
-    ensures tells { Tells session.now.layout session.now.bytes (asks_at at) session.now.bytes (held_of W.contents output.old) (held_of W.contents output.new) (not (is_ok result)) }
+    ensures tells { Tells session.now.how session.now.bytes (asks_at at) session.now.bytes (held_of W.contents output.old) (held_of W.contents output.new) (not (is_ok result)) }
     ensures failed { output_failed output.new ≡ (output_failed output.old || not (is_ok result)) }
 {
     if session.is_past(at) {
@@ -184,7 +184,7 @@ pub(crate) fn reply_to_fault<W: Write>(
     session: &Session,
     output: &mut Output<W>,
 ) -> Result<(), Failed>
-    ensures tells { Tells session.now.layout session.now.bytes fault session.now.bytes (held_of W.contents output.old) (held_of W.contents output.new) (not (is_ok result)) }
+    ensures tells { Tells session.now.how session.now.bytes fault session.now.bytes (held_of W.contents output.old) (held_of W.contents output.new) (not (is_ok result)) }
     ensures failed { output_failed output.new ≡ (output_failed output.old || not (is_ok result)) }
 {
     match session.fault() {
@@ -216,7 +216,7 @@ pub(crate) fn reply_to_print<W: Write>(
     session: &Session,
     output: &mut Output<W>,
 ) -> Result<(), Failed>
-    ensures tells { Tells session.now.layout session.now.bytes print session.now.bytes (held_of W.contents output.old) (held_of W.contents output.new) (not (is_ok result)) }
+    ensures tells { Tells session.now.how session.now.bytes print session.now.bytes (held_of W.contents output.old) (held_of W.contents output.new) (not (is_ok result)) }
     ensures failed { output_failed output.new ≡ (output_failed output.old || not (is_ok result)) }
 {
     if session.fault().is_some() {

@@ -1,6 +1,6 @@
 //! The open script.
 ghost use Rattle.std.specs.Prelude.{◌≡◌, ◌≢◌, ◌≤◌, ℕ, List, [], IfErr, IfOk, IfSome, IsOk, OnErr, OnOk, length, option_map, Some, false, true, ◌<◌};
-ghost use Rattle.shread.specs.Answers.{meter_of};
+ghost use Rattle.shread.specs.Answers.{edition_of, meter_of};
 ghost use Rattle.shtext.specs.Meter.{raised};
 ghost use Rattle.shgrammar.specs.Scripts.{FirstFault};
 ghost use Rattle.shgrammar.specs.declared.fault.Fault.{Fault};
@@ -24,7 +24,8 @@ use std::marker::Model;
 /// How far before an edit behind a fault the gap of the text may stand.
 const NEAR: usize = 4096;
 
-/// A script that is edited, with its lines as they were read. After each edit every answer is that of the edited bytes read from scratch.
+/// A script that is edited, with its lines as they were read, all by the edition of its reader. After each
+/// edit every answer is that of the edited bytes read from scratch.
 #[derive(Drop)]
 pub struct Session {
     alloc: Global,
@@ -47,8 +48,9 @@ impl Model for Session {
 }
 
 impl Session {
-    /// Opens the script of these bytes, which the reader reads; the layout is that of its printed texts. A script of more bytes than the
-    /// limit is refused. After a refusal the reader is gone. No bytes take no memory.
+    /// Opens the script of these bytes, which the reader reads by its edition; the layout is that of its
+    /// printed texts. A script of more bytes than the limit is refused. After a refusal the reader is gone.
+    /// No bytes take no memory.
     pub fn open(
         alloc: Global,
         reader: Reader,
@@ -56,7 +58,8 @@ impl Session {
         bytes: &[u8],
     ) -> Result<Session, LiveError>
         ensures bytes { IfOk result (λ session. session.bytes ≡ bytes.now) }
-        ensures layout { IfOk result (λ session. session.layout ≡ layout) }
+        ensures edition { IfOk result (λ session. session.how.edition ≡ edition_of reader) }
+        ensures layout { IfOk result (λ session. session.how.layout ≡ layout) }
         ensures meter { IfOk result (λ session. session.meter ≡ raised (meter_of reader) (length bytes.now)) }
         ensures err { IfErr result (IsRefused [] 0 0 bytes.now) }
         ensures empty { length bytes.now ≡ 0 → IsOk result }
@@ -92,10 +95,10 @@ impl Session {
         ensures allowed { OnOk result (IsAllowed self.old.bytes a b bytes.now) }
         ensures err { IfErr result (IsRefused self.old.bytes a b bytes.now) }
         ensures kept { OnErr result (self.new.bytes ≡ self.old.bytes) }
-        ensures layout { self.new.layout ≡ self.old.layout }
-        ensures window { OnOk result (HasReadWindow self.old.bytes a b bytes.now self.old.meter self.new.meter) }
+        ensures how { self.new.how ≡ self.old.how }
+        ensures window { OnOk result (HasReadWindow self.old.how.edition self.old.bytes a b bytes.now self.old.meter self.new.meter) }
         ensures meter { IfErr result (λ e. e ≢ LiveError.Memory → self.new.meter ≡ self.old.meter) }
-        ensures within { OnErr result (HasReadNoMore self.old.bytes a b bytes.now self.old.meter self.new.meter) }
+        ensures within { OnErr result (HasReadNoMore self.old.how.edition self.old.bytes a b bytes.now self.old.meter self.new.meter) }
     {
         self.allows(a, b, bytes.len())?;
         let begin = self.gap_before(a);
@@ -123,7 +126,7 @@ impl Session {
 
     /// Whether an offset is at or past the end, where no node stands. It takes no memory.
     pub(crate) fn is_past(&self, at: usize) -> bool
-        ensures past { result ≡ true → HasNodesAt self.now.bytes at [] }
+        ensures past { result ≡ true → HasNodesAt self.now.how.edition self.now.bytes at [] }
         ensures before { result ≡ false → at < length self.now.bytes }
     {
         self.text.len() <= at
@@ -146,7 +149,7 @@ impl Session {
 
     /// 0 for a script without a fault, 1 for one with a fault.
     pub fn status(&self) -> u8
-        ensures { HasStatus self.now.bytes result }
+        ensures { HasStatus self.now.how.edition self.now.bytes result }
     {
         match self.fault() {
             None => 0,
@@ -156,7 +159,7 @@ impl Session {
 
     /// The first fault. Its offset counts from the script's first byte.
     pub fn fault(&self) -> Option<Fault>
-        ensures first { FirstFault self.now.bytes result }
+        ensures first { FirstFault self.now.how.edition self.now.bytes result }
         ensures within { IfSome result (λ fault. fault.at ≤ length self.now.bytes) }
     {
         let last = self.lines.last();
@@ -173,14 +176,14 @@ impl Session {
     /// The nodes that an outline shows: all but words, assignments, redirections and comments. Of a faulty script, those of the lines
     /// before its fault.
     pub fn outline(&self) -> Result<Vec<NodeLine>, AllocError>
-        ensures { IfOk result (λ lines. HasOutline self.now.bytes lines.items) }
+        ensures { IfOk result (λ lines. HasOutline self.now.how.edition self.now.bytes lines.items) }
     {
         outline_of_lines(self.alloc, &self.lines)
     }
 
     /// The nodes that hold the byte at an offset, the outer before the inner. At or past the end there are none, which takes no memory.
     pub fn nodes_at(&self, at: usize) -> Result<Vec<NodeLine>, AllocError>
-        ensures nodes { IfOk result (λ lines. HasNodesAt self.now.bytes at lines.items) }
+        ensures nodes { IfOk result (λ lines. HasNodesAt self.now.how.edition self.now.bytes at lines.items) }
         ensures past { length self.now.bytes ≤ at → IsOk result }
     {
         if self.text.len() <= at {
@@ -191,8 +194,8 @@ impl Session {
 
     /// The printed text, and none for a faulty script, which takes no memory.
     pub fn print(&self) -> Result<Option<Vec<u8>>, AllocError>
-        ensures text { IfOk result (λ text. HasText self.now.layout self.now.bytes (option_map (λ t. t.items) text)) }
-        ensures faulty { (fault : Fault) → FirstFault self.now.bytes (Some fault) → IsOk result }
+        ensures text { IfOk result (λ text. HasText self.now.how self.now.bytes (option_map (λ t. t.items) text)) }
+        ensures faulty { (fault : Fault) → FirstFault self.now.how.edition self.now.bytes (Some fault) → IsOk result }
     {
         if self.fault().is_some() {
             return Ok(None);

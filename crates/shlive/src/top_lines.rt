@@ -70,8 +70,14 @@ pub(crate) struct TopLines {
 }
 
 impl LineReader<TopLine> for TopLines {
+    ghost use Rattle.shgrammar.specs.declared.edition.Edition.{Edition};
+    ghost use Rattle.shread.specs.Answers.{edition_of};
     ghost use Rattle.shlive.specs.HeldLines.{IsHeldLine, count_of};
     ghost use Rattle.shheld.proofs.TopLines.{top_lines};
+
+    ghost Setting = { Edition };
+
+    ghost setting = { λ lines. edition_of lines.reader };
 
     ghost is_line = { IsHeldLine };
 
@@ -93,10 +99,10 @@ impl LineReader<TopLine> for TopLines {
     }
 
     // Held lines keep to the laws of lines since top-level lines do.
-    ghost reads = { record {
-      only = λ T l m one two. top_lines.only T l m one.0 two.0;
-      onward = λ T l is ended. top_lines.onward T l is.0 ended;
-      within = λ T l is ended. top_lines.within T l is.0 ended;
-      alone = λ T U l is ended same. (top_lines.alone T U l is.0 ended same, is.1);
+    ghost reads = { λ edition. record {
+      only = λ T l m one two. (top_lines edition).only T l m one.0 two.0;
+      onward = λ T l is ended. (top_lines edition).onward T l is.0 ended;
+      within = λ T l is ended. (top_lines edition).within T l is.0 ended;
+      alone = λ T U l is ended same. ((top_lines edition).alone T U l is.0 ended same, is.1);
     } };
 }

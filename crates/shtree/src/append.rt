@@ -411,7 +411,13 @@ fn carry_case(alloc: Global, item: &CaseItem, base: usize) -> Result<CaseItem, A
     let comments = carry_comments(alloc, &item.comments, base)?;
     let patterns = carry_words(alloc, &item.patterns, base)?;
     let body = carry_list(alloc, &item.body, base)?;
-    Ok(case_item_of(comments, patterns, body, carried(item.span, base)))
+    Ok(case_item_of(
+        comments,
+        patterns,
+        body,
+        carried(item.span, base),
+        item.falls,
+    ))
 }
 
 #[cycle(carry)]

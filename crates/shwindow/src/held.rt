@@ -44,7 +44,9 @@ impl<K: Drop> HeldLines<K> {
         reader: &mut R,
         source: &S,
     ) -> Result<HeldLines<K>, AllocError>
-        ensures row { IfOk result (λ held. IsRow R.is_line (S.bytes source.now) held) }
+        ensures row { IfOk result (λ held.
+            IsRow (R.is_line (R.setting reader.old)) (S.bytes source.now) held) }
+        ensures setting { R.setting reader.new ≡ R.setting reader.old }
         ensures meter { OnOk result (R.meter reader.new ≡ risen (R.meter reader.old) (length (S.bytes source.now))) }
         ensures err { OnErr result (RoseWithin (length (S.bytes source.now)) (R.meter reader.old) (R.meter reader.new)) }
         ensures empty { length (S.bytes source.now) ≡ 0 → IsOk result }
@@ -73,14 +75,23 @@ impl<K: Drop> HeldLines<K> {
         end: usize,
         old_end: usize,
     ) -> Result<(), AllocError>
-        requires { IsEdit R.is_line self.old (S.bytes source.now) start end old_end }
-        ensures row { OnOk result (IsRow R.is_line (S.bytes source.now) self.new) }
+        requires { IsEdit (R.is_line (R.setting reader.old)) self.old (S.bytes source.now)
+            start end old_end }
+        ensures row { OnOk result (
+            IsRow (R.is_line (R.setting reader.old)) (S.bytes source.now) self.new) }
         ensures kept { OnErr result (self.new ≡ self.old) }
-        ensures meter { OnOk result ((B : List ℕ) → IsRow R.is_line B self.old → Apart B (S.bytes source.now) start end old_end →
-            HasReadWindow R.is_line B (S.bytes source.now) start end old_end (R.meter reader.old) (R.meter reader.new)) }
+        ensures setting { R.setting reader.new ≡ R.setting reader.old }
+        ensures meter { OnOk result ((B : List ℕ) →
+            IsRow (R.is_line (R.setting reader.old)) B self.old →
+            Apart B (S.bytes source.now) start end old_end →
+            HasReadWindow (R.is_line (R.setting reader.old)) B (S.bytes source.now)
+            start end old_end (R.meter reader.old) (R.meter reader.new)) }
         ensures rises { R.meter reader.old ≤ R.meter reader.new }
-        ensures err { OnErr result ((B : List ℕ) → IsRow R.is_line B self.old → Apart B (S.bytes source.now) start end old_end →
-            HasReadNoMore R.is_line B (S.bytes source.now) start end old_end (R.meter reader.old) (R.meter reader.new)) }
+        ensures err { OnErr result ((B : List ℕ) →
+            IsRow (R.is_line (R.setting reader.old)) B self.old →
+            Apart B (S.bytes source.now) start end old_end →
+            HasReadNoMore (R.is_line (R.setting reader.old)) B (S.bytes source.now)
+            start end old_end (R.meter reader.old) (R.meter reader.new)) }
     {
         let (place, begin) = self.blocks.find(start);
         let old = Lines::new(&self.blocks, &self.last, place);

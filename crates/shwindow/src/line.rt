@@ -21,8 +21,13 @@ pub trait LineReader<K> {
     ghost use Rattle.shwindow.specs.Lines.{Reads};
     ghost use Rattle.shwindow.specs.declared.line.HeldLine.{HeldLine};
 
-    /// Whether a text begins with a line.
-    ghost is_line: { List ℕ → HeldLine K → Type 0 };
+    /// What lines depend on beside their text, and what reading leaves as it was.
+    ghost Setting: { Type 0 };
+
+    ghost setting: { Self → Setting };
+
+    /// Whether a text begins with a line, under a setting.
+    ghost is_line: { Setting → List ℕ → HeldLine K → Type 0 };
 
     /// How many bytes were read so far; it stays at its greatest number.
     ghost meter: { Self → ℕ };
@@ -32,14 +37,16 @@ pub trait LineReader<K> {
     /// Want of memory is the only error: the meter is then as before. At the length of the source no memory is wanted.
     fn read_line<S: Source>(&mut self, source: &S, at: usize) -> Result<HeldLine<K>, AllocError>
         requires { at ≤ length (S.bytes source.now) }
-        ensures line { IfOk result (λ line. is_line (drop at (S.bytes source.now)) line) }
+        ensures line { IfOk result (λ line.
+            is_line (setting self.old) (drop at (S.bytes source.now)) line) }
         ensures within { IfOk result (λ line. at + line.len ≤ length (S.bytes source.now)) }
         ensures whole { IfOk result (λ line. line.ended ≡ false → at + line.len ≡ length (S.bytes source.now)) }
         ensures fits { IfOk result (λ line. at + line.len < 2 ^ 64) }
+        ensures setting { setting self.new ≡ setting self.old }
         ensures meter { IfOk result (λ line. meter self.new ≡ risen (meter self.old) line.len) }
         ensures err { OnErr result (meter self.new ≡ meter self.old) }
         ensures end { at ≡ length (S.bytes source.now) → IsOk result };
 
     /// It keeps to the laws of lines.
-    ghost reads: { Reads is_line };
+    ghost reads: { (s : Setting) → Reads (is_line s) };
 }

@@ -78,17 +78,28 @@ pub(crate) fn read_window<K: Drop, R: LineReader<K>, S: Source>(
     end: usize,
     old_end: usize,
 ) -> Result<Window<K>, AllocError>
-    requires begun { (B : List ℕ) × (a : ℕ) × IsBegun R.is_line B (S.bytes source.now) a end old_end begin (lines_left old) }
+    requires begun { (B : List ℕ) × (a : ℕ) ×
+        IsBegun (R.is_line (R.setting reader.old)) B (S.bytes source.now)
+        a end old_end begin (lines_left old) }
     requires fits { begin + extent (lines_left old) < 2 ^ 64 }
-    ensures lines { IfOk result (λ w. IsRow R.is_line (drop begin (S.bytes source.now)) (lines_then old.entry w)) }
+    ensures lines { IfOk result (λ w.
+        IsRow (R.is_line (R.setting reader.old)) (drop begin (S.bytes source.now))
+        (lines_then old.entry w)) }
     ensures place { IfOk result (λ w. IsPlace old.entry.blocks.now.blocks.items w.upto) }
     ensures order { IfOk result (λ w. IsNotBehind old.entry.place w.upto) }
-    ensures ends { IfOk result (λ w. (B : List ℕ) (a : ℕ) → IsBegun R.is_line B (S.bytes source.now) a end old_end begin (lines_left old.entry) →
-        Ends R.is_line B (S.bytes source.now) end old_end (begin + extent (read_of w))) }
+    ensures ends { IfOk result (λ w. (B : List ℕ) (a : ℕ) →
+        IsBegun (R.is_line (R.setting reader.old)) B (S.bytes source.now)
+        a end old_end begin (lines_left old.entry) →
+        Ends (R.is_line (R.setting reader.old)) B (S.bytes source.now)
+        end old_end (begin + extent (read_of w))) }
+    ensures setting { R.setting reader.new ≡ R.setting reader.old }
     ensures meter { IfOk result (λ w. R.meter reader.new ≡ risen (R.meter reader.old) (extent (read_of w))) }
     ensures rises { R.meter reader.old ≤ R.meter reader.new }
-    ensures err { OnErr result ((B : List ℕ) (a t : ℕ) → IsBegun R.is_line B (S.bytes source.now) a end old_end begin (lines_left old.entry) →
-        Ends R.is_line B (S.bytes source.now) end old_end t → RoseWithin (t - begin) (R.meter reader.old) (R.meter reader.new)) }
+    ensures err { OnErr result ((B : List ℕ) (a t : ℕ) →
+        IsBegun (R.is_line (R.setting reader.old)) B (S.bytes source.now)
+        a end old_end begin (lines_left old.entry) →
+        Ends (R.is_line (R.setting reader.old)) B (S.bytes source.now) end old_end t →
+        RoseWithin (t - begin) (R.meter reader.old) (R.meter reader.new)) }
 {
     let mut lines = Blocks::new(alloc);
     let mut at = begin;

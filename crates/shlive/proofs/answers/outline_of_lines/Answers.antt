@@ -16,12 +16,12 @@ lines-init c =
 
 pub add_outline-requires : goal.add_outline-requires
 add_outline-requires c = λ xs kind_is.
-    walked_nodes_fit c.args.lines.now (lines_left c.lines.rest) c.lines.begin c.in-Some.line.now (lines_left c.next.new.self) c.lines.invariant.walked c.in-Some.ensures.steps c.requires.0 c.requires.1 xs kind_is c.requires.2
+    walked_nodes_fit c.args.lines.now (lines_left c.lines.rest) c.lines.begin c.in-Some.line.now (lines_left c.next.new.self) c.lines.invariant.walked c.in-Some.ensures.steps c.requires.0 c.requires.1.0 c.requires.1.1 xs kind_is c.requires.1.2
 
 pub overflow_add-begin : goal.overflow_add-begin
 overflow_add-begin c =
-    let within = walked_within c.args.lines.now (lines_left c.lines.rest) c.lines.begin c.in-Some.line.now (lines_left c.next.new.self) c.lines.invariant.walked c.in-Some.ensures.steps c.requires.0 c.requires.1 in
-    omega (arith, within, c.requires.2)
+    let within = walked_within c.args.lines.now (lines_left c.lines.rest) c.lines.begin c.in-Some.line.now (lines_left c.next.new.self) c.lines.invariant.walked c.in-Some.ensures.steps c.requires.0 c.requires.1.0 c.requires.1.1 in
+    omega (arith, within, c.requires.1.2)
 
 pub lines-preserved : goal.lines-preserved
 lines-preserved c =
@@ -34,7 +34,7 @@ lines-preserved c =
     }
 
 pub returns : goal.returns
-returns c = λ bytes row.
+returns c = λ edition bytes row.
     let all = sym (append-nil c.lines.nodes.items) ∙ ap (λ left. c.lines.nodes.items ++ outlines c.lines.begin left) (sym c.in_default.ensures.steps.0) ∙ c.lines.invariant.nodes in
-    let has = row_has_outline bytes c.args.lines.now (row_top bytes c.args.lines.now row) in
+    let has = row_has_outline edition bytes c.args.lines.now (row_top edition bytes c.args.lines.now row) in
     (has.0, has.1, all ∙ has.2)

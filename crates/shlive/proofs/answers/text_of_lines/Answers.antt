@@ -26,7 +26,7 @@ lines-init c =
 
 pub overflow_add-begin : goal.overflow_add-begin
 overflow_add-begin c =
-    let within = walked_within c.args.lines.now (lines_left c.lines.rest) c.lines.begin c.in-Some.line.now (lines_left c.next.new.self) c.lines.invariant.walked c.in-Some.ensures.steps (gap_bytes c.args.source.now) c.requires.row in
+    let within = walked_within c.args.lines.now (lines_left c.lines.rest) c.lines.begin c.in-Some.line.now (lines_left c.next.new.self) c.lines.invariant.walked c.in-Some.ensures.steps c.requires.row.0 (gap_bytes c.args.source.now) c.requires.row.1 in
     omega (arith, within, c.requires.small)
 
 pub lines-preserved : goal.lines-preserved
@@ -37,8 +37,8 @@ lines-preserved c =
     let left = lines_left c.lines.rest in
     let rest = lines_left c.next.new.self in
     let inv = c.lines.invariant in
-    let line = walked_line row left c.lines.begin l rest inv.walked c.in-Some.ensures.steps B c.requires.row in
-    let more = c.in_ok-gap.ensures inv.so inv.gap inv.at line inv.printed in
+    let line = walked_line row left c.lines.begin l rest inv.walked c.in-Some.ensures.steps c.requires.row.0 B c.requires.row.1 in
+    let more = c.in_ok-gap.ensures c.requires.row.0 inv.so inv.gap inv.at line inv.printed in
     record {
       walked = walked_more row left c.lines.begin l rest inv.walked c.in-Some.ensures.steps;
       so = with_line inv.so l;
@@ -56,4 +56,4 @@ returns c =
     let all = ap (with_lines inv.so) (sym c.in_default.ensures.steps.0) ∙ inv.entries in
     all_printed c.args.layout.now B inv.so c.lines.page inv.printed
     ∙ ap (λ (w : Walk). printed c.args.layout.now (shape_of B w.entries)) all
-    ∙ sym (ap (λ es. printed c.args.layout.now (shape_of B es)) (row_entries B row (row_top B row c.requires.row)))
+    ∙ sym (ap (λ es. printed c.args.layout.now (shape_of B es)) (row_entries c.requires.row.0 B row (row_top c.requires.row.0 B row c.requires.row.1)))

@@ -42,8 +42,8 @@ requests-preserved g c =
       c.in_default.ensures.open,
       c.in_default.ensures.few,
       c.in_default.ensures.unbroken,
-      c.answer_next.ensures.layout ∙ inv.3,
-      goes_on c.args.session.now.layout c.args.session.now.bytes c.requests.session.bytes c.answer_next.new.session.bytes
+      c.answer_next.ensures.how ∙ inv.3,
+      goes_on c.args.session.now.how c.args.session.now.bytes c.requests.session.bytes c.answer_next.new.session.bytes
           (ahead c.args.input.now (record { bytes = []; count = 0 })) (ahead c.requests.input c.requests.incoming) (ahead c.answer_next.new.input c.answer_next.new.incoming)
           (held c.args.output.now.writer) (held c.requests.output.writer) (held c.answer_next.new.output.writer) inv.4 r,
     )
@@ -54,7 +54,7 @@ returns-in-Err-clause-run g c =
     let held = g.W.Write.contents in
     let inv = c.requests.invariant in
     let s = rw inv.3 at c.in-Err.ensures.err in
-    ended_run c.args.session.now.layout c.args.session.now.bytes c.requests.session.bytes c.answer_next.new.session.bytes
+    ended_run c.args.session.now.how c.args.session.now.bytes c.requests.session.bytes c.answer_next.new.session.bytes
     (ahead c.args.input.now (record { bytes = []; count = 0 })) (ahead c.requests.input c.requests.incoming) (ahead c.answer_next.new.input c.answer_next.new.incoming)
     (held c.args.output.now.writer) (held c.requests.output.writer) (held c.answer_next.new.output.writer) inv.4
-    (input_failed c.answer_next.new.input) (input_ended c.answer_next.new.input) (output_failed c.answer_next.new.output) c.answer.result refl refl c.in-Err.«end» s c.answer.ensures
+    (input_failed c.answer_next.new.input) (input_ended c.answer_next.new.input) (output_failed c.answer_next.new.output) c.answer.result refl refl c.in-Err.«end» s (rw (c.answer_next.ensures.how, inv.3) at c.answer.ensures)

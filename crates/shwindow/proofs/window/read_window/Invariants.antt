@@ -9,7 +9,8 @@ use Rattle.shwindow.proofs.window.read_window.Given as goal
 
 abbrev pub invariant-lines : goal.invariant-lines
 invariant-lines g l = record {
-  at : AtLine g.R.LineReader.is_line (g.S.Source.bytes l.source) l.«end» l.old_end l.begin (lines_left l.fn.old) (joined l.lines.blocks.items) l.at l.hand.begin (lines_left l.hand.lines);
+  at : AtLine (g.R.LineReader.is_line (g.R.LineReader.setting l.initial.reader)) (g.S.Source.bytes l.source) l.«end» l.old_end l.begin (lines_left l.fn.old) (joined l.lines.blocks.items) l.at l.hand.begin (lines_left l.hand.lines);
+  setting : g.R.LineReader.setting l.reader ≡ g.R.LineReader.setting l.initial.reader;
   meter : g.R.LineReader.meter l.reader ≡ risen (g.R.LineReader.meter l.initial.reader) (extent (joined l.lines.blocks.items));
   blocks : l.hand.lines.blocks ≡ l.fn.old.blocks;
   last : l.hand.lines.last ≡ l.fn.old.last;

@@ -1,4 +1,5 @@
 use Rattle.std.proofs.Common.{◌≡◌, ◌+◌, ap, arith, length, subst, sym}
+use Rattle.shread.specs.Answers.{edition_of}
 use Rattle.shgap.specs.Gap.{gap_bytes}
 use Rattle.shtext.specs.Edit.{edited}
 use Rattle.shwindow.specs.Window.{Apart}
@@ -28,8 +29,8 @@ returns-in-Err-clause-within c =
     let is = c.in_ok-undo.ensures in
     let text : gap_bytes c.edit.new.self ≡ edited bytes c.args.a c.args.b new = is.bytes in
     let apart = subst (λ T. Apart bytes T c.args.a (c.args.a + length new) c.args.b) (sym text) (splice_apart bytes c.args.a c.args.b new is.allowed.0.0 is.allowed.0.1) in
-    let read = has_read_no_more bytes (gap_bytes c.edit.new.self) c.args.a c.args.b new text (count_of c.self.inside.reader.reader) (count_of c.edit-2.new.reader.reader) (c.in-Err.ensures.err bytes c.self.invariant.row apart) in
-    subst (λ (h : Held). HasReadNoMore h.bytes c.args.a c.args.b new h.meter (count_of c.edit-2.new.reader.reader)) c.self.view_is read
+    let read = has_read_no_more (edition_of c.self.inside.reader.reader) bytes (gap_bytes c.edit.new.self) c.args.a c.args.b new text (count_of c.self.inside.reader.reader) (count_of c.edit-2.new.reader.reader) (c.in-Err.ensures.err bytes c.self.invariant.row apart) in
+    subst (λ (h : Held). HasReadNoMore h.how.edition h.bytes c.args.a c.args.b new h.meter (count_of c.edit-2.new.reader.reader)) c.self.view_is read
 
 pub returns-in-Ok-clause-window : goal.returns-in-Ok-clause-window
 returns-in-Ok-clause-window c =
@@ -38,5 +39,5 @@ returns-in-Ok-clause-window c =
     let is = c.in_ok-undo.ensures in
     let text : gap_bytes c.edit.new.self ≡ edited bytes c.args.a c.args.b new = is.bytes in
     let apart = subst (λ T. Apart bytes T c.args.a (c.args.a + length new) c.args.b) (sym text) (splice_apart bytes c.args.a c.args.b new is.allowed.0.0 is.allowed.0.1) in
-    let read = has_read bytes (gap_bytes c.edit.new.self) c.args.a c.args.b new text (count_of c.self.inside.reader.reader) (count_of c.edit-2.new.reader.reader) (omega arith) (c.in-Ok.ensures.meter bytes c.self.invariant.row apart) in
-    subst (λ (h : Held). HasReadWindow h.bytes c.args.a c.args.b new h.meter (count_of c.edit-2.new.reader.reader)) c.self.view_is read
+    let read = has_read (edition_of c.self.inside.reader.reader) bytes (gap_bytes c.edit.new.self) c.args.a c.args.b new text (count_of c.self.inside.reader.reader) (count_of c.edit-2.new.reader.reader) (omega arith) (c.in-Ok.ensures.meter bytes c.self.invariant.row apart) in
+    subst (λ (h : Held). HasReadWindow h.how.edition h.bytes c.args.a c.args.b new h.meter (count_of c.edit-2.new.reader.reader)) c.self.view_is read
