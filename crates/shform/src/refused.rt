@@ -1,9 +1,10 @@
 // Each growth refused in turn, as in the tests of the reader: by the library that `tests/refused-growths` loads. Without it, as in
 // the gate, each test runs once. They catch the wrong body `always_out_of_memory`, which no contract can.
-use crate::engine::{check_engine, print_engine};
-use shprint::{Layout, LayoutError, message};
+use crate::tests::checked;
+use crate::tests::print::print as printed;
+use shprint::{LayoutError, message};
 use shread::{Fault, FaultKind};
-use shtext::{Input, Output};
+use shtext::Input;
 use std::alloc::{AllocError, Global};
 use std::io;
 use std::io::{Read, Write};
@@ -90,14 +91,6 @@ fn told_fault(rt: HostRuntime) -> Result<(), Fail> {
     Ok(())
 }
 
-/// The status of a check over these pages.
-fn checked<R: Read + Drop>(alloc: Global, reader: R, written: &mut Page, told: &mut Page) -> u8 {
-    let mut input = Input::new(reader);
-    let mut output = Output::new(written);
-    let mut errors = Output::new(told);
-    check_engine(alloc, "-", &mut input, &mut output, &mut errors)
-}
-
 /// The status of the check of 20,001 lines with the nth growth refused, and what it told; 99 if it wrote to standard output.
 fn check_refused(alloc: Global, nth: usize) -> (u8, Page) {
     let script = [b'\n'; 20_000];
@@ -105,7 +98,7 @@ fn check_refused(alloc: Global, nth: usize) -> (u8, Page) {
     let mut written = Page::new();
     let mut told = Page::new();
     refuse(alloc, nth);
-    let status = checked(alloc, reader, &mut written, &mut told);
+    let (status, _) = checked(alloc, &mut Input::new(reader), &mut written, &mut told);
     (if written.len == 0 { status } else { 99 }, told)
 }
 
@@ -126,20 +119,6 @@ fn check(rt: HostRuntime) {
         met = nth;
     }
     assert!(rt; !refuses || 0 < met && met < 99, "{met}");
-}
-
-/// The status of a print over these pages.
-fn printed<R: Read + Drop>(
-    alloc: Global,
-    reader: R,
-    written: &mut Page,
-    told: &mut Page,
-) -> Result<u8, LayoutError> {
-    let layout = Layout::new(0, false, false, false)?;
-    let mut input = Input::new(reader);
-    let mut output = Output::new(written);
-    let mut errors = Output::new(told);
-    Ok(print_engine(alloc, &layout, "-", &mut input, &mut output, &mut errors))
 }
 
 /// The status of a print with the nth growth refused, and what it wrote and told.

@@ -1,10 +1,10 @@
 // What no clause says: that calls succeed where nothing fails, that a failure of a device is told, and the texts.
 mod parts;
-mod print;
+pub(crate) mod print;
 mod words;
 
 use crate::engine::check_engine;
-use shread::{Fault, FaultKind};
+use shread::{Edition, Fault, FaultKind};
 use shtext::{Failed, Input, LIMIT, Output};
 use std::alloc::Global;
 use std::io;
@@ -114,12 +114,23 @@ impl Write for Page {
     }
 }
 
+/// The status of `check` on an input over these writers, and whether telling it failed.
+pub(crate) fn checked<R: Read + Drop, O: Write + Drop, E: Write + Drop>(
+    alloc: Global,
+    input: &mut Input<R>,
+    output: O,
+    errors: E,
+) -> (u8, bool) {
+    let edition = Edition::Y2017;
+    let mut output = Output::new(output);
+    let mut errors = Output::new(errors);
+    let status = check_engine(alloc, edition, "-", input, &mut output, &mut errors);
+    (status, errors.failed())
+}
+
 /// The status of `check` on a reader, with the page as standard error.
 fn check<R: Read + Drop>(alloc: Global, reader: R, page: &mut Page) -> u8 {
-    let mut input = Input::new(reader);
-    let mut output = Output::new(io::sink());
-    let mut errors = Output::new(page);
-    check_engine(alloc, "-", &mut input, &mut output, &mut errors)
+    checked(alloc, &mut Input::new(reader), io::sink(), page).0
 }
 
 /// Whether `check` on a reader ends with this status and leaves this text on a page.
@@ -183,10 +194,7 @@ fn limit(rt: HostRuntime) {
 fn beyond_the_limit(rt: HostRuntime) {
     let mut page = Page::new(128, WhenFull::Fails);
     let mut input = Input::new(Same(b'a', 16_777_216 + 10_000));
-    let mut output = Output::new(io::sink());
-    let mut errors = Output::new(&mut page);
-    let status = check_engine(rt.alloc(), "-", &mut input, &mut output, &mut errors);
-    assert!(rt; status == 2 && !errors.failed());
+    assert!(rt; checked(rt.alloc(), &mut input, io::sink(), &mut page) == (2, false));
     assert!(rt; !input.ended() && !input.failed());
     assert!(rt; page.text() == b"shform: -: too large\n".as_slice());
 }
@@ -338,11 +346,7 @@ const TOLD: [Told; 2] = [
 fn check_over(alloc: Global, fails_at: u64, page: &mut Hiccup) -> (u8, bool) {
     let mut tape = Tape::new(b"a ;;\n", 99);
     tape.fails_at = fails_at;
-    let mut input = Input::new(tape);
-    let mut output = Output::new(io::sink());
-    let mut errors = Output::new(page);
-    let status = check_engine(alloc, "-", &mut input, &mut output, &mut errors);
-    (status, errors.failed())
+    checked(alloc, &mut Input::new(tape), io::sink(), page)
 }
 
 /// Whether the status and the calls are right where the nth of so many writes and a flush fails: no further one is tried then.

@@ -2,6 +2,7 @@
 use super::{Hiccup, Page, Same, Tape, WAYS, WhenFull};
 use crate::engine::print_engine;
 use shprint::{Layout, LayoutError};
+use shread::Edition;
 use shtext::{Input, Output};
 use std::alloc::Global;
 use std::io::{Read, Write};
@@ -18,7 +19,15 @@ pub(crate) fn print<R: Read + Drop, O: Write + Drop, E: Write + Drop>(
     let mut input = Input::new(reader);
     let mut output = Output::new(output);
     let mut errors = Output::new(errors);
-    Ok(print_engine(alloc, &layout, "-", &mut input, &mut output, &mut errors))
+    Ok(print_engine(
+        alloc,
+        Edition::Y2017,
+        &layout,
+        "-",
+        &mut input,
+        &mut output,
+        &mut errors,
+    ))
 }
 
 /// What a run leaves: its status, and what stands on standard output and on standard error.

@@ -4,6 +4,7 @@ use crate::usage::Usage;
 use crate::words::settings;
 use clap::error::ErrorKind;
 use shprint::Layout;
+use shread::Edition;
 use std::test::Fail;
 
 #[test]
@@ -96,6 +97,25 @@ fn session(rt: HostRuntime) -> Result<(), Fail> {
 }
 
 #[test]
+fn edition(rt: HostRuntime) -> Result<(), Fail> {
+    for (words, edition) in [
+        (["check", "a"].as_slice(), Edition::Y2017),
+        (&["check", "--edition", "2017"], Edition::Y2017),
+        (&["check", "--edition=2024", "a"], Edition::Y2024),
+        (&["print", "-i", "2"], Edition::Y2017),
+        (&["print", "-", "--edition", "2024"], Edition::Y2024),
+        (&["session"], Edition::Y2017),
+        (&["session", "--edition", "2024", "-i2"], Edition::Y2024),
+    ] {
+        assert!(rt;
+            settings(rt.alloc(), words)?.edition == edition,
+            "{words:?}"
+        );
+    }
+    Ok(())
+}
+
+#[test]
 fn refused(rt: HostRuntime) {
     for (words, kind) in [
         ([].as_slice(), ErrorKind::MissingSubcommand),
@@ -111,6 +131,14 @@ fn refused(rt: HostRuntime) {
         (&["print", "-i=-1"], ErrorKind::ValueValidation),
         (&["print", "-i", "-1"], ErrorKind::UnknownArgument),
         (&["print", "-i"], ErrorKind::InvalidValue),
+        (&["check", "--edition", "2018"], ErrorKind::InvalidValue),
+        (&["print", "--edition="], ErrorKind::InvalidValue),
+        (&["session", "--edition"], ErrorKind::InvalidValue),
+        (
+            &["check", "--edition", "2017", "--edition", "2024"],
+            ErrorKind::ArgumentConflict,
+        ),
+        (&["--edition", "2024", "check"], ErrorKind::UnknownArgument),
         (&["--help"], ErrorKind::DisplayHelp),
         (&["--version"], ErrorKind::DisplayVersion),
     ] {
