@@ -1,5 +1,5 @@
 -- What is held of a script stays true as more of it is read, and as lines are passed.
-use Rattle.std.proofs.Common.{◌≡◌, ℕ, ◌+◌, ◌-◌, ◌<◌, ◌≤◌, ◌++◌, [], List, Option, None, Some, option_map, count_by, length, take, drop, slice_get, get_or, refl, sym, ap, subst, ◌∙◌, arith, ⊎_elim, length-drop, length-take, zero-add}
+use Rattle.std.proofs.Common.{◌≡◌, ℕ, ◌+◌, ◌-◌, ◌<◌, ◌≤◌, ◌++◌, [], List, Option, None, Some, option_map, count_by, length, take, drop, slice_get, refl, sym, ap, subst, ◌∙◌, arith, ⊎_elim, length-drop, length-take, zero-add}
 use Rattle.std.proofs.lemmas.Bool.{cases_lt}
 use Rattle.std.proofs.lemmas.List.{append-nil, append_assoc, drop-append-le, take-append-drop, take-append-le}
 use Rattle.std.proofs.lemmas.List.Sums.{fold-append, sum_by-append}
@@ -13,6 +13,7 @@ use Rattle.shprint.specs.declared.layout.Layout.{Layout}
 use Rattle.shpieces.specs.Printing.{IsPrinted}
 use Rattle.shgrammar.specs.Search.{MayPass}
 use Rattle.shform.specs.declared.part.Part.{Part}
+use Rattle.shgrammar.specs.declared.edition.Edition.{Edition}
 use Rattle.shgrammar.specs.declared.fault.Fault.{Fault}
 use Rattle.shgrammar.specs.Moved.{moved_fault}
 use Rattle.shgrammar.specs.Scripts.{FirstFault}
@@ -42,11 +43,12 @@ held_none part passed newlines text = record {
   fresh = ap (λ (p : ℕ). since_newline (take p [])) passed ∙ since_start [];
 }
 
-pub holds_none : (part : Part) → part.passed ≡ 0 → part.newlines ≡ 0 → part.text.items ≡ [] → Holds [] part
-holds_none part passed newlines text = record {
+pub holds_none : (edition : Edition) (part : Part) → part.edition ≡ edition → part.passed ≡ 0 → part.newlines ≡ 0 → part.text.items ≡ [] → Holds edition [] part
+holds_none edition part by passed newlines text = record {
   held = held_none part passed newlines text;
+  by = by;
   behind = λ more f first.
-      subst (λ (p : ℕ). FirstFault more (option_map (moved_fault p) f)) (sym passed) (subst (FirstFault more) (stays f) (subst (λ (p : ℕ). FirstFault (drop p more) f) passed first));
+      subst (λ (p : ℕ). FirstFault edition more (option_map (moved_fault p) f)) (sym passed) (subst (FirstFault edition more) (stays f) (subst (λ (p : ℕ). FirstFault edition (drop p more) f) passed first));
 }
 
 -- of a part only what it has counts
@@ -68,21 +70,22 @@ held_more read bytes old new is passed newlines text =
       fresh = ap (λ (p : ℕ). since_newline (take p (read ++ bytes))) passed ∙ ap since_newline front ∙ is.fresh;
     }
 
-pub holds_more : (read bytes : List ℕ) (old new : Part) → Holds read old → Held (read ++ bytes) new → new.passed ≡ old.passed → Holds (read ++ bytes) new
-holds_more read bytes old new is held passed = record {
+pub holds_more : (edition : Edition) (read bytes : List ℕ) (old new : Part) → Holds edition read old → Held (read ++ bytes) new → new.passed ≡ old.passed → new.edition ≡ old.edition → Holds edition (read ++ bytes) new
+holds_more edition read bytes old new is held passed same_edition = record {
   held = held;
+  by = same_edition ∙ is.by;
   behind = λ more f first.
       let same : read ++ bytes ++ more ≡ read ++ (bytes ++ more) = append_assoc read bytes more in
-      let here : FirstFault (drop old.passed (read ++ (bytes ++ more))) f = subst (λ (xs : List ℕ). FirstFault (drop old.passed xs) f) same (subst (λ (p : ℕ). FirstFault (drop p (read ++ bytes ++ more)) f) passed first) in
-      subst (λ (p : ℕ). FirstFault (read ++ bytes ++ more) (option_map (moved_fault p) f)) (sym passed) (subst (λ (xs : List ℕ). FirstFault xs (option_map (moved_fault old.passed) f)) (sym same) (is.behind (bytes ++ more) f here));
+      let here : FirstFault edition (drop old.passed (read ++ (bytes ++ more))) f = subst (λ (xs : List ℕ). FirstFault edition (drop old.passed xs) f) same (subst (λ (p : ℕ). FirstFault edition (drop p (read ++ bytes ++ more)) f) passed first) in
+      subst (λ (p : ℕ). FirstFault edition (read ++ bytes ++ more) (option_map (moved_fault p) f)) (sym passed) (subst (λ (xs : List ℕ). FirstFault edition xs (option_map (moved_fault old.passed) f)) (sym same) (is.behind (bytes ++ more) f here));
 }
 
-pub printed_more : (y : Layout) (read bytes : List ℕ) (old new : PrintedPart) → HoldsPrinted y read old → Held (read ++ bytes) new.part → new.part.passed ≡ old.part.passed → new.printing ≡ old.printing → HoldsPrinted y (read ++ bytes) new
-printed_more y read bytes old new is held passed same =
+pub printed_more : (edition : Edition) (y : Layout) (read bytes : List ℕ) (old new : PrintedPart) → HoldsPrinted edition y read old → Held (read ++ bytes) new.part → new.part.passed ≡ old.part.passed → new.printing ≡ old.printing → HoldsPrinted edition y (read ++ bytes) new
+printed_more edition y read bytes old new is held passed same =
     let front : take old.part.passed (read ++ bytes) ≡ take old.part.passed read = take-append-le old.part.passed read bytes is.held.low in record {
       held = held;
-      is = subst (λ (p : Printing). IsPrinted y (take new.part.passed (read ++ bytes)) p) (sym same)
-          (subst (λ (k : ℕ). IsPrinted y (take k (read ++ bytes)) old.printing) (sym passed) (subst (λ (X : List ℕ). IsPrinted y X old.printing) (sym front) is.is));
+      is = subst (λ (p : Printing). IsPrinted edition y (take new.part.passed (read ++ bytes)) p) (sym same)
+          (subst (λ (k : ℕ). IsPrinted edition y (take k (read ++ bytes)) old.printing) (sym passed) (subst (λ (X : List ℕ). IsPrinted edition y X old.printing) (sym front) is.is));
     }
 
 -- lines were passed
@@ -111,35 +114,36 @@ module _ (read : List ℕ) (old : Part) (n : ℕ) (is : Held read old) (ends : E
     fresh = ap (λ (p : ℕ). since_newline (take p read)) passed ∙ fresh;
   }
 
-pub holds_passed : (read : List ℕ) (old new : Part) (n : ℕ) → Holds read old → n ≤ length old.text.items → MayPass old.text.items n → Held read new → new.passed ≡ old.passed + n → Holds read new
-holds_passed read old new n is within can held passed = record {
+pub holds_passed : (edition : Edition) (read : List ℕ) (old new : Part) (n : ℕ) → Holds edition read old → n ≤ length old.text.items → MayPass edition old.text.items n → Held read new → new.passed ≡ old.passed + n → new.edition ≡ old.edition → Holds edition read new
+holds_passed edition read old new n is within can held passed same_edition = record {
   held = held;
+  by = same_edition ∙ is.by;
   behind = λ more f first.
       let rest = drop old.passed (read ++ more) in
       let rest_is : rest ≡ old.text.items ++ more = drop-append-le old.passed read more is.held.low ∙ ap (λ (xs : List ℕ). xs ++ more) (sym is.held.text) in
       let same : take n rest ≡ take n old.text.items = ap (take n) rest_is ∙ take-append-le n old.text.items more within in
-      let here : FirstFault (drop n rest) f = subst (λ (xs : List ℕ). FirstFault xs f) (ap (λ (p : ℕ). drop p (read ++ more)) passed ∙ sym (drop-drop n old.passed (read ++ more))) first in
+      let here : FirstFault edition (drop n rest) f = subst (λ (xs : List ℕ). FirstFault edition xs f) (ap (λ (p : ℕ). drop p (read ++ more)) passed ∙ sym (drop-drop n old.passed (read ++ more))) first in
       let whole = is.behind more (option_map (moved_fault n) f) (can rest f same here) in
-      subst (FirstFault (read ++ more)) (twice old.passed n f ∙ sym (ap (λ (p : ℕ). option_map (moved_fault p) f) passed)) whole;
+      subst (FirstFault edition (read ++ more)) (twice old.passed n f ∙ sym (ap (λ (p : ℕ). option_map (moved_fault p) f) passed)) whole;
 }
 
-pub printed_passed : (y : Layout) (read : List ℕ) (old new : PrintedPart) (n : ℕ) → HoldsPrinted y read old → Held read new.part → new.part.passed ≡ old.part.passed + n
-    → ((z : Layout) (front : List ℕ) → IsPrinted z front old.printing → IsPrinted z (front ++ take n old.part.text.items) new.printing) → HoldsPrinted y read new
-printed_passed y read old new n is held passed more =
+pub printed_passed : (edition : Edition) (y : Layout) (read : List ℕ) (old new : PrintedPart) (n : ℕ) → HoldsPrinted edition y read old → Held read new.part → new.part.passed ≡ old.part.passed + n
+    → ((e : Edition) (z : Layout) (front : List ℕ) → IsPrinted e z front old.printing → IsPrinted e z (front ++ take n old.part.text.items) new.printing) → HoldsPrinted edition y read new
+printed_passed edition y read old new n is held passed more =
     let pieces : take new.part.passed read ≡ take old.part.passed read ++ take n old.part.text.items =
     ap (λ (k : ℕ). take k read) passed ∙ take-add old.part.passed n read ∙ ap (λ (xs : List ℕ). take old.part.passed read ++ take n xs) (sym is.held.text) in
-    record { held = held; is = subst (λ (X : List ℕ). IsPrinted y X new.printing) (sym pieces) (more y (take old.part.passed read) is.is) }
+    record { held = held; is = subst (λ (X : List ℕ). IsPrinted edition y X new.printing) (sym pieces) (more edition y (take old.part.passed read) is.is) }
 
 -- where all was read, the text of what is held behind what is printed is that of the script
 pub whole_is : (read : List ℕ) (part : Part) → Held read part → take part.passed read ++ part.text.items ≡ read
 whole_is read part is = ap (λ (xs : List ℕ). take part.passed read ++ xs) is.text ∙ take-append-drop part.passed read
 
 -- where all was read, the first fault is that of what is held
-pub first_is : (read : List ℕ) (part : Part) → Holds read part → (f : Option Fault) → FirstFault part.text.items f → FirstFault read (option_map (moved_fault part.passed) f)
-first_is read part is f first =
+pub first_is : (edition : Edition) (read : List ℕ) (part : Part) → Holds edition read part → (f : Option Fault) → FirstFault edition part.text.items f → FirstFault edition read (option_map (moved_fault part.passed) f)
+first_is edition read part is f first =
     let whole : read ++ [] ≡ read = append-nil read in
-    let here : FirstFault (drop part.passed (read ++ [])) f = subst (λ (xs : List ℕ). FirstFault xs f) (is.held.text ∙ sym (ap (drop part.passed) whole)) first in
-    subst (λ (xs : List ℕ). FirstFault xs (option_map (moved_fault part.passed) f)) whole (is.behind [] f here)
+    let here : FirstFault edition (drop part.passed (read ++ [])) f = subst (λ (xs : List ℕ). FirstFault edition xs f) (is.held.text ∙ sym (ap (drop part.passed) whole)) first in
+    subst (λ (xs : List ℕ). FirstFault edition xs (option_map (moved_fault part.passed) f)) whole (is.behind [] f here)
 
 module _ (read : List ℕ) (part : Part) (is : Held read part) where
   front_at : (at : ℕ) → take (part.passed + at) read ≡ take part.passed read ++ take at part.text.items
@@ -159,17 +163,17 @@ module _ (read : List ℕ) (part : Part) (is : Held read part) where
       ∙ ap (λ (n : ℕ). Rattle.std.specs.List.fold (λ n b. Rattle.std.proofs.Common.cond (is_newline b) 0 (n + 1)) n (take at part.text.items)) is.fresh))
 
 -- a fault that was found there
-pub found_there : (read : List ℕ) (fault : Fault) (found : Found) → IsFoundAt read fault found → FirstFault read (Some fault) → FirstFault read (Some found.fault) × IsFoundAt read found.fault found
-found_there read fault found at first =
+pub found_there : (edition : Edition) (read : List ℕ) (fault : Fault) (found : Found) → IsFoundAt read fault found → FirstFault edition read (Some fault) → FirstFault edition read (Some found.fault) × IsFoundAt read found.fault found
+found_there edition read fault found at first =
     let same : fault ≡ found.fault = sym at.0 in (
-      subst (λ (f : Fault). FirstFault read (Some f)) same first,
+      subst (λ (f : Fault). FirstFault edition read (Some f)) same first,
       (refl, at.1 ∙ ap (λ (f : Fault). line_of read f.at) same, at.2 ∙ ap (λ (f : Fault). column_of read f.at) same),
     )
 
 -- the first fault of what is held behind what is printed
-pub unprinted_is : (read : List ℕ) (part : Part) → Held read part → (bytes : List ℕ) (fault : Fault) → bytes ≡ part.text.items
-    → FirstFault (take part.passed read ++ bytes) (Some (moved_fault (length (take part.passed read)) fault)) → FirstFault read (Some (moved_fault part.passed fault))
-unprinted_is read part is bytes fault same first =
+pub unprinted_is : (edition : Edition) (read : List ℕ) (part : Part) → Held read part → (bytes : List ℕ) (fault : Fault) → bytes ≡ part.text.items
+    → FirstFault edition (take part.passed read ++ bytes) (Some (moved_fault (length (take part.passed read)) fault)) → FirstFault edition read (Some (moved_fault part.passed fault))
+unprinted_is edition read part is bytes fault same first =
     let size : length (take part.passed read) ≡ part.passed = omega (arith, length-take part.passed read, is.low) in
     let whole : take part.passed read ++ bytes ≡ read = ap (λ (xs : List ℕ). take part.passed read ++ xs) same ∙ whole_is read part is in
-    subst (λ (n : ℕ). FirstFault read (Some (moved_fault n fault))) size (subst (λ (X : List ℕ). FirstFault X (Some (moved_fault (length (take part.passed read)) fault))) whole first)
+    subst (λ (n : ℕ). FirstFault edition read (Some (moved_fault n fault))) size (subst (λ (X : List ℕ). FirstFault edition X (Some (moved_fault (length (take part.passed read)) fault))) whole first)

@@ -1,21 +1,31 @@
--- What a print reports.
+-- What a check and a print report.
 use Rattle.std.proofs.Common.{◌≡◌, ◌≤◌, ℕ, Bool, true, false, cond, List, Option, None, Some, Ok, Err, length, refl, sym, ap, subst, inl, inr}
 use Rattle.std.specs.Io.KnownBytes.{Consumes}
 use Rattle.shgrammar.specs.Scripts.{FirstFault, Outcome}
+use Rattle.shgrammar.specs.declared.edition.Edition.{Edition}
 use Rattle.shgrammar.specs.declared.fault.Fault.{Fault}
 use Rattle.shprint.specs.ReadBack.{IsTextOf}
 use Rattle.shprint.specs.declared.layout.Layout.{Layout}
 use Rattle.shtext.specs.Device.{Writes}
-use Rattle.shform.specs.Report.{IsPrintReport, IsTold, StopsFor, TellsFault}
+use Rattle.shform.specs.Report.{IsPrintReport, IsReport, IsTold, StopsFor, TellsFault}
 use Rattle.shtext.specs.Edit.{limit}
 use Rattle.shform.specs.declared.report.Stop.{Stop}
 use Rattle.shform.specs.declared.report.Stop.TheVariants.{Memory, Unwritable}
 use Rattle.shtext.proofs.Known.{Writes-nothing}
 
-module _ (layout : Layout) (name : List ℕ) (had has : Option (List ℕ)) (failed ended : Bool) (read : List ℕ) (consumed : Consumes had has read) where
+-- a fault that a check told, or for which memory ran out
+pub fault_reported : (edition : Edition) (name : List ℕ) (had has : Option (List ℕ)) (failed ended : Bool) (read : List ℕ) → Consumes had has read → failed ≡ false → ended ≡ true → length read ≤ limit
+    → (held holds : Option (List ℕ)) (broken : Bool) (status : ℕ) (fault : Fault) → FirstFault edition read (Some fault)
+    → TellsFault name read fault held holds broken status → IsReport edition name had has failed ended held holds broken status
+fault_reported edition name had has failed ended read consumed sound met low held holds broken status fault first (inl told) =
+    record { read = read; verdict = Ok (Some fault); consumed = consumed; judged = (sound, met, low, first); told = told }
+fault_reported edition name had has failed ended read consumed sound met low held holds broken status fault first (inr told) =
+    record { read = read; verdict = Err Memory; consumed = consumed; judged = (sound, low); told = told }
+
+module _ (edition : Edition) (layout : Layout) (name : List ℕ) (had has : Option (List ℕ)) (failed ended : Bool) (read : List ℕ) (consumed : Consumes had has read) where
   -- a run that was given up before anything was printed
   pub given_up : (out held holds : Option (List ℕ)) (unwritable broken : Bool) (status : ℕ) (stop : Stop) → unwritable ≡ false → StopsFor read failed ended stop
-      → IsTold name read (Err stop) held holds broken status → IsPrintReport layout name had has failed ended out out unwritable held holds broken status
+      → IsTold name read (Err stop) held holds broken status → IsPrintReport edition layout name had has failed ended out out unwritable held holds broken status
   given_up out held holds unwritable broken status stop whole judged told = record {
     read = read;
     verdict = Err stop;
@@ -27,8 +37,8 @@ module _ (layout : Layout) (name : List ℕ) (had has : Option (List ℕ)) (fail
 
   module _ (sound : failed ≡ false) (met : ended ≡ true) (low : length read ≤ limit) where
     -- a fault that was told, or for which memory ran out
-    pub fault_told : (out held holds : Option (List ℕ)) (unwritable broken : Bool) (status : ℕ) (fault : Fault) → unwritable ≡ false → FirstFault read (Some fault)
-        → TellsFault name read fault held holds broken status → IsPrintReport layout name had has failed ended out out unwritable held holds broken status
+    pub fault_told : (out held holds : Option (List ℕ)) (unwritable broken : Bool) (status : ℕ) (fault : Fault) → unwritable ≡ false → FirstFault edition read (Some fault)
+        → TellsFault name read fault held holds broken status → IsPrintReport edition layout name had has failed ended out out unwritable held holds broken status
     fault_told out held holds unwritable broken status fault whole first (inl told) = record {
       read = read;
       verdict = Ok (Some fault);
@@ -39,13 +49,13 @@ module _ (layout : Layout) (name : List ℕ) (had has : Option (List ℕ)) (fail
     }
     fault_told out held holds unwritable broken status fault whole first (inr told) = given_up out held holds unwritable broken status Memory whole (sound, low) told
 
-    module _ (text : List ℕ) (is : IsTextOf layout read text) (old new : Option (List ℕ)) (unwritable : Bool) where
-      faultless : FirstFault read None
-      faultless = (is.script.entries, subst (λ wrong. Outcome read (record { entries = is.script.entries; wrong = wrong })) is.faultless is.outcome)
+    module _ (text : List ℕ) (is : IsTextOf edition layout read text) (old new : Option (List ℕ)) (unwritable : Bool) where
+      faultless : FirstFault edition read None
+      faultless = (is.script.entries, subst (λ wrong. Outcome edition read (record { entries = is.script.entries; wrong = wrong })) is.faultless is.outcome)
 
       -- a text that was printed
       pub text_printed : (held : Option (List ℕ)) (broken : Bool) → Writes old new false text → unwritable ≡ false → broken ≡ false
-          → IsPrintReport layout name had has failed ended old new unwritable held held broken 0
+          → IsPrintReport edition layout name had has failed ended old new unwritable held held broken 0
       text_printed held broken written whole unbroken = record {
         read = read;
         verdict = Ok None;
@@ -58,7 +68,7 @@ module _ (layout : Layout) (name : List ℕ) (had has : Option (List ℕ)) (fail
 
       -- a text for which standard output failed
       pub text_unwritten : (held holds : Option (List ℕ)) (broken : Bool) (status : ℕ) → Writes old new true text → unwritable ≡ true → IsTold name read (Err Unwritable) held holds broken status
-          → IsPrintReport layout name had has failed ended old new unwritable held holds broken status
+          → IsPrintReport edition layout name had has failed ended old new unwritable held holds broken status
       text_unwritten held holds broken status written fails told = record {
         read = read;
         verdict = Ok None;

@@ -2,6 +2,7 @@
 use Rattle.std.specs.Prelude.{◌≡◌, ℕ, ◌+◌, ◌-◌, ◌++◌, ◌<◌, ◌≤◌, List, Option, None, Some, count_by, drop, length, option_map, slice_get, take}
 use Rattle.shform.specs.declared.part.Found.{Found}
 use Rattle.shform.specs.declared.part.Part.{Part}
+use Rattle.shgrammar.specs.declared.edition.Edition.{Edition}
 use Rattle.shgrammar.specs.declared.fault.Fault.{Fault}
 use Rattle.shgrammar.specs.Moved.{moved_fault}
 use Rattle.shgrammar.specs.Scripts.{FirstFault}
@@ -23,15 +24,16 @@ pub record Held (read : List ℕ) (part : Part) : Type 0 where
   pub newlines : part.newlines ≡ count_by is_newline (take part.passed read)
   pub fresh : since_newline (take part.passed read) ≡ 0
 
--- whatever follows these bytes, the first fault is that behind those passed
-pub record Holds (read : List ℕ) (part : Part) : Type 0 where
+-- whatever follows these bytes, by this edition the first fault is that behind those passed
+pub record Holds (edition : Edition) (read : List ℕ) (part : Part) : Type 0 where
   pub held : Held read part
-  pub behind : (more : List ℕ) (f : Option Fault) → FirstFault (drop part.passed (read ++ more)) f → FirstFault (read ++ more) (option_map (moved_fault part.passed) f)
+  pub by : part.edition ≡ edition
+  pub behind : (more : List ℕ) (f : Option Fault) → FirstFault edition (drop part.passed (read ++ more)) f → FirstFault edition (read ++ more) (option_map (moved_fault part.passed) f)
 
 -- those passed are lines that are printed
-pub record HoldsPrinted (y : Layout) (read : List ℕ) (printed : PrintedPart) : Type 0 where
+pub record HoldsPrinted (edition : Edition) (y : Layout) (read : List ℕ) (printed : PrintedPart) : Type 0 where
   pub held : Held read printed.part
-  pub is : IsPrinted y (take printed.part.passed read) printed.printing
+  pub is : IsPrinted edition y (take printed.part.passed read) printed.printing
 
 -- so many bytes are at the front of those held, and a newline is the last of them
 pub record EndsLine (part : Part) (count : ℕ) : Type 0 where
@@ -43,11 +45,11 @@ abbrev pub IsFoundAt : List ℕ → Fault → Found → Type 0
 IsFoundAt read fault found = (found.fault ≡ fault) × (found.line ≡ line_of read fault.at) × (found.col ≡ column_of read fault.at)
 
 -- the first fault of a script, or that it has none
-abbrev pub IsFound : List ℕ → Option Found → Type 0
-IsFound read None = FirstFault read None
-IsFound read (Some found) = FirstFault read (Some found.fault) × IsFoundAt read found.fault found
+abbrev pub IsFound : Edition → List ℕ → Option Found → Type 0
+IsFound edition read None = FirstFault edition read None
+IsFound edition read (Some found) = FirstFault edition read (Some found.fault) × IsFoundAt read found.fault found
 
 -- the script has no printed text, and this is why
-abbrev pub IsUnprinted : List ℕ → Unprinted → Type 0
-IsUnprinted read (Faulty found) = FirstFault read (Some found.fault) × IsFoundAt read found.fault found
-IsUnprinted read Memory = Unit {0}
+abbrev pub IsUnprinted : Edition → List ℕ → Unprinted → Type 0
+IsUnprinted edition read (Faulty found) = FirstFault edition read (Some found.fault) × IsFoundAt read found.fault found
+IsUnprinted edition read Memory = Unit {0}

@@ -3,6 +3,7 @@ use Rattle.std.specs.Prelude.{◌≡◌, ◌⊎◌, ℕ, ◌+◌, ◌≤◌, ◌
 use Rattle.std.specs.Io.KnownBytes.{Consumes}
 use Rattle.shgrammar.specs.Scripts.{FirstFault}
 use Rattle.shtext.specs.Text.{line_of, column_of}
+use Rattle.shgrammar.specs.declared.edition.Edition.{Edition}
 use Rattle.shgrammar.specs.declared.fault.Fault.{Fault}
 use Rattle.shtext.specs.Device.{Writes}
 use Rattle.shtext.specs.Edit.{limit}
@@ -55,32 +56,32 @@ abbrev pub StopsBehind : ℕ → List ℕ → Bool → Bool → Stop → Type 0
 StopsBehind held more failed ended stop = (read : List ℕ) → length read ≡ held + length more → StopsFor read failed ended stop
 
 -- what was read and which ends were met where a verdict stands
-abbrev pub JudgedFor : List ℕ → Bool → Bool → Result (Option Fault) Stop → Type 0
-JudgedFor read failed ended (Ok fault) = (failed ≡ false) × (ended ≡ true) × (length read ≤ limit) × FirstFault read fault
-JudgedFor read failed ended (Err stop) = StopsFor read failed ended stop
+abbrev pub JudgedFor : Edition → List ℕ → Bool → Bool → Result (Option Fault) Stop → Type 0
+JudgedFor edition read failed ended (Ok fault) = (failed ≡ false) × (ended ≡ true) × (length read ≤ limit) × FirstFault edition read fault
+JudgedFor edition read failed ended (Err stop) = StopsFor read failed ended stop
 
 -- The report of a check. The bytes that the reader had and has left, whether a read failed or met the end; the bytes that
 -- standard error held and holds, whether a write there failed; and the status.
-pub record IsReport (name : List ℕ) (had has : Option (List ℕ)) (failed ended : Bool) (held holds : Option (List ℕ)) (broken : Bool) (status : ℕ) : Type 0 where
+pub record IsReport (edition : Edition) (name : List ℕ) (had has : Option (List ℕ)) (failed ended : Bool) (held holds : Option (List ℕ)) (broken : Bool) (status : ℕ) : Type 0 where
   pub read : List ℕ
   pub verdict : Result (Option Fault) Stop
   pub consumed : Consumes had has read
-  pub judged : JudgedFor read failed ended verdict
+  pub judged : JudgedFor edition read failed ended verdict
   pub told : IsTold name read verdict held holds broken status
 
 -- What standard output held and holds, and whether it failed, for a verdict on the bytes that were read: where they are a script
 -- without a fault, its printed text was written there; else it is as it was.
-abbrev pub PrintsFor : Layout → List ℕ → Result (Option Fault) Stop → Option (List ℕ) → Option (List ℕ) → Bool → Type 0
-PrintsFor layout read (Ok None) held holds broken = (text : List ℕ) × IsTextOf layout read text × Writes held holds broken text
-PrintsFor layout read (Ok (Some fault)) held holds broken = (holds ≡ held) × (broken ≡ false)
-PrintsFor layout read (Err stop) held holds broken = (holds ≡ held) × (broken ≡ false)
+abbrev pub PrintsFor : Edition → Layout → List ℕ → Result (Option Fault) Stop → Option (List ℕ) → Option (List ℕ) → Bool → Type 0
+PrintsFor edition layout read (Ok None) held holds broken = (text : List ℕ) × IsTextOf edition layout read text × Writes held holds broken text
+PrintsFor edition layout read (Ok (Some fault)) held holds broken = (holds ≡ held) × (broken ≡ false)
+PrintsFor edition layout read (Err stop) held holds broken = (holds ≡ held) × (broken ≡ false)
 
 -- The report of a print: as that of a check, and what was written on standard output. Where that failed, standard error says so.
-pub record IsPrintReport (layout : Layout) (name : List ℕ) (had has : Option (List ℕ)) (failed ended : Bool)
+pub record IsPrintReport (edition : Edition) (layout : Layout) (name : List ℕ) (had has : Option (List ℕ)) (failed ended : Bool)
     (printed_held printed_holds : Option (List ℕ)) (unwritable : Bool) (held holds : Option (List ℕ)) (broken : Bool) (status : ℕ) : Type 0 where
   pub read : List ℕ
   pub verdict : Result (Option Fault) Stop
   pub consumed : Consumes had has read
-  pub judged : JudgedFor read failed ended verdict
-  pub prints : PrintsFor layout read verdict printed_held printed_holds unwritable
+  pub judged : JudgedFor edition read failed ended verdict
+  pub prints : PrintsFor edition layout read verdict printed_held printed_holds unwritable
   pub told : IsTold name read (if unwritable then Err Unwritable else verdict) held holds broken status

@@ -1,12 +1,15 @@
 -- The program's command as clap's model has it, and the settings that its matches give.
-use Rattle.std.specs.Prelude.{◌≡◌, ◌≢◌, ◌<◌, ℕ, Bool, true, false, [], List, Option, None, Some, Result, Ok, Err, codes, option_map, option_and_then, pos, if◌then◌else◌}
+use Rattle.std.specs.Prelude.{◌≡◌, ◌≢◌, ◌<◌, ℕ, Bool, true, false, [], ◌∷◌, List, map, Option, None, Some, Result, Ok, Err, codes, option_map, option_and_then, pos, if◌then◌else◌}
+use denote.Ref.{Bor}
 use Rattle.std.specs.Str.{bytes_eq}
 use Rattle.std.specs.Option.{option_map_or}
 use Rattle.clap.specs.Words.{App, HasKind, Rule, Text, fault_of, first_value, found_of, new_app, new_rule, one_text, rows_of, subcommand_of, with_rule, with_subcommand}
 use Rattle.clap.specs.Walk.{byte_or_zero}
 use Rattle.clap.specs.declared.builder.action.ArgAction.TheVariants.{SetTrue}
-use Rattle.clap.specs.declared.builder.value_parser.ValueParser.TheVariants.{Signed}
+use Rattle.clap.specs.declared.builder.value_parser.ValueParser.TheVariants.{Names, Signed}
 use Rattle.clap.specs.declared.parser.matches.ArgMatches.{ArgMatches}
+use Rattle.shgrammar.specs.declared.edition.Edition.{Edition}
+use Rattle.shgrammar.specs.declared.edition.Edition.TheVariants.{Y2017, Y2024}
 use Rattle.shprint.specs.declared.layout.Layout.{Layout}
 use Rattle.shform.specs.declared.asked.Settings.{Settings}
 use Rattle.shform.specs.declared.asked.Tool.{Tool}
@@ -24,48 +27,67 @@ file_rule = new_rule (codes "FILE")
 abbrev pub indent_rule : Rule
 indent_rule = record (new_rule (codes "indent")) { short = Some 105; long = Some (codes "indent"); value_names = 1; parser = Some (Signed (pos 0) (pos 16)) }
 
+-- the names of the editions, as they lie in memory
+abbrev pub Years : Type 0
+Years = Bor (List (Bor Text))
+
+abbrev pub AreYears : Years → Type 0
+AreYears years = map (λ year. year.now) years.now ≡ codes "2017" ∷ codes "2024" ∷ []
+
+-- --edition YEAR: one of them
+abbrev pub edition_rule : Years → Rule
+edition_rule years = record (new_rule (codes "edition")) { long = Some (codes "edition"); value_names = 1; parser = Some (Names years) }
+
 -- a flag --NAME
 abbrev pub flag_rule : Text → Rule
 flag_rule name = record (new_rule name) { long = Some name; action = Some SetTrue }
 
--- check [FILE]
-abbrev pub check_app : App
-check_app = with_rule (new_app (codes "check")) file_rule
+-- NAME [--edition YEAR]
+abbrev pub reading_app : Years → Text → App
+reading_app years name = with_rule (new_app name) (edition_rule years)
+
+-- check [--edition YEAR] [FILE]
+abbrev pub check_app : Years → App
+check_app years = with_rule (reading_app years (codes "check")) file_rule
 
 -- NAME [OPTIONS] [FILE]
-abbrev pub printing_app : Text → App
-printing_app name = with_rule (with_rule (with_rule (with_rule (with_rule (new_app name) indent_rule)
+abbrev pub printing_app : Years → Text → App
+printing_app years name = with_rule (with_rule (with_rule (with_rule (with_rule (reading_app years name) indent_rule)
     (flag_rule (codes "case-indent"))) (flag_rule (codes "space-redirects"))) (flag_rule (codes "func-next-line"))) file_rule
 
 -- print [OPTIONS] [FILE]
-abbrev pub print_app : App
-print_app = printing_app (codes "print")
+abbrev pub print_app : Years → App
+print_app years = printing_app years (codes "print")
 
 -- session [OPTIONS] [FILE]
-abbrev pub session_app : App
-session_app = printing_app (codes "session")
+abbrev pub session_app : Years → App
+session_app years = printing_app years (codes "session")
 
 -- what holds of the whole command: the words begin after the program's name, one of them is a subcommand, and there is a version
 abbrev pub with_settings : App → App
 with_settings a = record { top = record a.top { no_binary_name = true; subcommand_required = true; has_version = true }; subs = a.subs }
 
 -- shform check
-abbrev pub first_app : App
-first_app = with_subcommand (with_settings (new_app (codes "shform"))) check_app.top
+abbrev pub first_app : Years → App
+first_app years = with_subcommand (with_settings (new_app (codes "shform"))) (check_app years).top
 
 -- shform check, shform print
-abbrev pub second_app : App
-second_app = with_subcommand first_app print_app.top
+abbrev pub second_app : Years → App
+second_app years = with_subcommand (first_app years) (print_app years).top
 
 -- shform check, shform print, shform session
-abbrev pub tool_app : App
-tool_app = with_subcommand second_app session_app.top
+abbrev pub tool_app : Years → App
+tool_app years = with_subcommand (second_app years) (session_app years).top
 
 -- ---- what its matches give
 
 -- the tool of a subcommand's name
 abbrev pub tool_named : Text → Tool
 tool_named name = if bytes_eq name (codes "print") then Print else if bytes_eq name (codes "session") then Session else Check
+
+-- the edition of a year; that of 2017 where none is given
+abbrev pub edition_in : Option Text → Edition
+edition_in given = if option_map_or (λ t. bytes_eq t (codes "2024")) given false then Y2024 else Y2017
 
 -- FILE, where it is given and is not -
 abbrev pub file_in : Option Text → Option Text
@@ -95,23 +117,26 @@ IsLayoutFor Session own layout = AreOptions own layout
 
 -- The settings are those of clap's matches of the words: the name of a subcommand, and its own matches.
 pub record AreSettingsOf (words : List Text) (s : Settings) : Type 0 where
+  pub years : Years
+  pub are_years : AreYears years
   pub name : Text
   pub own : ArgMatches
-  pub matches : subcommand_of tool_app words ≡ Some (name, rows_of (found_of own))
+  pub matches : subcommand_of (tool_app years) words ≡ Some (name, rows_of (found_of own))
   pub tool : s.tool ≡ tool_named name
+  pub edition : s.edition ≡ edition_in (first_value (found_of own) (codes "edition"))
   pub layout : IsLayoutFor s.tool own s.layout
   pub file : option_map (λ t. t.now) s.file ≡ file_in (first_value (found_of own) (codes "FILE"))
 
 -- clap let an indent above 16 pass
-pub record HasWideIndent (words : List Text) : Type 0 where
+pub record HasWideIndent (years : Years) (words : List Text) : Type 0 where
   pub name : Text
   pub own : ArgMatches
-  pub matches : subcommand_of tool_app words ≡ Some (name, rows_of (found_of own))
+  pub matches : subcommand_of (tool_app years) words ≡ Some (name, rows_of (found_of own))
   pub tool : tool_named name ≢ Check
   pub indent : 16 < indent_in (one_text (found_of own) (codes "indent"))
 
 -- What there is in place of settings: clap's answer, of a kind that its model has for the words, or an indent that clap should not let pass.
 abbrev pub FailsFor : List Text → Result Settings Usage → Type 0
-FailsFor words (Ok s) = fault_of tool_app words ≡ []
-FailsFor words (Err (Words e)) = HasKind (fault_of tool_app words) e
-FailsFor words (Err (Indent e)) = HasWideIndent words
+FailsFor words (Ok s) = (years : Years) × AreYears years × (fault_of (tool_app years) words ≡ [])
+FailsFor words (Err (Words e)) = (years : Years) × AreYears years × HasKind (fault_of (tool_app years) words) e
+FailsFor words (Err (Indent e)) = (years : Years) × AreYears years × HasWideIndent years words

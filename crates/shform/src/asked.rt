@@ -1,6 +1,7 @@
 //! What the words of the command line ask for.
 
 use shprint::Layout;
+use shread::Edition;
 
 /// What is done with a script.
 #[derive(Clone, Copy, Debug, PartialEq, Eq)]
@@ -17,6 +18,8 @@ pub enum Tool {
 #[derive(Clone, Copy, Debug, PartialEq, Eq)]
 pub struct Settings<'a> {
     pub tool: Tool,
+    /// By which the script is read.
+    pub edition: Edition,
     /// The layout to print in; that of the defaults for a check.
     pub layout: Layout,
     /// The script, or `None` for standard input; for a session, where it begins, or `None` for an empty script.

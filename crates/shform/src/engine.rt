@@ -10,7 +10,7 @@ use crate::printed_part::{PrintedPart, Unprinted};
 use crate::report::{Stop, give_up, tell, write_flushed};
 use crate::sink::Sink;
 use shprint::Layout;
-use shread::ReadError;
+use shread::{Edition, ReadError};
 use shtext::{Failed, Input, LIMIT, Output};
 use std::alloc::Global;
 use std::io::{Read, Write};
@@ -87,10 +87,12 @@ pub fn read_whole<R: Read>(alloc: Global, input: &mut Input<R>) -> Result<Vec<u8
     read_into(input, Vec::new(alloc))
 }
 
-/// Reads the input to its end, and tells the first fault of the script on `errors`, or why there is no verdict. The answer is 0 for a
-/// faultless script, 1 for a faulty one, and 2 where an end or memory failed, or the script is too large.
+/// Reads the input to its end by an edition, and tells the first fault of the script on `errors`, or why
+/// there is no verdict. The answer is 0 for a faultless script, 1 for a faulty one, and 2 where an end or
+/// memory failed, or the script is too large.
 pub fn check_engine<R: Read, O: Write, E: Write>(
     alloc: Global,
+    edition: Edition,
     name: &str,
     input: &mut Input<R>,
     output: &mut Output<O>,
@@ -99,14 +101,14 @@ pub fn check_engine<R: Read, O: Write, E: Write>(
     requires sound { input_failed input.old ≡ false }
     requires open { input_ended input.old ≡ false }
     requires unbroken { output_failed errors.old ≡ false }
-    ensures report { IsReport name.now (left_of R.remaining input.old) (left_of R.remaining input.new)
+    ensures report { IsReport edition name.now (left_of R.remaining input.old) (left_of R.remaining input.new)
         (input_failed input.new) (input_ended input.new)
         (held_of E.contents errors.old) (held_of E.contents errors.new) (output_failed errors.new) result }
     ensures whole { result ≢ 2 → (input_ended input.new ≡ true) × IsAtEnd (left_of R.remaining input.new) }
     ensures silent { output.new ≡ output.old }
 {
     let _ = &*output;
-    let part = match read_into(input, Part::new(alloc)) {
+    let part = match read_into(input, Part::new(alloc, edition)) {
         Ok(part) => part,
         Err(stop) => return give_up(name, stop, errors),
     };
@@ -117,11 +119,13 @@ pub fn check_engine<R: Read, O: Write, E: Write>(
     }
 }
 
-/// Reads the input to its end, and writes the printed text of the script on `output`. A faulty script writes nothing there: its first
-/// fault is told on `errors`, or why there is no text. The answer is 0 for a faultless script, 1 for a faulty one, and 2 where an
-/// end or memory failed, or the script is too large.
+/// Reads the input to its end by an edition, and writes the printed text of the script on `output`. A faulty
+/// script writes nothing there: its first fault is told on `errors`, or why there is no text. The answer is 0
+/// for a faultless script, 1 for a faulty one, and 2 where an end or memory failed, or the script is too
+/// large.
 pub fn print_engine<R: Read, O: Write, E: Write>(
     alloc: Global,
+    edition: Edition,
     layout: &Layout,
     name: &str,
     input: &mut Input<R>,
@@ -132,13 +136,13 @@ pub fn print_engine<R: Read, O: Write, E: Write>(
     requires open { input_ended input.old ≡ false }
     requires unbroken { output_failed errors.old ≡ false }
     requires whole { output_failed output.old ≡ false }
-    ensures report { IsPrintReport layout.now name.now (left_of R.remaining input.old) (left_of R.remaining input.new)
+    ensures report { IsPrintReport edition layout.now name.now (left_of R.remaining input.old) (left_of R.remaining input.new)
         (input_failed input.new) (input_ended input.new)
         (held_of O.contents output.old) (held_of O.contents output.new) (output_failed output.new)
         (held_of E.contents errors.old) (held_of E.contents errors.new) (output_failed errors.new) result }
     ensures whole { result ≢ 2 → (input_ended input.new ≡ true) × IsAtEnd (left_of R.remaining input.new) }
 {
-    let printed = match read_into(input, PrintedPart::new(alloc, layout)) {
+    let printed = match read_into(input, PrintedPart::new(alloc, edition, layout)) {
         Ok(printed) => printed,
         Err(stop) => return give_up(name, stop, errors),
     };

@@ -1,5 +1,5 @@
-//! The program `shform`, which checks and prints scripts of the POSIX shell: `shform check [FILE]`, `shform print [OPTIONS] [FILE]`,
-//! `shform session [OPTIONS] [FILE]`.
+//! The program `shform`, which checks and prints scripts of the POSIX shell: `shform check [OPTIONS] [FILE]`,
+//! `shform print [OPTIONS] [FILE]`, `shform session [OPTIONS] [FILE]`.
 //!
 //! Start with `run`, which takes the words, and with `check_engine` and `print_engine` in `engine`, which do the work over readers
 //! and writers: both read the input piece by piece into a `sink`, which is a `part` of it, for a print with its text a `printed_part`;
@@ -47,16 +47,31 @@ fn on_reader<R: Read + Drop>(
     let mut errors = Output::new(rt.stderr());
     let errors = &mut errors;
     if settings.tool == Tool::Check {
-        check_engine(rt.alloc(), name, &mut input, &mut output, errors)
+        check_engine(
+            rt.alloc(),
+            settings.edition,
+            name,
+            &mut input,
+            &mut output,
+            errors,
+        )
     } else {
         let layout = &settings.layout;
-        print_engine(rt.alloc(), layout, name, &mut input, &mut output, errors)
+        print_engine(
+            rt.alloc(),
+            settings.edition,
+            layout,
+            name,
+            &mut input,
+            &mut output,
+            errors,
+        )
     }
 }
 
 /// Answers requests on standard input for a script of these bytes.
 fn on_script(rt: &HostRuntime, settings: &Settings<'_>, name: &str, bytes: &[u8]) -> u8 {
-    let reader = Reader::new(rt.alloc());
+    let reader = Reader::for_edition(rt.alloc(), settings.edition);
     match Session::open(rt.alloc(), reader, settings.layout, bytes) {
         Ok(mut session) => {
             let mut input = Input::new(rt.stdin());

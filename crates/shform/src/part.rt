@@ -2,11 +2,13 @@
 ghost use Rattle.std.specs.Prelude.{◌+◌, ◌≤◌, length};
 ghost use Rattle.shtext.specs.Edit.{limit};
 
-use shread::Fault;
+use shread::{Edition, Fault};
 
 /// What was read of a script.
 #[derive(Drop)]
 pub struct Part {
+    /// By which it is read.
+    pub(crate) edition: Edition,
     /// What is not passed.
     pub(crate) text: Vec<u8>,
     /// How many bytes are passed.

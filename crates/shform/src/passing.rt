@@ -2,12 +2,13 @@
 //! short lines takes as much memory as a piece of it, however long it is.
 ghost use Rattle.std.specs.Prelude.{◌≡◌, ◌+◌, ◌++◌, ◌≤◌, ℕ, List, [], IfOk, drop, length};
 ghost use Rattle.shform.specs.Part.{EndsLine, Held, Holds, IsFound, IsFoundAt, bytes_read};
+ghost use Rattle.shgrammar.specs.declared.edition.Edition.{Edition as AnEdition};
 ghost use Rattle.shgrammar.specs.Moved.{moved_fault};
 ghost use Rattle.shtext.specs.Edit.{limit};
 
 use crate::part::{Found, Part};
 use crate::sink::Sink;
-use shread::{Fault, ReadError, Reader, faultless_front};
+use shread::{Edition, Fault, ReadError, Reader, faultless_front};
 use shtext::{Flat, line_col_of, newlines_in};
 use std::alloc::{AllocError, Global};
 
@@ -26,10 +27,11 @@ fn drop_front(text: &mut Vec<u8>, count: usize)
 
 impl Part {
     /// Nothing was read.
-    pub fn new(alloc: Global) -> Part
-        ensures { Holds [] result }
+    pub fn new(alloc: Global, edition: Edition) -> Part
+        ensures { Holds edition [] result }
     {
         Part {
+            edition,
             text: Vec::new(alloc),
             passed: 0,
             newlines: 0,
@@ -42,6 +44,7 @@ impl Part {
         requires { bytes_read self.old + length bytes.now ≤ limit }
         ensures held { IfOk result (λ done. (read : List ℕ) → Held read self.old → Held (read ++ bytes.now) self.new) }
         ensures passed { IfOk result (λ done. self.new.passed ≡ self.old.passed) }
+        ensures edition { IfOk result (λ done. self.new.edition ≡ self.old.edition) }
     {
         self.text.extend_from_slice(bytes)?;
         Ok(())
@@ -57,6 +60,7 @@ impl Part {
         requires { EndsLine self.old count }
         ensures held { (read : List ℕ) → Held read self.old → Held read self.new }
         ensures passed { self.new.passed ≡ self.old.passed + count }
+        ensures edition { self.new.edition ≡ self.old.edition }
     {
         let len = self.text.len();
         self.newlines += newlines_in(&self.text[..count]);
@@ -67,12 +71,16 @@ impl Part {
 
     /// Passes what lines there are, where enough is held to look for them.
     fn pass_lines(&mut self) -> Result<(), AllocError>
-        ensures { IfOk result (λ done. (read : List ℕ) → Holds read self.old → Holds read self.new) }
+        ensures { IfOk result (λ done. (edition : AnEdition) (read : List ℕ) → Holds edition read self.old → Holds edition read self.new) }
     {
         if !self.is_due() {
             return Ok(());
         }
-        let Ok(count) = faultless_front(*self.text.allocator(), &Flat::new(&self.text)) else {
+        let Ok(count) = faultless_front(
+            *self.text.allocator(),
+            self.edition,
+            &Flat::new(&self.text),
+        ) else {
             return Err(AllocError);
         };
         self.pass(count);
@@ -97,9 +105,9 @@ impl Part {
 
     /// The first fault of the script, where all of it was read.
     pub fn first_fault(&self, alloc: Global) -> Result<Option<Found>, ReadError>
-        ensures { IfOk result (λ found. (read : List ℕ) → Holds read self.now → IsFound read found) }
+        ensures { IfOk result (λ found. (edition : AnEdition) (read : List ℕ) → Holds edition read self.now → IsFound edition read found) }
     {
-        match Reader::new(alloc).first_fault(&Flat::new(&self.text))? {
+        match Reader::for_edition(alloc, self.edition).first_fault(&Flat::new(&self.text))? {
             None => Ok(None),
             Some(fault) => Ok(Some(self.found(fault))),
         }
@@ -107,7 +115,9 @@ impl Part {
 }
 
 impl Sink for Part {
-    ghost holds = { λ _ read part. Holds read part };
+    ghost Setup = { AnEdition };
+
+    ghost holds = { Holds };
 
     fn take(&mut self, bytes: &[u8]) -> Result<(), AllocError> {
         self.add(bytes)?;

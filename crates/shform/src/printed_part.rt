@@ -2,6 +2,7 @@
 //! text and a piece of the script are, however long that is.
 ghost use Rattle.std.specs.Prelude.{ℕ, List, [], IfErr, IfOk};
 ghost use Rattle.shform.specs.Part.{HoldsPrinted, IsUnprinted};
+ghost use Rattle.shgrammar.specs.declared.edition.Edition.{Edition as AnEdition};
 ghost use Rattle.shprint.specs.declared.layout.Layout.{Layout as ALayout};
 ghost use Rattle.shprint.specs.ReadBack.{IsTextOf};
 
@@ -9,6 +10,7 @@ use crate::part::{Found, Part};
 use crate::sink::Sink;
 use shpieces::{PrintError, Printing};
 use shprint::Layout;
+use shread::Edition;
 use shtext::Flat;
 use std::alloc::{AllocError, Global};
 
@@ -30,18 +32,19 @@ pub enum Unprinted {
 
 impl PrintedPart {
     /// Nothing was read.
-    pub fn new(alloc: Global, layout: &Layout) -> PrintedPart
-        ensures { HoldsPrinted layout.now [] result }
+    pub fn new(alloc: Global, edition: Edition, layout: &Layout) -> PrintedPart
+        ensures { HoldsPrinted edition layout.now [] result }
     {
         PrintedPart {
-            part: Part::new(alloc),
-            printing: Printing::new(alloc, layout),
+            part: Part::new(alloc, edition),
+            printing: Printing::new(alloc, edition, layout),
         }
     }
 
     /// Prints what lines there are, where enough is held to look for them.
     fn print_lines(&mut self) -> Result<(), AllocError>
-        ensures { IfOk result (λ done. (y : ALayout) (read : List ℕ) → HoldsPrinted y read self.old → HoldsPrinted y read self.new) }
+        ensures { IfOk result (λ done. (e : AnEdition) (y : ALayout) (read : List ℕ) → HoldsPrinted e y read self.old →
+            HoldsPrinted e y read self.new) }
     {
         if !self.part.is_due() {
             return Ok(());
@@ -53,8 +56,10 @@ impl PrintedPart {
 
     /// The printed text of the script, where all of it was read.
     pub fn text(self) -> Result<Vec<u8>, Unprinted>
-        ensures printed { IfOk result (λ text. (y : ALayout) (read : List ℕ) → HoldsPrinted y read self → IsTextOf y read text.items) }
-        ensures err { IfErr result (λ e. (y : ALayout) (read : List ℕ) → HoldsPrinted y read self → IsUnprinted read e) }
+        ensures printed { IfOk result (λ text. (e : AnEdition) (y : ALayout) (read : List ℕ) → HoldsPrinted e y read self →
+            IsTextOf e y read text.items) }
+        ensures err { IfErr result (λ error. (e : AnEdition) (y : ALayout) (read : List ℕ) → HoldsPrinted e y read self →
+            IsUnprinted e read error) }
     {
         let PrintedPart { part, printing } = self;
         match printing.print_rest(&Flat::new(&part.text)) {
@@ -66,9 +71,9 @@ impl PrintedPart {
 }
 
 impl Sink for PrintedPart {
-    ghost Setup = { ALayout };
+    ghost Setup = { AnEdition × ALayout };
 
-    ghost holds = { HoldsPrinted };
+    ghost holds = { λ how. HoldsPrinted how.0 how.1 };
 
     fn take(&mut self, bytes: &[u8]) -> Result<(), AllocError> {
         self.part.add(bytes)?;

@@ -4,12 +4,13 @@ ghost use Rattle.clap.specs.Matches.{has_subcommand};
 ghost use Rattle.clap.specs.Words.{FailsBy, app_of, fault_of, first_value, found_of, one_text, rule_of, subcommand_of, subcommand_rows_of, with_rule};
 ghost use Rattle.clap.specs.declared.builder.command.Command.TheViews.{out-Command};
 ghost use Rattle.shform.specs.declared.asked.Tool.TheVariants.{Check};
-ghost use Rattle.shform.specs.Words.{AreOptions, AreSettingsOf, FailsFor, IsLayoutFor, check_app, file_in, file_rule, first_app, flag_rule, indent_in, indent_rule, print_app, printing_app, second_app, session_app, tool_app, tool_named};
+ghost use Rattle.shform.specs.Words.{AreOptions, AreSettingsOf, FailsFor, IsLayoutFor, check_app, edition_in, edition_rule, file_in, file_rule, first_app, flag_rule, indent_in, indent_rule, print_app, printing_app, reading_app, second_app, session_app, tool_app, tool_named};
 
 use crate::asked::{Settings, Tool};
 use crate::usage::Usage;
 use clap::{Arg, ArgAction, ArgMatches, Command, value_parser};
 use shprint::{Layout, LayoutError};
+use shread::Edition;
 use std::alloc::{AllocError, Global};
 
 /// What is said of FILE by the tools that read a script once.
@@ -21,6 +22,21 @@ fn file_arg<'a>(alloc: Global, help: &'a str) -> Arg<'a>
     ensures local { result.global ≡ false }
 {
     Arg::new(alloc, "FILE").help(help)
+}
+
+/// The names of the editions.
+static YEARS: [&str; 2] = ["2017", "2024"];
+
+/// The option `--edition YEAR`.
+fn edition_arg<'a>(alloc: Global, years: &'a [&'a str]) -> Arg<'a>
+    ensures rule { rule_of result ≡ edition_rule years.entry }
+    ensures local { result.global ≡ false }
+{
+    Arg::new(alloc, "edition")
+        .long("edition")
+        .value_name("YEAR")
+        .value_parser(years)
+        .help("The edition of POSIX to read by; 2017 is the default")
 }
 
 /// The option `-i N`.
@@ -60,29 +76,44 @@ fn with_flag<'a>(
     command.arg(flag_arg(alloc, name, help))
 }
 
-/// The subcommand `check`.
-fn check_command<'a>(alloc: Global) -> Result<Command<'a>, AllocError>
-    ensures app { IfOk result (λ c. app_of c ≡ check_app) }
+/// A subcommand with the option that says how a script is read.
+fn reading_command<'a>(
+    alloc: Global,
+    years: &'a [&'a str],
+    name: &'a str,
+    about: &'a str,
+) -> Result<Command<'a>, AllocError>
+    ensures app { IfOk result (λ c. app_of c ≡ reading_app years.entry name.entry.now) }
     ensures local { IfOk result (λ c. (out-Command c).has_globals ≡ false) }
 {
-    Command::new(alloc, "check")
-        .about("Tells the first fault of a script")
-        .arg(file_arg(alloc, STANDARD_INPUT))
+    Command::new(alloc, name)
+        .about(about)
+        .arg(edition_arg(alloc, years))
+}
+
+/// The subcommand `check`.
+fn check_command<'a>(alloc: Global, years: &'a [&'a str]) -> Result<Command<'a>, AllocError>
+    ensures app { IfOk result (λ c. app_of c ≡ check_app years.entry) }
+    ensures local { IfOk result (λ c. (out-Command c).has_globals ≡ false) }
+{
+    reading_command(alloc, years, "check", "Tells the first fault of a script")?.arg(file_arg(
+        alloc,
+        STANDARD_INPUT,
+    ))
 }
 
 /// A subcommand that prints: its options, and FILE.
 fn printing_command<'a>(
     alloc: Global,
+    years: &'a [&'a str],
     name: &'a str,
     about: &'a str,
     file: &'a str,
 ) -> Result<Command<'a>, AllocError>
-    ensures app { IfOk result (λ c. app_of c ≡ printing_app name.entry.now) }
+    ensures app { IfOk result (λ c. app_of c ≡ printing_app years.entry name.entry.now) }
     ensures local { IfOk result (λ c. (out-Command c).has_globals ≡ false) }
 {
-    let command = Command::new(alloc, name)
-        .about(about)
-        .arg(indent_arg(alloc))?;
+    let command = reading_command(alloc, years, name, about)?.arg(indent_arg(alloc))?;
     let command = with_flag(command, alloc, "case-indent", "Indents the items of a case")?;
     let command = with_flag(
         command,
@@ -100,12 +131,13 @@ fn printing_command<'a>(
 }
 
 /// The subcommand `print`.
-fn print_command<'a>(alloc: Global) -> Result<Command<'a>, AllocError>
-    ensures app { IfOk result (λ c. app_of c ≡ print_app) }
+fn print_command<'a>(alloc: Global, years: &'a [&'a str]) -> Result<Command<'a>, AllocError>
+    ensures app { IfOk result (λ c. app_of c ≡ print_app years.entry) }
     ensures local { IfOk result (λ c. (out-Command c).has_globals ≡ false) }
 {
     printing_command(
         alloc,
+        years,
         "print",
         "Prints a script in one layout",
         STANDARD_INPUT,
@@ -113,12 +145,13 @@ fn print_command<'a>(alloc: Global) -> Result<Command<'a>, AllocError>
 }
 
 /// The subcommand `session`.
-fn session_command<'a>(alloc: Global) -> Result<Command<'a>, AllocError>
-    ensures app { IfOk result (λ c. app_of c ≡ session_app) }
+fn session_command<'a>(alloc: Global, years: &'a [&'a str]) -> Result<Command<'a>, AllocError>
+    ensures app { IfOk result (λ c. app_of c ≡ session_app years.entry) }
     ensures local { IfOk result (λ c. (out-Command c).has_globals ≡ false) }
 {
     printing_command(
         alloc,
+        years,
         "session",
         "Keeps a script open and answers requests while it is edited",
         "The script; empty if absent or -",
@@ -126,8 +159,8 @@ fn session_command<'a>(alloc: Global) -> Result<Command<'a>, AllocError>
 }
 
 /// The program's command with `check` alone.
-fn first_command<'a>(alloc: Global) -> Result<Command<'a>, AllocError>
-    ensures app { IfOk result (λ c. app_of c ≡ first_app) }
+fn first_command<'a>(alloc: Global, years: &'a [&'a str]) -> Result<Command<'a>, AllocError>
+    ensures app { IfOk result (λ c. app_of c ≡ first_app years.entry) }
     ensures local { IfOk result (λ c. (out-Command c).has_globals ≡ false) }
 {
     Command::new(alloc, "shform")
@@ -136,32 +169,36 @@ fn first_command<'a>(alloc: Global) -> Result<Command<'a>, AllocError>
         .about("Checks and prints scripts of the POSIX shell")
         .no_binary_name(true)
         .subcommand_required(true)
-        .subcommand(check_command(alloc)?)
+        .subcommand(check_command(alloc, years)?)
 }
 
 /// The program's command with `check` and `print`.
-fn second_command<'a>(alloc: Global) -> Result<Command<'a>, AllocError>
-    ensures app { IfOk result (λ c. app_of c ≡ second_app) }
+fn second_command<'a>(alloc: Global, years: &'a [&'a str]) -> Result<Command<'a>, AllocError>
+    ensures app { IfOk result (λ c. app_of c ≡ second_app years.entry) }
     ensures local { IfOk result (λ c. (out-Command c).has_globals ≡ false) }
 {
-    first_command(alloc)?.subcommand(print_command(alloc)?)
+    first_command(alloc, years)?.subcommand(print_command(alloc, years)?)
 }
 
 /// The program's command.
-fn tool_command<'a>(alloc: Global) -> Result<Command<'a>, AllocError>
-    ensures app { IfOk result (λ c. app_of c ≡ tool_app) }
+fn tool_command<'a>(alloc: Global, years: &'a [&'a str]) -> Result<Command<'a>, AllocError>
+    ensures app { IfOk result (λ c. app_of c ≡ tool_app years.entry) }
     ensures local { IfOk result (λ c. (out-Command c).has_globals ≡ false) }
 {
-    second_command(alloc)?.subcommand(session_command(alloc)?)
+    second_command(alloc, years)?.subcommand(session_command(alloc, years)?)
 }
 
 /// What `clap` takes the words for. A subcommand is always among it.
-fn matches_of<'a>(alloc: Global, words: &'a [&'a str]) -> Result<ArgMatches<'a>, clap::Error>
-    ensures rows { IfOk result (λ m. subcommand_rows_of m ≡ subcommand_of tool_app (map (λ w. w.now) words.entry.now)) }
+fn matches_of<'a>(
+    alloc: Global,
+    years: &'a [&'a str],
+    words: &'a [&'a str],
+) -> Result<ArgMatches<'a>, clap::Error>
+    ensures rows { IfOk result (λ m. subcommand_rows_of m ≡ subcommand_of (tool_app years.entry) (map (λ w. w.now) words.entry.now)) }
     ensures some { IfOk result (λ m. has_subcommand m ≡ true) }
-    ensures fails { FailsBy (fault_of tool_app (map (λ w. w.now) words.entry.now)) result }
+    ensures fails { FailsBy (fault_of (tool_app years.entry) (map (λ w. w.now) words.entry.now)) result }
 {
-    tool_command(alloc)?.try_get_matches_from(words)
+    tool_command(alloc, years)?.try_get_matches_from(words)
 }
 
 /// The tool of a subcommand's name.
@@ -208,6 +245,16 @@ fn layout_of(tool: Tool, matches: &ArgMatches<'_>) -> Result<Layout, LayoutError
     }
 }
 
+/// The edition that is asked for.
+fn edition_of(matches: &ArgMatches<'_>) -> Edition
+    ensures { result ≡ edition_in (first_value (found_of matches.now) (codes "edition")) }
+{
+    match matches.get_str("edition") {
+        Some("2024") => Edition::Y2024,
+        _ => Edition::Y2017,
+    }
+}
+
 /// FILE, where it is given and is not `-`.
 fn file_of<'a>(matches: &ArgMatches<'a>) -> Option<&'a str>
     ensures { option_map (λ t. t.now) result ≡ file_in (first_value (found_of matches.now) (codes "FILE")) }
@@ -230,14 +277,18 @@ pub fn settings<'a>(alloc: Global, words: &'a [&'a str]) -> Result<Settings<'a>,
     ensures indent { IfOk result (λ s. s.layout.indent ≤ 16) }
     ensures fails { FailsFor (map (λ w. w.now) words.entry.now) result }
 {
-    let matches = matches_of(alloc, words).map_err(Usage::Words)?;
+    let matches = matches_of(alloc, YEARS.as_slice(), words).map_err(Usage::Words)?;
     let Some((name, own)) = matches.subcommand() else {
         unreachable!()
     };
     let tool = tool_of(name);
-    Ok(Settings {
-        tool,
-        layout: layout_of(tool, own).map_err(Usage::Indent)?,
-        file: file_of(own),
-    })
+    match layout_of(tool, own) {
+        Ok(layout) => Ok(Settings {
+            tool,
+            edition: edition_of(own),
+            layout,
+            file: file_of(own),
+        }),
+        Err(error) => Err(Usage::Indent(error)),
+    }
 }

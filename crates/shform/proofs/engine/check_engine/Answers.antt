@@ -1,7 +1,8 @@
-use Rattle.std.proofs.Common.{sym, ap, cond, None, Ok, Err, rules}
+use Rattle.std.proofs.Common.{sym, ap, cond, None, Ok, Err}
 use Rattle.shtext.specs.Device.{output_failed}
 use Rattle.shform.specs.declared.report.Stop.TheVariants.{Memory}
 use Rattle.shtext.proofs.Known.{Writes-nothing}
+use Rattle.shform.proofs.Reported.{fault_reported}
 use Rattle.shform.proofs.engine.check_engine.Goals as goal
 
 pub returns-in-Err-clause-report : goal.returns-in-Err-clause-report
@@ -16,7 +17,7 @@ returns-in-Ok-None-clause-report g c =
       read = p.0;
       verdict = Ok None;
       consumed = p.2;
-      judged = (p.5, p.6, p.4, (rw c.in-Ok-None.field-0-is at c.in-Ok-None.ensures) p.0 (p.1 tt c.new.ensures));
+      judged = (p.5, p.6, p.4, (rw c.in-Ok-None.field-0-is at c.in-Ok-None.ensures) c.args.edition p.0 (p.1 c.args.edition c.new.ensures));
       told = record {
         written = Writes-nothing (g.E.Write.contents c.args.errors.now.writer) (output_failed c.args.errors.now) c.requires.unbroken;
         answer = ap (λ broken. cond broken 2 0) (sym c.requires.unbroken);
@@ -25,8 +26,10 @@ returns-in-Ok-None-clause-report g c =
 
 pub returns-in-Ok-Some-clause-report : goal.returns-in-Ok-Some-clause-report
 returns-in-Ok-Some-clause-report g c =
-    let holds = c.in-Ok.ensures.ok.1 tt c.new.ensures in
-    search rules
+    let p = c.in-Ok.ensures.ok in
+    let found = (rw c.in-Ok-Some.field-0-is at c.in-Ok-Some.ensures) c.args.edition p.0 (p.1 c.args.edition c.new.ensures) in
+    fault_reported c.args.edition c.args.name.now _ _ _ _ p.0 p.2 p.5 p.6 p.4 _ _ _ _ c.in-Ok-Some.found.fault found.0
+    (c.tell.ensures.told p.0 found.1.1 found.1.2)
 
 pub returns-clause-report : goal.returns-clause-report
 returns-clause-report g c =

@@ -4,13 +4,15 @@ use Rattle.shgrammar.specs.Scripts.{FirstFault}
 use Rattle.shform.proofs.part.Part.first_fault.Goals as goal
 
 pub returns-in-None : goal.returns-in-None
-returns-in-None c = λ read is.
-    let same = c.new-2.ensures ∙ c.deref.ensures.value in
-    let first = subst (λ bytes. FirstFault bytes c.in_ok-first_fault.field-0) same c.in_ok-first_fault.ensures.fault in
-    first_is read c.args.self.now is None (rw c.in-None.is at first)
+returns-in-None c = λ edition read is.
+    let same = c.new.ensures ∙ c.deref.ensures.value in
+    let told = rw (c.for_edition.ensures.0, is.by) at c.in_ok-first_fault.ensures.fault in
+    let first = subst (λ bytes. FirstFault edition bytes c.in_ok-first_fault.field-0) same told in
+    first_is edition read c.args.self.now is None (rw c.in-None.is at first)
 
 pub returns-in-Some : goal.returns-in-Some
-returns-in-Some c = λ read is.
-    let same = c.new-2.ensures ∙ c.deref.ensures.value in
-    let first = subst (λ bytes. FirstFault bytes c.in_ok-first_fault.field-0) same c.in_ok-first_fault.ensures.fault in
-    found_there read _ c.found.result (c.found.ensures read is.held) (first_is read c.args.self.now is (Some c.in-Some.fault) (rw c.in-Some.is at first))
+returns-in-Some c = λ edition read is.
+    let same = c.new.ensures ∙ c.deref.ensures.value in
+    let told = rw (c.for_edition.ensures.0, is.by) at c.in_ok-first_fault.ensures.fault in
+    let first = subst (λ bytes. FirstFault edition bytes c.in_ok-first_fault.field-0) same told in
+    found_there edition read _ c.found.result (c.found.ensures read is.held) (first_is edition read c.args.self.now is (Some c.in-Some.fault) (rw c.in-Some.is at first))

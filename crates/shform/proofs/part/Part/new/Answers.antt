@@ -3,4 +3,4 @@ use Rattle.shform.proofs.Parts.{holds_none}
 use Rattle.shform.proofs.part.Part.new.Goals as goal
 
 pub returns : goal.returns
-returns c = holds_none _ refl refl c.new.ensures.items
+returns c = holds_none c.args.edition _ refl refl refl c.new.ensures.items

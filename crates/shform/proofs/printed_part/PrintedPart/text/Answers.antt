@@ -4,14 +4,14 @@ use Rattle.shform.proofs.Parts.{found_there, unprinted_is, whole_is}
 use Rattle.shform.proofs.printed_part.PrintedPart.text.Goals as goal
 
 pub returns-in-Ok-clause-printed : goal.returns-in-Ok-clause-printed
-returns-in-Ok-clause-printed c = λ y read is.
+returns-in-Ok-clause-printed c = λ e y read is.
     let part = c.args.self.part in
     let same = c.new.ensures ∙ c.deref.ensures.value in
-    subst (λ bytes. IsTextOf y bytes c.in-Ok.text.items) (ap (λ xs. take part.passed read ++ xs) same ∙ whole_is read part is.held) (c.in-Ok.ensures.printed y (take part.passed read) is.is)
+    subst (λ bytes. IsTextOf e y bytes c.in-Ok.text.items) (ap (λ xs. take part.passed read ++ xs) same ∙ whole_is read part is.held) (c.in-Ok.ensures.printed e y (take part.passed read) is.is)
 
 pub returns-in-Err-Faulty-clause-err : goal.returns-in-Err-Faulty-clause-err
-returns-in-Err-Faulty-clause-err c = λ y read is.
+returns-in-Err-Faulty-clause-err c = λ e y read is.
     let part = c.args.self.part in
     let same = c.new.ensures ∙ c.deref.ensures.value in
-    let refused = rw c.in-Err-Faulty.field-0-is at (c.in-Err-Faulty.ensures.err y (take part.passed read) is.is) in
-    found_there read _ c.found.result (c.found.ensures read is.held) (unprinted_is read part is.held _ c.in-Err-Faulty.fault same refused.0)
+    let refused = rw c.in-Err-Faulty.field-0-is at (c.in-Err-Faulty.ensures.err e y (take part.passed read) is.is) in
+    found_there e read _ c.found.result (c.found.ensures read is.held) (unprinted_is e read part is.held _ c.in-Err-Faulty.fault same refused.0)
