@@ -3,7 +3,7 @@ use crate::digest::Digest;
 use crate::load::Load;
 use shpieces::{PrintError, Printing};
 use shprint::Layout;
-use shread::{Fault, Reader, faultless_front};
+use shread::{Edition, Fault, Reader, faultless_front};
 use shtext::{Flat, line_col_of};
 use std::alloc::{AllocError, Global};
 
@@ -35,7 +35,7 @@ fn behind_front(alloc: Global, text: &[u8]) -> Result<&[u8], AllocError> {
         let Some(piece) = rest.get(..ENOUGH) else {
             break;
         };
-        let Ok(count) = faultless_front(alloc, &Flat::new(piece)) else {
+        let Ok(count) = faultless_front(alloc, Edition::Y2017, &Flat::new(piece)) else {
             return Err(AllocError);
         };
         let Some(behind) = passed(rest, count) else {
@@ -64,7 +64,7 @@ pub(crate) fn print(
     text: &[u8],
     digest: &mut Digest,
 ) -> Result<Option<Vec<u8>>, AllocError> {
-    let mut printing = Printing::new(alloc, layout);
+    let mut printing = Printing::new(alloc, Edition::Y2017, layout);
     let mut rest = text;
     for _ in 0..text.len() {
         let Some(piece) = rest.get(..ENOUGH) else {
