@@ -1,8 +1,9 @@
-//! The tests of the printer and of sessions, over their public calls. The devices and the refused growths that they use are those of the
-//! crate `shtreetests`.
+//! The tests of the printer and of sessions, over their public calls. The devices, the refused growths and the
+//! tables that they use are those of the crate `shtreetests`.
 //!
-//! Start with the module of what is tested: `gap_..` are the tests of `shgap`, `printer_..` those of `shprint`, `session_..` those of `shlive`; those in
-//! `.._refused` refuse each growth of memory in turn. `spliced` is the model by which edits are judged, `windows` that of what they read.
+//! Start with the module of what is tested: `gap_..` are the tests of `shgap`, `printer_..` those of
+//! `shprint`, `session_..` those of `shlive`; those in `.._refused` refuse each growth of memory in turn.
+//! `spliced` is the model by which edits are judged, `windows` that of what they read.
 #![tactic(auto)]
 
 #[cfg(test)]
@@ -17,6 +18,8 @@ mod printer_texts;
 mod session_blocks;
 #[cfg(test)]
 mod session_blocks_refused;
+#[cfg(test)]
+mod session_editions;
 #[cfg(test)]
 mod session_refused;
 #[cfg(test)]

@@ -1,7 +1,7 @@
 // Each growth of a printing refused in turn: `growths.rt` says how.
 use shpieces::{PrintError, Printing, print_source};
 use shprint::{Layout, print};
-use shread::Reader;
+use shread::{Edition, Reader};
 use shtext::Flat;
 use shtreetests::growths::Growths;
 use std::alloc::{AllocError, Global};
@@ -57,7 +57,7 @@ fn source(rt: HostRuntime) -> Result<(), Fail> {
     let mut growths = Growths::of(rt.alloc());
     for _ in 1..100 {
         growths.refuse_next();
-        let text = print_source(rt.alloc(), &layout, &source);
+        let text = print_source(rt.alloc(), Edition::Y2017, &layout, &source);
         let is_met = growths.is_met();
         assert!(rt; is_right(&text, is_met));
         if !is_met {
@@ -70,7 +70,7 @@ fn source(rt: HostRuntime) -> Result<(), Fail> {
 
 /// Reading and printing in two pieces, of which the first ends where it may.
 fn in_pieces(alloc: Global, layout: &Layout, first: usize) -> Result<Vec<u8>, PrintError> {
-    let mut printing = Printing::new(alloc, layout);
+    let mut printing = Printing::new(alloc, Edition::Y2017, layout);
     let front = SCRIPT.get(0..first).unwrap_or(SCRIPT);
     let Ok(count) = printing.print_front(&Flat::new(front)) else {
         return Err(PrintError::Memory);

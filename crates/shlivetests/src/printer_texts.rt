@@ -1,143 +1,160 @@
 // What no clause says: what a layout refuses, that calls succeed where nothing fails, and the texts.
-use shpieces::{PrintError, print_source};
+use shpieces::{PrintError, Printing, print_source};
 use shprint::{Layout, LayoutError, message, print};
-use shread::{Fault, FaultKind, Reader};
+use shread::{Edition, Fault, FaultKind, Reader};
 use shtext::Flat;
+use shtreetests::table::rows;
 use std::alloc::Global;
+use std::process::Abort;
 use std::test::Fail;
 
 /// Scripts, and what is printed for each with a tab for each level.
-const SCRIPTS: [(&[u8], &[u8]); 43] = [
-    (b"", b""),
-    (b"if a;then b;fi", b"if a; then\n\tb\nfi\n"),
-    (b"i\\\nf a; then b; fi", b"if a; then\n\tb\nfi\n"),
-    (b"a \\\n  | b\n", b"a |\n\tb\n"),
-    (b"a\n\n\n\nb;c # d\n", b"a\n\nb\nc # d\n"),
-    (b"{ # x\na;}\n", b"{\n\t# x\n\ta\n}\n"),
-    (b"! { a; } &\n", b"! {\n\ta\n} &\n"),
-    (
-        b"until a # c\ndo b; done\n",
-        b"until\n\ta # c\ndo\n\tb\ndone\n",
-    ),
-    (
-        b"while a\nb\ndo c;done\n",
-        b"while\n\ta\n\tb\ndo\n\tc\ndone\n",
-    ),
-    (
-        b"a && b ||\n# why\nc & # bg\n\n\nd\n",
-        b"a && b || # why\n\tc & # bg\n\nd\n",
-    ),
-    (b"a |\nb && { c; }\n", b"a |\n\tb && {\n\tc\n}\n"),
-    (
-        b"echo \"${x:-it's}\" ${y%'}'}\n",
-        b"echo \"${x:-it's}\" ${y%'}'}\n",
-    ),
-    (b"#!/bin/sh\necho hi\r\n", b"#!/bin/sh\necho hi\r\n"),
-    (b"a \\\n b\n", b"a \\\n\tb\n"),
-    (b"a &&\nb && c ||\nd\n", b"a &&\n\tb && c ||\n\td\n"),
-    (b"a |\nb | c |\nd\n", b"a |\n\tb | c |\n\td\n"),
-    (b"a && # x\n# y\nb\n", b"a && # x\n\t# y\n\tb\n"),
-    (
-        b"if a; then b; elif c & then d; else e; fi",
-        b"if a; then\n\tb\nelif\n\tc &\nthen\n\td\nelse\n\te\nfi\n",
-    ),
-    (b"{ ( a ); }", b"{\n\t(\n\t\ta\n\t)\n}\n"),
-    (
-        b"for i in a \\\n  b # n\ndo echo \"$i\"; done\n",
-        b"for i in a \\\n\tb; do\n\t# n\n\techo \"$i\"\ndone\n",
-    ),
-    (b"for x;do a;done", b"for x do\n\ta\ndone\n"),
-    (b"for x\nin;do a;done&", b"for x in; do\n\ta\ndone &\n"),
-    (
-        b"for do in do;do do=1;done",
-        b"for do in do; do\n\tdo=1\ndone\n",
-    ),
-    (
-        b"for a\\\nb #c\n\n#d\nin 1 2 #e\n\ndo\n\n#f\n\ng;done|h",
-        b"for a\\\nb in 1 2; do\n\t#c\n\t#d\n\t#e\n\t#f\n\n\tg\ndone | h\n",
-    ),
-    (b"f ( )\n\n{ a;}", b"f() {\n\ta\n}\n"),
-    (
-        b"f()\n# x\n\n# y\n( a b ) & # z",
-        b"f() # x\n# y\n(\n\ta b\n) & # z\n",
-    ),
-    (
-        b"{ f\\\ng() if a;then b;fi; }|g() { h() (i);}",
-        b"{\n\tf\\\ng() if a; then\n\t\tb\n\tfi\n} | g() {\n\th() (\n\t\ti\n\t)\n}\n",
-    ),
-    (
-        b"a |\nf() # x\n# y\n{ b; }",
-        b"a |\n\tf() # x\n\t# y\n\t{\n\t\tb\n\t}\n",
-    ),
-    (
-        b"case $1 in # k\n-h|--help) usage;;\n(*) ;; # rest\nesac\n",
-        b"case $1 in\n# k\n-h | --help)\n\tusage\n\t;;\n*) ;;\n# rest\nesac\n",
-    ),
-    (
-        b"case a in (case|esac) b&;; if)\nc\n\n#d\nesac|e",
-        b"case a in\ncase | esac)\n\tb &\n\t;;\nif)\n\tc\n\n\t#d\n\t;;\nesac | e\n",
-    ),
-    (
-        b"case a #b\nin #c\n\nesac #d",
-        b"case a in\n#b\n#c\nesac #d\n",
-    ),
-    (
-        b"case a in b) case c in d) ;; esac ;; esac",
-        b"case a in\nb)\n\tcase c in\n\td) ;;\n\tesac\n\t;;\nesac\n",
-    ),
-    (b"cat<<E\nx\nE", b"cat <<E\nx\nE\n"),
-    (b"cat << -E\nx\n-E\n", b"cat << -E\nx\n-E\n"),
-    (
-        b"cat <<A <<'B' && c\n1\nA\n2\nB\n",
-        b"cat <<A <<'B' && c\n1\nA\n2\nB\n",
-    ),
-    (
-        b"if cat <<-E; then x; fi\n\thi\n\tE\n",
-        b"if cat <<-E; then\n\thi\nE\n\tx\nfi\n",
-    ),
-    (b"a <<E \\\nb\nx\nE\n", b"a <<E \\\n\tb\nx\nE\n"),
-    (b"cat <<E |\nx\nE\nb\n", b"cat <<E |\nx\nE\n\tb\n"),
-    (
-        b"a=$(b;c) d \"$(e|f)\" ${g:-$(h)} $((1+$(i))) `j;k` >$(l)\n",
-        b"a=$(b;c) d \"$(e|f)\" ${g:-$(h)} $((1+$(i))) `j;k` >$(l)\n",
-    ),
-    (
-        b"a $(b $(c;d) <<E # e\n$(f\nE\n\n\ng) \\\n h\n",
-        b"a $(b $(c;d) <<E # e\n$(f\nE\n\n\ng) \\\n\th\n",
-    ),
-    (
-        b"for x in $(a;b);do c $(d);done\ncase $(e) in $(f)|g) $(h);;esac\n",
-        b"for x in $(a;b); do\n\tc $(d)\ndone\ncase $(e) in\n$(f) | g)\n\t$(h)\n\t;;\nesac\n",
-    ),
-    (
-        b"a $(if b;then c;fi;{ d;} ;(e) ;f(){ g;};while h;do i;done)",
-        b"a $(if b;then c;fi;{ d;} ;(e) ;f(){ g;};while h;do i;done)\n",
-    ),
-    (b"a <<E\n$(b;;\nE\n", b"a <<E\n$(b;;\nE\n"),
-];
+const SCRIPTS: &[u8] = br###"
+("", "") ("if a;then b;fi", "if a; then\n\tb\nfi\n") ("i\\\nf a; then b; fi", "if a; then\n\tb\nfi\n")
+("a \\\n  | b\n", "a |\n\tb\n") ("a\n\n\n\nb;c # d\n", "a\n\nb\nc # d\n")
+("{ # x\na;}\n", "{\n\t# x\n\ta\n}\n") ("! { a; } &\n", "! {\n\ta\n} &\n")
+("until a # c\ndo b; done\n", "until\n\ta # c\ndo\n\tb\ndone\n")
+("while a\nb\ndo c;done\n", "while\n\ta\n\tb\ndo\n\tc\ndone\n")
+("a && b ||\n# why\nc & # bg\n\n\nd\n", "a && b || # why\n\tc & # bg\n\nd\n")
+("a |\nb && { c; }\n", "a |\n\tb && {\n\tc\n}\n")
+("echo \"${x:-it's}\" ${y%'}'}\n", "echo \"${x:-it's}\" ${y%'}'}\n")
+("#!/bin/sh\necho hi\r\n", "#!/bin/sh\necho hi\r\n") ("a \\\n b\n", "a \\\n\tb\n")
+("a &&\nb && c ||\nd\n", "a &&\n\tb && c ||\n\td\n") ("a |\nb | c |\nd\n", "a |\n\tb | c |\n\td\n")
+("a && # x\n# y\nb\n", "a && # x\n\t# y\n\tb\n")
+("if a; then b; elif c & then d; else e; fi", "if a; then\n\tb\nelif\n\tc &\nthen\n\td\nelse\n\te\nfi\n")
+("{ ( a ); }", "{\n\t(\n\t\ta\n\t)\n}\n")
+("for i in a \\\n  b # n\ndo echo \"$i\"; done\n", "for i in a \\\n\tb; do\n\t# n\n\techo \"$i\"\ndone\n")
+("for x;do a;done", "for x do\n\ta\ndone\n") ("for x\nin;do a;done&", "for x in; do\n\ta\ndone &\n")
+("for do in do;do do=1;done", "for do in do; do\n\tdo=1\ndone\n")
+("for a\\\nb #c\n\n#d\nin 1 2 #e\n\ndo\n\n#f\n\ng;done|h",
+ "for a\\\nb in 1 2; do\n\t#c\n\t#d\n\t#e\n\t#f\n\n\tg\ndone | h\n")
+("f ( )\n\n{ a;}", "f() {\n\ta\n}\n") ("f()\n# x\n\n# y\n( a b ) & # z", "f() # x\n# y\n(\n\ta b\n) & # z\n")
+("{ f\\\ng() if a;then b;fi; }|g() { h() (i);}",
+ "{\n\tf\\\ng() if a; then\n\t\tb\n\tfi\n} | g() {\n\th() (\n\t\ti\n\t)\n}\n")
+("a |\nf() # x\n# y\n{ b; }", "a |\n\tf() # x\n\t# y\n\t{\n\t\tb\n\t}\n")
+("case $1 in # k\n-h|--help) usage;;\n(*) ;; # rest\nesac\n",
+ "case $1 in\n# k\n-h | --help)\n\tusage\n\t;;\n*) ;;\n# rest\nesac\n")
+("case a in (case|esac) b&;; if)\nc\n\n#d\nesac|e",
+ "case a in\ncase | esac)\n\tb &\n\t;;\nif)\n\tc\n\n\t#d\n\t;;\nesac | e\n")
+("case a #b\nin #c\n\nesac #d", "case a in\n#b\n#c\nesac #d\n")
+("case a in b) case c in d) ;; esac ;; esac", "case a in\nb)\n\tcase c in\n\td) ;;\n\tesac\n\t;;\nesac\n")
+("cat<<E\nx\nE", "cat <<E\nx\nE\n") ("cat << -E\nx\n-E\n", "cat << -E\nx\n-E\n")
+("cat <<A <<'B' && c\n1\nA\n2\nB\n", "cat <<A <<'B' && c\n1\nA\n2\nB\n")
+("if cat <<-E; then x; fi\n\thi\n\tE\n", "if cat <<-E; then\n\thi\nE\n\tx\nfi\n")
+("a <<E \\\nb\nx\nE\n", "a <<E \\\n\tb\nx\nE\n") ("cat <<E |\nx\nE\nb\n", "cat <<E |\nx\nE\n\tb\n")
+("a=$(b;c) d \"$(e|f)\" ${g:-$(h)} $((1+$(i))) `j;k` >$(l)\n",
+ "a=$(b;c) d \"$(e|f)\" ${g:-$(h)} $((1+$(i))) `j;k` >$(l)\n")
+("a $(b $(c;d) <<E # e\n$(f\nE\n\n\ng) \\\n h\n", "a $(b $(c;d) <<E # e\n$(f\nE\n\n\ng) \\\n\th\n")
+("for x in $(a;b);do c $(d);done\ncase $(e) in $(f)|g) $(h);;esac\n",
+ "for x in $(a;b); do\n\tc $(d)\ndone\ncase $(e) in\n$(f) | g)\n\t$(h)\n\t;;\nesac\n")
+("a $(if b;then c;fi;{ d;} ;(e) ;f(){ g;};while h;do i;done)",
+ "a $(if b;then c;fi;{ d;} ;(e) ;f(){ g;};while h;do i;done)\n")
+("a <<E\n$(b;;\nE\n", "a <<E\n$(b;;\nE\n")
+"###;
 
-/// A script's printed text.
-fn printed(alloc: Global, layout: &Layout, script: &[u8]) -> Result<Vec<u8>, Fail> {
-    let source = Flat::new(script);
-    let script = Reader::new(alloc).read_script(&source)?;
-    if script.fault.is_some() {
-        return Err(Fail::from("a fault"));
-    }
-    Ok(print(alloc, layout, &script, &source)?)
+/// The printed text of a script by an edition, by what is read of its lines up to their last one, and behind that.
+fn printed_in_parts(
+    alloc: Global,
+    edition: Edition,
+    layout: &Layout,
+    script: &[u8],
+) -> Result<Vec<u8>, Fail> {
+    let mut printing = Printing::new(alloc, edition, layout);
+    let count = printing.print_front(&Flat::new(script))?;
+    Ok(printing.print_rest(&Flat::new(script.get(count..).unwrap_or(b"")))?)
 }
 
-/// A printed text is printed again as it stands. Read line by line a script has the same text.
+/// The printed text of a script by an edition. Line by line, and in parts, it has the same text.
+fn printed(
+    alloc: Global,
+    edition: Edition,
+    layout: &Layout,
+    script: &[u8],
+) -> Result<Vec<u8>, Fail> {
+    let source = Flat::new(script);
+    let read = Reader::for_edition(alloc, edition).read_script(&source)?;
+    if read.fault.is_some() {
+        return Err(Fail::from("a fault"));
+    }
+    let text = print(alloc, layout, &read, &source)?;
+    if print_source(alloc, edition, layout, &source)? != text {
+        return Err(Fail::from("another text line by line"));
+    }
+    if printed_in_parts(alloc, edition, layout, script)? != text {
+        return Err(Fail::from("another text in parts"));
+    }
+    Ok(text)
+}
+
+/// Judges a table of scripts and their printed texts, which are printed again as they stand.
+fn judge(
+    rt: &impl Abort,
+    alloc: Global,
+    edition: Edition,
+    layout: &Layout,
+    table: &[u8],
+) -> Result<(), Fail> {
+    for (at, row) in rows(alloc, table)?.iter().enumerate() {
+        let [script, text] = row.as_slice() else {
+            return Err(Fail::from("no row"));
+        };
+        for bytes in [&script.bytes, &text.bytes] {
+            let found = printed(alloc, edition, layout, bytes)?;
+            assert!(rt; found == text.bytes, "row {at}");
+        }
+    }
+    Ok(())
+}
+
 #[test]
 fn scripts(rt: HostRuntime) -> Result<(), Fail> {
     let layout = Layout::new(0, false, false, false)?;
-    for (script, wanted) in SCRIPTS {
-        let text = printed(rt.alloc(), &layout, script)?;
-        assert!(rt; text.as_slice() == wanted);
-        assert!(rt; printed(rt.alloc(), &layout, &text)?.as_slice() == wanted);
-        let source = Flat::new(script);
-        assert!(rt; print_source(rt.alloc(), &layout, &source)?.as_slice() == wanted);
+    for edition in [Edition::Y2017, Edition::Y2024] {
+        judge(&rt, rt.alloc(), edition, &layout, SCRIPTS)?;
     }
     Ok(())
+}
+
+#[test]
+fn blanks(rt: HostRuntime) -> Result<(), Fail> {
+    let layout = Layout::new(2, false, false, false)?;
+    let table =
+        br###"("a && b ||\n# why\nc & # bg\n\n\nd\n", "a && b || # why\n  c & # bg\n\nd\n")"###;
+    judge(&rt, rt.alloc(), Edition::Y2017, &layout, table)
+}
+
+/// The `{` of a function on a line of its own; other bodies, and those behind comments, stand as without the option.
+const FUNCTIONS: &[u8] = br###"
+("f() { a;}", "f()\n{\n\ta\n}\n") ("{ f()\n{ a;};}", "{\n\tf()\n\t{\n\t\ta\n\t}\n}\n")
+("f()\n( a )", "f() (\n\ta\n)\n") ("f()\nwhile a;do b;done", "f() while a; do\n\tb\ndone\n")
+("f() # x\n{ a;}", "f() # x\n{\n\ta\n}\n")
+"###;
+
+#[test]
+fn brace_of_a_function(rt: HostRuntime) -> Result<(), Fail> {
+    let layout = Layout::new(0, false, false, true)?;
+    judge(&rt, rt.alloc(), Edition::Y2017, &layout, FUNCTIONS)
+}
+
+/// Scripts of POSIX.1-2024 alone, and their printed texts.
+const LATER: &[u8] = br###"
+("case a in x) b;& # c\ny) c;; z) ;&\nesac\necho $'a\\'b' \"$'\"",
+ "case a in\nx)\n\tb\n\t;&\n# c\ny)\n\tc\n\t;;\nz) ;&\nesac\necho $'a\\'b' \"$'\"\n")
+("f() case $'\\'' in # k\n(x|y) # l\n;\\\n& # m\nesac", "f() case $'\\'' in\n# k\nx | y)\n\t# l\n\t;&\n# m\nesac\n")
+"###;
+
+/// The same, where the items of a `case` stand deeper.
+const LATER_INDENTED: &[u8] = br###"
+("case a in x) b;& # c\ny) c;; z) ;&\nesac",
+ "case a in\n\tx)\n\t\tb\n\t\t;&\n\t# c\n\ty)\n\t\tc\n\t\t;;\n\tz) ;&\nesac\n")
+"###;
+
+#[test]
+fn later_edition(rt: HostRuntime) -> Result<(), Fail> {
+    let layout = Layout::new(0, false, false, false)?;
+    judge(&rt, rt.alloc(), Edition::Y2024, &layout, LATER)?;
+    let layout = Layout::new(0, true, false, false)?;
+    judge(&rt, rt.alloc(), Edition::Y2024, &layout, LATER_INDENTED)
 }
 
 #[test]
@@ -152,38 +169,11 @@ fn faulty(rt: HostRuntime) -> Result<(), Fail> {
         (b"a\nb $(c;;)", FaultKind::Unexpected, 7),
         (b"a\n\"$(b\n", FaultKind::UnclosedSubst, 3),
     ] {
-        let error = print_source(rt.alloc(), &layout, &Flat::new(script)).err();
+        let error = print_source(rt.alloc(), Edition::Y2017, &layout, &Flat::new(script)).err();
         assert!(rt;
             error == Some(PrintError::Faulty(Fault { kind, at })),
             "{at}"
         );
-    }
-    Ok(())
-}
-
-#[test]
-fn blanks(rt: HostRuntime) -> Result<(), Fail> {
-    let layout = Layout::new(2, false, false, false)?;
-    let script = b"a && b ||\n# why\nc & # bg\n\n\nd\n";
-    let text = printed(rt.alloc(), &layout, script)?;
-    assert!(rt; text.as_slice() == b"a && b || # why\n  c & # bg\n\nd\n".as_slice());
-    Ok(())
-}
-
-/// The `{` of a function on a line of its own; other bodies, and those behind comments, stand as without the option.
-#[test]
-fn brace_of_a_function(rt: HostRuntime) -> Result<(), Fail> {
-    let layout = Layout::new(0, false, false, true)?;
-    for (script, wanted) in [
-        (b"f() { a;}".as_slice(), b"f()\n{\n\ta\n}\n".as_slice()),
-        (b"{ f()\n{ a;};}", b"{\n\tf()\n\t{\n\t\ta\n\t}\n}\n"),
-        (b"f()\n( a )", b"f() (\n\ta\n)\n"),
-        (b"f()\nwhile a;do b;done", b"f() while a; do\n\tb\ndone\n"),
-        (b"f() # x\n{ a;}", b"f() # x\n{\n\ta\n}\n"),
-    ] {
-        let text = printed(rt.alloc(), &layout, script)?;
-        assert!(rt; text.as_slice() == wanted);
-        assert!(rt; printed(rt.alloc(), &layout, &text)?.as_slice() == wanted);
     }
     Ok(())
 }
@@ -221,6 +211,10 @@ fn messages(rt: HostRuntime) -> Result<(), Fail> {
         (FaultKind::BadForName, "a:1:20: bad name after for\n"),
         (FaultKind::BadFunctionName, "a:1:20: bad function name\n"),
         (FaultKind::TooDeep, "a:1:20: too many open constructs\n"),
+        (
+            FaultKind::UnclosedDollarSingle,
+            "a:1:20: unclosed dollar-single quote\n",
+        ),
     ] {
         let text = message(rt.alloc(), b"a", 1, 20, Fault { kind, at: 7 })?;
         assert!(rt; text.as_slice() == line.as_bytes(), "{line}");

@@ -12,7 +12,7 @@
 //   <S-E if .. then .. elif .. then .. else ..>, <S-E while .. do ..>, <S-E until .. do ..>
 //   <S-E for W in I I do ..>    its name, and its words where `in` stands; an item that is broken has `^` before it
 //   <S-E case W (S-E #.. P|P ..) ..>    its word, and its items: each with its span, its comments, its patterns and its entries;
-//                behind the last item the comments that follow it
+//                where it falls through, `;&` stands behind those; behind the last item the comments that follow it
 //   fS-E#..{..}  a function: its name, its comments and its body
 //   #S-E         a comment that is an entry
 //   ~            before an entry: it is blank
@@ -197,7 +197,7 @@ fn dump_case_item(text: &mut String, item: &CaseItem) -> Result<(), Fail> {
     if !item.body.entries.is_empty() {
         dump_part(text, "", &item.body)?;
     }
-    text.push_str(")")?;
+    text.push_str(if item.falls { " ;&)" } else { ")" })?;
     Ok(())
 }
 
@@ -343,9 +343,14 @@ pub(crate) struct Judge {
 
 impl Judge {
     pub(crate) fn new(alloc: Global) -> Judge {
+        Judge::of(alloc, Reader::new(alloc))
+    }
+
+    /// One that reads with this reader.
+    pub(crate) fn of(alloc: Global, reader: Reader) -> Judge {
         Judge {
             alloc,
-            reader: Reader::new(alloc),
+            reader,
             wrong: String::new(alloc),
         }
     }

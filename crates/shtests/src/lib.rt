@@ -1,16 +1,16 @@
 //! The tests of the reader, and of what is asked of the trees that it reads, over their public calls. The tests of what stands below the reader
-//! are the crate `shtreetests`, whose refused growths are used here; those of what stands above it are the crate `shlivetests`.
+//! are the crate `shtreetests`, whose refused growths and tables are used here; those of what stands above it are the crate `shlivetests`.
 //!
 //! Start with the module of what is tested: `reader_..` are the tests of `shread`, `tree_append` and `tree_nodes` those of `shtree`;
-//! `reader_refused` refuses each growth of memory in turn. The others help: `table` reads tables of rows, whose cells `cell` joins, and
-//! `dump` writes trees as short texts. `tree_size` is for `tests/bench`.
+//! `reader_refused` refuses each growth of memory in turn. `dump` writes trees as short texts. `tree_size` is for `tests/bench`.
 #![tactic(auto)]
 
-pub mod cell;
 #[cfg(test)]
 mod dump;
 #[cfg(test)]
 mod reader_beginnings;
+#[cfg(test)]
+mod reader_editions;
 #[cfg(test)]
 mod reader_lines;
 #[cfg(test)]
@@ -23,8 +23,6 @@ mod reader_sources;
 mod reader_spare;
 #[cfg(test)]
 mod reader_trees;
-#[cfg(test)]
-mod table;
 #[cfg(test)]
 mod tree_append;
 #[cfg(test)]

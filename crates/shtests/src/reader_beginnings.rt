@@ -2,9 +2,9 @@
 // alike. The faults were told by a reading of the grammar written apart.
 use crate::dump::Judge;
 use crate::reader_lines::judge_lines;
-use crate::table::rows;
 use shread::Reader;
 use shtext::Flat;
+use shtreetests::table::rows;
 use std::alloc::Global;
 use std::test::Fail;
 

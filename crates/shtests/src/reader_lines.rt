@@ -1,14 +1,14 @@
 // Scripts read line by line: what a line is, where it ends, and that lines come to what the whole script has.
 // The answers are worked out by hand from the grammar; none is what the reader told. `table.rt` and `dump.rt`
 // say how they are written.
-use crate::cell::{Cell, joined};
 use crate::dump::{Judge, dump_end, dump_fault};
 use crate::reader_trees::ROWS;
-use crate::table::{rows, split};
-use shread::{Fault, Line, LineKind, Reader, ScriptLine, ScriptLines, faultless_front};
+use shread::{Edition, Fault, Line, LineKind, Reader, ScriptLine, ScriptLines, faultless_front};
 use shtext::Flat;
 use shtree::make::list_of;
 use shtree::{Command, Content, List};
+use shtreetests::cell::{Cell, joined};
+use shtreetests::table::{rows, split};
 use std::alloc::Global;
 use std::test::Fail;
 
@@ -83,7 +83,7 @@ const FRONTS: &[u8] = br###"
 fn fronts(rt: HostRuntime) -> Result<(), Fail> {
     for row in &rows(rt.alloc(), FRONTS)? {
         for script in row {
-            let count = faultless_front(rt.alloc(), &Flat::new(&script.bytes))?;
+            let count = faultless_front(rt.alloc(), Edition::Y2017, &Flat::new(&script.bytes))?;
             assert!(rt; count == script.number, "{count} of {:?}", script.bytes);
         }
     }
@@ -101,7 +101,7 @@ fn judge_whole(judge: &mut Judge, alloc: Global, row: &[Cell]) -> Result<(), Fai
         return Err(Fail::from("no row"));
     };
     let source = Flat::new(&script.bytes);
-    let mut lines = ScriptLines::new(alloc, &source);
+    let mut lines = ScriptLines::new(alloc, Edition::Y2017, &source);
     let Some(entries) = lines.read_whole()? else {
         return judge.text(&script.bytes, "none", &wanted.bytes);
     };
@@ -135,7 +135,7 @@ fn judge_outer(judge: &mut Judge, alloc: Global, row: &[Cell]) -> Result<(), Fai
         return Err(Fail::from("no row"));
     };
     let source = Flat::new(&script.bytes);
-    let mut lines = ScriptLines::new(alloc, &source);
+    let mut lines = ScriptLines::new(alloc, Edition::Y2017, &source);
     let (kind, ended) = match lines.read_outer_with(None)? {
         ScriptLine::Ended(entries) => (LineKind::Entries(list_of(entries)), true),
         ScriptLine::Last(entries) => (LineKind::Entries(list_of(entries)), false),

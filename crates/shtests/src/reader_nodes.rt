@@ -1,12 +1,12 @@
 // What stands where in scripts that are read: the outline of a script, and the nodes at a byte of a line. The nodes are worked out by
 // hand. What both calls ask of a list is proved of those that the reader answers.
-use crate::cell::Cell;
 use crate::dump::Judge;
-use crate::table::rows;
 use shread::{LineKind, Reader};
 use shtext::Flat;
 use shtree::laws::greater_limit;
 use shtree::{NodeLine, nodes_at, outline_of};
+use shtreetests::cell::Cell;
+use shtreetests::table::rows;
 use std::alloc::Global;
 use std::test::Fail;
 

@@ -4,7 +4,9 @@ ghost use Rattle.shread.specs.LineByLine.{bytes_of, place_of};
 ghost use Rattle.shast.specs.Nodes.{AreWithin};
 ghost use Rattle.shast.specs.View.{view_list};
 
-use shread::{Line, LineKind, ReadError, Reader, ScriptLine, ScriptLines, faultless_front};
+use shread::{
+    Edition, Line, LineKind, ReadError, Reader, ScriptLine, ScriptLines, faultless_front,
+};
 use shtext::{Flat, Source};
 use shtree::laws::greater_limit;
 use shtree::{List, NodeKind, NodeLine};
@@ -140,7 +142,7 @@ fn front_of_documents(rt: HostRuntime) -> Result<(), Fail> {
     let mut growths = Growths::of(rt.alloc());
     for _ in 1..100 {
         growths.refuse_next();
-        let count = faultless_front(rt.alloc(), &Flat::new(DOCUMENTS));
+        let count = faultless_front(rt.alloc(), Edition::Y2017, &Flat::new(DOCUMENTS));
         if !growths.is_met() {
             assert!(rt; count? == DOCUMENTS.len());
             break;
@@ -256,7 +258,7 @@ fn lines(rt: HostRuntime) -> Result<(), Fail> {
     let mut growths = Growths::of(rt.alloc());
     let source = Flat::new(b"a\nb 'c'; d # e\nf");
     for _ in 1..100 {
-        let mut lines = ScriptLines::new(rt.alloc(), &source);
+        let mut lines = ScriptLines::new(rt.alloc(), Edition::Y2017, &source);
         assert!(rt; next_line(&mut lines)? == Some((1, false)));
         growths.refuse_next();
         let read = next_line(&mut lines);

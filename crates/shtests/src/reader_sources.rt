@@ -1,10 +1,10 @@
 // Sources told in stretches, and numbers: what no table of scripts holds.
-use crate::cell::Cell;
 use crate::dump::{Judge, dumped};
 use crate::reader_trees::ROWS;
-use crate::table::{rows, split};
 use shread::{FaultKind, ReadError, Reader};
 use shtext::{Flat, Source};
+use shtreetests::cell::Cell;
+use shtreetests::table::{rows, split};
 use std::alloc::Global;
 use std::test::Fail;
 
@@ -27,6 +27,7 @@ fn numbers(rt: HostRuntime) {
         FaultKind::BadForName,
         FaultKind::BadFunctionName,
         FaultKind::TooDeep,
+        FaultKind::UnclosedDollarSingle,
     ];
     for (n, kind) in kinds.into_iter().enumerate() {
         assert!(rt; kind as usize == n + 1);

@@ -1,9 +1,9 @@
 // Lines that are read into vectors which earlier lines gave back: they have what they have without.
 use crate::reader_trees::ROWS;
-use crate::table::{rows, split};
 use shast::{Entry, Spare};
-use shread::{LinesBefore, ScriptLine, ScriptLines};
+use shread::{Edition, LinesBefore, ScriptLine, ScriptLines};
 use shtext::Flat;
+use shtreetests::table::{rows, split};
 use std::alloc::Global;
 use std::test::Fail;
 
@@ -35,9 +35,11 @@ fn are_alike(alloc: Global, script: &[u8], spare: &mut Spare) -> Result<bool, Fa
     let mut before = LinesBefore::none();
     for _ in 0..=script.len() {
         let source = Flat::new(rest);
-        let mut lines = ScriptLines::behind(alloc, &source, before);
+        let mut lines = ScriptLines::behind(alloc, Edition::Y2017, &source, before);
         let line = lines.read_next()?;
-        let other = ScriptLines::behind(alloc, &source, before).read_next_with(Some(&mut *spare))?;
+        let other = ScriptLines::behind(alloc, Edition::Y2017, &source, before).read_next_with(Some(
+            &mut *spare,
+        ))?;
         if told(alloc, &line)? != told(alloc, &other)? {
             return Ok(false);
         }
@@ -57,9 +59,11 @@ fn are_whole_alike(alloc: Global, script: &[u8], spare: &mut Spare) -> Result<bo
     let mut before = LinesBefore::none();
     for _ in 0..=script.len() {
         let source = Flat::new(rest);
-        let mut lines = ScriptLines::behind(alloc, &source, before);
+        let mut lines = ScriptLines::behind(alloc, Edition::Y2017, &source, before);
         let line = lines.read_whole()?;
-        let other = ScriptLines::behind(alloc, &source, before).read_whole_with(Some(&mut *spare))?;
+        let other = ScriptLines::behind(alloc, Edition::Y2017, &source, before).read_whole_with(
+            Some(&mut *spare),
+        )?;
         if told_whole(alloc, &line)? != told_whole(alloc, &other)? {
             return Ok(false);
         }
@@ -101,7 +105,7 @@ fn taken(rt: HostRuntime) -> Result<(), Fail> {
     let alloc = rt.alloc();
     let mut spare = Spare::new(alloc);
     let source = Flat::new(b"a b\nc d\n");
-    let mut lines = ScriptLines::new(alloc, &source);
+    let mut lines = ScriptLines::new(alloc, Edition::Y2017, &source);
     if let Some(entries) = lines.read_whole_with(Some(&mut spare))? {
         spare.give_back(entries);
     }
@@ -120,7 +124,7 @@ fn none_taken_where_none_grows(rt: HostRuntime) -> Result<(), Fail> {
     let alloc = rt.alloc();
     let mut spare = Spare::new(alloc);
     let source = Flat::new(b"a; b; c; d; e\na $(b; c | d) \"$({ e; f; })\"\n");
-    let mut lines = ScriptLines::new(alloc, &source);
+    let mut lines = ScriptLines::new(alloc, Edition::Y2017, &source);
     if let Some(entries) = lines.read_whole_with(Some(&mut spare))? {
         spare.give_back(entries);
     }

@@ -1,10 +1,10 @@
 // Scripts whose trees and faults pin each rule of the grammar: where a rule is turned, a row fails. The answers are worked out by
 // hand from the grammar; none is what the reader told. Rows of one theme stand together, several on a line: `table.rt` says how
 // they are written, and `dump.rt` how the dumps are.
-use crate::cell::{Cell, joined};
 use crate::dump::Judge;
-use crate::table::{rows, split};
 use shtext::Flat;
+use shtreetests::cell::{Cell, joined};
+use shtreetests::table::{rows, split};
 use std::alloc::Global;
 use std::test::Fail;
 

@@ -60,10 +60,11 @@ impl<'a> Documents<'a> {
         let script = self.script;
         let alloc = script.alloc;
         let mut items = Vec::new(alloc);
-        for name in ["P", "Q"] {
+        for (name, falls) in [("P", true), ("Q", false)] {
             let patterns = script.patterns(script.word("A"))?;
             let comments = Vec::new(alloc);
-            items.push(case_item_of(comments, patterns, self.list(name)?, script.at("A")))?;
+            let body = self.list(name)?;
+            items.push(case_item_of(comments, patterns, body, script.at("A"), falls))?;
         }
         Ok(case_of(script.word("A"), items, Vec::new(alloc)))
     }

@@ -165,6 +165,7 @@ fn case_item(alloc: Global, pattern: Word, body: List) -> Result<CaseItem, Alloc
         patterns: script.patterns(pattern)?,
         body,
         span: script.at(""),
+        falls: false,
     })
 }
 

@@ -1,6 +1,6 @@
 -- What a cell of a table stands for.
 use Rattle.std.specs.Prelude.{ℕ, zero, suc, List, [], ◌++◌, max}
-use Rattle.shtests.specs.declared.cell.Cell.{Cell}
+use Rattle.shtreetests.specs.declared.cell.Cell.{Cell}
 
 -- a text so many times
 unfoldable pub times : ℕ → List ℕ → List ℕ

@@ -98,7 +98,7 @@ fn mark(
 }
 
 /// The rows of a table.
-pub(crate) fn rows(alloc: Global, table: &[u8]) -> Result<Vec<Vec<Cell>>, Fail> {
+pub fn rows(alloc: Global, table: &[u8]) -> Result<Vec<Vec<Cell>>, Fail> {
     let mut rows = Vec::new(alloc);
     let mut row = Vec::new(alloc);
     let mut state = State::Outside;
@@ -118,7 +118,7 @@ pub(crate) fn rows(alloc: Global, table: &[u8]) -> Result<Vec<Vec<Cell>>, Fail> 
 }
 
 /// The cells of a row but the last, and the last.
-pub(crate) fn split(row: &[Cell]) -> Result<(&[Cell], &Cell), Fail> {
+pub fn split(row: &[Cell]) -> Result<(&[Cell], &Cell), Fail> {
     match row {
         [cells @ .., last] => Ok((cells, last)),
         _ => Err(Fail::from("no row")),

@@ -1,7 +1,7 @@
 //! The cells of a row of a table: a text, and how often it stands. What a row asks for is as good as the script that is made of its cells,
 //! so that is said by contract.
 ghost use Rattle.std.specs.Prelude.{◌≡◌, ◌++◌, IfOk, flat_map};
-ghost use Rattle.shtests.specs.Cells.{cell_text};
+ghost use Rattle.shtreetests.specs.Cells.{cell_text};
 
 use std::alloc::{AllocError, Global};
 
