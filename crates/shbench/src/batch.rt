@@ -1,9 +1,10 @@
 //! Scripts that are checked and printed as the program does: a large one in pieces, whose whole lines are passed.
 use crate::digest::Digest;
 use crate::load::Load;
+use shpass::faultless_front;
 use shpieces::{PrintError, Printing};
 use shprint::Layout;
-use shread::{Edition, Fault, Reader, faultless_front};
+use shread::{Edition, Fault, Reader};
 use shtext::{Flat, line_col_of};
 use std::alloc::{AllocError, Global};
 

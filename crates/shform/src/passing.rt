@@ -8,7 +8,8 @@ ghost use Rattle.shtext.specs.Edit.{limit};
 
 use crate::part::{Found, Part};
 use crate::sink::Sink;
-use shread::{Edition, Fault, ReadError, Reader, faultless_front};
+use shpass::faultless_front;
+use shread::{Edition, Fault, ReadError, Reader};
 use shtext::{Flat, line_col_of, newlines_in};
 use std::alloc::{AllocError, Global};
 

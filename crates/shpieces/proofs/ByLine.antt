@@ -5,18 +5,18 @@ use Rattle.std.proofs.Math.Seq.{drop-append_seam, drop-append-add, take-add, tak
 use Rattle.shgrammar.specs.declared.edition.Edition.{Edition}
 use Rattle.shgrammar.specs.declared.fault.Fault.{Fault}
 use Rattle.shgrammar.specs.Form.{Read}
-use Rattle.shread.specs.declared.script_lines.LinesBefore.{LinesBefore}
-use Rattle.shread.specs.declared.script_lines.ScriptLine.{ScriptLine}
-use Rattle.shread.specs.declared.script_lines.ScriptLine.TheVariants.{Ended, Last, Faulty}
-use Rattle.shread.specs.declared.script_lines.ScriptLines.{ScriptLines}
+use Rattle.shpass.specs.declared.script_lines.LinesBefore.{LinesBefore}
+use Rattle.shpass.specs.declared.script_lines.ScriptLine.{ScriptLine}
+use Rattle.shpass.specs.declared.script_lines.ScriptLine.TheVariants.{Ended, Last, Faulty}
+use Rattle.shpass.specs.declared.script_lines.ScriptLines.{ScriptLines}
 use Rattle.shgrammar.specs.Commands.{is_empty}
-use Rattle.shread.specs.LineByLine.{Before, IsOuterLine, IsWholeLine, LineWithin, OuterReads, Rest, Stands, before_of, no_lines, place_of}
+use Rattle.shpass.specs.LineByLine.{Before, IsOuterLine, IsWholeLine, LineWithin, OuterReads, Rest, Stands, before_of, no_lines, place_of}
 use Rattle.shgrammar.specs.declared.keep.Keep.TheVariants.{Whole}
 use Rattle.shast.specs.Moved.{blanked_row, moved_entry, outer_entry, placed_body}
 use Rattle.shgrammar.specs.Moved.{moved_fault}
 use Rattle.shgrammar.specs.Scripts.{AScript, FirstFault, Outcome, SoFar, faulty, is_blank_line, last_line, line_ended, nothing_yet, with_line}
 use Rattle.shgrammar.specs.Sights.{State}
-use Rattle.shread.proofs.LineByLine.{line_only, line_read}
+use Rattle.shpass.proofs.LineByLine.{line_only, line_read}
 use Rattle.shgrammar.proofs.LineInPiece.{There, outer_alone, fault_there, stands_there, told_same}
 use Rattle.shgrammar.proofs.Passing.{line_there}
 use Rattle.shgrammar.proofs.SameLine.{newline_at, same_front}

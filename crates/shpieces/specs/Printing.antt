@@ -1,7 +1,7 @@
 -- What is printed of a script that is read in pieces.
 use Rattle.std.specs.Prelude.{◌≡◌, ◌≤◌, ℕ, ◌++◌, List, [], length, Option, None, Some}
-use Rattle.shread.specs.declared.script_lines.LinesBefore.{LinesBefore}
-use Rattle.shread.specs.LineByLine.{Before, Rest}
+use Rattle.shpass.specs.declared.script_lines.LinesBefore.{LinesBefore}
+use Rattle.shpass.specs.LineByLine.{Before, Rest}
 use Rattle.shgrammar.specs.declared.edition.Edition.{Edition}
 use Rattle.shgrammar.specs.declared.fault.Fault.{Fault}
 use Rattle.shgrammar.specs.Moved.{moved_fault}

@@ -8,8 +8,8 @@ ghost use Rattle.shprint.specs.ReadBack.{IsTextOf};
 
 use shast::{Entry, Spare};
 use shgrammar::{Edition, Fault};
+use shpass::{LinesBefore, ScriptLine, ScriptLines};
 use shprint::{Layout, Page, Printer};
-use shread::{LinesBefore, ScriptLine, ScriptLines};
 use shtext::Source;
 use std::alloc::{AllocError, Global};
 use thiserror::Error;

@@ -1,2 +1,1 @@
-pub mod LineByLine
 pub mod Outcome2017

@@ -1,4 +1,5 @@
--- The outcomes by POSIX.1-2017 are those that are said without a later edition: a form reads the same where rows see the same.
+-- The outcomes by POSIX.1-2017 are those where rows see what that edition says: a form reads the same where
+-- rows see the same.
 use Rattle.std.proofs.Common.{◌≡◌, ℕ, Bool, Ok, Err, List, List as Row, drop, refl, sym, subst, ◌∙◌}
 use Rattle.shgrammar.specs.declared.edition.Edition.TheVariants.{Y2017}
 use Rattle.shgrammar.specs.declared.fault.FaultKind.{FaultKind}

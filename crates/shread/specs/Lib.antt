@@ -1,3 +1,2 @@
 pub mod Answers
-pub mod LineByLine
 pub mod Outcome2017

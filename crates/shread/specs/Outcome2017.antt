@@ -1,6 +1,6 @@
--- What POSIX.1-2017 makes of a script, said without a later edition: a row of the grammar sees what that
--- edition says (`shgrammar/specs/By2017`), and the cases are those of `may` and `Lines`. A law of this crate,
--- `by_2017`, says that the outcomes by that edition are these.
+-- What POSIX.1-2017 makes of a script: the rows of the grammar see what that edition says
+-- (`shgrammar/specs/By2017`), and the cases are those of `may` and `Lines`. A law of this crate, `by_2017`,
+-- says that the outcomes by that edition are these.
 use Rattle.std.specs.Prelude.{ℕ, ◌+◌, true, false, [], ◌∷◌, ◌++◌, List, List as Row, drop, None, Some, Ok, Err}
 use Rattle.shgrammar.specs.declared.edition.Edition.TheVariants.{Y2017}
 use Rattle.shgrammar.specs.declared.fault.Fault.{Fault}

@@ -4,11 +4,10 @@ ghost use Rattle.shgrammar.specs.Scripts.{view_script};
 ghost use Rattle.shgrammar.specs.Scripts.{script_at};
 ghost use Rattle.shast.specs.Nodes.{AreWithin};
 
-use crate::error::ReadError;
-use crate::script_lines::{ScriptLine, ScriptLines};
 use shast::Entry;
 use shast::make::list_of;
 use shgrammar::{Edition, Script};
+use shpass::{ReadError, ScriptLine, ScriptLines};
 use shtext::Source;
 use std::alloc::Global;
 

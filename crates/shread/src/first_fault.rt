@@ -3,9 +3,9 @@ ghost use Rattle.std.specs.Prelude.{◌≡◌, ◌≤◌, IfOk, IfSome, length};
 ghost use Rattle.shgrammar.specs.Scripts.{first_fault_from};
 ghost use Rattle.shread.specs.Answers.{Tells};
 
-use crate::error::ReadError;
 use shgrammar::{Edition, Fault, Keep};
 use shline::{SEEN, Stop, Told, line_at};
+use shpass::ReadError;
 use shtext::Source;
 use std::alloc::Global;
 use std::mem;

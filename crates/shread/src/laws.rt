@@ -46,12 +46,15 @@ pub fn word_anywhere()
     ensures only { (room p m n : ℕ) (g : Given) → IsWord room g p m → IsWord room g p n → m ≡ n }
 {}
 
-/// The outcome of a script by POSIX.1-2017 is the one that is said without a later edition, for all bytes.
-/// For a row of the grammar sees what the definitions of that edition alone say: the same tokens, pieces of
-/// words and delimiters. No token is `;&`, so that no item of a `case` that is read falls through.
+/// The outcome of a script by POSIX.1-2017 is, for all bytes, the one where the rows of the grammar see what
+/// definitions say that know of no later edition: the tokens, the pieces of words and the delimiters. The
+/// rows are the same, also those for what a later edition has. No token that they see ends an item of a
+/// `case` that falls through.
 pub fn by_2017()
-    ensures outcome { (bytes : List ℕ) (a : AScript) → Outcome Edition.Y2017 bytes a → Outcome_2017 bytes a }
-    ensures back { (bytes : List ℕ) (a : AScript) → Outcome_2017 bytes a → Outcome Edition.Y2017 bytes a }
+    ensures outcome { (bytes : List ℕ) (a : AScript) →
+        Outcome Edition.Y2017 bytes a → Outcome_2017 bytes a }
+    ensures back { (bytes : List ℕ) (a : AScript) →
+        Outcome_2017 bytes a → Outcome Edition.Y2017 bytes a }
     ensures token { (position : Position) (g : Given) (s : State) → g.edition ≡ Edition.Y2017 →
         seen (the_token position) g s ≡ next_2017 position g.text s.at }
     ensures piece { (mode : Mode) (nested : ℕ) (g : Given) (s : State) → g.edition ≡ Edition.Y2017 →

@@ -1,17 +1,16 @@
 //! One line of a source, alone or as a script of its own.
-ghost use Rattle.std.specs.Prelude.{◌≡◌, ◌+◌, ◌-◌, ◌^◌, ◌<◌, ◌≤◌, drop, false, length, map, true, IfOk, IsOk};
+ghost use Rattle.std.specs.Prelude.{◌≡◌, ◌+◌, ◌-◌, ◌<◌, ◌≤◌, drop, false, length, map, true, IfOk, IsOk};
 ghost use Rattle.shread.specs.Answers.{view_kind, view_line};
 ghost use Rattle.shgrammar.specs.Lines.{FaultWithin, kind_of};
 ghost use Rattle.shgrammar.specs.Scripts.{line_of_text};
-ghost use Rattle.shgrammar.specs.Standing.{raw_stands};
 ghost use Rattle.shast.specs.View.{view_entry};
 
-use crate::error::ReadError;
 use crate::reader::{Line, LineKind};
 use shast::Entry;
 use shast::make::list_of;
 use shgrammar::{Edition, Keep};
 use shline::{KEPT, Stop, Told, line_at};
+use shpass::{ReadError, ends_in_newline};
 use shtext::Source;
 use std::alloc::Global;
 
@@ -27,19 +26,6 @@ fn line_kind(entries: Vec<Entry>, newline: bool) -> LineKind
         LineKind::Blank
     } else {
         LineKind::End
-    }
-}
-
-/// Whether a newline is the last byte of a line of so many bytes, of one or more.
-#[tactic(auto, unfolding(shgrammar::specs::Standing::raw_stands), using(shgrammar::proofs::Stretches::get_drop))]
-pub(crate) fn ends_in_newline<S: Source>(source: &S, at: usize, len: usize) -> bool
-    requires some { 0 < len }
-    requires fits { at + len < 2 ^ 64 }
-    ensures { result ≡ raw_stands (drop at (S.bytes source.now)) (len - 1) 10 }
-{
-    match source.byte(at + (len - 1)) {
-        Some(byte) => byte == b'\n',
-        None => false,
     }
 }
 

@@ -1,6 +1,7 @@
 // What the editions differ in: text in dollar-single quotes, and `;&`.
 use crate::dump::Judge;
-use shread::{Edition, Reader, faultless_front};
+use shpass::faultless_front;
+use shread::{Edition, Reader};
 use shtext::Flat;
 use shtreetests::cell::Cell;
 use shtreetests::table::rows;

@@ -3,7 +3,8 @@
 // say how they are written.
 use crate::dump::{Judge, dump_end, dump_fault};
 use crate::reader_trees::ROWS;
-use shread::{Edition, Fault, Line, LineKind, Reader, ScriptLine, ScriptLines, faultless_front};
+use shpass::{ScriptLine, ScriptLines, faultless_front};
+use shread::{Edition, Fault, Line, LineKind, Reader};
 use shtext::Flat;
 use shtree::make::list_of;
 use shtree::{Command, Content, List};

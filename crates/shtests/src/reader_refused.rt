@@ -1,12 +1,11 @@
 // Each growth of a reading refused in turn: `growths.rt` says how.
 ghost use Rattle.std.specs.Prelude.{◌≤◌, length};
-ghost use Rattle.shread.specs.LineByLine.{bytes_of, place_of};
+ghost use Rattle.shpass.specs.LineByLine.{bytes_of, place_of};
 ghost use Rattle.shast.specs.Nodes.{AreWithin};
 ghost use Rattle.shast.specs.View.{view_list};
 
-use shread::{
-    Edition, Line, LineKind, ReadError, Reader, ScriptLine, ScriptLines, faultless_front,
-};
+use shpass::{ScriptLine, ScriptLines, faultless_front};
+use shread::{Edition, Line, LineKind, ReadError, Reader};
 use shtext::{Flat, Source};
 use shtree::laws::greater_limit;
 use shtree::{List, NodeKind, NodeLine};

@@ -1,7 +1,8 @@
 // Lines that are read into vectors which earlier lines gave back: they have what they have without.
 use crate::reader_trees::ROWS;
 use shast::{Entry, Spare};
-use shread::{Edition, LinesBefore, ScriptLine, ScriptLines};
+use shpass::{LinesBefore, ScriptLine, ScriptLines};
+use shread::Edition;
 use shtext::Flat;
 use shtreetests::table::{rows, split};
 use std::alloc::Global;

@@ -1,6 +1,6 @@
 use Rattle.std.proofs.Common.{◌∙◌, ap, length, subst, None, Some}
-use Rattle.shread.specs.LineByLine.{LineWithin}
-use Rattle.shread.proofs.LineByLine.{ended_on, ended_spans, faulty_on, last_on, last_spans, leads_in, so_far}
+use Rattle.shpass.specs.LineByLine.{LineWithin}
+use Rattle.shpass.proofs.LineByLine.{ended_on, ended_spans, faulty_on, last_on, last_spans, leads_in, so_far}
 use Rattle.shgrammar.proofs.Scripts.{script_only}
 use Rattle.shread.proofs.all_lines.script_from.Goals as goal
 

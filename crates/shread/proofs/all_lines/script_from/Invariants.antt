@@ -2,7 +2,7 @@ use Rattle.std.proofs.Common.{◌≡◌, ◌≤◌, ◌-◌, length, map}
 use Rattle.shast.specs.Nodes.{AreWithin}
 use Rattle.shast.specs.Tree.{entries_of}
 use Rattle.shast.specs.View.{view_entry}
-use Rattle.shread.specs.LineByLine.{Rest, Stands, bytes_of, edition_of, place_of}
+use Rattle.shpass.specs.LineByLine.{Rest, Stands, bytes_of, edition_of, place_of}
 use Rattle.shgrammar.specs.Scripts.{AScript, Outcome, SoFar}
 use Rattle.shread.proofs.all_lines.script_from.Given as goal
 

@@ -1,5 +1,5 @@
 use Rattle.std.proofs.Common.{rules, ◌≡◌, ◌∙◌, None, Ok, ap, arith, refl, sym}
-use Rattle.shread.specs.LineByLine.{place_of}
+use Rattle.shpass.specs.LineByLine.{place_of}
 use Rattle.shprint.specs.Written.{sheet}
 use Rattle.shpieces.proofs.ByLine.{front_behind, start_printed}
 use Rattle.shpieces.proofs.by_line.Printing.print_front.Goals as goal

@@ -1,6 +1,6 @@
 use Rattle.std.proofs.Common.{◌≡◌, ℕ, ◌-◌, ◌<◌, ◌≤◌, ◌++◌, List, Some, length, slice_get, take}
 use Rattle.shgrammar.specs.declared.edition.Edition.{Edition}
-use Rattle.shread.specs.LineByLine.{before_of, bytes_of, edition_of, place_of}
+use Rattle.shpass.specs.LineByLine.{before_of, bytes_of, edition_of, place_of}
 use Rattle.shprint.specs.declared.layout.Layout.{Layout}
 use Rattle.shpieces.specs.Printing.{ArePrinted, IsPrinted}
 use Rattle.shprint.specs.Written.{sheet}

@@ -1,5 +1,5 @@
 use Rattle.std.proofs.Common.{◌∙◌, List, length, refl, subst, sym, arith}
-use Rattle.shread.specs.LineByLine.{LineWithin}
+use Rattle.shpass.specs.LineByLine.{LineWithin}
 use Rattle.shprint.specs.Written.{sheet}
 use Rattle.shpieces.proofs.ByLine.{at_start, behind_line, fault_found, last_printed}
 use Rattle.shpieces.proofs.by_line.Printing.print_lines.Goals as goal

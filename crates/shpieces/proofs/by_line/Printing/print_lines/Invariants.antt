@@ -1,6 +1,6 @@
 use Rattle.std.proofs.Common.{◌≡◌, ℕ, ◌-◌, ◌≤◌, List, length}
 use Rattle.shgrammar.specs.declared.edition.Edition.{Edition}
-use Rattle.shread.specs.LineByLine.{bytes_of, edition_of, place_of}
+use Rattle.shpass.specs.LineByLine.{bytes_of, edition_of, place_of}
 use Rattle.shprint.specs.declared.layout.Layout.{Layout}
 use Rattle.shpieces.specs.Printing.{IsPrinted}
 use Rattle.shprint.specs.Written.{sheet}

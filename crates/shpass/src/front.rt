@@ -3,7 +3,7 @@ ghost use Rattle.std.specs.Prelude.{◌≡◌, ◌-◌, ◌<◌, ◌≤◌, IfOk
 ghost use Rattle.shgrammar.specs.Search.{LineBefore, MayPass, StopsAt};
 
 use crate::error::ReadError;
-use crate::one_line::ends_in_newline;
+use crate::newline::ends_in_newline;
 use shgrammar::{Edition, Keep};
 use shline::{SEEN, Stop, Told, line_at};
 use shtext::Source;

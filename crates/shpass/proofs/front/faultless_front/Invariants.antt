@@ -1,6 +1,6 @@
 use Rattle.std.proofs.Common.{◌≡◌, ◌<◌, ◌≤◌, ◌-◌, length, slice_get, Some}
 use Rattle.shgrammar.specs.Search.{ArePassed}
-use Rattle.shread.proofs.front.faultless_front.Given as goal
+use Rattle.shpass.proofs.front.faultless_front.Given as goal
 
 abbrev pub invariant-lines : goal.invariant-lines
 invariant-lines g l =

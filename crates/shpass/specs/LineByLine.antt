@@ -3,10 +3,10 @@ use Rattle.std.specs.Prelude.{◌≡◌, ◌≤◌, ◌<◌, ℕ, ◌+◌, ◌-�
 use Rattle.std.specs.Global.{Global}
 use Rattle.shgrammar.specs.declared.edition.Edition.{Edition}
 use Rattle.shgrammar.specs.declared.keep.Keep.TheVariants.{Outer}
-use Rattle.shread.specs.declared.script_lines.ScriptLine.{ScriptLine}
-use Rattle.shread.specs.declared.script_lines.ScriptLine.TheVariants.{Ended, Last, Faulty}
-use Rattle.shread.specs.declared.script_lines.LinesBefore.{LinesBefore}
-use Rattle.shread.specs.declared.script_lines.ScriptLines.{ScriptLines}
+use Rattle.shpass.specs.declared.script_lines.ScriptLine.{ScriptLine}
+use Rattle.shpass.specs.declared.script_lines.ScriptLine.TheVariants.{Ended, Last, Faulty}
+use Rattle.shpass.specs.declared.script_lines.LinesBefore.{LinesBefore}
+use Rattle.shpass.specs.declared.script_lines.ScriptLines.{ScriptLines}
 use Rattle.shast.specs.declared.tree.Entry.{Entry}
 use Rattle.shast.specs.Nodes.{AreWithin}
 use Rattle.shast.specs.Tree.{AnEntry, entries_of}

@@ -1,6 +1,6 @@
 use Rattle.std.proofs.lemmas.Result.{IfOk-weaker}
-use Rattle.shread.proofs.LineByLine.{next_line}
-use Rattle.shread.proofs.script_lines.ScriptLines.read_next_with.Goals as goal
+use Rattle.shpass.proofs.LineByLine.{next_line}
+use Rattle.shpass.proofs.script_lines.ScriptLines.read_next_with.Goals as goal
 
 pub returns-clause-line : goal.returns-clause-line
 returns-clause-line g c =

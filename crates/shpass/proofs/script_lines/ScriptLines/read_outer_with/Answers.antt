@@ -1,6 +1,6 @@
 use Rattle.std.proofs.lemmas.Result.{IfOk-weaker}
-use Rattle.shread.proofs.LineByLine.{outer_line}
-use Rattle.shread.proofs.script_lines.ScriptLines.read_outer_with.Goals as goal
+use Rattle.shpass.proofs.LineByLine.{outer_line}
+use Rattle.shpass.proofs.script_lines.ScriptLines.read_outer_with.Goals as goal
 
 pub returns-clause-line : goal.returns-clause-line
 returns-clause-line g c =

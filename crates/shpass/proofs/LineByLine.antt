@@ -13,12 +13,12 @@ use Rattle.shline.specs.Clauses.{Fails}
 use Rattle.shgrammar.specs.Commands.{is_empty}
 use Rattle.std.proofs.lemmas.List.{map-append}
 use Rattle.shgrammar.specs.declared.keep.Keep.TheVariants.{Outer, Whole}
-use Rattle.shread.specs.declared.script_lines.ScriptLine.{ScriptLine}
-use Rattle.shread.specs.declared.script_lines.ScriptLine.TheVariants.{Ended, Last, Faulty}
-use Rattle.shread.specs.declared.script_lines.ScriptLines.{ScriptLines}
+use Rattle.shpass.specs.declared.script_lines.ScriptLine.{ScriptLine}
+use Rattle.shpass.specs.declared.script_lines.ScriptLine.TheVariants.{Ended, Last, Faulty}
+use Rattle.shpass.specs.declared.script_lines.ScriptLines.{ScriptLines}
 use Rattle.shast.specs.Nodes.{AreWithin}
-use Rattle.shread.specs.declared.script_lines.LinesBefore.{LinesBefore}
-use Rattle.shread.specs.LineByLine.{Before, IsLine, IsNextLine, IsOuterLine, LineReads, LineWithin, OuterReads, Rest, Stands, is_blank_behind}
+use Rattle.shpass.specs.declared.script_lines.LinesBefore.{LinesBefore}
+use Rattle.shpass.specs.LineByLine.{Before, IsLine, IsNextLine, IsOuterLine, LineReads, LineWithin, OuterReads, Rest, Stands, is_blank_behind}
 use Rattle.shgrammar.proofs.Within.{more_within}
 use Rattle.shgrammar.specs.Moved.{Same, SameBy}
 use Rattle.shgrammar.specs.Scripts.{AScript, Outcome, SoFar, faulty, is_blank_line, last_line, line_ended, line_from, line_told, the_line, with_line}

@@ -1,7 +1,7 @@
 use Rattle.std.proofs.Common.{refl}
 use Rattle.shgrammar.specs.Sights.{standing}
-use Rattle.shread.proofs.LineByLine.{blank_is, fault_told}
-use Rattle.shread.proofs.script_lines.ScriptLines.read_keeping.Goals as goal
+use Rattle.shpass.proofs.LineByLine.{blank_is, fault_told}
+use Rattle.shpass.proofs.script_lines.ScriptLines.read_keeping.Goals as goal
 
 pub returns-then-newline-clause-line : goal.returns-then-newline-clause-line
 returns-then-newline-clause-line g c = λ so stood.

@@ -7,11 +7,11 @@ ghost use Rattle.shline.specs.Clauses.{Gives, Onward};
 ghost use Rattle.shast.specs.Nodes.{AreWithin};
 ghost use Rattle.shast.specs.Tree.{entries_of};
 ghost use Rattle.shast.specs.View.{view_entry};
-ghost use Rattle.shread.specs.LineByLine.{AtStart, GoesOn, IsLine, IsNextLine, IsOuterLine, IsWholeLine, LineWithin, Stands};
-ghost use Rattle.shread.specs.LineByLine.{before_of, bytes_of, edition_of, is_blank_behind, no_lines, place_of};
+ghost use Rattle.shpass.specs.LineByLine.{AtStart, GoesOn, IsLine, IsNextLine, IsOuterLine, IsWholeLine, LineWithin, Stands};
+ghost use Rattle.shpass.specs.LineByLine.{before_of, bytes_of, edition_of, is_blank_behind, no_lines, place_of};
 
 use crate::error::ReadError;
-use crate::one_line::ends_in_newline;
+use crate::newline::ends_in_newline;
 use shast::{Entry, Spare};
 use shgrammar::{Edition, Fault, Keep};
 use shline::{KEPT, Stop, Told, line_at_with};

@@ -1,11 +1,11 @@
 use Rattle.std.proofs.Common.{◌≡◌, ◌∙◌, map, refl, sym, false, true}
 use Rattle.shast.specs.View.{view_entry}
 use Rattle.shgrammar.specs.Sights.{standing}
-use Rattle.shread.specs.LineByLine.{is_blank_behind}
-use Rattle.shread.proofs.LineByLine.{blank_is, fault_told}
+use Rattle.shpass.specs.LineByLine.{is_blank_behind}
+use Rattle.shpass.proofs.LineByLine.{blank_is, fault_told}
 use Rattle.shgrammar.proofs.Passing.{newline_behind, stops_faulty, stops_unended}
-use Rattle.shread.proofs.script_lines.ScriptLines.read_whole_with.Goals.{else-newline-via-then-newline+else-ends_in_newline, else-newline-via-else-newline}
-use Rattle.shread.proofs.script_lines.ScriptLines.read_whole_with.Goals as goal
+use Rattle.shpass.proofs.script_lines.ScriptLines.read_whole_with.Goals.{else-newline-via-then-newline+else-ends_in_newline, else-newline-via-else-newline}
+use Rattle.shpass.proofs.script_lines.ScriptLines.read_whole_with.Goals as goal
 
 pub returns-then-ends_in_newline-clause-line : goal.returns-then-ends_in_newline-clause-line
 returns-then-ends_in_newline-clause-line g c = λ so stood.
