@@ -4,7 +4,6 @@ use crate::tests::checked;
 use crate::tests::print::print as printed;
 use shprint::{LayoutError, message};
 use shread::{Fault, FaultKind};
-use shtext::Input;
 use std::alloc::{AllocError, Global};
 use std::io;
 use std::io::{Read, Write};
@@ -98,7 +97,7 @@ fn check_refused(alloc: Global, nth: usize) -> (u8, Page) {
     let mut written = Page::new();
     let mut told = Page::new();
     refuse(alloc, nth);
-    let (status, _) = checked(alloc, &mut Input::new(reader), &mut written, &mut told);
+    let (status, _) = checked(alloc, reader, &mut written, &mut told);
     (if written.len == 0 { status } else { 99 }, told)
 }
 

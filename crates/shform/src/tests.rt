@@ -4,7 +4,7 @@ pub(crate) mod print;
 mod words;
 
 use crate::engine::check_engine;
-use shread::{Edition, Fault, FaultKind};
+use shread::Edition;
 use shtext::{Failed, Input, LIMIT, Output};
 use std::alloc::Global;
 use std::io;
@@ -114,23 +114,24 @@ impl Write for Page {
     }
 }
 
-/// The status of `check` on an input over these writers, and whether telling it failed.
+/// The status of `check` on a reader over these writers, and whether telling it failed.
 pub(crate) fn checked<R: Read + Drop, O: Write + Drop, E: Write + Drop>(
     alloc: Global,
-    input: &mut Input<R>,
+    reader: R,
     output: O,
     errors: E,
 ) -> (u8, bool) {
     let edition = Edition::Y2017;
+    let mut input = Input::new(reader);
     let mut output = Output::new(output);
     let mut errors = Output::new(errors);
-    let status = check_engine(alloc, edition, "-", input, &mut output, &mut errors);
+    let status = check_engine(alloc, edition, "-", &mut input, &mut output, &mut errors);
     (status, errors.failed())
 }
 
 /// The status of `check` on a reader, with the page as standard error.
 fn check<R: Read + Drop>(alloc: Global, reader: R, page: &mut Page) -> u8 {
-    checked(alloc, &mut Input::new(reader), io::sink(), page).0
+    checked(alloc, reader, io::sink(), page).0
 }
 
 /// Whether `check` on a reader ends with this status and leaves this text on a page.
@@ -194,7 +195,17 @@ fn limit(rt: HostRuntime) {
 fn beyond_the_limit(rt: HostRuntime) {
     let mut page = Page::new(128, WhenFull::Fails);
     let mut input = Input::new(Same(b'a', 16_777_216 + 10_000));
-    assert!(rt; checked(rt.alloc(), &mut input, io::sink(), &mut page) == (2, false));
+    let mut output = Output::new(io::sink());
+    let mut errors = Output::new(&mut page);
+    let status = check_engine(
+        rt.alloc(),
+        Edition::Y2017,
+        "-",
+        &mut input,
+        &mut output,
+        &mut errors,
+    );
+    assert!(rt; status == 2 && !errors.failed());
     assert!(rt; !input.ended() && !input.failed());
     assert!(rt; page.text() == b"shform: -: too large\n".as_slice());
 }
@@ -346,7 +357,7 @@ const TOLD: [Told; 2] = [
 fn check_over(alloc: Global, fails_at: u64, page: &mut Hiccup) -> (u8, bool) {
     let mut tape = Tape::new(b"a ;;\n", 99);
     tape.fails_at = fails_at;
-    checked(alloc, &mut Input::new(tape), io::sink(), page)
+    checked(alloc, tape, io::sink(), page)
 }
 
 /// Whether the status and the calls are right where the nth of so many writes and a flush fails: no further one is tried then.

@@ -1,5 +1,5 @@
-//! The tests of the printer and of sessions, over their public calls. The devices, the refused growths and the
-//! tables that they use are those of the crate `shtreetests`.
+//! The tests of the printer and of sessions, over their public calls. The devices, the refused growths and
+//! the tables that they use are those of the crate `shtreetests`.
 //!
 //! Start with the module of what is tested: `gap_..` are the tests of `shgap`, `printer_..` those of
 //! `shprint`, `session_..` those of `shlive`; those in `.._refused` refuse each growth of memory in turn.

@@ -52,7 +52,8 @@ const SCRIPTS: &[u8] = br###"
 ("a <<E\n$(b;;\nE\n", "a <<E\n$(b;;\nE\n")
 "###;
 
-/// The printed text of a script by an edition, by what is read of its lines up to their last one, and behind that.
+/// The printed text of a script by an edition, in parts: of the whole lines at its front first, and then of
+/// what follows.
 fn printed_in_parts(
     alloc: Global,
     edition: Edition,
@@ -123,7 +124,8 @@ fn blanks(rt: HostRuntime) -> Result<(), Fail> {
     judge(&rt, rt.alloc(), Edition::Y2017, &layout, table)
 }
 
-/// The `{` of a function on a line of its own; other bodies, and those behind comments, stand as without the option.
+/// The `{` of a function on a line of its own; other bodies, and those behind comments, stand as without the
+/// option.
 const FUNCTIONS: &[u8] = br###"
 ("f() { a;}", "f()\n{\n\ta\n}\n") ("{ f()\n{ a;};}", "{\n\tf()\n\t{\n\t\ta\n\t}\n}\n")
 ("f()\n( a )", "f() (\n\ta\n)\n") ("f()\nwhile a;do b;done", "f() while a; do\n\tb\ndone\n")

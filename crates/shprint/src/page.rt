@@ -54,7 +54,7 @@ impl Page {
     pub(crate) fn begin_line(&mut self) -> Result<(), AllocError>
         ensures { IfOk result (λ _. Prints self.old self.new (text self.old.margin.items ∷ [])) }
     {
-        // Most lines of a script begin at its margin.
+        // Most lines have no margin: they are spared the call that appends nothing.
         if self.margin.is_empty() {
             return Ok(());
         }

@@ -64,13 +64,17 @@ const ROWS: &[u8] = br###"
 ("cat <<\"a\"$'E'\na$E\n", "[0-3 <<4-6:6-13@'14-14]", "fault 10 at 6")
 
 // items that fall through
-("case a in x) b;& y) c;; z) ;& esac\n", "fault 11 at 15", "<0-34 case 5-6 (10-16 10-11 [13-14] ;&) (17-23 17-18 [20-21]) (24-29 24-25 ;&)>")
+("case a in x) b;& y) c;; z) ;& esac\n", "fault 11 at 15",
+ "<0-34 case 5-6 (10-16 10-11 [13-14] ;&) (17-23 17-18 [20-21]) (24-29 24-25 ;&)>")
 ("case a in x) ;& esac\n", "fault 11 at 13", "<0-20 case 5-6 (10-15 10-11 ;&)>")
 ("case a in x) b\n;&\nesac\n", "fault 11 at 15", "<0-22 case 5-6 (10-17 10-11 [13-14] ;&)>")
 ("case a in x) b;\\\n& esac\n", "fault 11 at 17", "<0-23 case 5-6 (10-18 10-11 [13-14] ;&)>")
-("case a in x) b;& # c\n\n# d\nesac\n", "fault 11 at 15", "<0-30 case 5-6 (10-16 10-11 [13-14] ;&) #17-20 #22-25>")
-("case a in (x|y) b;& # c\n# d\nz) ;; esac\n", "fault 11 at 18", "<0-38 case 5-6 (10-19 11-12|13-14 [16-17] ;&) (28-33 #20-23 #24-27 28-29)>")
-("case a in x) ;;\ny) esac\n", "<0-23 case 5-6 (10-15 10-11) (16-18 16-17)>", "<0-23 case 5-6 (10-15 10-11) (16-18 16-17)>")
+("case a in x) b;& # c\n\n# d\nesac\n", "fault 11 at 15",
+ "<0-30 case 5-6 (10-16 10-11 [13-14] ;&) #17-20 #22-25>")
+("case a in (x|y) b;& # c\n# d\nz) ;; esac\n", "fault 11 at 18",
+ "<0-38 case 5-6 (10-19 11-12|13-14 [16-17] ;&) (28-33 #20-23 #24-27 28-29)>")
+("case a in x) ;;\ny) esac\n", "<0-23 case 5-6 (10-15 10-11) (16-18 16-17)>",
+ "<0-23 case 5-6 (10-15 10-11) (16-18 16-17)>")
 ("case a in ;& esac\n", "fault 11 at 10", "fault 11 at 10")
 ("case a in x) b&;& esac\n", "fault 11 at 15", "<0-22 case 5-6 (10-17 10-11 [13-14]& ;&)>")
 ("case a in x) b;& ;& esac\n", "fault 11 at 15", "fault 11 at 17")

@@ -1,7 +1,7 @@
 // A list at another base, whose items of a case fall through where they did.
 ghost use Rattle.std.specs.Prelude.{◌≡◌, ◌≤◌, ℕ, [], false, IfOk, None};
 ghost use Rattle.shast.specs.Everywhere.{AllWithin};
-ghost use Rattle.shast.specs.Tree.{ACommand, case_in, case_item, compound, formed, more_cases, no_case, no_entry, no_item, no_pattern, no_subst, word};
+ghost use Rattle.shast.specs.Tree.{case_in, case_item, compound, formed, more_cases, no_case, no_entry, no_item, no_pattern, no_subst, word};
 ghost use Rattle.shast.specs.View.{view_case_item, view_command, view_list};
 
 use crate::shown::shown;
