@@ -277,10 +277,10 @@ substs_of (s ∷ ss) = more_substs s (substs_of ss)
 -- ---- a compound command and its redirections
 
 -- with these redirections in the place of its own
-abbrev pub redirected : {T M : Type 0} → ACompoundOf T M → ItemsOf T M → ACompoundOf T M
-redirected (formed form mark others) redirects = formed form mark redirects
+abbrev pub compound_with : {T M : Type 0} → ACompoundOf T M → ItemsOf T M → ACompoundOf T M
+compound_with (formed form mark others) redirects = formed form mark redirects
 
 -- a command that is not compound stays as it is
 abbrev pub with_redirects : {T M : Type 0} → ACommandOf T M → ItemsOf T M → ACommandOf T M
-with_redirects (compound c) redirects = compound (redirected c redirects)
+with_redirects (compound c) redirects = compound (compound_with c redirects)
 with_redirects other redirects = other

@@ -13,9 +13,9 @@ use Rattle.shgrammar.specs.Standing.{is_byte}
 use Rattle.shgrammar.specs.Bytes.{ends, ends_word, byte_at, stands}
 use Rattle.shast.specs.Tree.{ASubst, AWord, AWordOf, word, substs_of}
 use Rattle.shgrammar.specs.Sights.{Sight, seen, Move, Given, given, State, standing}
-use Rattle.shgrammar.specs.Form.{moved, many, Spelled, as_it_stands, Read, ◌▸◌, Form, give, see, move, both, token, Step, again, done, does, Comes, may, raw, Just, just, Then, and_then, or_stops, OneToken, whole, broken_off}
+use Rattle.shgrammar.specs.Form.{moved_on, many, Spelled, as_it_stands, Read, ◌▸◌, Form, give, see, move, both, token, Step, again, done, does, Comes, may, raw, Just, just, Then, and_then, or_stops, OneToken, whole, broken_off}
 use Rattle.shgrammar.specs.Words.{Held, having, opened, piece_row, a_piece, single, escaped_turn, backquoted, Inner, contents, a_word}
-use Rattle.shgrammar.specs.Levels.{level, IsWord}
+use Rattle.shgrammar.specs.Levels.{level, ReadsWord}
 use Rattle.shgrammar.proofs.Stretches.{get_drop}
 use Rattle.shgrammar.proofs.Holds.{tells_seen, tells_many, tells_level, tells_any, Holds, holds_then, Tells, Turned, tells_so, tells_then, tells_when, tells_token, Behind, low, tells_inside}
 use Rattle.shgrammar.proofs.SameBytes.{Kept}
@@ -191,7 +191,7 @@ same_word room g h p q n w told part same ender no_open B C stands_in stands_the
     let v = word_there room g h p q n same ender no_open B C stands_in stands_there w (sym ((is (a_word (level room)) g (standing p)).only _ _ part)) in
     (v.0, (word_may room (given g.edition h.text h.offset) q n v.0 v.1.0, sym v.1.1))
 
-pub anywhere : (room : ℕ) (g h : Given) (p q n : ℕ) → IsWord room g p n → take n (drop q h.text) ≡ take n (drop p g.text) → ends_word h.text (q + n) ≡ true → stands h.text (q + n) 40 ≡ false → IsWord room (given g.edition h.text h.offset) q n
+pub anywhere : (room : ℕ) (g h : Given) (p q n : ℕ) → ReadsWord room g p n → take n (drop q h.text) ≡ take n (drop p g.text) → ends_word h.text (q + n) ≡ true → stands h.text (q + n) 40 ≡ false → ReadsWord room (given g.edition h.text h.offset) q n
 anywhere room g h p q n (w, part) same ender no_open =
     let v = same_word room g h p q n w _ part same ender no_open (padded g.offset g.text) (padded h.offset h.text) (padded_is g.offset g.text) (padded_is h.offset h.text) in
     (v.0, v.1.0)
@@ -216,7 +216,7 @@ module _ (g : Given) where
   sees : {X Y : Type 0} {l : Sight X} {q : X → Form Y} {s : State} → W (q (seen l g s)) s → W (both (see l) q) s
   sees rest = tells_seen Whole g rest
 
-  moves : {Y : Type 0} {m : Move} {q : Unit {0} → Form Y} {s : State} → W (q tt) (moved m g s) → W (both (move m) q) s
+  moves : {Y : Type 0} {m : Move} {q : Unit {0} → Form Y} {s : State} → W (q tt) (moved_on m g s) → W (both (move m) q) s
   moves rest = same rest.told
 
   goes : {X Y : Type 0} {r : Form X} {q : X → Form Y} {s : State} → W r s → ((x : X) (t : State) → W (q x) t) → W (both r q) s
@@ -310,11 +310,11 @@ word_read room g p w t told part =
     let same = state_is t stays.0 stays.1 ∙ ap standing end in
     subst (λ k. may (a_word (level room)) g (standing p) (Ok (w, standing (p + (t.at - p)))) k) (told_is ∙ ap (λ q. raw g.text p q ∷ []) end) (subst (λ u. may (a_word (level room)) g (standing p) (Ok (w, u)) told) same part)
 
-pub read_word : (room : ℕ) (g : Given) (p : ℕ) (w : AWord) (t : State) (told : Row Spelled) → may (a_word (level room)) g (standing p) (Ok (w, t)) told → IsWord room g p (t.at - p)
+pub read_word : (room : ℕ) (g : Given) (p : ℕ) (w : AWord) (t : State) (told : Row Spelled) → may (a_word (level room)) g (standing p) (Ok (w, t)) told → ReadsWord room g p (t.at - p)
 read_word room g p w t told part = (w, word_read room g p w t told part)
 
 -- at a place no two words are read
-pub one_word : (room : ℕ) (g : Given) (p m n : ℕ) → IsWord room g p m → IsWord room g p n → m ≡ n
+pub one_word : (room : ℕ) (g : Given) (p m n : ℕ) → ReadsWord room g p m → ReadsWord room g p n → m ≡ n
 one_word room g p m n (w, one) (v, two) =
     let only = (is (a_word (level room)) g (standing p)).only in
     let same : ◌≡◌ {A = Read AWord} (Ok (w, standing (p + m))) (Ok (v, standing (p + n))) = only _ _ one ∙ sym (only _ _ two) in

@@ -12,7 +12,7 @@ use Rattle.shgrammar.specs.Bytes.{past, past_blanks, past_continuations, byte_at
 use Rattle.shgrammar.specs.Comments.{span, comment_at, past_comment}
 use Rattle.shgrammar.specs.Pieces.{dollar_by, dollar_at, byte_by, piece_by, piece_at, past_taken, next_quote, is_last_backslash, past_parameter, rest_mode, past_closer}
 use Rattle.shgrammar.specs.Tokens.{past_digits, past_reserved}
-use Rattle.shgrammar.specs.Sights.{Move, joined, one_taken, the_closer, the_parameter, a_quote_on, blanks, a_comment_on, the_reserved, the_digits, one_byte as byte_on, to as leads}
+use Rattle.shgrammar.specs.Sights.{Move, continuations, one_taken, the_closer, the_parameter, a_quote_on, blanks, a_comment_on, the_reserved, the_digits, one_byte as byte_on, to as leads}
 use Rattle.shgrammar.specs.Form.{raw}
 use Rattle.shgrammar.proofs.Stretches.{place_low, joined_more, raw_more, get_drop, blanks_before, no_blanks_before}
 use Rattle.shgrammar.proofs.Places.{next_escaped_low, must_fail, place_same, behind_low, raw_past_low, raw_past_stops, raw_past_all, next_of_low, next_newline_low, parameter_low, reserved_low, digits_low, blanks_low}
@@ -395,7 +395,7 @@ module _ {edition : Edition} {T U : List ℕ} {a M : ℕ} {to : ℕ → ℕ} {li
   -- a move to a good place is one from a good place, and leads to the same
   pub moves : (m : Move) (p : ℕ) → a ≤ p → G (leads m T p) → G p × (leads m U (to p) ≡ to (leads m T p))
   moves byte_on p = (moves_behind p).1
-  moves joined p = (moves_joined p).1
+  moves continuations p = (moves_joined p).1
   moves one_taken p = (moves_taken p).1
   moves (the_closer mode) p = (moves_closer mode p).1
   moves the_parameter p = (moves_parameter p).1

@@ -24,7 +24,7 @@ use Rattle.shgrammar.specs.Words.{dollar_single, escaped_turn}
 use Rattle.shgrammar.specs.Standing.{at_end, continues, count_front, raw_past, raw_stands}
 use Rattle.shgrammar.specs.Bytes.{behind, byte_at, count_joined, ends, is_broken_at, past, past_below, past_blanks, past_continuations, stands, stands_in}
 use Rattle.shgrammar.specs.Pieces.{bracket_by, byte_by, dollar_at, dollar_by, end_by, past_taken, piece_at, piece_by, piece_in}
-use Rattle.shgrammar.specs.Tokens.{begins_assignment, first_word, greater_at, is_number, less_at, next_at, next_in, reserved_at, token_at, token_in, token_of, word_by, word_of}
+use Rattle.shgrammar.specs.Tokens.{begins_assignment, first_word, is_number, next_at, next_in, reserved_at, token_at, token_in, token_of, word_by, word_of}
 
 -- ---- tokens
 
@@ -169,11 +169,11 @@ parted : next_in Y2017 (next_at Command (codes "a;&") 1) ≡ record { token = to
 unfolding token_at past_blanks past past_below stands_in past_continuations count_joined is_broken_at continues raw_past count_front raw_stands stands behind
 parted = refl
 
--- it is told as a token, as no `;;` is, and without a continuation in it
+-- `;&` is told as a token, as no `;;` is, and without a continuation that stands in it
 ender_told_so : (tell (ender_told true) (codes "a;\\\n& b") 1 5 ≡ codes ";&" ∷ []) × (tell (ender_told false) (codes "a;; b") 1 3 ≡ [])
 ender_told_so = (refl, refl)
 
--- a word with it is no delimiter; in double quotes, and behind `$$`, it is none of it
+-- a word with `$'` is no delimiter; in double quotes, and behind `$$`, there is no `$'`
 quoted_so : (has_dollar_single not_quoted false (codes "a$'E'") ≡ true) × (has_dollar_single not_quoted false (codes "\"$'\"") ≡ false) × (has_dollar_single not_quoted false (codes "$$'E'") ≡ false)
 unfolding has_dollar_single stands past_continuations count_joined
 quoted_so = (refl, refl, refl)

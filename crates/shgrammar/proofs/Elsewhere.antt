@@ -20,7 +20,7 @@ use Rattle.shgrammar.specs.Tokens.{Spelling, is_word_at, first_of_words, reserve
 use Rattle.shgrammar.specs.Sights.{Given, given, State, standing}
 use Rattle.shgrammar.specs.Form.{Read, again, as_it_stands, token, loop, many, leads_on, does}
 use Rattle.shgrammar.specs.Words.{Held, having, a_piece, contents, a_word}
-use Rattle.shgrammar.specs.Levels.{level, IsWord}
+use Rattle.shgrammar.specs.Levels.{level, ReadsWord}
 use Rattle.shgrammar.specs.Commands.{behind_word}
 use Rattle.shgrammar.proofs.Stretches.{place_low, past_more, past_none, stands_in_low, raw_stays}
 use Rattle.shgrammar.proofs.Places.{must_fail, behind_low, word_longer}
@@ -123,7 +123,7 @@ module _ {edition : Edition} {T U : List ℕ} {a L : ℕ} {to : ℕ → ℕ} (K 
       (λ x t so. so))
       (λ x t so. so)
 
-  word_goes : (p n : ℕ) → a ≤ p → p + n ≡ L → IsWord room (given edition T o) p n → Goes p
+  word_goes : (p n : ℕ) → a ≤ p → p + n ≡ L → ReadsWord room (given edition T o) p n → Goes p
   word_goes p n low end (w, part) =
       let is_read = (is (a_word (level room)) (given edition T o) (standing p)).only _ _ part in
       held (Begins p) (does (a_word (level room)) Whole (given edition T o) (standing p)) w (standing (p + n)) (sym is_read) (word_begins p low) end
@@ -399,7 +399,7 @@ NameAnywhere w = (T : List ℕ) (q : ℕ) (zs : List ℕ) → drop q T ≡ w ++ 
 
 -- ---- what is an item where it stands
 
-module _ (room : ℕ) (position : Position) (g : Given) (p n : ℕ) (word : IsWord room g p n) (place : past_continuations g.text p ≡ p) (no_blank : stands_in is_blank g.text p ≡ false)
+module _ (room : ℕ) (position : Position) (g : Given) (p n : ℕ) (word : ReadsWord room g p n) (place : past_continuations g.text p ≡ p) (no_blank : stands_in is_blank g.text p ≡ false)
     (item : Item (token_at position g.text p)) where
   abbrev w : List ℕ
   w = take n (drop p g.text)
@@ -489,7 +489,7 @@ module _ (room : ℕ) (position : Position) (g : Given) (p n : ℕ) (word : IsWo
   names name T q zs is_there following = name_there (given g.edition T 0) q zs is_there following name
 
 -- what is a word where it stands is one anywhere, and the same token
-pub token_anywhere : (room : ℕ) (position : Position) (token : Token) (g : Given) (p n : ℕ) (word : IsWord room g p n)
+pub token_anywhere : (room : ℕ) (position : Position) (token : Token) (g : Given) (p n : ℕ) (word : ReadsWord room g p n)
     → past_continuations g.text p ≡ p → stands_in is_blank g.text p ≡ false → token_at position g.text p ≡ token → is_a_word token ≡ true
     → (B : List ℕ) → g.text ≡ drop g.offset B → (ss : Shape SubstsOf) → shape_of_word B word.0 ≡ shape_word (take n (drop p g.text)) ss → ItemAnywhere g.edition room position token (take n (drop p g.text)) ss
 token_anywhere room position _ g p n word place no_blank token_is item B stands_in_B ss shape =
@@ -497,13 +497,13 @@ token_anywhere room position _ g p n word place no_blank token_is item B stands_
     (item_there room position g p n word place no_blank (subst (λ (t : Token). is_a_word t ≡ true) (sym token_is) item) B stands_in_B ss shape)
 
 -- what is an item where it stands is one anywhere
-pub item_anywhere : (room : ℕ) (position : Position) (token : Token) (g : Given) (p n : ℕ) (word : IsWord room g p n)
+pub item_anywhere : (room : ℕ) (position : Position) (token : Token) (g : Given) (p n : ℕ) (word : ReadsWord room g p n)
     → past_continuations g.text p ≡ p → stands_in is_blank g.text p ≡ false → token_at position g.text p ≡ token → is_some (behind_word token) ≡ true
     → (B : List ℕ) → g.text ≡ drop g.offset B → (ss : Shape SubstsOf) → shape_of_word B word.0 ≡ shape_word (take n (drop p g.text)) ss → ItemAnywhere g.edition room position token (take n (drop p g.text)) ss
 item_anywhere room position t g p n word place no_blank token_is item = token_anywhere room position t g p n word place no_blank token_is (item_is_word t item)
 
 -- and so is a NAME
-pub name_anywhere : (room : ℕ) (position : Position) (g : Given) (p n : ℕ) → IsWord room g p n
+pub name_anywhere : (room : ℕ) (position : Position) (g : Given) (p n : ℕ) → ReadsWord room g p n
     → past_continuations g.text p ≡ p → stands_in is_blank g.text p ≡ false → is_some (behind_word (token_at position g.text p)) ≡ true → is_name_at g.text p ≡ true
     → NameAnywhere (take n (drop p g.text))
 name_anywhere room position g p n word place no_blank item name = names room position g p n word place no_blank (item_is_word _ item) name

@@ -11,10 +11,10 @@ use Rattle.shgrammar.specs.Standing.{raw_stands}
 use Rattle.shgrammar.specs.Bytes.{behind}
 use Rattle.shgrammar.specs.Comments.{span, past_comment}
 use Rattle.shgrammar.specs.Pieces.{past_taken, past_closer}
-use Rattle.shgrammar.specs.Sights.{Given, State, Sight, seen, Move, one_byte, joined, one_taken, the_closer, the_parameter, a_quote_on, blanks, a_comment_on, the_reserved, the_digits, to}
+use Rattle.shgrammar.specs.Sights.{Given, State, Sight, seen, Move, one_byte, continuations, one_taken, the_closer, the_parameter, a_quote_on, blanks, a_comment_on, the_reserved, the_digits, to}
 use Rattle.shgrammar.specs.HereDocuments.{Change, waits, bodies_here, changed, bodies_from, state_by, own_level, outer_level}
 use Rattle.shgrammar.specs.declared.fault.Fault.{Fault}
-use Rattle.shgrammar.specs.Form.{Spelled, raw, nothing_read, change, with_bytes, a_level, Read, ◌▸◌, Form, give, see, move, push, stop, both, when, Told, token, loop, many, ends_as, with_end, Step, again, done, leads_on, moved, turns, does, in_substitution, inside}
+use Rattle.shgrammar.specs.Form.{Spelled, raw, nothing_read, change, with_bytes, a_level, Read, ◌▸◌, Form, give, see, move, push, stop, both, when, Told, token, loop, many, ends_as, with_end, Step, again, done, leads_on, moved_on, turns, does, in_substitution, inside}
 use Rattle.shgrammar.proofs.Stretches.{place_low}
 use Rattle.shgrammar.proofs.Places.{behind_low, blanks_low, next_newline_low, next_of_low, parameter_low, reserved_low, digits_low}
 use Rattle.shgrammar.proofs.Delimiters.{bodies_low}
@@ -170,7 +170,7 @@ module _ (keep : Keep) (g : Given) where
   tells_seen rest = record { told = rest.told }
 
   -- on to another place, and then the rest
-  pub tells_moved : {Y : Type 0} {Q : Y → State → Type 0} {m : Move} {q : Unit {0} → Form Y} {s : State} → Tells (q tt) Q (moved m g s) → Tells (both (move m) q) Q s
+  pub tells_moved : {Y : Type 0} {Q : Y → State → Type 0} {m : Move} {q : Unit {0} → Form Y} {s : State} → Tells (q tt) Q (moved_on m g s) → Tells (both (move m) q) Q s
   tells_moved rest = record { told = rest.told }
 
 -- what stands in a command substitution
@@ -201,7 +201,7 @@ comment_low T p = cond_both (raw_stands T p 35) _ _ (λ n. p ≤ n) (λ e. next_
 
 pub move_low : (m : Move) (T : List ℕ) (p : ℕ) → p ≤ to m T p
 move_low one_byte T p = omega (arith, behind_low T p)
-move_low joined T p = place_low T p
+move_low continuations T p = place_low T p
 move_low one_taken T p = taken_low T p
 move_low (the_closer mode) T p = closer_low mode T p
 move_low the_parameter T p = parameter_low T p

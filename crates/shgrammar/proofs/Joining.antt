@@ -12,7 +12,7 @@ use Rattle.shgrammar.specs.Sights.{State, given, standing}
 use Rattle.shgrammar.specs.Lines.{ALine, IsLine, kind_of}
 use Rattle.shgrammar.specs.Scripts.{AScript, Outcome, SoFar, is_blank_line, line_from, line_of, line_of_text, line_told, nothing_yet, script_at, script_on, the_line, with_line}
 use Rattle.shgrammar.specs.Moved.{Same}
-use Rattle.shgrammar.specs.Joined.{AreLines, blanked, has_entry, joined, joined_by, last_of, more_of}
+use Rattle.shgrammar.specs.Joined.{AreLines, blanked, has_entry, lines_joined, joined_by, last_of, more_of}
 use Rattle.shgrammar.proofs.Lined.{line_faulty, line_last, line_more, nothing}
 use Rattle.shgrammar.proofs.MovedLine.{line_moved}
 use Rattle.shgrammar.proofs.Scripts.{line_only, script_is}
@@ -53,7 +53,7 @@ module _ (edition : Edition) (B : List ℕ) where
 
   -- what the lines give, by the line as it is read by itself
   abbrev Joins : ℕ → SoFar → Row ALine → Type 0
-  Joins p so ls = script_on edition B so p ≡ joined ls (entries_of so.entries) so.gap p
+  Joins p so ls = script_on edition B so p ≡ lines_joined ls (entries_of so.entries) so.gap p
 
   abbrev Rest : ℕ → Row ALine → Type 0
   Rest q ls = (so : SoFar) → Joins q so ls
@@ -69,7 +69,7 @@ module _ (edition : Edition) (B : List ℕ) where
   empty_there p blank (e ∷ es) = refl
 
   line_at_last : (p : ℕ) (so : SoFar) (es : Row AnEntry) (q : ℕ)
-      → record { entries = entries_of (so.entries ++ there p (is_blank_line so) es); wrong = None } ≡ joined_by (λ es gap. joined [] es gap q) (kind_of es false) (entries_of so.entries) so.gap p
+      → record { entries = entries_of (so.entries ++ there p (is_blank_line so) es); wrong = None } ≡ joined_by (λ es gap. lines_joined [] es gap q) (kind_of es false) (entries_of so.entries) so.gap p
   line_at_last p so [] q = ap (λ es. record { entries = entries_of es; wrong = None }) (append-nil so.entries)
   line_at_last p so (e ∷ es) q = ap (λ es. record { entries = es; wrong = None }) (sym (added p so (e ∷ es)))
 
@@ -79,15 +79,15 @@ module _ (edition : Edition) (B : List ℕ) where
 
     -- the line goes on
     goes : (fs : Row AnEntry) (u : State) (es : Row AnEntry) (t : State) → es ≡ there p blank fs → t.at ≡ u.at → line_from edition B Whole blank p ≡ Ok ((es, true), t) → (ls : Row ALine) → Rest (p + u.at) ls
-        → script_on edition B so p ≡ joined_by (λ es gap. joined ls es gap (p + u.at)) (kind_of fs true) (entries_of so.entries) so.gap p
+        → script_on edition B so p ≡ joined_by (λ es gap. lines_joined ls es gap (p + u.at)) (kind_of fs true) (entries_of so.entries) so.gap p
     goes fs u es t entries_are at_is read ls rest =
         let next : SoFar = record { entries = so.entries ++ there p blank fs; gap = is_empty fs } in
         let same : next ≡ with_line so es = rw (entries_are, empty_there p blank fs) refl in
         let on : script_on edition B so p ≡ script_on edition B next (p + u.at) = line_more edition B so p blank refl es t next read same ∙ ap (λ q. script_on edition B next (p + q)) at_is in
-        line_on p so fs (λ es gap. joined ls es gap (p + u.at)) (script_on edition B so p) (on ∙ rest next)
+        line_on p so fs (λ es gap. lines_joined ls es gap (p + u.at)) (script_on edition B so p) (on ∙ rest next)
 
     ends : (fs : Row AnEntry) (u : State) (es : Row AnEntry) (t : State) → es ≡ there p blank fs → line_from edition B Whole blank p ≡ Ok ((es, false), t) → (q : ℕ)
-        → script_on edition B so p ≡ joined_by (λ es gap. joined [] es gap q) (kind_of fs false) (entries_of so.entries) so.gap p
+        → script_on edition B so p ≡ joined_by (λ es gap. lines_joined [] es gap q) (kind_of fs false) (entries_of so.entries) so.gap p
     ends fs u es t entries_are read q =
         line_last edition B so p blank refl es t (with_line so es) read refl ∙ ap (λ zs. record { entries = entries_of (so.entries ++ zs); wrong = None }) entries_are ∙ line_at_last p so fs q
 
@@ -132,6 +132,6 @@ module _ (edition : Edition) (B : List ℕ) where
       (more_by p so _ (line_told edition B Whole false p 0) refl (line_moved edition B p (is_blank_line so)) (ap (λ (z : ALine). z.ended) (sym same) ∙ ended) rest
       (λ then. subst (λ (z : ALine). Joins (p + z.next) then rest) same (lines_join (p + l.next) rest on then)))
 
-  pub script_joined : (ls : Row ALine) → AreLines edition B 0 ls → Outcome edition B (joined ls no_entry false 0)
+  pub script_joined : (ls : Row ALine) → AreLines edition B 0 ls → Outcome edition B (lines_joined ls no_entry false 0)
   unfolding script_at
   script_joined ls are = subst (Outcome edition B) (lines_join 0 ls are nothing_yet) (script_is edition B)

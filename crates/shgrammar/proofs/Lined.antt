@@ -19,7 +19,7 @@ use Rattle.shgrammar.specs.Form.{nothing_read, ◌▸◌, Form, Read, does, many
 use Rattle.shgrammar.specs.Words.{Inner}
 use Rattle.shgrammar.specs.Levels.{level}
 use Rattle.shgrammar.specs.Commands.{is_newline, next_token, a_comment, none_waits, nothing_waits, what_is_wrong}
-use Rattle.shgrammar.specs.Lines.{end_by, end_of_line, an_open_line, a_line}
+use Rattle.shgrammar.specs.Lines.{line_end_by, end_of_line, an_open_line, a_line}
 use Rattle.shgrammar.specs.Levels.{most_open}
 use Rattle.shgrammar.specs.Lists.{list_so, none_listed, entry_turn, a_remark, on_line}
 use Rattle.shgrammar.specs.Scripts.{AScript, SoFar, is_blank_line, with_line, the_line, line_from, script_by, script_below, script_on}
@@ -33,7 +33,7 @@ use Rattle.shgrammar.specs.declared.edition.Edition.{Edition}
 abbrev pub Ended : State → Bool → State → Type 0
 Ended s newline t = newline ≡ true → s.at < t.at
 
-ended_by : (inner : Inner) (keep : Keep) (g : Given) (s : State) (newline end : Bool) (n : Next) → Holds (Ended s) (does (end_by inner newline end n) keep g s)
+ended_by : (inner : Inner) (keep : Keep) (g : Given) (s : State) (newline end : Bool) (n : Next) → Holds (Ended s) (does (line_end_by inner newline end n) keep g s)
 unfolding nothing_waits
 ended_by inner keep g s true end n = by_change (changed bodies_here g (past s)) (λ t is. omega (arith, behind_low g.text s.at, change_low bodies_here g (past s) t is))
   where

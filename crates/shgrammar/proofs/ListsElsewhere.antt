@@ -22,7 +22,7 @@ use Rattle.shgrammar.specs.Comments.{span, comment_at, past_comment}
 use Rattle.shgrammar.specs.Sights.{Given, given, State, Move, a_comment_on, here, is_a_name}
 use Rattle.shgrammar.specs.Form.{change, Told, Read, Form, give, move, push, token, many, ◌>>=◌, ◌>>◌, Step, step_if, does, Spelled}
 use Rattle.shgrammar.specs.Words.{Inner, a_word}
-use Rattle.shgrammar.specs.Commands.{is_strip, document, document_by, a_document, is_empty, pick, next_token, is_newline, is_semicolon, a_semicolon, a_join_of, is_pipe, is_bang, begins_simple, begins_word, begins_redirect, begins_pipeline, opener_of, compound_by, and_or_operator_of, Items, so_many, breaks, behind_word, is_number, redirect_operator_of, takes_here, is_long, a_number, an_operator, operator_by, a_target, one_redirect, behind_redirect, redirect_turn, redirected, as_item, an_item, item_by, item_turn, a_simple, comment_by, a_comment, a_newline, unexpected, JoinSo, join_so, with_comment, join_turn, a_join, a_command, a_bang, Piped, piped, one_command, pipe_turn, a_pipeline, Joined, joined_so, one_pipeline, joined_by, join_pipeline, an_and_or, separator_of, separator_by, a_separator, is_background, ASeparator, past_separator, Entered, an_entry, is_word, is_paren, ends_item, falls_through, named, a_worded}
+use Rattle.shgrammar.specs.Commands.{is_strip, document, document_by, a_document, is_empty, pick, next_token, is_newline, is_semicolon, a_semicolon, a_join_of, is_pipe, is_bang, begins_simple, begins_word, begins_redirect, begins_pipeline, opener_of, compound_by, and_or_operator_of, Items, so_many, breaks, behind_word, is_number_token, redirect_operator_of, takes_here, is_long, a_number, an_operator, operator_by, a_target, one_redirect, behind_redirect, redirect_turn, redirected, as_item, an_item, item_by, item_turn, a_simple, comment_by, a_comment, a_newline, unexpected, JoinSo, join_so, with_comment, join_turn, a_join, a_command, a_bang, Piped, piped, one_command, pipe_turn, a_pipeline, Joined, joined_so, one_pipeline, joined_by, join_pipeline, an_and_or, separator_of, separator_by, a_separator, is_background, ASeparator, past_separator, Entered, an_entry, is_word, is_paren, ends_item, falls_through, named, a_worded}
 use Rattle.shgrammar.specs.Lists.{Listed, ListSo, list_so, none_listed, is_blank_next, with_command, next_line, one_entry, entry_turn, remark_by, a_remark, on_line, list_turn, a_list}
 use Rattle.shgrammar.specs.Compounds.{a_linebreak, is_closing, is_open_paren, is_close_paren, passed, closing, Closed, a_branch, Branched, branched, elif_turn, an_else, an_if, a_loop, a_group, a_for_name, a_sequential_sep, Headed, word_turn, for_words, a_for_head, behind_remarks, a_for, a_form, held_apart, a_compound, under_name, a_function, a_case_word, begins_pattern, Patterned, a_pattern, one_pattern, pattern_turn, a_pattern_list, an_open_bracket, a_body, ItemEnd, an_ender, an_item_end, CasesSo, cases_so, one_case, case_turn, a_case_head, a_case}
 use Rattle.shgrammar.proofs.Holds.{Holds, move_low}
@@ -346,7 +346,7 @@ module _ {edition : Edition} {T U : List ℕ} {a M : ℕ} {to : ℕ → ℕ} {li
     number_same : (n : Next) → Goes2 SameRemark (a_number n) (a_number n)
     unfolding a_number
     number_same n =
-        picks (is_number n.token) _ refl (then (go_token E o o2 B B2 stands stands_there moves_on) (λ x y text. then (next Suffix) (λ m k same. gives (ap Some text.1, same)))) (gives (refl, refl))
+        picks (is_number_token n.token) _ refl (then (go_token E o o2 B B2 stands stands_there moves_on) (λ x y text. then (next Suffix) (λ m k same. gives (ap Some text.1, same)))) (gives (refl, refl))
 
     -- it stands at the place that is meant
     operator_same : (z : RedirectOperator) → Goes2 (λ x y. move_span E o o2 x.1 ≡ y.1) (an_operator z) (an_operator z)

@@ -23,7 +23,7 @@ use Rattle.shgrammar.specs.Sights.{Given, State}
 use Rattle.shgrammar.specs.HereDocuments.{ADelimiter}
 use Rattle.shgrammar.specs.Form.{Spelled, push, many}
 use Rattle.shgrammar.specs.Words.{Inner, Held, having, opened, piece_row, a_piece, contents, a_word}
-use Rattle.shgrammar.specs.Commands.{is_pipe, is_bang, begins_simple, begins_redirect, begins_pipeline, behind_word, opener_of, compound_by, and_or_operator_of, breaks, Items, so_many, is_number, redirect_operator_of, is_strip, takes_here, document_by, a_document, a_number, an_operator, operator_by, a_target, one_redirect, behind_redirect, redirect_turn, redirected, as_item, an_item, item_by, item_turn, a_simple, a_bang, a_comment, comment_by, unexpected, with_comment, JoinSo, join_turn, a_join, a_command, Piped, piped, one_command, pipe_turn, a_pipeline, Joined, joined_so, one_pipeline, joined_by, join_pipeline, an_and_or, an_entry, a_worded, is_word, is_paren, separator_of, separator_by, a_separator, past_separator}
+use Rattle.shgrammar.specs.Commands.{is_pipe, is_bang, begins_simple, begins_redirect, begins_pipeline, behind_word, opener_of, compound_by, and_or_operator_of, breaks, Items, so_many, is_number_token, redirect_operator_of, is_strip, takes_here, document_by, a_document, a_number, an_operator, operator_by, a_target, one_redirect, behind_redirect, redirect_turn, redirected, as_item, an_item, item_by, item_turn, a_simple, a_bang, a_comment, comment_by, unexpected, with_comment, JoinSo, join_turn, a_join, a_command, Piped, piped, one_command, pipe_turn, a_pipeline, Joined, joined_so, one_pipeline, joined_by, join_pipeline, an_and_or, an_entry, a_worded, is_word, is_paren, separator_of, separator_by, a_separator, past_separator}
 use Rattle.shgrammar.specs.Lists.{ListSo, list_so, none_listed, one_entry, entry_turn, remark_by, a_remark, on_line, list_turn, a_list}
 use Rattle.shgrammar.specs.Compounds.{a_linebreak}
 use Rattle.shast.specs.Everywhere.{IsSome}
@@ -89,7 +89,7 @@ module _ {g : Given} {limit : ℕ} where
 
   number_in : (n : Next) (s : State) → UpTo g limit (a_number n) (λ x. SomeIn limit x.0) s
   unfolding a_number
-  number_in n s = picks (is_number n.token) (first bare_token (λ x t one. after (λ m u. gives one))) (gives tt)
+  number_in n s = picks (is_number_token n.token) (first bare_token (λ x t one. after (λ m u. gives one))) (gives tt)
 
   operator_in_by : (p : ℕ) (o : Option RedirectOperator) (s : State) → UpTo g limit (operator_by p o) (λ x. IsSpanWithin limit x.1) s
   unfolding an_operator

@@ -16,7 +16,7 @@ use Rattle.shgrammar.specs.Bytes.{behind}
 use Rattle.shgrammar.specs.Comments.{span, comment_at}
 use Rattle.shgrammar.specs.Sights.{Given, given, State, Waiting, Sight, seen, here, the_byte, the_comment, a_document_waits, Move, one_byte}
 use Rattle.shgrammar.specs.HereDocuments.{rest_of_line, past_line, takes_newline, delimiter_below, delimiter_on, delimiter_from, body_by, bodies_from, state_by, first_waiting, waits, bodies_here, own_level, outer_level}
-use Rattle.shgrammar.specs.Form.{raw, nothing_read, change, with_bytes, a_level, Spelled, Told, Read, ◌▸◌, Form, give, see, move, push, stop, both, when, token, many, ends_as, with_end, ended, ended_by, Step, again, done, leads_on, turns, does, moved, grows}
+use Rattle.shgrammar.specs.Form.{raw, nothing_read, change, with_bytes, a_level, Spelled, Told, Read, ◌▸◌, Form, give, see, move, push, stop, both, when, token, many, ends_as, with_end, ended, ended_by, Step, again, done, leads_on, turns, does, moved_on, grows}
 use Rattle.shast.specs.Moved.{placed_body}
 use Rattle.shgrammar.specs.Moved.{moved_fault, moved_waiting, moved_state}
 use Rattle.shgrammar.specs.Commands.{pick}
@@ -169,7 +169,7 @@ moves_see_waiting {z = z} rest = moves_seen (option_map (λ (p : ℕ). z.base + 
 
 -- on, and then the rest
 pub moves_on : {z : Place} {Y : Type 0} {d : Y → Y} {Q : Y → Type 0} {m : Move} {f h : Unit {0} → Form Y} → Moves z d Q (f tt) (h tt) → Moves z d Q (both (move m) f) (both (move m) h)
-moves_on {z = z} {m = m} rest = record { like = λ s. rest.like (moved m (by_itself z) s) }
+moves_on {z = z} {m = m} rest = record { like = λ s. rest.like (moved_on m (by_itself z) s) }
 
 module _ {A : Type 0} (c : A → A) where
   -- one more element, and then the rest

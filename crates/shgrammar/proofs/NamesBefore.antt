@@ -19,7 +19,7 @@ use Rattle.shgrammar.specs.Tokens.{Spelling, is_word_at, first_of_words, reserve
 use Rattle.shgrammar.specs.Sights.{Given, given, standing}
 use Rattle.shgrammar.specs.Form.{Read, again, done, many, does}
 use Rattle.shgrammar.specs.Words.{Held, having, a_piece, contents, a_word}
-use Rattle.shgrammar.specs.Levels.{level, IsWord}
+use Rattle.shgrammar.specs.Levels.{level, ReadsWord}
 use Rattle.shast.specs.Tree.{AWord, word, no_subst}
 use Rattle.shgrammar.proofs.Stretches.{past_more, past_none, stands_in_low, raw_stays}
 use Rattle.shgrammar.proofs.Places.{behind_low, past_low}
@@ -112,7 +112,7 @@ pub record NameBefore (room : ℕ) (w : List ℕ) : Type 0 where
   pub there : (g : Given) (q : ℕ) (zs : List ℕ) → drop q g.text ≡ w ++ 40 ∷ zs → ReadAt room Command tokens.Word w no_subst g q
   pub names : (T : List ℕ) (q : ℕ) (zs : List ℕ) → drop q T ≡ w ++ 40 ∷ zs → is_name_at T q ≡ true
 
-module _ (room : ℕ) (g : Given) (p n : ℕ) (read : IsWord room g p n) (still : past_continuations g.text p ≡ p) (token : token_at Command g.text p ≡ tokens.Word) (name : is_name_at g.text p ≡ true) where
+module _ (room : ℕ) (g : Given) (p n : ℕ) (read : ReadsWord room g p n) (still : past_continuations g.text p ≡ p) (token : token_at Command g.text p ≡ tokens.Word) (name : is_name_at g.text p ≡ true) where
   abbrev T : List ℕ
   T = g.text
 
@@ -345,6 +345,6 @@ module _ (room : ℕ) (g : Given) (p n : ℕ) (read : IsWord room g p n) (still 
   before = record { some = omega (arith, size, longer); there = before_there; names = names_there }
 
 -- a NAME where a command may begin is one before `(`, wherever its bytes stand
-pub name_before : (room : ℕ) (g : Given) (p n : ℕ) → IsWord room g p n → past_continuations g.text p ≡ p → token_at Command g.text p ≡ tokens.Word → is_name_at g.text p ≡ true
+pub name_before : (room : ℕ) (g : Given) (p n : ℕ) → ReadsWord room g p n → past_continuations g.text p ≡ p → token_at Command g.text p ≡ tokens.Word → is_name_at g.text p ≡ true
     → NameBefore room (take n (drop p g.text))
 name_before room g p n read still token name = before room g p n read still token name

@@ -11,7 +11,7 @@ use Rattle.shast.specs.Shape.{bare}
 use Rattle.shgrammar.specs.Comments.{span}
 use Rattle.shgrammar.specs.Sights.{Given, given, State, Sight, here, the_byte, the_piece, the_rest, the_end, a_raw, last_backslash, the_token, the_comment, is_a_name, a_document_waits, seen}
 use Rattle.shgrammar.specs.HereDocuments.{Change, changed, own_level}
-use Rattle.shgrammar.specs.Form.{change, with_bytes, a_level, Changed, changes, cannot, WithBytes, with_its_bytes, without_bytes, OwnLevel, level_read, level_stops, Spelled, Told, untold, as_it_stands, bared, by, tell, Read, Form, give, see, move, push, stop, both, when, token, loop, ends_as, Step, again, done, Just, just, Halts, halted, Then, and_then, or_stops, holds, fails, raw, OneToken, whole, broken_off, leads_on, Turns, last, rests, more, halts, Ending, goes_through, stops_inside, moved, may, in_substitution}
+use Rattle.shgrammar.specs.Form.{change, with_bytes, a_level, Changed, changes, cannot, WithBytes, with_its_bytes, without_bytes, OwnLevel, level_read, level_stops, Spelled, Told, untold, as_it_stands, bared, by, tell, Read, Form, give, see, move, push, stop, both, when, token, loop, ends_as, Step, again, done, Just, just, Halts, halted, Then, and_then, or_stops, holds, fails, raw, OneToken, whole, broken_off, leads_on, Turns, last, rests, more, halts, Ending, goes_through, stops_inside, moved_on, may, in_substitution}
 use Rattle.shgrammar.proofs.OneOutcome.{is}
 use Rattle.shgrammar.proofs.Holds.{Holds, Behind, low}
 use Rattle.shgrammar.proofs.Ahead.{ListEnds, same_name, same_place, same_next}
@@ -183,7 +183,7 @@ module _ {edition : Edition} {T U : List ℕ} {a M : ℕ} {to : ℕ → ℕ} (E 
   back {X = X} (see l) s from y k part =
       just_in (Back (see l) s) (λ good. (good, subst (λ (z : X). Just (seen l h (there s)) (there s) (Ok (z, there s)) []) (same_seen l s from good) just)) y k part
   back (move m) s from y k part =
-      just_in (Back (move m) s) (λ good. let w = moves E m s.at from good in (w.0, subst (λ (z : ℕ). Just tt (moved m h (there s)) (Ok (tt, record { at = z; waiting = s.waiting; bodies = s.bodies })) []) w.1 just)) y k part
+      just_in (Back (move m) s) (λ good. let w = moves E m s.at from good in (w.0, subst (λ (z : ℕ). Just tt (moved_on m h (there s)) (Ok (tt, record { at = z; waiting = s.waiting; bodies = s.bodies })) []) w.1 just)) y k part
   back (push xs x) s from y k part = just_in (Back (push xs x) s) (λ good. (good, just)) y k part
   back (stop kind at) s from y k part = halts_in (Back (stop kind at) s) _ (λ good. absurd good) y k part
   back (both r q) s from y k part = both_back r q s (back r s from) (λ x t. back (q x) t) from y k part

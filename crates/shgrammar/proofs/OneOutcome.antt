@@ -8,7 +8,7 @@ use Rattle.shgrammar.specs.declared.fault.FaultKind.{FaultKind}
 use Rattle.shgrammar.specs.Comments.{span}
 use Rattle.shgrammar.specs.Sights.{Given, State, seen}
 use Rattle.shgrammar.specs.HereDocuments.{changed, own_level, outer_level}
-use Rattle.shgrammar.specs.Form.{Spelled, Read, Comes, Step, again, done, Form, give, see, move, push, stop, both, when, token, loop, ends_as, change, with_bytes, a_level, Just, just, Halts, halted, Then, and_then, or_stops, Either, holds, fails, Told, tell, OneToken, whole, broken_off, leads_on, Turns, last, rests, more, halts, Ending, goes_through, stops_inside, with_end, Changed, changes, cannot, nothing_read, WithBytes, with_its_bytes, without_bytes, OwnLevel, level_read, level_stops, raw, moved, may, ◌▸◌, turns, does, in_substitution}
+use Rattle.shgrammar.specs.Form.{Spelled, Read, Comes, Step, again, done, Form, give, see, move, push, stop, both, when, token, loop, ends_as, change, with_bytes, a_level, Just, just, Halts, halted, Then, and_then, or_stops, Either, holds, fails, Told, tell, OneToken, whole, broken_off, leads_on, Turns, last, rests, more, halts, Ending, goes_through, stops_inside, with_end, Changed, changes, cannot, nothing_read, WithBytes, with_its_bytes, without_bytes, OwnLevel, level_read, level_stops, raw, moved_on, may, ◌▸◌, turns, does, in_substitution}
 use Rattle.shgrammar.proofs.Turns.{turns_on, turns_rest, turns_done, turns_fault}
 
 -- x is what may be read, and nothing else
@@ -165,7 +165,7 @@ module _ {X : Type 0} (r : Comes X) (s : State) where
 pub is : {X : Type 0} (r : Form X) (g : Given) (s : State) → Is (may r g s) (does r Whole g s)
 is (give x) g s = is_just x s
 is (see f) g s = is_just (seen f g s) s
-is (move m) g s = is_just tt (moved m g s)
+is (move m) g s = is_just tt (moved_on m g s)
 is (push xs x) g s = is_just (xs ++ x ∷ []) s
 is (stop kind at) g s = record { some = ([], halted); only = halts_only (record { kind = kind; at = at }) }
 is (both r q) g s = is_then (may r g) (λ x. may (q x) g) (λ x t. does (q x) Whole g t) (λ x t. is (q x) g t) s (does r Whole g s) (is r g s)

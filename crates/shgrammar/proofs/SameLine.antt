@@ -19,7 +19,7 @@ use Rattle.shgrammar.specs.Words.{Inner}
 use Rattle.shgrammar.specs.Levels.{level}
 use Rattle.shgrammar.specs.Tokens.{is_end}
 use Rattle.shgrammar.specs.Commands.{is_newline, next_token, none_waits, nothing_waits, what_is_wrong}
-use Rattle.shgrammar.specs.Lines.{end_by, end_of_line, an_open_line, a_line, ALine, IsLine, SameBytes, NoFurther, line_read, line_stops, kind_of}
+use Rattle.shgrammar.specs.Lines.{line_end_by, end_of_line, an_open_line, a_line, ALine, IsLine, SameBytes, NoFurther, line_read, line_stops, kind_of}
 use Rattle.shgrammar.specs.Levels.{most_open}
 use Rattle.shgrammar.specs.Lists.{ListSo, list_so, none_listed, on_line}
 use Rattle.shgrammar.proofs.OneOutcome.{is as is_form}
@@ -59,7 +59,7 @@ module _ {edition : Edition} {T U : List ℕ} {a M : ℕ} {to : ℕ → ℕ} (E 
 
   -- the end of a line
   abbrev ending : Inner → Row AnEntry → Bool → Bool → Next → Form (Row AnEntry × Bool)
-  ending inner es newline end n = both (end_by inner newline end n) (λ newline. give (es, newline))
+  ending inner es newline end n = both (line_end_by inner newline end n) (λ newline. give (es, newline))
 
   behind_is : (p : ℕ) → behind T p ≡ past_continuations T p + 1
   unfolding behind

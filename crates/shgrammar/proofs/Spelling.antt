@@ -20,7 +20,7 @@ use Rattle.shgrammar.specs.Comments.{span}
 use Rattle.shgrammar.specs.Sights.{Given, given, State, standing, Sight, Move}
 use Rattle.shgrammar.specs.Form.{change, with_bytes, a_level, Changed, changes, cannot, WithBytes, with_its_bytes, without_bytes, OwnLevel, level_read, level_stops, Spelled, Read, Step, again, done, step_if, Form, give, see, move, push, stop, both, Told, by, tell, token, many, Just, just, Halts, halted, Then, and_then, or_stops, OneToken, whole, broken_off, Turns, last, rests, more, halts, raw, may}
 use Rattle.shgrammar.specs.Words.{Inner, a_word}
-use Rattle.shgrammar.specs.Commands.{pick, next_token, is_newline, is_semicolon, a_semicolon, is_pipe, is_bang, begins_simple, begins_word, begins_redirect, begins_pipeline, opener_of, compound_by, and_or_operator_of, Items, so_many, behind_word, is_number, redirect_operator_of, takes_here, is_strip, document_by, a_document, none_waits, nothing_waits, a_number, an_operator, operator_by, a_target, one_redirect, behind_redirect, redirect_turn, redirected, as_item, breaks, an_item, item_by, item_turn, a_simple, unexpected, comment_by, a_comment, a_newline, with_comment, JoinSo, join_turn, a_join, a_command, a_bang, Piped, piped, one_command, pipe_turn, a_pipeline, Joined, joined_so, one_pipeline, joined_by, join_pipeline, an_and_or, separator_of, told_separator, separator_by, a_separator, is_background, an_entry, a_worded, is_word, is_paren, ends_item, falls_through}
+use Rattle.shgrammar.specs.Commands.{pick, next_token, is_newline, is_semicolon, a_semicolon, is_pipe, is_bang, begins_simple, begins_word, begins_redirect, begins_pipeline, opener_of, compound_by, and_or_operator_of, Items, so_many, behind_word, is_number_token, redirect_operator_of, takes_here, is_strip, document_by, a_document, none_waits, nothing_waits, a_number, an_operator, operator_by, a_target, one_redirect, behind_redirect, redirect_turn, redirected, as_item, breaks, an_item, item_by, item_turn, a_simple, unexpected, comment_by, a_comment, a_newline, with_comment, JoinSo, join_turn, a_join, a_command, a_bang, Piped, piped, one_command, pipe_turn, a_pipeline, Joined, joined_so, one_pipeline, joined_by, join_pipeline, an_and_or, separator_of, told_separator, separator_by, a_separator, is_background, an_entry, a_worded, is_word, is_paren, ends_item, falls_through}
 use Rattle.shgrammar.specs.Lists.{ListSo, list_so, none_listed, is_blank_next, one_entry, entry_turn, remark_by, a_remark, on_line, list_turn, a_list}
 use Rattle.shgrammar.specs.Compounds.{Branched, branched, is_closing, opener_text, closing_text, passed, closing, a_group, a_branch, elif_turn, an_else, an_if, a_loop, a_for_name, a_linebreak, a_sequential_sep, Headed, word_turn, for_words, a_for_head, behind_remarks, a_for, a_form, a_compound, a_function, under_name, a_case_word, begins_pattern, Patterned, a_pattern, one_pattern, pattern_turn, a_pattern_list, an_open_bracket, a_body, an_ender, an_item_end, CasesSo, cases_so, one_case, case_turn, a_case_head, a_case}
 use Rattle.shgrammar.specs.Levels.{most_open, level}
@@ -344,7 +344,7 @@ module _ (B : List ℕ) (g : Given) (stands : g.text ≡ drop g.offset B) where
     pass_number : (n : Next) (s : State) → Passing g (a_number n) (λ x k. k ≡ spell_number (option_map (bare_at B) x.0)) s
     unfolding a_number
     pass_number n s =
-        pass_pick g (is_number n.token)
+        pass_pick g (is_number_token n.token)
         (pass_then g (pass_token g {P = λ x k. k ≡ bare_at B x.1 ∷ []} (λ x u. ap (λ z. bare z ∷ []) (raw_at s.at u.at))) (λ x t k so. pass_on g (silent_next g Suffix t) (λ m u. pass_give g (append-nil k ∙ so))))
         (pass_give g refl)
 

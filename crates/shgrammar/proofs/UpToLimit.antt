@@ -10,7 +10,7 @@ use Rattle.shgrammar.specs.Standing.{raw_stands, next_newline, before_blanks}
 use Rattle.shgrammar.specs.Comments.{span, comment_at, past_comment}
 use Rattle.shgrammar.specs.Sights.{Given, Move, Sight, State, here, seen}
 use Rattle.shgrammar.specs.HereDocuments.{own_level}
-use Rattle.shgrammar.specs.Form.{Form, Read, Told, a_level, both, does, ends_as, give, many, move, moved, push, see, stop, token, with_bytes, Step, again, done, step_if, in_substitution}
+use Rattle.shgrammar.specs.Form.{Form, Read, Told, a_level, both, does, ends_as, give, many, move, moved_on, push, see, stop, token, with_bytes, Step, again, done, step_if, in_substitution}
 use Rattle.shgrammar.specs.Commands.{pick}
 use Rattle.shgrammar.proofs.Places.{next_newline_low}
 use Rattle.shgrammar.proofs.Holds.{Holds, Tells, Turned, low, tells_ending, tells_level, tells_so, tells_then, tells_token, tells_until, tells_with_bytes, tells_inside}
@@ -93,7 +93,7 @@ module _ {g : Given} {limit : ℕ} where
   pub sees : {X Y : Type 0} {Q : Y → Type 0} {f : Sight X} {q : X → Form Y} {s : State} → UpTo g limit (q (seen f g s)) Q s → UpTo g limit (both (see f) q) Q s
   sees rest = record { told = record { told = rest.told.told } }
 
-  pub moves : {Y : Type 0} {Q : Y → Type 0} {m : Move} {q : Unit {0} → Form Y} {s : State} → UpTo g limit (q tt) Q (moved m g s) → UpTo g limit (both (move m) q) Q s
+  pub moves : {Y : Type 0} {Q : Y → Type 0} {m : Move} {q : Unit {0} → Form Y} {s : State} → UpTo g limit (q tt) Q (moved_on m g s) → UpTo g limit (both (move m) q) Q s
   moves rest = record { told = record { told = rest.told.told } }
 
   -- the offset that is seen from here

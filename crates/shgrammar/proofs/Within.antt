@@ -33,7 +33,7 @@ use Rattle.shgrammar.specs.Sights.{Given, given, State, standing, here, one_byte
 use Rattle.shgrammar.specs.HereDocuments.{own_level}
 use Rattle.shgrammar.specs.Form.{with_bytes, a_level, Spelled, Told, Read, Form, give, move, push, both, many, token, ends_as, does, Step, again, done, step_if, pushed, see, grows, inside}
 use Rattle.shgrammar.specs.Words.{Inner, Held, having, opened, piece_row, a_piece, contents, a_word}
-use Rattle.shgrammar.specs.Commands.{pick, is_pipe, is_bang, begins_simple, begins_word, begins_redirect, begins_pipeline, opener_of, compound_by, and_or_operator_of, breaks, Items, so_many, behind_word, is_number, redirect_operator_of, is_strip, a_number, an_operator, operator_by, a_target, one_redirect, behind_redirect, redirect_turn, redirected, as_item, an_item, item_by, item_turn, a_simple, a_bang, a_comment, comment_by, unexpected, with_comment, JoinSo, join_turn, a_join, a_command, Piped, piped, one_command, pipe_turn, a_pipeline, Joined, joined_so, one_pipeline, joined_by, join_pipeline, an_and_or, is_background, an_entry, a_worded, is_word, is_paren, separator_of, separator_by, a_separator, past_separator, ends_item, falls_through}
+use Rattle.shgrammar.specs.Commands.{pick, is_pipe, is_bang, begins_simple, begins_word, begins_redirect, begins_pipeline, opener_of, compound_by, and_or_operator_of, breaks, Items, so_many, behind_word, is_number_token, redirect_operator_of, is_strip, a_number, an_operator, operator_by, a_target, one_redirect, behind_redirect, redirect_turn, redirected, as_item, an_item, item_by, item_turn, a_simple, a_bang, a_comment, comment_by, unexpected, with_comment, JoinSo, join_turn, a_join, a_command, Piped, piped, one_command, pipe_turn, a_pipeline, Joined, joined_so, one_pipeline, joined_by, join_pipeline, an_and_or, is_background, an_entry, a_worded, is_word, is_paren, separator_of, separator_by, a_separator, past_separator, ends_item, falls_through}
 use Rattle.shgrammar.specs.Lists.{ListSo, list_so, none_listed, is_blank_next, one_entry, entry_turn, remark_by, a_remark, on_line, list_turn, a_list, Listed}
 use Rattle.shgrammar.specs.Compounds.{Branched, branched, Closed, is_closing, is_open_paren, is_close_paren, passed, closing, a_branch, elif_turn, an_else, an_if, a_loop, a_group, a_for_name, a_linebreak, a_sequential_sep, Headed, word_turn, for_words, a_for_head, behind_remarks, a_for, a_form, held_apart, a_compound, a_function, under_name, a_case_word, begins_pattern, Patterned, a_pattern, one_pattern, pattern_turn, a_pattern_list, a_body, body_end, ItemEnd, an_ender, an_item_end, CasesSo, cases_so, one_case, case_turn, a_case_head, a_case}
 use Rattle.shgrammar.specs.Substitutions.{substituted, a_substitution, one_substitution}
@@ -218,7 +218,7 @@ module _ (keep : Keep) (g : Given) (limit : ℕ) where
     number_fits : (n : Next) (s : State) → R (a_number n) NumberFits s
     unfolding a_number
     number_fits n s =
-        picks (is_number n.token) (first (tokens {P = λ x. Unit {0}} (tells_so keep g (low (move the_digits) keep g s) (λ x t on. λ b. tt))) (λ x t one. after (λ m u. gives one.1))) (gives tt)
+        picks (is_number_token n.token) (first (tokens {P = λ x. Unit {0}} (tells_so keep g (low (move the_digits) keep g s) (λ x t on. λ b. tt))) (λ x t one. after (λ m u. gives one.1))) (gives tt)
 
     operator_fits : (o : RedirectOperator) (s : State) → R (an_operator o) (λ x. Unit {0} × IsSpanWithin limit x.1) s
     unfolding an_operator

@@ -17,7 +17,7 @@ use Rattle.shgrammar.specs.Bytes.{ends, ends_word, byte_at, behind, past_blanks,
 use Rattle.shgrammar.specs.Comments.{span}
 use Rattle.shgrammar.specs.Tokens.{next_at, next_in}
 use Rattle.shgrammar.specs.Sights.{Given, given, State, one_byte}
-use Rattle.shgrammar.specs.Form.{moved, Read, ◌▸◌, Form, give, move, ◌>>◌, many, with_end, does}
+use Rattle.shgrammar.specs.Form.{moved_on, Read, ◌▸◌, Form, give, move, ◌>>◌, many, with_end, does}
 use Rattle.shgrammar.specs.Words.{Inner, contents, a_word}
 use Rattle.shgrammar.specs.Commands.{none_waits, nothing_waits, next_token, pick, unexpected, what_is_wrong}
 use Rattle.shgrammar.specs.Lists.{ListSo, list_so, none_listed, list_turn}
@@ -215,7 +215,7 @@ module _ (room : ℕ) (all : Everywhere (level room)) where
           close_there : does (the_close k true) Whole h (over_there u) ≡ Ok (entries_of k.list.entries, over_there last)
           unfolding nothing_waits
           close_there =
-              ap (λ (w : Option ℕ). ◌▸◌ {Y = Entries} (does (none_waits w) Whole h (over_there u)) (λ x t. Ok (entries_of k.list.entries, moved one_byte h t))) none_there
+              ap (λ (w : Option ℕ). ◌▸◌ {Y = Entries} (does (none_waits w) Whole h (over_there u)) (λ x t. Ok (entries_of k.list.entries, moved_on one_byte h t))) none_there
               ∙ ap (λ (p : ℕ). Ok (entries_of k.list.entries, state_from (o + a) (o2 + to a) p u)) (same_behind E at_limit)
 
           -- what stands in it, and its `)`
@@ -263,7 +263,7 @@ module _ (room : ℕ) (all : Everywhere (level room)) where
           (λ es t. Ok (ss ++ a_subst (filled es.1 es.0) (record { start = b; «end» = o + t.at }) ∷ [], t))
 
       by_waiting : (l : ListSo) (u : State) → does (all_lines the_next) Whole g start ≡ Ok (l, u) → Begins g l.next u → start.at ≤ u.at → s.at ≤ start.at → closes l ≡ true → (w : Option ℕ) → first_waiting u ≡ w
-          → Holds There (one_level (does (none_waits w) Whole g u ▸ λ x t. Ok (entries_of l.list.entries, moved one_byte g t)))
+          → Holds There (one_level (does (none_waits w) Whole g u ▸ λ x t. Ok (entries_of l.list.entries, moved_on one_byte g t)))
       by_waiting l u is begins onward still closed (Some w) waiting = tt
       by_waiting l u is begins onward still closed None none =
           λ le. let high = ends_high u.at (shown l u is closed none begins onward still).1 le in

@@ -11,7 +11,7 @@ use Rattle.shast.specs.Tree.{ASubst, AWord}
 use Rattle.shgrammar.specs.Comments.{span}
 use Rattle.shgrammar.specs.HereDocuments.{own_level, outer_level}
 use Rattle.shgrammar.specs.Sights.{Given, State, standing, Sight, seen, Move}
-use Rattle.shgrammar.specs.Form.{Form, give, see, move, push, stop, both, when, token, many, a_level, Told, Step, again, done, Read, ◌▸◌, does, may, moved, leads_on, turns, turns_below, next, Spelled, in_substitution}
+use Rattle.shgrammar.specs.Form.{Form, give, see, move, push, stop, both, when, token, many, a_level, Told, Step, again, done, Read, ◌▸◌, does, may, moved_on, leads_on, turns, turns_below, next, Spelled, in_substitution}
 use Rattle.shgrammar.specs.Words.{Held, having, opened, piece_row, a_piece, single, escaped_turn, backquoted, Inner, contents, a_word}
 use Rattle.shgrammar.specs.Substitutions.{a_substitution, one_substitution}
 use Rattle.shgrammar.specs.Levels.{level}
@@ -58,7 +58,7 @@ module _ (g : Given) where
   blind_sees {f = f} {q = q} same rest = record { alike = λ s t. ap (λ x. does (q x) Whole g (place_of t s.at)) (same s t) ∙ (rest (seen f g s)).alike s t }
 
   blind_moves : {Y : Type 0} {m : Move} {q : Unit {0} → Form Y} → Blind (q tt) → Blind (both (move m) q)
-  blind_moves {m = m} rest = record { alike = λ s t. rest.alike (moved m g s) t }
+  blind_moves {m = m} rest = record { alike = λ s t. rest.alike (moved_on m g s) t }
 
   blind_when : {X : Type 0} {f : Sight Bool} {r q : Form X} → Unseen f → Blind r → Blind q → Blind (when f r q)
   blind_when {f = f} {r = r} {q = q} same one two =

@@ -23,7 +23,7 @@ use Rattle.shgrammar.specs.Commands.{none_waits, nothing_waits, pick, unexpected
 use Rattle.shgrammar.specs.Lists.{ListSo}
 use Rattle.shgrammar.specs.Compounds.{is_closing}
 use Rattle.shgrammar.specs.Substitutions.{substituted, a_substitution, one_substitution}
-use Rattle.shgrammar.specs.Levels.{level, IsWord}
+use Rattle.shgrammar.specs.Levels.{level, ReadsWord}
 use Rattle.shgrammar.proofs.Stretches.{place_low}
 use Rattle.shgrammar.proofs.Places.{behind_low, behind_high, stands_low, not_end_low, next_of_low, parameter_low, parameter_high, quote_clear}
 use Rattle.shgrammar.proofs.Turns.{turns_fault, many_again, many_done}
@@ -350,7 +350,7 @@ module _ (g : Given) where
       (λ x t so. so)
 
 -- where a word ends
-pub word_ends : (room : ℕ) (g : Given) (p n : ℕ) → IsWord room g p n → p ≤ length g.text → (p + n ≤ length g.text) × (ends_word g.text (p + n) ≡ true)
+pub word_ends : (room : ℕ) (g : Given) (p n : ℕ) → ReadsWord room g p n → p ≤ length g.text → (p + n ≤ length g.text) × (ends_word g.text (p + n) ≡ true)
 word_ends room g p n (w, part) le =
     let is_read = (is (a_word (level room)) g (standing p)).only _ _ part in
     let so = subst (Holds (λ x t. Last g Plain t)) (sym is_read) (word_last g room p le) in

@@ -88,9 +88,9 @@ behind_word _ = None
 abbrev pub begins_word : Token → Bool
 begins_word t = is_some (behind_word t)
 
-abbrev pub is_number : Token → Bool
-is_number tokens.Number = true
-is_number _ = false
+abbrev pub is_number_token : Token → Bool
+is_number_token tokens.Number = true
+is_number_token _ = false
 
 abbrev pub redirect_operator_of : Token → Option RedirectOperator
 redirect_operator_of (tokens.Redirect o) = Some o
@@ -98,7 +98,7 @@ redirect_operator_of _ = None
 
 -- a redirection begins with its number, or with its operator
 abbrev pub begins_redirect : Token → Bool
-begins_redirect t = is_number t || is_some (redirect_operator_of t)
+begins_redirect t = is_number_token t || is_some (redirect_operator_of t)
 
 abbrev pub begins_simple : Token → Bool
 begins_simple t = begins_word t || begins_redirect t
@@ -178,7 +178,7 @@ an_item inner i position =
 
 -- the number before an operator, where the token is one, and the token behind it
 unfoldable pub a_number : Next → Form (Option Span × Next)
-a_number n = pick (is_number n.token) (token bared (move the_digits) >>= λ x. next_token Suffix >>= λ m. give (Some x.1, m)) (give (None, n))
+a_number n = pick (is_number_token n.token) (token bared (move the_digits) >>= λ x. next_token Suffix >>= λ m. give (Some x.1, m)) (give (None, n))
 
 -- a here-document belongs to it
 abbrev pub takes_here : RedirectOperator → Bool

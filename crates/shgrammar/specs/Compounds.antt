@@ -69,7 +69,7 @@ abbrev pub past_opener : Bool → Move
 past_opener true = one_byte
 past_opener false = the_reserved
 
--- Behind `for` and `case` stands a word, reserved or not (XCU 2.10.2, rule 5). Behind all others a command may begin.
+-- Behind `for` and `case` stands a word, reserved or not (XCU 2.10.2). Behind all others a command may begin.
 abbrev pub behind_opener : Opener → Position
 behind_opener openers.For = Suffix
 behind_opener openers.Case = Suffix

@@ -153,13 +153,13 @@ pub data OwnLevel {X : Type 0} (r : Comes X) (s : State) : Read (X × Row Span) 
   level_read : {x : X} {t : State} {k : Row Spelled} → r (own_level s) (Ok (x, t)) k → OwnLevel r s (Ok ((x, t.bodies), outer_level s t)) k
   level_stops : {f : Fault} {k : Row Spelled} → r (own_level s) (Err f) k → OwnLevel r s (Err f) k
 
-abbrev pub moved : Move → Given → State → State
-moved m g s = record s { at = to m g.text s.at }
+abbrev pub moved_on : Move → Given → State → State
+moved_on m g s = record s { at = to m g.text s.at }
 
 abbrev pub may : {X : Type 0} → Form X → Given → Comes X
 may (give x) g s = Just x s
 may (see f) g s = Just (seen f g s) s
-may (move m) g s = Just tt (moved m g s)
+may (move m) g s = Just tt (moved_on m g s)
 may (push xs x) g s = Just (xs ++ x ∷ []) s
 may (stop kind at) g s = Halts (record { kind = kind; at = at })
 may (both r q) g s = Then (may r g) (λ x. may (q x) g) s
@@ -217,7 +217,7 @@ inside Whole = Whole
 abbrev pub does : {X : Type 0} → Form X → Keep → Given → State → Read X
 does (give x) keep g s = Ok (x, s)
 does (see f) keep g s = Ok (seen f g s, s)
-does (move m) keep g s = Ok (tt, moved m g s)
+does (move m) keep g s = Ok (tt, moved_on m g s)
 does (push xs x) keep g s = Ok (pushed (grows keep) xs x, s)
 does (stop kind at) keep g s = Err (record { kind = kind; at = at })
 does (both r q) keep g s = does r keep g s ▸ λ x t. does (q x) keep g t

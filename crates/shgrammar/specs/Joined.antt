@@ -24,9 +24,9 @@ joined_by rest end_line es gap base = record { entries = es; wrong = None }
 joined_by rest (faulty_line f) es gap base = record { entries = es; wrong = Some (moved_fault base f) }
 
 -- the lines from the base on, behind these entries
-abbrev pub joined : Row ALine → Entries → Bool → ℕ → AScript
-joined [] es gap base = record { entries = es; wrong = None }
-joined (l ∷ ls) es gap base = joined_by (λ es gap. joined ls es gap (base + l.next)) l.kind es gap base
+abbrev pub lines_joined : Row ALine → Entries → Bool → ℕ → AScript
+lines_joined [] es gap base = record { entries = es; wrong = None }
+lines_joined (l ∷ ls) es gap base = joined_by (λ es gap. lines_joined ls es gap (base + l.next)) l.kind es gap base
 
 -- The lines of B from p on: ended ones, and one that is not ended, which is the rest.
 pub data AreLines (edition : Edition) (B : List ℕ) : ℕ → Row ALine → Type 0 where

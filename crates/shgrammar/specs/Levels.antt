@@ -27,6 +27,6 @@ level (suc room) = record {
   function = λ name. a_function (level room) name;
 }
 
--- the n bytes from p on are a word, where so many constructs may be open
-abbrev pub IsWord : ℕ → Given → ℕ → ℕ → Type 0
-IsWord room g p n = (w : AWord) × may (a_word (level room)) g (standing p) (Ok (w, standing (p + n))) (raw g.text p (p + n) ∷ [])
+-- The row of a word reads the n bytes from p on, where so many constructs may be open. There may be none.
+abbrev pub ReadsWord : ℕ → Given → ℕ → ℕ → Type 0
+ReadsWord room g p n = (w : AWord) × may (a_word (level room)) g (standing p) (Ok (w, standing (p + n))) (raw g.text p (p + n) ∷ [])

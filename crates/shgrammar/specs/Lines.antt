@@ -19,11 +19,11 @@ use Rattle.shgrammar.specs.Lists.{list_so, none_listed, on_line}
 use Rattle.shgrammar.specs.Levels.{most_open, level}
 
 -- the newline with the bodies that follow it, or the end, behind the entries; whether it was a newline
-abbrev pub end_by : Inner → Bool → Bool → Next → Form Bool
-end_by inner newline end n = pick newline (move one_byte >> change bodies_here >> give true) (pick end (nothing_waits >> give false) (unexpected inner n))
+abbrev pub line_end_by : Inner → Bool → Bool → Next → Form Bool
+line_end_by inner newline end n = pick newline (move one_byte >> change bodies_here >> give true) (pick end (nothing_waits >> give false) (unexpected inner n))
 
 unfoldable pub end_of_line : Inner → Next → Form Bool
-end_of_line inner n = end_by inner (is_newline n.token) (is_end n.token) n
+end_of_line inner n = line_end_by inner (is_newline n.token) (is_end n.token) n
 
 -- a line, whose first entry may be blank: entries, and a newline or the end
 unfoldable pub an_open_line : Inner → Bool → Form (Row AnEntry × Bool)

@@ -41,7 +41,8 @@ with_command l es parted = record { entries = es; blank = l.blank; begun = true;
 abbrev pub with_remark : Listed → Row AnEntry → Listed
 with_remark l es = record { entries = es; blank = l.blank; begun = true; commands = l.commands; parted = l.parted }
 
--- behind a newline: a line without entries makes the next entry blank, if one stands before it
+-- behind a newline: a line without entries makes the next entry blank, if one stands before it. So an entry
+-- is blank where at least two newline tokens stand between it and the entry before it.
 abbrev pub next_line : Listed → Listed
 next_line l = record { entries = l.entries; blank = not l.begun && not (is_empty l.entries); begun = false; commands = l.commands; parted = l.parted }
 

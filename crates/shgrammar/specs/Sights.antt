@@ -63,7 +63,7 @@ pub data Move : Type 0 where
   -- behind the byte that is read here
   one_byte : Move
   -- past continuations
-  joined : Move
+  continuations : Move
   -- behind the byte that stands here; a backslash takes the byte behind it
   one_taken : Move
   -- behind what closes a construct of this mode
@@ -83,7 +83,7 @@ pub data Move : Type 0 where
 
 abbrev pub to : Move → List ℕ → ℕ → ℕ
 to one_byte T p = behind T p
-to joined T p = past_continuations T p
+to continuations T p = past_continuations T p
 to one_taken T p = past_taken T p
 to (the_closer mode) T p = past_closer T mode p
 to the_parameter T p = past_parameter T p

@@ -12,7 +12,7 @@ use Rattle.shgrammar.specs.declared.token.Opener.{Opener}
 use Rattle.shast.specs.declared.tree.Span.{Span}
 use Rattle.shast.specs.Tree.{AWord, ACommand, ASubst, word, substs_of}
 use Rattle.shgrammar.specs.Pieces.{unclosed, closes_by, unclosed_in}
-use Rattle.shgrammar.specs.Sights.{here, the_byte, the_piece, the_rest, the_end, a_raw, last_backslash, one_byte, joined, one_taken, the_closer, the_parameter, a_quote_on, escaped_on}
+use Rattle.shgrammar.specs.Sights.{here, the_byte, the_piece, the_rest, the_end, a_raw, last_backslash, one_byte, continuations, one_taken, the_closer, the_parameter, a_quote_on, escaped_on}
 use Rattle.shgrammar.specs.Form.{Form, give, see, move, stop, when, as_it_stands, token, many, ◌>>=◌, ◌>>◌, Step, again, done, step_if}
 
 -- ---- text that is not read
@@ -71,7 +71,7 @@ abbrev pub piece_row : Inner → Mode → ℕ → Held → Piece → Form (Step 
 piece_row inner mode b h pieces.Closer = move (the_closer mode) >> give (done h)
 piece_row inner mode b h pieces.Missing = stop (unclosed mode) b
 piece_row inner mode b h pieces.LoneBackslash = see the_byte >>= λ q. stop LoneBackslash q
-piece_row inner mode b h pieces.Escape = move joined >> move one_taken >> give (again h)
+piece_row inner mode b h pieces.Escape = move continuations >> move one_taken >> give (again h)
 piece_row inner mode b h pieces.Single = single >> give (again h)
 piece_row inner mode b h pieces.DollarSingle = dollar_single >> give (again h)
 piece_row inner mode b h pieces.Double = see the_byte >>= λ q. move one_byte >> opened inner Double q h

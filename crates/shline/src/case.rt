@@ -14,7 +14,7 @@ use crate::cursor::Cursor;
 use crate::list::Listed;
 use crate::stop::Stop;
 use shast::make::{case_item_of, case_of, list_of};
-use shast::{CaseItem, Comment, Form, Join, Span, Word, commands_end};
+use shast::{CaseItem, Form, Join, Span, Word, commands_end};
 use shgrammar::{Closing, Next, Position, Token};
 use shtext::Source;
 use std::alloc::Global;

@@ -186,7 +186,8 @@ impl<'a, S: Source, const KEEP: u8> Cursor<'a, S, KEEP> {
     #[tactic(auto, unfolding(shgrammar::specs::Words::escaped_turn, shgrammar::specs::Pieces::past_taken), using(shgrammar::proofs::Places::backslash_next, shgrammar::proofs::Places::closer_is))]
     fn escaped_turn(&mut self, escaping: Escaping, opener: usize) -> Result<bool, Stop>
         requires { opener ≤ self.old.at }
-        ensures value { Reads S.bytes self.old (escaped_turn escaping (self.old.origin + opener) tt) result
+        ensures value { Reads S.bytes self.old
+            (escaped_turn escaping (self.old.origin + opener) tt) result
             (λ more. step_if more tt) (state_of self.new) }
         ensures onward { IfOk result (λ more. self.old.at < self.new.at) }
         ensures same { Stays self.old self.new }
@@ -211,7 +212,8 @@ impl<'a, S: Source, const KEEP: u8> Cursor<'a, S, KEEP> {
     #[tactic(auto, using(shgrammar::proofs::Turns::many_again, shgrammar::proofs::Turns::many_done, crate::proofs::Stops::many_stop))]
     fn escaped(&mut self, escaping: Escaping, opener: usize) -> Result<(), Stop>
         requires { opener ≤ self.old.at }
-        ensures value { Reads S.bytes self.old (many (escaped_turn escaping (self.old.origin + opener)) tt) result
+        ensures value { Reads S.bytes self.old
+            (many (escaped_turn escaping (self.old.origin + opener)) tt) result
             (λ done. tt) (state_of self.new) }
         ensures onward { IfOk result (λ done. self.old.at < self.new.at) }
         ensures same { Stays self.old self.new }

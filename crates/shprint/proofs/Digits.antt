@@ -16,7 +16,7 @@ use Rattle.shgrammar.specs.Bytes.{behind, byte_at, past, past_continuations, sta
 use Rattle.shgrammar.specs.Tokens.{begins_assignment, first_word, is_number as is_number_at, past_digits, reserved_at, token_at, token_of, word_by, word_of}
 use Rattle.shgrammar.specs.Comments.{span}
 use Rattle.shgrammar.specs.Form.{raw}
-use Rattle.shgrammar.specs.Commands.{is_number}
+use Rattle.shgrammar.specs.Commands.{is_number_token}
 use Rattle.shgrammar.specs.Sights.{Given}
 use Rattle.shgrammar.proofs.Spelling.{raw_at}
 use Rattle.shgrammar.proofs.Stretches.{joined_more, joined_none, past_more, past_none, place_low, stands_in_low}
@@ -28,7 +28,7 @@ use Rattle.shprint.proofs.Good.{GoodNumber, all_digits}
 
 -- a token that is no number, whatever stands here
 abbrev Counts : Bool → Token → Type 0
-Counts here t = is_number t ≡ true → here ≡ true
+Counts here t = is_number_token t ≡ true → here ≡ true
 
 word_counts : (here assigns : Bool) → Counts here (word_of assigns)
 word_counts here true e = absurd cc
@@ -62,9 +62,9 @@ token_counts position T p (Some b) =
     (neither here (b == 35) _ _ (λ e. absurd cc)
     (cond_both here tokens.Number (word_by position T p) (Counts here) (λ e f. e) (λ e. word_by_counts here position T p))))))))))
 
-pub number_here : (position : Position) (T : List ℕ) (p : ℕ) (t : Token) → token_at position T p ≡ t → is_number t ≡ true → is_number_at T p ≡ true
+pub number_here : (position : Position) (T : List ℕ) (p : ℕ) (t : Token) → token_at position T p ≡ t → is_number_token t ≡ true → is_number_at T p ≡ true
 unfolding token_at
-number_here position T p t same is = token_counts position T p (byte_at T p) (ap is_number same ∙ is)
+number_here position T p t same is = token_counts position T p (byte_at T p) (ap is_number_token same ∙ is)
 
 -- ---- the bare text of digits
 

@@ -3,7 +3,7 @@ use Rattle.std.proofs.Common.{◌≡◌, ◌≤◌, sym, subst, Bool, true, fals
 use Rattle.shgrammar.specs.declared.keep.Keep.TheVariants.{Whole}
 use Rattle.shgrammar.specs.Comments.{span}
 use Rattle.shgrammar.specs.Sights.{Given, State, Sight, seen, Move}
-use Rattle.shgrammar.specs.Form.{Spelled, Told, Form, give, see, move, push, both, token, many, may, moved, just, and_then, whole, Step, again, done, last, more, leads_on}
+use Rattle.shgrammar.specs.Form.{Spelled, Told, Form, give, see, move, push, both, token, many, may, moved_on, just, and_then, whole, Step, again, done, last, more, leads_on}
 use Rattle.shgrammar.specs.Commands.{pick}
 use Rattle.shgrammar.proofs.Holds.{Holds, Behind, low}
 use Rattle.shgrammar.proofs.OneOutcome.{is}
@@ -25,7 +25,7 @@ given_here = gives _ just
 pub seen_here : {g : Given} {X : Type 0} (f : Sight X) {s : State} → Gives g (see f) s (seen f g s) s
 seen_here f = gives _ just
 
-pub moved_here : {g : Given} (m : Move) {s : State} → Gives g (move m) s tt (moved m g s)
+pub moved_here : {g : Given} (m : Move) {s : State} → Gives g (move m) s tt (moved_on m g s)
 moved_here m = gives _ just
 
 pub pushed_here : {g : Given} {A : Type 0} (xs : Row A) (x : A) {s : State} → Gives g (push xs x) s (xs ++ x ∷ []) s

@@ -33,7 +33,7 @@ use Rattle.shast.specs.Normal.{is_normal_form, is_normal_else, are_normal_branch
 use Rattle.shgrammar.specs.Compounds.{a_compound, is_open_paren, behind_opener, a_for, a_for_head, a_for_name, a_linebreak, a_sequential_sep, for_words, word_turn, headed, an_if, a_group, a_form, opener_text, Closed, a_loop, an_else, elif_turn, branched, a_branch, passed, closing, closing_text, is_closing, is_close_paren, under_name, a_function, a_case, a_case_head, a_case_word, begins_pattern, patterned, a_pattern, one_pattern, pattern_turn, a_pattern_list, an_open_bracket, a_body, body_end, item_end, an_item_end, an_ender, ender_told, cases_so, one_case, case_turn}
 use Rattle.shgrammar.specs.Lines.{a_line, an_open_line, end_of_line}
 use Rattle.shgrammar.specs.Lists.{Listed, list_so, none_listed, one_entry, entry_turn, a_remark, on_line, list_turn, a_list}
-use Rattle.shgrammar.specs.Commands.{nothing_waits, a_document, open_document, is_strip, Entered, a_semicolon, is_semicolon, an_entry, a_separator, separator_of, told_separator, is_background, an_and_or, one_pipeline, join_pipeline, joined_so, a_bang, a_pipeline, begins_pipeline, and_or_operator_of, is_pipe, piped, one_command, pipe_turn, a_command, a_newline, a_comment, join_turn, join_so, a_join_of, a_join, begins_simple, opener_of, is_newline, is_bang, is_empty, next_token, pick, Items, behind_word, begins_word, begins_redirect, is_number, redirect_operator_of, is_long, a_number, an_operator, operator_by, a_target, one_redirect, behind_redirect, redirect_turn, redirected, so_many, breaks, as_item, an_item, item_turn, a_simple, is_word, is_paren, a_worded, compound_by, ASeparator, past_separator, ends_item, falls_through}
+use Rattle.shgrammar.specs.Commands.{nothing_waits, a_document, open_document, is_strip, Entered, a_semicolon, is_semicolon, an_entry, a_separator, separator_of, told_separator, is_background, an_and_or, one_pipeline, join_pipeline, joined_so, a_bang, a_pipeline, begins_pipeline, and_or_operator_of, is_pipe, piped, one_command, pipe_turn, a_command, a_newline, a_comment, join_turn, join_so, a_join_of, a_join, begins_simple, opener_of, is_newline, is_bang, is_empty, next_token, pick, Items, behind_word, begins_word, begins_redirect, is_number_token, redirect_operator_of, is_long, a_number, an_operator, operator_by, a_target, one_redirect, behind_redirect, redirect_turn, redirected, so_many, breaks, as_item, an_item, item_turn, a_simple, is_word, is_paren, a_worded, compound_by, ASeparator, past_separator, ends_item, falls_through}
 use Rattle.shgrammar.proofs.Places.{must_fail, blanks_low}
 use Rattle.shgrammar.proofs.Anywhere.{WordOf, word_span as spanned}
 use Rattle.shgrammar.specs.HereDocuments.{delimiter_of}
@@ -406,7 +406,7 @@ module _ (edition : Edition) (B T : List ℕ) (o : ℕ) (here : drop o B ≡ T) 
       unfolding a_number
       number_read h position None n p digits token_is at =
           let is = token_is ∙ operator_there h position p at in
-          record { value = None; next = n; q = p; reads = second_of _ _ (ap is_number is) given_here; token_is = is; at = at; low = omega arith; shape = refl }
+          record { value = None; next = n; q = p; reads = second_of _ _ (ap is_number_token is) given_here; token_is = is; at = at; low = omega arith; shape = refl }
       number_read h position (Some []) n p digits token_is at = absurd digits
       number_read h position (Some (d ∷ ds)) n p digits token_is at =
           let number = number_there h position d ds p digits at in
@@ -415,7 +415,7 @@ module _ (edition : Edition) (B T : List ℕ) (o : ℕ) (here : drop o B ≡ T) 
           let gap = no_gap (operator_start h q at_q) in
           let moved : Gives g (move the_digits) (state h p) tt (state h q) = subst (λ r. Gives g (move the_digits) (state h p) tt (state h r)) number.past_it (moved_here the_digits) in
           let read : Gives g (a_number n) (state h p) (Some (span o p q), asked Suffix q) (state h (past_blanks T q)) =
-          first_of _ _ (ap is_number (token_is ∙ tell number.token)) (told_here bared moved ⟫ next_read h Suffix q ⟫ given_here) in
+          first_of _ _ (ap is_number_token (token_is ∙ tell number.token)) (told_here bared moved ⟫ next_read h Suffix q ⟫ given_here) in
           record {
             value = Some (span o p q);
             next = asked Suffix q;

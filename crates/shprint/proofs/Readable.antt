@@ -30,11 +30,11 @@ use Rattle.shgrammar.specs.States.{Waiting}
 use Rattle.shgrammar.specs.HereDocuments.{ADelimiter, bodies_here, delimiter_in}
 use Rattle.shgrammar.specs.Form.{Spelled, Read, Form, see, move, push, stop, give, ◌>>=◌, ◌>>◌, both, when, token, loop, ends_as, change, with_bytes, a_level, in_substitution, many, Step, again, done, step_if, may, raw, does}
 use Rattle.shgrammar.specs.Words.{Inner, a_word}
-use Rattle.shgrammar.specs.Commands.{pick, next_token, is_newline, is_semicolon, a_semicolon, is_pipe, is_bang, begins_simple, begins_word, begins_redirect, begins_pipeline, opener_of, compound_by, and_or_operator_of, Items, so_many, behind_word, is_number, redirect_operator_of, takes_here, a_number, an_operator, operator_by, a_target, one_redirect, behind_redirect, redirect_turn, redirected, as_item, breaks, an_item, item_by, item_turn, a_simple, unexpected, comment_by, a_comment, a_newline, with_comment, JoinSo, join_turn, a_join, a_command, a_bang, Piped, piped, one_command, pipe_turn, a_pipeline, Joined, joined_so, one_pipeline, joined_by, join_pipeline, an_and_or, separator_of, separator_by, a_separator, an_entry, is_word, is_paren, a_worded, ASeparator, past_separator, ends_item, falls_through, a_document, document_by, open_document, is_long, is_strip, nothing_waits}
+use Rattle.shgrammar.specs.Commands.{pick, next_token, is_newline, is_semicolon, a_semicolon, is_pipe, is_bang, begins_simple, begins_word, begins_redirect, begins_pipeline, opener_of, compound_by, and_or_operator_of, Items, so_many, behind_word, is_number_token, redirect_operator_of, takes_here, a_number, an_operator, operator_by, a_target, one_redirect, behind_redirect, redirect_turn, redirected, as_item, breaks, an_item, item_by, item_turn, a_simple, unexpected, comment_by, a_comment, a_newline, with_comment, JoinSo, join_turn, a_join, a_command, a_bang, Piped, piped, one_command, pipe_turn, a_pipeline, Joined, joined_so, one_pipeline, joined_by, join_pipeline, an_and_or, separator_of, separator_by, a_separator, an_entry, is_word, is_paren, a_worded, ASeparator, past_separator, ends_item, falls_through, a_document, document_by, open_document, is_long, is_strip, nothing_waits}
 use Rattle.shgrammar.specs.Lists.{ListSo, list_so, none_listed, is_blank_next, one_entry, entry_turn, remark_by, a_remark, on_line, list_turn, a_list}
 use Rattle.shgrammar.specs.Compounds.{Branched, branched, Closed, is_closing, passed, closing, a_group, a_branch, elif_turn, an_else, an_if, a_loop, behind_opener, a_for_name, a_linebreak, a_sequential_sep, Headed, word_turn, for_words, a_for_head, behind_remarks, a_for, a_form, a_compound, under_name, a_function, a_case_word, begins_pattern, Patterned, a_pattern, one_pattern, pattern_turn, a_pattern_list, an_open_bracket, a_body, ItemEnd, an_ender, an_item_end, CasesSo, cases_so, one_case, case_turn, a_case_head, a_case}
 use Rattle.shgrammar.specs.Levels.{most_open, level}
-use Rattle.shgrammar.specs.Lines.{a_line, an_open_line, end_by, end_of_line}
+use Rattle.shgrammar.specs.Lines.{a_line, an_open_line, line_end_by, end_of_line}
 use Rattle.shgrammar.specs.Tokens.{is_end}
 use Rattle.shgrammar.specs.Scripts.{AScript, SoFar, Lines, line_ended, last_line, faulty, nothing_yet, Outcome}
 use Rattle.shgrammar.proofs.Shown.{falls_later}
@@ -618,8 +618,8 @@ module _ (B : List ℕ) (g : Given) (here : g.text ≡ drop g.offset B) where
     reads_number : (position : Position) (n : Next) (p : ℕ) → Stands g position n p → Reads g (a_number n) (λ x e. GoodNumber (bare_number x.0)) p
     unfolding a_number
     reads_number position n p so =
-        picks g (is_number n.token)
-        (λ is. first g (record { reads = λ D s docs. record { told = (docs, digits_good B g here p (number_here position g.text p n.token (told_so is_number refl refl g.edition (token_at position g.text p) n.token so.token_is is) is)) } })
+        picks g (is_number_token n.token)
+        (λ is. first g (record { reads = λ D s docs. record { told = (docs, digits_good B g here p (number_here position g.text p n.token (told_so is_number_token refl refl g.edition (token_at position g.text p) n.token so.token_is is) is)) } })
         (λ x e good. first g (reads_next g Suffix e) (λ m f stands. gives g good)))
         (gives g tt)
 
@@ -979,7 +979,7 @@ module _ (B : List ℕ) (g : Given) (here : g.text ≡ drop g.offset B) where
       unfolding end_of_line
       line_ends n D s docs = by_end (is_newline n.token) (is_end n.token)
         where
-          by_end : (newline end : Bool) → Tells Whole g (end_by inner newline end n) (λ x t. Feeds g D t.bodies []) s
+          by_end : (newline end : Bool) → Tells Whole g (line_end_by inner newline end n) (λ x t. Feeds g D t.bodies []) s
           by_end true end =
               tells_moved Whole g (tells_then Whole g {P = λ x t. Feeds g D t.bodies []} (tells_change Whole g (λ t is. (docs_read g (place_of s (to one_byte g.text s.at)) t docs is).0)) (λ x t so. tells_give Whole g so))
           by_end false true = none_waiting D s.at s.waiting s.bodies docs
