@@ -5,6 +5,7 @@ pub mod Mending
 pub mod Places
 pub mod Reading
 pub mod Rows
+pub mod SomeWindow
 pub mod Splices
 pub mod Steps
 pub mod Windows

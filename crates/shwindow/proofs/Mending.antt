@@ -1,8 +1,8 @@
 -- How a row of held lines is mended: what stays before the window, and what was read.
 use Rattle.std.proofs.Common.{◌≡◌, ℕ, ◌+◌, ◌-◌, ◌<◌, ◌≤◌, true, List, [], ◌∷◌, ◌++◌, List as Row, drop, sym, ap, subst, ◌∙◌, refl, arith, append_assoc}
 use Rattle.shwindow.specs.declared.line.HeldLine.{HeldLine}
-use Rattle.shwindow.specs.Blocks.{joined, lines_before, lines_from}
-use Rattle.shwindow.specs.Held.{HasReadNoMore, HasReadWindow}
+use Rattle.shwindow.specs.Blocks.{in_one_row, lines_before, lines_from}
+use Rattle.shwindow.specs.Held.{RoseWithinWindow, RoseByWindow}
 use Rattle.shwindow.specs.Lines.{IsBoundary, IsRow, Reads, at_start, extent}
 use Rattle.shwindow.specs.Meter.{RoseWithin, risen}
 use Rattle.shwindow.specs.Reading.{IsBegun}
@@ -15,7 +15,7 @@ use Rattle.shwindow.proofs.Steps.{begins_here}
 use Rattle.shwindow.proofs.Windows.{begins_only, front_stays, window_only}
 
 -- all lines are those before a place and those from it on
-pub cut_split : {K : Type 0} (ks : Row (Row (HeldLine K))) (p : Place) (last : HeldLine K) (hs left : Row (HeldLine K)) → joined ks ++ last ∷ [] ≡ hs → left ≡ lines_from ks p ++ last ∷ [] → hs ≡ lines_before ks p ++ left
+pub cut_split : {K : Type 0} (ks : Row (Row (HeldLine K))) (p : Place) (last : HeldLine K) (hs left : Row (HeldLine K)) → in_one_row ks ++ last ∷ [] ≡ hs → left ≡ lines_from ks p ++ last ∷ [] → hs ≡ lines_before ks p ++ left
 cut_split ks p last hs left all is =
     sym all
     ∙ ap (λ x. x ++ last ∷ []) (sym (place_split ks p))
@@ -73,18 +73,18 @@ module _ {K : Type 0} (Is : List ℕ → HeldLine K → Type 0) (a : ℕ) where
     cut_row left ms cut rows = (begun_by left cut).1 ms rows
 
     -- the window, and what the meter says of it
-    pub cut_window : (left : Row (HeldLine K)) (n before meter : ℕ) → IsCut hs kept left begin → Ends Is B U e b (begin + n) → meter ≡ risen before n → HasReadWindow Is B U a e b before meter
+    pub cut_window : (left : Row (HeldLine K)) (n before meter : ℕ) → IsCut hs kept left begin → Ends Is B U e b (begin + n) → meter ≡ risen before n → RoseByWindow Is B U a e b before meter
     cut_window left n before meter cut ends is =
         let same : n ≡ (begin + n) - begin = omega arith in
         (begin, begin + n, record { begins = (begun_by left cut).0.2; ends = ends }, is ∙ ap (risen before) same)
 
-    pub cut_no_more : (left : Row (HeldLine K)) (before meter : ℕ) → IsCut hs kept left begin → ((t : ℕ) → Ends Is B U e b t → RoseWithin (t - begin) before meter) → HasReadNoMore Is B U a e b before meter
+    pub cut_no_more : (left : Row (HeldLine K)) (before meter : ℕ) → IsCut hs kept left begin → ((t : ℕ) → Ends Is B U e b t → RoseWithin (t - begin) before meter) → RoseWithinWindow Is B U a e b before meter
     cut_no_more left before meter cut rose w t window =
         let same : begin ≡ w = begins_only Is B U a e b begin w (begun_by left cut).0.2 window.begins in
         subst (λ x. RoseWithin (t - x) before meter) same (rose t window.ends)
 
 -- who has read a window has read no more than that
-pub has_no_more : {K : Type 0} (Is : List ℕ → HeldLine K → Type 0) (B U : List ℕ) (a e b before meter : ℕ) → HasReadWindow Is B U a e b before meter → HasReadNoMore Is B U a e b before meter
+pub has_no_more : {K : Type 0} (Is : List ℕ → HeldLine K → Type 0) (B U : List ℕ) (a e b before meter : ℕ) → RoseByWindow Is B U a e b before meter → RoseWithinWindow Is B U a e b before meter
 has_no_more Is B U a e b before meter (v, u, window, is) w t other =
     let same = window_only Is B U a e b v w u t window other in
     let long : u - v ≤ t - w = omega (arith, same.0, same.1) in

@@ -2,7 +2,7 @@
 use Rattle.std.proofs.Common.{◌≡◌, ℕ, ◌+◌, ◌<◌, ◌≤◌, [], ◌++◌, List as Row, length, take, drop, sym, ap, subst, ◌∙◌, ⊎_elim, arith}
 use Rattle.std.proofs.lemmas.Bool.{cases_lt}
 use Rattle.std.proofs.lemmas.List.{drop_all, get_or_past, get_or-take, take-take}
-use Rattle.shwindow.specs.Blocks.{IsPlace, block_at, joined, lines_before, lines_from}
+use Rattle.shwindow.specs.Blocks.{IsPlace, block_at, in_one_row, lines_before, lines_from}
 use Rattle.shwindow.specs.Places.{IsNotBehind, in_block}
 use Rattle.shwindow.specs.declared.place.Place.{Place}
 use Rattle.shwindow.proofs.Joined.{joined_at}
@@ -36,10 +36,10 @@ not_behind_end ks p q place is = record {
 -- the lines from the place behind the last line of a block on are those of the next blocks
 pub from_next : {X : Type 0} (ks : Row (Row X)) (p q : Place) (n : ℕ) → q.block ≡ p.block + 1 → q.line ≡ 0 → n ≡ length (block_at ks p.block) → lines_from ks (in_block p n) ≡ lines_from ks q
 from_next ks p q n block line is =
-    ap (λ x. x ++ joined (drop (p.block + 1) ks)) (drop_all n (block_at ks p.block) (omega (arith, is)))
+    ap (λ x. x ++ in_one_row (drop (p.block + 1) ks)) (drop_all n (block_at ks p.block) (omega (arith, is)))
     ∙ joined_at (p.block + 1) ks
-    ∙ ap (λ m. block_at ks m ++ joined (drop (m + 1) ks)) (sym block)
-    ∙ ap (λ m. drop m (block_at ks q.block) ++ joined (drop (q.block + 1) ks)) (sym line)
+    ∙ ap (λ m. block_at ks m ++ in_one_row (drop (m + 1) ks)) (sym block)
+    ∙ ap (λ m. drop m (block_at ks q.block) ++ in_one_row (drop (q.block + 1) ks)) (sym line)
 
 -- ---- blocks that are cut at one place, and hold another place before it
 
@@ -65,4 +65,4 @@ module _ {X : Type 0} (ks new : Row (Row X)) (p q : Place) (order : IsNotBehind 
       let blocks : take p.block new ≡ take p.block ks =
       let low = order.block in
       sym (take-take p.block q.block new low) ∙ ap (take p.block) front ∙ take-take p.block q.block ks low in
-      ap (λ x. joined x ++ take p.line (block_at new p.block)) blocks ∙ ap (λ x. joined (take p.block ks) ++ x) same_head
+      ap (λ x. in_one_row x ++ take p.line (block_at new p.block)) blocks ∙ ap (λ x. in_one_row (take p.block ks) ++ x) same_head

@@ -3,9 +3,9 @@ use Rattle.std.specs.Prelude.{ℕ, ◌+◌, ◌<◌, ◌≤◌, [], ◌∷◌, �
 use Rattle.shwindow.specs.declared.place.Place.{Place}
 
 -- all lines, in order
-unfoldable pub joined : {X : Type 0} → Row (Row X) → Row X
-joined [] = []
-joined (k ∷ ks) = k ++ joined ks
+unfoldable pub in_one_row : {X : Type 0} → Row (Row X) → Row X
+in_one_row [] = []
+in_one_row (k ∷ ks) = k ++ in_one_row ks
 
 -- the lines of a block
 abbrev pub block_at : {X : Type 0} → Row (Row X) → ℕ → Row X
@@ -13,10 +13,10 @@ block_at ks n = slice_index_or ks n []
 
 -- the lines before a place, and those from there on
 abbrev pub lines_before : {X : Type 0} → Row (Row X) → Place → Row X
-lines_before ks p = joined (take p.block ks) ++ take p.line (block_at ks p.block)
+lines_before ks p = in_one_row (take p.block ks) ++ take p.line (block_at ks p.block)
 
 abbrev pub lines_from : {X : Type 0} → Row (Row X) → Place → Row X
-lines_from ks p = drop p.line (block_at ks p.block) ++ joined (drop (p.block + 1) ks)
+lines_from ks p = drop p.line (block_at ks p.block) ++ in_one_row (drop (p.block + 1) ks)
 
 -- a line stands there, or it is behind all of them
 pub record IsPlace {X : Type 0} (ks : Row (Row X)) (p : Place) : Type 0 where

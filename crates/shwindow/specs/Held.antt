@@ -22,9 +22,9 @@ pub record IsEdit {K : Type 0} (Is : List ℕ → HeldLine K → Type 0) (hs : R
   pub small : length U < 2 ^ 64
 
 -- a meter rose by the length of the window of an edit
-abbrev pub HasReadWindow : {K : Type 0} (Is : List ℕ → HeldLine K → Type 0) (B U : List ℕ) (a e b before meter : ℕ) → Type 0
-HasReadWindow Is B U a e b before meter = (w t : ℕ) × IsWindow Is B U a e b w t × (meter ≡ risen before (t - w))
+abbrev pub RoseByWindow : {K : Type 0} (Is : List ℕ → HeldLine K → Type 0) (B U : List ℕ) (a e b before meter : ℕ) → Type 0
+RoseByWindow Is B U a e b before meter = (w t : ℕ) × IsWindow Is B U a e b w t × (meter ≡ risen before (t - w))
 
 -- or by no more
-abbrev pub HasReadNoMore : {K : Type 0} (Is : List ℕ → HeldLine K → Type 0) (B U : List ℕ) (a e b before meter : ℕ) → Type 0
-HasReadNoMore Is B U a e b before meter = (w t : ℕ) → IsWindow Is B U a e b w t → RoseWithin (t - w) before meter
+abbrev pub RoseWithinWindow : {K : Type 0} (Is : List ℕ → HeldLine K → Type 0) (B U : List ℕ) (a e b before meter : ℕ) → Type 0
+RoseWithinWindow Is B U a e b before meter = (w t : ℕ) → IsWindow Is B U a e b w t → RoseWithin (t - w) before meter

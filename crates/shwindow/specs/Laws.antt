@@ -2,8 +2,9 @@
 use Rattle.std.specs.Prelude.{◌≡◌, ℕ, ◌+◌, ◌-◌, ◌≤◌, true, List, [], ◌∷◌, ◌++◌, List as Row, drop, length}
 use Rattle.shwindow.specs.declared.line.HeldLine.{HeldLine}
 use Rattle.shwindow.specs.Lines.{IsBoundary, IsRow, extent}
-use Rattle.shwindow.specs.Window.{Apart, Begins, IsShared, IsWindow, spliced}
-use Rattle.shwindow.specs.Blocks.{joined}
+use Rattle.shtext.specs.Edit.{edited}
+use Rattle.shwindow.specs.Window.{Apart, Begins, IsShared, IsWindow}
+use Rattle.shwindow.specs.Blocks.{in_one_row}
 
 module _ {K : Type 0} (Is : List ℕ → HeldLine K → Type 0) where
   -- a boundary not after the edit stays one, and a line that ended there before the edit stays the line
@@ -25,18 +26,23 @@ module _ {K : Type 0} (Is : List ℕ → HeldLine K → Type 0) where
   abbrev pub OneRow : Type 0
   OneRow = (T : List ℕ) → ((hs ks : Row (HeldLine K)) → IsRow Is T hs → IsRow Is T ks → hs ≡ ks) × ((hs : Row (HeldLine K)) → IsRow Is T hs → extent hs ≡ length T)
 
-  -- an edit has one window, which ends where it begins or behind that
+  -- an edit has one window at most
   abbrev pub OneWindow : Type 0
   OneWindow = (B U : List ℕ) (a e b w v t u : ℕ) → IsWindow Is B U a e b w t → IsWindow Is B U a e b v u → (w ≡ v) × (t ≡ u)
 
+  -- and it has one, whatever the places are, where each text begins with a line
+  abbrev pub SomeWindow : Type 0
+  SomeWindow = (B U : List ℕ) (a e b : ℕ) → (w t : ℕ) × IsWindow Is B U a e b w t
+
+  -- it ends where it begins or behind that
   abbrev pub WindowOrder : Type 0
   WindowOrder = (B U : List ℕ) (a e b w t : ℕ) → Apart B U a e b → IsWindow Is B U a e b w t → (w ≤ t) × (t ≤ length U)
 
   -- one replacement is such an edit
   abbrev pub Splices : Type 0
-  Splices = (B : List ℕ) (a b : ℕ) (R : List ℕ) → a ≤ b → b ≤ length B → Apart B (spliced B a b R) a (a + length R) b
+  Splices = (B : List ℕ) (a b : ℕ) (R : List ℕ) → a ≤ b → b ≤ length B → Apart B (edited B a b R) a (a + length R) b
 
   -- in blocks, a line begins where the blocks before it end
   abbrev pub BlocksFind : Type 0
-  BlocksFind = (T : List ℕ) (js : Row (Row (HeldLine K))) (k : Row (HeldLine K)) (ks : Row (Row (HeldLine K))) → (k ≡ [] → ⊥) → IsRow Is T (joined (js ++ k ∷ ks))
-      → IsBoundary Is T (extent (joined js)) × IsRow Is (drop (extent (joined js)) T) (joined (k ∷ ks))
+  BlocksFind = (T : List ℕ) (js : Row (Row (HeldLine K))) (k : Row (HeldLine K)) (ks : Row (Row (HeldLine K))) → (k ≡ [] → ⊥) → IsRow Is T (in_one_row (js ++ k ∷ ks))
+      → IsBoundary Is T (extent (in_one_row js)) × IsRow Is (drop (extent (in_one_row js)) T) (in_one_row (k ∷ ks))

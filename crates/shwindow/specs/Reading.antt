@@ -1,6 +1,6 @@
 -- The reading of a window.
 use Rattle.std.specs.Prelude.{ℕ, ◌≤◌, List, [], ◌∷◌, ◌++◌, List as Row, drop, option_to_list, unwrap_or}
-use Rattle.shwindow.specs.Blocks.{joined, lines_from}
+use Rattle.shwindow.specs.Blocks.{in_one_row, lines_from}
 use Rattle.shwindow.specs.Lines.{IsBoundary, IsRow}
 use Rattle.shwindow.specs.Window.{Apart}
 use Rattle.shwindow.specs.declared.line.HeldLine.{HeldLine}
@@ -16,8 +16,8 @@ pub record IsBegun {K : Type 0} (Is : List ℕ → HeldLine K → Type 0) (B U :
 
 -- the lines that were read of a window
 abbrev pub read_of : {K : Type 0} → Window K → Row (HeldLine K)
-read_of w = joined w.lines.blocks.items ++ option_to_list w.last
+read_of w = in_one_row w.lines.blocks.items ++ option_to_list w.last
 
 -- all lines of the new text from where the window begins
 abbrev pub lines_then : {K : Type 0} → Lines K → Window K → Row (HeldLine K)
-lines_then old w = joined w.lines.blocks.items ++ (lines_from old.blocks.now.blocks.items w.upto ++ unwrap_or w.last old.last.now ∷ [])
+lines_then old w = in_one_row w.lines.blocks.items ++ (lines_from old.blocks.now.blocks.items w.upto ++ unwrap_or w.last old.last.now ∷ [])

@@ -1,11 +1,7 @@
 -- An edit of a text, and its window: the bytes that have to be read again.
-use Rattle.std.specs.Prelude.{◌≡◌, ℕ, ◌+◌, ◌-◌, ◌≤◌, List, ◌++◌, drop, take, length}
+use Rattle.std.specs.Prelude.{◌≡◌, ℕ, ◌+◌, ◌-◌, ◌≤◌, List, drop, take, length}
 use Rattle.shwindow.specs.declared.line.HeldLine.{HeldLine}
 use Rattle.shwindow.specs.Lines.{IsBoundary}
-
--- the bytes before a, then R, then the bytes from b on
-abbrev pub spliced : List ℕ → ℕ → ℕ → List ℕ → List ℕ
-spliced B a b R = take a B ++ (R ++ drop b B)
 
 -- U is B with other bytes between: those before a are the same, and those from e on are those from b on
 pub record Apart (B U : List ℕ) (a e b : ℕ) : Type 0 where

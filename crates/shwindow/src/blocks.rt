@@ -1,6 +1,6 @@
 //! Lines that ended, in blocks, so that neither finding a line nor replacing some walks over all of them or moves them.
 ghost use Rattle.std.specs.Prelude.{◌≡◌, ◌+◌, ◌-◌, ◌<◌, ◌≤◌, ◌^◌, ◌++◌, ◌∷◌, [], ℕ, List as Row, OnErr, OnOk, IfOk, IfSome, IsSome, drop, false, length, option_map, take, vec_capacity, vec_len};
-ghost use Rattle.shwindow.specs.Blocks.{IsPlace, block_at, first_of, joined, lines_before, lines_from};
+ghost use Rattle.shwindow.specs.Blocks.{IsPlace, block_at, first_of, in_one_row, lines_before, lines_from};
 ghost use Rattle.shwindow.specs.Places.{IsNotBehind};
 ghost use Rattle.shwindow.specs.Lines.{extent};
 ghost use Rattle.shwindow.specs.declared.line.HeldLine.{HeldLine};
@@ -19,9 +19,9 @@ pub(crate) struct Blocks<K> {
 
 impl<K: Drop> Blocks<K> {
     /// No line. It takes no memory.
-    #[tactic(auto, unfolding(crate::specs::Blocks::joined))]
+    #[tactic(auto, unfolding(crate::specs::Blocks::in_one_row))]
     pub(crate) fn new(alloc: Global) -> Blocks<K>
-        ensures { joined result.blocks.items ≡ [] }
+        ensures { in_one_row result.blocks.items ≡ [] }
     {
         Blocks {
             alloc,
@@ -31,8 +31,8 @@ impl<K: Drop> Blocks<K> {
 
     /// Adds a line at the end.
     pub(crate) fn push(&mut self, line: HeldLine<K>) -> Result<(), AllocError>
-        requires { extent (joined self.old.blocks.items) + line.len < 2 ^ 64 }
-        ensures { OnOk result (joined self.new.blocks.items ≡ joined self.old.blocks.items ++ line ∷ []) }
+        requires { extent (in_one_row self.old.blocks.items) + line.len < 2 ^ 64 }
+        ensures { OnOk result (in_one_row self.new.blocks.items ≡ in_one_row self.old.blocks.items ++ line ∷ []) }
     {
         if self.is_full() {
             let block = Block::new(self.alloc, line)?;
@@ -93,7 +93,7 @@ impl<K: Drop> Blocks<K> {
     /// How many lines there are, if they are in one block at most.
     pub(crate) fn few(&self) -> Option<usize>
         ensures few { IsSome result → vec_len self.now.blocks ≤ 1 }
-        ensures count { IfSome result (λ n. n ≡ length (joined self.now.blocks.items)) }
+        ensures count { IfSome result (λ n. n ≡ length (in_one_row self.now.blocks.items)) }
     {
         match self.blocks.len() {
             0 => Some(0),
@@ -105,7 +105,7 @@ impl<K: Drop> Blocks<K> {
     /// The lines, which are in one block at most.
     pub(crate) fn into_lines(self) -> Vec<HeldLine<K>>
         requires { vec_len self.blocks ≤ 1 }
-        ensures { result.items ≡ joined self.blocks.items }
+        ensures { result.items ≡ in_one_row self.blocks.items }
     {
         let Blocks { alloc, mut blocks } = self;
         match blocks.pop() {
@@ -128,7 +128,7 @@ impl<K: Drop> Blocks<K> {
 
     /// The first line that ends behind an offset, and where it begins; the place behind all of them, if none does.
     pub(crate) fn find(&self, at: usize) -> (Place, usize)
-        requires { extent (joined self.now.blocks.items) < 2 ^ 64 }
+        requires { extent (in_one_row self.now.blocks.items) < 2 ^ 64 }
         ensures place { IsPlace self.now.blocks.items result.0 }
         ensures begin { result.1 ≡ extent (lines_before self.now.blocks.items result.0) }
         ensures low { result.1 ≤ at }
@@ -149,8 +149,8 @@ impl<K: Drop> Blocks<K> {
     /// Cuts a block before a line, unless that is its first, and answers the block that begins there. No line changes.
     pub(crate) fn cut(&mut self, place: Place) -> Result<usize, AllocError>
         requires { IsPlace self.old.blocks.items place }
-        ensures before { IfOk result (λ n. joined (take n self.new.blocks.items) ≡ lines_before self.old.blocks.items place) }
-        ensures from { IfOk result (λ n. joined (drop n self.new.blocks.items) ≡ lines_from self.old.blocks.items place) }
+        ensures before { IfOk result (λ n. in_one_row (take n self.new.blocks.items) ≡ lines_before self.old.blocks.items place) }
+        ensures from { IfOk result (λ n. in_one_row (drop n self.new.blocks.items) ≡ lines_from self.old.blocks.items place) }
         ensures front { OnOk result (take place.block self.new.blocks.items ≡ take place.block self.old.blocks.items) }
         ensures order { IfOk result (λ n. (place.block ≤ n) × (n ≤ vec_len self.new.blocks) × (0 < place.line → n ≡ place.block + 1)) }
         ensures head { OnOk result (take place.line (block_at self.new.blocks.items place.block) ≡ take place.line (block_at self.old.blocks.items place.block)) }
@@ -168,8 +168,8 @@ impl<K: Drop> Blocks<K> {
 
     /// Makes one block of a block and the next one, if they have few lines and there is memory. No line changes.
     pub(crate) fn merge(&mut self, first: usize)
-        requires { extent (joined self.old.blocks.items) < 2 ^ 64 }
-        ensures { joined self.new.blocks.items ≡ joined self.old.blocks.items }
+        requires { extent (in_one_row self.old.blocks.items) < 2 ^ 64 }
+        ensures { in_one_row self.new.blocks.items ≡ in_one_row self.old.blocks.items }
     {
         if self.blocks.len().saturating_sub(first) < 2 {
             return;

@@ -1,6 +1,6 @@
 //! All lines of a text.
 ghost use Rattle.std.specs.Prelude.{◌≡◌, ◌+◌, ◌-◌, ◌<◌, ◌≤◌, ◌^◌, ◌++◌, ◌∷◌, [], ℕ, List, List as Row, IfOk, IsOk, OnErr, OnOk, length, true};
-ghost use Rattle.shwindow.specs.Held.{HasLineAt, IsEdit, HasReadWindow, HasReadNoMore};
+ghost use Rattle.shwindow.specs.Held.{HasLineAt, IsEdit, RoseByWindow, RoseWithinWindow};
 ghost use Rattle.shwindow.specs.Lines.{IsRow, extent};
 ghost use Rattle.shwindow.specs.Meter.{RoseWithin, risen};
 ghost use Rattle.shwindow.specs.Walks.{lines_left};
@@ -24,15 +24,15 @@ pub struct HeldLines<K> {
 
 impl<K> Model for HeldLines<K> {
     ghost use Rattle.std.specs.Prelude.{◌<◌, ◌^◌, ◌++◌, ◌∷◌, [], List as Row};
-    ghost use Rattle.shwindow.specs.Blocks.{joined};
+    ghost use Rattle.shwindow.specs.Blocks.{in_one_row};
     ghost use Rattle.shwindow.specs.Lines.{extent};
     ghost use Rattle.shwindow.specs.declared.line.HeldLine.{HeldLine};
 
     ghost Value = { Row (HeldLine K) };
 
-    ghost view = { λ held. joined held.blocks.blocks.items ++ held.last ∷ [] };
+    ghost view = { λ held. in_one_row held.blocks.blocks.items ++ held.last ∷ [] };
 
-    ghost invariant = { λ held. extent (joined held.blocks.blocks.items ++ held.last ∷ []) < 2 ^ 64 };
+    ghost invariant = { λ held. extent (in_one_row held.blocks.blocks.items ++ held.last ∷ []) < 2 ^ 64 };
 }
 
 impl<K: Drop> HeldLines<K> {
@@ -84,13 +84,13 @@ impl<K: Drop> HeldLines<K> {
         ensures meter { OnOk result ((B : List ℕ) →
             IsRow (R.is_line (R.setting reader.old)) B self.old →
             Apart B (S.bytes source.now) start end old_end →
-            HasReadWindow (R.is_line (R.setting reader.old)) B (S.bytes source.now)
+            RoseByWindow (R.is_line (R.setting reader.old)) B (S.bytes source.now)
             start end old_end (R.meter reader.old) (R.meter reader.new)) }
         ensures rises { R.meter reader.old ≤ R.meter reader.new }
         ensures err { OnErr result ((B : List ℕ) →
             IsRow (R.is_line (R.setting reader.old)) B self.old →
             Apart B (S.bytes source.now) start end old_end →
-            HasReadNoMore (R.is_line (R.setting reader.old)) B (S.bytes source.now)
+            RoseWithinWindow (R.is_line (R.setting reader.old)) B (S.bytes source.now)
             start end old_end (R.meter reader.old) (R.meter reader.new)) }
     {
         let (place, begin) = self.blocks.find(start);

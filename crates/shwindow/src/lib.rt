@@ -23,7 +23,7 @@ mod window;
 
 ghost use Rattle.std.specs.Prelude.{List, ℕ};
 ghost use Rattle.shwindow.specs.Lines.{IsLineOf, Reads};
-ghost use Rattle.shwindow.specs.Laws.{BeforeStays, BehindStays, BlocksFind, FrontStays, OneRow, OneWindow, Splices, WindowOrder};
+ghost use Rattle.shwindow.specs.Laws.{BeforeStays, BehindStays, BlocksFind, FrontStays, OneRow, OneWindow, SomeWindow, Splices, WindowOrder};
 
 pub use held::HeldLines;
 pub use line::{HeldLine, LineReader};
@@ -36,6 +36,7 @@ pub fn held_lines<K>()
     ensures front { (line : List ℕ → HeldLine K) → Reads (IsLineOf line) → FrontStays (IsLineOf line) }
     ensures row { (line : List ℕ → HeldLine K) → Reads (IsLineOf line) → OneRow (IsLineOf line) }
     ensures window { (line : List ℕ → HeldLine K) → Reads (IsLineOf line) → OneWindow (IsLineOf line) }
+    ensures some { (line : List ℕ → HeldLine K) → Reads (IsLineOf line) → SomeWindow (IsLineOf line) }
     ensures order { (line : List ℕ → HeldLine K) → Reads (IsLineOf line) → WindowOrder (IsLineOf line) }
     ensures splices { (line : List ℕ → HeldLine K) → Reads (IsLineOf line) → Splices (IsLineOf line) }
     ensures blocks { (line : List ℕ → HeldLine K) → Reads (IsLineOf line) → BlocksFind (IsLineOf line) }

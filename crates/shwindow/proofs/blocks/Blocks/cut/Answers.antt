@@ -1,5 +1,5 @@
 use Rattle.std.proofs.Common.{◌+◌, ◌++◌, ◌∷◌, ◌∙◌, ap, arith, drop, length, set, sym, take}
-use Rattle.shwindow.specs.Blocks.{block_at, joined}
+use Rattle.shwindow.specs.Blocks.{block_at, in_one_row}
 use Rattle.shwindow.proofs.Joined.{block_read_of, cut_joined, joined_at, place_block}
 use Rattle.shwindow.proofs.blocks.Blocks.cut.Goals as goal
 
@@ -7,7 +7,7 @@ pub returns-then-place-eq0-clause-from : goal.returns-then-place-eq0-clause-from
 returns-then-place-eq0-clause-from g c =
     let blocks = c.args.self.now.blocks.items in
     let place = c.args.place in
-    joined_at place.block blocks ∙ ap (λ n. drop n (block_at blocks place.block) ++ joined (drop (place.block + 1) blocks)) (sym c.if-place-eq0.true)
+    joined_at place.block blocks ∙ ap (λ n. drop n (block_at blocks place.block) ++ in_one_row (drop (place.block + 1) blocks)) (sym c.if-place-eq0.true)
 
 pub returns-clause-before : goal.returns-clause-before
 returns-clause-before g c =

@@ -1,6 +1,6 @@
 use Rattle.std.proofs.Common.{◌≡◌, ◌+◌, ◌∙◌, ap, arith, length, sym}
 use Rattle.std.proofs.lemmas.List.{take_all}
-use Rattle.shwindow.specs.Blocks.{joined}
+use Rattle.shwindow.specs.Blocks.{in_one_row}
 use Rattle.shwindow.specs.Lines.{extent}
 use Rattle.shwindow.proofs.Joined.{block_read_of, extent_blocks, extent_more_blocks, extent_no_blocks, found_end, found_in}
 use Rattle.shwindow.proofs.blocks.Blocks.find.Goals as goal
@@ -46,7 +46,7 @@ returns g c =
     let blocks = c.args.self.now.blocks in
     let ok = blocks.ok in
     let all = take_all c.all.index blocks.items (omega (arith, ap length c.deref-block-items.ensures.value, c.all-test.false)) in
-    let begin : c.all.begin ≡ extent (joined blocks.items) = c.all.invariant.0 ∙ ap (λ ks. extent (joined ks)) all in
+    let begin : c.all.begin ≡ extent (in_one_row blocks.items) = c.all.invariant.0 ∙ ap (λ ks. extent (in_one_row ks)) all in
     let is = c.end.ensures in
     let found = found_end blocks.items c.args.at c.end.result c.all.begin (is.block ∙ ok.0) is.place is.rest begin c.all.invariant.1 in
     record { place = found.place; begin = found.begin_is; low = found.low; past = found.past }

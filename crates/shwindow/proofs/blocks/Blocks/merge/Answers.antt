@@ -1,5 +1,5 @@
 use Rattle.std.proofs.Common.{◌+◌, ◌<◌, ◌++◌, ◌∙◌, ap, arith, length}
-use Rattle.shwindow.specs.Blocks.{block_at, joined}
+use Rattle.shwindow.specs.Blocks.{block_at, in_one_row}
 use Rattle.shwindow.specs.Lines.{extent}
 use Rattle.shwindow.proofs.Joined.{block_read, extent_two_blocks, merged, put_back, taken_out}
 use Rattle.shwindow.proofs.blocks.Blocks.merge.Goals as goal
@@ -28,7 +28,7 @@ returns-in-Err g c =
     let out = taken_out blocks.items rest n low c.remove-moved.ensures.items in
     let moved = block_read blocks.items (n + 1) c.remove-moved.result low c.remove-moved.ensures.value in
     let same = c.in-Err.ensures.err ∙ block_read rest n c.index_mut-block.result.now out.2 c.index_mut-block.ensures.value in
-    ap joined c.put_one.ensures ∙ put_back blocks.items rest n c.append.new.self c.in-Err.moved low c.remove-moved.ensures.items same (c.in-Err.ensures.back ∙ moved)
+    ap in_one_row c.put_one.ensures ∙ put_back blocks.items rest n c.append.new.self c.in-Err.moved low c.remove-moved.ensures.items same (c.in-Err.ensures.back ∙ moved)
 
 pub returns-in_default : goal.returns-in_default
 returns-in_default g c =

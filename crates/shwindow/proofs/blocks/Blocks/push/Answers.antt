@@ -1,6 +1,6 @@
 use Rattle.std.proofs.Common.{◌≡◌, ◌+◌, ◌-◌, ◌<◌, ◌++◌, ◌∷◌, [], ◌∙◌, ap, arith, length}
 use Rattle.std.proofs.lemmas.Result.{on_ok_weaker}
-use Rattle.shwindow.specs.Blocks.{joined}
+use Rattle.shwindow.specs.Blocks.{in_one_row}
 use Rattle.shwindow.specs.Lines.{extent}
 use Rattle.shwindow.proofs.Joined.{block_read, extent_block, joined_last, joined_push}
 use Rattle.shwindow.proofs.blocks.Blocks.push.Goals as goal
@@ -8,7 +8,7 @@ use Rattle.shwindow.proofs.blocks.Blocks.push.Goals as goal
 pub returns-then-is_full : goal.returns-then-is_full
 returns-then-is_full g c =
     let blocks = c.args.self.now.blocks.items in
-    ap joined c.in_ok-push.ensures.items ∙ joined_push blocks c.in_ok-block.block ∙ ap (λ k. joined blocks ++ k) c.in_ok-block.ensures
+    ap in_one_row c.in_ok-push.ensures.items ∙ joined_push blocks c.in_ok-block.block ∙ ap (λ k. in_one_row blocks ++ k) c.in_ok-block.ensures
 
 pub push-requires-2 : goal.push-requires-2
 push-requires-2 g c =

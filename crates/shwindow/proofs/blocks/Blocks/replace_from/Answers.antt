@@ -1,21 +1,21 @@
 use Rattle.std.proofs.Common.{◌≡◌, ◌++◌, ◌∙◌, ap, arith, drop}
-use Rattle.shwindow.specs.Blocks.{joined, lines_before}
+use Rattle.shwindow.specs.Blocks.{in_one_row, lines_before}
 use Rattle.shwindow.specs.Lines.{extent}
 use Rattle.shwindow.proofs.Joined.{joined_between}
 use Rattle.shwindow.proofs.blocks.Blocks.replace_from.Given.{Over}
 use Rattle.shwindow.proofs.blocks.Blocks.replace_from.Goals as goal
 use Rattle.shwindow.proofs.blocks.Blocks.replace_from.Goals.{After-replace_items}
 
-all_lines : (g : Over) (c : After-replace_items g) → joined c.replace_items.new.of.items ≡ lines_before c.args.self.now.blocks.items c.args.from ++ (joined c.args.new.blocks.items ++ joined (drop c.args.to c.args.self.now.blocks.items))
+all_lines : (g : Over) (c : After-replace_items g) → in_one_row c.replace_items.new.of.items ≡ lines_before c.args.self.now.blocks.items c.args.from ++ (in_one_row c.args.new.blocks.items ++ in_one_row (drop c.args.to c.args.self.now.blocks.items))
 all_lines g c =
     let kept = c.keep_before-first.new.self.blocks.items in
-    let new = joined c.args.new.blocks.items in
+    let new = in_one_row c.args.new.blocks.items in
     let is = c.keep_before-first.ensures in
-    ap joined c.replace_items.ensures
+    ap in_one_row c.replace_items.ensures
     ∙ joined_between kept c.args.new.blocks.items c.keep_before-first.result c.args.to
-    ∙ ap (λ x. x ++ (new ++ joined (drop c.args.to kept))) is.before
-    ∙ ap (λ x. lines_before c.reserve.new.self.items c.args.from ++ (new ++ joined x)) is.rest
-    ∙ ap (λ ks. lines_before ks c.args.from ++ (new ++ joined (drop c.args.to ks))) c.reserve.ensures.items
+    ∙ ap (λ x. x ++ (new ++ in_one_row (drop c.args.to kept))) is.before
+    ∙ ap (λ x. lines_before c.reserve.new.self.items c.args.from ++ (new ++ in_one_row x)) is.rest
+    ∙ ap (λ ks. lines_before ks c.args.from ++ (new ++ in_one_row (drop c.args.to ks))) c.reserve.ensures.items
 
 pub merge-requires : goal.merge-requires
 merge-requires g c = omega (arith, ap extent (all_lines g (goal.at.merge-requires g c).After-replace_items), c.requires.fits)

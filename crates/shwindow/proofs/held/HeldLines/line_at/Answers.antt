@@ -1,5 +1,5 @@
 use Rattle.std.proofs.Common.{◌++◌, ◌∷◌, [], ◌∙◌, arith, refl, sym}
-use Rattle.shwindow.specs.Blocks.{joined, lines_before, lines_from}
+use Rattle.shwindow.specs.Blocks.{in_one_row, lines_before, lines_from}
 use Rattle.shwindow.proofs.Joined.{by_last, by_line, first_none, first_some}
 use Rattle.shwindow.proofs.Rows.{extent_push}
 use Rattle.shwindow.proofs.held.HeldLines.line_at.Goals as goal
@@ -8,7 +8,7 @@ pub find-begin-requires : goal.find-begin-requires
 find-begin-requires g c =
     let held = c.self.inside in
     let fits = c.self.invariant in
-    omega (arith, fits, extent_push (joined held.blocks.blocks.items) held.last)
+    omega (arith, fits, extent_push (in_one_row held.blocks.blocks.items) held.last)
 
 pub returns-in-Some : goal.returns-in-Some
 returns-in-Some g c =

@@ -1,5 +1,5 @@
 use Rattle.std.proofs.Common.{◌+◌, ◌∙◌, ap, arith, drop, refl, subst, sym}
-use Rattle.shwindow.specs.Blocks.{joined}
+use Rattle.shwindow.specs.Blocks.{in_one_row}
 use Rattle.shwindow.specs.Meter.{risen}
 use Rattle.shwindow.proofs.Reading.{AtRow, risen_more, risen_none, row_done, row_more, row_start}
 use Rattle.shwindow.proofs.Rows.{extent_push}
@@ -16,13 +16,13 @@ pub invariant_of-result : goal.invariant_of-result
 invariant_of-result g c =
     let sum = c.lines.invariant.at.sum in
     let fits = c.in_ok-line.ensures.fits in
-    omega (arith, sum, fits, extent_push (joined c.lines.blocks.blocks.items) c.in_ok-line.line)
+    omega (arith, sum, fits, extent_push (in_one_row c.lines.blocks.blocks.items) c.in_ok-line.line)
 
 pub returns-then-not-line-clause-row : goal.returns-then-not-line-clause-row
 returns-then-not-line-clause-row g c =
     let is = c.in_ok-line.ensures in
     let line = subst (λ s. g.R.LineReader.is_line s (drop c.lines.at (g.S.Source.bytes c.args.source.now)) c.in_ok-line.line) c.lines.invariant.setting is.line in
-    row_done (g.R.LineReader.is_line (g.R.LineReader.setting c.args.reader.now)) (g.S.Source.bytes c.args.source.now) (joined c.lines.blocks.blocks.items) c.lines.at c.in_ok-line.line c.lines.invariant.at line c.if-not-line.true (is.whole c.if-not-line.true)
+    row_done (g.R.LineReader.is_line (g.R.LineReader.setting c.args.reader.now)) (g.S.Source.bytes c.args.source.now) (in_one_row c.lines.blocks.blocks.items) c.lines.at c.in_ok-line.line c.lines.invariant.at line c.if-not-line.true (is.whole c.if-not-line.true)
 
 pub lines-preserved : goal.lines-preserved
 lines-preserved g c =
@@ -30,7 +30,7 @@ lines-preserved g c =
     let line = c.in_ok-line.line in
     let text = g.S.Source.bytes c.args.source.now in
     let now = subst (λ s. g.R.LineReader.is_line s (drop c.lines.at text) line) c.lines.invariant.setting is.line in
-    let next = row_more (g.R.LineReader.is_line (g.R.LineReader.setting c.args.reader.now)) text (joined c.lines.blocks.blocks.items) c.lines.at line c.lines.invariant.at now c.if-not-line.false is.within in
+    let next = row_more (g.R.LineReader.is_line (g.R.LineReader.setting c.args.reader.now)) text (in_one_row c.lines.blocks.blocks.items) c.lines.at line c.lines.invariant.at now c.if-not-line.false is.within in
     record {
       at = subst (λ read. AtRow (g.R.LineReader.is_line (g.R.LineReader.setting c.args.reader.now)) text read (c.lines.at + line.len)) (sym c.in_ok-push.ensures) next;
       setting = is.setting ∙ c.lines.invariant.setting;
