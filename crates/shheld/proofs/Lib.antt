@@ -9,3 +9,6 @@ pub mod NodesAt
 pub mod BeforeNewline
 pub mod Outlines
 pub mod Codes
+pub mod InText
+pub mod LastLine
+pub mod Windows

@@ -4,7 +4,7 @@ use Rattle.std.proofs.lemmas.List.{drop-drop}
 use Rattle.shast.specs.Tree.{Entries}
 use Rattle.shgrammar.specs.declared.edition.Edition.{Edition}
 use Rattle.shgrammar.specs.declared.fault.Fault.{Fault}
-use Rattle.shgrammar.specs.Joined.{AreLines, joined, joined_by, last_of, more_of}
+use Rattle.shgrammar.specs.Joined.{AreLines, lines_joined, joined_by, last_of, more_of}
 use Rattle.shgrammar.specs.Lines.{AKind, ALine, IsLine, blank_line, entries_line, end_line, faulty_line, line_read, line_stops}
 use Rattle.shgrammar.specs.Scripts.{AScript, FirstFault, Outcome}
 use Rattle.shgrammar.proofs.Joining.{script_joined}
@@ -56,17 +56,17 @@ on_by end_line so rest walk = absurd so
 on_by (faulty_line f) so rest walk = absurd so
 
 abbrev from_walk : Walk → Row (HeldLine AKind) → AScript
-from_walk so row = joined (map as_read row) so.entries so.gap so.at
+from_walk so row = lines_joined (map as_read row) so.entries so.gap so.at
 
 -- a line that ended is one step of the walk
 pub line_on : (edition : Edition) (T : List ℕ) (l : HeldLine AKind) → IsTopLine edition T l → l.ended ≡ true → (ls : Row (HeldLine AKind)) (so : Walk) → from_walk so (l ∷ ls) ≡ from_walk (with_line so l) ls
-line_on edition T l is ended ls so = on_by l.kind (goes_on edition T l is ended) (λ es gap. joined (map as_read ls) es gap (so.at + l.len)) so
+line_on edition T l is ended ls so = on_by l.kind (goes_on edition T l is ended) (λ es gap. lines_joined (map as_read ls) es gap (so.at + l.len)) so
 
 -- and so is the last one
 pub line_last : (l : HeldLine AKind) (so : Walk) → from_walk so (l ∷ []) ≡ record { entries = (with_line so l).entries; wrong = fault_at so.at l.kind }
 line_last l so = by_kind l.kind
   where
-    by_kind : (k : AKind) → joined_by (λ es gap. joined [] es gap (so.at + l.len)) k so.entries so.gap so.at ≡ record { entries = entries_with so k; wrong = fault_at so.at k }
+    by_kind : (k : AKind) → joined_by (λ es gap. lines_joined [] es gap (so.at + l.len)) k so.entries so.gap so.at ≡ record { entries = entries_with so k; wrong = fault_at so.at k }
     by_kind blank_line = refl
     by_kind (entries_line xs) = refl
     by_kind end_line = refl

@@ -19,7 +19,7 @@ use Rattle.shwindow.specs.Lines.{Reads}
 use Rattle.shwindow.specs.declared.line.HeldLine.{HeldLine}
 use Rattle.shheld.specs.TopLines.{IsTopLine, as_read}
 
-abbrev held : ALine → HeldLine AKind
+abbrev pub held : ALine → HeldLine AKind
 held l = record { kind = l.kind; len = l.next; ended = l.ended }
 
 only : (edition : Edition) (T : List ℕ) (l m : HeldLine AKind) → IsTopLine edition T l → IsTopLine edition T m → l ≡ m

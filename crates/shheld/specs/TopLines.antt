@@ -2,7 +2,7 @@
 use Rattle.std.specs.Prelude.{ℕ, ◌+◌, false, List, List as Row, length, map}
 use Rattle.shast.specs.Tree.{no_entry}
 use Rattle.shgrammar.specs.declared.edition.Edition.{Edition}
-use Rattle.shgrammar.specs.Joined.{joined}
+use Rattle.shgrammar.specs.Joined.{lines_joined}
 use Rattle.shgrammar.specs.Scripts.{AScript}
 use Rattle.shgrammar.specs.Lines.{AKind, ALine, IsLine}
 use Rattle.shtext.specs.Edit.{edited}
@@ -18,7 +18,7 @@ IsTopLine edition text l = IsLine edition text (as_read l)
 
 -- the script of the lines of a row, one behind the other
 abbrev pub script_of : Row (HeldLine AKind) → AScript
-script_of row = joined (map as_read row) no_entry false 0
+script_of row = lines_joined (map as_read row) no_entry false 0
 
 -- The window of an edit of the bytes, from w up to t: it begins at the greatest boundary not after a. It ends at the least boundary of the
 -- new text that is not before the end of the new bytes and whose old place is a boundary too; where there is none, at the end.

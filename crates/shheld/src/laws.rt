@@ -4,9 +4,10 @@ ghost use Rattle.shast.specs.Nodes.{AreWithin, nodes_at, outline};
 ghost use Rattle.shgrammar.specs.declared.edition.Edition.{Edition};
 ghost use Rattle.shgrammar.specs.Lines.{AKind};
 ghost use Rattle.shgrammar.specs.Scripts.{FirstFault, Outcome};
+ghost use Rattle.shtext.specs.Edit.{IsInRange, edited};
 ghost use Rattle.shwindow.specs.Lines.{IsRow, Reads, extent};
 ghost use Rattle.shwindow.specs.declared.line.HeldLine.{HeldLine};
-ghost use Rattle.shheld.specs.TopLines.{IsTopLine, script_of};
+ghost use Rattle.shheld.specs.TopLines.{HasWindow, IsTopLine, script_of};
 ghost use Rattle.shheld.specs.Walk.{fault_at, line_nodes_at, no_line, outlines, with_lines};
 
 /// The top-level lines of scripts, read under an edition, keep to the laws of held lines.
@@ -15,10 +16,24 @@ pub fn top_lines()
     ensures { (edition : Edition) → Reads (IsTopLine edition) }
 {}
 
-/// What is read of bytes is the script of the row of their lines under the same edition, whose entries a walk
-/// over the row gathers. Its first fault is that of the last line.
+/// Each edit of any bytes has a window, and only one. If the edit lies in the bytes, the window begins at or
+/// before the edited place, and ends within the edited bytes, at its begin or behind that.
+pub fn windows()
+    ensures some { (edition : Edition) (bytes : List ℕ) (a b : ℕ) (new : List ℕ) →
+        (w t : ℕ) × HasWindow edition bytes a b new w t }
+    ensures only { (edition : Edition) (bytes : List ℕ) (a b : ℕ) (new : List ℕ) (w v t u : ℕ) →
+        HasWindow edition bytes a b new w t → HasWindow edition bytes a b new v u → (w ≡ v) × (t ≡ u) }
+    ensures order { (edition : Edition) (bytes : List ℕ) (a b : ℕ) (new : List ℕ) (w t : ℕ) →
+        IsInRange bytes a b → HasWindow edition bytes a b new w t →
+        (w ≤ a) × (w ≤ t) × (t ≤ length (edited bytes a b new)) }
+{}
+
+/// Bytes have a row of lines under each edition. What is read of them is the script of that row, whose entries
+/// a walk over the row gathers. Its first fault is that of the last line.
 #[tactic(auto, using(crate::proofs::Rows::row_outcome, crate::proofs::Rows::row_entries, crate::proofs::Rows::row_fault))]
 pub fn script_of_lines()
+    ensures row { (edition : Edition) (bytes : List ℕ) →
+        (row : Row (HeldLine AKind)) × IsRow (IsTopLine edition) bytes row }
     ensures outcome { (edition : Edition) (bytes : List ℕ) (row : Row (HeldLine AKind)) →
         IsRow (IsTopLine edition) bytes row → Outcome edition bytes (script_of row) }
     ensures entries { (edition : Edition) (bytes : List ℕ) (row : Row (HeldLine AKind)) →

@@ -1,0 +1,707 @@
+-- No row of the grammar leads past the end of its text.
+use Rattle.std.proofs.Common.{◌≡◌, ℕ, zero, suc, ◌≤◌, Bool, true, false, ◌||◌, List, List as Row, [], ◌∷◌, ◌++◌, Result, Ok, Err, Option, Some, None, is_some, length, refl, ap, subst}
+use Rattle.std.proofs.lemmas.Bool.{and_parts, both_ways, cond_both}
+use Rattle.shast.specs.Nodes.{word_span}
+use Rattle.shast.specs.Tree.{ACommand, AnItem, AWord}
+use Rattle.shast.specs.declared.tree.AndOrOperator.{AndOrOperator}
+use Rattle.shast.specs.declared.tree.RedirectOperator.{RedirectOperator}
+use Rattle.shast.specs.declared.tree.RedirectOperator.TheVariants as redirects
+use Rattle.shast.specs.declared.tree.Span.{Span}
+use Rattle.shgrammar.specs.declared.fault.Fault.{Fault}
+use Rattle.shgrammar.specs.declared.keep.Keep.TheVariants.{Whole}
+use Rattle.shgrammar.specs.declared.mode.Mode.TheVariants.{Plain}
+use Rattle.shgrammar.specs.declared.token.Closing.{Closing}
+use Rattle.shgrammar.specs.declared.token.Closing.TheVariants as closings
+use Rattle.shgrammar.specs.declared.token.Next.{Next}
+use Rattle.shgrammar.specs.declared.token.Opener.{Opener}
+use Rattle.shgrammar.specs.declared.token.Opener.TheVariants as openers
+use Rattle.shgrammar.specs.declared.token.Position.{Position}
+use Rattle.shgrammar.specs.declared.token.Position.TheVariants.{Command, Suffix}
+use Rattle.shgrammar.specs.declared.token.Separator.{Separator}
+use Rattle.shgrammar.specs.declared.token.Token.{Token}
+use Rattle.shgrammar.specs.declared.token.Token.TheVariants as tokens
+use Rattle.shgrammar.specs.Bytes.{behind}
+use Rattle.shgrammar.specs.Classes.{is_digit, is_name}
+use Rattle.shgrammar.specs.Commands.{pick, next_token, is_newline, is_semicolon, a_semicolon, is_pipe, is_bang, begins_simple, begins_word, begins_redirect, begins_pipeline, opener_of, compound_by, and_or_operator_of, Items, so_many, breaks, behind_word, one_redirect, behind_redirect, redirect_turn, redirected, an_item, item_by, item_turn, a_simple, unexpected, comment_by, a_comment, a_newline, with_comment, JoinSo, join_turn, a_join, a_command, a_bang, Piped, piped, one_command, pipe_turn, a_pipeline, Joined, one_pipeline, joined_by, join_pipeline, an_and_or, separator_of, separator_by, a_separator, an_entry, is_paren, is_word, a_worded, ends_item, falls_through, is_long, is_number_token, is_strip, redirect_operator_of, a_number, an_operator, operator_by, a_target, a_document, document_by, takes_here}
+use Rattle.shgrammar.specs.Comments.{comment_at, past_comment}
+use Rattle.shgrammar.specs.Compounds.{Branched, branched, Closed, is_closing, is_open_paren, is_close_paren, past_opener, passed, closing, a_branch, elif_turn, an_else, an_if, a_loop, a_group, a_for_name, a_linebreak, a_sequential_sep, begins_words, Headed, word_turn, for_words, a_for_head, a_for, a_form, a_compound, a_function, a_case_word, begins_pattern, Patterned, a_pattern, one_pattern, pattern_turn, a_pattern_list, an_open_bracket, a_body, ItemEnd, an_ender, an_item_end, CasesSo, cases_so, one_case, case_turn, a_case_head, a_case}
+use Rattle.shgrammar.specs.Form.{Form, Spelled, Told, give, see, move, push, both, change, many, step_if, token}
+use Rattle.shgrammar.specs.HereDocuments.{ADelimiter, bodies_from, bodies_here, changed, state_by, waits, with_waiting}
+use Rattle.shgrammar.specs.Levels.{level}
+use Rattle.shgrammar.specs.Lists.{ListSo, list_so, none_listed, one_entry, entry_turn, remark_by, a_remark, on_line, list_turn, a_list}
+use Rattle.shgrammar.specs.Shows.{IsRead, Shows}
+use Rattle.shgrammar.specs.Sights.{Given, Move, Sight, State, Waiting, a_comment_on, is_a_name, one_byte, seen, the_digits, to}
+use Rattle.shgrammar.specs.Standing.{raw_stands}
+use Rattle.shgrammar.specs.Tokens.{is_end, past_digits, past_reserved}
+use Rattle.shgrammar.specs.Words.{Inner, a_word}
+use Rattle.shgrammar.proofs.Delimiters.{bodies_go}
+use Rattle.shgrammar.proofs.Holds.{Tells, Turned, tells_after, tells_change, tells_give, tells_many, tells_pushed, tells_seen, tells_then, tells_token, tells_with_bytes}
+use Rattle.shgrammar.proofs.Places.{behind_high, blanks_high, next_newline_high, past_high}
+use Rattle.shgrammar.proofs.Shown.{shown_in}
+use Rattle.shgrammar.proofs.WordsWithin.{contents_end, stays_in}
+
+-- what a token is that is not the end
+other : (test : Token → Bool) → test tokens.End ≡ false → (t : Token) → test t ≡ true → is_end t ≡ false
+other test none tokens.End e = absurd (both_ways (test tokens.End) none e)
+other test none _ e = refl
+
+closes_none : (c : Closing) → is_closing c tokens.End ≡ false
+closes_none closings.Brace = refl
+closes_none _ = refl
+
+module _ (g : Given) where
+  abbrev T : List ℕ
+  T = g.text
+
+  abbrev N : {X : Type 0} → Form X → (X → State → Type 0) → State → Type 0
+  N r P s = Tells Whole g r P s
+
+  -- the reading stands in the text, or at its end
+  abbrev pub InText : {X : Type 0} → X → State → Type 0
+  InText x t = t.at ≤ length T
+
+  -- and this token is handed on there
+  pub record Handed (n : Next) (t : State) : Type 0 where
+    pub shows : Shows n.token T t.at
+    pub within : t.at ≤ length T
+
+  abbrev pub Behind : {X : Type 0} → X × Next → State → Type 0
+  Behind x t = Handed x.1 t
+
+  pushed_on : {A Y : Type 0} {Q : Y → State → Type 0} {xs : Row A} {x : A} {q : Row A → Form Y} {s : State}
+      → N (q (xs ++ x ∷ [])) Q s → N (both (push xs x) q) Q s
+  pushed_on rest = tells_pushed g rest
+
+  pub picked : {X : Type 0} {P : X → State → Type 0} (b : Bool) {r q : Form X} {s : State}
+      → (b ≡ true → N r P s) → N q P s → N (pick b r q) P s
+  picked true one two = one refl
+  picked false one two = two
+
+  pub stops : {X : Type 0} {P : X → State → Type 0} (inner : Inner) (n : Next) {s : State}
+      → N (unexpected {X = X} inner n) P s
+  stops inner n = tells_after Whole g (λ w t. record { told = tt })
+
+  gives : {X : Type 0} {x : X} {P : X → State → Type 0} {s : State} → P x s → N (give x) P s
+  gives so = tells_give Whole g so
+
+  sees : {X Y : Type 0} {Q : Y → State → Type 0} {f : Sight X} {q : X → Form Y} {s : State}
+      → N (q (seen f g s)) Q s → N (both (see f) q) Q s
+  sees rest = tells_seen Whole g rest
+
+  -- one form and then another
+  infixl 10 ◌▹◌
+  ◌▹◌ : {X Y : Type 0} {P : X → State → Type 0} {Q : Y → State → Type 0} {r : Form X} {q : X → Form Y}
+      {s : State} → N r P s → ((a : X) (t : State) → P a t → N (q a) Q t) → N (both r q) Q s
+  one ▹ rest = tells_then Whole g one rest
+
+  -- ---- moves
+
+  moved_on : (m : Move) {s : State} → to m T s.at ≤ length T → N (move m) InText s
+  moved_on m le = record { told = le }
+
+  token_on : {X : Type 0} {r : Form X} {how : Told} {s : State} → N r InText s → N (token how r) InText s
+  token_on one = tells_token Whole g one (λ a t le. le)
+
+  two_on : {how : Told} (s : State) → IsRead T (behind T s.at)
+      → N (token how (both (move one_byte) (λ x. move one_byte))) InText s
+  two_on s is = token_on (record { told = behind_high T (behind T s.at) is })
+
+  -- a byte is read where the token is not the end
+  read : (n : Next) (s : State) → Handed n s → (test : Token → Bool) → test tokens.End ≡ false
+      → test n.token ≡ true → IsRead T s.at
+  read n s so test none e = so.shows.1 (other test none n.token e)
+
+  pub read_on : (n : Next) (s : State) → Handed n s → (test : Token → Bool) → test tokens.End ≡ false
+      → test n.token ≡ true → behind T s.at ≤ length T
+  read_on n s so test none e = behind_high T s.at (read n s so test none e)
+
+  -- on to the next token
+  pub next_here : (position : Position) (s : State) → s.at ≤ length T → N (next_token position) Handed s
+  unfolding next_token
+  next_here position s le =
+      record { told = record { shows = shown_in g.edition position T s.at; within = blanks_high T s.at le } }
+
+  onward : (position : Position) {s : State} → s.at ≤ length T → N (next_token position) Handed s
+  onward position {s = s} le = next_here position s le
+
+  -- ---- comments, newlines and separators
+
+  comment_high : (p : ℕ) → p ≤ length T → past_comment T p ≤ length T
+  unfolding past_comment
+  comment_high p le =
+      cond_both (raw_stands T p 35) _ _ (λ q. q ≤ length T) (λ e. next_newline_high T p le) (λ e. le)
+
+  comment_in : (n : Next) (s : State) → Handed n s → N (a_comment n) Behind s
+  unfolding a_comment
+  comment_in n s so = sees (by_comment (comment_at T g.offset s.at))
+    where
+      by_comment : (c : Option Span) → N (comment_by n c) Behind s
+      by_comment (Some c) =
+          moved_on a_comment_on (comment_high s.at so.within) ▹ λ x t le.
+          onward Command le ▹ λ m u good. gives good
+      by_comment None = gives so
+
+  pub bodies_high : (s t : State) → s.at ≤ length T → changed bodies_here g s ≡ Ok t → t.at ≤ length T
+  bodies_high s t le is = by_read (bodies_from g s.waiting s.bodies s.at) refl is
+    where
+      by_read : (x : Result (Row Span × ℕ) Fault) → bodies_from g s.waiting s.bodies s.at ≡ x
+          → state_by x ≡ Ok t → t.at ≤ length T
+      by_read (Ok x) read is =
+          let same : record { at = x.1; waiting = []; bodies = x.0 } ≡ t = cc in
+          subst (λ (u : State). u.at ≤ length T) same (bodies_go g s.waiting s.bodies s.at x read le).1
+      by_read (Err f) read is = absurd cc
+
+  bodies_in : (s : State) → s.at ≤ length T → N (change bodies_here) InText s
+  bodies_in s le = tells_change Whole g (λ t is. bodies_high s t le is)
+
+  newline_in : (n : Next) (s : State) → Handed n s → N (a_newline n) Behind s
+  unfolding a_newline
+  newline_in n s so =
+      picked (is_newline n.token)
+      (λ e. moved_on one_byte (read_on n s so is_newline refl e) ▹ λ x t le. bodies_in t le ▹ λ y u low.
+      onward Command low ▹ λ m v good. gives good)
+      (gives so)
+
+  semicolon_in : (n : Next) (s : State) → Handed n s → N (a_semicolon n) Behind s
+  unfolding a_semicolon
+  semicolon_in n s so =
+      picked (is_semicolon n.token)
+      (λ e. moved_on one_byte (read_on n s so is_semicolon refl e) ▹ λ x t le.
+      onward Command le ▹ λ m u good. gives good)
+      (gives so)
+
+  separator_in : (n : Next) (s : State) → Handed n s → N (a_separator n) Behind s
+  unfolding a_separator
+  separator_in n s so = by_separator (separator_of n.token) refl
+    where
+      by_separator : (o : Option Separator) → separator_of n.token ≡ o → N (separator_by n o) Behind s
+      by_separator (Some x) is =
+          let on = read_on n s so (λ t. is_some (separator_of t)) refl (ap is_some is) in
+          token_on (moved_on one_byte on) ▹ λ y t le. onward Command le ▹ λ m u good. gives good
+      by_separator None is = gives so
+
+  -- ---- joins
+
+  abbrev JoinHanded : JoinSo → State → Type 0
+  JoinHanded j t = Handed j.next t
+
+  -- nothing moves where a comment is kept
+  kept_in : (cs : Row Span) (c : Option Span) (n : Next) (s : State) → Handed n s
+      → N (with_comment cs c) (λ ds t. Handed n t) s
+  kept_in cs (Some c) n s so = record { told = so }
+  kept_in cs None n s so = gives so
+
+  join_step : (p : Bool) (j : JoinSo) (t : State) → Handed j.next t
+      → Turned Whole g JoinHanded (step_if p j) t
+  join_step true j t so = so
+  join_step false j t so = so
+
+  join_turn_in : (j : JoinSo) (s : State) → Handed j.next s → N (join_turn j) (Turned Whole g JoinHanded) s
+  unfolding join_turn
+  join_turn_in j s so =
+      comment_in j.next s so ▹ λ c t one. kept_in j.join.comments c.0 c.1 t one ▹ λ cs u two.
+      newline_in c.1 u two ▹ λ l v good. gives (join_step l.0 _ v good)
+
+  join_in : (broken : Bool) (s : State) → s.at ≤ length T → N (a_join broken) Behind s
+  unfolding a_join
+  join_in broken s le =
+      onward Command le ▹ λ n t so.
+      tells_many Whole g join_turn JoinHanded join_turn_in _ t so ▹ λ j u good. gives good
+
+  linebreak_in : (cs : Row Span) (n : Next) (s : State) → Handed n s → N (a_linebreak cs n) JoinHanded s
+  unfolding a_linebreak
+  linebreak_in cs n s so = tells_many Whole g join_turn JoinHanded join_turn_in _ s so
+
+  -- ---- redirections
+
+  digits_high : (p : ℕ) → p ≤ length T → past_digits T p ≤ length T
+  unfolding past_digits
+  digits_high p le = past_high is_digit T p le
+
+  number_in : (n : Next) (s : State) → Handed n s → N (a_number n) Behind s
+  unfolding a_number
+  number_in n s so =
+      picked (is_number_token n.token)
+      (λ e. token_on (moved_on the_digits (digits_high s.at so.within)) ▹ λ x t le.
+      onward Suffix le ▹ λ m u good. gives good)
+      (gives so)
+
+  operator_ends : (o : RedirectOperator) (s : State) → IsRead T s.at
+      → (is_long o ≡ true → IsRead T (behind T s.at))
+      → (is_strip o ≡ true → IsRead T (behind T (behind T s.at)))
+      → N (an_operator o) InText s
+  unfolding an_operator
+  operator_ends redirects.Input s one two three = token_on (record { told = behind_high T s.at one })
+  operator_ends redirects.Output s one two three = token_on (record { told = behind_high T s.at one })
+  operator_ends redirects.HereStripped s one two three =
+      token_on (record { told = behind_high T (behind T (behind T s.at)) (three refl) })
+  operator_ends _ s one two three = token_on (record { told = behind_high T (behind T s.at) (two refl) })
+
+  operator_in : (p : ℕ) (n : Next) (s : State) → Handed n s
+      → N (operator_by p (redirect_operator_of n.token)) InText s
+  operator_in p n s so = by_operator (redirect_operator_of n.token) refl
+    where
+      by_operator : (o : Option RedirectOperator) → redirect_operator_of n.token ≡ o
+          → N (operator_by p o) InText s
+      by_operator (Some o) is =
+          let byte = read n s so (λ t. is_some (redirect_operator_of t)) refl (ap is_some is) in
+          operator_ends o s byte (so.shows.9 o is) (so.shows.10 o is) ▹ λ x t le. gives le
+      by_operator None is = record { told = tt }
+
+  waits_in : (w : Waiting) (s : State) → s.at ≤ length T → N (change (waits w)) InText s
+  waits_in w s le =
+      tells_change Whole g
+      (λ t is. let same : with_waiting w s ≡ t = cc in subst (λ (u : State). u.at ≤ length T) same le)
+
+  document_in : (o : RedirectOperator) (b p : ℕ) (bytes : Spelled) (s : State) → s.at ≤ length T
+      → N (a_document o b p bytes) InText s
+  unfolding a_document
+  document_in o b p bytes s le = picked (takes_here o) (λ e. sees (by_delimiter _)) (gives le)
+    where
+      by_delimiter : (d : Option ADelimiter) → N (document_by b p (is_strip o) d) InText s
+      by_delimiter (Some d) = waits_in _ s le ▹ λ x t low. gives low
+      by_delimiter None = record { told = tt }
+
+  -- ---- commands
+
+  pub record Stays (inner : Inner) : Type 0 where
+    pub words : (s : State) → s.at ≤ length T → N (a_word inner) InText s
+    pub compound : (o : Opener) (s : State) → IsRead T s.at → N (inner.compound o) Behind s
+    pub function : (name : Span) (s : State) → IsRead T s.at → N (inner.function name) Behind s
+
+  module _ (inner : Inner) (stays : Stays inner) where
+    abbrev ItemsHanded : Items → State → Type 0
+    ItemsHanded i t = Handed i.next t
+
+    target_in : (s : State) → s.at ≤ length T → N (a_target inner) InText s
+    unfolding a_target
+    target_in s le =
+        onward Suffix le ▹ λ n t so.
+        picked (is_word n.token)
+        (λ e. tells_with_bytes Whole g (stays.words t so.within) (λ a u low. low))
+        (stops inner n)
+
+    redirect_in : (broken : Bool) (position : Position) (is : Row AnItem) (n : Next) (s : State)
+        → Handed n s → N (one_redirect inner broken position is n) (Turned Whole g ItemsHanded) s
+    unfolding one_redirect
+    redirect_in broken position is n s so =
+        sees (number_in n s so ▹ λ d t one. operator_in _ d.1 t one ▹ λ o u two.
+        target_in u two ▹ λ w v three. document_in o.0 _ _ w.1 v three ▹ λ h x four.
+        pushed_on (onward position four ▹ λ m y good. gives good))
+
+    an_item_in : (i : Items) (position : Position) (s : State) → s.at ≤ length T
+        → N (an_item inner i position) (Turned Whole g ItemsHanded) s
+    unfolding an_item
+    an_item_in i position s le =
+        stays.words s le ▹ λ w t low. pushed_on (onward position low ▹ λ n v good. gives good)
+
+    item_by_in : (i : Items) (o : Option Position) (s : State) → Handed i.next s
+        → N (item_by inner i o) (Turned Whole g ItemsHanded) s
+    item_by_in i (Some position) s so = an_item_in i position s so.within
+    item_by_in i None s so =
+        picked (begins_redirect i.next.token)
+        (λ e. redirect_in (breaks i) (behind_redirect i.place) i.items i.next s so)
+        (gives so)
+
+    item_turn_in : (i : Items) (s : State) → Handed i.next s
+        → N (item_turn inner i) (Turned Whole g ItemsHanded) s
+    unfolding item_turn
+    item_turn_in i s so = item_by_in i (behind_word i.next.token) s so
+
+    simple_in : (i : Items) (s : State) → Handed i.next s → N (a_simple inner i) Behind s
+    unfolding a_simple
+    simple_in i s so =
+        tells_many Whole g (item_turn inner) ItemsHanded item_turn_in i s so ▹ λ j t good. gives good
+
+    redirect_turn_in : (i : Items) (s : State) → Handed i.next s
+        → N (redirect_turn inner i) (Turned Whole g ItemsHanded) s
+    unfolding redirect_turn
+    redirect_turn_in i s so =
+        picked (begins_redirect i.next.token)
+        (λ e. redirect_in i.next.broken Command i.items i.next s so)
+        (gives so)
+
+    redirected_in : (c : ACommand × Next) (s : State) → Handed c.1 s → N (redirected inner c) Behind s
+    unfolding redirected
+    redirected_in c s so =
+        let none = so_many [] Command c.1 in
+        tells_many Whole g (redirect_turn inner) ItemsHanded redirect_turn_in none s so ▹ λ r t good.
+        gives good
+
+    compound_in : (n : Next) (s : State) → Handed n s → N (compound_by inner n (opener_of n.token)) Behind s
+    compound_in n s so = by_opener (opener_of n.token) refl
+      where
+        by_opener : (o : Option Opener) → opener_of n.token ≡ o → N (compound_by inner n o) Behind s
+        by_opener (Some o) is =
+            stays.compound o s (read n s so (λ t. is_some (opener_of t)) refl (ap is_some is)) ▹ redirected_in
+        by_opener None is = stops inner n
+
+    worded_in : (s : State) → s.at ≤ length T → N (a_worded inner) Behind s
+    unfolding a_worded
+    worded_in s le =
+        sees (stays.words s le ▹ λ w u low. onward Suffix low ▹ λ n v so.
+        picked (is_paren n.token)
+        (λ e. let byte = read n v so is_paren refl e in
+        picked (seen is_a_name g s) (λ f. stays.function (word_span w) v byte) (record { told = tt }))
+        (pushed_on (simple_in (so_many _ Suffix n) v so)))
+
+    command_in : (n : Next) (s : State) → Handed n s → N (a_command inner n) Behind s
+    unfolding a_command
+    command_in n s so =
+        picked (is_word n.token) (λ e. worded_in s so.within)
+        (picked (begins_simple n.token) (λ e. simple_in (so_many [] Command n) s so) (compound_in n s so))
+
+    bang_in : (n : Next) (s : State) → Handed n s → N (a_bang n) Behind s
+    unfolding a_bang
+    bang_in n s so =
+        picked (is_bang n.token)
+        (λ e. token_on (moved_on one_byte (read_on n s so is_bang refl e)) ▹ λ x t le.
+        onward Command le ▹ λ m u good. gives good)
+        (gives so)
+
+    abbrev PipedHanded : Piped → State → Type 0
+    PipedHanded p t = Handed p.next t
+
+    pipe_turn_in : (p : Piped) (s : State) → Handed p.next s
+        → N (pipe_turn inner p) (Turned Whole g PipedHanded) s
+    unfolding pipe_turn one_command
+    pipe_turn_in p s so =
+        picked (is_pipe p.next.token)
+        (λ e. token_on (moved_on one_byte (read_on p.next s so is_pipe refl e)) ▹ λ x t le.
+        join_in p.next.broken t le ▹ λ j u one. command_in j.1 u one ▹ λ c v good. pushed_on (gives good))
+        (gives so)
+
+    pipeline_in : (n : Next) (s : State) → Handed n s → N (a_pipeline inner n) Behind s
+    unfolding a_pipeline
+    pipeline_in n s so =
+        bang_in n s so ▹ λ b t one. command_in b.1 t one ▹ λ c u two.
+        tells_many Whole g (pipe_turn inner) PipedHanded pipe_turn_in (piped [] c.1) u two ▹ λ p v good.
+        gives good
+
+    abbrev JoinedHanded : Joined → State → Type 0
+    JoinedHanded a t = Handed a.next t
+
+    join_pipeline_in : (a : Joined) (s : State) → Handed a.next s
+        → N (join_pipeline inner a) (Turned Whole g JoinedHanded) s
+    unfolding join_pipeline one_pipeline
+    join_pipeline_in a s so = by_operator (and_or_operator_of a.next.token) refl
+      where
+        by_operator : (o : Option AndOrOperator) → and_or_operator_of a.next.token ≡ o
+            → N (joined_by inner a o) (Turned Whole g JoinedHanded) s
+        by_operator (Some o) is =
+            two_on s (so.shows.4 o is) ▹ λ x t le.
+            join_in a.next.broken t le ▹ λ j u one. pipeline_in j.1 u one ▹ λ p v good.
+            pushed_on (gives good)
+        by_operator None is = gives so
+
+    and_or_in : (n : Next) (s : State) → Handed n s → N (an_and_or inner n) Behind s
+    unfolding an_and_or
+    and_or_in n s so =
+        pipeline_in n s so ▹ λ p t one.
+        tells_many Whole g (join_pipeline inner) JoinedHanded join_pipeline_in _ t one ▹ λ a u good.
+        gives good
+
+    entry_in : (blank : Bool) (n : Next) (s : State) → Handed n s
+        → N (an_entry inner blank n) (λ e t. Handed e.next t) s
+    unfolding an_entry
+    entry_in blank n s so =
+        and_or_in n s so ▹ λ a t one. separator_in a.1 t one ▹ λ z u two. comment_in z.1 u two ▹ λ c v good.
+        gives good
+
+    -- ---- lists
+
+    abbrev pub ListHanded : ListSo → State → Type 0
+    ListHanded l t = Handed l.next t
+
+    list_step : (p : Bool) (l : ListSo) (t : State) → Handed l.next t
+        → Turned Whole g ListHanded (step_if p l) t
+    list_step true l t so = so
+    list_step false l t so = so
+
+    entry_turn_in : (l : ListSo) (s : State) → Handed l.next s
+        → N (entry_turn inner l) (Turned Whole g ListHanded) s
+    unfolding entry_turn one_entry
+    entry_turn_in l s so =
+        picked (begins_pipeline l.next.token)
+        (λ e. entry_in _ l.next s so ▹ λ e t good.
+        pushed_on (gives (list_step (is_some e.parted) _ t good)))
+        (gives so)
+
+    remark_in : (l : ListSo) (x : Option Span × Next) (s : State) → Handed x.1 s
+        → N (remark_by l x) ListHanded s
+    remark_in l (Some c, n) s so = pushed_on (gives so)
+    remark_in l (None, n) s so = gives so
+
+    pub on_line_in : (l : ListSo) (s : State) → Handed l.next s → N (on_line inner l) ListHanded s
+    unfolding on_line a_remark
+    on_line_in l s so =
+        tells_many Whole g (entry_turn inner) ListHanded entry_turn_in l s so ▹ λ m t one.
+        comment_in m.next t one ▹ λ x u good. remark_in m x u good
+
+    list_turn_in : (l : ListSo) (s : State) → Handed l.next s
+        → N (list_turn inner l) (Turned Whole g ListHanded) s
+    unfolding list_turn
+    list_turn_in l s so =
+        on_line_in l s so ▹ λ m t one. newline_in m.next t one ▹ λ x u good. gives (list_step x.0 _ u good)
+
+    lines_in : (n : Next) (s : State) → Handed n s
+        → N (many (list_turn inner) (list_so (none_listed false) n)) ListHanded s
+    lines_in n s so =
+        tells_many Whole g (list_turn inner) ListHanded list_turn_in (list_so (none_listed false) n) s so
+
+    list_in : (n : Next) (s : State) → Handed n s → N (a_list inner n) Behind s
+    unfolding a_list
+    list_in n s so =
+        lines_in n s so ▹ λ l t good. picked l.list.commands (λ e. gives good) (stops inner l.next)
+
+    -- ---- compound commands
+
+    reserved_high : (p : ℕ) → IsRead T p → past_reserved T p ≤ length T
+    unfolding past_reserved
+    reserved_high p is = past_high is_name T (behind T p) (behind_high T p is)
+
+    opener_high : (paren : Bool) (p : ℕ) → IsRead T p → to (past_opener paren) T p ≤ length T
+    opener_high true p is = behind_high T p is
+    opener_high false p is = reserved_high p is
+
+    passed_in : (text : Spelled) (paren : Bool) (position : Position) (s : State) → IsRead T s.at
+        → N (passed text paren position) Behind s
+    unfolding passed
+    passed_in text paren position s is =
+        token_on (moved_on (past_opener paren) (opener_high paren s.at is)) ▹ λ x t le.
+        onward position le ▹ λ n u good. gives good
+
+    closes : (c : Closing) (n : Next) (s : State) → Handed n s → is_closing c n.token ≡ true → IsRead T s.at
+    closes c n s so e = read n s so (is_closing c) (closes_none c) e
+
+    closing_in : (c : Closing) (n : Next) (s : State) → Handed n s → N (closing inner c n) Behind s
+    unfolding closing
+    closing_in c n s so =
+        picked (is_closing c n.token)
+        (λ e. passed_in _ (is_close_paren c) _ s (closes c n s so e))
+        (stops inner n)
+
+    branch_in : (n : Next) (s : State) → Handed n s → N (a_branch inner n) Behind s
+    unfolding a_branch
+    branch_in n s so =
+        list_in n s so ▹ λ c t one. closing_in closings.Then c.1 t one ▹ λ k u two.
+        list_in k.1 u two ▹ λ b v good. gives good
+
+    abbrev BranchedHanded : Branched → State → Type 0
+    BranchedHanded b t = Handed b.next t
+
+    elif_in : (b : Branched) (s : State) → Handed b.next s
+        → N (elif_turn inner b) (Turned Whole g BranchedHanded) s
+    unfolding elif_turn
+    elif_in b s so =
+        picked (is_closing closings.Elif b.next.token)
+        (λ e. passed_in _ false _ s (closes closings.Elif b.next s so e) ▹ λ k t one.
+        branch_in k.1 t one ▹ λ x u good. pushed_on (gives good))
+        (gives so)
+
+    else_in : (n : Next) (s : State) → Handed n s → N (an_else inner n) Behind s
+    unfolding an_else
+    else_in n s so =
+        picked (is_closing closings.Else n.token)
+        (λ e. passed_in _ false _ s (closes closings.Else n s so e) ▹ λ k t one.
+        list_in k.1 t one ▹ λ l u good. gives good)
+        (gives so)
+
+    abbrev ClosedHanded : {X : Type 0} → Closed X → State → Type 0
+    ClosedHanded x t = Handed x.next t
+
+    if_in : (n : Next) (s : State) → Handed n s → N (an_if inner n) ClosedHanded s
+    unfolding an_if
+    if_in n s so =
+        branch_in n s so ▹ λ f t one.
+        tells_many Whole g (elif_turn inner) BranchedHanded elif_in (branched [] f.1) t one ▹ λ b u two.
+        else_in b.next u two ▹ λ e v three. closing_in closings.Fi e.1 v three ▹ λ c w good. gives good
+
+    loop_in : (n : Next) (s : State) → Handed n s → N (a_loop inner n) ClosedHanded s
+    unfolding a_loop
+    loop_in n s so =
+        list_in n s so ▹ λ c t one. closing_in closings.Do c.1 t one ▹ λ d u two.
+        list_in d.1 u two ▹ λ b v three. closing_in closings.Done b.1 v three ▹ λ e w good. gives good
+
+    group_in : (c : Closing) (n : Next) (s : State) → Handed n s → N (a_group inner c n) ClosedHanded s
+    unfolding a_group
+    group_in c n s so = list_in n s so ▹ λ l t one. closing_in c l.1 t one ▹ λ k u good. gives good
+
+    for_name_in : (n : Next) (s : State) → Handed n s → N (a_for_name inner n) Behind s
+    unfolding a_for_name
+    for_name_in n s so =
+        picked (begins_word n.token)
+        (λ e. sees (sees (stays.words s so.within ▹ λ w v le.
+        picked (seen is_a_name g s)
+        (λ f. onward Command le ▹ λ m z good. gives good)
+        (record { told = tt }))))
+        (stops inner n)
+
+    sep_in : (cs : Row Span) (n : Next) (s : State) → Handed n s
+        → N (a_sequential_sep inner cs n) JoinHanded s
+    unfolding a_sequential_sep
+    sep_in cs n s so =
+        semicolon_in n s so ▹ λ x t one. linebreak_in cs x.1 t one ▹ λ l u good.
+        picked (x.0 || l.join.broken) (λ e. gives good) (stops inner l.next)
+
+    abbrev HeadHanded : Headed → State → Type 0
+    HeadHanded h t = Handed h.next t
+
+    word_turn_in : (i : Items) (s : State) → Handed i.next s
+        → N (word_turn inner i) (Turned Whole g ItemsHanded) s
+    unfolding word_turn
+    word_turn_in i s so = picked (is_word i.next.token) (λ e. an_item_in i Suffix s so.within) (gives so)
+
+    for_words_in : (cs : Row Span) (s : State) → IsRead T s.at → N (for_words inner cs) HeadHanded s
+    unfolding for_words
+    for_words_in cs s is =
+        passed_in _ false _ s is ▹ λ i t one.
+        tells_many Whole g (word_turn inner) ItemsHanded word_turn_in _ t one ▹ λ ws u two.
+        sep_in cs ws.next u two ▹ λ l v good. gives good
+
+    for_head_in : (n : Next) (s : State) → Handed n s → N (a_for_head inner n) HeadHanded s
+    unfolding a_for_head
+    for_head_in n s so =
+        semicolon_in n s so ▹ λ x t one. linebreak_in [] x.1 t one ▹ λ l u two.
+        picked (begins_words x.0 l.next.token)
+        (λ e. for_words_in l.join.comments u (closes closings.In l.next u two (and_parts _ _ e).1))
+        (gives two)
+
+    for_in_text : (n : Next) (s : State) → Handed n s → N (a_for inner n) ClosedHanded s
+    unfolding a_for
+    for_in_text n s so =
+        for_name_in n s so ▹ λ x t one. for_head_in x.1 t one ▹ λ h u two.
+        closing_in closings.Do h.next u two ▹ λ d v three. group_in closings.Done d.1 v three ▹ λ b w good.
+        gives good
+
+    case_word_in : (n : Next) (s : State) → Handed n s → N (a_case_word inner n) Behind s
+    unfolding a_case_word
+    case_word_in n s so =
+        picked (begins_word n.token)
+        (λ e. stays.words s so.within ▹ λ w t le. onward Command le ▹ λ m u good. gives good)
+        (stops inner n)
+
+    abbrev PatternedHanded : Patterned → State → Type 0
+    PatternedHanded p t = Handed p.next t
+
+    pattern_in : (ws : Row AWord) (s : State) → s.at ≤ length T → N (a_pattern inner ws) PatternedHanded s
+    unfolding a_pattern
+    pattern_in ws s le =
+        stays.words s le ▹ λ w t low. pushed_on (onward Suffix low ▹ λ n u good. gives good)
+
+    pattern_turn_in : (p : Patterned) (s : State) → Handed p.next s
+        → N (pattern_turn inner p) (Turned Whole g PatternedHanded) s
+    unfolding pattern_turn one_pattern
+    pattern_turn_in p s so =
+        picked (is_pipe p.next.token)
+        (λ e. token_on (moved_on one_byte (read_on p.next s so is_pipe refl e)) ▹ λ x t le.
+        onward Suffix le ▹ λ n u one.
+        picked (begins_word n.token)
+        (λ f. pattern_in p.patterns u one.within ▹ λ q v good. gives good)
+        (stops inner n))
+        (gives so)
+
+    pattern_list_in : (n : Next) (s : State) → Handed n s → N (a_pattern_list inner n) PatternedHanded s
+    unfolding a_pattern_list
+    pattern_list_in n s so =
+        picked (begins_pattern n.token)
+        (λ e. pattern_in [] s so.within ▹ λ p t one.
+        tells_many Whole g (pattern_turn inner) PatternedHanded pattern_turn_in p t one)
+        (stops inner n)
+
+    open_bracket_in : (n : Next) (s : State) → Handed n s → N (an_open_bracket n) Handed s
+    unfolding an_open_bracket
+    open_bracket_in n s so =
+        picked (is_paren n.token)
+        (λ e. moved_on one_byte (read_on n s so is_paren refl e) ▹ λ x t le. next_here Command t le)
+        (gives so)
+
+    abbrev EndHanded : ItemEnd → State → Type 0
+    EndHanded e t = Handed e.next t
+
+    ender_in : (b : Bool) (s : State) → IsRead T (behind T s.at) → N (an_ender b) EndHanded s
+    unfolding an_ender
+    ender_in b s is =
+        two_on s is ▹ λ y u le.
+        sees (onward Command le ▹ λ n w one. linebreak_in [] n w one ▹ λ l z good. gives good)
+
+    item_end_in : (there : ℕ) (n : Next) (s : State) → Handed n s
+        → N (an_item_end inner there n) EndHanded s
+    unfolding an_item_end
+    item_end_in there n s so =
+        picked (ends_item n.token) (λ e. ender_in (falls_through n.token) s (so.shows.8 e))
+        (picked (is_closing closings.Esac n.token) (λ e. gives so) (stops inner n))
+
+    abbrev CasesHanded : CasesSo → State → Type 0
+    CasesHanded c t = Handed c.next t
+
+    one_case_in : (c : CasesSo) (s : State) → Handed c.next s
+        → N (one_case inner c) (Turned Whole g CasesHanded) s
+    unfolding one_case a_body
+    one_case_in c s so =
+        sees (open_bracket_in c.next s so ▹ λ n u first. pattern_list_in n u first ▹ λ ps v one.
+        closing_in closings.Paren ps.next v one ▹ λ k w two. lines_in k.1 w two ▹ λ b x three.
+        item_end_in _ b.next x three ▹ λ e y good. pushed_on (gives good))
+
+    case_turn_in : (c : CasesSo) (s : State) → Handed c.next s
+        → N (case_turn inner c) (Turned Whole g CasesHanded) s
+    unfolding case_turn
+    case_turn_in c s so =
+        picked (is_closing closings.Esac c.next.token) (λ e. gives so) (one_case_in c s so)
+
+    case_head_in : (n : Next) (s : State) → Handed n s → N (a_case_head inner n) (λ h t. Handed h.2 t) s
+    unfolding a_case_head
+    case_head_in n s so =
+        case_word_in n s so ▹ λ w t one. linebreak_in [] w.1 t one ▹ λ l u two.
+        closing_in closings.In l.next u two ▹ λ i v three.
+        linebreak_in l.join.comments i.1 v three ▹ λ h x good. gives good
+
+    case_in_text : (n : Next) (s : State) → Handed n s → N (a_case inner n) ClosedHanded s
+    unfolding a_case
+    case_in_text n s so =
+        case_head_in n s so ▹ λ h t one.
+        tells_many Whole g (case_turn inner) CasesHanded case_turn_in (cases_so [] h.1 h.2) t one ▹ λ c u two.
+        closing_in closings.Esac c.next u two ▹ λ e v good. gives good
+
+    form_in : (o : Opener) (n : Next) (s : State) → Handed n s → N (a_form inner o n) ClosedHanded s
+    form_in openers.Brace n s so = group_in closings.Brace n s so ▹ λ l t good. gives good
+    form_in openers.Paren n s so = group_in closings.Paren n s so ▹ λ l t good. gives good
+    form_in openers.If n s so = if_in n s so
+    form_in openers.While n s so = loop_in n s so ▹ λ l t good. gives good
+    form_in openers.Until n s so = loop_in n s so ▹ λ l t good. gives good
+    form_in openers.For n s so = for_in_text n s so
+    form_in openers.Case n s so = case_in_text n s so
+
+    a_compound_in : (o : Opener) (s : State) → IsRead T s.at → N (a_compound inner o) Behind s
+    unfolding a_compound
+    a_compound_in o s is =
+        passed_in _ (is_open_paren o) _ s is ▹ λ x t one. form_in o x.1 t one ▹ λ f u good.
+        pushed_on (gives good)
+
+    a_function_in : (name : Span) (s : State) → IsRead T s.at → N (a_function inner name) Behind s
+    unfolding a_function
+    a_function_in name s is =
+        passed_in _ true Command s is ▹ λ o t one. closing_in closings.Paren o.1 t one ▹ λ c u two.
+        linebreak_in [] c.1 u two ▹ λ l v three. compound_in l.next v three ▹ λ b w good. gives good
+
+  words_in : (room : ℕ) (s : State) → s.at ≤ length T → N (a_word (level room)) InText s
+  unfolding a_word
+  words_in room s le =
+      sees (tells_then Whole g {P = InText}
+      (tells_token Whole g
+      (record { told = contents_end g (level room) (stays_in g room) Plain _ [] s le })
+      (λ a t so. so.0))
+      (λ w t so. gives so))
+
+  pub stays_at : (room : ℕ) → Stays (level room)
+  unfolding level
+  stays_at zero = record {
+    words = λ s le. words_in zero s le;
+    compound = λ o s is. tells_after Whole g (λ p t. record { told = tt });
+    function = λ name s is. record { told = tt };
+  }
+  stays_at (suc room) = record {
+    words = λ s le. words_in (suc room) s le;
+    compound = λ o s is. a_compound_in (level room) (stays_at room) o s is;
+    function = λ name s is. a_function_in (level room) (stays_at room) name s is;
+  }
