@@ -1,1 +1,3 @@
 pub mod Outcome2017
+pub mod NothingRead
+pub mod SomeWord

@@ -6,7 +6,7 @@ use Rattle.shgrammar.specs.declared.edition.Edition.TheVariants.{Y2017}
 use Rattle.shgrammar.specs.declared.fault.Fault.{Fault}
 use Rattle.shast.specs.Tree.{AnEntry, entries_of}
 use Rattle.shgrammar.specs.By2017.{next_2017, piece_2017}
-use Rattle.shgrammar.specs.Form.{Comes, Either, Ending, Form, Halts, Just, OneToken, OwnLevel, Changed, Spelled, Then, Turns, WithBytes, moved, give, see, move, push, stop, both, when, token, loop, ends_as, change, with_bytes, a_level, in_substitution}
+use Rattle.shgrammar.specs.Form.{Comes, Either, Ending, Form, Halts, Just, OneToken, OwnLevel, Changed, Spelled, Then, Turns, WithBytes, moved_on, give, see, move, push, stop, both, when, token, loop, ends_as, change, with_bytes, a_level, in_substitution}
 use Rattle.shgrammar.specs.HereDocuments.{changed, delimiter_of}
 use Rattle.shgrammar.specs.Scripts.{AScript, SoFar, is_blank_line, nothing_yet, the_line, with_line}
 use Rattle.shgrammar.specs.Sights.{Given, Sight, State, given, seen, standing, the_delimiter, the_piece, the_token}
@@ -22,7 +22,7 @@ seen_2017 sight g s = seen sight g s
 abbrev pub may_2017 : {X : Type 0} → Form X → Given → Comes X
 may_2017 (give x) g s = Just x s
 may_2017 (see f) g s = Just (seen_2017 f g s) s
-may_2017 (move m) g s = Just tt (moved m g s)
+may_2017 (move m) g s = Just tt (moved_on m g s)
 may_2017 (push xs x) g s = Just (xs ++ x ∷ []) s
 may_2017 (stop kind at) g s = Halts (record { kind = kind; at = at })
 may_2017 (both r q) g s = Then (may_2017 r g) (λ x. may_2017 (q x) g) s

@@ -1,5 +1,5 @@
 //! The first fault of a script, a line at a time and without its tree.
-ghost use Rattle.std.specs.Prelude.{◌≡◌, ◌≤◌, IfOk, IfSome, length};
+ghost use Rattle.std.specs.Prelude.{◌≡◌, ◌≤◌, IfOk, IfSome, IsOk, length};
 ghost use Rattle.shgrammar.specs.Scripts.{first_fault_from};
 ghost use Rattle.shread.specs.Answers.{Tells};
 
@@ -52,7 +52,8 @@ fn look<S: Source>(
     }
 }
 
-/// The first fault of a script.
+/// The first fault of a script. One without a byte wants no memory.
+#[tactic(auto, using(crate::proofs::NothingRead::no_fault))]
 pub(crate) fn first_fault_of<S: Source>(
     alloc: Global,
     edition: Edition,
@@ -60,7 +61,11 @@ pub(crate) fn first_fault_of<S: Source>(
 ) -> Result<Option<Fault>, ReadError>
     ensures fault { IfOk result (λ fault. fault ≡ first_fault_from edition (S.bytes source.now) 0) }
     ensures within { IfOk result (λ fault. IfSome fault (λ f. f.at ≤ length (S.bytes source.now))) }
+    ensures empty { length (S.bytes source.now) ≡ 0 → IsOk result }
 {
+    if source.len() == 0 {
+        return Ok(None);
+    }
     let mut at = 0;
     'lines: loop {
         match look(alloc, edition, source, at)? {

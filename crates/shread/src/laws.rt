@@ -1,5 +1,5 @@
 //! Laws of the definitions alone, which no code stands behind.
-ghost use Rattle.std.specs.Prelude.{◌≡◌, ◌+◌, ◌-◌, [], ◌∷◌, ℕ, List, List as Row, Ok, false, drop, take, true};
+ghost use Rattle.std.specs.Prelude.{◌≡◌, ◌+◌, ◌-◌, ◌<◌, [], ◌∷◌, ℕ, List, List as Row, Ok, false, drop, take, true};
 ghost use Rattle.shgrammar.specs.declared.edition.Edition.{Edition};
 ghost use Rattle.shgrammar.specs.Lines.{ALine, IsLine};
 ghost use Rattle.shgrammar.specs.Scripts.{AScript, Outcome};
@@ -15,7 +15,7 @@ ghost use Rattle.shgrammar.specs.declared.token.Position.{Position};
 ghost use Rattle.shast.specs.Shape.{shape_of_word};
 ghost use Rattle.shast.specs.Tree.{AWord};
 ghost use Rattle.shgrammar.specs.Words.{a_word};
-ghost use Rattle.shgrammar.specs.Levels.{IsWord, level};
+ghost use Rattle.shgrammar.specs.Levels.{ReadsWord, level};
 
 /// By each edition, each byte list has one outcome as a script, and one line with which it begins.
 pub fn one_outcome()
@@ -25,16 +25,18 @@ pub fn one_outcome()
     ensures some_line { (e : Edition) (bytes : List ℕ) → (a : ALine) × IsLine e bytes a }
 {}
 
-/// A word, which is whatever the row of a word reads, is read by the same edition wherever its bytes stand,
-/// before a byte that ends words and is no `(`, and no other word is. Before a `(` it may not be: `a$` is a
-/// word, and in `a$(` a substitution begins. The word that is read there has the same shape: the same bytes,
-/// and substitutions of the same shapes.
+/// What the row of a word reads, which is a word where no byte that ends words stands, is read by the same
+/// edition wherever its bytes stand, before a byte that ends words and is no `(`, and no other number of bytes
+/// is. Before a `(` it may not be: `a$` is a word, and in `a$(` a substitution begins. The word that is read
+/// there has the same shape: the same bytes, and substitutions of the same shapes.
 pub fn word_anywhere()
     ensures read { (room p : ℕ) (g : Given) (w : AWord) (t : State) (told : Row Spelled) →
-        may (a_word (level room)) g (standing p) (Ok (w, t)) told → IsWord room g p (t.at - p) }
-    ensures word { (room p q n : ℕ) (g h : Given) → h.edition ≡ g.edition → IsWord room g p n →
+        may (a_word (level room)) g (standing p) (Ok (w, t)) told → ReadsWord room g p (t.at - p) }
+    ensures some { (room p n : ℕ) (g : Given) → ReadsWord room g p n →
+        ends_word g.text p ≡ false → 0 < n }
+    ensures word { (room p q n : ℕ) (g h : Given) → h.edition ≡ g.edition → ReadsWord room g p n →
         take n (drop q h.text) ≡ take n (drop p g.text) →
-        ends_word h.text (q + n) ≡ true → stands h.text (q + n) 40 ≡ false → IsWord room h q n }
+        ends_word h.text (q + n) ≡ true → stands h.text (q + n) 40 ≡ false → ReadsWord room h q n }
     ensures shape { (room p q n : ℕ) (g h : Given) (w : AWord) (told : Row Spelled) (B C : List ℕ) →
         h.edition ≡ g.edition →
         may (a_word (level room)) g (standing p) (Ok (w, standing (p + n))) told →
@@ -43,7 +45,7 @@ pub fn word_anywhere()
         g.text ≡ drop g.offset B → h.text ≡ drop h.offset C →
         (v : AWord) × (may (a_word (level room)) h (standing q) (Ok (v, standing (q + n))) (raw h.text q (q + n) ∷ []) ×
         (shape_of_word C v ≡ shape_of_word B w)) }
-    ensures only { (room p m n : ℕ) (g : Given) → IsWord room g p m → IsWord room g p n → m ≡ n }
+    ensures only { (room p m n : ℕ) (g : Given) → ReadsWord room g p m → ReadsWord room g p n → m ≡ n }
 {}
 
 /// The outcome of a script by POSIX.1-2017 is, for all bytes, the one where the rows of the grammar see what

@@ -141,7 +141,7 @@ impl Reader {
     /// Finds the first fault of a whole script, a line at a time and without its tree.
     ///
     /// So the memory that it takes does not grow with the script. Want of memory is the only error: the meter is then as
-    /// before, and the reader can be used again.
+    /// before, and the reader can be used again. A script without a byte wants no memory.
     #[tactic(auto, using(shgrammar::proofs::Answered::fault_answered))]
     pub fn first_fault<S: Source>(&mut self, source: &S) -> Result<Option<Fault>, ReadError>
         // The answer is the first fault in what the grammar gives for the bytes, and it gives no other.
@@ -151,6 +151,7 @@ impl Reader {
         ensures edition { edition_of self.new ≡ edition_of self.old }
         ensures meter { IfOk result (λ fault. meter_of self.new ≡ raised (meter_of self.old) (length (S.bytes source.now))) }
         ensures err { IfErr result (λ e. meter_of self.new ≡ meter_of self.old) }
+        ensures empty { length (S.bytes source.now) ≡ 0 → IsOk result }
     {
         let fault = first_fault_of(self.alloc, self.edition, source)?;
         self.count(source.len());
