@@ -3,7 +3,7 @@ use Rattle.std.proofs.Common.{◌≡◌, ℕ, ◌+◌, ◌-◌, ◌<◌, Bool, f
 use Rattle.std.proofs.lemmas.List.{drop_all}
 use Rattle.std.proofs.Math.Seq.{drop-append_seam, take-append_seam}
 use Rattle.std.specs.Io.KnownBytes.{Appends}
-use Rattle.shlive.specs.Held.{How}
+use Rattle.shlive.specs.Held.{Held}
 use Rattle.shlive.specs.Ahead.{Ahead, StopsBy, Takes}
 use Rattle.shlive.specs.Lines.{IsInLine}
 use Rattle.shlive.specs.Requests.{EndsBy, Request, asks, clean, cut, edit, edit_by, first_line, next_by_line, next_by_order, next_of, nothing, order_of_line, spoiled, unfinished}
@@ -80,10 +80,10 @@ err_through P Q (Err e) f p = f e p
 
 -- ---- a run that ends where no more bytes come
 
-module _ (sense : Sense) (how : How) (bytes after : List ℕ) (old new : Ahead) (failed ended : Bool) (held holds : Option (List ℕ)) (broken : Bool)
-    (same : after ≡ bytes) (silent : holds ≡ held) (sound : broken ≡ false) where
+module _ (sense : Sense) (before after : Held) (old new : Ahead) (failed ended : Bool) (held holds : Option (List ℕ)) (broken : Bool)
+    (same : after ≡ before) (silent : holds ≡ held) (sound : broken ≡ false) where
   pub stops_inside : (stop : Stop) (taken : List ℕ) → Takes old new taken → (new.waiting.bytes ≡ [] → sense taken ≡ unfinished) → StopsBy stop failed ended new
-      → EndsAs sense (end_inside stop) how bytes after old new failed ended held holds broken
+      → EndsAs sense (end_inside stop) before after old new failed ended held holds broken
   stops_inside stops.Met taken takes whole s =
       record { taken = taken; takes = takes; none = (whole s.2, s); same = same; silent = silent; sound = sound }
   stops_inside stops.Unreadable taken takes whole s =
@@ -92,7 +92,7 @@ module _ (sense : Sense) (how : How) (bytes after : List ℕ) (old new : Ahead) 
       record { taken = taken; takes = takes; none = s; same = same; silent = silent; sound = sound }
 
   pub stops_between : (stop : Stop) → Takes old new [] → sense [] ≡ nothing → StopsBy stop failed ended new
-      → EndsAs sense (end_between stop) how bytes after old new failed ended held holds broken
+      → EndsAs sense (end_between stop) before after old new failed ended held holds broken
   stops_between stops.Met takes none s =
       record { taken = []; takes = takes; none = (refl, none, s); same = same; silent = silent; sound = sound }
   stops_between stops.Unreadable takes none s =
@@ -103,14 +103,14 @@ module _ (sense : Sense) (how : How) (bytes after : List ℕ) (old new : Ahead) 
 -- ---- what follows the line of a request goes on with it
 
 module _ (text : List ℕ) (sense : Sense) (front : (rest : List ℕ) → next_of ((text ++ 10 ∷ []) ++ rest) ≡ sense rest)
-    (how : How) (bytes after : List ℕ) (old mid new : Ahead) (held holds : Option (List ℕ)) (first : Takes old mid (text ++ 10 ∷ [])) where
+    (before after : Held) (old mid new : Ahead) (held holds : Option (List ℕ)) (first : Takes old mid (text ++ 10 ∷ [])) where
   through : (taken rest : List ℕ) → next_of (((text ++ 10 ∷ []) ++ taken) ++ rest) ≡ sense (taken ++ rest)
   through taken rest = ap next_of (append_assoc (text ++ 10 ∷ []) taken rest) ∙ front (taken ++ rest)
 
   through_all : (taken : List ℕ) → next_of ((text ++ 10 ∷ []) ++ taken) ≡ sense taken
   through_all taken = front taken
 
-  pub replied_through : (failed : Bool) → Replied sense how bytes after mid new held holds failed → Replied next_of how bytes after old new held holds failed
+  pub replied_through : (failed : Bool) → Replied sense before after mid new held holds failed → Replied next_of before after old new held holds failed
   replied_through failed r = record {
     taken = (text ++ 10 ∷ []) ++ r.taken;
     request = r.request;
@@ -128,7 +128,7 @@ module _ (text : List ℕ) (sense : Sense) (front : (rest : List ℕ) → next_o
     none_through TooLong taken n = n
     none_through Unwritable taken n = n
 
-    stays_through : («end» : End) → Stays sense «end» bytes after mid new failed ended held holds broken → Stays next_of «end» bytes after old new failed ended held holds broken
+    stays_through : («end» : End) → Stays sense «end» before after mid new failed ended held holds broken → Stays next_of «end» before after old new failed ended held holds broken
     stays_through why s = record {
       taken = (text ++ 10 ∷ []) ++ s.taken;
       takes = takes_both old mid new (text ++ 10 ∷ []) s.taken _ first s.takes refl;
@@ -138,8 +138,8 @@ module _ (text : List ℕ) (sense : Sense) (front : (rest : List ℕ) → next_o
       sound = s.sound;
     }
 
-    pub ends_through : («end» : End) → EndsAs sense «end» how bytes after mid new failed ended held holds broken
-        → EndsAs next_of «end» how bytes after old new failed ended held holds broken
+    pub ends_through : («end» : End) → EndsAs sense «end» before after mid new failed ended held holds broken
+        → EndsAs next_of «end» before after old new failed ended held holds broken
     ends_through Clean s = stays_through Clean s
     ends_through Quit s = stays_through Quit s
     ends_through Cut s = stays_through Cut s
@@ -153,10 +153,10 @@ module _ (text : List ℕ) (inline : IsInLine text) (order : Option Order) (is :
   pub line_is : (rest : List ℕ) → next_of ((text ++ 10 ∷ []) ++ rest) ≡ next_by_order order rest
   line_is rest = line_first text rest inline ∙ ap (λ o. next_by_order o rest) (sym is)
 
-  pub plain_replied : (how : How) (bytes after : List ℕ) (old new : Ahead) (held holds : Option (List ℕ)) (failed : Bool) (request : Request)
-      → Takes old new (text ++ 10 ∷ []) → ((rest : List ℕ) → next_by_order order rest ≡ asks request rest) → Tells how bytes request after held holds failed
-      → Replied next_of how bytes after old new held holds failed
-  plain_replied how bytes after old new held holds failed request takes next tells =
+  pub plain_replied : (before after : Held) (old new : Ahead) (held holds : Option (List ℕ)) (failed : Bool) (request : Request)
+      → Takes old new (text ++ 10 ∷ []) → ((rest : List ℕ) → next_by_order order rest ≡ asks request rest) → Tells before request after held holds failed
+      → Replied next_of before after old new held holds failed
+  plain_replied before after old new held holds failed request takes next tells =
       record { taken = text ++ 10 ∷ []; request = request; takes = takes; spelled = λ rest. line_is rest ∙ next rest; tells = tells }
 
 -- a request has a byte

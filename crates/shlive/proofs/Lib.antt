@@ -13,3 +13,5 @@ pub mod Written
 pub mod Asked
 pub mod Running
 pub mod OneList
+pub mod OneAnswer
+pub mod AnyEdits

@@ -19,7 +19,7 @@ use Rattle.shprint.specs.Written.{Prints, Sheet, sheet, sheet_of, written}
 use Rattle.shprint.proofs.Writing.{held_append, laid_append, written_append, written_first, written_line_alone, written_none}
 use Rattle.shwindow.specs.declared.line.HeldLine.{HeldLine}
 use Rattle.shlive.specs.HeldLines.{entries_in}
-use Rattle.shlive.specs.Printing.{IsPrinted}
+use Rattle.shlive.specs.Printing.{IsOnPage}
 use Rattle.shlive.proofs.Placed.{BeginsPlain, line_plain, plain_moved, shape_placed}
 
 -- ---- what is printed for the entries of one more line
@@ -106,7 +106,7 @@ none_with so blank_line none = refl
 none_with so end_line none = refl
 none_with so (faulty_line f) none = refl
 
-module _ (y : Layout) (B : List ℕ) (so : Walk) (before : Page) (is : IsPrinted y B so before) where
+module _ (y : Layout) (B : List ℕ) (so : Walk) (before : Page) (is : IsOnPage y B so before) where
   first_laid : sheet before ≡ sheet_of (laid (marks y B so.entries)) (held_behind [] (marks y B so.entries))
   first_laid = is.is ∙ written_first (marks y B so.entries)
 
@@ -116,12 +116,12 @@ module _ (y : Layout) (B : List ℕ) (so : Walk) (before : Page) (is : IsPrinted
   text_some : nat_lt 0 (length before.text.items) ≡ has_entry so.entries
   text_some = ap (λ (s : Sheet). nat_lt 0 (length s.so_far)) first_laid ∙ some_laid y B so.entries
 
-  pub none_printed : (l : HeldLine AKind) → entries_in l.kind ≡ None → IsPrinted y B (with_line so l) before
+  pub none_printed : (l : HeldLine AKind) → entries_in l.kind ≡ None → IsOnPage y B (with_line so l) before
   none_printed l none = record { margin = is.margin; is = is.is ∙ ap (λ es. written (sheet_of [] []) (marks y B es)) (sym (none_with so l.kind none)) }
 
   pub line_printed : (edition : Edition) (l : HeldLine AKind) (xs : Entries) → l.kind ≡ entries_line xs → IsTopLine edition (drop so.at B) l
       → (mid after : Page) → Prints before mid (print_blank (so.gap && nat_lt 0 (length before.text.items)))
-      → Prints mid after (print_entries y mid.margin.items (shape_of (drop so.at B) xs)) → IsPrinted y B (with_line so l) after
+      → Prints mid after (print_entries y mid.margin.items (shape_of (drop so.at B) xs)) → IsOnPage y B (with_line so l) after
   line_printed edition l xs kind_is line mid after gap entries =
       let margin : mid.margin.items ≡ [] = gap.1 ∙ is.margin in
       let blank = print_blank (so.gap && has_entry so.entries) in
@@ -140,8 +140,8 @@ module _ (y : Layout) (B : List ℕ) (so : Walk) (before : Page) (is : IsPrinted
 
 -- ---- the first line and the last
 
-pub none_yet : (y : Layout) (B : List ℕ) (page : Page) → page.margin.items ≡ [] → sheet page ≡ sheet_of [] [] → IsPrinted y B no_line page
+pub none_yet : (y : Layout) (B : List ℕ) (page : Page) → page.margin.items ≡ [] → sheet page ≡ sheet_of [] [] → IsOnPage y B no_line page
 none_yet y B page margin is = record { margin = margin; is = is ∙ sym (written_none (sheet_of [] [])) }
 
-pub all_printed : (y : Layout) (B : List ℕ) (so : Walk) (page : Page) → IsPrinted y B so page → page.text.items ≡ printed y (shape_of B so.entries)
+pub all_printed : (y : Layout) (B : List ℕ) (so : Walk) (page : Page) → IsOnPage y B so page → page.text.items ≡ printed y (shape_of B so.entries)
 all_printed y B so page is = ap (λ (s : Sheet). s.so_far) (is.is ∙ written_first (marks y B so.entries))

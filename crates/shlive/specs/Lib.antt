@@ -11,6 +11,7 @@ pub mod Orders
 pub mod Requests
 pub mod Lines
 pub mod Payload
+pub mod Edits
 pub mod Replies
 pub mod Turns
 pub mod Runs

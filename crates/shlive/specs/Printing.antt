@@ -12,7 +12,7 @@ use Rattle.shprint.specs.declared.page.Page.{Page}
 use Rattle.shwindow.specs.declared.line.HeldLine.{HeldLine}
 
 -- the entries that a walk over lines of the bytes gathered are on the page, and nothing else
-pub record IsPrinted (y : Layout) (bytes : List ℕ) (so : Walk) (page : Page) : Type 0 where
+pub record IsOnPage (y : Layout) (bytes : List ℕ) (so : Walk) (page : Page) : Type 0 where
   pub margin : page.margin.items ≡ []
   pub is : sheet page ≡ written (sheet_of [] []) (print_entries y [] (shape_of bytes so.entries))
 
@@ -20,5 +20,5 @@ pub record IsPrinted (y : Layout) (bytes : List ℕ) (so : Walk) (page : Page) :
 -- those up to it are.
 abbrev pub PrintsLine : Edition → Layout → List ℕ → ℕ → HeldLine AKind → Bool → Bool → Page → Page → Type 0
 PrintsLine edition y bytes base line gap gap_behind before after =
-    (so : Walk) → so.gap ≡ gap → so.at ≡ base → IsTopLine edition (drop base bytes) line → IsPrinted y bytes so before
-    → (gap_behind ≡ (with_line so line).gap) × IsPrinted y bytes (with_line so line) after
+    (so : Walk) → so.gap ≡ gap → so.at ≡ base → IsTopLine edition (drop base bytes) line → IsOnPage y bytes so before
+    → (gap_behind ≡ (with_line so line).gap) × IsOnPage y bytes (with_line so line) after

@@ -1,7 +1,6 @@
--- The replies to requests: a fold that holds the bytes of a script and nothing else.
+-- The replies to requests: a fold over what a session holds, the bytes of its script and its meter.
 use Rattle.std.specs.Prelude.{◌≡◌, ◌⊎◌, ℕ, ◌<◌, ◌++◌, [], ◌∷◌, List, flat_map, length, Option, None, Some, codes, decimal}
 use Rattle.shgrammar.specs.Scripts.{FirstFault}
-use Rattle.shgrammar.specs.declared.edition.Edition.{Edition}
 use Rattle.shgrammar.specs.declared.fault.Fault.{Fault}
 use Rattle.shgrammar.specs.declared.fault.FaultKind.{FaultKind}
 use Rattle.shgrammar.specs.declared.fault.FaultKind.TheVariants as faults
@@ -10,10 +9,10 @@ use Rattle.shast.specs.declared.node.NodeKind.{NodeKind}
 use Rattle.shast.specs.declared.node.NodeKind.TheVariants as nodes
 use Rattle.shast.specs.declared.node.NodeLine.{NodeLine}
 use Rattle.shast.specs.declared.tree.Span.{Span}
-use Rattle.shtext.specs.Edit.{IsAllowed, edited}
 use Rattle.shtext.specs.Text.{column_of, line_of}
-use Rattle.shlive.specs.Held.{How}
-use Rattle.shlive.specs.Answers.{HasNodesAt, HasOutline, HasStatus, HasText, IsRefused}
+use Rattle.shlive.specs.Held.{Held, How}
+use Rattle.shlive.specs.Answers.{HasNodesAt, HasOutline, HasStatus, HasText}
+use Rattle.shlive.specs.Edits.{IsNotMade, IsMade}
 use Rattle.shlive.specs.Requests.{Request, edit, spoiled, outline, at, fault, print, unknown}
 use Rattle.shlive.specs.declared.error.LiveError.{LiveError}
 use Rattle.shlive.specs.declared.error.LiveError.TheVariants.{Range, TooLarge, Memory}
@@ -97,11 +96,12 @@ refusal_text Memory = codes "no memory\n"
 abbrev pub IsNoMemory : List ℕ → Type 0
 IsNoMemory reply = reply ≡ codes "no memory\n"
 
--- the reply to an edit, and the bytes after it: those of a refused one stay
-abbrev pub IsEditReply : Edition → List ℕ → ℕ → ℕ → List ℕ → List ℕ → List ℕ → Type 0
-IsEditReply edition bytes a b new reply after =
-    (IsAllowed bytes a b new × (after ≡ edited bytes a b new) × ((status : ℕ) × HasStatus edition after status × (reply ≡ ok_text (length after) status)))
-    ⊎ ((error : LiveError) × IsRefused bytes a b new error × (reply ≡ refusal_text error) × (after ≡ bytes))
+-- the reply to an edit, and what is held after it
+abbrev pub IsEditReply : Held → ℕ → ℕ → List ℕ → List ℕ → Held → Type 0
+IsEditReply before a b new reply after =
+    (IsMade before a b new after × ((status : ℕ) × HasStatus after.how.edition after.bytes status
+    × (reply ≡ ok_text (length after.bytes) status)))
+    ⊎ ((error : LiveError) × IsNotMade before a b new error after × (reply ≡ refusal_text error))
 
 -- The reply to a request on the bytes of a script. Memory may run out where a tree or a text is made.
 abbrev pub IsReply : How → List ℕ → Request → List ℕ → Type 0
@@ -115,14 +115,15 @@ IsReply how bytes print reply =
     ((text : Option (List ℕ)) × HasText how bytes text × (reply ≡ printed_text text)) ⊎ (FirstFault how.edition bytes None × IsNoMemory reply)
 IsReply how bytes unknown reply = reply ≡ codes "no request\n"
 
--- a request, its reply, and the bytes after it: an edit alone changes them
-abbrev pub Step : How → List ℕ → Request → List ℕ → List ℕ → Type 0
-Step how bytes (edit a b new) reply after = IsEditReply how.edition bytes a b new reply after
-Step how bytes request reply after = IsReply how bytes request reply × (after ≡ bytes)
+-- a request, its reply, and what is held after it: an edit alone changes it
+abbrev pub Step : Held → Request → List ℕ → Held → Type 0
+Step before (edit a b new) reply after = IsEditReply before a b new reply after
+Step before request reply after = IsReply before.how before.bytes request reply × (after ≡ before)
 
--- requests on the bytes of a script, the replies to them, and the bytes after them
-pub data Replies (how : How) (bytes : List ℕ) : List Request → List ℕ → List ℕ → Type 0 where
-  none_yet : Replies how bytes [] [] bytes
-  one_more : {requests : List Request} {replies mid : List ℕ} (request : Request) (reply after : List ℕ)
-      → Replies how bytes requests replies mid → Step how mid request reply after
-      → Replies how bytes (requests ++ request ∷ []) (replies ++ reply) after
+-- requests to a session, the replies to them, and what is held after them
+pub data Replies (before : Held) : List Request → List ℕ → Held → Type 0 where
+  none_yet : Replies before [] [] before
+  one_more : {requests : List Request} {replies : List ℕ} {mid : Held}
+      (request : Request) (reply : List ℕ) (after : Held)
+      → Replies before requests replies mid → Step mid request reply after
+      → Replies before (requests ++ request ∷ []) (replies ++ reply) after

@@ -1,7 +1,7 @@
 -- One request and its reply.
 use Rattle.std.specs.Prelude.{◌≡◌, ℕ, ◌++◌, [], Bool, true, false, List, Option}
 use Rattle.shtext.specs.Device.{Writes}
-use Rattle.shlive.specs.Held.{How}
+use Rattle.shlive.specs.Held.{Held}
 use Rattle.shlive.specs.Ahead.{Ahead, StopsBy, Takes}
 use Rattle.shlive.specs.Replies.{Step}
 use Rattle.shlive.specs.Requests.{Ending, EndsBy, Next, Request, asks, leaves, nothing, unfinished}
@@ -11,8 +11,8 @@ use Rattle.shlive.specs.declared.serve.End.{End}
 use Rattle.shlive.specs.declared.serve.End.TheVariants.{Clean, Quit, Cut, Unreadable, TooLong, Unwritable}
 
 -- the reply to a request was written, or where the device failed a beginning of it
-abbrev pub Tells : How → List ℕ → Request → List ℕ → Option (List ℕ) → Option (List ℕ) → Bool → Type 0
-Tells how bytes request after held holds failed = (reply : List ℕ) × Step how bytes request reply after × Writes held holds failed reply
+abbrev pub Tells : Held → Request → Held → Option (List ℕ) → Option (List ℕ) → Bool → Type 0
+Tells before request after held holds failed = (reply : List ℕ) × Step before request reply after × Writes held holds failed reply
 
 -- How what comes is understood, behind what was taken before it: as requests, or as what follows the line of one.
 abbrev pub Sense : Type 0
@@ -23,12 +23,12 @@ abbrev pub Spells : Sense → List ℕ → Sense → Type 0
 Spells sense text next = (rest : List ℕ) → sense (text ++ rest) ≡ next rest
 
 -- the rest of a request was taken, and the reply to it was written, or where the device failed a beginning of it
-pub record Replied (sense : Sense) (how : How) (bytes after : List ℕ) (old new : Ahead) (held holds : Option (List ℕ)) (failed : Bool) : Type 0 where
+pub record Replied (sense : Sense) (before after : Held) (old new : Ahead) (held holds : Option (List ℕ)) (failed : Bool) : Type 0 where
   pub taken : List ℕ
   pub request : Request
   pub takes : Takes old new taken
   pub spelled : Spells sense taken (asks request)
-  pub tells : Tells how bytes request after held holds failed
+  pub tells : Tells before request after held holds failed
 
 -- why there is no further request, by what was taken meanwhile
 abbrev pub NoFurther : Sense → End → List ℕ → Bool → Bool → Ahead → Type 0
@@ -40,19 +40,19 @@ NoFurther sense TooLong taken failed ended ahead = StopsBy stops.TooLong failed 
 NoFurther sense Unwritable taken failed ended ahead = ⊥
 
 -- nothing was replied and nothing changed
-pub record Stays (sense : Sense) («end» : End) (bytes after : List ℕ) (old new : Ahead) (failed ended : Bool) (held holds : Option (List ℕ)) (broken : Bool) : Type 0 where
+pub record Stays (sense : Sense) («end» : End) (before after : Held) (old new : Ahead) (failed ended : Bool) (held holds : Option (List ℕ)) (broken : Bool) : Type 0 where
   pub taken : List ℕ
   pub takes : Takes old new taken
   pub none : NoFurther sense «end» taken failed ended new
-  pub same : after ≡ bytes
+  pub same : after ≡ before
   pub silent : holds ≡ held
   pub sound : broken ≡ false
 
 -- How a run ends with this turn: the reply to its request could not be written, or there is no further request.
-abbrev pub EndsAs : Sense → End → How → List ℕ → List ℕ → Ahead → Ahead → Bool → Bool → Option (List ℕ) → Option (List ℕ) → Bool → Type 0
-EndsAs sense Unwritable how bytes after old new failed ended held holds broken =
-    Replied sense how bytes after old new held holds true × (failed ≡ false) × (broken ≡ true)
-EndsAs sense why how bytes after old new failed ended held holds broken = Stays sense why bytes after old new failed ended held holds broken
+abbrev pub EndsAs : Sense → End → Held → Held → Ahead → Ahead → Bool → Bool → Option (List ℕ) → Option (List ℕ) → Bool → Type 0
+EndsAs sense Unwritable before after old new failed ended held holds broken =
+    Replied sense before after old new held holds true × (failed ≡ false) × (broken ≡ true)
+EndsAs sense why before after old new failed ended held holds broken = Stays sense why before after old new failed ended held holds broken
 
 abbrev pub end_between : Stop → End
 end_between stops.Met = Clean

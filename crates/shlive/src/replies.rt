@@ -1,9 +1,9 @@
 //! The replies to requests whose payload, where they have one, was read.
-ghost use Rattle.std.specs.Prelude.{◌≡◌, ◌||◌, ◌≤◌, ℕ, IfErr, IfOk, List, OnErr, OnOk, Some, codes, is_ok, length, not, option_map};
+ghost use Rattle.std.specs.Prelude.{◌≡◌, ◌||◌, ◌≤◌, ℕ, IfErr, IfOk, List, OnOk, Some, codes, is_ok, length, not, option_map};
 ghost use Rattle.shtext.specs.Device.{Writes, held_of, output_failed};
-ghost use Rattle.shtext.specs.Edit.{IsAllowed, edited};
 ghost use Rattle.shast.specs.declared.node.NodeLine.{NodeLine};
-ghost use Rattle.shlive.specs.Answers.{HasNodesAt, HasOutline, IsRefused};
+ghost use Rattle.shlive.specs.Answers.{HasNodesAt, HasOutline};
+ghost use Rattle.shlive.specs.Edits.{IsMade, IsNotMade};
 ghost use Rattle.shlive.specs.Payload.{AreKept};
 ghost use Rattle.shlive.specs.Replies.{fault_text, nodes_text, number_of_kind, ok_text, printed_text, refusal_text};
 ghost use Rattle.shlive.specs.Requests.{at as asks_at, edit, fault, outline, print};
@@ -46,12 +46,10 @@ fn edit_kept(
     count: usize,
     payload: Option<Vec<u8>>,
 ) -> Result<(), LiveError>
-    ensures ok { OnOk result ((new : List ℕ) → length new ≡ count → AreKept (option_map (λ v. v.items) payload) new →
-        IsAllowed session.old.bytes a b new × (session.new.bytes ≡ edited session.old.bytes a b new)) }
-    ensures err { IfErr result (λ e. (new : List ℕ) → length new ≡ count → AreKept (option_map (λ v. v.items) payload) new →
-        IsRefused session.old.bytes a b new e) }
-    ensures kept { OnErr result (session.new.bytes ≡ session.old.bytes) }
-    ensures how { session.new.how ≡ session.old.how }
+    ensures made { OnOk result ((new : List ℕ) → length new ≡ count → AreKept (option_map (λ v. v.items) payload) new →
+        IsMade session.old a b new session.new) }
+    ensures refused { IfErr result (λ e. (new : List ℕ) → length new ≡ count → AreKept (option_map (λ v. v.items) payload) new →
+        IsNotMade session.old a b new e session.new) }
 {
     if let Err(error) = session.allows(a, b, count) {
         return Err(error);
@@ -89,9 +87,8 @@ pub(crate) fn reply_to_edit<W: Write>(
     count: usize,
     payload: Option<Vec<u8>>,
 ) -> Result<(), Failed>
-    ensures how { session.new.how ≡ session.old.how }
     ensures tells { (new : List ℕ) → length new ≡ count → AreKept (option_map (λ v. v.items) payload) new →
-        Tells session.old.how session.old.bytes (edit a b new) session.new.bytes (held_of W.contents output.old) (held_of W.contents output.new) (not (is_ok result)) }
+        Tells session.old (edit a b new) session.new (held_of W.contents output.old) (held_of W.contents output.new) (not (is_ok result)) }
     ensures failed { output_failed output.new ≡ (output_failed output.old || not (is_ok result)) }
 {
     if let Err(error) = edit_kept(session, a, b, count, payload) {
@@ -114,7 +111,7 @@ pub(crate) fn reply_to_outline<W: Write>(
     session: &Session,
     output: &mut Output<W>,
 ) -> Result<(), Failed>
-    ensures tells { Tells session.now.how session.now.bytes outline session.now.bytes (held_of W.contents output.old) (held_of W.contents output.new) (not (is_ok result)) }
+    ensures tells { Tells session.now outline session.now (held_of W.contents output.old) (held_of W.contents output.new) (not (is_ok result)) }
     ensures failed { output_failed output.new ≡ (output_failed output.old || not (is_ok result)) }
 {
     match outline_text(alloc, session) {
@@ -138,7 +135,7 @@ pub(crate) fn reply_to_at<W: Write>(
     output: &mut Output<W>,
     at: usize,
 ) -> Result<(), Failed>
-    ensures tells { Tells session.now.how session.now.bytes (asks_at at) session.now.bytes (held_of W.contents output.old) (held_of W.contents output.new) (not (is_ok result)) }
+    ensures tells { Tells session.now (asks_at at) session.now (held_of W.contents output.old) (held_of W.contents output.new) (not (is_ok result)) }
     ensures failed { output_failed output.new ≡ (output_failed output.old || not (is_ok result)) }
 {
     if session.is_past(at) {
@@ -184,7 +181,7 @@ pub(crate) fn reply_to_fault<W: Write>(
     session: &Session,
     output: &mut Output<W>,
 ) -> Result<(), Failed>
-    ensures tells { Tells session.now.how session.now.bytes fault session.now.bytes (held_of W.contents output.old) (held_of W.contents output.new) (not (is_ok result)) }
+    ensures tells { Tells session.now fault session.now (held_of W.contents output.old) (held_of W.contents output.new) (not (is_ok result)) }
     ensures failed { output_failed output.new ≡ (output_failed output.old || not (is_ok result)) }
 {
     match session.fault() {
@@ -216,7 +213,7 @@ pub(crate) fn reply_to_print<W: Write>(
     session: &Session,
     output: &mut Output<W>,
 ) -> Result<(), Failed>
-    ensures tells { Tells session.now.how session.now.bytes print session.now.bytes (held_of W.contents output.old) (held_of W.contents output.new) (not (is_ok result)) }
+    ensures tells { Tells session.now print session.now (held_of W.contents output.old) (held_of W.contents output.new) (not (is_ok result)) }
     ensures failed { output_failed output.new ≡ (output_failed output.old || not (is_ok result)) }
 {
     if session.fault().is_some() {

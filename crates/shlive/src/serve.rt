@@ -90,7 +90,7 @@ fn reply_to<W: Write>(
     output: &mut Output<W>,
     question: Question,
 ) -> Result<(), Failed>
-    ensures tells { Tells session.now.how session.now.bytes (request_of question) session.now.bytes
+    ensures tells { Tells session.now (request_of question) session.now
         (held_of W.contents output.old) (held_of W.contents output.new) (not (is_ok result)) }
     ensures failed { output_failed output.new ≡ (output_failed output.old || not (is_ok result)) }
 {
@@ -112,10 +112,10 @@ fn reply_to_payload<W: Write>(
     payload: Option<Vec<u8>>,
     line: &Line,
 ) -> Result<(), Failed>
-    ensures how { session.new.how ≡ session.old.how }
     ensures tells { (bytes text : List ℕ) → length bytes ≡ count → AreKept (option_map (λ v. v.items) payload) bytes → Keeps line.now text →
         (request : Request) × ((rest : List ℕ) → edit_by a b bytes (Some (text, rest)) ≡ asks request rest)
-        × Tells session.old.how session.old.bytes request session.new.bytes (held_of W.contents output.old) (held_of W.contents output.new) (not (is_ok result)) }
+        × Tells session.old request session.new
+        (held_of W.contents output.old) (held_of W.contents output.new) (not (is_ok result)) }
     ensures failed { output_failed output.new ≡ (output_failed output.old || not (is_ok result)) }
 {
     if line.is_empty() {
@@ -142,11 +142,10 @@ fn answer_edit<R: Read, W: Write>(
     ensures open { OnOk result (IsOpen input.new) }
     ensures few { OnOk result (incoming.new.count < too_many) }
     ensures unbroken { OnOk result (output_failed output.new ≡ false) }
-    ensures how { session.new.how ≡ session.old.how }
-    ensures ok { OnOk result (Replied (next_by_order (Some (Edit a b count))) session.old.how session.old.bytes session.new.bytes
+    ensures ok { OnOk result (Replied (next_by_order (Some (Edit a b count))) session.old session.new
         (ahead_of R.remaining input.old incoming.old) (ahead_of R.remaining input.new incoming.new)
         (held_of W.contents output.old) (held_of W.contents output.new) false) }
-    ensures err { IfErr result (λ end. EndsAs (next_by_order (Some (Edit a b count))) end session.old.how session.old.bytes session.new.bytes
+    ensures err { IfErr result (λ end. EndsAs (next_by_order (Some (Edit a b count))) end session.old session.new
         (ahead_of R.remaining input.old incoming.old) (ahead_of R.remaining input.new incoming.new)
         (input_failed input.new) (input_ended input.new)
         (held_of W.contents output.old) (held_of W.contents output.new) (output_failed output.new)) }
@@ -180,11 +179,10 @@ fn answer_next<R: Read, W: Write>(
     ensures open { OnOk result (IsOpen input.new) }
     ensures few { OnOk result (incoming.new.count < too_many) }
     ensures unbroken { OnOk result (output_failed output.new ≡ false) }
-    ensures how { session.new.how ≡ session.old.how }
-    ensures ok { OnOk result (Replied next_of session.old.how session.old.bytes session.new.bytes
+    ensures ok { OnOk result (Replied next_of session.old session.new
         (ahead_of R.remaining input.old incoming.old) (ahead_of R.remaining input.new incoming.new)
         (held_of W.contents output.old) (held_of W.contents output.new) false) }
-    ensures err { IfErr result (λ end. EndsAs next_of end session.old.how session.old.bytes session.new.bytes
+    ensures err { IfErr result (λ end. EndsAs next_of end session.old session.new
         (ahead_of R.remaining input.old incoming.old) (ahead_of R.remaining input.new incoming.new)
         (input_failed input.new) (input_ended input.new)
         (held_of W.contents output.old) (held_of W.contents output.new) (output_failed output.new)) }
@@ -226,7 +224,7 @@ pub fn run<R: Read, W: Write>(
     requires sound { input_failed input.old ≡ false }
     requires open { input_ended input.old ≡ false }
     requires unbroken { output_failed output.old ≡ false }
-    ensures run { IsRun session.old.how session.old.bytes session.new.bytes (left_of R.remaining input.old) (left_of R.remaining input.new)
+    ensures run { IsRun session.old session.new (left_of R.remaining input.old) (left_of R.remaining input.new)
         (input_failed input.new) (input_ended input.new)
         (held_of W.contents output.old) (held_of W.contents output.new) (output_failed output.new) result }
     ensures how { session.new.how ≡ session.old.how }

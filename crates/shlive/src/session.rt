@@ -1,13 +1,13 @@
 //! The open script.
-ghost use Rattle.std.specs.Prelude.{◌≡◌, ◌≢◌, ◌≤◌, ℕ, List, [], IfErr, IfOk, IfSome, IsOk, OnErr, OnOk, length, option_map, Some, false, true, ◌<◌};
+ghost use Rattle.std.specs.Prelude.{◌≡◌, ◌≤◌, ℕ, List, [], IfErr, IfOk, IfSome, IsOk, OnOk, length, option_map, Some, false, true, ◌<◌};
 ghost use Rattle.shread.specs.Answers.{edition_of, meter_of};
 ghost use Rattle.shtext.specs.Meter.{raised};
 ghost use Rattle.shgrammar.specs.Scripts.{FirstFault};
 ghost use Rattle.shgrammar.specs.declared.fault.Fault.{Fault};
 ghost use Rattle.shgap.specs.Gap.{gap_bytes};
-ghost use Rattle.shtext.specs.Edit.{IsAllowed, edited, limit};
+ghost use Rattle.shtext.specs.Edit.{IsAllowed, limit};
 ghost use Rattle.shlive.specs.Answers.{HasNodesAt, HasOutline, HasStatus, HasText, IsRefused};
-ghost use Rattle.shlive.specs.HeldLines.{HasReadNoMore, HasReadWindow};
+ghost use Rattle.shlive.specs.Edits.{IsMade, IsNotMade};
 
 use crate::answers::{nodes_of_lines, outline_of_lines, text_of_lines};
 use crate::error::LiveError;
@@ -58,6 +58,7 @@ impl Session {
         bytes: &[u8],
     ) -> Result<Session, LiveError>
         ensures bytes { IfOk result (λ session. session.bytes ≡ bytes.now) }
+        ensures allowed { OnOk result (length bytes.now ≤ limit) }
         ensures edition { IfOk result (λ session. session.how.edition ≡ edition_of reader) }
         ensures layout { IfOk result (λ session. session.how.layout ≡ layout) }
         ensures meter { IfOk result (λ session. session.meter ≡ raised (meter_of reader) (length bytes.now)) }
@@ -91,14 +92,8 @@ impl Session {
     /// Puts bytes in the place of those from `a` up to `b`, and reads the window of the edit. An edit that is refused changes no answer;
     /// for want of memory it has read no more than the window.
     pub fn edit(&mut self, a: usize, b: usize, bytes: &[u8]) -> Result<(), LiveError>
-        ensures bytes { OnOk result (self.new.bytes ≡ edited self.old.bytes a b bytes.now) }
-        ensures allowed { OnOk result (IsAllowed self.old.bytes a b bytes.now) }
-        ensures err { IfErr result (IsRefused self.old.bytes a b bytes.now) }
-        ensures kept { OnErr result (self.new.bytes ≡ self.old.bytes) }
-        ensures how { self.new.how ≡ self.old.how }
-        ensures window { OnOk result (HasReadWindow self.old.how.edition self.old.bytes a b bytes.now self.old.meter self.new.meter) }
-        ensures meter { IfErr result (λ e. e ≢ LiveError.Memory → self.new.meter ≡ self.old.meter) }
-        ensures within { OnErr result (HasReadNoMore self.old.how.edition self.old.bytes a b bytes.now self.old.meter self.new.meter) }
+        ensures made { OnOk result (IsMade self.old a b bytes.now self.new) }
+        ensures refused { IfErr result (λ e. IsNotMade self.old a b bytes.now e self.new) }
     {
         self.allows(a, b, bytes.len())?;
         let begin = self.gap_before(a);

@@ -4,8 +4,8 @@ use Rattle.shlive.proofs.replies.reply_to_edit.Goals as goal
 
 pub returns-clause-tells : goal.returns-clause-tells
 returns-clause-tells g c new all kept =
-    let done = c.in_default.ensures.ok new all kept in (
+    let made = c.in_default.ensures.made new all kept in (
       ok_text c.script_len.result c.status.result,
-      inl (done.0, done.1, (c.status.result, rw c.edit_kept.ensures.how at c.status.ensures, ap (λ n. ok_text n c.status.result) c.script_len.ensures.length)),
+      inl (made, (c.status.result, c.status.ensures, ap (λ n. ok_text n c.status.result) c.script_len.ensures.length)),
       c.tell_ok.ensures.bytes,
     )

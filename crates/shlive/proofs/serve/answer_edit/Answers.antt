@@ -13,7 +13,7 @@ returns-in-Err-take_line-clause-err g c =
     let p = c.in-Ok.ensures.payload in
     let q = c.in-Err-take_line.ensures.cut in
     rw c.inside-in-Err-take_line.ensures (
-    stops_inside (next_by_order (Some (Edit c.args.a c.args.b c.args.count))) _ _ _ (ahead c.args.input.now c.args.incoming.now) (ahead c.take_line.new.input c.take_line.new.incoming)
+    stops_inside (next_by_order (Some (Edit c.args.a c.args.b c.args.count))) _ _ (ahead c.args.input.now c.args.incoming.now) (ahead c.take_line.new.input c.take_line.new.incoming)
     _ _ _ _ (output_failed c.args.output.now) refl refl c.requires.unbroken c.in-Err-take_line.stop (p.0 ++ q.0)
     (takes_both (ahead c.args.input.now c.args.incoming.now) (ahead c.take_payload.new.input c.take_payload.new.incoming) (ahead c.take_line.new.input c.take_line.new.incoming) p.0 q.0 _ p.3 q.2 refl)
     (λ none. edit_cut_line c.args.a c.args.b p.0 c.args.count q.0 p.1 q.1) q.3

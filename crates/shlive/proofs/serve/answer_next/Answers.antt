@@ -15,7 +15,7 @@ returns-in-Err-take_line-clause-err g c =
     let filled = ahead c.fill.new.input c.fill.new.self in
     let new = ahead c.take_line.new.input c.take_line.new.incoming in
     rw c.inside.ensures (
-    stops_inside next_of _ _ _ start new _ _ _ _ (output_failed c.args.output.now) refl refl c.requires.unbroken c.in-Err-take_line.stop q.0
+    stops_inside next_of _ _ start new _ _ _ _ (output_failed c.args.output.now) refl refl c.requires.unbroken c.in-Err-take_line.stop q.0
     (takes_both start filled new [] q.0 _ c.fill.ensures.takes q.2 refl)
     (λ none. line_cut q.0 q.1 (some_taken filled new q.0 q.2 c.in_default.ensures.some none)) q.3
     )
@@ -32,7 +32,7 @@ returns-in-Some-Edit-clause-ok g c =
     let told = c.order_of_line.ensures q.0 q.2 in
     let is : order ≡ order_of_line q.0 = search (rules, told, c.in-Some-Edit.is, c.in-Some-Edit.field-0-is) in
     ok_through c.answer_edit.result
-    (replied_through q.0 (next_by_order order) (line_is q.0 q.1 order is) _ _ _ start mid new _ _
+    (replied_through q.0 (next_by_order order) (line_is q.0 q.1 order is) _ _ start mid new _ _
     (takes_both start filled mid [] (q.0 ++ 10 ∷ []) _ c.fill.ensures.takes q.3 refl) _)
     c.answer_edit.ensures.ok
 
@@ -48,7 +48,7 @@ returns-in-Some-Edit-clause-err g c =
     let told = c.order_of_line.ensures q.0 q.2 in
     let is : order ≡ order_of_line q.0 = search (rules, told, c.in-Some-Edit.is, c.in-Some-Edit.field-0-is) in
     err_through _ _ c.answer_edit.result
-    (λ why s. ends_through q.0 (next_by_order order) (line_is q.0 q.1 order is) _ _ _ start mid new _ _
+    (λ why s. ends_through q.0 (next_by_order order) (line_is q.0 q.1 order is) _ _ start mid new _ _
     (takes_both start filled mid [] (q.0 ++ 10 ∷ []) _ c.fill.ensures.takes q.3 refl) _ _ _ (edit_begins c.in-Some-Edit.a c.in-Some-Edit.b c.in-Some-Edit.count) why s)
     c.answer_edit.ensures.err
 
@@ -78,7 +78,7 @@ returns-in-Ok-reply_to-clause-ok g c =
     let order = Some (Ask c.in-Some-Ask.question) in
     let told = c.order_of_line.ensures q.0 q.2 in
     let is : order ≡ order_of_line q.0 = search (rules, told, c.in-Some-Ask.is, c.in-Some-Ask.field-0-is) in
-    plain_replied q.0 q.1 order is _ _ _ start mid _ _ _ (request_of c.in-Some-Ask.question)
+    plain_replied q.0 q.1 order is _ _ start mid _ _ _ (request_of c.in-Some-Ask.question)
     (takes_both start filled mid [] (q.0 ++ 10 ∷ []) _ c.fill.ensures.takes q.3 refl) (λ rest. refl) c.in-Ok-reply_to.ensures.tells
 
 pub returns-in-Err-reply_to-clause-err : goal.returns-in-Err-reply_to-clause-err
@@ -91,7 +91,7 @@ returns-in-Err-reply_to-clause-err g c =
     let order = Some (Ask c.in-Some-Ask.question) in
     let told = c.order_of_line.ensures q.0 q.2 in
     let is : order ≡ order_of_line q.0 = search (rules, told, c.in-Some-Ask.is, c.in-Some-Ask.field-0-is) in (
-      plain_replied q.0 q.1 order is _ _ _ start mid _ _ _ (request_of c.in-Some-Ask.question)
+      plain_replied q.0 q.1 order is _ _ start mid _ _ _ (request_of c.in-Some-Ask.question)
           (takes_both start filled mid [] (q.0 ++ 10 ∷ []) _ c.fill.ensures.takes q.3 refl) (λ rest. refl) c.in-Err-reply_to.ensures.tells,
       c.in-Ok.ensures.open.0,
       c.in-Err-reply_to.ensures.failed ∙ ap (λ f. f || true) c.requires.unbroken,
@@ -104,7 +104,7 @@ returns-in-Ok-write_flushed-clause-ok g c =
     let start = ahead c.args.input.now c.args.incoming.now in
     let filled = ahead c.fill.new.input c.fill.new.self in
     let mid = ahead c.take_line.new.input c.take_line.new.incoming in
-    plain_replied q.0 q.1 None (sym c.in-None.is ∙ c.order_of_line.ensures q.0 q.2) _ _ _ start mid _ _ _ unknown
+    plain_replied q.0 q.1 None (sym c.in-None.is ∙ c.order_of_line.ensures q.0 q.2) _ _ start mid _ _ _ unknown
     (takes_both start filled mid [] (q.0 ++ 10 ∷ []) _ c.fill.ensures.takes q.3 refl) (λ rest. refl) (codes "no request\n", (refl, refl), c.in-Ok-write_flushed.ensures.bytes)
 
 pub returns-in-Err-write_flushed-clause-err : goal.returns-in-Err-write_flushed-clause-err
@@ -114,7 +114,7 @@ returns-in-Err-write_flushed-clause-err g c =
     let start = ahead c.args.input.now c.args.incoming.now in
     let filled = ahead c.fill.new.input c.fill.new.self in
     let mid = ahead c.take_line.new.input c.take_line.new.incoming in (
-      plain_replied q.0 q.1 None (sym c.in-None.is ∙ c.order_of_line.ensures q.0 q.2) _ _ _ start mid _ _ _ unknown
+      plain_replied q.0 q.1 None (sym c.in-None.is ∙ c.order_of_line.ensures q.0 q.2) _ _ start mid _ _ _ unknown
           (takes_both start filled mid [] (q.0 ++ 10 ∷ []) _ c.fill.ensures.takes q.3 refl) (λ rest. refl) (codes "no request\n", (refl, refl), c.in-Err-write_flushed.ensures.bytes),
       c.in-Ok.ensures.open.0,
       c.in-Err-write_flushed.ensures.failed ∙ ap (λ f. f || true) c.requires.unbroken,

@@ -5,8 +5,8 @@ use Rattle.shlive.proofs.serve.run.Given as goal
 
 abbrev pub invariant-requests : goal.invariant-requests
 invariant-requests g l =
-    IsOpen l.input × (l.incoming.count < too_many) × (l.output.failed ≡ false) × (l.session.how ≡ l.fn.session.how)
-    × SoFar l.fn.session.how l.fn.session.bytes l.session.bytes (ahead_of g.R.Read.remaining l.fn.input (record { bytes = []; count = 0 }))
+    IsOpen l.input × (l.incoming.count < too_many) × (l.output.failed ≡ false)
+    × SoFar l.fn.session l.session (ahead_of g.R.Read.remaining l.fn.input (record { bytes = []; count = 0 }))
     (ahead_of g.R.Read.remaining l.input l.incoming) (g.W.Write.contents l.fn.output.writer) (g.W.Write.contents l.output.writer)
 
 abbrev pub decreases-requests : goal.decreases-requests
