@@ -1,3 +1,6 @@
 pub mod Part
 pub mod Report
 pub mod Words
+pub mod ProgramEnds
+pub mod SessionReport
+pub mod ToolReport

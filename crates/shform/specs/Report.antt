@@ -28,15 +28,15 @@ text_of name read (Ok (Some fault)) = message_text name (line_of read fault.at) 
 text_of name read (Err stop) = text_of_stop name stop
 
 -- the status of a verdict
-abbrev pub status_of : Result (Option Fault) Stop → ℕ
-status_of (Ok None) = 0
-status_of (Ok (Some fault)) = 1
-status_of (Err stop) = 2
+abbrev pub status_of_verdict : Result (Option Fault) Stop → ℕ
+status_of_verdict (Ok None) = 0
+status_of_verdict (Ok (Some fault)) = 1
+status_of_verdict (Err stop) = 2
 
 -- The verdict on the bytes that were read was told: standard error held and holds bytes, whether a write there failed; and the status.
 pub record IsTold (name read : List ℕ) (verdict : Result (Option Fault) Stop) (held holds : Option (List ℕ)) (broken : Bool) (status : ℕ) : Type 0 where
   pub written : Writes held holds broken (text_of name read verdict)
-  pub answer : status ≡ (if broken then 2 else status_of verdict)
+  pub answer : status ≡ (if broken then 2 else status_of_verdict verdict)
 
 -- the fault was told, or that memory ran out
 abbrev pub TellsFault : List ℕ → List ℕ → Fault → Option (List ℕ) → Option (List ℕ) → Bool → ℕ → Type 0

@@ -1,4 +1,6 @@
 //! What the words of the command line ask for.
+ghost use Rattle.std.specs.Prelude.{◌≡◌};
+ghost use Rattle.shform.specs.ToolReport.{name_of};
 
 use shprint::Layout;
 use shread::Edition;
@@ -24,4 +26,16 @@ pub struct Settings<'a> {
     pub layout: Layout,
     /// The script, or `None` for standard input; for a session, where it begins, or `None` for an empty script.
     pub file: Option<&'a str>,
+}
+
+impl<'a> Settings<'a> {
+    /// What the script is called in what is told: FILE, or `-`.
+    pub fn name(&self) -> &'a str
+        ensures { result.now ≡ name_of self.now.file }
+    {
+        match self.file {
+            Some(name) => name,
+            None => "-",
+        }
+    }
 }

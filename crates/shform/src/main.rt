@@ -1,11 +1,17 @@
 //! The program `shform`, which checks and prints scripts of the POSIX shell: `shform check [OPTIONS] [FILE]`,
 //! `shform print [OPTIONS] [FILE]`, `shform session [OPTIONS] [FILE]`.
 //!
-//! Start with `run`, which takes the words, and with `check_engine` and `print_engine` in `engine`, which do the work over readers
-//! and writers: both read the input piece by piece into a `sink`, which is a `part` of it, for a print with its text a `printed_part`;
-//! they have the first fault or the text from the reader and the printer, and tell the one by `report`, or write the other. A session
-//! is that of `shlive`. `words` reads the command line. The ends, which remember how their devices fared, are those of `shtext`.
+//! Start with `run`, which takes the words, and with `run_tool` in `tools`, which runs what the settings
+//! ask for over readers and writers. `check_engine` and `print_engine` in `engine` read the script piece by
+//! piece into a `sink`, which is a `part` of it, for a print with its text a `printed_part`; they have the
+//! first fault or the text from the reader and the printer, and tell the one by `report`, or write the
+//! other. `session_engine` reads FILE so, into a vector, and its session is that of `shlive`. `words` reads
+//! the command line. The ends, which remember how their devices fared, are those of `shtext`; what is
+//! opened, is opened here.
 #![tactic(auto)]
+
+ghost use Rattle.std.specs.Prelude.{◌≡◌, IfSome, is_some};
+ghost use Rattle.shlive.specs.Ahead.{IsOpen};
 
 mod asked;
 mod engine;
@@ -15,98 +21,50 @@ mod printed_part;
 #[cfg(test)]
 mod refused;
 mod report;
+mod session_engine;
 mod sink;
 #[cfg(test)]
 mod tests;
+mod tools;
 mod usage;
 mod words;
 
-use asked::{Settings, Tool};
+use asked::Settings;
 use clap::error::ErrorKind;
-use engine::{check_engine, print_engine, read_whole};
 use report::{Stop, give_up};
-use shlive::{LiveError, Session};
-use shread::Reader;
 use shtext::{Input, Output};
 use std::alloc::AllocError;
-use std::io::Read;
 use std::process::ExitCode;
 use std::{env, fs, io};
+use tools::run_tool;
 use usage::Usage;
 use words::settings;
 
-/// Checks or prints what the reader gives, over the program's own outputs.
-fn on_reader<R: Read + Drop>(
-    rt: &HostRuntime,
-    settings: &Settings<'_>,
-    name: &str,
-    reader: R,
-) -> u8 {
-    let mut input = Input::new(reader);
+/// Runs the tool over FILE, where the settings name one, and over the program's own ends.
+fn on_ends(rt: &HostRuntime, settings: &Settings<'_>, mut file: Option<Input<fs::File>>) -> u8
+    requires named { is_some file ≡ is_some settings.now.file }
+    requires fresh { IfSome file IsOpen }
+{
+    let mut input = Input::new(rt.stdin());
     let mut output = Output::new(rt.stdout());
     let mut errors = Output::new(rt.stderr());
-    let errors = &mut errors;
-    if settings.tool == Tool::Check {
-        check_engine(
-            rt.alloc(),
-            settings.edition,
-            name,
-            &mut input,
-            &mut output,
-            errors,
-        )
-    } else {
-        let layout = &settings.layout;
-        print_engine(
-            rt.alloc(),
-            settings.edition,
-            layout,
-            name,
-            &mut input,
-            &mut output,
-            errors,
-        )
-    }
+    run_tool(
+        rt.alloc(),
+        settings,
+        &mut file,
+        &mut input,
+        &mut output,
+        &mut errors,
+    )
 }
 
-/// Answers requests on standard input for a script of these bytes.
-fn on_script(rt: &HostRuntime, settings: &Settings<'_>, name: &str, bytes: &[u8]) -> u8 {
-    let reader = Reader::for_edition(rt.alloc(), settings.edition);
-    match Session::open(rt.alloc(), reader, settings.layout, bytes) {
-        Ok(mut session) => {
-            let mut input = Input::new(rt.stdin());
-            let mut output = Output::new(rt.stdout());
-            shlive::run(rt.alloc(), &mut session, &mut input, &mut output)
-        }
-        Err(LiveError::TooLarge) => give_up_on(rt, name, Stop::TooLarge),
-        Err(_) => give_up_on(rt, name, Stop::Memory),
-    }
-}
-
-/// Opens FILE, or an empty script, and answers requests on standard input.
-fn on_session(rt: &HostRuntime, settings: &Settings<'_>) -> u8 {
-    let Some(name) = settings.file else {
-        return on_script(rt, settings, "-", b"");
-    };
-    let Ok(file) = fs::open(rt, name) else {
-        return give_up_on(rt, name, Stop::Unreadable);
-    };
-    match read_whole(rt.alloc(), &mut Input::new(file)) {
-        Ok(bytes) => on_script(rt, settings, name, &bytes),
-        Err(stop) => give_up_on(rt, name, stop),
-    }
-}
-
-/// Does what the settings ask for.
+/// Does what the settings ask for, where the FILE that they name can be opened.
 fn on_settings(rt: &HostRuntime, settings: &Settings<'_>) -> u8 {
-    if settings.tool == Tool::Session {
-        return on_session(rt, settings);
-    }
     let Some(name) = settings.file else {
-        return on_reader(rt, settings, "-", rt.stdin());
+        return on_ends(rt, settings, None);
     };
     match fs::open(rt, name) {
-        Ok(file) => on_reader(rt, settings, name, file),
+        Ok(file) => on_ends(rt, settings, Some(Input::new(file))),
         Err(_) => give_up_on(rt, name, Stop::Unreadable),
     }
 }

@@ -2,6 +2,7 @@
 // the gate, each test runs once. They catch the wrong body `always_out_of_memory`, which no contract can.
 use crate::tests::checked;
 use crate::tests::print::print as printed;
+use crate::tests::session::session as served;
 use shprint::{LayoutError, message};
 use shread::{Fault, FaultKind};
 use std::alloc::{AllocError, Global};
@@ -147,6 +148,49 @@ fn print(rt: HostRuntime) -> Result<(), Fail> {
             assert!(rt; written.text() == b"{\n\tif a; then\n\t\tb\n\tfi\n} # c\n".as_slice());
         } else {
             assert!(rt; is_met && status == 2 && written.text().is_empty());
+            assert!(rt; told.text() == b"shform: out of memory\n".as_slice());
+            met = nth;
+        }
+        if !is_met {
+            break;
+        }
+    }
+    assert!(rt; !refuses || 0 < met && met < 99, "{met}");
+    Ok(())
+}
+
+/// The status of a session on a script of one long line with the nth growth refused, and what it replied
+/// and told.
+fn session_refused(alloc: Global, nth: usize) -> Result<(u8, Page, Page), LayoutError> {
+    let script = [b' '; 20_000];
+    let file = script.as_slice().chain(b"a ;;\n".as_slice());
+    let mut replies = Page::new();
+    let mut told = Page::new();
+    refuse(alloc, nth);
+    let status = served(
+        alloc,
+        Some(file),
+        b"fault\n".as_slice(),
+        &mut replies,
+        &mut told,
+    )?;
+    Ok((status, replies, told))
+}
+
+/// FILE is read in several growths, and opened in some more. Until all that are needed have been had,
+/// nothing is replied.
+#[test]
+fn session(rt: HostRuntime) -> Result<(), Fail> {
+    let refuses = refuses(rt.alloc());
+    let mut met = 0;
+    for nth in 1..100 {
+        let (status, replies, told) = session_refused(rt.alloc(), nth)?;
+        let is_met = refuses && was_refused(rt.alloc(), nth);
+        if status == 1 {
+            assert!(rt; told.text().is_empty());
+            assert!(rt; replies.text() == b"fault 20002 1 20003 11\n".as_slice());
+        } else {
+            assert!(rt; is_met && status == 2 && replies.text().is_empty());
             assert!(rt; told.text() == b"shform: out of memory\n".as_slice());
             met = nth;
         }

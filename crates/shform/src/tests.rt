@@ -1,6 +1,11 @@
 // What no clause says: that calls succeed where nothing fails, that a failure of a device is told, and the texts.
+ghost use Rattle.std.specs.Prelude.{IfSome};
+ghost use Rattle.shlive.specs.Ahead.{IsOpen};
+
 mod parts;
 pub(crate) mod print;
+pub(crate) mod session;
+mod tools;
 mod words;
 
 use crate::engine::check_engine;
@@ -55,6 +60,16 @@ impl Read for Same {
         buf[..count].fill(self.0);
         self.1 -= count;
         Ok(count)
+    }
+}
+
+/// FILE over this reader, where there is one.
+fn file_of<F: Read>(reader: Option<F>) -> Option<Input<F>>
+    ensures { IfSome result IsOpen }
+{
+    match reader {
+        Some(reader) => Some(Input::new(reader)),
+        None => None,
     }
 }
 

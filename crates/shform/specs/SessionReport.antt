@@ -1,0 +1,85 @@
+-- What is said of a session, and the status that is answered.
+use Rattle.std.specs.Prelude.{◌≡◌, ◌⊎◌, ℕ, ◌≤◌, [], Bool, true, false, List, length}
+use Rattle.std.specs.Prelude.{Option, None, Some, Err}
+use Rattle.std.specs.Io.KnownBytes.{Consumes, IsAtEnd}
+use Rattle.shgrammar.specs.declared.edition.Edition.{Edition}
+use Rattle.shlive.specs.Held.{Held, How}
+use Rattle.shlive.specs.Runs.{IsRun}
+use Rattle.shprint.specs.declared.layout.Layout.{Layout}
+use Rattle.shtext.specs.Device.{held_of, input_ended, input_failed, left_of, output_failed}
+use Rattle.shtext.specs.Edit.{limit}
+use Rattle.shtext.specs.Meter.{raised}
+use Rattle.shtext.specs.declared.device.Input.{Input}
+use Rattle.shform.specs.ProgramEnds.{ProgramEnds, Devices}
+use Rattle.shform.specs.Report.{IsTold, StopsFor}
+use Rattle.shform.specs.declared.report.Stop.{Stop}
+
+-- ---- the session
+
+abbrev pub how_of : Edition → Layout → How
+how_of edition layout = record { edition = edition; layout = layout }
+
+-- what a session holds that was opened on these bytes, with a reader of this meter
+abbrev pub opened_on : How → ℕ → List ℕ → Held
+opened_on how meter bytes = record { bytes = bytes; how = how; meter = raised meter (length bytes) }
+
+-- A session that held this has run: the bytes that its reader had and has left, whether a read failed or
+-- met the end; the bytes that its writer held and holds, whether a write failed; and the answer.
+abbrev pub HasRun : Held → Option (List ℕ) → Option (List ℕ) → Bool → Bool
+    → Option (List ℕ) → Option (List ℕ) → Bool → ℕ → Type 0
+HasRun before had has failed ended held holds broken answer =
+    (after : Held) × IsRun before after had has failed ended held holds broken answer
+
+-- ---- FILE
+
+-- FILE was read to its end, and has these bytes, which are not too many; without FILE there are none
+abbrev pub IsReadWhole : {F : Type 0} → (F → Option (List ℕ))
+    → Option (Input F) → Option (Input F) → List ℕ → Type 0
+IsReadWhole remaining (Some old) (Some new) read =
+    Consumes (left_of remaining old) (left_of remaining new) read × IsAtEnd (left_of remaining new)
+    × (length read ≤ limit) × (input_failed new ≡ false) × (input_ended new ≡ true)
+IsReadWhole remaining None None read = read ≡ []
+IsReadWhole remaining _ _ read = ⊥
+
+-- FILE was given up, with these bytes read; without FILE there is nothing to give up
+abbrev pub IsGivenUp : {F : Type 0} → (F → Option (List ℕ))
+    → Option (Input F) → Option (Input F) → List ℕ → Stop → Type 0
+IsGivenUp remaining (Some old) (Some new) read stop =
+    Consumes (left_of remaining old) (left_of remaining new) read
+    × StopsFor read (input_failed new) (input_ended new) stop
+IsGivenUp remaining _ _ read stop = ⊥
+
+-- ---- the report
+
+-- FILE was read, and a session ran that was opened on its bytes; nothing was told. The ends as they were
+-- and as they are, and the status.
+pub record Serves {F I O E : Type 0} (devices : Devices F I O E) (how : How) (meter : ℕ)
+    (old new : ProgramEnds F I O E) (status : ℕ) : Type 0 where
+  pub read : List ℕ
+  pub file : IsReadWhole devices.file old.file new.file read
+  pub run : HasRun (opened_on how meter read)
+      (left_of devices.input old.input) (left_of devices.input new.input)
+      (input_failed new.input) (input_ended new.input)
+      (held_of devices.output old.output) (held_of devices.output new.output) (output_failed new.output)
+      status
+  pub silent : new.errors ≡ old.errors
+
+-- FILE was given up, or there was no memory for its session, and that was told; no request was read, and
+-- nothing replied.
+pub record GivesUp {F I O E : Type 0} (devices : Devices F I O E) (name : List ℕ)
+    (old new : ProgramEnds F I O E) (status : ℕ) : Type 0 where
+  pub read : List ℕ
+  pub stop : Stop
+  pub file : IsGivenUp devices.file old.file new.file read stop
+  pub told : IsTold name read (Err stop)
+      (held_of devices.errors old.errors) (held_of devices.errors new.errors) (output_failed new.errors)
+      status
+  pub unasked : new.input ≡ old.input
+  pub unanswered : new.output ≡ old.output
+
+-- The report of a session, whose requests come on standard input and whose replies go to standard output;
+-- the meter is that with which its reader came. Without FILE it is never given up.
+abbrev pub IsSessionReport : {F I O E : Type 0} → Devices F I O E → How → ℕ → List ℕ
+    → ProgramEnds F I O E → ProgramEnds F I O E → ℕ → Type 0
+IsSessionReport devices how meter name old new status =
+    Serves devices how meter old new status ⊎ GivesUp devices name old new status
