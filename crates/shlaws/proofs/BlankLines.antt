@@ -1,0 +1,84 @@
+-- A newline token behind an entry ends its line, and each further one makes the next entry blank.
+use Rattle.std.proofs.Common.{◌≡◌, ◌↔◌, ℕ, zero, suc, ◌+◌, ◌≤◌, Bool, true, false, not, List as Row, [], ◌∷◌}
+use Rattle.std.proofs.Common.{◌++◌, Option, refl, sym, ap, ◌∙◌, arith}
+use Rattle.std.specs.Prelude.{◌&&◌}
+use Rattle.shast.specs.Tree.{AnEntry}
+use Rattle.shgrammar.specs.Commands.{is_empty}
+use Rattle.shgrammar.specs.Lists.{Listed, is_blank_next, next_line, none_listed, with_command, with_remark}
+use Rattle.shgrammar.specs.Scripts.{SoFar, is_blank_line, nothing_yet, with_line}
+use Rattle.shlaws.specs.Blank.{past_empty_lines, past_newlines}
+
+pub not_empty : {A : Type 0} (es : Row A) (e : A) → is_empty (es ++ e ∷ []) ≡ false
+not_empty [] e = refl
+not_empty (x ∷ xs) e = refl
+
+-- ---- lists
+
+same_entries : (n : ℕ) (l : Listed) → (past_newlines n l).entries ≡ l.entries
+same_entries zero l = refl
+same_entries (suc n) l = same_entries n l
+
+-- behind an entry of this line
+pub behind_entry : (l : Listed) (n : ℕ) → l.begun ≡ true → is_empty l.entries ≡ false
+    → (is_blank_next (past_newlines n l) ≡ true) ↔ (2 ≤ n)
+behind_entry l zero begun some =
+    let no : is_blank_next l ≡ false = rw begun (never l.blank) in
+    (λ is. absurd (let both : true ≡ false = sym is ∙ no in cc), λ le. absurd (omega arith))
+  where
+    never : (b : Bool) → (b && false) ≡ false
+    never true = refl
+    never false = refl
+behind_entry l (suc zero) begun some =
+    let no : is_blank_next (next_line l) ≡ false = rw begun refl in
+    (λ is. absurd (let both : true ≡ false = sym is ∙ no in cc), λ le. absurd (omega arith))
+behind_entry l (suc (suc n)) begun some = (λ is. omega arith, λ le. rw (same_entries n l, some) refl)
+
+pub before_all : (n : ℕ) → is_blank_next (past_newlines n (none_listed false)) ≡ false
+before_all zero = refl
+before_all (suc n) =
+    rw (same_entries n (none_listed false)) (never (past_newlines n (none_listed false)).begun)
+  where
+    never : (b : Bool) → ((not b && false) && true) ≡ false
+    never true = refl
+    never false = refl
+
+pub behind_command : (l : Listed) (es : Row AnEntry) (e : AnEntry) (parted : Option ℕ) (n : ℕ)
+    → (is_blank_next (past_newlines n (with_command l (es ++ e ∷ []) parted)) ≡ true) ↔ (2 ≤ n)
+behind_command l es e parted n = behind_entry (with_command l (es ++ e ∷ []) parted) n refl (not_empty es e)
+
+pub behind_remark : (l : Listed) (es : Row AnEntry) (e : AnEntry) (n : ℕ)
+    → (is_blank_next (past_newlines n (with_remark l (es ++ e ∷ []))) ≡ true) ↔ (2 ≤ n)
+behind_remark l es e n = behind_entry (with_remark l (es ++ e ∷ [])) n refl (not_empty es e)
+
+-- ---- scripts
+
+same_so_far : (n : ℕ) (so : SoFar) → is_empty (past_empty_lines n so).entries ≡ is_empty so.entries
+same_so_far zero so = refl
+same_so_far (suc n) so = nothing_more (past_empty_lines n so).entries ∙ same_so_far n so
+  where
+    nothing_more : (es : Row AnEntry) → is_empty (es ++ []) ≡ is_empty es
+    nothing_more [] = refl
+    nothing_more (x ∷ xs) = refl
+
+some_then : (one more : Row AnEntry) → is_empty more ≡ false → is_empty (one ++ more) ≡ false
+some_then [] more some = some
+some_then (x ∷ xs) more some = refl
+
+pub behind_line : (so : SoFar) (es : Row AnEntry) (e : AnEntry) (n : ℕ)
+    → (is_blank_line (past_empty_lines n (with_line so (es ++ e ∷ []))) ≡ true) ↔ (2 ≤ n + 1)
+behind_line so es e zero =
+    let no : is_blank_line (with_line so (es ++ e ∷ [])) ≡ false = rw (not_empty es e) refl in
+    (λ is. absurd (let both : true ≡ false = sym is ∙ no in cc), λ le. absurd (omega arith))
+behind_line so es e (suc n) =
+    let l : SoFar = with_line so (es ++ e ∷ []) in
+    let some : is_empty (past_empty_lines (suc n) l).entries ≡ false =
+    same_so_far (suc n) l ∙ some_then so.entries (es ++ e ∷ []) (not_empty es e) in
+    (λ is. omega arith, λ le. ap not some)
+
+pub no_line_before : (n : ℕ) → is_blank_line (past_empty_lines n nothing_yet) ≡ false
+no_line_before zero = refl
+no_line_before (suc n) = ap not (same_so_far (suc n) nothing_yet)
+
+pub told : (blank : Bool) → is_blank_next (none_listed blank) ≡ blank
+told true = refl
+told false = refl

@@ -1,0 +1,16 @@
+pub mod WholeLines
+pub mod Forms
+pub mod Words
+pub mod Commands
+pub mod Compounds
+pub mod Scripts
+pub mod Back
+pub mod Idle
+pub mod BlankLines
+pub mod BodyEnds
+pub mod LineFlags
+pub mod NodesInOrder
+pub mod PieceBytes
+pub mod QuotePieces
+pub mod QuoteReading
+pub mod QuoteSteps

@@ -1,0 +1,212 @@
+-- Inserting node after node gives the one row that is in order and has the same nodes at each place.
+use Rattle.std.proofs.Common.{◌≡◌, ℕ, suc, ◌<◌, ◌≤◌, ◌⊎◌, inl, inr, Bool, true, false, cond, List as Row, []}
+use Rattle.std.proofs.Common.{◌∷◌, get_or, All, filter, IsPermutation, is_lt, nat_cmp, refl, sym, ap, ◌∙◌}
+use Rattle.std.proofs.Common.{arith}
+use Rattle.std.specs.Ordering.{ordering_then}
+use Rattle.std.proofs.lemmas.Bool.{and_parts, both_ways, eq-eqb, eqb-true}
+use Rattle.std.proofs.lemmas.Bool.Decides.{nat_tests}
+use Rattle.std.proofs.lemmas.List.Kept.{AllPairs-cons}
+use Rattle.std.proofs.lemmas.List.Elements.{All-cons}
+use Rattle.std.proofs.lemmas.List.Sorted.{All-permutation, IsPermutation-cons, IsPermutation-middle}
+use Rattle.std.proofs.lemmas.List.Sorted.{IsPermutation-refl, IsPermutation-trans}
+use Rattle.shast.specs.declared.node.NodeLine.{NodeLine}
+use Rattle.shast.specs.Nodes.{by_place, in_order, inserted}
+use Rattle.shlaws.specs.Order.{AreInOrder, HaveTheSameAtEachPlace, MayPrecede, stands_from}
+
+-- ---- two places
+
+abbrev is_before : ℕ → ℕ → ℕ → ℕ → Bool
+is_before s e t f = is_lt (ordering_then (nat_cmp s t) (nat_cmp f e))
+
+abbrev Precedes : ℕ → ℕ → ℕ → ℕ → Type 0
+Precedes s e t f = (s < t) ⊎ ((s ≡ t) × (f ≤ e))
+
+before_precedes : (s e t f : ℕ) → is_before s e t f ≡ true → Precedes s e t f
+before_precedes s e t f is = grind (arith, nat_tests)
+
+other_precedes : (s e t f : ℕ) → is_before s e t f ≡ false → Precedes t f s e
+other_precedes s e t f is = grind (arith, nat_tests)
+
+at_one_place : (s e t f : ℕ) → s ≡ t → e ≡ f → is_before s e t f ≡ false
+at_one_place s e t f one two = grind (arith, nat_tests)
+
+precedes_on : (s e t f u g : ℕ) → Precedes s e t f → Precedes t f u g → Precedes s e u g
+precedes_on s e t f u g (inl a) (inl b) = inl (omega arith)
+precedes_on s e t f u g (inl a) (inr b) = inl (omega (arith, b.0))
+precedes_on s e t f u g (inr a) (inl b) = inl (omega (arith, a.0))
+precedes_on s e t f u g (inr a) (inr b) = inr (omega (arith, a.0, b.0), omega (arith, a.1, b.1))
+
+both_precede : (s e t f : ℕ) → Precedes s e t f → Precedes t f s e → (s ≡ t) × (e ≡ f)
+both_precede s e t f (inl a) (inl b) = absurd (omega arith)
+both_precede s e t f (inl a) (inr b) = absurd (omega (arith, b.0))
+both_precede s e t f (inr a) (inl b) = absurd (omega (arith, a.0))
+both_precede s e t f (inr a) (inr b) = (a.0, omega (arith, a.1, b.1))
+
+-- ---- the same members
+
+has_members : (n : NodeLine) (ms : Row NodeLine) → IsPermutation (n ∷ ms) (inserted n ms)
+has_members n [] = IsPermutation-refl (n ∷ [])
+has_members n (m ∷ ms) =
+    elim (is_lt (by_place m n)) as (λ b. IsPermutation (n ∷ m ∷ ms)
+    (cond b (m ∷ inserted n ms) (n ∷ m ∷ ms))) [
+      | true ↦ IsPermutation-trans (n ∷ m ∷ ms) (m ∷ n ∷ ms) (m ∷ inserted n ms)
+          (IsPermutation-middle (n ∷ []) m ms)
+          (IsPermutation-cons m (n ∷ ms) (inserted n ms) (has_members n ms))
+      | false ↦ IsPermutation-refl (n ∷ m ∷ ms)
+    ]
+
+pub members : (ns : Row NodeLine) → IsPermutation ns (in_order ns)
+members [] = IsPermutation-refl []
+members (n ∷ ns) =
+    IsPermutation-trans (n ∷ ns) (n ∷ in_order ns) (inserted n (in_order ns))
+    (IsPermutation-cons n ns (in_order ns) (members ns)) (has_members n (in_order ns))
+
+-- ---- in order
+
+behind_first : (n : NodeLine) (ns : Row NodeLine) → AreInOrder (n ∷ ns) → All (MayPrecede n) ns
+behind_first n ns sorted k d lt = sorted 0 (suc k) d (omega arith) (omega arith)
+
+without_first : (n : NodeLine) (ns : Row NodeLine) → AreInOrder (n ∷ ns) → AreInOrder ns
+without_first n ns sorted i j d lt within = sorted (suc i) (suc j) d (omega arith) (omega arith)
+
+none_behind : (n : NodeLine) → All (MayPrecede n) []
+none_behind n k d lt = absurd (omega arith)
+
+pub none_sorted : AreInOrder []
+none_sorted i j d lt within = absurd (omega arith)
+
+precedes_all : (n m : NodeLine) (ms : Row NodeLine) → MayPrecede n m → All (MayPrecede m) ms
+    → All (MayPrecede n) ms
+precedes_all n m ms here behind k d lt =
+    precedes_on n.start n.«end» m.start m.«end» (get_or ms k d).start (get_or ms k d).«end» here
+    (behind k d lt)
+
+sorted_by : (n m : NodeLine) (ms : Row NodeLine) (b : Bool) → is_lt (by_place m n) ≡ b → AreInOrder (m ∷ ms)
+    → AreInOrder (inserted n ms) → AreInOrder (cond b (m ∷ inserted n ms) (n ∷ m ∷ ms))
+sorted_by n m ms true is sorted rest =
+    let before : MayPrecede m n = before_precedes m.start m.«end» n.start n.«end» is in
+    let all : All (MayPrecede m) (n ∷ ms) = All-cons (MayPrecede m) n ms before (behind_first m ms sorted) in
+    AllPairs-cons MayPrecede m (inserted n ms)
+    (All-permutation (MayPrecede m) (n ∷ ms) (inserted n ms) (has_members n ms) all) rest
+sorted_by n m ms false is sorted rest =
+    let before : MayPrecede n m = other_precedes m.start m.«end» n.start n.«end» is in
+    let all : All (MayPrecede n) (m ∷ ms) =
+    All-cons (MayPrecede n) m ms before (precedes_all n m ms before (behind_first m ms sorted)) in
+    AllPairs-cons MayPrecede n (m ∷ ms) all sorted
+
+inserted_sorted : (n : NodeLine) (ms : Row NodeLine) → AreInOrder ms → AreInOrder (inserted n ms)
+inserted_sorted n [] sorted = AllPairs-cons MayPrecede n [] (none_behind n) none_sorted
+inserted_sorted n (m ∷ ms) sorted =
+    sorted_by n m ms (is_lt (by_place m n)) refl sorted (inserted_sorted n ms (without_first m ms sorted))
+
+pub sorted : (ns : Row NodeLine) → AreInOrder (in_order ns)
+sorted [] = none_sorted
+sorted (n ∷ ns) = inserted_sorted n (in_order ns) (sorted ns)
+
+-- ---- the same at each place
+
+place_is : (s e : ℕ) (n : NodeLine) → stands_from s e n ≡ true → (n.start ≡ s) × (n.«end» ≡ e)
+place_is s e n is =
+    let both = and_parts _ _ is in
+    (eqb-true n.start s both.0, eqb-true n.«end» e both.1)
+
+at_its_place : (n : NodeLine) → stands_from n.start n.«end» n ≡ true
+at_its_place n = rw (eq-eqb n.start n.start refl, eq-eqb n.«end» n.«end» refl) refl
+
+two_tests : (p q : Bool) (m n : NodeLine) (ns : Row NodeLine) → (p ≡ true → q ≡ true → ⊥)
+    → cond p (m ∷ cond q (n ∷ ns) ns) (cond q (n ∷ ns) ns) ≡ cond q (n ∷ cond p (m ∷ ns) ns)
+    (cond p (m ∷ ns) ns)
+two_tests true true m n ns apart = absurd (apart refl refl)
+two_tests true false m n ns apart = refl
+two_tests false true m n ns apart = refl
+two_tests false false m n ns apart = refl
+
+same_by : (s e : ℕ) (n m : NodeLine) (ms : Row NodeLine) (b : Bool) → is_lt (by_place m n) ≡ b
+    → filter (stands_from s e) (inserted n ms) ≡ filter (stands_from s e) (n ∷ ms)
+    → filter (stands_from s e) (cond b (m ∷ inserted n ms) (n ∷ m ∷ ms)) ≡ filter (stands_from s e)
+    (n ∷ m ∷ ms)
+same_by s e n m ms true is rest =
+    let apart : stands_from s e m ≡ true → stands_from s e n ≡ true → ⊥ = λ here there.
+    let one = place_is s e m here in
+    let two = place_is s e n there in
+    both_ways (is_lt (by_place m n))
+    (at_one_place m.start m.«end» n.start n.«end» (one.0 ∙ sym two.0) (one.1 ∙ sym two.1)) is in
+    ap (λ r. cond (stands_from s e m) (m ∷ r) r) rest
+    ∙ two_tests (stands_from s e m) (stands_from s e n) m n (filter (stands_from s e) ms) apart
+same_by s e n m ms false is rest = refl
+
+inserted_same : (s e : ℕ) (n : NodeLine) (ms : Row NodeLine)
+    → filter (stands_from s e) (inserted n ms) ≡ filter (stands_from s e) (n ∷ ms)
+inserted_same s e n [] = refl
+inserted_same s e n (m ∷ ms) = same_by s e n m ms (is_lt (by_place m n)) refl (inserted_same s e n ms)
+
+pub same_at_each : (ns : Row NodeLine) → HaveTheSameAtEachPlace (in_order ns) ns
+same_at_each [] s e = refl
+same_at_each (n ∷ ns) s e =
+    inserted_same s e n (in_order ns) ∙ ap (λ r. cond (stands_from s e n) (n ∷ r) r) (same_at_each ns s e)
+
+-- ---- no other row
+
+-- what a test finds first in a row is one of the row
+found_first : (P : NodeLine → Type 0) (test : NodeLine → Bool) (m : NodeLine) (ns rest : Row NodeLine)
+    → All P ns → filter test ns ≡ m ∷ rest → P m
+found_first P test m [] rest all is = absurd cc
+found_first P test m (n ∷ ns) rest all is =
+    elim (test n) as (λ b. cond b (n ∷ filter test ns) (filter test ns) ≡ m ∷ rest → P m) [
+      | true ↦ λ (e : n ∷ filter test ns ≡ m ∷ rest). let same : m ≡ n = cc in rw same (all 0 n (omega arith))
+      | false ↦ λ (e : filter test ns ≡ m ∷ rest). found_first P test m ns rest
+          (λ k d lt. all (suc k) d (omega arith)) e
+    ] is
+
+-- the first of one row stands at no place behind that of the other
+not_behind : (m n : NodeLine) (ns rest : Row NodeLine) (b : Bool) → stands_from m.start m.«end» n ≡ b
+    → AreInOrder (n ∷ ns)
+    → cond b (n ∷ filter (stands_from m.start m.«end») ns)
+    (filter (stands_from m.start m.«end») ns) ≡ m ∷ rest
+    → MayPrecede n m
+not_behind m n ns rest true is sorted found = let same : n ≡ m = cc in rw same (inr (refl, omega arith))
+not_behind m n ns rest false is sorted found =
+    found_first (MayPrecede n) (stands_from m.start m.«end») m ns rest (behind_first n ns sorted) found
+
+first_here : (m : NodeLine) (ms : Row NodeLine)
+    → filter (stands_from m.start m.«end») (m ∷ ms) ≡ m ∷ filter (stands_from m.start m.«end») ms
+first_here m ms = rw (at_its_place m) refl
+
+place_found : (m n : NodeLine) (ms ns : Row NodeLine) → AreInOrder (n ∷ ns)
+    → HaveTheSameAtEachPlace (m ∷ ms) (n ∷ ns) → MayPrecede n m
+place_found m n ms ns sorted same =
+    not_behind m n ns (filter (stands_from m.start m.«end») ms) (stands_from m.start m.«end» n) refl sorted
+    (sym (same m.start m.«end») ∙ first_here m ms)
+
+without : (b : Bool) (m : NodeLine) (ms ns : Row NodeLine) → cond b (m ∷ ms) ms ≡ cond b (m ∷ ns) ns → ms ≡ ns
+without true m ms ns is = cc
+without false m ms ns is = is
+
+pub one_order : (ms ns : Row NodeLine) → AreInOrder ms → AreInOrder ns → HaveTheSameAtEachPlace ms ns
+    → ms ≡ ns
+one_order [] [] up there same = refl
+one_order [] (n ∷ ns) up there same =
+    let none : [] ≡ n ∷ filter (stands_from n.start n.«end») ns = same n.start n.«end» ∙ first_here n ns in
+    absurd cc
+one_order (m ∷ ms) [] up there same =
+    let none : m ∷ filter (stands_from m.start m.«end») ms ≡ [] =
+    sym (first_here m ms) ∙ same m.start m.«end» in
+    absurd cc
+one_order (m ∷ ms) (n ∷ ns) up there same =
+    let place =
+    both_precede m.start m.«end» n.start n.«end» (place_found n m ns ms up (λ s e. sym (same s e)))
+    (place_found m n ms ns there same) in
+    let at : stands_from m.start m.«end» n ≡ true = rw (place.0, place.1) (at_its_place n) in
+    let fronts : m ∷ filter (stands_from m.start m.«end») ms ≡ n ∷ filter (stands_from m.start m.«end») ns =
+    sym (first_here m ms) ∙ same m.start m.«end»
+    ∙ ap (λ b. cond b (n ∷ filter (stands_from m.start m.«end») ns)
+    (filter (stands_from m.start m.«end») ns)) at in
+    let first : m ≡ n = cc in
+    let rest : ms ≡ ns =
+    one_order ms ns (without_first m ms up) (without_first n ns there)
+    (λ s e. without (stands_from s e m) m (filter (stands_from s e) ms) (filter (stands_from s e) ns)
+    (rw (← first) at (same s e))) in
+    cc
+
+pub only : (ms ns : Row NodeLine) → AreInOrder ms → HaveTheSameAtEachPlace ms ns → ms ≡ in_order ns
+only ms ns up same = one_order ms (in_order ns) up (sorted ns) (λ s e. same s e ∙ sym (same_at_each ns s e))

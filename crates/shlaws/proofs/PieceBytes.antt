@@ -1,0 +1,187 @@
+-- Which byte begins which piece, outside quotes and in double quotes.
+use Rattle.std.proofs.Common.{◌≡◌, ℕ, ◌==◌, Bool, true, false, List, Option, Some, None, refl, sym, ap, subst}
+use Rattle.std.proofs.Common.{◌∙◌}
+use Rattle.std.specs.Prelude.{◌&&◌}
+use Rattle.std.proofs.lemmas.Bool.{and_parts, both_ways, cond_both, eqb-true}
+use Rattle.shgrammar.specs.declared.edition.Edition.{Edition}
+use Rattle.shgrammar.specs.declared.mode.Mode.{Mode}
+use Rattle.shgrammar.specs.declared.mode.Mode.TheVariants.{Plain, Double, Brace, DoubleBrace, Arith}
+use Rattle.shgrammar.specs.declared.mode.Piece.{Piece}
+use Rattle.shgrammar.specs.declared.mode.Piece.TheVariants as pieces
+use Rattle.shgrammar.specs.Bytes.{behind, byte_at, ends, stands}
+use Rattle.shgrammar.specs.HereDocuments.{Quoting, in_double, is_quote, not_quoted}
+use Rattle.shgrammar.specs.Pieces.{byte_by, dollar_at, dollar_by, piece_at, piece_by, piece_in, quotes_singly}
+use Rattle.shgrammar.specs.Standing.{at_end, is_byte}
+use Rattle.shgrammar.specs.Tokens.{is_later}
+use Rattle.shlaws.specs.Quotes.{piece_by_edition}
+
+-- how a byte of a piece is quoted, in the two modes in which quotes are removed
+abbrev pub quoting_in : Mode → Quoting
+quoting_in Double = in_double
+quoting_in mode = not_quoted
+
+abbrev pub is_unquoted : Mode → Bool
+is_unquoted Plain = true
+is_unquoted Double = true
+is_unquoted mode = false
+
+-- a piece that begins with the byte b, behind which x is read or, if it is the last, nothing stands
+pub data Begins (later last : Bool) (b : ℕ) (x : Option ℕ) : Mode → Piece → Type 0 where
+  lone : {mode : Mode} → Begins later last b x mode pieces.LoneBackslash
+  escapes : {mode : Mode} → b ≡ 92 → last ≡ false → Begins later last b x mode pieces.Escape
+  backquote : {mode : Mode} → b ≡ 96 → Begins later last b x mode pieces.Backquote
+  dollars : {mode : Mode} → b ≡ 36 → x ≡ Some 36 → Begins later last b x mode pieces.Pid
+  arithmetic : {mode : Mode} → b ≡ 36 → x ≡ Some 40 → Begins later last b x mode pieces.Arith
+  substitution : {mode : Mode} → b ≡ 36 → x ≡ Some 40 → Begins later last b x mode pieces.Subst
+  parameter : {mode : Mode} → b ≡ 36 → x ≡ Some 123 → Begins later last b x mode pieces.Param
+  dollar_quote : b ≡ 36 → x ≡ Some 39 → later ≡ true → Begins later last b x Plain pieces.DollarSingle
+  dollar : {mode : Mode} → b ≡ 36 → is_byte x 36 ≡ false → is_byte x 40 ≡ false → is_byte x 123 ≡ false
+      → (later ≡ true → (is_quote (quoting_in mode) 39 && is_byte x 39) ≡ false)
+      → Begins later last b x mode pieces.Ordinary
+  quote : b ≡ 39 → Begins later last b x Plain pieces.Single
+  double_quote : b ≡ 34 → Begins later last b x Plain pieces.Double
+  closes : b ≡ 34 → Begins later last b x Double pieces.Closer
+  ends_here : ends (Some b) ≡ true → Begins later last b x Plain pieces.Closer
+  another : {mode : Mode} → (b == 92) ≡ false → (b == 96) ≡ false → (b == 36) ≡ false
+      → is_quote (quoting_in mode) b ≡ false
+      → Begins later last b x mode pieces.Ordinary
+
+same_byte : (b c : ℕ) → (b == c) ≡ true → b ≡ c
+same_byte b c is = eqb-true b c is
+
+module _ (edition : Edition) (T : List ℕ) (last : Bool) (b : ℕ) where
+  dollar_quoted : (mode : Mode) (y : ℕ) → is_unquoted mode ≡ true → b ≡ 36 → (y == 36) ≡ false
+      → (y == 40) ≡ false → (y == 123) ≡ false → (y == 39) ≡ true
+      → Begins (is_later edition) last b (Some y) mode (piece_in edition mode pieces.DollarSingle)
+  dollar_quoted Plain y read is no_dollar no_open no_brace quoted =
+      cond_both (is_later edition && quotes_singly Plain) _ _
+      (Begins (is_later edition) last b (Some y) Plain)
+      (λ e. dollar_quote is (ap (λ (n : ℕ). Some n) (same_byte y 39 quoted)) (and_parts _ _ e).0)
+      (λ e. dollar is no_dollar no_open no_brace
+      (λ later. absurd (both_ways (is_later edition && true) e (ap (λ c. c && true) later))))
+  dollar_quoted Double y read is no_dollar no_open no_brace quoted =
+      cond_both (is_later edition && quotes_singly Double) _ _
+      (Begins (is_later edition) last b (Some y) Double)
+      (λ e. absurd (both_ways false refl (and_parts _ _ e).1))
+      (λ e. dollar is no_dollar no_open no_brace (λ later. refl))
+  dollar_quoted Brace y read is no_dollar no_open no_brace quoted = absurd cc
+  dollar_quoted DoubleBrace y read is no_dollar no_open no_brace quoted = absurd cc
+  dollar_quoted Arith y read is no_dollar no_open no_brace quoted = absurd cc
+
+  dollar_begins : (mode : Mode) (r : ℕ) (x : Option ℕ) → is_unquoted mode ≡ true → b ≡ 36
+      → Begins (is_later edition) last b x mode (piece_in edition mode (dollar_by T r x))
+  dollar_begins mode r None read is = dollar is refl refl refl (λ later. none (is_quote (quoting_in mode) 39))
+    where
+      none : (c : Bool) → (c && false) ≡ false
+      none true = refl
+      none false = refl
+  dollar_begins mode r (Some y) read is =
+      let G : Piece → Type 0 =
+      λ z. Begins (is_later edition) last b (Some y) mode (piece_in edition mode z) in
+      cond_both (y == 36) _ _ G (λ e. dollars is (ap (λ (n : ℕ). Some n) (same_byte y 36 e)))
+      (λ no_dollar. cond_both (y == 40) _ _ G
+      (λ e. cond_both (stands T (behind T r) 40) _ _ G
+      (λ f. arithmetic is (ap (λ (n : ℕ). Some n) (same_byte y 40 e)))
+      (λ f. substitution is (ap (λ (n : ℕ). Some n) (same_byte y 40 e))))
+      (λ no_open. cond_both (y == 123) _ _ G (λ e. parameter is (ap (λ (n : ℕ). Some n) (same_byte y 123 e)))
+      (λ no_brace. cond_both (y == 39) _ _ G (λ e. dollar_quoted mode y read is no_dollar no_open no_brace e)
+      (λ no_quote. dollar is no_dollar no_open no_brace
+      (λ later. none (is_quote (quoting_in mode) 39) (y == 39) no_quote)))))
+    where
+      none : (c d : Bool) → d ≡ false → (c && d) ≡ false
+      none true d e = e
+      none false d e = refl
+
+  byte_begins : (mode : Mode) (p : ℕ) (x : Option ℕ) → is_unquoted mode ≡ true → (b == 92) ≡ false
+      → (b == 96) ≡ false → (b == 36) ≡ false
+      → Begins (is_later edition) last b x mode (piece_in edition mode (byte_by T p mode 0 b))
+  byte_begins Plain p x read no_backslash no_tick no_dollar =
+      let G : Piece → Type 0 = λ z. Begins (is_later edition) last b x Plain (piece_in edition Plain z) in
+      cond_both (ends (Some b)) _ _ G (λ e. ends_here e)
+      (λ more. cond_both (b == 39) _ _ G (λ e. quote (same_byte b 39 e))
+      (λ no_quote. cond_both (b == 34) _ _ G (λ e. double_quote (same_byte b 34 e))
+      (λ no_double. another no_backslash no_tick no_dollar (rw (no_quote, no_double) refl))))
+  byte_begins Double p x read no_backslash no_tick no_dollar =
+      let G : Piece → Type 0 = λ z. Begins (is_later edition) last b x Double (piece_in edition Double z) in
+      cond_both (b == 34) _ _ G (λ e. closes (same_byte b 34 e))
+      (λ no_double. another no_backslash no_tick no_dollar no_double)
+  byte_begins Brace p x read no_backslash no_tick no_dollar = absurd cc
+  byte_begins DoubleBrace p x read no_backslash no_tick no_dollar = absurd cc
+  byte_begins Arith p x read no_backslash no_tick no_dollar = absurd cc
+
+-- the piece at p begins with the byte that is read there
+piece_begins : (edition : Edition) (T : List ℕ) (b : ℕ) (mode : Mode) (p : ℕ) → is_unquoted mode ≡ true
+    → Begins (is_later edition) (at_end T (behind T p)) b (byte_at T (behind T p)) mode
+    (piece_in edition mode (piece_by T p mode 0 (Some b)))
+unfolding dollar_at
+piece_begins edition T b mode p read =
+    let last = at_end T (behind T p) in
+    let x = byte_at T (behind T p) in
+    let G : Piece → Type 0 = λ z. Begins (is_later edition) last b x mode (piece_in edition mode z) in
+    cond_both (b == 92) _ _ G (λ e. cond_both last _ _ G (λ f. lone) (λ f. escapes (same_byte b 92 e) f))
+    (λ no_backslash. cond_both (b == 96) _ _ G (λ e. backquote (same_byte b 96 e))
+    (λ no_tick. cond_both (b == 36) _ _ G
+    (λ e. dollar_begins edition T last b mode (behind T p) x read (same_byte b 36 e))
+    (λ no_dollar. byte_begins edition T last b mode p x read no_backslash no_tick no_dollar)))
+
+pub begins : (edition : Edition) (T : List ℕ) (mode : Mode) (p b : ℕ) (piece : Piece)
+    → is_unquoted mode ≡ true → byte_at T p ≡ Some b → piece_by_edition edition T mode p ≡ piece
+    → Begins (is_later edition) (at_end T (behind T p)) b (byte_at T (behind T p)) mode piece
+unfolding piece_at
+begins edition T mode p b piece read byte is =
+    let same : piece_in edition mode (piece_by T p mode 0 (Some b)) ≡ piece =
+    ap (λ y. piece_in edition mode (piece_by T p mode 0 y)) (sym byte) ∙ is in
+    subst (Begins (is_later edition) (at_end T (behind T p)) b (byte_at T (behind T p)) mode) same
+    (piece_begins edition T b mode p read)
+
+-- ---- where a byte is read
+
+-- it closes what holds it, or is missing: no byte needs to stand there
+abbrev pub stands_alone : Piece → Bool
+stands_alone pieces.Closer = true
+stands_alone pieces.Missing = true
+stands_alone piece = false
+
+-- any other piece begins with a byte
+pub byte_there : (edition : Edition) (T : List ℕ) (mode : Mode) (p : ℕ) (piece : Piece)
+    → is_unquoted mode ≡ true → piece_by_edition edition T mode p ≡ piece → stands_alone piece ≡ false
+    → (b : ℕ) × (byte_at T p ≡ Some b) × Begins (is_later edition) (at_end T (behind T p)) b
+    (byte_at T (behind T p)) mode piece
+unfolding piece_at
+byte_there edition T mode p piece read is inner = by (byte_at T p) refl
+  where
+    ends_it : (m : Mode) → is_unquoted m ≡ true
+        → stands_alone (piece_in edition m (piece_by T p m 0 None)) ≡ true
+    ends_it Plain unquoting = refl
+    ends_it Double unquoting = refl
+    ends_it Brace unquoting = absurd cc
+    ends_it DoubleBrace unquoting = absurd cc
+    ends_it Arith unquoting = absurd cc
+
+    by : (x : Option ℕ) → byte_at T p ≡ x
+        → (b : ℕ) × (byte_at T p ≡ Some b) × Begins (is_later edition) (at_end T (behind T p)) b
+        (byte_at T (behind T p)) mode piece
+    by None none =
+        let same : piece_in edition mode (piece_by T p mode 0 None) ≡ piece =
+        ap (λ y. piece_in edition mode (piece_by T p mode 0 y)) (sym none) ∙ is in
+        absurd (both_ways _ inner (sym (ap stands_alone same) ∙ ends_it mode read))
+    by (Some b) some = (b, some, begins edition T mode p b piece read some is)
+
+-- in double quotes a byte closes, too
+pub closer_there : (edition : Edition) (T : List ℕ) (p : ℕ)
+    → piece_by_edition edition T Double p ≡ pieces.Closer → byte_at T p ≡ Some 34
+unfolding piece_at
+closer_there edition T p is = by (byte_at T p) refl
+  where
+    quote_of : (later last : Bool) (b : ℕ) (x : Option ℕ) → Begins later last b x Double pieces.Closer
+        → b ≡ 34
+    quote_of later last b x (closes e) = e
+
+    by : (x : Option ℕ) → byte_at T p ≡ x → byte_at T p ≡ Some 34
+    by None none =
+        let same : pieces.Missing ≡ pieces.Closer =
+        ap (λ y. piece_in edition Double (piece_by T p Double 0 y)) (sym none) ∙ is in
+        absurd cc
+    by (Some b) some =
+        some
+        ∙ ap (λ (n : ℕ). Some n) (quote_of _ _ b _ (begins edition T Double p b pieces.Closer refl some is))

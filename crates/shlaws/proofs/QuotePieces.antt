@@ -1,0 +1,233 @@
+-- What the pieces of a word leave is what is left byte by byte.
+use Rattle.std.proofs.Common.{◌≡◌, ℕ, ◌+◌, ◌≤◌, Bool, true, false, List, [], ◌∷◌, length, drop, slice_get}
+use Rattle.std.proofs.Common.{Option, Some, refl, sym, ap, subst, ◌∙◌, arith, append-nil}
+use Rattle.std.specs.Prelude.{◌&&◌}
+use Rattle.std.proofs.lemmas.List.{drop_all}
+use Rattle.std.proofs.lemmas.Option.{slice_get_within}
+use Rattle.shgrammar.specs.declared.edition.Edition.{Edition}
+use Rattle.shgrammar.specs.declared.mode.Mode.{Mode}
+use Rattle.shgrammar.specs.declared.mode.Mode.TheVariants.{Plain, Double, Brace, DoubleBrace, Arith}
+use Rattle.shgrammar.specs.declared.mode.Piece.TheVariants as pieces
+use Rattle.shgrammar.specs.Bytes.{behind, byte_at, past_continuations}
+use Rattle.shgrammar.specs.Form.{raw}
+use Rattle.shgrammar.specs.HereDocuments.{delimiter_in, has_dollar_single, in_double, is_quoted, not_quoted}
+use Rattle.shgrammar.specs.HereDocuments.{unquoted}
+use Rattle.shgrammar.specs.Pieces.{next_quote, past_closer}
+use Rattle.shgrammar.specs.Standing.{at_end}
+use Rattle.shgrammar.specs.Tokens.{is_later}
+use Rattle.shgrammar.proofs.Places.{behind_high, behind_low, next_of_low, not_end_low}
+use Rattle.shgrammar.proofs.Stretches.{place_low}
+use Rattle.shlaws.specs.Quotes.{Leaves, double, ended, escape, escape_leaves, ordinary, pid, piece_by_edition}
+use Rattle.shlaws.specs.Quotes.{single}
+use Rattle.shlaws.proofs.PieceBytes.{Begins, another, begins, byte_there, closer_there, dollar, dollars}
+use Rattle.shlaws.proofs.PieceBytes.{double_quote, escapes, is_unquoted, quote, quoting_in}
+use Rattle.shlaws.proofs.QuoteSteps.{Leads, another_leads, closer_leads, dollar_leads, double_leads}
+use Rattle.shlaws.proofs.QuoteSteps.{escape_leads, leads_nowhere, leads_on, pid_leads, single_leads}
+
+module _ (later : Bool) (W : List ℕ) where
+  pub ordinary_leads : (mode : Mode) (p b : ℕ) (last : Bool) → byte_at W p ≡ Some b
+      → Begins later last b (byte_at W (behind W p)) mode pieces.Ordinary
+      → Leads later W (quoting_in mode) p (b ∷ []) (quoting_in mode) (behind W p)
+  ordinary_leads mode p b last byte (dollar is no_dollar no_open no_brace no_quote) =
+      subst (λ (c : ℕ). Leads later W (quoting_in mode) p (c ∷ []) (quoting_in mode) (behind W p)) (sym is)
+      (dollar_leads later W mode p (byte ∙ ap (λ (n : ℕ). Some n) is) no_dollar no_open no_brace no_quote)
+  ordinary_leads mode p b last byte (another no_backslash no_tick no_dollar no_quote) =
+      another_leads later W mode p b byte no_backslash no_tick no_dollar no_quote
+
+pub escape_of : (later last : Bool) (b : ℕ) (x : Option ℕ) (mode : Mode)
+    → Begins later last b x mode pieces.Escape → (b ≡ 92) × (last ≡ false)
+escape_of later last b x mode (escapes is more) = (is, more)
+
+pub pid_of : (later last : Bool) (b : ℕ) (x : Option ℕ) (mode : Mode) → Begins later last b x mode pieces.Pid
+    → (b ≡ 36) × (x ≡ Some 36)
+pid_of later last b x mode (dollars is next) = (is, next)
+
+pub single_of : (later last : Bool) (b : ℕ) (x : Option ℕ) (mode : Mode)
+    → Begins later last b x mode pieces.Single → (b ≡ 39) × (mode ≡ Plain)
+single_of later last b x mode (quote is) = (is, refl)
+
+pub double_of : (later last : Bool) (b : ℕ) (x : Option ℕ) (mode : Mode)
+    → Begins later last b x mode pieces.Double → (b ≡ 34) × (mode ≡ Plain)
+double_of later last b x mode (double_quote is) = (is, refl)
+
+some_is : (o : Option ℕ) (b c : ℕ) → o ≡ Some b → b ≡ c → o ≡ Some c
+some_is o b c is same = is ∙ ap (λ (n : ℕ). Some n) same
+
+module _ (edition : Edition) (W : List ℕ) where
+  later : Bool
+  later = is_later edition
+
+  abbrev At : Mode → ℕ → List ℕ → Mode → ℕ → Type 0
+  At mode p text m q = Leads (is_later edition) W (quoting_in mode) p text (quoting_in m) q
+
+  -- ---- each piece leads on
+
+  pub byte_leads : (mode : Mode) (p b : ℕ) → is_unquoted mode ≡ true
+      → piece_by_edition edition W mode p ≡ pieces.Ordinary → byte_at W p ≡ Some b
+      → At mode p (b ∷ []) mode (behind W p)
+  byte_leads mode p b read is byte =
+      ordinary_leads (is_later edition) W mode p b _ byte
+      (begins edition W mode p b pieces.Ordinary read byte is)
+
+  pub both_leads : (mode : Mode) (p : ℕ) → is_unquoted mode ≡ true
+      → piece_by_edition edition W mode p ≡ pieces.Pid → At mode p (36 ∷ 36 ∷ []) mode (behind W (behind W p))
+  both_leads mode p read is =
+      let there = byte_there edition W mode p pieces.Pid read is refl in
+      let one = pid_of _ _ there.0 _ mode there.2 in
+      pid_leads (is_later edition) W mode p (some_is (byte_at W p) there.0 36 there.1 one.0) one.1
+
+  pub backslash_there : (mode : Mode) (p : ℕ) → is_unquoted mode ≡ true
+      → piece_by_edition edition W mode p ≡ pieces.Escape
+      → (byte_at W p ≡ Some 92) × (at_end W (behind W p) ≡ false)
+  backslash_there mode p read is =
+      let there = byte_there edition W mode p pieces.Escape read is refl in
+      let one = escape_of _ _ there.0 _ mode there.2 in
+      (some_is (byte_at W p) there.0 92 there.1 one.0, one.1)
+
+  pub quote_there : (mode : Mode) (p : ℕ) → is_unquoted mode ≡ true
+      → piece_by_edition edition W mode p ≡ pieces.Single → (byte_at W p ≡ Some 39) × (mode ≡ Plain)
+  quote_there mode p read is =
+      let there = byte_there edition W mode p pieces.Single read is refl in
+      let one = single_of _ _ there.0 _ mode there.2 in
+      (some_is (byte_at W p) there.0 39 there.1 one.0, one.1)
+
+  pub double_there : (mode : Mode) (p : ℕ) → is_unquoted mode ≡ true
+      → piece_by_edition edition W mode p ≡ pieces.Double → (byte_at W p ≡ Some 34) × (mode ≡ Plain)
+  double_there mode p read is =
+      let there = byte_there edition W mode p pieces.Double read is refl in
+      let one = double_of _ _ there.0 _ mode there.2 in
+      (some_is (byte_at W p) there.0 34 there.1 one.0, one.1)
+
+  pub taken_leads : (mode : Mode) (p c : ℕ) → is_unquoted mode ≡ true
+      → piece_by_edition edition W mode p ≡ pieces.Escape → slice_get W (past_continuations W p + 1) ≡ Some c
+      → At mode p (escape_leaves mode c) mode (past_continuations W p + 2)
+  taken_leads mode p c read is next =
+      escape_leads (is_later edition) W mode p c read (backslash_there mode p read is).0 next
+
+  pub quoted_leads : (mode : Mode) (p : ℕ) → is_unquoted mode ≡ true
+      → piece_by_edition edition W mode p ≡ pieces.Single → at_end W (next_quote W (behind W p)) ≡ false
+      → At mode p (raw W (behind W p) (next_quote W (behind W p))) mode (next_quote W (behind W p) + 1)
+  quoted_leads mode p read is more =
+      let there = quote_there mode p read is in
+      subst (λ (m : Mode). At m p (raw W (behind W p) (next_quote W (behind W p))) m
+      (next_quote W (behind W p) + 1)) (sym there.1) (single_leads (is_later edition) W p there.0 more)
+
+  pub opened_leads : (mode : Mode) (p : ℕ) → is_unquoted mode ≡ true
+      → piece_by_edition edition W mode p ≡ pieces.Double → At mode p [] Double (behind W p)
+  opened_leads mode p read is =
+      let there = double_there mode p read is in
+      subst (λ (m : Mode). At m p [] Double (behind W p)) (sym there.1)
+      (double_leads (is_later edition) W p there.0)
+
+  ended_leads : (mode : Mode) (p : ℕ) → is_unquoted mode ≡ true
+      → piece_by_edition edition W mode p ≡ pieces.Closer → At mode p [] Plain (past_closer W mode p)
+  ended_leads Plain p read is = leads_nowhere (is_later edition) W not_quoted p
+  ended_leads Double p read is = closer_leads (is_later edition) W p (closer_there edition W p is)
+  ended_leads Brace p read is = absurd cc
+  ended_leads DoubleBrace p read is = absurd cc
+  ended_leads Arith p read is = absurd cc
+
+  -- ---- all of them
+
+  pub walk : (mode : Mode) (p q : ℕ) (text : List ℕ) → is_unquoted mode ≡ true
+      → Leaves edition W mode p q text → At mode p text Plain q
+  walk mode p q text read (ended is) = ended_leads mode p read is
+  walk mode p q text read (ordinary {left = left} b is byte rest) =
+      leads_on (is_later edition) W (quoting_in mode) (quoting_in mode) not_quoted p (behind W p) q
+      (b ∷ []) left (byte_leads mode p b read is byte) (walk mode (behind W p) q left read rest)
+  walk mode p q text read (pid {left = left} is rest) =
+      leads_on (is_later edition) W (quoting_in mode) (quoting_in mode) not_quoted p (behind W (behind W p)) q
+      (36 ∷ 36 ∷ []) left (both_leads mode p read is) (walk mode (behind W (behind W p)) q left read rest)
+  walk mode p q text read (escape {left = left} c is next rest) =
+      leads_on (is_later edition) W (quoting_in mode) (quoting_in mode) not_quoted p
+      (past_continuations W p + 2) q (escape_leaves mode c) left (taken_leads mode p c read is next)
+      (walk mode (past_continuations W p + 2) q left read rest)
+  walk mode p q text read (single {left = left} is more rest) =
+      leads_on (is_later edition) W (quoting_in mode) (quoting_in mode) not_quoted p
+      (next_quote W (behind W p) + 1) q (raw W (behind W p) (next_quote W (behind W p))) left
+      (quoted_leads mode p read is more)
+      (walk mode (next_quote W (behind W p) + 1) q left read rest)
+  walk mode p q text read (double {m = m} {inside = inside} {left = left} is held rest) =
+      let plain = (double_there mode p read is).1 in
+      let one : At mode p inside Plain m =
+      leads_on (is_later edition) W (quoting_in mode) in_double not_quoted p (behind W p) m [] inside
+      (opened_leads mode p read is) (walk Double (behind W p) m inside refl held) in
+      let two : At mode m left Plain q = walk mode m q left read rest in
+      leads_on (is_later edition) W (quoting_in mode) not_quoted not_quoted p m q inside left one
+      (subst (λ (n : Mode). At n m left Plain q) plain two)
+
+  -- ---- how far they go
+
+  within_byte : (p b : ℕ) → byte_at W p ≡ Some b → behind W p ≤ length W
+  within_byte p b is = behind_high W p (slice_get_within W (past_continuations W p) b is)
+
+  closer_far : (mode : Mode) (p : ℕ) → is_unquoted mode ≡ true
+      → piece_by_edition edition W mode p ≡ pieces.Closer → p ≤ length W
+      → (p ≤ past_closer W mode p) × (past_closer W mode p ≤ length W)
+  closer_far Plain p read is within = (omega arith, within)
+  closer_far Double p read is within =
+      (omega (arith, behind_low W p), within_byte p 34 (closer_there edition W p is))
+  closer_far Brace p read is within = absurd cc
+  closer_far DoubleBrace p read is within = absurd cc
+  closer_far Arith p read is within = absurd cc
+
+  pub pid_within : (mode : Mode) (p : ℕ) → is_unquoted mode ≡ true
+      → piece_by_edition edition W mode p ≡ pieces.Pid → behind W (behind W p) ≤ length W
+  pid_within mode p read is =
+      let there = byte_there edition W mode p pieces.Pid read is refl in
+      within_byte (behind W p) 36 (pid_of _ _ there.0 _ mode there.2).1
+
+  pub far : (mode : Mode) (p q : ℕ) (text : List ℕ) → is_unquoted mode ≡ true → Leaves edition W mode p q text
+      → p ≤ length W → (p ≤ q) × (q ≤ length W)
+  far mode p q text read (ended is) within = closer_far mode p read is within
+  far mode p q text read (ordinary {left = left} b is byte rest) within =
+      let r = far mode (behind W p) q left read rest (within_byte p b byte) in
+      (omega (arith, r.0, behind_low W p), r.1)
+  far mode p q text read (pid {left = left} is rest) within =
+      let r = far mode (behind W (behind W p)) q left read rest (pid_within mode p read is) in
+      (omega (arith, r.0, behind_low W p, behind_low W (behind W p)), r.1)
+  far mode p q text read (escape {left = left} c is next rest) within =
+      let lt = slice_get_within W (past_continuations W p + 1) c next in
+      let r = far mode (past_continuations W p + 2) q left read rest (omega (arith, lt)) in
+      (omega (arith, r.0, place_low W p), r.1)
+  far mode p q text read (single {left = left} is more rest) within =
+      let lt = not_end_low W (next_quote W (behind W p)) more in
+      let r = far mode (next_quote W (behind W p) + 1) q left read rest (omega (arith, lt)) in
+      (omega (arith, r.0, behind_low W p, next_of_low 39 W (behind W p)), r.1)
+  far mode p q text read (double {m = m} {inside = inside} {left = left} is held rest) within =
+      let there = double_there mode p read is in
+      let one = far Double (behind W p) m inside refl held (within_byte p 34 there.0) in
+      let two = far mode m q left read rest one.1 in
+      (omega (arith, one.0, two.0, behind_low W p), two.1)
+
+  -- ---- the whole word
+
+  pub left_all : (q : ℕ) (left : List ℕ) → length W ≤ q → Leaves edition W Plain 0 q left
+      → unquoted not_quoted false W ≡ Some left
+  unfolding unquoted
+  left_all q left end leaves =
+      let lead = walk Plain 0 q left refl leaves in
+      let none : unquoted not_quoted false (drop q W) ≡ Some [] =
+      ap (unquoted not_quoted false) (drop_all q W end) in
+      lead.left ∙ ap (Rattle.shgrammar.specs.Unquoting.left_of left) none
+      ∙ ap (λ (l : List ℕ). Some l) (append-nil left)
+
+  none_found : (q : ℕ) (left : List ℕ) → length W ≤ q → Leaves edition W Plain 0 q left
+      → is_later edition ≡ true → has_dollar_single not_quoted false W ≡ false
+  unfolding has_dollar_single
+  none_found q left end leaves newer =
+      let lead = walk Plain 0 q left refl leaves in
+      lead.found newer ∙ ap (has_dollar_single not_quoted false) (drop_all q W end)
+
+  pub word_is : (left : List ℕ) → Leaves edition W Plain 0 (length W) left
+      → delimiter_in edition W ≡ Some (record { text = left; literal = is_quoted W })
+  word_is left leaves =
+      let text = left_all (length W) left (omega arith) leaves in
+      let none : (is_later edition && has_dollar_single not_quoted false W) ≡ false =
+      both (is_later edition) (none_found (length W) left (omega arith) leaves) in
+      rw (none, text) refl
+    where
+      both : (b : Bool) → (b ≡ true → has_dollar_single not_quoted false W ≡ false)
+          → (b && has_dollar_single not_quoted false W) ≡ false
+      both true h = h refl
+      both false h = refl

@@ -1,0 +1,494 @@
+-- A word that is read, and whose bytes are a delimiter, has only pieces that leave something.
+use Rattle.std.proofs.Common.{◌≡◌, ℕ, zero, suc, ◌+◌, ◌-◌, ◌<◌, ◌≤◌, Bool, true, false, cond, List}
+use Rattle.std.proofs.Common.{List as Row, [], length, take, drop, slice_get, get_or, Option, Some, None}
+use Rattle.std.proofs.Common.{is_some, option_map, Ok, Err, ⊎_elim, ◌∷◌, ◌++◌, refl, sym, ap, subst, ◌∙◌}
+use Rattle.std.proofs.Common.{arith, take-take, length-take}
+use Rattle.std.specs.Prelude.{◌&&◌, ◌||◌}
+use Rattle.std.proofs.lemmas.Bool.{both_ways, cases_lt, false_from_ne_true}
+use Rattle.std.proofs.lemmas.Option.{slice_get-get_or, slice_get_past, slice_get_within}
+use Rattle.shast.specs.Tree.{ASubst, AWord, substs_of, word}
+use Rattle.shast.specs.declared.tree.Span.{Span}
+use Rattle.shgrammar.specs.Comments.{span}
+use Rattle.shgrammar.specs.declared.edition.Edition.{Edition}
+use Rattle.shgrammar.specs.declared.fault.Fault.{Fault}
+use Rattle.shgrammar.specs.declared.fault.FaultKind.{FaultKind}
+use Rattle.shgrammar.specs.declared.fault.FaultKind.TheVariants.{LoneBackslash, TooDeep, UnclosedSingle}
+use Rattle.shgrammar.specs.declared.keep.Keep.TheVariants.{Whole}
+use Rattle.shgrammar.specs.declared.mode.Mode.{Mode}
+use Rattle.shgrammar.specs.declared.mode.Mode.TheVariants.{Plain, Double, Brace, DoubleBrace, Arith}
+use Rattle.shgrammar.specs.declared.mode.Piece.{Piece}
+use Rattle.shgrammar.specs.declared.mode.Piece.TheVariants as pieces
+use Rattle.shgrammar.specs.Bytes.{behind, byte_at, ends, ends_word, past_continuations, stands}
+use Rattle.shgrammar.specs.Form.{Read, Spelled, Step, again, does, many, may, raw, ◌▸◌}
+use Rattle.shgrammar.specs.HereDocuments.{ADelimiter, Quoting, delimiter_in, has_dollar_single, in_double}
+use Rattle.shgrammar.specs.HereDocuments.{is_quoted, not_quoted, unquoted}
+use Rattle.shgrammar.specs.Levels.{ReadsWord, level}
+use Rattle.shgrammar.specs.Pieces.{next_quote, past_closer, past_taken, piece_at, piece_in, unclosed}
+use Rattle.shgrammar.specs.Standing.{at_end, is_byte, raw_stands}
+use Rattle.shgrammar.specs.States.{Given, State, given, standing}
+use Rattle.shgrammar.specs.Tokens.{is_later}
+use Rattle.shgrammar.specs.Unquoting.{left_of}
+use Rattle.shgrammar.specs.Words.{Held, a_piece, a_word, contents, having, piece_row, single}
+use Rattle.shgrammar.proofs.Anywhere.{anywhere}
+use Rattle.shgrammar.proofs.Levels.{level_below, level_closed}
+use Rattle.shgrammar.proofs.OneOutcome.{is}
+use Rattle.shgrammar.proofs.Places.{behind_low, next_of_low, not_end_low, quote_clear}
+use Rattle.shgrammar.proofs.Stretches.{place_low}
+use Rattle.shgrammar.proofs.Turns.{many_again, many_done, turns_fault}
+use Rattle.shlaws.specs.Quotes.{Leaves, double, ended, escape, ordinary, pid, piece_by_edition}
+use Rattle.shlaws.specs.Quotes.{single as quoted}
+use Rattle.shlaws.proofs.PieceBytes.{Begins, another, arithmetic, backquote, byte_there, closes, dollar}
+use Rattle.shlaws.proofs.PieceBytes.{dollar_quote, dollars, double_quote, ends_here, escapes, is_unquoted}
+use Rattle.shlaws.proofs.PieceBytes.{lone, parameter, quote, quoting_in, stands_alone, substitution}
+use Rattle.shlaws.proofs.QuotePieces.{backslash_there, both_leads, byte_leads, double_there, far, left_all}
+use Rattle.shlaws.proofs.QuotePieces.{opened_leads, pid_within, quoted_leads, taken_leads, walk}
+use Rattle.shlaws.proofs.QuoteSteps.{Leads, backquote_none, dollar_quote_found, leads_on, opener_none}
+
+-- ---- what is not expanded
+
+-- from p on something is left, and no text in dollar-single quotes is found
+record Clear (later : Bool) (W : List ℕ) (q : Quoting) (p : ℕ) : Type 0 where
+  some : is_some (unquoted q false (drop p W)) ≡ true
+  none : later ≡ true → has_dollar_single q false (drop p W) ≡ false
+
+some_behind : (text : List ℕ) (left : Option (List ℕ)) → is_some (left_of text left) ≡ true
+    → is_some left ≡ true
+some_behind text None e = absurd cc
+some_behind text (Some bs) e = refl
+
+clear_on : (later : Bool) (W : List ℕ) (q r : Quoting) (p m : ℕ) (text : List ℕ) → Leads later W q p text r m
+    → Clear later W q p → Clear later W r m
+clear_on later W q r p m text leads clear = record {
+  some = some_behind text (unquoted r false (drop m W)) (sym (ap is_some leads.left) ∙ clear.some);
+  none = λ e. sym (leads.found e) ∙ clear.none e;
+}
+
+not_clear : (left : Option (List ℕ)) → is_some left ≡ true → left ≡ None → ⊥
+not_clear left some none = both_ways _ (ap is_some none) some
+
+-- ---- what begins the pieces that leave nothing
+
+backquote_of : (later last : Bool) (b : ℕ) (x : Option ℕ) (mode : Mode)
+    → Begins later last b x mode pieces.Backquote → b ≡ 96
+backquote_of later last b x mode (backquote is) = is
+
+parameter_of : (later last : Bool) (b : ℕ) (x : Option ℕ) (mode : Mode)
+    → Begins later last b x mode pieces.Param → (b ≡ 36) × (x ≡ Some 123)
+parameter_of later last b x mode (parameter is next) = (is, next)
+
+substitution_of : (later last : Bool) (b : ℕ) (x : Option ℕ) (mode : Mode)
+    → Begins later last b x mode pieces.Subst → (b ≡ 36) × (x ≡ Some 40)
+substitution_of later last b x mode (substitution is next) = (is, next)
+
+arithmetic_of : (later last : Bool) (b : ℕ) (x : Option ℕ) (mode : Mode)
+    → Begins later last b x mode pieces.Arith → (b ≡ 36) × (x ≡ Some 40)
+arithmetic_of later last b x mode (arithmetic is next) = (is, next)
+
+dollar_quote_of : (later last : Bool) (b : ℕ) (x : Option ℕ) (mode : Mode)
+    → Begins later last b x mode pieces.DollarSingle
+    → (b ≡ 36) × (x ≡ Some 39) × (later ≡ true) × (mode ≡ Plain)
+dollar_quote_of later last b x mode (dollar_quote is next newer) = (is, next, newer, refl)
+
+-- brackets of arithmetic
+abbrev is_bracket : Piece → Bool
+is_bracket pieces.Open = true
+is_bracket pieces.Close = true
+is_bracket pieces.BadClose = true
+is_bracket piece = false
+
+no_bracket : (later last : Bool) (b : ℕ) (x : Option ℕ) (mode : Mode) (z : Piece)
+    → Begins later last b x mode z → is_bracket z ≡ false
+no_bracket later last b x mode z lone = refl
+no_bracket later last b x mode z (escapes is more) = refl
+no_bracket later last b x mode z (backquote is) = refl
+no_bracket later last b x mode z (dollars is next) = refl
+no_bracket later last b x mode z (arithmetic is next) = refl
+no_bracket later last b x mode z (substitution is next) = refl
+no_bracket later last b x mode z (parameter is next) = refl
+no_bracket later last b x mode z (dollar_quote is next newer) = refl
+no_bracket later last b x mode z (dollar is one two three none) = refl
+no_bracket later last b x mode z (quote is) = refl
+no_bracket later last b x mode z (double_quote is) = refl
+no_bracket later last b x mode z (closes is) = refl
+no_bracket later last b x mode z (ends_here is) = refl
+no_bracket later last b x mode z (another one two three none) = refl
+
+-- ---- turns
+
+module _ (edition : Edition) (W : List ℕ) (o : ℕ) where
+  abbrev g : Given
+  g = given edition W o
+
+  abbrev one : ℕ → Mode → ℕ → Held → State → Read (Step Held)
+  one room mode b h s = does (a_piece (level room) mode b h) Whole g s
+
+  abbrev all : ℕ → Mode → ℕ → Held → State → Read Held
+  all room mode b h s = does (many (a_piece (level room) mode b) h) Whole g s
+
+  abbrev place : State → ℕ → State
+  place s p = record s { at = p }
+
+  nested_alike : (mode : Mode) (n p : ℕ) → is_unquoted mode ≡ true → piece_at W mode n p ≡ piece_at W mode 0 p
+  unfolding piece_at
+  nested_alike Plain n p read = refl
+  nested_alike Double n p read = refl
+  nested_alike Brace n p read = absurd cc
+  nested_alike DoubleBrace n p read = absurd cc
+  nested_alike Arith n p read = absurd cc
+
+  row_is : (room : ℕ) (mode : Mode) (b : ℕ) (h : Held) (s : State) (z : Piece) → is_unquoted mode ≡ true
+      → piece_by_edition edition W mode s.at ≡ z
+      → one room mode b h s ≡ does (piece_row (level room) mode b h z) Whole g s
+  unfolding a_piece
+  row_is room mode b h s z read is =
+      ap (λ y. does (piece_row (level room) mode b h y) Whole g s)
+      (ap (piece_in edition mode) (nested_alike mode h.nested s.at read) ∙ is)
+
+  fails : (room : ℕ) (mode : Mode) (b : ℕ) (h h2 : Held) (s t : State) (f : Fault)
+      → one room mode b h s ≡ Err f → all room mode b h s ≡ Ok (h2, t) → ⊥
+  unfolding many
+  fails room mode b h h2 s t f one_is whole =
+      let no : ◌≡◌ {A = Read Held} (Err f) (Ok (h2, t)) =
+      sym (turns_fault g (λ a u. one room mode b a u) h s f one_is) ∙ whole in
+      absurd cc
+
+  abbrev Goes : Mode → ℕ → ℕ → Type 0
+  Goes mode p q = (text : List ℕ) × Leaves edition W mode p q text
+
+  abbrev Finds : ℕ → Type 0
+  Finds n =
+      (room : ℕ) (mode : Mode) (b : ℕ) (h h2 : Held) (s t : State) → is_unquoted mode ≡ true
+      → length W - s.at < n → s.at ≤ length W → Clear (is_later edition) W (quoting_in mode) s.at
+      → all room mode b h s ≡ Ok (h2, t) → Goes mode s.at t.at
+
+  module _ (n : ℕ) (finds : Finds n) (room : ℕ) (mode : Mode) (b : ℕ) (h h2 : Held) (s t : State)
+      (read : is_unquoted mode ≡ true) (few : length W - s.at < suc n) (within : s.at ≤ length W)
+      (clear : Clear (is_later edition) W (quoting_in mode) s.at)
+      (whole : all room mode b h s ≡ Ok (h2, t)) where
+    abbrev Is : Piece → Type 0
+    Is z = piece_by_edition edition W mode s.at ≡ z
+
+    -- a turn that leads on
+    goes_on : (h1 : Held) (u : State) (text : List ℕ) → one room mode b h s ≡ Ok (again h1, u) → s.at < u.at
+        → u.at ≤ length W
+        → Leads (is_later edition) W (quoting_in mode) s.at text (quoting_in mode) u.at → Goes mode u.at t.at
+    goes_on h1 u text turn onward inside leads =
+        finds room mode b h1 h2 u t read (omega (arith, few, onward, inside)) inside
+        (clear_on (is_later edition) W (quoting_in mode) (quoting_in mode) s.at u.at text leads clear)
+        (sym (many_again (a_piece (level room) mode b) Whole g h h1 s u turn onward inside) ∙ whole)
+
+    abbrev turned : Held → State → Read (Step Held)
+    turned h1 u = Ok (again h1, u)
+
+    byte_within : (p c : ℕ) → byte_at W p ≡ Some c → behind W p ≤ length W
+    unfolding behind
+    byte_within p c is = let lt = slice_get_within W (past_continuations W p) c is in omega (arith, lt)
+
+    closes_here : Is pieces.Closer → Goes mode s.at t.at
+    closes_here is =
+        let last =
+        many_done (a_piece (level room) mode b) Whole g h h s (place s (past_closer W mode s.at))
+        (row_is room mode b h s pieces.Closer read is) in
+        let same : ◌≡◌ {A = Read Held} (Ok (h, place s (past_closer W mode s.at))) (Ok (h2, t)) =
+        sym last ∙ whole in
+        let pair : ◌≡◌ {A = Held × State} (h, place s (past_closer W mode s.at)) (h2, t) = cc in
+        let at : past_closer W mode s.at ≡ t.at = ap (λ (z : Held × State). z.1.at) pair in
+        subst (λ (q : ℕ). Goes mode s.at q) at ([], ended is)
+
+    ordinary_here : Is pieces.Ordinary → Goes mode s.at t.at
+    ordinary_here is =
+        let there = byte_there edition W mode s.at pieces.Ordinary read is refl in
+        let rest =
+        goes_on h (place s (behind W s.at)) _ (row_is room mode b h s pieces.Ordinary read is)
+        (behind_low W s.at) (byte_within s.at there.0 there.1)
+        (byte_leads edition W mode s.at there.0 read is there.1) in
+        (_, ordinary there.0 is there.1 rest.1)
+
+    pid_here : Is pieces.Pid → Goes mode s.at t.at
+    pid_here is =
+        let rest =
+        goes_on h (place s (behind W (behind W s.at))) _ (row_is room mode b h s pieces.Pid read is)
+        (omega (arith, behind_low W s.at, behind_low W (behind W s.at)))
+        (pid_within edition W mode s.at read is) (both_leads edition W mode s.at read is) in
+        (_, pid is rest.1)
+
+    -- the byte behind a backslash
+    taken_there : at_end W (behind W s.at) ≡ false
+        → slice_get W (past_continuations W s.at + 1) ≡ Some (get_or W (past_continuations W s.at + 1) 0)
+    unfolding behind
+    taken_there more =
+        slice_get-get_or W (past_continuations W s.at + 1) 0
+        (not_end_low W (past_continuations W s.at + 1) more)
+
+    taken_at : byte_at W s.at ≡ Some 92
+        → past_taken W (past_continuations W s.at) ≡ past_continuations W s.at + 2
+    unfolding past_taken raw_stands
+    taken_at is = rw is refl
+
+    escape_here : Is pieces.Escape → Goes mode s.at t.at
+    escape_here is =
+        let p = past_continuations W s.at in
+        let there = backslash_there edition W mode s.at read is in
+        let next = taken_there there.1 in
+        let lt = slice_get_within W (p + 1) _ next in
+        let turn =
+        row_is room mode b h s pieces.Escape read is
+        ∙ ap (λ (q : ℕ). turned h (place s q)) (taken_at there.0) in
+        let rest =
+        goes_on h (place s (p + 2)) _ turn (omega (arith, place_low W s.at)) (omega (arith, lt))
+        (taken_leads edition W mode s.at (get_or W (p + 1) 0) read is next) in
+        (_, escape (get_or W (p + 1) 0) is next rest.1)
+
+    single_turn : at_end W (next_quote W (behind W s.at)) ≡ false
+        → does (piece_row (level room) mode b h pieces.Single) Whole g s
+        ≡ turned h (place s (past_taken W (next_quote W (behind W s.at))))
+    unfolding single
+    single_turn more = rw more refl
+
+    abbrev fault_here : FaultKind → Fault
+    fault_here kind = record { kind = kind; at = o + past_continuations W s.at }
+
+    single_fails : at_end W (next_quote W (behind W s.at)) ≡ true
+        → does (piece_row (level room) mode b h pieces.Single) Whole g s ≡ Err (fault_here UnclosedSingle)
+    unfolding single
+    single_fails end = rw end refl
+
+    quote_at : past_taken W (next_quote W (behind W s.at)) ≡ next_quote W (behind W s.at) + 1
+    unfolding past_taken
+    quote_at = rw (quote_clear W (behind W s.at)) refl
+
+    single_here : Is pieces.Single → Goes mode s.at t.at
+    single_here is =
+        let e = next_quote W (behind W s.at) in
+        let more : at_end W e ≡ false =
+        false_from_ne_true (at_end W e)
+        (λ end. fails room mode b h h2 s t (fault_here UnclosedSingle)
+        (row_is room mode b h s pieces.Single read is ∙ single_fails end) whole) in
+        let turn =
+        row_is room mode b h s pieces.Single read is ∙ single_turn more
+        ∙ ap (λ (q : ℕ). turned h (place s q)) quote_at in
+        let lt = not_end_low W e more in
+        let rest =
+        goes_on h (place s (e + 1)) _ turn
+        (omega (arith, behind_low W s.at, next_of_low 39 W (behind W s.at))) (omega (arith, lt))
+        (quoted_leads edition W mode s.at read is more) in
+        (_, quoted is more rest.1)
+
+    -- ---- double quotes
+
+    abbrev inside_at : State
+    inside_at = place s (behind W s.at)
+
+    abbrev held_by : Read Held → Read (Step Held)
+    held_by x = x ▸ (λ k u. Ok (k.substs, u)) ▸ (λ ss u. Ok (again (having h.nested ss), u))
+
+    double_turn : 0 < room
+        → does (piece_row (level room) mode b h pieces.Double) Whole g s ≡ held_by
+        (all (room - 1) Double (o + past_continuations W s.at) (having 0 h.substs) inside_at)
+    unfolding contents
+    double_turn some =
+        ap (λ x. x ▸ λ ss u. Ok (again (having h.nested ss), u))
+        (level_below Whole g inside_at room Double (o + past_continuations W s.at) h.substs some)
+
+    double_closed : room ≡ 0
+        → does (piece_row (level room) mode b h pieces.Double) Whole g s ≡ Err (fault_here TooDeep)
+    double_closed none =
+        ap (λ x. x ▸ λ ss u. Ok (again (having h.nested ss), u))
+        (level_closed Whole g inside_at room Double (o + past_continuations W s.at) h.substs none)
+
+    double_by : Is pieces.Double → 0 < room → (x : Read Held)
+        → all (room - 1) Double (o + past_continuations W s.at) (having 0 h.substs) inside_at ≡ x
+        → Goes mode s.at t.at
+    double_by is some (Err f) inner =
+        absurd (fails room mode b h h2 s t f
+        (row_is room mode b h s pieces.Double read is ∙ double_turn some ∙ ap held_by inner) whole)
+    double_by is some (Ok (k, u)) inner =
+        let there = double_there edition W mode s.at read is in
+        let near = byte_within s.at 34 there.0 in
+        let opens = opened_leads edition W mode s.at read is in
+        let held =
+        finds (room - 1) Double (o + past_continuations W s.at) (having 0 h.substs) k inside_at u refl
+        (omega (arith, few, near, behind_low W s.at)) near
+        (clear_on (is_later edition) W (quoting_in mode) in_double s.at (behind W s.at) [] opens clear)
+        inner in
+        let bounds = far edition W Double (behind W s.at) u.at held.0 refl held.1 near in
+        let turn = row_is room mode b h s pieces.Double read is ∙ double_turn some ∙ ap held_by inner in
+        let plain : not_quoted ≡ quoting_in mode = sym (ap quoting_in there.1) in
+        let leads =
+        leads_on (is_later edition) W (quoting_in mode) in_double not_quoted s.at (behind W s.at) u.at
+        [] held.0 opens (walk edition W Double (behind W s.at) u.at held.0 refl held.1) in
+        let rest =
+        goes_on (having h.nested k.substs) u held.0 turn (omega (arith, bounds.0, behind_low W s.at)) bounds.1
+        (subst (λ (r : Quoting). Leads (is_later edition) W (quoting_in mode) s.at held.0 r u.at) plain leads)
+        in
+        (held.0 ++ rest.0, double {inside = held.0} {left = rest.0} is held.1 rest.1)
+
+    double_here : Is pieces.Double → Goes mode s.at t.at
+    double_here is =
+        ⊎_elim (λ (some : 0 < room). double_by is some _ refl)
+        (λ (none : room ≤ 0). absurd (fails room mode b h h2 s t (fault_here TooDeep)
+        (row_is room mode b h s pieces.Double read is ∙ double_closed (omega arith)) whole))
+        (cases_lt 0 room)
+
+    -- ---- pieces that no delimiter has
+
+    backquote_here : Is pieces.Backquote → ⊥
+    backquote_here is =
+        let there = byte_there edition W mode s.at pieces.Backquote read is refl in
+        not_clear _ clear.some
+        (backquote_none (is_later edition) W mode s.at
+        (there.1 ∙ ap (λ (c : ℕ). Some c) (backquote_of _ _ there.0 _ mode there.2)))
+
+    opener_here : (c d : ℕ) → c ≡ 36 → byte_at W s.at ≡ Some c → byte_at W (behind W s.at) ≡ Some d
+        → (is_byte (Some d) 40 || is_byte (Some d) 123) ≡ true → ⊥
+    opener_here c d same byte next opens =
+        not_clear _ clear.some
+        (opener_none (is_later edition) W mode s.at (byte ∙ ap (λ (x : ℕ). Some x) same)
+        (ap (λ y. is_byte y 40 || is_byte y 123) next ∙ opens))
+
+    parameter_here : Is pieces.Param → ⊥
+    parameter_here is =
+        let there = byte_there edition W mode s.at pieces.Param read is refl in
+        let begun = parameter_of _ _ there.0 _ mode there.2 in
+        opener_here there.0 123 begun.0 there.1 begun.1 refl
+
+    substitution_here : Is pieces.Subst → ⊥
+    substitution_here is =
+        let there = byte_there edition W mode s.at pieces.Subst read is refl in
+        let begun = substitution_of _ _ there.0 _ mode there.2 in
+        opener_here there.0 40 begun.0 there.1 begun.1 refl
+
+    arithmetic_here : Is pieces.Arith → ⊥
+    arithmetic_here is =
+        let there = byte_there edition W mode s.at pieces.Arith read is refl in
+        let begun = arithmetic_of _ _ there.0 _ mode there.2 in
+        opener_here there.0 40 begun.0 there.1 begun.1 refl
+
+    dollar_quote_here : Is pieces.DollarSingle → ⊥
+    dollar_quote_here is =
+        let there = byte_there edition W mode s.at pieces.DollarSingle read is refl in
+        let begun = dollar_quote_of _ _ there.0 _ mode there.2 in
+        let found =
+        dollar_quote_found (is_later edition) W s.at (there.1 ∙ ap (λ (x : ℕ). Some x) begun.0) begun.1 in
+        let none =
+        subst (λ (m : Mode). has_dollar_single (quoting_in m) false (drop s.at W) ≡ false) begun.3
+        (clear.none begun.2) in
+        both_ways _ none found
+
+    bracket_here : (z : Piece) → stands_alone z ≡ false → is_bracket z ≡ true → Is z → ⊥
+    bracket_here z inner is_one is =
+        let there = byte_there edition W mode s.at z read is inner in
+        both_ways _ (no_bracket _ _ there.0 _ mode z there.2) is_one
+
+    by_piece : (z : Piece) → Is z → Goes mode s.at t.at
+    by_piece pieces.Closer is = closes_here is
+    by_piece pieces.Missing is =
+        absurd (fails room mode b h h2 s t (record { kind = unclosed mode; at = b })
+        (row_is room mode b h s pieces.Missing read is) whole)
+    by_piece pieces.LoneBackslash is =
+        absurd (fails room mode b h h2 s t (fault_here LoneBackslash)
+        (row_is room mode b h s pieces.LoneBackslash read is) whole)
+    by_piece pieces.Escape is = escape_here is
+    by_piece pieces.Single is = single_here is
+    by_piece pieces.DollarSingle is = absurd (dollar_quote_here is)
+    by_piece pieces.Double is = double_here is
+    by_piece pieces.Backquote is = absurd (backquote_here is)
+    by_piece pieces.Pid is = pid_here is
+    by_piece pieces.Subst is = absurd (substitution_here is)
+    by_piece pieces.Arith is = absurd (arithmetic_here is)
+    by_piece pieces.Param is = absurd (parameter_here is)
+    by_piece pieces.Open is = absurd (bracket_here pieces.Open refl refl is)
+    by_piece pieces.Close is = absurd (bracket_here pieces.Close refl refl is)
+    by_piece pieces.BadClose is = absurd (bracket_here pieces.BadClose refl refl is)
+    by_piece pieces.Ordinary is = ordinary_here is
+
+  find : (n : ℕ) → Finds n
+  find zero room mode b h h2 s t read few within clear whole = absurd (omega arith)
+  find (suc n) room mode b h h2 s t read few within clear whole =
+      by_piece n (find n) room mode b h h2 s t read few within clear whole
+      (piece_by_edition edition W mode s.at) refl
+
+  -- ---- the word
+
+  abbrev with_span : Row ASubst → State → Read (Row ASubst × Span)
+  with_span ss u = Ok ((ss, span o 0 u.at), u)
+
+  abbrev word_by : Read Held → Read AWord
+  word_by x = x ▸ (λ k u. Ok (k.substs, u)) ▸ with_span ▸ (λ y u. Ok (word y.1 (substs_of y.0), u))
+
+  abbrev pieces_by : ℕ → Read Held
+  pieces_by room = all room Plain (o + 0) (having 0 []) (standing 0)
+
+  word_is : (room : ℕ) → does (a_word (level room)) Whole g (standing 0) ≡ word_by (pieces_by room)
+  unfolding a_word contents
+  word_is room = refl
+
+  word_goes : (room n : ℕ) (w : AWord) (told : Row Spelled)
+      → may (a_word (level room)) g (standing 0) (Ok (w, standing n)) told
+      → Clear (is_later edition) W not_quoted 0 → Goes Plain 0 n
+  word_goes room n w told part clear = by (pieces_by room) refl
+    where
+      read : ◌≡◌ {A = Read AWord} (Ok (w, standing n)) (word_by (pieces_by room))
+      read = (is (a_word (level room)) g (standing 0)).only _ _ part ∙ word_is room
+
+      by : (x : Read Held) → pieces_by room ≡ x → Goes Plain 0 n
+      by (Err f) whole =
+          let no : ◌≡◌ {A = Read AWord} (Ok (w, standing n)) (Err f) = read ∙ ap word_by whole in
+          absurd cc
+      by (Ok (k, u)) whole =
+          let v : AWord = word (span o 0 u.at) (substs_of k.substs) in
+          let same : ◌≡◌ {A = Read AWord} (Ok (w, standing n)) (Ok (v, u)) = read ∙ ap word_by whole in
+          let pair : ◌≡◌ {A = AWord × State} (w, standing n) (v, u) = cc in
+          let at : n ≡ u.at = ap (λ (z : AWord × State). z.1.at) pair in
+          let goes = find (suc (length W)) room Plain (o + 0) (having 0 []) k (standing 0) u refl
+          (omega arith) (omega arith) clear whole in
+          subst (λ (q : ℕ). Goes Plain 0 q) (sym at) goes
+
+-- ---- by its own bytes
+
+word_alone : (room p n : ℕ) (g : Given) → ReadsWord room g p n
+    → ReadsWord room (given g.edition (raw g.text p (p + n)) 0) 0 n
+unfolding ends_word stands
+word_alone room p n g read =
+    let W = raw g.text p (p + n) in
+    let width : p + n - p ≡ n = omega arith in
+    let same : take n W ≡ take n (drop p g.text) =
+    ap (λ k. take n (take k (drop p g.text))) width ∙ take-take n n (drop p g.text) (omega arith) in
+    let short : length W ≤ n = omega (arith, length-take (p + n - p) (drop p g.text)) in
+    let none : byte_at W (0 + n) ≡ None =
+    slice_get_past W (past_continuations W (0 + n)) (omega (arith, short, place_low W (0 + n))) in
+    anywhere room g (given g.edition W 0) p 0 n read same (ap ends none) (ap (λ y. is_byte y 40) none)
+
+clear_from : (later : Bool) (found : Bool) (text : Option (List ℕ)) (literal : Bool) (d : ADelimiter)
+    → cond (later && found) None (option_map (λ l. record { text = l; literal = literal }) text) ≡ Some d
+    → (text ≡ Some d.text) × (later ≡ true → found ≡ false)
+clear_from true true text literal d is = absurd cc
+clear_from true false None literal d is = absurd cc
+clear_from true false (Some l) literal d is =
+    let same : record { text = l; literal = literal } ≡ d = cc in
+    (ap (λ (x : ADelimiter). Some x.text) same, λ e. refl)
+clear_from false found None literal d is = absurd cc
+clear_from false found (Some l) literal d is =
+    let same : record { text = l; literal = literal } ≡ d = cc in
+    (ap (λ (x : ADelimiter). Some x.text) same, λ e. absurd cc)
+
+pub word_leaves : (room p n : ℕ) (g : Given) (d : ADelimiter) → ReadsWord room g p n
+    → delimiter_in g.edition (raw g.text p (p + n)) ≡ Some d
+    → Leaves g.edition (raw g.text p (p + n)) Plain 0 n d.text
+word_leaves room p n g d read is =
+    let W = raw g.text p (p + n) in
+    let parts =
+    clear_from (is_later g.edition) (has_dollar_single not_quoted false W) (unquoted not_quoted false W)
+    (is_quoted W) d is in
+    let clear : Clear (is_later g.edition) W not_quoted 0 =
+    record { some = ap is_some parts.0; none = parts.1 } in
+    let alone = word_alone room p n g read in
+    let none : 0 + n ≡ n = omega arith in
+    let part =
+    subst (λ (m : ℕ). may (a_word (level room)) (given g.edition W 0) (standing 0) (Ok (alone.0, standing m))
+    (raw W 0 (0 + n) ∷ [])) none alone.1 in
+    let goes = word_goes g.edition W 0 room n alone.0 (raw W 0 (0 + n) ∷ []) part clear in
+    let short : length W ≤ n = omega (arith, length-take (p + n - p) (drop p g.text)) in
+    let same : Some goes.0 ≡ Some d.text = sym (left_all g.edition W n goes.0 short goes.1) ∙ parts.0 in
+    let text : goes.0 ≡ d.text = cc in
+    subst (λ (l : List ℕ). Leaves g.edition W Plain 0 n l) text goes.1

@@ -1,0 +1,5 @@
+pub mod Onward
+pub mod Blank
+pub mod Bodies
+pub mod Order
+pub mod Quotes
