@@ -4,11 +4,12 @@
 //!
 //! Start with the module of what is tested: `reader_..` are the tests of `shread` and `shpass`, `tree_append`
 //! and `tree_nodes` those of `shtree`; `reader_refused` refuses each growth of memory in turn. `dump` writes
-//! trees as short texts. `tree_size` is for `tests/bench`.
+//! trees as short texts, and [`joined_lines`] joins the lists of lines. `tree_size` is for `tests/bench`.
 #![tactic(auto)]
 
 #[cfg(test)]
 mod dump;
+pub mod joined_lines;
 #[cfg(test)]
 mod reader_beginnings;
 #[cfg(test)]

@@ -1,15 +1,12 @@
 // Lists that are appended at the bases where their lines stand are the list of the whole text.
-ghost use Rattle.std.specs.Prelude.{ℕ, ◌-◌, ◌<◌, ◌≤◌, ◌^◌};
-ghost use Rattle.shgrammar.specs.Lines.{EntriesEverywhere};
-ghost use Rattle.shread.specs.Answers.{view_kind};
-
-use shread::{Line, LineKind, Reader};
+use crate::joined_lines::append_line;
+use shread::Reader;
 use shtext::Flat;
+use shtree::List;
 use shtree::make::list_of;
-use shtree::{List, append_at};
 use shtreetests::growths::Growths;
 use shtreetests::shown::shown;
-use std::alloc::{AllocError, Global};
+use std::alloc::Global;
 use std::process::Abort;
 use std::test::Fail;
 
@@ -28,17 +25,6 @@ fn list_of_all(alloc: Global) -> Result<List, Fail> {
     Ok(script.list)
 }
 
-/// Appends the entries of a line that begins at an offset.
-fn add(alloc: Global, line: &Line, at: usize, list: &mut List) -> Result<(), AllocError>
-    requires place { (at ≤ line.now.next) × (line.now.next < 2 ^ 64) }
-    requires spans { (limit : ℕ) → line.now.next - at ≤ limit → EntriesEverywhere limit (view_kind line.now.kind) }
-{
-    match &line.kind {
-        LineKind::Entries(entries) => append_at(alloc, entries, at, list),
-        _ => Ok(()),
-    }
-}
-
 #[test]
 fn each_line(rt: HostRuntime) -> Result<(), Fail> {
     let alloc = rt.alloc();
@@ -50,7 +36,7 @@ fn each_line(rt: HostRuntime) -> Result<(), Fail> {
             break;
         }
         let line = reader.read_line(&Flat::new(LINES), at)?;
-        add(alloc, &line, at, &mut list)?;
+        append_line(alloc, &line, at, &mut list)?;
         at = line.next;
         if !line.ended {
             break;
@@ -68,7 +54,7 @@ fn each_line(rt: HostRuntime) -> Result<(), Fail> {
 fn first(alloc: Global) -> Result<List, Fail> {
     let mut list = list_of(Vec::new(alloc));
     let line = Reader::new(alloc).read_line(&Flat::new(LINES), 0)?;
-    add(alloc, &line, 0, &mut list)?;
+    append_line(alloc, &line, 0, &mut list)?;
     Ok(list)
 }
 
@@ -82,7 +68,7 @@ fn each_growth(rt: HostRuntime) -> Result<(), Fail> {
     for _ in 1..200 {
         let mut list = first(alloc)?;
         growths.refuse_next();
-        let added = add(alloc, &second, SECOND, &mut list);
+        let added = append_line(alloc, &second, SECOND, &mut list);
         if !growths.is_met() {
             added?;
             assert!(rt; 1 < list.entries.len());

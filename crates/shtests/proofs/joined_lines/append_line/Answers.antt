@@ -1,7 +1,7 @@
 use Rattle.std.proofs.Common.{◌-◌, ◌^◌, arith, subst}
 use Rattle.shgrammar.specs.Lines.{EntriesEverywhere}
 use Rattle.shread.specs.Answers.{view_kind}
-use Rattle.shtests.proofs.tree_append.add.Goals as goal
+use Rattle.shtests.proofs.joined_lines.append_line.Goals as goal
 
 pub append_at-requires : goal.append_at-requires
 append_at-requires c =
