@@ -50,6 +50,13 @@ const SCRIPTS: &[u8] = br###"
 ("a $(if b;then c;fi;{ d;} ;(e) ;f(){ g;};while h;do i;done)",
  "a $(if b;then c;fi;{ d;} ;(e) ;f(){ g;};while h;do i;done)\n")
 ("a <<E\n$(b;;\nE\n", "a <<E\n$(b;;\nE\n")
+("case a in b|c|d) e;; esac", "case a in\nb | c | d)\n\te\n\t;;\nesac\n")
+("if a;then b;elif c;then d;elif e;then f;fi", "if a; then\n\tb\nelif c; then\n\td\nelif e; then\n\tf\nfi\n")
+("a &&\nb && { c;}", "a &&\n\tb && {\n\t\tc\n\t}\n")
+("a &&\nb && c && { d;}", "a &&\n\tb && c && {\n\t\td\n\t}\n")
+("a && { b;} && { c;}", "a && {\n\tb\n} && {\n\tc\n}\n") ("a |\nb | { c;}", "a |\n\tb | {\n\t\tc\n\t}\n")
+("a |\nb | c | { d;}", "a |\n\tb | c | {\n\t\td\n\t}\n") ("a | { b;} | { c;}", "a | {\n\tb\n} | {\n\tc\n}\n")
+("a 1\\\n2\\\n3>b", "a 123>b\n")
 "###;
 
 /// The printed text of a script by an edition, in parts: of the whole lines at its front first, and then of

@@ -53,6 +53,7 @@ fn rows(rt: HostRuntime) -> Result<(), Fail> {
         (b"a\n", b"edit 2 2 2\nb\n\n", b"ok 4 0\n", 4),
         (b"a", b"edit 1 1 1\n\n\n", b"ok 2 0\n", 3),
         (b"a\n'\nb\n", b"edit 4 5 1\nc\n", b"ok 6 1\n", 10),
+        (b"a\n'", b"edit 3 3 1\nb\n", b"ok 4 1\n", 5),
         (
             b"cd /srv\nif test -d new; then\n\tmv new pages\nfi\nls\n",
             b"edit 37 42 4\nsite\nedit 8 8 1\n'\nedit 8 9 0\n\n",

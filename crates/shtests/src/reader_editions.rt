@@ -87,6 +87,11 @@ const ROWS: &[u8] = br###"
 ("{ a;& }\n", "fault 11 at 4", "fault 11 at 3")
 ("a;\\\n\\\n&\n", "fault 11 at 6", "fault 11 at 1")
 ("a;'&'\n", "[0-1] [2-5]", "[0-1] [2-5]")
+// what no row above sees: delimiters beside `$'`, and continuations before it
+("a <<\\b$'E'\nb$E\n", "[0-1 <<2-4:4-10@'11-11]", "fault 10 at 4")
+("a <<$b$'E'\n$b$E\n", "[0-1 <<2-4:4-10@'11-11]", "fault 10 at 4")
+("a <<\\E\nE\n", "[0-1 <<2-4:4-6@'7-7]", "[0-1 <<2-4:4-6@'7-7]") ("a\\\n$'b c'", "[0-9]", "[0-9]")
+("a\\\n$'b", "fault 1 at 4", "fault 16 at 3")
 "###;
 
 fn judge_row(old: &mut Judge, new: &mut Judge, row: &[Cell]) -> Result<(), Fail> {

@@ -25,6 +25,9 @@ const OUTLINES: &[u8] = br###"
 // comments are no part of an outline, nor is what a fault breaks off
 ("a >f|{ b; } <g", "0 14 Pipeline, 0 4 Simple, 5 14 Brace, 7 8 Simple") ("f(){ a;} >b", "0 11 Function 0-1, 3 11 Brace, 5 6 Simple") ("2>a", "0 3 Simple")
 ("a | #b\nc", "0 8 Pipeline, 0 1 Simple, 7 8 Simple") ("#a\n", "") ("a\nb;)", "0 1 Simple")
+("{ a;} >b|c", "0 10 Pipeline, 0 8 Brace, 2 3 Simple, 9 10 Simple")
+("a|b|c", "0 5 Pipeline, 0 1 Simple, 2 3 Simple, 4 5 Simple")
+("a&&b&&c", "0 7 AndOr, 0 1 Simple, 3 4 Simple, 6 7 Simple")
 "###;
 
 /// Scripts, each with the offset at which a line begins, and the nodes of that line at a byte, with the byte's offset in the script.
