@@ -12,7 +12,7 @@ use Rattle.shgrammar.specs.Sights.{State, given, standing}
 use Rattle.shgrammar.specs.Lines.{ALine, IsLine, kind_of}
 use Rattle.shgrammar.specs.Scripts.{AScript, Outcome, SoFar, is_blank_line, line_from, line_of, line_of_text, line_told, nothing_yet, script_at, script_on, the_line, with_line}
 use Rattle.shgrammar.specs.Moved.{Same}
-use Rattle.shgrammar.specs.Joined.{AreLines, blanked, has_entry, lines_joined, joined_by, last_of, more_of}
+use Rattle.shgrammar.specs.Joined.{AreLines, blanked, has_entry, lines_joined, line_joined_by, last_of, more_of}
 use Rattle.shgrammar.proofs.Lined.{line_faulty, line_last, line_more, nothing}
 use Rattle.shgrammar.proofs.MovedLine.{line_moved}
 use Rattle.shgrammar.proofs.Scripts.{line_only, script_is}
@@ -60,7 +60,7 @@ module _ (edition : Edition) (B : List ℕ) where
 
   -- a line that a newline token ended, and what the lines behind it give
   line_on : (p : ℕ) (so : SoFar) (es : Row AnEntry) (rest : Entries → Bool → AScript) (y : AScript) → y ≡ rest (entries_of (so.entries ++ there p (is_blank_line so) es)) (is_empty es)
-      → y ≡ joined_by rest (kind_of es true) (entries_of so.entries) so.gap p
+      → y ≡ line_joined_by rest (kind_of es true) (entries_of so.entries) so.gap p
   line_on p so [] rest y is = is ∙ ap (λ es. rest (entries_of es) true) (append-nil so.entries)
   line_on p so (e ∷ es) rest y is = is ∙ ap (λ es. rest es false) (sym (added p so (e ∷ es)))
 
@@ -69,7 +69,7 @@ module _ (edition : Edition) (B : List ℕ) where
   empty_there p blank (e ∷ es) = refl
 
   line_at_last : (p : ℕ) (so : SoFar) (es : Row AnEntry) (q : ℕ)
-      → record { entries = entries_of (so.entries ++ there p (is_blank_line so) es); wrong = None } ≡ joined_by (λ es gap. lines_joined [] es gap q) (kind_of es false) (entries_of so.entries) so.gap p
+      → record { entries = entries_of (so.entries ++ there p (is_blank_line so) es); wrong = None } ≡ line_joined_by (λ es gap. lines_joined [] es gap q) (kind_of es false) (entries_of so.entries) so.gap p
   line_at_last p so [] q = ap (λ es. record { entries = entries_of es; wrong = None }) (append-nil so.entries)
   line_at_last p so (e ∷ es) q = ap (λ es. record { entries = es; wrong = None }) (sym (added p so (e ∷ es)))
 
@@ -79,7 +79,7 @@ module _ (edition : Edition) (B : List ℕ) where
 
     -- the line goes on
     goes : (fs : Row AnEntry) (u : State) (es : Row AnEntry) (t : State) → es ≡ there p blank fs → t.at ≡ u.at → line_from edition B Whole blank p ≡ Ok ((es, true), t) → (ls : Row ALine) → Rest (p + u.at) ls
-        → script_on edition B so p ≡ joined_by (λ es gap. lines_joined ls es gap (p + u.at)) (kind_of fs true) (entries_of so.entries) so.gap p
+        → script_on edition B so p ≡ line_joined_by (λ es gap. lines_joined ls es gap (p + u.at)) (kind_of fs true) (entries_of so.entries) so.gap p
     goes fs u es t entries_are at_is read ls rest =
         let next : SoFar = record { entries = so.entries ++ there p blank fs; gap = is_empty fs } in
         let same : next ≡ with_line so es = rw (entries_are, empty_there p blank fs) refl in
@@ -87,7 +87,7 @@ module _ (edition : Edition) (B : List ℕ) where
         line_on p so fs (λ es gap. lines_joined ls es gap (p + u.at)) (script_on edition B so p) (on ∙ rest next)
 
     ends : (fs : Row AnEntry) (u : State) (es : Row AnEntry) (t : State) → es ≡ there p blank fs → line_from edition B Whole blank p ≡ Ok ((es, false), t) → (q : ℕ)
-        → script_on edition B so p ≡ joined_by (λ es gap. lines_joined [] es gap q) (kind_of fs false) (entries_of so.entries) so.gap p
+        → script_on edition B so p ≡ line_joined_by (λ es gap. lines_joined [] es gap q) (kind_of fs false) (entries_of so.entries) so.gap p
     ends fs u es t entries_are read q =
         line_last edition B so p blank refl es t (with_line so es) read refl ∙ ap (λ zs. record { entries = entries_of (so.entries ++ zs); wrong = None }) entries_are ∙ line_at_last p so fs q
 

@@ -17,16 +17,16 @@ has_entry no_entry = false
 has_entry (more_entries e es) = true
 
 -- One line that begins at the base, behind entries; the gap tells that a blank line is behind the last of them.
-abbrev pub joined_by : (Entries → Bool → AScript) → AKind → Entries → Bool → ℕ → AScript
-joined_by rest blank_line es gap base = rest es true
-joined_by rest (entries_line xs) es gap base = rest (appended es (blanked (gap && has_entry es) (moved base xs))) false
-joined_by rest end_line es gap base = record { entries = es; wrong = None }
-joined_by rest (faulty_line f) es gap base = record { entries = es; wrong = Some (moved_fault base f) }
+abbrev pub line_joined_by : (Entries → Bool → AScript) → AKind → Entries → Bool → ℕ → AScript
+line_joined_by rest blank_line es gap base = rest es true
+line_joined_by rest (entries_line xs) es gap base = rest (appended es (blanked (gap && has_entry es) (moved base xs))) false
+line_joined_by rest end_line es gap base = record { entries = es; wrong = None }
+line_joined_by rest (faulty_line f) es gap base = record { entries = es; wrong = Some (moved_fault base f) }
 
 -- the lines from the base on, behind these entries
 abbrev pub lines_joined : Row ALine → Entries → Bool → ℕ → AScript
 lines_joined [] es gap base = record { entries = es; wrong = None }
-lines_joined (l ∷ ls) es gap base = joined_by (λ es gap. lines_joined ls es gap (base + l.next)) l.kind es gap base
+lines_joined (l ∷ ls) es gap base = line_joined_by (λ es gap. lines_joined ls es gap (base + l.next)) l.kind es gap base
 
 -- The lines of B from p on: ended ones, and one that is not ended, which is the rest.
 pub data AreLines (edition : Edition) (B : List ℕ) : ℕ → Row ALine → Type 0 where

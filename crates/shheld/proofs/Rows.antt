@@ -4,7 +4,7 @@ use Rattle.std.proofs.lemmas.List.{drop-drop}
 use Rattle.shast.specs.Tree.{Entries}
 use Rattle.shgrammar.specs.declared.edition.Edition.{Edition}
 use Rattle.shgrammar.specs.declared.fault.Fault.{Fault}
-use Rattle.shgrammar.specs.Joined.{AreLines, lines_joined, joined_by, last_of, more_of}
+use Rattle.shgrammar.specs.Joined.{AreLines, lines_joined, line_joined_by, last_of, more_of}
 use Rattle.shgrammar.specs.Lines.{AKind, ALine, IsLine, blank_line, entries_line, end_line, faulty_line, line_read, line_stops}
 use Rattle.shgrammar.specs.Scripts.{AScript, FirstFault, Outcome}
 use Rattle.shgrammar.proofs.Joining.{script_joined}
@@ -49,7 +49,7 @@ kind_on edition T a (line_stops f k part) ended = absurd cc
 pub goes_on : (edition : Edition) (T : List ℕ) (l : HeldLine AKind) → IsTopLine edition T l → l.ended ≡ true → GoesOn l.kind
 goes_on edition T l is ended = kind_on edition T (as_read l) is ended
 
-on_by : (k : AKind) → GoesOn k → (rest : Entries → Bool → AScript) (so : Walk) → joined_by rest k so.entries so.gap so.at ≡ rest (entries_with so k) (has_none k)
+on_by : (k : AKind) → GoesOn k → (rest : Entries → Bool → AScript) (so : Walk) → line_joined_by rest k so.entries so.gap so.at ≡ rest (entries_with so k) (has_none k)
 on_by blank_line so rest walk = refl
 on_by (entries_line xs) so rest walk = refl
 on_by end_line so rest walk = absurd so
@@ -66,7 +66,7 @@ line_on edition T l is ended ls so = on_by l.kind (goes_on edition T l is ended)
 pub line_last : (l : HeldLine AKind) (so : Walk) → from_walk so (l ∷ []) ≡ record { entries = (with_line so l).entries; wrong = fault_at so.at l.kind }
 line_last l so = by_kind l.kind
   where
-    by_kind : (k : AKind) → joined_by (λ es gap. lines_joined [] es gap (so.at + l.len)) k so.entries so.gap so.at ≡ record { entries = entries_with so k; wrong = fault_at so.at k }
+    by_kind : (k : AKind) → line_joined_by (λ es gap. lines_joined [] es gap (so.at + l.len)) k so.entries so.gap so.at ≡ record { entries = entries_with so k; wrong = fault_at so.at k }
     by_kind blank_line = refl
     by_kind (entries_line xs) = refl
     by_kind end_line = refl
