@@ -1,4 +1,5 @@
--- The bodies of the parts of a list, one part behind the other: what a row that reads one more part says of the bodies.
+-- The bodies of the parts of a list, one part behind the other: what a row that reads
+-- one more part says of the bodies.
 use Rattle.std.proofs.Common.{◌≡◌, List as Row, [], ◌∷◌, ◌++◌, refl}
 use Rattle.std.specs.Prelude.{Some, None}
 use Rattle.shast.specs.Tree.{EntriesOf, AnAndOrPartOf, APipelinePartOf, entries_of, and_or_parts_of, pipeline_parts_of, branches_of, cases_of, items_of, no_entry, more_entries, AnEntryOf, entry, AContentOf, command, remark, AnAndOrOf, and_or, AndOrPartsOf, no_and_or, more_and_or, APipelineOf, pipeline, PipelinePartsOf, no_pipe, more_pipes, ACommandOf, simple, compound, function, ACompoundOf, formed, AFormOf, brace, subshell, if_then, while_do, until_do, for_in, case_in, ABranchOf, branch, BranchesOf, no_branch, more_branches, OtherwiseOf, no_else, otherwise, CaseItemsOf, no_case, more_cases, ACaseItemOf, case_item, ItemsOf, no_item, more_items, AnItemOf, item, AnItemContentOf, assign, argument, redirect}

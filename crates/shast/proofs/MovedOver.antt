@@ -1,4 +1,5 @@
--- Two copies of a list whose spans are carried: the one of the other, and two that make the same of each span that there is.
+-- Two copies of a list whose spans are carried: the one of the other, and two that
+-- make the same of each span that there is.
 use Rattle.std.proofs.Common.{true, ◌≡◌, ℕ, zero, suc, ◌+◌, ◌-◌, ◌≤◌, ◌<◌, List as Row, [], ◌∷◌, map, Option, Some, None, option_map, refl, sym, ap, ◌∙◌, arith, min}
 use Rattle.std.specs.Prelude.{◌^◌}
 use Rattle.std.proofs.Math.Nat.{min-eq_left}

@@ -1,5 +1,5 @@
--- The shapes of scripts as they are written: a row for each place that holds a text or a mark. What follows looks at shapes alone, and
--- these rows tie them to texts.
+-- The shapes of scripts as they are written: a row for each place that holds a text or a mark. What follows
+-- looks at shapes alone, and these rows tie them to texts.
 use Rattle.std.proofs.Common.{◌≡◌, refl, ℕ, false, true, None, Some, [], ◌∷◌, codes}
 use Rattle.shast.specs.declared.tree.Span.{Span}
 use Rattle.shast.specs.declared.tree.AndOrOperator.TheVariants.{And, Or}
@@ -65,7 +65,8 @@ redirected :
 unfolding bare
 redirected = refl
 
--- the bodies of here-documents as they stand, in one of them nothing is expanded, of the other tabs are taken off
+-- the bodies of here-documents as they stand, in one of them nothing is expanded, of
+-- the other tabs are taken off
 documented :
     shape_of (codes "<<'a' <<-b\nc\\\n\na\n\td\nb\n")
     (one (simple (items_of (item false (redirect None Here (at 0 2) (a_word (at 2 5)) (Some (record { literal = true; strip = false; body = at 11 15 }))) ∷

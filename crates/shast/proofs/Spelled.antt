@@ -1,5 +1,5 @@
--- The spelling of scripts as they are written, one for each form of a command: a law ties what is read to the definition, and these
--- rows tie the definition to texts.
+-- The spelling of scripts as they are written, one for each form of a command: a law ties what is read to the
+-- definition, and these rows tie the definition to texts.
 use Rattle.std.proofs.Common.{◌≡◌, refl, ℕ, false, true, None, Some, [], ◌∷◌, codes}
 use Rattle.shast.specs.declared.tree.Span.{Span}
 use Rattle.shast.specs.declared.tree.AndOrOperator.TheVariants.{And, Or}

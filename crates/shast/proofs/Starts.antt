@@ -1,4 +1,5 @@
--- The nodes of a tree begin where spans of it begin: what holds of the begin of each span holds of that of each node.
+-- The nodes of a tree begin where spans of it begin: what holds of the begin of each
+-- span holds of that of each node.
 use Rattle.std.proofs.Common.{ℕ, List as Row, [], ◌∷◌, ◌++◌, map, Option, Some, None}
 use Rattle.std.specs.Prelude.{All, unwrap_or}
 use Rattle.std.specs.Option.{option_to_list}

@@ -1,4 +1,5 @@
--- A list with documents in each place, before and after it is filled: what the definitions of bodies have to give.
+-- A list with documents in each place, before and after it is filled: what the
+-- definitions of bodies have to give.
 use Rattle.std.proofs.Common.{◌≡◌, refl, ℕ, [], ◌∷◌, false, Some, None}
 use Rattle.shast.specs.declared.tree.AndOrOperator.TheVariants.{And}
 use Rattle.shast.specs.declared.tree.RedirectOperator.TheVariants.{Here}

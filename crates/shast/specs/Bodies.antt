@@ -1,5 +1,5 @@
--- The bodies of a level's here-documents, put into its list in the order of their operators. The list of a substitution is a level of
--- its own: what stands in a word stays as it is.
+-- The bodies of a level's here-documents, put into its list in the order of their operators. The list of a
+-- substitution is a level of its own: what stands in a word stays as it is.
 use Rattle.std.specs.Prelude.{List as Row, [], ◌∷◌, Option, Some, None}
 use Rattle.shast.specs.declared.tree.Span.{Span}
 use Rattle.shast.specs.Tree.{AHereOf, AnAndOrPart, APipelinePart, EntriesOf, no_entry, more_entries, AnEntryOf, entry, AContentOf, command, remark, AnAndOrOf, and_or, AndOrPartsOf, no_and_or, more_and_or, APipelineOf, pipeline, PipelinePartsOf, no_pipe, more_pipes, ACommandOf, simple, compound, function, ACompoundOf, formed, AFormOf, brace, subshell, if_then, while_do, until_do, for_in, case_in, ABranchOf, branch, BranchesOf, no_branch, more_branches, OtherwiseOf, no_else, otherwise, CaseItemsOf, no_case, more_cases, ACaseItemOf, case_item, ItemsOf, no_item, more_items, AnItemOf, item, AnItemContentOf, assign, argument, redirect}

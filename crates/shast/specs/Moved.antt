@@ -123,8 +123,8 @@ abbrev pub body_by : ℕ → Span → ℕ → Span
 body_by base s zero = s
 body_by base s (suc n) = placed_span base s
 
--- The body of a here-document. One that is not read yet is the empty text at 0, and stays so: a body that was read ends behind a
--- newline, and so above 0.
+-- The body of a here-document. One that is not read yet is the empty text at 0, and stays so: a
+-- body that was read ends behind a newline, and so above 0.
 abbrev pub placed_body : ℕ → Span → Span
 placed_body base s = body_by base s s.«end»
 

@@ -1,4 +1,5 @@
--- The normal form of a script's list: what holds of the tree by its structure alone, whatever stands for its texts and its marks.
+-- The normal form of a script's list: what holds of the tree by its structure alone,
+-- whatever stands for its texts and its marks.
 use Rattle.std.specs.Prelude.{Bool, true, false, ◌&&◌, ◌||◌, not, List as Row, [], ◌∷◌, None, is_none}
 use Rattle.shast.specs.Tree.{AJoinOf, EntriesOf, no_entry, more_entries, AnEntryOf, entry, command, remark, AnAndOrOf, and_or, AndOrPartsOf, no_and_or, more_and_or, APipelineOf, pipeline, PipelinePartsOf, no_pipe, more_pipes, ACommandOf, simple, compound, function, ACompoundOf, formed, AFormOf, brace, subshell, if_then, while_do, until_do, for_in, case_in, ABranchOf, branch, BranchesOf, no_branch, more_branches, OtherwiseOf, no_else, otherwise, ForWordsOf, no_in, in_words, CaseItemsOf, no_case, more_cases, ACaseItemOf, case_item, PatternsOf, no_pattern, more_patterns, ItemsOf, no_item, more_items, AnItemOf, item, AnItemContentOf, assign, argument, redirect, AWordOf, word, SubstsOf, no_subst, more_substs, ASubstOf, subst}
 

@@ -1,6 +1,6 @@
--- The shape of a tree: all that a tree says of a script, but for where it stands. The bytes of a word, a name, a comment and the body
--- of a here-document stand in the place of their span, as they are; those of a number stand there without continuations; of any other
--- span it is left only that something stands there.
+-- The shape of a tree: all that a tree says of a script, but for where it stands. The bytes of a word, a
+-- name, a comment and the body of a here-document stand in the place of their span, as they are; those of a
+-- number stand there without continuations; of any other span it is left only that something stands there.
 use Rattle.std.specs.Prelude.{ℕ, ◌-◌, ◌==◌, ◌&&◌, List, [], ◌∷◌, List as Row, map, take, drop, Option, option_map, if◌then◌else◌}
 use Rattle.shast.specs.declared.tree.Span.{Span}
 use Rattle.shast.specs.Tree.{AJoinOf, AJoin, AHereOf, AHere, EntriesOf, Entries, no_entry, more_entries, AnEntryOf, AnEntry, entry, AContentOf, AContent, command, remark, AnAndOrOf, AnAndOr, and_or, AndOrPartsOf, AndOrParts, no_and_or, more_and_or, APipelineOf, APipeline, pipeline, PipelinePartsOf, PipelineParts, no_pipe, more_pipes, ACommandOf, ACommand, simple, compound, function, ACompoundOf, ACompound, formed, AFormOf, AForm, brace, subshell, if_then, while_do, until_do, for_in, case_in, ABranchOf, ABranch, branch, BranchesOf, Branches, no_branch, more_branches, OtherwiseOf, Otherwise, no_else, otherwise, ForWordsOf, ForWords, no_in, in_words, CaseItemsOf, CaseItems, no_case, more_cases, ACaseItemOf, ACaseItem, case_item, marked, PatternsOf, Patterns, no_pattern, more_patterns, ItemsOf, Items, no_item, more_items, AnItemOf, AnItem, item, AnItemContentOf, AnItemContent, assign, argument, redirect, AWordOf, AWord, word, SubstsOf, Substs, no_subst, more_substs, ASubstOf, ASubst, subst}

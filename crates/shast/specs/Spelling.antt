@@ -1,5 +1,6 @@
--- The spelling of a shape: its tokens from left to right. Newlines, `;`, `;;`, the round bracket before a pattern, comments and the
--- bodies of here-documents are left out. Words, names and numbers are told by the texts that the shape holds.
+-- The spelling of a shape: its tokens from left to right. Newlines, `;`, `;;`, the round
+-- bracket before a pattern, comments and the bodies of here-documents are left out. Words,
+-- names and numbers are told by the texts that the shape holds.
 use Rattle.std.specs.Prelude.{Bool, true, false, List as Row, [], ◌∷◌, ◌++◌, codes, Option, None, Some}
 use Rattle.shast.specs.declared.tree.AndOrOperator.{AndOrOperator}
 use Rattle.shast.specs.declared.tree.AndOrOperator.TheVariants.{And, Or}

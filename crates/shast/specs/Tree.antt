@@ -1,8 +1,9 @@
 -- The tree of a script, as definitions speak of it: no place in memory, no room of a vector.
 --
--- T stands for its texts (words, names of functions, comments, numbers of redirections, bodies of here-documents), M for its marks
--- (where a `!`, the operator of a redirection, a compound command, an item of a case, a substitution stands). The tree that is read
--- has spans for both. The shape of a tree (specs/Shape) has texts for the one and nothing for the other.
+-- T stands for its texts (words, names of functions, comments, numbers of redirections, bodies of
+-- here-documents), M for its marks (where a `!`, the operator of a redirection, a compound command, an item
+-- of a case, a substitution stands). The tree that is read has spans for both. The shape of a tree
+-- (specs/Shape) has texts for the one and nothing for the other.
 use Rattle.std.specs.Prelude.{Bool, List as Row, [], ◌∷◌, Option, None, Some}
 use Rattle.shast.specs.declared.tree.Span.{Span}
 use Rattle.shast.specs.declared.tree.AndOrOperator.{AndOrOperator}
@@ -13,7 +14,8 @@ pub record AJoinOf (T : Type 0) : Type 0 where
   pub broken : Bool
   pub comments : Row T
 
--- a here-document: literal where a part of its delimiter is quoted, stripped where leading tabs are taken off its lines, its body
+-- a here-document: literal where a part of its delimiter is quoted, stripped where
+-- leading tabs are taken off its lines, its body
 pub record AHereOf (T : Type 0) : Type 0 where
   pub literal : Bool
   pub strip : Bool

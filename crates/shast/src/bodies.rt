@@ -11,7 +11,8 @@ use crate::tree::{
     HereDocument, Item, ItemContent, List, Pipeline, PipelinePart, Redirection, Span,
 };
 
-/// Puts the bodies of a level into its list, in the order of the operators. The lists of substitutions are levels of their own.
+/// Puts the bodies of a level into its list, in the order of the operators. The lists
+/// of substitutions are levels of their own.
 ///
 /// Where there are more documents than bodies, the last ones stay as they are.
 #[tactic(auto, using(crate::proofs::Going::filled_none, crate::proofs::Going::filled_some))]

@@ -1,9 +1,10 @@
 //! The types of the tree of a script of the POSIX shell: what a reader reads and a printer prints.
 //!
-//! Start with [`List`], the row of commands that a script is, and the types below it; [`make`] has a maker for each kind of node.
-//! A tree holds places and no text: a [`Span`] is a piece of the source. What a tree is in the definitions is in `specs/Tree` and
-//! `specs/View`, its normal form in `specs/Normal`, its nodes in `specs/Nodes`, its text without places in `specs/Shape`. What is
-//! asked of a tree, `shtree` answers. [`Spare`] keeps the room of trees that are done with for those that are still to be read.
+//! Start with [`List`], the row of commands that a script is, and the types below it; [`make`] has a maker
+//! for each kind of node. A tree holds places and no text: a [`Span`] is a piece of the source. What a tree
+//! is in the definitions is in `specs/Tree` and `specs/View`, its normal form in `specs/Normal`, its nodes in
+//! `specs/Nodes`, its text without places in `specs/Shape`. What is asked of a tree, `shtree` answers.
+//! [`Spare`] keeps the room of trees that are done with for those that are still to be read.
 #![tactic(auto)]
 
 mod bodies;

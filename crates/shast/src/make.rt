@@ -16,7 +16,8 @@ pub fn list_of(entries: Vec<Entry>) -> List
     List { entries }
 }
 
-/// A command as an entry: whether `&` ends it, whether an empty line stands before it, and the comment behind it on its line.
+/// A command as an entry: whether `&` ends it, whether an empty line stands before it,
+/// and the comment behind it on its line.
 pub fn command_entry(
     and_or: AndOr,
     background: bool,
@@ -84,7 +85,8 @@ pub fn simple_of(items: Vec<Item>) -> Command
     Command::Simple { items }
 }
 
-/// A compound command of this form, from its opener to its closer, and the redirections behind it (XCU 2.9.4).
+/// A compound command of this form, from its opener to its closer, and the
+/// redirections behind it (XCU 2.9.4).
 pub fn compound_of(form: Form, span: Span, redirects: Vec<Item>) -> Compound
     ensures { view_compound result ≡ formed (view_form form) span (items_of (map view_item redirects.items)) }
 {
@@ -110,7 +112,8 @@ fn redirect_to(compound: &mut Compound, redirects: Vec<Item>)
     compound.redirects = redirects;
 }
 
-/// A compound command with these redirections in the place of its own. A command of another kind stays as it is.
+/// A compound command with these redirections in the place of its own. A command of
+/// another kind stays as it is.
 pub fn with_redirects(command: Command, redirects: Vec<Item>) -> Command
     ensures { view_command result ≡ with_redirects (view_command command) (items_of (map view_item redirects.items)) }
 {
@@ -155,7 +158,8 @@ pub fn subshell_of(list: List) -> Form
     Form::Subshell(list)
 }
 
-/// An `if` with these branches, the first of `if` and the others of `elif`, and what follows its `else` (XCU 2.9.4.4).
+/// An `if` with these branches, the first of `if` and the others of `elif`, and what
+/// follows its `else` (XCU 2.9.4.4).
 pub fn if_of(first: Branch, rest: Vec<Branch>, otherwise: Option<List>) -> Form
     ensures { view_form result ≡ if_then (view_branch first) (branches_of (map view_branch rest.items)) (view_otherwise otherwise) }
 {
@@ -240,7 +244,8 @@ pub fn argument_of(word: Word, broken: bool) -> Item
     }
 }
 
-/// A redirection: the number before its operator, that and where it stands, its word, and its here-document (XCU 2.7).
+/// A redirection: the number before its operator, that and where it stands, its word,
+/// and its here-document (XCU 2.7).
 pub fn redirection_of(
     number: Option<Span>,
     operator: RedirectOperator,

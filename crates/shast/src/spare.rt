@@ -50,8 +50,8 @@ impl Spare {
     /// Drops a list, and keeps its room and that of the lists and commands below it, as far as there is place
     /// for it. What stands in a word is dropped whole.
     ///
-    /// It goes no deeper than a plain drop of the list does. Where it gets no memory to note what it keeps, it
-    /// keeps less.
+    /// It goes no deeper than a plain drop of the list does. Where it gets no memory
+    /// to note what it keeps, it keeps less.
     pub fn give_back(&mut self, entries: Vec<Entry>) {
         let mut list = List { entries };
         spare_list(&mut list, self);
@@ -152,7 +152,8 @@ fn spare_pipeline(mut pipeline: Pipeline, spare: &mut Spare) {
     spare_command(first, spare);
 }
 
-/// Nearly each command is a simple one: that case is a part of the callers. The others are not, so that the frames stay small.
+/// Nearly each command is a simple one: that case is a part of the callers. The others
+/// are not, so that the frames stay small.
 #[cycle(spare)]
 #[inline(always)]
 fn spare_command(command: Command, spare: &mut Spare) {

@@ -2,7 +2,8 @@
 
 /// From the offset of a first byte to the offset after a last one.
 ///
-/// Offsets count bytes from 0, from a base that the holder of the tree knows: where a line begins, or a script.
+/// Offsets count bytes from 0, from a base that the holder of the tree knows: where a
+/// line begins, or a script.
 #[derive(Clone, Copy, Debug, PartialEq, Eq)]
 pub struct Span {
     pub start: usize,
@@ -29,7 +30,8 @@ pub struct Entry {
     pub what: Content,
     /// It is ended by `&` (XCU 2.9.3).
     pub background: bool,
-    /// At least two newline tokens stand between it and the entry before it: an empty line. The first entry of a list is never blank.
+    /// At least two newline tokens stand between it and the entry before it: an empty
+    /// line. The first entry of a list is never blank.
     pub blank: bool,
     /// The comment behind it on its line.
     pub comment: Option<Comment>,
@@ -128,7 +130,8 @@ pub struct Compound {
     pub redirects: Vec<Item>,
 }
 
-/// The forms of a compound command (XCU 2.9.4). The list of a group, a condition and a body hold a command, a case's body may not.
+/// The forms of a compound command (XCU 2.9.4). The list of a group, a condition and a
+/// body hold a command, a case's body may not.
 #[cycle(tree)]
 #[derive(Debug, Drop)]
 pub enum Form {

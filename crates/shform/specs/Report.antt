@@ -33,7 +33,8 @@ status_of_verdict (Ok None) = 0
 status_of_verdict (Ok (Some fault)) = 1
 status_of_verdict (Err stop) = 2
 
--- The verdict on the bytes that were read was told: standard error held and holds bytes, whether a write there failed; and the status.
+-- The verdict on the bytes that were read was told: standard error held and holds
+-- bytes, whether a write there failed; and the status.
 pub record IsTold (name read : List ℕ) (verdict : Result (Option Fault) Stop) (held holds : Option (List ℕ)) (broken : Bool) (status : ℕ) : Type 0 where
   pub written : Writes held holds broken (text_of name read verdict)
   pub answer : status ≡ (if broken then 2 else status_of_verdict verdict)
@@ -43,8 +44,8 @@ abbrev pub TellsFault : List ℕ → List ℕ → Fault → Option (List ℕ) �
 TellsFault name read fault held holds broken status =
     IsTold name read (Ok (Some fault)) held holds broken status ⊎ IsTold name read (Err Memory) held holds broken status
 
--- what was read and which ends were met where an input is given up: memory may run out at any time, before the end and after it.
--- What is written has no part in it.
+-- what was read and which ends were met where an input is given up: memory may run out at any time, before
+-- the end and after it. What is written has no part in it.
 abbrev pub StopsFor : List ℕ → Bool → Bool → Stop → Type 0
 StopsFor read failed ended Unreadable = (failed ≡ true) × (ended ≡ false) × (length read ≤ limit)
 StopsFor read failed ended TooLarge = (failed ≡ false) × (ended ≡ false) × (length read ≡ limit + 1)
@@ -60,8 +61,8 @@ abbrev pub JudgedFor : Edition → List ℕ → Bool → Bool → Result (Option
 JudgedFor edition read failed ended (Ok fault) = (failed ≡ false) × (ended ≡ true) × (length read ≤ limit) × FirstFault edition read fault
 JudgedFor edition read failed ended (Err stop) = StopsFor read failed ended stop
 
--- The report of a check. The bytes that the reader had and has left, whether a read failed or met the end; the bytes that
--- standard error held and holds, whether a write there failed; and the status.
+-- The report of a check. The bytes that the reader had and has left, whether a read failed or met the end;
+-- the bytes that standard error held and holds, whether a write there failed; and the status.
 pub record IsReport (edition : Edition) (name : List ℕ) (had has : Option (List ℕ)) (failed ended : Bool) (held holds : Option (List ℕ)) (broken : Bool) (status : ℕ) : Type 0 where
   pub read : List ℕ
   pub verdict : Result (Option Fault) Stop
@@ -69,14 +70,15 @@ pub record IsReport (edition : Edition) (name : List ℕ) (had has : Option (Lis
   pub judged : JudgedFor edition read failed ended verdict
   pub told : IsTold name read verdict held holds broken status
 
--- What standard output held and holds, and whether it failed, for a verdict on the bytes that were read: where they are a script
--- without a fault, its printed text was written there; else it is as it was.
+-- What standard output held and holds, and whether it failed, for a verdict on the bytes that were read:
+-- where they are a script without a fault, its printed text was written there; else it is as it was.
 abbrev pub PrintsFor : Edition → Layout → List ℕ → Result (Option Fault) Stop → Option (List ℕ) → Option (List ℕ) → Bool → Type 0
 PrintsFor edition layout read (Ok None) held holds broken = (text : List ℕ) × IsTextOf edition layout read text × Writes held holds broken text
 PrintsFor edition layout read (Ok (Some fault)) held holds broken = (holds ≡ held) × (broken ≡ false)
 PrintsFor edition layout read (Err stop) held holds broken = (holds ≡ held) × (broken ≡ false)
 
--- The report of a print: as that of a check, and what was written on standard output. Where that failed, standard error says so.
+-- The report of a print: as that of a check, and what was written on standard output.
+-- Where that failed, standard error says so.
 pub record IsPrintReport (edition : Edition) (layout : Layout) (name : List ℕ) (had has : Option (List ℕ)) (failed ended : Bool)
     (printed_held printed_holds : Option (List ℕ)) (unwritable : Bool) (held holds : Option (List ℕ)) (broken : Bool) (status : ℕ) : Type 0 where
   pub read : List ℕ

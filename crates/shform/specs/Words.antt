@@ -63,7 +63,8 @@ print_app years = printing_app years (codes "print")
 abbrev pub session_app : Years → App
 session_app years = printing_app years (codes "session")
 
--- what holds of the whole command: the words begin after the program's name, one of them is a subcommand, and there is a version
+-- what holds of the whole command: the words begin after the program's name, one of
+-- them is a subcommand, and there is a version
 abbrev pub with_settings : App → App
 with_settings a = record { top = record a.top { no_binary_name = true; subcommand_required = true; has_version = true }; subs = a.subs }
 
@@ -135,7 +136,8 @@ pub record HasWideIndent (years : Years) (words : List Text) : Type 0 where
   pub tool : tool_named name ≢ Check
   pub indent : 16 < indent_in (one_text (found_of own) (codes "indent"))
 
--- What there is in place of settings: clap's answer, of a kind that its model has for the words, or an indent that clap should not let pass.
+-- What there is in place of settings: clap's answer, of a kind that its model has for
+-- the words, or an indent that clap should not let pass.
 abbrev pub FailsFor : List Text → Result Settings Usage → Type 0
 FailsFor words (Ok s) = (years : Years) × AreYears years × (fault_of (tool_app years) words ≡ [])
 FailsFor words (Err (Words e)) = (years : Years) × AreYears years × HasKind (fault_of (tool_app years) words) e

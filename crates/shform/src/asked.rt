@@ -24,7 +24,8 @@ pub struct Settings<'a> {
     pub edition: Edition,
     /// The layout to print in; that of the defaults for a check.
     pub layout: Layout,
-    /// The script, or `None` for standard input; for a session, where it begins, or `None` for an empty script.
+    /// The script, or `None` for standard input; for a session, where it begins, or
+    /// `None` for an empty script.
     pub file: Option<&'a str>,
 }
 

@@ -18,8 +18,8 @@ use std::io::{Read, Write};
 /// The most bytes that are read at once.
 const PIECE: usize = 16_384;
 
-/// Reads once, into the front of the piece, what follows so many bytes. Answers how many came: none at the end. It never reads past
-/// the first byte beyond the limit.
+/// Reads once, into the front of the piece, what follows so many bytes. Answers how many came: none at the
+/// end. It never reads past the first byte beyond the limit.
 fn read_piece<R: Read>(input: &mut Input<R>, piece: &mut [u8], held: usize) -> Result<usize, Stop>
     requires sound { input_failed input.old ≡ false }
     requires open { input_ended input.old ≡ false }

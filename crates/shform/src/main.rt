@@ -69,7 +69,8 @@ fn on_settings(rt: &HostRuntime, settings: &Settings<'_>) -> u8 {
     }
 }
 
-/// Prints what `clap` says of words that ask for no run. Help and the version go to standard output, with status 0.
+/// Prints what `clap` says of words that ask for no run. Help and the version go to
+/// standard output, with status 0.
 fn on_words(rt: &HostRuntime, error: &clap::Error) -> u8 {
     if error.kind() == ErrorKind::OutOfMemory {
         return give_up_on(rt, "-", Stop::Memory);

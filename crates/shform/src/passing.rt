@@ -1,5 +1,5 @@
-//! A script while it is read. Lines that are whole and without a fault are passed, and need not be held; so the check of a script of
-//! short lines takes as much memory as a piece of it, however long it is.
+//! A script while it is read. Lines that are whole and without a fault are passed, and need not be held; so
+//! the check of a script of short lines takes as much memory as a piece of it, however long it is.
 ghost use Rattle.std.specs.Prelude.{◌≡◌, ◌+◌, ◌++◌, ◌≤◌, ℕ, List, [], IfOk, drop, length};
 ghost use Rattle.shform.specs.Part.{EndsLine, Held, Holds, IsFound, IsFoundAt, bytes_read};
 ghost use Rattle.shgrammar.specs.declared.edition.Edition.{Edition as AnEdition};

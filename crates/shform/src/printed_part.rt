@@ -1,5 +1,5 @@
-//! A script that is printed while it is read. Lines that are whole and without a fault are printed, and need not be held; so only its
-//! text and a piece of the script are, however long that is.
+//! A script that is printed while it is read. Lines that are whole and without a fault are printed, and need
+//! not be held; so only its text and a piece of the script are, however long that is.
 ghost use Rattle.std.specs.Prelude.{ℕ, List, [], IfErr, IfOk};
 ghost use Rattle.shform.specs.Part.{HoldsPrinted, IsUnprinted};
 ghost use Rattle.shgrammar.specs.declared.edition.Edition.{Edition as AnEdition};

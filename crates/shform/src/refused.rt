@@ -1,5 +1,6 @@
-// Each growth refused in turn, as in the tests of the reader: by the library that `tests/refused-growths` loads. Without it, as in
-// the gate, each test runs once. They catch the wrong body `always_out_of_memory`, which no contract can.
+// Each growth refused in turn, as in the tests of the reader: by the library that
+// `tests/refused-growths` loads. Without it, as in the gate, each test runs once. They catch the
+// wrong body `always_out_of_memory`, which no contract can.
 use crate::tests::checked;
 use crate::tests::print::print as printed;
 use crate::tests::session::session as served;
@@ -91,7 +92,8 @@ fn told_fault(rt: HostRuntime) -> Result<(), Fail> {
     Ok(())
 }
 
-/// The status of the check of 20,001 lines with the nth growth refused, and what it told; 99 if it wrote to standard output.
+/// The status of the check of 20,001 lines with the nth growth refused, and what it
+/// told; 99 if it wrote to standard output.
 fn check_refused(alloc: Global, nth: usize) -> (u8, Page) {
     let script = [b'\n'; 20_000];
     let reader = script.as_slice().chain(b"a b &;\n".as_slice());

@@ -64,7 +64,8 @@ pub fn give_up<E: Write>(name: &str, stop: Stop, errors: &mut Output<E>) -> u8
     2
 }
 
-/// Tells a fault of the script at a line and a column, and answers 1; where that fails, or finds no memory, 2.
+/// Tells a fault of the script at a line and a column, and answers 1; where that
+/// fails, or finds no memory, 2.
 pub fn tell<E: Write>(
     alloc: Global,
     name: &str,

@@ -1,4 +1,5 @@
-// What no clause says: that calls succeed where nothing fails, that a failure of a device is told, and the texts.
+// What no clause says: that calls succeed where nothing fails, that a failure of a
+// device is told, and the texts.
 ghost use Rattle.std.specs.Prelude.{IfSome};
 ghost use Rattle.shlive.specs.Ahead.{IsOpen};
 
@@ -343,8 +344,8 @@ const WAYS: [Way; 3] = [
     Way::TakesNothing,
 ];
 
-/// A text that a check of `a ;;` writes: where its reader fails (at no read where this is 0), in how many writes where the writer
-/// takes all, and the status.
+/// A text that a check of `a ;;` writes: where its reader fails (at no read where this is 0), in how
+/// many writes where the writer takes all, and the status.
 #[derive(Clone, Copy)]
 struct Told {
     fails_at: u64,
@@ -375,7 +376,8 @@ fn check_over(alloc: Global, fails_at: u64, page: &mut Hiccup) -> (u8, bool) {
     checked(alloc, tape, io::sink(), page)
 }
 
-/// Whether the status and the calls are right where the nth of so many writes and a flush fails: no further one is tried then.
+/// Whether the status and the calls are right where the nth of so many writes and a
+/// flush fails: no further one is tried then.
 fn has_stopped(alloc: Global, told: Told, writes: u64, nth: u64, page: &mut Hiccup) -> bool {
     let answer = check_over(alloc, told.fails_at, page);
     if nth <= writes.wrapping_add(1) {

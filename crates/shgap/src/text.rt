@@ -29,7 +29,8 @@ pub struct GapText {
 impl GapText {
     ghost use Rattle.shgap.specs.Gap.{CanUndo, gap_bytes, undone};
 
-    /// The text of these bytes. It is refused where the edit would be that puts them into the empty text. No bytes take no memory.
+    /// The text of these bytes. It is refused where the edit would be that puts them
+    /// into the empty text. No bytes take no memory.
     pub fn from_slice(alloc: Global, bytes: &[u8]) -> Result<GapText, TextError>
         ensures bytes { IfOk result (λ text. gap_bytes text ≡ bytes.now) }
         ensures allowed { IfOk result (λ text. length bytes.now ≤ limit) }
@@ -53,7 +54,8 @@ impl GapText {
         })
     }
 
-    /// Whether so many bytes may be put in the place of those from `a` up to `b`, as far as the text decides that. It takes no memory.
+    /// Whether so many bytes may be put in the place of those from `a` up to `b`, as
+    /// far as the text decides that. It takes no memory.
     pub fn allows(&self, a: usize, b: usize, count: usize) -> Result<(), TextError>
         ensures ok { IfOk result (λ _. (new : List ℕ) → length new ≡ count → IsAllowed (gap_bytes self.now) a b new) }
         ensures err { IfErr result (λ e. (new : List ℕ) → length new ≡ count → Refuses (gap_bytes self.now) a b new e) }
@@ -62,7 +64,8 @@ impl GapText {
         allowed(self.len(), a, b, count)
     }
 
-    /// The line and the column of an offset in bytes, which is at most the length. Both count from 1, and the column counts bytes.
+    /// The line and the column of an offset in bytes, which is at most the length.
+    /// Both count from 1, and the column counts bytes.
     pub fn line_col(&self, at: usize) -> (usize, usize)
         requires { at ≤ length (gap_bytes self.now) }
         ensures line { result.0 ≡ line_of (gap_bytes self.now) at }

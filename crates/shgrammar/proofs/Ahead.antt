@@ -23,7 +23,8 @@ behind_is T p = refl
 pub ender : (b c : ℕ) → ends (Some b) ≡ true → ends (Some c) ≡ false → (b == c) ≡ false
 ender b c e f = must_fail (b == c) (λ g. let is : b ≡ c = grind (arith, nat_tests) in both_ways (ends (Some b)) (rw is f) e)
 
--- what the byte at the limit is: it is no byte over which anything that is looked for goes on, and it ends a word
+-- what the byte at the limit is: it is no byte over which anything that is looked for
+-- goes on, and it ends a word
 pub record Ender (c : ℕ) : Type 0 where
   pub ends_it : ends (Some c) ≡ true
   pub no_open : (c == 40) ≡ false

@@ -1,4 +1,5 @@
--- What a row may see of a text, and where it may move to: the same in each text that has its bytes up to a newline, or to a `)`.
+-- What a row may see of a text, and where it may move to: the same in each text that
+-- has its bytes up to a newline, or to a `)`.
 use Rattle.std.proofs.Common.{◌≡◌, ℕ, zero, suc, ◌+◌, ◌-◌, ◌≤◌, ◌<◌, ◌==◌, Bool, true, false, not, cond, ◌||◌, List, [], ◌∷◌, take, drop, Option, Some, None, slice_get, refl, sym, ap, subst, ◌∙◌, arith, ⊎_elim}
 use Rattle.std.proofs.lemmas.Bool.{both_ways, cases_lt, cases_Bool}
 use Rattle.std.proofs.lemmas.Bool.Decides.{nat_tests}
@@ -30,7 +31,8 @@ Good T a M p = Safe T a M p
 none_there : (T : List ℕ) (p : ℕ) → continues T (past_continuations T p) ≡ false
 none_there T p = must_fail _ (λ c. let is = place_same T p in let more = joined_more T (past_continuations T p) c in let low = place_low T (past_continuations T p + 2) in absurd (omega (arith, is, more, low)))
 
--- U has the bytes of T from a up to the place M, where the same byte ends what is looked for in both; `to` says where
+-- U has the bytes of T from a up to the place M, where the same byte ends what is
+-- looked for in both; `to` says where
 module _ {edition : Edition} {T U : List ℕ} {a M : ℕ} {to : ℕ → ℕ} {limit : ℕ} (E : ListEnds edition T U a M to limit) where
   abbrev G : ℕ → Type 0
   G p = Good T a M p

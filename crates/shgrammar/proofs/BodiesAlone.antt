@@ -1,5 +1,5 @@
--- Where a here-document ends is found in the bytes from where its body begins, wherever they stand, and in no byte behind the newline of
--- its delimiter.
+-- Where a here-document ends is found in the bytes from where its body begins, wherever they
+-- stand, and in no byte behind the newline of its delimiter.
 use Rattle.std.proofs.Common.{◌≡◌, ℕ, zero, suc, ◌+◌, ◌-◌, ◌==◌, ◌<◌, ◌≤◌, Bool, true, false, cond, not, List, [], ◌∷◌, ◌++◌, List as Row, length, take, drop, Option, Some, None, option_map, Ok, slice_get, refl, sym, ap, subst, ◌∙◌, arith}
 use Rattle.std.specs.Prelude.{◌&&◌, min, Result}
 use Rattle.std.proofs.lemmas.List.{length-append, length-drop, drop-drop, take-append-le, drop-append-le}
@@ -152,7 +152,8 @@ module _ (w : Waiting) where
       let same : p + i ≡ p + q = cc in
       ap (λ (x : ℕ). Some x) (omega (arith, same))
 
-  -- L stands in one text from p on, and in another from r on, and its last byte is a newline: a document that ends in L ends there in both
+  -- L stands in one text from p on, and in another from r on, and its last byte is a
+  -- newline: a document that ends in L ends there in both
   pub same_delimiter : (T U L Y Z : List ℕ) (p r q : ℕ) → p ≤ length T → r ≤ length U → drop p T ≡ L ++ Y → drop r U ≡ L ++ Z → closed L ≡ true → q < length L
       → delimiter_from T w p ≡ Some (p + q) → delimiter_from U w r ≡ Some (r + q)
   unfolding delimiter_on
@@ -194,7 +195,8 @@ same_span o u p r q is =
     let last : o + (p + q) ≡ u + (r + q) = omega (arith, is) in
     ap (λ (s : ℕ). from_to s (o + (p + q))) is ∙ ap (λ (s : ℕ). from_to (u + r) s) last
 
--- L stands in one text from p on, and in another from r on, and its last byte is a newline: bodies that end in L end there in both
+-- L stands in one text from p on, and in another from r on, and its last byte is a
+-- newline: bodies that end in L end there in both
 module _ (edition : Edition) (T U Y Z : List ℕ) (o u : ℕ) where
   abbrev Same : Row Waiting → Row Span → ℕ → ℕ → Row Span × ℕ → Type 0
   Same ws bodies p r x = bodies_from (given edition U u) ws bodies r ≡ done (x.0, r + (x.1 - p))

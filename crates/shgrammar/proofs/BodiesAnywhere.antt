@@ -1,4 +1,5 @@
--- A here-document written wherever: the bytes of a body that was read, and its delimiter with a newline, end where they did.
+-- A here-document written wherever: the bytes of a body that was read, and its
+-- delimiter with a newline, end where they did.
 use Rattle.std.proofs.Common.{◌≡◌, ℕ, zero, suc, ◌+◌, ◌-◌, ◌==◌, ◌<◌, ◌≤◌, Bool, true, false, cond, not, List, [], ◌∷◌, ◌++◌, length, take, drop, Option, Some, None, option_map, bytes_eq, refl, sym, ap, subst, ◌∙◌, arith, ⊎_elim}
 use Rattle.std.specs.Prelude.{◌&&◌}
 use Rattle.std.proofs.lemmas.Bool.{and_parts, cases_lt}

@@ -1,4 +1,5 @@
--- Bodies that end at a newline before a limit, or with it, end there in each text that has the bytes up to the limit.
+-- Bodies that end at a newline before a limit, or with it, end there in each text that
+-- has the bytes up to the limit.
 use Rattle.std.proofs.Common.{◌≡◌, ℕ, zero, suc, ◌+◌, ◌-◌, ◌==◌, ◌<◌, ◌≤◌, true, false, not, List, [], ◌∷◌, ◌++◌, List as Row, length, map, take, drop, Option, option_map, Some, None, Ok, Err, slice_get, get_or, refl, sym, ap, subst, ◌∙◌, ◌⊎◌, inl, inr, arith, ⊎_elim}
 use Rattle.std.specs.Prelude.{Result}
 use Rattle.std.proofs.lemmas.Bool.{cases_lt}

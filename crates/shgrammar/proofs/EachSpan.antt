@@ -1,5 +1,5 @@
--- What holds of each span of a tree, and of the items of each simple command: of parts in rows, of what follows from it, of a tree with
--- its bodies; and where the last command ends.
+-- What holds of each span of a tree, and of the items of each simple command: of parts in rows, of what
+-- follows from it, of a tree with its bodies; and where the last command ends.
 use Rattle.std.proofs.Common.{ℕ, ◌≤◌, List as Row, [], ◌∷◌, ◌++◌, Option, None, Some, arith}
 use Rattle.std.specs.Prelude.{All}
 use Rattle.std.proofs.lemmas.List.Elements.{All-head, All-tail}

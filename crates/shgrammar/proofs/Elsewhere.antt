@@ -1,4 +1,5 @@
--- A word or an assignment, wherever its bytes stand before what may follow it in a printed text: it is read there, as the same token.
+-- A word or an assignment, wherever its bytes stand before what may follow it in a
+-- printed text: it is read there, as the same token.
 use Rattle.std.proofs.Common.{◌≡◌, ℕ, zero, suc, ◌+◌, ◌-◌, ◌≤◌, ◌<◌, ◌==◌, Bool, true, false, cond, ◌&&◌, ◌||◌, ◌⊎◌, inl, inr, Ok, Err, List, List as Row, [], ◌∷◌, ◌++◌, length, drop, take, Option, Some, None, is_some, slice_get, refl, sym, ap, subst, ◌∙◌, arith, ⊎_elim}
 use Rattle.std.proofs.lemmas.Bool.{and_parts, both_ways, cases_Bool, lt-ltb}
 use Rattle.std.proofs.lemmas.Bool.Decides.{nat_tests}
@@ -387,8 +388,8 @@ pub record ReadAt (room : ℕ) (position : Position) (token : Token) (w : List �
   pub token_is : token_at position g.text q ≡ token
   pub word : (B : List ℕ) → g.text ≡ drop g.offset B → WordOf room g q (length w) B (shape_word w ss)
 
--- wherever these bytes stand, before what may follow an item, they are a word with substitutions of these shapes, and this token in
--- this position
+-- wherever these bytes stand, before what may follow an item, they are a word with
+-- substitutions of these shapes, and this token in this position
 pub record ItemAnywhere (edition : Edition) (room : ℕ) (position : Position) (token : Token) (w : List ℕ) (ss : Shape SubstsOf) : Type 0 where
   pub some : 0 < length w
   pub there : (g : Given) (q : ℕ) (zs : List ℕ) → drop q g.text ≡ w ++ zs → follows zs ≡ true → ReadAt room position token w ss (given edition g.text g.offset) q

@@ -1,5 +1,5 @@
--- No span of what was read, that of a here-document's body among them, names an offset behind the place where the reading stands then;
--- and each simple command that was read has an item.
+-- No span of what was read, that of a here-document's body among them, names an offset behind the place where
+-- the reading stands then; and each simple command that was read has an item.
 use Rattle.std.proofs.Common.{◌≡◌, sym, subst, ℕ, zero, suc, ◌+◌, ◌≤◌, Bool, true, false, Ok, List, List as Row, [], ◌∷◌, Option, Some, None, arith}
 use Rattle.std.specs.Prelude.{All, unwrap_or}
 use Rattle.std.proofs.lemmas.List.Elements.{All-head, All-nil, All-tail}

@@ -1,5 +1,5 @@
--- What a form reads up to a good place it reads in another text that has the bytes up to there: the laws of forms, for what is of
--- the same shape.
+-- What a form reads up to a good place it reads in another text that has the bytes up to
+-- there: the laws of forms, for what is of the same shape.
 use Rattle.std.proofs.Common.{◌≡◌, ℕ, zero, suc, ◌+◌, ◌-◌, ◌≤◌, ◌<◌, Bool, true, false, Ok, Err, Option, Some, None, option_map, Result, List, List as Row, [], ◌∷◌, ◌++◌, length, map, drop, refl, sym, ap, subst, ◌∙◌, arith}
 use Rattle.std.proofs.lemmas.Bool.{ltb-true}
 use Rattle.std.proofs.lemmas.List.{map-append}
@@ -119,7 +119,8 @@ module _ {edition : Edition} {T U : List ℕ} {a M : ℕ} {to : ℕ → ℕ} {li
 
   -- ---- what is read there
 
-  -- where the first text is read up to a good place, q reads in the second something of which S holds, and up to the same place
+  -- where the first text is read up to a good place, q reads in the second something
+  -- of which S holds, and up to the same place
   abbrev pub Found : {X Y : Type 0} → (X → Y → Type 0) → Form Y → State → X → State → Type 0
   Found {Y = Y} S q s x t = G t.at → (y : Y) × ((does q Whole h (over s) ≡ Ok (y, over t)) × S x y)
 

@@ -1,4 +1,5 @@
--- Words with the delimiters that they are, and texts with the bodies in them: what the definitions have to give.
+-- Words with the delimiters that they are, and texts with the bodies in them: what the
+-- definitions have to give.
 use Rattle.shgrammar.specs.declared.edition.Edition.TheVariants.{Y2017}
 use Rattle.std.proofs.Common.{◌≡◌, refl, ℕ, Bool, true, false, List, [], ◌∷◌, Option, Some, None}
 use Rattle.std.specs.Prelude.{codes, Ok, Err}

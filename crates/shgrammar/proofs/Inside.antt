@@ -1,5 +1,6 @@
--- What ends by a limit, in a text and in another one that has the same bytes up to there: where it began a byte before the limit is
--- read, and in the other text the same is read. At the limit itself the texts may differ.
+-- What ends by a limit, in a text and in another one that has the same bytes up to
+-- there: where it began a byte before the limit is read, and in the other text the
+-- same is read. At the limit itself the texts may differ.
 use Rattle.std.proofs.Common.{◌≡◌, ℕ, zero, suc, ◌+◌, ◌-◌, ◌≤◌, ◌<◌, ◌==◌, Bool, true, false, not, ◌||◌, Ok, Err, List, length, refl, sym, ap, subst, ◌∙◌, arith, ⊎_elim}
 use Rattle.std.proofs.lemmas.Bool.{both_ways, cases_Bool, cond_both, ltb-true}
 use Rattle.std.proofs.lemmas.Option.{slice_get_within, slice_get-get_or}

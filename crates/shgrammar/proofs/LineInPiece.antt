@@ -1,4 +1,5 @@
--- A line of a script that is read in a piece of it: what is read of it in the script, and that its shape is the same.
+-- A line of a script that is read in a piece of it: what is read of it in the script,
+-- and that its shape is the same.
 use Rattle.std.proofs.Common.{◌≡◌, ℕ, zero, suc, ◌+◌, ◌-◌, ◌≤◌, Bool, true, false, Ok, Err, List, List as Row, [], ◌∷◌, map, take, drop, refl, sym, ap, subst, ◌∙◌, arith}
 use Rattle.std.proofs.lemmas.List.{drop-take}
 use Rattle.std.proofs.Math.Seq.{drop-drop, take-take}

@@ -1,4 +1,5 @@
--- A list that ends by a `)` is read wherever its bytes stand up to that `)`, with the same shape: one term a row.
+-- A list that ends by a `)` is read wherever its bytes stand up to that `)`, with the
+-- same shape: one term a row.
 use Rattle.std.proofs.Common.{◌+◌, not, ◌&&◌, ◌≡◌, ℕ, ◌≤◌, Bool, true, false, ◌||◌, Ok, Err, List, List as Row, [], ◌∷◌, ◌++◌, drop, map, option_map, Option, Some, None, is_some, refl, sym, ap, subst, ◌∙◌, arith}
 use Rattle.std.proofs.lemmas.List.{map-append}
 use Rattle.shgrammar.specs.declared.keep.Keep.TheVariants.{Whole}

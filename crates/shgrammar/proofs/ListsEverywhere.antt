@@ -1,5 +1,5 @@
--- Words, commands and lists: no span in them names an offset behind the place where the reading stands then, and each simple command has
--- an item.
+-- Words, commands and lists: no span in them names an offset behind the place where the
+-- reading stands then, and each simple command has an item.
 use Rattle.std.proofs.Common.{◌≡◌, refl, ℕ, ◌+◌, ◌≤◌, Bool, false, List as Row, [], Option, Some, None, is_some, ap, ◌∙◌, arith}
 use Rattle.std.specs.Prelude.{All, MatchOption, ◌||◌}
 use Rattle.std.proofs.lemmas.List.Elements.{All-nil, All-push}

@@ -1,6 +1,7 @@
 -- A form goes the same way in a text that stands elsewhere, and what it reads there is moved.
 --
--- What each form reads is named by what the same form reads by itself: c says how, and P what is known of that besides.
+-- What each form reads is named by what the same form reads by itself: c says how, and
+-- P what is known of that besides.
 use Rattle.std.proofs.Common.{◌≡◌, ℕ, zero, suc, ◌+◌, ◌-◌, ◌<◌, ◌≤◌, Bool, true, false, cond, Result, Ok, Err, List, List as Row, [], ◌∷◌, ◌++◌, map, length, Option, Some, None, option_map, refl, sym, ap, subst, ◌∙◌, arith}
 use Rattle.std.proofs.lemmas.Bool.{ltb-true}
 use Rattle.std.proofs.lemmas.List.{map-append}

@@ -1,4 +1,5 @@
--- Commands elsewhere: what they are there is what they are by themselves, moved. Where a command ends is moved too, since none is empty.
+-- Commands elsewhere: what they are there is what they are by themselves, moved. Where
+-- a command ends is moved too, since none is empty.
 use Rattle.std.proofs.Common.{◌≡◌, ℕ, ◌+◌, Bool, true, false, not, ◌&&◌, ◌||◌, List as Row, [], ◌∷◌, map, Option, Some, None, option_map, is_some, refl, sym, ap, subst, ◌∙◌}
 use Rattle.std.specs.Prelude.{All}
 use Rattle.std.proofs.lemmas.List.Elements.{All-nil, All-push}

@@ -1,4 +1,5 @@
--- A line that stands elsewhere is the line by itself, with all that it names moved; and only its first entry tells whether it is blank.
+-- A line that stands elsewhere is the line by itself, with all that it names moved;
+-- and only its first entry tells whether it is blank.
 use Rattle.std.proofs.Common.{◌≡◌, ℕ, ◌+◌, Bool, true, false, not, ◌&&◌, Ok, Err, List, List as Row, [], ◌∷◌, ◌++◌, map, drop, Option, Some, None, option_map, is_some, refl, sym, ap, subst, ◌∙◌, arith}
 use Rattle.std.proofs.lemmas.List.{map-append}
 use Rattle.shgrammar.specs.declared.keep.Keep.TheVariants.{Outer, Whole}

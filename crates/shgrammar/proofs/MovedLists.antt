@@ -1,4 +1,5 @@
--- Lists, compound commands and substitutions elsewhere: what they are there is what they are by themselves, moved.
+-- Lists, compound commands and substitutions elsewhere: what they are there is what
+-- they are by themselves, moved.
 use Rattle.std.proofs.Common.{◌≡◌, ℕ, ◌+◌, Bool, true, false, not, ◌&&◌, List as Row, [], map, Option, Some, None, option_map, is_some, refl, sym, ap, subst, ◌∙◌}
 use Rattle.std.specs.Prelude.{All, unwrap_or}
 use Rattle.std.proofs.lemmas.List.Elements.{All-nil, All-push}

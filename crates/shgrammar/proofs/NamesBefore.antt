@@ -1,4 +1,5 @@
--- A NAME before `(`, wherever its bytes stand: it is read there as a word that is no reserved one and no assignment.
+-- A NAME before `(`, wherever its bytes stand: it is read there as a word that is no
+-- reserved one and no assignment.
 use Rattle.std.proofs.Common.{◌≡◌, ℕ, zero, suc, ◌+◌, ◌-◌, ◌≤◌, ◌<◌, ◌==◌, Bool, true, false, ◌&&◌, Ok, Err, List, List as Row, [], ◌∷◌, ◌++◌, length, take, drop, Option, Some, None, slice_get, refl, sym, ap, subst, ◌∙◌, arith, ⊎_elim}
 use Rattle.std.proofs.lemmas.Bool.{and_parts, both_ways, cases_Bool}
 use Rattle.std.proofs.lemmas.Bool.Decides.{nat_tests}

@@ -1,4 +1,5 @@
--- What a form reads before a newline it reads in each text that has the bytes up to there: one induction, for every row.
+-- What a form reads before a newline it reads in each text that has the bytes up to
+-- there: one induction, for every row.
 use Rattle.std.proofs.Common.{◌≡◌, ℕ, ◌+◌, ◌-◌, ◌≤◌, ◌<◌, true, false, ltb, Ok, Err, List, List as Row, [], ◌∷◌, length, refl, sym, ap, subst, ◌∙◌, arith, ⊎_elim}
 use Rattle.std.proofs.lemmas.Bool.{ltb-true, lt-ltb, cases_lt, cases_Bool}
 use Rattle.std.proofs.lemmas.Option.{slice_get_within}

@@ -82,7 +82,8 @@ still_command : (es : Row AnEntry) (e : AnEntry) → holds_command (entries_of e
 still_command [] e so = absurd cc
 still_command (x ∷ es) e so = or_more (is_command x) _ _ (still_command es e) so
 
--- What holds of the entries of a list so far, whose first one may be blank where the flag says so: before it no other is.
+-- What holds of the entries of a list so far, whose first one may be blank where the
+-- flag says so: before it no other is.
 pub record NormalList (blank : Bool) (l : Listed) : Type 0 where
   pub first : blank ≡ false → first_not_blank (entries_of l.entries) ≡ true
   pub none : blank ≡ false → is_empty l.entries ≡ true → l.blank ≡ false

@@ -1,4 +1,5 @@
--- Lines at the front of a script: what follows them has no part in how they are read, and the first fault behind them is the script's.
+-- Lines at the front of a script: what follows them has no part in how they are read,
+-- and the first fault behind them is the script's.
 use Rattle.std.proofs.Common.{◌≡◌, ℕ, zero, suc, ◌+◌, ◌-◌, ◌<◌, Bool, true, false, Ok, Err, List, List as Row, Option, Some, option_map, length, take, drop, slice_get, refl, sym, ap, subst, ◌∙◌, arith, length-drop}
 use Rattle.std.proofs.Math.Seq.{drop-drop, take-take}
 use Rattle.shgrammar.specs.declared.keep.Keep.TheVariants.{Nothing, Outer, Whole}

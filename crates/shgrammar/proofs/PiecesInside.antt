@@ -1,5 +1,6 @@
--- The pieces of a word that ends at a limit: the same in another text that has its bytes up to there, where a byte that ends words and
--- is no `(` follows. Nothing but the end of the word, and a `$` before it, look as far as the limit.
+-- The pieces of a word that ends at a limit: the same in another text that has its bytes
+-- up to there, where a byte that ends words and is no `(` follows. Nothing but the end of
+-- the word, and a `$` before it, look as far as the limit.
 use Rattle.std.proofs.Common.{◌≡◌, ℕ, zero, suc, ◌+◌, ◌-◌, ◌≤◌, ◌<◌, ◌==◌, Bool, true, false, ◌||◌, ◌⊎◌, inl, inr, Ok, List, List as Row, [], length, map, Option, Some, None, slice_get, refl, sym, ap, subst, ◌∙◌, arith, ⊎_elim}
 use Rattle.std.proofs.lemmas.Bool.{cond_both, lt-ltb}
 use Rattle.std.proofs.lemmas.Bool.Decides.{nat_tests}
@@ -66,7 +67,8 @@ module _ {edition : Edition} {T U : List ℕ} {a L : ℕ} {to : ℕ → ℕ} (K 
   abbrev pub Agree : Held → Held → Type 0
   Agree c d = SameHeld c d × SameSubsts c.substs d.substs
 
-  -- what a construct holds is the same elsewhere, wherever its opener stands and behind substitutions of the same shape
+  -- what a construct holds is the same elsewhere, wherever its opener stands and
+  -- behind substitutions of the same shape
   abbrev pub Holding : (Row ASubst → Form (Row ASubst)) → Row ASubst → State → Row ASubst → State → Type 0
   Holding r ss s x t = t.at ≤ L → Inside s.at × ((zs : Row ASubst) → SameSubsts ss zs → (y : Row ASubst) × ((does (r zs) Whole h (over s) ≡ Ok (y, over t)) × SameSubsts x y))
 

@@ -1,4 +1,5 @@
--- Delimiters whose text stands in the word: of ordinary bytes alone, of such in quotes, or of such behind a backslash.
+-- Delimiters whose text stands in the word: of ordinary bytes alone, of such in
+-- quotes, or of such behind a backslash.
 use Rattle.std.proofs.Common.{◌≡◌, ℕ, ◌+◌, ◌-◌, ◌==◌, ◌≤◌, Bool, true, false, ◌||◌, not, List, [], ◌∷◌, ◌++◌, length, take, drop, Option, Some, None, get_or, refl, sym, ap, ◌∙◌, arith}
 use Rattle.std.specs.Prelude.{◌&&◌, nat_lt}
 use Rattle.std.specs.List.{list_all}

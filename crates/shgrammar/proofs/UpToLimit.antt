@@ -1,4 +1,5 @@
--- What holds of whatever is read with its tree, unless the reading ends above a limit: the laws of forms for it; and where comments end.
+-- What holds of whatever is read with its tree, unless the reading ends above a limit:
+-- the laws of forms for it; and where comments end.
 use Rattle.std.proofs.Common.{◌≡◌, refl, subst, ℕ, ◌+◌, ◌≤◌, Bool, true, false, cond, Ok, Err, List, List as Row, ◌∷◌, ◌++◌, [], Some, None, arith}
 use Rattle.std.specs.Prelude.{All}
 use Rattle.std.proofs.lemmas.List.Elements.{All-nil, All-push}

@@ -1,4 +1,5 @@
--- What may be opened is read wherever its bytes stand, with the same shape: constructs, substitutions and compound commands.
+-- What may be opened is read wherever its bytes stand, with the same shape:
+-- constructs, substitutions and compound commands.
 use Rattle.std.proofs.Common.{Option, option_map, None, ◌≡◌, ℕ, zero, suc, ◌+◌, ◌≤◌, ◌<◌, Bool, true, false, Ok, Err, List, List as Row, [], ◌∷◌, ◌++◌, length, drop, map, Some, slice_get, refl, sym, ap, subst, ◌∙◌, arith}
 use Rattle.std.proofs.lemmas.Option.{slice_get_within}
 use Rattle.shgrammar.specs.declared.keep.Keep.TheVariants.{Whole}
@@ -44,8 +45,8 @@ pub substs_shape : (B : List ℕ) (ss : Row ASubst) → shape_of_substs B (subst
 substs_shape B [] = refl
 substs_shape B (s ∷ ss) = rw (substs_shape B ss) refl
 
--- whatever two texts, and wherever: constructs and substitutions before a byte that ends words, compound commands and functions before
--- a `)`
+-- whatever two texts, and wherever: constructs and substitutions before a byte that
+-- ends words, compound commands and functions before a `)`
 pub record Everywhere (inner : Inner) : Type 0 where
   pub local : (edition : Edition) (T U : List ℕ) (a L : ℕ) (to : ℕ → ℕ) (K : Kept edition T U a L to) (o o2 : ℕ) (B B2 : List ℕ) → T ≡ drop o B → U ≡ drop o2 B2 → ends (byte_at U (to L)) ≡ true
       → (is_byte (byte_at T L) 40 ≡ false → is_byte (byte_at U (to L)) 40 ≡ false) → Local K o o2 B B2 inner

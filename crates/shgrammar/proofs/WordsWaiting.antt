@@ -1,4 +1,5 @@
--- A word is read alike whatever here-documents wait where it stands: it looks at none of them, and leaves them waiting.
+-- A word is read alike whatever here-documents wait where it stands: it looks at none
+-- of them, and leaves them waiting.
 use Rattle.std.proofs.Common.{◌≡◌, ℕ, zero, suc, ◌-◌, Bool, true, false, cond, length, List as Row, [], Ok, Err, refl, sym, ap, ◌∙◌, subst}
 use Rattle.shgrammar.specs.declared.keep.Keep.TheVariants.{Whole}
 use Rattle.shgrammar.specs.declared.fault.FaultKind.{FaultKind}

@@ -1,6 +1,6 @@
 -- What POSIX.1-2017 itself says where a later edition says otherwise: what a `;` and a `$` begin, in words
--- that know of no later edition. Which delimiter a word is, `delimiter_of` says. That a row sees these by that
--- edition, and nothing else, is a law (`by_2017` of `shread`).
+-- that know of no later edition. Which delimiter a word is, `delimiter_of` says. That a row sees these by
+-- that edition, and nothing else, is a law (`by_2017` of `shread`).
 use Rattle.std.specs.Prelude.{ℕ, ◌==◌, List, Option, None, Some, if◌then◌else◌}
 use Rattle.shgrammar.specs.declared.mode.Mode.{Mode}
 use Rattle.shgrammar.specs.declared.mode.Piece.{Piece}

@@ -30,7 +30,8 @@ abbrev pub is_empty : {A : Type 0} → Row A → Bool
 is_empty [] = true
 is_empty (x ∷ xs) = false
 
--- On to the next token, which stands in this position of a command. Each token is told once, where it begins, and handed on.
+-- On to the next token, which stands in this position of a command. Each token is told
+-- once, where it begins, and handed on.
 unfoldable pub next_token : Position → Form Next
 next_token position = see (the_token position) >>= λ n. move blanks >> give n
 
@@ -78,8 +79,8 @@ abbrev pub is_bang : Token → Bool
 is_bang (tokens.Reserved reserved.Bang) = true
 is_bang _ = false
 
--- The position behind the word that this token begins, if it begins one: an assignment, or a word, which in a simple command is its
--- name or an argument. Behind a word none is an assignment.
+-- The position behind the word that this token begins, if it begins one: an assignment, or a word, which in a
+-- simple command is its name or an argument. Behind a word none is an assignment.
 abbrev pub behind_word : Token → Option Position
 behind_word tokens.Assignment = Some Prefix
 behind_word tokens.Word = Some Suffix
@@ -138,8 +139,8 @@ wrong_with true p (Some b) = (UnclosedHere, b)
 wrong_with true p None = (UnexpectedEnd, p)
 wrong_with false p w = (Unexpected, p)
 
--- What is wrong where no row takes this token. A word is read whole first, so a fault inside it comes first; a comment goes with the
--- token behind it.
+-- What is wrong where no row takes this token. A word is read whole first, so a fault inside
+-- it comes first; a comment goes with the token behind it.
 unfoldable pub what_is_wrong : Inner → Next → Form (FaultKind × ℕ)
 what_is_wrong inner n =
     pick (begins_word n.token)
@@ -229,7 +230,8 @@ document_by b p strip None = stop BadHereWord p
 unfoldable pub a_document : RedirectOperator → ℕ → ℕ → Spelled → Form (Option AHere)
 a_document o b p bytes = pick (takes_here o) (see (the_delimiter bytes) >>= document_by b p (is_strip o)) (give None)
 
--- the redirection that begins here, as one more of these items, and the token behind it, which stands in this position
+-- the redirection that begins here, as one more of these items, and the token behind
+-- it, which stands in this position
 unfoldable pub one_redirect : Inner → Bool → Position → Row AnItem → Next → Form (Step Items)
 one_redirect inner broken position is n =
     see here >>= λ p.
@@ -241,7 +243,8 @@ one_redirect inner broken position is n =
     next_token position >>= λ m.
     give (again (so_many more position m))
 
--- Behind a redirection no word is reserved. One may be an assignment, if the command's name does not stand before it.
+-- Behind a redirection no word is reserved. One may be an assignment, if the command's
+-- name does not stand before it.
 abbrev pub behind_redirect : Position → Position
 behind_redirect Suffix = Suffix
 behind_redirect _ = Prefix
@@ -256,8 +259,8 @@ item_by inner i None = pick (begins_redirect i.next.token) (one_redirect inner (
 unfoldable pub item_turn : Inner → Items → Form (Step Items)
 item_turn inner i = item_by inner i (behind_word i.next.token)
 
--- The simple command that has these items so far, and the token behind it. It is not empty: where it has none yet, the token here begins
--- one.
+-- The simple command that has these items so far, and the token behind it. It is not
+-- empty: where it has none yet, the token here begins one.
 unfoldable pub a_simple : Inner → Items → Form (ACommand × Next)
 a_simple inner so = many (item_turn inner) so >>= λ i. give (simple (items_of i.items), i.next)
 
@@ -296,7 +299,8 @@ abbrev pub with_comment : Row Span → Option Span → Form (Row Span)
 with_comment cs (Some c) = push cs c
 with_comment cs None = give cs
 
--- One more comment and newline behind the operator, or none of them. Both break the join: a comment ends its line.
+-- One more comment and newline behind the operator, or none of them. Both break the
+-- join: a comment ends its line.
 unfoldable pub join_turn : JoinSo → Form (Step JoinSo)
 join_turn j =
     a_comment j.next >>= λ c.
@@ -304,7 +308,8 @@ join_turn j =
     a_newline c.1 >>= λ l.
     give (step_if l.0 (join_so (a_join_of ((j.join.broken || is_some c.0) || l.0) cs) l.1))
 
--- From behind an operator to the token with which the operand begins. A continuation on either side breaks the join.
+-- From behind an operator to the token with which the operand begins. A continuation
+-- on either side breaks the join.
 unfoldable pub a_join : Bool → Form (AJoin × Next)
 a_join broken = next_token Command >>= λ n. many join_turn (join_so (a_join_of (broken || n.broken) []) n) >>= λ j. give (j.join, j.next)
 
@@ -436,7 +441,8 @@ pub record Entered : Type 0 where
   pub parted : Option ℕ
   pub next : Next
 
--- the command that the token here begins, with what parts it from the next one, and the comment behind it on its line
+-- the command that the token here begins, with what parts it from the next one, and
+-- the comment behind it on its line
 unfoldable pub an_entry : Inner → Bool → Next → Form Entered
 an_entry inner blank n =
     an_and_or inner n >>= λ a.

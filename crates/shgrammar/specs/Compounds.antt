@@ -1,4 +1,5 @@
--- Compound commands: groups, `if`, loops, `for` and `case`; and functions, whose bodies they are (XCU 2.9.4, 2.9.5, 2.10.2).
+-- Compound commands: groups, `if`, loops, `for` and `case`; and functions, whose
+-- bodies they are (XCU 2.9.4, 2.9.5, 2.10.2).
 use Rattle.std.specs.Prelude.{ℕ, Bool, true, false, not, ◌&&◌, ◌||◌, [], ◌∷◌, codes, List as Row, None, unwrap_or}
 use Rattle.shgrammar.specs.declared.fault.FaultKind.TheVariants.{BadForName}
 use Rattle.shgrammar.specs.declared.token.Closing.{Closing}
@@ -75,7 +76,8 @@ behind_opener openers.For = Suffix
 behind_opener openers.Case = Suffix
 behind_opener _ = Command
 
--- the round bracket or the reserved word here, told by this text, and the token behind it, which stands in this position
+-- the round bracket or the reserved word here, told by this text, and the token behind
+-- it, which stands in this position
 unfoldable pub passed : Spelled → Bool → Position → Form (Span × Next)
 passed text paren position = token (by text) (move (past_opener paren)) >>= λ x. next_token position >>= λ n. give (x.1, n)
 
@@ -326,7 +328,8 @@ a_form inner openers.Case n = a_case inner n
 
 -- ---- a compound command
 
--- A compound command is held apart from what it stands in, in a row of its own: without a tree that row stays empty.
+-- A compound command is held apart from what it stands in, in a row of its own:
+-- without a tree that row stays empty.
 abbrev pub held_apart : Row ACommand → ACommand
 held_apart [] = simple no_item
 held_apart (c ∷ cs) = c

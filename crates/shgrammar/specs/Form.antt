@@ -1,8 +1,9 @@
 -- Forms: what the rows of the grammar are made of, and what they mean.
 --
--- A row is a form. What may be read by it is a relation (`may`), with one case for each way in which a form may go; beside it stands a
--- function that computes (`does`). That the one is what the other computes is shown once, for all forms. What is given, the
--- state and the tokens passed are handed on here: no row names them.
+-- A row is a form. What may be read by it is a relation (`may`), with one case for each
+-- way in which a form may go; beside it stands a function that computes (`does`). That the
+-- one is what the other computes is shown once, for all forms. What is given, the state
+-- and the tokens passed are handed on here: no row names them.
 use Rattle.std.specs.Prelude.{◌≡◌, ℕ, zero, suc, ◌-◌, Bool, true, false, Result, Ok, Err, List, [], ◌∷◌, ◌++◌, List as Row, length, nat_lt, take, drop, if◌then◌else◌}
 use Rattle.shast.specs.declared.tree.Span.{Span}
 use Rattle.shast.specs.Shape.{bare}

@@ -1,4 +1,5 @@
--- Here-documents: what their delimiter is, where their body ends, and what a newline does where some wait (XCU 2.7.4).
+-- Here-documents: what their delimiter is, where their body ends, and what a newline
+-- does where some wait (XCU 2.7.4).
 use Rattle.std.specs.Prelude.{ℕ, zero, suc, ◌+◌, ◌-◌, ◌==◌, min, Bool, true, false, ◌&&◌, ◌||◌, not, List, [], ◌∷◌, ◌++◌, List as Row, length, take, drop, fold, bytes_eq, Option, Some, None, option_map, Result, Ok, Err, if◌then◌else◌}
 use Rattle.std.specs.List.{list_any}
 use Rattle.shast.specs.declared.tree.Span.{Span}
@@ -49,7 +50,8 @@ stays_before q c = false
 abbrev pub escape_left : Quoting → ℕ → Option (List ℕ) → Option (List ℕ)
 escape_left q c left = if c == 10 then left else (if stays_before q c then left_before 92 (left_before c left) else left_before c left)
 
--- A `$`, and the bytes behind it: `$(`, `$((` and `${` leave nothing. Whether it is the second of `$$`, and then whether the next is.
+-- A `$`, and the bytes behind it: `$(`, `$((` and `${` leave nothing. Whether it is
+-- the second of `$$`, and then whether the next is.
 abbrev pub dollar_left : Bool → List ℕ → (Bool → Option (List ℕ)) → Option (List ℕ)
 dollar_left true bs left = left_before 36 (left false)
 dollar_left false bs left = if stands bs 0 40 || stands bs 0 123 then None else left_before 36 (left (stands bs 0 36))
@@ -61,15 +63,16 @@ byte_left q second b bs left = if is_quote q b then left (behind_quote q b) fals
     else (if is_live q 36 b then dollar_left second bs (left q)
     else left_before b (left q second)))
 
--- What quote removal leaves of these bytes of a word (XCU 2.6.7), or that an expansion or text in backquotes is among them. `second`
--- tells that the next `$` is the second of `$$`.
+-- What quote removal leaves of these bytes of a word (XCU 2.6.7), or that an expansion or text in backquotes
+-- is among them. `second` tells that the next `$` is the second of `$$`.
 unfoldable pub unquoted : Quoting → Bool → List ℕ → Option (List ℕ)
 unquoted q second [] = Some []
 unquoted q second (b ∷ []) = byte_left q second b [] (λ r s. Some [])
 unquoted q second (b ∷ c ∷ bs) = if is_live q 92 b then escape_left q c (unquoted q second bs)
     else byte_left q second b (c ∷ bs) (λ r s. unquoted r s (c ∷ bs))
 
--- a part of the word is quoted, perhaps an empty one: its first quote, or backslash that begins no continuation, stands outside quotes
+-- a part of the word is quoted, perhaps an empty one: its first quote, or backslash
+-- that begins no continuation, stands outside quotes
 abbrev pub is_quoted : List ℕ → Bool
 is_quoted bytes = list_any (λ b. b == 92 || b == 39 || b == 34) (bare bytes)
 
@@ -117,7 +120,8 @@ is_delimiter w line = bytes_eq (stripped w.strip line) w.delimiter
 abbrev pub takes_newline : Waiting → List ℕ → Bool
 takes_newline w line = not w.literal && fold (λ odd b. b == 92 && not odd) false line
 
--- a line that the one before takes in is not the delimiter's, which `taken` tells; fewer than n bytes are left
+-- a line that the one before takes in is not the delimiter's, which `taken` tells;
+-- fewer than n bytes are left
 unfoldable pub delimiter_below : ℕ → List ℕ → Waiting → Bool → ℕ → Option ℕ
 delimiter_below zero T w taken p = None
 delimiter_below (suc n) T w taken p =
@@ -139,7 +143,8 @@ abbrev pub body_by : (Row Span → ℕ → Result (Row Span × ℕ) Fault) → G
 body_by rest g w bodies p None = Err (record { kind = UnclosedHere; at = w.operator })
 body_by rest g w bodies p (Some q) = rest (bodies ++ span g.offset p q ∷ []) (past_line g.text q)
 
--- the bodies of these documents from p on, behind those read so far, and the place behind the last delimiter's line
+-- the bodies of these documents from p on, behind those read so far, and the place
+-- behind the last delimiter's line
 unfoldable pub bodies_from : Given → Row Waiting → Row Span → ℕ → Result (Row Span × ℕ) Fault
 bodies_from g [] bodies p = Ok (bodies, p)
 bodies_from g (w ∷ ws) bodies p = body_by (bodies_from g ws) g w bodies p (delimiter_from g.text w p)
@@ -179,7 +184,8 @@ changed bodies_here g s = with_bodies g s
 
 -- ---- levels
 
--- a substitution is a level of its own: nothing waits where it begins, and behind it what waited before it waits again
+-- a substitution is a level of its own: nothing waits where it begins, and behind it
+-- what waited before it waits again
 abbrev pub own_level : State → State
 own_level s = record { at = s.at; waiting = []; bodies = [] }
 

@@ -16,7 +16,8 @@ abbrev pub has_entry : Entries → Bool
 has_entry no_entry = false
 has_entry (more_entries e es) = true
 
--- One line that begins at the base, behind entries; the gap tells that a blank line is behind the last of them.
+-- One line that begins at the base, behind entries; the gap tells that a blank line is
+-- behind the last of them.
 abbrev pub line_joined_by : (Entries → Bool → AScript) → AKind → Entries → Bool → ℕ → AScript
 line_joined_by rest blank_line es gap base = rest es true
 line_joined_by rest (entries_line xs) es gap base = rest (appended es (blanked (gap && has_entry es) (moved base xs))) false

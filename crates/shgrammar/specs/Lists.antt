@@ -70,7 +70,8 @@ on_line inner l = many (entry_turn inner) l >>= a_remark
 unfoldable pub list_turn : Inner → ListSo → Form (Step ListSo)
 list_turn inner l = on_line inner l >>= λ m. a_newline m.next >>= λ x. give (step_if x.0 (list_so (next_line m.list) x.1))
 
--- A list that holds a command, and the token behind it. It ends where no entry may begin; who reads it asks for what has to follow.
+-- A list that holds a command, and the token behind it. It ends where no entry may
+-- begin; who reads it asks for what has to follow.
 unfoldable pub a_list : Inner → Next → Form (Entries × Next)
 a_list inner n =
     many (list_turn inner) (list_so (none_listed false) n) >>= λ l. pick l.list.commands (give (entries_of l.list.entries, l.next)) (unexpected inner l.next)

@@ -47,8 +47,8 @@ abbrev pub end_by : Mode → Piece
 end_by Plain = pieces.Closer
 end_by _ = pieces.Missing
 
--- By the byte at p, or none. Outside of single quotes a backslash takes the byte behind it, whatever that is: where it does not
--- quote it (XCU 2.2.3), that byte begins nothing either.
+-- By the byte at p, or none. Outside of single quotes a backslash takes the byte behind it, whatever that is:
+-- where it does not quote it (XCU 2.2.3), that byte begins nothing either.
 abbrev pub piece_by : List ℕ → ℕ → Mode → ℕ → Option ℕ → Piece
 piece_by T p mode n None = end_by mode
 piece_by T p mode n (Some b) = if b == 92 then (if at_end T (behind T p) then pieces.LoneBackslash else pieces.Escape)

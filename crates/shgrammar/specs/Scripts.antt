@@ -23,7 +23,8 @@ pub record SoFar : Type 0 where
   pub entries : Row AnEntry
   pub gap : Bool
 
--- the first entry of the next line is blank where one stands before it, and at least two newline tokens are between them
+-- the first entry of the next line is blank where one stands before it, and at least
+-- two newline tokens are between them
 abbrev pub is_blank_line : SoFar → Bool
 is_blank_line so = so.gap && not (is_empty so.entries)
 

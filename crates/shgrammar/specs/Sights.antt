@@ -1,5 +1,6 @@
--- What a row of the grammar may see from where the reading stands, and where it may move to: two closed lists. That a row looks
--- no further than these do is shown once for each of them, and then holds of every row.
+-- What a row of the grammar may see from where the reading stands, and where it may
+-- move to: two closed lists. That a row looks no further than these do is shown once
+-- for each of them, and then holds of every row.
 use Rattle.std.specs.Prelude.{ℕ, ◌+◌, Bool, List, Option}
 use Rattle.shgrammar.specs.declared.mode.Escaping.{Escaping}
 use Rattle.shgrammar.specs.declared.mode.Mode.{Mode}

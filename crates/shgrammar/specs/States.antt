@@ -12,7 +12,8 @@ pub record Given : Type 0 where
 abbrev pub given : Edition → List ℕ → ℕ → Given
 given edition T o = record { text = T; offset = o; edition = edition }
 
--- a here-document that waits for the next newline token: where its operator stands, its delimiter, and how its body is read
+-- a here-document that waits for the next newline token: where its operator stands,
+-- its delimiter, and how its body is read
 pub record Waiting : Type 0 where
   pub operator : ℕ
   pub delimiter : List ℕ

@@ -19,8 +19,8 @@ substituted inner =
     many (list_turn inner) (list_so (none_listed false) n) >>= λ l.
     pick (is_closing closings.Paren l.next.token) (nothing_waits >> move one_byte >> give (entries_of l.list.entries)) (unexpected inner l.next)
 
--- The substitution whose `$` stands at the offset b, from behind its `(` on, as one more of these. It is not closed where the text
--- ends in it. Its here-documents are its own.
+-- The substitution whose `$` stands at the offset b, from behind its `(` on, as one more of these. It is not
+-- closed where the text ends in it. Its here-documents are its own.
 unfoldable pub one_substitution : Inner → ℕ → Row ASubst → Form (Row ASubst)
 one_substitution inner b ss =
     a_level (ends_as UnclosedSubst b (substituted inner)) >>= λ es. see here >>= λ q. push ss (subst (filled es.1 es.0) (record { start = b; «end» = q }))

@@ -78,7 +78,8 @@ word_by Command T p = first_word (begins_assignment T p) (reserved_at T p)
 word_by Prefix T p = word_of (begins_assignment T p)
 word_by Suffix T p = tokens.Word
 
--- The operator of a redirection that begins with `<`, or with `>`; what stands behind that byte stands at p (XCU 2.7).
+-- The operator of a redirection that begins with `<`, or with `>`; what stands behind
+-- that byte stands at p (XCU 2.7).
 unfoldable pub less_at : List ℕ → ℕ → RedirectOperator
 less_at T p = if stands T p 60 then (if stands T (behind T p) 45 then redirects.HereStripped else redirects.Here)
     else (if stands T p 38 then redirects.DuplicateInput

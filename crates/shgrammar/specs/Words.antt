@@ -41,10 +41,11 @@ dollar_single = see the_byte >>= λ b. move one_byte >> move one_byte >> many (e
 
 -- what may be opened where the reading stands
 pub record Inner : Type 1 where
-  -- a construct of a word in this mode, from behind its opener on, which stands at an offset, and behind the substitutions that the
-  -- word has so far
+  -- a construct of a word in this mode, from behind its opener on, which stands at an offset,
+  -- and behind the substitutions that the word has so far
   pub construct : Mode → ℕ → Row ASubst → Form (Row ASubst)
-  -- a command substitution, from behind its opener on, which stands at an offset, behind those that the word has so far
+  -- a command substitution, from behind its opener on, which stands at an offset,
+  -- behind those that the word has so far
   pub substitution : ℕ → Row ASubst → Form (Row ASubst)
   -- a compound command, from its opener on, and the token behind it
   pub compound : Opener → Form (ACommand × Next)
@@ -65,8 +66,8 @@ having n ss = record { nested = n; substs = ss }
 abbrev pub opened : Inner → Mode → ℕ → Held → Form (Step Held)
 opened inner mode b h = inner.construct mode b h.substs >>= λ ss. give (again (having h.nested ss))
 
--- One piece, or the end of the construct that opened at b. A fault stands where the piece begins, past continuations; that of text
--- that ends inside at the opener.
+-- One piece, or the end of the construct that opened at b. A fault stands where the piece begins, past
+-- continuations; that of text that ends inside at the opener.
 abbrev pub piece_row : Inner → Mode → ℕ → Held → Piece → Form (Step Held)
 piece_row inner mode b h pieces.Closer = move (the_closer mode) >> give (done h)
 piece_row inner mode b h pieces.Missing = stop (unclosed mode) b

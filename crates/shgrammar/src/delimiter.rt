@@ -152,7 +152,8 @@ impl Unquoting {
         Ok(())
     }
 
-    /// The `$` behind which a place of the word is. Answers that place, or `None` where it begins an expansion.
+    /// The `$` behind which a place of the word is. Answers that place, or `None`
+    /// where it begins an expansion.
     #[tactic(auto, using(crate::proofs::Unquoted::dollar_second, crate::proofs::Unquoted::dollar_opens, crate::proofs::Unquoted::dollar_on))]
     fn dollar(&mut self, word: &[u8], next: usize) -> Result<Option<usize>, AllocError>
         requires { next ≤ length word.now }
@@ -174,8 +175,8 @@ impl Unquoting {
         Ok(Some(next))
     }
 
-    /// The byte at a place of the word, which is behind no backslash. Answers the place behind it, or `None` where an expansion stands
-    /// or text in backquotes.
+    /// The byte at a place of the word, which is behind no backslash. Answers the place behind it, or
+    /// `None` where an expansion stands or text in backquotes.
     #[tactic(auto, using(crate::proofs::Unquoted::byte_quote, crate::proofs::Unquoted::byte_backquote, crate::proofs::Unquoted::byte_dollar, crate::proofs::Unquoted::byte_other))]
     fn byte(&mut self, word: &[u8], at: usize) -> Result<Option<usize>, AllocError>
         requires { at < length word.now }
@@ -315,8 +316,9 @@ fn unwrapped(word: &[u8]) -> &[u8]
     word
 }
 
-/// The part of a word that quote removal leaves, where it is of ordinary bytes: all of it, all between the quotes around it, or all
-/// behind a backslash. Most delimiters are letters, and are quoted so, or not at all.
+/// The part of a word that quote removal leaves, where it is of ordinary bytes: all of
+/// it, all between the quotes around it, or all behind a backslash. Most delimiters
+/// are letters, and are quoted so, or not at all.
 #[tactic(auto, using(crate::proofs::PlainDelimiters::plain_whole))]
 pub fn plain_part(word: &[u8]) -> Option<&[u8]>
     ensures part { option_map (λ part. part.now) result ≡ plain_part word.now }
@@ -355,7 +357,8 @@ fn has_dollar_single(word: &[u8]) -> bool
     false
 }
 
-/// The delimiter that a word is, by its bytes as they stand (XCU 2.7.4). One with an expansion or text in backquotes is none.
+/// The delimiter that a word is, by its bytes as they stand (XCU 2.7.4). One with an
+/// expansion or text in backquotes is none.
 ///
 /// # Errors
 ///

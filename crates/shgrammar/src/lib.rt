@@ -1,8 +1,9 @@
 //! The grammar of shform: the Shell Command Language of POSIX as definitions, and what follows from them.
 //!
-//! Start with `specs/`: `Words`, `Commands`, `Lists`, `Compounds`, `Substitutions` and `Lines` are the grammar's rows, and `Form` says
-//! what a row means. `proofs/` has what holds of every text by these definitions alone. The types here are those that rows
-//! are told by: [`Token`], [`Mode`] and their kin, [`Fault`], and [`Keep`]. No reader stands here: that is the crate `shread`.
+//! Start with `specs/`: `Words`, `Commands`, `Lists`, `Compounds`, `Substitutions` and `Lines` are the
+//! grammar's rows, and `Form` says what a row means. `proofs/` has what holds of every text by these
+//! definitions alone. The types here are those that rows are told by: [`Token`], [`Mode`] and their kin,
+//! [`Fault`], and [`Keep`]. No reader stands here: that is the crate `shread`.
 #![tactic(auto)]
 
 mod class;

@@ -48,8 +48,8 @@ const D: u8 = PLAIN | DOUBLE | BRACE | DOUBLE_BRACE;
 /// The closing brace.
 const C: u8 = BRACE | DOUBLE_BRACE;
 
-/// By a byte: in which modes it is special, whether a word ends before it, whether it may be in a name, and whether something
-/// else than a word may begin with it. A table is read faster than so many tests.
+/// By a byte: in which modes it is special, whether a word ends before it, whether it may be in a name, and
+/// whether something else than a word may begin with it. A table is read faster than so many tests.
 const MARKS: [u8; 256] = [
     O, O, O, O, O, O, O, O, O, E, E, O, O, O, O, O, O, O, O, O, O, O, O, O, O, O, O, O, O, O, O, O,
     E, O, D, H, A, O, E, S, R, R, O, O, O, O, O, O, G, G, G, G, G, G, G, G, G, G, O, E, E, O, E, O,

@@ -269,8 +269,8 @@ pub enum Position {
     Command,
     /// Behind an assignment, or a redirection, before the command's name: a word may be one more assignment.
     Prefix,
-    /// Behind the command's name: a word is an argument. So is one behind the operator of a redirection, behind `for`, behind its `in`,
-    /// behind `case` and behind a pattern: none is reserved.
+    /// Behind the command's name: a word is an argument. So is one behind the operator of a redirection,
+    /// behind `for`, behind its `in`, behind `case` and behind a pattern: none is reserved.
     Suffix,
 }
 

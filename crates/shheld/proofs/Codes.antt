@@ -1,4 +1,5 @@
--- A code of what a line is: trees as trees of numbers, from which they can be read back. A value that contracts name has to have one.
+-- A code of what a line is: trees as trees of numbers, from which they can be read
+-- back. A value that contracts name has to have one.
 use Rattle.std.proofs.Common.{◌≡◌, zero, suc, Bool, true, false, List as Row, [], ◌∷◌, Option, None, Some, refl, ◌⊎◌, inl, inr}
 use Rattle.std.specs.Coded.{code_by}
 use base.Stored.{Coded, Gv, coded_bool, coded⊎, gnil, gnum, gcons}

@@ -71,7 +71,8 @@ impl Joined {
 
 /// Adds the entries of a line that begins at the offset `base` to those of the lines before it, `into`.
 ///
-/// The first of them is blank where an entry stands before it and there is a gap between them: the line before has no entries.
+/// The first of them is blank where an entry stands before it and there is a gap
+/// between them: the line before has no entries.
 ///
 /// # Errors
 ///

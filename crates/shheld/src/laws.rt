@@ -28,8 +28,8 @@ pub fn windows()
         (w ≤ a) × (w ≤ t) × (t ≤ length (edited bytes a b new)) }
 {}
 
-/// Bytes have a row of lines under each edition. What is read of them is the script of that row, whose entries
-/// a walk over the row gathers. Its first fault is that of the last line.
+/// Bytes have a row of lines under each edition. What is read of them is the script of that row, whose
+/// entries a walk over the row gathers. Its first fault is that of the last line.
 #[tactic(auto, using(crate::proofs::Rows::row_outcome, crate::proofs::Rows::row_entries, crate::proofs::Rows::row_fault))]
 pub fn script_of_lines()
     ensures row { (edition : Edition) (bytes : List ℕ) →
@@ -46,7 +46,8 @@ pub fn script_of_lines()
         IsRow (IsTopLine edition) bytes row → AreWithin (length bytes) (script_of row).entries }
 {}
 
-/// The nodes that hold a byte are those of the line that holds it, and the outline of a script is those of its lines, in order.
+/// The nodes that hold a byte are those of the line that holds it, and the outline of
+/// a script is those of its lines, in order.
 #[tactic(auto, using(crate::proofs::NodesAt::row_nodes_at, crate::proofs::NodesAt::row_nodes_past, crate::proofs::Outlines::row_outline))]
 pub fn nodes_of_lines()
     ensures at { (edition : Edition) (bytes : List ℕ)

@@ -54,7 +54,8 @@ reads bytes cursor form = reads_at bytes cursor form (state_of cursor)
 abbrev pub end_of : {S : Type 0} {k : ℕ} {g : _} → (S → List ℕ) → Cursor S k g → ℕ
 end_of bytes cursor = cursor.origin + length (text_of bytes cursor)
 
--- what a stop says of the reading: a fault is its outcome, and stands within the text; want of memory says nothing
+-- what a stop says of the reading: a fault is its outcome, and stands within the text;
+-- want of memory says nothing
 abbrev pub Fails : {Y : Type 0} → ℕ → Stop → Read Y → Type 0
 Fails end Memory read = Unit {0}
 Fails end (Wrong f) read = (read ≡ Err f) × (f.at ≤ end)
@@ -64,7 +65,8 @@ abbrev pub Gives : {X Y : Type 0} → ℕ → (X → Y × State) → Result X St
 Gives end view (Ok x) read = read ≡ Ok (view x)
 Gives end view (Err e) read = Fails end e read
 
--- What a function returned, seen by view, is what the form gives from where the cursor stood, and ends in t; unless memory ran out.
+-- What a function returned, seen by view, is what the form gives from where the cursor
+-- stood, and ends in t; unless memory ran out.
 abbrev pub Reads : {S X Y : Type 0} {k : ℕ} {g : _} → (S → List ℕ) → Cursor S k g → Form Y → Result X Stop → (X → Y) → State → Type 0
 Reads bytes cursor form result view t = Gives (end_of bytes cursor) (λ x. (view x, t)) result (reads bytes cursor form)
 

@@ -18,7 +18,8 @@ use std::alloc::Global;
 use std::mem;
 
 impl<'a, S: Source, const KEEP: u8> Cursor<'a, S, KEEP> {
-    /// One more pipeline of an and-or list, behind `&&` or `||`. It stands apart to keep the frames of nested commands small.
+    /// One more pipeline of an and-or list, behind `&&` or `||`. It stands apart to
+    /// keep the frames of nested commands small.
     #[cycle(commands)]
     #[tactic(auto, unfolding(shgrammar::specs::Commands::one_pipeline))]
     fn one_pipeline(

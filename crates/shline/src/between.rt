@@ -36,7 +36,8 @@ impl<'a, S: Source, const KEEP: u8> Cursor<'a, S, KEEP> {
         }
     }
 
-    /// Passes the newline here with the bodies that follow it, if one stands. `next` is the token here, and then the one behind it.
+    /// Passes the newline here with the bodies that follow it, if one stands. `next`
+    /// is the token here, and then the one behind it.
     #[inline(always)]
     #[tactic(auto, unfolding(shgrammar::specs::Commands::a_newline, shgrammar::specs::Commands::next_token))]
     pub(crate) fn newline(&mut self, next: &mut Next) -> Result<bool, Stop>
@@ -72,8 +73,8 @@ impl<'a, S: Source, const KEEP: u8> Cursor<'a, S, KEEP> {
         true
     }
 
-    /// Passes `;` or `&`, if the token here is one of them, and tells the offset behind it. `next` is that token, and then the one
-    /// behind it.
+    /// Passes `;` or `&`, if the token here is one of them, and tells the offset behind
+    /// it. `next` is that token, and then the one behind it.
     #[inline(always)]
     #[tactic(auto, unfolding(shgrammar::specs::Commands::a_separator, shgrammar::specs::Commands::next_token))]
     pub(crate) fn separator(&mut self, next: &mut Next) -> Option<(Separator, usize)>
@@ -90,7 +91,8 @@ impl<'a, S: Source, const KEEP: u8> Cursor<'a, S, KEEP> {
         Some((separator, end))
     }
 
-    /// What is wrong where no row takes the token here. A word is read whole first; a comment goes with the token behind it.
+    /// What is wrong where no row takes the token here. A word is read whole first; a
+    /// comment goes with the token behind it.
     #[cycle(commands)]
     #[tactic(auto, unfolding(shgrammar::specs::Commands::what_is_wrong))]
     pub(crate) fn what_is_wrong(

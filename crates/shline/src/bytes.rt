@@ -52,7 +52,8 @@ impl<'a, S: Source, const KEEP: u8> Cursor<'a, S, KEEP> {
         at
     }
 
-    /// The byte that is read at a place, or `None` at the end. Only behind a backslash another byte may be meant.
+    /// The byte that is read at a place, or `None` at the end. Only behind a backslash
+    /// another byte may be meant.
     #[inline(always)]
     #[tactic(auto, using(shgrammar::proofs::Stretches::raw_stays))]
     pub(crate) fn byte_at(&self, at: usize) -> Option<u8>
@@ -162,7 +163,8 @@ impl<'a, S: Source, const KEEP: u8> Cursor<'a, S, KEEP> {
         }
     }
 
-    /// The place behind the bytes of this class from a place on. Most often no continuation stands among them.
+    /// The place behind the bytes of this class from a place on. Most often no
+    /// continuation stands among them.
     #[inline(always)]
     #[tactic(auto, using(shgrammar::proofs::Unbroken::past_raw, shgrammar::proofs::Unbroken::past_whole, shgrammar::proofs::Unbroken::raw_stops, shgrammar::proofs::Unbroken::none_here))]
     pub(crate) fn past(&self, from: usize, class: Class) -> usize

@@ -37,7 +37,8 @@ fn no_lines(alloc: Global) -> Join
     }
 }
 
-/// The offset behind the last token of a body: of a separator, or of a command, or of what stands before the body.
+/// The offset behind the last token of a body: of a separator, or of a command, or of
+/// what stands before the body.
 fn body_end(before: usize, body: &Listed) -> usize
     ensures { result ≡ body_end before (view_listed body.now) }
 {
@@ -189,7 +190,8 @@ impl<'a, S: Source, const KEEP: u8> Cursor<'a, S, KEEP> {
         Ok(patterns)
     }
 
-    /// Passes the `(` before the patterns of an item, if one stands here. `next` is the token here, and then the one behind it.
+    /// Passes the `(` before the patterns of an item, if one stands here. `next` is
+    /// the token here, and then the one behind it.
     #[tactic(auto, unfolding(shgrammar::specs::Compounds::an_open_bracket, shgrammar::specs::Commands::next_token))]
     fn open_bracket(&mut self, next: &mut Next)
         requires shows { Shows next.old.token (text_of S.bytes self.old) self.old.at }

@@ -69,8 +69,8 @@ impl<'a, S: Source, const KEEP: u8> Cursor<'a, S, KEEP> {
         Ok(())
     }
 
-    /// One more item of a simple command, if the token here, which stands in this position, begins one, and the token behind it.
-    /// Answers whether there was one.
+    /// One more item of a simple command, if the token here, which stands in this position, begins one,
+    /// and the token behind it. Answers whether there was one.
     #[cycle(commands)]
     #[tactic(auto, unfolding(shgrammar::specs::Commands::item_turn))]
     fn next_item(
@@ -102,8 +102,8 @@ impl<'a, S: Source, const KEEP: u8> Cursor<'a, S, KEEP> {
         Ok(true)
     }
 
-    /// The items of a simple command behind these. `next` is the token here, which stands in the position `place`, and then the one
-    /// behind them.
+    /// The items of a simple command behind these. `next` is the token here, which stands
+    /// in the position `place`, and then the one behind them.
     #[cycle(commands)]
     #[tactic(auto, using(shgrammar::proofs::Turns::many_again, shgrammar::proofs::Turns::many_done, crate::proofs::Stops::many_stop))]
     fn items(

@@ -1,4 +1,5 @@
-//! Compound commands: groups, `if` and loops (XCU 2.9.4). `for` stands in [`crate::for_loop`], `case` in [`crate::case`].
+//! Compound commands: groups, `if` and loops (XCU 2.9.4). `for` stands in
+//! [`crate::for_loop`], `case` in [`crate::case`].
 ghost use Rattle.std.specs.Prelude.{◌≡◌, ◌<◌, ◌≤◌, [], map, IfOk, Ok as Done, false};
 ghost use Rattle.shgrammar.specs.Shows.{IsRead, Shows};
 ghost use Rattle.shline.specs.Clauses.{Keeps, Onward, reads, Reads, state_of, Stays, text_of};
@@ -20,7 +21,8 @@ use std::alloc::Global;
 use std::mem;
 
 impl<'a, S: Source, const KEEP: u8> Cursor<'a, S, KEEP> {
-    /// Passes the round bracket or the reserved word here. `next` is set to the token behind it, which stands in this position.
+    /// Passes the round bracket or the reserved word here. `next` is set to the token
+    /// behind it, which stands in this position.
     #[tactic(auto, unfolding(shgrammar::specs::Compounds::passed, shgrammar::specs::Commands::next_token))]
     pub(crate) fn passed(&mut self, paren: bool, position: Position, next: &mut Next) -> Span
         requires { IsRead (text_of S.bytes self.old) self.old.at }

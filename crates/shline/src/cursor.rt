@@ -8,7 +8,8 @@ use shgrammar::{Edition, Keep};
 use shtext::Source;
 use std::alloc::Global;
 
-/// `KEEP` of a cursor that may grow the tree of what it reads. A number, since the check states no `bool` of a type beside ghost fields.
+/// `KEEP` of a cursor that may grow the tree of what it reads. A number, since the
+/// check states no `bool` of a type beside ghost fields.
 pub const KEPT: u8 = 1;
 
 /// `KEEP` of one that only sees how far the reading goes, and grows no vector of a tree.
@@ -27,11 +28,13 @@ pub(crate) struct How {
 ///
 /// Places count from `base`. The offsets that it tells, in spans and faults, are its places plus `origin`.
 ///
-/// `KEEP` is a part of the type, so that a reading without a tree has code of its own, with nothing in it that a tree needs.
+/// `KEEP` is a part of the type, so that a reading without a tree has code of its own,
+/// with nothing in it that a tree needs.
 #[derive(Drop)]
 pub(crate) struct Cursor<'a, S: Source, const KEEP: u8> {
     pub(crate) source: &'a S,
-    /// The stretch of the source that begins at `base`: where the source lies in one piece, all that is read. Its bytes are reached faster.
+    /// The stretch of the source that begins at `base`: where the source lies in one
+    /// piece, all that is read. Its bytes are reached faster.
     pub(crate) front: &'a [u8],
     pub(crate) base: usize,
     pub(crate) origin: usize,
@@ -55,8 +58,8 @@ impl<'a, S: Source, const KEEP: u8> Cursor<'a, S, KEEP> {
     ghost use Rattle.shgrammar.specs.Form.{grows};
     ghost use Rattle.shgrammar.specs.Sights.{standing};
 
-    /// Where the line at an offset begins, whose own offsets are counted from `origin`, and of which this is kept, in this spare room where
-    /// there is some, by this edition.
+    /// Where the line at an offset begins, whose own offsets are counted from `origin`, and of which this is
+    /// kept, in this spare room where there is some, by this edition.
     pub(crate) fn at_line(
         alloc: Global,
         source: &'a S,

@@ -30,7 +30,8 @@ pub(crate) struct Waiting {
     pub(crate) strip: bool,
 }
 
-/// The here-documents of a script level: those that wait, and the bodies that were read so far, in the order of the operators.
+/// The here-documents of a script level: those that wait, and the bodies that were
+/// read so far, in the order of the operators.
 #[derive(Drop)]
 pub(crate) struct Documents {
     pub(crate) waiting: Vec<Waiting>,
@@ -132,7 +133,8 @@ impl<'a, S: Source, const KEEP: u8> Cursor<'a, S, KEEP> {
         Ok(bytes)
     }
 
-    /// The delimiter that the word from a place up to this one is. Most often the word lies in one stretch, and is read there.
+    /// The delimiter that the word from a place up to this one is. Most often the word
+    /// lies in one stretch, and is read there.
     #[tactic(auto, using(crate::proofs::Awaited::run_word))]
     fn delimiter(&self, alloc: Global, start: usize) -> Result<Option<Delimiter>, AllocError>
         requires { start ≤ self.now.at }
@@ -147,7 +149,8 @@ impl<'a, S: Source, const KEEP: u8> Cursor<'a, S, KEEP> {
         delimiter_in(alloc, self.how.edition, &word)
     }
 
-    /// The here-document of an operator that stands at an offset, if it takes one. Its word stands from a place up to this one.
+    /// The here-document of an operator that stands at an offset, if it takes one. Its
+    /// word stands from a place up to this one.
     #[tactic(auto, unfolding(shgrammar::specs::Commands::a_document))]
     pub(crate) fn document(
         &mut self,
@@ -268,7 +271,8 @@ impl<'a, S: Source, const KEEP: u8> Cursor<'a, S, KEEP> {
         (end, end + 1)
     }
 
-    /// Where the line begins that ends a document whose body begins at a place, and the place behind that line.
+    /// Where the line begins that ends a document whose body begins at a place, and
+    /// the place behind that line.
     #[tactic(auto, using(shgrammar::proofs::Delimiters::none_at_end, shgrammar::proofs::Delimiters::found_here, shgrammar::proofs::Delimiters::on_to_next, shgrammar::proofs::Delimiters::past_line_low))]
     fn delimiter_line(&self, document: &Waiting, from: usize) -> Option<(usize, usize)>
         requires { from ≤ length (text_of S.bytes self.now) }

@@ -109,7 +109,8 @@ impl<'a, S: Source, const KEEP: u8> Cursor<'a, S, KEEP> {
         Ok(())
     }
 
-    /// One more word behind `in`, if the token here begins one, and the token behind it. Answers whether there was one.
+    /// One more word behind `in`, if the token here begins one, and the token behind
+    /// it. Answers whether there was one.
     #[cycle(commands)]
     #[tactic(auto, unfolding(shgrammar::specs::Compounds::word_turn))]
     fn for_word(
@@ -172,7 +173,8 @@ impl<'a, S: Source, const KEEP: u8> Cursor<'a, S, KEEP> {
         Ok(words)
     }
 
-    /// What stands between the name and `do`: the words behind `in`, where it stands. The comments go into `lines`.
+    /// What stands between the name and `do`: the words behind `in`, where it stands.
+    /// The comments go into `lines`.
     #[cycle(commands)]
     #[tactic(auto, unfolding(shgrammar::specs::Compounds::a_for_head))]
     fn for_head(

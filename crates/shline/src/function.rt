@@ -36,7 +36,8 @@ fn under_name(
 }
 
 impl<'a, S: Source, const KEEP: u8> Cursor<'a, S, KEEP> {
-    /// The compound command that the token here has to open, and the redirections behind it. `next` is that token, and then the one behind it.
+    /// The compound command that the token here has to open, and the redirections behind
+    /// it. `next` is that token, and then the one behind it.
     #[cycle(commands)]
     pub(crate) fn compound_by(
         &mut self,

@@ -49,7 +49,8 @@ impl<'a, S: Source, const KEEP: u8> Cursor<'a, S, KEEP> {
         Ok(())
     }
 
-    /// From behind an operator to the token with which its operand begins. `next` is the operator, and then that token.
+    /// From behind an operator to the token with which its operand begins. `next` is
+    /// the operator, and then that token.
     #[tactic(auto, unfolding(shgrammar::specs::Commands::a_join, shgrammar::specs::Commands::next_token))]
     pub(crate) fn join(&mut self, alloc: Global, next: &mut Next) -> Result<Join, Stop>
         ensures value { Reads S.bytes self.old (a_join next.old.broken) result (λ join. (view_join join, next.new)) (state_of self.new) }

@@ -51,7 +51,8 @@ impl<'a, S: Source, const KEEP: u8> Cursor<'a, S, KEEP> {
         }
     }
 
-    /// A line from here on: its entries, without the bodies of their here-documents, and whether a newline ended it.
+    /// A line from here on: its entries, without the bodies of their here-documents,
+    /// and whether a newline ended it.
     #[tactic(auto, unfolding(shgrammar::specs::Lines::an_open_line, shgrammar::specs::Commands::next_token))]
     pub(crate) fn open_line(
         &mut self,

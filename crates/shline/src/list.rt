@@ -81,7 +81,8 @@ impl Listed {
         listed
     }
 
-    /// Makes room for an entry, before this token, that is the first one and the last: it takes room for no more. Most are.
+    /// Makes room for an entry, before this token, that is the first one and the last:
+    /// it takes room for no more. Most are.
     #[inline(always)]
     fn room_for_only(&mut self, behind: Token) -> Result<(), AllocError>
         ensures { IfOk result (λ done. view_listed self.new ≡ view_listed self.old) }
@@ -129,8 +130,8 @@ impl<'a, S: Source, const KEEP: u8> Cursor<'a, S, KEEP> {
         listed.room_for_only(behind)
     }
 
-    /// One more entry of a line, if the token here begins one: a command, with what parts it from the next one, and the comment behind
-    /// it on its line. Answers whether another may follow.
+    /// One more entry of a line, if the token here begins one: a command, with what parts it from the next
+    /// one, and the comment behind it on its line. Answers whether another may follow.
     #[cycle(commands)]
     #[inline(always)]
     #[tactic(auto, unfolding(shgrammar::specs::Lists::entry_turn, shgrammar::specs::Lists::one_entry, shgrammar::specs::Commands::an_entry, shgrammar::specs::Commands::an_and_or, shgrammar::specs::Commands::a_pipeline))]
@@ -228,7 +229,8 @@ impl<'a, S: Source, const KEEP: u8> Cursor<'a, S, KEEP> {
         Ok(())
     }
 
-    /// The entries and the comment of one line. Many lines of a list have neither: what holds the entries is called only for some.
+    /// The entries and the comment of one line. Many lines of a list have neither:
+    /// what holds the entries is called only for some.
     #[cycle(commands)]
     #[inline(always)]
     #[tactic(auto, unfolding(shgrammar::specs::Lists::on_line), using(shgrammar::proofs::Turns::no_entries))]
@@ -319,7 +321,8 @@ impl<'a, S: Source, const KEEP: u8> Cursor<'a, S, KEEP> {
         Ok(listed)
     }
 
-    /// A list that holds a command. It ends where no entry may begin; who reads it asks for what has to follow.
+    /// A list that holds a command. It ends where no entry may begin; who reads it
+    /// asks for what has to follow.
     #[cycle(commands)]
     #[tactic(auto, unfolding(shgrammar::specs::Lists::a_list))]
     pub(crate) fn list(&mut self, alloc: Global, next: &mut Next, room: usize) -> Result<List, Stop>

@@ -98,7 +98,8 @@ impl<'a, S: Source, const KEEP: u8> Cursor<'a, S, KEEP> {
         }
     }
 
-    /// The piece that begins here, with so many brackets open in arithmetic; its first byte is read at the place `here`.
+    /// The piece that begins here, with so many brackets open in arithmetic; its first
+    /// byte is read at the place `here`.
     #[inline(always)]
     #[tactic(auto, unfolding(shgrammar::specs::Pieces::piece_at, shgrammar::specs::Standing::raw_stands, shgrammar::specs::Bytes::ends_word, shgrammar::specs::Bytes::behind))]
     pub(crate) fn piece(&self, mode: Mode, nested: usize, here: usize) -> Piece

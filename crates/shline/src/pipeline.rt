@@ -37,7 +37,8 @@ impl<'a, S: Source, const KEEP: u8> Cursor<'a, S, KEEP> {
         Some(span)
     }
 
-    /// One more command of a pipeline, behind a `|`. It stands apart to keep the frames of nested commands small.
+    /// One more command of a pipeline, behind a `|`. It stands apart to keep the
+    /// frames of nested commands small.
     #[cycle(commands)]
     #[tactic(auto, unfolding(shgrammar::specs::Commands::one_command))]
     fn one_command(

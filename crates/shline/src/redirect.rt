@@ -89,7 +89,8 @@ impl<'a, S: Source, const KEEP: u8> Cursor<'a, S, KEEP> {
         Ok((self.word_from(start, substs), start))
     }
 
-    /// The redirection that begins here, as one more of these items, and the token behind it, which stands in this position.
+    /// The redirection that begins here, as one more of these items, and the token
+    /// behind it, which stands in this position.
     #[cycle(commands)]
     #[tactic(auto, unfolding(shgrammar::specs::Commands::one_redirect, shgrammar::specs::Commands::next_token))]
     pub(crate) fn redirect(
@@ -126,7 +127,8 @@ impl<'a, S: Source, const KEEP: u8> Cursor<'a, S, KEEP> {
         Ok(())
     }
 
-    /// One more redirection behind a compound command, if the token here begins one. Answers whether there was one.
+    /// One more redirection behind a compound command, if the token here begins one.
+    /// Answers whether there was one.
     #[cycle(commands)]
     #[tactic(auto, unfolding(shgrammar::specs::Commands::redirect_turn))]
     fn next_redirect(

@@ -192,8 +192,8 @@ impl<'a, S: Source, const KEEP: u8> Cursor<'a, S, KEEP> {
         self.spelled(at, other, second)
     }
 
-    /// The reserved word that stands at a place, where this byte is the first, if one does. Most words begin with
-    /// two bytes that begin none, and are told so without a jump that is hard to foretell.
+    /// The reserved word that stands at a place, where this byte is the first, if one does. Most words begin
+    /// with two bytes that begin none, and are told so without a jump that is hard to foretell.
     #[inline(always)]
     #[tactic(auto, using(crate::proofs::TwoBytes::none_begins))]
     pub(crate) fn reserved(&self, at: usize, first: u8) -> Option<Reserved>

@@ -64,8 +64,8 @@ impl<'a, S: Source, const KEEP: u8> Cursor<'a, S, KEEP> {
         find_in(self.source, self.base + from, sought) - self.base
     }
 
-    /// The next single quote from a place on, or the end. The nearest bytes are looked at one by one, since a search
-    /// costs more to begin than most text in single quotes is long.
+    /// The next single quote from a place on, or the end. The nearest bytes are looked at one by one, since a
+    /// search costs more to begin than most text in single quotes is long.
     #[inline(always)]
     #[tactic(auto, using(crate::proofs::Searches::byte_passed, crate::proofs::Searches::byte_here, crate::proofs::Searches::byte_end))]
     pub(crate) fn next_quote(&self, from: usize) -> usize

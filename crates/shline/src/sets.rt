@@ -1,5 +1,5 @@
-//! The sets of bytes at which a run of others ends, as the tables that `shscan` takes: the kinds of a byte by its low four bits, and by its
-//! high four.
+//! The sets of bytes at which a run of others ends, as the tables that `shscan` takes: the
+//! kinds of a byte by its low four bits, and by its high four.
 ghost use Rattle.std.specs.Prelude.{◌≡◌, ◌<◌, ◌≤◌, ℕ, length, slice_get, slice_index, true};
 ghost use Rattle.shgrammar.specs.Plain.{is_plain};
 ghost use Rattle.shgrammar.specs.Standing.{passes};
@@ -42,8 +42,9 @@ fn is_plain_at(run: &[u8], at: usize, mode: Mode) -> bool
     }
 }
 
-/// How many bytes at the front are ordinary in a mode. Most bytes stand outside all quotes or in double quotes; many words begin with a
-/// quote or a `$`, and many end behind their first byte. Those are told at less cost than a row of bytes is.
+/// How many bytes at the front are ordinary in a mode. Most bytes stand outside all quotes or
+/// in double quotes; many words begin with a quote or a `$`, and many end behind their first
+/// byte. Those are told at less cost than a row of bytes is.
 #[inline(always)]
 pub(crate) fn plain_front(run: &[u8], mode: Mode) -> usize
     ensures within { result ≤ length run.now }

@@ -47,7 +47,8 @@ impl<'a, S: Source, const KEEP: u8> Cursor<'a, S, KEEP> {
         Ok(list_of(listed.entries))
     }
 
-    /// The substitution from a place up to this one, with the bodies of its level, as one more of these, if a tree is grown.
+    /// The substitution from a place up to this one, with the bodies of its level, as
+    /// one more of these, if a tree is grown.
     #[tactic(auto, using(shgrammar::proofs::Levels::subst_kept, shgrammar::proofs::Levels::subst_left))]
     fn add_subst(
         &self,
@@ -67,7 +68,8 @@ impl<'a, S: Source, const KEEP: u8> Cursor<'a, S, KEEP> {
         Ok(())
     }
 
-    /// The substitution whose `$` stands at a place, from behind its `(` on, as one more of these, if a tree is grown of what stands in it.
+    /// The substitution whose `$` stands at a place, from behind its `(` on, as one
+    /// more of these, if a tree is grown of what stands in it.
     #[cycle(commands)]
     #[inline(always)]
     #[tactic(auto, unfolding(shgrammar::specs::Substitutions::one_substitution))]

@@ -193,7 +193,8 @@ impl<'a, S: Source, const KEEP: u8> Cursor<'a, S, KEEP> {
         }
     }
 
-    /// To where the next token begins, and what it is in this position of a command. Most often no continuation stands before it.
+    /// To where the next token begins, and what it is in this position of a command.
+    /// Most often no continuation stands before it.
     #[inline(always)]
     #[tactic(auto, using(shgrammar::proofs::Shown::shown_in, shgrammar::proofs::Shown::blanks_still, shgrammar::proofs::Unbroken::blanks_whole))]
     pub(crate) fn next_token(&mut self, position: Position) -> Next

@@ -30,10 +30,11 @@ pub struct Told {
     pub len: usize,
 }
 
-/// The line that begins at an offset, whose own offsets are counted from `origin`. Of its tree this is kept where `KEEP` is [`KEPT`]
-/// (`crate::KEPT`), and nothing where it is `SEEN`.
+/// The line that begins at an offset, whose own offsets are counted from `origin`. Of its tree this is kept
+/// where `KEEP` is [`KEPT`] (`crate::KEPT`), and nothing where it is `SEEN`.
 ///
-/// A fault and want of memory are the two errors. The offset is at most the length of the source, and `origin` at most the offset.
+/// A fault and want of memory are the two errors. The offset is at most the length of
+/// the source, and `origin` at most the offset.
 pub fn line_at<S: Source, const KEEP: u8>(
     alloc: Global,
     source: &S,

@@ -38,8 +38,9 @@ impl<'a, S: Source, const KEEP: u8> Cursor<'a, S, KEEP> {
         }
     }
 
-    /// A construct, from behind its opener to behind its closer. Most often it holds plain bytes alone, and in double
-    /// quotes a `$` before a name, which is ordinary: what takes every piece is called for the others.
+    /// A construct, from behind its opener to behind its closer. Most often it holds
+    /// plain bytes alone, and in double quotes a `$` before a name, which is ordinary:
+    /// what takes every piece is called for the others.
     #[cycle(commands)]
     #[inline(always)]
     #[tactic(auto, unfolding(shgrammar::specs::Bytes::behind), using(shgrammar::proofs::Levels::level_closed, shgrammar::proofs::PlainBytes::plain_begin, shgrammar::proofs::PlainBytes::closed_here, shgrammar::proofs::PlainBytes::ordinary_here, shgrammar::proofs::Stretches::place_low))]
@@ -128,7 +129,8 @@ impl<'a, S: Source, const KEEP: u8> Cursor<'a, S, KEEP> {
         Ok(())
     }
 
-    /// One piece, with so many brackets open in arithmetic. Answers whether there was one: if not, the construct ends here.
+    /// One piece, with so many brackets open in arithmetic. Answers whether there was
+    /// one: if not, the construct ends here.
     #[cycle(commands)]
     #[inline(always)]
     #[tactic(auto, unfolding(shgrammar::specs::Words::a_piece, shgrammar::specs::Pieces::piece_at, shgrammar::specs::Bytes::ends_word))]

@@ -1,5 +1,5 @@
--- The entries of a line that is read alone, where it stands in its script: their shape is that over the bytes from the line on, and no
--- empty line stands before the first of them.
+-- The entries of a line that is read alone, where it stands in its script: their shape is that over the bytes
+-- from the line on, and no empty line stands before the first of them.
 use Rattle.std.proofs.Common.{◌≡◌, ℕ, zero, suc, ◌+◌, ◌-◌, Bool, true, false, Ok, List, List as Row, [], ◌∷◌, map, take, drop, refl, sym, ap, subst, ◌∙◌, arith}
 use Rattle.std.proofs.Math.Seq.{drop-drop}
 use Rattle.shast.specs.declared.tree.Span.{Span}

@@ -1,4 +1,5 @@
--- The lines of a script printed one after the other: on the page stands what is printed for the entries that a walk over them gathers.
+-- The lines of a script printed one after the other: on the page stands what is
+-- printed for the entries that a walk over them gathers.
 use Rattle.std.proofs.Common.{◌≡◌, ℕ, suc, ◌&&◌, Bool, true, false, nat_lt, List, [], ◌∷◌, ◌++◌, None, length, drop, refl, sym, ap, ◌∙◌, arith, append_assoc}
 use Rattle.std.proofs.lemmas.Bool.Decides.{nat_tests}
 use Rattle.shgrammar.specs.declared.edition.Edition.{Edition}

@@ -12,7 +12,8 @@ abbrev pub before : List ℕ → List (List ℕ) → List (List ℕ)
 before text [] = text ∷ []
 before text (w ∷ ws) = (text ++ w) ∷ ws
 
--- the words of a line, which blanks part: one more than there are blanks, and one without a byte beside each blank too many
+-- the words of a line, which blanks part: one more than there are blanks, and one
+-- without a byte beside each blank too many
 abbrev pub words : List ℕ → List (List ℕ)
 words [] = [] ∷ []
 words (b ∷ bs) = if b == 32 then [] ∷ words bs else before (b ∷ []) (words bs)

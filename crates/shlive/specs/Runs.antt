@@ -49,14 +49,16 @@ Finishes Unwritable mid after read requests has holds broken =
 Finishes «end» mid after read requests has holds broken =
     (after ≡ mid) × (holds ≡ has) × (broken ≡ false)
 
--- the status of a run: that of the script then held, where the input ended between two requests or a request ended the run
+-- the status of a run: that of the script then held, where the input ended between two
+-- requests or a request ended the run
 abbrev pub HasAnswer : Edition → End → List ℕ → ℕ → Type 0
 HasAnswer edition Clean bytes status = HasStatus edition bytes status
 HasAnswer edition Quit bytes status = HasStatus edition bytes status
 HasAnswer edition end bytes status = status ≡ 2
 
 -- The run of a session: what it holds before and after; the bytes that the reader had and has left, whether a
--- read failed or met the end; the bytes that the writer held and holds, whether a write failed; and the answer.
+-- read failed or met the end; the bytes that the writer held and holds, whether a
+-- write failed; and the answer.
 pub record IsRun (before after : Held) (had has : Option (List ℕ)) (failed ended : Bool)
     (held holds : Option (List ℕ)) (broken : Bool) (answer : ℕ) : Type 0 where
   pub read : List ℕ

@@ -14,7 +14,8 @@ use Rattle.shlive.specs.declared.serve.End.TheVariants.{Clean, Quit, Cut, Unread
 abbrev pub Tells : Held → Request → Held → Option (List ℕ) → Option (List ℕ) → Bool → Type 0
 Tells before request after held holds failed = (reply : List ℕ) × Step before request reply after × Writes held holds failed reply
 
--- How what comes is understood, behind what was taken before it: as requests, or as what follows the line of one.
+-- How what comes is understood, behind what was taken before it: as requests, or as
+-- what follows the line of one.
 abbrev pub Sense : Type 0
 Sense = List ℕ → Next
 
@@ -22,7 +23,8 @@ Sense = List ℕ → Next
 abbrev pub Spells : Sense → List ℕ → Sense → Type 0
 Spells sense text next = (rest : List ℕ) → sense (text ++ rest) ≡ next rest
 
--- the rest of a request was taken, and the reply to it was written, or where the device failed a beginning of it
+-- the rest of a request was taken, and the reply to it was written, or where the
+-- device failed a beginning of it
 pub record Replied (sense : Sense) (before after : Held) (old new : Ahead) (held holds : Option (List ℕ)) (failed : Bool) : Type 0 where
   pub taken : List ℕ
   pub request : Request
@@ -48,7 +50,8 @@ pub record Stays (sense : Sense) («end» : End) (before after : Held) (old new 
   pub silent : holds ≡ held
   pub sound : broken ≡ false
 
--- How a run ends with this turn: the reply to its request could not be written, or there is no further request.
+-- How a run ends with this turn: the reply to its request could not be written, or
+-- there is no further request.
 abbrev pub EndsAs : Sense → End → Held → Held → Ahead → Ahead → Bool → Bool → Option (List ℕ) → Option (List ℕ) → Bool → Type 0
 EndsAs sense Unwritable before after old new failed ended held holds broken =
     Replied sense before after old new held holds true × (failed ≡ false) × (broken ≡ true)

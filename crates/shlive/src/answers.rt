@@ -119,7 +119,8 @@ pub(crate) fn text_of_lines(
     Ok(page.text)
 }
 
-/// Prints a line that begins at an offset, where there is a gap before it or none. Answers whether there is one behind it.
+/// Prints a line that begins at an offset, where there is a gap before it or none.
+/// Answers whether there is one behind it.
 fn print_line(
     printer: &Printer<GapText>,
     line: &HeldLine<TopLine>,

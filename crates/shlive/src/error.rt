@@ -7,7 +7,8 @@ use shtext::TextError;
 use std::alloc::AllocError;
 use thiserror::Error;
 
-/// Why a session does not take a script or an edit. The numbers are fixed, and an edit is tested in their order.
+/// Why a session does not take a script or an edit. The numbers are fixed, and an edit
+/// is tested in their order.
 #[derive(Clone, Copy, Debug, PartialEq, Eq, Error)]
 pub enum LiveError {
     /// The edit begins behind its end, or ends behind the script.

@@ -210,9 +210,10 @@ fn answer_next<R: Read, W: Write>(
     }
 }
 
-/// Reads requests, answers each of them and writes the replies, until `quit` or the end of the input. The answer is then the status of the
-/// script that the session holds: 0 for a script without a fault, 1 for one with a fault. It is 2 where the input ends inside a request,
-/// where a read, a write or a flush fails, and where the input has 2^63 bytes or more.
+/// Reads requests, answers each of them and writes the replies, until `quit` or the end of the input.
+/// The answer is then the status of the script that the session holds: 0 for a script without a fault,
+/// 1 for one with a fault. It is 2 where the input ends inside a request, where a read, a write or a
+/// flush fails, and where the input has 2^63 bytes or more.
 ///
 /// Nothing but the payload of an edit and the script takes more memory than the last reply.
 pub fn run<R: Read, W: Write>(

@@ -77,8 +77,9 @@ impl Session {
         })
     }
 
-    /// Where the gap of the text stands best for an edit at an offset: where its window begins, so that what is read lies in one piece.
-    /// What stands far behind a fault is not read, so there the gap stays near the edit: moving it would cost more than the reading.
+    /// Where the gap of the text stands best for an edit at an offset: where its window begins, so that what
+    /// is read lies in one piece. What stands far behind a fault is not read, so there the gap stays near
+    /// the edit: moving it would cost more than the reading.
     fn gap_before(&self, a: usize) -> usize
         ensures { result ≤ a }
     {
@@ -89,8 +90,8 @@ impl Session {
         }
     }
 
-    /// Puts bytes in the place of those from `a` up to `b`, and reads the window of the edit. An edit that is refused changes no answer;
-    /// for want of memory it has read no more than the window.
+    /// Puts bytes in the place of those from `a` up to `b`, and reads the window of the edit. An edit that is
+    /// refused changes no answer; for want of memory it has read no more than the window.
     pub fn edit(&mut self, a: usize, b: usize, bytes: &[u8]) -> Result<(), LiveError>
         ensures made { OnOk result (IsMade self.old a b bytes.now self.new) }
         ensures refused { IfErr result (λ e. IsNotMade self.old a b bytes.now e self.new) }
@@ -108,7 +109,8 @@ impl Session {
         }
     }
 
-    /// Whether so many bytes may be put in the place of those from `a` up to `b`, as far as the script decides that. It takes no memory.
+    /// Whether so many bytes may be put in the place of those from `a` up to `b`, as
+    /// far as the script decides that. It takes no memory.
     pub(crate) fn allows(&self, a: usize, b: usize, count: usize) -> Result<(), LiveError>
         ensures ok { IfOk result (λ _. (new : List ℕ) → length new ≡ count → IsAllowed self.now.bytes a b new) }
         ensures err { IfErr result (λ e. (new : List ℕ) → length new ≡ count → IsRefused self.now.bytes a b new e) }
@@ -168,15 +170,16 @@ impl Session {
         }
     }
 
-    /// The nodes that an outline shows: all but words, assignments, redirections and comments. Of a faulty script, those of the lines
-    /// before its fault.
+    /// The nodes that an outline shows: all but words, assignments, redirections and comments. Of
+    /// a faulty script, those of the lines before its fault.
     pub fn outline(&self) -> Result<Vec<NodeLine>, AllocError>
         ensures { IfOk result (λ lines. HasOutline self.now.how.edition self.now.bytes lines.items) }
     {
         outline_of_lines(self.alloc, &self.lines)
     }
 
-    /// The nodes that hold the byte at an offset, the outer before the inner. At or past the end there are none, which takes no memory.
+    /// The nodes that hold the byte at an offset, the outer before the inner. At or
+    /// past the end there are none, which takes no memory.
     pub fn nodes_at(&self, at: usize) -> Result<Vec<NodeLine>, AllocError>
         ensures nodes { IfOk result (λ lines. HasNodesAt self.now.how.edition self.now.bytes at lines.items) }
         ensures past { length self.now.bytes ≤ at → IsOk result }
@@ -199,7 +202,8 @@ impl Session {
         Ok(Some(text))
     }
 
-    /// How many bytes were read so far, from the script's opening on and before it by its reader; it stays at its greatest number.
+    /// How many bytes were read so far, from the script's opening on and before it by
+    /// its reader; it stays at its greatest number.
     pub fn meter(&self) -> u64
         ensures { result ≡ self.now.meter }
     {

@@ -11,10 +11,12 @@ use std::alloc::{AllocError, Global};
 /// The longest text of a kind.
 const KIND: usize = 8;
 
-/// The longest line of a node up to its name: the end of the line before, two numbers of 20 digits with a blank behind each, and a kind.
+/// The longest line of a node up to its name: the end of the line before, two numbers
+/// of 20 digits with a blank behind each, and a kind.
 const LINE: usize = 43 + KIND;
 
-/// What a reply calls a kind of node, at the end of as many bytes for each, and how many of them stand before it unused.
+/// What a reply calls a kind of node, at the end of as many bytes for each, and how
+/// many of them stand before it unused.
 fn kind_text(kind: NodeKind) -> (&'static [u8; KIND], usize)
     ensures within { result.1 ≤ 8 }
     ensures text { drop result.1 result.0.now ≡ kind_text kind }
@@ -51,8 +53,8 @@ fn write_number(line: &mut [u8], end: usize, number: usize, before: u8) -> usize
     start
 }
 
-/// Writes the line of a node up to its name to the end of these bytes, with the end of the line before it in front. Answers where it
-/// begins.
+/// Writes the line of a node up to its name to the end of these bytes, with the end of
+/// the line before it in front. Answers where it begins.
 fn write_node(line: &mut [u8; LINE], node: &NodeLine) -> usize
     ensures { drop result line.new ≡ codes "\n" ++ decimal node.now.start ++ codes " " ++ decimal node.now.end ++ codes " " ++ kind_text node.now.kind }
 {

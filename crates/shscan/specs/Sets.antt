@@ -1,5 +1,5 @@
--- A set of bytes as two tables of sixteen: a byte has the kinds that both tables name, the one by its low four bits and the other by its
--- high four. It is in the set where it has one.
+-- A set of bytes as two tables of sixteen: a byte has the kinds that both tables name, the one by its low
+-- four bits and the other by its high four. It is in the set where it has one.
 use Rattle.std.specs.Prelude.{ℕ, ◌/◌, ◌%◌, ◌==◌, Bool, List, bit_and, get_or, take, drop}
 
 abbrev pub kinds : List ℕ → List ℕ → ℕ → ℕ

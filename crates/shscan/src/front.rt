@@ -8,7 +8,8 @@ use crate::row::{ROW, outside_in_row};
 
 /// How many bytes stand before the first one of a set; all of them where none is of it.
 ///
-/// A byte is in the set where `low`, by its low four bits, and `high`, by its high four, have a bit in common.
+/// A byte is in the set where `low`, by its low four bits, and `high`, by its high
+/// four, have a bit in common.
 #[inline(always)]
 pub fn front_outside(run: &[u8], low: [u8; 16], high: [u8; 16]) -> usize
     ensures { result ≡ prefix_len (is_outside low high) run.now }

@@ -1,5 +1,5 @@
-//! Sixteen bytes at once. A vector looks up the kinds of all in a table of sixteen, by the low four bits and by the high four: the
-//! look-up by halves that Hyperscan calls shufti.
+//! Sixteen bytes at once. A vector looks up the kinds of all in a table of sixteen, by the low four bits and
+//! by the high four: the look-up by halves that Hyperscan calls shufti.
 ghost use Rattle.std.specs.Prelude.{◌≡◌, ◌+◌, ◌≤◌, length};
 ghost use Rattle.std.specs.List.{prefix_len};
 ghost use Rattle.shscan.specs.Sets.{is_outside, row_of};
@@ -9,7 +9,8 @@ use std::simd::prelude::*;
 /// The bytes of a row.
 pub(crate) const ROW: usize = 16;
 
-/// How many bytes of the row at an offset stand before its first one of the set; all of them where none is of it.
+/// How many bytes of the row at an offset stand before its first one of the set; all
+/// of them where none is of it.
 #[inline(always)]
 pub(crate) fn outside_in_row(run: &[u8], at: usize, low: [u8; 16], high: [u8; 16]) -> usize
     requires { at + 16 ≤ length run.now }

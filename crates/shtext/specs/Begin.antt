@@ -2,7 +2,8 @@
 use Rattle.std.specs.Prelude.{◌≡◌, ℕ, ◌+◌, ◌<◌, ◌≤◌, List, length, slice_index, take}
 use Rattle.shtext.specs.Text.{since_newline}
 
--- Where the line at the offset `from` begins at `start`, the one behind the stretch that stands there begins at `begin`.
+-- Where the line at the offset `from` begins at `start`, the one behind the stretch
+-- that stands there begins at `begin`.
 abbrev pub BeginsLine : ℕ → ℕ → List ℕ → ℕ → Type 0
 BeginsLine from start run begin = (bytes : List ℕ) → from + length run ≤ length bytes
     → ((k : ℕ) → k < length run → slice_index bytes (from + k) ≡ slice_index run k)

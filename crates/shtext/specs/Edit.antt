@@ -19,7 +19,8 @@ IsInRange bytes a b = (a ≤ b) × (b ≤ length bytes)
 abbrev pub IsAllowed : List ℕ → ℕ → ℕ → List ℕ → Type 0
 IsAllowed bytes a b new = IsInRange bytes a b × (length (edited bytes a b new) ≤ limit)
 
--- where an edit is refused: one that is out of range, else one that makes the text too large, else, for want of memory, any other
+-- where an edit is refused: one that is out of range, else one that makes the text too
+-- large, else, for want of memory, any other
 abbrev pub Refuses : List ℕ → ℕ → ℕ → List ℕ → TextError → Type 0
 Refuses bytes a b new Range = (b < a) ⊎ (length bytes < b)
 Refuses bytes a b new TooLarge = IsInRange bytes a b × (limit < length (edited bytes a b new))

@@ -7,8 +7,8 @@ use crate::error::TextError;
 /// The most bytes that a text has.
 pub const LIMIT: usize = 16_777_216;
 
-/// Whether so many bytes may be put in the place of those from `a` up to `b` of a text of so many bytes, as far as the text decides that. It
-/// takes no memory.
+/// Whether so many bytes may be put in the place of those from `a` up to `b` of a text of so many
+/// bytes, as far as the text decides that. It takes no memory.
 #[inline]
 #[tactic(auto, using(crate::proofs::Edits::edited_length))]
 pub fn allowed(len: usize, a: usize, b: usize, count: usize) -> Result<(), TextError>

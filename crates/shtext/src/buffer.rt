@@ -14,8 +14,8 @@ use crate::source::Source;
 use crate::splice::replace_items;
 use std::alloc::Global;
 
-/// A text that is edited in two steps, so that nothing can go wrong once its bytes change: a change is prepared, which takes what memory it
-/// needs, and committed. Between the two its edited text can be read.
+/// A text that is edited in two steps, so that nothing can go wrong once its bytes change: a change is
+/// prepared, which takes what memory it needs, and committed. Between the two its edited text can be read.
 #[derive(Debug, Drop)]
 pub struct Buffer {
     bytes: Vec<u8>,
@@ -31,7 +31,8 @@ impl Buffer {
         }
     }
 
-    /// The text of these bytes. It is refused where the edit would be that puts them into the empty text. No bytes take no memory.
+    /// The text of these bytes. It is refused where the edit would be that puts them
+    /// into the empty text. No bytes take no memory.
     pub fn from_slice(alloc: Global, bytes: &[u8]) -> Result<Buffer, TextError>
         ensures bytes { IfOk result (λ buffer. buffer_bytes buffer ≡ bytes.now) }
         ensures allowed { IfOk result (λ buffer. length bytes.now ≤ limit) }
@@ -46,7 +47,8 @@ impl Buffer {
         Ok(Buffer { bytes })
     }
 
-    /// Whether so many bytes may be put in the place of those from `a` up to `b`, as far as the text decides that. It takes no memory.
+    /// Whether so many bytes may be put in the place of those from `a` up to `b`, as
+    /// far as the text decides that. It takes no memory.
     pub fn allows(&self, a: usize, b: usize, count: usize) -> Result<(), TextError>
         ensures ok { IfOk result (λ _. (new : List ℕ) → length new ≡ count → IsAllowed (buffer_bytes self.now) a b new) }
         ensures err { IfErr result (λ e. (new : List ℕ) → length new ≡ count → Refuses (buffer_bytes self.now) a b new e) }
@@ -55,7 +57,8 @@ impl Buffer {
         allowed(self.bytes.len(), a, b, count)
     }
 
-    /// A change that puts these bytes in the place of those from `a` up to `b`. It fits; no byte of the text changes, whatever is answered.
+    /// A change that puts these bytes in the place of those from `a` up to `b`. It
+    /// fits; no byte of the text changes, whatever is answered.
     pub fn prepare(&mut self, a: usize, b: usize, bytes: &[u8]) -> Result<Change, TextError>
         ensures bytes { buffer_bytes self.new ≡ buffer_bytes self.old }
         ensures allowed { IfOk result (λ change. IsAllowed (buffer_bytes self.old) a b bytes.now) }
@@ -76,8 +79,8 @@ impl Buffer {
         })
     }
 
-    /// Whether a change fits: its places are there, the bytes between them are those that stood there when it was prepared, and there is
-    /// room for the edited text.
+    /// Whether a change fits: its places are there, the bytes between them are those that stood there when it
+    /// was prepared, and there is room for the edited text.
     pub fn fits(&self, change: &Change) -> bool
         ensures { IsTrue result ↔ Fits self.now change.now }
     {
@@ -103,7 +106,8 @@ impl Buffer {
         }
     }
 
-    /// Makes the change, which has to fit. It takes no memory: the room was made when the change was prepared.
+    /// Makes the change, which has to fit. It takes no memory: the room was made when
+    /// the change was prepared.
     pub fn commit(&mut self, change: Change)
         requires { Fits self.old change }
         ensures { buffer_bytes self.new ≡ changed (buffer_bytes self.old) change }
@@ -111,7 +115,8 @@ impl Buffer {
         replace_items(&mut self.bytes, change.start, change.end, change.new);
     }
 
-    /// The line and the column of an offset in bytes, which is at most the length. Both count from 1, and the column counts bytes.
+    /// The line and the column of an offset in bytes, which is at most the length.
+    /// Both count from 1, and the column counts bytes.
     pub fn line_col(&self, at: usize) -> (usize, usize)
         requires { at ≤ length (buffer_bytes self.now) }
         ensures line { result.0 ≡ line_of (buffer_bytes self.now) at }
@@ -120,7 +125,8 @@ impl Buffer {
         line_col_of(self, at)
     }
 
-    /// The offset at which a line begins. There is none for 0, nor behind the last line: a text has a line more than newlines.
+    /// The offset at which a line begins. There is none for 0, nor behind the last
+    /// line: a text has a line more than newlines.
     pub fn line_start(&self, n: usize) -> Option<usize>
         ensures { IsLineStart (buffer_bytes self.now) n result }
     {

@@ -1,6 +1,7 @@
 //! A change that a buffer prepared.
 
-/// The bytes between two offsets of a buffer give way to others. What it takes to make it was taken when it was prepared.
+/// The bytes between two offsets of a buffer give way to others. What it takes to make
+/// it was taken when it was prepared.
 #[derive(Debug, Drop)]
 pub struct Change {
     pub(crate) start: usize,

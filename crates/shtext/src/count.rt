@@ -1,9 +1,10 @@
-//! How many newlines there are in some bytes. Most stand near the next one, so that no search is as fast as a look at each byte, many
-//! bytes at once.
+//! How many newlines there are in some bytes. Most stand near the next one, so that no search
+//! is as fast as a look at each byte, many bytes at once.
 ghost use Rattle.std.specs.Prelude.{◌≡◌, ◌≤◌, count_by, length};
 ghost use Rattle.shtext.specs.Text.{is_newline};
 
-/// The bytes of a row: so few that a `u8` counts its newlines, and as many as fill the registers of a processor some times.
+/// The bytes of a row: so few that a `u8` counts its newlines, and as many as fill the
+/// registers of a processor some times.
 const ROW: usize = 192;
 
 /// How many newlines a row has.

@@ -32,8 +32,8 @@ impl<R: Read> Input<R> {
         }
     }
 
-    /// Reads once, into the front of the piece, and answers how many bytes came. An interrupted read is a failed one. After
-    /// `Failed` the reader has lost no byte.
+    /// Reads once, into the front of the piece, and answers how many bytes came. An interrupted read is a
+    /// failed one. After `Failed` the reader has lost no byte.
     pub fn read(&mut self, piece: &mut [u8]) -> Result<usize, Failed>
         ensures bound { ReadsAtMost result piece.new }
         ensures bytes { ReadConsumes (left_of R.remaining self.old) (left_of R.remaining self.new) result piece.new }
@@ -88,8 +88,8 @@ impl<W: Write> Output<W> {
         }
     }
 
-    /// Writes once, a beginning of the piece, and answers how many bytes the writer took. Where it took none of a piece that is
-    /// not empty, it failed. After `Failed` the writer has taken no byte.
+    /// Writes once, a beginning of the piece, and answers how many bytes the writer took. Where it took none
+    /// of a piece that is not empty, it failed. After `Failed` the writer has taken no byte.
     pub fn write(&mut self, piece: &[u8]) -> Result<usize, Failed>
         ensures bound { IfOk result (λ n. n ≤ length piece.now) }
         ensures some { IfOk result (λ n. 0 < length piece.now → 0 < n) }

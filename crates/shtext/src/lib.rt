@@ -1,10 +1,12 @@
-//! The bytes that shform works on: texts, which tell one list of bytes, and the ends that bytes come from and go to.
+//! The bytes that shform works on: texts, which tell one list of bytes, and the ends
+//! that bytes come from and go to.
 //!
-//! Start with [`Source`], a text that is read by the byte or by stretches; [`Flat`] is one whose bytes lie in a slice, [`line_col_of`]
-//! tells the line and the column of an offset, and [`newlines_in`] counts the newlines of a stretch. [`Buffer`] is a text that is edited: it
-//! prepares a [`Change`], previews the [`Edited`] text, and commits the change; [`allowed`] tells which edits a text allows. [`Input`] and
-//! [`Output`] are a reader and a writer that remember how their devices fared. [`replace_items`] puts items of a vector in the place of
-//! others. The definitions that the contracts cite are in `specs/`.
+//! Start with [`Source`], a text that is read by the byte or by stretches; [`Flat`] is one whose bytes lie in
+//! a slice, [`line_col_of`] tells the line and the column of an offset, and [`newlines_in`] counts the
+//! newlines of a stretch. [`Buffer`] is a text that is edited: it prepares a [`Change`], previews the
+//! [`Edited`] text, and commits the change; [`allowed`] tells which edits a text allows. [`Input`] and
+//! [`Output`] are a reader and a writer that remember how their devices fared. [`replace_items`] puts items
+//! of a vector in the place of others. The definitions that the contracts cite are in `specs/`.
 #![tactic(auto)]
 
 mod allow;

@@ -7,7 +7,8 @@ use crate::count::newlines_in;
 use crate::source::Source;
 use memchr::memrchr;
 
-/// Where the line begins that goes on behind a stretch at an offset: behind its last newline, or where the line before it began.
+/// Where the line begins that goes on behind a stretch at an offset: behind its last
+/// newline, or where the line before it began.
 fn line_begin(run: &[u8], from: usize, start: usize) -> usize
     requires { from + length run.now < 2 ^ 64 }
     ensures { BeginsLine from start run.now result }
@@ -18,8 +19,8 @@ fn line_begin(run: &[u8], from: usize, start: usize) -> usize
     }
 }
 
-/// The line and the column of an offset in bytes, which is at most the length and below the greatest `usize`. Both count from 1,
-/// and the column counts bytes.
+/// The line and the column of an offset in bytes, which is at most the length and below the greatest
+/// `usize`. Both count from 1, and the column counts bytes.
 pub fn line_col_of<S: Source>(source: &S, at: usize) -> (usize, usize)
     requires within { at ≤ length (S.bytes source.now) }
     requires room { at < usize.MAX }

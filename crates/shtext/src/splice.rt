@@ -1,7 +1,8 @@
 //! Items of a vector that give way to others.
 ghost use Rattle.std.specs.Prelude.{◌≡◌, ◌+◌, ◌-◌, ◌≤◌, ◌++◌, drop, take, vec_capacity, vec_len};
 
-/// Puts items in the place of those from `from` up to `to`. It takes no memory: there has to be room for them.
+/// Puts items in the place of those from `from` up to `to`. It takes no memory: there
+/// has to be room for them.
 pub fn replace_items<T: Drop>(of: &mut Vec<T>, from: usize, to: usize, new: Vec<T>)
     requires order { from ≤ to }
     requires within { to ≤ vec_len of.old }

@@ -1,4 +1,5 @@
--- Whether a test holds of a row of nodes from a place on: what a loop over a vector of nodes has still to find out.
+-- Whether a test holds of a row of nodes from a place on: what a loop over a vector of
+-- nodes has still to find out.
 use Rattle.std.proofs.Common.{◌≡◌, ℕ, zero, suc, ◌+◌, ◌<◌, ◌≤◌, Bool, true, false, List as Row, [], ◌∷◌, length, map, get_or, refl, ap, arith, add-one}
 use Rattle.std.specs.Prelude.{◌&&◌, ◌||◌}
 use Rattle.shast.specs.Tree.{AnEntry, AnAndOrPart, APipelinePart, ABranch, ACaseItem, AWord, AnItem, ASubst, entries_of, and_or_parts_of, pipeline_parts_of, branches_of, cases_of, patterns_of, items_of, substs_of}

@@ -1,6 +1,7 @@
 //! A list appended to another one, at another base.
 //!
-//! The list is borrowed, so a copy of it is made: first all of it, and then it is appended. Each function copies one part of a script.
+//! The list is borrowed, so a copy of it is made: first all of it, and then it is
+//! appended. Each function copies one part of a script.
 #![tactic(auto, using(crate::proofs::Carrying::entries_carried, crate::proofs::Carrying::and_or_parts_carried, crate::proofs::Carrying::pipes_carried, crate::proofs::Carrying::branches_carried, crate::proofs::Carrying::cases_carried, crate::proofs::Carrying::patterns_carried, crate::proofs::Carrying::items_carried, crate::proofs::Carrying::substs_carried))]
 
 ghost use Rattle.std.specs.Prelude.{◌≡◌, ◌-◌, IfOk, map, option_map, OnErr, OnOk, true};
@@ -23,8 +24,8 @@ use shast::{
 };
 use std::alloc::{AllocError, Global};
 
-/// Adds the entries of a list that stands in the text from the offset `base` on to the end of `into`, whose base is the text's begin:
-/// each of their spans is moved up by `base`.
+/// Adds the entries of a list that stands in the text from the offset `base` on to the end of `into`, whose
+/// base is the text's begin: each of their spans is moved up by `base`.
 ///
 /// # Errors
 ///

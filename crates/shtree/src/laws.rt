@@ -29,8 +29,8 @@ pub fn normal_form()
         is_normal (alone (of_command (compound (formed (brace (alone (entry (remark c) false false comment))) span no_item)))) ≡ false }
 {}
 
-/// A list that names no offset above a limit names none above a greater one: so what a reader tells of its lists is what
-/// [`outline_of`](crate::outline_of) and [`nodes_at`](crate::nodes_at) ask for.
+/// A list that names no offset above a limit names none above a greater one: so what a reader tells of its
+/// lists is what [`outline_of`](crate::outline_of) and [`nodes_at`](crate::nodes_at) ask for.
 #[tactic(auto, using(shast::proofs::Reach::within_more))]
 pub fn greater_limit()
     ensures { (limit more : ℕ) (list : Entries) → limit ≤ more → AreWithin limit list → AreWithin more list }
@@ -42,7 +42,8 @@ pub fn same_form()
     ensures { (bytes : Row ℕ) (list : Entries) → is_normal (shape_of bytes list) ≡ is_normal list }
 {}
 
-/// A list is its open list, filled with its bodies, whatever an open document has in the place of its body; so is a shape.
+/// A list is its open list, filled with its bodies, whatever an open document has in
+/// the place of its body; so is a shape.
 #[tactic(auto, using(shast::proofs::FilledBack::filled_back))]
 pub fn filled_back()
     ensures spans { (nothing : Span) (list : Entries) → filled (bodies_of list) (opened nothing list) ≡ list }
@@ -56,8 +57,8 @@ pub fn filled_blind()
     ensures texts { (nothing : Text) (bodies : Row Text) (list : Shape EntriesOf) → opened nothing (filled bodies list) ≡ opened nothing list }
 {}
 
-/// Neither the nodes of a list, nor its normal form, nor the spelling of a shape look at bodies; so all offsets that a list names stay
-/// within what they were within.
+/// Neither the nodes of a list, nor its normal form, nor the spelling of a shape look at bodies; so all
+/// offsets that a list names stay within what they were within.
 #[tactic(auto, using(shast::proofs::OpenSame::nodes_open, shast::proofs::OpenSame::filled_nodes, shast::proofs::OpenSame::filled_within, shast::proofs::OpenSame::filled_ends, shast::proofs::OpenSame::normal_open, shast::proofs::OpenSame::filled_normal, shast::proofs::OpenSame::spelling_open, shast::proofs::OpenSame::filled_spelling))]
 pub fn bodies_unseen()
     ensures open_nodes { (nothing : Span) (list : Entries) → entries_nodes (opened nothing list) ≡ entries_nodes list }
@@ -70,7 +71,8 @@ pub fn bodies_unseen()
     ensures spelling { (bodies : Row Text) (list : Shape EntriesOf) → spelling (filled bodies list) ≡ spelling list }
 {}
 
-/// The shape of a list, over any bytes, holds the texts of its bodies: it is filled as the list is, and opened as the list is.
+/// The shape of a list, over any bytes, holds the texts of its bodies: it is filled as
+/// the list is, and opened as the list is.
 #[tactic(auto, using(shast::proofs::FilledShape::shape_filled, shast::proofs::FilledShape::shape_open, shast::proofs::FilledShape::shape_bodies))]
 pub fn shape_of_bodies()
     ensures filled { (bytes : Row ℕ) (bodies : Row Span) (list : Entries) → shape_of bytes (filled bodies list) ≡ filled (map (text_at bytes) bodies) (shape_of bytes list) }
@@ -104,8 +106,8 @@ pub fn moving()
     ensures twice { (one other : ℕ) (list : Entries) → moved other (moved one list) ≡ moved (one + other) list }
 {}
 
-/// The nodes of a moved list, each simple command of which has an item, are those of the list at the greater base; so a limit of what
-/// it names moves as well.
+/// The nodes of a moved list, each simple command of which has an item, are those of the list at the
+/// greater base; so a limit of what it names moves as well.
 #[tactic(auto, using(shast::proofs::NodesMoved::outline_moved, shast::proofs::NodesMoved::nodes_at_moved, shast::proofs::NodesMoved::within_moved))]
 pub fn nodes_moved()
     ensures outline { (base more : ℕ) (list : Entries) → HaveItems list → outline more (moved base list) ≡ outline (base + more) list }

@@ -9,10 +9,11 @@ use shast::{List, NodeLine};
 use std::alloc::{AllocError, Global};
 use std::cmp::Ordering;
 
-/// Adds the nodes of a list that an outline shows to `lines`: all but words, assignments, redirections and comments.
+/// Adds the nodes of a list that an outline shows to `lines`: all but words,
+/// assignments, redirections and comments.
 ///
-/// The list stands in the text from the offset `base` on. The nodes come by their starts, at equal starts the longer first, and a
-/// parent before its child.
+/// The list stands in the text from the offset `base` on. The nodes come by their starts, at equal
+/// starts the longer first, and a parent before its child.
 ///
 /// # Errors
 ///
@@ -32,7 +33,8 @@ pub fn outline_of(
 
 /// Adds the nodes of a list that hold the byte at the offset `at` to `lines`, of every kind.
 ///
-/// The list stands in the text from the offset `base` on. The nodes come as those of [`outline_of`] do: the outer before the inner.
+/// The list stands in the text from the offset `base` on. The nodes come as those of
+/// [`outline_of`] do: the outer before the inner.
 ///
 /// # Errors
 ///
@@ -79,8 +81,9 @@ impl Wanted for Holding {
     }
 }
 
-/// Adds the nodes that are wanted of a list that stands from `base` on to `lines`, in order. They are gathered there, so that a short list
-/// asks for no memory but theirs. Where memory runs out, `lines` then holds what it held before.
+/// Adds the nodes that are wanted of a list that stands from `base` on to `lines`, in
+/// order. They are gathered there, so that a short list asks for no memory but theirs.
+/// Where memory runs out, `lines` then holds what it held before.
 fn add_nodes<W: Wanted>(
     alloc: Global,
     list: &List,
@@ -103,7 +106,8 @@ fn add_nodes<W: Wanted>(
     Err(AllocError)
 }
 
-/// Puts nodes of a list that stands from `base` on in order, and at their places in the text. Nodes that are in order need no memory.
+/// Puts nodes of a list that stands from `base` on in order, and at their places in
+/// the text. Nodes that are in order need no memory.
 fn settle(alloc: Global, found: &mut [NodeLine], base: usize) -> Result<(), AllocError>
     requires { All (IsWithin (usize.MAX - base)) found.old }
     ensures { OnOk result (found.new ≡ map (placed base) (in_order found.old)) }

@@ -11,9 +11,9 @@ use shast::{
 
 /// Whether a script's list is in normal form, as each list is that was read.
 ///
-/// In a tree in normal form nothing is blank or broken where nothing stands before it, a comment that ends its line is followed by
-/// a newline, and each list that POSIX wants a command in has one. Not each such tree can be read: a simple
-/// command without items is in normal form. It takes no memory.
+/// In a tree in normal form nothing is blank or broken where nothing stands before it, a comment that ends
+/// its line is followed by a newline, and each list that POSIX wants a command in has one. Not each such tree
+/// can be read: a simple command without items is in normal form. It takes no memory.
 pub fn is_normal(list: &List) -> bool
     ensures { result ≡ is_normal (view_list list.now) }
 {

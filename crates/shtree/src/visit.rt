@@ -1,5 +1,5 @@
-//! The walk over a tree that gathers its nodes. Each function adds the nodes of one part of a script: itself, and then what it holds
-//! from left to right.
+//! The walk over a tree that gathers its nodes. Each function adds the nodes of one part of a
+//! script: itself, and then what it holds from left to right.
 #![tactic(auto, using(crate::proofs::Gathering::gathered_append, crate::proofs::Gathering::gathered_none))]
 
 ghost use Rattle.std.specs.Prelude.{◌≡◌, [], ◌∷◌, ◌++◌, Bool, IfOk, false, map, option_map};

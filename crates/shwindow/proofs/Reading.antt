@@ -44,7 +44,8 @@ pub rose : (m k n : ℕ) → k ≤ n → RoseWithin n m (risen m k)
 rose m k n low = (omega arith, omega arith)
 
 module _ {K : Type 0} (Is : List ℕ → HeldLine K → Type 0) (U : List ℕ) (e b w : ℕ) (old : Row (HeldLine K)) where
-  -- These lines were read, up to q; the old lines in hand are hs, from p on. It is so whatever the old text was.
+  -- These lines were read, up to q; the old lines in hand are hs, from p on. It is so
+  -- whatever the old text was.
   pub record AtLine (read : Row (HeldLine K)) (q p : ℕ) (hs : Row (HeldLine K)) : Type 0 where
     pub going : (B : List ℕ) (a : ℕ) → IsBegun Is B U a e b w old → Going Is B U a e b w read q p hs
     pub sum : p + extent hs ≡ w + extent old

@@ -24,8 +24,8 @@ module _ {K : Type 0} (Is : List ℕ → HeldLine K → Type 0) (B : List ℕ) w
     empty_hand : {p : ℕ} → ((s : ℕ) → IsBoundary Is B s → s < o) → Holds o p []
 
 module _ {K : Type 0} (Is : List ℕ → HeldLine K → Type 0) (B U : List ℕ) (a e b : ℕ) where
-  -- Read are the lines of U from w up to q; hs are the old lines from p on, all that begin at or past the old place of q. No boundary
-  -- before q is shared.
+  -- Read are the lines of U from w up to q; hs are the old lines from p on, all that begin at or
+  -- past the old place of q. No boundary before q is shared.
   pub record Going (w : ℕ) (read : Row (HeldLine K)) (q p : ℕ) (hs : Row (HeldLine K)) : Type 0 where
     pub boundary : IsBoundary Is U q
     pub low : w ≤ a

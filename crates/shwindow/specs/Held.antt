@@ -14,7 +14,8 @@ pub record HasLineAt {K : Type 0} (hs : Row (HeldLine K)) (at : ℕ) (h : HeldLi
   pub low : begin ≤ at
   pub past : (behind ≡ [] → ⊥) → at < begin + h.len
 
--- These are the lines of a text, of which an edit makes U: the bytes before a stay, and those of U from e on are the old ones from b on.
+-- These are the lines of a text, of which an edit makes U: the bytes before a stay,
+-- and those of U from e on are the old ones from b on.
 pub record IsEdit {K : Type 0} (Is : List ℕ → HeldLine K → Type 0) (hs : Row (HeldLine K)) (U : List ℕ) (a e b : ℕ) : Type 0 where
   pub old : List ℕ
   pub row : IsRow Is old hs

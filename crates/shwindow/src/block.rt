@@ -104,8 +104,8 @@ impl<K: Drop> Block<K> {
         self.len -= gone;
     }
 
-    /// Puts other lines in the place of those from `from` up to `to`. Some are left. Where as many come as go, no other line moves, and no
-    /// memory is wanted.
+    /// Puts other lines in the place of those from `from` up to `to`. Some are left. Where as many come
+    /// as go, no other line moves, and no memory is wanted.
     pub(crate) fn replace(
         &mut self,
         from: usize,
@@ -143,8 +143,8 @@ impl<K: Drop> Block<K> {
         Ok(())
     }
 
-    /// The first line that ends behind an offset, and where it begins; the place behind the lines and where that is, if none does. The
-    /// block begins at another offset.
+    /// The first line that ends behind an offset, and where it begins; the place behind the lines and where
+    /// that is, if none does. The block begins at another offset.
     pub(crate) fn find(&self, begin: usize, at: usize) -> (usize, usize)
         requires low { begin ≤ at }
         requires fits { begin + extent self.now < 2 ^ 64 }

@@ -1,4 +1,5 @@
-//! Lines that ended, in blocks, so that neither finding a line nor replacing some walks over all of them or moves them.
+//! Lines that ended, in blocks, so that neither finding a line nor replacing some
+//! walks over all of them or moves them.
 ghost use Rattle.std.specs.Prelude.{◌≡◌, ◌+◌, ◌-◌, ◌<◌, ◌≤◌, ◌^◌, ◌++◌, ◌∷◌, [], ℕ, List as Row, OnErr, OnOk, IfOk, IfSome, IsSome, drop, false, length, option_map, take, vec_capacity, vec_len};
 ghost use Rattle.shwindow.specs.Blocks.{IsPlace, block_at, first_of, in_one_row, lines_before, lines_from};
 ghost use Rattle.shwindow.specs.Places.{IsNotBehind};
@@ -126,7 +127,8 @@ impl<K: Drop> Blocks<K> {
         }
     }
 
-    /// The first line that ends behind an offset, and where it begins; the place behind all of them, if none does.
+    /// The first line that ends behind an offset, and where it begins; the place
+    /// behind all of them, if none does.
     pub(crate) fn find(&self, at: usize) -> (Place, usize)
         requires { extent (in_one_row self.now.blocks.items) < 2 ^ 64 }
         ensures place { IsPlace self.now.blocks.items result.0 }
@@ -146,7 +148,8 @@ impl<K: Drop> Blocks<K> {
         (self.end(), begin)
     }
 
-    /// Cuts a block before a line, unless that is its first, and answers the block that begins there. No line changes.
+    /// Cuts a block before a line, unless that is its first, and answers the block
+    /// that begins there. No line changes.
     pub(crate) fn cut(&mut self, place: Place) -> Result<usize, AllocError>
         requires { IsPlace self.old.blocks.items place }
         ensures before { IfOk result (λ n. in_one_row (take n self.new.blocks.items) ≡ lines_before self.old.blocks.items place) }
@@ -166,7 +169,8 @@ impl<K: Drop> Blocks<K> {
         Ok(place.block + 1)
     }
 
-    /// Makes one block of a block and the next one, if they have few lines and there is memory. No line changes.
+    /// Makes one block of a block and the next one, if they have few lines and there
+    /// is memory. No line changes.
     pub(crate) fn merge(&mut self, first: usize)
         requires { extent (in_one_row self.old.blocks.items) < 2 ^ 64 }
         ensures { in_one_row self.new.blocks.items ≡ in_one_row self.old.blocks.items }

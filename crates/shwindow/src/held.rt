@@ -63,10 +63,12 @@ impl<K: Drop> HeldLines<K> {
         }
     }
 
-    /// Mends the lines behind an edit of their text. The source is the new text: its bytes before `start` are the old ones, and those from
-    /// `end` on are the old ones from `old_end` on. Only the window of the edit is read.
+    /// Mends the lines behind an edit of their text. The source is the new text: its
+    /// bytes before `start` are the old ones, and those from `end` on are the old ones
+    /// from `old_end` on. Only the window of the edit is read.
     ///
-    /// Want of memory is the only error: the lines are then as before, and no more was read than the window has.
+    /// Want of memory is the only error: the lines are then as before, and no more was
+    /// read than the window has.
     pub fn edit<R: LineReader<K>, S: Source>(
         &mut self,
         reader: &mut R,
@@ -114,7 +116,8 @@ impl<K: Drop> HeldLines<K> {
         &self.last
     }
 
-    /// The line in which an offset lies, and where that begins: the first line that ends behind it, or the last line.
+    /// The line in which an offset lies, and where that begins: the first line that
+    /// ends behind it, or the last line.
     pub fn line_at(&self, at: usize) -> (&HeldLine<K>, usize)
         ensures { HasLineAt self.now at result.0.now result.1 }
     {

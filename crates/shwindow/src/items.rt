@@ -4,7 +4,8 @@ ghost use Rattle.std.specs.Prelude.{◌≡◌, ◌-◌, ◌≤◌, ◌++◌, IsO
 use shtext::replace_items;
 use std::alloc::AllocError;
 
-/// Puts items in the place of those from `from` up to `to`. Where they are as many, no other item moves, and no memory is wanted.
+/// Puts items in the place of those from `from` up to `to`. Where they are as many, no
+/// other item moves, and no memory is wanted.
 pub(crate) fn exchange<T: Drop>(
     of: &mut Vec<T>,
     from: usize,

@@ -1,14 +1,15 @@
-//! Held lines and the window of an edit: the lines of a text, and what of them has to be read again where the text is edited, over any
-//! reader of lines.
+//! Held lines and the window of an edit: the lines of a text, and what of them has to be read
+//! again where the text is edited, over any reader of lines.
 //!
-//! Start with [`LineReader`], which says what a reader of lines keeps to, and [`HeldLines`], which holds all lines of a text: it reads
-//! them, finds the line of an offset, walks over them, and mends them behind an edit, for which it reads the window of the edit alone.
-//! A [`HeldLine`] says what a line is and how many bytes it has. The lines stand in blocks, so that neither finding a line nor replacing
-//! some walks over all of them or moves them.
+//! Start with [`LineReader`], which says what a reader of lines keeps to, and [`HeldLines`], which
+//! holds all lines of a text: it reads them, finds the line of an offset, walks over them, and
+//! mends them behind an edit, for which it reads the window of the edit alone. A [`HeldLine`] says
+//! what a line is and how many bytes it has. The lines stand in blocks, so that neither finding a
+//! line nor replacing some walks over all of them or moves them.
 //!
-//! The definitions that the contracts cite are in `specs/`: `Lines` says what lines are and where they begin, `Window` what of an edited
-//! text has to be read again, `Held` what an edit is to held lines. What is proved of the definitions alone is the contract of
-//! [`held_lines`].
+//! The definitions that the contracts cite are in `specs/`: `Lines` says what lines are and where they begin,
+//! `Window` what of an edited text has to be read again, `Held` what an edit is to held lines. What is proved
+//! of the definitions alone is the contract of [`held_lines`].
 #![tactic(auto)]
 
 mod block;

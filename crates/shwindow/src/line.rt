@@ -12,11 +12,13 @@ pub struct HeldLine<K> {
     pub kind: K,
     /// How many bytes it has.
     pub len: usize,
-    /// It ended so that another line may begin behind it. A line that did not end is the rest of its text, which may be empty.
+    /// It ended so that another line may begin behind it. A line that did not end is
+    /// the rest of its text, which may be empty.
     pub ended: bool,
 }
 
-/// What reads lines of some kind, and counts the bytes that it has read. A line that ended looks no further than it goes.
+/// What reads lines of some kind, and counts the bytes that it has read. A line that
+/// ended looks no further than it goes.
 pub trait LineReader<K> {
     ghost use Rattle.shwindow.specs.Lines.{Reads};
     ghost use Rattle.shwindow.specs.declared.line.HeldLine.{HeldLine};
@@ -34,7 +36,8 @@ pub trait LineReader<K> {
 
     /// Reads the line that begins at an offset, as if a text began there. The offset is at most the length.
     ///
-    /// Want of memory is the only error: the meter is then as before. At the length of the source no memory is wanted.
+    /// Want of memory is the only error: the meter is then as before. At the length of
+    /// the source no memory is wanted.
     fn read_line<S: Source>(&mut self, source: &S, at: usize) -> Result<HeldLine<K>, AllocError>
         requires { at ≤ length (S.bytes source.now) }
         ensures line { IfOk result (λ line.

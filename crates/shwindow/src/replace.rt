@@ -33,8 +33,8 @@ impl<K: Drop> Blocks<K> {
         self.replace_from(from, end, new)
     }
 
-    /// The line of a block before which lines give way, where all that do are lines of that block from a place on. It may be the one
-    /// behind the last.
+    /// The line of a block before which lines give way, where all that do are lines of that
+    /// block from a place on. It may be the one behind the last.
     fn end_in_block(&self, from: Place, upto: Place) -> Option<usize>
         requires from { IsPlace self.now.blocks.items from }
         requires upto { IsPlace self.now.blocks.items upto }
@@ -74,9 +74,11 @@ impl<K: Drop> Blocks<K> {
         Some(to)
     }
 
-    /// Puts few lines in the place of those of a block from a place up to a line. The block is left with some.
+    /// Puts few lines in the place of those of a block from a place up to a line. The
+    /// block is left with some.
     ///
-    /// Neighbours are made one only where lines have become fewer: what is the rule, that one gives way to one, moves no line.
+    /// Neighbours are made one only where lines have become fewer: what is the rule,
+    /// that one gives way to one, moves no line.
     fn replace_in_block(&mut self, from: Place, to: usize, new: Blocks<K>) -> Result<(), AllocError>
         requires gives { GivesWay self.old.blocks.items from to }
         requires few { vec_len new.blocks ≤ 1 }
@@ -97,7 +99,8 @@ impl<K: Drop> Blocks<K> {
         Ok(())
     }
 
-    /// Puts other lines in the place of those from a place up to a block. The place may be behind the last line of its block.
+    /// Puts other lines in the place of those from a place up to a block. The place
+    /// may be behind the last line of its block.
     fn replace_from(&mut self, from: Place, to: usize, new: Blocks<K>) -> Result<(), AllocError>
         requires order { from.block ≤ to }
         requires within { to ≤ vec_len self.old.blocks }
@@ -111,8 +114,8 @@ impl<K: Drop> Blocks<K> {
         let first = self.keep_before(from, to);
         let end = first + new.blocks.len();
         replace_items(&mut self.blocks, first, to, new.blocks);
-        // The pairs at both ends of what is new are tried, and the one before a block that was cut: from the last to the first, since a
-        // merge moves those behind it.
+        // The pairs at both ends of what is new are tried, and the one before a block that was cut: from the
+        // last to the first, since a merge moves those behind it.
         self.merge(end);
         self.merge(end.saturating_sub(1));
         self.merge(first.saturating_sub(1));
@@ -120,7 +123,8 @@ impl<K: Drop> Blocks<K> {
         Ok(())
     }
 
-    /// Takes the lines of a block from a place on, which is before another block, and answers the block behind the lines that it keeps.
+    /// Takes the lines of a block from a place on, which is before another block, and
+    /// answers the block behind the lines that it keeps.
     fn keep_before(&mut self, place: Place, to: usize) -> usize
         requires order { place.block ≤ to }
         requires within { to ≤ vec_len self.old.blocks }

@@ -52,7 +52,8 @@ impl<'a, K: Drop> Hand<'a, K> {
         }
     }
 
-    /// Whether an offset of the new text is at or past the end of the new bytes, and an old line begins at its old place.
+    /// Whether an offset of the new text is at or past the end of the new bytes, and
+    /// an old line begins at its old place.
     fn meets(&self, at: usize, end: usize, old_at: usize) -> bool
         ensures met { result ≡ true → (end ≤ at) × (self.now.begin ≡ old_at) ×
             (lines_left self.now.lines ≡ lines_from self.now.lines.blocks.now.blocks.items self.now.lines.place ++ self.now.lines.last.now ∷ []) }
@@ -65,8 +66,8 @@ impl<'a, K: Drop> Hand<'a, K> {
     }
 }
 
-/// Reads the window of an edit that puts the bytes of `source` before `end` in the place of the old ones before `old_end`. The window
-/// begins at an offset where the old lines begin that are handed over.
+/// Reads the window of an edit that puts the bytes of `source` before `end` in the place of the old ones
+/// before `old_end`. The window begins at an offset where the old lines begin that are handed over.
 ///
 /// Want of memory is the only error: then no more was read than the window has.
 pub(crate) fn read_window<K: Drop, R: LineReader<K>, S: Source>(
