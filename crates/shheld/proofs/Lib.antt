@@ -2,7 +2,6 @@ pub mod TopLines
 pub mod Rows
 pub mod Walks
 pub mod Within
-pub mod Blanked
 pub mod Places
 pub mod Nodes
 pub mod NodesAt

@@ -1,3 +1,2 @@
 pub mod TopLines
 pub mod Walk
-pub mod Joining

@@ -2,11 +2,11 @@
 //! gate proves a crate that has tests twice; and beside those of the reader (`shtests`), since they need not wait for its proof.
 //!
 //! Start with the module of what is tested: `texts` is the tests of `shtext`, `tree_bodies`, `tree_moved` and
-//! `tree_normal` are those of `shtree`, `tree_held` is that of `shheld`, and `tree_spare` is that of the room
-//! that `shast` keeps; `text_refused` refuses each growth of memory in turn. The others help, here and in the
-//! other crates of tests: [`devices`] has readers and writers that fail, [`growths`] asks for refusals,
-//! [`table`] reads tables of rows, whose cells [`cell`] joins, [`shown`](shown::shown) writes a tree as text;
-//! `tree_built` builds trees by hand.
+//! `tree_normal` are those of `shtree`, and `tree_spare` is that of the room that `shast` keeps;
+//! `text_refused` refuses each growth of memory in turn. The others help, here and in the other crates of
+//! tests: [`devices`] has readers and writers that fail, [`growths`] asks for refusals, [`table`] reads tables
+//! of rows, whose cells [`cell`] joins, [`shown`](shown::shown) writes a tree as text; `tree_built` builds
+//! trees by hand.
 #![tactic(auto)]
 
 pub mod cell;
@@ -23,7 +23,6 @@ mod tree_bodies;
 #[cfg(test)]
 mod tree_built;
 #[cfg(test)]
-mod tree_held;
 #[cfg(test)]
 mod tree_moved;
 #[cfg(test)]

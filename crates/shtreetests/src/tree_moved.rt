@@ -33,7 +33,7 @@ fn case(alloc: Global, span: Span, falls: bool) -> Result<Command, AllocError>
 }
 
 /// A list of that case alone.
-pub(crate) fn list(alloc: Global, start: usize, falls: bool) -> Result<List, AllocError>
+fn list(alloc: Global, start: usize, falls: bool) -> Result<List, AllocError>
     requires { start ≤ 100 }
     ensures { IfOk result (λ made. (limit : ℕ) → 200 ≤ limit → AllWithin limit (view_list made)) }
 {
@@ -56,6 +56,24 @@ fn items_that_fall_through(rt: HostRuntime) -> Result<(), Fail> {
         assert_eq!(rt;
             shown(alloc, &moved)?.as_str(),
             shown(alloc, &list(alloc, 7, falls)?)?.as_str()
+        );
+    }
+    Ok(())
+}
+
+#[test]
+fn items_behind_others(rt: HostRuntime) -> Result<(), Fail> {
+    let alloc = rt.alloc();
+    for falls in [[false, true], [true, false]] {
+        let mut joined = list(alloc, 0, falls[0])?;
+        append_at(alloc, &list(alloc, 0, falls[1])?, 11, &mut joined)?;
+        let mut wanted = list(alloc, 0, falls[0])?;
+        wanted
+            .entries
+            .append(&mut list(alloc, 11, falls[1])?.entries)?;
+        assert_eq!(rt;
+            shown(alloc, &joined)?.as_str(),
+            shown(alloc, &wanted)?.as_str()
         );
     }
     Ok(())
