@@ -9,6 +9,7 @@ use shread::{Fault, FaultKind};
 use std::alloc::{AllocError, Global};
 use std::io;
 use std::io::{Read, Write};
+use std::process::Abort;
 use std::test::Fail;
 
 /// A writer that takes no memory.
@@ -136,31 +137,6 @@ fn print_refused(alloc: Global, nth: usize) -> Result<(u8, Page, Page), LayoutEr
     Ok((status, written, told))
 }
 
-/// The input is read in several growths, its tree in some, and it is printed in some more. Until all that are
-/// needed have been had, nothing is written. Room for the text before it is printed can be done without.
-#[test]
-fn print(rt: HostRuntime) -> Result<(), Fail> {
-    let refuses = refuses(rt.alloc());
-    let mut met = 0;
-    for nth in 1..100 {
-        let (status, written, told) = print_refused(rt.alloc(), nth)?;
-        let is_met = refuses && was_refused(rt.alloc(), nth);
-        if status == 0 {
-            assert!(rt; told.text().is_empty());
-            assert!(rt; written.text() == b"{\n\tif a; then\n\t\tb\n\tfi\n} # c\n".as_slice());
-        } else {
-            assert!(rt; is_met && status == 2 && written.text().is_empty());
-            assert!(rt; told.text() == b"shform: out of memory\n".as_slice());
-            met = nth;
-        }
-        if !is_met {
-            break;
-        }
-    }
-    assert!(rt; !refuses || 0 < met && met < 99, "{met}");
-    Ok(())
-}
-
 /// The status of a session on a script of one long line with the nth growth refused, and what it replied
 /// and told.
 fn session_refused(alloc: Global, nth: usize) -> Result<(u8, Page, Page), LayoutError> {
@@ -179,20 +155,42 @@ fn session_refused(alloc: Global, nth: usize) -> Result<(u8, Page, Page), Layout
     Ok((status, replies, told))
 }
 
-/// FILE is read in several growths, and opened in some more. Until all that are needed have been had,
-/// nothing is replied.
-#[test]
-fn session(rt: HostRuntime) -> Result<(), Fail> {
-    let refuses = refuses(rt.alloc());
+/// What is run with a growth refused.
+#[derive(Clone, Copy)]
+enum Run {
+    Print,
+    Session,
+}
+
+impl Run {
+    /// The status of a run with the nth growth refused, what it wrote, and what it told.
+    fn refused(self, alloc: Global, nth: usize) -> Result<(u8, Page, Page), LayoutError> {
+        match self {
+            Run::Print => print_refused(alloc, nth),
+            Run::Session => session_refused(alloc, nth),
+        }
+    }
+}
+
+/// Refuses each growth of a run in turn, until it needs no more: up to then nothing is written. In the end it has
+/// this status and has written this text. What a run can do without may be refused all the same.
+fn refused_in_turn(
+    rt: &impl Abort,
+    alloc: Global,
+    run: Run,
+    end: u8,
+    text: &[u8],
+) -> Result<(), Fail> {
+    let refuses = refuses(alloc);
     let mut met = 0;
     for nth in 1..100 {
-        let (status, replies, told) = session_refused(rt.alloc(), nth)?;
-        let is_met = refuses && was_refused(rt.alloc(), nth);
-        if status == 1 {
+        let (status, written, told) = run.refused(alloc, nth)?;
+        let is_met = refuses && was_refused(alloc, nth);
+        if status == end {
             assert!(rt; told.text().is_empty());
-            assert!(rt; replies.text() == b"fault 20002 1 20003 11\n".as_slice());
+            assert!(rt; written.text() == text);
         } else {
-            assert!(rt; is_met && status == 2 && replies.text().is_empty());
+            assert!(rt; is_met && status == 2 && written.text().is_empty());
             assert!(rt; told.text() == b"shform: out of memory\n".as_slice());
             met = nth;
         }
@@ -202,4 +200,19 @@ fn session(rt: HostRuntime) -> Result<(), Fail> {
     }
     assert!(rt; !refuses || 0 < met && met < 99, "{met}");
     Ok(())
+}
+
+/// The input is read in several growths, its tree in some, and it is printed in some more. Room for the text
+/// before it is printed can be done without.
+#[test]
+fn print(rt: HostRuntime) -> Result<(), Fail> {
+    let text = b"{\n\tif a; then\n\t\tb\n\tfi\n} # c\n".as_slice();
+    refused_in_turn(&rt, rt.alloc(), Run::Print, 0, text)
+}
+
+/// FILE is read in several growths, and opened in some more.
+#[test]
+fn session(rt: HostRuntime) -> Result<(), Fail> {
+    let text = b"fault 20002 1 20003 11\n".as_slice();
+    refused_in_turn(&rt, rt.alloc(), Run::Session, 1, text)
 }
