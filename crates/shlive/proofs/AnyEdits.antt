@@ -4,14 +4,13 @@ use Rattle.shast.specs.declared.node.NodeLine.{NodeLine}
 use Rattle.shgrammar.specs.Scripts.{FirstFault}
 use Rattle.shgrammar.specs.declared.edition.Edition.{Edition}
 use Rattle.shgrammar.specs.declared.fault.Fault.{Fault}
-use Rattle.shheld.specs.TopLines.{HasWindow, IsTopLine}
+use Rattle.shheld.specs.TopLines.{IsTopLine}
 use Rattle.shtext.specs.Edit.{edited}
 use Rattle.shtext.specs.Meter.{raised}
-use Rattle.shwindow.specs.Meter.{risen}
 use Rattle.shwindow.proofs.Windows.{window_only}
 use Rattle.shheld.proofs.Windows.{some}
 use Rattle.shlive.specs.Answers.{HasNodesAt, HasOutline, HasStatus, HasText}
-use Rattle.shlive.specs.Edits.{AreRead, AreReadBy, IsAfter, IsAfterBy, IsMade, IsNotMade, Tried, bytes_after, bytes_by, none_tried, one_tried}
+use Rattle.shlive.specs.Edits.{AreRead, AreReadBy, IsAfter, IsAfterBy, Tried, bytes_after, bytes_by, none_tried, one_tried}
 use Rattle.shlive.specs.Held.{Held, How}
 use Rattle.shlive.specs.declared.error.LiveError.{LiveError}
 use Rattle.shlive.specs.declared.error.LiveError.TheVariants.{Range, TooLarge, Memory}

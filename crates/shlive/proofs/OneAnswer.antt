@@ -1,5 +1,5 @@
 -- Bytes have one answer to each question.
-use Rattle.std.proofs.Common.{◌≡◌, ℕ, List, Option, None, Some, sym, ap, ◌∙◌, subst, refl}
+use Rattle.std.proofs.Common.{◌≡◌, ℕ, List, Option, None, Some, sym, ap, ◌∙◌, refl}
 use Rattle.shast.specs.Nodes.{nodes_at, outline}
 use Rattle.shast.specs.Shape.{shape_of}
 use Rattle.shast.specs.declared.node.NodeLine.{NodeLine}

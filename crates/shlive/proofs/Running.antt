@@ -1,8 +1,8 @@
 -- A run, request by request.
-use Rattle.std.proofs.Common.{◌≡◌, ℕ, ◌≤◌, Bool, false, true, List, [], ◌∷◌, ◌++◌, Option, length, refl, sym, ap, ◌∙◌, arith, append_assoc, append-nil, subst, ⊎_elim}
+use Rattle.std.proofs.Common.{◌≡◌, ℕ, ◌≤◌, Bool, false, List, [], ◌∷◌, ◌++◌, Option, length, refl, sym, ap, ◌∙◌, arith, append_assoc, append-nil, subst, ⊎_elim}
 use Rattle.std.specs.Io.KnownBytes.{Appends}
 use Rattle.shtext.proofs.Known.{Appends-trans}
-use Rattle.shlive.specs.Edits.{IsMade, IsNotMade}
+use Rattle.shlive.specs.Edits.{IsNotMade}
 use Rattle.shlive.specs.Held.{Held}
 use Rattle.shlive.specs.Ahead.{Ahead, Takes, too_many}
 use Rattle.shlive.specs.Replies.{Step}
@@ -10,7 +10,7 @@ use Rattle.shlive.specs.Replies as of_replies
 use Rattle.shlive.specs.Requests.{Begins, Ending, EndsBy, Request, asks, clean, cut, edit, spoiled, outline, at, fault, print, unknown, left, next_of}
 use Rattle.shlive.specs.Requests as of_requests
 use Rattle.shlive.specs.Runs.{Answered, Ended, Finishes, HasAnswer, IsRun}
-use Rattle.shlive.specs.Turns.{EndsAs, Replied, Spells, Stays}
+use Rattle.shlive.specs.Turns.{EndsAs, Replied, Spells}
 use Rattle.shlive.specs.declared.error.LiveError.{LiveError}
 use Rattle.shlive.specs.declared.serve.End.{End}
 use Rattle.shlive.specs.declared.serve.End.TheVariants.{Clean, Quit, Cut, Unreadable, TooLong, Unwritable}
