@@ -12,7 +12,7 @@ use Rattle.shgrammar.specs.Classes.{is_blank, is_operator}
 use Rattle.shgrammar.specs.Standing.{is_byte, is_none, passes, raw_stands, at_end}
 use Rattle.shgrammar.specs.Bytes.{byte_at, behind, ends, ends_word, past_blanks, past_continuations, stands, stands_in}
 use Rattle.shast.specs.declared.tree.RedirectOperator.{RedirectOperator}
-use Rattle.shgrammar.specs.Commands.{is_long, is_strip, redirect_operator_of}
+use Rattle.shgrammar.specs.Commands.{is_long, is_strip, redirect_operator_of, takes_here}
 use Rattle.shgrammar.specs.declared.edition.Edition.{Edition}
 use Rattle.shgrammar.specs.Commands.{falls_through}
 use Rattle.std.proofs.Common.{cond}
@@ -44,7 +44,7 @@ Byte T p b tokens.AndIf = IsRead T (behind T p)
 Byte T p b tokens.OrIf = IsRead T (behind T p)
 Byte T p b tokens.DoubleSemicolon = IsRead T (behind T p)
 Byte T p b tokens.SemicolonAmpersand = IsRead T (behind T p)
-Byte T p b (tokens.Redirect o) = (is_long o ≡ true → IsRead T (behind T p)) × (is_strip o ≡ true → IsRead T (behind T (behind T p)))
+Byte T p b (tokens.Redirect o) = (is_long o ≡ true → IsRead T (behind T p)) × (is_strip o ≡ true → IsRead T (behind T (behind T p))) × (takes_here o ≡ true → is_byte b 60 ≡ true)
 Byte T p b (tokens.Reserved r) = ends b ≡ false
 Byte T p b tokens.Assignment = ends b ≡ false
 Byte T p b tokens.Word = ends b ≡ false
@@ -98,6 +98,14 @@ module _ (T : List ℕ) (p : ℕ) where
       (λ e. cond_both (stands T (behind T p) 38) _ _ Long (λ f l. stands_read T (behind T p) 38 f)
       (λ f. cond_both (stands T (behind T p) 124) _ _ Long (λ g l. stands_read T (behind T p) 124 g) (λ g l. absurd cc)))
 
+  -- and none that begins with `>` takes a here-document
+  greater_plain : (b : Option ℕ) → takes_here (greater_at T (behind T p)) ≡ true → is_byte b 60 ≡ true
+  unfolding greater_at
+  greater_plain b =
+      let Plain : RedirectOperator → Type 0 = λ o. takes_here o ≡ true → is_byte b 60 ≡ true in
+      cond_both (stands T (behind T p) 62) _ _ Plain (λ e l. absurd cc)
+      (λ e. cond_both (stands T (behind T p) 38) _ _ Plain (λ f l. absurd cc) (λ f. cond_both (stands T (behind T p) 124) _ _ Plain (λ g l. absurd cc) (λ g l. absurd cc)))
+
   -- by the byte
   token_byte : (position : Position) (b : Option ℕ) → passes is_blank b ≡ false → Byte T p b (token_of position T p b)
   token_byte position None blank = refl
@@ -109,8 +117,8 @@ module _ (T : List ℕ) (p : ℕ) where
       (λ f. cond_both (b == 124) _ _ P (λ g. cond_both (stands T (behind T p) 124) _ _ P (λ h. stands_read T (behind T p) 124 h) (λ h. tt))
       (λ i. cond_both (b == 40) _ _ P (λ g. tt)
       (λ j. cond_both (b == 41) _ _ P (λ g. tt)
-      (λ k. cond_both (b == 60) _ _ P (λ g. (less_long, less_strip))
-      (λ l. cond_both (b == 62) _ _ P (λ g. (greater_long, greater_strip))
+      (λ k. cond_both (b == 60) _ _ P (λ g. (less_long, less_strip, λ h. g))
+      (λ l. cond_both (b == 62) _ _ P (λ g. (greater_long, greater_strip, greater_plain (Some b)))
       (λ m. cond_both (b == 35) _ _ P (λ g. tt)
       (λ g. cond_both (is_number T p) _ _ P (λ h. tt) (λ h. in_position position (Some b) (or_from _ _ (or_from _ _ blank n) (no_operator b f i e j k l m))))))))))))
 
@@ -136,25 +144,28 @@ redirect_read T p o so z is long = let same : o ≡ z = cc in so (rw same long)
 strip_read : (T : List ℕ) (p : ℕ) (o : RedirectOperator) → (is_strip o ≡ true → IsRead T (behind T (behind T p))) → (z : RedirectOperator) → redirect_operator_of (tokens.Redirect o) ≡ Some z → is_strip z ≡ true → IsRead T (behind T (behind T p))
 strip_read T p o so z is strip = let same : o ≡ z = cc in so (rw same strip)
 
+here_read : (T : List ℕ) (p : ℕ) (o : RedirectOperator) → (takes_here o ≡ true → raw_stands T p 60 ≡ true) → (z : RedirectOperator) → redirect_operator_of (tokens.Redirect o) ≡ Some z → takes_here z ≡ true → raw_stands T p 60 ≡ true
+here_read T p o so z is takes = let same : o ≡ z = cc in so (rw same takes)
+
 shows_by : (T : List ℕ) (p : ℕ) (t : Token) → past_continuations T p ≡ p → (is_end t ≡ false → IsRead T p) → Byte T p (byte_at T p) t → (is_comment t ≡ false → raw_stands T p 35 ≡ false) → Shows t T p
 unfolding ends_word raw_stands at_end
-shows_by T p tokens.End still some e none = (λ f. absurd cc, some, λ f. absurd cc, λ f. ap (λ q. is_none (slice_get T q)) (sym still) ∙ e, λ o f. absurd cc, none, still, λ f. absurd cc, λ f. absurd cc, λ o f. absurd cc, λ o f. absurd cc)
-shows_by T p tokens.Newline still some e none = (λ f. absurd cc, some, λ f. ap (λ q. is_byte (slice_get T q) 10) (sym still) ∙ e, λ f. absurd cc, λ o f. absurd cc, none, still, λ f. absurd cc, λ f. absurd cc, λ o f. absurd cc, λ o f. absurd cc)
-shows_by T p tokens.Semicolon still some e none = (λ f. absurd cc, some, λ f. absurd cc, λ f. absurd cc, λ o f. absurd cc, none, still, λ f. absurd cc, λ f. absurd cc, λ o f. absurd cc, λ o f. absurd cc)
-shows_by T p tokens.DoubleSemicolon still some e none = (λ f. absurd cc, some, λ f. absurd cc, λ f. absurd cc, λ o f. absurd cc, none, still, λ f. absurd cc, λ f. e, λ o f. absurd cc, λ o f. absurd cc)
-shows_by T p tokens.SemicolonAmpersand still some e none = (λ f. absurd cc, some, λ f. absurd cc, λ f. absurd cc, λ o f. absurd cc, none, still, λ f. absurd cc, λ f. e, λ o f. absurd cc, λ o f. absurd cc)
-shows_by T p tokens.Ampersand still some e none = (λ f. absurd cc, some, λ f. absurd cc, λ f. absurd cc, λ o f. absurd cc, none, still, λ f. absurd cc, λ f. absurd cc, λ o f. absurd cc, λ o f. absurd cc)
-shows_by T p tokens.AndIf still some e none = (λ f. absurd cc, some, λ f. absurd cc, λ f. absurd cc, λ o f. e, none, still, λ f. absurd cc, λ f. absurd cc, λ o f. absurd cc, λ o f. absurd cc)
-shows_by T p tokens.OrIf still some e none = (λ f. absurd cc, some, λ f. absurd cc, λ f. absurd cc, λ o f. e, none, still, λ f. absurd cc, λ f. absurd cc, λ o f. absurd cc, λ o f. absurd cc)
-shows_by T p tokens.Pipe still some e none = (λ f. absurd cc, some, λ f. absurd cc, λ f. absurd cc, λ o f. absurd cc, none, still, λ f. absurd cc, λ f. absurd cc, λ o f. absurd cc, λ o f. absurd cc)
-shows_by T p tokens.OpenParen still some e none = (λ f. absurd cc, some, λ f. absurd cc, λ f. absurd cc, λ o f. absurd cc, none, still, λ f. absurd cc, λ f. absurd cc, λ o f. absurd cc, λ o f. absurd cc)
-shows_by T p tokens.CloseParen still some e none = (λ f. absurd cc, some, λ f. absurd cc, λ f. absurd cc, λ o f. absurd cc, none, still, λ f. absurd cc, λ f. absurd cc, λ o f. absurd cc, λ o f. absurd cc)
-shows_by T p (tokens.Redirect z) still some e none = (λ f. absurd cc, some, λ f. absurd cc, λ f. absurd cc, λ o f. absurd cc, none, still, λ f. absurd cc, λ f. absurd cc, redirect_read T p z e.0, strip_read T p z e.1)
-shows_by T p tokens.Comment still some e none = (λ f. absurd cc, some, λ f. absurd cc, λ f. absurd cc, λ o f. absurd cc, none, still, λ f. absurd cc, λ f. absurd cc, λ o f. absurd cc, λ o f. absurd cc)
-shows_by T p tokens.Number still some e none = (λ f. absurd cc, some, λ f. absurd cc, λ f. absurd cc, λ o f. absurd cc, none, still, λ f. absurd cc, λ f. absurd cc, λ o f. absurd cc, λ o f. absurd cc)
-shows_by T p (tokens.Reserved r) still some e none = (λ f. absurd cc, some, λ f. absurd cc, λ f. absurd cc, λ o f. absurd cc, none, still, λ f. e, λ f. absurd cc, λ o f. absurd cc, λ o f. absurd cc)
-shows_by T p tokens.Assignment still some e none = (λ f. e, some, λ f. absurd cc, λ f. absurd cc, λ o f. absurd cc, none, still, λ f. e, λ f. absurd cc, λ o f. absurd cc, λ o f. absurd cc)
-shows_by T p tokens.Word still some e none = (λ f. e, some, λ f. absurd cc, λ f. absurd cc, λ o f. absurd cc, none, still, λ f. e, λ f. absurd cc, λ o f. absurd cc, λ o f. absurd cc)
+shows_by T p tokens.End still some e none = (λ f. absurd cc, some, λ f. absurd cc, λ f. ap (λ q. is_none (slice_get T q)) (sym still) ∙ e, λ o f. absurd cc, none, still, λ f. absurd cc, λ f. absurd cc, λ o f. absurd cc, λ o f. absurd cc, λ o f. absurd cc)
+shows_by T p tokens.Newline still some e none = (λ f. absurd cc, some, λ f. ap (λ q. is_byte (slice_get T q) 10) (sym still) ∙ e, λ f. absurd cc, λ o f. absurd cc, none, still, λ f. absurd cc, λ f. absurd cc, λ o f. absurd cc, λ o f. absurd cc, λ o f. absurd cc)
+shows_by T p tokens.Semicolon still some e none = (λ f. absurd cc, some, λ f. absurd cc, λ f. absurd cc, λ o f. absurd cc, none, still, λ f. absurd cc, λ f. absurd cc, λ o f. absurd cc, λ o f. absurd cc, λ o f. absurd cc)
+shows_by T p tokens.DoubleSemicolon still some e none = (λ f. absurd cc, some, λ f. absurd cc, λ f. absurd cc, λ o f. absurd cc, none, still, λ f. absurd cc, λ f. e, λ o f. absurd cc, λ o f. absurd cc, λ o f. absurd cc)
+shows_by T p tokens.SemicolonAmpersand still some e none = (λ f. absurd cc, some, λ f. absurd cc, λ f. absurd cc, λ o f. absurd cc, none, still, λ f. absurd cc, λ f. e, λ o f. absurd cc, λ o f. absurd cc, λ o f. absurd cc)
+shows_by T p tokens.Ampersand still some e none = (λ f. absurd cc, some, λ f. absurd cc, λ f. absurd cc, λ o f. absurd cc, none, still, λ f. absurd cc, λ f. absurd cc, λ o f. absurd cc, λ o f. absurd cc, λ o f. absurd cc)
+shows_by T p tokens.AndIf still some e none = (λ f. absurd cc, some, λ f. absurd cc, λ f. absurd cc, λ o f. e, none, still, λ f. absurd cc, λ f. absurd cc, λ o f. absurd cc, λ o f. absurd cc, λ o f. absurd cc)
+shows_by T p tokens.OrIf still some e none = (λ f. absurd cc, some, λ f. absurd cc, λ f. absurd cc, λ o f. e, none, still, λ f. absurd cc, λ f. absurd cc, λ o f. absurd cc, λ o f. absurd cc, λ o f. absurd cc)
+shows_by T p tokens.Pipe still some e none = (λ f. absurd cc, some, λ f. absurd cc, λ f. absurd cc, λ o f. absurd cc, none, still, λ f. absurd cc, λ f. absurd cc, λ o f. absurd cc, λ o f. absurd cc, λ o f. absurd cc)
+shows_by T p tokens.OpenParen still some e none = (λ f. absurd cc, some, λ f. absurd cc, λ f. absurd cc, λ o f. absurd cc, none, still, λ f. absurd cc, λ f. absurd cc, λ o f. absurd cc, λ o f. absurd cc, λ o f. absurd cc)
+shows_by T p tokens.CloseParen still some e none = (λ f. absurd cc, some, λ f. absurd cc, λ f. absurd cc, λ o f. absurd cc, none, still, λ f. absurd cc, λ f. absurd cc, λ o f. absurd cc, λ o f. absurd cc, λ o f. absurd cc)
+shows_by T p (tokens.Redirect z) still some e none = (λ f. absurd cc, some, λ f. absurd cc, λ f. absurd cc, λ o f. absurd cc, none, still, λ f. absurd cc, λ f. absurd cc, redirect_read T p z e.0, strip_read T p z e.1, here_read T p z (λ f. ap (λ q. is_byte (slice_get T q) 60) (sym still) ∙ e.2 f))
+shows_by T p tokens.Comment still some e none = (λ f. absurd cc, some, λ f. absurd cc, λ f. absurd cc, λ o f. absurd cc, none, still, λ f. absurd cc, λ f. absurd cc, λ o f. absurd cc, λ o f. absurd cc, λ o f. absurd cc)
+shows_by T p tokens.Number still some e none = (λ f. absurd cc, some, λ f. absurd cc, λ f. absurd cc, λ o f. absurd cc, none, still, λ f. absurd cc, λ f. absurd cc, λ o f. absurd cc, λ o f. absurd cc, λ o f. absurd cc)
+shows_by T p (tokens.Reserved r) still some e none = (λ f. absurd cc, some, λ f. absurd cc, λ f. absurd cc, λ o f. absurd cc, none, still, λ f. e, λ f. absurd cc, λ o f. absurd cc, λ o f. absurd cc, λ o f. absurd cc)
+shows_by T p tokens.Assignment still some e none = (λ f. e, some, λ f. absurd cc, λ f. absurd cc, λ o f. absurd cc, none, still, λ f. e, λ f. absurd cc, λ o f. absurd cc, λ o f. absurd cc, λ o f. absurd cc)
+shows_by T p tokens.Word still some e none = (λ f. e, some, λ f. absurd cc, λ f. absurd cc, λ o f. absurd cc, none, still, λ f. e, λ f. absurd cc, λ o f. absurd cc, λ o f. absurd cc, λ o f. absurd cc)
 
 pub blanks_still : (T : List ℕ) (p : ℕ) → past_continuations T (past_blanks T p) ≡ past_blanks T p
 unfolding past_blanks
@@ -171,7 +182,7 @@ shown position T p =
 -- the token that an edition has in its place says no more of them
 shows_later : (T : List ℕ) (p : ℕ) (later : Bool) → Shows tokens.SemicolonAmpersand T p → Shows (cond later tokens.SemicolonAmpersand tokens.Semicolon) T p
 shows_later T p true so = so
-shows_later T p false so = (λ f. absurd cc, so.1, λ f. absurd cc, λ f. absurd cc, λ o f. absurd cc, so.5, so.6, λ f. absurd cc, λ f. absurd cc, λ o f. absurd cc, λ o f. absurd cc)
+shows_later T p false so = (λ f. absurd cc, so.1, λ f. absurd cc, λ f. absurd cc, λ o f. absurd cc, so.5, so.6, λ f. absurd cc, λ f. absurd cc, λ o f. absurd cc, λ o f. absurd cc, λ o f. absurd cc)
 
 pub shows_in : (edition : Edition) (t : Token) (T : List ℕ) (p : ℕ) → Shows t T p → Shows (token_in edition t) T p
 shows_in edition tokens.SemicolonAmpersand T p so = shows_later T p (is_later edition) so

@@ -7,7 +7,7 @@ use Rattle.shast.specs.declared.tree.RedirectOperator.{RedirectOperator}
 use Rattle.shgrammar.specs.Standing.{raw_stands, at_end}
 use Rattle.shgrammar.specs.Bytes.{behind, past_continuations, ends_word}
 use Rattle.shgrammar.specs.Tokens.{is_comment, is_end}
-use Rattle.shgrammar.specs.Commands.{and_or_operator_of, begins_word, ends_item, is_long, is_strip, redirect_operator_of}
+use Rattle.shgrammar.specs.Commands.{and_or_operator_of, begins_word, ends_item, is_long, is_strip, redirect_operator_of, takes_here}
 use Rattle.shgrammar.specs.Compounds.{begins_pattern}
 
 -- a byte is read at p
@@ -22,3 +22,4 @@ Shows token T p =
     × (begins_pattern token ≡ true → ends_word T p ≡ false) × (ends_item token ≡ true → IsRead T (behind T p))
     × ((operator : RedirectOperator) → redirect_operator_of token ≡ Some operator → is_long operator ≡ true → IsRead T (behind T p))
     × ((operator : RedirectOperator) → redirect_operator_of token ≡ Some operator → is_strip operator ≡ true → IsRead T (behind T (behind T p)))
+    × ((operator : RedirectOperator) → redirect_operator_of token ≡ Some operator → takes_here operator ≡ true → raw_stands T p 60 ≡ true)

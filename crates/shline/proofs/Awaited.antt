@@ -18,6 +18,7 @@ use Rattle.shline.specs.declared.documents.Documents as the_documents
 use Rattle.shline.specs.declared.stop.Stop.{Stop}
 use Rattle.shline.specs.declared.stop.Stop.TheVariants.{Memory, Wrong}
 use Rattle.shline.specs.Clauses.{BodyRead, Fails, standing_with, view_waiting}
+use Rattle.shline.specs.Limits.{Limits}
 use Rattle.shgrammar.specs.Sights.{Given}
 use Rattle.shgrammar.specs.HereDocuments.{rest_of_line, stripped, past_line, delimiter_from, bodies_from, bodies_here, state_by}
 use Rattle.shgrammar.specs.Form.{change, does, nothing_read, raw}
@@ -274,11 +275,11 @@ pub bodies_read : (keep : Keep) (g : Given) (ws : Row the_waiting.Waiting) (star
     → does (change bodies_here) keep g (record { at = p; waiting = map view_waiting ws; bodies = start }) ≡ Ok (tt, record { at = q; waiting = []; bodies = bodies })
 bodies_read keep g ws start bodies i p q le is = ap (λ x. nothing_read (state_by x)) (sym is ∙ documents_end g ws i bodies q le)
 
-pub bodies_stop : (keep : Keep) (g : Given) (ws : Row the_waiting.Waiting) (start bodies : Row Span) (i p q end : ℕ) (e : Stop) (rest : Result (Row Span × ℕ) Fault)
-    → bodies_from g (drop i (map view_waiting ws)) bodies q ≡ bodies_from g (map view_waiting ws) start p → BodyRead end (Err e) (bodies_from g (drop i (map view_waiting ws)) bodies q) rest
-    → Fails end e (does (change bodies_here) keep g (record { at = p; waiting = map view_waiting ws; bodies = start }))
-bodies_stop keep g ws start bodies i p q end Memory rest is stop = tt
-bodies_stop keep g ws start bodies i p q end (Wrong f) rest is stop = (ap (λ x. nothing_read (state_by x)) (sym is ∙ stop.0), stop.1)
+pub bodies_stop : (keep : Keep) (g : Given) (ws : Row the_waiting.Waiting) (start bodies : Row Span) (i p q : ℕ) (bound : Limits) (e : Stop) (rest : Result (Row Span × ℕ) Fault)
+    → bodies_from g (drop i (map view_waiting ws)) bodies q ≡ bodies_from g (map view_waiting ws) start p → BodyRead bound (Err e) (bodies_from g (drop i (map view_waiting ws)) bodies q) rest
+    → Fails bound e (does (change bodies_here) keep g (record { at = p; waiting = map view_waiting ws; bodies = start }))
+bodies_stop keep g ws start bodies i p q bound Memory rest is stop = stop
+bodies_stop keep g ws start bodies i p q bound (Wrong f) rest is stop = (ap (λ x. nothing_read (state_by x)) (sym is ∙ stop.0), stop.1)
 
 none_by : (keep : Keep) (g : Given) (bs : Row Span) (p : ℕ) (ws : Row the_waiting.Waiting) → length ws ≡ 0
     → does (change bodies_here) keep g (record { at = p; waiting = map view_waiting ws; bodies = bs }) ≡ Ok (tt, record { at = p; waiting = map view_waiting ws; bodies = bs })

@@ -6,3 +6,4 @@ pub mod ByteSets
 pub mod Passed
 pub mod EmptyLine
 pub mod TwoBytes
+pub mod Wanted

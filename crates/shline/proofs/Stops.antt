@@ -8,6 +8,7 @@ use Rattle.shline.specs.declared.stop.Stop.TheVariants.{Memory, Wrong}
 use Rattle.shast.specs.declared.tree.Span.{Span}
 use Rattle.shast.specs.Tree.{ASubst}
 use Rattle.shline.specs.Clauses.{Fails}
+use Rattle.shline.specs.Limits.{Limits}
 use Rattle.shgrammar.specs.Sights.{Given, State, Waiting, given}
 use Rattle.shgrammar.specs.Form.{Form, Read, Step, does, many}
 use Rattle.shgrammar.specs.Plain.{ArePlain}
@@ -17,16 +18,16 @@ use Rattle.shgrammar.proofs.Turns.{turns_fault}
 use Rattle.shgrammar.specs.declared.edition.Edition.{Edition}
 
 module _ {A : Type 0} (turn : A → Form (Step A)) (keep : Keep) (g : Given) where
-  pub many_stop : (a : A) (s : State) (end : ℕ) (e : Stop) → Fails end e (does (turn a) keep g s) → Fails end e (does (many turn a) keep g s)
+  pub many_stop : (a : A) (s : State) (bound : Limits) (e : Stop) → Fails bound e (does (turn a) keep g s) → Fails bound e (does (many turn a) keep g s)
   unfolding many
-  many_stop a s end Memory one = tt
-  many_stop a s end (Wrong e) one = (turns_fault g (λ c u. does (turn c) keep g u) a s e one.0, one.1)
+  many_stop a s bound Memory one = one
+  many_stop a s bound (Wrong e) one = (turns_fault g (λ c u. does (turn c) keep g u) a s e one.0, one.1)
 
 -- ---- in a word
 
-stops : (end : ℕ) (e : Stop) (x : Read Held) → Fails end e x → Fails end e (given_by x)
-stops end Memory x stop = tt
-stops end (Wrong f) x stop = (rw (stop.0) refl, stop.1)
+stops : (bound : Limits) (e : Stop) (x : Read Held) → Fails bound e x → Fails bound e (given_by x)
+stops bound Memory x stop = stop
+stops bound (Wrong f) x stop = (rw (stop.0) refl, stop.1)
 
 module _ (inner : Inner) (keep : Keep) (g : Given) (mode : Mode) (b : ℕ) (ws : Row Waiting) (ds : Row Span) where
   -- all pieces
@@ -34,13 +35,13 @@ module _ (inner : Inner) (keep : Keep) (g : Given) (mode : Mode) (b : ℕ) (ws :
   all vs es h p = does (many (a_piece inner mode b) h) keep g (placed vs es p)
 
   -- a piece that stops, stops all
-  pub contents_stop : (h : Held) (ss : Row ASubst) (vs : Row Waiting) (es : Row Span) (p s : ℕ) (end : ℕ) (e : Stop) → all ws ds h p ≡ all vs es (having 0 ss) s
-      → Fails end e (does (a_piece inner mode b h) keep g (placed ws ds p)) → Fails end e (does (contents inner mode b ss) keep g (placed vs es s))
+  pub contents_stop : (h : Held) (ss : Row ASubst) (vs : Row Waiting) (es : Row Span) (p s : ℕ) (bound : Limits) (e : Stop) → all ws ds h p ≡ all vs es (having 0 ss) s
+      → Fails bound e (does (a_piece inner mode b h) keep g (placed ws ds p)) → Fails bound e (does (contents inner mode b ss) keep g (placed vs es s))
   unfolding contents
-  contents_stop h ss vs es p s end e so stop = stops end e _ (subst (Fails end e) so (many_stop (a_piece inner mode b) keep g h (placed ws ds p) end e stop))
+  contents_stop h ss vs es p s bound e so stop = stops bound e _ (subst (Fails bound e) so (many_stop (a_piece inner mode b) keep g h (placed ws ds p) bound e stop))
 
-pub word_stops : (edition : Edition) (inner : Inner) (keep : Keep) (ws : Row Waiting) (ds : Row Span) (T : List ℕ) (o p q end : ℕ) (e : Stop) → ArePlain Plain T p q → p ≤ q → q ≤ length T
-    → Fails end e (does (contents inner Plain (o + p) []) keep (given edition T o) (placed ws ds q)) → Fails end e (does (a_word inner) keep (given edition T o) (placed ws ds p))
+pub word_stops : (edition : Edition) (inner : Inner) (keep : Keep) (ws : Row Waiting) (ds : Row Span) (T : List ℕ) (o p q : ℕ) (bound : Limits) (e : Stop) → ArePlain Plain T p q → p ≤ q → q ≤ length T
+    → Fails bound e (does (contents inner Plain (o + p) []) keep (given edition T o) (placed ws ds q)) → Fails bound e (does (a_word inner) keep (given edition T o) (placed ws ds p))
 unfolding a_word
-word_stops edition inner keep ws ds T o p q end Memory plain low high rest = tt
-word_stops edition inner keep ws ds T o p q end (Wrong f) plain low high rest = (rw (plain_contents inner keep (given edition T o) Plain (o + p) ws ds [] p q plain low high ∙ rest.0) refl, rest.1)
+word_stops edition inner keep ws ds T o p q bound Memory plain low high rest = rest
+word_stops edition inner keep ws ds T o p q bound (Wrong f) plain low high rest = (rw (plain_contents inner keep (given edition T o) Plain (o + p) ws ds [] p q plain low high ∙ rest.0) refl, rest.1)

@@ -1,12 +1,14 @@
 -- Words for the clauses of the code: what a function of the reader answers, and what it leaves as it was.
-use Rattle.std.specs.Prelude.{◌≡◌, ℕ, ◌+◌, ◌<◌, ◌≤◌, ◌==◌, Bool, true, false, List, List as Row, length, drop, map, Result, Ok, Err, if◌then◌else◌}
+use Rattle.std.specs.Prelude.{◌≡◌, ℕ, ◌+◌, ◌<◌, ◌≤◌, ◌==◌, Bool, true, false, List, List as Row, [], length, drop, map, Result, Ok, Err, if◌then◌else◌}
 use Rattle.shline.specs.declared.cursor.Cursor.{Cursor}
+use Rattle.shline.specs.Limits.{Limits, limits}
 use Rattle.shline.specs.declared.documents.Documents as the_documents
 use Rattle.shline.specs.declared.documents.Waiting as the_waiting
 use Rattle.shgrammar.specs.declared.fault.Fault.{Fault}
 use Rattle.shgrammar.specs.declared.keep.Keep.{Keep}
 use Rattle.shgrammar.specs.declared.keep.Keep.TheVariants.{Nothing}
 use Rattle.shast.specs.declared.tree.Span.{Span}
+use Rattle.shast.specs.Tree.{ACommand, AJoin, compound}
 use Rattle.shline.specs.declared.stop.Stop.{Stop}
 use Rattle.shline.specs.declared.stop.Stop.TheVariants.{Memory, Wrong}
 use Rattle.shgrammar.specs.Sights.{State, Waiting, given}
@@ -50,35 +52,46 @@ reads_at bytes cursor form s = does form (keep_of cursor) (given cursor.how.edit
 abbrev pub reads : {S X : Type 0} {k : ℕ} {g : _} → (S → List ℕ) → Cursor S k g → Form X → Read X
 reads bytes cursor form = reads_at bytes cursor form (state_of cursor)
 
+abbrev pub limits_of : {S : Type 0} {k : ℕ} {g : _} → (S → List ℕ) → Cursor S k g → Limits
+limits_of {k = k} bytes cursor = limits k cursor.origin (text_of bytes cursor)
+
 -- the offset of the end of a cursor's text
 abbrev pub end_of : {S : Type 0} {k : ℕ} {g : _} → (S → List ℕ) → Cursor S k g → ℕ
 end_of bytes cursor = cursor.origin + length (text_of bytes cursor)
 
 -- what a stop says of the reading: a fault is its outcome, and stands within the text;
--- want of memory says nothing
-abbrev pub Fails : {Y : Type 0} → ℕ → Stop → Read Y → Type 0
-Fails end Memory read = Unit {0}
-Fails end (Wrong f) read = (read ≡ Err f) × (f.at ≤ end)
+-- memory is wanted only where it may be
+abbrev pub Fails : {Y : Type 0} → Limits → Stop → Read Y → Type 0
+Fails bound Memory read = bound.memory ≡ true
+Fails bound (Wrong f) read = (read ≡ Err f) × (f.at ≤ bound.furthest)
 
 -- What a function returned, seen by view, is what the reading gives, unless memory ran out.
-abbrev pub Gives : {X Y : Type 0} → ℕ → (X → Y × State) → Result X Stop → Read Y → Type 0
-Gives end view (Ok x) read = read ≡ Ok (view x)
-Gives end view (Err e) read = Fails end e read
+abbrev pub Gives : {X Y : Type 0} → Limits → (X → Y × State) → Result X Stop → Read Y → Type 0
+Gives bound view (Ok x) read = read ≡ Ok (view x)
+Gives bound view (Err e) read = Fails bound e read
 
 -- What a function returned, seen by view, is what the form gives from where the cursor
 -- stood, and ends in t; unless memory ran out.
 abbrev pub Reads : {S X Y : Type 0} {k : ℕ} {g : _} → (S → List ℕ) → Cursor S k g → Form Y → Result X Stop → (X → Y) → State → Type 0
-Reads bytes cursor form result view t = Gives (end_of bytes cursor) (λ x. (view x, t)) result (reads bytes cursor form)
+Reads bytes cursor form result view t = Gives (limits_of bytes cursor) (λ x. (view x, t)) result (reads bytes cursor form)
 
 -- the same of the bodies that wait
-abbrev pub BodiesFail : ℕ → Stop → Result (Row Span × ℕ) Fault → Type 0
-BodiesFail end Memory all = Unit {0}
-BodiesFail end (Wrong f) all = (all ≡ Err f) × (f.at ≤ end)
+abbrev pub BodiesFail : Limits → Stop → Result (Row Span × ℕ) Fault → Type 0
+BodiesFail bound Memory all = bound.memory ≡ true
+BodiesFail bound (Wrong f) all = (all ≡ Err f) × (f.at ≤ bound.furthest)
 
 -- One document's body was read: what all bodies give is what is given behind it. Or it stops all of them.
-abbrev pub BodyRead : ℕ → Result (Unit {0}) Stop → Result (Row Span × ℕ) Fault → Result (Row Span × ℕ) Fault → Type 0
-BodyRead end (Ok x) all rest = all ≡ rest
-BodyRead end (Err e) all rest = BodiesFail end e all
+abbrev pub BodyRead : Limits → Result (Unit {0}) Stop → Result (Row Span × ℕ) Fault → Result (Row Span × ℕ) Fault → Type 0
+BodyRead bound (Ok x) all rest = all ≡ rest
+BodyRead bound (Err e) all rest = BodiesFail bound e all
+
+-- without a tree, lines that hold no comment hold none behind what goes into them
+abbrev pub GrowsNone : ℕ → AJoin → AJoin → Type 0
+GrowsNone k old new = (k == 1) ≡ false → old.comments ≡ [] → new.comments ≡ []
+
+abbrev pub is_compound : ACommand → Bool
+is_compound (compound c) = true
+is_compound _ = false
 
 -- a turn that goes on moves to the right
 abbrev pub Onward : ℕ → ℕ → Bool → Type 0

@@ -1,3 +1,4 @@
+pub mod Limits
 pub mod Beginnings
 pub mod Listed
 pub mod Clauses

@@ -1,5 +1,5 @@
 //! Commands, and the simple ones among them (XCU 2.9, 2.9.1).
-ghost use Rattle.std.specs.Prelude.{◌≡◌, ◌<◌, ◌≤◌, [], false, map, IfOk, Some};
+ghost use Rattle.std.specs.Prelude.{◌≡◌, ◌<◌, ◌≤◌, ◌==◌, [], false, map, IfErr, IfOk, Some, true};
 ghost use Rattle.shgrammar.specs.Bytes.{ends_word};
 ghost use Rattle.shline.specs.Clauses.{keep_of, Keeps, Onward, Reads, state_of, text_of};
 ghost use Rattle.shgrammar.specs.Shows.{Shows};
@@ -147,7 +147,8 @@ impl<'a, S: Source, const KEEP: u8> Cursor<'a, S, KEEP> {
     /// Adds the first word of a command, behind which this token stands.
     #[inline(always)]
     fn add_first(&self, word: Word, behind: Token, items: &mut Vec<Item>) -> Result<(), AllocError>
-        ensures { IfOk result (λ done. map view_item items.new.items ≡
+        ensures memory { IfErr result (λ e. (KEEP == 1) ≡ true) }
+        ensures value { IfOk result (λ done. map view_item items.new.items ≡
             pushed (grows (keep_of self.now)) (map view_item items.old.items) (item false (argument (view_word word)))) }
     {
         if !self.grows() {

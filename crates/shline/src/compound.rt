@@ -1,8 +1,8 @@
 //! Compound commands: groups, `if` and loops (XCU 2.9.4). `for` stands in
 //! [`crate::for_loop`], `case` in [`crate::case`].
-ghost use Rattle.std.specs.Prelude.{◌≡◌, ◌<◌, ◌≤◌, [], map, IfOk, Ok as Done, false};
+ghost use Rattle.std.specs.Prelude.{◌≡◌, ◌<◌, ◌≤◌, ◌==◌, [], map, IfOk, Ok as Done, false, true};
 ghost use Rattle.shgrammar.specs.Shows.{IsRead, Shows};
-ghost use Rattle.shline.specs.Clauses.{Keeps, Onward, reads, Reads, state_of, Stays, text_of};
+ghost use Rattle.shline.specs.Clauses.{is_compound, Keeps, Onward, reads, Reads, state_of, Stays, text_of};
 ghost use Rattle.shgrammar.specs.Compounds.{a_branch, a_form, a_group, a_loop, an_else, an_if, branched, closed, closing, elif_turn, passed};
 ghost use Rattle.shgrammar.specs.Form.{many, Spelled, step_if};
 ghost use Rattle.shgrammar.specs.Levels.{level};
@@ -270,6 +270,7 @@ impl<'a, S: Source, const KEEP: u8> Cursor<'a, S, KEEP> {
             (λ command. (view_command command, next.new)) (state_of self.new) }
         ensures shows { IfOk result (λ command. Shows next.new.token (text_of S.bytes self.old) self.new.at) }
         ensures onward { IfOk result (λ command. self.old.at ≤ self.new.at) }
+        ensures tree { IfOk result (λ command. is_compound (view_command command) ≡ true → (KEEP == 1) ≡ true) }
         ensures same { Keeps self.old self.new }
     {
         if room == 0 {

@@ -1,5 +1,6 @@
 //! A place in a text.
-ghost use Rattle.std.specs.Prelude.{◌≡◌, ◌+◌, ◌^◌, ◌<◌, ◌≤◌, [], All, drop, length};
+ghost use Rattle.std.specs.Prelude.{◌≡◌, ◌+◌, ◌==◌, ◌^◌, ◌<◌, ◌≤◌, [], All, drop, length, true};
+ghost use Rattle.shline.specs.Limits.{Waits, limits};
 ghost use Rattle.shtext.specs.Text.{IsRun};
 
 use crate::documents::Documents;
@@ -50,7 +51,7 @@ pub(crate) struct Cursor<'a, S: Source, const KEEP: u8> {
     ghost fits: { base + length (drop base (S.bytes source.now)) < 2 ^ 64 },
     ghost tells: { origin + length (drop base (S.bytes source.now)) < 2 ^ 64 },
     ghost inside: { at ≤ length (drop base (S.bytes source.now)) },
-    ghost waits: { All (λ w. w.operator ≤ origin + length (drop base (S.bytes source.now))) documents.waiting.items },
+    ghost waits: { All (Waits (limits KEEP origin (drop base (S.bytes source.now)))) documents.waiting.items },
 }
 
 impl<'a, S: Source, const KEEP: u8> Cursor<'a, S, KEEP> {
@@ -90,7 +91,8 @@ impl<'a, S: Source, const KEEP: u8> Cursor<'a, S, KEEP> {
     /// Whether a tree grows here.
     #[inline(always)]
     pub(crate) fn grows(&self) -> bool
-        ensures { result ≡ grows (keep_of self.now) }
+        ensures value { result ≡ grows (keep_of self.now) }
+        ensures tree { result ≡ true → (KEEP == 1) ≡ true }
     {
         KEEP == KEPT && self.how.keep.grows()
     }

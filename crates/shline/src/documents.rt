@@ -1,6 +1,7 @@
 //! Here-documents: those that wait, and their bodies (XCU 2.7.4).
 ghost use Rattle.std.specs.Prelude.{◌≡◌, ◌+◌, ◌<◌, ◌≤◌, ◌==◌, ◌&&◌, All, bytes_eq, fold, nat_lt, not, [], map, IfErr, IfOk, IfSome, List as Row, ◌∷◌, ◌++◌, length, option_map, drop, ◌-◌, true, false};
-ghost use Rattle.shline.specs.Clauses.{BodiesFail, BodyRead, end_of, Keeps, Reads, state_of, text_of, view_waiting};
+ghost use Rattle.shline.specs.Clauses.{BodiesFail, BodyRead, end_of, Keeps, limits_of, Reads, state_of, text_of, view_waiting};
+ghost use Rattle.shline.specs.Limits.{Waits, wants_memory};
 ghost use Rattle.shgrammar.specs.Commands.{a_document, is_strip, nothing_waits, takes_here};
 ghost use Rattle.shgrammar.specs.Form.{change, raw};
 ghost use Rattle.shgrammar.specs.HereDocuments.{bodies_from, bodies_here, delimiter_from, delimiter_in, first_waiting, is_delimiter, own_level, past_line, rest_of_line, takes_newline};
@@ -106,7 +107,7 @@ impl<'a, S: Source, const KEEP: u8> Cursor<'a, S, KEEP> {
 
     /// Ends it, and answers the bodies that were read in it.
     pub(crate) fn close_level(&mut self, outer: Documents) -> Vec<Span>
-        requires { All (λ w. w.operator ≤ end_of S.bytes self.old) outer.waiting.items }
+        requires { All (Waits (limits_of S.bytes self.old)) outer.waiting.items }
         ensures bodies { result.items ≡ self.old.documents.bodies.items }
         ensures place { self.new.at ≡ self.old.at }
         ensures outer { self.new.documents ≡ outer }
@@ -161,6 +162,7 @@ impl<'a, S: Source, const KEEP: u8> Cursor<'a, S, KEEP> {
     ) -> Result<Option<HereDocument>, Stop>
         requires word { start ≤ self.old.at }
         requires mark { mark ≤ end_of S.bytes self.old }
+        requires memory { takes_here operator ≡ true → wants_memory KEEP (text_of S.bytes self.old) ≡ true }
         ensures value { Reads S.bytes self.old (a_document operator mark (self.old.origin + start) (raw (text_of S.bytes self.old) start self.old.at)) result
             (option_map view_here) (state_of self.new) }
         ensures place { self.new.at ≡ self.old.at }
@@ -301,7 +303,7 @@ impl<'a, S: Source, const KEEP: u8> Cursor<'a, S, KEEP> {
             bodies_from (given self.now.how.edition (text_of S.bytes self.now) self.now.origin) (drop index (map view_waiting self.now.documents.waiting.items)) bodies self.now.at
             ≡ bodies_from (given self.now.how.edition (text_of S.bytes self.now) self.now.origin) (drop (index + 1) (map view_waiting self.now.documents.waiting.items)) (bodies ++ x.0 ∷ []) x.1) }
         ensures wrong { IfErr result (λ e. (bodies : Row Span) →
-            BodiesFail (end_of S.bytes self.now) e
+            BodiesFail (limits_of S.bytes self.now) e
             (bodies_from (given self.now.how.edition (text_of S.bytes self.now) self.now.origin) (drop index (map view_waiting self.now.documents.waiting.items)) bodies self.now.at)) }
         ensures onward { IfOk result (λ x. (self.now.at ≤ x.1) × (x.1 ≤ length (text_of S.bytes self.now))) }
     {
@@ -322,7 +324,7 @@ impl<'a, S: Source, const KEEP: u8> Cursor<'a, S, KEEP> {
     /// The body of one document that waits, which begins here.
     fn one_body(&mut self, index: usize) -> Result<(), Stop>
         requires { index < length self.old.documents.waiting.items }
-        ensures read { BodyRead (end_of S.bytes self.old) result
+        ensures read { BodyRead (limits_of S.bytes self.old) result
             (bodies_from (given self.old.how.edition (text_of S.bytes self.old) self.old.origin) (drop index (map view_waiting self.old.documents.waiting.items)) self.old.documents.bodies.items self.old.at)
             (bodies_from (given self.old.how.edition (text_of S.bytes self.old) self.old.origin) (drop (index + 1) (map view_waiting self.old.documents.waiting.items)) self.new.documents.bodies.items self.new.at) }
         ensures waiting { IfOk result (λ done. self.new.documents.waiting ≡ self.old.documents.waiting) }

@@ -1,7 +1,7 @@
 //! `for` (XCU 2.9.4.2): its name, the words behind its `in`, and what it runs.
-ghost use Rattle.std.specs.Prelude.{◌≡◌, ◌≤◌, [], false, true, map, option_map, IfOk, Some};
+ghost use Rattle.std.specs.Prelude.{◌≡◌, ◌<◌, ◌≤◌, [], false, length, true, map, option_map, IfErr, IfOk, Some};
 ghost use Rattle.shgrammar.specs.Shows.{IsRead, Shows};
-ghost use Rattle.shline.specs.Clauses.{Keeps, Onward, Reads, state_of, text_of};
+ghost use Rattle.shline.specs.Clauses.{GrowsNone, Keeps, Onward, Reads, state_of, text_of};
 ghost use Rattle.shgrammar.specs.Commands.{join_so, so_many};
 ghost use Rattle.shgrammar.specs.Compounds.{a_for, a_for_head, a_for_name, a_linebreak, a_sequential_sep, begins_words, behind_remarks, closed, for_words, headed, word_turn};
 ghost use Rattle.shgrammar.specs.declared.token.Position.TheVariants.{Suffix};
@@ -22,7 +22,8 @@ use std::alloc::{AllocError, Global};
 /// A list behind comments, which are its first entries then.
 #[tactic(auto, using(shgrammar::proofs::Remarks::remarks_row, shgrammar::proofs::Remarks::list_seen))]
 fn behind_remarks(alloc: Global, comments: &[Comment], list: List) -> Result<List, AllocError>
-    ensures { IfOk result (λ all. view_list all ≡ behind_remarks (map view_comment comments.now) (view_list list)) }
+    ensures value { IfOk result (λ all. view_list all ≡ behind_remarks (map view_comment comments.now) (view_list list)) }
+    ensures memory { IfErr result (λ e. 0 < length comments.now) }
 {
     if comments.is_empty() {
         return Ok(list);
@@ -78,6 +79,7 @@ impl<'a, S: Source, const KEEP: u8> Cursor<'a, S, KEEP> {
             (λ done. join_so (view_join lines.new) next.new) (state_of self.new) }
         ensures shows { IfOk result (λ done. Shows next.new.token (text_of S.bytes self.old) self.new.at) }
         ensures onward { IfOk result (λ done. self.old.at ≤ self.new.at) }
+        ensures tree { IfOk result (λ done. GrowsNone KEEP (view_join lines.old) (view_join lines.new)) }
         ensures same { Keeps self.old self.new }
     {
         lines.broken = false;
@@ -99,6 +101,7 @@ impl<'a, S: Source, const KEEP: u8> Cursor<'a, S, KEEP> {
             (λ done. join_so (view_join lines.new) next.new) (state_of self.new) }
         ensures shows { IfOk result (λ done. Shows next.new.token (text_of S.bytes self.old) self.new.at) }
         ensures onward { IfOk result (λ done. self.old.at ≤ self.new.at) }
+        ensures tree { IfOk result (λ done. GrowsNone KEEP (view_join lines.old) (view_join lines.new)) }
         ensures same { Keeps self.old self.new }
     {
         let semicolon = self.semicolon(next);
@@ -165,6 +168,7 @@ impl<'a, S: Source, const KEEP: u8> Cursor<'a, S, KEEP> {
             (λ words. headed (for_words_of (Some (map view_item words.items))) (join_so (view_join lines.new) next.new)) (state_of self.new) }
         ensures shows { IfOk result (λ words. Shows next.new.token (text_of S.bytes self.old) self.new.at) }
         ensures onward { IfOk result (λ words. self.old.at ≤ self.new.at) }
+        ensures tree { IfOk result (λ words. GrowsNone KEEP (view_join lines.old) (view_join lines.new)) }
         ensures same { Keeps self.old self.new }
     {
         let _ = self.passed(false, Position::Suffix, next);
@@ -190,6 +194,7 @@ impl<'a, S: Source, const KEEP: u8> Cursor<'a, S, KEEP> {
             (λ words. headed (for_words_of (option_map (λ v. map view_item v.items) words)) (join_so (view_join lines.new) next.new)) (state_of self.new) }
         ensures shows { IfOk result (λ words. Shows next.new.token (text_of S.bytes self.old) self.new.at) }
         ensures onward { IfOk result (λ words. self.old.at ≤ self.new.at) }
+        ensures tree { IfOk result (λ words. GrowsNone KEEP (view_join lines.old) (view_join lines.new)) }
         ensures same { Keeps self.old self.new }
     {
         let semicolon = self.semicolon(next);
@@ -202,7 +207,7 @@ impl<'a, S: Source, const KEEP: u8> Cursor<'a, S, KEEP> {
 
     /// A `for`, from behind it. The comments of its head stand in its body.
     #[cycle(commands)]
-    #[tactic(auto, unfolding(shgrammar::specs::Compounds::a_for))]
+    #[tactic(auto, unfolding(shgrammar::specs::Compounds::a_for), using(crate::proofs::Wanted::kept_some))]
     pub(crate) fn for_command(
         &mut self,
         alloc: Global,

@@ -1,7 +1,7 @@
 //! Functions (XCU 2.9.5), from the `(` behind their names.
-ghost use Rattle.std.specs.Prelude.{◌≡◌, ◌+◌, ◌<◌, ◌≤◌, map, IfOk};
+ghost use Rattle.std.specs.Prelude.{◌≡◌, ◌+◌, ◌<◌, ◌≤◌, ◌==◌, map, IfErr, IfOk, true};
 ghost use Rattle.shgrammar.specs.Shows.{IsRead, Shows};
-ghost use Rattle.shline.specs.Clauses.{Keeps, Reads, state_of, text_of};
+ghost use Rattle.shline.specs.Clauses.{is_compound, Keeps, Reads, state_of, text_of};
 ghost use Rattle.shgrammar.specs.Commands.{compound_by, named, opener_of};
 ghost use Rattle.shgrammar.specs.Compounds.{a_function, under_name};
 ghost use Rattle.shgrammar.specs.Levels.{level};
@@ -24,7 +24,8 @@ fn under_name(
     comments: Vec<Comment>,
     command: Command,
 ) -> Result<Command, AllocError>
-    ensures { IfOk result (λ named. view_command named ≡ under_name name (map view_comment comments.items) (view_command command)) }
+    ensures memory { IfErr result (λ e. is_compound (view_command command) ≡ true) }
+    ensures value { IfOk result (λ named. view_command named ≡ under_name name (map view_comment comments.items) (view_command command)) }
 {
     match command {
         Command::Compound(body) => {
@@ -50,6 +51,7 @@ impl<'a, S: Source, const KEEP: u8> Cursor<'a, S, KEEP> {
             (λ command. (view_command command, next.new)) (state_of self.new) }
         ensures shows { IfOk result (λ command. Shows next.new.token (text_of S.bytes self.old) self.new.at) }
         ensures onward { IfOk result (λ command. self.old.at ≤ self.new.at) }
+        ensures tree { IfOk result (λ command. is_compound (view_command command) ≡ true → (KEEP == 1) ≡ true) }
         ensures same { Keeps self.old self.new }
     {
         match next.token.opener() {

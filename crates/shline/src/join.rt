@@ -1,6 +1,6 @@
 //! What stands around an operator that joins two operands (XCU 2.9.2, 2.9.3).
 ghost use Rattle.std.specs.Prelude.{◌≤◌, IfOk};
-ghost use Rattle.shline.specs.Clauses.{Keeps, Onward, Reads, state_of, text_of};
+ghost use Rattle.shline.specs.Clauses.{GrowsNone, Keeps, Onward, Reads, state_of, text_of};
 ghost use Rattle.shgrammar.specs.Shows.{Shows};
 ghost use Rattle.shgrammar.specs.Commands.{a_join, join_so, join_turn};
 ghost use Rattle.shgrammar.specs.Form.{many, step_if};
@@ -22,6 +22,7 @@ impl<'a, S: Source, const KEEP: u8> Cursor<'a, S, KEEP> {
             (λ more. step_if more (join_so (view_join join.new) next.new)) (state_of self.new) }
         ensures shows { IfOk result (λ more. Shows next.new.token (text_of S.bytes self.old) self.new.at) }
         ensures onward { IfOk result (Onward self.old.at self.new.at) }
+        ensures tree { IfOk result (λ more. GrowsNone KEEP (view_join join.old) (view_join join.new)) }
         ensures same { Keeps self.old self.new }
     {
         if let Some(comment) = self.remark(next) {
@@ -43,6 +44,7 @@ impl<'a, S: Source, const KEEP: u8> Cursor<'a, S, KEEP> {
             (λ done. join_so (view_join join.new) next.new) (state_of self.new) }
         ensures shows { IfOk result (λ done. Shows next.new.token (text_of S.bytes self.old) self.new.at) }
         ensures onward { IfOk result (λ done. self.old.at ≤ self.new.at) }
+        ensures tree { IfOk result (λ done. GrowsNone KEEP (view_join join.old) (view_join join.new)) }
         ensures same { Keeps self.old self.new }
     {
         'turns: while self.join_turn(next, join)? {}

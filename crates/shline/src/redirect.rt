@@ -1,7 +1,7 @@
 //! Redirections (XCU 2.7): among the items of a simple command, and behind a compound command.
 ghost use Rattle.std.specs.Prelude.{◌≡◌, ◌+◌, ◌<◌, ◌≤◌, [], false, map, IfOk, Ok as Done, true};
 ghost use Rattle.shgrammar.specs.Bytes.{behind};
-ghost use Rattle.shline.specs.Clauses.{end_of, Keeps, Onward, reads, Reads, state_of, Stays, text_of};
+ghost use Rattle.shline.specs.Clauses.{end_of, is_compound, Keeps, Onward, reads, Reads, state_of, Stays, text_of};
 ghost use Rattle.shgrammar.specs.Shows.{IsRead, Shows};
 ghost use Rattle.shgrammar.specs.Commands.{a_number, a_target, an_operator, is_long, is_strip, one_redirect, redirect_turn, redirected, so_many};
 ghost use Rattle.shgrammar.specs.declared.token.Position.TheVariants.{Command as AsCommand};
@@ -92,7 +92,7 @@ impl<'a, S: Source, const KEEP: u8> Cursor<'a, S, KEEP> {
     /// The redirection that begins here, as one more of these items, and the token
     /// behind it, which stands in this position.
     #[cycle(commands)]
-    #[tactic(auto, unfolding(shgrammar::specs::Commands::one_redirect, shgrammar::specs::Commands::next_token))]
+    #[tactic(auto, unfolding(shgrammar::specs::Commands::one_redirect, shgrammar::specs::Commands::next_token), using(crate::proofs::Wanted::here_wants))]
     pub(crate) fn redirect(
         &mut self,
         alloc: Global,
@@ -171,7 +171,7 @@ impl<'a, S: Source, const KEEP: u8> Cursor<'a, S, KEEP> {
 
     /// A compound command with the redirections behind it.
     #[cycle(commands)]
-    #[tactic(auto, unfolding(shgrammar::specs::Commands::redirected))]
+    #[tactic(auto, unfolding(shgrammar::specs::Commands::redirected), using(crate::proofs::Wanted::same_kind))]
     pub(crate) fn redirected(
         &mut self,
         alloc: Global,
@@ -184,6 +184,7 @@ impl<'a, S: Source, const KEEP: u8> Cursor<'a, S, KEEP> {
             (λ whole. (view_command whole, next.new)) (state_of self.new) }
         ensures shows { IfOk result (λ whole. Shows next.new.token (text_of S.bytes self.old) self.new.at) }
         ensures onward { IfOk result (λ whole. self.old.at ≤ self.new.at) }
+        ensures kind { IfOk result (λ whole. is_compound (view_command whole) ≡ is_compound (view_command command)) }
         ensures same { Keeps self.old self.new }
     {
         let redirects = self.redirects(alloc, next, room)?;

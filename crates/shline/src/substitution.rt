@@ -1,5 +1,5 @@
 //! Command substitutions (XCU 2.6.3).
-ghost use Rattle.std.specs.Prelude.{◌≡◌, ◌+◌, ◌≤◌, ◌==◌, map, IfOk};
+ghost use Rattle.std.specs.Prelude.{◌≡◌, ◌+◌, ◌≤◌, ◌==◌, map, IfErr, IfOk, true};
 ghost use Rattle.shline.specs.Clauses.{keep_of, Keeps, Reads, state_of};
 ghost use Rattle.shgrammar.specs.Comments.{span};
 ghost use Rattle.shgrammar.specs.Form.{grows, pushed};
@@ -60,6 +60,7 @@ impl<'a, S: Source, const KEEP: u8> Cursor<'a, S, KEEP> {
         requires { opener ≤ self.now.at }
         ensures value { IfOk result (λ done. map view_subst substs.new.items
             ≡ pushed (grows (keep_of self.now)) (map view_subst substs.old.items) (subst (filled bodies.items (view_list list)) (span self.now.origin opener self.now.at))) }
+        ensures memory { IfErr result (λ e. (KEEP == 1) ≡ true) }
     {
         if self.grows() {
             let list = filled_list(list, &bodies);

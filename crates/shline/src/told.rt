@@ -1,6 +1,7 @@
 //! What is told of one line of a source (XCU 2.10.2).
 ghost use Rattle.std.specs.Prelude.{◌≡◌, ◌⊎◌, ◌+◌, ◌-◌, ◌^◌, ◌<◌, ◌≤◌, ℕ, drop, false, length, map, true, IfOk};
 ghost use Rattle.shline.specs.Clauses.{Gives, Onward, kept};
+ghost use Rattle.shline.specs.Limits.{limits};
 ghost use Rattle.shgrammar.specs.Scripts.{line_told};
 ghost use Rattle.shgrammar.specs.Sights.{standing};
 ghost use Rattle.shgrammar.specs.Standing.{raw_stands};
@@ -45,7 +46,7 @@ pub fn line_at<S: Source, const KEEP: u8>(
     blank: bool,
 ) -> Result<Told, Stop>
     requires { (at ≤ length (S.bytes source.now)) × (origin ≤ at) }
-    ensures value { Gives (origin + length (drop at (S.bytes source.now)))
+    ensures value { Gives (limits KEEP origin (drop at (S.bytes source.now)))
         (λ x. ((map view_entry x.entries.items, x.newline), standing x.len)) result
         (line_told edition (S.bytes source.now) (kept KEEP keep) blank at origin) }
     // No node of its entries names an offset behind it.
@@ -74,7 +75,7 @@ pub fn line_at_with<'a, S: Source, const KEEP: u8>(
     spare: Option<&'a mut Spare>,
 ) -> Result<Told, Stop>
     requires { (at ≤ length (S.bytes source.now)) × (origin ≤ at) }
-    ensures value { Gives (origin + length (drop at (S.bytes source.now)))
+    ensures value { Gives (limits KEEP origin (drop at (S.bytes source.now)))
         (λ x. ((map view_entry x.entries.items, x.newline), standing x.len)) result
         (line_told edition (S.bytes source.now) (kept KEEP keep) blank at origin) }
     // No node of its entries names an offset behind it.

@@ -7,8 +7,8 @@ use Rattle.shgrammar.specs.Compounds.{behind_remarks}
 use Rattle.shgrammar.proofs.Remarks.{as_remark, list_seen, remarks_row}
 use Rattle.shline.proofs.for_loop.behind_remarks.Goals as goal
 
-pub returns : goal.returns
-returns c =
+pub returns-clause-value : goal.returns-clause-value
+returns-clause-value c =
     let cs = c.args.comments.now in
     let others = (out-List c.args.list).entries.items in
     let before = c.comments.invariant ∙ ap (map as_remark) (take_all c.comments.comment-index cs c.comments-test.false) in

@@ -1,4 +1,4 @@
-use Rattle.std.proofs.Common.{◌≡◌, ℕ, ◌<◌, ◌≤◌, ◌+◌, ◌-◌, ◌∙◌, Ok, List as Row, length, map, ap, sym, arith}
+use Rattle.std.proofs.Common.{◌≡◌, ℕ, ◌<◌, ◌≤◌, ◌+◌, ◌-◌, ◌∙◌, Ok, Some, List as Row, length, map, ap, refl, subst as by_path, sym, arith}
 use Rattle.shgrammar.specs.declared.mode.Piece.TheVariants as pieces
 use Rattle.shgrammar.specs.Bytes.{past_continuations}
 use Rattle.shline.specs.Clauses.{keep_of, standing_with, state_of, text_of, view_waiting}
@@ -17,7 +17,11 @@ use Rattle.shast.specs.Tree.{ASubst, subst}
 use Rattle.shast.specs.View.{view_list, view_subst}
 use Rattle.shgrammar.proofs.Levels.{substitution_read}
 use Rattle.shgrammar.proofs.PlainBytes.{ordinary_here, piece_and_plain}
+use Rattle.shgrammar.specs.Commands.{redirect_operator_of}
+use Rattle.shgrammar.specs.Shows.{Shows}
+use Rattle.shline.proofs.Wanted.{here_wants}
 use Rattle.shline.proofs.cursor.Cursor.+commands.Goals as goal
+use Rattle.shline.proofs.cursor.Cursor.+commands.Goals.{next_entry-then-grows+in_ok-room_for_entry+in_ok-push, next_entry-else-grows}
 
 pub contents-pieces-preserved : goal.contents-pieces-preserved
 contents-pieces-preserved g t c =
@@ -103,4 +107,43 @@ construct-ordinary-preserved g t c =
       omega (arith, inv.2, inside.0, rest.onward),
       inv.3,
       (rest.same.0 ∙ was.0, rest.same.1 ∙ was.1, rest.same.2 ∙ was.2, rest.same.3 ∙ was.3, rest.same.4 ∙ was.4),
+    )
+
+-- the token behind an entry, which is not read on from where its tree grows
+pub next_entry-returns-clause-shows : goal.next_entry-returns-clause-shows
+next_entry-returns-clause-shows g t c =
+    let bang = c.bang-bang.ensures.same in
+    let first = c.in_ok-first.ensures.same in
+    let commands = c.in_ok-commands.ensures.same in
+    let pipelines = c.in_ok-pipelines.ensures.same in
+    let separator = c.separator-separator.ensures.same in
+    let text = text_of g.S.Source.bytes c.args.self.now in
+    let here : text_of g.S.Source.bytes c.separator-separator.new.self ≡ text =
+    rw (separator.0, separator.1, pipelines.0, pipelines.1, commands.0, commands.1, first.0, first.1, bang.0, bang.1) refl in
+    let told : Shows c.remark-comment.new.next.token text c.remark-comment.new.self.at =
+    by_path (λ T. Shows c.remark-comment.new.next.token T c.remark-comment.new.self.at) here c.remark-comment.ensures.shows in
+    let place : c.if-grows.self.at ≡ c.remark-comment.new.self.at =
+    elim c.if-grows.branch [
+      | next_entry-then-grows+in_ok-room_for_entry+in_ok-push w ↦ ap (λ s. s.at) w.self-is ∙ w.in_ok-room_for_entry.ensures.place
+      | next_entry-else-grows w ↦ ap (λ s. s.at) w.self-is
+    ] in
+    by_path (λ q. Shows c.remark-comment.new.next.token text q) (sym place) told
+
+-- the operator of a here-document stands in the text
+pub redirect-document-requires : goal.redirect-document-requires
+redirect-document-requires g t c =
+    let number = c.number-number.ensures in
+    let operator = c.operator-span.ensures in
+    let target = c.in_ok-word.ensures in
+    let text = text_of g.S.Source.bytes c.args.self.now in
+    let token = c.number-number.new.next.token in
+    let is : redirect_operator_of token ≡ Some c.in-Some.operator = sym c.redirect_operator.ensures ∙ c.in-Some.is in (
+      omega (arith),
+      (
+        target.place.0,
+        (
+          rw target.end operator.start,
+          λ takes. rw (target.same.0, target.same.1, operator.same.0, operator.same.1, number.same.0, number.same.1) (here_wants g.row.KEEP text token c.number-number.new.self.at c.in-Some.operator number.shows is takes),
+        ),
+      ),
     )

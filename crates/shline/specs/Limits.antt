@@ -1,0 +1,21 @@
+-- What a reading may tell and want.
+use Rattle.std.specs.Prelude.{◌≡◌, ℕ, ◌+◌, ◌≤◌, ◌==◌, ◌||◌, Bool, true, List, length}
+use Rattle.std.specs.List.{list_any}
+use Rattle.shline.specs.declared.documents.Waiting as the_waiting
+
+-- no offset above the furthest, and memory only where it may
+pub record Limits : Type 0 where
+  pub furthest : ℕ
+  pub memory : Bool
+
+-- A reading of this KEEP wants memory for a tree. Without one it wants some for here-documents alone, whose
+-- operators begin with `<`.
+abbrev pub wants_memory : ℕ → List ℕ → Bool
+wants_memory k text = k == 1 || list_any (λ b. b == 60) text
+
+abbrev pub limits : ℕ → ℕ → List ℕ → Limits
+limits k origin text = record { furthest = origin + length text; memory = wants_memory k text }
+
+-- a here-document that waits stands within the text, and wants memory
+abbrev pub Waits : Limits → the_waiting.Waiting → Type 0
+Waits bound w = (w.operator ≤ bound.furthest) × (bound.memory ≡ true)
