@@ -10,6 +10,7 @@ use Rattle.shgrammar.specs.Form.{Read, may}
 use Rattle.shline.specs.declared.stop.Stop.{Stop}
 use Rattle.shline.specs.declared.stop.Stop.TheVariants.{Wrong}
 use Rattle.shline.specs.Clauses.{Fails}
+use Rattle.shline.specs.Limits.{Limits}
 use Rattle.shgrammar.specs.Commands.{is_empty}
 use Rattle.std.proofs.lemmas.List.{map-append}
 use Rattle.shgrammar.specs.declared.keep.Keep.TheVariants.{Outer, Whole}
@@ -101,8 +102,8 @@ module _ {S : Type 0} where
     leads_in other edition x same by next = subst (λ e. Leads e B so old x new) by (leads x (subst (λ b. IsNextLine b so old x new) same next))
 
 -- a stop for a fault tells that the reading stops there
-pub fault_told : (e : Stop) (f : Fault) (end : ℕ) (x : Read (Row AnEntry × Bool)) → e ≡ Wrong f → Fails end e x → x ≡ Err f
-fault_told e f end x is told = (subst (λ z. Fails end z x) is told).0
+pub fault_told : (e : Stop) (f : Fault) (bound : Limits) (x : Read (Row AnEntry × Bool)) → e ≡ Wrong f → Fails bound e x → x ≡ Err f
+fault_told e f bound x is told = (subst (λ z. Fails bound z x) is told).0
 
 -- ---- all lines
 

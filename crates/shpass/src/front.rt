@@ -1,5 +1,6 @@
 //! What may be passed of a script that is read in parts.
-ghost use Rattle.std.specs.Prelude.{◌≡◌, ◌-◌, ◌<◌, ◌≤◌, IfOk, IfSome, None, Some, length, slice_get};
+ghost use Rattle.std.specs.Prelude.{◌≡◌, ◌-◌, ◌<◌, ◌≤◌, IfErr, IfOk, IfSome, None, Some, length, slice_get, true};
+ghost use Rattle.shline.specs.Limits.{wants_memory};
 ghost use Rattle.shgrammar.specs.Search.{LineBefore, MayPass, StopsAt};
 
 use crate::error::ReadError;
@@ -11,6 +12,7 @@ use std::alloc::Global;
 use std::mem;
 
 /// The place behind the line that begins at an offset, if it has no fault and a newline ended it that is its last byte.
+#[tactic(auto, using(shline::proofs::Wanted::seen_behind))]
 fn behind_line<S: Source>(
     alloc: Global,
     edition: Edition,
@@ -20,6 +22,7 @@ fn behind_line<S: Source>(
     requires { at ≤ length (S.bytes source.now) }
     ensures some { IfOk result (λ next. IfSome next (λ p. LineBefore edition (S.bytes source.now) at p)) }
     ensures none { IfOk result (λ next. next ≡ None → StopsAt edition (S.bytes source.now) at) }
+    ensures memory { IfErr result (λ e. wants_memory SEEN (S.bytes source.now) ≡ true) }
 {
     match line_at::<S, SEEN>(alloc, source, at, 0, edition, Keep::Nothing, false) {
         Ok(
@@ -55,6 +58,8 @@ pub fn faultless_front<S: Source>(
     ensures newline { IfOk result (λ n. 0 < n → slice_get (S.bytes source.now) (n - 1) ≡ Some 10) }
     // They are all: no such line follows.
     ensures all { IfOk result (StopsAt edition (S.bytes source.now)) }
+    // Memory is wanted for here-documents alone.
+    ensures memory { IfErr result (λ e. wants_memory SEEN (S.bytes source.now) ≡ true) }
 {
     let mut at = 0;
     'lines: while let Some(next) = behind_line(alloc, edition, source, at)? {

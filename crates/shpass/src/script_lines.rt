@@ -4,6 +4,7 @@ ghost use Rattle.shgrammar.specs.Scripts.{SoFar, is_blank_line, line_from, with_
 ghost use Rattle.shgrammar.specs.Search.{StopsAt};
 ghost use Rattle.shgrammar.specs.Sights.{standing};
 ghost use Rattle.shline.specs.Clauses.{Gives, Onward};
+ghost use Rattle.shline.specs.Limits.{limits};
 ghost use Rattle.shast.specs.Nodes.{AreWithin};
 ghost use Rattle.shast.specs.Tree.{entries_of};
 ghost use Rattle.shast.specs.View.{view_entry};
@@ -117,7 +118,7 @@ impl<'a, S: Source> ScriptLines<'a, S> {
         requires { place_of self.now ≤ length (bytes_of S.bytes self.now) }
         ensures value { let bytes = bytes_of S.bytes self.now in
             let place = place_of self.now in
-            Gives (place + length (drop place bytes))
+            Gives (limits KEPT place (drop place bytes))
             (λ x. ((map view_entry x.entries.items, x.newline), standing x.len)) result
             (line_from (edition_of self.now) bytes keep (is_blank_behind (before_of self.now)) place) }
         ensures spans { IfOk result (λ x. (limit : ℕ) → place_of self.now + x.len ≤ limit →

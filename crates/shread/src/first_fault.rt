@@ -1,5 +1,6 @@
 //! The first fault of a script, a line at a time and without its tree.
-ghost use Rattle.std.specs.Prelude.{◌≡◌, ◌≤◌, IfOk, IfSome, IsOk, length};
+ghost use Rattle.std.specs.Prelude.{◌≡◌, ◌≤◌, IfErr, IfOk, IfSome, IsOk, length, true};
+ghost use Rattle.shline.specs.Limits.{wants_memory};
 ghost use Rattle.shgrammar.specs.Scripts.{first_fault_from};
 ghost use Rattle.shread.specs.Answers.{Tells};
 
@@ -22,7 +23,7 @@ enum Found {
 }
 
 /// Reads the line at an offset.
-#[tactic(auto, using(shgrammar::proofs::FirstFault::here_within, shgrammar::proofs::FirstFault::beyond, shgrammar::proofs::FirstFault::nowhere))]
+#[tactic(auto, using(shgrammar::proofs::FirstFault::here_within, shgrammar::proofs::FirstFault::beyond, shgrammar::proofs::FirstFault::nowhere, shline::proofs::Wanted::seen_behind))]
 fn look<S: Source>(
     alloc: Global,
     edition: Edition,
@@ -30,7 +31,8 @@ fn look<S: Source>(
     at: usize,
 ) -> Result<Found, ReadError>
     requires { at ≤ length (S.bytes source.now) }
-    ensures { IfOk result (Tells edition (S.bytes source.now) at) }
+    ensures value { IfOk result (Tells edition (S.bytes source.now) at) }
+    ensures memory { IfErr result (λ e. wants_memory SEEN (S.bytes source.now) ≡ true) }
 {
     match line_at::<S, SEEN>(alloc, source, at, at, edition, Keep::Nothing, false) {
         Ok(
@@ -52,7 +54,7 @@ fn look<S: Source>(
     }
 }
 
-/// The first fault of a script. One without a byte wants no memory.
+/// The first fault of a script. One without a byte wants no memory, nor does one without a `<`.
 #[tactic(auto, using(crate::proofs::NothingRead::no_fault))]
 pub(crate) fn first_fault_of<S: Source>(
     alloc: Global,
@@ -62,6 +64,7 @@ pub(crate) fn first_fault_of<S: Source>(
     ensures fault { IfOk result (λ fault. fault ≡ first_fault_from edition (S.bytes source.now) 0) }
     ensures within { IfOk result (λ fault. IfSome fault (λ f. f.at ≤ length (S.bytes source.now))) }
     ensures empty { length (S.bytes source.now) ≡ 0 → IsOk result }
+    ensures memory { IfErr result (λ e. wants_memory SEEN (S.bytes source.now) ≡ true) }
 {
     if source.len() == 0 {
         return Ok(None);

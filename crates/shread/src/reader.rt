@@ -1,6 +1,7 @@
 //! The reader: one line, or a whole script.
 ghost use Rattle.std.specs.Prelude.{◌≡◌, ◌-◌, ◌<◌, ◌≤◌, ℕ, drop, false, length, true, List as Row, None, IfOk, IfErr, IfSome, IsOk};
 ghost use Rattle.shread.specs.Answers.{edition_of, meter_of, view_kind, view_line};
+ghost use Rattle.shline.specs.Limits.{wants_memory};
 ghost use Rattle.shtext.specs.Meter.{raised};
 ghost use Rattle.shgrammar.specs.Scripts.{view_script};
 ghost use Rattle.shgrammar.specs.Form.{Spelled};
@@ -17,6 +18,7 @@ use crate::first_fault::first_fault_of;
 use crate::one_line::line_from;
 use shast::List;
 use shgrammar::{Edition, Fault, Script};
+use shline::SEEN;
 use shpass::ReadError;
 use shtext::Source;
 use std::alloc::Global;
@@ -141,7 +143,8 @@ impl Reader {
     /// Finds the first fault of a whole script, a line at a time and without its tree.
     ///
     /// So the memory that it takes does not grow with the script. Want of memory is the only error: the meter is then as
-    /// before, and the reader can be used again. A script without a byte wants no memory.
+    /// before, and the reader can be used again. A script without a byte wants no memory, nor does one without a
+    /// `<`.
     #[tactic(auto, using(shgrammar::proofs::Answered::fault_answered))]
     pub fn first_fault<S: Source>(&mut self, source: &S) -> Result<Option<Fault>, ReadError>
         // The answer is the first fault in what the grammar gives for the bytes, and it gives no other.
@@ -152,6 +155,8 @@ impl Reader {
         ensures meter { IfOk result (λ fault. meter_of self.new ≡ raised (meter_of self.old) (length (S.bytes source.now))) }
         ensures err { IfErr result (λ e. meter_of self.new ≡ meter_of self.old) }
         ensures empty { length (S.bytes source.now) ≡ 0 → IsOk result }
+        // Memory is wanted for here-documents alone.
+        ensures memory { IfErr result (λ e. wants_memory SEEN (S.bytes source.now) ≡ true) }
     {
         let fault = first_fault_of(self.alloc, self.edition, source)?;
         self.count(source.len());
