@@ -1,8 +1,11 @@
 // Each rule of the normal form, turned: a tree that keeps all rules but one.
 use crate::tree_built::Script;
-use shtree::make::{and_or_of, argument_of, command_entry, list_of, pipeline_of, simple_of};
+use shtree::make::{
+    and_or_of, argument_of, command_entry, comment_entry, list_of, pipeline_of, simple_of,
+};
 use shtree::{
-    Branch, CaseItem, Command, Comment, Content, Entry, Form, Function, Join, List, Word, is_normal,
+    Branch, CaseItem, Command, Comment, Content, Entry, Form, Function, Join, List, Subst, Word,
+    is_normal,
 };
 use std::alloc::{AllocError, Global};
 use std::process::Abort;
@@ -17,8 +20,11 @@ enum Place {
     Redirect,
     RedirectBehindCompound,
     FunctionBody,
+    SecondSubst,
     SecondCommand,
+    ThirdCommand,
     SecondPipeline,
+    ThirdPipeline,
     SecondEntry,
     ForName,
     ForWord,
@@ -42,15 +48,18 @@ enum Place {
     ForBody,
 }
 
-const PLACES: [Place; 29] = [
+const PLACES: [Place; 32] = [
     Place::Assign,
     Place::Argument,
     Place::SecondItem,
     Place::Redirect,
     Place::RedirectBehindCompound,
     Place::FunctionBody,
+    Place::SecondSubst,
     Place::SecondCommand,
+    Place::ThirdCommand,
     Place::SecondPipeline,
+    Place::ThirdPipeline,
     Place::SecondEntry,
     Place::ForName,
     Place::ForWord,
@@ -236,6 +245,12 @@ fn in_command(alloc: Global, place: Place, list: List) -> Result<Command, AllocE
             simple_of(script.one(item)?)
         }
         Place::Argument => simple(alloc, around(alloc, list)?)?,
+        Place::SecondSubst => {
+            let mut word = around(alloc, run(alloc)?)?;
+            let span = word.span;
+            word.substs.push(Subst { list, span })?;
+            simple(alloc, word)?
+        }
         Place::SecondItem => {
             let mut items = script.arguments(&["a"])?;
             items.push(argument_of(around(alloc, list)?, true))?;
@@ -269,15 +284,25 @@ fn in_command(alloc: Global, place: Place, list: List) -> Result<Command, AllocE
 fn in_script(alloc: Global, place: Place, list: List) -> Result<List, AllocError> {
     let script = script(alloc);
     match place {
-        Place::SecondCommand => {
+        Place::SecondCommand | Place::ThirdCommand => {
+            let mut rest = Vec::new(alloc);
+            if let Place::ThirdCommand = place {
+                let join = script.join(false, &[])?;
+                rest.append(&mut script.piped(join, script.simple(&["a"])?)?)?;
+            }
             let join = script.join(false, &[])?;
-            let rest = script.piped(join, simple(alloc, around(alloc, list)?)?)?;
+            rest.append(&mut script.piped(join, simple(alloc, around(alloc, list)?)?)?)?;
             let pipeline = pipeline_of(None, script.simple(&["a"])?, rest);
             script.only(command_entry(script.operand(pipeline), false, false, None))
         }
-        Place::SecondPipeline => {
+        Place::SecondPipeline | Place::ThirdPipeline => {
+            let mut rest = Vec::new(alloc);
+            if let Place::ThirdPipeline = place {
+                let join = script.join(false, &[])?;
+                rest.append(&mut script.joined(join, script.simple(&["a"])?)?)?;
+            }
             let join = script.join(false, &[])?;
-            let rest = script.joined(join, simple(alloc, around(alloc, list)?)?)?;
+            rest.append(&mut script.joined(join, simple(alloc, around(alloc, list)?)?)?)?;
             let first = pipeline_of(None, script.simple(&["a"])?, Vec::new(alloc));
             script.only(command_entry(and_or_of(first, rest), false, false, None))
         }
@@ -334,13 +359,26 @@ fn a_list_in_each_place(rt: HostRuntime) -> Result<(), Fail> {
     Ok(())
 }
 
+/// A comment, and behind it a blank command in the background with a comment of its own.
+fn behind_a_remark(alloc: Global) -> Result<List, AllocError> {
+    let script = script(alloc);
+    let mut list = script.remark("")?;
+    let and_or = script.alone(script.simple(&["a"])?);
+    list.entries.push(command_entry(and_or, true, true, Some(script.comment(""))))?;
+    Ok(list)
+}
+
 #[test]
-fn a_command_behind_a_comment(rt: HostRuntime) -> Result<(), Fail> {
+fn a_command_beside_a_comment(rt: HostRuntime) -> Result<(), Fail> {
     let alloc = rt.alloc();
     let script = script(alloc);
     for place in PLACES {
         let mut list = script.remark("")?;
         list.entries.push(script.entry(script.simple(&["a"])?))?;
+        judge(&rt, alloc, place, list, true)?;
+        judge(&rt, alloc, place, behind_a_remark(alloc)?, true)?;
+        let mut list = run(alloc)?;
+        list.entries.push(comment_entry(script.comment(""), true))?;
         judge(&rt, alloc, place, list, true)?;
     }
     Ok(())
@@ -419,5 +457,55 @@ fn the_first_word_of_a_for(rt: HostRuntime) -> Result<(), Fail> {
         };
         assert!(rt; is_normal(&script.list(script.compound(form, "")?)?) == normal);
     }
+    Ok(())
+}
+
+/// A function with a comment before its body, behind which a first redirection is broken.
+fn function(alloc: Global) -> Result<Command, AllocError> {
+    let script = script(alloc);
+    let mut body = script.formed(Form::Brace(run(alloc)?), "");
+    let mut item = script.redirect("", "", script.word(""))?;
+    item.broken = true;
+    body.redirects.push(item)?;
+    let function = Function {
+        name: script.at(""),
+        comments: script.comments(&["#"])?,
+        body,
+    };
+    Ok(Command::Function(Box::new(alloc, function)?))
+}
+
+/// A case of an item that falls through, with a comment and no pattern.
+fn case_without_pattern(alloc: Global) -> Result<Command, AllocError> {
+    let script = script(alloc);
+    let item = CaseItem {
+        comments: script.comments(&["#"])?,
+        patterns: Vec::new(alloc),
+        body: run(alloc)?,
+        span: script.at(""),
+        falls: true,
+    };
+    script.compound(case_form(alloc, script.word(""), script.cases(item)?), "")
+}
+
+/// A for with no word behind its `in`.
+fn for_without_word(alloc: Global) -> Result<Command, AllocError> {
+    let script = script(alloc);
+    let form = Form::For {
+        name: script.word(""),
+        words: Some(Vec::new(alloc)),
+        body: run(alloc)?,
+    };
+    script.compound(form, "")
+}
+
+#[test]
+fn what_no_rule_refuses(rt: HostRuntime) -> Result<(), Fail> {
+    let alloc = rt.alloc();
+    let script = script(alloc);
+    assert!(rt; is_normal(&script.list(simple_of(Vec::new(alloc)))?));
+    assert!(rt; is_normal(&script.list(function(alloc)?)?));
+    assert!(rt; is_normal(&script.list(case_without_pattern(alloc)?)?));
+    assert!(rt; is_normal(&script.list(for_without_word(alloc)?)?));
     Ok(())
 }
