@@ -2,13 +2,16 @@
 //! of what stands below the reader are the crate `shtreetests`, whose refused growths and tables are used here;
 //! those of what stands above it are the crate `shlivetests`.
 //!
-//! Start with the module of what is tested: `reader_..` are the tests of `shread` and `shpass`, `tree_append`
-//! and `tree_nodes` those of `shtree`; `reader_refused` refuses each growth of memory in turn. `dump` writes
-//! trees as short texts, and [`joined_lines`] joins the lists of lines. `tree_size` is for `tests/bench`.
+//! Start with the module of what is tested: `grammar_bytes` has the tests of `shgrammar`, `reader_..` are
+//! those of `shread` and `shpass`, `tree_append` and `tree_nodes` those of `shtree`; `reader_refused` refuses
+//! each growth of memory in turn. `dump` writes trees as short texts, and [`joined_lines`] joins the lists of
+//! lines. `tree_size` is for `tests/bench`.
 #![tactic(auto)]
 
 #[cfg(test)]
 mod dump;
+#[cfg(test)]
+mod grammar_bytes;
 pub mod joined_lines;
 #[cfg(test)]
 mod reader_beginnings;
