@@ -77,7 +77,7 @@ fn lines(rt: HostRuntime) -> Result<(), Fail> {
 const FRONTS: &[u8] = br###"
 ("", 0) ("a", 0) ("a\n", 2) ("\n\n", 2) ("a\nb", 2) ("a\nb\\", 2) ("a\\\n", 0) ("a\\\n\n", 4) ("a\n#b\n c\n'", 8) ("a\n'\n'\nb", 6)
 ("a\n;\nb\n", 2) ("a\n{\nb\n", 2) ("a\n{\nb\n}\n", 8) ("a &&\n", 0) ("a &&\nb\n", 7)
-("cat <<E\nx\nE\n", 12) ("cat <<E\nx\nE", 0) ("a\ncat <<E\nx\nF\n", 2)
+("cat <<E\nx\nE\n", 12) ("cat <<E\nx\nE", 0) ("cat <<E\r\nx\nE\r", 0) ("a\ncat <<E\nx\nF\n", 2)
 "###;
 
 #[test]
@@ -94,7 +94,7 @@ fn fronts(rt: HostRuntime) -> Result<(), Fail> {
 /// A script, and its first line where that is whole. The trees in its command substitutions are left out.
 const WHOLE: &[u8] = br###"
 ("$(a)\n", "[0-4] to 5, ended") ("a \"$(b | c)\" d=$(e)\n", "[0-1 2-12 13-19] to 20, ended") ("{ a $(b)\n}\n", "{0-10 [2-3 4-8]} to 11, ended")
-("$(a)", "none") ("$(a;;)\n", "none") ("a $(b\n", "none")
+("$(a)", "none") ("$(a;;)\n", "none") ("a $(b\n", "none") ("\na", " to 1, ended") ("a <<E\nb\nE", "none")
 "###;
 
 fn judge_whole(judge: &mut Judge, alloc: Global, row: &[Cell]) -> Result<(), Fail> {
@@ -128,7 +128,7 @@ fn whole_lines(rt: HostRuntime) -> Result<(), Fail> {
 const OUTER: &[u8] = br###"
 ("$(a)\n", "[0-4] to 5, ended") ("a \"$(b | c)\" d=$(e)", "[0-1 2-12 13-19] to 19")
 ("{ a $(b)\n}\nc", "{0-10 [2-3 4-8]} to 11, ended")
-("$(a;;)\n", "fault 11 at 3 to 0") ("a $(b\n", "fault 7 at 2 to 0")
+("$(a;;)\n", "fault 11 at 3 to 0") ("a $(b\n", "fault 7 at 2 to 0") ("a <<E\nb\nE", "[0-1 <<2-4:4-5@6-8] to 9, ended")
 "###;
 
 fn judge_outer(judge: &mut Judge, alloc: Global, row: &[Cell]) -> Result<(), Fail> {
