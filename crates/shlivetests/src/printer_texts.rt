@@ -56,7 +56,7 @@ const SCRIPTS: &[u8] = br###"
 ("a &&\nb && c && { d;}", "a &&\n\tb && c && {\n\t\td\n\t}\n")
 ("a && { b;} && { c;}", "a && {\n\tb\n} && {\n\tc\n}\n") ("a |\nb | { c;}", "a |\n\tb | {\n\t\tc\n\t}\n")
 ("a |\nb | c | { d;}", "a |\n\tb | c | {\n\t\td\n\t}\n") ("a | { b;} | { c;}", "a | {\n\tb\n} | {\n\tc\n}\n")
-("a 1\\\n2\\\n3>b", "a 123>b\n")
+("a 1\\\n2\\\n3>b", "a 123>b\n") ("a\tb", "a b\n") ("{ a \\\nb\nc;}", "{\n\ta \\\n\t\tb\n\tc\n}\n")
 "###;
 
 /// The printed text of a script by an edition, in parts: of the whole lines at its front first, and then of
