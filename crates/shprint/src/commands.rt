@@ -211,6 +211,10 @@ impl<'a, S: Source> Printer<'a, S> {
         ensures { IfOk result (λ _. Prints page.old page.new
             (print_and_or_parts self.now.layout page.old.margin.items false (shape_of_and_or_parts (S.bytes self.now.source.now) (and_or_parts_of (map view_and_or_part parts.now))))) }
     {
+        // Most often there are none.
+        if parts.is_empty() {
+            return Ok(());
+        }
         let home = page.margin.len();
         let mut broken = false;
         for part in parts {
@@ -240,6 +244,10 @@ impl<'a, S: Source> Printer<'a, S> {
         ensures { IfOk result (λ _. Prints page.old page.new
             (print_pipes self.now.layout page.old.margin.items false (shape_of_pipes (S.bytes self.now.source.now) (pipeline_parts_of (map view_pipeline_part parts.now))))) }
     {
+        // Most often there are none.
+        if parts.is_empty() {
+            return Ok(());
+        }
         let home = page.margin.len();
         let mut broken = false;
         for part in parts {

@@ -19,6 +19,9 @@ use shgrammar::Script;
 use shtext::Source;
 use std::alloc::{AllocError, Global};
 
+/// How many bytes of a text are copied at once. Most texts have fewer.
+const ROW: usize = 64;
+
 /// By what a tree is printed: an allocator, a layout, and the source that the tree's spans tell of.
 #[derive(Drop)]
 pub struct Printer<'a, S: Source> {
@@ -28,7 +31,9 @@ pub struct Printer<'a, S: Source> {
 }
 
 impl<'a, S: Source> Printer<'a, S> {
-    /// Copies the bytes of a span, by the stretches in which the source tells them.
+    /// Copies the bytes of a span, by the stretches in which the source tells them. It stands apart, so that
+    /// what prints a short text in place stays small.
+    #[inline(never)]
     pub(crate) fn copy(&self, span: Span, text: &mut Vec<u8>) -> Result<(), AllocError>
         ensures { IfOk result (λ _. text.new.items ≡ text.old.items ++ text_at (S.bytes self.now.source.now) span) }
     {
@@ -49,10 +54,23 @@ impl<'a, S: Source> Printer<'a, S> {
     }
 
     /// Prints the bytes of a span as they stand.
+    ///
+    /// Where they are few, those behind them are copied too and cut off again: a copy of as many bytes as are
+    /// known beforehand is some moves in place, and no call that asks for their number.
+    #[inline(always)]
     pub(crate) fn print_text(&self, span: Span, page: &mut Page) -> Result<(), AllocError>
         ensures { IfOk result (λ _. Prints page.old page.new (text (text_at (S.bytes self.now.source.now) span) ∷ [])) }
     {
-        self.copy(span, &mut page.text)
+        let wanted = span.end.saturating_sub(span.start);
+        match self.source.run(span.start).first_chunk::<ROW>() {
+            Some(row) if wanted <= ROW && ROW <= page.text.capacity() - page.text.len() => {
+                let end = page.text.len() + wanted;
+                page.text.extend_from_slice(row)?;
+                page.text.truncate(end);
+                Ok(())
+            }
+            _ => self.copy(span, &mut page.text),
+        }
     }
 
     /// Prints the bytes of a span without its continuations.

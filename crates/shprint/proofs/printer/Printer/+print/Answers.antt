@@ -1,5 +1,6 @@
-use Rattle.std.proofs.Common.{◌∷◌, [], arith, codes, map}
+use Rattle.std.proofs.Common.{◌∷◌, [], arith, codes, false, map}
 use Rattle.std.proofs.Math.Seq.{take-append_seam}
+use Rattle.std.proofs.lemmas.Bool.Decides.{nat_tests}
 use Rattle.shast.specs.Shape.{shape_of, shape_of_branch, shape_of_branches}
 use Rattle.shast.specs.Tree.{branches_of}
 use Rattle.shast.specs.View.{view_branch, view_case_item, view_entry, view_list}
@@ -21,6 +22,11 @@ print_and_or_parts-loop-part-preserved g t c =
     let more = parts_more (g.S.Source.bytes c.args.self.now.source.now) c.args.self.now.layout c.args.page.now.margin.items c.loop-part.broken c.args.parts.now c.loop-part.part-index c.part-item.result c.loop-part-test.true in
     grind (arith, written_append, written_cons, more, and_or_part_seen)
 
+pub print_and_or_parts-returns-then-is_empty : goal.print_and_or_parts-returns-then-is_empty
+print_and_or_parts-returns-then-is_empty g t c =
+    let none = parts_end (g.S.Source.bytes c.args.self.now.source.now) c.args.self.now.layout c.args.page.now.margin.items false c.args.parts.now 0 (grind (arith, nat_tests, c.is_empty.ensures, c.if-is_empty.true)) in
+    grind (arith, written_none, none)
+
 pub print_and_or_parts-returns : goal.print_and_or_parts-returns
 print_and_or_parts-returns g t c =
     grind (arith, written_append, written_cons, written_none, parts_end, operand_cut)
@@ -29,6 +35,11 @@ pub print_pipes-loop-part-preserved : goal.print_pipes-loop-part-preserved
 print_pipes-loop-part-preserved g t c =
     let more = pipes_more (g.S.Source.bytes c.args.self.now.source.now) c.args.self.now.layout c.args.page.now.margin.items c.loop-part.broken c.args.parts.now c.loop-part.part-index c.part-item.result c.loop-part-test.true in
     grind (arith, written_append, written_cons, more, pipeline_part_seen)
+
+pub print_pipes-returns-then-is_empty : goal.print_pipes-returns-then-is_empty
+print_pipes-returns-then-is_empty g t c =
+    let none = pipes_end (g.S.Source.bytes c.args.self.now.source.now) c.args.self.now.layout c.args.page.now.margin.items false c.args.parts.now 0 (grind (arith, nat_tests, c.is_empty.ensures, c.if-is_empty.true)) in
+    grind (arith, written_none, none)
 
 pub print_pipes-returns : goal.print_pipes-returns
 print_pipes-returns g t c =
