@@ -41,6 +41,8 @@ pub struct Printing {
     layout: Layout,
     page: Page,
     before: LinesBefore,
+    /// The room of the trees that were printed, which the pieces that follow want again.
+    spare: Spare,
 }
 
 impl Printing {
@@ -54,6 +56,7 @@ impl Printing {
             layout: *layout,
             page: Page::new(alloc),
             before: LinesBefore::none(),
+            spare: Spare::new(alloc),
         }
     }
 
@@ -77,9 +80,8 @@ impl Printing {
             source,
         };
         let mut lines = ScriptLines::behind(self.alloc, self.edition, source, self.before);
-        let mut spare = Spare::new(self.alloc);
         'lines: loop {
-            let Ok(line) = lines.read_whole_with(Some(&mut spare)) else {
+            let Ok(line) = lines.read_whole_with(Some(&mut self.spare)) else {
                 return Err(AllocError);
             };
             let Some(entries) = line else {
@@ -87,7 +89,7 @@ impl Printing {
                 return Ok(lines.at());
             };
             printer.print_entries(&entries, &mut self.page)?;
-            spare.give_back(entries);
+            self.spare.give_back(entries);
         }
     }
 
@@ -105,15 +107,14 @@ impl Printing {
         // The text is about as long as the script. Where there is no room for all of it at once, it grows.
         let _ = self.page.text.reserve_exact(source.len());
         let mut lines = ScriptLines::behind(self.alloc, self.edition, source, self.before);
-        let mut spare = Spare::new(self.alloc);
         'lines: loop {
-            let Ok(line) = lines.read_outer_with(Some(&mut spare)) else {
+            let Ok(line) = lines.read_outer_with(Some(&mut self.spare)) else {
                 return Err(AllocError);
             };
             match line {
                 ScriptLine::Ended(entries) => {
                     printer.print_entries(&entries, &mut self.page)?;
-                    give_back_if(lines.at() < source.len(), entries, &mut spare);
+                    give_back_if(lines.at() < source.len(), entries, &mut self.spare);
                 }
                 ScriptLine::Last(entries) => {
                     printer.print_entries(&entries, &mut self.page)?;
