@@ -1,5 +1,5 @@
-// What no clause says: that requests are answered where nothing fails, what the replies look like, that a failure of a device is told,
-// and that edits by the thousand leave what a session opened anew would answer.
+// What no clause says: that requests are answered where nothing fails, what the replies look like, that a
+// failure of a device is told, and that edits by the thousand leave what a session opened anew would answer.
 use crate::spliced::spliced;
 use shlive::{LiveError, Session, run};
 use shprint::Layout;
@@ -16,7 +16,8 @@ pub(crate) fn opened(alloc: Global, script: &[u8]) -> Result<Session, Fail> {
     Ok(Session::open(alloc, Reader::new(alloc), layout, script)?)
 }
 
-/// A page that takes five bytes at a time, and fails once where it is full. Whatever comes behind a failure it takes.
+/// A page that takes five bytes at a time, and fails once where it is full. Whatever
+/// comes behind a failure it takes.
 pub(crate) fn page_of(room: usize) -> Page {
     let mut page = Page::new(room, 5);
     page.is_emptied = true;
@@ -145,7 +146,8 @@ fn rows(rt: HostRuntime) -> Result<(), Fail> {
     Ok(())
 }
 
-/// How much of `MENDED_REPLIES` is written where the input ends behind so many bytes of `MENDED`, and the status.
+/// How much of `MENDED_REPLIES` is written where the input ends behind so many bytes
+/// of `MENDED`, and the status.
 fn cut_replies(len: usize) -> (usize, u8) {
     match len {
         0 => (0, 0),

@@ -1,5 +1,5 @@
-// What an edit reads again, and that it changes no answer: rows with the meter, and edits by the thousand, judged by a session opened
-// anew and by the window as it is defined.
+// What an edit reads again, and that it changes no answer: rows with the meter, and edits by the thousand,
+// judged by a session opened anew and by the window as it is defined.
 use crate::session_runs::{Dice, alike_at_each, opened, page_of};
 use crate::spliced::spliced;
 use crate::windows::window;
@@ -9,7 +9,8 @@ use shtreetests::devices::{PAGE, Tape};
 use std::alloc::Global;
 use std::test::Fail;
 
-/// Whether requests on a script get these replies, and the session has read so many bytes then: at first it has read the script.
+/// Whether requests on a script get these replies, and the session has read so many
+/// bytes then: at first it has read the script.
 fn reads(
     alloc: Global,
     script: &[u8],
@@ -75,8 +76,8 @@ fn rows(rt: HostRuntime) -> Result<(), Fail> {
     Ok(())
 }
 
-/// Whether an edit makes answers those of a session opened anew, where nodes are asked for at one offset of so many, and raises the meter
-/// by the length of the window.
+/// Whether an edit makes answers those of a session opened anew, where nodes are asked for at one offset of
+/// so many, and raises the meter by the length of the window.
 pub(crate) fn is_right(
     alloc: Global,
     session: &mut Session,
@@ -139,8 +140,8 @@ fn is_undone(dice: &mut Dice, session: &Session) -> bool {
     }
 }
 
-/// Whether the script is to be the first one again: where it is long, and now and then where it has a fault, so that most edits begin
-/// without one.
+/// Whether the script is to be the first one again: where it is long, and now and then
+/// where it has a fault, so that most edits begin without one.
 fn is_over(dice: &mut Dice, session: &Session) -> bool {
     session.script_len() > 400 || (session.status() == 1 && dice.below(3) == 0)
 }

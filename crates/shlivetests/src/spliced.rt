@@ -1,4 +1,5 @@
-//! The model of an edit. What an edited session is compared with is as good as the bytes that are spliced here, so that is said by contract.
+//! The model of an edit. What an edited session is compared with is as good as the
+//! bytes that are spliced here, so that is said by contract.
 ghost use Rattle.std.specs.Prelude.{◌≡◌, IfOk};
 ghost use Rattle.shtext.specs.Edit.{edited};
 

@@ -1,4 +1,5 @@
-// The window of an edit, told from its definition: the boundaries of the two scripts are those of the lines that the reader reads.
+// The window of an edit, told from its definition: the boundaries of the two scripts
+// are those of the lines that the reader reads.
 use crate::spliced::spliced;
 use shread::Reader;
 use shtext::Flat;
@@ -37,7 +38,8 @@ fn begin(old: &[usize], a: usize) -> usize {
     begin
 }
 
-/// Where it ends, if not with the script: at the least new boundary at or past the end of the new bytes whose old place is a boundary.
+/// Where it ends, if not with the script: at the least new boundary at or past the end
+/// of the new bytes whose old place is a boundary.
 fn end(old: &[usize], new: &[usize], behind: usize, b: usize) -> Option<usize> {
     for place in new {
         let there = b.saturating_add(place.saturating_sub(behind));

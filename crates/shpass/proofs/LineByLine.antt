@@ -82,8 +82,8 @@ module _ {S : Type 0} (so : SoFar) (old new : ScriptLines S) where
 -- ---- what a line leads on to
 
 module _ {S : Type 0} where
-  -- Where the line ended by a newline: what the lines behind it give is what they give with it. Else it is the script's last, or its
-  -- first fault stands in it.
+  -- Where the line ended by a newline: what the lines behind it give is what they give with it. Else it
+  -- is the script's last, or its first fault stands in it.
   abbrev pub Leads : Edition → Row ℕ → SoFar → ScriptLines S → ScriptLine → ScriptLines S → Type 0
   Leads edition B so old (Ended es) new = Stands new (with_line so (map view_entry es.items))
       × ((s : AScript) → Rest edition B (with_line so (map view_entry es.items)) new.at s → Rest edition B so old.at s)

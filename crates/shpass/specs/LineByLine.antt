@@ -71,8 +71,8 @@ module _ {S : Type 0} where
   abbrev pub Stands : ScriptLines S → SoFar → Type 0
   Stands lines so = Before lines.before so
 
-  -- A line with these entries, but for the trees in command substitutions, behind lines that gave this, from `old` to `new`. A newline
-  -- ended it and is its last byte.
+  -- A line with these entries, but for the trees in command substitutions, behind lines that gave this, from
+  -- `old` to `new`. A newline ended it and is its last byte.
   abbrev pub IsWholeLine : List ℕ → SoFar → ScriptLines S → Vec Entry Global → ScriptLines S → Type 0
   IsWholeLine B so old es new =
       (t : State) × (new.at ≡ old.at + t.at) × OuterReads old.edition B so old.at (Ok ((map view_entry es.items, true), t)) × (0 < t.at)

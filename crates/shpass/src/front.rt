@@ -11,7 +11,8 @@ use shtext::Source;
 use std::alloc::Global;
 use std::mem;
 
-/// The place behind the line that begins at an offset, if it has no fault and a newline ended it that is its last byte.
+/// The place behind the line that begins at an offset, if it has no fault and a
+/// newline ended it that is its last byte.
 #[tactic(auto, using(shline::proofs::Wanted::seen_behind))]
 fn behind_line<S: Source>(
     alloc: Global,
@@ -44,10 +45,11 @@ fn behind_line<S: Source>(
     }
 }
 
-/// How many bytes at the front of a source are lines without a fault, each ended by a newline that is its last byte.
+/// How many bytes at the front of a source are lines without a fault, each ended by a
+/// newline that is its last byte.
 ///
-/// The source may be the front of a script. Whatever follows these lines there, the first fault of the script is that behind them.
-/// So who looks for it alone need not hold them.
+/// The source may be the front of a script. Whatever follows these lines there, the first fault of the script
+/// is that behind them. So who looks for it alone need not hold them.
 pub fn faultless_front<S: Source>(
     alloc: Global,
     edition: Edition,

@@ -1,4 +1,5 @@
-//! The lines of a script, read one after the other, so that who needs no tree of the whole holds that of one line.
+//! The lines of a script, read one after the other, so that who needs no tree of the
+//! whole holds that of one line.
 ghost use Rattle.std.specs.Prelude.{◌≡◌, ◌+◌, ◌-◌, ◌^◌, ◌<◌, ◌≤◌, ℕ, drop, length, map, slice_get, IfErr, IfOk, IfSome, None, Ok as Done, Some};
 ghost use Rattle.shgrammar.specs.Scripts.{SoFar, is_blank_line, line_from, with_line};
 ghost use Rattle.shgrammar.specs.Search.{StopsAt};
@@ -30,7 +31,8 @@ pub enum ScriptLine {
     Faulty(Fault),
 }
 
-/// What some lines of a script leave for the next one to know: whether an empty line stands before its first entry.
+/// What some lines of a script leave for the next one to know: whether an empty line
+/// stands before its first entry.
 #[derive(Clone, Copy, Debug, PartialEq, Eq)]
 pub struct LinesBefore {
     /// A line without entries follows the last entry.
@@ -240,9 +242,10 @@ impl<'a, S: Source> ScriptLines<'a, S> {
         self.read_keeping(Keep::Outer, spare)
     }
 
-    /// Reads one more line, if it has no fault and a newline ended it that is its last byte: then nothing that follows it in the script
-    /// has a part in how it is read. Of its words the trees in their command substitutions are left out. If there is no such line, nothing
-    /// moves. Want of memory is the only error; the line may be read again then.
+    /// Reads one more line, if it has no fault and a newline ended it that is its last byte: then
+    /// nothing that follows it in the script has a part in how it is read. Of its words the trees in
+    /// their command substitutions are left out. If there is no such line, nothing moves. Want of
+    /// memory is the only error; the line may be read again then.
     pub fn read_whole(&mut self) -> Result<Option<Vec<Entry>>, ReadError>
         requires { place_of self.old ≤ length (bytes_of S.bytes self.old) }
         ensures line { IfOk result (λ line. IfSome line (λ entries. (so : SoFar) → Stands self.old so →

@@ -110,7 +110,8 @@ outer_printed y H q blank line es text then outer is =
 
 -- ---- lines at the front of what follows
 
--- the line at q of H is whole, and its first bytes are taken behind P: whatever follows them, it is read there
+-- the line at q of H is whole, and its first bytes are taken behind P: whatever
+-- follows them, it is read there
 whole_there : (edition : Edition) (H P more : List ℕ) (q : ℕ) (blank : Bool) (es : List AnEntry) (t : State) → Rattle.shgrammar.specs.Scripts.line_told edition H Whole false q 0 ≡ Ok ((es, true), t) → 0 < t.at → q + t.at ≤ length H
     → Rattle.shgrammar.specs.Standing.raw_stands (drop q H) (t.at - 1) 10 ≡ true → There edition H (P ++ (take t.at (drop q H) ++ more)) q (length P) blank true es t
 whole_there edition H P more q blank es t read some low stands =

@@ -1,4 +1,5 @@
--- What is printed of a tree is printed of it without the trees in its command substitutions too: a word is printed as it stands.
+-- What is printed of a tree is printed of it without the trees in its command
+-- substitutions too: a word is printed as it stands.
 use Rattle.std.proofs.Common.{◌≡◌, Bool, true, false, [], ◌∷◌, List, List as Row, ℕ, map, refl}
 use Rattle.std.specs.Prelude.{Some, None}
 use Rattle.shast.specs.declared.tree.Span.{Span}

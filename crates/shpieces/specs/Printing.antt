@@ -26,8 +26,8 @@ abbrev pub Answers : Edition → Layout → List ℕ → List ℕ → Option Fau
 Answers edition layout bytes text None = IsTextOf edition layout bytes text
 Answers edition layout bytes text (Some fault) = FirstFault edition bytes (Some fault) × (fault.at ≤ length bytes)
 
--- The front of a script is lines without a fault, which leave this for the next one to know, and this is printed for them. Whatever
--- follows it, the script is that of these lines and of what is read behind them.
+-- The front of a script is lines without a fault, which leave this for the next one to know, and this is
+-- printed for them. Whatever follows it, the script is that of these lines and of what is read behind them.
 pub record ArePrinted (edition : Edition) (y : Layout) (front : List ℕ) (left : LinesBefore) (so_far : Sheet) : Type 0 where
   pub so : SoFar
   pub left_so : Before left so

@@ -60,8 +60,9 @@ impl Printing {
         }
     }
 
-    /// Prints the lines at the front of what follows that have no fault, each ended by a newline that is its last byte, and answers how
-    /// many bytes they are. What stands behind these may be no more than the front of what follows them.
+    /// Prints the lines at the front of what follows that have no fault, each ended by a
+    /// newline that is its last byte, and answers how many bytes they are. What stands behind
+    /// these may be no more than the front of what follows them.
     ///
     /// # Errors
     ///
@@ -93,7 +94,8 @@ impl Printing {
         }
     }
 
-    /// Prints the lines of what follows, up to the end of the script. Answers the first fault there, which ends the printing.
+    /// Prints the lines of what follows, up to the end of the script. Answers the
+    /// first fault there, which ends the printing.
     fn print_lines<S: Source>(&mut self, source: &S) -> Result<Option<Fault>, AllocError>
         ensures answers { IfOk result (λ fault. (e : Edition) (y : Layout) (front : Row ℕ) → IsPrinted e y front self.old →
             Answers e y (front ++ S.bytes source.now) self.new.page.text.items (option_map (moved_fault (length front)) fault)) }
@@ -125,8 +127,8 @@ impl Printing {
         }
     }
 
-    /// Prints what follows, up to the end of the script, and answers the text of the whole. A line at a time is read, so that no tree
-    /// is held but that of a line.
+    /// Prints what follows, up to the end of the script, and answers the text of the whole. A line at a time
+    /// is read, so that no tree is held but that of a line.
     ///
     /// # Errors
     ///

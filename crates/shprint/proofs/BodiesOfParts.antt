@@ -1,5 +1,5 @@
--- What shapes and their bodies say where a line is read: filled with the bodies that were read, its entry has the shape; the words of a
--- `for` have none.
+-- What shapes and their bodies say where a line is read: filled with the bodies that were read,
+-- its entry has the shape; the words of a `for` have none.
 use Rattle.std.proofs.Common.{◌≡◌, ℕ, List, List as Row, [], ◌∷◌, map, refl, sym, ap, ◌∙◌}
 use Rattle.shast.specs.declared.tree.Span.{Span}
 use Rattle.shast.specs.Tree.{AnEntry, AnEntryOf, EntriesOf, entries_of, no_entry, more_entries, ItemsOf}

@@ -1,5 +1,6 @@
--- The here-documents of a level while it is read: those that have their bodies, and those that wait. A part of its list is open as long as
--- its documents have no bodies in it; what is good of it is said of the part with its bodies.
+-- The here-documents of a level while it is read: those that have their bodies, and those
+-- that wait. A part of its list is open as long as its documents have no bodies in it;
+-- what is good of it is said of the part with its bodies.
 use Rattle.std.proofs.Common.{◌≡◌, ◌∙◌, refl, sym, ap, subst, ℕ, ◌≤◌, Bool, false, Option, Some, None, Ok, Err, List as Row, [], ◌∷◌, ◌++◌, length, map, append_assoc, append-nil, arith}
 use Rattle.std.specs.Prelude.{Result}
 use Rattle.std.proofs.lemmas.List.{map-append}
@@ -127,8 +128,8 @@ module _ (g : Given) where
 
   -- ---- parts of a list
 
-  -- x stands behind the documents D, and with its own they are E. Whatever the bodies of E are, x takes its own behind those of D, and is
-  -- good with them.
+  -- x stands behind the documents D, and with its own they are E. Whatever the bodies of E are, x
+  -- takes its own behind those of D, and is good with them.
   pub record Opens {X : Type 0} (fill : X → Row Span → X × Row Span) (Good : X → Type 0) (D : Row Due) (x : X) (E : Row Due) : Type 0 where
     pub fills : (ts us : Row Span) → Feeds E ts us → (vs : Row Span) × Feeds D ts vs × Good (fill x vs).0 × ((fill x vs).1 ≡ us)
 

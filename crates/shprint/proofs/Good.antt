@@ -1,5 +1,6 @@
--- What a shape has so that its printed text is read back, beside its normal form: its words are words wherever they stand, its comments
--- comments, and no more constructs are open than may be. What was read has it (proofs/Readable); what has it is read back (proofs/ReadBack).
+-- What a shape has so that its printed text is read back, beside its normal form: its words are words
+-- wherever they stand, its comments comments, and no more constructs are open than may be. What was read has
+-- it (proofs/Readable); what has it is read back (proofs/ReadBack).
 use Rattle.std.specs.Prelude.{◌≡◌, ℕ, zero, suc, Bool, true, false, ◌&&◌, [], ◌∷◌, List as Row, Option, None, Some}
 use Rattle.shgrammar.specs.declared.edition.Edition.{Edition}
 use Rattle.shgrammar.specs.declared.token.Position.{Position}
@@ -45,7 +46,8 @@ GoodNumber None = Unit {0}
 GoodNumber (Some []) = ⊥
 GoodNumber (Some (b ∷ bs)) = all_digits (b ∷ bs) ≡ true
 
--- a here-document of an operator and a word with these bytes: its body ends where the delimiter's line begins, wherever they stand
+-- a here-document of an operator and a word with these bytes: its body ends where the
+-- delimiter's line begins, wherever they stand
 pub record GoodDocument (edition : Edition) (o : RedirectOperator) (t : Text) (h : AHereOf Text) : Type 0 where
   pub takes : takes_here o ≡ true
   pub d : ADelimiter

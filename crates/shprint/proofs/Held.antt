@@ -1,5 +1,5 @@
--- What waits for the end of a line while a printed text is read: here-documents, each with the bytes of its body. A newline token reads
--- them, and they are those that were printed.
+-- What waits for the end of a line while a printed text is read: here-documents, each with the bytes of its
+-- body. A newline token reads them, and they are those that were printed.
 use Rattle.std.proofs.Common.{◌≡◌, ◌∙◌, ℕ, suc, ◌+◌, ◌-◌, ◌≤◌, Bool, true, List, List as Row, [], ◌∷◌, ◌++◌, length, drop, take, map, Some, Ok, refl, sym, ap, arith, append_assoc, append-nil}
 use Rattle.std.proofs.lemmas.List.{drop-drop, length-append, length-drop, map-append}
 use Rattle.shast.specs.declared.tree.Span.{Span}

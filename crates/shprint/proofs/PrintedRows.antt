@@ -1,4 +1,5 @@
--- The rows of the grammar over a printed text: what is printed for a good shape is read as a tree of that shape.
+-- The rows of the grammar over a printed text: what is printed for a good shape is
+-- read as a tree of that shape.
 use Rattle.std.proofs.Common.{◌≡◌, ℕ, zero, suc, ◌+◌, ◌-◌, ◌<◌, ◌≤◌, ⊎_elim, ◌==◌, Bool, true, false, not, ◌&&◌, ◌||◌, List, List as Row, [], ◌∷◌, ◌++◌, length, drop, take, codes, if◌then◌else◌, cond, Option, Some, None, is_some, option_map, slice_get, refl, sym, ap, subst, ◌∙◌, arith, append_assoc, append-nil, map}
 use Rattle.std.proofs.Math.ListN.{replicate}
 use Rattle.std.proofs.lemmas.Bool.{both_ways, cases_lt, lt-ltb, and_from, and_parts, cond_both}
@@ -241,7 +242,8 @@ module _ (edition : Edition) (B T : List ℕ) (o : ℕ) (here : drop o B ≡ T) 
     pub no_item : begins_simple token ≡ false
     pub no_round : is_paren token ≡ false
 
-  -- a row of the grammar that reads something and hands on the next token: what is read, where it ends, and with which bodies
+  -- a row of the grammar that reads something and hands on the next token: what is
+  -- read, where it ends, and with which bodies
   pub record Got (h : Held) {X : Type 0} (r : Form (X × Next)) (p : ℕ) (rest : Marks) (more : Row Text → Row Text) (Is : X → Type 0) : Type 0 where
     pub value : X
     pub «end» : ℕ

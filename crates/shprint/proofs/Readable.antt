@@ -1,5 +1,6 @@
--- What was read has a good shape: its words, comments and here-documents are read wherever they stand, and no more constructs are open
--- than may be. A row reads an open part of a list, whose here-documents have no bodies yet; at the end of the line it is filled.
+-- What was read has a good shape: its words, comments and here-documents are read wherever they stand,
+-- and no more constructs are open than may be. A row reads an open part of a list, whose here-documents
+-- have no bodies yet; at the end of the line it is filled.
 use Rattle.std.proofs.Common.{◌≡◌, ◌∙◌, refl, sym, ap, subst, ℕ, zero, suc, ◌+◌, ◌-◌, Bool, true, false, not, ◌&&◌, ◌||◌, ◌⊎◌, inl, inr, ⊎_elim, Ok, Err, List, List as Row, [], ◌∷◌, ◌++◌, drop, take, Option, Some, None, is_some, option_map}
 use Rattle.std.proofs.lemmas.Bool.{both_ways}
 use Rattle.std.proofs.lemmas.List.{drop-drop}
@@ -202,7 +203,8 @@ module _ (g : Given) where
   abbrev Kept : {X : Type 0} → Row Due → (X → ℕ → Type 0) → X → State → Type 0
   Kept D P x t = DocsAt g D t × P x t.at
 
-  -- P holds of what r reads from p on, and of the place behind it. Whatever documents stand before p, they are all behind it too.
+  -- P holds of what r reads from p on, and of the place behind it. Whatever documents
+  -- stand before p, they are all behind it too.
   record Reads {X : Type 0} (r : Form X) (P : X → ℕ → Type 0) (p : ℕ) : Type 0 where
     pub reads : (D : Row Due) (s : State) → DocsAt g D s → Tells Whole g r (Kept D P) (place_of s p)
 
@@ -267,7 +269,8 @@ module _ (g : Given) where
   abbrev Grown : {X : Type 0} → (X → Row Due → ℕ → Type 0) → X → State → Type 0
   Grown P x t = (E : Row Due) × DocsAt g E t × P x E t.at
 
-  -- P holds of what r reads from p on, of the documents up to its end, where those before p are D, and of the place behind it
+  -- P holds of what r reads from p on, of the documents up to its end, where those
+  -- before p are D, and of the place behind it
   record Adds {X : Type 0} (D : Row Due) (r : Form X) (P : X → Row Due → ℕ → Type 0) (p : ℕ) : Type 0 where
     pub adds : (s : State) → DocsAt g D s → Tells Whole g r (Grown P) (place_of s p)
 

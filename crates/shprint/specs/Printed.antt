@@ -1,4 +1,5 @@
--- The printed text of a shape, by structure alone: one case for each rule of the layout. A margin is what a line begins with.
+-- The printed text of a shape, by structure alone: one case for each rule of the
+-- layout. A margin is what a line begins with.
 use Rattle.std.specs.Prelude.{◌==◌, ◌&&◌, ◌||◌, not, ◌++◌, Bool, true, false, [], ◌∷◌, List as Row, codes, Option, None, Some, if◌then◌else◌}
 use Rattle.shast.specs.declared.tree.RedirectOperator.{RedirectOperator}
 use Rattle.shast.specs.declared.tree.RedirectOperator.TheVariants as redirects
@@ -122,7 +123,8 @@ print_bang (Some mark) = one (codes "! ")
 
 -- ---- conditions
 
--- A condition stands on the line of its `if` where it is one command, with no comment and not in the background.
+-- A condition stands on the line of its `if` where it is one command, with no comment
+-- and not in the background.
 abbrev pub is_one_line : Shape EntriesOf → Bool
 is_one_line (more_entries (entry (command a) false blank None) no_entry) = true
 is_one_line _ = false

@@ -6,7 +6,8 @@ use shast::Span;
 use shtext::Source;
 use std::alloc::AllocError;
 
-/// Adds the bytes of a span without its continuations. Such a span is short: it is that of a name or a number.
+/// Adds the bytes of a span without its continuations. Such a span is short: it is
+/// that of a name or a number.
 ///
 /// # Errors
 ///

@@ -1,4 +1,5 @@
-//! Commands and lists of them. Each function prints one part of a script, as the definition of its name in `specs/Printed` says.
+//! Commands and lists of them. Each function prints one part of a script, as the
+//! definition of its name in `specs/Printed` says.
 #![tactic(auto, using(crate::proofs::Writing::written_append, crate::proofs::Writing::written_cons, crate::proofs::Writing::written_none))]
 
 ghost use Rattle.std.specs.Prelude.{◌≡◌, ◌∷◌, ◌++◌, ◌||◌, ℕ, IfOk, List as Row, codes, false, if◌then◌else◌, map};
@@ -89,8 +90,8 @@ fn print_bang(bang: Option<Span>, page: &mut Page) -> Result<(), AllocError>
 }
 
 impl<'a, S: Source> Printer<'a, S> {
-    /// Before a join, where the line was broken before or not: from the first broken line on the operands stand deeper.
-    /// Answers whether the line is broken by now.
+    /// Before a join, where the line was broken before or not: from the first broken line on the operands
+    /// stand deeper. Answers whether the line is broken by now.
     fn enter_operand(&self, broken: bool, join: &Join, page: &mut Page) -> Result<bool, AllocError>
         ensures now { IfOk result (λ now. now ≡ (broken || breaks_line (shape_of_join (S.bytes self.now.source.now) (view_join join.now)))) }
         ensures margin { IfOk result (λ now. (margin : Text) → page.old.margin.items ≡ operand_margin self.now.layout margin broken →

@@ -144,7 +144,8 @@ impl<'a, S: Source> Printer<'a, S> {
         self.copy_delimiter(word.span, &mut page.held)
     }
 
-    /// The text of the delimiter that the word at this span is, where it stands in the source. Most often it does.
+    /// The text of the delimiter that the word at this span is, where it stands in the
+    /// source. Most often it does.
     #[tactic(auto, using(crate::proofs::Copying::run_enough))]
     fn delimiter_here(&self, word: Span) -> Option<&[u8]>
         ensures { IfSome result (λ text. text.now ++ 10 ∷ [] ≡ delimiter_line (delimiter_of (text_at (S.bytes self.now.source.now) word))) }

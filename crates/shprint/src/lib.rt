@@ -1,10 +1,10 @@
 //! The printer: one layout for every script, and the line that tells a fault.
 //!
-//! Start with [`print`], which prints the tree of a script by a [`Layout`]; [`Printer`] prints some of its entries on a [`Page`];
-//! [`message`] is the line that tells a fault, and [`add_bare`] copies a name or a number. No reader is needed here: the crate `shpieces`
-//! prints scripts while they are read.
-//! What is printed for a tree is `printed` in `specs/Printed`, by cases, one for each rule of the layout. A function of `commands`,
-//! `items` or `comments` prints what the definition of its name there says.
+//! Start with [`print`], which prints the tree of a script by a [`Layout`]; [`Printer`] prints some of its
+//! entries on a [`Page`]; [`message`] is the line that tells a fault, and [`add_bare`] copies a name or a
+//! number. No reader is needed here: the crate `shpieces` prints scripts while they are read. What is printed
+//! for a tree is `printed` in `specs/Printed`, by cases, one for each rule of the layout. A function of
+//! `commands`, `items` or `comments` prints what the definition of its name there says.
 #![tactic(auto)]
 
 mod bare;

@@ -30,8 +30,8 @@ fn text_of(kind: FaultKind) -> &'static [u8]
     }
 }
 
-/// The line `NAME:LINE:COL: TEXT`, with its newline. Line and column count from 1, the column in bytes. The fault's own offset is
-/// not looked at.
+/// The line `NAME:LINE:COL: TEXT`, with its newline. Line and column count from 1, the
+/// column in bytes. The fault's own offset is not looked at.
 pub fn message(
     alloc: Global,
     name: &[u8],

@@ -8,8 +8,8 @@ ghost use Rattle.shprint.specs.Written.{Deepens, Prints};
 use crate::layout::Layout;
 use std::alloc::{AllocError, Global};
 
-/// What is printed so far, what waits for the end of the line (the bodies of its here-documents), and the bytes with which a line
-/// begins.
+/// What is printed so far, what waits for the end of the line (the bodies of its
+/// here-documents), and the bytes with which a line begins.
 #[derive(Drop)]
 pub struct Page {
     pub margin: Vec<u8>,

@@ -46,8 +46,8 @@ impl<'a, S: Source> Printer<'a, S> {
         }
     }
 
-    /// Takes the first of these items as long as they stand, from an offset on, as they are printed: where the last of them ends, and
-    /// the others.
+    /// Takes the first of these items as long as they stand, from an offset on, as they are
+    /// printed: where the last of them ends, and the others.
     pub(crate) fn words_behind<'b>(&self, start: usize, items: &'b [Item]) -> (usize, &'b [Item])
         ensures onward { start ≤ result.0 }
         ensures words { (y : Layout) (margin : Text) (s : Sheet) →

@@ -25,10 +25,11 @@ pub fn one_outcome()
     ensures some_line { (e : Edition) (bytes : List ℕ) → (a : ALine) × IsLine e bytes a }
 {}
 
-/// What the row of a word reads, which is a word where neither a byte that ends words nor the `#` of a comment
-/// stands, is read by the same edition wherever its bytes stand, before a byte that ends words and is no `(`,
-/// and no other number of bytes is. Before a `(` it may not be: `a$` is a word, and in `a$(` a substitution begins. The word that is read
-/// there has the same shape: the same bytes, and substitutions of the same shapes.
+/// What the row of a word reads, which is a word where neither a byte that ends words nor the
+/// `#` of a comment stands, is read by the same edition wherever its bytes stand, before a byte
+/// that ends words and is no `(`, and no other number of bytes is. Before a `(` it may not be:
+/// `a$` is a word, and in `a$(` a substitution begins. The word that is read there has the same
+/// shape: the same bytes, and substitutions of the same shapes.
 pub fn word_anywhere()
     ensures read { (room p : ℕ) (g : Given) (w : AWord) (t : State) (told : Row Spelled) →
         may (a_word (level room)) g (standing p) (Ok (w, t)) told → ReadsWord room g p (t.at - p) }

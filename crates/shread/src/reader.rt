@@ -81,17 +81,19 @@ impl Reader {
         self.edition
     }
 
-    /// Reads the top-level line that begins at an offset, as if a script began there. The offset is at most the length.
+    /// Reads the top-level line that begins at an offset, as if a script began there.
+    /// The offset is at most the length.
     ///
-    /// A fault is part of the answer. Want of memory is the only error: the meter is then as before, and the reader can
-    /// be used again. At the length of the source no memory is wanted.
+    /// A fault is part of the answer. Want of memory is the only error: the meter is then as before, and the
+    /// reader can be used again. At the length of the source no memory is wanted.
     #[tactic(auto, using(shgrammar::proofs::Answered::line_answered))]
     pub fn read_line<S: Source>(&mut self, source: &S, at: usize) -> Result<Line, ReadError>
         requires { at ≤ length (S.bytes source.now) }
         // The answer is the line that the grammar has for the bytes from `at` on, and it has no other.
         ensures line { IfOk result (λ line. IsLine (edition_of self.old) (drop at (S.bytes source.now)) (view_line at line)) }
         ensures only { IfOk result (λ line. (a : ALine) → IsLine (edition_of self.old) (drop at (S.bytes source.now)) a → a ≡ view_line at line) }
-        // The same bytes have the same line wherever they stand, and a line that a newline ended looks no further.
+        // The same bytes have the same line wherever they stand, and a line that a
+        // newline ended looks no further.
         ensures same_bytes { IfOk result (λ line. SameBytes (edition_of self.old) (drop at (S.bytes source.now)) (view_line at line)) }
         ensures no_further { IfOk result (λ line. line.ended ≡ true →
             NoFurther (edition_of self.old) (drop at (S.bytes source.now)) (view_line at line)) }
@@ -116,8 +118,8 @@ impl Reader {
 
     /// Reads a whole script.
     ///
-    /// A fault is part of the answer. Want of memory is the only error: the meter is then as before, and the reader can
-    /// be used again. A script without a byte wants no memory.
+    /// A fault is part of the answer. Want of memory is the only error: the meter is then as before, and the
+    /// reader can be used again. A script without a byte wants no memory.
     #[tactic(auto, using(shgrammar::proofs::Answered::script_answered, shgrammar::proofs::Spelling::script_spelled))]
     pub fn read_script<S: Source>(&mut self, source: &S) -> Result<Script, ReadError>
         // The answer is what the grammar has for the bytes, and it has nothing else.
@@ -142,9 +144,9 @@ impl Reader {
 
     /// Finds the first fault of a whole script, a line at a time and without its tree.
     ///
-    /// So the memory that it takes does not grow with the script. Want of memory is the only error: the meter is then as
-    /// before, and the reader can be used again. A script without a byte wants no memory, nor does one without a
-    /// `<`.
+    /// So the memory that it takes does not grow with the script. Want of memory is the only
+    /// error: the meter is then as before, and the reader can be used again. A script
+    /// without a byte wants no memory, nor does one without a `<`.
     #[tactic(auto, using(shgrammar::proofs::Answered::fault_answered))]
     pub fn first_fault<S: Source>(&mut self, source: &S) -> Result<Option<Fault>, ReadError>
         // The answer is the first fault in what the grammar gives for the bytes, and it gives no other.

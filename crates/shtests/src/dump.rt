@@ -24,7 +24,8 @@
 //   $S-E(..)     directly behind a word: one of its substitutions, with the entries in it
 //   fault K at O a fault by its number, and its offset
 //
-// So is a line, which is `blank` or `end` where it has no entry; then follow `to N`, the offset behind it, and `, ended`.
+// So is a line, which is `blank` or `end` where it has no entry; then follow `to N`,
+// the offset behind it, and `, ended`.
 use shread::{Fault, Line, LineKind, Reader};
 use shtext::Source;
 use shtree::{
@@ -313,7 +314,8 @@ pub(crate) fn dump_script<S: Source>(
     Ok(read.fault)
 }
 
-/// The dump of a script. A check for faults has to find the same one, and each reading to raise the meter by the length.
+/// The dump of a script. A check for faults has to find the same one, and each reading
+/// to raise the meter by the length.
 pub(crate) fn dumped<S: Source>(
     alloc: Global,
     reader: &mut Reader,

@@ -1,5 +1,5 @@
-// The beginnings of one script, byte by byte: each has the fault that the grammar gives, is read as its lines are, and is checked
-// alike. The faults were told by a reading of the grammar written apart.
+// The beginnings of one script, byte by byte: each has the fault that the grammar gives, is read as its lines
+// are, and is checked alike. The faults were told by a reading of the grammar written apart.
 use crate::dump::Judge;
 use crate::reader_lines::judge_lines;
 use shread::Reader;
@@ -32,7 +32,8 @@ t\
 u
 "###;
 
-/// The faults of the beginnings, from that of no byte on: each is that of so many beginnings. `end` is an unexpected end.
+/// The faults of the beginnings, from that of no byte on: each is that of so many
+/// beginnings. `end` is an unexpected end.
 const FAULTS: &[u8] = br###"
 ("" * 24) ("end" * 7) ("fault 2 at 30" * 5) ("end" * 26) ("fault 2 at 61" * 5) ("end" * 21) ("fault 2 at 87" * 2)
 ("fault 4 at 88" * 5) ("fault 2 at 87" * 1) ("end" * 45) ("fault 1 at 140" * 4) ("end" * 9) ("fault 8 at 153" * 1) ("end" * 13)

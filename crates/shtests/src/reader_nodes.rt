@@ -1,5 +1,5 @@
-// What stands where in scripts that are read: the outline of a script, and the nodes at a byte of a line. The nodes are worked out by
-// hand. What both calls ask of a list is proved of those that the reader answers.
+// What stands where in scripts that are read: the outline of a script, and the nodes at a byte of a line. The
+// nodes are worked out by hand. What both calls ask of a list is proved of those that the reader answers.
 use crate::dump::Judge;
 use shread::{LineKind, Reader};
 use shtext::Flat;
@@ -30,7 +30,8 @@ const OUTLINES: &[u8] = br###"
 ("a&&b&&c", "0 7 AndOr, 0 1 Simple, 3 4 Simple, 6 7 Simple")
 "###;
 
-/// Scripts, each with the offset at which a line begins, and the nodes of that line at a byte, with the byte's offset in the script.
+/// Scripts, each with the offset at which a line begins, and the nodes of that line at
+/// a byte, with the byte's offset in the script.
 const AT: &[u8] = br###"
 ("if (a b);then c;fi", 0, "0 18 If, 3 8 Subshell, 4 7 Simple, 6 7 Word", 6)
 ("x\nif (a b);then c;fi\ny", 2, "2 20 If, 5 10 Subshell, 6 9 Simple, 8 9 Word", 8)

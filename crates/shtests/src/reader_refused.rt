@@ -101,7 +101,8 @@ fn read_line_at_the_length(rt: HostRuntime) -> Result<(), Fail> {
     Ok(())
 }
 
-/// Whether a script has no fault, is counted, and no growth was asked for: the refusal that was due is still due.
+/// Whether a script has no fault, is counted, and no growth was asked for: the refusal
+/// that was due is still due.
 fn grows_not(alloc: Global, script: &[u8]) -> Result<bool, Fail> {
     let mut growths = Growths::of(alloc);
     let mut reader = Reader::new(alloc);
@@ -201,7 +202,8 @@ fn add(
     }
 }
 
-/// Adds nodes with each growth refused in turn: after a refusal the vector is as it was, and at last it has so many nodes more.
+/// Adds nodes with each growth refused in turn: after a refusal the vector is as it
+/// was, and at last it has so many nodes more.
 fn adds(rt: &impl Abort, alloc: Global, list: &List, asked: Asked, count: usize) -> Result<(), Fail>
     requires { AreWithin usize.MAX (view_list list.now) }
 {

@@ -93,7 +93,8 @@ fn stretches(rt: HostRuntime) -> Result<(), Fail> {
     judge.verdict()
 }
 
-/// What stands before a run of bytes: a word, a word behind another, a string, a name in an expansion, blanks behind a word.
+/// What stands before a run of bytes: a word, a word behind another, a string, a name
+/// in an expansion, blanks behind a word.
 const BEFORE: [(&[u8], u8); 5] = [
     (b"", b'a'),
     (b"b c", b'='),
@@ -111,7 +112,8 @@ const ENDS: [&[u8]; 22] = [
 /// What stands behind that: more bytes than are looked at at once.
 const BEHIND: &[u8] = b" e\n# some more bytes than are looked at at once\nf \"$g\"\n";
 
-/// A script with a run of so many bytes is read in one piece as it is in short stretches, where each byte is looked at alone.
+/// A script with a run of so many bytes is read in one piece as it is in short
+/// stretches, where each byte is looked at alone.
 fn judge_run(
     judge: &mut Judge,
     alloc: Global,

@@ -1,6 +1,7 @@
-// Scripts whose trees and faults pin each rule of the grammar: where a rule is turned, a row fails. The answers are worked out by
-// hand from the grammar; none is what the reader told. Rows of one theme stand together, several on a line: `table.rt` of
-// `shtreetests` says how they are written, and `dump.rt` how the dumps are.
+// Scripts whose trees and faults pin each rule of the grammar: where a rule is turned, a
+// row fails. The answers are worked out by hand from the grammar; none is what the reader
+// told. Rows of one theme stand together, several on a line: `table.rt` of `shtreetests`
+// says how they are written, and `dump.rt` how the dumps are.
 use crate::dump::Judge;
 use shtext::Flat;
 use shtreetests::cell::{Cell, joined};
@@ -77,7 +78,8 @@ pub(crate) const ROWS: &[u8] = br###"
 ("a <<E;b\nc\nE\nd", "[0-1 <<2-4:4-5@8-10] [6-7] [12-13]") ("(a <<E)\nb\nE\n", "(0-7 [1-2 <<3-5:5-6@8-10])") ("(a) <<E\nb\nE\n", "(0-3 [1-2]) <<4-6:6-7@8-10") ("(a <<E\nb\nE\n)", "(0-12 [1-2 <<3-5:5-6@7-9])") ("f() { a;} <<E\nE\n", "f0-1{4-9 [6-7]} <<10-12:12-13@14-14")
 ("a <<E && b\nE\n", "[0-1 <<2-4:4-5@11-11]&&[9-10]") ("a <<E &&\nE\nb", "[0-1 <<2-4:4-5@9-9]&&^[11-12]") ("a <<E #c\nE\n", "[0-1 <<2-4:4-5@9-9]#6-8") ("a <<E\nE\n\nb", "[0-1 <<2-4:4-5@6-6] ~[9-10]") ("a <<E\n\n\nE\nb", "[0-1 <<2-4:4-5@6-8] [10-11]") ("a <<E\n(\nE\n", "a <<E\n'\nE\n", "[0-1 <<2-4:4-5@6-8]")
 ("if a <<E;then b;fi\nE\n", "<0-18 if [3-4 <<5-7:7-8@19-19] then [14-15]>") ("if a <<E\nE\nthen b;fi", "<0-20 if [3-4 <<5-7:7-8@9-9] then [16-17]>") ("for a in b;do <<E\nc\nE\ndone", "<0-26 for 4-5 in 9-10 do [<<14-16:16-17@18-20]>") ("case a in b) <<E;;\nE\nesac", "<0-25 case 5-6 (10-18 10-11 [<<13-15:15-16@19-19])>") ("case a in b) <<E\nE\n;;esac", "<0-25 case 5-6 (10-21 10-11 [<<13-15:15-16@17-17])>")
-// a line that ends before the delimiter, or goes on behind it, is none; a delimiter line may end the text, and no line begins there
+// a line that ends before the delimiter, or goes on behind it, is none; a delimiter
+// line may end the text, and no line begins there
 ("a <<E\nEX\nE\n", "a <<E\nXE\nE\n", "a <<E\n E\nE\n", "a <<E\nE \nE\n", "a <<E\n\tE\nE\n", "[0-1 <<2-4:4-5@6-9]") ("a <<EE\nE\nEE", "[0-1 <<2-4:4-6@7-9]") ("a <<''\n\n", "[0-1 <<2-4:4-6@'7-7]") ("a <<''\nb\n\nc", "[0-1 <<2-4:4-6@'7-9] [10-11]")
 ("a <<E", "a <<E\n", "a <<E\nEX", "a <<E\nEX\n", "a <<''\n", "a <<''\nb\n", "a <<E\ne\n", "fault 9 at 2") ("<<E\nb", "<<E", "fault 9 at 0") ("2<<E", "fault 9 at 1") ("a 2\\\n<<E", "fault 9 at 5")
 // several: in the order of their operators, at one newline
@@ -92,7 +94,8 @@ pub(crate) const ROWS: &[u8] = br###"
 ("<<a'b'c\nabc\n", "<<a\"b\"c\nabc\n", "[<<0-2:2-7@'8-8]") ("<<\"a\\\"b\"\na\"b\n", "[<<0-2:2-8@'9-9]") ("<<\"a\\b\"\na\\b\n", "<<'a\\b'\na\\b\n", "[<<0-2:2-7@'8-8]") ("<<a\\\\b\na\\b\n", "[<<0-2:2-6@'7-7]") ("<<\"a\\\nb\"\nab\n", "[<<0-2:2-8@'9-9]") ("<<'a\nb'\na\nb\na\nb\n", "fault 9 at 0") ("<<if\nif\n", "<<a=\na=\n", "[<<0-2:2-4@5-5]")
 ("<<$x\n$x\n", "<<$$\n$$\n", "<<a$\na$\n", "<<$1\n$1\n", "[<<0-2:2-4@5-5]") ("<<\"$x\"\n$x\n", "[<<0-2:2-6@'7-7]") ("<<\"'\"\n'\n", "[<<0-2:2-5@'6-6]") ("<<\"$$(a)\"\n$$(a)\n", "[<<0-2:2-9@'10-10]") ("<<'$(a)'\n$(a)\n", "[<<0-2:2-8@'9-9]") ("<<\\$\\(a\\)\n$(a)\n", "[<<0-2:2-9@'10-10]") ("<<'`'\n`\n", "[<<0-2:2-5@'6-6]") ("<<\"\\`\\$\"\n`$\n", "[<<0-2:2-8@'9-9]")
 ("<<$(a)\n", "<<${a}\n", "<<$((1))\n", "<<`a`\n", "<<\"$(a)\"\n", "<<\"`a`\"\n", "<<a$(b)\n", "<<$\\\n(a)\n", "<<\"$$$(a)\"\n", "<<''${a}\n", "fault 10 at 2") ("a << $(b)", "fault 10 at 5") ("<<$(a", "fault 7 at 2") ("<<\"${a", "fault 4 at 3") ("<<A <<${b}\n", "fault 10 at 6")
-// what comes first: a fault of a token, a newline before its bodies, the first document that waits before an open substitution
+// what comes first: a fault of a token, a newline before its bodies, the first
+// document that waits before an open substitution
 ("<<A <\nA\n", "fault 11 at 5") ("<<E >", "<<E >\\\n", "<<E |", "<<E &&", "fault 9 at 0") ("(<<E", "fault 9 at 1") ("{ <<E", "fault 9 at 2")
 ("<<", "fault 12 at 2") ("<<\n", "<<;", "<<|", "<<&", "<<(", "fault 11 at 2") ("<<#a\n", "fault 11 at 4") ("<<E )", "<<E ;;", "<<E (", "fault 11 at 4") ("<<E;;", "<<E)", "fault 11 at 3") ("<<A 'b", "fault 1 at 4") ("<<A $(b", "fault 7 at 4") ("<<A #b", "fault 9 at 0") ("<<A;}\nA\n", "fault 11 at 4") ("{ <<A\n;}\nA\n", "fault 12 at 11") ("<<A |\n", "fault 9 at 0") ("<<A |\nA\n|", "fault 11 at 8")
 // each substitution has documents of its own
@@ -242,7 +245,8 @@ pub(crate) const ROWS: &[u8] = br###"
 ("case a in b) ; ;", "case a in b) )", "case a in b) do", "case a in b) & ;;", "case a in b) }", "fault 11 at 13") ("case a in b);;;", "case a in b) c)", "fault 11 at 14")
 ("case a in b) (c) fi", "case a in b) c;; ;; esac", "fault 11 at 17") ("case a in b) c;; esac d", "case a in b) c;; esac ;;", "fault 11 at 22")
 ("case a in esac (", "case a in esac )", "fault 11 at 15") (";;", "fault 11 at 0") ("a;;", "fault 11 at 1") ("a; ;;", "fault 11 at 3") ("(a;;)", "fault 11 at 2")
-// comments of its head stand before its first item, those behind a `;;` before the next one; where none follows they are its tail
+// comments of its head stand before its first item, those behind a `;;` before the
+// next one; where none follows they are its tail
 ("case a #b\n# c \nin #d\n\n#e\nf) g;; esac", "<0-36 case 5-6 (25-31 #7-9 #10-13 #18-20 #22-24 25-26 [28-29])>") ("case a in #b\nesac", "<0-17 case 5-6 #10-12>")
 ("case a #b\nin #c\nesac", "<0-20 case 5-6 #7-9 #13-15>")
 ("case a in b) c;; #d\n\n#e\n(f) g;; #h\n#i\nesac #j", "<0-42 case 5-6 (10-16 10-11 [13-14]) (24-31 #17-19 #21-23 25-26 [28-29]) #32-34 #35-37>#43-45")
@@ -303,7 +307,8 @@ pub(crate) const ROWS: &[u8] = br###"
 // quoted or joined to other bytes they are words
 ("'if' a", "[0-4 5-6]") ("\\if a", "[0-3 4-5]") ("{a;}", "fault 11 at 3") ("{a", "[0-2]") ("if a;then b;fi;'fi'", "<0-14 if [3-4] then [10-11]> [15-19]") ("ifa", "fi.", "[0-3]")
 ("{ a;'}';}", "{0-9 [2-3] [4-7]}") ("while a;do b;\"done\";done", "<0-24 while [6-7] do [11-12] [13-19]>") ("(a)'", "fault 1 at 3")
-// each rule of lists and compound commands at each place where it holds: turned there alone, it shows here or above
+// each rule of lists and compound commands at each place where it holds: turned there
+// alone, it shows here or above
 ("{ a\n\n\n#\n}", "{0-9 [2-3] ~#6-7}") ("{ a;\nd;}", "{0-8 [2-3] [5-6]}") ("{(b\n\n);c\n}", "{0-10 (1-6 [2-3]) [7-8]}")
 ("{ #\n\n#\nd;}", "{0-10 #2-3 ~#5-6 [7-8]}") ("{(a)#\n}", "{0-7 (1-4 [2-3])#4-5}") ("((d);#\n)", "(0-8 (1-4 [2-3])#5-6)")
 ("((d)&)", "(0-6 (1-4 [2-3])&)") ("(b||a&)", "(0-7 [1-2]||[4-5]&)")
@@ -615,8 +620,8 @@ fn trees(rt: HostRuntime) -> Result<(), Fail> {
     judge.verdict()
 }
 
-/// Each byte in some places, which `?` marks between the bytes before and behind it: the dumps for some bytes each, and at last
-/// for all others.
+/// Each byte in some places, which `?` marks between the bytes before and behind it: the
+/// dumps for some bytes each, and at last for all others.
 const BYTES: &[u8] = br###"
 // between two letters
 ("a" ? "b", "\t ": "[0-1 2-3]", "\n;": "[0-1] [2-3]", "&": "[0-1]& [2-3]", "|": "[0-1]|[2-3]", "<": "[0-1 <1-2:2-3]", ">": "[0-1 >1-2:2-3]", ")": "fault 11 at 1",
@@ -786,8 +791,8 @@ fn repeated(rt: HostRuntime) -> Result<(), Fail> {
     judge.verdict()
 }
 
-/// Scripts whose parts stand many times, and their first faults: how many constructs may be open, compound commands and those of
-/// words together, and long lists.
+/// Scripts whose parts stand many times, and their first faults: how many constructs may be open,
+/// compound commands and those of words together, and long lists.
 const DEEP: &[u8] = br###"
 ("(" * 100, "a", ")" * 100, "") ("(" * 101, "a", ")" * 101, "fault 15 at 100") ("{ " * 100, "a", "; }" * 100, "") ("{ " * 101, "a", "; }" * 101, "fault 15 at 200")
 ("{ " * 100, "a", "\n}" * 100, "") ("{ " * 101, "fault 15 at 200") ("(" * 100, "fault 12 at 100") ("{ " * 100, "fault 12 at 200")

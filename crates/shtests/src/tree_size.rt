@@ -1,5 +1,6 @@
-// What a tree takes. `tests/bench` runs this test over a file that it names, and takes the time and the memory: of the file alone, of
-// the file and its tree, of these and the outline, and how many nodes the tree has. Where no file is named, a short script is read.
+// What a tree takes. `tests/bench` runs this test over a file that it names, and takes the time and the
+// memory: of the file alone, of the file and its tree, of these and the outline, and how many nodes the
+// tree has. Where no file is named, a short script is read.
 use crate::dump::dump_script;
 use shread::Reader;
 use shtext::Flat;
@@ -13,8 +14,8 @@ const SHORT: &[u8] = b"if a 'b'; then c=1 d; fi # e\n";
 
 const SHORT_NODES: usize = 8;
 
-/// How many nodes the tree of a script has, beside pipelines and and-or lists: its commands, words, assignments and comments. In a dump
-/// each has a span, but simple commands, which have a bracket.
+/// How many nodes the tree of a script has, beside pipelines and and-or lists: its commands, words,
+/// assignments and comments. In a dump each has a span, but simple commands, which have a bracket.
 fn count_nodes(rt: &HostRuntime, bytes: &[u8]) -> Result<usize, Fail> {
     let mut text = String::new(rt.alloc());
     dump_script(&mut text, &mut Reader::new(rt.alloc()), &Flat::new(bytes))?;

@@ -1,5 +1,5 @@
-//! The cells of a row of a table: a text, and how often it stands. What a row asks for is as good as the script that is made of its cells,
-//! so that is said by contract.
+//! The cells of a row of a table: a text, and how often it stands. What a row asks for is as good as the
+//! script that is made of its cells, so that is said by contract.
 ghost use Rattle.std.specs.Prelude.{◌≡◌, ◌++◌, IfOk, flat_map};
 ghost use Rattle.shtreetests.specs.Cells.{cell_text};
 

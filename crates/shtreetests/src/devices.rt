@@ -57,7 +57,8 @@ impl Read for Same {
 /// The most bytes of a page.
 pub const PAGE: usize = 512;
 
-/// A writer that takes so many bytes, at most `step` at a time, and fails where it is full, and at one of its flushes.
+/// A writer that takes so many bytes, at most `step` at a time, and fails where it is
+/// full, and at one of its flushes.
 #[derive(Drop)]
 pub struct Page {
     bytes: [u8; PAGE],

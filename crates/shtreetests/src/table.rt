@@ -1,7 +1,8 @@
 //! Tables of rows. A table is one text, which a check passes over: an array would take it minutes.
 //!
-//! A row stands in round brackets, as `("a\n" * 10, "[0-1]")`. Its cells are texts with escapes as in Rust; a number behind a text
-//! belongs to it. Between rows a comment begins with `//` and ends with its line. Other marks are for the eye alone.
+//! A row stands in round brackets, as `("a\n" * 10, "[0-1]")`. Its cells are texts with escapes
+//! as in Rust; a number behind a text belongs to it. Between rows a comment begins with `//` and
+//! ends with its line. Other marks are for the eye alone.
 use crate::cell::Cell;
 use std::alloc::Global;
 use std::test::Fail;

@@ -1,4 +1,5 @@
-// What no clause says: that calls succeed where nothing fails, that a failure of a device is told, and the numbers of the errors.
+// What no clause says: that calls succeed where nothing fails, that a failure of a
+// device is told, and the numbers of the errors.
 use crate::devices::{PAGE, Page, Tape};
 use shtext::{Buffer, Failed, Flat, Input, Output, Source, TextError, line_col_of};
 use std::alloc::{AllocError, Global};
@@ -188,7 +189,8 @@ fn fits(
     Ok(Buffer::from_slice(alloc, other)?.fits(&change))
 }
 
-/// A change fits where its places are there, with the bytes between them that it was prepared for, and there is room.
+/// A change fits where its places are there, with the bytes between them that it was
+/// prepared for, and there is room.
 #[test]
 fn fitting(rt: HostRuntime) -> Result<(), Fail> {
     for (old, places, new, other, is_fit) in [
