@@ -172,8 +172,8 @@ impl Run {
     }
 }
 
-/// Refuses each growth of a run in turn, until it needs no more: up to then nothing is written. In the end it has
-/// this status and has written this text. What a run can do without may be refused all the same.
+/// Refuses each growth of a run in turn, until it needs no more: up to then nothing is written. In the end it
+/// has this status and has written this text. What a run can do without may be refused all the same.
 fn refused_in_turn(
     rt: &impl Abort,
     alloc: Global,

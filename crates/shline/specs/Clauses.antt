@@ -85,10 +85,11 @@ abbrev pub BodyRead : Limits → Result (Unit {0}) Stop → Result (Row Span × 
 BodyRead bound (Ok x) all rest = all ≡ rest
 BodyRead bound (Err e) all rest = BodiesFail bound e all
 
--- without a tree, lines that hold no comment hold none behind what goes into them
+-- without a tree, lines that held no comment hold none after more was read into them
 abbrev pub GrowsNone : ℕ → AJoin → AJoin → Type 0
 GrowsNone k old new = (k == 1) ≡ false → old.comments ≡ [] → new.comments ≡ []
 
+-- a command that asks for a box; without a tree none is made
 abbrev pub is_compound : ACommand → Bool
 is_compound (compound c) = true
 is_compound _ = false

@@ -8,14 +8,14 @@ pub record Limits : Type 0 where
   pub furthest : ℕ
   pub memory : Bool
 
--- A reading of this KEEP wants memory for a tree. Without one it wants some for here-documents alone, whose
--- operators begin with `<`.
+-- A reading whose KEEP is 1 may want memory for a tree. One of another KEEP may want some where a `<` stands:
+-- the operators of here-documents begin with it.
 abbrev pub wants_memory : ℕ → List ℕ → Bool
 wants_memory k text = k == 1 || list_any (λ b. b == 60) text
 
 abbrev pub limits : ℕ → ℕ → List ℕ → Limits
 limits k origin text = record { furthest = origin + length text; memory = wants_memory k text }
 
--- a here-document that waits stands within the text, and wants memory
+-- a here-document that waits stands within the text, and memory may be wanted
 abbrev pub Waits : Limits → the_waiting.Waiting → Type 0
 Waits bound w = (w.operator ≤ bound.furthest) × (bound.memory ≡ true)

@@ -60,7 +60,7 @@ pub fn faultless_front<S: Source>(
     ensures newline { IfOk result (λ n. 0 < n → slice_get (S.bytes source.now) (n - 1) ≡ Some 10) }
     // They are all: no such line follows.
     ensures all { IfOk result (StopsAt edition (S.bytes source.now)) }
-    // Memory is wanted for here-documents alone.
+    // Where no `<` stands, it succeeds, whatever memory is left.
     ensures memory { IfErr result (λ e. wants_memory SEEN (S.bytes source.now) ≡ true) }
 {
     let mut at = 0;

@@ -157,7 +157,7 @@ impl Reader {
         ensures meter { IfOk result (λ fault. meter_of self.new ≡ raised (meter_of self.old) (length (S.bytes source.now))) }
         ensures err { IfErr result (λ e. meter_of self.new ≡ meter_of self.old) }
         ensures empty { length (S.bytes source.now) ≡ 0 → IsOk result }
-        // Memory is wanted for here-documents alone.
+        // Where no `<` stands, it succeeds, whatever memory is left.
         ensures memory { IfErr result (λ e. wants_memory SEEN (S.bytes source.now) ≡ true) }
     {
         let fault = first_fault_of(self.alloc, self.edition, source)?;

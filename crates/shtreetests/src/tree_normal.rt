@@ -475,7 +475,7 @@ fn function(alloc: Global) -> Result<Command, AllocError> {
     Ok(Command::Function(Box::new(alloc, function)?))
 }
 
-/// A case of an item that falls through, with a comment and no pattern.
+/// A `case` of an item that falls through, with a comment and no pattern.
 fn case_without_pattern(alloc: Global) -> Result<Command, AllocError> {
     let script = script(alloc);
     let item = CaseItem {
@@ -488,7 +488,7 @@ fn case_without_pattern(alloc: Global) -> Result<Command, AllocError> {
     script.compound(case_form(alloc, script.word(""), script.cases(item)?), "")
 }
 
-/// A for with no word behind its `in`.
+/// A `for` with no word behind its `in`.
 fn for_without_word(alloc: Global) -> Result<Command, AllocError> {
     let script = script(alloc);
     let form = Form::For {
