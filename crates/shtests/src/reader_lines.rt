@@ -77,7 +77,7 @@ fn lines(rt: HostRuntime) -> Result<(), Fail> {
 const FRONTS: &[u8] = br###"
 ("", 0) ("a", 0) ("a\n", 2) ("\n\n", 2) ("a\nb", 2) ("a\nb\\", 2) ("a\\\n", 0) ("a\\\n\n", 4) ("a\n#b\n c\n'", 8) ("a\n'\n'\nb", 6)
 ("a\n;\nb\n", 2) ("a\n{\nb\n", 2) ("a\n{\nb\n}\n", 8) ("a &&\n", 0) ("a &&\nb\n", 7)
-("cat <<E\nx\nE\n", 12) ("cat <<E\nx\nE", 0) ("cat <<E\r\nx\nE\r", 0) ("a\ncat <<E\nx\nF\n", 2)
+("cat <<E\nx\nE\n", 12) ("cat <<E\nx\nE", 0) ("cat <<E\r\nx\nE\r", 0) ("cat <<'\\'\nx\n\\", 0) ("a\ncat <<E\nx\nF\n", 2)
 "###;
 
 #[test]
