@@ -2,7 +2,8 @@
 use shpieces::{PrintError, Printing, print_source};
 use shprint::{Layout, LayoutError, message, print};
 use shread::{Edition, Fault, FaultKind, Reader};
-use shtext::Flat;
+use shtext::{Flat, Source};
+use shtreetests::in_pieces::InPieces;
 use shtreetests::table::rows;
 use std::alloc::Global;
 use std::process::Abort;
@@ -72,24 +73,55 @@ fn printed_in_parts(
     Ok(printing.print_rest(&Flat::new(script.get(count..).unwrap_or(b"")))?)
 }
 
-/// The printed text of a script by an edition. Line by line, and in parts, it has the same text.
+/// The printed text of a script that a source tells. Line by line it has the same text.
+fn printed_from<S: Source>(
+    alloc: Global,
+    edition: Edition,
+    layout: &Layout,
+    source: &S,
+) -> Result<Vec<u8>, Fail> {
+    let read = Reader::for_edition(alloc, edition).read_script(source)?;
+    if read.fault.is_some() {
+        return Err(Fail::from("a fault"));
+    }
+    let text = print(alloc, layout, &read, source)?;
+    if print_source(alloc, edition, layout, source)? != text {
+        return Err(Fail::from("another text line by line"));
+    }
+    Ok(text)
+}
+
+/// The printed text of a script in pieces of so many bytes and one, cut anywhere, is the wanted one.
+fn judge_pieces(
+    alloc: Global,
+    edition: Edition,
+    layout: &Layout,
+    script: &[u8],
+    more: u16,
+    wanted: &[u8],
+) -> Result<(), Fail> {
+    for first in 0..=more as usize {
+        let pieces = InPieces::cut(script, first, more);
+        if printed_from(alloc, edition, layout, &pieces)?.as_slice() != wanted {
+            return Err(Fail::from("another text in pieces"));
+        }
+    }
+    Ok(())
+}
+
+/// The printed text of a script by an edition. In parts it has the same text, and in pieces.
 fn printed(
     alloc: Global,
     edition: Edition,
     layout: &Layout,
     script: &[u8],
 ) -> Result<Vec<u8>, Fail> {
-    let source = Flat::new(script);
-    let read = Reader::for_edition(alloc, edition).read_script(&source)?;
-    if read.fault.is_some() {
-        return Err(Fail::from("a fault"));
-    }
-    let text = print(alloc, layout, &read, &source)?;
-    if print_source(alloc, edition, layout, &source)? != text {
-        return Err(Fail::from("another text line by line"));
-    }
+    let text = printed_from(alloc, edition, layout, &Flat::new(script))?;
     if printed_in_parts(alloc, edition, layout, script)? != text {
         return Err(Fail::from("another text in parts"));
+    }
+    for more in 0..9 {
+        judge_pieces(alloc, edition, layout, script, more, &text)?;
     }
     Ok(text)
 }

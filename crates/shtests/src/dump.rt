@@ -27,11 +27,12 @@
 // So is a line, which is `blank` or `end` where it has no entry; then follow `to N`,
 // the offset behind it, and `, ended`.
 use shread::{Fault, Line, LineKind, Reader};
-use shtext::Source;
+use shtext::{Flat, Source};
 use shtree::{
     AndOr, AndOrOperator, Branch, CaseItem, Command, Comment, Compound, Content, Entry, Form, Item,
     ItemContent, Join, List, Pipeline, RedirectOperator, Span, Word,
 };
+use shtreetests::in_pieces::InPieces;
 use std::alloc::Global;
 use std::test::Fail;
 
@@ -386,6 +387,36 @@ impl Judge {
     ) -> Result<(), Fail> {
         let dump = dumped(self.alloc, &mut self.reader, source)?;
         self.text(script, dump.as_str(), wanted)
+    }
+
+    /// Compares the dump of a script in pieces of so many bytes and one, cut anywhere, and from each byte on.
+    fn cuts(&mut self, script: &[u8], wanted: &[u8], more: u16) -> Result<(), Fail> {
+        self.source(&InPieces::from_each(script, more), script, wanted)?;
+        for first in 0..=more as usize {
+            self.source(&InPieces::cut(script, first, more), script, wanted)?;
+        }
+        Ok(())
+    }
+
+    /// Compares the dump of a script in one piece, and in pieces of each size up to the greatest.
+    pub(crate) fn script(
+        &mut self,
+        script: &[u8],
+        wanted: &[u8],
+        greatest: u16,
+    ) -> Result<(), Fail> {
+        self.source(&Flat::new(script), script, wanted)?;
+        for more in 0..greatest {
+            self.cuts(script, wanted, more)?;
+        }
+        Ok(())
+    }
+
+    /// Compares the dump of a long script in one piece, and in pieces of a hundred bytes and of 4,096.
+    pub(crate) fn long_script(&mut self, script: &[u8], wanted: &[u8]) -> Result<(), Fail> {
+        self.source(&Flat::new(script), script, wanted)?;
+        self.source(&InPieces::cut(script, 1, 99), script, wanted)?;
+        self.source(&InPieces::cut(script, 1, 4095), script, wanted)
     }
 
     /// Compares the fault of a script, which a reading with its tree has to find too.

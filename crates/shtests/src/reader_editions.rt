@@ -98,9 +98,8 @@ fn judge_row(old: &mut Judge, new: &mut Judge, row: &[Cell]) -> Result<(), Fail>
     let [script, by_2017, by_2024] = row else {
         return Err(Fail::from("no row"));
     };
-    let source = Flat::new(&script.bytes);
-    old.source(&source, &script.bytes, &by_2017.bytes)?;
-    new.source(&source, &script.bytes, &by_2024.bytes)
+    old.script(&script.bytes, &by_2017.bytes, 9)?;
+    new.script(&script.bytes, &by_2024.bytes, 9)
 }
 
 #[test]

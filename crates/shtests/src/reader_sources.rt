@@ -1,9 +1,9 @@
-// Sources told in stretches, and numbers: what no table of scripts holds.
+// Sources told in pieces, and numbers: what no table of scripts holds.
 use crate::dump::{Judge, dumped};
 use crate::reader_trees::ROWS;
-use shread::{FaultKind, ReadError, Reader};
-use shtext::{Flat, Source};
-use shtreetests::cell::Cell;
+use shread::{Edition, FaultKind, ReadError, Reader};
+use shtext::Flat;
+use shtreetests::in_pieces::InPieces;
 use shtreetests::table::{rows, split};
 use std::alloc::Global;
 use std::test::Fail;
@@ -35,62 +35,137 @@ fn numbers(rt: HostRuntime) {
     assert!(rt; ReadError::Memory as u8 == 3);
 }
 
-/// A text told in short stretches, as one whose bytes lie in many pieces.
-#[derive(Clone, Copy)]
-struct InStretches<'a> {
-    bytes: &'a [u8],
-    /// How many bytes a stretch has at most, beside its first.
-    more: u8,
-}
-
-impl<'a> Source for InStretches<'a> {
-    ghost bytes = { λ text. text.bytes.now };
-
-    fn len(&self) -> usize {
-        self.bytes.len()
-    }
-
-    fn byte(&self, at: usize) -> Option<u8> {
-        self.bytes.get(at).copied()
-    }
-
-    fn run(&self, at: usize) -> &[u8] {
-        if self.bytes.len() <= at {
-            return &[];
-        }
-        let rest = &self.bytes[at..];
-        let most = 1 + self.more as usize;
-        if rest.len() <= most {
-            rest
-        } else {
-            &rest[..most]
+/// The scripts of the table that have no fault and do not join a line behind them, a line each or more.
+fn all_lines(alloc: Global) -> Result<Vec<u8>, Fail> {
+    let mut text = Vec::new(alloc);
+    for row in &rows(alloc, ROWS)? {
+        for script in split(row)?.0 {
+            let is_joined = script.bytes.last() == Some(&b'\\');
+            let fault = Reader::new(alloc).first_fault(&Flat::new(&script.bytes))?;
+            if fault.is_none() && !is_joined {
+                text.extend_from_slice(&script.bytes)?;
+                text.push(b'\n')?;
+            }
         }
     }
+    Ok(text)
 }
 
-fn judge_stretches(judge: &mut Judge, bytes: &[u8], wanted: &[u8]) -> Result<(), Fail> {
-    for more in 0..3u8 {
-        judge.source(&InStretches { bytes, more }, bytes, wanted)?;
-    }
-    Ok(())
-}
-
-fn judge_row(judge: &mut Judge, row: &[Cell]) -> Result<(), Fail> {
-    let (scripts, wanted) = split(row)?;
-    for script in scripts {
-        judge_stretches(judge, &script.bytes, &wanted.bytes)?;
-    }
-    Ok(())
-}
-
-/// In stretches of one, two and three bytes each script is read as where its bytes lie in one piece.
-#[test]
-fn stretches(rt: HostRuntime) -> Result<(), Fail> {
-    let mut judge = Judge::new(rt.alloc());
-    for row in &rows(rt.alloc(), ROWS)? {
-        judge_row(&mut judge, row)?;
+/// A text between these, in pieces of some sizes, each behind first pieces of some.
+fn judge_long(alloc: Global, before: &[u8], text: &[u8], behind: &[u8]) -> Result<(), Fail> {
+    let mut script = Vec::from_slice(alloc, before)?;
+    script.extend_from_slice(text)?;
+    script.extend_from_slice(behind)?;
+    let wanted = dumped(alloc, &mut Reader::new(alloc), &Flat::new(&script))?;
+    let mut judge = Judge::new(alloc);
+    for first in [0, 1, 2, 61, 1000, 4095] {
+        for more in [4095, 999, 99, 4] {
+            judge.source(
+                &InPieces::cut(&script, first, more),
+                &script,
+                wanted.as_bytes(),
+            )?;
+        }
     }
     judge.verdict()
+}
+
+/// All lines one behind the other, in one function, in a substitution, before a fault, and as one body.
+#[test]
+fn long_pieces(rt: HostRuntime) -> Result<(), Fail> {
+    let text = all_lines(rt.alloc())?;
+    assert!(rt; text.len() > 2 * 4096);
+    assert!(rt;
+        Reader::new(rt.alloc())
+            .first_fault(&Flat::new(&text))?
+            .is_none()
+    );
+    judge_long(rt.alloc(), b"", &text, b"")?;
+    judge_long(rt.alloc(), b"f() {\n", &text, b"}\n")?;
+    judge_long(rt.alloc(), b"a $(\n", &text, b")\n")?;
+    judge_long(rt.alloc(), b"{\n", &text, b";;\n}\n")?;
+    judge_long(rt.alloc(), b"a <<\"End of all\"\n", &text, b"End of all\n")
+}
+
+/// What a random script is made of.
+const PARTS: [&[u8]; 48] = [
+    b"a",
+    b"b=c",
+    b"if",
+    b"then",
+    b"fi",
+    b"for",
+    b"in",
+    b"do",
+    b"done",
+    b"case",
+    b"esac",
+    b"{",
+    b"}",
+    b"(",
+    b")",
+    b" ",
+    b" ",
+    b" ",
+    b"\t",
+    b"\n",
+    b"\n",
+    b"\n",
+    b";",
+    b";;",
+    b"&",
+    b"&&",
+    b"|",
+    b"\\\n",
+    b"\\",
+    b"\"",
+    b"'",
+    b"`",
+    b"$",
+    b"$'",
+    b"$(",
+    b"$((",
+    b"))",
+    b"${d}",
+    b"2>e",
+    b">",
+    b"<<E\n",
+    b"<<-'E'\n",
+    b"\nE\n",
+    b"\n\tE\n",
+    b"# f",
+    b"f()",
+    b"e f\n",
+    b"g; ",
+];
+
+/// A script of so many random parts. The seed moves on.
+fn random_script(alloc: Global, seed: &mut u32, parts: usize) -> Result<Vec<u8>, Fail> {
+    let mut text = Vec::new(alloc);
+    for _ in 0..parts {
+        *seed = seed.wrapping_mul(1_664_525).wrapping_add(1_013_904_223);
+        text.extend_from_slice(PARTS[(*seed >> 16) as usize % PARTS.len()])?;
+    }
+    Ok(text)
+}
+
+/// Random scripts are read in pieces as in one.
+fn judge_random(alloc: Global, edition: Edition) -> Result<(), Fail> {
+    let mut seed = 45;
+    let mut judge = Judge::of(alloc, Reader::for_edition(alloc, edition));
+    for turn in 0..600 {
+        let text = random_script(alloc, &mut seed, turn % 20)?;
+        let mut reader = Reader::for_edition(alloc, edition);
+        let wanted = dumped(alloc, &mut reader, &Flat::new(&text))?;
+        judge.script(&text, wanted.as_bytes(), 9)?;
+    }
+    judge.verdict()
+}
+
+#[test]
+fn random_pieces(rt: HostRuntime) -> Result<(), Fail> {
+    judge_random(rt.alloc(), Edition::Y2017)?;
+    judge_random(rt.alloc(), Edition::Y2024)
 }
 
 /// What stands before a run of bytes: a word, a word behind another, a string, a name
@@ -112,8 +187,7 @@ const ENDS: [&[u8]; 22] = [
 /// What stands behind that: more bytes than are looked at at once.
 const BEHIND: &[u8] = b" e\n# some more bytes than are looked at at once\nf \"$g\"\n";
 
-/// A script with a run of so many bytes is read in one piece as it is in short
-/// stretches, where each byte is looked at alone.
+/// A script with a run of so many bytes is read in one piece as it is in pieces of one byte.
 fn judge_run(
     judge: &mut Judge,
     alloc: Global,
@@ -127,11 +201,8 @@ fn judge_run(
     }
     text.extend_from_slice(end)?;
     text.extend_from_slice(BEHIND)?;
-    let stretches = InStretches {
-        bytes: &text,
-        more: 2,
-    };
-    let wanted = dumped(alloc, &mut Reader::new(alloc), &stretches)?;
+    let pieces = InPieces::cut(&text, 0, 0);
+    let wanted = dumped(alloc, &mut Reader::new(alloc), &pieces)?;
     judge.source(&Flat::new(&text), &text, wanted.as_bytes())
 }
 

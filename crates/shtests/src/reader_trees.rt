@@ -5,6 +5,7 @@
 use crate::dump::Judge;
 use shtext::Flat;
 use shtreetests::cell::{Cell, joined};
+use shtreetests::in_pieces::InPieces;
 use shtreetests::table::{rows, split};
 use std::alloc::Global;
 use std::test::Fail;
@@ -552,7 +553,7 @@ pub(crate) const ROWS: &[u8] = br###"
 ("x \"${x-${y-'\"}\"}}\"", "x \"${x-$((1'\"}))}\"", "[0-1 2-18]") ("x $((${x#'))'}))", "x $((1+(2*(3))))", "[0-1 2-16]")
 ("x ${}", "[0-1 2-5]") ("x ${-}${?}${!}${@}${*}${#}${$}${10}${a_1}", "[0-1 2-41]") ("x \"${1\\\n0\\\n%%'}\"'}\"", "[0-1 2-19]")
 ("x $(('+\"+${x-'}\"}\"}+`)`))", "[0-1 2-25]")
-// long words, quotes and comments: one search goes through many short stretches
+// long words, quotes and comments: one search goes through many short pieces
 ("a_long_plain_word another-long-plain-word; third_long_word\n", "[0-17 18-41] [43-58]")
 ("a_long_name=1 other_na\\\nme=2\\\n3456789012345 command\n", "[=0-13 =14-43 44-51]")
 ("'a text of many bytes;'\" another one $x ${y} \\\" $((1 + 2))\"\n", "[0-59]")
@@ -606,7 +607,7 @@ pub(crate) const ROWS: &[u8] = br###"
 fn judge_row(judge: &mut Judge, row: &[Cell]) -> Result<(), Fail> {
     let (scripts, wanted) = split(row)?;
     for script in scripts {
-        judge.source(&Flat::new(&script.bytes), &script.bytes, &wanted.bytes)?;
+        judge.script(&script.bytes, &wanted.bytes, 9)?;
     }
     Ok(())
 }
@@ -725,7 +726,7 @@ fn judge_byte(judge: &mut Judge, alloc: Global, row: &[Cell], byte: u8) -> Resul
     script.push(byte)?;
     script.extend_from_slice(&behind.bytes)?;
     let wanted = wanted_for(pairs, byte).ok_or("no dump")?;
-    judge.source(&Flat::new(&script), &script, &wanted.bytes)
+    judge.script(&script, &wanted.bytes, 3)
 }
 
 #[test]
@@ -779,7 +780,7 @@ const REPEATED: &[u8] = br###"
 fn judge_parts(judge: &mut Judge, alloc: Global, row: &[Cell]) -> Result<(), Fail> {
     let (parts, wanted) = split(row)?;
     let script = joined(alloc, parts)?;
-    judge.source(&Flat::new(&script), &script, &wanted.bytes)
+    judge.long_script(&script, &wanted.bytes)
 }
 
 #[test]
@@ -842,7 +843,8 @@ const DEEP: &[u8] = br###"
 fn judge_fault(judge: &mut Judge, alloc: Global, row: &[Cell]) -> Result<(), Fail> {
     let (parts, wanted) = split(row)?;
     let script = joined(alloc, parts)?;
-    judge.fault(&Flat::new(&script), &script, &wanted.bytes)
+    judge.fault(&Flat::new(&script), &script, &wanted.bytes)?;
+    judge.fault(&InPieces::cut(&script, 1, 99), &script, &wanted.bytes)
 }
 
 #[test]

@@ -6,13 +6,14 @@
 //! `tree_documents`, `tree_moved` and `tree_normal` are those of `shtree`, and `tree_spare` is that of
 //! the room that `shast` keeps; `text_refused` refuses each growth of memory in turn. The others help,
 //! here and in the other crates of tests: [`devices`] has readers and writers that fail, [`growths`] asks
-//! for refusals, [`table`] reads tables of rows, whose cells [`cell`] joins, [`shown`](shown::shown)
-//! writes a tree as text; `tree_built` builds trees by hand.
+//! for refusals, [`in_pieces`] cuts a text, [`table`] reads tables of rows, whose cells [`cell`] joins,
+//! [`shown`](shown::shown) writes a tree as text; `tree_built` builds trees by hand.
 #![tactic(auto)]
 
 pub mod cell;
 pub mod devices;
 pub mod growths;
+pub mod in_pieces;
 pub mod shown;
 pub mod table;
 #[cfg(test)]
