@@ -1,11 +1,13 @@
-// What a tree takes. `tests/bench` runs this test over a file that it names, and takes the time and the
-// memory: of the file alone, of the file and its tree, of these and the outline, and how many nodes the
-// tree has. Where no file is named, a short script is read.
+// What a tree takes, and what looking for a fault does in one piece and in pieces. `tests/bench` runs this
+// test over a file that it names, and takes the time and the memory: of the file alone, of the file and its
+// tree, of these and the outline, of the search for a fault, and how many nodes the tree has. Where no file
+// is named, a short script is read.
 use crate::dump::dump_script;
 use shread::Reader;
-use shtext::Flat;
+use shtext::{Flat, Source};
 use shtree::laws::greater_limit;
 use shtree::outline_of;
+use shtreetests::in_pieces::InPieces;
 use std::test::Fail;
 use std::{env, fs};
 
@@ -42,9 +44,20 @@ fn read(rt: &HostRuntime, bytes: &[u8], outlined: bool) -> Result<usize, Fail> {
     Ok(lines.len())
 }
 
+/// Whether a script has no fault.
+fn is_faultless<S: Source>(rt: &HostRuntime, source: &S) -> Result<bool, Fail> {
+    Ok(Reader::new(rt.alloc()).first_fault(source)?.is_none())
+}
+
+/// A text in pieces of 4,096 bytes, the size of a page.
+fn in_pages(bytes: &[u8]) -> InPieces<'_> {
+    InPieces::cut(bytes, 0, 4095)
+}
+
 #[test]
 fn tree_size(rt: HostRuntime) -> Result<(), Fail> {
     assert!(rt; count_nodes(&rt, SHORT)? == SHORT_NODES && read(&rt, SHORT, true)? == 3);
+    assert!(rt; is_faultless(&rt, &in_pages(SHORT))? && !is_faultless(&rt, &in_pages(b";"))?);
     let Ok(name) = env::var(&rt, "SHREAD_FILE") else {
         return Ok(());
     };
@@ -52,8 +65,11 @@ fn tree_size(rt: HostRuntime) -> Result<(), Fail> {
     match env::var(&rt, "SHREAD_DOES") {
         Ok(what) if what.as_str() == "read" => assert!(rt; read(&rt, &bytes, false)? == 0),
         Ok(what) if what.as_str() == "outline" => assert!(rt; read(&rt, &bytes, true)? > 0),
+        Ok(what) if what.as_str() == "check" => assert!(rt; is_faultless(&rt, &Flat::new(&bytes))?),
+        Ok(what) if what.as_str() == "pages" => assert!(rt; is_faultless(&rt, &in_pages(&bytes))?),
         Ok(what) if what.as_str() == "count" => println!(rt; "{}", count_nodes(&rt, &bytes)?)?,
-        _ => {}
+        Ok(what) if what.as_str() == "bytes" => {}
+        _ => return Err(Fail::from("nothing is asked for")),
     }
     Ok(())
 }
