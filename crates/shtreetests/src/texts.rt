@@ -1,6 +1,7 @@
 // What no clause says: that calls succeed where nothing fails, that a failure of a
 // device is told, and the numbers of the errors.
 use crate::devices::{PAGE, Page, Tape};
+use crate::in_pieces::InPieces;
 use shtext::{Buffer, Failed, Flat, Input, Output, Source, TextError, line_col_of};
 use std::alloc::{AllocError, Global};
 use std::io::{Read, Write};
@@ -28,6 +29,28 @@ fn runs(rt: HostRuntime) {
     assert!(rt; text.run(4).is_empty());
     assert!(rt; text.run(usize::MAX).is_empty());
     assert!(rt; tells(&text, b"ab\nc") && !tells(&text, b"ab\nd") && !tells(&text, b"ab\ncd"));
+}
+
+/// A text in pieces is cut where it is told to be.
+#[test]
+fn pieces(rt: HostRuntime) {
+    let bytes = b"abcdefg";
+    let cut = InPieces::cut(bytes, 2, 2);
+    for (at, run) in [
+        (0, b"ab".as_slice()),
+        (1, b"b"),
+        (2, b"cde"),
+        (4, b"e"),
+        (5, b"fg"),
+        (7, b""),
+    ] {
+        assert!(rt; cut.run(at) == run);
+    }
+    let each = InPieces::from_each(bytes, 2);
+    for (at, run) in [(0, b"abc".as_slice()), (1, b"bcd"), (6, b"g"), (7, b"")] {
+        assert!(rt; each.run(at) == run);
+    }
+    assert!(rt; tells(&cut, bytes) && tells(&each, bytes));
 }
 
 /// A newline alone ends a line: in the text of all bytes the eleventh.
