@@ -1,5 +1,8 @@
 -- What a token says of the bytes from its first one on.
 use Rattle.std.proofs.Common.{◌≡◌, ℕ, ◌<◌, ◌==◌, Bool, true, false, List, length, Option, Some, None, slice_get, refl, sym, ap, ◌∙◌}
+use mathlib.Core.Bool.{Bool-set}
+use native.Mathlib.Bridge.{le_prop}
+use native.Mathlib.Nat.{ℕ_set}
 use Rattle.std.proofs.lemmas.Bool.{eqb-true, or_from, cond_both}
 use Rattle.std.proofs.lemmas.Option.{slice_get_within}
 use Rattle.shgrammar.specs.declared.token.Position.{Position}
@@ -205,6 +208,10 @@ shows_in edition tokens.Word T p so = so
 
 pub shown_in : (edition : Edition) (position : Position) (T : List ℕ) (p : ℕ) → Shows (token_in edition (token_at position T (past_blanks T p))) T (past_blanks T p)
 shown_in edition position T p = shows_in edition (token_at position T (past_blanks T p)) T (past_blanks T p) (shown position T p)
+
+-- what a token says of them is a fact: it has one value at most
+pub shows_prop : (token : Token) (T : List ℕ) (p : ℕ) → IsProp (Shows token T p)
+shows_prop token T p = hlevel (le_prop, ℕ_set, Bool-set)
 
 -- a token falls through in a later edition alone
 falls_by : (later : Bool) → falls_through (cond later tokens.SemicolonAmpersand tokens.Semicolon) ≡ true → later ≡ true
