@@ -7,3 +7,5 @@ pub mod Passed
 pub mod EmptyLine
 pub mod TwoBytes
 pub mod Wanted
+pub mod NoToken
+pub mod LineEnds

@@ -11,7 +11,9 @@ use Rattle.shast.specs.Tree.{ACommand, Items, compound, function, simple, with_r
 use Rattle.shast.specs.View.{view_comment}
 use Rattle.shgrammar.specs.declared.token.Token.{Token}
 use Rattle.shgrammar.specs.Commands.{redirect_operator_of, takes_here}
-use Rattle.shgrammar.specs.Shows.{Shows}
+use Rattle.shgrammar.specs.declared.token.Token.TheVariants as tokens
+use Rattle.shgrammar.specs.Shows.{IsRead, Shows}
+use Rattle.shgrammar.specs.Tokens.{is_end}
 use Rattle.shgrammar.specs.Standing.{is_byte, raw_stands}
 use Rattle.shline.specs.Clauses.{is_compound}
 use Rattle.shline.specs.declared.documents.Waiting as the_waiting
@@ -25,6 +27,14 @@ byte_some T p (Some c) is e = list_any_at (λ b. b == 60) T p 0 (slice_get_withi
 pub here_wants : (k : ℕ) (T : List ℕ) (token : Token) (p : ℕ) (o : RedirectOperator) → Shows token T p → redirect_operator_of token ≡ Some o → takes_here o ≡ true → wants_memory k T ≡ true
 unfolding raw_stands
 here_wants k T token p o shows is takes = or_right _ _ (byte_some T p _ refl (shows.11 o is takes))
+
+is_operator : (token : Token) (o : RedirectOperator) → redirect_operator_of token ≡ Some o → is_end token ≡ false
+is_operator (tokens.Redirect p) o is = refl
+is_operator _ o is = absurd cc
+
+-- the operator of a redirection is a byte at least
+pub operator_read : (T : List ℕ) (token : Token) (p : ℕ) (o : RedirectOperator) → Shows token T p → redirect_operator_of token ≡ Some o → IsRead T p
+operator_read T token p o shows is = shows.1 (is_operator token o is)
 
 -- one that waits has taken some
 pub waits_memory : (k origin : ℕ) (T : List ℕ) (ws : List the_waiting.Waiting) (i : ℕ) → All (Waits (limits k origin T)) ws → i < length ws → wants_memory k T ≡ true

@@ -1,5 +1,5 @@
 -- Words for the clauses of the code: what a function of the reader answers, and what it leaves as it was.
-use Rattle.std.specs.Prelude.{◌≡◌, ℕ, ◌+◌, ◌<◌, ◌≤◌, ◌==◌, Bool, true, false, List, List as Row, [], length, drop, map, Result, Ok, Err, if◌then◌else◌}
+use Rattle.std.specs.Prelude.{◌≡◌, ◌⊎◌, ℕ, ◌+◌, ◌-◌, ◌<◌, ◌≤◌, ◌==◌, Bool, true, false, List, List as Row, [], length, drop, map, Result, Ok, Err, if◌then◌else◌}
 use Rattle.shline.specs.declared.cursor.Cursor.{Cursor}
 use Rattle.shline.specs.Limits.{Limits, limits}
 use Rattle.shline.specs.declared.documents.Documents as the_documents
@@ -8,34 +8,47 @@ use Rattle.shgrammar.specs.declared.fault.Fault.{Fault}
 use Rattle.shgrammar.specs.declared.keep.Keep.{Keep}
 use Rattle.shgrammar.specs.declared.keep.Keep.TheVariants.{Nothing}
 use Rattle.shast.specs.declared.tree.Span.{Span}
-use Rattle.shast.specs.Tree.{ACommand, AJoin, compound}
+use Rattle.shast.specs.declared.tree.Command.{Command}
+use Rattle.shast.specs.declared.tree.Join.{Join}
+use Rattle.shast.specs.Tree.{ACommand, compound}
+use Rattle.shast.specs.View.{view_command, view_join}
 use Rattle.shline.specs.declared.stop.Stop.{Stop}
 use Rattle.shline.specs.declared.stop.Stop.TheVariants.{Memory, Wrong}
-use Rattle.shgrammar.specs.Sights.{State, Waiting, given}
-use Rattle.shgrammar.specs.Form.{Form, Read, does}
+use Rattle.shgrammar.specs.declared.token.Next.{Next}
+use Rattle.shgrammar.specs.declared.token.Position.{Position}
+use Rattle.shgrammar.specs.declared.token.Token.{Token}
+use Rattle.shgrammar.specs.Tokens.{next_at, next_in, token_at, token_in}
+use Rattle.shgrammar.specs.Sights.{Given, State, Waiting, given}
+use Rattle.shgrammar.specs.Form.{Form, Read, Step, again, does, step_if}
+use Rattle.shgrammar.specs.HereDocuments.{bodies_from}
+use Rattle.shgrammar.specs.Standing.{at_end, next_newline, raw_stands}
 
--- the text of a cursor
-abbrev pub text_of : {S : Type 0} {k : ℕ} {g : _} → (S → List ℕ) → Cursor S k g → List ℕ
-text_of bytes cursor = drop cursor.base (bytes cursor.source.now)
+-- ---- a cursor
 
--- the text, and how it is read, stay as they are
-abbrev pub Keeps : {S : Type 0} {k : ℕ} {g : _} → Cursor S k g → Cursor S k g → Type 0
-Keeps old new = (new.source ≡ old.source) × (new.base ≡ old.base) × (new.origin ≡ old.origin) × (new.how ≡ old.how)
+-- its text
+abbrev pub text_of : {S : Type 0} {k : ℕ} {g : _} → Cursor S k g → List ℕ
+text_of {g = g} cursor = drop cursor.base (g.bytes cursor.source.now)
 
--- only the place may differ
-abbrev pub Stays : {S : Type 0} {k : ℕ} {g : _} → Cursor S k g → Cursor S k g → Type 0
-Stays old new = (new.source ≡ old.source) × (new.base ≡ old.base) × (new.origin ≡ old.origin) × (new.documents ≡ old.documents) × (new.how ≡ old.how)
+-- the offset of the end of its text
+abbrev pub end_of : {S : Type 0} {k : ℕ} {g : _} → Cursor S k g → ℕ
+end_of cursor = cursor.origin + length (text_of cursor)
 
-abbrev pub view_waiting : the_waiting.Waiting → Waiting
-view_waiting w = record { operator = w.operator; delimiter = w.delimiter.items; literal = w.literal; strip = w.strip }
+abbrev pub limits_of : {S : Type 0} {k : ℕ} {g : _} → Cursor S k g → Limits
+limits_of {k = k} cursor = limits k cursor.origin (text_of cursor)
 
--- a place, with the here-documents of a level
-abbrev pub standing_with : the_documents.Documents → ℕ → State
-standing_with documents p = record { at = p; waiting = map view_waiting documents.waiting.items; bodies = documents.bodies.items }
+abbrev pub given_of : {S : Type 0} {k : ℕ} {g : _} → Cursor S k g → Given
+given_of cursor = given cursor.how.edition (text_of cursor) cursor.origin
 
--- the state of a cursor
-abbrev pub state_of : {S : Type 0} {k : ℕ} {g : _} → Cursor S k g → State
-state_of cursor = standing_with cursor.documents cursor.at
+-- these places stand so, and in the text
+abbrev pub Between : {S : Type 0} {k : ℕ} {g : _} → Cursor S k g → ℕ → ℕ → Type 0
+Between cursor p q = (p ≤ q) × (q ≤ length (text_of cursor))
+
+-- the token at a place, and the next one behind where it stands
+abbrev pub token_of : {S : Type 0} {k : ℕ} {g : _} → Cursor S k g → Position → ℕ → Token
+token_of cursor position p = token_in cursor.how.edition (token_at position (text_of cursor) p)
+
+abbrev pub next_from : {S : Type 0} {k : ℕ} {g : _} → Cursor S k g → Position → Next
+next_from cursor position = next_in cursor.how.edition (next_at position (text_of cursor) cursor.at)
 
 -- what a cursor of this KEEP keeps, if it may grow a tree
 abbrev pub kept : ℕ → Keep → Keep
@@ -44,20 +57,53 @@ kept k keep = if k == 1 then keep else Nothing
 abbrev pub keep_of : {S : Type 0} {k : ℕ} {g : _} → Cursor S k g → Keep
 keep_of {k = k} cursor = kept k cursor.how.keep
 
--- what a form gives from a state on in a cursor's text
-abbrev pub reads_at : {S X : Type 0} {k : ℕ} {g : _} → (S → List ℕ) → Cursor S k g → Form X → State → Read X
-reads_at bytes cursor form s = does form (keep_of cursor) (given cursor.how.edition (text_of bytes cursor) cursor.origin) s
+abbrev pub view_waiting : the_waiting.Waiting → Waiting
+view_waiting w = record { operator = w.operator; delimiter = w.delimiter.items; literal = w.literal; strip = w.strip }
 
--- and from where the cursor stands
-abbrev pub reads : {S X : Type 0} {k : ℕ} {g : _} → (S → List ℕ) → Cursor S k g → Form X → Read X
-reads bytes cursor form = reads_at bytes cursor form (state_of cursor)
+-- a place, with the here-documents of a level
+abbrev pub standing_with : the_documents.Documents → ℕ → State
+standing_with documents p = record { at = p; waiting = map view_waiting documents.waiting.items; bodies = documents.bodies.items }
 
-abbrev pub limits_of : {S : Type 0} {k : ℕ} {g : _} → (S → List ℕ) → Cursor S k g → Limits
-limits_of {k = k} bytes cursor = limits k cursor.origin (text_of bytes cursor)
+-- where it stands between tokens
+abbrev pub at_place : {S : Type 0} {k : ℕ} {g : _} → Cursor S k g → State
+at_place cursor = standing_with cursor.documents cursor.at
 
--- the offset of the end of a cursor's text
-abbrev pub end_of : {S : Type 0} {k : ℕ} {g : _} → (S → List ℕ) → Cursor S k g → ℕ
-end_of bytes cursor = cursor.origin + length (text_of bytes cursor)
+-- and where it stands with a token in hand
+abbrev pub at_token : {S : Type 0} {k : ℕ} {g : _} → Cursor S k g → State
+at_token cursor = standing_with cursor.documents cursor.next_at
+
+-- ---- what stays
+
+-- the text, and how it is read
+abbrev pub Keeps : {S : Type 0} {k : ℕ} {g : _} → Cursor S k g → Cursor S k g → Type 0
+Keeps old new = (new.source ≡ old.source) × (new.base ≡ old.base) × (new.origin ≡ old.origin) × (new.how ≡ old.how)
+
+-- and the here-documents
+abbrev pub Stays : {S : Type 0} {k : ℕ} {g : _} → Cursor S k g → Cursor S k g → Type 0
+Stays old new = Keeps old new × (new.documents ≡ old.documents)
+
+-- and the token in hand
+abbrev pub Holds : {S : Type 0} {k : ℕ} {g : _} → Cursor S k g → Cursor S k g → Type 0
+Holds old new = Stays old new × (new.next ≡ old.next) × (new.next_at ≡ old.next_at)
+
+-- and the token in hand; the place is p, which is no further to the left
+abbrev pub Moves : {S : Type 0} {k : ℕ} {g : _} → Cursor S k g → Cursor S k g → ℕ → Type 0
+Moves old new p = (new.at ≡ p) × (old.at ≤ new.at) × Stays old new
+
+-- the same of a place behind the begin of the token in hand
+abbrev pub Steps : {S : Type 0} {k : ℕ} {g : _} → Cursor S k g → Cursor S k g → ℕ → Type 0
+Steps old new p = (new.at ≡ p) × (old.next_at < new.at) × Stays old new
+
+-- a turn that goes on moves to the right
+abbrev pub Onward : ℕ → ℕ → Bool → Type 0
+Onward p q true = p < q
+Onward p q false = p ≤ q
+
+-- ---- what is read
+
+-- what a form gives in a cursor's text, from a state on
+abbrev pub reads : {S X : Type 0} {k : ℕ} {g : _} → Cursor S k g → Form X → State → Read X
+reads cursor form s = does form (keep_of cursor) (given_of cursor) s
 
 -- what a stop says of the reading: a fault is its outcome, and stands within the text;
 -- memory is wanted only where it may be
@@ -70,12 +116,65 @@ abbrev pub Gives : {X Y : Type 0} → Limits → (X → Y × State) → Result X
 Gives bound view (Ok x) read = read ≡ Ok (view x)
 Gives bound view (Err e) read = Fails bound e read
 
--- What a function returned, seen by view, is what the form gives from where the cursor
--- stood, and ends in t; unless memory ran out.
-abbrev pub Reads : {S X Y : Type 0} {k : ℕ} {g : _} → (S → List ℕ) → Cursor S k g → Form Y → Result X Stop → (X → Y) → State → Type 0
-Reads bytes cursor form result view t = Gives (limits_of bytes cursor) (λ x. (view x, t)) result (reads bytes cursor form)
+-- A form gives this from a state on, and leads to another, which is no further to the left.
+abbrev pub Leads : {S X : Type 0} {k : ℕ} {g : _} → Cursor S k g → Form X → State → X → State → Cursor S k g → Type 0
+Leads old form s x t new = (reads old form s ≡ Ok (x, t)) × (s.at ≤ t.at) × Keeps old new
 
--- the same of the bodies that wait
+-- What a function returned, seen by view, is what a form gives between two states. Or it stops.
+abbrev pub Goes : {S X Y : Type 0} {k : ℕ} {g : _} → Cursor S k g → Form Y → State → Result X Stop → (X → Y) → State → Cursor S k g → Type 0
+Goes old form s (Ok x) view t new = Leads old form s (view x) t new
+Goes old form s (Err e) view t new = Fails (limits_of old) e (reads old form s) × Keeps old new
+
+-- from a place to a place
+abbrev pub Reads : {S X Y : Type 0} {k : ℕ} {g : _} → Cursor S k g → Form Y → Result X Stop → (X → Y) → Cursor S k g → Type 0
+Reads old form result view new = Goes old form (at_place old) result view (at_place new) new
+
+-- from a token in hand to the place behind what was read
+abbrev pub Passes : {S X Y : Type 0} {k : ℕ} {g : _} → Cursor S k g → Form Y → Result X Stop → (X → Y) → Cursor S k g → Type 0
+Passes old form result view new = Goes old form (at_token old) result view (at_place new) new
+
+-- from a place to a token in hand
+abbrev pub Meets : {S X Y : Type 0} {k : ℕ} {g : _} → Cursor S k g → Form Y → Result X Stop → (X → Y) → Cursor S k g → Type 0
+Meets old form result view new = Goes old form (at_place old) result view (at_token new) new
+
+-- from a token in hand to another
+abbrev pub Takes : {S X Y : Type 0} {k : ℕ} {g : _} → Cursor S k g → Form Y → Result X Stop → (X → Y) → Cursor S k g → Type 0
+Takes old form result view new = Goes old form (at_token old) result view (at_token new) new
+
+-- The same of a form that cannot stop,
+abbrev pub Finds : {S X : Type 0} {k : ℕ} {g : _} → Cursor S k g → Form X → X → Cursor S k g → Type 0
+Finds old form x new = Leads old form (at_token old) x (at_token new) new
+
+-- and of a turn, which answers whether more may follow, and then leads on,
+abbrev pub Turns : {S A : Type 0} {k : ℕ} {g : _} → Cursor S k g → Form (Step A) → Result Bool Stop → A → Cursor S k g → Type 0
+Turns old form (Ok more) a new = (reads old form (at_token old) ≡ Ok (step_if more a, at_token new)) × Onward old.next_at new.next_at more × Keeps old new
+Turns old form (Err e) a new = Fails (limits_of old) e (reads old form (at_token old)) × Keeps old new
+
+-- or of one that surely goes on.
+abbrev pub Adds : {S A : Type 0} {k : ℕ} {g : _} → Cursor S k g → Form (Step A) → Result (Unit {0}) Stop → A → Cursor S k g → Type 0
+Adds old form (Ok x) a new = (reads old form (at_token old) ≡ Ok (again a, at_token new)) × (old.next_at < new.next_at) × Keeps old new
+Adds old form (Err e) a new = Fails (limits_of old) e (reads old form (at_token old)) × Keeps old new
+
+-- What is left to be read from a state on gives what all gives.
+abbrev pub Rests : {S X : Type 0} {k : ℕ} {g : _} → Cursor S k g → Form X → State → Form X → State → Cursor S k g → Type 0
+Rests old form s rest t new = (reads old rest t ≡ reads old form s) × (s.at ≤ t.at) × Keeps old new
+
+-- a line of a text ends at q: behind its newline, or at the end, where it has none or is a delimiter's
+abbrev pub Ended : List ℕ → ℕ → Bool → Type 0
+Ended T q true = (raw_stands T (q - 1) 10 ≡ true) ⊎ (at_end T q ≡ true)
+Ended T q false = at_end T q ≡ true
+
+-- ---- what is read into
+
+-- end is where the line from a place on ends
+abbrev pub EndsLine : {S : Type 0} {k : ℕ} {g : _} → Cursor S k g → ℕ → ℕ → Type 0
+EndsLine cursor from end = (from ≤ end) × (end ≡ next_newline (text_of cursor) from) × (end ≤ length (text_of cursor))
+
+-- the bodies of the documents that wait from an index on, behind these, and the place behind them
+abbrev pub bodies_of : {S : Type 0} {k : ℕ} {g : _} → Cursor S k g → ℕ → Row Span → ℕ → Result (Row Span × ℕ) Fault
+bodies_of cursor index bodies p = bodies_from (given_of cursor) (drop index (map view_waiting cursor.documents.waiting.items)) bodies p
+
+-- what one of the bodies that wait says of all of them
 abbrev pub BodiesFail : Limits → Stop → Result (Row Span × ℕ) Fault → Type 0
 BodiesFail bound Memory all = bound.memory ≡ true
 BodiesFail bound (Wrong f) all = (all ≡ Err f) × (f.at ≤ bound.furthest)
@@ -86,15 +185,13 @@ BodyRead bound (Ok x) all rest = all ≡ rest
 BodyRead bound (Err e) all rest = BodiesFail bound e all
 
 -- without a tree, lines that held no comment hold none after more was read into them
-abbrev pub GrowsNone : ℕ → AJoin → AJoin → Type 0
-GrowsNone k old new = (k == 1) ≡ false → old.comments ≡ [] → new.comments ≡ []
+abbrev pub GrowsNone : ℕ → Join → Join → Type 0
+GrowsNone k old new = (k == 1) ≡ false → (view_join old).comments ≡ [] → (view_join new).comments ≡ []
 
 -- a command that asks for a box; without a tree none is made
 abbrev pub is_compound : ACommand → Bool
 is_compound (compound c) = true
 is_compound _ = false
 
--- a turn that goes on moves to the right
-abbrev pub Onward : ℕ → ℕ → Bool → Type 0
-Onward p q true = p < q
-Onward p q false = p ≤ q
+abbrev pub Boxed : ℕ → Command → Type 0
+Boxed k command = is_compound (view_command command) ≡ true → (k == 1) ≡ true

@@ -1,10 +1,10 @@
 //! And-or lists: pipelines joined by `&&` and `||` (XCU 2.9.3).
-ghost use Rattle.std.specs.Prelude.{◌<◌, ◌≤◌, [], map, IfOk};
+ghost use Rattle.std.specs.Prelude.{[], map};
 ghost use Rattle.shgrammar.specs.Bytes.{behind};
-ghost use Rattle.shgrammar.specs.Shows.{IsRead, Shows};
-ghost use Rattle.shline.specs.Clauses.{Keeps, Onward, Reads, state_of, text_of};
+ghost use Rattle.shgrammar.specs.Shows.{IsRead};
+ghost use Rattle.shline.specs.Clauses.{Adds, Takes, text_of, Turns};
 ghost use Rattle.shgrammar.specs.Commands.{join_pipeline, joined_so, one_pipeline};
-ghost use Rattle.shgrammar.specs.Form.{again, many, step_if};
+ghost use Rattle.shgrammar.specs.Form.{many};
 ghost use Rattle.shgrammar.specs.Levels.{level};
 ghost use Rattle.shast.specs.View.{view_and_or_part};
 
@@ -12,9 +12,7 @@ use crate::cursor::Cursor;
 use crate::stop::Stop;
 use shast::make::and_or_part_of;
 use shast::{AndOrOperator, AndOrPart};
-use shgrammar::Next;
 use shtext::Source;
-use std::alloc::Global;
 use std::mem;
 
 impl<'a, S: Source, const KEEP: u8> Cursor<'a, S, KEEP> {
@@ -24,25 +22,21 @@ impl<'a, S: Source, const KEEP: u8> Cursor<'a, S, KEEP> {
     #[tactic(auto, unfolding(shgrammar::specs::Commands::one_pipeline))]
     fn one_pipeline(
         &mut self,
-        alloc: Global,
         operator: AndOrOperator,
-        next: &mut Next,
         parts: &mut Vec<AndOrPart>,
         room: usize,
     ) -> Result<(), Stop>
-        requires first { IsRead (text_of S.bytes self.old) self.old.at }
-        requires second { IsRead (text_of S.bytes self.old) (behind (text_of S.bytes self.old) self.old.at) }
-        ensures value { Reads S.bytes self.old
-            (one_pipeline (level room) (joined_so (map view_and_or_part parts.old.items) next.old) operator) result
-            (λ done. again (joined_so (map view_and_or_part parts.new.items) next.new)) (state_of self.new) }
-        ensures shows { IfOk result (λ done. Shows next.new.token (text_of S.bytes self.old) self.new.at) }
-        ensures onward { IfOk result (λ done. self.old.at < self.new.at) }
-        ensures same { Keeps self.old self.new }
+        requires first { IsRead (text_of self.old) self.old.next_at }
+        requires second { IsRead (text_of self.old) (behind (text_of self.old) self.old.next_at) }
+        ensures { Adds self.old (one_pipeline (level room)
+            (joined_so (map view_and_or_part parts.old.items) self.old.next) operator) result
+            (joined_so (map view_and_or_part parts.new.items) self.new.next) self.new }
     {
+        let broken = self.next.broken;
+        self.step();
         self.bump();
-        self.bump();
-        let join = self.join(alloc, next)?;
-        let pipeline = self.pipeline(alloc, next, room)?;
+        let join = self.join(broken)?;
+        let pipeline = self.pipeline(room)?;
         if self.grows() {
             parts.push(and_or_part_of(operator, join, pipeline))?;
         } else {
@@ -54,26 +48,16 @@ impl<'a, S: Source, const KEEP: u8> Cursor<'a, S, KEEP> {
     /// One more, if such an operator stands here. Answers whether there was one.
     #[cycle(commands)]
     #[inline(always)]
-    #[tactic(auto, unfolding(shgrammar::specs::Commands::join_pipeline))]
-    fn join_pipeline(
-        &mut self,
-        alloc: Global,
-        next: &mut Next,
-        parts: &mut Vec<AndOrPart>,
-        room: usize,
-    ) -> Result<bool, Stop>
-        requires shows { Shows next.old.token (text_of S.bytes self.old) self.old.at }
-        ensures value { Reads S.bytes self.old
-            (join_pipeline (level room) (joined_so (map view_and_or_part parts.old.items) next.old)) result
-            (λ more. step_if more (joined_so (map view_and_or_part parts.new.items) next.new)) (state_of self.new) }
-        ensures shows { IfOk result (λ more. Shows next.new.token (text_of S.bytes self.old) self.new.at) }
-        ensures onward { IfOk result (Onward self.old.at self.new.at) }
-        ensures same { Keeps self.old self.new }
+    #[tactic(auto, unfolding(shgrammar::specs::Commands::join_pipeline, crate::specs::InHand::InHand))]
+    fn join_pipeline(&mut self, parts: &mut Vec<AndOrPart>, room: usize) -> Result<bool, Stop>
+        ensures { Turns self.old (join_pipeline (level room)
+            (joined_so (map view_and_or_part parts.old.items) self.old.next)) result (joined_so
+            (map view_and_or_part parts.new.items) self.new.next) self.new }
     {
-        let Some(operator) = next.token.and_or_operator() else {
+        let Some(operator) = self.next.token.and_or_operator() else {
             return Ok(false);
         };
-        self.one_pipeline(alloc, operator, next, parts, room)?;
+        self.one_pipeline(operator, parts, room)?;
         Ok(true)
     }
 
@@ -81,21 +65,12 @@ impl<'a, S: Source, const KEEP: u8> Cursor<'a, S, KEEP> {
     #[cycle(commands)]
     #[inline(always)]
     #[tactic(auto, using(shgrammar::proofs::Turns::many_again, shgrammar::proofs::Turns::many_done, crate::proofs::Stops::many_stop))]
-    pub(crate) fn joined_pipelines(
-        &mut self,
-        alloc: Global,
-        next: &mut Next,
-        room: usize,
-    ) -> Result<Vec<AndOrPart>, Stop>
-        requires shows { Shows next.old.token (text_of S.bytes self.old) self.old.at }
-        ensures value { Reads S.bytes self.old (many (join_pipeline (level room)) (joined_so [] next.old)) result
-            (λ parts. joined_so (map view_and_or_part parts.items) next.new) (state_of self.new) }
-        ensures shows { IfOk result (λ parts. Shows next.new.token (text_of S.bytes self.old) self.new.at) }
-        ensures onward { IfOk result (λ parts. self.old.at ≤ self.new.at) }
-        ensures same { Keeps self.old self.new }
+    pub(crate) fn joined_pipelines(&mut self, room: usize) -> Result<Vec<AndOrPart>, Stop>
+        ensures { Takes self.old (many (join_pipeline (level room)) (joined_so [] self.old.next))
+            result (λ parts. joined_so (map view_and_or_part parts.items) self.new.next) self.new }
     {
-        let mut parts = Vec::new(alloc);
-        'turns: while self.join_pipeline(alloc, next, &mut parts, room)? {}
+        let mut parts = Vec::new(self.alloc);
+        'turns: while self.join_pipeline(&mut parts, room)? {}
         Ok(parts)
     }
 }

@@ -3,7 +3,7 @@ ghost use Rattle.std.specs.Prelude.{◌≡◌, ◌<◌, ◌≤◌, length, true,
 ghost use Rattle.shgrammar.specs.Bytes.{behind, byte_at, ends_word, past, past_blanks, past_continuations, stands, stands_in};
 ghost use Rattle.shgrammar.specs.Classes.{in_class, is_blank};
 ghost use Rattle.shgrammar.specs.Shows.{IsRead};
-ghost use Rattle.shline.specs.Clauses.{Stays, text_of};
+ghost use Rattle.shline.specs.Clauses.{Between, Moves, Steps, text_of};
 ghost use Rattle.shgrammar.specs.Standing.{raw_in};
 
 use crate::cursor::Cursor;
@@ -15,10 +15,9 @@ impl<'a, S: Source, const KEEP: u8> Cursor<'a, S, KEEP> {
     #[inline(always)]
     #[tactic(auto, using(shgrammar::proofs::Stretches::joined_none))]
     pub(crate) fn place(&self, from: usize) -> usize
-        requires { from ≤ length (text_of S.bytes self.now) }
-        ensures value { result ≡ past_continuations (text_of S.bytes self.now) from }
-        ensures inside { (from ≤ result) × (result ≤ length (text_of S.bytes self.now)) }
-        ensures still { past_continuations (text_of S.bytes self.now) result ≡ result }
+        requires { from ≤ length (text_of self.now) }
+        ensures value { result ≡ past_continuations (text_of self.now) from }
+        ensures inside { Between self.now from result }
     {
         if self.continues(from) {
             return self.past_continuations(from);
@@ -26,24 +25,13 @@ impl<'a, S: Source, const KEEP: u8> Cursor<'a, S, KEEP> {
         from
     }
 
-    /// The place past the continuations here.
-    #[inline(always)]
-    pub(crate) fn place_here(&self) -> usize
-        ensures value { result ≡ past_continuations (text_of S.bytes self.now) self.now.at }
-        ensures inside { (self.now.at ≤ result) × (result ≤ length (text_of S.bytes self.now)) }
-        ensures still { past_continuations (text_of S.bytes self.now) result ≡ result }
-    {
-        self.place(self.at)
-    }
-
     /// The place past the continuations at a place.
     #[cold]
     #[tactic(auto, using(shgrammar::proofs::Stretches::joined_more, shgrammar::proofs::Stretches::joined_none))]
     fn past_continuations(&self, from: usize) -> usize
-        requires { from ≤ length (text_of S.bytes self.now) }
-        ensures value { result ≡ past_continuations (text_of S.bytes self.now) from }
-        ensures inside { (from ≤ result) × (result ≤ length (text_of S.bytes self.now)) }
-        ensures still { past_continuations (text_of S.bytes self.now) result ≡ result }
+        requires { from ≤ length (text_of self.now) }
+        ensures value { result ≡ past_continuations (text_of self.now) from }
+        ensures inside { Between self.now from result }
     {
         let mut at = from;
         'continuations: while self.continues(at) {
@@ -57,9 +45,9 @@ impl<'a, S: Source, const KEEP: u8> Cursor<'a, S, KEEP> {
     #[inline(always)]
     #[tactic(auto, using(shgrammar::proofs::Stretches::raw_stays))]
     pub(crate) fn byte_at(&self, at: usize) -> Option<u8>
-        requires { at ≤ length (text_of S.bytes self.now) }
-        ensures value { result ≡ byte_at (text_of S.bytes self.now) at }
-        ensures inside { IfSome result (λ b. IsRead (text_of S.bytes self.now) at) }
+        requires { at ≤ length (text_of self.now) }
+        ensures value { result ≡ byte_at (text_of self.now) at }
+        ensures inside { IfSome result (λ b. IsRead (text_of self.now) at) }
     {
         if self.raw_stands(at, b'\\') {
             return self.raw_byte(self.place(at));
@@ -67,24 +55,15 @@ impl<'a, S: Source, const KEEP: u8> Cursor<'a, S, KEEP> {
         self.raw_byte(at)
     }
 
-    /// The byte that is read here, or `None` at the end.
-    #[inline(always)]
-    pub(crate) fn byte(&self) -> Option<u8>
-        ensures value { result ≡ byte_at (text_of S.bytes self.now) self.now.at }
-        ensures inside { IfSome result (λ b. IsRead (text_of S.bytes self.now) self.now.at) }
-    {
-        self.byte_at(self.at)
-    }
-
     /// The place behind the byte that is read at a place.
     #[inline(always)]
     #[tactic(auto, unfolding(shgrammar::specs::Bytes::behind))]
     pub(crate) fn behind(&self, at: usize) -> usize
-        requires within { at ≤ length (text_of S.bytes self.now) }
-        requires some { IsRead (text_of S.bytes self.now) at }
-        ensures value { result ≡ behind (text_of S.bytes self.now) at }
-        ensures past { past_continuations (text_of S.bytes self.now) at < result }
-        ensures inside { (at < result) × (result ≤ length (text_of S.bytes self.now)) }
+        requires within { at ≤ length (text_of self.now) }
+        requires some { IsRead (text_of self.now) at }
+        ensures value { result ≡ behind (text_of self.now) at }
+        ensures past { past_continuations (text_of self.now) at < result }
+        ensures inside { (at < result) × (result ≤ length (text_of self.now)) }
     {
         self.place(at) + 1
     }
@@ -92,37 +71,32 @@ impl<'a, S: Source, const KEEP: u8> Cursor<'a, S, KEEP> {
     /// One byte on.
     #[inline(always)]
     pub(crate) fn bump(&mut self)
-        requires { IsRead (text_of S.bytes self.old) self.old.at }
-        ensures value { self.new.at ≡ behind (text_of S.bytes self.old) self.old.at }
+        requires { IsRead (text_of self.old) self.old.at }
+        ensures value { Moves self.old self.new (behind (text_of self.old) self.old.at) }
         ensures onward { self.old.at < self.new.at }
-        ensures past { past_continuations (text_of S.bytes self.old) self.old.at < self.new.at }
-        ensures same { Stays self.old self.new }
+        ensures past { past_continuations (text_of self.old) self.old.at < self.new.at }
     {
         let at = self.at;
         self.at = self.behind(at);
     }
 
-    /// The same, where no continuation stands: at the first byte of a token.
+    /// Passes the first byte of the token in hand: no continuation stands before it.
     #[inline(always)]
-    #[tactic(auto, unfolding(shgrammar::specs::Bytes::behind))]
+    #[tactic(auto, unfolding(shgrammar::specs::Bytes::behind, crate::specs::InHand::InHand))]
     pub(crate) fn step(&mut self)
-        requires still { past_continuations (text_of S.bytes self.old) self.old.at ≡ self.old.at }
-        requires some { IsRead (text_of S.bytes self.old) self.old.at }
-        ensures value { self.new.at ≡ behind (text_of S.bytes self.old) self.old.at }
-        ensures onward { self.old.at < self.new.at }
-        ensures past { past_continuations (text_of S.bytes self.old) self.old.at < self.new.at }
-        ensures same { Stays self.old self.new }
+        requires { IsRead (text_of self.old) self.old.next_at }
+        ensures { Steps self.old self.new (behind (text_of self.old) self.old.next_at) }
     {
-        self.at += 1;
+        self.at = self.next_at + 1;
     }
 
     /// Whether this byte is read at a place.
     #[inline(always)]
     #[tactic(auto, unfolding(shgrammar::specs::Bytes::stands))]
     pub(crate) fn stands(&self, at: usize, byte: u8) -> bool
-        requires { at ≤ length (text_of S.bytes self.now) }
-        ensures value { result ≡ stands (text_of S.bytes self.now) at byte }
-        ensures inside { result ≡ true → IsRead (text_of S.bytes self.now) at }
+        requires { at ≤ length (text_of self.now) }
+        ensures value { result ≡ stands (text_of self.now) at byte }
+        ensures inside { result ≡ true → IsRead (text_of self.now) at }
     {
         match self.byte_at(at) {
             Some(found) => found == byte,
@@ -130,32 +104,13 @@ impl<'a, S: Source, const KEEP: u8> Cursor<'a, S, KEEP> {
         }
     }
 
-    /// Whether this byte is read here.
-    #[inline(always)]
-    pub(crate) fn is_at(&self, byte: u8) -> bool
-        ensures value { result ≡ stands (text_of S.bytes self.now) self.now.at byte }
-        ensures inside { result ≡ true → IsRead (text_of S.bytes self.now) self.now.at }
-    {
-        self.stands(self.at, byte)
-    }
-
-    /// Whether this byte is read behind the one here.
-    #[inline(always)]
-    pub(crate) fn is_next(&self, byte: u8) -> bool
-        requires { IsRead (text_of S.bytes self.now) self.now.at }
-        ensures value { result ≡ stands (text_of S.bytes self.now) (behind (text_of S.bytes self.now) self.now.at) byte }
-        ensures inside { result ≡ true → IsRead (text_of S.bytes self.now) (behind (text_of S.bytes self.now) self.now.at) }
-    {
-        self.stands(self.behind(self.at), byte)
-    }
-
     /// Whether a byte of this class is read at a place.
     #[inline(always)]
     #[tactic(auto, unfolding(shgrammar::specs::Bytes::stands_in))]
     pub(crate) fn stands_in(&self, at: usize, class: Class) -> bool
-        requires { at ≤ length (text_of S.bytes self.now) }
-        ensures value { result ≡ stands_in (in_class class) (text_of S.bytes self.now) at }
-        ensures inside { result ≡ true → IsRead (text_of S.bytes self.now) at }
+        requires { at ≤ length (text_of self.now) }
+        ensures value { result ≡ stands_in (in_class class) (text_of self.now) at }
+        ensures inside { result ≡ true → IsRead (text_of self.now) at }
     {
         match self.byte_at(at) {
             Some(byte) => class.has(byte),
@@ -168,10 +123,10 @@ impl<'a, S: Source, const KEEP: u8> Cursor<'a, S, KEEP> {
     #[inline(always)]
     #[tactic(auto, using(shgrammar::proofs::Unbroken::past_raw, shgrammar::proofs::Unbroken::past_whole, shgrammar::proofs::Unbroken::raw_stops, shgrammar::proofs::Unbroken::none_here))]
     pub(crate) fn past(&self, from: usize, class: Class) -> usize
-        requires { from ≤ length (text_of S.bytes self.now) }
-        ensures value { result ≡ past (in_class class) (text_of S.bytes self.now) from }
-        ensures inside { (from ≤ result) × (result ≤ length (text_of S.bytes self.now)) }
-        ensures other { stands_in (in_class class) (text_of S.bytes self.now) result ≡ false }
+        requires { from ≤ length (text_of self.now) }
+        ensures value { result ≡ past (in_class class) (text_of self.now) from }
+        ensures inside { Between self.now from result }
+        ensures other { stands_in (in_class class) (text_of self.now) result ≡ false }
     {
         let end = self.raw_past(from, class);
         if self.continues(end) {
@@ -184,11 +139,11 @@ impl<'a, S: Source, const KEEP: u8> Cursor<'a, S, KEEP> {
     #[cold]
     #[tactic(auto, using(shgrammar::proofs::Unbroken::joined_on, shgrammar::proofs::Unbroken::joined_here, shgrammar::proofs::Unbroken::raw_stops, shgrammar::proofs::Unbroken::none_here, shgrammar::proofs::Stretches::past_none))]
     fn past_joined(&self, from: usize, class: Class) -> usize
-        requires within { from ≤ length (text_of S.bytes self.now) }
-        requires none { raw_in (in_class class) (text_of S.bytes self.now) from ≡ false }
-        ensures value { result ≡ past (in_class class) (text_of S.bytes self.now) from }
-        ensures inside { (from ≤ result) × (result ≤ length (text_of S.bytes self.now)) }
-        ensures other { stands_in (in_class class) (text_of S.bytes self.now) result ≡ false }
+        requires within { from ≤ length (text_of self.now) }
+        requires none { raw_in (in_class class) (text_of self.now) from ≡ false }
+        ensures value { result ≡ past (in_class class) (text_of self.now) from }
+        ensures inside { Between self.now from result }
+        ensures other { stands_in (in_class class) (text_of self.now) result ≡ false }
     {
         let mut at = from;
         'joined: while self.continues(at) {
@@ -206,10 +161,10 @@ impl<'a, S: Source, const KEEP: u8> Cursor<'a, S, KEEP> {
     #[inline(always)]
     #[tactic(auto, using(crate::proofs::Passed::blanks_over, crate::proofs::Passed::no_blanks, shgrammar::proofs::Unbroken::blanks_stop_raw))]
     pub(crate) fn past_broken_blanks(&self, from: usize) -> usize
-        requires within { from ≤ length (text_of S.bytes self.now) }
-        requires none { raw_in is_blank (text_of S.bytes self.now) from ≡ false }
-        ensures place { result ≡ past_blanks (text_of S.bytes self.now) from }
-        ensures inside { (from ≤ result) × (result ≤ length (text_of S.bytes self.now)) }
+        requires within { from ≤ length (text_of self.now) }
+        requires none { raw_in is_blank (text_of self.now) from ≡ false }
+        ensures place { result ≡ past_blanks (text_of self.now) from }
+        ensures inside { Between self.now from result }
     {
         let mut at = from;
         'joined: while self.continues(at) {
@@ -222,22 +177,13 @@ impl<'a, S: Source, const KEEP: u8> Cursor<'a, S, KEEP> {
     #[inline(always)]
     #[tactic(auto, unfolding(shgrammar::specs::Bytes::ends_word))]
     pub(crate) fn ends_at(&self, at: usize) -> bool
-        requires { at ≤ length (text_of S.bytes self.now) }
-        ensures value { result ≡ ends_word (text_of S.bytes self.now) at }
-        ensures inside { result ≡ false → IsRead (text_of S.bytes self.now) at }
+        requires { at ≤ length (text_of self.now) }
+        ensures value { result ≡ ends_word (text_of self.now) at }
+        ensures inside { result ≡ false → IsRead (text_of self.now) at }
     {
         match self.byte_at(at) {
             Some(byte) => ends_words(byte),
             None => true,
         }
-    }
-
-    /// Whether a word ends here.
-    #[inline(always)]
-    pub(crate) fn ends_word(&self) -> bool
-        ensures value { result ≡ ends_word (text_of S.bytes self.now) self.now.at }
-        ensures inside { result ≡ false → IsRead (text_of S.bytes self.now) self.now.at }
-    {
-        self.ends_at(self.at)
     }
 }

@@ -1,6 +1,6 @@
 //! Comments (XCU 2.3, rule 9).
-ghost use Rattle.std.specs.Prelude.{◌≡◌, ◌≤◌, None, length, option_map};
-ghost use Rattle.shline.specs.Clauses.{Stays, text_of};
+ghost use Rattle.std.specs.Prelude.{◌≡◌, ◌≤◌, length, option_map, IfSome};
+ghost use Rattle.shline.specs.Clauses.{Holds, text_of};
 ghost use Rattle.shgrammar.specs.Comments.{comment_at, past_comment};
 ghost use Rattle.shgrammar.specs.Standing.{before_blanks};
 ghost use Rattle.shast.specs.View.{view_comment};
@@ -15,8 +15,8 @@ impl<'a, S: Source, const KEEP: u8> Cursor<'a, S, KEEP> {
     /// The place behind the last byte before `end` that is no blank.
     #[tactic(auto, using(shgrammar::proofs::Stretches::blanks_before, shgrammar::proofs::Stretches::no_blanks_before, shgrammar::proofs::Stretches::nothing_before))]
     fn before_blanks(&self, end: usize) -> usize
-        requires { end ≤ length (text_of S.bytes self.now) }
-        ensures value { result ≡ before_blanks (text_of S.bytes self.now) end }
+        requires { end ≤ length (text_of self.now) }
+        ensures value { result ≡ before_blanks (text_of self.now) end }
         ensures inside { result ≤ end }
     {
         let mut at = end;
@@ -30,13 +30,14 @@ impl<'a, S: Source, const KEEP: u8> Cursor<'a, S, KEEP> {
     #[inline]
     #[tactic(auto, unfolding(shgrammar::specs::Comments::comment_at, shgrammar::specs::Comments::past_comment))]
     pub(crate) fn comment(&mut self) -> Option<Comment>
-        ensures value { option_map view_comment result ≡ comment_at (text_of S.bytes self.old) self.old.origin self.old.at }
-        ensures place { self.new.at ≡ past_comment (text_of S.bytes self.old) self.old.at }
-        ensures none { result ≡ None → self.new.at ≡ self.old.at }
-        ensures onward { self.old.at ≤ self.new.at }
-        ensures same { Stays self.old self.new }
+        ensures value { option_map view_comment result ≡ comment_at (text_of self.old)
+            self.old.origin self.old.next_at }
+        ensures place { IfSome result
+            (λ c. self.new.at ≡ past_comment (text_of self.old) self.old.next_at) }
+        ensures onward { IfSome result (λ c. self.old.next_at ≤ self.new.at) }
+        ensures same { Holds self.old self.new }
     {
-        let at = self.at;
+        let at = self.next_at;
         if !self.raw_stands(at, b'#') {
             return None;
         }

@@ -1,11 +1,13 @@
 //! A place in a text.
 ghost use Rattle.std.specs.Prelude.{◌≡◌, ◌+◌, ◌==◌, ◌^◌, ◌<◌, ◌≤◌, [], All, drop, length, true};
 ghost use Rattle.shline.specs.Limits.{Waits, limits};
+ghost use Rattle.shline.specs.InHand.{InHand, in_hand_prop};
 ghost use Rattle.shtext.specs.Text.{IsRun};
 
 use crate::documents::Documents;
+use crate::told::Begin;
 use shast::{Entry, Item, Spare};
-use shgrammar::{Edition, Keep};
+use shgrammar::{Edition, Keep, Next, Token};
 use shtext::Source;
 use std::alloc::Global;
 
@@ -18,11 +20,11 @@ pub const SEEN: u8 = 0;
 
 /// By which edition a text is read, and what of its tree is kept.
 #[derive(Clone, Copy)]
-pub(crate) struct How {
+pub struct How {
     /// The tree that grows, where `KEEP` is `KEPT`.
-    pub(crate) keep: Keep,
+    pub keep: Keep,
     /// The edition of the grammar.
-    pub(crate) edition: Edition,
+    pub edition: Edition,
 }
 
 /// A place in the text that a source holds from `base` on.
@@ -39,52 +41,63 @@ pub(crate) struct Cursor<'a, S: Source, const KEEP: u8> {
     pub(crate) front: &'a [u8],
     pub(crate) base: usize,
     pub(crate) origin: usize,
+    /// Where the reading stands, if no token is in hand.
     pub(crate) at: usize,
+    /// The token in hand, or the last one that was.
+    pub(crate) next: Next,
+    /// Where it begins.
+    pub(crate) next_at: usize,
     /// How the text is read.
     pub(crate) how: How,
     /// The here-documents of the level in which the reading stands.
     pub(crate) documents: Documents,
     /// Where a tree takes vectors that have room, if the caller has kept some.
     spare: Option<&'a mut Spare>,
+    pub(crate) alloc: Global,
     ghost begins: { base ≤ length (S.bytes source.now) },
     ghost stretch: { IsRun (S.bytes source.now) base front.now },
     ghost fits: { base + length (drop base (S.bytes source.now)) < 2 ^ 64 },
     ghost tells: { origin + length (drop base (S.bytes source.now)) < 2 ^ 64 },
     ghost inside: { at ≤ length (drop base (S.bytes source.now)) },
+    ghost within: { next_at ≤ length (drop base (S.bytes source.now)) },
+    ghost shows: { InHand next.token (drop base (S.bytes source.now)) next_at } by { in_hand_prop next.token (drop base (S.bytes source.now)) next_at },
     ghost waits: { All (Waits (limits KEEP origin (drop base (S.bytes source.now)))) documents.waiting.items },
 }
 
 impl<'a, S: Source, const KEEP: u8> Cursor<'a, S, KEEP> {
-    ghost use Rattle.shline.specs.Clauses.{keep_of, Stays, state_of};
+    ghost use Rattle.shline.specs.Clauses.{at_place, Holds, keep_of};
     ghost use Rattle.shgrammar.specs.Form.{grows};
     ghost use Rattle.shgrammar.specs.Sights.{standing};
 
-    /// Where the line at an offset begins, whose own offsets are counted from `origin`, and of which this is
-    /// kept, in this spare room where there is some, by this edition.
+    /// The begin of a line, which is read so, in this spare room where there is some.
     pub(crate) fn at_line(
         alloc: Global,
         source: &'a S,
-        base: usize,
-        origin: usize,
-        edition: Edition,
-        keep: Keep,
+        begin: Begin,
+        how: How,
         spare: Option<&'a mut Spare>,
     ) -> Cursor<'a, S, KEEP>
-        requires { (base ≤ length (S.bytes source.now)) × (origin ≤ base) }
-        ensures { (result.source.now ≡ source.now) × (result.base ≡ base) × (result.origin ≡ origin)
-            × (state_of result ≡ standing 0) × (result.how.keep ≡ keep) × (result.how.edition ≡ edition) }
+        requires { (begin.at ≤ length (S.bytes source.now)) × (begin.origin ≤ begin.at) }
+        ensures { (result.source.now ≡ source.now) × (result.base ≡ begin.at) ×
+            (result.origin ≡ begin.origin) × (at_place result ≡ standing 0) × (result.how ≡ how) }
     {
-        // The length is asked for its bound alone: no offset in the text overflows.
-        let _ = source.len();
+        // No token is in hand yet: the end of the text is one.
+        let end = source.len() - begin.at;
         Cursor {
             source,
-            front: source.run(base),
-            base,
-            origin,
+            front: source.run(begin.at),
+            base: begin.at,
+            origin: begin.origin,
             at: 0,
-            how: How { keep, edition },
+            next: Next {
+                token: Token::End,
+                broken: false,
+            },
+            next_at: end,
+            how,
             documents: Documents::new(alloc),
             spare,
+            alloc,
         }
     }
 
@@ -99,31 +112,29 @@ impl<'a, S: Source, const KEEP: u8> Cursor<'a, S, KEEP> {
 
     /// A vector for the items of a command: with room, where a tree grows here and some was kept.
     #[inline(always)]
-    pub(crate) fn room_for_items(&mut self, alloc: Global) -> Vec<Item>
+    pub(crate) fn room_for_items(&mut self) -> Vec<Item>
         ensures empty { result.items ≡ [] }
-        ensures place { self.new.at ≡ self.old.at }
-        ensures same { Stays self.old self.new }
+        ensures same { Holds self.old self.new }
     {
         if self.grows()
             && let Some(spare) = &mut self.spare
         {
-            return spare.items(alloc);
+            return spare.items(self.alloc);
         }
-        Vec::new(alloc)
+        Vec::new(self.alloc)
     }
 
     /// The same for the entries of a list.
     #[inline(always)]
-    pub(crate) fn room_for_entries(&mut self, alloc: Global) -> Vec<Entry>
+    pub(crate) fn room_for_entries(&mut self) -> Vec<Entry>
         ensures empty { result.items ≡ [] }
-        ensures place { self.new.at ≡ self.old.at }
-        ensures same { Stays self.old self.new }
+        ensures same { Holds self.old self.new }
     {
         if self.grows()
             && let Some(spare) = &mut self.spare
         {
-            return spare.entries(alloc);
+            return spare.entries(self.alloc);
         }
-        Vec::new(alloc)
+        Vec::new(self.alloc)
     }
 }

@@ -1,11 +1,10 @@
 //! Here-documents: those that wait, and their bodies (XCU 2.7.4).
-ghost use Rattle.std.specs.Prelude.{◌≡◌, ◌+◌, ◌<◌, ◌≤◌, ◌==◌, ◌&&◌, All, bytes_eq, fold, nat_lt, not, [], map, IfErr, IfOk, IfSome, List as Row, ◌∷◌, ◌++◌, length, option_map, drop, ◌-◌, true, false};
-ghost use Rattle.shline.specs.Clauses.{BodiesFail, BodyRead, end_of, Keeps, limits_of, Reads, state_of, text_of, view_waiting};
-ghost use Rattle.shline.specs.Limits.{Waits, wants_memory};
+ghost use Rattle.std.specs.Prelude.{◌≡◌, ◌+◌, ◌<◌, ◌≤◌, ◌==◌, ◌&&◌, All, bytes_eq, fold, nat_lt, not, [], IfErr, IfOk, IfSome, List as Row, ◌∷◌, ◌++◌, length, option_map, ◌-◌, true, false};
+ghost use Rattle.shline.specs.Clauses.{at_place, at_token, Between, bodies_of, BodiesFail, BodyRead, end_of, EndsLine, Keeps, limits_of, Reads, Takes, text_of, view_waiting};
+ghost use Rattle.shline.specs.Limits.{Waits};
 ghost use Rattle.shgrammar.specs.Commands.{a_document, is_strip, nothing_waits, takes_here};
 ghost use Rattle.shgrammar.specs.Form.{change, raw};
-ghost use Rattle.shgrammar.specs.HereDocuments.{bodies_from, bodies_here, delimiter_from, delimiter_in, first_waiting, is_delimiter, own_level, past_line, rest_of_line, takes_newline};
-ghost use Rattle.shgrammar.specs.Sights.{given};
+ghost use Rattle.shgrammar.specs.HereDocuments.{bodies_here, delimiter_from, delimiter_in, first_waiting, is_delimiter, own_level, past_line, rest_of_line, takes_newline};
 ghost use Rattle.shgrammar.specs.Standing.{next_newline, raw_stands};
 ghost use Rattle.shgrammar.specs.Unquoting.{view_delimiter};
 ghost use Rattle.shast.specs.View.{view_here};
@@ -72,8 +71,8 @@ impl<'a, S: Source, const KEEP: u8> Cursor<'a, S, KEEP> {
     /// The operator of the first here-document that waits.
     #[inline(always)]
     pub(crate) fn first_waiting(&self) -> Option<usize>
-        ensures value { result ≡ first_waiting (state_of self.now) }
-        ensures within { IfSome result (λ operator. operator ≤ end_of S.bytes self.now) }
+        ensures value { result ≡ first_waiting (at_token self.now) }
+        ensures within { IfSome result (λ operator. operator ≤ end_of self.now) }
     {
         if self.documents.waiting.is_empty() {
             return None;
@@ -85,7 +84,7 @@ impl<'a, S: Source, const KEEP: u8> Cursor<'a, S, KEEP> {
     #[inline(always)]
     #[tactic(auto, unfolding(shgrammar::specs::Commands::nothing_waits))]
     pub(crate) fn nothing_waits(&self) -> Result<(), Stop>
-        ensures { Reads S.bytes self.now nothing_waits result (λ done. tt) (state_of self.now) }
+        ensures { Takes self.now nothing_waits result (λ _. tt) self.now }
     {
         match self.first_waiting() {
             Some(operator) => Err(Stop::Wrong(Fault {
@@ -97,17 +96,17 @@ impl<'a, S: Source, const KEEP: u8> Cursor<'a, S, KEEP> {
     }
 
     /// Begins a level of its own, and answers the documents of the one around it.
-    pub(crate) fn open_level(&mut self, alloc: Global) -> Documents
-        ensures level { state_of self.new ≡ own_level (state_of self.old) }
+    pub(crate) fn open_level(&mut self) -> Documents
+        ensures level { at_place self.new ≡ own_level (at_place self.old) }
         ensures outer { result ≡ self.old.documents }
         ensures same { Keeps self.old self.new }
     {
-        mem::replace(&mut self.documents, Documents::new(alloc))
+        mem::replace(&mut self.documents, Documents::new(self.alloc))
     }
 
     /// Ends it, and answers the bodies that were read in it.
     pub(crate) fn close_level(&mut self, outer: Documents) -> Vec<Span>
-        requires { All (Waits (limits_of S.bytes self.old)) outer.waiting.items }
+        requires { All (Waits (limits_of self.old)) outer.waiting.items }
         ensures bodies { result.items ≡ self.old.documents.bodies.items }
         ensures place { self.new.at ≡ self.old.at }
         ensures outer { self.new.documents ≡ outer }
@@ -119,11 +118,11 @@ impl<'a, S: Source, const KEEP: u8> Cursor<'a, S, KEEP> {
     /// The bytes from a place up to this one.
     #[cold]
     #[tactic(auto, using(crate::proofs::Awaited::raw_some, crate::proofs::Awaited::raw_nothing))]
-    fn bytes_from(&self, alloc: Global, start: usize) -> Result<Vec<u8>, AllocError>
+    fn bytes_from(&self, start: usize) -> Result<Vec<u8>, AllocError>
         requires { start ≤ self.now.at }
-        ensures { IfOk result (λ bytes. bytes.items ≡ raw (text_of S.bytes self.now) start self.now.at) }
+        ensures { IfOk result (λ bytes. bytes.items ≡ raw (text_of self.now) start self.now.at) }
     {
-        let mut bytes = Vec::with_capacity(alloc, self.at - start)?;
+        let mut bytes = Vec::with_capacity(self.alloc, self.at - start)?;
         let mut at = start;
         'bytes: while at < self.at {
             if let Some(byte) = self.raw_byte(at) {
@@ -137,17 +136,18 @@ impl<'a, S: Source, const KEEP: u8> Cursor<'a, S, KEEP> {
     /// The delimiter that the word from a place up to this one is. Most often the word
     /// lies in one stretch, and is read there.
     #[tactic(auto, using(crate::proofs::Awaited::run_word))]
-    fn delimiter(&self, alloc: Global, start: usize) -> Result<Option<Delimiter>, AllocError>
+    fn delimiter(&self, start: usize) -> Result<Option<Delimiter>, AllocError>
         requires { start ≤ self.now.at }
-        ensures { IfOk result (λ found. option_map view_delimiter found ≡ delimiter_in self.now.how.edition (raw (text_of S.bytes self.now) start self.now.at)) }
+        ensures { IfOk result (λ found. option_map view_delimiter found ≡ delimiter_in
+            self.now.how.edition (raw (text_of self.now) start self.now.at)) }
     {
         let run = self.run_at(start);
         let length = self.at - start;
         if length <= run.len() {
-            return delimiter_in(alloc, self.how.edition, &run[..length]);
+            return delimiter_in(self.alloc, self.how.edition, &run[..length]);
         }
-        let word = self.bytes_from(alloc, start)?;
-        delimiter_in(alloc, self.how.edition, &word)
+        let word = self.bytes_from(start)?;
+        delimiter_in(self.alloc, self.how.edition, &word)
     }
 
     /// The here-document of an operator that stands at an offset, if it takes one. Its
@@ -155,23 +155,21 @@ impl<'a, S: Source, const KEEP: u8> Cursor<'a, S, KEEP> {
     #[tactic(auto, unfolding(shgrammar::specs::Commands::a_document))]
     pub(crate) fn document(
         &mut self,
-        alloc: Global,
         operator: RedirectOperator,
         mark: usize,
         start: usize,
     ) -> Result<Option<HereDocument>, Stop>
         requires word { start ≤ self.old.at }
-        requires mark { mark ≤ end_of S.bytes self.old }
-        requires memory { takes_here operator ≡ true → wants_memory KEEP (text_of S.bytes self.old) ≡ true }
-        ensures value { Reads S.bytes self.old (a_document operator mark (self.old.origin + start) (raw (text_of S.bytes self.old) start self.old.at)) result
-            (option_map view_here) (state_of self.new) }
+        requires mark { mark ≤ end_of self.old }
+        requires memory { takes_here operator ≡ true → (limits_of self.old).memory ≡ true }
+        ensures value { Reads self.old (a_document operator mark (self.old.origin + start)
+            (raw (text_of self.old) start self.old.at)) result (option_map view_here) self.new }
         ensures place { self.new.at ≡ self.old.at }
-        ensures same { Keeps self.old self.new }
     {
         if !takes_here(operator) {
             return Ok(None);
         }
-        let Some(delimiter) = self.delimiter(alloc, start)? else {
+        let Some(delimiter) = self.delimiter(start)? else {
             return Err(self.wrong_at(FaultKind::BadHereWord, start));
         };
         let literal = delimiter.literal;
@@ -192,8 +190,8 @@ impl<'a, S: Source, const KEEP: u8> Cursor<'a, S, KEEP> {
     /// Whether these bytes stand from one place up to another.
     #[tactic(auto, using(crate::proofs::Awaited::bytes_more, crate::proofs::Awaited::bytes_other, crate::proofs::Awaited::bytes_end, crate::proofs::Awaited::bytes_short, crate::proofs::Awaited::bytes_long))]
     fn are_bytes(&self, from: usize, end: usize, bytes: &[u8]) -> bool
-        requires { (from ≤ end) × (end ≤ length (text_of S.bytes self.now)) }
-        ensures { result ≡ bytes_eq (raw (text_of S.bytes self.now) from end) bytes.now }
+        requires { (from ≤ end) × (end ≤ length (text_of self.now)) }
+        ensures { result ≡ bytes_eq (raw (text_of self.now) from end) bytes.now }
     {
         if end - from != bytes.len() {
             return false;
@@ -209,8 +207,9 @@ impl<'a, S: Source, const KEEP: u8> Cursor<'a, S, KEEP> {
     /// Whether the line from a place up to its end is the delimiter's.
     #[tactic(auto, using(crate::proofs::Awaited::stripped_line, crate::proofs::Awaited::tabs_before))]
     fn is_delimiter(&self, document: &Waiting, from: usize, end: usize) -> bool
-        requires { (from ≤ length (text_of S.bytes self.now)) × (end ≡ next_newline (text_of S.bytes self.now) from) × (end ≤ length (text_of S.bytes self.now)) × (from ≤ end) }
-        ensures { result ≡ is_delimiter (view_waiting document.now) (rest_of_line (text_of S.bytes self.now) from) }
+        requires { EndsLine self.now from end }
+        ensures { result ≡ is_delimiter (view_waiting document.now)
+            (rest_of_line (text_of self.now) from) }
     {
         if document.strip {
             return self.are_bytes(self.raw_past(from, Class::Tab), end, &document.delimiter);
@@ -220,16 +219,17 @@ impl<'a, S: Source, const KEEP: u8> Cursor<'a, S, KEEP> {
 
     /// Whether this line ends a document; one that the line before takes in does not.
     fn ends_here(&self, document: &Waiting, taken: bool, from: usize, end: usize) -> bool
-        requires { (from ≤ length (text_of S.bytes self.now)) × (end ≡ next_newline (text_of S.bytes self.now) from) × (end ≤ length (text_of S.bytes self.now)) × (from ≤ end) }
-        ensures { result ≡ (not taken && is_delimiter (view_waiting document.now) (rest_of_line (text_of S.bytes self.now) from)) }
+        requires { EndsLine self.now from end }
+        ensures { result ≡ (not taken && is_delimiter (view_waiting document.now)
+            (rest_of_line (text_of self.now) from)) }
     {
         !taken && self.is_delimiter(document, from, end)
     }
 
     /// Whether a backslash stands before a place, and not before that other one.
     fn is_backslash_before(&self, from: usize, at: usize) -> bool
-        requires { at ≤ length (text_of S.bytes self.now) }
-        ensures value { result ≡ (nat_lt from at && raw_stands (text_of S.bytes self.now) (at - 1) 92) }
+        requires { at ≤ length (text_of self.now) }
+        ensures value { result ≡ (nat_lt from at && raw_stands (text_of self.now) (at - 1) 92) }
         ensures some { result ≡ true → from < at }
     {
         from < at && self.raw_stands(at - 1, b'\\')
@@ -238,8 +238,9 @@ impl<'a, S: Source, const KEEP: u8> Cursor<'a, S, KEEP> {
     /// Whether the bytes from one place up to another end in an odd number of backslashes.
     #[tactic(auto, using(crate::proofs::Awaited::odd_more, crate::proofs::Awaited::odd_stops))]
     fn ends_odd(&self, from: usize, end: usize) -> bool
-        requires { (from ≤ end) × (end ≤ length (text_of S.bytes self.now)) }
-        ensures { result ≡ fold (λ odd b. b == 92 && not odd) false (raw (text_of S.bytes self.now) from end) }
+        requires { (from ≤ end) × (end ≤ length (text_of self.now)) }
+        ensures { result ≡ fold (λ odd b. b == 92 && not odd) false
+            (raw (text_of self.now) from end) }
     {
         let mut at = end;
         let mut odd = false;
@@ -252,8 +253,9 @@ impl<'a, S: Source, const KEEP: u8> Cursor<'a, S, KEEP> {
 
     /// Whether a line takes in the one behind it.
     fn takes_newline(&self, document: &Waiting, from: usize, end: usize) -> bool
-        requires { (from ≤ end) × (end ≡ next_newline (text_of S.bytes self.now) from) × (end ≤ length (text_of S.bytes self.now)) }
-        ensures { result ≡ takes_newline (view_waiting document.now) (rest_of_line (text_of S.bytes self.now) from) }
+        requires { EndsLine self.now from end }
+        ensures { result ≡ takes_newline (view_waiting document.now)
+            (rest_of_line (text_of self.now) from) }
     {
         !document.literal && self.ends_odd(from, end)
     }
@@ -261,10 +263,10 @@ impl<'a, S: Source, const KEEP: u8> Cursor<'a, S, KEEP> {
     /// The end of the line at a place, and the place behind it.
     #[tactic(auto, using(shgrammar::proofs::Places::not_end_low, shgrammar::proofs::Places::end_high))]
     fn line_end(&self, from: usize) -> (usize, usize)
-        requires { from ≤ length (text_of S.bytes self.now) }
-        ensures end { result.0 ≡ next_newline (text_of S.bytes self.now) from }
-        ensures next { result.1 ≡ past_line (text_of S.bytes self.now) from }
-        ensures inside { (from ≤ result.0) × (result.0 ≤ result.1) × (result.1 ≤ length (text_of S.bytes self.now)) }
+        requires { from ≤ length (text_of self.now) }
+        ensures end { result.0 ≡ next_newline (text_of self.now) from }
+        ensures next { result.1 ≡ past_line (text_of self.now) from }
+        ensures inside { (from ≤ result.0) × Between self.now result.0 result.1 }
     {
         let end = self.find(Sought::Byte(b'\n'), from);
         if self.at_end(end) {
@@ -277,10 +279,11 @@ impl<'a, S: Source, const KEEP: u8> Cursor<'a, S, KEEP> {
     /// the place behind that line.
     #[tactic(auto, using(shgrammar::proofs::Delimiters::none_at_end, shgrammar::proofs::Delimiters::found_here, shgrammar::proofs::Delimiters::on_to_next, shgrammar::proofs::Delimiters::past_line_low))]
     fn delimiter_line(&self, document: &Waiting, from: usize) -> Option<(usize, usize)>
-        requires { from ≤ length (text_of S.bytes self.now) }
-        ensures value { option_map (λ x. x.0) result ≡ delimiter_from (text_of S.bytes self.now) (view_waiting document.now) from }
-        ensures place { IfSome result (λ x. (from ≤ x.0) × (x.0 ≤ x.1) × (x.1 ≤ length (text_of S.bytes self.now))) }
-        ensures past { IfSome result (λ x. x.1 ≡ past_line (text_of S.bytes self.now) x.0) }
+        requires { from ≤ length (text_of self.now) }
+        ensures value { option_map (λ x. x.0) result ≡ delimiter_from (text_of self.now)
+            (view_waiting document.now) from }
+        ensures place { IfSome result (λ x. (from ≤ x.0) × Between self.now x.0 x.1) }
+        ensures past { IfSome result (λ x. x.1 ≡ past_line (text_of self.now) x.0) }
     {
         let mut at = from;
         let mut taken = false;
@@ -299,13 +302,11 @@ impl<'a, S: Source, const KEEP: u8> Cursor<'a, S, KEEP> {
     #[tactic(auto, using(crate::proofs::Awaited::document_missing))]
     fn body_of(&self, index: usize) -> Result<(Span, usize), Stop>
         requires { index < length self.now.documents.waiting.items }
-        ensures read { IfOk result (λ x. (bodies : Row Span) →
-            bodies_from (given self.now.how.edition (text_of S.bytes self.now) self.now.origin) (drop index (map view_waiting self.now.documents.waiting.items)) bodies self.now.at
-            ≡ bodies_from (given self.now.how.edition (text_of S.bytes self.now) self.now.origin) (drop (index + 1) (map view_waiting self.now.documents.waiting.items)) (bodies ++ x.0 ∷ []) x.1) }
-        ensures wrong { IfErr result (λ e. (bodies : Row Span) →
-            BodiesFail (limits_of S.bytes self.now) e
-            (bodies_from (given self.now.how.edition (text_of S.bytes self.now) self.now.origin) (drop index (map view_waiting self.now.documents.waiting.items)) bodies self.now.at)) }
-        ensures onward { IfOk result (λ x. (self.now.at ≤ x.1) × (x.1 ≤ length (text_of S.bytes self.now))) }
+        ensures read { IfOk result (λ x. (bodies : Row Span) → bodies_of self.now index bodies
+            self.now.at ≡ bodies_of self.now (index + 1) (bodies ++ x.0 ∷ []) x.1) }
+        ensures wrong { IfErr result (λ e. (bodies : Row Span) → BodiesFail (limits_of self.now) e
+            (bodies_of self.now index bodies self.now.at)) }
+        ensures onward { IfOk result (λ x. Between self.now self.now.at x.1) }
     {
         let document = &self.documents.waiting[index];
         let Some((line, next)) = self.delimiter_line(document, self.at) else {
@@ -324,11 +325,12 @@ impl<'a, S: Source, const KEEP: u8> Cursor<'a, S, KEEP> {
     /// The body of one document that waits, which begins here.
     fn one_body(&mut self, index: usize) -> Result<(), Stop>
         requires { index < length self.old.documents.waiting.items }
-        ensures read { BodyRead (limits_of S.bytes self.old) result
-            (bodies_from (given self.old.how.edition (text_of S.bytes self.old) self.old.origin) (drop index (map view_waiting self.old.documents.waiting.items)) self.old.documents.bodies.items self.old.at)
-            (bodies_from (given self.old.how.edition (text_of S.bytes self.old) self.old.origin) (drop (index + 1) (map view_waiting self.old.documents.waiting.items)) self.new.documents.bodies.items self.new.at) }
-        ensures waiting { IfOk result (λ done. self.new.documents.waiting ≡ self.old.documents.waiting) }
-        ensures onward { IfOk result (λ done. self.old.at ≤ self.new.at) }
+        ensures read { BodyRead (limits_of self.old) result
+            (bodies_of self.old index self.old.documents.bodies.items self.old.at)
+            (bodies_of self.old (index + 1) self.new.documents.bodies.items self.new.at) }
+        ensures waiting { IfOk result (λ _. self.new.documents.waiting ≡
+            self.old.documents.waiting) }
+        ensures onward { IfOk result (λ _. self.old.at ≤ self.new.at) }
         ensures same { Keeps self.old self.new }
     {
         let found = self.body_of(index)?;
@@ -341,9 +343,7 @@ impl<'a, S: Source, const KEEP: u8> Cursor<'a, S, KEEP> {
     #[inline(never)]
     #[tactic(auto, using(crate::proofs::Awaited::bodies_read, crate::proofs::Awaited::bodies_stop))]
     pub(crate) fn bodies(&mut self) -> Result<(), Stop>
-        ensures value { Reads S.bytes self.old (change bodies_here) result (λ done. tt) (state_of self.new) }
-        ensures onward { IfOk result (λ done. self.old.at ≤ self.new.at) }
-        ensures same { Keeps self.old self.new }
+        ensures { Reads self.old (change bodies_here) result (λ _. tt) self.new }
     {
         let mut index = 0;
         'documents: while index < self.documents.waiting.len() {
@@ -358,9 +358,7 @@ impl<'a, S: Source, const KEEP: u8> Cursor<'a, S, KEEP> {
     #[inline(always)]
     #[tactic(auto, using(crate::proofs::Awaited::none_awaited))]
     pub(crate) fn bodies_here(&mut self) -> Result<(), Stop>
-        ensures value { Reads S.bytes self.old (change bodies_here) result (λ done. tt) (state_of self.new) }
-        ensures onward { IfOk result (λ done. self.old.at ≤ self.new.at) }
-        ensures same { Keeps self.old self.new }
+        ensures { Reads self.old (change bodies_here) result (λ _. tt) self.new }
     {
         if self.documents.waiting.is_empty() {
             return Ok(());

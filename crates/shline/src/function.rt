@@ -1,7 +1,7 @@
 //! Functions (XCU 2.9.5), from the `(` behind their names.
-ghost use Rattle.std.specs.Prelude.{◌≡◌, ◌+◌, ◌<◌, ◌≤◌, ◌==◌, map, IfErr, IfOk, true};
-ghost use Rattle.shgrammar.specs.Shows.{IsRead, Shows};
-ghost use Rattle.shline.specs.Clauses.{is_compound, Keeps, Reads, state_of, text_of};
+ghost use Rattle.std.specs.Prelude.{◌≡◌, ◌+◌, ◌≤◌, map, IfErr, IfOk, true};
+ghost use Rattle.shgrammar.specs.Shows.{IsRead};
+ghost use Rattle.shline.specs.Clauses.{Boxed, is_compound, Takes, text_of};
 ghost use Rattle.shgrammar.specs.Commands.{compound_by, named, opener_of};
 ghost use Rattle.shgrammar.specs.Compounds.{a_function, under_name};
 ghost use Rattle.shgrammar.specs.Levels.{level};
@@ -12,7 +12,7 @@ use crate::cursor::Cursor;
 use crate::stop::Stop;
 use shast::make::{function_command, function_of};
 use shast::{Command, Comment, Join, Span};
-use shgrammar::{Closing, FaultKind, Next, Position};
+use shgrammar::{Closing, FaultKind, Position};
 use shtext::Source;
 use std::alloc::{AllocError, Global};
 
@@ -25,7 +25,8 @@ fn under_name(
     command: Command,
 ) -> Result<Command, AllocError>
     ensures memory { IfErr result (λ e. is_compound (view_command command) ≡ true) }
-    ensures value { IfOk result (λ named. view_command named ≡ under_name name (map view_comment comments.items) (view_command command)) }
+    ensures value { IfOk result (λ named. view_command named ≡ under_name name
+        (map view_comment comments.items) (view_command command)) }
 {
     match command {
         Command::Compound(body) => {
@@ -37,79 +38,51 @@ fn under_name(
 }
 
 impl<'a, S: Source, const KEEP: u8> Cursor<'a, S, KEEP> {
-    /// The compound command that the token here has to open, and the redirections behind
-    /// it. `next` is that token, and then the one behind it.
+    /// The compound command that the token here has to open, and the redirections behind it.
     #[cycle(commands)]
-    pub(crate) fn compound_by(
-        &mut self,
-        alloc: Global,
-        next: &mut Next,
-        room: usize,
-    ) -> Result<Command, Stop>
-        requires shows { Shows next.old.token (text_of S.bytes self.old) self.old.at }
-        ensures value { Reads S.bytes self.old (compound_by (level room) next.old (opener_of next.old.token)) result
-            (λ command. (view_command command, next.new)) (state_of self.new) }
-        ensures shows { IfOk result (λ command. Shows next.new.token (text_of S.bytes self.old) self.new.at) }
-        ensures onward { IfOk result (λ command. self.old.at ≤ self.new.at) }
-        ensures tree { IfOk result (λ command. is_compound (view_command command) ≡ true → (KEEP == 1) ≡ true) }
-        ensures same { Keeps self.old self.new }
+    #[tactic(auto, unfolding(crate::specs::InHand::InHand))]
+    pub(crate) fn compound_by(&mut self, room: usize) -> Result<Command, Stop>
+        ensures value { Takes self.old (compound_by (level room) self.old.next (opener_of
+            self.old.next.token)) result (λ x. (view_command x, self.new.next)) self.new }
+        ensures tree { IfOk result (Boxed KEEP) }
     {
-        match next.token.opener() {
+        match self.next.token.opener() {
             Some(opener) => {
-                let command = self.compound(alloc, opener, next, room)?;
-                self.redirected(alloc, command, next, room)
+                let command = self.compound(opener, room)?;
+                self.redirected(command, room)
             }
-            None => Err(Stop::Wrong(self.what_is_wrong(alloc, next, room)?)),
+            None => Err(Stop::Wrong(self.what_is_wrong(room)?)),
         }
     }
 
     /// The brackets behind the name of a function, and its body.
     #[cycle(commands)]
     #[tactic(auto, unfolding(shgrammar::specs::Compounds::a_function))]
-    fn function(
-        &mut self,
-        alloc: Global,
-        name: Span,
-        next: &mut Next,
-        room: usize,
-    ) -> Result<Command, Stop>
-        requires { IsRead (text_of S.bytes self.old) self.old.at }
-        ensures value { Reads S.bytes self.old (a_function (level room) name) result
-            (λ command. (view_command command, next.new)) (state_of self.new) }
-        ensures shows { IfOk result (λ command. Shows next.new.token (text_of S.bytes self.old) self.new.at) }
-        ensures onward { IfOk result (λ command. self.old.at ≤ self.new.at) }
-        ensures same { Keeps self.old self.new }
+    fn function(&mut self, name: Span, room: usize) -> Result<Command, Stop>
+        requires { IsRead (text_of self.old) self.old.next_at }
+        ensures { Takes self.old (a_function (level room) name) result
+            (λ x. (view_command x, self.new.next)) self.new }
     {
-        let _ = self.passed(true, Position::Command, next);
-        self.closing(alloc, Closing::Paren, next, room)?;
+        let _ = self.passed(true, Position::Command);
+        self.closing(Closing::Paren, room)?;
         let mut lines = Join {
             broken: false,
-            comments: Vec::new(alloc),
+            comments: Vec::new(self.alloc),
         };
-        self.linebreak(next, &mut lines)?;
-        let body = self.compound_by(alloc, next, room)?;
-        Ok(under_name(alloc, name, lines.comments, body)?)
+        self.linebreak(&mut lines)?;
+        let body = self.compound_by(room)?;
+        Ok(under_name(self.alloc, name, lines.comments, body)?)
     }
 
     /// The function whose name, which begins at `start`, has to be a NAME. Its `(` stands here.
     #[cycle(commands)]
-    #[tactic(auto, using(shgrammar::proofs::Levels::function_below, shgrammar::proofs::Levels::function_closed))]
-    pub(crate) fn named(
-        &mut self,
-        alloc: Global,
-        name: Span,
-        start: usize,
-        next: &mut Next,
-        room: usize,
-    ) -> Result<Command, Stop>
-        requires here { IsRead (text_of S.bytes self.old) self.old.at }
-        requires before { start ≤ self.old.at }
+    #[tactic(auto, unfolding(crate::specs::InHand::InHand), using(shgrammar::proofs::Levels::function_below, shgrammar::proofs::Levels::function_closed))]
+    pub(crate) fn named(&mut self, name: Span, start: usize, room: usize) -> Result<Command, Stop>
+        requires here { IsRead (text_of self.old) self.old.next_at }
+        requires before { start ≤ self.old.next_at }
         requires begin { name.start ≡ self.old.origin + start }
-        ensures value { Reads S.bytes self.old (named (level room) (is_name_at (text_of S.bytes self.old) start) name) result
-            (λ command. (view_command command, next.new)) (state_of self.new) }
-        ensures shows { IfOk result (λ command. Shows next.new.token (text_of S.bytes self.old) self.new.at) }
-        ensures onward { IfOk result (λ command. self.old.at ≤ self.new.at) }
-        ensures same { Keeps self.old self.new }
+        ensures { Takes self.old (named (level room) (is_name_at (text_of self.old) start) name)
+            result (λ x. (view_command x, self.new.next)) self.new }
     {
         if !self.is_name(start) {
             return Err(self.wrong_at(FaultKind::BadFunctionName, start));
@@ -117,6 +90,6 @@ impl<'a, S: Source, const KEEP: u8> Cursor<'a, S, KEEP> {
         if room == 0 {
             return Err(self.wrong_at(FaultKind::TooDeep, start));
         }
-        self.function(alloc, name, next, room - 1)
+        self.function(name, room - 1)
     }
 }

@@ -35,6 +35,6 @@ mod token;
 mod told;
 mod word;
 
-pub use cursor::{KEPT, SEEN};
+pub use cursor::{How, KEPT, SEEN};
 pub use stop::Stop;
-pub use told::{Told, line_at, line_at_with};
+pub use told::{Begin, Told, line_at};

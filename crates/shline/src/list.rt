@@ -1,10 +1,9 @@
 //! Lists: entries on one line or on many (XCU 2.9.3, 2.10.2).
-ghost use Rattle.std.specs.Prelude.{◌≡◌, ◌≤◌, ◌++◌, [], ◌∷◌, IfOk, None, false, map};
-ghost use Rattle.shline.specs.Clauses.{Keeps, Onward, Reads, state_of, Stays, text_of};
-ghost use Rattle.shgrammar.specs.Shows.{Shows};
+ghost use Rattle.std.specs.Prelude.{◌≡◌, ◌++◌, [], ◌∷◌, IfOk, None, false, map};
+ghost use Rattle.shline.specs.Clauses.{Holds, Takes, Turns};
 ghost use Rattle.shgrammar.specs.Commands.{past_separator};
 ghost use Rattle.shgrammar.specs.Compounds.{a_body};
-ghost use Rattle.shgrammar.specs.Form.{many, step_if};
+ghost use Rattle.shgrammar.specs.Form.{many};
 ghost use Rattle.shgrammar.specs.Levels.{level};
 ghost use Rattle.shline.specs.Listed.{view_listed};
 ghost use Rattle.shgrammar.specs.Lists.{a_list, a_remark, entry_turn, list_so, list_turn, next_line, none_listed, on_line};
@@ -15,7 +14,7 @@ use crate::cursor::Cursor;
 use crate::stop::Stop;
 use shast::make::{and_or_of, command_entry, comment_entry, list_of, pipeline_of};
 use shast::{Comment, Entry, List};
-use shgrammar::{Next, Separator, Token};
+use shgrammar::{Separator, Token};
 use shtext::Source;
 use std::alloc::{AllocError, Global};
 use std::mem;
@@ -50,8 +49,8 @@ fn past_separator(separator: Option<(Separator, usize)>) -> Option<usize>
 /// One more entry, which is this comment. It stands apart to keep the frames of nested commands small.
 #[inline(never)]
 fn add_comment(entries: &mut Vec<Entry>, comment: Comment, blank: bool) -> Result<(), AllocError>
-    ensures { IfOk result (λ done. map view_entry entries.new.items ≡
-        map view_entry entries.old.items ++ entry (remark (view_comment comment)) false blank None ∷ []) }
+    ensures { IfOk result (λ _. map view_entry entries.new.items ≡ map view_entry entries.old.items
+        ++ entry (remark (view_comment comment)) false blank None ∷ []) }
 {
     entries.push(comment_entry(comment, blank))?;
     Ok(())
@@ -85,7 +84,7 @@ impl Listed {
     /// it takes room for no more. Most are.
     #[inline(always)]
     fn room_for_only(&mut self, behind: Token) -> Result<(), AllocError>
-        ensures { IfOk result (λ done. view_listed self.new ≡ view_listed self.old) }
+        ensures { IfOk result (λ _. view_listed self.new ≡ view_listed self.old) }
     {
         if self.entries.capacity() == 0 && !self.goes_on(behind) {
             self.entries.reserve_exact(1)?;
@@ -112,22 +111,16 @@ impl Listed {
 }
 
 impl<'a, S: Source, const KEEP: u8> Cursor<'a, S, KEEP> {
-    /// Makes room for an entry, before this token, in spare room where there is some.
+    /// Makes room for an entry, before the token in hand, in spare room where there is some.
     #[inline(always)]
-    fn room_for_entry(
-        &mut self,
-        alloc: Global,
-        listed: &mut Listed,
-        behind: Token,
-    ) -> Result<(), AllocError>
-        ensures listed { IfOk result (λ done. view_listed listed.new ≡ view_listed listed.old) }
-        ensures place { self.new.at ≡ self.old.at }
-        ensures same { Stays self.old self.new }
+    fn room_for_entry(&mut self, listed: &mut Listed) -> Result<(), AllocError>
+        ensures listed { IfOk result (λ _. view_listed listed.new ≡ view_listed listed.old) }
+        ensures same { Holds self.old self.new }
     {
         if listed.entries.is_empty() {
-            listed.entries = self.room_for_entries(alloc);
+            listed.entries = self.room_for_entries();
         }
-        listed.room_for_only(behind)
+        listed.room_for_only(self.next.token)
     }
 
     /// One more entry of a line, if the token here begins one: a command, with what parts it from the next
@@ -135,37 +128,27 @@ impl<'a, S: Source, const KEEP: u8> Cursor<'a, S, KEEP> {
     #[cycle(commands)]
     #[inline(always)]
     #[tactic(auto, unfolding(shgrammar::specs::Lists::entry_turn, shgrammar::specs::Lists::one_entry, shgrammar::specs::Commands::an_entry, shgrammar::specs::Commands::an_and_or, shgrammar::specs::Commands::a_pipeline))]
-    fn next_entry(
-        &mut self,
-        alloc: Global,
-        next: &mut Next,
-        listed: &mut Listed,
-        room: usize,
-    ) -> Result<bool, Stop>
-        requires shows { Shows next.old.token (text_of S.bytes self.old) self.old.at }
-        ensures value { Reads S.bytes self.old (entry_turn (level room) (list_so (view_listed listed.old) next.old)) result
-            (λ more. step_if more (list_so (view_listed listed.new) next.new)) (state_of self.new) }
-        ensures shows { IfOk result (λ more. Shows next.new.token (text_of S.bytes self.old) self.new.at) }
-        ensures onward { IfOk result (Onward self.old.at self.new.at) }
-        ensures same { Keeps self.old self.new }
+    fn next_entry(&mut self, listed: &mut Listed, room: usize) -> Result<bool, Stop>
+        ensures { Turns self.old (entry_turn (level room) (list_so (view_listed listed.old)
+            self.old.next)) result (list_so (view_listed listed.new) self.new.next) self.new }
     {
-        if !next.token.begins_pipeline() {
+        if !self.next.token.begins_pipeline() {
             return Ok(false);
         }
         let blank = listed.blank && !listed.begun;
         // Its parts are read here: a pipeline and an and-or list would each be moved out of a `Result`.
-        let bang = self.bang(next);
-        let first = self.command(alloc, next, room)?;
-        let commands = self.pipes(alloc, next, room)?;
-        let pipelines = self.joined_pipelines(alloc, next, room)?;
-        let separator = self.separator(next);
-        let comment = self.remark(next);
+        let bang = self.bang();
+        let first = self.command(room)?;
+        let commands = self.pipes(room)?;
+        let pipelines = self.joined_pipelines(room)?;
+        let separator = self.separator();
+        let comment = self.remark();
         listed.begun = true;
         listed.commands = true;
         listed.parted = past_separator(separator);
         if self.grows() {
             let background = matches!(separator, Some((Separator::Ampersand, _)));
-            self.room_for_entry(alloc, listed, next.token)?;
+            self.room_for_entry(listed)?;
             listed.entries.push(command_entry(
                 and_or_of(pipeline_of(bang, first, commands), pipelines),
                 background,
@@ -184,45 +167,26 @@ impl<'a, S: Source, const KEEP: u8> Cursor<'a, S, KEEP> {
     /// All of them.
     #[cycle(commands)]
     #[tactic(auto, using(shgrammar::proofs::Turns::many_again, shgrammar::proofs::Turns::many_done, crate::proofs::Stops::many_stop, shgrammar::proofs::Turns::last_entry))]
-    fn entries(
-        &mut self,
-        alloc: Global,
-        next: &mut Next,
-        listed: &mut Listed,
-        room: usize,
-    ) -> Result<(), Stop>
-        requires shows { Shows next.old.token (text_of S.bytes self.old) self.old.at }
-        ensures value { Reads S.bytes self.old (many (entry_turn (level room)) (list_so (view_listed listed.old) next.old)) result
-            (λ done. list_so (view_listed listed.new) next.new) (state_of self.new) }
-        ensures shows { IfOk result (λ done. Shows next.new.token (text_of S.bytes self.old) self.new.at) }
-        ensures onward { IfOk result (λ done. self.old.at ≤ self.new.at) }
-        ensures same { Keeps self.old self.new }
+    fn entries(&mut self, listed: &mut Listed, room: usize) -> Result<(), Stop>
+        ensures { Takes self.old (many (entry_turn (level room)) (list_so (view_listed listed.old)
+            self.old.next)) result (λ _. list_so (view_listed listed.new) self.new.next) self.new }
     {
-        'turns: while self.next_entry(alloc, next, listed, room)? && next.token.begins_pipeline() {}
+        'turns: while self.next_entry(listed, room)? && self.next.token.begins_pipeline() {}
         Ok(())
     }
 
     /// The comment of a line without entries, or behind its last separator, as an entry.
     #[inline(always)]
     #[tactic(auto, unfolding(shgrammar::specs::Lists::a_remark))]
-    fn own_comment(
-        &mut self,
-        alloc: Global,
-        next: &mut Next,
-        listed: &mut Listed,
-    ) -> Result<(), Stop>
-        requires shows { Shows next.old.token (text_of S.bytes self.old) self.old.at }
-        ensures value { Reads S.bytes self.old (a_remark (list_so (view_listed listed.old) next.old)) result
-            (λ done. list_so (view_listed listed.new) next.new) (state_of self.new) }
-        ensures shows { IfOk result (λ done. Shows next.new.token (text_of S.bytes self.old) self.new.at) }
-        ensures onward { IfOk result (λ done. self.old.at ≤ self.new.at) }
-        ensures same { Stays self.old self.new }
+    fn own_comment(&mut self, listed: &mut Listed) -> Result<(), Stop>
+        ensures { Takes self.old (a_remark (list_so (view_listed listed.old) self.old.next)) result
+            (λ _. list_so (view_listed listed.new) self.new.next) self.new }
     {
-        if let Some(comment) = self.remark(next) {
+        if let Some(comment) = self.remark() {
             let blank = listed.blank && !listed.begun;
             listed.begun = true;
             if self.grows() {
-                self.room_for_entry(alloc, listed, next.token)?;
+                self.room_for_entry(listed)?;
                 add_comment(&mut listed.entries, comment, blank)?;
             }
         }
@@ -234,24 +198,14 @@ impl<'a, S: Source, const KEEP: u8> Cursor<'a, S, KEEP> {
     #[cycle(commands)]
     #[inline(always)]
     #[tactic(auto, unfolding(shgrammar::specs::Lists::on_line), using(shgrammar::proofs::Turns::no_entries))]
-    pub(crate) fn on_line(
-        &mut self,
-        alloc: Global,
-        next: &mut Next,
-        listed: &mut Listed,
-        room: usize,
-    ) -> Result<(), Stop>
-        requires shows { Shows next.old.token (text_of S.bytes self.old) self.old.at }
-        ensures value { Reads S.bytes self.old (on_line (level room) (list_so (view_listed listed.old) next.old)) result
-            (λ done. list_so (view_listed listed.new) next.new) (state_of self.new) }
-        ensures shows { IfOk result (λ done. Shows next.new.token (text_of S.bytes self.old) self.new.at) }
-        ensures onward { IfOk result (λ done. self.old.at ≤ self.new.at) }
-        ensures same { Keeps self.old self.new }
+    pub(crate) fn on_line(&mut self, listed: &mut Listed, room: usize) -> Result<(), Stop>
+        ensures { Takes self.old (on_line (level room) (list_so (view_listed listed.old)
+            self.old.next)) result (λ _. list_so (view_listed listed.new) self.new.next) self.new }
     {
-        if next.token.begins_pipeline() {
-            self.entries(alloc, next, listed, room)?;
+        if self.next.token.begins_pipeline() {
+            self.entries(listed, room)?;
         }
-        self.own_comment(alloc, next, listed)?;
+        self.own_comment(listed)?;
         Ok(())
     }
 
@@ -259,22 +213,12 @@ impl<'a, S: Source, const KEEP: u8> Cursor<'a, S, KEEP> {
     #[cycle(commands)]
     #[inline(always)]
     #[tactic(auto, unfolding(shgrammar::specs::Lists::list_turn))]
-    fn list_line(
-        &mut self,
-        alloc: Global,
-        next: &mut Next,
-        listed: &mut Listed,
-        room: usize,
-    ) -> Result<bool, Stop>
-        requires shows { Shows next.old.token (text_of S.bytes self.old) self.old.at }
-        ensures value { Reads S.bytes self.old (list_turn (level room) (list_so (view_listed listed.old) next.old)) result
-            (λ more. step_if more (list_so (view_listed listed.new) next.new)) (state_of self.new) }
-        ensures shows { IfOk result (λ more. Shows next.new.token (text_of S.bytes self.old) self.new.at) }
-        ensures onward { IfOk result (Onward self.old.at self.new.at) }
-        ensures same { Keeps self.old self.new }
+    fn list_line(&mut self, listed: &mut Listed, room: usize) -> Result<bool, Stop>
+        ensures { Turns self.old (list_turn (level room) (list_so (view_listed listed.old)
+            self.old.next)) result (list_so (view_listed listed.new) self.new.next) self.new }
     {
-        self.on_line(alloc, next, listed, room)?;
-        let newline = self.newline(next)?;
+        self.on_line(listed, room)?;
+        let newline = self.newline()?;
         listed.next_line();
         Ok(newline)
     }
@@ -282,42 +226,23 @@ impl<'a, S: Source, const KEEP: u8> Cursor<'a, S, KEEP> {
     /// All of them.
     #[cycle(commands)]
     #[tactic(auto, using(shgrammar::proofs::Turns::many_again, shgrammar::proofs::Turns::many_done, crate::proofs::Stops::many_stop))]
-    pub(crate) fn list_lines(
-        &mut self,
-        alloc: Global,
-        next: &mut Next,
-        listed: &mut Listed,
-        room: usize,
-    ) -> Result<(), Stop>
-        requires shows { Shows next.old.token (text_of S.bytes self.old) self.old.at }
-        ensures value { Reads S.bytes self.old (many (list_turn (level room)) (list_so (view_listed listed.old) next.old)) result
-            (λ done. list_so (view_listed listed.new) next.new) (state_of self.new) }
-        ensures shows { IfOk result (λ done. Shows next.new.token (text_of S.bytes self.old) self.new.at) }
-        ensures onward { IfOk result (λ done. self.old.at ≤ self.new.at) }
-        ensures same { Keeps self.old self.new }
+    pub(crate) fn list_lines(&mut self, listed: &mut Listed, room: usize) -> Result<(), Stop>
+        ensures { Takes self.old (many (list_turn (level room)) (list_so (view_listed listed.old)
+            self.old.next)) result (λ _. list_so (view_listed listed.new) self.new.next) self.new }
     {
-        'turns: while self.list_line(alloc, next, listed, room)? {}
+        'turns: while self.list_line(listed, room)? {}
         Ok(())
     }
 
     /// The entries of the body of an item of a `case`, which may hold no command.
     #[cycle(commands)]
     #[tactic(auto, unfolding(shgrammar::specs::Compounds::a_body))]
-    pub(crate) fn body(
-        &mut self,
-        alloc: Global,
-        next: &mut Next,
-        room: usize,
-    ) -> Result<Listed, Stop>
-        requires shows { Shows next.old.token (text_of S.bytes self.old) self.old.at }
-        ensures value { Reads S.bytes self.old (a_body (level room) next.old) result
-            (λ listed. list_so (view_listed listed) next.new) (state_of self.new) }
-        ensures shows { IfOk result (λ listed. Shows next.new.token (text_of S.bytes self.old) self.new.at) }
-        ensures onward { IfOk result (λ listed. self.old.at ≤ self.new.at) }
-        ensures same { Keeps self.old self.new }
+    pub(crate) fn body(&mut self, room: usize) -> Result<Listed, Stop>
+        ensures { Takes self.old (a_body (level room) self.old.next) result
+            (λ listed. list_so (view_listed listed) self.new.next) self.new }
     {
-        let mut listed = Listed::new(alloc, false);
-        self.list_lines(alloc, next, &mut listed, room)?;
+        let mut listed = Listed::new(self.alloc, false);
+        self.list_lines(&mut listed, room)?;
         Ok(listed)
     }
 
@@ -325,17 +250,14 @@ impl<'a, S: Source, const KEEP: u8> Cursor<'a, S, KEEP> {
     /// asks for what has to follow.
     #[cycle(commands)]
     #[tactic(auto, unfolding(shgrammar::specs::Lists::a_list))]
-    pub(crate) fn list(&mut self, alloc: Global, next: &mut Next, room: usize) -> Result<List, Stop>
-        requires shows { Shows next.old.token (text_of S.bytes self.old) self.old.at }
-        ensures value { Reads S.bytes self.old (a_list (level room) next.old) result (λ list. (view_list list, next.new)) (state_of self.new) }
-        ensures shows { IfOk result (λ list. Shows next.new.token (text_of S.bytes self.old) self.new.at) }
-        ensures onward { IfOk result (λ list. self.old.at ≤ self.new.at) }
-        ensures same { Keeps self.old self.new }
+    pub(crate) fn list(&mut self, room: usize) -> Result<List, Stop>
+        ensures { Takes self.old (a_list (level room) self.old.next) result
+            (λ x. (view_list x, self.new.next)) self.new }
     {
-        let mut listed = Listed::new(alloc, false);
-        self.list_lines(alloc, next, &mut listed, room)?;
+        let mut listed = Listed::new(self.alloc, false);
+        self.list_lines(&mut listed, room)?;
         if !listed.commands {
-            return Err(Stop::Wrong(self.what_is_wrong(alloc, next, room)?));
+            return Err(Stop::Wrong(self.what_is_wrong(room)?));
         }
         Ok(list_of(listed.entries))
     }

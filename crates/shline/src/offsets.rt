@@ -12,7 +12,7 @@ use shtext::Source;
 impl<'a, S: Source, const KEEP: u8> Cursor<'a, S, KEEP> {
     /// What stops the reading at a place.
     pub(crate) fn wrong_at(&self, kind: FaultKind, place: usize) -> Stop
-        requires { place ≤ length (text_of S.bytes self.now) }
+        requires { place ≤ length (text_of self.now) }
         ensures { result ≡ Stop.Wrong (record { kind = kind; at = self.now.origin + place }) }
     {
         Stop::Wrong(Fault {

@@ -1,11 +1,11 @@
 //! Which piece of a word begins at a place, and the pieces that hold no others (XCU 2.2, 2.6).
-ghost use Rattle.std.specs.Prelude.{◌≡◌, ◌≢◌, ◌⊎◌, ◌+◌, ◌<◌, ◌≤◌, length, IfOk, Some, false, true};
+ghost use Rattle.std.specs.Prelude.{◌≡◌, ◌≢◌, ◌⊎◌, ◌+◌, ◌<◌, ◌≤◌, length, IfOk, Some, false};
 ghost use Rattle.shgrammar.specs.Bytes.{behind, ends, ends_word, past_continuations, stands};
 ghost use Rattle.shgrammar.specs.Shows.{IsRead};
-ghost use Rattle.shline.specs.Clauses.{Reads, state_of, Stays, text_of};
+ghost use Rattle.shline.specs.Pieces.{PieceShows};
+ghost use Rattle.shline.specs.Clauses.{Moves, Reads, text_of};
 ghost use Rattle.shgrammar.specs.Form.{many, step_if};
 ghost use Rattle.shgrammar.specs.Pieces.{bracket_by, byte_by, dollar_at, past_parameter, piece_at, piece_in, rest_mode};
-ghost use Rattle.shgrammar.specs.Standing.{raw_stands};
 ghost use Rattle.shgrammar.specs.Words.{backquoted, dollar_single, escaped_turn, single};
 
 use crate::cursor::Cursor;
@@ -19,13 +19,16 @@ impl<'a, S: Source, const KEEP: u8> Cursor<'a, S, KEEP> {
     #[inline(always)]
     #[tactic(auto, unfolding(shgrammar::specs::Pieces::dollar_at, shgrammar::specs::Bytes::behind, shgrammar::specs::Bytes::stands))]
     fn dollar(&self, here: usize) -> Piece
-        requires here { here ≡ past_continuations (text_of S.bytes self.now) self.now.at }
-        requires some { here < length (text_of S.bytes self.now) }
-        ensures value { result ≡ dollar_at (text_of S.bytes self.now) self.now.at }
-        ensures two { (result ≡ Piece.Pid) ⊎ (result ≡ Piece.Subst) ⊎ (result ≡ Piece.Arith) ⊎ (result ≡ Piece.Param) ⊎ (result ≡ Piece.DollarSingle) →
-            IsRead (text_of S.bytes self.now) (here + 1) }
-        ensures three { result ≡ Piece.Arith → IsRead (text_of S.bytes self.now) (behind (text_of S.bytes self.now) (here + 1)) }
-        ensures kinds { (result ≢ Piece.Closer) × (result ≢ Piece.Missing) × (result ≢ Piece.Escape) × (result ≢ Piece.Close) }
+        requires here { here ≡ past_continuations (text_of self.now) self.now.at }
+        requires some { here < length (text_of self.now) }
+        ensures value { result ≡ dollar_at (text_of self.now) self.now.at }
+        ensures two { (result ≡ Piece.Pid) ⊎ (result ≡ Piece.Subst) ⊎ (result ≡ Piece.Arith) ⊎
+            (result ≡ Piece.Param) ⊎ (result ≡ Piece.DollarSingle) → IsRead (text_of self.now)
+            (here + 1) }
+        ensures three { result ≡ Piece.Arith → IsRead (text_of self.now)
+            (behind (text_of self.now) (here + 1)) }
+        ensures kinds { (result ≢ Piece.Closer) × (result ≢ Piece.Missing) × (result ≢ Piece.Escape)
+            × (result ≢ Piece.Close) }
     {
         let next = here + 1;
         match self.byte_at(next) {
@@ -47,13 +50,14 @@ impl<'a, S: Source, const KEEP: u8> Cursor<'a, S, KEEP> {
     #[inline(always)]
     #[tactic(auto, unfolding(shgrammar::specs::Bytes::behind))]
     fn bracket(&self, nested: usize, here: usize) -> Piece
-        requires here { here ≡ past_continuations (text_of S.bytes self.now) self.now.at }
-        requires some { here < length (text_of S.bytes self.now) }
+        requires here { here ≡ past_continuations (text_of self.now) self.now.at }
+        requires some { here < length (text_of self.now) }
         ensures value { result ≡ bracket_by nested
-            (stands (text_of S.bytes self.now) (behind (text_of S.bytes self.now) self.now.at) 41) }
-        ensures closer { result ≡ Piece.Closer → IsRead (text_of S.bytes self.now) (here + 1) }
+            (stands (text_of self.now) (behind (text_of self.now) self.now.at) 41) }
+        ensures closer { result ≡ Piece.Closer → IsRead (text_of self.now) (here + 1) }
         ensures close { result ≡ Piece.Close → 0 < nested }
-        ensures kinds { (result ≡ Piece.Closer) ⊎ (result ≡ Piece.Close) ⊎ (result ≡ Piece.BadClose) }
+        ensures kinds { (result ≡ Piece.Closer) ⊎ (result ≡ Piece.Close) ⊎
+            (result ≡ Piece.BadClose) }
     {
         if nested > 0 {
             return Piece::Close;
@@ -68,14 +72,11 @@ impl<'a, S: Source, const KEEP: u8> Cursor<'a, S, KEEP> {
     /// The piece that a byte begins which is no backslash, no backquote and no `$`.
     #[inline(always)]
     fn byte_piece(&self, mode: Mode, nested: usize, byte: u8, here: usize) -> Piece
-        requires here { here ≡ past_continuations (text_of S.bytes self.now) self.now.at }
-        requires some { here < length (text_of S.bytes self.now) }
-        ensures value { result ≡ byte_by (text_of S.bytes self.now) self.now.at mode nested byte }
-        ensures closer { mode ≡ Mode.Arith → result ≡ Piece.Closer → IsRead (text_of S.bytes self.now) (here + 1) }
-        ensures close { result ≡ Piece.Close → 0 < nested }
+        requires here { here ≡ past_continuations (text_of self.now) self.now.at }
+        requires some { here < length (text_of self.now) }
+        ensures value { result ≡ byte_by (text_of self.now) self.now.at mode nested byte }
+        ensures shows { PieceShows mode nested result (text_of self.now) here }
         ensures word { mode ≡ Mode.Plain → ends (Some byte) ≡ false → result ≢ Piece.Closer }
-        ensures kinds { (result ≢ Piece.Missing) × (result ≢ Piece.Escape)
-            × (result ≢ Piece.Pid) × (result ≢ Piece.Subst) × (result ≢ Piece.Arith) × (result ≢ Piece.Param) }
     {
         match byte {
             b'"' => match mode {
@@ -103,19 +104,13 @@ impl<'a, S: Source, const KEEP: u8> Cursor<'a, S, KEEP> {
     #[inline(always)]
     #[tactic(auto, unfolding(shgrammar::specs::Pieces::piece_at, shgrammar::specs::Standing::raw_stands, shgrammar::specs::Bytes::ends_word, shgrammar::specs::Bytes::behind))]
     pub(crate) fn piece(&self, mode: Mode, nested: usize, here: usize) -> Piece
-        requires here { here ≡ past_continuations (text_of S.bytes self.now) self.now.at }
-        requires within { here ≤ length (text_of S.bytes self.now) }
-        ensures value { result ≡ piece_in self.now.how.edition mode (piece_at (text_of S.bytes self.now) mode nested self.now.at) }
-        ensures some { (result ≢ Piece.Missing) × ((mode ≢ Mode.Plain) ⊎ (result ≢ Piece.Closer)) →
-            here < length (text_of S.bytes self.now) }
-        ensures escape { result ≡ Piece.Escape → (here + 2 ≤ length (text_of S.bytes self.now)) ×
-            (raw_stands (text_of S.bytes self.now) here 92 ≡ true) }
-        ensures two { (result ≡ Piece.Pid) ⊎ (result ≡ Piece.Subst) ⊎ (result ≡ Piece.Arith) ⊎ (result ≡ Piece.Param) ⊎ (result ≡ Piece.DollarSingle) →
-            IsRead (text_of S.bytes self.now) (here + 1) }
-        ensures three { result ≡ Piece.Arith → IsRead (text_of S.bytes self.now) (behind (text_of S.bytes self.now) (here + 1)) }
-        ensures closer { mode ≡ Mode.Arith → result ≡ Piece.Closer → IsRead (text_of S.bytes self.now) (here + 1) }
-        ensures close { result ≡ Piece.Close → 0 < nested }
-        ensures word { mode ≡ Mode.Plain → ends_word (text_of S.bytes self.now) self.now.at ≡ false → result ≢ Piece.Closer }
+        requires here { here ≡ past_continuations (text_of self.now) self.now.at }
+        requires within { here ≤ length (text_of self.now) }
+        ensures value { result ≡ piece_in self.now.how.edition mode
+            (piece_at (text_of self.now) mode nested self.now.at) }
+        ensures shows { PieceShows mode nested result (text_of self.now) here }
+        ensures word { mode ≡ Mode.Plain → ends_word (text_of self.now) self.now.at ≡ false → result
+            ≢ Piece.Closer }
     {
         match self.raw_byte(here) {
             None => {
@@ -141,9 +136,7 @@ impl<'a, S: Source, const KEEP: u8> Cursor<'a, S, KEEP> {
     /// Passes the parameter of an expansion: a name, digits, a special parameter or nothing.
     #[tactic(auto, unfolding(shgrammar::specs::Pieces::past_parameter, shgrammar::specs::Bytes::stands_in))]
     pub(crate) fn parameter(&mut self)
-        ensures value { self.new.at ≡ past_parameter (text_of S.bytes self.old) self.old.at }
-        ensures onward { self.old.at ≤ self.new.at }
-        ensures same { Stays self.old self.new }
+        ensures { Moves self.old self.new (past_parameter (text_of self.old) self.old.at) }
     {
         let at = self.at;
         match self.byte_at(at) {
@@ -157,22 +150,21 @@ impl<'a, S: Source, const KEEP: u8> Cursor<'a, S, KEEP> {
     /// How the rest of an expansion is read that opened in this mode.
     #[tactic(auto, unfolding(shgrammar::specs::Pieces::rest_mode, shgrammar::specs::Bytes::stands))]
     pub(crate) fn rest_mode(&self, mode: Mode) -> Mode
-        ensures { result ≡ rest_mode (text_of S.bytes self.now) mode self.now.at }
+        ensures { result ≡ rest_mode (text_of self.now) mode self.now.at }
     {
-        match self.byte() {
+        match self.byte_at(self.at) {
             Some(b'#' | b'%') => Mode::Brace,
             _ => mode.braces(),
         }
     }
 
     /// Text in single quotes, from its opener on.
-    #[tactic(auto, unfolding(shgrammar::specs::Words::single, shgrammar::specs::Pieces::past_taken, shgrammar::specs::Bytes::behind), using(shgrammar::proofs::Places::quote_clear))]
+    #[tactic(auto, unfolding(shgrammar::specs::Words::single, shgrammar::specs::Pieces::past_taken, shgrammar::specs::Bytes::behind), using(shgrammar::proofs::Places::quote_clear, shgrammar::proofs::Stretches::place_low))]
     pub(crate) fn single(&mut self, opener: usize) -> Result<(), Stop>
-        requires opener { opener ≡ past_continuations (text_of S.bytes self.old) self.old.at }
-        requires some { opener < length (text_of S.bytes self.old) }
-        ensures value { Reads S.bytes self.old single result (λ done. tt) (state_of self.new) }
-        ensures onward { IfOk result (λ done. opener < self.new.at) }
-        ensures same { Stays self.old self.new }
+        requires opener { opener ≡ past_continuations (text_of self.old) self.old.at }
+        requires some { opener < length (text_of self.old) }
+        ensures value { Reads self.old single result (λ _. tt) self.new }
+        ensures onward { IfOk result (λ _. opener < self.new.at) }
     {
         let closer = self.next_quote(opener + 1);
         if self.at_end(closer) {
@@ -187,11 +179,9 @@ impl<'a, S: Source, const KEEP: u8> Cursor<'a, S, KEEP> {
     #[tactic(auto, unfolding(shgrammar::specs::Words::escaped_turn, shgrammar::specs::Pieces::past_taken), using(shgrammar::proofs::Places::backslash_next, shgrammar::proofs::Places::closer_is))]
     fn escaped_turn(&mut self, escaping: Escaping, opener: usize) -> Result<bool, Stop>
         requires { opener ≤ self.old.at }
-        ensures value { Reads S.bytes self.old
-            (escaped_turn escaping (self.old.origin + opener) tt) result
-            (λ more. step_if more tt) (state_of self.new) }
+        ensures value { Reads self.old (escaped_turn escaping (self.old.origin + opener) tt) result
+            (λ more. step_if more tt) self.new }
         ensures onward { IfOk result (λ more. self.old.at < self.new.at) }
-        ensures same { Stays self.old self.new }
     {
         let at = self.at;
         let next = self.find(Sought::Either(escaping.closer(), b'\\'), at);
@@ -213,24 +203,21 @@ impl<'a, S: Source, const KEEP: u8> Cursor<'a, S, KEEP> {
     #[tactic(auto, using(shgrammar::proofs::Turns::many_again, shgrammar::proofs::Turns::many_done, crate::proofs::Stops::many_stop))]
     fn escaped(&mut self, escaping: Escaping, opener: usize) -> Result<(), Stop>
         requires { opener ≤ self.old.at }
-        ensures value { Reads S.bytes self.old
-            (many (escaped_turn escaping (self.old.origin + opener)) tt) result
-            (λ done. tt) (state_of self.new) }
-        ensures onward { IfOk result (λ done. self.old.at < self.new.at) }
-        ensures same { Stays self.old self.new }
+        ensures value { Reads self.old (many (escaped_turn escaping (self.old.origin + opener)) tt)
+            result (λ _. tt) self.new }
+        ensures onward { IfOk result (λ _. self.old.at < self.new.at) }
     {
         'turns: while self.escaped_turn(escaping, opener)? {}
         Ok(())
     }
 
     /// Text in backquotes, from its opener on.
-    #[tactic(auto, unfolding(shgrammar::specs::Words::backquoted, shgrammar::specs::Bytes::behind))]
+    #[tactic(auto, unfolding(shgrammar::specs::Words::backquoted, shgrammar::specs::Bytes::behind), using(shgrammar::proofs::Stretches::place_low))]
     pub(crate) fn backquoted(&mut self, opener: usize) -> Result<(), Stop>
-        requires opener { opener ≡ past_continuations (text_of S.bytes self.old) self.old.at }
-        requires some { opener < length (text_of S.bytes self.old) }
-        ensures value { Reads S.bytes self.old backquoted result (λ done. tt) (state_of self.new) }
-        ensures onward { IfOk result (λ done. opener < self.new.at) }
-        ensures same { Stays self.old self.new }
+        requires opener { opener ≡ past_continuations (text_of self.old) self.old.at }
+        requires some { opener < length (text_of self.old) }
+        ensures value { Reads self.old backquoted result (λ _. tt) self.new }
+        ensures onward { IfOk result (λ _. opener < self.new.at) }
     {
         self.at = opener + 1;
         self.escaped(Escaping::Backquotes, opener)
@@ -239,12 +226,11 @@ impl<'a, S: Source, const KEEP: u8> Cursor<'a, S, KEEP> {
     /// Text in dollar-single quotes, from its `$` on.
     #[tactic(auto, unfolding(shgrammar::specs::Words::dollar_single, shgrammar::specs::Bytes::behind), using(shgrammar::proofs::Stretches::place_low))]
     pub(crate) fn dollar_single(&mut self, opener: usize) -> Result<(), Stop>
-        requires opener { opener ≡ past_continuations (text_of S.bytes self.old) self.old.at }
-        requires some { opener < length (text_of S.bytes self.old) }
-        requires two { IsRead (text_of S.bytes self.old) (opener + 1) }
-        ensures value { Reads S.bytes self.old dollar_single result (λ done. tt) (state_of self.new) }
-        ensures onward { IfOk result (λ done. opener < self.new.at) }
-        ensures same { Stays self.old self.new }
+        requires opener { opener ≡ past_continuations (text_of self.old) self.old.at }
+        requires some { opener < length (text_of self.old) }
+        requires two { IsRead (text_of self.old) (opener + 1) }
+        ensures value { Reads self.old dollar_single result (λ _. tt) self.new }
+        ensures onward { IfOk result (λ _. opener < self.new.at) }
     {
         self.at = self.behind(opener + 1);
         self.escaped(Escaping::DollarSingle, opener)

@@ -1,9 +1,9 @@
 //! Pipelines (XCU 2.9.2).
-ghost use Rattle.std.specs.Prelude.{◌≡◌, ◌<◌, ◌≤◌, [], map, IfOk, Ok as Done};
-ghost use Rattle.shgrammar.specs.Shows.{IsRead, Shows};
-ghost use Rattle.shline.specs.Clauses.{Keeps, Onward, reads, Reads, state_of, Stays, text_of};
+ghost use Rattle.std.specs.Prelude.{[], map};
+ghost use Rattle.shgrammar.specs.Shows.{IsRead};
+ghost use Rattle.shline.specs.Clauses.{Adds, Finds, Takes, text_of, Turns};
 ghost use Rattle.shgrammar.specs.Commands.{a_bang, a_pipeline, one_command, pipe_turn, piped};
-ghost use Rattle.shgrammar.specs.Form.{again, many, step_if};
+ghost use Rattle.shgrammar.specs.Form.{many};
 ghost use Rattle.shgrammar.specs.Levels.{level};
 ghost use Rattle.shast.specs.View.{view_pipeline, view_pipeline_part};
 
@@ -11,29 +11,24 @@ use crate::cursor::Cursor;
 use crate::stop::Stop;
 use shast::make::{pipeline_of, pipeline_part_of};
 use shast::{Pipeline, PipelinePart, Span};
-use shgrammar::{Next, Position, Reserved, Token};
+use shgrammar::{Position, Reserved, Token};
 use shtext::Source;
-use std::alloc::Global;
 use std::mem;
 
 impl<'a, S: Source, const KEEP: u8> Cursor<'a, S, KEEP> {
     /// Passes the `!` of a pipeline, if one stands here.
     #[inline(always)]
-    #[tactic(auto, unfolding(shgrammar::specs::Commands::a_bang, shgrammar::specs::Commands::next_token))]
-    pub(crate) fn bang(&mut self, next: &mut Next) -> Option<Span>
-        requires shows { Shows next.old.token (text_of S.bytes self.old) self.old.at }
-        ensures value { reads S.bytes self.old (a_bang next.old) ≡ Done ((result, next.new), state_of self.new) }
-        ensures shows { Shows next.new.token (text_of S.bytes self.old) self.new.at }
-        ensures onward { self.old.at ≤ self.new.at }
-        ensures same { Stays self.old self.new }
+    #[tactic(auto, unfolding(shgrammar::specs::Commands::a_bang, shgrammar::specs::Commands::next_token, crate::specs::InHand::InHand))]
+    pub(crate) fn bang(&mut self) -> Option<Span>
+        ensures { Finds self.old (a_bang self.old.next) (result, self.new.next) self.new }
     {
-        let Token::Reserved(Reserved::Bang) = next.token else {
+        let Token::Reserved(Reserved::Bang) = self.next.token else {
             return None;
         };
-        let start = self.at;
-        self.bump();
+        let start = self.next_at;
+        self.step();
         let span = self.span_from(start);
-        *next = self.next_token(Position::Command);
+        self.next_token(Position::Command);
         Some(span)
     }
 
@@ -41,23 +36,16 @@ impl<'a, S: Source, const KEEP: u8> Cursor<'a, S, KEEP> {
     /// frames of nested commands small.
     #[cycle(commands)]
     #[tactic(auto, unfolding(shgrammar::specs::Commands::one_command))]
-    fn one_command(
-        &mut self,
-        alloc: Global,
-        next: &mut Next,
-        parts: &mut Vec<PipelinePart>,
-        room: usize,
-    ) -> Result<(), Stop>
-        requires { IsRead (text_of S.bytes self.old) self.old.at }
-        ensures value { Reads S.bytes self.old (one_command (level room) (piped (map view_pipeline_part parts.old.items) next.old)) result
-            (λ done. again (piped (map view_pipeline_part parts.new.items) next.new)) (state_of self.new) }
-        ensures shows { IfOk result (λ done. Shows next.new.token (text_of S.bytes self.old) self.new.at) }
-        ensures onward { IfOk result (λ done. self.old.at < self.new.at) }
-        ensures same { Keeps self.old self.new }
+    fn one_command(&mut self, parts: &mut Vec<PipelinePart>, room: usize) -> Result<(), Stop>
+        requires { IsRead (text_of self.old) self.old.next_at }
+        ensures { Adds self.old (one_command (level room)
+            (piped (map view_pipeline_part parts.old.items) self.old.next)) result (piped
+            (map view_pipeline_part parts.new.items) self.new.next) self.new }
     {
-        self.bump();
-        let join = self.join(alloc, next)?;
-        let command = self.command(alloc, next, room)?;
+        let broken = self.next.broken;
+        self.step();
+        let join = self.join(broken)?;
+        let command = self.command(room)?;
         if self.grows() {
             parts.push(pipeline_part_of(join, command))?;
         } else {
@@ -69,25 +57,16 @@ impl<'a, S: Source, const KEEP: u8> Cursor<'a, S, KEEP> {
     /// One more, if a `|` stands here. Answers whether there was one.
     #[cycle(commands)]
     #[inline(always)]
-    #[tactic(auto, unfolding(shgrammar::specs::Commands::pipe_turn))]
-    fn pipe(
-        &mut self,
-        alloc: Global,
-        next: &mut Next,
-        parts: &mut Vec<PipelinePart>,
-        room: usize,
-    ) -> Result<bool, Stop>
-        requires shows { Shows next.old.token (text_of S.bytes self.old) self.old.at }
-        ensures value { Reads S.bytes self.old (pipe_turn (level room) (piped (map view_pipeline_part parts.old.items) next.old)) result
-            (λ more. step_if more (piped (map view_pipeline_part parts.new.items) next.new)) (state_of self.new) }
-        ensures shows { IfOk result (λ more. Shows next.new.token (text_of S.bytes self.old) self.new.at) }
-        ensures onward { IfOk result (Onward self.old.at self.new.at) }
-        ensures same { Keeps self.old self.new }
+    #[tactic(auto, unfolding(shgrammar::specs::Commands::pipe_turn, crate::specs::InHand::InHand))]
+    fn pipe(&mut self, parts: &mut Vec<PipelinePart>, room: usize) -> Result<bool, Stop>
+        ensures { Turns self.old
+            (pipe_turn (level room) (piped (map view_pipeline_part parts.old.items) self.old.next))
+            result (piped (map view_pipeline_part parts.new.items) self.new.next) self.new }
     {
-        let Token::Pipe = next.token else {
+        let Token::Pipe = self.next.token else {
             return Ok(false);
         };
-        self.one_command(alloc, next, parts, room)?;
+        self.one_command(parts, room)?;
         Ok(true)
     }
 
@@ -95,21 +74,12 @@ impl<'a, S: Source, const KEEP: u8> Cursor<'a, S, KEEP> {
     #[cycle(commands)]
     #[inline(always)]
     #[tactic(auto, using(shgrammar::proofs::Turns::many_again, shgrammar::proofs::Turns::many_done, crate::proofs::Stops::many_stop))]
-    pub(crate) fn pipes(
-        &mut self,
-        alloc: Global,
-        next: &mut Next,
-        room: usize,
-    ) -> Result<Vec<PipelinePart>, Stop>
-        requires shows { Shows next.old.token (text_of S.bytes self.old) self.old.at }
-        ensures value { Reads S.bytes self.old (many (pipe_turn (level room)) (piped [] next.old)) result
-            (λ parts. piped (map view_pipeline_part parts.items) next.new) (state_of self.new) }
-        ensures shows { IfOk result (λ parts. Shows next.new.token (text_of S.bytes self.old) self.new.at) }
-        ensures onward { IfOk result (λ parts. self.old.at ≤ self.new.at) }
-        ensures same { Keeps self.old self.new }
+    pub(crate) fn pipes(&mut self, room: usize) -> Result<Vec<PipelinePart>, Stop>
+        ensures { Takes self.old (many (pipe_turn (level room)) (piped [] self.old.next)) result
+            (λ parts. piped (map view_pipeline_part parts.items) self.new.next) self.new }
     {
-        let mut parts = Vec::new(alloc);
-        'turns: while self.pipe(alloc, next, &mut parts, room)? {}
+        let mut parts = Vec::new(self.alloc);
+        'turns: while self.pipe(&mut parts, room)? {}
         Ok(parts)
     }
 
@@ -117,22 +87,13 @@ impl<'a, S: Source, const KEEP: u8> Cursor<'a, S, KEEP> {
     #[cycle(commands)]
     #[inline(always)]
     #[tactic(auto, unfolding(shgrammar::specs::Commands::a_pipeline))]
-    pub(crate) fn pipeline(
-        &mut self,
-        alloc: Global,
-        next: &mut Next,
-        room: usize,
-    ) -> Result<Pipeline, Stop>
-        requires shows { Shows next.old.token (text_of S.bytes self.old) self.old.at }
-        ensures value { Reads S.bytes self.old (a_pipeline (level room) next.old) result
-            (λ pipeline. (view_pipeline pipeline, next.new)) (state_of self.new) }
-        ensures shows { IfOk result (λ pipeline. Shows next.new.token (text_of S.bytes self.old) self.new.at) }
-        ensures onward { IfOk result (λ pipeline. self.old.at ≤ self.new.at) }
-        ensures same { Keeps self.old self.new }
+    pub(crate) fn pipeline(&mut self, room: usize) -> Result<Pipeline, Stop>
+        ensures { Takes self.old (a_pipeline (level room) self.old.next) result
+            (λ x. (view_pipeline x, self.new.next)) self.new }
     {
-        let bang = self.bang(next);
-        let first = self.command(alloc, next, room)?;
-        let rest = self.pipes(alloc, next, room)?;
+        let bang = self.bang();
+        let first = self.command(room)?;
+        let rest = self.pipes(room)?;
         Ok(pipeline_of(bang, first, rest))
     }
 }

@@ -12,9 +12,9 @@ impl<'a, S: Source, const KEEP: u8> Cursor<'a, S, KEEP> {
     /// Passes the bytes from here on that are ordinary in a mode, or some of them.
     #[inline(always)]
     pub(crate) fn skip_plain(&mut self, mode: Mode)
-        ensures plain { ArePlain mode (text_of S.bytes self.old) self.old.at self.new.at }
+        ensures plain { ArePlain mode (text_of self.old) self.old.at self.new.at }
         ensures onward { self.old.at ≤ self.new.at }
-        ensures within { self.new.at ≤ length (text_of S.bytes self.old) }
+        ensures within { self.new.at ≤ length (text_of self.old) }
         ensures same { Stays self.old self.new }
     {
         let at = self.at;

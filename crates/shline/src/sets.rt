@@ -34,7 +34,8 @@ fn plain_by_byte(run: &[u8], mode: Mode) -> usize
 #[inline(always)]
 fn is_plain_at(run: &[u8], at: usize, mode: Mode) -> bool
     ensures value { result ≡ passes (is_plain mode) (slice_get run.now at) }
-    ensures plain { result ≡ true → (at < length run.now) × (is_plain mode (slice_index run.now at) ≡ true) }
+    ensures plain { result ≡ true → (at < length run.now) ×
+        (is_plain mode (slice_index run.now at) ≡ true) }
 {
     match run.get(at) {
         Some(byte) => mode.is_plain(*byte),

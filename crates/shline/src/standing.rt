@@ -1,7 +1,7 @@
 //! The bytes of a text as they stand, continuations and all.
 ghost use Rattle.std.specs.Prelude.{◌≡◌, ◌+◌, ◌<◌, ◌≤◌, length, slice_get, true, false, IfSome, IsSome};
 ghost use Rattle.shgrammar.specs.Classes.{in_class};
-ghost use Rattle.shline.specs.Clauses.{text_of};
+ghost use Rattle.shline.specs.Clauses.{Between, text_of};
 ghost use Rattle.shgrammar.specs.Standing.{raw_past, at_end, continues, passes, raw_in, raw_stands};
 ghost use Rattle.shtext.specs.Text.{IsRun};
 
@@ -26,9 +26,9 @@ impl<'a, S: Source, const KEEP: u8> Cursor<'a, S, KEEP> {
     #[inline(always)]
     #[tactic(auto, using(shgrammar::proofs::Runs::front_byte, shgrammar::proofs::Runs::front_within))]
     pub(crate) fn raw_byte(&self, at: usize) -> Option<u8>
-        requires { at ≤ length (text_of S.bytes self.now) }
-        ensures value { result ≡ slice_get (text_of S.bytes self.now) at }
-        ensures inside { IfSome result (λ b. at < length (text_of S.bytes self.now)) }
+        requires { at ≤ length (text_of self.now) }
+        ensures value { result ≡ slice_get (text_of self.now) at }
+        ensures inside { IfSome result (λ b. at < length (text_of self.now)) }
     {
         if at < self.front.len() {
             return Some(self.front[at]);
@@ -40,9 +40,9 @@ impl<'a, S: Source, const KEEP: u8> Cursor<'a, S, KEEP> {
     #[cold]
     #[tactic(auto, using(shgrammar::proofs::Stretches::get_drop))]
     fn byte_behind(&self, at: usize) -> Option<u8>
-        requires { at ≤ length (text_of S.bytes self.now) }
-        ensures value { result ≡ slice_get (text_of S.bytes self.now) at }
-        ensures inside { IfSome result (λ b. at < length (text_of S.bytes self.now)) }
+        requires { at ≤ length (text_of self.now) }
+        ensures value { result ≡ slice_get (text_of self.now) at }
+        ensures inside { IfSome result (λ b. at < length (text_of self.now)) }
     {
         self.source.byte(self.base + at)
     }
@@ -51,7 +51,7 @@ impl<'a, S: Source, const KEEP: u8> Cursor<'a, S, KEEP> {
     #[inline(always)]
     #[tactic(auto, using(shgrammar::proofs::Runs::front_run))]
     pub(crate) fn run_at(&self, at: usize) -> &[u8]
-        requires { at ≤ length (text_of S.bytes self.now) }
+        requires { at ≤ length (text_of self.now) }
         ensures { IsRun (S.bytes self.now.source.now) (self.now.base + at) result.now }
     {
         if at < self.front.len() {
@@ -64,9 +64,9 @@ impl<'a, S: Source, const KEEP: u8> Cursor<'a, S, KEEP> {
     #[inline(always)]
     #[tactic(auto, unfolding(shgrammar::specs::Standing::raw_stands))]
     pub(crate) fn raw_stands(&self, at: usize, byte: u8) -> bool
-        requires { at ≤ length (text_of S.bytes self.now) }
-        ensures value { result ≡ raw_stands (text_of S.bytes self.now) at byte }
-        ensures inside { result ≡ true → at < length (text_of S.bytes self.now) }
+        requires { at ≤ length (text_of self.now) }
+        ensures value { result ≡ raw_stands (text_of self.now) at byte }
+        ensures inside { result ≡ true → at < length (text_of self.now) }
     {
         match self.raw_byte(at) {
             Some(found) => found == byte,
@@ -78,9 +78,9 @@ impl<'a, S: Source, const KEEP: u8> Cursor<'a, S, KEEP> {
     #[inline(always)]
     #[tactic(auto, unfolding(shgrammar::specs::Standing::raw_in))]
     pub(crate) fn raw_in(&self, at: usize, class: Class) -> bool
-        requires { at ≤ length (text_of S.bytes self.now) }
-        ensures value { result ≡ raw_in (in_class class) (text_of S.bytes self.now) at }
-        ensures inside { result ≡ true → at < length (text_of S.bytes self.now) }
+        requires { at ≤ length (text_of self.now) }
+        ensures value { result ≡ raw_in (in_class class) (text_of self.now) at }
+        ensures inside { result ≡ true → at < length (text_of self.now) }
     {
         match self.raw_byte(at) {
             Some(byte) => class.has(byte),
@@ -92,9 +92,9 @@ impl<'a, S: Source, const KEEP: u8> Cursor<'a, S, KEEP> {
     #[inline(always)]
     #[tactic(auto, unfolding(shgrammar::specs::Standing::at_end))]
     pub(crate) fn at_end(&self, at: usize) -> bool
-        requires { at ≤ length (text_of S.bytes self.now) }
-        ensures value { result ≡ at_end (text_of S.bytes self.now) at }
-        ensures inside { result ≡ false → at < length (text_of S.bytes self.now) }
+        requires { at ≤ length (text_of self.now) }
+        ensures value { result ≡ at_end (text_of self.now) at }
+        ensures inside { result ≡ false → at < length (text_of self.now) }
     {
         self.raw_byte(at).is_none()
     }
@@ -103,9 +103,9 @@ impl<'a, S: Source, const KEEP: u8> Cursor<'a, S, KEEP> {
     #[inline(always)]
     #[tactic(auto, unfolding(shgrammar::specs::Standing::continues))]
     pub(crate) fn continues(&self, at: usize) -> bool
-        requires { at ≤ length (text_of S.bytes self.now) }
-        ensures value { result ≡ continues (text_of S.bytes self.now) at }
-        ensures inside { result ≡ true → at + 2 ≤ length (text_of S.bytes self.now) }
+        requires { at ≤ length (text_of self.now) }
+        ensures value { result ≡ continues (text_of self.now) at }
+        ensures inside { result ≡ true → at + 2 ≤ length (text_of self.now) }
     {
         self.raw_stands(at, b'\\') && self.raw_stands(at + 1, b'\n')
     }
@@ -114,9 +114,9 @@ impl<'a, S: Source, const KEEP: u8> Cursor<'a, S, KEEP> {
     #[inline(always)]
     #[tactic(auto, unfolding(shgrammar::specs::Standing::continues, shgrammar::specs::Standing::raw_stands))]
     pub(crate) fn continues_with(&self, at: usize, byte: Option<u8>) -> bool
-        requires within { at ≤ length (text_of S.bytes self.now) }
-        requires byte { byte ≡ slice_get (text_of S.bytes self.now) at }
-        ensures value { result ≡ continues (text_of S.bytes self.now) at }
+        requires within { at ≤ length (text_of self.now) }
+        requires byte { byte ≡ slice_get (text_of self.now) at }
+        ensures { result ≡ continues (text_of self.now) at }
     {
         match byte {
             Some(b'\\') => self.continues(at),
@@ -129,10 +129,10 @@ impl<'a, S: Source, const KEEP: u8> Cursor<'a, S, KEEP> {
     #[inline(always)]
     #[tactic(auto, unfolding(shgrammar::specs::Standing::raw_in), using(shgrammar::proofs::Stretches::raw_none, crate::proofs::Passed::raw_one, crate::proofs::Passed::raw_two))]
     pub(crate) fn raw_past_to(&self, from: usize, class: Class) -> (usize, Option<u8>)
-        requires { from ≤ length (text_of S.bytes self.now) }
-        ensures value { result.0 ≡ raw_past (in_class class) (text_of S.bytes self.now) from }
-        ensures byte { result.1 ≡ slice_get (text_of S.bytes self.now) result.0 }
-        ensures inside { (from ≤ result.0) × (result.0 ≤ length (text_of S.bytes self.now)) }
+        requires { from ≤ length (text_of self.now) }
+        ensures value { result.0 ≡ raw_past (in_class class) (text_of self.now) from }
+        ensures byte { result.1 ≡ slice_get (text_of self.now) result.0 }
+        ensures inside { Between self.now from result.0 }
     {
         let first = self.raw_byte(from);
         if !is_in(first, class) {
@@ -149,9 +149,9 @@ impl<'a, S: Source, const KEEP: u8> Cursor<'a, S, KEEP> {
     /// The place behind them alone.
     #[inline(always)]
     pub(crate) fn raw_past(&self, from: usize, class: Class) -> usize
-        requires { from ≤ length (text_of S.bytes self.now) }
-        ensures value { result ≡ raw_past (in_class class) (text_of S.bytes self.now) from }
-        ensures inside { (from ≤ result) × (result ≤ length (text_of S.bytes self.now)) }
+        requires { from ≤ length (text_of self.now) }
+        ensures value { result ≡ raw_past (in_class class) (text_of self.now) from }
+        ensures inside { Between self.now from result }
     {
         self.raw_past_to(from, class).0
     }
@@ -160,9 +160,9 @@ impl<'a, S: Source, const KEEP: u8> Cursor<'a, S, KEEP> {
     #[inline(always)]
     #[tactic(auto, using(shgrammar::proofs::Stretches::raw_more, shgrammar::proofs::Stretches::raw_none))]
     fn raw_behind(&self, from: usize, class: Class) -> usize
-        requires { from ≤ length (text_of S.bytes self.now) }
-        ensures value { result ≡ raw_past (in_class class) (text_of S.bytes self.now) from }
-        ensures inside { (from ≤ result) × (result ≤ length (text_of S.bytes self.now)) }
+        requires { from ≤ length (text_of self.now) }
+        ensures value { result ≡ raw_past (in_class class) (text_of self.now) from }
+        ensures inside { Between self.now from result }
     {
         let mut at = from;
         'bytes: while self.raw_in(at, class) {

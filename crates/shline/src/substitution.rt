@@ -1,6 +1,6 @@
 //! Command substitutions (XCU 2.6.3).
 ghost use Rattle.std.specs.Prelude.{◌≡◌, ◌+◌, ◌≤◌, ◌==◌, map, IfErr, IfOk, true};
-ghost use Rattle.shline.specs.Clauses.{keep_of, Keeps, Reads, state_of};
+ghost use Rattle.shline.specs.Clauses.{keep_of, Reads};
 ghost use Rattle.shgrammar.specs.Comments.{span};
 ghost use Rattle.shgrammar.specs.Form.{grows, pushed};
 ghost use Rattle.shgrammar.specs.Levels.{level};
@@ -16,7 +16,7 @@ use shast::make::{list_of, subst_of};
 use shast::{List, Span, Subst, put_bodies};
 use shgrammar::{Closing, Fault, FaultKind, Position};
 use shtext::Source;
-use std::alloc::{AllocError, Global};
+use std::alloc::AllocError;
 
 /// A list with the bodies of its level.
 #[inline(always)]
@@ -30,20 +30,18 @@ fn filled_list(mut list: List, bodies: &[Span]) -> List
 impl<'a, S: Source, const KEEP: u8> Cursor<'a, S, KEEP> {
     /// What stands in a substitution, and its `)`.
     #[cycle(commands)]
-    #[tactic(auto, unfolding(shgrammar::specs::Substitutions::substituted, shgrammar::specs::Commands::next_token))]
-    fn substituted(&mut self, alloc: Global, room: usize) -> Result<List, Stop>
-        ensures value { Reads S.bytes self.old (substituted (level room)) result view_list (state_of self.new) }
-        ensures onward { IfOk result (λ list. self.old.at ≤ self.new.at) }
-        ensures same { Keeps self.old self.new }
+    #[tactic(auto, unfolding(shgrammar::specs::Substitutions::substituted, shgrammar::specs::Commands::next_token, crate::specs::InHand::InHand))]
+    fn substituted(&mut self, room: usize) -> Result<List, Stop>
+        ensures { Reads self.old (substituted (level room)) result view_list self.new }
     {
-        let mut next = self.next_token(Position::Command);
-        let mut listed = Listed::new(alloc, false);
-        self.list_lines(alloc, &mut next, &mut listed, room)?;
-        if !next.token.is_closing(Closing::Paren) {
-            return Err(Stop::Wrong(self.what_is_wrong(alloc, &mut next, room)?));
+        self.next_token(Position::Command);
+        let mut listed = Listed::new(self.alloc, false);
+        self.list_lines(&mut &mut listed, room)?;
+        if !self.next.token.is_closing(Closing::Paren) {
+            return Err(Stop::Wrong(self.what_is_wrong(room)?));
         }
         self.nothing_waits()?;
-        self.bump();
+        self.step();
         Ok(list_of(listed.entries))
     }
 
@@ -58,8 +56,9 @@ impl<'a, S: Source, const KEEP: u8> Cursor<'a, S, KEEP> {
         substs: &mut Vec<Subst>,
     ) -> Result<(), AllocError>
         requires { opener ≤ self.now.at }
-        ensures value { IfOk result (λ done. map view_subst substs.new.items
-            ≡ pushed (grows (keep_of self.now)) (map view_subst substs.old.items) (subst (filled bodies.items (view_list list)) (span self.now.origin opener self.now.at))) }
+        ensures value { IfOk result (λ _. map view_subst substs.new.items ≡ pushed (grows
+            (keep_of self.now)) (map view_subst substs.old.items) (subst
+            (filled bodies.items (view_list list)) (span self.now.origin opener self.now.at))) }
         ensures memory { IfErr result (λ e. (KEEP == 1) ≡ true) }
     {
         if self.grows() {
@@ -76,20 +75,16 @@ impl<'a, S: Source, const KEEP: u8> Cursor<'a, S, KEEP> {
     #[tactic(auto, unfolding(shgrammar::specs::Substitutions::one_substitution))]
     fn one_substitution(
         &mut self,
-        alloc: Global,
         opener: usize,
         substs: &mut Vec<Subst>,
         room: usize,
     ) -> Result<(), Stop>
         requires { opener ≤ self.old.at }
-        ensures value { Reads S.bytes self.old
-            (one_substitution (level room) (self.old.origin + opener) (map view_subst substs.old.items)) result
-            (λ done. map view_subst substs.new.items) (state_of self.new) }
-        ensures onward { IfOk result (λ done. self.old.at ≤ self.new.at) }
-        ensures same { Keeps self.old self.new }
+        ensures { Reads self.old (one_substitution (level room) (self.old.origin + opener) (map
+            view_subst substs.old.items)) result (λ _. map view_subst substs.new.items) self.new }
     {
-        let outer = self.open_level(alloc);
-        match self.substituted(alloc, room) {
+        let outer = self.open_level();
+        match self.substituted(room) {
             Ok(list) => {
                 let bodies = self.close_level(outer);
                 self.add_subst(list, bodies, opener, substs)?;
@@ -113,17 +108,13 @@ impl<'a, S: Source, const KEEP: u8> Cursor<'a, S, KEEP> {
     #[tactic(auto, using(crate::proofs::Kept::substitution_inside, shgrammar::proofs::Levels::substitution_closed))]
     pub(crate) fn substitution(
         &mut self,
-        alloc: Global,
         opener: usize,
         substs: &mut Vec<Subst>,
         room: usize,
     ) -> Result<(), Stop>
         requires { opener ≤ self.old.at }
-        ensures value { Reads S.bytes self.old
-            ((level room).substitution (self.old.origin + opener) (map view_subst substs.old.items)) result
-            (λ done. map view_subst substs.new.items) (state_of self.new) }
-        ensures onward { IfOk result (λ done. self.old.at ≤ self.new.at) }
-        ensures same { Keeps self.old self.new }
+        ensures { Reads self.old ((level room).substitution (self.old.origin + opener) (map
+            view_subst substs.old.items)) result (λ _. map view_subst substs.new.items) self.new }
     {
         if room == 0 {
             return Err(self.wrong_at(FaultKind::TooDeep, opener));
@@ -133,7 +124,7 @@ impl<'a, S: Source, const KEEP: u8> Cursor<'a, S, KEEP> {
             keep: how.keep.inside(),
             ..how
         };
-        let read = self.one_substitution(alloc, opener, substs, room - 1);
+        let read = self.one_substitution(opener, substs, room - 1);
         self.how = how;
         read?;
         Ok(())

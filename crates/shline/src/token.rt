@@ -1,11 +1,10 @@
 //! The token that begins at a place (XCU 2.3, 2.4, 2.10.1).
 ghost use Rattle.std.specs.Prelude.{◌≡◌, ◌≤◌, Some, false, true, length, slice_get};
 ghost use Rattle.shgrammar.specs.Bytes.{past_blanks, past_continuations};
-ghost use Rattle.shgrammar.specs.Shows.{Shows};
 ghost use Rattle.shgrammar.specs.Classes.{is_blank};
 ghost use Rattle.shgrammar.specs.Standing.{continues, raw_past, raw_stands};
-ghost use Rattle.shgrammar.specs.Tokens.{begins_assignment, greater_at, is_name_at, is_number, less_at, next_at, next_in, past_digits, semicolon_at, token_at, token_in, word_by};
-ghost use Rattle.shline.specs.Clauses.{Stays, text_of};
+ghost use Rattle.shgrammar.specs.Tokens.{begins_assignment, greater_at, is_name_at, is_number, less_at, next_at, past_digits, semicolon_at, token_in, word_by};
+ghost use Rattle.shline.specs.Clauses.{next_from, Stays, text_of, token_of};
 
 use crate::cursor::Cursor;
 use shast::RedirectOperator;
@@ -16,12 +15,11 @@ impl<'a, S: Source, const KEEP: u8> Cursor<'a, S, KEEP> {
     /// Passes the digits here.
     #[tactic(auto, unfolding(shgrammar::specs::Tokens::past_digits))]
     pub(crate) fn pass_digits(&mut self)
-        requires { self.old.at ≤ length (text_of S.bytes self.old) }
-        ensures value { self.new.at ≡ past_digits (text_of S.bytes self.old) self.old.at }
-        ensures onward { self.old.at ≤ self.new.at }
+        ensures value { self.new.at ≡ past_digits (text_of self.old) self.old.next_at }
+        ensures onward { self.old.next_at ≤ self.new.at }
         ensures same { Stays self.old self.new }
     {
-        let at = self.at;
+        let at = self.next_at;
         self.at = self.past(at, Class::Digit);
     }
 
@@ -29,8 +27,8 @@ impl<'a, S: Source, const KEEP: u8> Cursor<'a, S, KEEP> {
     #[inline(always)]
     #[tactic(auto, unfolding(shgrammar::specs::Tokens::begins_assignment, shgrammar::specs::Bytes::stands_in))]
     fn begins_assignment(&self, at: usize) -> bool
-        requires { at ≤ length (text_of S.bytes self.now) }
-        ensures { result ≡ begins_assignment (text_of S.bytes self.now) at }
+        requires { at ≤ length (text_of self.now) }
+        ensures { result ≡ begins_assignment (text_of self.now) at }
     {
         if !self.stands(self.past(at, Class::Name), b'=') {
             return false;
@@ -41,8 +39,8 @@ impl<'a, S: Source, const KEEP: u8> Cursor<'a, S, KEEP> {
     /// Whether the word at a place is a NAME.
     #[tactic(auto, unfolding(shgrammar::specs::Tokens::is_name_at, shgrammar::specs::Bytes::stands_in))]
     pub(crate) fn is_name(&self, at: usize) -> bool
-        requires { at ≤ length (text_of S.bytes self.now) }
-        ensures { result ≡ is_name_at (text_of S.bytes self.now) at }
+        requires { at ≤ length (text_of self.now) }
+        ensures { result ≡ is_name_at (text_of self.now) at }
     {
         if !self.ends_at(self.past(at, Class::Name)) {
             return false;
@@ -54,8 +52,8 @@ impl<'a, S: Source, const KEEP: u8> Cursor<'a, S, KEEP> {
     #[inline(always)]
     #[tactic(auto, unfolding(shgrammar::specs::Tokens::is_number))]
     fn is_number(&self, at: usize) -> bool
-        requires { at ≤ length (text_of S.bytes self.now) }
-        ensures { result ≡ is_number (text_of S.bytes self.now) at }
+        requires { at ≤ length (text_of self.now) }
+        ensures { result ≡ is_number (text_of self.now) at }
     {
         if !self.stands_in(at, Class::Digit) {
             return false;
@@ -67,8 +65,8 @@ impl<'a, S: Source, const KEEP: u8> Cursor<'a, S, KEEP> {
     /// The operator of a redirection that begins with `<`; what stands behind that is at a place.
     #[tactic(auto, unfolding(shgrammar::specs::Tokens::less_at))]
     fn less(&self, at: usize) -> RedirectOperator
-        requires { at ≤ length (text_of S.bytes self.now) }
-        ensures { result ≡ less_at (text_of S.bytes self.now) at }
+        requires { at ≤ length (text_of self.now) }
+        ensures { result ≡ less_at (text_of self.now) at }
     {
         if self.stands(at, b'<') {
             if self.stands(self.behind(at), b'-') {
@@ -88,8 +86,8 @@ impl<'a, S: Source, const KEEP: u8> Cursor<'a, S, KEEP> {
     /// The same of one that begins with `>`.
     #[tactic(auto, unfolding(shgrammar::specs::Tokens::greater_at))]
     fn greater(&self, at: usize) -> RedirectOperator
-        requires { at ≤ length (text_of S.bytes self.now) }
-        ensures { result ≡ greater_at (text_of S.bytes self.now) at }
+        requires { at ≤ length (text_of self.now) }
+        ensures { result ≡ greater_at (text_of self.now) at }
     {
         if self.stands(at, b'>') {
             RedirectOperator::Append
@@ -105,10 +103,10 @@ impl<'a, S: Source, const KEEP: u8> Cursor<'a, S, KEEP> {
     /// What the word at a place is, which begins with this byte, in this position of a command.
     #[inline(always)]
     fn word_token(&self, at: usize, first: u8, position: Position) -> Token
-        requires within { at ≤ length (text_of S.bytes self.now) }
-        requires still { past_continuations (text_of S.bytes self.now) at ≡ at }
-        requires first { slice_get (text_of S.bytes self.now) at ≡ Some first }
-        ensures { result ≡ token_in self.now.how.edition (word_by position (text_of S.bytes self.now) at) }
+        requires within { at ≤ length (text_of self.now) }
+        requires still { past_continuations (text_of self.now) at ≡ at }
+        requires first { slice_get (text_of self.now) at ≡ Some first }
+        ensures { result ≡ token_in self.now.how.edition (word_by position (text_of self.now) at) }
     {
         if position == Position::Suffix {
             return Token::Word;
@@ -129,8 +127,8 @@ impl<'a, S: Source, const KEEP: u8> Cursor<'a, S, KEEP> {
     #[inline(always)]
     #[tactic(auto, unfolding(shgrammar::specs::Bytes::stands))]
     fn semicolon_token(&self, at: usize) -> Token
-        requires { at ≤ length (text_of S.bytes self.now) }
-        ensures { result ≡ token_in self.now.how.edition (semicolon_at (text_of S.bytes self.now) at) }
+        requires { at ≤ length (text_of self.now) }
+        ensures { result ≡ token_in self.now.how.edition (semicolon_at (text_of self.now) at) }
     {
         match self.byte_at(at) {
             Some(b';') => Token::DoubleSemicolon,
@@ -143,10 +141,10 @@ impl<'a, S: Source, const KEEP: u8> Cursor<'a, S, KEEP> {
     #[inline(always)]
     #[tactic(auto, unfolding(shgrammar::specs::Tokens::token_at, shgrammar::specs::Tokens::is_number, shgrammar::specs::Bytes::behind, shgrammar::specs::Bytes::stands, shgrammar::specs::Bytes::stands_in, shgrammar::specs::Standing::raw_stands))]
     fn token(&self, at: usize, byte: Option<u8>, position: Position) -> Token
-        requires within { at ≤ length (text_of S.bytes self.now) }
-        requires still { past_continuations (text_of S.bytes self.now) at ≡ at }
-        requires byte { byte ≡ slice_get (text_of S.bytes self.now) at }
-        ensures { result ≡ token_in self.now.how.edition (token_at position (text_of S.bytes self.now) at) }
+        requires within { at ≤ length (text_of self.now) }
+        requires still { past_continuations (text_of self.now) at ≡ at }
+        requires byte { byte ≡ slice_get (text_of self.now) at }
+        ensures { result ≡ token_of self.now position at }
     {
         match byte {
             Some(first) if begins_a_word(first) => self.word_token(at, first, position),
@@ -161,11 +159,11 @@ impl<'a, S: Source, const KEEP: u8> Cursor<'a, S, KEEP> {
     #[inline(never)]
     #[tactic(auto, unfolding(shgrammar::specs::Tokens::token_at, shgrammar::specs::Tokens::is_number, shgrammar::specs::Bytes::behind, shgrammar::specs::Bytes::stands, shgrammar::specs::Bytes::stands_in, shgrammar::specs::Standing::raw_stands))]
     fn other_token(&self, at: usize, position: Position) -> Token
-        requires within { at ≤ length (text_of S.bytes self.now) }
-        requires still { past_continuations (text_of S.bytes self.now) at ≡ at }
-        requires newline { raw_stands (text_of S.bytes self.now) at 10 ≡ false }
-        requires semicolon { raw_stands (text_of S.bytes self.now) at 59 ≡ false }
-        ensures { result ≡ token_in self.now.how.edition (token_at position (text_of S.bytes self.now) at) }
+        requires within { at ≤ length (text_of self.now) }
+        requires still { past_continuations (text_of self.now) at ≡ at }
+        requires newline { raw_stands (text_of self.now) at 10 ≡ false }
+        requires semicolon { raw_stands (text_of self.now) at 59 ≡ false }
+        ensures { result ≡ token_of self.now position at }
     {
         match self.raw_byte(at) {
             None => Token::End,
@@ -197,11 +195,10 @@ impl<'a, S: Source, const KEEP: u8> Cursor<'a, S, KEEP> {
     /// Most often no continuation stands before it.
     #[inline(always)]
     #[tactic(auto, using(shgrammar::proofs::Shown::shown_in, shgrammar::proofs::Shown::blanks_still, shgrammar::proofs::Unbroken::blanks_whole))]
-    pub(crate) fn next_token(&mut self, position: Position) -> Next
-        ensures value { result ≡ next_in self.old.how.edition (next_at position (text_of S.bytes self.old) self.old.at) }
-        ensures place { self.new.at ≡ past_blanks (text_of S.bytes self.old) self.old.at }
-        ensures shows { Shows result.token (text_of S.bytes self.old) self.new.at }
-        ensures inside { self.old.at ≤ self.new.at }
+    pub(crate) fn next_token(&mut self, position: Position)
+        ensures next { self.new.next ≡ next_from self.old position }
+        ensures place { self.new.next_at ≡ past_blanks (text_of self.old) self.old.at }
+        ensures onward { self.old.at ≤ self.new.next_at }
         ensures same { Stays self.old self.new }
     {
         let from = self.at;
@@ -210,32 +207,31 @@ impl<'a, S: Source, const KEEP: u8> Cursor<'a, S, KEEP> {
             return self.next_token_joined(at, position);
         }
         let token = self.token(at, byte, position);
-        self.at = at;
-        Next {
+        self.next = Next {
             token,
             broken: false,
-        }
+        };
+        self.next_at = at;
     }
 
     /// The same, where the first blanks from here on end at a continuation.
     #[inline(never)]
     #[tactic(auto, unfolding(shgrammar::specs::Bytes::is_broken_at), using(shgrammar::proofs::Shown::shown_in, shgrammar::proofs::Shown::blanks_still))]
-    fn next_token_joined(&mut self, end: usize, position: Position) -> Next
-        requires end { end ≡ raw_past is_blank (text_of S.bytes self.old) self.old.at }
-        requires within { (self.old.at ≤ end) × (end ≤ length (text_of S.bytes self.old)) }
-        requires joined { continues (text_of S.bytes self.old) end ≡ true }
-        ensures value { result ≡ next_in self.old.how.edition (next_at position (text_of S.bytes self.old) self.old.at) }
-        ensures place { self.new.at ≡ past_blanks (text_of S.bytes self.old) self.old.at }
-        ensures shows { Shows result.token (text_of S.bytes self.old) self.new.at }
-        ensures inside { self.old.at ≤ self.new.at }
+    fn next_token_joined(&mut self, end: usize, position: Position)
+        requires end { end ≡ raw_past is_blank (text_of self.old) self.old.at }
+        requires within { (self.old.at ≤ end) × (end ≤ length (text_of self.old)) }
+        requires joined { continues (text_of self.old) end ≡ true }
+        ensures next { self.new.next ≡ next_from self.old position }
+        ensures place { self.new.next_at ≡ past_blanks (text_of self.old) self.old.at }
+        ensures onward { self.old.at ≤ self.new.next_at }
         ensures same { Stays self.old self.new }
     {
         let at = self.past_broken_blanks(end);
         let token = self.token(at, self.raw_byte(at), position);
-        self.at = at;
-        Next {
+        self.next = Next {
             token,
             broken: true,
-        }
+        };
+        self.next_at = at;
     }
 }

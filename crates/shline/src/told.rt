@@ -1,6 +1,6 @@
 //! What is told of one line of a source (XCU 2.10.2).
 ghost use Rattle.std.specs.Prelude.{◌≡◌, ◌⊎◌, ◌+◌, ◌-◌, ◌^◌, ◌<◌, ◌≤◌, ℕ, drop, false, length, map, true, IfOk};
-ghost use Rattle.shline.specs.Clauses.{Gives, Onward, kept};
+ghost use Rattle.shline.specs.Clauses.{Gives, kept, Onward};
 ghost use Rattle.shline.specs.Limits.{limits};
 ghost use Rattle.shgrammar.specs.Scripts.{line_told};
 ghost use Rattle.shgrammar.specs.Sights.{standing};
@@ -9,16 +9,26 @@ ghost use Rattle.shast.specs.Nodes.{AreWithin};
 ghost use Rattle.shast.specs.Tree.{entries_of};
 ghost use Rattle.shast.specs.View.{view_entry};
 
-use crate::cursor::Cursor;
+use crate::cursor::{Cursor, How};
 use crate::line::filled_entries;
 use crate::stop::Stop;
 use shast::{Entry, Spare};
-use shgrammar::{Edition, Keep};
 use shtext::Source;
 use std::alloc::Global;
 
 /// How many constructs may be open.
 const MOST_OPEN: usize = 100;
+
+/// Where a line begins.
+#[derive(Clone, Copy)]
+pub struct Begin {
+    /// Its offset.
+    pub at: usize,
+    /// From where its own offsets are counted.
+    pub origin: usize,
+    /// Its first entry is blank.
+    pub blank: bool,
+}
 
 /// What was read of a line that has no fault.
 #[derive(Drop)]
@@ -31,76 +41,48 @@ pub struct Told {
     pub len: usize,
 }
 
-/// The line that begins at an offset, whose own offsets are counted from `origin`. Of its tree this is kept
-/// where `KEEP` is [`KEPT`] (`crate::KEPT`), and nothing where it is `SEEN`.
+/// The line that begins at a place, read so. Of its tree that is kept where `KEEP` is [`KEPT`]
+/// (`crate::KEPT`), and nothing where it is `SEEN`. Its vectors are taken from spare ones, as far as there are
+/// any.
 ///
-/// A fault and want of memory are the two errors. The offset is at most the length of
-/// the source, and `origin` at most the offset.
-pub fn line_at<S: Source, const KEEP: u8>(
-    alloc: Global,
-    source: &S,
-    at: usize,
-    origin: usize,
-    edition: Edition,
-    keep: Keep,
-    blank: bool,
-) -> Result<Told, Stop>
-    requires { (at ≤ length (S.bytes source.now)) × (origin ≤ at) }
-    ensures value { Gives (limits KEEP origin (drop at (S.bytes source.now)))
-        (λ x. ((map view_entry x.entries.items, x.newline), standing x.len)) result
-        (line_told edition (S.bytes source.now) (kept KEEP keep) blank at origin) }
-    // No node of its entries names an offset behind it.
-    ensures spans { IfOk result (λ x. (limit : ℕ) → origin + x.len ≤ limit →
-        AreWithin limit (entries_of (map view_entry x.entries.items))) }
-    ensures onward { IfOk result (λ x. Onward 0 x.len x.newline) }
-    ensures within { IfOk result (λ x. at + x.len ≤ length (S.bytes source.now)) }
-    ensures fits { IfOk result (λ x. at + x.len < 2 ^ 64) }
-    ensures newline { IfOk result (λ x. x.newline ≡ true →
-        (raw_stands (drop at (S.bytes source.now)) (x.len - 1) 10 ≡ true) ⊎ (at + x.len ≡ length (S.bytes source.now))) }
-    ensures whole { IfOk result (λ x. x.newline ≡ false → at + x.len ≡ length (S.bytes source.now)) }
-{
-    line_at_with::<S, KEEP>(alloc, source, at, origin, edition, keep, blank, None)
-}
-
-/// The same, with the vectors of its tree taken from spare ones, as far as there are any.
+/// A fault and want of memory are the two errors. The offset is at most the length of the source, and
+/// `origin` at most the offset.
 #[tactic(auto, unfolding(shgrammar::specs::Lines::a_line, shgrammar::specs::Standing::raw_stands), using(shgrammar::proofs::Places::end_is, crate::proofs::EmptyLine::newline_told, crate::proofs::EmptyLine::newline_stands))]
-pub fn line_at_with<'a, S: Source, const KEEP: u8>(
+pub fn line_at<'a, S: Source, const KEEP: u8>(
     alloc: Global,
     source: &'a S,
-    at: usize,
-    origin: usize,
-    edition: Edition,
-    keep: Keep,
-    blank: bool,
+    begin: Begin,
+    how: How,
     spare: Option<&'a mut Spare>,
 ) -> Result<Told, Stop>
-    requires { (at ≤ length (S.bytes source.now)) × (origin ≤ at) }
-    ensures value { Gives (limits KEEP origin (drop at (S.bytes source.now)))
-        (λ x. ((map view_entry x.entries.items, x.newline), standing x.len)) result
-        (line_told edition (S.bytes source.now) (kept KEEP keep) blank at origin) }
+    requires { (begin.at ≤ length (S.bytes source.now)) × (begin.origin ≤ begin.at) }
+    ensures value { Gives (limits KEEP begin.origin (drop begin.at (S.bytes source.now))) (λ x.
+        ((map view_entry x.entries.items, x.newline), standing x.len)) result (line_told how.edition
+        (S.bytes source.now) (kept KEEP how.keep) begin.blank begin.at begin.origin) }
     // No node of its entries names an offset behind it.
-    ensures spans { IfOk result (λ x. (limit : ℕ) → origin + x.len ≤ limit →
-        AreWithin limit (entries_of (map view_entry x.entries.items))) }
+    ensures spans { IfOk result (λ x. (limit : ℕ) → begin.origin + x.len ≤ limit → AreWithin limit
+        (entries_of (map view_entry x.entries.items))) }
     ensures onward { IfOk result (λ x. Onward 0 x.len x.newline) }
-    ensures within { IfOk result (λ x. at + x.len ≤ length (S.bytes source.now)) }
-    ensures fits { IfOk result (λ x. at + x.len < 2 ^ 64) }
-    ensures newline { IfOk result (λ x. x.newline ≡ true →
-        (raw_stands (drop at (S.bytes source.now)) (x.len - 1) 10 ≡ true) ⊎ (at + x.len ≡ length (S.bytes source.now))) }
-    ensures whole { IfOk result (λ x. x.newline ≡ false → at + x.len ≡ length (S.bytes source.now)) }
+    ensures within { IfOk result (λ x. begin.at + x.len ≤ length (S.bytes source.now)) }
+    ensures fits { IfOk result (λ x. begin.at + x.len < 2 ^ 64) }
+    ensures newline { IfOk result (λ x. x.newline ≡ true → (raw_stands (drop begin.at (S.bytes
+        source.now)) (x.len - 1) 10 ≡ true) ⊎ (begin.at + x.len ≡ length (S.bytes source.now))) }
+    ensures whole { IfOk result
+        (λ x. x.newline ≡ false → begin.at + x.len ≡ length (S.bytes source.now)) }
 {
     // The length is asked for its bound alone, as where a cursor is made.
     let _ = source.len();
     // Many lines are empty: they need no cursor.
-    if let Some(b'\n') = source.byte(at) {
+    if let Some(b'\n') = source.byte(begin.at) {
         return Ok(Told {
             entries: Vec::new(alloc),
             newline: true,
             len: 1,
         });
     }
-    let mut cursor = Cursor::<S, KEEP>::at_line(alloc, source, at, origin, edition, keep, spare);
+    let mut cursor = Cursor::<S, KEEP>::at_line(alloc, source, begin, how, spare);
     // It holds no here-document yet: the line's level is its own.
-    let (entries, newline) = cursor.open_line(alloc, blank, MOST_OPEN)?;
+    let (entries, newline) = cursor.open_line(begin.blank, MOST_OPEN)?;
     let len = cursor.at;
     Ok(Told {
         entries: filled_entries(entries, cursor.documents.bodies),

@@ -1,14 +1,14 @@
 //! Words (XCU 2.3), and how far they go: their pieces in the five modes (XCU 2.2, 2.6).
-ghost use Rattle.std.specs.Prelude.{◌≡◌, ◌≢◌, ◌⊎◌, ◌+◌, ◌<◌, ◌≤◌, [], length, map, IfOk, List as Row, false, true};
+ghost use Rattle.std.specs.Prelude.{◌≡◌, ◌≢◌, ◌+◌, ◌<◌, ◌≤◌, [], length, map, IfOk, List as Row, false};
 ghost use Rattle.shgrammar.specs.Bytes.{ends_word, past_continuations};
 ghost use Rattle.shgrammar.specs.Shows.{IsRead};
-ghost use Rattle.shline.specs.Clauses.{Keeps, Onward, Reads, state_of, Stays, text_of};
+ghost use Rattle.shline.specs.Pieces.{PieceShows};
+ghost use Rattle.shline.specs.Clauses.{Keeps, Moves, Onward, Passes, Reads, text_of};
 ghost use Rattle.shgrammar.specs.Comments.{span};
 ghost use Rattle.shgrammar.specs.Form.{again, step_if};
 ghost use Rattle.shgrammar.specs.Pieces.{past_closer};
 ghost use Rattle.shast.specs.Tree.{ASubst, substs_of, word};
 ghost use Rattle.shast.specs.View.{view_subst, view_word};
-ghost use Rattle.shgrammar.specs.Standing.{raw_stands};
 ghost use Rattle.shgrammar.specs.Words.{a_piece, a_word, contents, having, holds_others, piece_row};
 ghost use Rattle.shgrammar.specs.Levels.{level};
 
@@ -18,18 +18,15 @@ use shast::make::word_of;
 use shast::{Subst, Word};
 use shgrammar::{FaultKind, Mode, Piece};
 use shtext::Source;
-use std::alloc::Global;
 
 impl<'a, S: Source, const KEEP: u8> Cursor<'a, S, KEEP> {
     /// What closes a construct of this mode, from its place on; nothing closes a word.
     #[tactic(auto, unfolding(shgrammar::specs::Bytes::behind), using(shgrammar::proofs::Stretches::place_low))]
     fn close(&mut self, mode: Mode, here: usize)
-        requires here { here ≡ past_continuations (text_of S.bytes self.old) self.old.at }
-        requires one { mode ≢ Mode.Plain → here < length (text_of S.bytes self.old) }
-        requires two { mode ≡ Mode.Arith → IsRead (text_of S.bytes self.old) (here + 1) }
-        ensures value { self.new.at ≡ past_closer (text_of S.bytes self.old) mode self.old.at }
-        ensures onward { self.old.at ≤ self.new.at }
-        ensures same { Stays self.old self.new }
+        requires here { here ≡ past_continuations (text_of self.old) self.old.at }
+        requires one { mode ≢ Mode.Plain → here < length (text_of self.old) }
+        requires two { mode ≡ Mode.Arith → IsRead (text_of self.old) (here + 1) }
+        ensures { Moves self.old self.new (past_closer (text_of self.old) mode self.old.at) }
     {
         match mode {
             Mode::Plain => {}
@@ -46,25 +43,22 @@ impl<'a, S: Source, const KEEP: u8> Cursor<'a, S, KEEP> {
     #[tactic(auto, unfolding(shgrammar::specs::Bytes::behind), using(shgrammar::proofs::Levels::level_closed, shgrammar::proofs::PlainBytes::plain_begin, shgrammar::proofs::PlainBytes::closed_here, shgrammar::proofs::PlainBytes::ordinary_here, shgrammar::proofs::Stretches::place_low))]
     fn construct(
         &mut self,
-        alloc: Global,
         mode: Mode,
         opener: usize,
         substs: &mut Vec<Subst>,
         room: usize,
     ) -> Result<(), Stop>
         requires { opener ≤ self.old.at }
-        ensures value { Reads S.bytes self.old
-            ((level room).construct mode (self.old.origin + opener) (map view_subst substs.old.items)) result
-            (λ done. map view_subst substs.new.items) (state_of self.new) }
-        ensures onward { IfOk result (λ done. self.old.at ≤ self.new.at) }
-        ensures same { Keeps self.old self.new }
+        ensures { Reads self.old ((level room).construct mode (self.old.origin + opener) (map
+            view_subst substs.old.items)) result (λ _. map view_subst substs.new.items) self.new }
     {
         if room == 0 {
             return Err(self.wrong_at(FaultKind::TooDeep, opener));
         }
         self.skip_plain(mode);
         'ordinary: loop {
-            let here = self.place_here();
+            let at = self.at;
+            let here = self.place(at);
             match self.piece(mode, 0, here) {
                 Piece::Closer => {
                     self.close(mode, here);
@@ -74,7 +68,7 @@ impl<'a, S: Source, const KEEP: u8> Cursor<'a, S, KEEP> {
                     self.at = here + 1;
                     self.skip_plain(mode);
                 }
-                _ => return self.contents(alloc, mode, opener, substs, room - 1),
+                _ => return self.contents(mode, opener, substs, room - 1),
             }
         }
     }
@@ -91,20 +85,16 @@ impl<'a, S: Source, const KEEP: u8> Cursor<'a, S, KEEP> {
         here: usize,
     ) -> Result<(), Stop>
         requires closed { holds_others piece ≡ false }
-        requires here { here ≡ past_continuations (text_of S.bytes self.old) self.old.at }
-        requires some { piece ≢ Piece.Missing → here < length (text_of S.bytes self.old) }
-        requires escape { piece ≡ Piece.Escape → (here + 2 ≤ length (text_of S.bytes self.old)) ×
-            (raw_stands (text_of S.bytes self.old) here 92 ≡ true) }
-        requires two { (piece ≡ Piece.Pid) ⊎ (piece ≡ Piece.DollarSingle) → IsRead (text_of S.bytes self.old) (here + 1) }
+        requires here { here ≡ past_continuations (text_of self.old) self.old.at }
+        requires shows { PieceShows mode nested.old piece (text_of self.old) here }
         requires opener { opener ≤ self.old.at }
         requires nested { nested.old ≤ self.old.at }
-        requires close { piece ≡ Piece.Close → 0 < nested.old }
-        ensures value { (ss : Row ASubst) →
-            Reads S.bytes self.old (piece_row (level 0) mode (self.old.origin + opener) (having nested.old ss) piece)
-            result (λ done. again (having nested.new ss)) (state_of self.new) }
-        ensures onward { IfOk result (λ done. self.old.at < self.new.at) }
-        ensures nested { IfOk result (λ done. nested.new ≤ self.new.at) }
-        ensures same { Stays self.old self.new }
+        ensures value { (ss : Row ASubst) → Reads self.old
+            (piece_row (level 0) mode (self.old.origin + opener) (having nested.old ss) piece)
+            result (λ _. again (having nested.new ss)) self.new }
+        ensures onward { IfOk result (λ _. self.old.at < self.new.at) }
+        ensures nested { IfOk result (λ _. nested.new ≤ self.new.at) }
+        ensures same { Keeps self.old self.new }
     {
         match piece {
             Piece::Missing => return Err(self.wrong_at(mode.unclosed(), opener)),
@@ -136,7 +126,6 @@ impl<'a, S: Source, const KEEP: u8> Cursor<'a, S, KEEP> {
     #[tactic(auto, unfolding(shgrammar::specs::Words::a_piece, shgrammar::specs::Pieces::piece_at, shgrammar::specs::Bytes::ends_word))]
     fn take_piece(
         &mut self,
-        alloc: Global,
         mode: Mode,
         opener: usize,
         nested: &mut usize,
@@ -145,20 +134,20 @@ impl<'a, S: Source, const KEEP: u8> Cursor<'a, S, KEEP> {
     ) -> Result<bool, Stop>
         requires opener { opener ≤ self.old.at }
         requires nested { nested.old ≤ self.old.at }
-        ensures value { Reads S.bytes self.old
-            (a_piece (level room) mode (self.old.origin + opener) (having nested.old (map view_subst substs.old.items))) result
-            (λ more. step_if more (having nested.new (map view_subst substs.new.items))) (state_of self.new) }
+        ensures value { Reads self.old (a_piece (level room) mode (self.old.origin + opener)
+            (having nested.old (map view_subst substs.old.items))) result (λ more. step_if more
+            (having nested.new (map view_subst substs.new.items))) self.new }
         ensures onward { IfOk result (Onward self.old.at self.new.at) }
         ensures nested { IfOk result (λ more. nested.new ≤ self.new.at) }
-        ensures some { mode ≡ Mode.Plain → ends_word (text_of S.bytes self.old) self.old.at ≡ false →
-            IfOk result (λ more. self.old.at < self.new.at) }
-        ensures same { Keeps self.old self.new }
+        ensures some { mode ≡ Mode.Plain → ends_word (text_of self.old) self.old.at ≡ false → IfOk
+            result (λ more. self.old.at < self.new.at) }
     {
         // Most pieces are the last of their word.
-        if mode == Mode::Plain && self.ends_word() {
+        let at = self.at;
+        if mode == Mode::Plain && self.ends_at(at) {
             return Ok(false);
         }
-        self.some_piece(alloc, mode, opener, nested, substs, room)
+        self.some_piece(mode, opener, nested, substs, room)
     }
 
     /// The same, where the piece is still to be told.
@@ -166,7 +155,6 @@ impl<'a, S: Source, const KEEP: u8> Cursor<'a, S, KEEP> {
     #[tactic(auto, unfolding(shgrammar::specs::Words::a_piece, shgrammar::specs::Pieces::past_taken, shgrammar::specs::Bytes::behind), using(shgrammar::proofs::Stretches::place_low))]
     fn some_piece(
         &mut self,
-        alloc: Global,
         mode: Mode,
         opener: usize,
         nested: &mut usize,
@@ -175,16 +163,16 @@ impl<'a, S: Source, const KEEP: u8> Cursor<'a, S, KEEP> {
     ) -> Result<bool, Stop>
         requires opener { opener ≤ self.old.at }
         requires nested { nested.old ≤ self.old.at }
-        ensures value { Reads S.bytes self.old
-            (a_piece (level room) mode (self.old.origin + opener) (having nested.old (map view_subst substs.old.items))) result
-            (λ more. step_if more (having nested.new (map view_subst substs.new.items))) (state_of self.new) }
+        ensures value { Reads self.old (a_piece (level room) mode (self.old.origin + opener)
+            (having nested.old (map view_subst substs.old.items))) result (λ more. step_if more
+            (having nested.new (map view_subst substs.new.items))) self.new }
         ensures onward { IfOk result (Onward self.old.at self.new.at) }
         ensures nested { IfOk result (λ more. nested.new ≤ self.new.at) }
-        ensures some { mode ≡ Mode.Plain → ends_word (text_of S.bytes self.old) self.old.at ≡ false →
-            IfOk result (λ more. self.old.at < self.new.at) }
-        ensures same { Keeps self.old self.new }
+        ensures some { mode ≡ Mode.Plain → ends_word (text_of self.old) self.old.at ≡ false → IfOk
+            result (λ more. self.old.at < self.new.at) }
     {
-        let here = self.place_here();
+        let at = self.at;
+        let here = self.place(at);
         let piece = self.piece(mode, *nested, here);
         match piece {
             Piece::Closer => {
@@ -193,21 +181,21 @@ impl<'a, S: Source, const KEEP: u8> Cursor<'a, S, KEEP> {
             }
             Piece::Double => {
                 self.at = here + 1;
-                self.construct(alloc, Mode::Double, here, substs, room)?;
+                self.construct(Mode::Double, here, substs, room)?;
             }
             Piece::Subst => {
                 self.at = self.behind(here + 1);
-                self.substitution(alloc, here, substs, room)?;
+                self.substitution(here, substs, room)?;
             }
             Piece::Arith => {
                 self.at = self.behind(self.behind(here + 1));
-                self.construct(alloc, Mode::Arith, here, substs, room)?;
+                self.construct(Mode::Arith, here, substs, room)?;
             }
             Piece::Param => {
                 self.at = self.behind(here + 1);
                 self.parameter();
                 let rest = self.rest_mode(mode);
-                self.construct(alloc, rest, here, substs, room)?;
+                self.construct(rest, here, substs, room)?;
             }
             _ => self.closed_piece(piece, mode, opener, nested, here)?,
         }
@@ -219,23 +207,19 @@ impl<'a, S: Source, const KEEP: u8> Cursor<'a, S, KEEP> {
     #[tactic(auto, unfolding(shgrammar::specs::Words::contents), using(shgrammar::proofs::Turns::many_done, crate::proofs::Stops::contents_stop, shgrammar::proofs::PlainBytes::piece_and_plain))]
     fn contents(
         &mut self,
-        alloc: Global,
         mode: Mode,
         opener: usize,
         substs: &mut Vec<Subst>,
         room: usize,
     ) -> Result<(), Stop>
         requires { opener ≤ self.old.at }
-        ensures value { Reads S.bytes self.old
-            (contents (level room) mode (self.old.origin + opener) (map view_subst substs.old.items)) result
-            (λ done. map view_subst substs.new.items) (state_of self.new) }
-        ensures onward { IfOk result (λ done. self.old.at ≤ self.new.at) }
-        ensures some { mode ≡ Mode.Plain → ends_word (text_of S.bytes self.old) self.old.at ≡ false →
-            IfOk result (λ done. self.old.at < self.new.at) }
-        ensures same { Keeps self.old self.new }
+        ensures value { Reads self.old (contents (level room) mode (self.old.origin + opener) (map
+            view_subst substs.old.items)) result (λ _. map view_subst substs.new.items) self.new }
+        ensures some { mode ≡ Mode.Plain → ends_word (text_of self.old) self.old.at ≡ false → IfOk
+            result (λ _. self.old.at < self.new.at) }
     {
         let mut nested = 0;
-        'pieces: while self.take_piece(alloc, mode, opener, &mut nested, substs, room)? {
+        'pieces: while self.take_piece(mode, opener, &mut nested, substs, room)? {
             self.skip_plain(mode);
         }
         Ok(())
@@ -245,23 +229,20 @@ impl<'a, S: Source, const KEEP: u8> Cursor<'a, S, KEEP> {
     #[cycle(commands)]
     #[inline(always)]
     #[tactic(auto, using(shgrammar::proofs::PlainBytes::plain_word, shgrammar::proofs::PlainBytes::word_rest, crate::proofs::Stops::word_stops, shgrammar::proofs::PlainBytes::some_plain))]
-    pub(crate) fn pass_word(
-        &mut self,
-        alloc: Global,
-        substs: &mut Vec<Subst>,
-        room: usize,
-    ) -> Result<(), Stop>
-        requires word { ends_word (text_of S.bytes self.old) self.old.at ≡ false }
+    pub(crate) fn pass_word(&mut self, substs: &mut Vec<Subst>, room: usize) -> Result<(), Stop>
+        requires word { ends_word (text_of self.old) self.old.next_at ≡ false }
         requires none { substs.old.items ≡ [] }
-        ensures value { Reads S.bytes self.old (a_word (level room)) result
-            (λ done. word (span self.old.origin self.old.at self.new.at) (substs_of (map view_subst substs.new.items))) (state_of self.new) }
-        ensures onward { IfOk result (λ done. self.old.at < self.new.at) }
-        ensures same { Keeps self.old self.new }
+        ensures value { Passes self.old (a_word (level room)) result (λ _. word
+            (span self.old.origin self.old.next_at self.new.at)
+            (substs_of (map view_subst substs.new.items))) self.new }
+        ensures onward { IfOk result (λ _. self.old.next_at < self.new.at) }
     {
-        let start = self.at;
+        let start = self.next_at;
+        self.at = start;
         self.skip_plain(Mode::Plain);
-        if !self.ends_word() {
-            self.contents(alloc, Mode::Plain, start, substs, room)?;
+        let at = self.at;
+        if !self.ends_at(at) {
+            self.contents(Mode::Plain, start, substs, room)?;
         }
         Ok(())
     }
@@ -269,7 +250,8 @@ impl<'a, S: Source, const KEEP: u8> Cursor<'a, S, KEEP> {
     /// The word from a place to this one, with these substitutions.
     pub(crate) fn word_from(&self, start: usize, substs: Vec<Subst>) -> Word
         requires { start ≤ self.now.at }
-        ensures { view_word result ≡ word (span self.now.origin start self.now.at) (substs_of (map view_subst substs.items)) }
+        ensures { view_word result ≡ word (span self.now.origin start self.now.at)
+            (substs_of (map view_subst substs.items)) }
     {
         word_of(self.span_from(start), substs)
     }

@@ -6,7 +6,7 @@ ghost use Rattle.shgrammar.specs.Search.{LineBefore, MayPass, StopsAt};
 use crate::error::ReadError;
 use crate::newline::ends_in_newline;
 use shgrammar::{Edition, Keep};
-use shline::{SEEN, Stop, Told, line_at};
+use shline::{Begin, How, SEEN, Stop, Told, line_at};
 use shtext::Source;
 use std::alloc::Global;
 use std::mem;
@@ -25,7 +25,16 @@ fn behind_line<S: Source>(
     ensures none { IfOk result (λ next. next ≡ None → StopsAt edition (S.bytes source.now) at) }
     ensures memory { IfErr result (λ e. wants_memory SEEN (S.bytes source.now) ≡ true) }
 {
-    match line_at::<S, SEEN>(alloc, source, at, 0, edition, Keep::Nothing, false) {
+    let begin = Begin {
+        at,
+        origin: 0,
+        blank: false,
+    };
+    let how = How {
+        keep: Keep::Nothing,
+        edition,
+    };
+    match line_at::<S, SEEN>(alloc, source, begin, how, None) {
         Ok(
             Told {
                 entries,

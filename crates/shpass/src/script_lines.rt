@@ -16,7 +16,7 @@ use crate::error::ReadError;
 use crate::newline::ends_in_newline;
 use shast::{Entry, Spare};
 use shgrammar::{Edition, Fault, Keep};
-use shline::{KEPT, Stop, Told, line_at_with};
+use shline::{Begin, How, KEPT, Stop, Told, line_at};
 use shtext::Source;
 use std::alloc::Global;
 
@@ -129,17 +129,16 @@ impl<'a, S: Source> ScriptLines<'a, S> {
         ensures within { IfOk result (λ x. place_of self.now + x.len ≤ length (bytes_of S.bytes self.now)) }
         ensures fits { IfOk result (λ x. place_of self.now + x.len < 2 ^ 64) }
     {
-        let blank = self.is_blank_next();
-        line_at_with::<S, KEPT>(
-            self.alloc,
-            self.source,
-            self.at,
-            self.at,
-            self.edition,
+        let begin = Begin {
+            at: self.at,
+            origin: self.at,
+            blank: self.is_blank_next(),
+        };
+        let how = How {
             keep,
-            blank,
-            spare,
-        )
+            edition: self.edition,
+        };
+        line_at::<S, KEPT>(self.alloc, self.source, begin, how, spare)
     }
 
     /// Moves behind a line of so many bytes.

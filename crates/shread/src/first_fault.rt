@@ -5,7 +5,7 @@ ghost use Rattle.shgrammar.specs.Scripts.{first_fault_from};
 ghost use Rattle.shread.specs.Answers.{Tells};
 
 use shgrammar::{Edition, Fault, Keep};
-use shline::{SEEN, Stop, Told, line_at};
+use shline::{Begin, How, SEEN, Stop, Told, line_at};
 use shpass::ReadError;
 use shtext::Source;
 use std::alloc::Global;
@@ -34,7 +34,16 @@ fn look<S: Source>(
     ensures value { IfOk result (Tells edition (S.bytes source.now) at) }
     ensures memory { IfErr result (λ e. wants_memory SEEN (S.bytes source.now) ≡ true) }
 {
-    match line_at::<S, SEEN>(alloc, source, at, at, edition, Keep::Nothing, false) {
+    let begin = Begin {
+        at,
+        origin: at,
+        blank: false,
+    };
+    let how = How {
+        keep: Keep::Nothing,
+        edition,
+    };
+    match line_at::<S, SEEN>(alloc, source, begin, how, None) {
         Ok(
             Told {
                 entries,

@@ -9,7 +9,7 @@ use crate::reader::{Line, LineKind};
 use shast::Entry;
 use shast::make::list_of;
 use shgrammar::{Edition, Keep};
-use shline::{KEPT, Stop, Told, line_at};
+use shline::{Begin, How, KEPT, Stop, Told, line_at};
 use shpass::{ReadError, ends_in_newline};
 use shtext::Source;
 use std::alloc::Global;
@@ -53,7 +53,16 @@ pub(crate) fn line_from<S: Source>(
             ended: false,
         });
     }
-    match line_at::<S, KEPT>(alloc, source, at, 0, edition, Keep::Whole, false) {
+    let begin = Begin {
+        at,
+        origin: 0,
+        blank: false,
+    };
+    let how = How {
+        keep: Keep::Whole,
+        edition,
+    };
+    match line_at::<S, KEPT>(alloc, source, begin, how, None) {
         Ok(
             Told {
                 entries,

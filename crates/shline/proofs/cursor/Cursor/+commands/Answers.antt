@@ -1,7 +1,8 @@
-use Rattle.std.proofs.Common.{◌≡◌, ℕ, ◌<◌, ◌≤◌, ◌+◌, ◌-◌, ◌∙◌, Ok, Some, List as Row, length, map, ap, refl, subst as by_path, sym, arith}
+use Rattle.std.proofs.Common.{rules, ◌≡◌, ℕ, ◌<◌, ◌≤◌, ◌+◌, ◌-◌, ◌∙◌, Ok, Some, List as Row, length, map, ap, sym, arith}
 use Rattle.shgrammar.specs.declared.mode.Piece.TheVariants as pieces
 use Rattle.shgrammar.specs.Bytes.{past_continuations}
-use Rattle.shline.specs.Clauses.{keep_of, standing_with, state_of, text_of, view_waiting}
+use Rattle.shline.specs.InHand.{InHand}
+use Rattle.shline.specs.Clauses.{at_place, keep_of, standing_with, text_of, view_waiting}
 use Rattle.shgrammar.specs.Comments.{span}
 use Rattle.shgrammar.specs.Form.{does, grows, pushed}
 use Rattle.shgrammar.specs.HereDocuments.{outer_level, own_level}
@@ -18,49 +19,50 @@ use Rattle.shast.specs.View.{view_list, view_subst}
 use Rattle.shgrammar.proofs.Levels.{substitution_read}
 use Rattle.shgrammar.proofs.PlainBytes.{ordinary_here, piece_and_plain}
 use Rattle.shgrammar.specs.Commands.{redirect_operator_of}
-use Rattle.shgrammar.specs.Shows.{Shows}
 use Rattle.shline.proofs.Wanted.{here_wants}
 use Rattle.shline.proofs.cursor.Cursor.+commands.Goals as goal
-use Rattle.shline.proofs.cursor.Cursor.+commands.Goals.{next_entry-then-grows+in_ok-room_for_entry+in_ok-push, next_entry-else-grows}
 
 pub contents-pieces-preserved : goal.contents-pieces-preserved
 contents-pieces-preserved g t c =
     let inv = c.pieces.invariant in
     let told = c.in_ok-take_piece.ensures in
     let rest = c.skip_plain.ensures in
-    let was = inv.4 in
-    let text = text_of g.S.Source.bytes c.args.self.now in
-    let piece = rw (was.0, was.1, was.2, was.3, c.if-branch.true, ← rest.same.3) at told.value in
+    let was = inv.0.2 in
+    let same = told.value.2 in
+    let text = text_of c.args.self.now in
+    let piece = rw (was.0, was.1, was.2, was.3, c.if-branch.true, ← rest.same.1) at told.value.0 in
     let before = c.pieces.self.documents in
     let behind = c.skip_plain.new.self.documents in
     let onward : c.pieces.self.at < c.take_piece.new.self.at = rw c.if-branch.true at told.onward in
-    let plain = rw (told.same.0, told.same.1, was.0, was.1) at rest.plain in
-    let within = rw (told.same.0, told.same.1, was.0, was.1) at rest.within in (
-      piece_and_plain (level c.args.room) (keep_of c.args.self.now) (given c.args.self.now.how.edition text c.args.self.now.origin) c.args.mode (c.args.self.now.origin + c.args.opener)
-          (map view_waiting behind.waiting.items) behind.bodies.items (having c.pieces.nested (map view_subst c.pieces.substs.items)) (having c.take_piece.new.nested (map view_subst c.take_piece.new.substs.items)) (map view_waiting before.waiting.items) before.bodies.items c.pieces.self.at c.take_piece.new.self.at c.skip_plain.new.self.at _
-          inv.0 piece onward (omega (arith, rest.onward, within)) plain rest.onward within,
-      omega (arith, inv.1, onward, rest.onward),
+    let plain = rw (same.0, same.1, was.0, was.1) at rest.plain in
+    let within = rw (same.0, same.1, was.0, was.1) at rest.within in (
+      (
+        piece_and_plain (level c.args.room) (keep_of c.args.self.now) (given c.args.self.now.how.edition text c.args.self.now.origin) c.args.mode (c.args.self.now.origin + c.args.opener)
+            (map view_waiting behind.waiting.items) behind.bodies.items (having c.pieces.nested (map view_subst c.pieces.substs.items)) (having c.take_piece.new.nested (map view_subst c.take_piece.new.substs.items)) (map view_waiting before.waiting.items) before.bodies.items c.pieces.self.at c.take_piece.new.self.at c.skip_plain.new.self.at _
+            inv.0.0 piece onward (omega (arith, rest.onward, within)) plain rest.onward within,
+        omega (arith, inv.0.1, onward, rest.onward),
+        (rest.same.0.0 ∙ same.0 ∙ was.0, rest.same.0.1 ∙ same.1 ∙ was.1, rest.same.0.2 ∙ same.2 ∙ was.2, rest.same.0.3 ∙ same.3 ∙ was.3),
+      ),
       omega (arith, told.nested, rest.onward),
-      omega (arith, inv.3, onward, rest.onward),
-      (rest.same.0 ∙ told.same.0 ∙ was.0, rest.same.1 ∙ told.same.1 ∙ was.1, rest.same.2 ∙ told.same.2 ∙ was.2, rest.same.4 ∙ told.same.3 ∙ was.3),
+      omega (arith, inv.2, onward, rest.onward),
     )
 
 -- the substitution that was read, as one more
-pub one_substitution-returns-in-Ok-clause-value : goal.one_substitution-returns-in-Ok-clause-value
-one_substitution-returns-in-Ok-clause-value g t c =
+pub one_substitution-returns-in-Ok : goal.one_substitution-returns-in-Ok
+one_substitution-returns-in-Ok g t c =
     let start = c.args.self.now in
     let keep = keep_of start in
     let own = c.open_level-outer.ensures in
-    let same = c.substituted.ensures.same in
+    let same = c.in-Ok.ensures.2 in
     let shut = c.close_level-bodies.ensures in
     let after = c.close_level-bodies.new.self in
     let list = view_list c.in-Ok.list in
-    let inner = state_of c.substituted.new.self in
+    let inner = at_place c.substituted.new.self in
     let ss = map view_subst c.args.substs.now.items in
-    let here = given start.how.edition (text_of g.S.Source.bytes start) start.origin in
-    let stands : does (substituted (level c.args.room)) keep here (own_level (state_of start)) ≡ Ok (list, inner) =
-    rw (own.same.0, own.same.1, own.same.2, own.same.3, own.level) at c.in-Ok.ensures.value in
-    let read = substitution_read keep here (state_of start) (level c.args.room) c.args.opener ss list inner stands in
+    let here = given start.how.edition (text_of start) start.origin in
+    let stands : does (substituted (level c.args.room)) keep here (own_level (at_place start)) ≡ Ok (list, inner) =
+    rw (own.same.0, own.same.1, own.same.2, own.same.3, own.level) at c.in-Ok.ensures.0 in
+    let read = substitution_read keep here (at_place start) (level c.args.room) c.args.opener ss list inner stands in
     let origin : after.origin ≡ start.origin = shut.same.2 ∙ same.2 ∙ own.same.2 in
     let bodies : c.close_level-bodies.result.items ≡ inner.bodies = shut.bodies in
     let place : after.at ≡ inner.at = shut.place in
@@ -69,32 +71,26 @@ one_substitution-returns-in-Ok-clause-value g t c =
     ∙ ap (λ (bs : Row Span). pushed (grows keep) ss (subst (filled bs list) (span after.origin c.args.opener after.at))) bodies
     ∙ ap (λ (o : ℕ). pushed (grows keep) ss (subst (filled inner.bodies list) (span o c.args.opener after.at))) origin
     ∙ ap (λ (p : ℕ). pushed (grows keep) ss (subst (filled inner.bodies list) (span start.origin c.args.opener p))) place in
-    let state : state_of after ≡ outer_level (state_of start) inner =
-    ap (λ d. standing_with d after.at) (shut.outer ∙ own.outer) ∙ ap (standing_with start.documents) place in
-    read ∙ ap (λ (u : State). Ok (pushed (grows keep) ss (subst (filled inner.bodies list) (span start.origin c.args.opener inner.at)), u)) (sym state) ∙ ap (λ (zs : Row ASubst). Ok (zs, state_of after)) (sym made)
-
--- the token behind an item of a `case`
-pub one_case-returns-in_ok-push-clause-shows : goal.one_case-returns-in_ok-push-clause-shows
-one_case-returns-in_ok-push-clause-shows g t c =
-    let opened = c.open_bracket.ensures.same in
-    let patterns = c.in_ok-patterns.ensures.same in
-    let closer = c.in_ok-closer.ensures.same in
-    let body = c.in_ok-body.ensures.same in
-    rw (body.0, body.1, closer.0, closer.1, patterns.0, patterns.1, opened.0, opened.1) at c.in_ok-end.ensures.shows
+    let state : at_place after ≡ outer_level (at_place start) inner =
+    ap (λ d. standing_with d after.at) (shut.outer ∙ own.outer) ∙ ap (standing_with start.documents) place in (
+      read ∙ ap (λ (u : State). Ok (pushed (grows keep) ss (subst (filled inner.bodies list) (span start.origin c.args.opener inner.at)), u)) (sym state) ∙ ap (λ (zs : Row ASubst). Ok (zs, at_place after)) (sym made),
+      search rules,
+      search rules,
+    )
 
 -- an ordinary byte of a string, and the plain ones behind it
 pub construct-ordinary-preserved : goal.construct-ordinary-preserved
 construct-ordinary-preserved g t c =
     let start = c.args.self.now in
     let inv = c.ordinary.invariant in
-    let was = inv.4 in
+    let was = inv.0.2 in
     let old = c.ordinary.self in
     let new = c.skip_plain-in-Ordinary.new.self in
     let rest = c.skip_plain-in-Ordinary.ensures in
-    let inside = c.place_here-here.ensures.inside in
-    let text = text_of g.S.Source.bytes start in
-    let here : c.place_here-here.result ≡ past_continuations text old.at = rw (was.0, was.1) at c.place_here-here.ensures.value in
-    let told : c.piece.result ≡ piece_in start.how.edition c.args.mode (piece_at text c.args.mode 0 old.at) = rw (was.0, was.1, was.4) at c.piece.ensures.value in
+    let inside = c.place-here.ensures.inside in
+    let text = text_of start in
+    let here : c.place-here.result ≡ past_continuations text old.at = rw (was.0, was.1) at c.place-here.ensures.value in
+    let told : c.piece.result ≡ piece_in start.how.edition c.args.mode (piece_at text c.args.mode 0 old.at) = rw (was.0, was.1, was.3) at c.piece.ensures.value in
     let is : c.piece.result ≡ pieces.Ordinary = c.in-Ordinary.is in
     let plain : ArePlain c.args.mode text (past_continuations text old.at + 1) new.at = rw (was.0, was.1, here) at rest.plain in
     let low : past_continuations text old.at + 1 ≤ new.at = omega (arith, here, rest.onward) in
@@ -102,48 +98,32 @@ construct-ordinary-preserved g t c =
     let on =
     ordinary_here start.how.edition (level (c.args.room - 1)) (keep_of start) (map view_waiting old.documents.waiting.items) old.documents.bodies.items text start.origin c.args.mode (start.origin + c.args.opener)
     (map view_subst c.ordinary.substs.items) old.at new.at (sym told ∙ is) plain low high in (
-      rw rest.same.3 (sym on ∙ inv.0),
+      (
+        rw rest.same.1 (sym on ∙ inv.0.0),
+        omega (arith, inv.0.1, inside.0, rest.onward),
+        (rest.same.0.0 ∙ was.0, rest.same.0.1 ∙ was.1, rest.same.0.2 ∙ was.2, rest.same.0.3 ∙ was.3),
+      ),
       omega (arith, inv.1, inside.0, rest.onward),
-      omega (arith, inv.2, inside.0, rest.onward),
-      inv.3,
-      (rest.same.0 ∙ was.0, rest.same.1 ∙ was.1, rest.same.2 ∙ was.2, rest.same.3 ∙ was.3, rest.same.4 ∙ was.4),
+      inv.2,
     )
-
--- the token behind an entry, which is not read on from where its tree grows
-pub next_entry-returns-clause-shows : goal.next_entry-returns-clause-shows
-next_entry-returns-clause-shows g t c =
-    let bang = c.bang-bang.ensures.same in
-    let first = c.in_ok-first.ensures.same in
-    let commands = c.in_ok-commands.ensures.same in
-    let pipelines = c.in_ok-pipelines.ensures.same in
-    let separator = c.separator-separator.ensures.same in
-    let text = text_of g.S.Source.bytes c.args.self.now in
-    let here : text_of g.S.Source.bytes c.separator-separator.new.self ≡ text =
-    rw (separator.0, separator.1, pipelines.0, pipelines.1, commands.0, commands.1, first.0, first.1, bang.0, bang.1) refl in
-    let told : Shows c.remark-comment.new.next.token text c.remark-comment.new.self.at =
-    by_path (λ T. Shows c.remark-comment.new.next.token T c.remark-comment.new.self.at) here c.remark-comment.ensures.shows in
-    let place : c.if-grows.self.at ≡ c.remark-comment.new.self.at =
-    elim c.if-grows.branch [
-      | next_entry-then-grows+in_ok-room_for_entry+in_ok-push w ↦ ap (λ s. s.at) w.self-is ∙ w.in_ok-room_for_entry.ensures.place
-      | next_entry-else-grows w ↦ ap (λ s. s.at) w.self-is
-    ] in
-    by_path (λ q. Shows c.remark-comment.new.next.token text q) (sym place) told
 
 -- the operator of a here-document stands in the text
 pub redirect-document-requires : goal.redirect-document-requires
+unfolding InHand
 redirect-document-requires g t c =
-    let number = c.number-number.ensures in
+    let number = c.number-number.ensures.2 in
     let operator = c.operator-span.ensures in
+    let same = operator.value.2 in
     let target = c.in_ok-word.ensures in
-    let text = text_of g.S.Source.bytes c.args.self.now in
-    let token = c.number-number.new.next.token in
-    let is : redirect_operator_of token ≡ Some c.in-Some.operator = sym c.redirect_operator.ensures ∙ c.in-Some.is in (
+    let behind = target.value.2 in
+    let before = c.number-number.new.self in
+    let is : redirect_operator_of before.next.token ≡ Some c.in-Some.operator = sym c.redirect_operator.ensures ∙ c.in-Some.is in (
       omega (arith),
       (
         target.place.0,
         (
-          rw target.end operator.start,
-          λ takes. rw (target.same.0, target.same.1, operator.same.0, operator.same.1, number.same.0, number.same.1) (here_wants g.row.KEEP text token c.number-number.new.self.at c.in-Some.operator number.shows is takes),
+          rw (behind.0, behind.1, behind.2) operator.start,
+          λ takes. rw (behind.0, behind.1, same.0, same.1) (here_wants g.row.KEEP (text_of before) before.next.token before.next_at c.in-Some.operator before.shows is takes),
         ),
       ),
     )

@@ -6,7 +6,7 @@ use Rattle.shline.proofs.cursor.Cursor.bodies.Given as goal
 
 abbrev pub invariant-documents : goal.invariant-documents
 invariant-documents g l =
-    let here = given l.fn.self.how.edition (text_of g.S.Source.bytes l.fn.self) l.fn.self.origin in
+    let here = given l.fn.self.how.edition (text_of l.fn.self) l.fn.self.origin in
     let all = map view_waiting l.fn.self.documents.waiting.items in
     (bodies_from here (drop l.index all) l.self.documents.bodies.items l.self.at ≡ bodies_from here all l.fn.self.documents.bodies.items l.fn.self.at)
     × (l.self.documents.waiting ≡ l.fn.self.documents.waiting) × (l.fn.self.at ≤ l.self.at) × Keeps l.fn.self l.self

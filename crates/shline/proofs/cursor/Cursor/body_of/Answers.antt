@@ -8,7 +8,7 @@ use Rattle.shline.proofs.cursor.Cursor.body_of.Goals as goal
 
 pub returns-clause-read : goal.returns-clause-read
 returns-clause-read g c = λ bodies.
-    let text = text_of g.S.Source.bytes c.args.self.now in
+    let text = text_of c.args.self.now in
     let here = given c.args.self.now.how.edition text c.args.self.now.origin in
     let ws = c.args.self.now.documents.waiting.items in
     let rest = drop (c.args.index + 1) (map view_waiting ws) in

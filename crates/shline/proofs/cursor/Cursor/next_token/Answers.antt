@@ -5,6 +5,7 @@ use Rattle.shgrammar.specs.Standing.{continues, raw_past}
 use Rattle.shgrammar.proofs.Shown.{shown_in}
 use Rattle.shgrammar.proofs.Stretches.{joined_none}
 use Rattle.shgrammar.proofs.Unbroken.{blanks_whole}
+use Rattle.shline.specs.InHand.{InHand}
 use Rattle.shline.specs.Clauses.{text_of}
 use Rattle.shline.proofs.cursor.Cursor.next_token.Goals as goal
 
@@ -17,20 +18,21 @@ whole T p e is none =
 
 pub token-token-requires : goal.token-token-requires
 token-token-requires g c =
-    let T = text_of g.S.Source.bytes c.args.self.now in
-    let none = sym c.continues_with.ensures.value ∙ c.if-continues_with.false in
+    let T = text_of c.args.self.now in
+    let none = sym c.continues_with.ensures ∙ c.if-continues_with.false in
     (omega arith, (c.raw_past_to-at.ensures.inside.1, (joined_none T c.raw_past_to-at.result.0 none, c.raw_past_to-at.ensures.byte)))
 
-pub returns-clause-value : goal.returns-clause-value
-returns-clause-value g c =
-    let T = text_of g.S.Source.bytes c.args.self.now in
-    let none = sym c.continues_with.ensures.value ∙ c.if-continues_with.false in
+pub returns-clause-next : goal.returns-clause-next
+returns-clause-next g c =
+    let T = text_of c.args.self.now in
+    let none = sym c.continues_with.ensures ∙ c.if-continues_with.false in
     let blanks = whole T c.args.self.now.at c.raw_past_to-at.result.0 c.raw_past_to-at.ensures.value none in
     rw (blanks.0, blanks.1, c.token-token.ensures) refl
 
-pub returns-clause-shows : goal.returns-clause-shows
-returns-clause-shows g c =
-    let T = text_of g.S.Source.bytes c.args.self.now in
-    let none = sym c.continues_with.ensures.value ∙ c.if-continues_with.false in
+pub invariant_of-self-clause-shows : goal.invariant_of-self-clause-shows
+unfolding InHand
+invariant_of-self-clause-shows g c =
+    let T = text_of c.args.self.now in
+    let none = sym c.continues_with.ensures ∙ c.if-continues_with.false in
     let blanks = whole T c.args.self.now.at c.raw_past_to-at.result.0 c.raw_past_to-at.ensures.value none in
     rw (c.token-token.ensures, ← blanks.0) (shown_in c.args.self.now.how.edition c.args.position T c.args.self.now.at)

@@ -1,0 +1,56 @@
+use Rattle.std.proofs.Common.{◌≡◌, ◌∙◌, Ok, List as Row, drop, map, ap, sym}
+use Rattle.shast.specs.Tree.{AnEntry}
+use Rattle.shast.specs.View.{view_entry}
+use Rattle.shline.specs.Clauses.{kept, at_place}
+use Rattle.shgrammar.specs.Form.{does}
+use Rattle.shgrammar.specs.Levels.{level, most_open}
+use Rattle.shgrammar.specs.Lines.{an_open_line}
+use Rattle.shgrammar.specs.Scripts.{line_told}
+use Rattle.shgrammar.specs.Sights.{given, standing}
+use Rattle.shgrammar.proofs.Levels.{line_read}
+use Rattle.shgrammar.proofs.Within.{line_within}
+use Rattle.shline.proofs.LineEnds.{newline_there, whole_there}
+use Rattle.shline.proofs.told.line_at.Goals as goal
+
+pub returns-clause-value : goal.returns-clause-value
+returns-clause-value g c =
+    let at_line = c.at_line-cursor.ensures in
+    let here = given c.args.how.edition (drop c.args.begin.at (g.S.Source.bytes c.args.source.now)) c.args.begin.origin in
+    let inner = at_place c.open_line.new.self in
+    let es = map view_entry c.in_ok-entries.entries.items in
+    let newline = c.in_ok-entries.newline in
+    let inside : does (an_open_line (level most_open) c.args.begin.blank) (kept g.row.KEEP c.args.how.keep) here (standing 0) ≡ Ok ((es, newline), inner) =
+    rw (at_line.0, at_line.1, at_line.2, at_line.3, at_line.4) at c.in_ok-entries.ensures.value.0 in
+    line_read (kept g.row.KEEP c.args.how.keep) here (standing 0) (level most_open) c.args.begin.blank newline es inner inside
+    ∙ ap (λ (zs : Row AnEntry). Ok ((zs, newline), standing inner.at)) (sym c.filled_entries.ensures)
+
+pub returns-clause-spans : goal.returns-clause-spans
+returns-clause-spans g c =
+    let at_line = c.at_line-cursor.ensures in
+    let bytes = g.S.Source.bytes c.args.source.now in
+    let here = given c.args.how.edition (drop c.args.begin.at bytes) c.args.begin.origin in
+    let inner = at_place c.open_line.new.self in
+    let es = map view_entry c.in_ok-entries.entries.items in
+    let newline = c.in_ok-entries.newline in
+    let inside : does (an_open_line (level most_open) c.args.begin.blank) (kept g.row.KEEP c.args.how.keep) here (standing 0) ≡ Ok ((es, newline), inner) =
+    rw (at_line.0, at_line.1, at_line.2, at_line.3, at_line.4) at c.in_ok-entries.ensures.value.0 in
+    let told : line_told c.args.how.edition bytes (kept g.row.KEEP c.args.how.keep) c.args.begin.blank c.args.begin.at c.args.begin.origin ≡ Ok ((map view_entry c.filled_entries.result.items, newline), standing inner.at) =
+    line_read (kept g.row.KEEP c.args.how.keep) here (standing 0) (level most_open) c.args.begin.blank newline es inner inside
+    ∙ ap (λ (zs : Row AnEntry). Ok ((zs, newline), standing inner.at)) (sym c.filled_entries.ensures) in
+    line_within c.args.how.edition (drop c.args.begin.at bytes) c.args.begin.origin (kept g.row.KEEP c.args.how.keep) c.args.begin.blank _ _ (standing inner.at) told
+
+pub returns-clause-newline : goal.returns-clause-newline
+returns-clause-newline g c =
+    let at_line = c.at_line-cursor.ensures in
+    let same = c.in_ok-entries.ensures.value.2 in
+    let ended = rw (at_line.0, at_line.1) at c.in_ok-entries.ensures.end in
+    let inside = rw (same.0, same.1, at_line.0, at_line.1) at c.open_line.new.self.inside in
+    newline_there (g.S.Source.bytes c.args.source.now) c.args.begin.at c.open_line.new.self.at c.in_ok-entries.newline c.requires.0 inside ended
+
+pub returns-clause-whole : goal.returns-clause-whole
+returns-clause-whole g c =
+    let at_line = c.at_line-cursor.ensures in
+    let same = c.in_ok-entries.ensures.value.2 in
+    let ended = rw (at_line.0, at_line.1) at c.in_ok-entries.ensures.end in
+    let inside = rw (same.0, same.1, at_line.0, at_line.1) at c.open_line.new.self.inside in
+    whole_there (g.S.Source.bytes c.args.source.now) c.args.begin.at c.open_line.new.self.at c.in_ok-entries.newline c.requires.0 inside ended

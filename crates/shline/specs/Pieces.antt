@@ -1,0 +1,19 @@
+-- What a piece of a word says of the bytes from its first one on.
+use Rattle.std.specs.Prelude.{◌≡◌, ◌≢◌, ◌⊎◌, ◌+◌, ◌<◌, ◌≤◌, ℕ, List, length, true}
+use Rattle.shgrammar.specs.declared.mode.Mode.{Mode}
+use Rattle.shgrammar.specs.declared.mode.Mode.TheVariants as modes
+use Rattle.shgrammar.specs.declared.mode.Piece.{Piece}
+use Rattle.shgrammar.specs.declared.mode.Piece.TheVariants as pieces
+use Rattle.shgrammar.specs.Bytes.{behind}
+use Rattle.shgrammar.specs.Shows.{IsRead}
+use Rattle.shgrammar.specs.Standing.{raw_stands}
+
+-- the piece of a mode, with so many brackets open in arithmetic, whose first byte stands at p
+abbrev pub PieceShows : Mode → ℕ → Piece → List ℕ → ℕ → Type 0
+PieceShows mode nested piece T p =
+    ((piece ≢ pieces.Missing) × ((mode ≢ modes.Plain) ⊎ (piece ≢ pieces.Closer)) → p < length T)
+    × (piece ≡ pieces.Escape → (p + 2 ≤ length T) × (raw_stands T p 92 ≡ true))
+    × ((piece ≡ pieces.Pid) ⊎ (piece ≡ pieces.Subst) ⊎ (piece ≡ pieces.Arith) ⊎ (piece ≡ pieces.Param) ⊎ (piece ≡ pieces.DollarSingle) → IsRead T (p + 1))
+    × (piece ≡ pieces.Arith → IsRead T (behind T (p + 1)))
+    × (mode ≡ modes.Arith → piece ≡ pieces.Closer → IsRead T (p + 1))
+    × (piece ≡ pieces.Close → 0 < nested)
