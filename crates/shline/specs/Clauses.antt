@@ -86,7 +86,7 @@ Stays old new = Keeps old new × (new.documents ≡ old.documents)
 abbrev pub Holds : {S : Type 0} {k : ℕ} {g : _} → Cursor S k g → Cursor S k g → Type 0
 Holds old new = Stays old new × (new.next ≡ old.next) × (new.next_at ≡ old.next_at)
 
--- and the token in hand; the place is p, which is no further to the left
+-- the text and the here-documents, where the place goes to p, which is no further to the left
 abbrev pub Moves : {S : Type 0} {k : ℕ} {g : _} → Cursor S k g → Cursor S k g → ℕ → Type 0
 Moves old new p = (new.at ≡ p) × (old.at ≤ new.at) × Stays old new
 

@@ -94,7 +94,7 @@ impl<'a, S: Source, const KEEP: u8> Cursor<'a, S, KEEP> {
         Ok(true)
     }
 
-    /// The items of a simple command behind these.
+    /// The items of a simple command behind these. The token in hand stands in the position `place`.
     #[cycle(commands)]
     #[tactic(auto, using(shgrammar::proofs::Turns::many_again, shgrammar::proofs::Turns::many_done, crate::proofs::Stops::many_stop))]
     fn items(

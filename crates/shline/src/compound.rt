@@ -20,7 +20,7 @@ use shtext::Source;
 use std::mem;
 
 impl<'a, S: Source, const KEEP: u8> Cursor<'a, S, KEEP> {
-    /// Passes the round bracket or the reserved word here.
+    /// Passes the round bracket or the reserved word here. The token behind it stands in this position.
     #[tactic(auto, unfolding(shgrammar::specs::Compounds::passed, shgrammar::specs::Commands::next_token))]
     pub(crate) fn passed(&mut self, paren: bool, position: Position) -> Span
         requires { IsRead (text_of self.old) self.old.next_at }

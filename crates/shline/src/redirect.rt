@@ -146,10 +146,9 @@ impl<'a, S: Source, const KEEP: u8> Cursor<'a, S, KEEP> {
     #[cycle(commands)]
     #[tactic(auto, unfolding(shgrammar::specs::Commands::redirected), using(crate::proofs::Wanted::same_kind))]
     pub(crate) fn redirected(&mut self, command: Command, room: usize) -> Result<Command, Stop>
-        ensures value { Takes self.old (redirected (level room) (
-          view_command command,
-          self.old.next,
-        )) result (λ x. (view_command x, self.new.next)) self.new }
+        ensures value { Takes self.old
+            (redirected (level room) (view_command command, self.old.next)) result
+            (λ x. (view_command x, self.new.next)) self.new }
         ensures kind { IfOk result
             (λ x. is_compound (view_command x) ≡ is_compound (view_command command)) }
     {

@@ -3,7 +3,7 @@ ghost use Rattle.std.specs.Prelude.{◌≡◌, ◌≤◌, Some, false, true, len
 ghost use Rattle.shgrammar.specs.Bytes.{past_blanks, past_continuations};
 ghost use Rattle.shgrammar.specs.Classes.{is_blank};
 ghost use Rattle.shgrammar.specs.Standing.{continues, raw_past, raw_stands};
-ghost use Rattle.shgrammar.specs.Tokens.{begins_assignment, greater_at, is_name_at, is_number, less_at, next_at, past_digits, semicolon_at, token_in, word_by};
+ghost use Rattle.shgrammar.specs.Tokens.{begins_assignment, greater_at, is_name_at, is_number, less_at, past_digits, semicolon_at, token_in, word_by};
 ghost use Rattle.shline.specs.Clauses.{next_from, Stays, text_of, token_of};
 
 use crate::cursor::Cursor;
