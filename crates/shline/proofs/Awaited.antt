@@ -142,7 +142,7 @@ flipped_not true false = refl
 flipped_not false x = refl
 
 -- one more backslash before q
-pub odd_more : (T : List ℕ) (p q : ℕ) (so : Bool) (all : Bool) → p < q → raw_stands T (q - 1) 92 ≡ true → flipped so (odd (raw T p q)) ≡ all → flipped (not so) (odd (raw T p (q - 1))) ≡ all
+odd_more : (T : List ℕ) (p q : ℕ) (so : Bool) (all : Bool) → p < q → raw_stands T (q - 1) 92 ≡ true → flipped so (odd (raw T p q)) ≡ all → flipped (not so) (odd (raw T p (q - 1))) ≡ all
 unfolding raw_stands
 odd_more T p q so all lt is before =
     let last : q - 1 + 1 ≡ q = omega (arith, lt) in
@@ -161,8 +161,14 @@ none_or T p q lt within other =
     let no : (get_or T (q - 1) 0 == 92) ≡ false = sym (ap (λ x. is_byte x 92) is) ∙ other in
     ap (λ n. odd (raw T p n)) (sym last) ∙ ap odd (raw_some T p (q - 1) (get_or T (q - 1) 0) (omega (arith, lt)) is) ∙ other_last (raw T p (q - 1)) (get_or T (q - 1) 0) no
 
+-- the same of places that count from b
+pub odd_more_on : (T : List ℕ) (b p q : ℕ) (so : Bool) (all : Bool) → p < q → raw_stands T (b + (q - 1)) 92 ≡ true → flipped so (odd (raw T (b + p) (b + q))) ≡ all → flipped (not so) (odd (raw T (b + p) (b + (q - 1)))) ≡ all
+odd_more_on T b p q so all lt is before =
+    let back : b + (q - 1) ≡ b + q - 1 = omega (arith, lt) in
+    rw back (odd_more T (b + p) (b + q) so all (omega (arith, lt)) (rw back at is) before)
+
 -- no more of them
-pub odd_stops : (T : List ℕ) (p q : ℕ) (so all : Bool) → q ≤ length T → (nat_lt p q && raw_stands T (q - 1) 92) ≡ false → flipped so (odd (raw T p q)) ≡ all → so ≡ all
+odd_stops : (T : List ℕ) (p q : ℕ) (so all : Bool) → q ≤ length T → (nat_lt p q && raw_stands T (q - 1) 92) ≡ false → flipped so (odd (raw T p q)) ≡ all → so ≡ all
 odd_stops T p q so all within stops before = sym (ap (flipped so) none ∙ flipped_false so) ∙ before
   where
     second : (a b : Bool) → (a && b) ≡ false → a ≡ true → b ≡ false
@@ -173,6 +179,22 @@ odd_stops T p q so all within stops before = sym (ap (flipped so) none ∙ flipp
     none =
         ⊎_elim (λ lt. none_or T p q lt within (second (nat_lt p q) (raw_stands T (q - 1) 92) stops (lt-ltb p q lt)))
         (λ ge. let empty : q - p ≡ 0 = omega (arith, ge) in ap (λ n. odd (take n (drop p T))) empty) (cases_lt p q)
+
+pub odd_stops_on : (T : List ℕ) (b p q : ℕ) (so all : Bool) → b + q ≤ length T → (nat_lt p q && raw_stands T (b + (q - 1)) 92) ≡ false → flipped so (odd (raw T (b + p) (b + q))) ≡ all → so ≡ all
+odd_stops_on T b p q so all within stops before =
+    odd_stops T (b + p) (b + q) so all within (⊎_elim (λ lt. here lt) (λ ge. none ge) (cases_lt p q)) before
+  where
+    here : p < q → (nat_lt (b + p) (b + q) && raw_stands T (b + q - 1) 92) ≡ false
+    here lt =
+        let back : b + q - 1 ≡ b + (q - 1) = omega (arith, lt) in
+        let one : nat_lt p q ≡ true = lt-ltb p q lt in
+        let two : nat_lt (b + p) (b + q) ≡ true = lt-ltb (b + p) (b + q) (omega (arith, lt)) in
+        rw (back, two) (rw one at stops)
+
+    none : q ≤ p → (nat_lt (b + p) (b + q) && raw_stands T (b + q - 1) 92) ≡ false
+    none ge =
+        let two : nat_lt (b + p) (b + q) ≡ false = grind (arith, nat_tests, ge) in
+        rw two refl
 
 -- ---- the bytes of a delimiter
 
@@ -194,14 +216,14 @@ eq_both b xs ys = let same : (b == b) ≡ true = grind (arith, nat_tests) in rw 
 eq_first : (b c : ℕ) (xs ys : List ℕ) → (b == c) ≡ false → bytes_eq (b ∷ xs) (c ∷ ys) ≡ false
 eq_first b c xs ys other = rw other refl
 
-pub bytes_more : (T : List ℕ) (p q i : ℕ) (bytes : List ℕ) → p + i < q → i < length bytes → raw_stands T (p + i) (get_or bytes i 0) ≡ true
+bytes_more : (T : List ℕ) (p q i : ℕ) (bytes : List ℕ) → p + i < q → i < length bytes → raw_stands T (p + i) (get_or bytes i 0) ≡ true
     → bytes_eq (raw T (p + i) q) (drop i bytes) ≡ bytes_eq (raw T (p + i + 1) q) (drop (i + 1) bytes)
 unfolding raw_stands
 bytes_more T p q i bytes lt low is =
     let c = get_or bytes i 0 in
     rw (raw_first T (p + i) q c lt (byte_is (slice_get T (p + i)) c is), drop_more bytes i 0 low) (eq_both c (raw T (p + i + 1) q) (drop (i + 1) bytes))
 
-pub bytes_other : (T : List ℕ) (p q i : ℕ) (bytes : List ℕ) → p + i < q → q ≤ length T → i < length bytes → raw_stands T (p + i) (get_or bytes i 0) ≡ false
+bytes_other : (T : List ℕ) (p q i : ℕ) (bytes : List ℕ) → p + i < q → q ≤ length T → i < length bytes → raw_stands T (p + i) (get_or bytes i 0) ≡ false
     → bytes_eq (raw T (p + i) q) (drop i bytes) ≡ false
 unfolding raw_stands
 bytes_other T p q i bytes lt within low other =
@@ -209,6 +231,15 @@ bytes_other T p q i bytes lt within low other =
     let is : slice_get T (p + i) ≡ Some (get_or T (p + i) 0) = slice_get-get_or T (p + i) 0 (omega (arith, lt, within)) in
     let no : (get_or T (p + i) 0 == c) ≡ false = sym (ap (λ x. is_byte x c) is) ∙ other in
     rw (raw_first T (p + i) q (get_or T (p + i) 0) lt is, drop_more bytes i 0 low) (eq_first (get_or T (p + i) 0) c (raw T (p + i + 1) q) (drop (i + 1) bytes) no)
+
+-- the same, where the place is told by its distance
+pub bytes_more_on : (T : List ℕ) (p q i r : ℕ) (bytes : List ℕ) → r ≡ p + i → p + i < q → i < length bytes → raw_stands T r (get_or bytes i 0) ≡ true
+    → bytes_eq (raw T (p + i) q) (drop i bytes) ≡ bytes_eq (raw T (p + i + 1) q) (drop (i + 1) bytes)
+bytes_more_on T p q i r bytes is lt low one = bytes_more T p q i bytes lt low (rw is at one)
+
+pub bytes_other_on : (T : List ℕ) (p q i r : ℕ) (bytes : List ℕ) → r ≡ p + i → p + i < q → q ≤ length T → i < length bytes → raw_stands T r (get_or bytes i 0) ≡ false
+    → bytes_eq (raw T (p + i) q) (drop i bytes) ≡ false
+bytes_other_on T p q i r bytes is lt within low other = bytes_other T p q i bytes lt within low (rw is at other)
 
 pub bytes_end : (T : List ℕ) (p q i : ℕ) (bytes : List ℕ) → p + i ≡ q → i ≡ length bytes → bytes_eq (raw T (p + i) q) (drop i bytes) ≡ true
 bytes_end T p q i bytes end whole =

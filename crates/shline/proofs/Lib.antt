@@ -9,3 +9,5 @@ pub mod TwoBytes
 pub mod Wanted
 pub mod NoToken
 pub mod LineEnds
+pub mod Comments
+pub mod Front

@@ -19,9 +19,13 @@ use Rattle.shgrammar.specs.declared.token.Position.{Position}
 use Rattle.shgrammar.specs.declared.token.Token.{Token}
 use Rattle.shgrammar.specs.Tokens.{next_at, next_in, token_at, token_in}
 use Rattle.shgrammar.specs.Sights.{Given, State, Waiting, given}
-use Rattle.shgrammar.specs.Form.{Form, Read, Step, again, does, step_if}
-use Rattle.shgrammar.specs.HereDocuments.{bodies_from}
-use Rattle.shgrammar.specs.Standing.{at_end, next_newline, raw_stands}
+use Rattle.shgrammar.specs.Bytes.{behind, past_blanks, past_continuations}
+use Rattle.shgrammar.specs.Shows.{IsRead}
+use Rattle.shgrammar.specs.declared.mode.Mode.{Mode}
+use Rattle.shgrammar.specs.Form.{Form, Read, Step, again, does, raw, step_if}
+use Rattle.shgrammar.specs.Plain.{ArePlain}
+use Rattle.shgrammar.specs.HereDocuments.{bodies_from, rest_of_line}
+use Rattle.shgrammar.specs.Standing.{at_end, raw_stands}
 
 -- ---- a cursor
 
@@ -39,16 +43,64 @@ limits_of {k = k} cursor = limits k cursor.origin (text_of cursor)
 abbrev pub given_of : {S : Type 0} {k : ℕ} {g : _} → Cursor S k g → Given
 given_of cursor = given cursor.how.edition (text_of cursor) cursor.origin
 
--- these places stand so, and in the text
-abbrev pub Between : {S : Type 0} {k : ℕ} {g : _} → Cursor S k g → ℕ → ℕ → Type 0
-Between cursor p q = (p ≤ q) × (q ≤ length (text_of cursor))
+-- the place of the text of one that counts from the stretch
+abbrev pub on : {S : Type 0} {k : ℕ} {g : _} → Cursor S k g → ℕ → ℕ
+on cursor p = cursor.begin + p
 
--- the token at a place, and the next one behind where it stands
+-- what a definition says of the text at a place that counts from the stretch
+abbrev pub seen : {S X : Type 0} {k : ℕ} {g : _} → Cursor S k g → (List ℕ → ℕ → X) → ℕ → X
+seen cursor definition p = definition (text_of cursor) (on cursor p)
+
+-- the bytes from one up to another
+abbrev pub bytes_between : {S : Type 0} {k : ℕ} {g : _} → Cursor S k g → ℕ → ℕ → List ℕ
+bytes_between cursor p q = raw (text_of cursor) (on cursor p) (on cursor q)
+
+-- what is left of the line at one
+abbrev pub line_of : {S : Type 0} {k : ℕ} {g : _} → Cursor S k g → ℕ → List ℕ
+line_of cursor p = seen cursor rest_of_line p
+
+-- where the reading stands, if no token is in hand
+abbrev pub here_of : {S : Type 0} {k : ℕ} {g : _} → Cursor S k g → ℕ
+here_of cursor = on cursor cursor.at
+
+-- where the token in hand begins
+abbrev pub start_of : {S : Type 0} {k : ℕ} {g : _} → Cursor S k g → ℕ
+start_of cursor = on cursor cursor.next_at
+
+-- a place that counts from the stretch stands in the text
+abbrev pub Inside : {S : Type 0} {k : ℕ} {g : _} → Cursor S k g → ℕ → Type 0
+Inside cursor p = on cursor p ≤ length (text_of cursor)
+
+-- two of them stand so
+abbrev pub Between : {S : Type 0} {k : ℕ} {g : _} → Cursor S k g → ℕ → ℕ → Type 0
+Between cursor p q = (p ≤ q) × Inside cursor q
+
+-- two bytes at least are read from the begin of the token in hand on
+abbrev pub IsLong : {S : Type 0} {k : ℕ} {g : _} → Cursor S k g → Type 0
+IsLong cursor = IsRead (text_of cursor) (start_of cursor) × IsRead (text_of cursor) (behind (text_of cursor) (start_of cursor))
+
+-- a definition leads from a place to another, which is no further to the left
+abbrev pub Reaches : {S : Type 0} {k : ℕ} {g : _} → Cursor S k g → (List ℕ → ℕ → ℕ) → ℕ → ℕ → Type 0
+Reaches cursor definition p q = (on cursor q ≡ seen cursor definition p) × Between cursor p q
+
+-- a place stands in the text, and no continuation there
+abbrev pub Still : {S : Type 0} {k : ℕ} {g : _} → Cursor S k g → ℕ → Type 0
+Still cursor p = Inside cursor p × (seen cursor past_continuations p ≡ on cursor p)
+
+-- a place is that of the next byte, or the end,
+abbrev pub IsHere : {S : Type 0} {k : ℕ} {g : _} → Cursor S k g → ℕ → Type 0
+IsHere cursor p = on cursor p ≡ past_continuations (text_of cursor) (here_of cursor)
+
+-- and one stands there
+abbrev pub ByteHere : {S : Type 0} {k : ℕ} {g : _} → Cursor S k g → ℕ → Type 0
+ByteHere cursor p = IsHere cursor p × (on cursor p < length (text_of cursor))
+
+-- the token at a place of the text, and the next one from where the reading stands on
 abbrev pub token_of : {S : Type 0} {k : ℕ} {g : _} → Cursor S k g → Position → ℕ → Token
 token_of cursor position p = token_in cursor.how.edition (token_at position (text_of cursor) p)
 
 abbrev pub next_from : {S : Type 0} {k : ℕ} {g : _} → Cursor S k g → Position → Next
-next_from cursor position = next_in cursor.how.edition (next_at position (text_of cursor) cursor.at)
+next_from cursor position = next_in cursor.how.edition (next_at position (text_of cursor) (here_of cursor))
 
 -- what a cursor of this KEEP keeps, if it may grow a tree
 abbrev pub kept : ℕ → Keep → Keep
@@ -66,11 +118,11 @@ standing_with documents p = record { at = p; waiting = map view_waiting document
 
 -- where it stands between tokens
 abbrev pub at_place : {S : Type 0} {k : ℕ} {g : _} → Cursor S k g → State
-at_place cursor = standing_with cursor.documents cursor.at
+at_place cursor = standing_with cursor.documents (here_of cursor)
 
 -- and where it stands with a token in hand
 abbrev pub at_token : {S : Type 0} {k : ℕ} {g : _} → Cursor S k g → State
-at_token cursor = standing_with cursor.documents cursor.next_at
+at_token cursor = standing_with cursor.documents (start_of cursor)
 
 -- ---- what stays
 
@@ -84,15 +136,23 @@ Stays old new = Keeps old new × (new.documents ≡ old.documents)
 
 -- and the token in hand
 abbrev pub Holds : {S : Type 0} {k : ℕ} {g : _} → Cursor S k g → Cursor S k g → Type 0
-Holds old new = Stays old new × (new.next ≡ old.next) × (new.next_at ≡ old.next_at)
+Holds old new = Stays old new × (new.next ≡ old.next) × (start_of new ≡ start_of old)
 
 -- the text and the here-documents, where the place goes to p, which is no further to the left
 abbrev pub Moves : {S : Type 0} {k : ℕ} {g : _} → Cursor S k g → Cursor S k g → ℕ → Type 0
-Moves old new p = (new.at ≡ p) × (old.at ≤ new.at) × Stays old new
+Moves old new p = (here_of new ≡ p) × (here_of old ≤ here_of new) × Stays old new
 
 -- the same of a place behind the begin of the token in hand
 abbrev pub Steps : {S : Type 0} {k : ℕ} {g : _} → Cursor S k g → Cursor S k g → ℕ → Type 0
-Steps old new p = (new.at ≡ p) × (old.next_at < new.at) × Stays old new
+Steps old new p = (here_of new ≡ p) × (start_of old < here_of new) × Stays old new
+
+-- the next token is in hand
+abbrev pub Looks : {S : Type 0} {k : ℕ} {g : _} → Cursor S k g → Position → Cursor S k g → Type 0
+Looks old position new = (new.next ≡ next_from old position) × (start_of new ≡ past_blanks (text_of old) (here_of old)) × (here_of old ≤ start_of new) × Stays old new
+
+-- bytes that are ordinary in a mode were passed
+abbrev pub Skips : {S : Type 0} {k : ℕ} {g : _} → Cursor S k g → Mode → Cursor S k g → Type 0
+Skips old mode new = ArePlain mode (text_of old) (here_of old) (here_of new) × (here_of old ≤ here_of new) × (here_of new ≤ length (text_of old)) × Stays old new
 
 -- a turn that goes on moves to the right
 abbrev pub Onward : ℕ → ℕ → Bool → Type 0
@@ -147,12 +207,12 @@ Finds old form x new = Leads old form (at_token old) x (at_token new) new
 
 -- and of a turn, which answers whether more may follow, and then leads on,
 abbrev pub Turns : {S A : Type 0} {k : ℕ} {g : _} → Cursor S k g → Form (Step A) → Result Bool Stop → A → Cursor S k g → Type 0
-Turns old form (Ok more) a new = (reads old form (at_token old) ≡ Ok (step_if more a, at_token new)) × Onward old.next_at new.next_at more × Keeps old new
+Turns old form (Ok more) a new = (reads old form (at_token old) ≡ Ok (step_if more a, at_token new)) × Onward (start_of old) (start_of new) more × Keeps old new
 Turns old form (Err e) a new = Fails (limits_of old) e (reads old form (at_token old)) × Keeps old new
 
 -- or of one that surely goes on.
 abbrev pub Adds : {S A : Type 0} {k : ℕ} {g : _} → Cursor S k g → Form (Step A) → Result (Unit {0}) Stop → A → Cursor S k g → Type 0
-Adds old form (Ok x) a new = (reads old form (at_token old) ≡ Ok (again a, at_token new)) × (old.next_at < new.next_at) × Keeps old new
+Adds old form (Ok x) a new = (reads old form (at_token old) ≡ Ok (again a, at_token new)) × (start_of old < start_of new) × Keeps old new
 Adds old form (Err e) a new = Fails (limits_of old) e (reads old form (at_token old)) × Keeps old new
 
 -- What is left to be read from a state on gives what all gives.
@@ -165,10 +225,6 @@ Ended T q true = (raw_stands T (q - 1) 10 ≡ true) ⊎ (at_end T q ≡ true)
 Ended T q false = at_end T q ≡ true
 
 -- ---- what is read into
-
--- end is where the line from a place on ends
-abbrev pub EndsLine : {S : Type 0} {k : ℕ} {g : _} → Cursor S k g → ℕ → ℕ → Type 0
-EndsLine cursor from end = (from ≤ end) × (end ≡ next_newline (text_of cursor) from) × (end ≤ length (text_of cursor))
 
 -- the bodies of the documents that wait from an index on, behind these, and the place behind them
 abbrev pub bodies_of : {S : Type 0} {k : ℕ} {g : _} → Cursor S k g → ℕ → Row Span → ℕ → Result (Row Span × ℕ) Fault

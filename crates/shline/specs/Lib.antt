@@ -5,3 +5,4 @@ pub mod Listed
 pub mod Clauses
 pub mod Sought
 pub mod Pieces
+pub mod Rows

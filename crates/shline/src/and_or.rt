@@ -1,12 +1,11 @@
 //! And-or lists: pipelines joined by `&&` and `||` (XCU 2.9.3).
-ghost use Rattle.std.specs.Prelude.{[], map};
+ghost use Rattle.std.specs.Prelude.{[]};
 ghost use Rattle.shgrammar.specs.Bytes.{behind};
-ghost use Rattle.shgrammar.specs.Shows.{IsRead};
-ghost use Rattle.shline.specs.Clauses.{Adds, Takes, text_of, Turns};
+ghost use Rattle.shline.specs.Clauses.{Adds, Takes, Turns, IsLong};
 ghost use Rattle.shgrammar.specs.Commands.{join_pipeline, joined_so, one_pipeline};
 ghost use Rattle.shgrammar.specs.Form.{many};
 ghost use Rattle.shgrammar.specs.Levels.{level};
-ghost use Rattle.shast.specs.View.{view_and_or_part};
+ghost use Rattle.shline.specs.Rows.{view_and_or_parts};
 
 use crate::cursor::Cursor;
 use crate::stop::Stop;
@@ -26,11 +25,10 @@ impl<'a, S: Source, const KEEP: u8> Cursor<'a, S, KEEP> {
         parts: &mut Vec<AndOrPart>,
         room: usize,
     ) -> Result<(), Stop>
-        requires first { IsRead (text_of self.old) self.old.next_at }
-        requires second { IsRead (text_of self.old) (behind (text_of self.old) self.old.next_at) }
-        ensures { Adds self.old (one_pipeline (level room)
-            (joined_so (map view_and_or_part parts.old.items) self.old.next) operator) result
-            (joined_so (map view_and_or_part parts.new.items) self.new.next) self.new }
+        requires { IsLong self.old }
+        ensures { Adds self.old (one_pipeline (level room) (joined_so (view_and_or_parts parts.old)
+            self.old.next) operator) result (joined_so (view_and_or_parts parts.new)
+            self.new.next) self.new }
     {
         let broken = self.next.broken;
         self.step();
@@ -50,9 +48,9 @@ impl<'a, S: Source, const KEEP: u8> Cursor<'a, S, KEEP> {
     #[inline(always)]
     #[tactic(auto, unfolding(shgrammar::specs::Commands::join_pipeline, crate::specs::InHand::InHand))]
     fn join_pipeline(&mut self, parts: &mut Vec<AndOrPart>, room: usize) -> Result<bool, Stop>
-        ensures { Turns self.old (join_pipeline (level room)
-            (joined_so (map view_and_or_part parts.old.items) self.old.next)) result (joined_so
-            (map view_and_or_part parts.new.items) self.new.next) self.new }
+        ensures { Turns self.old (join_pipeline (level room) (joined_so (view_and_or_parts
+            parts.old) self.old.next)) result (joined_so (view_and_or_parts parts.new)
+            self.new.next) self.new }
     {
         let Some(operator) = self.next.token.and_or_operator() else {
             return Ok(false);
@@ -67,7 +65,7 @@ impl<'a, S: Source, const KEEP: u8> Cursor<'a, S, KEEP> {
     #[tactic(auto, using(shgrammar::proofs::Turns::many_again, shgrammar::proofs::Turns::many_done, crate::proofs::Stops::many_stop))]
     pub(crate) fn joined_pipelines(&mut self, room: usize) -> Result<Vec<AndOrPart>, Stop>
         ensures { Takes self.old (many (join_pipeline (level room)) (joined_so [] self.old.next))
-            result (λ parts. joined_so (map view_and_or_part parts.items) self.new.next) self.new }
+            result (λ parts. joined_so (view_and_or_parts parts) self.new.next) self.new }
     {
         let mut parts = Vec::new(self.alloc);
         'turns: while self.join_pipeline(&mut parts, room)? {}

@@ -1,6 +1,6 @@
 //! What may stand between commands: comments, newlines, separators, and what no row takes (XCU 2.3, 2.9.3).
 ghost use Rattle.std.specs.Prelude.{◌≤◌, IfOk, is_some, option_map};
-ghost use Rattle.shline.specs.Clauses.{end_of, Finds, Onward, Passes, Takes};
+ghost use Rattle.shline.specs.Clauses.{end_of, Finds, Onward, Passes, start_of, Takes};
 ghost use Rattle.shgrammar.specs.Commands.{a_comment, a_newline, a_semicolon, a_separator, what_is_wrong};
 ghost use Rattle.shgrammar.specs.Levels.{level};
 ghost use Rattle.shast.specs.View.{view_comment};
@@ -37,7 +37,7 @@ impl<'a, S: Source, const KEEP: u8> Cursor<'a, S, KEEP> {
     pub(crate) fn newline(&mut self) -> Result<bool, Stop>
         ensures value { Takes self.old (a_newline self.old.next) result
             (λ more. (more, self.new.next)) self.new }
-        ensures onward { IfOk result (Onward self.old.next_at self.new.next_at) }
+        ensures onward { IfOk result (Onward (start_of self.old) (start_of self.new)) }
     {
         let Token::Newline = self.next.token else {
             return Ok(false);
@@ -51,9 +51,8 @@ impl<'a, S: Source, const KEEP: u8> Cursor<'a, S, KEEP> {
     /// Passes the `;` here, if one stands.
     #[tactic(auto, unfolding(shgrammar::specs::Commands::a_semicolon, shgrammar::specs::Commands::next_token, crate::specs::InHand::InHand))]
     pub(crate) fn semicolon(&mut self) -> bool
-        ensures value { Finds self.old (a_semicolon self.old.next)
-            (result, self.new.next) self.new }
-        ensures onward { Onward self.old.next_at self.new.next_at result }
+        ensures form { Finds self.old (a_semicolon self.old.next) (result, self.new.next) self.new }
+        ensures onward { Onward (start_of self.old) (start_of self.new) result }
     {
         let Token::Semicolon = self.next.token else {
             return false;
@@ -67,13 +66,12 @@ impl<'a, S: Source, const KEEP: u8> Cursor<'a, S, KEEP> {
     #[inline(always)]
     #[tactic(auto, unfolding(shgrammar::specs::Commands::a_separator, shgrammar::specs::Commands::next_token, crate::specs::InHand::InHand))]
     pub(crate) fn separator(&mut self) -> Option<(Separator, usize)>
-        ensures value { Finds self.old (a_separator self.old.next)
-            (result, self.new.next) self.new }
-        ensures onward { Onward self.old.next_at self.new.next_at (is_some result) }
+        ensures form { Finds self.old (a_separator self.old.next) (result, self.new.next) self.new }
+        ensures onward { Onward (start_of self.old) (start_of self.new) (is_some result) }
     {
         let separator = self.next.token.separator()?;
         self.step();
-        let end = self.origin + self.at;
+        let end = self.origin + self.here();
         self.next_token(Position::Command);
         Some((separator, end))
     }
@@ -88,7 +86,7 @@ impl<'a, S: Source, const KEEP: u8> Cursor<'a, S, KEEP> {
         ensures within { IfOk result (λ fault. fault.at ≤ end_of self.old) }
     {
         if self.next.token.begins_word() {
-            let at = self.origin + self.next_at;
+            let at = self.origin + self.start();
             let mut substs = Vec::new(self.alloc);
             self.pass_word(&mut substs, room)?;
             return Ok(Fault {
@@ -98,7 +96,7 @@ impl<'a, S: Source, const KEEP: u8> Cursor<'a, S, KEEP> {
         }
         let _ = self.remark();
         self.at = self.next_at;
-        let at = self.origin + self.at;
+        let at = self.origin + self.start();
         let Token::End = self.next.token else {
             return Ok(Fault {
                 kind: FaultKind::Unexpected,

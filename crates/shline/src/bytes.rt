@@ -1,9 +1,9 @@
 //! The bytes of a text as they are read: continuations are removed (XCU 2.2.1).
-ghost use Rattle.std.specs.Prelude.{◌≡◌, ◌<◌, ◌≤◌, length, true, false, IfSome};
+ghost use Rattle.std.specs.Prelude.{◌≡◌, ◌<◌, true, false, IfSome};
 ghost use Rattle.shgrammar.specs.Bytes.{behind, byte_at, ends_word, past, past_blanks, past_continuations, stands, stands_in};
 ghost use Rattle.shgrammar.specs.Classes.{in_class, is_blank};
 ghost use Rattle.shgrammar.specs.Shows.{IsRead};
-ghost use Rattle.shline.specs.Clauses.{Between, Moves, Steps, text_of};
+ghost use Rattle.shline.specs.Clauses.{here_of, Inside, Moves, on, Reaches, seen, start_of, Steps, text_of};
 ghost use Rattle.shgrammar.specs.Standing.{raw_in};
 
 use crate::cursor::Cursor;
@@ -15,9 +15,8 @@ impl<'a, S: Source, const KEEP: u8> Cursor<'a, S, KEEP> {
     #[inline(always)]
     #[tactic(auto, using(shgrammar::proofs::Stretches::joined_none))]
     pub(crate) fn place(&self, from: usize) -> usize
-        requires { from ≤ length (text_of self.now) }
-        ensures value { result ≡ past_continuations (text_of self.now) from }
-        ensures inside { Between self.now from result }
+        requires { Inside self.now from }
+        ensures { Reaches self.now past_continuations from result }
     {
         if self.continues(from) {
             return self.past_continuations(from);
@@ -29,9 +28,8 @@ impl<'a, S: Source, const KEEP: u8> Cursor<'a, S, KEEP> {
     #[cold]
     #[tactic(auto, using(shgrammar::proofs::Stretches::joined_more, shgrammar::proofs::Stretches::joined_none))]
     fn past_continuations(&self, from: usize) -> usize
-        requires { from ≤ length (text_of self.now) }
-        ensures value { result ≡ past_continuations (text_of self.now) from }
-        ensures inside { Between self.now from result }
+        requires { Inside self.now from }
+        ensures { Reaches self.now past_continuations from result }
     {
         let mut at = from;
         'continuations: while self.continues(at) {
@@ -45,9 +43,9 @@ impl<'a, S: Source, const KEEP: u8> Cursor<'a, S, KEEP> {
     #[inline(always)]
     #[tactic(auto, using(shgrammar::proofs::Stretches::raw_stays))]
     pub(crate) fn byte_at(&self, at: usize) -> Option<u8>
-        requires { at ≤ length (text_of self.now) }
-        ensures value { result ≡ byte_at (text_of self.now) at }
-        ensures inside { IfSome result (λ b. IsRead (text_of self.now) at) }
+        requires { Inside self.now at }
+        ensures value { result ≡ seen self.now byte_at at }
+        ensures inside { IfSome result (λ b. IsRead (text_of self.now) (on self.now at)) }
     {
         if self.raw_stands(at, b'\\') {
             return self.raw_byte(self.place(at));
@@ -59,11 +57,10 @@ impl<'a, S: Source, const KEEP: u8> Cursor<'a, S, KEEP> {
     #[inline(always)]
     #[tactic(auto, unfolding(shgrammar::specs::Bytes::behind))]
     pub(crate) fn behind(&self, at: usize) -> usize
-        requires within { at ≤ length (text_of self.now) }
-        requires some { IsRead (text_of self.now) at }
-        ensures value { result ≡ behind (text_of self.now) at }
-        ensures past { past_continuations (text_of self.now) at < result }
-        ensures inside { (at < result) × (result ≤ length (text_of self.now)) }
+        requires { Inside self.now at × IsRead (text_of self.now) (on self.now at) }
+        ensures value { on self.now result ≡ seen self.now behind at }
+        ensures past { seen self.now past_continuations at < on self.now result }
+        ensures inside { (at < result) × Inside self.now result }
     {
         self.place(at) + 1
     }
@@ -71,10 +68,10 @@ impl<'a, S: Source, const KEEP: u8> Cursor<'a, S, KEEP> {
     /// One byte on.
     #[inline(always)]
     pub(crate) fn bump(&mut self)
-        requires { IsRead (text_of self.old) self.old.at }
-        ensures value { Moves self.old self.new (behind (text_of self.old) self.old.at) }
-        ensures onward { self.old.at < self.new.at }
-        ensures past { past_continuations (text_of self.old) self.old.at < self.new.at }
+        requires { IsRead (text_of self.old) (here_of self.old) }
+        ensures value { Moves self.old self.new (behind (text_of self.old) (here_of self.old)) }
+        ensures onward { here_of self.old < here_of self.new }
+        ensures past { past_continuations (text_of self.old) (here_of self.old) < here_of self.new }
     {
         let at = self.at;
         self.at = self.behind(at);
@@ -84,8 +81,8 @@ impl<'a, S: Source, const KEEP: u8> Cursor<'a, S, KEEP> {
     #[inline(always)]
     #[tactic(auto, unfolding(shgrammar::specs::Bytes::behind, crate::specs::InHand::InHand))]
     pub(crate) fn step(&mut self)
-        requires { IsRead (text_of self.old) self.old.next_at }
-        ensures { Steps self.old self.new (behind (text_of self.old) self.old.next_at) }
+        requires { IsRead (text_of self.old) (start_of self.old) }
+        ensures { Steps self.old self.new (behind (text_of self.old) (start_of self.old)) }
     {
         self.at = self.next_at + 1;
     }
@@ -94,9 +91,9 @@ impl<'a, S: Source, const KEEP: u8> Cursor<'a, S, KEEP> {
     #[inline(always)]
     #[tactic(auto, unfolding(shgrammar::specs::Bytes::stands))]
     pub(crate) fn stands(&self, at: usize, byte: u8) -> bool
-        requires { at ≤ length (text_of self.now) }
-        ensures value { result ≡ stands (text_of self.now) at byte }
-        ensures inside { result ≡ true → IsRead (text_of self.now) at }
+        requires { Inside self.now at }
+        ensures value { result ≡ seen self.now stands at byte }
+        ensures inside { result ≡ true → IsRead (text_of self.now) (on self.now at) }
     {
         match self.byte_at(at) {
             Some(found) => found == byte,
@@ -108,9 +105,9 @@ impl<'a, S: Source, const KEEP: u8> Cursor<'a, S, KEEP> {
     #[inline(always)]
     #[tactic(auto, unfolding(shgrammar::specs::Bytes::stands_in))]
     pub(crate) fn stands_in(&self, at: usize, class: Class) -> bool
-        requires { at ≤ length (text_of self.now) }
-        ensures value { result ≡ stands_in (in_class class) (text_of self.now) at }
-        ensures inside { result ≡ true → IsRead (text_of self.now) at }
+        requires { Inside self.now at }
+        ensures value { result ≡ seen self.now (stands_in (in_class class)) at }
+        ensures inside { result ≡ true → IsRead (text_of self.now) (on self.now at) }
     {
         match self.byte_at(at) {
             Some(byte) => class.has(byte),
@@ -123,10 +120,9 @@ impl<'a, S: Source, const KEEP: u8> Cursor<'a, S, KEEP> {
     #[inline(always)]
     #[tactic(auto, using(shgrammar::proofs::Unbroken::past_raw, shgrammar::proofs::Unbroken::past_whole, shgrammar::proofs::Unbroken::raw_stops, shgrammar::proofs::Unbroken::none_here))]
     pub(crate) fn past(&self, from: usize, class: Class) -> usize
-        requires { from ≤ length (text_of self.now) }
-        ensures value { result ≡ past (in_class class) (text_of self.now) from }
-        ensures inside { Between self.now from result }
-        ensures other { stands_in (in_class class) (text_of self.now) result ≡ false }
+        requires { Inside self.now from }
+        ensures place { Reaches self.now (past (in_class class)) from result }
+        ensures other { seen self.now (stands_in (in_class class)) result ≡ false }
     {
         let end = self.raw_past(from, class);
         if self.continues(end) {
@@ -139,11 +135,9 @@ impl<'a, S: Source, const KEEP: u8> Cursor<'a, S, KEEP> {
     #[cold]
     #[tactic(auto, using(shgrammar::proofs::Unbroken::joined_on, shgrammar::proofs::Unbroken::joined_here, shgrammar::proofs::Unbroken::raw_stops, shgrammar::proofs::Unbroken::none_here, shgrammar::proofs::Stretches::past_none))]
     fn past_joined(&self, from: usize, class: Class) -> usize
-        requires within { from ≤ length (text_of self.now) }
-        requires none { raw_in (in_class class) (text_of self.now) from ≡ false }
-        ensures value { result ≡ past (in_class class) (text_of self.now) from }
-        ensures inside { Between self.now from result }
-        ensures other { stands_in (in_class class) (text_of self.now) result ≡ false }
+        requires { Inside self.now from × (seen self.now (raw_in (in_class class)) from ≡ false) }
+        ensures place { Reaches self.now (past (in_class class)) from result }
+        ensures other { seen self.now (stands_in (in_class class)) result ≡ false }
     {
         let mut at = from;
         'joined: while self.continues(at) {
@@ -159,12 +153,10 @@ impl<'a, S: Source, const KEEP: u8> Cursor<'a, S, KEEP> {
     /// The place where the next token begins, from one where no blank stands: behind the continuations there,
     /// and the blanks among them.
     #[inline(always)]
-    #[tactic(auto, using(crate::proofs::Passed::blanks_over, crate::proofs::Passed::no_blanks, shgrammar::proofs::Unbroken::blanks_stop_raw))]
+    #[tactic(auto, using(crate::proofs::Passed::blanks_over_on, crate::proofs::Passed::no_blanks, shgrammar::proofs::Unbroken::blanks_stop_raw))]
     pub(crate) fn past_broken_blanks(&self, from: usize) -> usize
-        requires within { from ≤ length (text_of self.now) }
-        requires none { raw_in is_blank (text_of self.now) from ≡ false }
-        ensures place { result ≡ past_blanks (text_of self.now) from }
-        ensures inside { Between self.now from result }
+        requires { Inside self.now from × (seen self.now (raw_in is_blank) from ≡ false) }
+        ensures { Reaches self.now past_blanks from result }
     {
         let mut at = from;
         'joined: while self.continues(at) {
@@ -177,9 +169,9 @@ impl<'a, S: Source, const KEEP: u8> Cursor<'a, S, KEEP> {
     #[inline(always)]
     #[tactic(auto, unfolding(shgrammar::specs::Bytes::ends_word))]
     pub(crate) fn ends_at(&self, at: usize) -> bool
-        requires { at ≤ length (text_of self.now) }
-        ensures value { result ≡ ends_word (text_of self.now) at }
-        ensures inside { result ≡ false → IsRead (text_of self.now) at }
+        requires { Inside self.now at }
+        ensures value { result ≡ seen self.now ends_word at }
+        ensures inside { result ≡ false → IsRead (text_of self.now) (on self.now at) }
     {
         match self.byte_at(at) {
             Some(byte) => ends_words(byte),

@@ -1,13 +1,14 @@
 //! `case` (XCU 2.9.4.3): its word and its items.
-ghost use Rattle.std.specs.Prelude.{◌≡◌, ◌<◌, [], false, map, IfOk};
+ghost use Rattle.std.specs.Prelude.{◌≡◌, ◌<◌, [], false, IfOk};
 ghost use Rattle.shgrammar.specs.Bytes.{behind, ends_word};
 ghost use Rattle.shgrammar.specs.Shows.{IsRead};
-ghost use Rattle.shline.specs.Clauses.{Adds, Finds, Takes, text_of, Turns};
+ghost use Rattle.shline.specs.Clauses.{Adds, Finds, start_of, Takes, text_of, Turns, IsLong};
 ghost use Rattle.shgrammar.specs.Commands.{falls_through};
 ghost use Rattle.shgrammar.specs.Compounds.{a_case, a_case_head, a_case_word, an_ender, a_pattern, a_pattern_list, an_item_end, an_open_bracket, body_end, case_turn, item_end, one_case, one_pattern, pattern_turn, patterned, closed};
 ghost use Rattle.shgrammar.specs.Form.{many};
 ghost use Rattle.shgrammar.specs.Levels.{level};
 ghost use Rattle.shline.specs.Listed.{view_cases, view_listed};
+ghost use Rattle.shline.specs.Rows.{view_words};
 ghost use Rattle.shast.specs.View.{view_form, view_join, view_word};
 
 use crate::cursor::Cursor;
@@ -59,7 +60,7 @@ impl<'a, S: Source, const KEEP: u8> Cursor<'a, S, KEEP> {
         if !self.next.token.begins_word() {
             return Err(Stop::Wrong(self.what_is_wrong(room)?));
         }
-        let start = self.next_at;
+        let start = self.start();
         let mut substs = Vec::new(self.alloc);
         self.pass_word(&mut substs, room)?;
         let word = self.word_from(start, substs);
@@ -71,12 +72,12 @@ impl<'a, S: Source, const KEEP: u8> Cursor<'a, S, KEEP> {
     #[cycle(commands)]
     #[tactic(auto, unfolding(shgrammar::specs::Compounds::a_pattern, shgrammar::specs::Commands::next_token))]
     fn pattern(&mut self, patterns: &mut Vec<Word>, room: usize) -> Result<(), Stop>
-        requires { ends_word (text_of self.old) self.old.next_at ≡ false }
-        ensures value { Takes self.old (a_pattern (level room) (map view_word patterns.old.items))
-            result (λ _. patterned (map view_word patterns.new.items) self.new.next) self.new }
-        ensures onward { IfOk result (λ _. self.old.next_at < self.new.next_at) }
+        requires { ends_word (text_of self.old) (start_of self.old) ≡ false }
+        ensures value { Takes self.old (a_pattern (level room) (view_words patterns.old)) result
+            (λ _. patterned (view_words patterns.new) self.new.next) self.new }
+        ensures onward { IfOk result (λ _. start_of self.old < start_of self.new) }
     {
-        let start = self.next_at;
+        let start = self.start();
         let mut substs = Vec::new(self.alloc);
         self.pass_word(&mut substs, room)?;
         if self.grows() {
@@ -92,9 +93,9 @@ impl<'a, S: Source, const KEEP: u8> Cursor<'a, S, KEEP> {
     #[cycle(commands)]
     #[tactic(auto, unfolding(shgrammar::specs::Compounds::one_pattern, shgrammar::specs::Commands::next_token, crate::specs::InHand::InHand))]
     fn one_pattern(&mut self, patterns: &mut Vec<Word>, room: usize) -> Result<(), Stop>
-        requires { IsRead (text_of self.old) self.old.next_at }
-        ensures { Adds self.old (one_pattern (level room) (map view_word patterns.old.items)) result
-            (patterned (map view_word patterns.new.items) self.new.next) self.new }
+        requires { IsRead (text_of self.old) (start_of self.old) }
+        ensures { Adds self.old (one_pattern (level room) (view_words patterns.old)) result
+            (patterned (view_words patterns.new) self.new.next) self.new }
     {
         self.step();
         self.next_token(Position::Suffix);
@@ -108,9 +109,8 @@ impl<'a, S: Source, const KEEP: u8> Cursor<'a, S, KEEP> {
     #[cycle(commands)]
     #[tactic(auto, unfolding(shgrammar::specs::Compounds::pattern_turn, crate::specs::InHand::InHand))]
     fn pattern_turn(&mut self, patterns: &mut Vec<Word>, room: usize) -> Result<bool, Stop>
-        ensures { Turns self.old
-            (pattern_turn (level room) (patterned (map view_word patterns.old.items) self.old.next))
-            result (patterned (map view_word patterns.new.items) self.new.next) self.new }
+        ensures { Turns self.old (pattern_turn (level room) (patterned (view_words patterns.old)
+            self.old.next)) result (patterned (view_words patterns.new) self.new.next) self.new }
     {
         let Token::Pipe = self.next.token else {
             return Ok(false);
@@ -123,9 +123,9 @@ impl<'a, S: Source, const KEEP: u8> Cursor<'a, S, KEEP> {
     #[cycle(commands)]
     #[tactic(auto, using(shgrammar::proofs::Turns::many_again, shgrammar::proofs::Turns::many_done, crate::proofs::Stops::many_stop))]
     fn more_patterns(&mut self, patterns: &mut Vec<Word>, room: usize) -> Result<(), Stop>
-        ensures { Takes self.old (many (pattern_turn (level room))
-            (patterned (map view_word patterns.old.items) self.old.next)) result (λ _. patterned
-            (map view_word patterns.new.items) self.new.next) self.new }
+        ensures { Takes self.old (many (pattern_turn (level room)) (patterned (view_words
+            patterns.old) self.old.next)) result (λ _. patterned (view_words patterns.new)
+            self.new.next) self.new }
     {
         'turns: while self.pattern_turn(patterns, room)? {}
         Ok(())
@@ -135,8 +135,8 @@ impl<'a, S: Source, const KEEP: u8> Cursor<'a, S, KEEP> {
     #[cycle(commands)]
     #[tactic(auto, unfolding(shgrammar::specs::Compounds::a_pattern_list, crate::specs::InHand::InHand))]
     fn patterns(&mut self, room: usize) -> Result<Vec<Word>, Stop>
-        ensures { Takes self.old (a_pattern_list (level room) self.old.next) result
-            (λ patterns. patterned (map view_word patterns.items) self.new.next) self.new }
+        ensures { Takes self.old (a_pattern_list (level room) self.old.next) result (λ patterns.
+            patterned (view_words patterns) self.new.next) self.new }
     {
         if !self.next.token.begins_pattern() {
             return Err(Stop::Wrong(self.what_is_wrong(room)?));
@@ -162,15 +162,13 @@ impl<'a, S: Source, const KEEP: u8> Cursor<'a, S, KEEP> {
     /// into `lines`.
     #[tactic(auto, unfolding(shgrammar::specs::Compounds::an_ender, shgrammar::specs::Commands::next_token))]
     fn ender(&mut self, lines: &mut Join) -> Result<usize, Stop>
-        requires none { (view_join lines.old).comments ≡ [] }
-        requires first { IsRead (text_of self.old) self.old.next_at }
-        requires second { IsRead (text_of self.old) (behind (text_of self.old) self.old.next_at) }
+        requires { IsLong self.old × ((view_join lines.old).comments ≡ []) }
         ensures { Takes self.old (an_ender (falls_through self.old.next.token)) result
             (λ end. item_end end (view_join lines.new).comments self.new.next) self.new }
     {
         self.step();
         self.bump();
-        let end = self.origin + self.at;
+        let end = self.origin + self.here();
         self.next_token(Position::Command);
         self.linebreak(lines)?;
         Ok(end)
@@ -201,7 +199,7 @@ impl<'a, S: Source, const KEEP: u8> Cursor<'a, S, KEEP> {
         ensures { Adds self.old (one_case (level room) (view_cases cases.old self.old.next)) result
             (view_cases cases.new self.new.next) self.new }
     {
-        let start = self.origin + self.next_at;
+        let start = self.origin + self.start();
         self.open_bracket();
         let patterns = self.patterns(room)?;
         let closer = self.closing(Closing::Paren, room)?;
@@ -224,28 +222,16 @@ impl<'a, S: Source, const KEEP: u8> Cursor<'a, S, KEEP> {
         Ok(())
     }
 
-    /// One more, if `esac` does not stand here. Answers whether there was one.
+    /// The items, up to `esac`.
     #[cycle(commands)]
-    #[tactic(auto, unfolding(shgrammar::specs::Compounds::case_turn))]
-    fn case_turn(&mut self, cases: &mut Cases, room: usize) -> Result<bool, Stop>
-        ensures { Turns self.old (case_turn (level room) (view_cases cases.old self.old.next))
-            result (view_cases cases.new self.new.next) self.new }
-    {
-        if self.next.token.is_closing(Closing::Esac) {
-            return Ok(false);
-        }
-        self.one_case(cases, room)?;
-        Ok(true)
-    }
-
-    /// All of them.
-    #[cycle(commands)]
-    #[tactic(auto, using(shgrammar::proofs::Turns::many_again, shgrammar::proofs::Turns::many_done, crate::proofs::Stops::many_stop))]
+    #[tactic(auto, unfolding(shgrammar::specs::Compounds::case_turn), using(shgrammar::proofs::Turns::many_again, shgrammar::proofs::Turns::many_done, crate::proofs::Stops::many_stop))]
     fn cases(&mut self, cases: &mut Cases, room: usize) -> Result<(), Stop>
         ensures { Takes self.old (many (case_turn (level room)) (view_cases cases.old
             self.old.next)) result (λ _. view_cases cases.new self.new.next) self.new }
     {
-        'turns: while self.case_turn(cases, room)? {}
+        'turns: while !self.next.token.is_closing(Closing::Esac) {
+            self.one_case(cases, room)?;
+        }
         Ok(())
     }
 

@@ -1,11 +1,12 @@
 //! Commands, and the simple ones among them (XCU 2.9, 2.9.1).
-ghost use Rattle.std.specs.Prelude.{◌≡◌, ◌<◌, ◌==◌, [], false, map, IfErr, IfOk, Some, true};
+ghost use Rattle.std.specs.Prelude.{◌≡◌, ◌<◌, ◌==◌, [], false, IfErr, IfOk, Some, true};
 ghost use Rattle.shgrammar.specs.Bytes.{ends_word};
-ghost use Rattle.shline.specs.Clauses.{keep_of, Keeps, Takes, text_of, Turns};
+ghost use Rattle.shline.specs.Clauses.{keep_of, Keeps, start_of, Takes, text_of, Turns};
 ghost use Rattle.shgrammar.specs.Commands.{a_command, a_simple, a_worded, an_item, as_item, behind_word, item_turn, so_many};
 ghost use Rattle.shgrammar.specs.declared.token.Position.TheVariants.{Command as AsCommand, Suffix};
 ghost use Rattle.shgrammar.specs.declared.token.Position.{Position};
 ghost use Rattle.shgrammar.specs.Form.{again, grows, many, pushed};
+ghost use Rattle.shline.specs.Rows.{view_items};
 ghost use Rattle.shast.specs.Tree.{argument, item};
 ghost use Rattle.shast.specs.View.{view_command, view_item, view_word};
 ghost use Rattle.shgrammar.specs.Levels.{level};
@@ -39,14 +40,14 @@ impl<'a, S: Source, const KEEP: u8> Cursor<'a, S, KEEP> {
         position: Position,
         room: usize,
     ) -> Result<(), Stop>
-        requires { ends_word (text_of self.old) self.old.next_at ≡ false }
-        ensures value { (place : Position) → Takes self.old (an_item (level room)
-            (so_many (map view_item items.old.items) place self.old.next) position) result (λ _.
-            again (so_many (map view_item items.new.items) position self.new.next)) self.new }
-        ensures onward { IfOk result (λ _. self.old.next_at < self.new.next_at) }
+        requires { ends_word (text_of self.old) (start_of self.old) ≡ false }
+        ensures value { (place : Position) → Takes self.old (an_item (level room) (so_many
+            (view_items items.old) place self.old.next) position) result (λ _. again (so_many
+            (view_items items.new) position self.new.next)) self.new }
+        ensures onward { IfOk result (λ _. start_of self.old < start_of self.new) }
         ensures same { Keeps self.old self.new }
     {
-        let start = self.next_at;
+        let start = self.start();
         let broken = !items.is_empty() && self.next.broken;
         let mut substs = Vec::new(self.alloc);
         self.pass_word(&mut substs, room)?;
@@ -76,9 +77,9 @@ impl<'a, S: Source, const KEEP: u8> Cursor<'a, S, KEEP> {
         place: &mut Position,
         room: usize,
     ) -> Result<bool, Stop>
-        ensures { Turns self.old (item_turn (level room)
-            (so_many (map view_item items.old.items) place.old self.old.next)) result (so_many
-            (map view_item items.new.items) place.new self.new.next) self.new }
+        ensures { Turns self.old (item_turn (level room) (so_many (view_items items.old) place.old
+            self.old.next)) result (so_many (view_items items.new) place.new
+            self.new.next) self.new }
     {
         if let Some(position) = self.next.token.behind_word() {
             *place = position;
@@ -103,9 +104,9 @@ impl<'a, S: Source, const KEEP: u8> Cursor<'a, S, KEEP> {
         place: &mut Position,
         room: usize,
     ) -> Result<(), Stop>
-        ensures { Takes self.old (many (item_turn (level room))
-            (so_many (map view_item items.old.items) place.old self.old.next)) result (λ _. so_many
-            (map view_item items.new.items) place.new self.new.next) self.new }
+        ensures { Takes self.old (many (item_turn (level room)) (so_many (view_items items.old)
+            place.old self.old.next)) result (λ _. so_many (view_items items.new) place.new
+            self.new.next) self.new }
     {
         'turns: while self.next_item(items, place, room)? {}
         Ok(())
@@ -129,8 +130,8 @@ impl<'a, S: Source, const KEEP: u8> Cursor<'a, S, KEEP> {
     #[inline(always)]
     fn add_first(&self, word: Word, items: &mut Vec<Item>) -> Result<(), AllocError>
         ensures memory { IfErr result (λ e. (KEEP == 1) ≡ true) }
-        ensures value { IfOk result (λ _. map view_item items.new.items ≡ pushed (grows (keep_of
-            self.now)) (map view_item items.old.items) (item false (argument (view_word word)))) }
+        ensures value { IfOk result (λ _. view_items items.new ≡ pushed (grows (keep_of self.now))
+            (view_items items.old) (item false (argument (view_word word)))) }
     {
         if !self.grows() {
             mem::forget(word);
@@ -152,7 +153,7 @@ impl<'a, S: Source, const KEEP: u8> Cursor<'a, S, KEEP> {
         ensures { Takes self.old (a_worded (level room)) result
             (λ x. (view_command x, self.new.next)) self.new }
     {
-        let start = self.next_at;
+        let start = self.start();
         let mut substs = Vec::new(self.alloc);
         self.pass_word(&mut substs, room)?;
         let word = self.word_from(start, substs);

@@ -1,11 +1,12 @@
 //! Compound commands: groups, `if` and loops (XCU 2.9.4). `for` stands in
 //! [`crate::for_loop`], `case` in [`crate::case`].
-ghost use Rattle.std.specs.Prelude.{◌<◌, [], map, IfOk};
+ghost use Rattle.std.specs.Prelude.{◌<◌, [], IfOk};
 ghost use Rattle.shgrammar.specs.Shows.{IsRead};
-ghost use Rattle.shline.specs.Clauses.{Boxed, Finds, Keeps, Takes, text_of, Turns};
+ghost use Rattle.shline.specs.Clauses.{Boxed, Finds, Keeps, start_of, Takes, text_of, Turns};
 ghost use Rattle.shgrammar.specs.Compounds.{a_branch, a_form, a_group, a_loop, an_else, an_if, branched, closing, elif_turn, passed, closed};
 ghost use Rattle.shgrammar.specs.Form.{many, Spelled};
 ghost use Rattle.shgrammar.specs.Levels.{level};
+ghost use Rattle.shline.specs.Rows.{view_branches};
 ghost use Rattle.shast.specs.View.{view_branch, view_command, view_form, view_list, view_otherwise};
 
 use crate::cursor::Cursor;
@@ -23,13 +24,13 @@ impl<'a, S: Source, const KEEP: u8> Cursor<'a, S, KEEP> {
     /// Passes the round bracket or the reserved word here. The token behind it stands in this position.
     #[tactic(auto, unfolding(shgrammar::specs::Compounds::passed, shgrammar::specs::Commands::next_token))]
     pub(crate) fn passed(&mut self, paren: bool, position: Position) -> Span
-        requires { IsRead (text_of self.old) self.old.next_at }
+        requires { IsRead (text_of self.old) (start_of self.old) }
         ensures value { (text : Spelled) → Finds self.old (passed text paren position)
             (result, self.new.next) self.new }
-        ensures onward { self.old.next_at < self.new.next_at }
+        ensures onward { start_of self.old < start_of self.new }
         ensures same { Keeps self.old self.new }
     {
-        let start = self.next_at;
+        let start = self.start();
         if paren {
             self.step();
         } else {
@@ -46,7 +47,7 @@ impl<'a, S: Source, const KEEP: u8> Cursor<'a, S, KEEP> {
     pub(crate) fn closing(&mut self, what: Closing, room: usize) -> Result<Span, Stop>
         ensures value { Takes self.old (closing (level room) what self.old.next) result
             (λ span. (span, self.new.next)) self.new }
-        ensures onward { IfOk result (λ span. self.old.next_at < self.new.next_at) }
+        ensures onward { IfOk result (λ span. start_of self.old < start_of self.new) }
     {
         if !self.next.token.is_closing(what) {
             return Err(Stop::Wrong(self.what_is_wrong(room)?));
@@ -83,9 +84,8 @@ impl<'a, S: Source, const KEEP: u8> Cursor<'a, S, KEEP> {
     #[cycle(commands)]
     #[tactic(auto, unfolding(shgrammar::specs::Compounds::elif_turn, crate::specs::InHand::InHand))]
     fn elif(&mut self, branches: &mut Vec<Branch>, room: usize) -> Result<bool, Stop>
-        ensures { Turns self.old
-            (elif_turn (level room) (branched (map view_branch branches.old.items) self.old.next))
-            result (branched (map view_branch branches.new.items) self.new.next) self.new }
+        ensures { Turns self.old (elif_turn (level room) (branched (view_branches branches.old)
+            self.old.next)) result (branched (view_branches branches.new) self.new.next) self.new }
     {
         if !self.next.token.is_closing(Closing::Elif) {
             return Ok(false);
@@ -103,7 +103,7 @@ impl<'a, S: Source, const KEEP: u8> Cursor<'a, S, KEEP> {
     #[tactic(auto, using(shgrammar::proofs::Turns::many_again, shgrammar::proofs::Turns::many_done, crate::proofs::Stops::many_stop))]
     fn elifs(&mut self, room: usize) -> Result<Vec<Branch>, Stop>
         ensures { Takes self.old (many (elif_turn (level room)) (branched [] self.old.next)) result
-            (λ branches. branched (map view_branch branches.items) self.new.next) self.new }
+            (λ branches. branched (view_branches branches) self.new.next) self.new }
     {
         let mut branches = Vec::new(self.alloc);
         'turns: while self.elif(&mut branches, room)? {}
@@ -185,13 +185,13 @@ impl<'a, S: Source, const KEEP: u8> Cursor<'a, S, KEEP> {
     #[cycle(commands)]
     #[tactic(auto, unfolding(shgrammar::specs::Compounds::a_compound), using(shgrammar::proofs::Levels::compound_below, shgrammar::proofs::Levels::compound_closed))]
     pub(crate) fn compound(&mut self, opener: Opener, room: usize) -> Result<Command, Stop>
-        requires { IsRead (text_of self.old) self.old.next_at }
+        requires { IsRead (text_of self.old) (start_of self.old) }
         ensures value { Takes self.old ((level room).compound opener) result
             (λ x. (view_command x, self.new.next)) self.new }
         ensures tree { IfOk result (Boxed KEEP) }
     {
         if room == 0 {
-            let at = self.next_at;
+            let at = self.start();
             return Err(self.wrong_at(FaultKind::TooDeep, at));
         }
         let opened = self.passed(matches!(opener, Opener::Paren), opener.behind());

@@ -29,21 +29,25 @@ pub struct How {
 
 /// A place in the text that a source holds from `base` on.
 ///
-/// Places count from `base`. The offsets that it tells, in spans and faults, are its places plus `origin`.
+/// Places of the text count from `base`; places of the stretch, as `at`, `next_at` and what is kept no
+/// longer than the stretch is, count from `begin`. Offsets, in spans and faults, are places of the text plus
+/// `origin`.
 ///
 /// `KEEP` is a part of the type, so that a reading without a tree has code of its own,
 /// with nothing in it that a tree needs.
 #[derive(Drop)]
 pub(crate) struct Cursor<'a, S: Source, const KEEP: u8> {
     pub(crate) source: &'a S,
-    /// The stretch of the source that begins at `base`: where the source lies in one
+    /// The stretch of the source in which the reading stands, or stood: where the source lies in one
     /// piece, all that is read. Its bytes are reached faster.
     pub(crate) front: &'a [u8],
+    /// The place of the text where that begins.
+    pub(crate) begin: usize,
     pub(crate) base: usize,
     pub(crate) origin: usize,
     /// Where the reading stands, if no token is in hand.
     pub(crate) at: usize,
-    /// The token in hand, or the last one that was.
+    /// The token in hand, or the last one that was, or the end of the text: what it says of the bytes holds.
     pub(crate) next: Next,
     /// Where it begins.
     pub(crate) next_at: usize,
@@ -55,12 +59,12 @@ pub(crate) struct Cursor<'a, S: Source, const KEEP: u8> {
     spare: Option<&'a mut Spare>,
     pub(crate) alloc: Global,
     ghost begins: { base ≤ length (S.bytes source.now) },
-    ghost stretch: { IsRun (S.bytes source.now) base front.now },
+    ghost stretch: { IsRun (S.bytes source.now) (base + begin) front.now },
     ghost fits: { base + length (drop base (S.bytes source.now)) < 2 ^ 64 },
     ghost tells: { origin + length (drop base (S.bytes source.now)) < 2 ^ 64 },
-    ghost inside: { at ≤ length (drop base (S.bytes source.now)) },
-    ghost within: { next_at ≤ length (drop base (S.bytes source.now)) },
-    ghost shows: { InHand next.token (drop base (S.bytes source.now)) next_at } by { in_hand_prop next.token (drop base (S.bytes source.now)) next_at },
+    ghost inside: { begin + at ≤ length (drop base (S.bytes source.now)) },
+    ghost within: { begin + next_at ≤ length (drop base (S.bytes source.now)) },
+    ghost shows: { InHand next.token (drop base (S.bytes source.now)) (begin + next_at) } by { in_hand_prop next.token (drop base (S.bytes source.now)) (begin + next_at) },
     ghost waits: { All (Waits (limits KEEP origin (drop base (S.bytes source.now)))) documents.waiting.items },
 }
 
@@ -86,6 +90,7 @@ impl<'a, S: Source, const KEEP: u8> Cursor<'a, S, KEEP> {
         Cursor {
             source,
             front: source.run(begin.at),
+            begin: 0,
             base: begin.at,
             origin: begin.origin,
             at: 0,

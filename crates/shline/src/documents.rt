@@ -1,10 +1,10 @@
 //! Here-documents: those that wait, and their bodies (XCU 2.7.4).
 ghost use Rattle.std.specs.Prelude.{◌≡◌, ◌+◌, ◌<◌, ◌≤◌, ◌==◌, ◌&&◌, All, bytes_eq, fold, nat_lt, not, [], IfErr, IfOk, IfSome, List as Row, ◌∷◌, ◌++◌, length, option_map, ◌-◌, true, false};
-ghost use Rattle.shline.specs.Clauses.{at_place, at_token, Between, bodies_of, BodiesFail, BodyRead, end_of, EndsLine, Keeps, limits_of, Reads, Takes, text_of, view_waiting};
+ghost use Rattle.shline.specs.Clauses.{at_place, at_token, Between, bodies_of, BodiesFail, BodyRead, bytes_between, end_of, here_of, Inside, Keeps, limits_of, line_of, on, Reaches, Reads, seen, Takes, text_of, view_waiting};
 ghost use Rattle.shline.specs.Limits.{Waits};
 ghost use Rattle.shgrammar.specs.Commands.{a_document, is_strip, nothing_waits, takes_here};
 ghost use Rattle.shgrammar.specs.Form.{change, raw};
-ghost use Rattle.shgrammar.specs.HereDocuments.{bodies_here, delimiter_from, delimiter_in, first_waiting, is_delimiter, own_level, past_line, rest_of_line, takes_newline};
+ghost use Rattle.shgrammar.specs.HereDocuments.{bodies_here, delimiter_from, delimiter_in, first_waiting, is_delimiter, own_level, past_line, takes_newline};
 ghost use Rattle.shgrammar.specs.Standing.{next_newline, raw_stands};
 ghost use Rattle.shgrammar.specs.Unquoting.{view_delimiter};
 ghost use Rattle.shast.specs.View.{view_here};
@@ -108,7 +108,7 @@ impl<'a, S: Source, const KEEP: u8> Cursor<'a, S, KEEP> {
     pub(crate) fn close_level(&mut self, outer: Documents) -> Vec<Span>
         requires { All (Waits (limits_of self.old)) outer.waiting.items }
         ensures bodies { result.items ≡ self.old.documents.bodies.items }
-        ensures place { self.new.at ≡ self.old.at }
+        ensures place { here_of self.new ≡ here_of self.old }
         ensures outer { self.new.documents ≡ outer }
         ensures same { Keeps self.old self.new }
     {
@@ -118,12 +118,12 @@ impl<'a, S: Source, const KEEP: u8> Cursor<'a, S, KEEP> {
     /// The bytes from a place up to this one.
     #[cold]
     #[tactic(auto, using(crate::proofs::Awaited::raw_some, crate::proofs::Awaited::raw_nothing))]
-    fn bytes_from(&self, start: usize) -> Result<Vec<u8>, AllocError>
-        requires { start ≤ self.now.at }
-        ensures { IfOk result (λ bytes. bytes.items ≡ raw (text_of self.now) start self.now.at) }
+    fn bytes_from(&self, from: usize) -> Result<Vec<u8>, AllocError>
+        requires { from ≤ self.now.at }
+        ensures { IfOk result (λ bytes. bytes.items ≡ bytes_between self.now from self.now.at) }
     {
-        let mut bytes = Vec::with_capacity(self.alloc, self.at - start)?;
-        let mut at = start;
+        let mut bytes = Vec::with_capacity(self.alloc, self.at - from)?;
+        let mut at = from;
         'bytes: while at < self.at {
             if let Some(byte) = self.raw_byte(at) {
                 bytes.push(byte)?;
@@ -136,22 +136,22 @@ impl<'a, S: Source, const KEEP: u8> Cursor<'a, S, KEEP> {
     /// The delimiter that the word from a place up to this one is. Most often the word
     /// lies in one stretch, and is read there.
     #[tactic(auto, using(crate::proofs::Awaited::run_word))]
-    fn delimiter(&self, start: usize) -> Result<Option<Delimiter>, AllocError>
-        requires { start ≤ self.now.at }
+    fn delimiter(&self, from: usize) -> Result<Option<Delimiter>, AllocError>
+        requires { from ≤ self.now.at }
         ensures { IfOk result (λ found. option_map view_delimiter found ≡ delimiter_in
-            self.now.how.edition (raw (text_of self.now) start self.now.at)) }
+            self.now.how.edition (bytes_between self.now from self.now.at)) }
     {
-        let run = self.run_at(start);
-        let length = self.at - start;
+        let run = self.run_at(from);
+        let length = self.at - from;
         if length <= run.len() {
             return delimiter_in(self.alloc, self.how.edition, &run[..length]);
         }
-        let word = self.bytes_from(start)?;
+        let word = self.bytes_from(from)?;
         delimiter_in(self.alloc, self.how.edition, &word)
     }
 
     /// The here-document of an operator that stands at an offset, if it takes one. Its
-    /// word stands from a place up to this one.
+    /// word stands from a place of the text up to this one.
     #[tactic(auto, unfolding(shgrammar::specs::Commands::a_document))]
     pub(crate) fn document(
         &mut self,
@@ -159,17 +159,21 @@ impl<'a, S: Source, const KEEP: u8> Cursor<'a, S, KEEP> {
         mark: usize,
         start: usize,
     ) -> Result<Option<HereDocument>, Stop>
-        requires word { start ≤ self.old.at }
-        requires mark { mark ≤ end_of self.old }
+        requires places { (start ≤ here_of self.old) × (mark ≤ end_of self.old) }
         requires memory { takes_here operator ≡ true → (limits_of self.old).memory ≡ true }
-        ensures value { Reads self.old (a_document operator mark (self.old.origin + start)
-            (raw (text_of self.old) start self.old.at)) result (option_map view_here) self.new }
-        ensures place { self.new.at ≡ self.old.at }
+        ensures value { Reads self.old (a_document operator mark (self.old.origin + start) (raw
+            (text_of self.old) start (here_of self.old))) result (option_map view_here) self.new }
+        ensures place { here_of self.new ≡ here_of self.old }
     {
         if !takes_here(operator) {
             return Ok(None);
         }
-        let Some(delimiter) = self.delimiter(start)? else {
+        // The stretch may have gone on within the word.
+        if start < self.begin {
+            self.stretch_anew(start);
+        }
+        let at = start - self.begin;
+        let Some(delimiter) = self.delimiter(at)? else {
             return Err(self.wrong_at(FaultKind::BadHereWord, start));
         };
         let literal = delimiter.literal;
@@ -188,10 +192,10 @@ impl<'a, S: Source, const KEEP: u8> Cursor<'a, S, KEEP> {
     }
 
     /// Whether these bytes stand from one place up to another.
-    #[tactic(auto, using(crate::proofs::Awaited::bytes_more, crate::proofs::Awaited::bytes_other, crate::proofs::Awaited::bytes_end, crate::proofs::Awaited::bytes_short, crate::proofs::Awaited::bytes_long))]
+    #[tactic(auto, using(crate::proofs::Awaited::bytes_more_on, crate::proofs::Awaited::bytes_other_on, crate::proofs::Awaited::bytes_end, crate::proofs::Awaited::bytes_short, crate::proofs::Awaited::bytes_long))]
     fn are_bytes(&self, from: usize, end: usize, bytes: &[u8]) -> bool
-        requires { (from ≤ end) × (end ≤ length (text_of self.now)) }
-        ensures { result ≡ bytes_eq (raw (text_of self.now) from end) bytes.now }
+        requires { Between self.now from end }
+        ensures { result ≡ bytes_eq (bytes_between self.now from end) bytes.now }
     {
         if end - from != bytes.len() {
             return false;
@@ -207,9 +211,8 @@ impl<'a, S: Source, const KEEP: u8> Cursor<'a, S, KEEP> {
     /// Whether the line from a place up to its end is the delimiter's.
     #[tactic(auto, using(crate::proofs::Awaited::stripped_line, crate::proofs::Awaited::tabs_before))]
     fn is_delimiter(&self, document: &Waiting, from: usize, end: usize) -> bool
-        requires { EndsLine self.now from end }
-        ensures { result ≡ is_delimiter (view_waiting document.now)
-            (rest_of_line (text_of self.now) from) }
+        requires { Reaches self.now next_newline from end }
+        ensures { result ≡ is_delimiter (view_waiting document.now) (line_of self.now from) }
     {
         if document.strip {
             return self.are_bytes(self.raw_past(from, Class::Tab), end, &document.delimiter);
@@ -219,28 +222,27 @@ impl<'a, S: Source, const KEEP: u8> Cursor<'a, S, KEEP> {
 
     /// Whether this line ends a document; one that the line before takes in does not.
     fn ends_here(&self, document: &Waiting, taken: bool, from: usize, end: usize) -> bool
-        requires { EndsLine self.now from end }
-        ensures { result ≡ (not taken && is_delimiter (view_waiting document.now)
-            (rest_of_line (text_of self.now) from)) }
+        requires { Reaches self.now next_newline from end }
+        ensures { result ≡ (not taken && is_delimiter (view_waiting document.now) (line_of
+            self.now from)) }
     {
         !taken && self.is_delimiter(document, from, end)
     }
 
     /// Whether a backslash stands before a place, and not before that other one.
     fn is_backslash_before(&self, from: usize, at: usize) -> bool
-        requires { at ≤ length (text_of self.now) }
-        ensures value { result ≡ (nat_lt from at && raw_stands (text_of self.now) (at - 1) 92) }
+        requires { Inside self.now at }
+        ensures value { result ≡ (nat_lt from at && seen self.now raw_stands (at - 1) 92) }
         ensures some { result ≡ true → from < at }
     {
         from < at && self.raw_stands(at - 1, b'\\')
     }
 
     /// Whether the bytes from one place up to another end in an odd number of backslashes.
-    #[tactic(auto, using(crate::proofs::Awaited::odd_more, crate::proofs::Awaited::odd_stops))]
+    #[tactic(auto, using(crate::proofs::Awaited::odd_more_on))]
     fn ends_odd(&self, from: usize, end: usize) -> bool
-        requires { (from ≤ end) × (end ≤ length (text_of self.now)) }
-        ensures { result ≡ fold (λ odd b. b == 92 && not odd) false
-            (raw (text_of self.now) from end) }
+        requires { Between self.now from end }
+        ensures { result ≡ fold (λ o b. b == 92 && not o) false (bytes_between self.now from end) }
     {
         let mut at = end;
         let mut odd = false;
@@ -253,9 +255,8 @@ impl<'a, S: Source, const KEEP: u8> Cursor<'a, S, KEEP> {
 
     /// Whether a line takes in the one behind it.
     fn takes_newline(&self, document: &Waiting, from: usize, end: usize) -> bool
-        requires { EndsLine self.now from end }
-        ensures { result ≡ takes_newline (view_waiting document.now)
-            (rest_of_line (text_of self.now) from) }
+        requires { Reaches self.now next_newline from end }
+        ensures { result ≡ takes_newline (view_waiting document.now) (line_of self.now from) }
     {
         !document.literal && self.ends_odd(from, end)
     }
@@ -263,9 +264,9 @@ impl<'a, S: Source, const KEEP: u8> Cursor<'a, S, KEEP> {
     /// The end of the line at a place, and the place behind it.
     #[tactic(auto, using(shgrammar::proofs::Places::not_end_low, shgrammar::proofs::Places::end_high))]
     fn line_end(&self, from: usize) -> (usize, usize)
-        requires { from ≤ length (text_of self.now) }
-        ensures end { result.0 ≡ next_newline (text_of self.now) from }
-        ensures next { result.1 ≡ past_line (text_of self.now) from }
+        requires { Inside self.now from }
+        ensures end { on self.now result.0 ≡ seen self.now next_newline from }
+        ensures next { on self.now result.1 ≡ seen self.now past_line from }
         ensures inside { (from ≤ result.0) × Between self.now result.0 result.1 }
     {
         let end = self.find(Sought::Byte(b'\n'), from);
@@ -279,11 +280,11 @@ impl<'a, S: Source, const KEEP: u8> Cursor<'a, S, KEEP> {
     /// the place behind that line.
     #[tactic(auto, using(shgrammar::proofs::Delimiters::none_at_end, shgrammar::proofs::Delimiters::found_here, shgrammar::proofs::Delimiters::on_to_next, shgrammar::proofs::Delimiters::past_line_low))]
     fn delimiter_line(&self, document: &Waiting, from: usize) -> Option<(usize, usize)>
-        requires { from ≤ length (text_of self.now) }
-        ensures value { option_map (λ x. x.0) result ≡ delimiter_from (text_of self.now)
-            (view_waiting document.now) from }
+        requires { Inside self.now from }
+        ensures value { option_map (λ x. on self.now x.0) result ≡ delimiter_from (text_of self.now)
+            (view_waiting document.now) (on self.now from) }
         ensures place { IfSome result (λ x. (from ≤ x.0) × Between self.now x.0 x.1) }
-        ensures past { IfSome result (λ x. x.1 ≡ past_line (text_of self.now) x.0) }
+        ensures past { IfSome result (λ x. on self.now x.1 ≡ seen self.now past_line x.0) }
     {
         let mut at = from;
         let mut taken = false;
@@ -303,9 +304,10 @@ impl<'a, S: Source, const KEEP: u8> Cursor<'a, S, KEEP> {
     fn body_of(&self, index: usize) -> Result<(Span, usize), Stop>
         requires { index < length self.now.documents.waiting.items }
         ensures read { IfOk result (λ x. (bodies : Row Span) → bodies_of self.now index bodies
-            self.now.at ≡ bodies_of self.now (index + 1) (bodies ++ x.0 ∷ []) x.1) }
+            (here_of self.now) ≡ bodies_of self.now (index + 1) (bodies ++ x.0 ∷ []) (on
+            self.now x.1)) }
         ensures wrong { IfErr result (λ e. (bodies : Row Span) → BodiesFail (limits_of self.now) e
-            (bodies_of self.now index bodies self.now.at)) }
+            (bodies_of self.now index bodies (here_of self.now))) }
         ensures onward { IfOk result (λ x. Between self.now self.now.at x.1) }
     {
         let document = &self.documents.waiting[index];
@@ -316,8 +318,8 @@ impl<'a, S: Source, const KEEP: u8> Cursor<'a, S, KEEP> {
             }));
         };
         let body = Span {
-            start: self.origin + self.at,
-            end: self.origin + line,
+            start: self.origin + self.here(),
+            end: self.origin + (self.begin + line),
         };
         Ok((body, next))
     }
@@ -325,12 +327,11 @@ impl<'a, S: Source, const KEEP: u8> Cursor<'a, S, KEEP> {
     /// The body of one document that waits, which begins here.
     fn one_body(&mut self, index: usize) -> Result<(), Stop>
         requires { index < length self.old.documents.waiting.items }
-        ensures read { BodyRead (limits_of self.old) result
-            (bodies_of self.old index self.old.documents.bodies.items self.old.at)
-            (bodies_of self.old (index + 1) self.new.documents.bodies.items self.new.at) }
-        ensures waiting { IfOk result (λ _. self.new.documents.waiting ≡
-            self.old.documents.waiting) }
-        ensures onward { IfOk result (λ _. self.old.at ≤ self.new.at) }
+        ensures read { BodyRead (limits_of self.old) result (bodies_of self.old index
+            self.old.documents.bodies.items (here_of self.old)) (bodies_of self.old (index + 1)
+            self.new.documents.bodies.items (here_of self.new)) }
+        ensures waits { IfOk result (λ _. self.new.documents.waiting ≡ self.old.documents.waiting) }
+        ensures onward { IfOk result (λ _. here_of self.old ≤ here_of self.new) }
         ensures same { Keeps self.old self.new }
     {
         let found = self.body_of(index)?;

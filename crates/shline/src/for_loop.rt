@@ -1,15 +1,16 @@
 //! `for` (XCU 2.9.4.2): its name, the words behind its `in`, and what it runs.
 ghost use Rattle.std.specs.Prelude.{◌≡◌, ◌<◌, [], false, length, true, map, option_map, IfErr, IfOk, Some};
 ghost use Rattle.shgrammar.specs.Shows.{IsRead};
-ghost use Rattle.shline.specs.Clauses.{GrowsNone, Takes, text_of, Turns};
+ghost use Rattle.shline.specs.Clauses.{GrowsNone, start_of, Takes, text_of, Turns};
 ghost use Rattle.shgrammar.specs.Commands.{join_so, so_many};
 ghost use Rattle.shgrammar.specs.Compounds.{a_for, a_for_head, a_for_name, a_linebreak, a_sequential_sep, begins_words, behind_remarks, for_words, headed, word_turn, closed};
 ghost use Rattle.shgrammar.specs.declared.token.Position.TheVariants.{Suffix};
 ghost use Rattle.shgrammar.specs.Form.{many};
 ghost use Rattle.shgrammar.specs.Levels.{level};
 ghost use Rattle.shgrammar.specs.Tokens.{is_end};
+ghost use Rattle.shline.specs.Rows.{view_items};
 ghost use Rattle.shast.specs.Tree.{for_words_of};
-ghost use Rattle.shast.specs.View.{view_comment, view_form, view_item, view_join, view_list, view_word};
+ghost use Rattle.shast.specs.View.{view_comment, view_form, view_join, view_list, view_word};
 
 use crate::cursor::Cursor;
 use crate::stop::Stop;
@@ -57,10 +58,13 @@ impl<'a, S: Source, const KEEP: u8> Cursor<'a, S, KEEP> {
         if !self.next.token.begins_word() {
             return Err(Stop::Wrong(self.what_is_wrong(room)?));
         }
-        let start = self.next_at;
+        let start = self.start();
+        // Asked before the word is passed: the stretch may go on behind it.
+        let at = self.next_at;
+        let is_name = self.is_name(at);
         let mut substs = Vec::new(self.alloc);
         self.pass_word(&mut substs, room)?;
-        if !self.is_name(start) {
+        if !is_name {
             return Err(self.wrong_at(FaultKind::BadForName, start));
         }
         let word = self.word_from(start, substs);
@@ -100,9 +104,8 @@ impl<'a, S: Source, const KEEP: u8> Cursor<'a, S, KEEP> {
     #[cycle(commands)]
     #[tactic(auto, unfolding(shgrammar::specs::Compounds::word_turn, crate::specs::InHand::InHand))]
     fn for_word(&mut self, words: &mut Vec<Item>, room: usize) -> Result<bool, Stop>
-        ensures { Turns self.old
-            (word_turn (level room) (so_many (map view_item words.old.items) Suffix self.old.next))
-            result (so_many (map view_item words.new.items) Suffix self.new.next) self.new }
+        ensures { Turns self.old (word_turn (level room) (so_many (view_items words.old) Suffix
+            self.old.next)) result (so_many (view_items words.new) Suffix self.new.next) self.new }
     {
         let Token::Word = self.next.token else {
             return Ok(false);
@@ -116,7 +119,7 @@ impl<'a, S: Source, const KEEP: u8> Cursor<'a, S, KEEP> {
     #[tactic(auto, using(shgrammar::proofs::Turns::many_again, shgrammar::proofs::Turns::many_done, crate::proofs::Stops::many_stop))]
     fn words(&mut self, room: usize) -> Result<Vec<Item>, Stop>
         ensures { Takes self.old (many (word_turn (level room)) (so_many [] Suffix self.old.next))
-            result (λ words. so_many (map view_item words.items) Suffix self.new.next) self.new }
+            result (λ words. so_many (view_items words) Suffix self.new.next) self.new }
     {
         let mut words = Vec::new(self.alloc);
         'turns: while self.for_word(&mut words, room)? {}
@@ -127,10 +130,10 @@ impl<'a, S: Source, const KEEP: u8> Cursor<'a, S, KEEP> {
     #[cycle(commands)]
     #[tactic(auto, unfolding(shgrammar::specs::Compounds::for_words))]
     fn for_words(&mut self, lines: &mut Join, room: usize) -> Result<Vec<Item>, Stop>
-        requires { IsRead (text_of self.old) self.old.next_at }
+        requires { IsRead (text_of self.old) (start_of self.old) }
         ensures value { Takes self.old (for_words (level room) (view_join lines.old).comments)
-            result (λ words. headed (for_words_of (Some (map view_item words.items)))
-            (join_so (view_join lines.new) self.new.next)) self.new }
+            result (λ words. headed (for_words_of (Some (view_items words))) (join_so (view_join
+            lines.new) self.new.next)) self.new }
         ensures tree { IfOk result (λ words. GrowsNone KEEP lines.old lines.new) }
     {
         let _ = self.passed(false, Position::Suffix);
@@ -146,8 +149,8 @@ impl<'a, S: Source, const KEEP: u8> Cursor<'a, S, KEEP> {
     fn for_head(&mut self, lines: &mut Join, room: usize) -> Result<Option<Vec<Item>>, Stop>
         requires { (view_join lines.old).comments ≡ [] }
         ensures value { Takes self.old (a_for_head (level room) self.old.next) result (λ words.
-            headed (for_words_of (option_map (λ v. map view_item v.items) words))
-            (join_so (view_join lines.new) self.new.next)) self.new }
+            headed (for_words_of (option_map (view_items) words)) (join_so (view_join lines.new)
+            self.new.next)) self.new }
         ensures tree { IfOk result (λ words. GrowsNone KEEP lines.old lines.new) }
     {
         let semicolon = self.semicolon();

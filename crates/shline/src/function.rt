@@ -1,7 +1,7 @@
 //! Functions (XCU 2.9.5), from the `(` behind their names.
 ghost use Rattle.std.specs.Prelude.{◌≡◌, ◌+◌, ◌≤◌, map, IfErr, IfOk, true};
 ghost use Rattle.shgrammar.specs.Shows.{IsRead};
-ghost use Rattle.shline.specs.Clauses.{Boxed, is_compound, Takes, text_of};
+ghost use Rattle.shline.specs.Clauses.{Boxed, is_compound, start_of, Takes, text_of};
 ghost use Rattle.shgrammar.specs.Commands.{compound_by, named, opener_of};
 ghost use Rattle.shgrammar.specs.Compounds.{a_function, under_name};
 ghost use Rattle.shgrammar.specs.Levels.{level};
@@ -59,7 +59,7 @@ impl<'a, S: Source, const KEEP: u8> Cursor<'a, S, KEEP> {
     #[cycle(commands)]
     #[tactic(auto, unfolding(shgrammar::specs::Compounds::a_function))]
     fn function(&mut self, name: Span, room: usize) -> Result<Command, Stop>
-        requires { IsRead (text_of self.old) self.old.next_at }
+        requires { IsRead (text_of self.old) (start_of self.old) }
         ensures { Takes self.old (a_function (level room) name) result
             (λ x. (view_command x, self.new.next)) self.new }
     {
@@ -78,13 +78,12 @@ impl<'a, S: Source, const KEEP: u8> Cursor<'a, S, KEEP> {
     #[cycle(commands)]
     #[tactic(auto, unfolding(crate::specs::InHand::InHand), using(shgrammar::proofs::Levels::function_below, shgrammar::proofs::Levels::function_closed))]
     pub(crate) fn named(&mut self, name: Span, start: usize, room: usize) -> Result<Command, Stop>
-        requires here { IsRead (text_of self.old) self.old.next_at }
-        requires before { start ≤ self.old.next_at }
-        requires begin { name.start ≡ self.old.origin + start }
+        requires here { IsRead (text_of self.old) (start_of self.old) }
+        requires name { (start ≤ start_of self.old) × (name.start ≡ self.old.origin + start) }
         ensures { Takes self.old (named (level room) (is_name_at (text_of self.old) start) name)
             result (λ x. (view_command x, self.new.next)) self.new }
     {
-        if !self.is_name(start) {
+        if !self.is_name_from(start) {
             return Err(self.wrong_at(FaultKind::BadFunctionName, start));
         }
         if room == 0 {

@@ -30,6 +30,7 @@ mod search;
 mod sets;
 mod standing;
 mod stop;
+mod stretch;
 mod substitution;
 mod token;
 mod told;

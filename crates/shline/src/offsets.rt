@@ -1,6 +1,6 @@
 //! Places, as spans and faults tell them: offsets.
 ghost use Rattle.std.specs.Prelude.{◌≡◌, ◌+◌, ◌≤◌, length};
-ghost use Rattle.shline.specs.Clauses.{text_of};
+ghost use Rattle.shline.specs.Clauses.{here_of, text_of};
 ghost use Rattle.shgrammar.specs.Comments.{span};
 
 use crate::cursor::Cursor;
@@ -10,7 +10,7 @@ use shgrammar::{Fault, FaultKind};
 use shtext::Source;
 
 impl<'a, S: Source, const KEEP: u8> Cursor<'a, S, KEEP> {
-    /// What stops the reading at a place.
+    /// What stops the reading at a place of the text.
     pub(crate) fn wrong_at(&self, kind: FaultKind, place: usize) -> Stop
         requires { place ≤ length (text_of self.now) }
         ensures { result ≡ Stop.Wrong (record { kind = kind; at = self.now.origin + place }) }
@@ -21,14 +21,15 @@ impl<'a, S: Source, const KEEP: u8> Cursor<'a, S, KEEP> {
         })
     }
 
-    /// The span from a place to this one.
+    /// The span from a place of the text to here.
+    #[inline(always)]
     pub(crate) fn span_from(&self, start: usize) -> Span
-        requires { start ≤ self.now.at }
-        ensures { result ≡ span self.now.origin start self.now.at }
+        requires { start ≤ here_of self.now }
+        ensures { result ≡ span self.now.origin start (here_of self.now) }
     {
         Span {
             start: self.origin + start,
-            end: self.origin + self.at,
+            end: self.origin + self.here(),
         }
     }
 }

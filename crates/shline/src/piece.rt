@@ -1,9 +1,9 @@
 //! Which piece of a word begins at a place, and the pieces that hold no others (XCU 2.2, 2.6).
-ghost use Rattle.std.specs.Prelude.{◌≡◌, ◌≢◌, ◌⊎◌, ◌+◌, ◌<◌, ◌≤◌, length, IfOk, Some, false};
-ghost use Rattle.shgrammar.specs.Bytes.{behind, ends, ends_word, past_continuations, stands};
+ghost use Rattle.std.specs.Prelude.{◌≡◌, ◌≢◌, ◌⊎◌, ◌+◌, ◌<◌, ◌≤◌, IfOk, Some, false};
+ghost use Rattle.shgrammar.specs.Bytes.{behind, ends, ends_word, stands};
 ghost use Rattle.shgrammar.specs.Shows.{IsRead};
 ghost use Rattle.shline.specs.Pieces.{PieceShows};
-ghost use Rattle.shline.specs.Clauses.{Moves, Reads, text_of};
+ghost use Rattle.shline.specs.Clauses.{ByteHere, here_of, Inside, IsHere, Moves, on, Reads, text_of};
 ghost use Rattle.shgrammar.specs.Form.{many, step_if};
 ghost use Rattle.shgrammar.specs.Pieces.{bracket_by, byte_by, dollar_at, past_parameter, piece_at, piece_in, rest_mode};
 ghost use Rattle.shgrammar.specs.Words.{backquoted, dollar_single, escaped_turn, single};
@@ -19,14 +19,13 @@ impl<'a, S: Source, const KEEP: u8> Cursor<'a, S, KEEP> {
     #[inline(always)]
     #[tactic(auto, unfolding(shgrammar::specs::Pieces::dollar_at, shgrammar::specs::Bytes::behind, shgrammar::specs::Bytes::stands))]
     fn dollar(&self, here: usize) -> Piece
-        requires here { here ≡ past_continuations (text_of self.now) self.now.at }
-        requires some { here < length (text_of self.now) }
-        ensures value { result ≡ dollar_at (text_of self.now) self.now.at }
+        requires here { ByteHere self.now here }
+        ensures value { result ≡ dollar_at (text_of self.now) (here_of self.now) }
         ensures two { (result ≡ Piece.Pid) ⊎ (result ≡ Piece.Subst) ⊎ (result ≡ Piece.Arith) ⊎
-            (result ≡ Piece.Param) ⊎ (result ≡ Piece.DollarSingle) → IsRead (text_of self.now)
-            (here + 1) }
-        ensures three { result ≡ Piece.Arith → IsRead (text_of self.now)
-            (behind (text_of self.now) (here + 1)) }
+            (result ≡ Piece.Param) ⊎ (result ≡ Piece.DollarSingle) → IsRead (text_of self.now) (on
+            self.now here + 1) }
+        ensures three { result ≡ Piece.Arith → IsRead (text_of self.now) (behind (text_of self.now)
+            (on self.now here + 1)) }
         ensures kinds { (result ≢ Piece.Closer) × (result ≢ Piece.Missing) × (result ≢ Piece.Escape)
             × (result ≢ Piece.Close) }
     {
@@ -50,14 +49,10 @@ impl<'a, S: Source, const KEEP: u8> Cursor<'a, S, KEEP> {
     #[inline(always)]
     #[tactic(auto, unfolding(shgrammar::specs::Bytes::behind))]
     fn bracket(&self, nested: usize, here: usize) -> Piece
-        requires here { here ≡ past_continuations (text_of self.now) self.now.at }
-        requires some { here < length (text_of self.now) }
-        ensures value { result ≡ bracket_by nested
-            (stands (text_of self.now) (behind (text_of self.now) self.now.at) 41) }
-        ensures closer { result ≡ Piece.Closer → IsRead (text_of self.now) (here + 1) }
-        ensures close { result ≡ Piece.Close → 0 < nested }
-        ensures kinds { (result ≡ Piece.Closer) ⊎ (result ≡ Piece.Close) ⊎
-            (result ≡ Piece.BadClose) }
+        requires here { ByteHere self.now here }
+        ensures value { result ≡ bracket_by nested (stands (text_of self.now) (behind (text_of
+            self.now) (here_of self.now)) 41) }
+        ensures shows { PieceShows Mode.Arith nested result (text_of self.now) (on self.now here) }
     {
         if nested > 0 {
             return Piece::Close;
@@ -72,10 +67,9 @@ impl<'a, S: Source, const KEEP: u8> Cursor<'a, S, KEEP> {
     /// The piece that a byte begins which is no backslash, no backquote and no `$`.
     #[inline(always)]
     fn byte_piece(&self, mode: Mode, nested: usize, byte: u8, here: usize) -> Piece
-        requires here { here ≡ past_continuations (text_of self.now) self.now.at }
-        requires some { here < length (text_of self.now) }
-        ensures value { result ≡ byte_by (text_of self.now) self.now.at mode nested byte }
-        ensures shows { PieceShows mode nested result (text_of self.now) here }
+        requires here { ByteHere self.now here }
+        ensures value { result ≡ byte_by (text_of self.now) (here_of self.now) mode nested byte }
+        ensures shows { PieceShows mode nested result (text_of self.now) (on self.now here) }
         ensures word { mode ≡ Mode.Plain → ends (Some byte) ≡ false → result ≢ Piece.Closer }
     {
         match byte {
@@ -104,13 +98,12 @@ impl<'a, S: Source, const KEEP: u8> Cursor<'a, S, KEEP> {
     #[inline(always)]
     #[tactic(auto, unfolding(shgrammar::specs::Pieces::piece_at, shgrammar::specs::Standing::raw_stands, shgrammar::specs::Bytes::ends_word, shgrammar::specs::Bytes::behind))]
     pub(crate) fn piece(&self, mode: Mode, nested: usize, here: usize) -> Piece
-        requires here { here ≡ past_continuations (text_of self.now) self.now.at }
-        requires within { here ≤ length (text_of self.now) }
-        ensures value { result ≡ piece_in self.now.how.edition mode
-            (piece_at (text_of self.now) mode nested self.now.at) }
-        ensures shows { PieceShows mode nested result (text_of self.now) here }
-        ensures word { mode ≡ Mode.Plain → ends_word (text_of self.now) self.now.at ≡ false → result
-            ≢ Piece.Closer }
+        requires { IsHere self.now here × Inside self.now here }
+        ensures value { result ≡ piece_in self.now.how.edition mode (piece_at (text_of self.now)
+            mode nested (here_of self.now)) }
+        ensures shows { PieceShows mode nested result (text_of self.now) (on self.now here) }
+        ensures word { mode ≡ Mode.Plain → ends_word (text_of self.now) (here_of self.now) ≡ false →
+            result ≢ Piece.Closer }
     {
         match self.raw_byte(here) {
             None => {
@@ -136,7 +129,7 @@ impl<'a, S: Source, const KEEP: u8> Cursor<'a, S, KEEP> {
     /// Passes the parameter of an expansion: a name, digits, a special parameter or nothing.
     #[tactic(auto, unfolding(shgrammar::specs::Pieces::past_parameter, shgrammar::specs::Bytes::stands_in))]
     pub(crate) fn parameter(&mut self)
-        ensures { Moves self.old self.new (past_parameter (text_of self.old) self.old.at) }
+        ensures { Moves self.old self.new (past_parameter (text_of self.old) (here_of self.old)) }
     {
         let at = self.at;
         match self.byte_at(at) {
@@ -150,7 +143,7 @@ impl<'a, S: Source, const KEEP: u8> Cursor<'a, S, KEEP> {
     /// How the rest of an expansion is read that opened in this mode.
     #[tactic(auto, unfolding(shgrammar::specs::Pieces::rest_mode, shgrammar::specs::Bytes::stands))]
     pub(crate) fn rest_mode(&self, mode: Mode) -> Mode
-        ensures { result ≡ rest_mode (text_of self.now) mode self.now.at }
+        ensures { result ≡ rest_mode (text_of self.now) mode (here_of self.now) }
     {
         match self.byte_at(self.at) {
             Some(b'#' | b'%') => Mode::Brace,
@@ -160,14 +153,14 @@ impl<'a, S: Source, const KEEP: u8> Cursor<'a, S, KEEP> {
 
     /// Text in single quotes, from its opener on.
     #[tactic(auto, unfolding(shgrammar::specs::Words::single, shgrammar::specs::Pieces::past_taken, shgrammar::specs::Bytes::behind), using(shgrammar::proofs::Places::quote_clear, shgrammar::proofs::Stretches::place_low))]
-    pub(crate) fn single(&mut self, opener: usize) -> Result<(), Stop>
-        requires opener { opener ≡ past_continuations (text_of self.old) self.old.at }
-        requires some { opener < length (text_of self.old) }
+    pub(crate) fn single(&mut self, here: usize) -> Result<(), Stop>
+        requires here { ByteHere self.old here }
         ensures value { Reads self.old single result (λ _. tt) self.new }
-        ensures onward { IfOk result (λ _. opener < self.new.at) }
+        ensures onward { IfOk result (λ _. on self.old here < here_of self.new) }
     {
-        let closer = self.next_quote(opener + 1);
+        let closer = self.next_quote(here + 1);
         if self.at_end(closer) {
+            let opener = self.begin + here;
             return Err(self.wrong_at(FaultKind::UnclosedSingle, opener));
         }
         self.at = closer + 1;
@@ -178,10 +171,10 @@ impl<'a, S: Source, const KEEP: u8> Cursor<'a, S, KEEP> {
     /// is closed.
     #[tactic(auto, unfolding(shgrammar::specs::Words::escaped_turn, shgrammar::specs::Pieces::past_taken), using(shgrammar::proofs::Places::backslash_next, shgrammar::proofs::Places::closer_is))]
     fn escaped_turn(&mut self, escaping: Escaping, opener: usize) -> Result<bool, Stop>
-        requires { opener ≤ self.old.at }
+        requires { opener ≤ here_of self.old }
         ensures value { Reads self.old (escaped_turn escaping (self.old.origin + opener) tt) result
             (λ more. step_if more tt) self.new }
-        ensures onward { IfOk result (λ more. self.old.at < self.new.at) }
+        ensures onward { IfOk result (λ more. here_of self.old < here_of self.new) }
     {
         let at = self.at;
         let next = self.find(Sought::Either(escaping.closer(), b'\\'), at);
@@ -199,13 +192,14 @@ impl<'a, S: Source, const KEEP: u8> Cursor<'a, S, KEEP> {
         Ok(true)
     }
 
-    /// Text in which a backslash takes one byte, from behind its opener on, which stands at a place.
+    /// Text in which a backslash takes one byte, from behind its opener on, which stands at a place of the
+    /// text.
     #[tactic(auto, using(shgrammar::proofs::Turns::many_again, shgrammar::proofs::Turns::many_done, crate::proofs::Stops::many_stop))]
     fn escaped(&mut self, escaping: Escaping, opener: usize) -> Result<(), Stop>
-        requires { opener ≤ self.old.at }
+        requires { opener ≤ here_of self.old }
         ensures value { Reads self.old (many (escaped_turn escaping (self.old.origin + opener)) tt)
             result (λ _. tt) self.new }
-        ensures onward { IfOk result (λ _. self.old.at < self.new.at) }
+        ensures onward { IfOk result (λ _. here_of self.old < here_of self.new) }
     {
         'turns: while self.escaped_turn(escaping, opener)? {}
         Ok(())
@@ -213,26 +207,26 @@ impl<'a, S: Source, const KEEP: u8> Cursor<'a, S, KEEP> {
 
     /// Text in backquotes, from its opener on.
     #[tactic(auto, unfolding(shgrammar::specs::Words::backquoted, shgrammar::specs::Bytes::behind), using(shgrammar::proofs::Stretches::place_low))]
-    pub(crate) fn backquoted(&mut self, opener: usize) -> Result<(), Stop>
-        requires opener { opener ≡ past_continuations (text_of self.old) self.old.at }
-        requires some { opener < length (text_of self.old) }
+    pub(crate) fn backquoted(&mut self, here: usize) -> Result<(), Stop>
+        requires here { ByteHere self.old here }
         ensures value { Reads self.old backquoted result (λ _. tt) self.new }
-        ensures onward { IfOk result (λ _. opener < self.new.at) }
+        ensures onward { IfOk result (λ _. on self.old here < here_of self.new) }
     {
-        self.at = opener + 1;
+        let opener = self.begin + here;
+        self.at = here + 1;
         self.escaped(Escaping::Backquotes, opener)
     }
 
     /// Text in dollar-single quotes, from its `$` on.
     #[tactic(auto, unfolding(shgrammar::specs::Words::dollar_single, shgrammar::specs::Bytes::behind), using(shgrammar::proofs::Stretches::place_low))]
-    pub(crate) fn dollar_single(&mut self, opener: usize) -> Result<(), Stop>
-        requires opener { opener ≡ past_continuations (text_of self.old) self.old.at }
-        requires some { opener < length (text_of self.old) }
-        requires two { IsRead (text_of self.old) (opener + 1) }
+    pub(crate) fn dollar_single(&mut self, here: usize) -> Result<(), Stop>
+        requires here { ByteHere self.old here }
+        requires two { IsRead (text_of self.old) (on self.old here + 1) }
         ensures value { Reads self.old dollar_single result (λ _. tt) self.new }
-        ensures onward { IfOk result (λ _. opener < self.new.at) }
+        ensures onward { IfOk result (λ _. on self.old here < here_of self.new) }
     {
-        self.at = self.behind(opener + 1);
+        let opener = self.begin + here;
+        self.at = self.behind(here + 1);
         self.escaped(Escaping::DollarSingle, opener)
     }
 }

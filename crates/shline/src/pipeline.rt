@@ -1,11 +1,12 @@
 //! Pipelines (XCU 2.9.2).
-ghost use Rattle.std.specs.Prelude.{[], map};
+ghost use Rattle.std.specs.Prelude.{[]};
 ghost use Rattle.shgrammar.specs.Shows.{IsRead};
-ghost use Rattle.shline.specs.Clauses.{Adds, Finds, Takes, text_of, Turns};
+ghost use Rattle.shline.specs.Clauses.{Adds, Finds, start_of, Takes, text_of, Turns};
 ghost use Rattle.shgrammar.specs.Commands.{a_bang, a_pipeline, one_command, pipe_turn, piped};
 ghost use Rattle.shgrammar.specs.Form.{many};
 ghost use Rattle.shgrammar.specs.Levels.{level};
-ghost use Rattle.shast.specs.View.{view_pipeline, view_pipeline_part};
+ghost use Rattle.shline.specs.Rows.{view_pipeline_parts};
+ghost use Rattle.shast.specs.View.{view_pipeline};
 
 use crate::cursor::Cursor;
 use crate::stop::Stop;
@@ -25,7 +26,7 @@ impl<'a, S: Source, const KEEP: u8> Cursor<'a, S, KEEP> {
         let Token::Reserved(Reserved::Bang) = self.next.token else {
             return None;
         };
-        let start = self.next_at;
+        let start = self.start();
         self.step();
         let span = self.span_from(start);
         self.next_token(Position::Command);
@@ -37,10 +38,9 @@ impl<'a, S: Source, const KEEP: u8> Cursor<'a, S, KEEP> {
     #[cycle(commands)]
     #[tactic(auto, unfolding(shgrammar::specs::Commands::one_command))]
     fn one_command(&mut self, parts: &mut Vec<PipelinePart>, room: usize) -> Result<(), Stop>
-        requires { IsRead (text_of self.old) self.old.next_at }
-        ensures { Adds self.old (one_command (level room)
-            (piped (map view_pipeline_part parts.old.items) self.old.next)) result (piped
-            (map view_pipeline_part parts.new.items) self.new.next) self.new }
+        requires { IsRead (text_of self.old) (start_of self.old) }
+        ensures { Adds self.old (one_command (level room) (piped (view_pipeline_parts parts.old)
+            self.old.next)) result (piped (view_pipeline_parts parts.new) self.new.next) self.new }
     {
         let broken = self.next.broken;
         self.step();
@@ -59,9 +59,8 @@ impl<'a, S: Source, const KEEP: u8> Cursor<'a, S, KEEP> {
     #[inline(always)]
     #[tactic(auto, unfolding(shgrammar::specs::Commands::pipe_turn, crate::specs::InHand::InHand))]
     fn pipe(&mut self, parts: &mut Vec<PipelinePart>, room: usize) -> Result<bool, Stop>
-        ensures { Turns self.old
-            (pipe_turn (level room) (piped (map view_pipeline_part parts.old.items) self.old.next))
-            result (piped (map view_pipeline_part parts.new.items) self.new.next) self.new }
+        ensures { Turns self.old (pipe_turn (level room) (piped (view_pipeline_parts parts.old)
+            self.old.next)) result (piped (view_pipeline_parts parts.new) self.new.next) self.new }
     {
         let Token::Pipe = self.next.token else {
             return Ok(false);
@@ -76,7 +75,7 @@ impl<'a, S: Source, const KEEP: u8> Cursor<'a, S, KEEP> {
     #[tactic(auto, using(shgrammar::proofs::Turns::many_again, shgrammar::proofs::Turns::many_done, crate::proofs::Stops::many_stop))]
     pub(crate) fn pipes(&mut self, room: usize) -> Result<Vec<PipelinePart>, Stop>
         ensures { Takes self.old (many (pipe_turn (level room)) (piped [] self.old.next)) result
-            (λ parts. piped (map view_pipeline_part parts.items) self.new.next) self.new }
+            (λ parts. piped (view_pipeline_parts parts) self.new.next) self.new }
     {
         let mut parts = Vec::new(self.alloc);
         'turns: while self.pipe(&mut parts, room)? {}

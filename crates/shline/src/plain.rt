@@ -1,7 +1,5 @@
 //! Bytes that are ordinary in a mode, many at once.
-ghost use Rattle.std.specs.Prelude.{◌≤◌, length};
-ghost use Rattle.shgrammar.specs.Plain.{ArePlain};
-ghost use Rattle.shline.specs.Clauses.{Stays, text_of};
+ghost use Rattle.shline.specs.Clauses.{Skips};
 
 use crate::cursor::Cursor;
 use crate::sets::plain_front;
@@ -12,10 +10,28 @@ impl<'a, S: Source, const KEEP: u8> Cursor<'a, S, KEEP> {
     /// Passes the bytes from here on that are ordinary in a mode, or some of them.
     #[inline(always)]
     pub(crate) fn skip_plain(&mut self, mode: Mode)
-        ensures plain { ArePlain mode (text_of self.old) self.old.at self.new.at }
-        ensures onward { self.old.at ≤ self.new.at }
-        ensures within { self.new.at ≤ length (text_of self.old) }
-        ensures same { Stays self.old self.new }
+        ensures { Skips self.old mode self.new }
+    {
+        if self.at >= self.front.len() {
+            return self.skip_plain_behind(mode);
+        }
+        self.skip_plain_near(mode)
+    }
+
+    /// The same, where the stretch has no byte from here on.
+    #[cold]
+    #[inline(never)]
+    fn skip_plain_behind(&mut self, mode: Mode)
+        ensures { Skips self.old mode self.new }
+    {
+        self.go_on();
+        self.skip_plain_near(mode)
+    }
+
+    /// The same, in the stretch.
+    #[inline(always)]
+    fn skip_plain_near(&mut self, mode: Mode)
+        ensures { Skips self.old mode self.new }
     {
         let at = self.at;
         self.at = at + plain_front(self.run_at(at), mode);

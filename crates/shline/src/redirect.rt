@@ -1,12 +1,13 @@
 //! Redirections (XCU 2.7): among the items of a simple command, and behind a compound command.
-ghost use Rattle.std.specs.Prelude.{◌≡◌, ◌+◌, ◌<◌, ◌≤◌, [], map, IfOk, Some};
-ghost use Rattle.shline.specs.Clauses.{Adds, at_place, at_token, end_of, Finds, is_compound, Leads, Reads, Takes, text_of, Turns};
+ghost use Rattle.std.specs.Prelude.{◌≡◌, ◌+◌, ◌<◌, ◌≤◌, [], IfOk, Some};
+ghost use Rattle.shline.specs.Clauses.{Adds, at_place, at_token, end_of, Finds, here_of, is_compound, Leads, Reads, start_of, Takes, text_of};
 ghost use Rattle.shgrammar.specs.Commands.{a_number, a_target, an_operator, is_long, one_redirect, redirect_operator_of, redirect_turn, redirected, so_many};
 ghost use Rattle.shgrammar.specs.declared.token.Position.TheVariants.{Command as AsCommand};
 ghost use Rattle.shgrammar.specs.Form.{many, raw};
 ghost use Rattle.shgrammar.specs.Levels.{level};
+ghost use Rattle.shline.specs.Rows.{view_items};
 ghost use Rattle.shast.specs.Nodes.{word_span};
-ghost use Rattle.shast.specs.View.{view_command, view_item, view_word};
+ghost use Rattle.shast.specs.View.{view_command, view_word};
 
 use crate::cursor::Cursor;
 use crate::documents::is_strip;
@@ -33,7 +34,7 @@ impl<'a, S: Source, const KEEP: u8> Cursor<'a, S, KEEP> {
         let Token::Number = self.next.token else {
             return None;
         };
-        let start = self.next_at;
+        let start = self.start();
         self.pass_digits();
         let span = self.span_from(start);
         self.next_token(Position::Suffix);
@@ -47,9 +48,9 @@ impl<'a, S: Source, const KEEP: u8> Cursor<'a, S, KEEP> {
         ensures value { Leads self.old (an_operator operator) (at_token self.old) (tt, result)
             (at_place self.new) self.new }
         ensures start { result.start ≤ end_of self.new }
-        ensures onward { self.old.next_at < self.new.at }
+        ensures onward { start_of self.old < here_of self.new }
     {
-        let start = self.next_at;
+        let start = self.start();
         self.step();
         if is_long(operator) {
             self.bump();
@@ -64,16 +65,16 @@ impl<'a, S: Source, const KEEP: u8> Cursor<'a, S, KEEP> {
     #[cycle(commands)]
     #[tactic(auto, unfolding(shgrammar::specs::Commands::a_target, shgrammar::specs::Commands::next_token, crate::specs::InHand::InHand))]
     fn target(&mut self, room: usize) -> Result<(Word, usize), Stop>
-        ensures value { Reads self.old (a_target (level room)) result
-            (λ x. (view_word x.0, raw (text_of self.old) x.1 self.new.at)) self.new }
-        ensures place { IfOk result (λ x. (x.1 ≤ self.new.at) ×
-            ((word_span (view_word x.0)).start ≡ self.old.origin + x.1)) }
+        ensures value { Reads self.old (a_target (level room)) result (λ x.
+            (view_word x.0, raw (text_of self.old) x.1 (here_of self.new))) self.new }
+        ensures place { IfOk result (λ x. (x.1 ≤ here_of self.new) × ((word_span (view_word
+            x.0)).start ≡ self.old.origin + x.1)) }
     {
         self.next_token(Position::Suffix);
         let Token::Word = self.next.token else {
             return Err(Stop::Wrong(self.what_is_wrong(room)?));
         };
-        let start = self.next_at;
+        let start = self.start();
         let mut substs = Vec::new(self.alloc);
         self.pass_word(&mut substs, room)?;
         Ok((self.word_from(start, substs), start))
@@ -90,11 +91,10 @@ impl<'a, S: Source, const KEEP: u8> Cursor<'a, S, KEEP> {
         position: Position,
         room: usize,
     ) -> Result<(), Stop>
-        ensures { Adds self.old (one_redirect (level room) broken position
-            (map view_item items.old.items) self.old.next) result (so_many
-            (map view_item items.new.items) position self.new.next) self.new }
+        ensures { Adds self.old (one_redirect (level room) broken position (view_items items.old)
+            self.old.next) result (so_many (view_items items.new) position self.new.next) self.new }
     {
-        let start = self.next_at;
+        let start = self.start();
         let number = self.number();
         let Some(operator) = self.next.token.redirect_operator() else {
             return Err(self.wrong_at(FaultKind::Unexpected, start));
@@ -112,33 +112,19 @@ impl<'a, S: Source, const KEEP: u8> Cursor<'a, S, KEEP> {
         Ok(())
     }
 
-    /// One more redirection behind a compound command, if the token here begins one.
-    /// Answers whether there was one.
+    /// The redirections behind a compound command.
     #[cycle(commands)]
-    #[tactic(auto, unfolding(shgrammar::specs::Commands::redirect_turn, crate::specs::InHand::InHand))]
-    fn next_redirect(&mut self, redirects: &mut Vec<Item>, room: usize) -> Result<bool, Stop>
-        ensures { Turns self.old (redirect_turn (level room)
-            (so_many (map view_item redirects.old.items) AsCommand self.old.next)) result (so_many
-            (map view_item redirects.new.items) AsCommand self.new.next) self.new }
-    {
-        if !self.next.token.begins_redirect() {
-            return Ok(false);
-        }
-        let broken = self.next.broken;
-        self.redirect(redirects, broken, Position::Command, room)?;
-        Ok(true)
-    }
-
-    /// All of them.
-    #[cycle(commands)]
-    #[tactic(auto, using(shgrammar::proofs::Turns::many_again, shgrammar::proofs::Turns::many_done, crate::proofs::Stops::many_stop))]
+    #[tactic(auto, unfolding(shgrammar::specs::Commands::redirect_turn), using(shgrammar::proofs::Turns::many_again, shgrammar::proofs::Turns::many_done, crate::proofs::Stops::many_stop))]
     fn redirects(&mut self, room: usize) -> Result<Vec<Item>, Stop>
-        ensures { Takes self.old (many (redirect_turn (level room))
-            (so_many [] AsCommand self.old.next)) result (λ redirects. so_many
-            (map view_item redirects.items) AsCommand self.new.next) self.new }
+        ensures { Takes self.old (many (redirect_turn (level room)) (so_many [] AsCommand
+            self.old.next)) result (λ redirects. so_many (view_items redirects) AsCommand
+            self.new.next) self.new }
     {
         let mut redirects = Vec::new(self.alloc);
-        'turns: while self.next_redirect(&mut redirects, room)? {}
+        'turns: while self.next.token.begins_redirect() {
+            let broken = self.next.broken;
+            self.redirect(&mut redirects, broken, Position::Command, room)?;
+        }
         Ok(redirects)
     }
 

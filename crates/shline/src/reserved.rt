@@ -1,10 +1,9 @@
 //! Reserved words (XCU 2.4), and by which two bytes they are told from other words.
-ghost use Rattle.std.specs.Prelude.{◌≡◌, ◌≤◌, [], ◌∷◌, None, Some, false, if◌then◌else◌, length, slice_get};
-ghost use Rattle.shgrammar.specs.Bytes.{past_continuations};
+ghost use Rattle.std.specs.Prelude.{◌≡◌, [], ◌∷◌, None, Some, false, if◌then◌else◌, slice_get};
 ghost use Rattle.shgrammar.specs.Shows.{IsRead};
 ghost use Rattle.shgrammar.specs.Tokens.{first_of_words, is_word_at, past_reserved, reserved_at, reserved_words};
 ghost use Rattle.shline.specs.Beginnings.{may_begin};
-ghost use Rattle.shline.specs.Clauses.{Steps, text_of};
+ghost use Rattle.shline.specs.Clauses.{Inside, seen, start_of, Steps, Still, text_of};
 
 use crate::cursor::Cursor;
 use shgrammar::{Class, Reserved, ends_words};
@@ -118,8 +117,8 @@ impl<'a, S: Source, const KEEP: u8> Cursor<'a, S, KEEP> {
     #[inline(always)]
     #[tactic(auto, using(shgrammar::proofs::Runs::run_letter_more, shgrammar::proofs::Runs::run_letter_other, shgrammar::proofs::Runs::run_word_whole))]
     fn is_word(&self, from: usize, word: &[u8]) -> bool
-        requires { from ≤ length (text_of self.now) }
-        ensures { result ≡ is_word_at (text_of self.now) from word.now }
+        requires { Inside self.now from }
+        ensures { result ≡ seen self.now is_word_at from word.now }
     {
         let run = self.run_at(from);
         if run.len() <= word.len() {
@@ -145,8 +144,8 @@ impl<'a, S: Source, const KEEP: u8> Cursor<'a, S, KEEP> {
     #[cold]
     #[tactic(auto, using(shgrammar::proofs::Stretches::word_more, shgrammar::proofs::Stretches::word_other, shgrammar::proofs::Stretches::word_whole))]
     fn is_broken_word(&self, from: usize, word: &[u8]) -> bool
-        requires { from ≤ length (text_of self.now) }
-        ensures { result ≡ is_word_at (text_of self.now) from word.now }
+        requires { Inside self.now from }
+        ensures { result ≡ seen self.now is_word_at from word.now }
     {
         let mut at = from;
         'letters: for letter in word {
@@ -161,9 +160,8 @@ impl<'a, S: Source, const KEEP: u8> Cursor<'a, S, KEEP> {
     /// This reserved word, if it stands at a place.
     #[inline(always)]
     fn spelled(&self, at: usize, word: &[u8], reserved: Reserved) -> Option<Reserved>
-        requires { at ≤ length (text_of self.now) }
-        ensures { result ≡
-            (if is_word_at (text_of self.now) at word.now then Some reserved else None) }
+        requires { Inside self.now at }
+        ensures { result ≡ (if seen self.now is_word_at at word.now then Some reserved else None) }
     {
         if self.is_word(at, word) {
             Some(reserved)
@@ -183,9 +181,9 @@ impl<'a, S: Source, const KEEP: u8> Cursor<'a, S, KEEP> {
         other: &[u8],
         second: Reserved,
     ) -> Option<Reserved>
-        requires { at ≤ length (text_of self.now) }
-        ensures { result ≡ first_of_words (text_of self.now) at
-            ((word.now, reserved) ∷ (other.now, second) ∷ []) }
+        requires { Inside self.now at }
+        ensures { result ≡ seen self.now first_of_words at ((word.now, reserved) ∷
+            (other.now, second) ∷ []) }
     {
         if self.is_word(at, word) {
             return Some(reserved);
@@ -198,10 +196,8 @@ impl<'a, S: Source, const KEEP: u8> Cursor<'a, S, KEEP> {
     #[inline(always)]
     #[tactic(auto, using(crate::proofs::TwoBytes::none_begins))]
     pub(crate) fn reserved(&self, at: usize, first: u8) -> Option<Reserved>
-        requires within { at ≤ length (text_of self.now) }
-        requires still { past_continuations (text_of self.now) at ≡ at }
-        requires first { slice_get (text_of self.now) at ≡ Some first }
-        ensures { result ≡ reserved_at (text_of self.now) at }
+        requires { Still self.now at × (seen self.now slice_get at ≡ Some first) }
+        ensures { result ≡ seen self.now reserved_at at }
     {
         match self.raw_byte(at + 1) {
             Some(second) if !may_begin(first, second) => None,
@@ -213,9 +209,8 @@ impl<'a, S: Source, const KEEP: u8> Cursor<'a, S, KEEP> {
     #[inline(never)]
     #[tactic(auto, unfolding(shgrammar::specs::Tokens::reserved_words, shgrammar::specs::Tokens::first_of_words, shgrammar::specs::Tokens::is_word_at, shgrammar::specs::Bytes::stands))]
     fn reserved_by_letters(&self, at: usize) -> Option<Reserved>
-        requires within { at ≤ length (text_of self.now) }
-        requires still { past_continuations (text_of self.now) at ≡ at }
-        ensures { result ≡ reserved_at (text_of self.now) at }
+        requires { Still self.now at }
+        ensures { result ≡ seen self.now reserved_at at }
     {
         match self.raw_byte(at) {
             Some(b'!') => self.spelled(at, b"!", Reserved::Bang),
@@ -238,11 +233,11 @@ impl<'a, S: Source, const KEEP: u8> Cursor<'a, S, KEEP> {
         }
     }
 
-    /// Passes the reserved word here.
+    /// Passes the reserved word in hand.
     #[tactic(auto, unfolding(shgrammar::specs::Tokens::past_reserved, shgrammar::specs::Bytes::behind, crate::specs::InHand::InHand))]
     pub(crate) fn pass_reserved(&mut self)
-        requires { IsRead (text_of self.old) self.old.next_at }
-        ensures { Steps self.old self.new (past_reserved (text_of self.old) self.old.next_at) }
+        requires { IsRead (text_of self.old) (start_of self.old) }
+        ensures { Steps self.old self.new (past_reserved (text_of self.old) (start_of self.old)) }
     {
         let at = self.next_at;
         self.at = self.past(at + 1, Class::Name);

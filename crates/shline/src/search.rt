@@ -2,7 +2,7 @@
 ghost use Rattle.std.specs.Prelude.{◌≡◌, ◌≤◌, length};
 ghost use Rattle.memchr.specs.Find.{IsFirstByte};
 ghost use Rattle.shline.specs.Sought.{is_sought};
-ghost use Rattle.shline.specs.Clauses.{Between, text_of};
+ghost use Rattle.shline.specs.Clauses.{Inside, Reaches};
 ghost use Rattle.shgrammar.specs.Standing.{next_of, next_such};
 
 use crate::cursor::Cursor;
@@ -55,13 +55,12 @@ pub(crate) fn find_in<S: Source>(source: &S, from: usize, sought: Sought) -> usi
 
 impl<'a, S: Source, const KEEP: u8> Cursor<'a, S, KEEP> {
     /// The next place from a place on where a byte that is sought stands, or the end.
-    #[tactic(auto, using(crate::proofs::Searches::such_behind))]
     pub(crate) fn find(&self, sought: Sought, from: usize) -> usize
-        requires { from ≤ length (text_of self.now) }
-        ensures value { result ≡ next_such (is_sought sought) (text_of self.now) from }
-        ensures inside { Between self.now from result }
+        requires { Inside self.now from }
+        ensures { Reaches self.now (next_such (is_sought sought)) from result }
     {
-        find_in(self.source, self.base + from, sought) - self.base
+        let begin = self.base + self.begin;
+        find_in(self.source, begin + from, sought) - begin
     }
 
     /// The next single quote from a place on, or the end. The nearest bytes are looked at one by one, since a
@@ -69,9 +68,8 @@ impl<'a, S: Source, const KEEP: u8> Cursor<'a, S, KEEP> {
     #[inline(always)]
     #[tactic(auto, using(crate::proofs::Searches::byte_passed, crate::proofs::Searches::byte_here, crate::proofs::Searches::byte_end))]
     pub(crate) fn next_quote(&self, from: usize) -> usize
-        requires { from ≤ length (text_of self.now) }
-        ensures value { result ≡ next_of 39 (text_of self.now) from }
-        ensures inside { Between self.now from result }
+        requires { Inside self.now from }
+        ensures { Reaches self.now (next_of 39) from result }
     {
         let mut at = from;
         'near: for _ in 0..NEAR {

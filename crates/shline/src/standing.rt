@@ -1,7 +1,7 @@
 //! The bytes of a text as they stand, continuations and all.
-ghost use Rattle.std.specs.Prelude.{◌≡◌, ◌+◌, ◌<◌, ◌≤◌, length, slice_get, true, false, IfSome, IsSome};
+ghost use Rattle.std.specs.Prelude.{◌≡◌, ◌+◌, ◌<◌, length, slice_get, true, false, IfSome, IsSome};
 ghost use Rattle.shgrammar.specs.Classes.{in_class};
-ghost use Rattle.shline.specs.Clauses.{Between, text_of};
+ghost use Rattle.shline.specs.Clauses.{Inside, on, Reaches, seen, text_of};
 ghost use Rattle.shgrammar.specs.Standing.{raw_past, at_end, continues, passes, raw_in, raw_stands};
 ghost use Rattle.shtext.specs.Text.{IsRun};
 
@@ -26,9 +26,9 @@ impl<'a, S: Source, const KEEP: u8> Cursor<'a, S, KEEP> {
     #[inline(always)]
     #[tactic(auto, using(shgrammar::proofs::Runs::front_byte, shgrammar::proofs::Runs::front_within))]
     pub(crate) fn raw_byte(&self, at: usize) -> Option<u8>
-        requires { at ≤ length (text_of self.now) }
-        ensures value { result ≡ slice_get (text_of self.now) at }
-        ensures inside { IfSome result (λ b. at < length (text_of self.now)) }
+        requires { Inside self.now at }
+        ensures value { result ≡ seen self.now slice_get at }
+        ensures inside { IfSome result (λ b. on self.now at < length (text_of self.now)) }
     {
         if at < self.front.len() {
             return Some(self.front[at]);
@@ -40,33 +40,33 @@ impl<'a, S: Source, const KEEP: u8> Cursor<'a, S, KEEP> {
     #[cold]
     #[tactic(auto, using(shgrammar::proofs::Stretches::get_drop))]
     fn byte_behind(&self, at: usize) -> Option<u8>
-        requires { at ≤ length (text_of self.now) }
-        ensures value { result ≡ slice_get (text_of self.now) at }
-        ensures inside { IfSome result (λ b. at < length (text_of self.now)) }
+        requires { Inside self.now at }
+        ensures value { result ≡ seen self.now slice_get at }
+        ensures inside { IfSome result (λ b. on self.now at < length (text_of self.now)) }
     {
-        self.source.byte(self.base + at)
+        self.source.byte(self.base + self.begin + at)
     }
 
     /// The stretch that begins at a place. Most often it is a part of the front.
     #[inline(always)]
-    #[tactic(auto, using(shgrammar::proofs::Runs::front_run))]
+    #[tactic(auto, using(crate::proofs::Front::front_run_on))]
     pub(crate) fn run_at(&self, at: usize) -> &[u8]
-        requires { at ≤ length (text_of self.now) }
-        ensures { IsRun (S.bytes self.now.source.now) (self.now.base + at) result.now }
+        requires { Inside self.now at }
+        ensures { IsRun (S.bytes self.now.source.now) (self.now.base + on self.now at) result.now }
     {
         if at < self.front.len() {
             return &self.front[at..];
         }
-        self.source.run(self.base + at)
+        self.source.run(self.base + (self.begin + at))
     }
 
     /// Whether this byte is the one at a place.
     #[inline(always)]
     #[tactic(auto, unfolding(shgrammar::specs::Standing::raw_stands))]
     pub(crate) fn raw_stands(&self, at: usize, byte: u8) -> bool
-        requires { at ≤ length (text_of self.now) }
-        ensures value { result ≡ raw_stands (text_of self.now) at byte }
-        ensures inside { result ≡ true → at < length (text_of self.now) }
+        requires { Inside self.now at }
+        ensures value { result ≡ seen self.now raw_stands at byte }
+        ensures inside { result ≡ true → on self.now at < length (text_of self.now) }
     {
         match self.raw_byte(at) {
             Some(found) => found == byte,
@@ -78,9 +78,9 @@ impl<'a, S: Source, const KEEP: u8> Cursor<'a, S, KEEP> {
     #[inline(always)]
     #[tactic(auto, unfolding(shgrammar::specs::Standing::raw_in))]
     pub(crate) fn raw_in(&self, at: usize, class: Class) -> bool
-        requires { at ≤ length (text_of self.now) }
-        ensures value { result ≡ raw_in (in_class class) (text_of self.now) at }
-        ensures inside { result ≡ true → at < length (text_of self.now) }
+        requires { Inside self.now at }
+        ensures value { result ≡ seen self.now (raw_in (in_class class)) at }
+        ensures inside { result ≡ true → on self.now at < length (text_of self.now) }
     {
         match self.raw_byte(at) {
             Some(byte) => class.has(byte),
@@ -92,9 +92,9 @@ impl<'a, S: Source, const KEEP: u8> Cursor<'a, S, KEEP> {
     #[inline(always)]
     #[tactic(auto, unfolding(shgrammar::specs::Standing::at_end))]
     pub(crate) fn at_end(&self, at: usize) -> bool
-        requires { at ≤ length (text_of self.now) }
-        ensures value { result ≡ at_end (text_of self.now) at }
-        ensures inside { result ≡ false → at < length (text_of self.now) }
+        requires { Inside self.now at }
+        ensures value { result ≡ seen self.now at_end at }
+        ensures inside { result ≡ false → on self.now at < length (text_of self.now) }
     {
         self.raw_byte(at).is_none()
     }
@@ -103,9 +103,9 @@ impl<'a, S: Source, const KEEP: u8> Cursor<'a, S, KEEP> {
     #[inline(always)]
     #[tactic(auto, unfolding(shgrammar::specs::Standing::continues))]
     pub(crate) fn continues(&self, at: usize) -> bool
-        requires { at ≤ length (text_of self.now) }
-        ensures value { result ≡ continues (text_of self.now) at }
-        ensures inside { result ≡ true → at + 2 ≤ length (text_of self.now) }
+        requires { Inside self.now at }
+        ensures value { result ≡ seen self.now continues at }
+        ensures inside { result ≡ true → Inside self.now (at + 2) }
     {
         self.raw_stands(at, b'\\') && self.raw_stands(at + 1, b'\n')
     }
@@ -114,9 +114,8 @@ impl<'a, S: Source, const KEEP: u8> Cursor<'a, S, KEEP> {
     #[inline(always)]
     #[tactic(auto, unfolding(shgrammar::specs::Standing::continues, shgrammar::specs::Standing::raw_stands))]
     pub(crate) fn continues_with(&self, at: usize, byte: Option<u8>) -> bool
-        requires within { at ≤ length (text_of self.now) }
-        requires byte { byte ≡ slice_get (text_of self.now) at }
-        ensures { result ≡ continues (text_of self.now) at }
+        requires { Inside self.now at × (byte ≡ seen self.now slice_get at) }
+        ensures { result ≡ seen self.now continues at }
     {
         match byte {
             Some(b'\\') => self.continues(at),
@@ -127,12 +126,11 @@ impl<'a, S: Source, const KEEP: u8> Cursor<'a, S, KEEP> {
     /// The place behind the bytes of this class that stand from a place on, and the byte there, or `None` at
     /// the end. Most often there are none or one: a test for each is foretold better than a loop.
     #[inline(always)]
-    #[tactic(auto, unfolding(shgrammar::specs::Standing::raw_in), using(shgrammar::proofs::Stretches::raw_none, crate::proofs::Passed::raw_one, crate::proofs::Passed::raw_two))]
+    #[tactic(auto, unfolding(shgrammar::specs::Standing::raw_in), using(shgrammar::proofs::Stretches::raw_none, crate::proofs::Passed::raw_one_on, crate::proofs::Passed::raw_two_on))]
     pub(crate) fn raw_past_to(&self, from: usize, class: Class) -> (usize, Option<u8>)
-        requires { from ≤ length (text_of self.now) }
-        ensures value { result.0 ≡ raw_past (in_class class) (text_of self.now) from }
-        ensures byte { result.1 ≡ slice_get (text_of self.now) result.0 }
-        ensures inside { Between self.now from result.0 }
+        requires { Inside self.now from }
+        ensures place { Reaches self.now (raw_past (in_class class)) from result.0 }
+        ensures byte { result.1 ≡ seen self.now slice_get result.0 }
     {
         let first = self.raw_byte(from);
         if !is_in(first, class) {
@@ -149,9 +147,8 @@ impl<'a, S: Source, const KEEP: u8> Cursor<'a, S, KEEP> {
     /// The place behind them alone.
     #[inline(always)]
     pub(crate) fn raw_past(&self, from: usize, class: Class) -> usize
-        requires { from ≤ length (text_of self.now) }
-        ensures value { result ≡ raw_past (in_class class) (text_of self.now) from }
-        ensures inside { Between self.now from result }
+        requires { Inside self.now from }
+        ensures { Reaches self.now (raw_past (in_class class)) from result }
     {
         self.raw_past_to(from, class).0
     }
@@ -160,9 +157,8 @@ impl<'a, S: Source, const KEEP: u8> Cursor<'a, S, KEEP> {
     #[inline(always)]
     #[tactic(auto, using(shgrammar::proofs::Stretches::raw_more, shgrammar::proofs::Stretches::raw_none))]
     fn raw_behind(&self, from: usize, class: Class) -> usize
-        requires { from ≤ length (text_of self.now) }
-        ensures value { result ≡ raw_past (in_class class) (text_of self.now) from }
-        ensures inside { Between self.now from result }
+        requires { Inside self.now from }
+        ensures { Reaches self.now (raw_past (in_class class)) from result }
     {
         let mut at = from;
         'bytes: while self.raw_in(at, class) {

@@ -1,13 +1,14 @@
 //! Command substitutions (XCU 2.6.3).
-ghost use Rattle.std.specs.Prelude.{◌≡◌, ◌+◌, ◌≤◌, ◌==◌, map, IfErr, IfOk, true};
-ghost use Rattle.shline.specs.Clauses.{keep_of, Reads};
+ghost use Rattle.std.specs.Prelude.{◌≡◌, ◌+◌, ◌≤◌, ◌==◌, IfErr, IfOk, true};
+ghost use Rattle.shline.specs.Clauses.{here_of, keep_of, Reads};
 ghost use Rattle.shgrammar.specs.Comments.{span};
 ghost use Rattle.shgrammar.specs.Form.{grows, pushed};
 ghost use Rattle.shgrammar.specs.Levels.{level};
 ghost use Rattle.shgrammar.specs.Substitutions.{one_substitution, substituted};
+ghost use Rattle.shline.specs.Rows.{view_substs};
 ghost use Rattle.shast.specs.Bodies.{filled};
 ghost use Rattle.shast.specs.Tree.{subst};
-ghost use Rattle.shast.specs.View.{view_list, view_subst};
+ghost use Rattle.shast.specs.View.{view_list};
 
 use crate::cursor::{Cursor, How};
 use crate::list::Listed;
@@ -45,7 +46,7 @@ impl<'a, S: Source, const KEEP: u8> Cursor<'a, S, KEEP> {
         Ok(list_of(listed.entries))
     }
 
-    /// The substitution from a place up to this one, with the bodies of its level, as
+    /// The substitution from a place of the text to here, with the bodies of its level, as
     /// one more of these, if a tree is grown.
     #[tactic(auto, using(shgrammar::proofs::Levels::subst_kept, shgrammar::proofs::Levels::subst_left))]
     fn add_subst(
@@ -55,10 +56,10 @@ impl<'a, S: Source, const KEEP: u8> Cursor<'a, S, KEEP> {
         opener: usize,
         substs: &mut Vec<Subst>,
     ) -> Result<(), AllocError>
-        requires { opener ≤ self.now.at }
-        ensures value { IfOk result (λ _. map view_subst substs.new.items ≡ pushed (grows
-            (keep_of self.now)) (map view_subst substs.old.items) (subst
-            (filled bodies.items (view_list list)) (span self.now.origin opener self.now.at))) }
+        requires { opener ≤ here_of self.now }
+        ensures value { IfOk result (λ _. view_substs substs.new ≡ pushed (grows (keep_of self.now))
+            (view_substs substs.old) (subst (filled bodies.items (view_list list)) (span
+            self.now.origin opener (here_of self.now)))) }
         ensures memory { IfErr result (λ e. (KEEP == 1) ≡ true) }
     {
         if self.grows() {
@@ -68,7 +69,7 @@ impl<'a, S: Source, const KEEP: u8> Cursor<'a, S, KEEP> {
         Ok(())
     }
 
-    /// The substitution whose `$` stands at a place, from behind its `(` on, as one
+    /// The substitution whose `$` stands at a place of the text, from behind its `(` on, as one
     /// more of these, if a tree is grown of what stands in it.
     #[cycle(commands)]
     #[inline(always)]
@@ -79,9 +80,9 @@ impl<'a, S: Source, const KEEP: u8> Cursor<'a, S, KEEP> {
         substs: &mut Vec<Subst>,
         room: usize,
     ) -> Result<(), Stop>
-        requires { opener ≤ self.old.at }
-        ensures { Reads self.old (one_substitution (level room) (self.old.origin + opener) (map
-            view_subst substs.old.items)) result (λ _. map view_subst substs.new.items) self.new }
+        requires { opener ≤ here_of self.old }
+        ensures { Reads self.old (one_substitution (level room) (self.old.origin + opener)
+            (view_substs substs.old)) result (λ _. view_substs substs.new) self.new }
     {
         let outer = self.open_level();
         match self.substituted(room) {
@@ -112,9 +113,9 @@ impl<'a, S: Source, const KEEP: u8> Cursor<'a, S, KEEP> {
         substs: &mut Vec<Subst>,
         room: usize,
     ) -> Result<(), Stop>
-        requires { opener ≤ self.old.at }
-        ensures { Reads self.old ((level room).substitution (self.old.origin + opener) (map
-            view_subst substs.old.items)) result (λ _. map view_subst substs.new.items) self.new }
+        requires { opener ≤ here_of self.old }
+        ensures { Reads self.old ((level room).substitution (self.old.origin + opener) (view_substs
+            substs.old)) result (λ _. view_substs substs.new) self.new }
     {
         if room == 0 {
             return Err(self.wrong_at(FaultKind::TooDeep, opener));

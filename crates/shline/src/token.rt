@@ -1,10 +1,9 @@
 //! The token that begins at a place (XCU 2.3, 2.4, 2.10.1).
-ghost use Rattle.std.specs.Prelude.{◌≡◌, ◌≤◌, Some, false, true, length, slice_get};
-ghost use Rattle.shgrammar.specs.Bytes.{past_blanks, past_continuations};
+ghost use Rattle.std.specs.Prelude.{◌≡◌, ◌≤◌, Some, false, true, slice_get};
 ghost use Rattle.shgrammar.specs.Classes.{is_blank};
 ghost use Rattle.shgrammar.specs.Standing.{continues, raw_past, raw_stands};
 ghost use Rattle.shgrammar.specs.Tokens.{begins_assignment, greater_at, is_name_at, is_number, less_at, past_digits, semicolon_at, token_in, word_by};
-ghost use Rattle.shline.specs.Clauses.{next_from, Stays, text_of, token_of};
+ghost use Rattle.shline.specs.Clauses.{here_of, Holds, Inside, Looks, on, Reaches, seen, start_of, Stays, Still, text_of, token_of};
 
 use crate::cursor::Cursor;
 use shast::RedirectOperator;
@@ -12,11 +11,11 @@ use shgrammar::{Class, Next, Position, Token, begins_a_word};
 use shtext::Source;
 
 impl<'a, S: Source, const KEEP: u8> Cursor<'a, S, KEEP> {
-    /// Passes the digits here.
+    /// Passes the digits that are in hand.
     #[tactic(auto, unfolding(shgrammar::specs::Tokens::past_digits))]
     pub(crate) fn pass_digits(&mut self)
-        ensures value { self.new.at ≡ past_digits (text_of self.old) self.old.next_at }
-        ensures onward { self.old.next_at ≤ self.new.at }
+        ensures value { here_of self.new ≡ past_digits (text_of self.old) (start_of self.old) }
+        ensures onward { start_of self.old ≤ here_of self.new }
         ensures same { Stays self.old self.new }
     {
         let at = self.next_at;
@@ -27,8 +26,8 @@ impl<'a, S: Source, const KEEP: u8> Cursor<'a, S, KEEP> {
     #[inline(always)]
     #[tactic(auto, unfolding(shgrammar::specs::Tokens::begins_assignment, shgrammar::specs::Bytes::stands_in))]
     fn begins_assignment(&self, at: usize) -> bool
-        requires { at ≤ length (text_of self.now) }
-        ensures { result ≡ begins_assignment (text_of self.now) at }
+        requires { Inside self.now at }
+        ensures { result ≡ seen self.now begins_assignment at }
     {
         if !self.stands(self.past(at, Class::Name), b'=') {
             return false;
@@ -39,8 +38,8 @@ impl<'a, S: Source, const KEEP: u8> Cursor<'a, S, KEEP> {
     /// Whether the word at a place is a NAME.
     #[tactic(auto, unfolding(shgrammar::specs::Tokens::is_name_at, shgrammar::specs::Bytes::stands_in))]
     pub(crate) fn is_name(&self, at: usize) -> bool
-        requires { at ≤ length (text_of self.now) }
-        ensures { result ≡ is_name_at (text_of self.now) at }
+        requires { Inside self.now at }
+        ensures { result ≡ seen self.now is_name_at at }
     {
         if !self.ends_at(self.past(at, Class::Name)) {
             return false;
@@ -48,12 +47,26 @@ impl<'a, S: Source, const KEEP: u8> Cursor<'a, S, KEEP> {
         matches!(self.byte_at(at), Some(b'a'..=b'z' | b'A'..=b'Z' | b'_'))
     }
 
+    /// Whether the word at a place of the text, at or before the token in hand, is a NAME. The stretch may
+    /// have gone on since.
+    pub(crate) fn is_name_from(&mut self, place: usize) -> bool
+        requires { place ≤ start_of self.old }
+        ensures value { result ≡ is_name_at (text_of self.old) place }
+        ensures same { Holds self.old self.new }
+    {
+        if place < self.begin {
+            self.stretch_from(place);
+        }
+        let at = place - self.begin;
+        self.is_name(at)
+    }
+
     /// Whether digits that `<` or `>` follows stand at a place.
     #[inline(always)]
     #[tactic(auto, unfolding(shgrammar::specs::Tokens::is_number))]
     fn is_number(&self, at: usize) -> bool
-        requires { at ≤ length (text_of self.now) }
-        ensures { result ≡ is_number (text_of self.now) at }
+        requires { Inside self.now at }
+        ensures { result ≡ seen self.now is_number at }
     {
         if !self.stands_in(at, Class::Digit) {
             return false;
@@ -65,8 +78,8 @@ impl<'a, S: Source, const KEEP: u8> Cursor<'a, S, KEEP> {
     /// The operator of a redirection that begins with `<`; what stands behind that is at a place.
     #[tactic(auto, unfolding(shgrammar::specs::Tokens::less_at))]
     fn less(&self, at: usize) -> RedirectOperator
-        requires { at ≤ length (text_of self.now) }
-        ensures { result ≡ less_at (text_of self.now) at }
+        requires { Inside self.now at }
+        ensures { result ≡ seen self.now less_at at }
     {
         if self.stands(at, b'<') {
             if self.stands(self.behind(at), b'-') {
@@ -86,8 +99,8 @@ impl<'a, S: Source, const KEEP: u8> Cursor<'a, S, KEEP> {
     /// The same of one that begins with `>`.
     #[tactic(auto, unfolding(shgrammar::specs::Tokens::greater_at))]
     fn greater(&self, at: usize) -> RedirectOperator
-        requires { at ≤ length (text_of self.now) }
-        ensures { result ≡ greater_at (text_of self.now) at }
+        requires { Inside self.now at }
+        ensures { result ≡ seen self.now greater_at at }
     {
         if self.stands(at, b'>') {
             RedirectOperator::Append
@@ -103,10 +116,8 @@ impl<'a, S: Source, const KEEP: u8> Cursor<'a, S, KEEP> {
     /// What the word at a place is, which begins with this byte, in this position of a command.
     #[inline(always)]
     fn word_token(&self, at: usize, first: u8, position: Position) -> Token
-        requires within { at ≤ length (text_of self.now) }
-        requires still { past_continuations (text_of self.now) at ≡ at }
-        requires first { slice_get (text_of self.now) at ≡ Some first }
-        ensures { result ≡ token_in self.now.how.edition (word_by position (text_of self.now) at) }
+        requires { Still self.now at × (seen self.now slice_get at ≡ Some first) }
+        ensures { result ≡ token_in self.now.how.edition (seen self.now (word_by position) at) }
     {
         if position == Position::Suffix {
             return Token::Word;
@@ -127,8 +138,8 @@ impl<'a, S: Source, const KEEP: u8> Cursor<'a, S, KEEP> {
     #[inline(always)]
     #[tactic(auto, unfolding(shgrammar::specs::Bytes::stands))]
     fn semicolon_token(&self, at: usize) -> Token
-        requires { at ≤ length (text_of self.now) }
-        ensures { result ≡ token_in self.now.how.edition (semicolon_at (text_of self.now) at) }
+        requires { Inside self.now at }
+        ensures { result ≡ token_in self.now.how.edition (seen self.now semicolon_at at) }
     {
         match self.byte_at(at) {
             Some(b';') => Token::DoubleSemicolon,
@@ -141,10 +152,8 @@ impl<'a, S: Source, const KEEP: u8> Cursor<'a, S, KEEP> {
     #[inline(always)]
     #[tactic(auto, unfolding(shgrammar::specs::Tokens::token_at, shgrammar::specs::Tokens::is_number, shgrammar::specs::Bytes::behind, shgrammar::specs::Bytes::stands, shgrammar::specs::Bytes::stands_in, shgrammar::specs::Standing::raw_stands))]
     fn token(&self, at: usize, byte: Option<u8>, position: Position) -> Token
-        requires within { at ≤ length (text_of self.now) }
-        requires still { past_continuations (text_of self.now) at ≡ at }
-        requires byte { byte ≡ slice_get (text_of self.now) at }
-        ensures { result ≡ token_of self.now position at }
+        requires { Still self.now at × (byte ≡ seen self.now slice_get at) }
+        ensures { result ≡ token_of self.now position (on self.now at) }
     {
         match byte {
             Some(first) if begins_a_word(first) => self.word_token(at, first, position),
@@ -159,11 +168,10 @@ impl<'a, S: Source, const KEEP: u8> Cursor<'a, S, KEEP> {
     #[inline(never)]
     #[tactic(auto, unfolding(shgrammar::specs::Tokens::token_at, shgrammar::specs::Tokens::is_number, shgrammar::specs::Bytes::behind, shgrammar::specs::Bytes::stands, shgrammar::specs::Bytes::stands_in, shgrammar::specs::Standing::raw_stands))]
     fn other_token(&self, at: usize, position: Position) -> Token
-        requires within { at ≤ length (text_of self.now) }
-        requires still { past_continuations (text_of self.now) at ≡ at }
-        requires newline { raw_stands (text_of self.now) at 10 ≡ false }
-        requires semicolon { raw_stands (text_of self.now) at 59 ≡ false }
-        ensures { result ≡ token_of self.now position at }
+        requires still { Still self.now at }
+        requires newline { seen self.now raw_stands at 10 ≡ false }
+        requires semicolon { seen self.now raw_stands at 59 ≡ false }
+        ensures { result ≡ token_of self.now position (on self.now at) }
     {
         match self.raw_byte(at) {
             None => Token::End,
@@ -192,14 +200,31 @@ impl<'a, S: Source, const KEEP: u8> Cursor<'a, S, KEEP> {
     }
 
     /// To where the next token begins, and what it is in this position of a command.
-    /// Most often no continuation stands before it.
+    #[inline(always)]
+    pub(crate) fn next_token(&mut self, position: Position)
+        ensures { Looks self.old position self.new }
+    {
+        if self.at >= self.front.len() {
+            return self.next_token_behind(position);
+        }
+        self.next_token_near(position)
+    }
+
+    /// The same, where the stretch has no byte from here on.
+    #[cold]
+    #[inline(never)]
+    fn next_token_behind(&mut self, position: Position)
+        ensures { Looks self.old position self.new }
+    {
+        self.go_on();
+        self.next_token_near(position)
+    }
+
+    /// The same, in the stretch. Most often no continuation stands before the token.
     #[inline(always)]
     #[tactic(auto, using(shgrammar::proofs::Shown::shown_in, shgrammar::proofs::Shown::blanks_still, shgrammar::proofs::Unbroken::blanks_whole))]
-    pub(crate) fn next_token(&mut self, position: Position)
-        ensures next { self.new.next ≡ next_from self.old position }
-        ensures place { self.new.next_at ≡ past_blanks (text_of self.old) self.old.at }
-        ensures onward { self.old.at ≤ self.new.next_at }
-        ensures same { Stays self.old self.new }
+    fn next_token_near(&mut self, position: Position)
+        ensures { Looks self.old position self.new }
     {
         let from = self.at;
         let (at, byte) = self.raw_past_to(from, Class::Blank);
@@ -218,13 +243,9 @@ impl<'a, S: Source, const KEEP: u8> Cursor<'a, S, KEEP> {
     #[inline(never)]
     #[tactic(auto, unfolding(shgrammar::specs::Bytes::is_broken_at), using(shgrammar::proofs::Shown::shown_in, shgrammar::proofs::Shown::blanks_still))]
     fn next_token_joined(&mut self, end: usize, position: Position)
-        requires end { end ≡ raw_past is_blank (text_of self.old) self.old.at }
-        requires within { (self.old.at ≤ end) × (end ≤ length (text_of self.old)) }
-        requires joined { continues (text_of self.old) end ≡ true }
-        ensures next { self.new.next ≡ next_from self.old position }
-        ensures place { self.new.next_at ≡ past_blanks (text_of self.old) self.old.at }
-        ensures onward { self.old.at ≤ self.new.next_at }
-        ensures same { Stays self.old self.new }
+        requires end { Reaches self.old (raw_past is_blank) self.old.at end }
+        requires joined { seen self.old continues end ≡ true }
+        ensures { Looks self.old position self.new }
     {
         let at = self.past_broken_blanks(end);
         let token = self.token(at, self.raw_byte(at), position);

@@ -42,8 +42,8 @@ pub struct Told {
 }
 
 /// The line that begins at a place, read so. Of its tree that is kept where `KEEP` is [`KEPT`]
-/// (`crate::KEPT`), and nothing where it is `SEEN`. Its vectors are taken from spare ones, as far as there are
-/// any.
+/// (`crate::KEPT`), and nothing where it is `SEEN`. Its vectors are taken from spare ones, as far as there
+/// are any.
 ///
 /// A fault and want of memory are the two errors. The offset is at most the length of the source, and
 /// `origin` at most the offset.
@@ -83,7 +83,7 @@ pub fn line_at<'a, S: Source, const KEEP: u8>(
     let mut cursor = Cursor::<S, KEEP>::at_line(alloc, source, begin, how, spare);
     // It holds no here-document yet: the line's level is its own.
     let (entries, newline) = cursor.open_line(begin.blank, MOST_OPEN)?;
-    let len = cursor.at;
+    let len = cursor.begin + cursor.at;
     Ok(Told {
         entries: filled_entries(entries, cursor.documents.bodies),
         newline,

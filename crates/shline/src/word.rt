@@ -1,14 +1,15 @@
 //! Words (XCU 2.3), and how far they go: their pieces in the five modes (XCU 2.2, 2.6).
-ghost use Rattle.std.specs.Prelude.{◌≡◌, ◌≢◌, ◌+◌, ◌<◌, ◌≤◌, [], length, map, IfOk, List as Row, false};
-ghost use Rattle.shgrammar.specs.Bytes.{ends_word, past_continuations};
+ghost use Rattle.std.specs.Prelude.{◌≡◌, ◌≢◌, ◌+◌, ◌<◌, ◌≤◌, [], length, IfOk, List as Row, false};
+ghost use Rattle.shgrammar.specs.Bytes.{ends_word};
 ghost use Rattle.shgrammar.specs.Shows.{IsRead};
 ghost use Rattle.shline.specs.Pieces.{PieceShows};
-ghost use Rattle.shline.specs.Clauses.{Keeps, Moves, Onward, Passes, Reads, text_of};
+ghost use Rattle.shline.specs.Clauses.{here_of, IsHere, Keeps, Moves, on, Onward, Passes, Reads, start_of, text_of};
 ghost use Rattle.shgrammar.specs.Comments.{span};
 ghost use Rattle.shgrammar.specs.Form.{again, step_if};
 ghost use Rattle.shgrammar.specs.Pieces.{past_closer};
+ghost use Rattle.shline.specs.Rows.{view_substs};
 ghost use Rattle.shast.specs.Tree.{ASubst, substs_of, word};
-ghost use Rattle.shast.specs.View.{view_subst, view_word};
+ghost use Rattle.shast.specs.View.{view_word};
 ghost use Rattle.shgrammar.specs.Words.{a_piece, a_word, contents, having, holds_others, piece_row};
 ghost use Rattle.shgrammar.specs.Levels.{level};
 
@@ -23,10 +24,10 @@ impl<'a, S: Source, const KEEP: u8> Cursor<'a, S, KEEP> {
     /// What closes a construct of this mode, from its place on; nothing closes a word.
     #[tactic(auto, unfolding(shgrammar::specs::Bytes::behind), using(shgrammar::proofs::Stretches::place_low))]
     fn close(&mut self, mode: Mode, here: usize)
-        requires here { here ≡ past_continuations (text_of self.old) self.old.at }
-        requires one { mode ≢ Mode.Plain → here < length (text_of self.old) }
-        requires two { mode ≡ Mode.Arith → IsRead (text_of self.old) (here + 1) }
-        ensures { Moves self.old self.new (past_closer (text_of self.old) mode self.old.at) }
+        requires here { IsHere self.old here }
+        requires one { mode ≢ Mode.Plain → on self.old here < length (text_of self.old) }
+        requires two { mode ≡ Mode.Arith → IsRead (text_of self.old) (on self.old here + 1) }
+        ensures { Moves self.old self.new (past_closer (text_of self.old) mode (here_of self.old)) }
     {
         match mode {
             Mode::Plain => {}
@@ -48,9 +49,9 @@ impl<'a, S: Source, const KEEP: u8> Cursor<'a, S, KEEP> {
         substs: &mut Vec<Subst>,
         room: usize,
     ) -> Result<(), Stop>
-        requires { opener ≤ self.old.at }
-        ensures { Reads self.old ((level room).construct mode (self.old.origin + opener) (map
-            view_subst substs.old.items)) result (λ _. map view_subst substs.new.items) self.new }
+        requires { opener ≤ here_of self.old }
+        ensures { Reads self.old ((level room).construct mode (self.old.origin + opener)
+            (view_substs substs.old)) result (λ _. view_substs substs.new) self.new }
     {
         if room == 0 {
             return Err(self.wrong_at(FaultKind::TooDeep, opener));
@@ -84,22 +85,26 @@ impl<'a, S: Source, const KEEP: u8> Cursor<'a, S, KEEP> {
         nested: &mut usize,
         here: usize,
     ) -> Result<(), Stop>
-        requires closed { holds_others piece ≡ false }
-        requires here { here ≡ past_continuations (text_of self.old) self.old.at }
-        requires shows { PieceShows mode nested.old piece (text_of self.old) here }
-        requires opener { opener ≤ self.old.at }
-        requires nested { nested.old ≤ self.old.at }
+        requires closed { (holds_others piece ≡ false) × IsHere self.old here }
+        requires shows { PieceShows mode nested.old piece (text_of self.old) (on self.old here) }
+        requires before { (opener ≤ here_of self.old) × (nested.old ≤ here_of self.old) }
         ensures value { (ss : Row ASubst) → Reads self.old
             (piece_row (level 0) mode (self.old.origin + opener) (having nested.old ss) piece)
             result (λ _. again (having nested.new ss)) self.new }
-        ensures onward { IfOk result (λ _. self.old.at < self.new.at) }
-        ensures nested { IfOk result (λ _. nested.new ≤ self.new.at) }
+        ensures onward { IfOk result (λ _. here_of self.old < here_of self.new) }
+        ensures nested { IfOk result (λ _. nested.new ≤ here_of self.new) }
         ensures same { Keeps self.old self.new }
     {
         match piece {
             Piece::Missing => return Err(self.wrong_at(mode.unclosed(), opener)),
-            Piece::LoneBackslash => return Err(self.wrong_at(FaultKind::LoneBackslash, here)),
-            Piece::BadClose => return Err(self.wrong_at(FaultKind::BadArithClose, here)),
+            Piece::LoneBackslash => {
+                let place = self.begin + here;
+                return Err(self.wrong_at(FaultKind::LoneBackslash, place));
+            }
+            Piece::BadClose => {
+                let place = self.begin + here;
+                return Err(self.wrong_at(FaultKind::BadArithClose, place));
+            }
             Piece::Escape => self.at = here + 2,
             Piece::Single => self.single(here)?,
             Piece::DollarSingle => self.dollar_single(here)?,
@@ -132,15 +137,14 @@ impl<'a, S: Source, const KEEP: u8> Cursor<'a, S, KEEP> {
         substs: &mut Vec<Subst>,
         room: usize,
     ) -> Result<bool, Stop>
-        requires opener { opener ≤ self.old.at }
-        requires nested { nested.old ≤ self.old.at }
-        ensures value { Reads self.old (a_piece (level room) mode (self.old.origin + opener)
-            (having nested.old (map view_subst substs.old.items))) result (λ more. step_if more
-            (having nested.new (map view_subst substs.new.items))) self.new }
-        ensures onward { IfOk result (Onward self.old.at self.new.at) }
-        ensures nested { IfOk result (λ more. nested.new ≤ self.new.at) }
-        ensures some { mode ≡ Mode.Plain → ends_word (text_of self.old) self.old.at ≡ false → IfOk
-            result (λ more. self.old.at < self.new.at) }
+        requires before { (opener ≤ here_of self.old) × (nested.old ≤ here_of self.old) }
+        ensures value { Reads self.old (a_piece (level room) mode (self.old.origin + opener) (having
+            nested.old (view_substs substs.old))) result (λ more. step_if more (having nested.new
+            (view_substs substs.new))) self.new }
+        ensures onward { IfOk result (Onward (here_of self.old) (here_of self.new)) }
+        ensures nested { IfOk result (λ more. nested.new ≤ here_of self.new) }
+        ensures some { mode ≡ Mode.Plain → ends_word (text_of self.old) (here_of self.old) ≡ false →
+            IfOk result (λ more. here_of self.old < here_of self.new) }
     {
         // Most pieces are the last of their word.
         let at = self.at;
@@ -161,19 +165,19 @@ impl<'a, S: Source, const KEEP: u8> Cursor<'a, S, KEEP> {
         substs: &mut Vec<Subst>,
         room: usize,
     ) -> Result<bool, Stop>
-        requires opener { opener ≤ self.old.at }
-        requires nested { nested.old ≤ self.old.at }
-        ensures value { Reads self.old (a_piece (level room) mode (self.old.origin + opener)
-            (having nested.old (map view_subst substs.old.items))) result (λ more. step_if more
-            (having nested.new (map view_subst substs.new.items))) self.new }
-        ensures onward { IfOk result (Onward self.old.at self.new.at) }
-        ensures nested { IfOk result (λ more. nested.new ≤ self.new.at) }
-        ensures some { mode ≡ Mode.Plain → ends_word (text_of self.old) self.old.at ≡ false → IfOk
-            result (λ more. self.old.at < self.new.at) }
+        requires before { (opener ≤ here_of self.old) × (nested.old ≤ here_of self.old) }
+        ensures value { Reads self.old (a_piece (level room) mode (self.old.origin + opener) (having
+            nested.old (view_substs substs.old))) result (λ more. step_if more (having nested.new
+            (view_substs substs.new))) self.new }
+        ensures onward { IfOk result (Onward (here_of self.old) (here_of self.new)) }
+        ensures nested { IfOk result (λ more. nested.new ≤ here_of self.new) }
+        ensures some { mode ≡ Mode.Plain → ends_word (text_of self.old) (here_of self.old) ≡ false →
+            IfOk result (λ more. here_of self.old < here_of self.new) }
     {
         let at = self.at;
         let here = self.place(at);
         let piece = self.piece(mode, *nested, here);
+        let place = self.begin + here;
         match piece {
             Piece::Closer => {
                 self.close(mode, here);
@@ -181,21 +185,21 @@ impl<'a, S: Source, const KEEP: u8> Cursor<'a, S, KEEP> {
             }
             Piece::Double => {
                 self.at = here + 1;
-                self.construct(Mode::Double, here, substs, room)?;
+                self.construct(Mode::Double, place, substs, room)?;
             }
             Piece::Subst => {
                 self.at = self.behind(here + 1);
-                self.substitution(here, substs, room)?;
+                self.substitution(place, substs, room)?;
             }
             Piece::Arith => {
                 self.at = self.behind(self.behind(here + 1));
-                self.construct(Mode::Arith, here, substs, room)?;
+                self.construct(Mode::Arith, place, substs, room)?;
             }
             Piece::Param => {
                 self.at = self.behind(here + 1);
                 self.parameter();
                 let rest = self.rest_mode(mode);
-                self.construct(rest, here, substs, room)?;
+                self.construct(rest, place, substs, room)?;
             }
             _ => self.closed_piece(piece, mode, opener, nested, here)?,
         }
@@ -212,11 +216,11 @@ impl<'a, S: Source, const KEEP: u8> Cursor<'a, S, KEEP> {
         substs: &mut Vec<Subst>,
         room: usize,
     ) -> Result<(), Stop>
-        requires { opener ≤ self.old.at }
-        ensures value { Reads self.old (contents (level room) mode (self.old.origin + opener) (map
-            view_subst substs.old.items)) result (λ _. map view_subst substs.new.items) self.new }
-        ensures some { mode ≡ Mode.Plain → ends_word (text_of self.old) self.old.at ≡ false → IfOk
-            result (λ _. self.old.at < self.new.at) }
+        requires { opener ≤ here_of self.old }
+        ensures value { Reads self.old (contents (level room) mode (self.old.origin + opener)
+            (view_substs substs.old)) result (λ _. view_substs substs.new) self.new }
+        ensures some { mode ≡ Mode.Plain → ends_word (text_of self.old) (here_of self.old) ≡ false →
+            IfOk result (λ _. here_of self.old < here_of self.new) }
     {
         let mut nested = 0;
         'pieces: while self.take_piece(mode, opener, &mut nested, substs, room)? {
@@ -230,15 +234,15 @@ impl<'a, S: Source, const KEEP: u8> Cursor<'a, S, KEEP> {
     #[inline(always)]
     #[tactic(auto, using(shgrammar::proofs::PlainBytes::plain_word, shgrammar::proofs::PlainBytes::word_rest, crate::proofs::Stops::word_stops, shgrammar::proofs::PlainBytes::some_plain))]
     pub(crate) fn pass_word(&mut self, substs: &mut Vec<Subst>, room: usize) -> Result<(), Stop>
-        requires word { ends_word (text_of self.old) self.old.next_at ≡ false }
+        requires word { ends_word (text_of self.old) (start_of self.old) ≡ false }
         requires none { substs.old.items ≡ [] }
-        ensures value { Passes self.old (a_word (level room)) result (λ _. word
-            (span self.old.origin self.old.next_at self.new.at)
-            (substs_of (map view_subst substs.new.items))) self.new }
-        ensures onward { IfOk result (λ _. self.old.next_at < self.new.at) }
+        ensures value { Passes self.old (a_word (level room)) result (λ _. word (span
+            self.old.origin (start_of self.old) (here_of self.new)) (substs_of (view_substs
+            substs.new))) self.new }
+        ensures onward { IfOk result (λ _. start_of self.old < here_of self.new) }
     {
-        let start = self.next_at;
-        self.at = start;
+        let start = self.start();
+        self.at = self.next_at;
         self.skip_plain(Mode::Plain);
         let at = self.at;
         if !self.ends_at(at) {
@@ -247,11 +251,11 @@ impl<'a, S: Source, const KEEP: u8> Cursor<'a, S, KEEP> {
         Ok(())
     }
 
-    /// The word from a place to this one, with these substitutions.
+    /// The word from a place of the text to here, with these substitutions.
     pub(crate) fn word_from(&self, start: usize, substs: Vec<Subst>) -> Word
-        requires { start ≤ self.now.at }
-        ensures { view_word result ≡ word (span self.now.origin start self.now.at)
-            (substs_of (map view_subst substs.items)) }
+        requires { start ≤ here_of self.now }
+        ensures { view_word result ≡ word (span self.now.origin start (here_of self.now)) (substs_of
+            (view_substs substs)) }
     {
         word_of(self.span_from(start), substs)
     }

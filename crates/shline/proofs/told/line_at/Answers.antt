@@ -1,7 +1,7 @@
 use Rattle.std.proofs.Common.{◌≡◌, ◌∙◌, Ok, List as Row, drop, map, ap, sym}
 use Rattle.shast.specs.Tree.{AnEntry}
 use Rattle.shast.specs.View.{view_entry}
-use Rattle.shline.specs.Clauses.{kept, at_place}
+use Rattle.shline.specs.Clauses.{at_place, here_of, kept}
 use Rattle.shgrammar.specs.Form.{does}
 use Rattle.shgrammar.specs.Levels.{level, most_open}
 use Rattle.shgrammar.specs.Lines.{an_open_line}
@@ -45,7 +45,7 @@ returns-clause-newline g c =
     let same = c.in_ok-entries.ensures.value.2 in
     let ended = rw (at_line.0, at_line.1) at c.in_ok-entries.ensures.end in
     let inside = rw (same.0, same.1, at_line.0, at_line.1) at c.open_line.new.self.inside in
-    newline_there (g.S.Source.bytes c.args.source.now) c.args.begin.at c.open_line.new.self.at c.in_ok-entries.newline c.requires.0 inside ended
+    newline_there (g.S.Source.bytes c.args.source.now) c.args.begin.at (here_of c.open_line.new.self) c.in_ok-entries.newline c.requires.0 inside ended
 
 pub returns-clause-whole : goal.returns-clause-whole
 returns-clause-whole g c =
@@ -53,4 +53,4 @@ returns-clause-whole g c =
     let same = c.in_ok-entries.ensures.value.2 in
     let ended = rw (at_line.0, at_line.1) at c.in_ok-entries.ensures.end in
     let inside = rw (same.0, same.1, at_line.0, at_line.1) at c.open_line.new.self.inside in
-    whole_there (g.S.Source.bytes c.args.source.now) c.args.begin.at c.open_line.new.self.at c.in_ok-entries.newline c.requires.0 inside ended
+    whole_there (g.S.Source.bytes c.args.source.now) c.args.begin.at (here_of c.open_line.new.self) c.in_ok-entries.newline c.requires.0 inside ended

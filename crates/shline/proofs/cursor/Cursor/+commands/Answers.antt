@@ -1,10 +1,10 @@
-use Rattle.std.proofs.Common.{rules, ◌≡◌, ℕ, ◌<◌, ◌≤◌, ◌+◌, ◌-◌, ◌∙◌, Ok, Some, List as Row, length, map, ap, sym, arith}
+use Rattle.std.proofs.Common.{rules, ◌≡◌, ℕ, ◌<◌, ◌≤◌, ◌+◌, ◌-◌, ◌∙◌, Ok, Some, List as Row, length, map, ap, sym, arith, true, false, refl}
 use Rattle.shgrammar.specs.declared.mode.Piece.TheVariants as pieces
 use Rattle.shgrammar.specs.Bytes.{past_continuations}
 use Rattle.shline.specs.InHand.{InHand}
-use Rattle.shline.specs.Clauses.{at_place, keep_of, standing_with, text_of, view_waiting}
+use Rattle.shline.specs.Clauses.{at_place, at_token, here_of, keep_of, on, standing_with, start_of, text_of, view_waiting}
 use Rattle.shgrammar.specs.Comments.{span}
-use Rattle.shgrammar.specs.Form.{does, grows, pushed}
+use Rattle.shgrammar.specs.Form.{does, done, grows, pushed}
 use Rattle.shgrammar.specs.HereDocuments.{outer_level, own_level}
 use Rattle.shgrammar.specs.Pieces.{piece_at, piece_in}
 use Rattle.shgrammar.specs.Plain.{ArePlain}
@@ -18,7 +18,13 @@ use Rattle.shast.specs.Tree.{ASubst, subst}
 use Rattle.shast.specs.View.{view_list, view_subst}
 use Rattle.shgrammar.proofs.Levels.{substitution_read}
 use Rattle.shgrammar.proofs.PlainBytes.{ordinary_here, piece_and_plain}
-use Rattle.shgrammar.specs.Commands.{redirect_operator_of}
+use Rattle.shgrammar.specs.Commands.{begins_redirect, redirect_operator_of, redirect_turn, so_many}
+use Rattle.shgrammar.specs.Compounds.{case_turn, is_closing}
+use Rattle.shgrammar.specs.declared.token.Closing.TheVariants.{Esac}
+use Rattle.shgrammar.specs.declared.token.Position.TheVariants.{Command as AsCommand}
+use Rattle.shgrammar.proofs.Turns.{many_done}
+use Rattle.shline.specs.Listed.{view_cases}
+use Rattle.shline.specs.Rows.{view_items}
 use Rattle.shline.proofs.Wanted.{here_wants}
 use Rattle.shline.proofs.cursor.Cursor.+commands.Goals as goal
 
@@ -30,21 +36,21 @@ contents-pieces-preserved g t c =
     let was = inv.0.2 in
     let same = told.value.2 in
     let text = text_of c.args.self.now in
-    let piece = rw (was.0, was.1, was.2, was.3, c.if-branch.true, ← rest.same.1) at told.value.0 in
+    let piece = rw (was.0, was.1, was.2, was.3, c.if-branch.true, ← rest.3.1) at told.value.0 in
     let before = c.pieces.self.documents in
     let behind = c.skip_plain.new.self.documents in
-    let onward : c.pieces.self.at < c.take_piece.new.self.at = rw c.if-branch.true at told.onward in
-    let plain = rw (same.0, same.1, was.0, was.1) at rest.plain in
-    let within = rw (same.0, same.1, was.0, was.1) at rest.within in (
+    let onward : here_of c.pieces.self < here_of c.take_piece.new.self = rw c.if-branch.true at told.onward in
+    let plain = rw (same.0, same.1, was.0, was.1) at rest.0 in
+    let within = rw (same.0, same.1, was.0, was.1) at rest.2 in (
       (
         piece_and_plain (level c.args.room) (keep_of c.args.self.now) (given c.args.self.now.how.edition text c.args.self.now.origin) c.args.mode (c.args.self.now.origin + c.args.opener)
-            (map view_waiting behind.waiting.items) behind.bodies.items (having c.pieces.nested (map view_subst c.pieces.substs.items)) (having c.take_piece.new.nested (map view_subst c.take_piece.new.substs.items)) (map view_waiting before.waiting.items) before.bodies.items c.pieces.self.at c.take_piece.new.self.at c.skip_plain.new.self.at _
-            inv.0.0 piece onward (omega (arith, rest.onward, within)) plain rest.onward within,
-        omega (arith, inv.0.1, onward, rest.onward),
-        (rest.same.0.0 ∙ same.0 ∙ was.0, rest.same.0.1 ∙ same.1 ∙ was.1, rest.same.0.2 ∙ same.2 ∙ was.2, rest.same.0.3 ∙ same.3 ∙ was.3),
+            (map view_waiting behind.waiting.items) behind.bodies.items (having c.pieces.nested (map view_subst c.pieces.substs.items)) (having c.take_piece.new.nested (map view_subst c.take_piece.new.substs.items)) (map view_waiting before.waiting.items) before.bodies.items (here_of c.pieces.self) (here_of c.take_piece.new.self) (here_of c.skip_plain.new.self) _
+            inv.0.0 piece onward (omega (arith, rest.1, within)) plain rest.1 within,
+        omega (arith, inv.0.1, onward, rest.1),
+        (rest.3.0.0 ∙ same.0 ∙ was.0, rest.3.0.1 ∙ same.1 ∙ was.1, rest.3.0.2 ∙ same.2 ∙ was.2, rest.3.0.3 ∙ same.3 ∙ was.3),
       ),
-      omega (arith, told.nested, rest.onward),
-      omega (arith, inv.2, onward, rest.onward),
+      omega (arith, told.nested, rest.1),
+      omega (arith, inv.2, onward, rest.1),
     )
 
 -- the substitution that was read, as one more
@@ -65,14 +71,14 @@ one_substitution-returns-in-Ok g t c =
     let read = substitution_read keep here (at_place start) (level c.args.room) c.args.opener ss list inner stands in
     let origin : after.origin ≡ start.origin = shut.same.2 ∙ same.2 ∙ own.same.2 in
     let bodies : c.close_level-bodies.result.items ≡ inner.bodies = shut.bodies in
-    let place : after.at ≡ inner.at = shut.place in
+    let place : here_of after ≡ inner.at = shut.place in
     let made =
     rw (shut.same.3, same.3, own.same.3) at c.in_ok-add_subst-in-Ok.ensures.value
-    ∙ ap (λ (bs : Row Span). pushed (grows keep) ss (subst (filled bs list) (span after.origin c.args.opener after.at))) bodies
-    ∙ ap (λ (o : ℕ). pushed (grows keep) ss (subst (filled inner.bodies list) (span o c.args.opener after.at))) origin
+    ∙ ap (λ (bs : Row Span). pushed (grows keep) ss (subst (filled bs list) (span after.origin c.args.opener (here_of after)))) bodies
+    ∙ ap (λ (o : ℕ). pushed (grows keep) ss (subst (filled inner.bodies list) (span o c.args.opener (here_of after)))) origin
     ∙ ap (λ (p : ℕ). pushed (grows keep) ss (subst (filled inner.bodies list) (span start.origin c.args.opener p))) place in
     let state : at_place after ≡ outer_level (at_place start) inner =
-    ap (λ d. standing_with d after.at) (shut.outer ∙ own.outer) ∙ ap (standing_with start.documents) place in (
+    ap (λ d. standing_with d (here_of after)) (shut.outer ∙ own.outer) ∙ ap (standing_with start.documents) place in (
       read ∙ ap (λ (u : State). Ok (pushed (grows keep) ss (subst (filled inner.bodies list) (span start.origin c.args.opener inner.at)), u)) (sym state) ∙ ap (λ (zs : Row ASubst). Ok (zs, at_place after)) (sym made),
       search rules,
       search rules,
@@ -87,23 +93,24 @@ construct-ordinary-preserved g t c =
     let old = c.ordinary.self in
     let new = c.skip_plain-in-Ordinary.new.self in
     let rest = c.skip_plain-in-Ordinary.ensures in
-    let inside = c.place-here.ensures.inside in
+    let inside = c.place-here.ensures.1 in
     let text = text_of start in
-    let here : c.place-here.result ≡ past_continuations text old.at = rw (was.0, was.1) at c.place-here.ensures.value in
-    let told : c.piece.result ≡ piece_in start.how.edition c.args.mode (piece_at text c.args.mode 0 old.at) = rw (was.0, was.1, was.3) at c.piece.ensures.value in
+    let here : on old c.place-here.result ≡ past_continuations text (here_of old) = rw (was.0, was.1) at c.place-here.ensures.0 in
+    let told : c.piece.result ≡ piece_in start.how.edition c.args.mode (piece_at text c.args.mode 0 (here_of old)) = rw (was.0, was.1, was.3) at c.piece.ensures.value in
     let is : c.piece.result ≡ pieces.Ordinary = c.in-Ordinary.is in
-    let plain : ArePlain c.args.mode text (past_continuations text old.at + 1) new.at = rw (was.0, was.1, here) at rest.plain in
-    let low : past_continuations text old.at + 1 ≤ new.at = omega (arith, here, rest.onward) in
-    let high : new.at ≤ length text = rw (was.0, was.1) at rest.within in
+    let step : on old (c.place-here.result + 1) ≡ past_continuations text (here_of old) + 1 = omega (arith, here) in
+    let plain : ArePlain c.args.mode text (past_continuations text (here_of old) + 1) (here_of new) = rw (was.0, was.1, step) at rest.0 in
+    let low : past_continuations text (here_of old) + 1 ≤ here_of new = omega (arith, here, rest.1) in
+    let high : here_of new ≤ length text = rw (was.0, was.1) at rest.2 in
     let on =
     ordinary_here start.how.edition (level (c.args.room - 1)) (keep_of start) (map view_waiting old.documents.waiting.items) old.documents.bodies.items text start.origin c.args.mode (start.origin + c.args.opener)
-    (map view_subst c.ordinary.substs.items) old.at new.at (sym told ∙ is) plain low high in (
+    (map view_subst c.ordinary.substs.items) (here_of old) (here_of new) (sym told ∙ is) plain low high in (
       (
-        rw rest.same.1 (sym on ∙ inv.0.0),
-        omega (arith, inv.0.1, inside.0, rest.onward),
-        (rest.same.0.0 ∙ was.0, rest.same.0.1 ∙ was.1, rest.same.0.2 ∙ was.2, rest.same.0.3 ∙ was.3),
+        rw rest.3.1 (sym on ∙ inv.0.0),
+        omega (arith, inv.0.1, inside.0, rest.1),
+        (rest.3.0.0 ∙ was.0, rest.3.0.1 ∙ was.1, rest.3.0.2 ∙ was.2, rest.3.0.3 ∙ was.3),
       ),
-      omega (arith, inv.1, inside.0, rest.onward),
+      omega (arith, inv.1, inside.0, rest.1),
       inv.2,
     )
 
@@ -120,10 +127,31 @@ redirect-document-requires g t c =
     let is : redirect_operator_of before.next.token ≡ Some c.in-Some.operator = sym c.redirect_operator.ensures ∙ c.in-Some.is in (
       omega (arith),
       (
-        target.place.0,
-        (
-          rw (behind.0, behind.1, behind.2) operator.start,
-          λ takes. rw (behind.0, behind.1, same.0, same.1) (here_wants g.row.KEEP (text_of before) before.next.token before.next_at c.in-Some.operator before.shows is takes),
-        ),
+        (target.place.0, rw (behind.0, behind.1, behind.2) operator.start),
+        λ takes. rw (behind.0, behind.1, same.0, same.1) (here_wants g.row.KEEP (text_of before) before.next.token (start_of before) c.in-Some.operator before.shows is takes),
       ),
     )
+
+-- no redirection follows
+pub redirects-returns : goal.redirects-returns
+unfolding redirect_turn
+redirects-returns g t c =
+    let start = c.args.self.now in
+    let here = given start.how.edition (text_of start) start.origin in
+    let self = c.turns.self in
+    let all = so_many (view_items c.turns.redirects) AsCommand self.next in
+    let stops : begins_redirect self.next.token ≡ false = sym c.begins_redirect.ensures ∙ c.turns-test.false in
+    let one : does (redirect_turn (level c.args.room) all) (keep_of start) here (at_token self) ≡ Ok (done all, at_token self) = rw stops refl in
+    (sym c.turns.invariant.0 ∙ many_done (redirect_turn (level c.args.room)) (keep_of start) here all all (at_token self) (at_token self) one, search rules, search rules)
+
+-- nor an item of a `case`
+pub cases-returns : goal.cases-returns
+unfolding case_turn
+cases-returns g t c =
+    let start = c.args.self.now in
+    let here = given start.how.edition (text_of start) start.origin in
+    let self = c.turns.self in
+    let all = view_cases c.turns.cases self.next in
+    let stops : is_closing Esac self.next.token ≡ true = sym c.is_closing.ensures.value ∙ c.turns-test.false in
+    let one : does (case_turn (level c.args.room) all) (keep_of start) here (at_token self) ≡ Ok (done all, at_token self) = rw stops refl in
+    (sym c.turns.invariant.0 ∙ many_done (case_turn (level c.args.room)) (keep_of start) here all all (at_token self) (at_token self) one, search rules, search rules)

@@ -1,7 +1,7 @@
 use Rattle.std.proofs.Common.{◌≡◌, ℕ, ◌-◌, ◌∙◌, true, ap}
 use Rattle.shgrammar.specs.Bytes.{behind}
 use Rattle.shline.specs.InHand.{InHand}
-use Rattle.shline.specs.Clauses.{keep_of, at_place, text_of}
+use Rattle.shline.specs.Clauses.{at_place, here_of, keep_of, start_of, text_of}
 use Rattle.shgrammar.specs.Sights.{given}
 use Rattle.shgrammar.specs.Standing.{raw_stands}
 use Rattle.shgrammar.proofs.BodiesThere.{ends_line}
@@ -16,7 +16,7 @@ returns-in_ok-bodies_here-in-Newline-clause-end g c =
     let moved = c.step.ensures in
     let same = moved.2.0 in
     let read = rw (same.0, same.1, same.2, same.3) at c.in_ok-bodies_here-in-Newline.ensures.0 in
-    let is : c.step.new.self.at ≡ behind text start.next_at = moved.0 in
-    let newline : raw_stands text (c.step.new.self.at - 1) 10 ≡ true =
-    ap (λ (q : ℕ). raw_stands text (q - 1) 10) is ∙ ap (λ (q : ℕ). raw_stands text q 10) (behind_back text start.next_at ∙ start.shows.6) ∙ start.shows.2 c.in-Newline.is in
+    let is : here_of c.step.new.self ≡ behind text (start_of start) = moved.0 in
+    let newline : raw_stands text (here_of c.step.new.self - 1) 10 ≡ true =
+    ap (λ (q : ℕ). raw_stands text (q - 1) 10) is ∙ ap (λ (q : ℕ). raw_stands text q 10) (behind_back text (start_of start) ∙ start.shows.6) ∙ start.shows.2 c.in-Newline.is in
     ends_line (keep_of start) (given start.how.edition text start.origin) (at_place c.step.new.self) (at_place c.bodies_here.new.self) read newline

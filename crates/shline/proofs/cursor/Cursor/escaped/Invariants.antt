@@ -1,5 +1,5 @@
 use Rattle.std.proofs.Common.{◌+◌, ◌-◌, length}
-use Rattle.shline.specs.Clauses.{Rests, at_place, text_of}
+use Rattle.shline.specs.Clauses.{at_place, here_of, Rests, text_of}
 use Rattle.shgrammar.specs.Form.{many}
 use Rattle.shgrammar.specs.Words.{escaped_turn}
 use Rattle.shline.proofs.cursor.Cursor.escaped.Given as goal
@@ -10,4 +10,4 @@ invariant-turns g l =
     Rests l.fn.self all (at_place l.fn.self) all (at_place l.self) l.self
 
 abbrev pub decreases-turns : goal.decreases-turns
-decreases-turns g l = length (text_of l.self) - l.self.at
+decreases-turns g l = length (text_of l.self) - here_of l.self

@@ -1,5 +1,5 @@
 use Rattle.std.proofs.Common.{◌-◌, length}
-use Rattle.shline.specs.Clauses.{GrowsNone, Rests, at_token, text_of}
+use Rattle.shline.specs.Clauses.{at_token, GrowsNone, Rests, start_of, text_of}
 use Rattle.shgrammar.specs.Commands.{join_so, join_turn}
 use Rattle.shgrammar.specs.Form.{many}
 use Rattle.shast.specs.View.{view_join}
@@ -11,4 +11,4 @@ invariant-turns g l =
     × GrowsNone g.row.KEEP l.fn.join l.join
 
 abbrev pub decreases-turns : goal.decreases-turns
-decreases-turns g l = length (text_of l.self) - l.self.next_at
+decreases-turns g l = length (text_of l.self) - start_of l.self

@@ -1,11 +1,11 @@
-use Rattle.std.proofs.Common.{◌≡◌, ℕ, true, List, sym, refl, ap, ◌∙◌, arith}
+use Rattle.std.proofs.Common.{rules, ◌≡◌, ℕ, true, List, sym, refl, ap, ◌∙◌, arith}
 use Rattle.shgrammar.specs.Bytes.{is_broken_at, past_blanks}
 use Rattle.shgrammar.specs.Classes.{is_blank}
 use Rattle.shgrammar.specs.Standing.{continues, raw_in, raw_past}
 use Rattle.shgrammar.proofs.Shown.{shown_in}
 use Rattle.shgrammar.proofs.Unbroken.{blanks_on, blanks_stop_raw}
 use Rattle.shline.specs.InHand.{InHand}
-use Rattle.shline.specs.Clauses.{text_of}
+use Rattle.shline.specs.Clauses.{here_of, on, text_of}
 use Rattle.shline.proofs.cursor.Cursor.next_token_joined.Goals as goal
 
 -- a continuation ends the first blanks: the token stands behind what follows it
@@ -17,21 +17,20 @@ joined T p e is here = (ap (past_blanks T) is ∙ sym (blanks_on T p), ap (conti
 pub past_broken_blanks-at-requires : goal.past_broken_blanks-at-requires
 past_broken_blanks-at-requires g c =
     let T = text_of c.args.self.now in
-    (omega arith, (c.requires.within.1, ap (raw_in is_blank T) c.requires.end ∙ blanks_stop_raw T c.args.self.now.at))
+    (omega arith, (c.requires.end.1.1, ap (raw_in is_blank T) c.requires.end.0 ∙ blanks_stop_raw T (here_of c.args.self.now)))
 
-pub returns-clause-next : goal.returns-clause-next
-returns-clause-next g c =
-    let blanks = joined (text_of c.args.self.now) c.args.self.now.at c.args.end c.requires.end c.requires.joined in
-    rw (c.token-token.ensures, c.past_broken_blanks-at.ensures.place, blanks.0, blanks.1) refl
-
-pub returns-clause-place : goal.returns-clause-place
-returns-clause-place g c =
-    let blanks = joined (text_of c.args.self.now) c.args.self.now.at c.args.end c.requires.end c.requires.joined in
-    c.past_broken_blanks-at.ensures.place ∙ blanks.0
+pub returns : goal.returns
+returns g c =
+    let blanks = joined (text_of c.args.self.now) (here_of c.args.self.now) (on c.args.self.now c.args.end) c.requires.end.0 c.requires.joined in (
+      rw (c.token-token.ensures, c.past_broken_blanks-at.ensures.0, blanks.0, blanks.1) refl,
+      c.past_broken_blanks-at.ensures.0 ∙ blanks.0,
+      omega (arith, c.requires.end.1, c.past_broken_blanks-at.ensures.1),
+      search rules,
+    )
 
 pub invariant_of-self-clause-shows : goal.invariant_of-self-clause-shows
 unfolding InHand
 invariant_of-self-clause-shows g c =
     let T = text_of c.args.self.now in
-    let blanks = joined T c.args.self.now.at c.args.end c.requires.end c.requires.joined in
-    rw (c.token-token.ensures, c.past_broken_blanks-at.ensures.place, blanks.0) (shown_in c.args.self.now.how.edition c.args.position T c.args.self.now.at)
+    let blanks = joined T (here_of c.args.self.now) (on c.args.self.now c.args.end) c.requires.end.0 c.requires.joined in
+    rw (c.token-token.ensures, c.past_broken_blanks-at.ensures.0, blanks.0) (shown_in c.args.self.now.how.edition c.args.position T (here_of c.args.self.now))

@@ -1,6 +1,6 @@
 use Rattle.std.proofs.Common.{◌+◌, ◌∙◌, drop, map, sym, ap}
 use Rattle.std.proofs.lemmas.Result.{err_from_is_err_and}
-use Rattle.shline.specs.Clauses.{text_of, view_waiting}
+use Rattle.shline.specs.Clauses.{on, text_of, view_waiting}
 use Rattle.shgrammar.specs.HereDocuments.{bodies_from}
 use Rattle.shgrammar.specs.Sights.{given}
 use Rattle.shline.proofs.Wanted.{waits_memory}
@@ -12,7 +12,7 @@ returns-clause-read g c =
     let here = given c.args.self.now.how.edition text c.args.self.now.origin in
     let rest = drop (c.args.index + 1) (map view_waiting c.args.self.now.documents.waiting.items) in
     c.in_ok-found.ensures.read c.args.self.now.documents.bodies.items
-    ∙ ap (λ bs. bodies_from here rest bs (c.in_ok-found.found.1)) (sym c.in_ok-push.ensures.items)
+    ∙ ap (λ bs. bodies_from here rest bs (on c.args.self.now c.in_ok-found.found.1)) (sym c.in_ok-push.ensures.items)
 
 pub returns-in_err-push-clause-read : goal.returns-in_err-push-clause-read
 returns-in_err-push-clause-read g c =
