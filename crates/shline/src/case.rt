@@ -2,7 +2,7 @@
 ghost use Rattle.std.specs.Prelude.{◌≡◌, ◌<◌, [], false, IfOk};
 ghost use Rattle.shgrammar.specs.Bytes.{behind, ends_word};
 ghost use Rattle.shgrammar.specs.Shows.{IsRead};
-ghost use Rattle.shline.specs.Clauses.{Adds, Finds, start_of, Takes, text_of, Turns, IsLong};
+ghost use Rattle.shline.specs.Clauses.{Adds, Finds, IsLong, start_of, Takes, text_of, Turns};
 ghost use Rattle.shgrammar.specs.Commands.{falls_through};
 ghost use Rattle.shgrammar.specs.Compounds.{a_case, a_case_head, a_case_word, an_ender, a_pattern, a_pattern_list, an_item_end, an_open_bracket, body_end, case_turn, item_end, one_case, one_pattern, pattern_turn, patterned, closed};
 ghost use Rattle.shgrammar.specs.Form.{many};
