@@ -1,5 +1,6 @@
 -- Words for the clauses of the code: what a function of the reader answers, and what it leaves as it was.
-use Rattle.std.specs.Prelude.{◌≡◌, ◌⊎◌, ℕ, ◌+◌, ◌-◌, ◌<◌, ◌≤◌, ◌==◌, Bool, true, false, List, List as Row, [], length, drop, map, Result, Ok, Err, if◌then◌else◌}
+use Rattle.std.specs.Prelude.{◌≡◌, ◌⊎◌, ℕ, ◌+◌, ◌-◌, ◌<◌, ◌≤◌, ◌==◌, Bool, true, false, List, List as Row, [], length, drop, map, Result, Ok, Err, Vec, if◌then◌else◌}
+use Rattle.std.specs.Global.{Global}
 use Rattle.shline.specs.declared.cursor.Cursor.{Cursor}
 use Rattle.shline.specs.Limits.{Limits, limits}
 use Rattle.shline.specs.declared.documents.Documents as the_documents
@@ -10,18 +11,23 @@ use Rattle.shgrammar.specs.declared.keep.Keep.TheVariants.{Nothing}
 use Rattle.shast.specs.declared.tree.Span.{Span}
 use Rattle.shast.specs.declared.tree.Command.{Command}
 use Rattle.shast.specs.declared.tree.Join.{Join}
-use Rattle.shast.specs.Tree.{ACommand, compound}
-use Rattle.shast.specs.View.{view_command, view_join}
+use Rattle.shast.specs.declared.tree.Subst.{Subst}
+use Rattle.shast.specs.Tree.{ACommand, AWord, AnEntry, compound, substs_of, word}
+use Rattle.shast.specs.View.{view_command, view_entry, view_join}
+use Rattle.shline.specs.Rows.{view_substs}
+use Rattle.shline.specs.declared.told.Told.{Told}
 use Rattle.shline.specs.declared.stop.Stop.{Stop}
 use Rattle.shline.specs.declared.stop.Stop.TheVariants.{Memory, Wrong}
 use Rattle.shgrammar.specs.declared.token.Next.{Next}
 use Rattle.shgrammar.specs.declared.token.Position.{Position}
 use Rattle.shgrammar.specs.declared.token.Token.{Token}
 use Rattle.shgrammar.specs.Tokens.{next_at, next_in, token_at, token_in}
-use Rattle.shgrammar.specs.Sights.{Given, State, Waiting, given}
-use Rattle.shgrammar.specs.Bytes.{behind, past_blanks, past_continuations}
+use Rattle.shgrammar.specs.Comments.{span}
+use Rattle.shgrammar.specs.Sights.{Given, State, Waiting, given, standing}
+use Rattle.shgrammar.specs.Bytes.{behind, ends_word, past_blanks, past_continuations}
 use Rattle.shgrammar.specs.Shows.{IsRead}
 use Rattle.shgrammar.specs.declared.mode.Mode.{Mode}
+use Rattle.shgrammar.specs.declared.mode.Mode.TheVariants.{Plain}
 use Rattle.shgrammar.specs.Form.{Form, Read, Step, again, does, raw, step_if}
 use Rattle.shgrammar.specs.Plain.{ArePlain}
 use Rattle.shgrammar.specs.HereDocuments.{bodies_from, rest_of_line}
@@ -116,6 +122,10 @@ view_waiting w = record { operator = w.operator; delimiter = w.delimiter.items; 
 abbrev pub standing_with : the_documents.Documents → ℕ → State
 standing_with documents p = record { at = p; waiting = map view_waiting documents.waiting.items; bodies = documents.bodies.items }
 
+-- the word from a place of the text to where the reading stands, with these substitutions
+abbrev pub word_to : {S : Type 0} {k : ℕ} {g : _} → ℕ → ℕ → Cursor S k g → Vec Subst Global → AWord
+word_to origin start cursor substs = word (span origin start (here_of cursor)) (substs_of (view_substs substs))
+
 -- where it stands between tokens
 abbrev pub at_place : {S : Type 0} {k : ℕ} {g : _} → Cursor S k g → State
 at_place cursor = standing_with cursor.documents (here_of cursor)
@@ -153,6 +163,10 @@ Looks old position new = (new.next ≡ next_from old position) × (start_of new 
 -- bytes that are ordinary in a mode were passed
 abbrev pub Skips : {S : Type 0} {k : ℕ} {g : _} → Cursor S k g → Mode → Cursor S k g → Type 0
 Skips old mode new = ArePlain mode (text_of old) (here_of old) (here_of new) × (here_of old ≤ here_of new) × (here_of new ≤ length (text_of old)) × Stays old new
+
+-- Something was read where a word does not end.
+abbrev pub SomeRead : {S : Type 0} {k : ℕ} {g : _} → Cursor S k g → Mode → Cursor S k g → Type 0
+SomeRead old mode new = mode ≡ Plain → ends_word (text_of old) (here_of old) ≡ false → here_of old < here_of new
 
 -- a turn that goes on moves to the right
 abbrev pub Onward : ℕ → ℕ → Bool → Type 0
@@ -223,6 +237,10 @@ Rests old form s rest t new = (reads old rest t ≡ reads old form s) × (s.at �
 abbrev pub Ended : List ℕ → ℕ → Bool → Type 0
 Ended T q true = (raw_stands T (q - 1) 10 ≡ true) ⊎ (at_end T q ≡ true)
 Ended T q false = at_end T q ≡ true
+
+-- what was told of a line, in the definitions
+abbrev pub view_told : Told → (Row AnEntry × Bool) × State
+view_told told = ((map view_entry told.entries.items, told.newline), standing told.len)
 
 -- ---- what is read into
 

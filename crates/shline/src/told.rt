@@ -1,9 +1,8 @@
 //! What is told of one line of a source (XCU 2.10.2).
 ghost use Rattle.std.specs.Prelude.{◌≡◌, ◌⊎◌, ◌+◌, ◌-◌, ◌^◌, ◌<◌, ◌≤◌, ℕ, drop, false, length, map, true, IfOk};
-ghost use Rattle.shline.specs.Clauses.{Gives, kept, Onward};
+ghost use Rattle.shline.specs.Clauses.{Gives, kept, Onward, view_told};
 ghost use Rattle.shline.specs.Limits.{limits};
 ghost use Rattle.shgrammar.specs.Scripts.{line_told};
-ghost use Rattle.shgrammar.specs.Sights.{standing};
 ghost use Rattle.shgrammar.specs.Standing.{raw_stands};
 ghost use Rattle.shast.specs.Nodes.{AreWithin};
 ghost use Rattle.shast.specs.Tree.{entries_of};
@@ -31,7 +30,7 @@ pub struct Begin {
 }
 
 /// What was read of a line that has no fault.
-#[derive(Drop)]
+#[derive(Debug, Drop)]
 pub struct Told {
     /// Its entries, with spans that count from `origin` of [`line_at`].
     pub entries: Vec<Entry>,
@@ -56,9 +55,9 @@ pub fn line_at<'a, S: Source, const KEEP: u8>(
     spare: Option<&'a mut Spare>,
 ) -> Result<Told, Stop>
     requires { (begin.at ≤ length (S.bytes source.now)) × (begin.origin ≤ begin.at) }
-    ensures value { Gives (limits KEEP begin.origin (drop begin.at (S.bytes source.now))) (λ x.
-        ((map view_entry x.entries.items, x.newline), standing x.len)) result (line_told how.edition
-        (S.bytes source.now) (kept KEEP how.keep) begin.blank begin.at begin.origin) }
+    ensures value { Gives (limits KEEP begin.origin (drop begin.at (S.bytes source.now))) view_told
+        result (line_told how.edition (S.bytes source.now) (kept KEEP how.keep) begin.blank begin.at
+        begin.origin) }
     // No node of its entries names an offset behind it.
     ensures spans { IfOk result (λ x. (limit : ℕ) → begin.origin + x.len ≤ limit → AreWithin limit
         (entries_of (map view_entry x.entries.items))) }

@@ -3,12 +3,11 @@ ghost use Rattle.std.specs.Prelude.{◌≡◌, ◌≢◌, ◌+◌, ◌<◌, ◌�
 ghost use Rattle.shgrammar.specs.Bytes.{ends_word};
 ghost use Rattle.shgrammar.specs.Shows.{IsRead};
 ghost use Rattle.shline.specs.Pieces.{PieceShows};
-ghost use Rattle.shline.specs.Clauses.{here_of, IsHere, Keeps, Moves, on, Onward, Passes, Reads, start_of, text_of};
-ghost use Rattle.shgrammar.specs.Comments.{span};
+ghost use Rattle.shline.specs.Clauses.{here_of, IsHere, Keeps, Moves, on, Onward, Passes, Reads, SomeRead, start_of, text_of, word_to};
 ghost use Rattle.shgrammar.specs.Form.{again, step_if};
 ghost use Rattle.shgrammar.specs.Pieces.{past_closer};
 ghost use Rattle.shline.specs.Rows.{view_substs};
-ghost use Rattle.shast.specs.Tree.{ASubst, substs_of, word};
+ghost use Rattle.shast.specs.Tree.{ASubst};
 ghost use Rattle.shast.specs.View.{view_word};
 ghost use Rattle.shgrammar.specs.Words.{a_piece, a_word, contents, having, holds_others, piece_row};
 ghost use Rattle.shgrammar.specs.Levels.{level};
@@ -143,8 +142,7 @@ impl<'a, S: Source, const KEEP: u8> Cursor<'a, S, KEEP> {
             (view_substs substs.new))) self.new }
         ensures onward { IfOk result (Onward (here_of self.old) (here_of self.new)) }
         ensures nested { IfOk result (λ more. nested.new ≤ here_of self.new) }
-        ensures some { mode ≡ Mode.Plain → ends_word (text_of self.old) (here_of self.old) ≡ false →
-            IfOk result (λ more. here_of self.old < here_of self.new) }
+        ensures some { IfOk result (λ more. SomeRead self.old mode self.new) }
     {
         // Most pieces are the last of their word.
         let at = self.at;
@@ -171,8 +169,7 @@ impl<'a, S: Source, const KEEP: u8> Cursor<'a, S, KEEP> {
             (view_substs substs.new))) self.new }
         ensures onward { IfOk result (Onward (here_of self.old) (here_of self.new)) }
         ensures nested { IfOk result (λ more. nested.new ≤ here_of self.new) }
-        ensures some { mode ≡ Mode.Plain → ends_word (text_of self.old) (here_of self.old) ≡ false →
-            IfOk result (λ more. here_of self.old < here_of self.new) }
+        ensures some { IfOk result (λ more. SomeRead self.old mode self.new) }
     {
         let at = self.at;
         let here = self.place(at);
@@ -219,8 +216,7 @@ impl<'a, S: Source, const KEEP: u8> Cursor<'a, S, KEEP> {
         requires { opener ≤ here_of self.old }
         ensures value { Reads self.old (contents (level room) mode (self.old.origin + opener)
             (view_substs substs.old)) result (λ _. view_substs substs.new) self.new }
-        ensures some { mode ≡ Mode.Plain → ends_word (text_of self.old) (here_of self.old) ≡ false →
-            IfOk result (λ _. here_of self.old < here_of self.new) }
+        ensures some { IfOk result (λ _. SomeRead self.old mode self.new) }
     {
         let mut nested = 0;
         'pieces: while self.take_piece(mode, opener, &mut nested, substs, room)? {
@@ -236,9 +232,8 @@ impl<'a, S: Source, const KEEP: u8> Cursor<'a, S, KEEP> {
     pub(crate) fn pass_word(&mut self, substs: &mut Vec<Subst>, room: usize) -> Result<(), Stop>
         requires word { ends_word (text_of self.old) (start_of self.old) ≡ false }
         requires none { substs.old.items ≡ [] }
-        ensures value { Passes self.old (a_word (level room)) result (λ _. word (span
-            self.old.origin (start_of self.old) (here_of self.new)) (substs_of (view_substs
-            substs.new))) self.new }
+        ensures value { Passes self.old (a_word (level room)) result
+            (λ _. word_to self.old.origin (start_of self.old) self.new substs.new) self.new }
         ensures onward { IfOk result (λ _. start_of self.old < here_of self.new) }
     {
         let start = self.start();
@@ -254,8 +249,7 @@ impl<'a, S: Source, const KEEP: u8> Cursor<'a, S, KEEP> {
     /// The word from a place of the text to here, with these substitutions.
     pub(crate) fn word_from(&self, start: usize, substs: Vec<Subst>) -> Word
         requires { start ≤ here_of self.now }
-        ensures { view_word result ≡ word (span self.now.origin start (here_of self.now)) (substs_of
-            (view_substs substs)) }
+        ensures { view_word result ≡ word_to self.now.origin start self.now substs }
     {
         word_of(self.span_from(start), substs)
     }
