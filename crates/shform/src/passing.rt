@@ -77,13 +77,8 @@ impl Part {
         if !self.is_due() {
             return Ok(());
         }
-        let Ok(count) = faultless_front(
-            *self.text.allocator(),
-            self.edition,
-            &Flat::new(&self.text),
-        ) else {
-            return Err(AllocError);
-        };
+        let alloc = *self.text.allocator();
+        let count = faultless_front(alloc, self.edition, &Flat::new(&self.text))?;
         self.pass(count);
         Ok(())
     }

@@ -1,5 +1,5 @@
 -- What a line of a script leads on to.
-use Rattle.std.proofs.Common.{◌≡◌, ℕ, ◌++◌, ◌∙◌, ◌&&◌, Bool, false, Ok, Err, List as Row, drop, map, Vec, Global, ap, refl, sym, subst, None, Some}
+use Rattle.std.proofs.Common.{◌≡◌, ℕ, ◌+◌, ◌++◌, ◌∙◌, ◌&&◌, Bool, true, false, Result, Ok, Err, List as Row, drop, map, ap, refl, sym, subst, None, Some}
 use Rattle.shast.specs.declared.tree.Entry.{Entry}
 use Rattle.shast.specs.View.{view_entry}
 use Rattle.shgrammar.specs.declared.edition.Edition.{Edition}
@@ -8,18 +8,17 @@ use Rattle.shast.specs.Tree.{AnEntry, entries_of}
 use Rattle.shgrammar.specs.Sights.{given, standing}
 use Rattle.shgrammar.specs.Form.{Read, may}
 use Rattle.shline.specs.declared.stop.Stop.{Stop}
-use Rattle.shline.specs.declared.stop.Stop.TheVariants.{Wrong}
-use Rattle.shline.specs.Clauses.{Fails}
+use Rattle.shline.specs.declared.stop.Stop.TheVariants.{Memory, Wrong}
+use Rattle.shline.specs.Clauses.{Fails, Gives, view_told}
 use Rattle.shline.specs.Limits.{Limits}
 use Rattle.shgrammar.specs.Commands.{is_empty}
 use Rattle.std.proofs.lemmas.List.{map-append}
 use Rattle.shgrammar.specs.declared.keep.Keep.TheVariants.{Outer, Whole}
-use Rattle.shpass.specs.declared.script_lines.ScriptLine.{ScriptLine}
-use Rattle.shpass.specs.declared.script_lines.ScriptLine.TheVariants.{Ended, Last, Faulty}
+use Rattle.shline.specs.declared.told.Told.{Told}
 use Rattle.shpass.specs.declared.script_lines.ScriptLines.{ScriptLines}
 use Rattle.shast.specs.Nodes.{AreWithin}
 use Rattle.shpass.specs.declared.script_lines.LinesBefore.{LinesBefore}
-use Rattle.shpass.specs.LineByLine.{Before, IsLine, IsNextLine, IsOuterLine, LineReads, LineWithin, OuterReads, Rest, Stands, is_blank_behind}
+use Rattle.shpass.specs.LineByLine.{Before, IsTold, LineReads, OuterReads, Rest, Stands, is_blank_behind}
 use Rattle.shgrammar.proofs.Within.{more_within}
 use Rattle.shgrammar.specs.Moved.{Same, SameBy}
 use Rattle.shgrammar.specs.Scripts.{AScript, Outcome, SoFar, faulty, is_blank_line, last_line, line_ended, line_from, line_told, the_line, with_line}
@@ -59,47 +58,50 @@ outer_read edition B so p (Err f) read =
     let whole = whole_fault p blank f (line_from edition B Whole blank p) alone outer (line_moved edition B p blank) in
     line_read edition B so p blank (Err f) refl whole
 
--- ---- what is read, from what is computed
+-- ---- what is told, from what is computed
 
-module _ {S : Type 0} (so : SoFar) (old new : ScriptLines S) where
-  line_by : (reads others : Read (Row AnEntry × Bool) → Type 0)
-      → ((x : Read (Row AnEntry × Bool)) → reads x → others x)
-      → (line : ScriptLine) → IsLine reads so old line new → IsLine others so old line new
-  line_by reads others so_read (Ended es) ((t, ends, read), stands) = ((t, ends, so_read _ read), stands)
-  line_by reads others so_read (Last es) ((t, ends, read), stands) = ((t, ends, so_read _ read), stands)
-  line_by reads others so_read (Faulty f) (read, same) = (so_read _ read, same)
+told_by : (bound : Limits) (reads : Read (Row AnEntry × Bool) → Type 0) (read : Read (Row AnEntry × Bool)) → reads read
+    → (r : Result Told Stop) → Gives bound view_told r read → IsTold reads r
+told_by bound reads read is (Ok told) gives = subst reads gives is
+told_by bound reads read is (Err (Wrong f)) fails = subst reads fails.0 is
+told_by bound reads read is (Err Memory) fails = tt
 
-  pub next_line : (B : Row ℕ) (line : ScriptLine)
-      → IsLine (λ x. line_from old.edition B Whole (is_blank_line so) old.at ≡ x) so old line new
-      → IsNextLine B so old line new
-  next_line B line is_line = line_by _ _ (λ x. line_read old.edition B so old.at (is_blank_line so) x refl) line is_line
+module _ {S : Type 0} (B : Row ℕ) (bound : Limits) (old : ScriptLines S) (r : Result Told Stop) (so : SoFar) (stood : Stands old so) where
+  pub next_line : Gives bound view_told r (line_from old.edition B Whole (is_blank_behind old.before) old.at) → IsTold (LineReads old.edition B so old.at) r
+  next_line gives = told_by bound (LineReads old.edition B so old.at) _ (line_read old.edition B so old.at (is_blank_behind old.before) _ (blank_is old.before so stood) refl) r gives
 
-  pub outer_line : (B : Row ℕ) (line : ScriptLine)
-      → IsLine (λ x. line_from old.edition B Outer (is_blank_line so) old.at ≡ x) so old line new
-      → IsOuterLine B so old line new
-  outer_line B line is_line = line_by _ _ (λ x. outer_read old.edition B so old.at x) line is_line
+  pub outer_line : Gives bound view_told r (line_from old.edition B Outer (is_blank_behind old.before) old.at) → IsTold (OuterReads old.edition B so old.at) r
+  outer_line gives = told_by bound (OuterReads old.edition B so old.at) _ (outer_read old.edition B so old.at _ (ap (λ blank. line_from old.edition B Outer blank old.at) (sym (blank_is old.before so stood)))) r gives
+
+-- the same, where the bytes are those of another source, and the edition has another name
+pub told_in : (B other : Row ℕ) (edition by : Edition) (so : SoFar) (p : ℕ) (r : Result Told Stop) → other ≡ B → by ≡ edition
+    → IsTold (LineReads by other so p) r → IsTold (LineReads edition B so p) r
+told_in B other edition by so p r same is told =
+    subst (λ e. IsTold (LineReads e B so p) r) is (subst (λ b. IsTold (LineReads by b so p) r) same told)
 
 -- ---- what a line leads on to
 
-module _ {S : Type 0} where
-  -- Where the line ended by a newline: what the lines behind it give is what they give with it. Else it
-  -- is the script's last, or its first fault stands in it.
-  abbrev pub Leads : Edition → Row ℕ → SoFar → ScriptLines S → ScriptLine → ScriptLines S → Type 0
-  Leads edition B so old (Ended es) new = Stands new (with_line so (map view_entry es.items))
-      × ((s : AScript) → Rest edition B (with_line so (map view_entry es.items)) new.at s → Rest edition B so old.at s)
-  Leads edition B so old (Last es) new = Rest edition B so old.at (record { entries = entries_of (so.entries ++ map view_entry es.items); wrong = None })
-  Leads edition B so old (Faulty f) new = Rest edition B so old.at (record { entries = entries_of so.entries; wrong = Some f })
+-- What the lines behind a line with these entries give is what they give with it. Where no newline ended it,
+-- it is the script's last.
+abbrev pub LeadsOn : Edition → Row ℕ → SoFar → ℕ → Row AnEntry → Bool → ℕ → Type 0
+LeadsOn edition B so p es true q = (s : AScript) → Rest edition B (with_line so es) q s → Rest edition B so p s
+LeadsOn edition B so p es false q = Rest edition B so p (record { entries = entries_of (so.entries ++ es); wrong = None })
 
-  module _ (B : Row ℕ) (so : SoFar) (old new : ScriptLines S) where
-    leads : (x : ScriptLine) → IsNextLine B so old x new → Leads old.edition B so old x new
-    leads (Ended es) ((t, ends, read), stands) =
-        (stands, λ s rest. let on = subst (λ q. Rest old.edition B (with_line so (map view_entry es.items)) q s) ends rest in (read.0 ++ on.0, line_ended (map view_entry es.items) t read.0 read.1 on.1))
-    leads (Last es) ((t, ends, read), stands) = (read.0, last_line (map view_entry es.items) t read.0 read.1)
-    leads (Faulty f) (read, same) = (read.0, faulty f read.0 read.1)
+line_leads : (edition : Edition) (B : Row ℕ) (so : SoFar) (p n : ℕ) (es : Row AnEntry) (newline : Bool)
+    → LineReads edition B so p (Ok ((es, newline), standing n)) → LeadsOn edition B so p es newline (p + n)
+line_leads edition B so p n es true read = λ s rest. (read.0 ++ rest.0, line_ended es (standing n) read.0 read.1 rest.1)
+line_leads edition B so p n es false read = (read.0, last_line es (standing n) read.0 read.1)
 
-    -- the same, where the bytes are those of another source, and the edition has another name
-    pub leads_in : (other : Row ℕ) (edition : Edition) (x : ScriptLine) → other ≡ B → old.edition ≡ edition → IsNextLine other so old x new → Leads edition B so old x new
-    leads_in other edition x same by next = subst (λ e. Leads e B so old x new) by (leads x (subst (λ b. IsNextLine b so old x new) same next))
+pub leads_on : (edition : Edition) (B : Row ℕ) (so : SoFar) (p : ℕ) (told : Told) (newline : Bool) → told.newline ≡ newline
+    → IsTold (LineReads edition B so p) (Ok told) → LeadsOn edition B so p (map view_entry told.entries.items) newline (p + told.len)
+leads_on edition B so p told newline is read =
+    subst (λ b. LeadsOn edition B so p (map view_entry told.entries.items) b (p + told.len)) is
+    (line_leads edition B so p told.len (map view_entry told.entries.items) told.newline read)
+
+pub leads_nowhere : (edition : Edition) (B : Row ℕ) (so : SoFar) (p : ℕ) (stop : Stop) (f : Fault) → stop ≡ Wrong f
+    → IsTold (LineReads edition B so p) (Err stop) → Rest edition B so p (record { entries = entries_of so.entries; wrong = Some f })
+leads_nowhere edition B so p stop f is told =
+    let read = subst (λ z. IsTold (LineReads edition B so p) (Err z)) is told in (read.0, faulty f read.0 read.1)
 
 -- a stop for a fault tells that the reading stops there
 pub fault_told : (e : Stop) (f : Fault) (bound : Limits) (x : Read (Row AnEntry × Bool)) → e ≡ Wrong f → Fails bound e x → x ≡ Err f
@@ -114,34 +116,25 @@ so_far xs gap = record { entries = map view_entry xs; gap = gap }
 all_is : (before all line : Row Entry) → all ≡ before ++ line → map view_entry all ≡ map view_entry before ++ map view_entry line
 all_is before all line is = ap (map view_entry) is ∙ map-append view_entry before line
 
-module _ {S : Type 0} (edition : Edition) (B : Row ℕ) (before all : Row Entry) (old new : ScriptLines S) (x : ScriptLine) (leads : Leads edition B (so_far before old.before.gap) old x new)
+module _ {S : Type 0} (edition : Edition) (B : Row ℕ) (before all line : Row Entry) (all_are : all ≡ before ++ line) (old new : ScriptLines S)
     (from : (s : AScript) → Rest edition B (so_far before old.before.gap) old.at s → Outcome edition B s) where
-  pub ended_on : (line : Vec Entry Global) → x ≡ Ended line → all ≡ before ++ line.items
+  pub ended_on : (n : ℕ) → new.at ≡ old.at + n → Stands new (with_line (so_far before old.before.gap) (map view_entry line))
+      → LeadsOn edition B (so_far before old.before.gap) old.at (map view_entry line) true (old.at + n)
       → Stands new (so_far all new.before.gap) × ((s : AScript) → Rest edition B (so_far all new.before.gap) new.at s → Outcome edition B s)
-  ended_on line this all_are =
-      let lead = rw this at leads in
-      let same : with_line (so_far before old.before.gap) (map view_entry line.items) ≡ so_far all new.before.gap =
-      ap (λ es. record { entries = es; gap = is_empty (map view_entry line.items) }) (sym (all_is before all line.items all_are))
-      ∙ ap (λ gap. so_far all gap) (sym lead.0.0) in (
-        subst (Stands new) same lead.0,
-        λ s rest. from s (lead.1 s (subst (λ so. Rest edition B so new.at s) (sym same) rest)),
+  ended_on n ends stands leads =
+      let same : with_line (so_far before old.before.gap) (map view_entry line) ≡ so_far all new.before.gap =
+      ap (λ es. record { entries = es; gap = is_empty (map view_entry line) }) (sym (all_is before all line all_are))
+      ∙ ap (λ gap. so_far all gap) (sym stands.0) in (
+        subst (Stands new) same stands,
+        λ s rest. from s (leads s (subst (λ q. Rest edition B (with_line (so_far before old.before.gap) (map view_entry line)) q s) ends (subst (λ so. Rest edition B so new.at s) (sym same) rest))),
       )
 
-  pub last_on : (line : Vec Entry Global) → x ≡ Last line → all ≡ before ++ line.items → Outcome edition B (record { entries = entries_of (map view_entry all); wrong = None })
-  last_on line this all_are =
-      subst (λ es. Outcome edition B (record { entries = entries_of es; wrong = None })) (sym (all_is before all line.items all_are)) (from _ (rw this at leads))
+  pub last_on : Rest edition B (so_far before old.before.gap) old.at (record { entries = entries_of (map view_entry before ++ map view_entry line); wrong = None })
+      → Outcome edition B (record { entries = entries_of (map view_entry all); wrong = None })
+  last_on rest = subst (λ es. Outcome edition B (record { entries = entries_of es; wrong = None })) (sym (all_is before all line all_are)) (from _ rest)
 
-  pub faulty_on : (f : Fault) → x ≡ Faulty f → Outcome edition B (record { entries = entries_of (map view_entry before); wrong = Some f })
-  faulty_on f this = from _ (rw this at leads)
-
-module _ (limit : ℕ) (before all : Row Entry) (x : ScriptLine) (within : LineWithin limit x) (low : AreWithin limit (entries_of (map view_entry before))) where
-  spans_by : (line : Row Entry) → all ≡ before ++ line → AreWithin limit (entries_of (map view_entry line)) → AreWithin limit (entries_of (map view_entry all))
-  spans_by line all_are line_low =
-      more_within limit (so_far before false) (so_far all (is_empty (map view_entry line))) (map view_entry line)
-      (ap (λ es. record { entries = es; gap = is_empty (map view_entry line) }) (all_is before all line all_are)) low line_low
-
-  pub ended_spans : (line : Vec Entry Global) → x ≡ Ended line → all ≡ before ++ line.items → AreWithin limit (entries_of (map view_entry all))
-  ended_spans line this all_are = spans_by line.items all_are (rw this at within)
-
-  pub last_spans : (line : Vec Entry Global) → x ≡ Last line → all ≡ before ++ line.items → AreWithin limit (entries_of (map view_entry all))
-  last_spans line this all_are = spans_by line.items all_are (rw this at within)
+pub all_within : (limit : ℕ) (before all line : Row Entry) → all ≡ before ++ line → AreWithin limit (entries_of (map view_entry line))
+    → AreWithin limit (entries_of (map view_entry before)) → AreWithin limit (entries_of (map view_entry all))
+all_within limit before all line all_are line_low low =
+    more_within limit (so_far before false) (so_far all (is_empty (map view_entry line))) (map view_entry line)
+    (ap (λ es. record { entries = es; gap = is_empty (map view_entry line) }) (all_is before all line all_are)) low line_low

@@ -1,10 +1,12 @@
 -- The lines of a script, read one after the other.
-use Rattle.std.specs.Prelude.{◌≡◌, ◌≤◌, ◌<◌, ℕ, ◌+◌, ◌-◌, Vec, Bool, true, false, ◌&&◌, List, List as Row, Ok, Err, drop, map, not}
+use Rattle.std.specs.Prelude.{◌≡◌, ◌≤◌, ◌<◌, ℕ, ◌+◌, ◌-◌, Vec, Bool, true, false, ◌&&◌, List, List as Row, None, Option, Some, Result, Ok, Err, drop, length, map, not, slice_get}
 use Rattle.std.specs.Global.{Global}
 use Rattle.shgrammar.specs.declared.edition.Edition.{Edition}
 use Rattle.shgrammar.specs.declared.keep.Keep.TheVariants.{Outer}
-use Rattle.shpass.specs.declared.script_lines.ScriptLine.{ScriptLine}
-use Rattle.shpass.specs.declared.script_lines.ScriptLine.TheVariants.{Ended, Last, Faulty}
+use Rattle.shline.specs.declared.stop.Stop.{Stop}
+use Rattle.shline.specs.declared.stop.Stop.TheVariants.{Memory, Wrong}
+use Rattle.shline.specs.declared.told.Told.{Told}
+use Rattle.shline.specs.Clauses.{Onward, view_told}
 use Rattle.shpass.specs.declared.script_lines.LinesBefore.{LinesBefore}
 use Rattle.shpass.specs.declared.script_lines.ScriptLines.{ScriptLines}
 use Rattle.shast.specs.declared.tree.Entry.{Entry}
@@ -14,6 +16,7 @@ use Rattle.shast.specs.View.{view_entry}
 use Rattle.shgrammar.specs.Commands.{is_empty}
 use Rattle.shgrammar.specs.Form.{Read, Spelled, may}
 use Rattle.shgrammar.specs.Scripts.{AScript, Lines, SoFar, is_blank_line, line_from, the_line, with_line}
+use Rattle.shgrammar.specs.Search.{StopsAt}
 use Rattle.shgrammar.specs.Sights.{State, given, standing}
 use Rattle.shgrammar.specs.Standing.{raw_stands}
 
@@ -26,9 +29,17 @@ abbrev pub OuterReads : Edition → List ℕ → SoFar → ℕ → Read (Row AnE
 OuterReads edition B so p (Ok x) = line_from edition B Outer (is_blank_line so) p ≡ Ok x
 OuterReads edition B so p (Err f) = LineReads edition B so p (Err f)
 
--- the line at p, so read, has these entries, and ends before q: by a newline, or where the script ends
-abbrev pub LineEnds : (Read (Row AnEntry × Bool) → Type 0) → ℕ → Row AnEntry → Bool → ℕ → Type 0
-LineEnds reads p es newline q = (t : State) × (q ≡ p + t.at) × reads (Ok ((es, newline), t))
+-- what was told of a line is what is read so of it, unless memory ran out
+abbrev pub IsTold : (Read (Row AnEntry × Bool) → Type 0) → Result Told Stop → Type 0
+IsTold reads (Ok told) = reads (Ok (view_told told))
+IsTold reads (Err (Wrong f)) = reads (Err f)
+IsTold reads (Err Memory) = Unit {0}
+
+-- no node of its entries names an offset above this one, nor does its fault
+abbrev pub LineWithin : ℕ → Result Told Stop → Type 0
+LineWithin limit (Ok told) = AreWithin limit (entries_of (map view_entry told.entries.items))
+LineWithin limit (Err (Wrong f)) = f.at ≤ limit
+LineWithin limit (Err Memory) = Unit {0}
 
 -- the script of lines that gave this and of the lines from p on
 abbrev pub Rest : Edition → List ℕ → SoFar → ℕ → AScript → Type 0
@@ -71,6 +82,21 @@ module _ {S : Type 0} where
   abbrev pub Stands : ScriptLines S → SoFar → Type 0
   Stands lines so = Before lines.before so
 
+  -- the script, how it is read, and by whose memory
+  abbrev pub Keeps : ScriptLines S → ScriptLines S → Type 0
+  Keeps old new = (new.source ≡ old.source) × (new.edition ≡ old.edition) × (new.alloc ≡ old.alloc)
+
+  -- The reading goes behind a line that was told, and what the lines gave has its entries too.
+  abbrev pub Behind : ScriptLines S → Told → ScriptLines S → Type 0
+  Behind old told new =
+      Keeps old new × (new.at ≡ old.at + told.len) × ((so : SoFar) → Stands old so → Stands new (with_line so (map view_entry told.entries.items)))
+
+  -- It goes behind what was told of the line at its place. At a fault nothing moves, nor where memory ran out.
+  abbrev pub MovesOn : (S → List ℕ) → ScriptLines S → Result Told Stop → ScriptLines S → Type 0
+  MovesOn bytes old (Ok told) new =
+      Behind old told new × Onward old.at new.at told.newline × (new.at ≤ length (bytes_of bytes old))
+  MovesOn bytes old (Err e) new = new ≡ old
+
   -- A line with these entries, but for the trees in command substitutions, behind lines that gave this, from
   -- `old` to `new`. A newline ended it and is its last byte.
   abbrev pub IsWholeLine : List ℕ → SoFar → ScriptLines S → Vec Entry Global → ScriptLines S → Type 0
@@ -78,32 +104,10 @@ module _ {S : Type 0} where
       (t : State) × (new.at ≡ old.at + t.at) × OuterReads old.edition B so old.at (Ok ((map view_entry es.items, true), t)) × (0 < t.at)
       × (raw_stands (drop old.at B) (t.at - 1) 10 ≡ true) × Stands new (with_line so (map view_entry es.items))
 
-  -- The line, so read, behind lines that gave this, from `old` to `new`. At a fault nothing moves.
-  abbrev pub IsLine : (Read (Row AnEntry × Bool) → Type 0)
-      → SoFar → ScriptLines S → ScriptLine → ScriptLines S → Type 0
-  IsLine reads so old (Ended es) new =
-      LineEnds reads old.at (map view_entry es.items) true new.at
-      × Stands new (with_line so (map view_entry es.items))
-  IsLine reads so old (Last es) new =
-      LineEnds reads old.at (map view_entry es.items) false new.at
-      × Stands new (with_line so (map view_entry es.items))
-  IsLine reads so old (Faulty f) new = reads (Err f) × (new ≡ old)
-
-  -- the line as the grammar has it
-  abbrev pub IsNextLine : List ℕ → SoFar → ScriptLines S → ScriptLine → ScriptLines S → Type 0
-  IsNextLine B so old line new = IsLine (LineReads old.edition B so old.at) so old line new
-
-  -- the same, but for the trees in command substitutions
-  abbrev pub IsOuterLine : List ℕ → SoFar → ScriptLines S → ScriptLine → ScriptLines S → Type 0
-  IsOuterLine B so old line new = IsLine (OuterReads old.edition B so old.at) so old line new
-
--- another line follows
-abbrev pub GoesOn : ScriptLine → Type 0
-GoesOn (Ended es) = Unit {0}
-GoesOn _ = ⊥
-
--- no node of a line's entries names an offset above this one, nor does a fault
-abbrev pub LineWithin : ℕ → ScriptLine → Type 0
-LineWithin limit (Ended es) = AreWithin limit (entries_of (map view_entry es.items))
-LineWithin limit (Last es) = AreWithin limit (entries_of (map view_entry es.items))
-LineWithin limit (Faulty f) = f.at ≤ limit
+  -- It goes behind such a line. Where there is none nothing moves, nor where memory ran out.
+  abbrev pub PassesWhole : {E : Type 0} → (S → List ℕ) → ScriptLines S → Result (Option (Vec Entry Global)) E → ScriptLines S → Type 0
+  PassesWhole bytes old (Ok (Some es)) new =
+      Keeps old new × (old.at < new.at) × (new.at ≤ length (bytes_of bytes old))
+      × (slice_get (bytes_of bytes old) (new.at - 1) ≡ Some 10) × ((so : SoFar) → Stands old so → IsWholeLine (bytes_of bytes old) so old es new)
+  PassesWhole bytes old (Ok None) new = (new ≡ old) × StopsAt old.edition (bytes_of bytes old) old.at
+  PassesWhole bytes old (Err e) new = new ≡ old

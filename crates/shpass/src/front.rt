@@ -3,12 +3,11 @@ ghost use Rattle.std.specs.Prelude.{◌≡◌, ◌-◌, ◌<◌, ◌≤◌, IfEr
 ghost use Rattle.shline.specs.Limits.{wants_memory};
 ghost use Rattle.shgrammar.specs.Search.{LineBefore, MayPass, StopsAt};
 
-use crate::error::ReadError;
 use crate::newline::ends_in_newline;
 use shgrammar::{Edition, Keep};
-use shline::{Begin, How, SEEN, Stop, Told, line_at};
+use shline::{Begin, How, SEEN, line_at};
 use shtext::Source;
-use std::alloc::Global;
+use std::alloc::{AllocError, Global};
 use std::mem;
 
 /// The place behind the line that begins at an offset, if it has no fault and a
@@ -19,7 +18,7 @@ fn behind_line<S: Source>(
     edition: Edition,
     source: &S,
     at: usize,
-) -> Result<Option<usize>, ReadError>
+) -> Result<Option<usize>, AllocError>
     requires { at ≤ length (S.bytes source.now) }
     ensures some { IfOk result (λ next. IfSome next (λ p. LineBefore edition (S.bytes source.now) at p)) }
     ensures none { IfOk result (λ next. next ≡ None → StopsAt edition (S.bytes source.now) at) }
@@ -35,22 +34,18 @@ fn behind_line<S: Source>(
         edition,
     };
     match line_at::<S, SEEN>(alloc, source, begin, how, None) {
-        Ok(
-            Told {
-                entries,
-                newline,
-                len,
-            },
-        ) => {
+        Ok(told) => {
             // They hold no memory.
-            mem::forget(entries);
-            if newline && ends_in_newline(source, at, len) {
-                return Ok(Some(at + len));
+            mem::forget(told.entries);
+            if told.newline && ends_in_newline(source, at, told.len) {
+                return Ok(Some(at + told.len));
             }
             Ok(None)
         }
-        Err(Stop::Wrong(_)) => Ok(None),
-        Err(Stop::Memory) => Err(ReadError::Memory),
+        Err(stop) => {
+            let _fault = stop.fault()?;
+            Ok(None)
+        }
     }
 }
 
@@ -63,7 +58,7 @@ pub fn faultless_front<S: Source>(
     alloc: Global,
     edition: Edition,
     source: &S,
-) -> Result<usize, ReadError>
+) -> Result<usize, AllocError>
     ensures passed { IfOk result (λ n. MayPass edition (S.bytes source.now) n) }
     ensures within { IfOk result (λ n. n ≤ length (S.bytes source.now)) }
     ensures newline { IfOk result (λ n. 0 < n → slice_get (S.bytes source.now) (n - 1) ≡ Some 10) }

@@ -7,12 +7,10 @@
 //! of the crate `shgrammar`.
 #![tactic(auto)]
 
-mod error;
 mod front;
 mod newline;
 mod script_lines;
 
-pub use error::ReadError;
 pub use front::faultless_front;
 pub use newline::ends_in_newline;
-pub use script_lines::{LinesBefore, ScriptLine, ScriptLines};
+pub use script_lines::{LinesBefore, ScriptLines};

@@ -1,35 +1,18 @@
 //! The lines of a script, read one after the other, so that who needs no tree of the
 //! whole holds that of one line.
-ghost use Rattle.std.specs.Prelude.{◌≡◌, ◌+◌, ◌-◌, ◌^◌, ◌<◌, ◌≤◌, ℕ, drop, length, map, slice_get, IfErr, IfOk, IfSome, None, Ok as Done, Some};
-ghost use Rattle.shgrammar.specs.Scripts.{SoFar, is_blank_line, line_from, with_line};
-ghost use Rattle.shgrammar.specs.Search.{StopsAt};
-ghost use Rattle.shgrammar.specs.Sights.{standing};
-ghost use Rattle.shline.specs.Clauses.{Gives, Onward};
+ghost use Rattle.std.specs.Prelude.{◌≡◌, ◌+◌, ◌^◌, ◌<◌, ◌≤◌, IfOk, drop, length};
+ghost use Rattle.shgrammar.specs.Scripts.{SoFar, line_from};
+ghost use Rattle.shline.specs.Clauses.{Gives, view_told};
 ghost use Rattle.shline.specs.Limits.{limits};
-ghost use Rattle.shast.specs.Nodes.{AreWithin};
-ghost use Rattle.shast.specs.Tree.{entries_of};
-ghost use Rattle.shast.specs.View.{view_entry};
-ghost use Rattle.shpass.specs.LineByLine.{AtStart, GoesOn, IsLine, IsNextLine, IsOuterLine, IsWholeLine, LineWithin, Stands};
+ghost use Rattle.shpass.specs.LineByLine.{AtStart, Behind, IsTold, LineReads, LineWithin, MovesOn, OuterReads, PassesWhole, Stands};
 ghost use Rattle.shpass.specs.LineByLine.{before_of, bytes_of, edition_of, is_blank_behind, no_lines, place_of};
 
-use crate::error::ReadError;
 use crate::newline::ends_in_newline;
 use shast::{Entry, Spare};
-use shgrammar::{Edition, Fault, Keep};
+use shgrammar::{Edition, Keep};
 use shline::{Begin, How, KEPT, Stop, Told, line_at};
 use shtext::Source;
-use std::alloc::Global;
-
-/// What a line of a script gives. Spans and the fault's offset count from the script's first byte.
-#[derive(Debug, Drop)]
-pub enum ScriptLine {
-    /// Its entries. Another line follows.
-    Ended(Vec<Entry>),
-    /// The entries of the last line.
-    Last(Vec<Entry>),
-    /// The script's first fault.
-    Faulty(Fault),
-}
+use std::alloc::{AllocError, Global};
 
 /// What some lines of a script leave for the next one to know: whether an empty line
 /// stands before its first entry.
@@ -108,190 +91,103 @@ impl<'a, S: Source> ScriptLines<'a, S> {
         self.before
     }
 
-    /// Whether the first entry of the next line is blank.
-    fn is_blank_next(&self) -> bool
-        ensures { result ≡ is_blank_behind (before_of self.now) }
+    /// Moves behind a line that was told.
+    fn pass(&mut self, told: &Told)
+        requires { place_of self.old + told.now.len < 2 ^ 64 }
+        ensures { Behind self.old told.now self.new }
     {
-        self.before.gap && self.before.begun
+        self.before.gap = told.entries.is_empty();
+        if !self.before.gap {
+            self.before.begun = true;
+        }
+        self.at += told.len;
     }
 
-    /// What is told of the next line, of whose tree this is kept.
-    fn tell(&self, keep: Keep, spare: Option<&mut Spare>) -> Result<Told, Stop>
-        requires { place_of self.now ≤ length (bytes_of S.bytes self.now) }
-        ensures value { let bytes = bytes_of S.bytes self.now in
-            let place = place_of self.now in
-            Gives (limits KEPT place (drop place bytes))
-            (λ x. ((map view_entry x.entries.items, x.newline), standing x.len)) result
-            (line_from (edition_of self.now) bytes keep (is_blank_behind (before_of self.now)) place) }
-        ensures spans { IfOk result (λ x. (limit : ℕ) → place_of self.now + x.len ≤ limit →
-            AreWithin limit (entries_of (map view_entry x.entries.items))) }
-        ensures onward { IfOk result (λ x. Onward 0 x.len x.newline) }
-        ensures within { IfOk result (λ x. place_of self.now + x.len ≤ length (bytes_of S.bytes self.now)) }
-        ensures fits { IfOk result (λ x. place_of self.now + x.len < 2 ^ 64) }
+    /// Reads one more line, of whose tree this is kept.
+    fn read(&mut self, keep: Keep, spare: Option<&mut Spare>) -> Result<Told, Stop>
+        requires { place_of self.old ≤ length (bytes_of S.bytes self.old) }
+        ensures value { let bytes = bytes_of S.bytes self.old in
+            let place = place_of self.old in
+            Gives (limits KEPT place (drop place bytes)) view_told result
+            (line_from (edition_of self.old) bytes keep (is_blank_behind (before_of self.old)) place) }
+        ensures moves { MovesOn S.bytes self.old result self.new }
+        ensures within { LineWithin (length (bytes_of S.bytes self.old)) result }
+        ensures fits { IfOk result (λ told. place_of self.old + told.len < 2 ^ 64) }
     {
         let begin = Begin {
             at: self.at,
             origin: self.at,
-            blank: self.is_blank_next(),
+            blank: self.before.gap && self.before.begun,
         };
         let how = How {
             keep,
             edition: self.edition,
         };
-        line_at::<S, KEPT>(self.alloc, self.source, begin, how, spare)
+        let told = line_at::<S, KEPT>(self.alloc, self.source, begin, how, spare)?;
+        self.pass(&told);
+        Ok(told)
     }
 
-    /// Moves behind a line of so many bytes.
-    fn pass(&mut self, entries: &[Entry], len: usize)
-        requires { place_of self.old + len < 2 ^ 64 }
-        ensures stands { (so : SoFar) → Stands self.old so → Stands self.new (with_line so (map view_entry entries.now)) }
-        ensures place { place_of self.new ≡ place_of self.old + len }
-        ensures source { bytes_of S.bytes self.new ≡ bytes_of S.bytes self.old }
-        ensures edition { edition_of self.new ≡ edition_of self.old }
-    {
-        self.before.gap = entries.is_empty();
-        if !self.before.gap {
-            self.before.begun = true;
-        }
-        self.at += len;
-    }
-
-    /// Reads one more line, of whose tree this is kept.
-    fn read_keeping(
-        &mut self,
-        keep: Keep,
-        spare: Option<&mut Spare>,
-    ) -> Result<ScriptLine, ReadError>
+    /// Reads one more line. Its vectors are taken from spare ones, as far as there are any.
+    ///
+    /// Spans count from the script's first byte. Where a newline ended the line, another one follows.
+    ///
+    /// # Errors
+    ///
+    /// [`Stop`]: the script's first fault, or want of memory. Nothing moves then; the line may be read again.
+    pub fn read_next(&mut self, spare: Option<&mut Spare>) -> Result<Told, Stop>
         requires { place_of self.old ≤ length (bytes_of S.bytes self.old) }
-        ensures line { IfOk result (λ line. (so : SoFar) → Stands self.old so → IsLine
-            (λ x. line_from (edition_of self.old) (bytes_of S.bytes self.old) keep (is_blank_line so) (place_of self.old) ≡ x)
-            so self.old line self.new) }
-        ensures err { IfErr result (λ e. self.new ≡ self.old) }
-        ensures source { bytes_of S.bytes self.new ≡ bytes_of S.bytes self.old }
-        ensures edition { edition_of self.new ≡ edition_of self.old }
-        ensures place { IfOk result (λ line. place_of self.new ≤ length (bytes_of S.bytes self.old)) }
-        ensures onward { IfOk result (λ line. GoesOn line → place_of self.old < place_of self.new) }
+        ensures line { (so : SoFar) → Stands self.old so → IsTold
+            (LineReads (edition_of self.old) (bytes_of S.bytes self.old) so (place_of self.old)) result }
+        ensures moves { MovesOn S.bytes self.old result self.new }
         // No node of its entries names an offset above the script's length, nor does a fault.
-        ensures within { IfOk result (LineWithin (length (bytes_of S.bytes self.old))) }
+        ensures within { LineWithin (length (bytes_of S.bytes self.old)) result }
     {
-        match self.tell(keep, spare) {
-            Ok(
-                Told {
-                    entries,
-                    newline,
-                    len,
-                },
-            ) => {
-                self.pass(&entries, len);
-                if newline {
-                    Ok(ScriptLine::Ended(entries))
-                } else {
-                    Ok(ScriptLine::Last(entries))
-                }
-            }
-            Err(Stop::Wrong(fault)) => Ok(ScriptLine::Faulty(fault)),
-            Err(Stop::Memory) => Err(ReadError::Memory),
-        }
+        self.read(Keep::Whole, spare)
     }
 
-    /// Reads one more line. Want of memory is the only error; the line may be read again then.
-    pub fn read_next(&mut self) -> Result<ScriptLine, ReadError>
-        requires { place_of self.old ≤ length (bytes_of S.bytes self.old) }
-        ensures line { IfOk result (λ line. (so : SoFar) → Stands self.old so → IsNextLine (bytes_of S.bytes self.old) so self.old line self.new) }
-        ensures err { IfErr result (λ e. self.new ≡ self.old) }
-        ensures source { bytes_of S.bytes self.new ≡ bytes_of S.bytes self.old }
-        ensures edition { edition_of self.new ≡ edition_of self.old }
-        ensures place { IfOk result (λ line. place_of self.new ≤ length (bytes_of S.bytes self.old)) }
-        ensures onward { IfOk result (λ line. GoesOn line → place_of self.old < place_of self.new) }
-        // No node of its entries names an offset above the script's length, nor does a fault.
-        ensures within { IfOk result (LineWithin (length (bytes_of S.bytes self.old))) }
-    {
-        self.read_next_with(None)
-    }
-
-    /// The same, with the vectors of the line's tree taken from spare ones, as far as there are any.
-    pub fn read_next_with(&mut self, spare: Option<&mut Spare>) -> Result<ScriptLine, ReadError>
-        requires { place_of self.old ≤ length (bytes_of S.bytes self.old) }
-        ensures line { IfOk result (λ line. (so : SoFar) → Stands self.old so → IsNextLine (bytes_of S.bytes self.old) so self.old line self.new) }
-        ensures err { IfErr result (λ e. self.new ≡ self.old) }
-        ensures source { bytes_of S.bytes self.new ≡ bytes_of S.bytes self.old }
-        ensures edition { edition_of self.new ≡ edition_of self.old }
-        ensures place { IfOk result (λ line. place_of self.new ≤ length (bytes_of S.bytes self.old)) }
-        ensures onward { IfOk result (λ line. GoesOn line → place_of self.old < place_of self.new) }
-        // No node of its entries names an offset above the script's length, nor does a fault.
-        ensures within { IfOk result (LineWithin (length (bytes_of S.bytes self.old))) }
-    {
-        self.read_keeping(Keep::Whole, spare)
-    }
-
-    /// Reads one more line as [`ScriptLines::read_next_with`] does, but without the trees in the command
+    /// Reads one more line as [`ScriptLines::read_next`] does, but without the trees in the command
     /// substitutions of its words, which cost memory and time. A fault is the same.
-    pub fn read_outer_with(&mut self, spare: Option<&mut Spare>) -> Result<ScriptLine, ReadError>
+    pub fn read_outer(&mut self, spare: Option<&mut Spare>) -> Result<Told, Stop>
         requires { place_of self.old ≤ length (bytes_of S.bytes self.old) }
-        ensures line { IfOk result (λ line. (so : SoFar) → Stands self.old so →
-            IsOuterLine (bytes_of S.bytes self.old) so self.old line self.new) }
-        ensures err { IfErr result (λ e. self.new ≡ self.old) }
-        ensures source { bytes_of S.bytes self.new ≡ bytes_of S.bytes self.old }
-        ensures edition { edition_of self.new ≡ edition_of self.old }
-        ensures place { IfOk result (λ line. place_of self.new ≤ length (bytes_of S.bytes self.old)) }
-        ensures onward { IfOk result (λ line. GoesOn line → place_of self.old < place_of self.new) }
+        ensures line { (so : SoFar) → Stands self.old so → IsTold
+            (OuterReads (edition_of self.old) (bytes_of S.bytes self.old) so (place_of self.old)) result }
+        ensures moves { MovesOn S.bytes self.old result self.new }
         // No node of its entries names an offset above the script's length, nor does a fault.
-        ensures within { IfOk result (LineWithin (length (bytes_of S.bytes self.old))) }
+        ensures within { LineWithin (length (bytes_of S.bytes self.old)) result }
     {
-        self.read_keeping(Keep::Outer, spare)
+        self.read(Keep::Outer, spare)
     }
 
-    /// Reads one more line, if it has no fault and a newline ended it that is its last byte: then
-    /// nothing that follows it in the script has a part in how it is read. Of its words the trees in
-    /// their command substitutions are left out. If there is no such line, nothing moves. Want of
-    /// memory is the only error; the line may be read again then.
-    pub fn read_whole(&mut self) -> Result<Option<Vec<Entry>>, ReadError>
-        requires { place_of self.old ≤ length (bytes_of S.bytes self.old) }
-        ensures line { IfOk result (λ line. IfSome line (λ entries. (so : SoFar) → Stands self.old so →
-            IsWholeLine (bytes_of S.bytes self.old) so self.old entries self.new)) }
-        ensures newline { IfOk result (λ line. IfSome line (λ entries. slice_get (bytes_of S.bytes self.old) (place_of self.new - 1) ≡ Some 10)) }
-        ensures none { result ≡ Done None → (self.new ≡ self.old) × StopsAt (edition_of self.old) (bytes_of S.bytes self.old) (place_of self.old) }
-        ensures err { IfErr result (λ e. self.new ≡ self.old) }
-        ensures source { bytes_of S.bytes self.new ≡ bytes_of S.bytes self.old }
-        ensures edition { edition_of self.new ≡ edition_of self.old }
-        ensures place { IfOk result (λ line. place_of self.new ≤ length (bytes_of S.bytes self.old)) }
-        ensures onward { IfOk result (λ line. IfSome line (λ entries. place_of self.old < place_of self.new)) }
-    {
-        self.read_whole_with(None)
-    }
-
-    /// The same, with the vectors of the line's tree taken from spare ones, as far as there are any.
-    pub fn read_whole_with(
+    /// Reads one more line as [`ScriptLines::read_outer`] does, if it has no fault and a newline ended it
+    /// that is its last byte: then nothing that follows it in the script has a part in how it is read. If
+    /// there is no such line, nothing moves.
+    ///
+    /// # Errors
+    ///
+    /// [`AllocError`], where memory ran out. Nothing moves then; the line may be read again.
+    pub fn read_whole(
         &mut self,
         spare: Option<&mut Spare>,
-    ) -> Result<Option<Vec<Entry>>, ReadError>
+    ) -> Result<Option<Vec<Entry>>, AllocError>
         requires { place_of self.old ≤ length (bytes_of S.bytes self.old) }
-        ensures line { IfOk result (λ line. IfSome line (λ entries. (so : SoFar) → Stands self.old so →
-            IsWholeLine (bytes_of S.bytes self.old) so self.old entries self.new)) }
-        ensures newline { IfOk result (λ line. IfSome line (λ entries. slice_get (bytes_of S.bytes self.old) (place_of self.new - 1) ≡ Some 10)) }
-        ensures none { result ≡ Done None → (self.new ≡ self.old) × StopsAt (edition_of self.old) (bytes_of S.bytes self.old) (place_of self.old) }
-        ensures err { IfErr result (λ e. self.new ≡ self.old) }
-        ensures source { bytes_of S.bytes self.new ≡ bytes_of S.bytes self.old }
-        ensures edition { edition_of self.new ≡ edition_of self.old }
-        ensures place { IfOk result (λ line. place_of self.new ≤ length (bytes_of S.bytes self.old)) }
-        ensures onward { IfOk result (λ line. IfSome line (λ entries. place_of self.old < place_of self.new)) }
+        ensures { PassesWhole S.bytes self.old result self.new }
     {
-        match self.tell(Keep::Outer, spare) {
-            Ok(
-                Told {
-                    entries,
-                    newline,
-                    len,
-                },
-            ) => {
-                if newline && ends_in_newline(self.source, self.at, len) {
-                    self.pass(&entries, len);
-                    return Ok(Some(entries));
+        let at = self.at;
+        let before = self.before;
+        match self.read(Keep::Outer, spare) {
+            Ok(told) => {
+                if told.newline && ends_in_newline(self.source, at, told.len) {
+                    return Ok(Some(told.entries));
                 }
+                self.at = at;
+                self.before = before;
                 Ok(None)
             }
-            Err(Stop::Wrong(_)) => Ok(None),
-            Err(Stop::Memory) => Err(ReadError::Memory),
+            Err(stop) => {
+                let _fault = stop.fault()?;
+                Ok(None)
+            }
         }
     }
 }

@@ -4,18 +4,18 @@ use Rattle.std.proofs.lemmas.List.{take-append-le}
 use Rattle.std.proofs.Math.Seq.{drop-append_seam, drop-append-add, take-add, take-take}
 use Rattle.shgrammar.specs.declared.edition.Edition.{Edition}
 use Rattle.shgrammar.specs.declared.fault.Fault.{Fault}
-use Rattle.shgrammar.specs.Form.{Read}
 use Rattle.shpass.specs.declared.script_lines.LinesBefore.{LinesBefore}
-use Rattle.shpass.specs.declared.script_lines.ScriptLine.{ScriptLine}
-use Rattle.shpass.specs.declared.script_lines.ScriptLine.TheVariants.{Ended, Last, Faulty}
+use Rattle.shline.specs.declared.stop.Stop.{Stop}
+use Rattle.shline.specs.declared.stop.Stop.TheVariants.{Memory, Wrong}
+use Rattle.shline.specs.declared.told.Told.{Told}
 use Rattle.shpass.specs.declared.script_lines.ScriptLines.{ScriptLines}
 use Rattle.shgrammar.specs.Commands.{is_empty}
-use Rattle.shpass.specs.LineByLine.{Before, IsOuterLine, IsWholeLine, LineWithin, OuterReads, Rest, Stands, before_of, no_lines, place_of}
+use Rattle.shpass.specs.LineByLine.{Before, IsTold, IsWholeLine, LineWithin, OuterReads, Rest, Stands, before_of, no_lines, place_of}
 use Rattle.shgrammar.specs.declared.keep.Keep.TheVariants.{Whole}
 use Rattle.shast.specs.Moved.{blanked_row, moved_entry, outer_entry, placed_body}
 use Rattle.shgrammar.specs.Moved.{moved_fault}
 use Rattle.shgrammar.specs.Scripts.{AScript, FirstFault, Outcome, SoFar, faulty, is_blank_line, last_line, line_ended, nothing_yet, with_line}
-use Rattle.shgrammar.specs.Sights.{State}
+use Rattle.shgrammar.specs.Sights.{State, standing}
 use Rattle.shpass.proofs.LineByLine.{line_only, line_read}
 use Rattle.shgrammar.proofs.LineInPiece.{There, outer_alone, fault_there, stands_there, told_same}
 use Rattle.shgrammar.proofs.Passing.{line_there}
@@ -27,7 +27,7 @@ use Rattle.shast.specs.Nodes.{placed_span}
 use Rattle.shast.specs.View.{view_entry}
 use Rattle.shprint.specs.declared.layout.Layout.{Layout}
 use Rattle.shprint.specs.Printed.{print_entries, print_entry, printed}
-use Rattle.shpieces.specs.Printing.{ArePrinted, IsPrinted, moved_error}
+use Rattle.shpieces.specs.Printing.{ArePrinted, IsPrinted, error_of, moved_error}
 use Rattle.shpieces.specs.Printing.{IsNoText}
 use Rattle.shprint.specs.ReadBack.{IsTextOf, ReadsBack}
 use Rattle.shpieces.specs.declared.by_line.PrintError.{PrintError}
@@ -204,7 +204,7 @@ module _ {S : Type 0} (edition : Edition) (y : Layout) (H front : List ℕ) wher
         is = b.is H;
       }
 
-  module _ (old new : ScriptLines S) (by : old.edition ≡ edition) (text then : Sheet) (x : ScriptLine) (b : Between old text) (next : IsOuterLine H b.so old x new) where
+  module _ (old new : ScriptLines S) (by : old.edition ≡ edition) (text then : Sheet) (b : Between old text) where
     -- then these entries are printed
     abbrev Prints : List AnEntry → Type 0
     Prints es = then ≡ written text (print_entries y [] (shape_of H (entries_of es)))
@@ -218,9 +218,16 @@ module _ {S : Type 0} (edition : Edition) (y : Layout) (H front : List ℕ) wher
       alike : is_empty line ≡ is_empty (blanked_row (is_blank_line b.so) (map (moved_entry (length front + old.at)) es))
       prints : Prints (blanked_row (is_blank_line b.so) (map (moved_entry old.at) es))
 
-    -- what is read by the edition of the lines
-    reads_by : (r : Read (List AnEntry × Bool)) → OuterReads old.edition H b.so old.at r → OuterReads edition H b.so old.at r
-    reads_by r read = subst (λ e. OuterReads e H b.so old.at r) by read
+    -- what is told by the edition of the lines, and of the bytes of another source that are these
+    told_here : (other : List ℕ) (r : Result Told Stop) → other ≡ H → IsTold (OuterReads old.edition other b.so old.at) r → IsTold (OuterReads edition H b.so old.at) r
+    told_here other r same told =
+        subst (λ e. IsTold (OuterReads e H b.so old.at) r) by (subst (λ (B : List ℕ). IsTold (OuterReads old.edition B b.so old.at) r) same told)
+
+    -- the line of it
+    line_here : (other : List ℕ) (told : Told) (newline : Bool) → other ≡ H → told.newline ≡ newline → IsTold (OuterReads old.edition other b.so old.at) (Ok told)
+        → OuterReads edition H b.so old.at (Ok ((map view_entry told.entries.items, newline), standing told.len))
+    line_here other told newline same is read =
+        subst (λ (n : Bool). OuterReads edition H b.so old.at (Ok ((map view_entry told.entries.items, n), standing told.len))) is (told_here other (Ok told) same read)
 
     placed : (newline : Bool) (line : List AnEntry) (t : State)
         → OuterReads edition H b.so old.at (Ok ((line, newline), t)) → Prints line → Placed newline line t.at
@@ -239,27 +246,27 @@ module _ {S : Type 0} (edition : Edition) (y : Layout) (H front : List ℕ) wher
           prints = outer_printed y H q blank line a.0 text then a.3 is;
         }
 
-    behind_by : (line : Vec Entry Global) → IsOuterLine H b.so old (Ended line) new → Prints (map view_entry line.items) → Between new then
-    behind_by line ((t, ends, read), stands) is =
+    pub behind_line : (other : List ℕ) (told : Told) → other ≡ H → told.newline ≡ true → IsTold (OuterReads old.edition other b.so old.at) (Ok told)
+        → new.at ≡ old.at + told.len → Stands new (with_line b.so (map view_entry told.entries.items)) → Prints (map view_entry told.entries.items) → Between new then
+    behind_line other told same newline read ends stands is =
         let q = old.at in
         let n = length front + q in
-        let p = placed true (map view_entry line.items) t (reads_by (Ok ((map view_entry line.items, true), t)) read) is in
+        let line = map view_entry told.entries.items in
+        let p = placed true line (standing told.len) (line_here other told true same newline read) is in
         let here = blanked_row (is_blank_line b.so) (map (moved_entry n) p.es) in
         record {
           so = with_line b.so here;
-          stands = left_as new.before b.so (map view_entry line.items) here p.alike stands;
+          stands = left_as new.before b.so line here p.alike stands;
           from = λ s rest. b.from s (rest_more edition y H (front ++ H) q n b.so p.es p.t p.there s (length front + new.at) (omega (arith, ends, p.ends)) rest);
           is = sheet_more edition y H (front ++ H) q n b.so true p.es p.t p.there text then b.is p.prints;
         }
 
-    pub behind_line : (line : Vec Entry Global) → x ≡ Ended line → Prints (map view_entry line.items) → Between new then
-    behind_line line this is = behind_by line (rw this at next) is
-
-    last_by : (line : Vec Entry Global) → IsOuterLine H b.so old (Last line) new → Prints (map view_entry line.items) → IsTextOf edition y (front ++ H) then.so_far
-    last_by line ((t, ends, read), stands) is =
+    pub last_printed : (other : List ℕ) (told : Told) → other ≡ H → told.newline ≡ false → IsTold (OuterReads old.edition other b.so old.at) (Ok told)
+        → Prints (map view_entry told.entries.items) → IsTextOf edition y (front ++ H) then.so_far
+    last_printed other told same newline read is =
         let q = old.at in
         let n = length front + q in
-        let p = placed false (map view_entry line.items) t (reads_by (Ok ((map view_entry line.items, false), t)) read) is in
+        let p = placed false (map view_entry told.entries.items) (standing told.len) (line_here other told false same newline read) is in
         let all = entries_of (b.so.entries ++ blanked_row (is_blank_line b.so) (map (moved_entry n) p.es)) in
         let script : AScript = record { entries = all; wrong = None } in
         let outcome : Outcome edition (front ++ H) script = b.from script (rest_last edition y H (front ++ H) q n b.so p.es p.t p.there) in
@@ -267,22 +274,26 @@ module _ {S : Type 0} (edition : Edition) (y : Layout) (H front : List ℕ) wher
         ap (λ s. s.so_far) (sheet_more edition y H (front ++ H) q n b.so false p.es p.t p.there text then b.is p.prints ∙ written_first (print_entries y [] (shape_of (front ++ H) all))) in
         record { script = script; outcome = outcome; faultless = refl; is = told; reads_back = subst (λ t. ReadsBack edition t (shape_of (front ++ H) all)) (sym told) (reads_back edition y (front ++ H) script outcome) }
 
-    pub last_printed : (line : Vec Entry Global) → x ≡ Last line → Prints (map view_entry line.items) → IsTextOf edition y (front ++ H) then.so_far
-    last_printed line this is = last_by line (rw this at next) is
-
-    fault_by : (f : Fault) → IsOuterLine H b.so old (Faulty f) new → f.at ≤ length H → FirstFault edition (front ++ H) (Some (moved_fault (length front) f)) × (length front + f.at ≤ length (front ++ H))
-    fault_by f (read, stays) low =
+    fault_found : (f : Fault) → OuterReads edition H b.so old.at (Err f) → f.at ≤ length H
+        → FirstFault edition (front ++ H) (Some (moved_fault (length front) f)) × (length front + f.at ≤ length (front ++ H))
+    fault_found f read low =
         let q = old.at in
         let n = length front + q in
         let blank = is_blank_line b.so in
-        let there = fault_there edition H (front ++ H) (length front) q blank f (line_only edition H b.so q _ (reads_by (Err f) read)) (drop-append-add front H q) in
+        let there = fault_there edition H (front ++ H) (length front) q blank f (line_only edition H b.so q _ read) (drop-append-add front H q) in
         let line = line_read edition (front ++ H) b.so n blank _ refl there in (
           (entries_of b.so.entries, b.from _ (line.0, faulty (moved_fault (length front) f) line.0 line.1)),
           omega (arith, low, length-append front H),
         )
 
-    pub fault_found : (f : Fault) → x ≡ Faulty f → LineWithin (length H) x → FirstFault edition (front ++ H) (Some (moved_fault (length front) f)) × (length front + f.at ≤ length (front ++ H))
-    fault_found f this within = fault_by f (rw this at next) (rw this at within)
+    no_text_by : (stop : Stop) → IsTold (OuterReads edition H b.so old.at) (Err stop) → LineWithin (length H) (Err stop) → IsNoText edition (front ++ H) (moved_error (length front) (error_of stop))
+    no_text_by (Wrong f) read low = fault_found f read low
+    no_text_by Memory read low = tt
+
+    pub no_text : (other : List ℕ) (stop : Stop) → other ≡ H → IsTold (OuterReads old.edition other b.so old.at) (Err stop) → LineWithin (length other) (Err stop)
+        → IsNoText edition (front ++ H) (moved_error (length front) (error_of stop))
+    no_text other stop same told low =
+        no_text_by stop (told_here other (Err stop) same told) (subst (λ (B : List ℕ). LineWithin (length B) (Err stop)) same low)
 
 -- ---- a script that follows nothing
 

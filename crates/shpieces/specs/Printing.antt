@@ -1,30 +1,26 @@
 -- What is printed of a script that is read in pieces.
-use Rattle.std.specs.Prelude.{◌≡◌, ◌≤◌, ℕ, ◌++◌, List, [], length, Option, None, Some}
+use Rattle.std.specs.Prelude.{◌≡◌, ◌≤◌, ℕ, ◌++◌, List, [], length, Some}
 use Rattle.shpass.specs.declared.script_lines.LinesBefore.{LinesBefore}
 use Rattle.shpass.specs.LineByLine.{Before, Rest}
 use Rattle.shgrammar.specs.declared.edition.Edition.{Edition}
-use Rattle.shgrammar.specs.declared.fault.Fault.{Fault}
 use Rattle.shgrammar.specs.Moved.{moved_fault}
 use Rattle.shgrammar.specs.Scripts.{AScript, FirstFault, Outcome, SoFar}
 use Rattle.shast.specs.Shape.{shape_of}
 use Rattle.shast.specs.Tree.{entries_of}
+use Rattle.shline.specs.declared.stop.Stop.{Stop}
+use Rattle.shline.specs.declared.stop.Stop.TheVariants.{Wrong}
+use Rattle.shline.specs.declared.stop.Stop.TheVariants as the_stops
 use Rattle.shpieces.specs.declared.by_line.PrintError.{PrintError}
 use Rattle.shpieces.specs.declared.by_line.PrintError.TheVariants.{Faulty, Memory}
 use Rattle.shprint.specs.declared.layout.Layout.{Layout}
 use Rattle.shpieces.specs.declared.by_line.Printing.{Printing}
 use Rattle.shprint.specs.Printed.{print_entries}
-use Rattle.shprint.specs.ReadBack.{IsTextOf}
 use Rattle.shprint.specs.Written.{Sheet, sheet, sheet_of, written}
 
 -- why bytes have no printed text: their first fault, or that memory ran out
 abbrev pub IsNoText : Edition → List ℕ → PrintError → Type 0
 IsNoText edition bytes (Faulty fault) = FirstFault edition bytes (Some fault) × (fault.at ≤ length bytes)
 IsNoText edition bytes Memory = Unit {0}
-
--- what was printed for bytes, and their first fault
-abbrev pub Answers : Edition → Layout → List ℕ → List ℕ → Option Fault → Type 0
-Answers edition layout bytes text None = IsTextOf edition layout bytes text
-Answers edition layout bytes text (Some fault) = FirstFault edition bytes (Some fault) × (fault.at ≤ length bytes)
 
 -- The front of a script is lines without a fault, which leave this for the next one to know, and this is
 -- printed for them. Whatever follows it, the script is that of these lines and of what is read behind them.
@@ -41,6 +37,11 @@ edition_of printing = printing.edition
 abbrev pub IsPrinted : Edition → Layout → List ℕ → Printing → Type 0
 IsPrinted edition y front printing =
     ArePrinted edition y front printing.before (sheet printing.page) × (printing.page.margin.items ≡ []) × (printing.layout ≡ y) × (printing.edition ≡ edition)
+
+-- what stops a reading is why nothing is printed
+abbrev pub error_of : Stop → PrintError
+error_of (Wrong f) = Faulty f
+error_of the_stops.Memory = Memory
 
 -- an error of what follows so many bytes
 abbrev pub moved_error : ℕ → PrintError → PrintError

@@ -1,14 +1,14 @@
 //! Printing a script that is read a line at a time, and in pieces.
-ghost use Rattle.std.specs.Prelude.{◌≡◌, ◌-◌, ◌<◌, ◌≤◌, ◌++◌, ℕ, [], IfErr, IfOk, IfSome, List as Row, Some, length, option_map, slice_get, take};
-ghost use Rattle.shgrammar.specs.Moved.{moved_fault};
+ghost use Rattle.std.specs.Prelude.{◌≡◌, ◌-◌, ◌<◌, ◌≤◌, ◌++◌, ℕ, [], IfErr, IfOk, List as Row, Some, length, slice_get, take};
 ghost use Rattle.shgrammar.specs.Search.{StopsAt};
-ghost use Rattle.shpieces.specs.Printing.{IsErrorWithin, IsPrinted, edition_of, moved_error};
-ghost use Rattle.shpieces.specs.Printing.{Answers, IsNoText};
+ghost use Rattle.shpieces.specs.Printing.{IsErrorWithin, IsNoText, IsPrinted, edition_of, error_of, moved_error};
+ghost use Rattle.shpieces.specs.declared.by_line.PrintError.TheVariants.{Memory};
 ghost use Rattle.shprint.specs.ReadBack.{IsTextOf};
 
 use shast::{Entry, Spare};
 use shgrammar::{Edition, Fault};
-use shpass::{LinesBefore, ScriptLine, ScriptLines};
+use shline::Stop;
+use shpass::{LinesBefore, ScriptLines};
 use shprint::{Layout, Page, Printer};
 use shtext::Source;
 use std::alloc::{AllocError, Global};
@@ -23,6 +23,25 @@ pub enum PrintError {
     /// Memory ran out.
     #[error("out of memory")]
     Memory,
+}
+
+impl From<Stop> for PrintError {
+    ghost from_gives = { λ stop e. e ≡ error_of stop };
+
+    fn from(stop: Stop) -> PrintError {
+        match stop {
+            Stop::Wrong(fault) => PrintError::Faulty(fault),
+            Stop::Memory => PrintError::Memory,
+        }
+    }
+}
+
+impl From<AllocError> for PrintError {
+    ghost from_gives = { λ _ e. e ≡ Memory };
+
+    fn from(_e: AllocError) -> PrintError {
+        PrintError::Memory
+    }
 }
 
 /// Drops a line that was printed, and keeps its room if another one follows: behind the last line nothing
@@ -82,48 +101,12 @@ impl Printing {
         };
         let mut lines = ScriptLines::behind(self.alloc, self.edition, source, self.before);
         'lines: loop {
-            let Ok(line) = lines.read_whole_with(Some(&mut self.spare)) else {
-                return Err(AllocError);
-            };
-            let Some(entries) = line else {
+            let Some(entries) = lines.read_whole(Some(&mut self.spare))? else {
                 self.before = lines.before();
                 return Ok(lines.at());
             };
             printer.print_entries(&entries, &mut self.page)?;
             self.spare.give_back(entries);
-        }
-    }
-
-    /// Prints the lines of what follows, up to the end of the script. Answers the
-    /// first fault there, which ends the printing.
-    fn print_lines<S: Source>(&mut self, source: &S) -> Result<Option<Fault>, AllocError>
-        ensures answers { IfOk result (λ fault. (e : Edition) (y : Layout) (front : Row ℕ) → IsPrinted e y front self.old →
-            Answers e y (front ++ S.bytes source.now) self.new.page.text.items (option_map (moved_fault (length front)) fault)) }
-        ensures within { IfOk result (λ fault. IfSome fault (λ f. f.at ≤ length (S.bytes source.now))) }
-    {
-        let printer = Printer {
-            alloc: self.alloc,
-            layout: self.layout,
-            source,
-        };
-        // The text is about as long as the script. Where there is no room for all of it at once, it grows.
-        let _ = self.page.text.reserve_exact(source.len());
-        let mut lines = ScriptLines::behind(self.alloc, self.edition, source, self.before);
-        'lines: loop {
-            let Ok(line) = lines.read_outer_with(Some(&mut self.spare)) else {
-                return Err(AllocError);
-            };
-            match line {
-                ScriptLine::Ended(entries) => {
-                    printer.print_entries(&entries, &mut self.page)?;
-                    give_back_if(lines.at() < source.len(), entries, &mut self.spare);
-                }
-                ScriptLine::Last(entries) => {
-                    printer.print_entries(&entries, &mut self.page)?;
-                    return Ok(None);
-                }
-                ScriptLine::Faulty(fault) => return Ok(Some(fault)),
-            }
         }
     }
 
@@ -140,10 +123,21 @@ impl Printing {
             IsNoText e (front ++ S.bytes source.now) (moved_error (length front) error)) }
         ensures within { IfErr result (IsErrorWithin (length (S.bytes source.now))) }
     {
-        match self.print_lines(source) {
-            Ok(None) => Ok(self.page.text),
-            Ok(Some(fault)) => Err(PrintError::Faulty(fault)),
-            Err(_) => Err(PrintError::Memory),
+        let printer = Printer {
+            alloc: self.alloc,
+            layout: self.layout,
+            source,
+        };
+        // The text is about as long as the script. Where there is no room for all of it at once, it grows.
+        let _ = self.page.text.reserve_exact(source.len());
+        let mut lines = ScriptLines::behind(self.alloc, self.edition, source, self.before);
+        'lines: loop {
+            let told = lines.read_outer(Some(&mut self.spare))?;
+            printer.print_entries(&told.entries, &mut self.page)?;
+            if !told.newline {
+                return Ok(self.page.text);
+            }
+            give_back_if(lines.at() < source.len(), told.entries, &mut self.spare);
         }
     }
 }

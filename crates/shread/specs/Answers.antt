@@ -1,7 +1,9 @@
 -- What the answers of a reader are in the definitions, and its meter.
-use Rattle.std.specs.Prelude.{◌≡◌, ℕ, ◌-◌, ◌<◌, ◌≤◌, List, None, Some, length}
-use Rattle.shread.specs.declared.first_fault.Found.{Found}
-use Rattle.shread.specs.declared.first_fault.Found.TheVariants.{Here, Beyond, Nowhere}
+use Rattle.std.specs.Prelude.{◌≡◌, ℕ, ◌+◌, ◌-◌, ◌^◌, ◌<◌, ◌≤◌, Bool, true, false, List, None, Some, Result, Ok, Err, length}
+use Rattle.shline.specs.declared.stop.Stop.{Stop}
+use Rattle.shline.specs.declared.stop.Stop.TheVariants.{Memory, Wrong}
+use Rattle.shline.specs.declared.told.Told.{Told}
+use Rattle.shline.specs.Limits.{wants_memory}
 use Rattle.shread.specs.declared.reader.Reader.{Reader}
 use Rattle.shread.specs.declared.reader.Line as the_line
 use Rattle.shread.specs.declared.reader.LineKind as the_kind
@@ -28,8 +30,13 @@ edition_of reader = reader.edition
 abbrev pub meter_of : Reader → ℕ
 meter_of reader = reader.meter
 
--- what was found in the line at an offset is true of the first fault from there on
-abbrev pub Tells : Edition → List ℕ → ℕ → Found → Type 0
-Tells edition bytes at (Here fault) = (first_fault_from edition bytes at ≡ Some fault) × (fault.at ≤ length bytes)
-Tells edition bytes at (Beyond next) = (first_fault_from edition bytes at ≡ first_fault_from edition bytes next) × (at < next) × (next ≤ length bytes)
-Tells edition bytes at Nowhere = first_fault_from edition bytes at ≡ None
+-- The first fault from a line without one on is that behind it. Where no newline ended it there is none.
+abbrev pub NoneBefore : Edition → List ℕ → ℕ → ℕ → Bool → Type 0
+NoneBefore edition bytes p q true = (first_fault_from edition bytes p ≡ first_fault_from edition bytes q) × (p < q) × (q ≤ length bytes)
+NoneBefore edition bytes p q false = first_fault_from edition bytes p ≡ None
+
+-- what was told of the line at an offset is true of the first fault from there on
+abbrev pub Tells : Edition → List ℕ → ℕ → Result Told Stop → Type 0
+Tells edition bytes at (Ok told) = NoneBefore edition bytes at (at + told.len) told.newline × (at + told.len < 2 ^ 64)
+Tells edition bytes at (Err (Wrong fault)) = (first_fault_from edition bytes at ≡ Some fault) × (fault.at ≤ length bytes)
+Tells edition bytes at (Err Memory) = wants_memory 0 bytes ≡ true

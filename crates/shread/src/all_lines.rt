@@ -4,21 +4,19 @@ ghost use Rattle.shgrammar.specs.Scripts.{view_script};
 ghost use Rattle.shgrammar.specs.Scripts.{script_at};
 ghost use Rattle.shast.specs.Nodes.{AreWithin};
 
+use crate::error::ReadError;
 use shast::Entry;
 use shast::make::list_of;
 use shgrammar::{Edition, Script};
-use shpass::{ReadError, ScriptLine, ScriptLines};
+use shpass::ScriptLines;
 use shtext::Source;
-use std::alloc::Global;
+use std::alloc::{AllocError, Global};
 
 /// Puts the entries of a line behind those before it.
-fn add(entries: &mut Vec<Entry>, mut line: Vec<Entry>) -> Result<(), ReadError>
+fn add(entries: &mut Vec<Entry>, mut line: Vec<Entry>) -> Result<(), AllocError>
     ensures { IfOk result (λ done. entries.new.items ≡ entries.old.items ++ line.items) }
 {
-    if entries.append(&mut line).is_err() {
-        return Err(ReadError::Memory);
-    }
-    Ok(())
+    entries.append(&mut line)
 }
 
 /// A whole script. One without a byte wants no memory.
@@ -42,16 +40,18 @@ pub(crate) fn script_from<S: Source>(
     }
     let mut lines = ScriptLines::new(alloc, edition, source);
     'lines: loop {
-        match lines.read_next()? {
-            ScriptLine::Ended(line) => add(&mut entries, line)?,
-            ScriptLine::Last(line) => {
-                add(&mut entries, line)?;
-                return Ok(Script {
-                    list: list_of(entries),
-                    fault: None,
-                });
+        match lines.read_next(None) {
+            Ok(told) => {
+                add(&mut entries, told.entries)?;
+                if !told.newline {
+                    return Ok(Script {
+                        list: list_of(entries),
+                        fault: None,
+                    });
+                }
             }
-            ScriptLine::Faulty(fault) => {
+            Err(stop) => {
+                let fault = stop.fault()?;
                 return Ok(Script {
                     list: list_of(entries),
                     fault: Some(fault),

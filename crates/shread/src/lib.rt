@@ -8,11 +8,12 @@
 #![tactic(auto)]
 
 mod all_lines;
+mod error;
 mod first_fault;
 pub mod laws;
 mod one_line;
 mod reader;
 
+pub use error::ReadError;
 pub use reader::{Line, LineKind, Reader};
 pub use shgrammar::{Edition, Fault, FaultKind, Script};
-pub use shpass::ReadError;

@@ -5,12 +5,13 @@ ghost use Rattle.shgrammar.specs.Lines.{FaultWithin, kind_of};
 ghost use Rattle.shgrammar.specs.Scripts.{line_of_text};
 ghost use Rattle.shast.specs.View.{view_entry};
 
+use crate::error::ReadError;
 use crate::reader::{Line, LineKind};
 use shast::Entry;
 use shast::make::list_of;
 use shgrammar::{Edition, Keep};
-use shline::{Begin, How, KEPT, Stop, Told, line_at};
-use shpass::{ReadError, ends_in_newline};
+use shline::{Begin, How, KEPT, line_at};
+use shpass::ends_in_newline;
 use shtext::Source;
 use std::alloc::Global;
 
@@ -63,26 +64,19 @@ pub(crate) fn line_from<S: Source>(
         edition,
     };
     match line_at::<S, KEPT>(alloc, source, begin, how, None) {
-        Ok(
-            Told {
-                entries,
-                newline,
-                len,
-            },
-        ) => {
+        Ok(told) => {
             // The line of a delimiter may end with the source.
-            let ended = newline && ends_in_newline(source, at, len);
+            let ended = told.newline && ends_in_newline(source, at, told.len);
             Ok(Line {
-                kind: line_kind(entries, newline),
-                next: at + len,
+                kind: line_kind(told.entries, told.newline),
+                next: at + told.len,
                 ended,
             })
         }
-        Err(Stop::Wrong(fault)) => Ok(Line {
-            kind: LineKind::Faulty(fault),
+        Err(stop) => Ok(Line {
+            kind: LineKind::Faulty(stop.fault()?),
             next: end,
             ended: false,
         }),
-        Err(Stop::Memory) => Err(ReadError::Memory),
     }
 }

@@ -14,12 +14,12 @@ ghost use Rattle.shast.specs.Shape.{shape_of};
 ghost use Rattle.shast.specs.Spelling.{spelling};
 
 use crate::all_lines::script_from;
+use crate::error::ReadError;
 use crate::first_fault::first_fault_of;
 use crate::one_line::line_from;
 use shast::List;
 use shgrammar::{Edition, Fault, Script};
 use shline::SEEN;
-use shpass::ReadError;
 use shtext::Source;
 use std::alloc::Global;
 

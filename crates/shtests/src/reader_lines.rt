@@ -3,7 +3,8 @@
 // `shtreetests` and `dump.rt` say how they are written.
 use crate::dump::{Judge, dump_end, dump_fault};
 use crate::reader_trees::ROWS;
-use shpass::{ScriptLine, ScriptLines, faultless_front};
+use shline::Stop;
+use shpass::{ScriptLines, faultless_front};
 use shread::{Edition, Fault, Line, LineKind, Reader};
 use shtext::Flat;
 use shtree::make::list_of;
@@ -103,7 +104,7 @@ fn judge_whole(judge: &mut Judge, alloc: Global, row: &[Cell]) -> Result<(), Fai
     };
     let source = Flat::new(&script.bytes);
     let mut lines = ScriptLines::new(alloc, Edition::Y2017, &source);
-    let Some(entries) = lines.read_whole()? else {
+    let Some(entries) = lines.read_whole(None)? else {
         return judge.text(&script.bytes, "none", &wanted.bytes);
     };
     let line = Line {
@@ -137,10 +138,10 @@ fn judge_outer(judge: &mut Judge, alloc: Global, row: &[Cell]) -> Result<(), Fai
     };
     let source = Flat::new(&script.bytes);
     let mut lines = ScriptLines::new(alloc, Edition::Y2017, &source);
-    let (kind, ended) = match lines.read_outer_with(None)? {
-        ScriptLine::Ended(entries) => (LineKind::Entries(list_of(entries)), true),
-        ScriptLine::Last(entries) => (LineKind::Entries(list_of(entries)), false),
-        ScriptLine::Faulty(fault) => (LineKind::Faulty(fault), false),
+    let (kind, ended) = match lines.read_outer(None) {
+        Ok(told) => (LineKind::Entries(list_of(told.entries)), told.newline),
+        Err(Stop::Wrong(fault)) => (LineKind::Faulty(fault), false),
+        Err(Stop::Memory) => return Err(Fail::from("out of memory")),
     };
     let next = lines.at();
     judge.line(&script.bytes, &Line { kind, next, ended }, &wanted.bytes)

@@ -1,15 +1,16 @@
 // Lines that are read into vectors which earlier lines gave back: they have what they have without.
 use crate::reader_trees::ROWS;
 use shast::{Entry, Spare};
-use shpass::{LinesBefore, ScriptLine, ScriptLines};
+use shline::{Stop, Told};
+use shpass::{LinesBefore, ScriptLines};
 use shread::Edition;
 use shtext::Flat;
 use shtreetests::table::{rows, split};
 use std::alloc::Global;
 use std::test::Fail;
 
-/// What a line is, as text.
-fn told(alloc: Global, line: &ScriptLine) -> Result<String, Fail> {
+/// What was told of a line, as text.
+fn told(alloc: Global, line: &Result<Told, Stop>) -> Result<String, Fail> {
     let mut text = String::new(alloc);
     write!(text, "{line:?}")?;
     Ok(text)
@@ -22,14 +23,6 @@ fn told_whole(alloc: Global, line: &Option<Vec<Entry>>) -> Result<String, Fail> 
     Ok(text)
 }
 
-/// The entries of a line without a fault.
-fn entries_of(line: ScriptLine) -> Option<Vec<Entry>> {
-    match line {
-        ScriptLine::Ended(entries) | ScriptLine::Last(entries) => Some(entries),
-        ScriptLine::Faulty(_) => None,
-    }
-}
-
 /// Whether each line of a script is read the same with spare vectors. They are given back for the next one.
 fn are_alike(alloc: Global, script: &[u8], spare: &mut Spare) -> Result<bool, Fail> {
     let mut rest = script;
@@ -37,17 +30,17 @@ fn are_alike(alloc: Global, script: &[u8], spare: &mut Spare) -> Result<bool, Fa
     for _ in 0..=script.len() {
         let source = Flat::new(rest);
         let mut lines = ScriptLines::behind(alloc, Edition::Y2017, &source, before);
-        let line = lines.read_next()?;
-        let other = ScriptLines::behind(alloc, Edition::Y2017, &source, before).read_next_with(Some(
+        let line = lines.read_next(None);
+        let other = ScriptLines::behind(alloc, Edition::Y2017, &source, before).read_next(Some(
             &mut *spare,
-        ))?;
+        ));
         if told(alloc, &line)? != told(alloc, &other)? {
             return Ok(false);
         }
-        let Some(entries) = entries_of(other) else {
+        let Ok(other) = other else {
             break;
         };
-        spare.give_back(entries);
+        spare.give_back(other.entries);
         before = lines.before();
         rest = rest.get(lines.at()..).unwrap_or(b"");
     }
@@ -61,10 +54,10 @@ fn are_whole_alike(alloc: Global, script: &[u8], spare: &mut Spare) -> Result<bo
     for _ in 0..=script.len() {
         let source = Flat::new(rest);
         let mut lines = ScriptLines::behind(alloc, Edition::Y2017, &source, before);
-        let line = lines.read_whole()?;
-        let other = ScriptLines::behind(alloc, Edition::Y2017, &source, before).read_whole_with(
-            Some(&mut *spare),
-        )?;
+        let line = lines.read_whole(None)?;
+        let other = ScriptLines::behind(alloc, Edition::Y2017, &source, before).read_whole(Some(
+            &mut *spare,
+        ))?;
         if told_whole(alloc, &line)? != told_whole(alloc, &other)? {
             return Ok(false);
         }
@@ -107,10 +100,10 @@ fn taken(rt: HostRuntime) -> Result<(), Fail> {
     let mut spare = Spare::new(alloc);
     let source = Flat::new(b"a b\nc d\n");
     let mut lines = ScriptLines::new(alloc, Edition::Y2017, &source);
-    if let Some(entries) = lines.read_whole_with(Some(&mut spare))? {
+    if let Some(entries) = lines.read_whole(Some(&mut spare))? {
         spare.give_back(entries);
     }
-    let line = lines.read_whole_with(Some(&mut spare))?;
+    let line = lines.read_whole(Some(&mut spare))?;
     assert!(rt; line.is_some() && one_is_kept(alloc, &mut spare) == (false, false));
     if let Some(entries) = line {
         spare.give_back(entries);
@@ -126,10 +119,10 @@ fn none_taken_where_none_grows(rt: HostRuntime) -> Result<(), Fail> {
     let mut spare = Spare::new(alloc);
     let source = Flat::new(b"a; b; c; d; e\na $(b; c | d) \"$({ e; f; })\"\n");
     let mut lines = ScriptLines::new(alloc, Edition::Y2017, &source);
-    if let Some(entries) = lines.read_whole_with(Some(&mut spare))? {
+    if let Some(entries) = lines.read_whole(Some(&mut spare))? {
         spare.give_back(entries);
     }
-    let line = lines.read_whole_with(Some(&mut spare))?;
+    let line = lines.read_whole(Some(&mut spare))?;
     assert!(rt; line.is_some());
     for left in [true, true, true, true, false] {
         assert!(rt; one_is_kept(alloc, &mut spare) == (left, false));

@@ -5,7 +5,7 @@ use Rattle.shprint.specs.declared.layout.Layout.{Layout}
 use Rattle.shpieces.specs.Printing.{IsPrinted}
 use Rattle.shprint.specs.Written.{sheet}
 use Rattle.shpieces.proofs.ByLine.{Between}
-use Rattle.shpieces.proofs.by_line.Printing.print_lines.Given as goal
+use Rattle.shpieces.proofs.by_line.Printing.print_rest.Given as goal
 
 abbrev pub invariant-lines : goal.invariant-lines
 invariant-lines g l =
