@@ -2,9 +2,9 @@
 //! script: itself, and then what it holds from left to right.
 #![tactic(auto, using(crate::proofs::Gathering::gathered_append, crate::proofs::Gathering::gathered_none))]
 
-ghost use Rattle.std.specs.Prelude.{◌≡◌, [], ◌∷◌, ◌++◌, Bool, IfOk, false, map, option_map};
+ghost use Rattle.std.specs.Prelude.{◌≡◌, [], ◌∷◌, ◌++◌, Bool, false, map, option_map};
 ghost use Rattle.std.specs.Option.{option_to_list};
-ghost use Rattle.shtree.specs.Gathered.{Keeps, gathered};
+ghost use Rattle.shtree.specs.Gathered.{Gathers};
 ghost use Rattle.shast.specs.declared.node.NodeLine.{NodeLine};
 ghost use Rattle.shast.specs.Nodes.{and_or_node, and_or_nodes, and_or_parts_nodes, branch_nodes, branches_nodes, case_nodes, cases_nodes, command_nodes, comment_node, compound_nodes, content_nodes, entries_nodes, entry_nodes, form_node, form_nodes, item_nodes, items_nodes, patterns_nodes, pipeline_node, pipeline_nodes, pipes_nodes, subst_nodes, substs_nodes, word_nodes};
 ghost use Rattle.shast.specs.Tree.{and_or_parts_of, branches_of, cases_of, entries_of, item, items_of, patterns_of, pipeline_parts_of, substs_of};
@@ -28,8 +28,7 @@ pub(crate) trait Wanted: Copy {
 /// Adds a node, if it is wanted.
 #[tactic(auto, using(crate::proofs::Gathering::gathered_wanted, crate::proofs::Gathering::gathered_unwanted))]
 fn add<W: Wanted>(line: NodeLine, wanted: W, lines: &mut Vec<NodeLine>) -> Result<(), AllocError>
-    ensures ok { IfOk result (λ _. lines.new.items ≡ gathered (W.is_wanted wanted) lines.old.items (line ∷ [])) }
-    ensures kept { Keeps lines.old.items lines.new.items }
+    ensures { Gathers (W.is_wanted wanted) lines.old.items result lines.new.items (line ∷ []) }
 {
     if wanted.wants(&line) {
         lines.push(line)?;
@@ -42,8 +41,8 @@ fn add_comment<W: Wanted>(
     wanted: W,
     lines: &mut Vec<NodeLine>,
 ) -> Result<(), AllocError>
-    ensures ok { IfOk result (λ _. lines.new.items ≡ gathered (W.is_wanted wanted) lines.old.items (comment_node (view_comment comment.now) ∷ [])) }
-    ensures kept { Keeps lines.old.items lines.new.items }
+    ensures { Gathers (W.is_wanted wanted) lines.old.items result lines.new.items
+        (comment_node (view_comment comment.now) ∷ []) }
 {
     add(
         NodeLine::new(NodeKind::Comment, comment.span),
@@ -58,8 +57,8 @@ fn add_own_comment<W: Wanted>(
     wanted: W,
     lines: &mut Vec<NodeLine>,
 ) -> Result<(), AllocError>
-    ensures ok { IfOk result (λ _. lines.new.items ≡ gathered (W.is_wanted wanted) lines.old.items (map comment_node (option_to_list (option_map view_comment comment.now)))) }
-    ensures kept { Keeps lines.old.items lines.new.items }
+    ensures { Gathers (W.is_wanted wanted) lines.old.items result lines.new.items
+        (map comment_node (option_to_list (option_map view_comment comment.now))) }
 {
     match comment {
         Some(comment) => add_comment(comment, wanted, lines),
@@ -67,14 +66,13 @@ fn add_own_comment<W: Wanted>(
     }
 }
 
-#[tactic(auto, using(crate::proofs::Gathering::gathered_append, crate::proofs::Gathering::gathered_none, crate::proofs::Gathering::from_end, crate::proofs::Gathering::comments_are))]
 fn add_comments<W: Wanted>(
     comments: &[Comment],
     wanted: W,
     lines: &mut Vec<NodeLine>,
 ) -> Result<(), AllocError>
-    ensures ok { IfOk result (λ _. lines.new.items ≡ gathered (W.is_wanted wanted) lines.old.items (map comment_node (map view_comment comments.now))) }
-    ensures kept { Keeps lines.old.items lines.new.items }
+    ensures { Gathers (W.is_wanted wanted) lines.old.items result lines.new.items
+        (map comment_node (map view_comment comments.now)) }
 {
     for comment in comments {
         add_comment(comment, wanted, lines)?;
@@ -88,8 +86,8 @@ fn add_and_or<W: Wanted>(
     wanted: W,
     lines: &mut Vec<NodeLine>,
 ) -> Result<(), AllocError>
-    ensures ok { IfOk result (λ _. lines.new.items ≡ gathered (W.is_wanted wanted) lines.old.items (and_or_node (view_and_or and_or.now))) }
-    ensures kept { Keeps lines.old.items lines.new.items }
+    ensures { Gathers (W.is_wanted wanted) lines.old.items result lines.new.items
+        (and_or_node (view_and_or and_or.now)) }
 {
     if and_or.rest.is_empty() {
         return Ok(());
@@ -107,8 +105,8 @@ fn add_pipeline<W: Wanted>(
     wanted: W,
     lines: &mut Vec<NodeLine>,
 ) -> Result<(), AllocError>
-    ensures ok { IfOk result (λ _. lines.new.items ≡ gathered (W.is_wanted wanted) lines.old.items (pipeline_node (view_pipeline pipeline.now))) }
-    ensures kept { Keeps lines.old.items lines.new.items }
+    ensures { Gathers (W.is_wanted wanted) lines.old.items result lines.new.items
+        (pipeline_node (view_pipeline pipeline.now)) }
 {
     if pipeline.bang.is_none() && pipeline.rest.is_empty() {
         return Ok(());
@@ -142,21 +140,20 @@ pub(crate) fn visit_list<W: Wanted>(
     wanted: W,
     lines: &mut Vec<NodeLine>,
 ) -> Result<(), AllocError>
-    ensures ok { IfOk result (λ _. lines.new.items ≡ gathered (W.is_wanted wanted) lines.old.items (entries_nodes (view_list list.now))) }
-    ensures kept { Keeps lines.old.items lines.new.items }
+    ensures { Gathers (W.is_wanted wanted) lines.old.items result lines.new.items
+        (entries_nodes (view_list list.now)) }
 {
     visit_entries(&list.entries, wanted, lines)
 }
 
 #[cycle(visit)]
-#[tactic(auto, using(crate::proofs::Gathering::gathered_append, crate::proofs::Gathering::gathered_none, crate::proofs::Gathering::from_end, crate::proofs::Gathering::entries_are))]
 fn visit_entries<W: Wanted>(
     entries: &[Entry],
     wanted: W,
     lines: &mut Vec<NodeLine>,
 ) -> Result<(), AllocError>
-    ensures ok { IfOk result (λ _. lines.new.items ≡ gathered (W.is_wanted wanted) lines.old.items (entries_nodes (entries_of (map view_entry entries.now)))) }
-    ensures kept { Keeps lines.old.items lines.new.items }
+    ensures { Gathers (W.is_wanted wanted) lines.old.items result lines.new.items
+        (entries_nodes (entries_of (map view_entry entries.now))) }
 {
     for entry in entries {
         visit_entry(entry, wanted, lines)?;
@@ -170,8 +167,8 @@ fn visit_entry<W: Wanted>(
     wanted: W,
     lines: &mut Vec<NodeLine>,
 ) -> Result<(), AllocError>
-    ensures ok { IfOk result (λ _. lines.new.items ≡ gathered (W.is_wanted wanted) lines.old.items (entry_nodes (view_entry entry.now))) }
-    ensures kept { Keeps lines.old.items lines.new.items }
+    ensures { Gathers (W.is_wanted wanted) lines.old.items result lines.new.items
+        (entry_nodes (view_entry entry.now)) }
 {
     visit_content(&entry.what, wanted, lines)?;
     add_own_comment(&entry.comment, wanted, lines)
@@ -183,8 +180,8 @@ fn visit_content<W: Wanted>(
     wanted: W,
     lines: &mut Vec<NodeLine>,
 ) -> Result<(), AllocError>
-    ensures ok { IfOk result (λ _. lines.new.items ≡ gathered (W.is_wanted wanted) lines.old.items (content_nodes (view_content content.now))) }
-    ensures kept { Keeps lines.old.items lines.new.items }
+    ensures { Gathers (W.is_wanted wanted) lines.old.items result lines.new.items
+        (content_nodes (view_content content.now)) }
 {
     match content {
         Content::AndOr(and_or) => visit_and_or(and_or, wanted, lines),
@@ -198,8 +195,8 @@ fn visit_and_or<W: Wanted>(
     wanted: W,
     lines: &mut Vec<NodeLine>,
 ) -> Result<(), AllocError>
-    ensures ok { IfOk result (λ _. lines.new.items ≡ gathered (W.is_wanted wanted) lines.old.items (and_or_nodes (view_and_or and_or.now))) }
-    ensures kept { Keeps lines.old.items lines.new.items }
+    ensures { Gathers (W.is_wanted wanted) lines.old.items result lines.new.items
+        (and_or_nodes (view_and_or and_or.now)) }
 {
     add_and_or(and_or, wanted, lines)?;
     visit_pipeline(&and_or.first, wanted, lines)?;
@@ -207,14 +204,13 @@ fn visit_and_or<W: Wanted>(
 }
 
 #[cycle(visit)]
-#[tactic(auto, using(crate::proofs::Gathering::gathered_append, crate::proofs::Gathering::gathered_none, crate::proofs::Gathering::from_end, crate::proofs::Gathering::parts_are))]
 fn visit_and_or_parts<W: Wanted>(
     parts: &[AndOrPart],
     wanted: W,
     lines: &mut Vec<NodeLine>,
 ) -> Result<(), AllocError>
-    ensures ok { IfOk result (λ _. lines.new.items ≡ gathered (W.is_wanted wanted) lines.old.items (and_or_parts_nodes (and_or_parts_of (map view_and_or_part parts.now)))) }
-    ensures kept { Keeps lines.old.items lines.new.items }
+    ensures { Gathers (W.is_wanted wanted) lines.old.items result lines.new.items
+        (and_or_parts_nodes (and_or_parts_of (map view_and_or_part parts.now))) }
 {
     for part in parts {
         visit_and_or_part(part, wanted, lines)?;
@@ -228,8 +224,9 @@ fn visit_and_or_part<W: Wanted>(
     wanted: W,
     lines: &mut Vec<NodeLine>,
 ) -> Result<(), AllocError>
-    ensures ok { IfOk result (λ _. lines.new.items ≡ gathered (W.is_wanted wanted) lines.old.items (map comment_node (view_and_or_part part.now).join.comments ++ pipeline_nodes (view_and_or_part part.now).pipeline)) }
-    ensures kept { Keeps lines.old.items lines.new.items }
+    ensures { let p = view_and_or_part part.now in
+        Gathers (W.is_wanted wanted) lines.old.items result lines.new.items
+        (map comment_node p.join.comments ++ pipeline_nodes p.pipeline) }
 {
     add_comments(&part.join.comments, wanted, lines)?;
     visit_pipeline(&part.pipeline, wanted, lines)
@@ -241,8 +238,8 @@ fn visit_pipeline<W: Wanted>(
     wanted: W,
     lines: &mut Vec<NodeLine>,
 ) -> Result<(), AllocError>
-    ensures ok { IfOk result (λ _. lines.new.items ≡ gathered (W.is_wanted wanted) lines.old.items (pipeline_nodes (view_pipeline pipeline.now))) }
-    ensures kept { Keeps lines.old.items lines.new.items }
+    ensures { Gathers (W.is_wanted wanted) lines.old.items result lines.new.items
+        (pipeline_nodes (view_pipeline pipeline.now)) }
 {
     add_pipeline(pipeline, wanted, lines)?;
     visit_command(&pipeline.first, wanted, lines)?;
@@ -250,14 +247,13 @@ fn visit_pipeline<W: Wanted>(
 }
 
 #[cycle(visit)]
-#[tactic(auto, using(crate::proofs::Gathering::gathered_append, crate::proofs::Gathering::gathered_none, crate::proofs::Gathering::from_end, crate::proofs::Gathering::pipes_are))]
 fn visit_pipes<W: Wanted>(
     parts: &[PipelinePart],
     wanted: W,
     lines: &mut Vec<NodeLine>,
 ) -> Result<(), AllocError>
-    ensures ok { IfOk result (λ _. lines.new.items ≡ gathered (W.is_wanted wanted) lines.old.items (pipes_nodes (pipeline_parts_of (map view_pipeline_part parts.now)))) }
-    ensures kept { Keeps lines.old.items lines.new.items }
+    ensures { Gathers (W.is_wanted wanted) lines.old.items result lines.new.items
+        (pipes_nodes (pipeline_parts_of (map view_pipeline_part parts.now))) }
 {
     for part in parts {
         visit_pipe(part, wanted, lines)?;
@@ -271,8 +267,9 @@ fn visit_pipe<W: Wanted>(
     wanted: W,
     lines: &mut Vec<NodeLine>,
 ) -> Result<(), AllocError>
-    ensures ok { IfOk result (λ _. lines.new.items ≡ gathered (W.is_wanted wanted) lines.old.items (map comment_node (view_pipeline_part part.now).join.comments ++ command_nodes (view_pipeline_part part.now).command)) }
-    ensures kept { Keeps lines.old.items lines.new.items }
+    ensures { let p = view_pipeline_part part.now in
+        Gathers (W.is_wanted wanted) lines.old.items result lines.new.items
+        (map comment_node p.join.comments ++ command_nodes p.command) }
 {
     add_comments(&part.join.comments, wanted, lines)?;
     visit_command(&part.command, wanted, lines)
@@ -284,8 +281,8 @@ fn visit_command<W: Wanted>(
     wanted: W,
     lines: &mut Vec<NodeLine>,
 ) -> Result<(), AllocError>
-    ensures ok { IfOk result (λ _. lines.new.items ≡ gathered (W.is_wanted wanted) lines.old.items (command_nodes (view_command command.now))) }
-    ensures kept { Keeps lines.old.items lines.new.items }
+    ensures { Gathers (W.is_wanted wanted) lines.old.items result lines.new.items
+        (command_nodes (view_command command.now)) }
 {
     match command {
         Command::Simple { items } => {
@@ -307,8 +304,8 @@ fn visit_function<W: Wanted>(
     wanted: W,
     lines: &mut Vec<NodeLine>,
 ) -> Result<(), AllocError>
-    ensures ok { IfOk result (λ _. lines.new.items ≡ gathered (W.is_wanted wanted) lines.old.items (command_nodes (view_function function.now))) }
-    ensures kept { Keeps lines.old.items lines.new.items }
+    ensures { Gathers (W.is_wanted wanted) lines.old.items result lines.new.items
+        (command_nodes (view_function function.now)) }
 {
     let span = function_span(function);
     add(
@@ -326,8 +323,8 @@ fn visit_compound<W: Wanted>(
     wanted: W,
     lines: &mut Vec<NodeLine>,
 ) -> Result<(), AllocError>
-    ensures ok { IfOk result (λ _. lines.new.items ≡ gathered (W.is_wanted wanted) lines.old.items (compound_nodes (view_compound compound.now))) }
-    ensures kept { Keeps lines.old.items lines.new.items }
+    ensures { Gathers (W.is_wanted wanted) lines.old.items result lines.new.items
+        (compound_nodes (view_compound compound.now)) }
 {
     add(
         form_line(&compound.form, compound_span(compound)),
@@ -344,8 +341,8 @@ fn visit_form<W: Wanted>(
     wanted: W,
     lines: &mut Vec<NodeLine>,
 ) -> Result<(), AllocError>
-    ensures ok { IfOk result (λ _. lines.new.items ≡ gathered (W.is_wanted wanted) lines.old.items (form_nodes (view_form form.now))) }
-    ensures kept { Keeps lines.old.items lines.new.items }
+    ensures { Gathers (W.is_wanted wanted) lines.old.items result lines.new.items
+        (form_nodes (view_form form.now)) }
 {
     match form {
         Form::Brace(list) | Form::Subshell(list) => visit_list(list, wanted, lines),
@@ -384,22 +381,21 @@ fn visit_branch<W: Wanted>(
     wanted: W,
     lines: &mut Vec<NodeLine>,
 ) -> Result<(), AllocError>
-    ensures ok { IfOk result (λ _. lines.new.items ≡ gathered (W.is_wanted wanted) lines.old.items (branch_nodes (view_branch branch.now))) }
-    ensures kept { Keeps lines.old.items lines.new.items }
+    ensures { Gathers (W.is_wanted wanted) lines.old.items result lines.new.items
+        (branch_nodes (view_branch branch.now)) }
 {
     visit_list(&branch.condition, wanted, lines)?;
     visit_list(&branch.body, wanted, lines)
 }
 
 #[cycle(visit)]
-#[tactic(auto, using(crate::proofs::Gathering::gathered_append, crate::proofs::Gathering::gathered_none, crate::proofs::Gathering::from_end, crate::proofs::Gathering::branches_are))]
 fn visit_branches<W: Wanted>(
     branches: &[Branch],
     wanted: W,
     lines: &mut Vec<NodeLine>,
 ) -> Result<(), AllocError>
-    ensures ok { IfOk result (λ _. lines.new.items ≡ gathered (W.is_wanted wanted) lines.old.items (branches_nodes (branches_of (map view_branch branches.now)))) }
-    ensures kept { Keeps lines.old.items lines.new.items }
+    ensures { Gathers (W.is_wanted wanted) lines.old.items result lines.new.items
+        (branches_nodes (branches_of (map view_branch branches.now))) }
 {
     for branch in branches {
         visit_branch(branch, wanted, lines)?;
@@ -408,14 +404,13 @@ fn visit_branches<W: Wanted>(
 }
 
 #[cycle(visit)]
-#[tactic(auto, using(crate::proofs::Gathering::gathered_append, crate::proofs::Gathering::gathered_none, crate::proofs::Gathering::from_end, crate::proofs::Gathering::cases_are))]
 fn visit_cases<W: Wanted>(
     items: &[CaseItem],
     wanted: W,
     lines: &mut Vec<NodeLine>,
 ) -> Result<(), AllocError>
-    ensures ok { IfOk result (λ _. lines.new.items ≡ gathered (W.is_wanted wanted) lines.old.items (cases_nodes (cases_of (map view_case_item items.now)))) }
-    ensures kept { Keeps lines.old.items lines.new.items }
+    ensures { Gathers (W.is_wanted wanted) lines.old.items result lines.new.items
+        (cases_nodes (cases_of (map view_case_item items.now))) }
 {
     for item in items {
         visit_case(item, wanted, lines)?;
@@ -429,8 +424,8 @@ fn visit_case<W: Wanted>(
     wanted: W,
     lines: &mut Vec<NodeLine>,
 ) -> Result<(), AllocError>
-    ensures ok { IfOk result (λ _. lines.new.items ≡ gathered (W.is_wanted wanted) lines.old.items (case_nodes (view_case_item item.now))) }
-    ensures kept { Keeps lines.old.items lines.new.items }
+    ensures { Gathers (W.is_wanted wanted) lines.old.items result lines.new.items
+        (case_nodes (view_case_item item.now)) }
 {
     add(NodeLine::new(NodeKind::Item, item.span), wanted, lines)?;
     add_comments(&item.comments, wanted, lines)?;
@@ -439,14 +434,13 @@ fn visit_case<W: Wanted>(
 }
 
 #[cycle(visit)]
-#[tactic(auto, using(crate::proofs::Gathering::gathered_append, crate::proofs::Gathering::gathered_none, crate::proofs::Gathering::from_end, crate::proofs::Gathering::patterns_are))]
 fn visit_patterns<W: Wanted>(
     patterns: &[Word],
     wanted: W,
     lines: &mut Vec<NodeLine>,
 ) -> Result<(), AllocError>
-    ensures ok { IfOk result (λ _. lines.new.items ≡ gathered (W.is_wanted wanted) lines.old.items (patterns_nodes (patterns_of (map view_word patterns.now)))) }
-    ensures kept { Keeps lines.old.items lines.new.items }
+    ensures { Gathers (W.is_wanted wanted) lines.old.items result lines.new.items
+        (patterns_nodes (patterns_of (map view_word patterns.now))) }
 {
     for pattern in patterns {
         visit_word(pattern, wanted, lines)?;
@@ -455,14 +449,13 @@ fn visit_patterns<W: Wanted>(
 }
 
 #[cycle(visit)]
-#[tactic(auto, using(crate::proofs::Gathering::gathered_append, crate::proofs::Gathering::gathered_none, crate::proofs::Gathering::from_end, crate::proofs::Gathering::items_are))]
 fn visit_items<W: Wanted>(
     items: &[Item],
     wanted: W,
     lines: &mut Vec<NodeLine>,
 ) -> Result<(), AllocError>
-    ensures ok { IfOk result (λ _. lines.new.items ≡ gathered (W.is_wanted wanted) lines.old.items (items_nodes (items_of (map view_item items.now)))) }
-    ensures kept { Keeps lines.old.items lines.new.items }
+    ensures { Gathers (W.is_wanted wanted) lines.old.items result lines.new.items
+        (items_nodes (items_of (map view_item items.now))) }
 {
     for item in items {
         visit_item(item, wanted, lines)?;
@@ -477,8 +470,8 @@ fn visit_item<W: Wanted>(
     wanted: W,
     lines: &mut Vec<NodeLine>,
 ) -> Result<(), AllocError>
-    ensures ok { IfOk result (λ _. lines.new.items ≡ gathered (W.is_wanted wanted) lines.old.items (item_nodes (view_item item.now))) }
-    ensures kept { Keeps lines.old.items lines.new.items }
+    ensures { Gathers (W.is_wanted wanted) lines.old.items result lines.new.items
+        (item_nodes (view_item item.now)) }
 {
     match &item.what {
         ItemContent::Assign(word) => {
@@ -496,8 +489,8 @@ fn visit_redirection<W: Wanted>(
     wanted: W,
     lines: &mut Vec<NodeLine>,
 ) -> Result<(), AllocError>
-    ensures ok { IfOk result (λ _. lines.new.items ≡ gathered (W.is_wanted wanted) lines.old.items (item_nodes (item false (view_redirection redirect.now)))) }
-    ensures kept { Keeps lines.old.items lines.new.items }
+    ensures { Gathers (W.is_wanted wanted) lines.old.items result lines.new.items
+        (item_nodes (item false (view_redirection redirect.now))) }
 {
     add(
         NodeLine::new(NodeKind::Redirect, redirection_span(redirect)),
@@ -513,22 +506,21 @@ fn visit_word<W: Wanted>(
     wanted: W,
     lines: &mut Vec<NodeLine>,
 ) -> Result<(), AllocError>
-    ensures ok { IfOk result (λ _. lines.new.items ≡ gathered (W.is_wanted wanted) lines.old.items (word_nodes (view_word word.now))) }
-    ensures kept { Keeps lines.old.items lines.new.items }
+    ensures { Gathers (W.is_wanted wanted) lines.old.items result lines.new.items
+        (word_nodes (view_word word.now)) }
 {
     add(NodeLine::new(NodeKind::Word, word.span), wanted, lines)?;
     visit_substs(&word.substs, wanted, lines)
 }
 
 #[cycle(visit)]
-#[tactic(auto, using(crate::proofs::Gathering::gathered_append, crate::proofs::Gathering::gathered_none, crate::proofs::Gathering::from_end, crate::proofs::Gathering::substs_are))]
 fn visit_substs<W: Wanted>(
     substs: &[Subst],
     wanted: W,
     lines: &mut Vec<NodeLine>,
 ) -> Result<(), AllocError>
-    ensures ok { IfOk result (λ _. lines.new.items ≡ gathered (W.is_wanted wanted) lines.old.items (substs_nodes (substs_of (map view_subst substs.now)))) }
-    ensures kept { Keeps lines.old.items lines.new.items }
+    ensures { Gathers (W.is_wanted wanted) lines.old.items result lines.new.items
+        (substs_nodes (substs_of (map view_subst substs.now))) }
 {
     for subst in substs {
         visit_subst(subst, wanted, lines)?;
@@ -542,8 +534,8 @@ fn visit_subst<W: Wanted>(
     wanted: W,
     lines: &mut Vec<NodeLine>,
 ) -> Result<(), AllocError>
-    ensures ok { IfOk result (λ _. lines.new.items ≡ gathered (W.is_wanted wanted) lines.old.items (subst_nodes (view_subst subst.now))) }
-    ensures kept { Keeps lines.old.items lines.new.items }
+    ensures { Gathers (W.is_wanted wanted) lines.old.items result lines.new.items
+        (subst_nodes (view_subst subst.now)) }
 {
     add(NodeLine::new(NodeKind::Subst, subst.span), wanted, lines)?;
     visit_list(&subst.list, wanted, lines)
