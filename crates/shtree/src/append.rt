@@ -4,10 +4,11 @@
 //! appended. Each function copies one part of a script.
 #![tactic(auto, using(crate::proofs::Carrying::entries_carried, crate::proofs::Carrying::and_or_parts_carried, crate::proofs::Carrying::pipes_carried, crate::proofs::Carrying::branches_carried, crate::proofs::Carrying::cases_carried, crate::proofs::Carrying::patterns_carried, crate::proofs::Carrying::items_carried, crate::proofs::Carrying::substs_carried))]
 
-ghost use Rattle.std.specs.Prelude.{◌≡◌, ◌-◌, IfOk, map, option_map, OnErr, OnOk, true};
+ghost use Rattle.std.specs.Prelude.{◌≡◌, ◌-◌, IfOk, map, option_map, OnErr, OnOk};
 ghost use Rattle.shast.specs.Capped.{capped, capped_body};
 ghost use Rattle.shast.specs.Everywhere.{AllWithin};
 ghost use Rattle.shast.specs.Moved.{appended, carried, carried_and_or, carried_and_or_part, carried_branch, carried_case, carried_command, carried_compound, carried_content, carried_else, carried_entry, carried_form, carried_here, carried_item, carried_item_content, carried_join, carried_pipe, carried_pipeline, carried_subst, carried_word, moved};
+ghost use Rattle.shtree.specs.Carried.{Carries, CarriesAll};
 ghost use Rattle.shast.specs.Tree.{argument, assign, command, entry, item, remark};
 ghost use Rattle.shast.specs.View.{view_and_or, view_and_or_part, view_branch, view_case_item, view_command, view_comment, view_compound, view_content, view_entry, view_form, view_function, view_here, view_item, view_item_content, view_join, view_list, view_otherwise, view_pipeline, view_pipeline_part, view_redirection, view_subst, view_word};
 
@@ -184,7 +185,7 @@ fn redirect_content(redirection: Box<Redirection>) -> ItemContent
 
 #[cycle(carry)]
 fn carry_list(alloc: Global, list: &List, base: usize) -> Result<List, AllocError>
-    ensures { IfOk result (λ made. view_list made ≡ carried (capped base) (capped_body base) true (view_list list.now)) }
+    ensures { Carries base carried view_list list.now result }
 {
     Ok(list_of(carry_entries(alloc, &list.entries, base)?))
 }
@@ -192,7 +193,7 @@ fn carry_list(alloc: Global, list: &List, base: usize) -> Result<List, AllocErro
 #[cycle(carry)]
 #[tactic(auto, using(crate::proofs::Carrying::still_first, crate::proofs::Carrying::still_last))]
 fn carry_entries(alloc: Global, entries: &[Entry], base: usize) -> Result<Vec<Entry>, AllocError>
-    ensures { IfOk result (λ made. map view_entry made.items ≡ map (carried_entry (capped base) (capped_body base) true) (map view_entry entries.now)) }
+    ensures { CarriesAll base carried_entry view_entry entries.now result }
 {
     let mut made = Vec::new(alloc);
     for entry in entries {
@@ -203,7 +204,7 @@ fn carry_entries(alloc: Global, entries: &[Entry], base: usize) -> Result<Vec<En
 
 #[cycle(carry)]
 fn carry_entry(alloc: Global, entry: &Entry, base: usize) -> Result<Entry, AllocError>
-    ensures { IfOk result (λ made. view_entry made ≡ carried_entry (capped base) (capped_body base) true (view_entry entry.now)) }
+    ensures { Carries base carried_entry view_entry entry.now result }
 {
     let what = carry_content(alloc, &entry.what, base)?;
     let comment = carry_own_comment(entry.comment, base);
@@ -212,7 +213,7 @@ fn carry_entry(alloc: Global, entry: &Entry, base: usize) -> Result<Entry, Alloc
 
 #[cycle(carry)]
 fn carry_content(alloc: Global, content: &Content, base: usize) -> Result<Content, AllocError>
-    ensures { IfOk result (λ made. view_content made ≡ carried_content (capped base) (capped_body base) true (view_content content.now)) }
+    ensures { Carries base carried_content view_content content.now result }
 {
     match content {
         Content::AndOr(and_or) => Ok(command_content(carry_and_or(alloc, and_or, base)?)),
@@ -222,7 +223,7 @@ fn carry_content(alloc: Global, content: &Content, base: usize) -> Result<Conten
 
 #[cycle(carry)]
 fn carry_and_or(alloc: Global, and_or: &AndOr, base: usize) -> Result<AndOr, AllocError>
-    ensures { IfOk result (λ made. view_and_or made ≡ carried_and_or (capped base) (capped_body base) true (view_and_or and_or.now)) }
+    ensures { Carries base carried_and_or view_and_or and_or.now result }
 {
     let first = carry_pipeline(alloc, &and_or.first, base)?;
     Ok(and_or_of(first, carry_and_or_parts(alloc, &and_or.rest, base)?))
@@ -235,7 +236,7 @@ fn carry_and_or_parts(
     parts: &[AndOrPart],
     base: usize,
 ) -> Result<Vec<AndOrPart>, AllocError>
-    ensures { IfOk result (λ made. map view_and_or_part made.items ≡ map (carried_and_or_part (capped base) (capped_body base) true) (map view_and_or_part parts.now)) }
+    ensures { CarriesAll base carried_and_or_part view_and_or_part parts.now result }
 {
     let mut made = Vec::new(alloc);
     for part in parts {
@@ -246,7 +247,7 @@ fn carry_and_or_parts(
 
 #[cycle(carry)]
 fn carry_and_or_part(alloc: Global, part: &AndOrPart, base: usize) -> Result<AndOrPart, AllocError>
-    ensures { IfOk result (λ made. view_and_or_part made ≡ carried_and_or_part (capped base) (capped_body base) true (view_and_or_part part.now)) }
+    ensures { Carries base carried_and_or_part view_and_or_part part.now result }
 {
     let join = carry_join(alloc, &part.join, base)?;
     let pipeline = carry_pipeline(alloc, &part.pipeline, base)?;
@@ -255,7 +256,7 @@ fn carry_and_or_part(alloc: Global, part: &AndOrPart, base: usize) -> Result<And
 
 #[cycle(carry)]
 fn carry_pipeline(alloc: Global, pipeline: &Pipeline, base: usize) -> Result<Pipeline, AllocError>
-    ensures { IfOk result (λ made. view_pipeline made ≡ carried_pipeline (capped base) (capped_body base) true (view_pipeline pipeline.now)) }
+    ensures { Carries base carried_pipeline view_pipeline pipeline.now result }
 {
     let bang = carry_span(pipeline.bang, base);
     let first = carry_command(alloc, &pipeline.first, base)?;
@@ -269,7 +270,7 @@ fn carry_pipes(
     parts: &[PipelinePart],
     base: usize,
 ) -> Result<Vec<PipelinePart>, AllocError>
-    ensures { IfOk result (λ made. map view_pipeline_part made.items ≡ map (carried_pipe (capped base) (capped_body base) true) (map view_pipeline_part parts.now)) }
+    ensures { CarriesAll base carried_pipe view_pipeline_part parts.now result }
 {
     let mut made = Vec::new(alloc);
     for part in parts {
@@ -280,7 +281,7 @@ fn carry_pipes(
 
 #[cycle(carry)]
 fn carry_pipe(alloc: Global, part: &PipelinePart, base: usize) -> Result<PipelinePart, AllocError>
-    ensures { IfOk result (λ made. view_pipeline_part made ≡ carried_pipe (capped base) (capped_body base) true (view_pipeline_part part.now)) }
+    ensures { Carries base carried_pipe view_pipeline_part part.now result }
 {
     let join = carry_join(alloc, &part.join, base)?;
     Ok(pipeline_part_of(join, carry_command(alloc, &part.command, base)?))
@@ -288,7 +289,7 @@ fn carry_pipe(alloc: Global, part: &PipelinePart, base: usize) -> Result<Pipelin
 
 #[cycle(carry)]
 fn carry_command(alloc: Global, command: &Command, base: usize) -> Result<Command, AllocError>
-    ensures { IfOk result (λ made. view_command made ≡ carried_command (capped base) (capped_body base) true (view_command command.now)) }
+    ensures { Carries base carried_command view_command command.now result }
 {
     match command {
         Command::Simple { items } => Ok(simple_of(carry_items(alloc, items, base)?)),
@@ -305,7 +306,7 @@ fn carry_command(alloc: Global, command: &Command, base: usize) -> Result<Comman
 
 #[cycle(carry)]
 fn carry_function(alloc: Global, function: &Function, base: usize) -> Result<Function, AllocError>
-    ensures { IfOk result (λ made. view_function made ≡ carried_command (capped base) (capped_body base) true (view_function function.now)) }
+    ensures { Carries base carried_command view_function function.now result }
 {
     let comments = carry_comments(alloc, &function.comments, base)?;
     let body = carry_compound(alloc, &function.body, base)?;
@@ -314,7 +315,7 @@ fn carry_function(alloc: Global, function: &Function, base: usize) -> Result<Fun
 
 #[cycle(carry)]
 fn carry_compound(alloc: Global, compound: &Compound, base: usize) -> Result<Compound, AllocError>
-    ensures { IfOk result (λ made. view_compound made ≡ carried_compound (capped base) (capped_body base) true (view_compound compound.now)) }
+    ensures { Carries base carried_compound view_compound compound.now result }
 {
     let form = carry_form(alloc, &compound.form, base)?;
     let redirects = carry_items(alloc, &compound.redirects, base)?;
@@ -323,7 +324,7 @@ fn carry_compound(alloc: Global, compound: &Compound, base: usize) -> Result<Com
 
 #[cycle(carry)]
 fn carry_form(alloc: Global, form: &Form, base: usize) -> Result<Form, AllocError>
-    ensures { IfOk result (λ made. view_form made ≡ carried_form (capped base) (capped_body base) true (view_form form.now)) }
+    ensures { Carries base carried_form view_form form.now result }
 {
     match form {
         Form::Brace(list) => Ok(brace_of(carry_list(alloc, list, base)?)),
@@ -361,7 +362,7 @@ fn carry_else(
     otherwise: &Option<List>,
     base: usize,
 ) -> Result<Option<List>, AllocError>
-    ensures { IfOk result (λ made. view_otherwise made ≡ carried_else (capped base) (capped_body base) true (view_otherwise otherwise.now)) }
+    ensures { Carries base carried_else view_otherwise otherwise.now result }
 {
     match otherwise {
         Some(list) => Ok(Some(carry_list(alloc, list, base)?)),
@@ -371,7 +372,7 @@ fn carry_else(
 
 #[cycle(carry)]
 fn carry_branch(alloc: Global, branch: &Branch, base: usize) -> Result<Branch, AllocError>
-    ensures { IfOk result (λ made. view_branch made ≡ carried_branch (capped base) (capped_body base) true (view_branch branch.now)) }
+    ensures { Carries base carried_branch view_branch branch.now result }
 {
     let condition = carry_list(alloc, &branch.condition, base)?;
     Ok(branch_of(condition, carry_list(alloc, &branch.body, base)?))
@@ -384,7 +385,7 @@ fn carry_branches(
     branches: &[Branch],
     base: usize,
 ) -> Result<Vec<Branch>, AllocError>
-    ensures { IfOk result (λ made. map view_branch made.items ≡ map (carried_branch (capped base) (capped_body base) true) (map view_branch branches.now)) }
+    ensures { CarriesAll base carried_branch view_branch branches.now result }
 {
     let mut made = Vec::new(alloc);
     for branch in branches {
@@ -396,7 +397,7 @@ fn carry_branches(
 #[cycle(carry)]
 #[tactic(auto, using(crate::proofs::Carrying::still_first, crate::proofs::Carrying::still_last))]
 fn carry_cases(alloc: Global, items: &[CaseItem], base: usize) -> Result<Vec<CaseItem>, AllocError>
-    ensures { IfOk result (λ made. map view_case_item made.items ≡ map (carried_case (capped base) (capped_body base) true) (map view_case_item items.now)) }
+    ensures { CarriesAll base carried_case view_case_item items.now result }
 {
     let mut made = Vec::new(alloc);
     for item in items {
@@ -407,7 +408,7 @@ fn carry_cases(alloc: Global, items: &[CaseItem], base: usize) -> Result<Vec<Cas
 
 #[cycle(carry)]
 fn carry_case(alloc: Global, item: &CaseItem, base: usize) -> Result<CaseItem, AllocError>
-    ensures { IfOk result (λ made. view_case_item made ≡ carried_case (capped base) (capped_body base) true (view_case_item item.now)) }
+    ensures { Carries base carried_case view_case_item item.now result }
 {
     let comments = carry_comments(alloc, &item.comments, base)?;
     let patterns = carry_words(alloc, &item.patterns, base)?;
@@ -424,7 +425,7 @@ fn carry_case(alloc: Global, item: &CaseItem, base: usize) -> Result<CaseItem, A
 #[cycle(carry)]
 #[tactic(auto, using(crate::proofs::Carrying::still_first, crate::proofs::Carrying::still_last))]
 fn carry_words(alloc: Global, words: &[Word], base: usize) -> Result<Vec<Word>, AllocError>
-    ensures { IfOk result (λ made. map view_word made.items ≡ map (carried_word (capped base) (capped_body base) true) (map view_word words.now)) }
+    ensures { CarriesAll base carried_word view_word words.now result }
 {
     let mut made = Vec::new(alloc);
     for word in words {
@@ -436,7 +437,7 @@ fn carry_words(alloc: Global, words: &[Word], base: usize) -> Result<Vec<Word>, 
 #[cycle(carry)]
 #[tactic(auto, using(crate::proofs::Carrying::still_first, crate::proofs::Carrying::still_last))]
 fn carry_items(alloc: Global, items: &[Item], base: usize) -> Result<Vec<Item>, AllocError>
-    ensures { IfOk result (λ made. map view_item made.items ≡ map (carried_item (capped base) (capped_body base) true) (map view_item items.now)) }
+    ensures { CarriesAll base carried_item view_item items.now result }
 {
     let mut made = Vec::new(alloc);
     for item in items {
@@ -447,7 +448,7 @@ fn carry_items(alloc: Global, items: &[Item], base: usize) -> Result<Vec<Item>, 
 
 #[cycle(carry)]
 fn carry_item(alloc: Global, item: &Item, base: usize) -> Result<Item, AllocError>
-    ensures { IfOk result (λ made. view_item made ≡ carried_item (capped base) (capped_body base) true (view_item item.now)) }
+    ensures { Carries base carried_item view_item item.now result }
 {
     let what = carry_item_content(alloc, &item.what, base)?;
     Ok(item_of(item.broken, what))
@@ -459,7 +460,7 @@ fn carry_item_content(
     content: &ItemContent,
     base: usize,
 ) -> Result<ItemContent, AllocError>
-    ensures { IfOk result (λ made. view_item_content made ≡ carried_item_content (capped base) (capped_body base) true (view_item_content content.now)) }
+    ensures { Carries base carried_item_content view_item_content content.now result }
 {
     match content {
         ItemContent::Assign(word) => Ok(assign_content(carry_word(alloc, word, base)?)),
@@ -477,7 +478,7 @@ fn carry_redirection(
     redirection: &Redirection,
     base: usize,
 ) -> Result<Redirection, AllocError>
-    ensures { IfOk result (λ made. view_redirection made ≡ carried_item_content (capped base) (capped_body base) true (view_redirection redirection.now)) }
+    ensures { Carries base carried_item_content view_redirection redirection.now result }
 {
     let word = carry_word(alloc, &redirection.word, base)?;
     Ok(redirection_of(
@@ -491,7 +492,7 @@ fn carry_redirection(
 
 #[cycle(carry)]
 fn carry_word(alloc: Global, word: &Word, base: usize) -> Result<Word, AllocError>
-    ensures { IfOk result (λ made. view_word made ≡ carried_word (capped base) (capped_body base) true (view_word word.now)) }
+    ensures { Carries base carried_word view_word word.now result }
 {
     let substs = carry_substs(alloc, &word.substs, base)?;
     Ok(word_of(carried(word.span, base), substs))
@@ -500,7 +501,7 @@ fn carry_word(alloc: Global, word: &Word, base: usize) -> Result<Word, AllocErro
 #[cycle(carry)]
 #[tactic(auto, using(crate::proofs::Carrying::still_first, crate::proofs::Carrying::still_last))]
 fn carry_substs(alloc: Global, substs: &[Subst], base: usize) -> Result<Vec<Subst>, AllocError>
-    ensures { IfOk result (λ made. map view_subst made.items ≡ map (carried_subst (capped base) (capped_body base) true) (map view_subst substs.now)) }
+    ensures { CarriesAll base carried_subst view_subst substs.now result }
 {
     let mut made = Vec::new(alloc);
     for subst in substs {
@@ -511,7 +512,7 @@ fn carry_substs(alloc: Global, substs: &[Subst], base: usize) -> Result<Vec<Subs
 
 #[cycle(carry)]
 fn carry_subst(alloc: Global, subst: &Subst, base: usize) -> Result<Subst, AllocError>
-    ensures { IfOk result (λ made. view_subst made ≡ carried_subst (capped base) (capped_body base) true (view_subst subst.now)) }
+    ensures { Carries base carried_subst view_subst subst.now result }
 {
     let list = carry_list(alloc, &subst.list, base)?;
     Ok(subst_of(list, carried(subst.span, base)))
