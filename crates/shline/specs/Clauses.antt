@@ -73,6 +73,10 @@ here_of cursor = on cursor cursor.at
 abbrev pub start_of : {S : Type 0} {k : ℕ} {g : _} → Cursor S k g → ℕ
 start_of cursor = on cursor cursor.next_at
 
+-- the word from a place of the text to where the reading stands, with these substitutions
+abbrev pub word_from : {S : Type 0} {k : ℕ} {g : _} → ℕ → ℕ → Cursor S k g → Vec Subst Global → AWord
+word_from origin start cursor substs = word (span origin start (here_of cursor)) (substs_of (view_substs substs))
+
 -- a place that counts from the stretch stands in the text
 abbrev pub Inside : {S : Type 0} {k : ℕ} {g : _} → Cursor S k g → ℕ → Type 0
 Inside cursor p = on cursor p ≤ length (text_of cursor)
@@ -122,10 +126,6 @@ view_waiting w = record { operator = w.operator; delimiter = w.delimiter.items; 
 abbrev pub standing_with : the_documents.Documents → ℕ → State
 standing_with documents p = record { at = p; waiting = map view_waiting documents.waiting.items; bodies = documents.bodies.items }
 
--- the word from a place of the text to where the reading stands, with these substitutions
-abbrev pub word_to : {S : Type 0} {k : ℕ} {g : _} → ℕ → ℕ → Cursor S k g → Vec Subst Global → AWord
-word_to origin start cursor substs = word (span origin start (here_of cursor)) (substs_of (view_substs substs))
-
 -- where it stands between tokens
 abbrev pub at_place : {S : Type 0} {k : ℕ} {g : _} → Cursor S k g → State
 at_place cursor = standing_with cursor.documents (here_of cursor)
@@ -164,7 +164,7 @@ Looks old position new = (new.next ≡ next_from old position) × (start_of new 
 abbrev pub Skips : {S : Type 0} {k : ℕ} {g : _} → Cursor S k g → Mode → Cursor S k g → Type 0
 Skips old mode new = ArePlain mode (text_of old) (here_of old) (here_of new) × (here_of old ≤ here_of new) × (here_of new ≤ length (text_of old)) × Stays old new
 
--- Something was read where a word does not end.
+-- in plain mode, where no word ends, something was read
 abbrev pub SomeRead : {S : Type 0} {k : ℕ} {g : _} → Cursor S k g → Mode → Cursor S k g → Type 0
 SomeRead old mode new = mode ≡ Plain → ends_word (text_of old) (here_of old) ≡ false → here_of old < here_of new
 

@@ -128,16 +128,16 @@ impl<'a, S: Source, const KEEP: u8> Cursor<'a, S, KEEP> {
         Ok(redirects)
     }
 
-    /// A compound command, bare so far, with the redirections behind it.
+    /// A compound command with the redirections behind it.
     #[cycle(commands)]
     #[tactic(auto, unfolding(shgrammar::specs::Commands::redirected), using(crate::proofs::Wanted::same_kind))]
-    pub(crate) fn redirected(&mut self, bare: Command, room: usize) -> Result<Command, Stop>
-        ensures value { Takes self.old (redirected (level room) (view_command bare, self.old.next))
+    pub(crate) fn redirected(&mut self, inner: Command, room: usize) -> Result<Command, Stop>
+        ensures value { Takes self.old (redirected (level room) (view_command inner, self.old.next))
             result (λ x. (view_command x, self.new.next)) self.new }
         ensures kind { IfOk result
-            (λ x. is_compound (view_command x) ≡ is_compound (view_command bare)) }
+            (λ x. is_compound (view_command x) ≡ is_compound (view_command inner)) }
     {
         let redirects = self.redirects(room)?;
-        Ok(with_redirects(bare, redirects))
+        Ok(with_redirects(inner, redirects))
     }
 }

@@ -5,7 +5,7 @@ ghost use Rattle.shline.specs.declared.stop.Stop.TheVariants.{Memory};
 use shgrammar::Fault;
 use std::alloc::{AllocError, AllocFailed};
 
-/// What ends a row of the grammar before its end.
+/// What ends a reading before its end.
 #[derive(Clone, Copy, Debug)]
 pub enum Stop {
     /// Memory ran out.

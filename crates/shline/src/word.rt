@@ -3,7 +3,7 @@ ghost use Rattle.std.specs.Prelude.{◌≡◌, ◌≢◌, ◌+◌, ◌<◌, ◌�
 ghost use Rattle.shgrammar.specs.Bytes.{ends_word};
 ghost use Rattle.shgrammar.specs.Shows.{IsRead};
 ghost use Rattle.shline.specs.Pieces.{PieceShows};
-ghost use Rattle.shline.specs.Clauses.{here_of, IsHere, Keeps, Moves, on, Onward, Passes, Reads, SomeRead, start_of, text_of, word_to};
+ghost use Rattle.shline.specs.Clauses.{here_of, IsHere, Keeps, Moves, on, Onward, Passes, Reads, SomeRead, start_of, text_of, word_from};
 ghost use Rattle.shgrammar.specs.Form.{again, step_if};
 ghost use Rattle.shgrammar.specs.Pieces.{past_closer};
 ghost use Rattle.shline.specs.Rows.{view_substs};
@@ -233,7 +233,7 @@ impl<'a, S: Source, const KEEP: u8> Cursor<'a, S, KEEP> {
         requires word { ends_word (text_of self.old) (start_of self.old) ≡ false }
         requires none { substs.old.items ≡ [] }
         ensures value { Passes self.old (a_word (level room)) result
-            (λ _. word_to self.old.origin (start_of self.old) self.new substs.new) self.new }
+            (λ _. word_from self.old.origin (start_of self.old) self.new substs.new) self.new }
         ensures onward { IfOk result (λ _. start_of self.old < here_of self.new) }
     {
         let start = self.start();
@@ -249,7 +249,7 @@ impl<'a, S: Source, const KEEP: u8> Cursor<'a, S, KEEP> {
     /// The word from a place of the text to here, with these substitutions.
     pub(crate) fn word_from(&self, start: usize, substs: Vec<Subst>) -> Word
         requires { start ≤ here_of self.now }
-        ensures { view_word result ≡ word_to self.now.origin start self.now substs }
+        ensures { view_word result ≡ word_from self.now.origin start self.now substs }
     {
         word_of(self.span_from(start), substs)
     }

@@ -18,7 +18,7 @@ use Rattle.shline.specs.declared.told.Told.{Told}
 use Rattle.shpass.specs.declared.script_lines.ScriptLines.{ScriptLines}
 use Rattle.shast.specs.Nodes.{AreWithin}
 use Rattle.shpass.specs.declared.script_lines.LinesBefore.{LinesBefore}
-use Rattle.shpass.specs.LineByLine.{Before, IsTold, LineReads, OuterReads, Rest, Stands, is_blank_behind}
+use Rattle.shpass.specs.LineByLine.{Before, IsReadBy, LineReads, OuterReads, Rest, Stands, is_blank_behind}
 use Rattle.shgrammar.proofs.Within.{more_within}
 use Rattle.shgrammar.specs.Moved.{Same, SameBy}
 use Rattle.shgrammar.specs.Scripts.{AScript, Outcome, SoFar, faulty, is_blank_line, last_line, line_ended, line_from, line_told, the_line, with_line}
@@ -61,23 +61,22 @@ outer_read edition B so p (Err f) read =
 -- ---- what is told, from what is computed
 
 told_by : (bound : Limits) (reads : Read (Row AnEntry × Bool) → Type 0) (read : Read (Row AnEntry × Bool)) → reads read
-    → (r : Result Told Stop) → Gives bound view_told r read → IsTold reads r
+    → (r : Result Told Stop) → Gives bound view_told r read → IsReadBy reads r
 told_by bound reads read is (Ok told) gives = subst reads gives is
 told_by bound reads read is (Err (Wrong f)) fails = subst reads fails.0 is
 told_by bound reads read is (Err Memory) fails = tt
 
 module _ {S : Type 0} (B : Row ℕ) (bound : Limits) (old : ScriptLines S) (r : Result Told Stop) (so : SoFar) (stood : Stands old so) where
-  pub next_line : Gives bound view_told r (line_from old.edition B Whole (is_blank_behind old.before) old.at) → IsTold (LineReads old.edition B so old.at) r
+  pub next_line : Gives bound view_told r (line_from old.edition B Whole (is_blank_behind old.before) old.at) → IsReadBy (LineReads old.edition B so old.at) r
   next_line gives = told_by bound (LineReads old.edition B so old.at) _ (line_read old.edition B so old.at (is_blank_behind old.before) _ (blank_is old.before so stood) refl) r gives
 
-  pub outer_line : Gives bound view_told r (line_from old.edition B Outer (is_blank_behind old.before) old.at) → IsTold (OuterReads old.edition B so old.at) r
+  pub outer_line : Gives bound view_told r (line_from old.edition B Outer (is_blank_behind old.before) old.at) → IsReadBy (OuterReads old.edition B so old.at) r
   outer_line gives = told_by bound (OuterReads old.edition B so old.at) _ (outer_read old.edition B so old.at _ (ap (λ blank. line_from old.edition B Outer blank old.at) (sym (blank_is old.before so stood)))) r gives
 
 -- the same, where the bytes are those of another source, and the edition has another name
-pub told_in : (B other : Row ℕ) (edition by : Edition) (so : SoFar) (p : ℕ) (r : Result Told Stop) → other ≡ B → by ≡ edition
-    → IsTold (LineReads by other so p) r → IsTold (LineReads edition B so p) r
-told_in B other edition by so p r same is told =
-    subst (λ e. IsTold (LineReads e B so p) r) is (subst (λ b. IsTold (LineReads by b so p) r) same told)
+pub told_in : (reads : Edition → Row ℕ → Read (Row AnEntry × Bool) → Type 0) (B other : Row ℕ) (edition by : Edition) (r : Result Told Stop) → other ≡ B → by ≡ edition
+    → IsReadBy (reads by other) r → IsReadBy (reads edition B) r
+told_in reads B other edition by r same is told = subst (λ e. IsReadBy (reads e B) r) is (subst (λ b. IsReadBy (reads by b) r) same told)
 
 -- ---- what a line leads on to
 
@@ -93,15 +92,15 @@ line_leads edition B so p n es true read = λ s rest. (read.0 ++ rest.0, line_en
 line_leads edition B so p n es false read = (read.0, last_line es (standing n) read.0 read.1)
 
 pub leads_on : (edition : Edition) (B : Row ℕ) (so : SoFar) (p : ℕ) (told : Told) (newline : Bool) → told.newline ≡ newline
-    → IsTold (LineReads edition B so p) (Ok told) → LeadsOn edition B so p (map view_entry told.entries.items) newline (p + told.len)
+    → IsReadBy (LineReads edition B so p) (Ok told) → LeadsOn edition B so p (map view_entry told.entries.items) newline (p + told.len)
 leads_on edition B so p told newline is read =
     subst (λ b. LeadsOn edition B so p (map view_entry told.entries.items) b (p + told.len)) is
     (line_leads edition B so p told.len (map view_entry told.entries.items) told.newline read)
 
 pub leads_nowhere : (edition : Edition) (B : Row ℕ) (so : SoFar) (p : ℕ) (stop : Stop) (f : Fault) → stop ≡ Wrong f
-    → IsTold (LineReads edition B so p) (Err stop) → Rest edition B so p (record { entries = entries_of so.entries; wrong = Some f })
+    → IsReadBy (LineReads edition B so p) (Err stop) → Rest edition B so p (record { entries = entries_of so.entries; wrong = Some f })
 leads_nowhere edition B so p stop f is told =
-    let read = subst (λ z. IsTold (LineReads edition B so p) (Err z)) is told in (read.0, faulty f read.0 read.1)
+    let read = subst (λ z. IsReadBy (LineReads edition B so p) (Err z)) is told in (read.0, faulty f read.0 read.1)
 
 -- a stop for a fault tells that the reading stops there
 pub fault_told : (e : Stop) (f : Fault) (bound : Limits) (x : Read (Row AnEntry × Bool)) → e ≡ Wrong f → Fails bound e x → x ≡ Err f

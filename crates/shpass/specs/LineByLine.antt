@@ -29,13 +29,13 @@ abbrev pub OuterReads : Edition → List ℕ → SoFar → ℕ → Read (Row AnE
 OuterReads edition B so p (Ok x) = line_from edition B Outer (is_blank_line so) p ≡ Ok x
 OuterReads edition B so p (Err f) = LineReads edition B so p (Err f)
 
--- what was told of a line is what is read so of it, unless memory ran out
-abbrev pub IsTold : (Read (Row AnEntry × Bool) → Type 0) → Result Told Stop → Type 0
-IsTold reads (Ok told) = reads (Ok (view_told told))
-IsTold reads (Err (Wrong f)) = reads (Err f)
-IsTold reads (Err Memory) = Unit {0}
+-- What was told of a line, or its fault, is what is read of it so. Where memory ran out nothing is said.
+abbrev pub IsReadBy : (Read (Row AnEntry × Bool) → Type 0) → Result Told Stop → Type 0
+IsReadBy reads (Ok told) = reads (Ok (view_told told))
+IsReadBy reads (Err (Wrong f)) = reads (Err f)
+IsReadBy reads (Err Memory) = Unit {0}
 
--- no node of its entries names an offset above this one, nor does its fault
+-- no node of a line's entries names an offset above this one, nor does its fault
 abbrev pub LineWithin : ℕ → Result Told Stop → Type 0
 LineWithin limit (Ok told) = AreWithin limit (entries_of (map view_entry told.entries.items))
 LineWithin limit (Err (Wrong f)) = f.at ≤ limit
@@ -82,16 +82,17 @@ module _ {S : Type 0} where
   abbrev pub Stands : ScriptLines S → SoFar → Type 0
   Stands lines so = Before lines.before so
 
-  -- the script, how it is read, and by whose memory
-  abbrev pub Keeps : ScriptLines S → ScriptLines S → Type 0
-  Keeps old new = (new.source ≡ old.source) × (new.edition ≡ old.edition) × (new.alloc ≡ old.alloc)
+  -- the script stays, and by which edition and with whose memory it is read
+  abbrev pub SameScript : ScriptLines S → ScriptLines S → Type 0
+  SameScript old new = (new.source ≡ old.source) × (new.edition ≡ old.edition) × (new.alloc ≡ old.alloc)
 
   -- The reading goes behind a line that was told, and what the lines gave has its entries too.
   abbrev pub Behind : ScriptLines S → Told → ScriptLines S → Type 0
   Behind old told new =
-      Keeps old new × (new.at ≡ old.at + told.len) × ((so : SoFar) → Stands old so → Stands new (with_line so (map view_entry told.entries.items)))
+      SameScript old new × (new.at ≡ old.at + told.len) × ((so : SoFar) → Stands old so → Stands new (with_line so (map view_entry told.entries.items)))
 
-  -- It goes behind what was told of the line at its place. At a fault nothing moves, nor where memory ran out.
+  -- It goes behind the line at its place: further on where a newline ended it, and never past the end. At a
+  -- fault nothing moves, nor where memory ran out.
   abbrev pub MovesOn : (S → List ℕ) → ScriptLines S → Result Told Stop → ScriptLines S → Type 0
   MovesOn bytes old (Ok told) new =
       Behind old told new × Onward old.at new.at told.newline × (new.at ≤ length (bytes_of bytes old))
@@ -107,7 +108,7 @@ module _ {S : Type 0} where
   -- It goes behind such a line. Where there is none nothing moves, nor where memory ran out.
   abbrev pub PassesWhole : {E : Type 0} → (S → List ℕ) → ScriptLines S → Result (Option (Vec Entry Global)) E → ScriptLines S → Type 0
   PassesWhole bytes old (Ok (Some es)) new =
-      Keeps old new × (old.at < new.at) × (new.at ≤ length (bytes_of bytes old))
+      SameScript old new × (old.at < new.at) × (new.at ≤ length (bytes_of bytes old))
       × (slice_get (bytes_of bytes old) (new.at - 1) ≡ Some 10) × ((so : SoFar) → Stands old so → IsWholeLine (bytes_of bytes old) so old es new)
   PassesWhole bytes old (Ok None) new = (new ≡ old) × StopsAt old.edition (bytes_of bytes old) old.at
   PassesWhole bytes old (Err e) new = new ≡ old

@@ -5,7 +5,7 @@ ghost use Rattle.shgrammar.specs.Search.{LineBefore, MayPass, StopsAt};
 
 use crate::newline::ends_in_newline;
 use shgrammar::{Edition, Keep};
-use shline::{Begin, How, SEEN, line_at};
+use shline::{Begin, How, SEEN, Stop, line_at};
 use shtext::Source;
 use std::alloc::{AllocError, Global};
 use std::mem;
@@ -42,10 +42,8 @@ fn behind_line<S: Source>(
             }
             Ok(None)
         }
-        Err(stop) => {
-            let _fault = stop.fault()?;
-            Ok(None)
-        }
+        Err(Stop::Wrong(_)) => Ok(None),
+        Err(Stop::Memory) => Err(AllocError),
     }
 }
 

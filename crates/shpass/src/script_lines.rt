@@ -4,7 +4,7 @@ ghost use Rattle.std.specs.Prelude.{◌≡◌, ◌+◌, ◌^◌, ◌<◌, ◌≤
 ghost use Rattle.shgrammar.specs.Scripts.{SoFar, line_from};
 ghost use Rattle.shline.specs.Clauses.{Gives, view_told};
 ghost use Rattle.shline.specs.Limits.{limits};
-ghost use Rattle.shpass.specs.LineByLine.{AtStart, Behind, IsTold, LineReads, LineWithin, MovesOn, OuterReads, PassesWhole, Stands};
+ghost use Rattle.shpass.specs.LineByLine.{AtStart, Behind, IsReadBy, LineReads, LineWithin, MovesOn, OuterReads, PassesWhole, Stands};
 ghost use Rattle.shpass.specs.LineByLine.{before_of, bytes_of, edition_of, is_blank_behind, no_lines, place_of};
 
 use crate::newline::ends_in_newline;
@@ -108,8 +108,9 @@ impl<'a, S: Source> ScriptLines<'a, S> {
         requires { place_of self.old ≤ length (bytes_of S.bytes self.old) }
         ensures value { let bytes = bytes_of S.bytes self.old in
             let place = place_of self.old in
+            let blank = is_blank_behind (before_of self.old) in
             Gives (limits KEPT place (drop place bytes)) view_told result
-            (line_from (edition_of self.old) bytes keep (is_blank_behind (before_of self.old)) place) }
+            (line_from (edition_of self.old) bytes keep blank place) }
         ensures moves { MovesOn S.bytes self.old result self.new }
         ensures within { LineWithin (length (bytes_of S.bytes self.old)) result }
         ensures fits { IfOk result (λ told. place_of self.old + told.len < 2 ^ 64) }
@@ -130,15 +131,17 @@ impl<'a, S: Source> ScriptLines<'a, S> {
 
     /// Reads one more line. Its vectors are taken from spare ones, as far as there are any.
     ///
-    /// Spans count from the script's first byte. Where a newline ended the line, another one follows.
+    /// Spans, and the offset of a fault, count from the script's first byte. Where a newline ended the line,
+    /// another line follows.
     ///
     /// # Errors
     ///
     /// [`Stop`]: the script's first fault, or want of memory. Nothing moves then; the line may be read again.
     pub fn read_next(&mut self, spare: Option<&mut Spare>) -> Result<Told, Stop>
         requires { place_of self.old ≤ length (bytes_of S.bytes self.old) }
-        ensures line { (so : SoFar) → Stands self.old so → IsTold
-            (LineReads (edition_of self.old) (bytes_of S.bytes self.old) so (place_of self.old)) result }
+        ensures line { let bytes = bytes_of S.bytes self.old in
+            (so : SoFar) → Stands self.old so →
+            IsReadBy (LineReads (edition_of self.old) bytes so (place_of self.old)) result }
         ensures moves { MovesOn S.bytes self.old result self.new }
         // No node of its entries names an offset above the script's length, nor does a fault.
         ensures within { LineWithin (length (bytes_of S.bytes self.old)) result }
@@ -148,10 +151,15 @@ impl<'a, S: Source> ScriptLines<'a, S> {
 
     /// Reads one more line as [`ScriptLines::read_next`] does, but without the trees in the command
     /// substitutions of its words, which cost memory and time. A fault is the same.
+    ///
+    /// # Errors
+    ///
+    /// [`Stop`], as there.
     pub fn read_outer(&mut self, spare: Option<&mut Spare>) -> Result<Told, Stop>
         requires { place_of self.old ≤ length (bytes_of S.bytes self.old) }
-        ensures line { (so : SoFar) → Stands self.old so → IsTold
-            (OuterReads (edition_of self.old) (bytes_of S.bytes self.old) so (place_of self.old)) result }
+        ensures line { let bytes = bytes_of S.bytes self.old in
+            (so : SoFar) → Stands self.old so →
+            IsReadBy (OuterReads (edition_of self.old) bytes so (place_of self.old)) result }
         ensures moves { MovesOn S.bytes self.old result self.new }
         // No node of its entries names an offset above the script's length, nor does a fault.
         ensures within { LineWithin (length (bytes_of S.bytes self.old)) result }
@@ -184,10 +192,8 @@ impl<'a, S: Source> ScriptLines<'a, S> {
                 self.before = before;
                 Ok(None)
             }
-            Err(stop) => {
-                let _fault = stop.fault()?;
-                Ok(None)
-            }
+            Err(Stop::Wrong(_)) => Ok(None),
+            Err(Stop::Memory) => Err(AllocError),
         }
     }
 }

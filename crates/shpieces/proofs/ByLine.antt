@@ -10,13 +10,13 @@ use Rattle.shline.specs.declared.stop.Stop.TheVariants.{Memory, Wrong}
 use Rattle.shline.specs.declared.told.Told.{Told}
 use Rattle.shpass.specs.declared.script_lines.ScriptLines.{ScriptLines}
 use Rattle.shgrammar.specs.Commands.{is_empty}
-use Rattle.shpass.specs.LineByLine.{Before, IsTold, IsWholeLine, LineWithin, OuterReads, Rest, Stands, before_of, no_lines, place_of}
+use Rattle.shpass.specs.LineByLine.{Before, IsReadBy, IsWholeLine, LineWithin, OuterReads, Rest, Stands, before_of, no_lines, place_of}
 use Rattle.shgrammar.specs.declared.keep.Keep.TheVariants.{Whole}
 use Rattle.shast.specs.Moved.{blanked_row, moved_entry, outer_entry, placed_body}
 use Rattle.shgrammar.specs.Moved.{moved_fault}
 use Rattle.shgrammar.specs.Scripts.{AScript, FirstFault, Outcome, SoFar, faulty, is_blank_line, last_line, line_ended, nothing_yet, with_line}
 use Rattle.shgrammar.specs.Sights.{State, standing}
-use Rattle.shpass.proofs.LineByLine.{line_only, line_read}
+use Rattle.shpass.proofs.LineByLine.{line_only, line_read, told_in}
 use Rattle.shgrammar.proofs.LineInPiece.{There, outer_alone, fault_there, stands_there, told_same}
 use Rattle.shgrammar.proofs.Passing.{line_there}
 use Rattle.shgrammar.proofs.SameLine.{newline_at, same_front}
@@ -219,12 +219,11 @@ module _ {S : Type 0} (edition : Edition) (y : Layout) (H front : List ℕ) wher
       prints : Prints (blanked_row (is_blank_line b.so) (map (moved_entry old.at) es))
 
     -- what is told by the edition of the lines, and of the bytes of another source that are these
-    told_here : (other : List ℕ) (r : Result Told Stop) → other ≡ H → IsTold (OuterReads old.edition other b.so old.at) r → IsTold (OuterReads edition H b.so old.at) r
-    told_here other r same told =
-        subst (λ e. IsTold (OuterReads e H b.so old.at) r) by (subst (λ (B : List ℕ). IsTold (OuterReads old.edition B b.so old.at) r) same told)
+    told_here : (other : List ℕ) (r : Result Told Stop) → other ≡ H → IsReadBy (OuterReads old.edition other b.so old.at) r → IsReadBy (OuterReads edition H b.so old.at) r
+    told_here other r same told = told_in (λ e B. OuterReads e B b.so old.at) H other edition old.edition r same by told
 
     -- the line of it
-    line_here : (other : List ℕ) (told : Told) (newline : Bool) → other ≡ H → told.newline ≡ newline → IsTold (OuterReads old.edition other b.so old.at) (Ok told)
+    line_here : (other : List ℕ) (told : Told) (newline : Bool) → other ≡ H → told.newline ≡ newline → IsReadBy (OuterReads old.edition other b.so old.at) (Ok told)
         → OuterReads edition H b.so old.at (Ok ((map view_entry told.entries.items, newline), standing told.len))
     line_here other told newline same is read =
         subst (λ (n : Bool). OuterReads edition H b.so old.at (Ok ((map view_entry told.entries.items, n), standing told.len))) is (told_here other (Ok told) same read)
@@ -246,7 +245,7 @@ module _ {S : Type 0} (edition : Edition) (y : Layout) (H front : List ℕ) wher
           prints = outer_printed y H q blank line a.0 text then a.3 is;
         }
 
-    pub behind_line : (other : List ℕ) (told : Told) → other ≡ H → told.newline ≡ true → IsTold (OuterReads old.edition other b.so old.at) (Ok told)
+    pub behind_line : (other : List ℕ) (told : Told) → other ≡ H → told.newline ≡ true → IsReadBy (OuterReads old.edition other b.so old.at) (Ok told)
         → new.at ≡ old.at + told.len → Stands new (with_line b.so (map view_entry told.entries.items)) → Prints (map view_entry told.entries.items) → Between new then
     behind_line other told same newline read ends stands is =
         let q = old.at in
@@ -261,7 +260,7 @@ module _ {S : Type 0} (edition : Edition) (y : Layout) (H front : List ℕ) wher
           is = sheet_more edition y H (front ++ H) q n b.so true p.es p.t p.there text then b.is p.prints;
         }
 
-    pub last_printed : (other : List ℕ) (told : Told) → other ≡ H → told.newline ≡ false → IsTold (OuterReads old.edition other b.so old.at) (Ok told)
+    pub last_printed : (other : List ℕ) (told : Told) → other ≡ H → told.newline ≡ false → IsReadBy (OuterReads old.edition other b.so old.at) (Ok told)
         → Prints (map view_entry told.entries.items) → IsTextOf edition y (front ++ H) then.so_far
     last_printed other told same newline read is =
         let q = old.at in
@@ -286,11 +285,11 @@ module _ {S : Type 0} (edition : Edition) (y : Layout) (H front : List ℕ) wher
           omega (arith, low, length-append front H),
         )
 
-    no_text_by : (stop : Stop) → IsTold (OuterReads edition H b.so old.at) (Err stop) → LineWithin (length H) (Err stop) → IsNoText edition (front ++ H) (moved_error (length front) (error_of stop))
+    no_text_by : (stop : Stop) → IsReadBy (OuterReads edition H b.so old.at) (Err stop) → LineWithin (length H) (Err stop) → IsNoText edition (front ++ H) (moved_error (length front) (error_of stop))
     no_text_by (Wrong f) read low = fault_found f read low
     no_text_by Memory read low = tt
 
-    pub no_text : (other : List ℕ) (stop : Stop) → other ≡ H → IsTold (OuterReads old.edition other b.so old.at) (Err stop) → LineWithin (length other) (Err stop)
+    pub no_text : (other : List ℕ) (stop : Stop) → other ≡ H → IsReadBy (OuterReads old.edition other b.so old.at) (Err stop) → LineWithin (length other) (Err stop)
         → IsNoText edition (front ++ H) (moved_error (length front) (error_of stop))
     no_text other stop same told low =
         no_text_by stop (told_here other (Err stop) same told) (subst (λ (B : List ℕ). LineWithin (length B) (Err stop)) same low)

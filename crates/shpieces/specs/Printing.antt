@@ -38,7 +38,7 @@ abbrev pub IsPrinted : Edition → Layout → List ℕ → Printing → Type 0
 IsPrinted edition y front printing =
     ArePrinted edition y front printing.before (sheet printing.page) × (printing.page.margin.items ≡ []) × (printing.layout ≡ y) × (printing.edition ≡ edition)
 
--- what stops a reading is why nothing is printed
+-- why nothing is printed, of what stopped the reading
 abbrev pub error_of : Stop → PrintError
 error_of (Wrong f) = Faulty f
 error_of the_stops.Memory = Memory

@@ -1,5 +1,5 @@
 -- What a line of which nothing is kept tells of the first fault from its begin on.
-use Rattle.std.proofs.Common.{◌≡◌, ℕ, ◌+◌, ◌≤◌, ◌<◌, ◌^◌, Bool, true, false, Ok, Err, List, Result, IfOk, drop, length, map, arith}
+use Rattle.std.proofs.Common.{◌≡◌, ℕ, ◌+◌, ◌≤◌, Bool, true, false, Ok, Err, List, Result, IfOk, drop, length, map, arith}
 use Rattle.shgrammar.specs.declared.edition.Edition.{Edition}
 use Rattle.shgrammar.specs.declared.keep.Keep.TheVariants.{Nothing}
 use Rattle.shast.specs.Tree.{AnEntry}
@@ -13,15 +13,15 @@ use Rattle.shline.specs.declared.told.Told.{Told}
 use Rattle.shline.specs.Clauses.{Gives, Onward, view_told}
 use Rattle.shline.specs.Limits.{limits}
 use Rattle.shline.proofs.Wanted.{seen_behind}
-use Rattle.shread.specs.Answers.{NoneBefore, Tells}
+use Rattle.shread.specs.Answers.{NoFaultBefore, Tells}
 
-none_before : (edition : Edition) (B : List ℕ) (p n : ℕ) (es : List AnEntry) (newline : Bool) → line_from edition B Nothing false p ≡ Ok ((es, newline), standing n) → Onward 0 n newline → p + n ≤ length B → NoneBefore edition B p (p + n) newline
-none_before edition B p n es true read some within = (beyond edition B p (standing n) es read, omega (arith, some), within)
-none_before edition B p n es false read some within = nowhere edition B p (standing n) es read
+no_fault_before : (edition : Edition) (B : List ℕ) (p n : ℕ) (es : List AnEntry) (newline : Bool) → line_from edition B Nothing false p ≡ Ok ((es, newline), standing n) → Onward 0 n newline → p + n ≤ length B → NoFaultBefore edition B p (p + n) newline
+no_fault_before edition B p n es true read some within = (beyond edition B p (standing n) es read, omega (arith, some), within)
+no_fault_before edition B p n es false read some within = nowhere edition B p (standing n) es read
 
 pub tells : (edition : Edition) (B : List ℕ) (p : ℕ) (r : Result Told Stop) → p ≤ length B
     → Gives (limits 0 p (drop p B)) view_told r (line_from edition B Nothing false p) → IfOk r (λ x. Onward 0 x.len x.newline)
-    → IfOk r (λ x. p + x.len ≤ length B) → IfOk r (λ x. p + x.len < 2 ^ 64) → Tells edition B p r
-tells edition B p (Ok told) low read some within fits = (none_before edition B p told.len (map view_entry told.entries.items) told.newline read some within, fits)
-tells edition B p (Err (Wrong f)) low fails some within fits = here_within edition B p f low fails.0 fails.1
-tells edition B p (Err Memory) low wants some within fits = seen_behind B p wants
+    → IfOk r (λ x. p + x.len ≤ length B) → Tells edition B p r
+tells edition B p (Ok told) low read some within = no_fault_before edition B p told.len (map view_entry told.entries.items) told.newline read some within
+tells edition B p (Err (Wrong f)) low fails some within = here_within edition B p f low fails.0 fails.1
+tells edition B p (Err Memory) low wants some within = seen_behind B p wants

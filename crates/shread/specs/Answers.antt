@@ -1,5 +1,5 @@
 -- What the answers of a reader are in the definitions, and its meter.
-use Rattle.std.specs.Prelude.{◌≡◌, ℕ, ◌+◌, ◌-◌, ◌^◌, ◌<◌, ◌≤◌, Bool, true, false, List, None, Some, Result, Ok, Err, length}
+use Rattle.std.specs.Prelude.{◌≡◌, ℕ, ◌+◌, ◌-◌, ◌<◌, ◌≤◌, Bool, true, false, List, None, Some, Result, Ok, Err, length}
 use Rattle.shline.specs.declared.stop.Stop.{Stop}
 use Rattle.shline.specs.declared.stop.Stop.TheVariants.{Memory, Wrong}
 use Rattle.shline.specs.declared.told.Told.{Told}
@@ -30,13 +30,15 @@ edition_of reader = reader.edition
 abbrev pub meter_of : Reader → ℕ
 meter_of reader = reader.meter
 
--- The first fault from a line without one on is that behind it. Where no newline ended it there is none.
-abbrev pub NoneBefore : Edition → List ℕ → ℕ → ℕ → Bool → Type 0
-NoneBefore edition bytes p q true = (first_fault_from edition bytes p ≡ first_fault_from edition bytes q) × (p < q) × (q ≤ length bytes)
-NoneBefore edition bytes p q false = first_fault_from edition bytes p ≡ None
+-- No fault stands in the line from p to q: the first one from p on is that from q on. Where no newline ended
+-- the line, there is none.
+abbrev pub NoFaultBefore : Edition → List ℕ → ℕ → ℕ → Bool → Type 0
+NoFaultBefore edition bytes p q true = (first_fault_from edition bytes p ≡ first_fault_from edition bytes q) × (p < q) × (q ≤ length bytes)
+NoFaultBefore edition bytes p q false = first_fault_from edition bytes p ≡ None
 
--- what was told of the line at an offset is true of the first fault from there on
+-- What was told of the line at an offset is true of the first fault from there on. Memory ran out only where a
+-- reading that keeps nothing may want some.
 abbrev pub Tells : Edition → List ℕ → ℕ → Result Told Stop → Type 0
-Tells edition bytes at (Ok told) = NoneBefore edition bytes at (at + told.len) told.newline × (at + told.len < 2 ^ 64)
+Tells edition bytes at (Ok told) = NoFaultBefore edition bytes at (at + told.len) told.newline
 Tells edition bytes at (Err (Wrong fault)) = (first_fault_from edition bytes at ≡ Some fault) × (fault.at ≤ length bytes)
 Tells edition bytes at (Err Memory) = wants_memory 0 bytes ≡ true

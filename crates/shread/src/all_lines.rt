@@ -1,23 +1,15 @@
 //! All lines of a source as one script.
-ghost use Rattle.std.specs.Prelude.{◌≡◌, ◌≤◌, ◌++◌, length, IfOk, IfSome, IsOk};
+ghost use Rattle.std.specs.Prelude.{◌≡◌, ◌≤◌, length, IfOk, IfSome, IsOk};
 ghost use Rattle.shgrammar.specs.Scripts.{view_script};
 ghost use Rattle.shgrammar.specs.Scripts.{script_at};
 ghost use Rattle.shast.specs.Nodes.{AreWithin};
 
 use crate::error::ReadError;
-use shast::Entry;
 use shast::make::list_of;
 use shgrammar::{Edition, Script};
 use shpass::ScriptLines;
 use shtext::Source;
-use std::alloc::{AllocError, Global};
-
-/// Puts the entries of a line behind those before it.
-fn add(entries: &mut Vec<Entry>, mut line: Vec<Entry>) -> Result<(), AllocError>
-    ensures { IfOk result (λ done. entries.new.items ≡ entries.old.items ++ line.items) }
-{
-    entries.append(&mut line)
-}
+use std::alloc::Global;
 
 /// A whole script. One without a byte wants no memory.
 #[tactic(auto, using(shgrammar::proofs::LineKinds::nothing_read))]
@@ -41,8 +33,8 @@ pub(crate) fn script_from<S: Source>(
     let mut lines = ScriptLines::new(alloc, edition, source);
     'lines: loop {
         match lines.read_next(None) {
-            Ok(told) => {
-                add(&mut entries, told.entries)?;
+            Ok(mut told) => {
+                entries.append(&mut told.entries)?;
                 if !told.newline {
                     return Ok(Script {
                         list: list_of(entries),

@@ -1,5 +1,5 @@
 //! The first fault of a script, a line at a time and without its tree.
-ghost use Rattle.std.specs.Prelude.{◌≡◌, ◌≤◌, IfErr, IfOk, IfSome, IsOk, length, true};
+ghost use Rattle.std.specs.Prelude.{◌≡◌, ◌+◌, ◌^◌, ◌<◌, ◌≤◌, IfErr, IfOk, IfSome, IsOk, length, true};
 ghost use Rattle.shline.specs.Limits.{wants_memory};
 ghost use Rattle.shgrammar.specs.Scripts.{first_fault_from};
 ghost use Rattle.shread.specs.Answers.{Tells};
@@ -14,7 +14,8 @@ use std::mem;
 /// The line at an offset, of which nothing is kept.
 fn see_line<S: Source>(alloc: Global, edition: Edition, source: &S, at: usize) -> Result<Told, Stop>
     requires { at ≤ length (S.bytes source.now) }
-    ensures { Tells edition (S.bytes source.now) at result }
+    ensures value { Tells edition (S.bytes source.now) at result }
+    ensures fits { IfOk result (λ told. at + told.len < 2 ^ 64) }
 {
     let begin = Begin {
         at,

@@ -37,8 +37,12 @@ fn are_alike(alloc: Global, script: &[u8], spare: &mut Spare) -> Result<bool, Fa
         if told(alloc, &line)? != told(alloc, &other)? {
             return Ok(false);
         }
-        let Ok(other) = other else {
-            break;
+        let other = match other {
+            Ok(told) => told,
+            Err(stop) => {
+                let _fault = stop.fault()?;
+                break;
+            }
         };
         spare.give_back(other.entries);
         before = lines.before();

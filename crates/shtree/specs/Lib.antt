@@ -1,2 +1,2 @@
-pub mod Gathered
 pub mod Carried
+pub mod Gathered

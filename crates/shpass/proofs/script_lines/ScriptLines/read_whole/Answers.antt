@@ -43,11 +43,11 @@ returns-else-told g c =
       ],
     )
 
-pub returns-in_ok-_fault-in-Err : goal.returns-in_ok-_fault-in-Err
-returns-in_ok-_fault-in-Err g c =
+pub returns-in-Err-Wrong : goal.returns-in-Err-Wrong
+returns-in-Err-Wrong g c =
     let bytes = g.S.Source.bytes c.args.self.now.source.now in
-    let fault = c.in_ok-_fault-in-Err._fault in
-    let told = fault_told _ fault _ _ c.in_ok-_fault-in-Err.ensures.wrong c.in-Err.ensures.value in (
-      c.in-Err.ensures.moves,
-      stops_faulty c.args.self.now.edition bytes c.args.self.now.at (is_blank_behind c.args.self.now.before) fault told,
+    let wrong = c.in-Err-Wrong in
+    let told = fault_told _ wrong.field-0-0 _ _ wrong.field-0-is wrong.ensures.value in (
+      wrong.ensures.moves,
+      stops_faulty c.args.self.now.edition bytes c.args.self.now.at (is_blank_behind c.args.self.now.before) wrong.field-0-0 told,
     )
