@@ -4,9 +4,9 @@ use Rattle.std.proofs.lemmas.Bool.{and_parts, cases_lt}
 use Rattle.std.proofs.lemmas.List.Sums.{prefix_len-le-length, prefix_len_passes}
 use Rattle.std.specs.List.{prefix_len}
 use Rattle.shscan.specs.Sets.{is_outside}
-use Rattle.shline.specs.declared.sets.TheConstants.{DOUBLE, PLAIN, SPECIAL}
+use Rattle.shline.specs.declared.sets.TheConstants.{BRACE, DOUBLE, DOUBLE_BRACE, PLAIN, SPECIAL}
 use Rattle.shgrammar.specs.Plain.{is_plain}
-use Rattle.shgrammar.specs.declared.mode.Mode.TheVariants.{Plain, Double}
+use Rattle.shgrammar.specs.declared.mode.Mode.TheVariants.{Plain, Double, Brace, DoubleBrace}
 
 unfoldable pub same : Bool → Bool → Bool
 same true b = b
@@ -45,6 +45,14 @@ double_set : agree (is_outside DOUBLE SPECIAL) (is_plain Double) 256 ≡ true
 unfolding agree same
 double_set = refl
 
+brace_set : agree (is_outside BRACE SPECIAL) (is_plain Brace) 256 ≡ true
+unfolding agree same
+brace_set = refl
+
+double_brace_set : agree (is_outside DOUBLE_BRACE SPECIAL) (is_plain DoubleBrace) 256 ≡ true
+unfolding agree same
+double_brace_set = refl
+
 -- the bytes before the first one of a set
 passed : (low high : List ℕ) (test : ℕ → Bool) → agree (is_outside low high) test 256 ≡ true → (run : List ℕ) → ((k : ℕ) → Fits w8 (get_or run k 0))
     → (n : ℕ) → n ≡ prefix_len (is_outside low high) run → (n ≤ length run) × ((k : ℕ) → k < n → test (slice_index run k) ≡ true)
@@ -60,3 +68,11 @@ plain_passed = passed PLAIN SPECIAL (is_plain Plain) plain_set
 pub double_passed : (run : List ℕ) → ((k : ℕ) → Fits w8 (get_or run k 0)) → (n : ℕ) → n ≡ prefix_len (is_outside DOUBLE SPECIAL) run
     → (n ≤ length run) × ((k : ℕ) → k < n → is_plain Double (slice_index run k) ≡ true)
 double_passed = passed DOUBLE SPECIAL (is_plain Double) double_set
+
+pub brace_passed : (run : List ℕ) → ((k : ℕ) → Fits w8 (get_or run k 0)) → (n : ℕ) → n ≡ prefix_len (is_outside BRACE SPECIAL) run
+    → (n ≤ length run) × ((k : ℕ) → k < n → is_plain Brace (slice_index run k) ≡ true)
+brace_passed = passed BRACE SPECIAL (is_plain Brace) brace_set
+
+pub double_brace_passed : (run : List ℕ) → ((k : ℕ) → Fits w8 (get_or run k 0)) → (n : ℕ) → n ≡ prefix_len (is_outside DOUBLE_BRACE SPECIAL) run
+    → (n ≤ length run) × ((k : ℕ) → k < n → is_plain DoubleBrace (slice_index run k) ≡ true)
+double_brace_passed = passed DOUBLE_BRACE SPECIAL (is_plain DoubleBrace) double_brace_set

@@ -16,6 +16,12 @@ const PLAIN: [u8; 16] = [18, 0, 2, 0, 2, 0, 2, 2, 2, 3, 1, 4, 44, 0, 4, 0];
 /// Those that are in double quotes.
 const DOUBLE: [u8; 16] = [16, 0, 2, 0, 2, 0, 0, 0, 0, 0, 0, 0, 8, 0, 0, 0];
 
+/// Those that are in braces.
+const BRACE: [u8; 16] = [16, 0, 2, 0, 2, 0, 0, 2, 0, 0, 0, 0, 8, 32, 0, 0];
+
+/// Those that are in braces within double quotes.
+const DOUBLE_BRACE: [u8; 16] = [16, 0, 2, 0, 2, 0, 0, 0, 0, 0, 0, 0, 8, 32, 0, 0];
+
 /// How many bytes at the front are ordinary in a mode, one by one.
 #[inline(always)]
 fn plain_by_byte(run: &[u8], mode: Mode) -> usize
@@ -43,6 +49,20 @@ fn is_plain_at(run: &[u8], at: usize, mode: Mode) -> bool
     }
 }
 
+/// How many bytes at the front are ordinary in a mode that few texts have: that of braces or of
+/// arithmetic. Not inlined, so that it takes nothing from what most bytes run through.
+#[inline(never)]
+fn rarer_front(run: &[u8], mode: Mode) -> usize
+    ensures within { result ≤ length run.now }
+    ensures plain { (k : ℕ) → k < result → is_plain mode (slice_index run.now k) ≡ true }
+{
+    match mode {
+        Mode::Brace => front_outside(run, BRACE, SPECIAL),
+        Mode::DoubleBrace => front_outside(run, DOUBLE_BRACE, SPECIAL),
+        Mode::Plain | Mode::Double | Mode::Arith => plain_by_byte(run, mode),
+    }
+}
+
 /// How many bytes at the front are ordinary in a mode. Most bytes stand outside all quotes or
 /// in double quotes; many words begin with a quote or a `$`, and many end behind their first
 /// byte. Those are told at less cost than a row of bytes is.
@@ -60,6 +80,6 @@ pub(crate) fn plain_front(run: &[u8], mode: Mode) -> usize
     match mode {
         Mode::Plain => front_outside(run, PLAIN, SPECIAL),
         Mode::Double => front_outside(run, DOUBLE, SPECIAL),
-        Mode::Brace | Mode::DoubleBrace | Mode::Arith => plain_by_byte(run, mode),
+        Mode::Brace | Mode::DoubleBrace | Mode::Arith => rarer_front(run, mode),
     }
 }
