@@ -112,3 +112,11 @@ module _ {S : Type 0} where
       × (slice_get (bytes_of bytes old) (new.at - 1) ≡ Some 10) × ((so : SoFar) → Stands old so → IsWholeLine (bytes_of bytes old) so old es new)
   PassesWhole bytes old (Ok None) new = (new ≡ old) × StopsAt old.edition (bytes_of bytes old) old.at
   PassesWhole bytes old (Err e) new = new ≡ old
+
+-- One more line is read, by these rules. No node of its entries names an offset above the script's length, nor
+-- does a fault.
+pub record ReadsLine {S : Type 0} (reads : Edition → List ℕ → SoFar → ℕ → Read (Row AnEntry × Bool) → Type 0) (bytes : S → List ℕ)
+    (old : ScriptLines S) (result : Result Told Stop) (new : ScriptLines S) : Type 0 where
+  pub line : (so : SoFar) → Stands old so → IsReadBy (reads old.edition (bytes_of bytes old) so old.at) result
+  pub moves : MovesOn bytes old result new
+  pub within : LineWithin (length (bytes_of bytes old)) result

@@ -1,10 +1,10 @@
 //! The lines of a script, read one after the other, so that who needs no tree of the
 //! whole holds that of one line.
 ghost use Rattle.std.specs.Prelude.{◌≡◌, ◌+◌, ◌^◌, ◌<◌, ◌≤◌, IfOk, drop, length};
-ghost use Rattle.shgrammar.specs.Scripts.{SoFar, line_from};
+ghost use Rattle.shgrammar.specs.Scripts.{line_from};
 ghost use Rattle.shline.specs.Clauses.{Gives, view_told};
 ghost use Rattle.shline.specs.Limits.{limits};
-ghost use Rattle.shpass.specs.LineByLine.{AtStart, Behind, IsReadBy, LineReads, LineWithin, MovesOn, OuterReads, PassesWhole, Stands};
+ghost use Rattle.shpass.specs.LineByLine.{AtStart, Behind, LineReads, LineWithin, MovesOn, OuterReads, PassesWhole, ReadsLine};
 ghost use Rattle.shpass.specs.LineByLine.{before_of, bytes_of, edition_of, is_blank_behind, no_lines, place_of};
 
 use crate::newline::ends_in_newline;
@@ -139,12 +139,7 @@ impl<'a, S: Source> ScriptLines<'a, S> {
     /// [`Stop`]: the script's first fault, or want of memory. Nothing moves then; the line may be read again.
     pub fn read_next(&mut self, spare: Option<&mut Spare>) -> Result<Told, Stop>
         requires { place_of self.old ≤ length (bytes_of S.bytes self.old) }
-        ensures line { let bytes = bytes_of S.bytes self.old in
-            (so : SoFar) → Stands self.old so →
-            IsReadBy (LineReads (edition_of self.old) bytes so (place_of self.old)) result }
-        ensures moves { MovesOn S.bytes self.old result self.new }
-        // No node of its entries names an offset above the script's length, nor does a fault.
-        ensures within { LineWithin (length (bytes_of S.bytes self.old)) result }
+        ensures { ReadsLine LineReads S.bytes self.old result self.new }
     {
         self.read(Keep::Whole, spare)
     }
@@ -157,12 +152,7 @@ impl<'a, S: Source> ScriptLines<'a, S> {
     /// [`Stop`], as there.
     pub fn read_outer(&mut self, spare: Option<&mut Spare>) -> Result<Told, Stop>
         requires { place_of self.old ≤ length (bytes_of S.bytes self.old) }
-        ensures line { let bytes = bytes_of S.bytes self.old in
-            (so : SoFar) → Stands self.old so →
-            IsReadBy (OuterReads (edition_of self.old) bytes so (place_of self.old)) result }
-        ensures moves { MovesOn S.bytes self.old result self.new }
-        // No node of its entries names an offset above the script's length, nor does a fault.
-        ensures within { LineWithin (length (bytes_of S.bytes self.old)) result }
+        ensures { ReadsLine OuterReads S.bytes self.old result self.new }
     {
         self.read(Keep::Outer, spare)
     }

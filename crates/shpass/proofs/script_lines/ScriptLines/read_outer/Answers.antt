@@ -1,5 +1,9 @@
 use Rattle.shpass.proofs.LineByLine.{outer_line}
 use Rattle.shpass.proofs.script_lines.ScriptLines.read_outer.Goals as goal
 
-pub returns-clause-line : goal.returns-clause-line
-returns-clause-line g c = λ so stood. outer_line (g.S.Source.bytes c.args.self.now.source.now) _ c.args.self.now c.read.result so stood c.read.ensures.value
+pub returns : goal.returns
+returns g c = record {
+  line = λ so stood. outer_line (g.S.Source.bytes c.args.self.now.source.now) _ c.args.self.now c.read.result so stood c.read.ensures.value;
+  moves = c.read.ensures.moves;
+  within = c.read.ensures.within;
+}
