@@ -5,6 +5,7 @@ use Rattle.std.proofs.lemmas.List.Sums.{prefix_len-le-length, prefix_len_passes}
 use Rattle.std.specs.List.{prefix_len}
 use Rattle.shscan.specs.Sets.{is_outside}
 use Rattle.shline.specs.declared.sets.TheConstants.{BRACE, DOUBLE, DOUBLE_BRACE, PLAIN, SPECIAL}
+use Rattle.shline.specs.Sought.{ArePlain}
 use Rattle.shgrammar.specs.Plain.{is_plain}
 use Rattle.shgrammar.specs.declared.mode.Mode.TheVariants.{Plain, Double, Brace, DoubleBrace}
 
@@ -61,18 +62,14 @@ passed low high test all run bytes n is = (
   λ k below. sym (agree_at (is_outside low high) test 256 (slice_index run k) all (bytes k).fits) ∙ prefix_len_passes (is_outside low high) run k 0 (omega (arith, is, below)),
 )
 
-pub plain_passed : (run : List ℕ) → ((k : ℕ) → Fits w8 (get_or run k 0)) → (n : ℕ) → n ≡ prefix_len (is_outside PLAIN SPECIAL) run
-    → (n ≤ length run) × ((k : ℕ) → k < n → is_plain Plain (slice_index run k) ≡ true)
+pub plain_passed : (run : List ℕ) → ((k : ℕ) → Fits w8 (get_or run k 0)) → (n : ℕ) → n ≡ prefix_len (is_outside PLAIN SPECIAL) run → ArePlain Plain run n
 plain_passed = passed PLAIN SPECIAL (is_plain Plain) plain_set
 
-pub double_passed : (run : List ℕ) → ((k : ℕ) → Fits w8 (get_or run k 0)) → (n : ℕ) → n ≡ prefix_len (is_outside DOUBLE SPECIAL) run
-    → (n ≤ length run) × ((k : ℕ) → k < n → is_plain Double (slice_index run k) ≡ true)
+pub double_passed : (run : List ℕ) → ((k : ℕ) → Fits w8 (get_or run k 0)) → (n : ℕ) → n ≡ prefix_len (is_outside DOUBLE SPECIAL) run → ArePlain Double run n
 double_passed = passed DOUBLE SPECIAL (is_plain Double) double_set
 
-pub brace_passed : (run : List ℕ) → ((k : ℕ) → Fits w8 (get_or run k 0)) → (n : ℕ) → n ≡ prefix_len (is_outside BRACE SPECIAL) run
-    → (n ≤ length run) × ((k : ℕ) → k < n → is_plain Brace (slice_index run k) ≡ true)
+pub brace_passed : (run : List ℕ) → ((k : ℕ) → Fits w8 (get_or run k 0)) → (n : ℕ) → n ≡ prefix_len (is_outside BRACE SPECIAL) run → ArePlain Brace run n
 brace_passed = passed BRACE SPECIAL (is_plain Brace) brace_set
 
-pub double_brace_passed : (run : List ℕ) → ((k : ℕ) → Fits w8 (get_or run k 0)) → (n : ℕ) → n ≡ prefix_len (is_outside DOUBLE_BRACE SPECIAL) run
-    → (n ≤ length run) × ((k : ℕ) → k < n → is_plain DoubleBrace (slice_index run k) ≡ true)
+pub double_brace_passed : (run : List ℕ) → ((k : ℕ) → Fits w8 (get_or run k 0)) → (n : ℕ) → n ≡ prefix_len (is_outside DOUBLE_BRACE SPECIAL) run → ArePlain DoubleBrace run n
 double_brace_passed = passed DOUBLE_BRACE SPECIAL (is_plain DoubleBrace) double_brace_set

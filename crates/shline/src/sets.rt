@@ -1,8 +1,9 @@
 //! The sets of bytes at which a run of others ends, as the tables that `shscan` takes: the
 //! kinds of a byte by its low four bits, and by its high four.
-ghost use Rattle.std.specs.Prelude.{◌≡◌, ◌<◌, ◌≤◌, ℕ, length, slice_get, slice_index, true};
+ghost use Rattle.std.specs.Prelude.{◌≡◌, ◌<◌, length, slice_get, slice_index, true};
 ghost use Rattle.shgrammar.specs.Plain.{is_plain};
 ghost use Rattle.shgrammar.specs.Standing.{passes};
+ghost use Rattle.shline.specs.Sought.{ArePlain};
 
 use shgrammar::Mode;
 use shscan::front_outside;
@@ -25,8 +26,7 @@ const DOUBLE_BRACE: [u8; 16] = [16, 0, 2, 0, 2, 0, 0, 0, 0, 0, 0, 0, 8, 32, 0, 0
 /// How many bytes at the front are ordinary in a mode, one by one.
 #[inline(always)]
 fn plain_by_byte(run: &[u8], mode: Mode) -> usize
-    ensures within { result ≤ length run.now }
-    ensures plain { (k : ℕ) → k < result → is_plain mode (slice_index run.now k) ≡ true }
+    ensures { ArePlain mode run.now result }
 {
     for (count, byte) in run.iter().enumerate() {
         if !mode.is_plain(*byte) {
@@ -53,8 +53,7 @@ fn is_plain_at(run: &[u8], at: usize, mode: Mode) -> bool
 /// arithmetic. Not inlined, so that it takes nothing from what most bytes run through.
 #[inline(never)]
 fn rarer_front(run: &[u8], mode: Mode) -> usize
-    ensures within { result ≤ length run.now }
-    ensures plain { (k : ℕ) → k < result → is_plain mode (slice_index run.now k) ≡ true }
+    ensures { ArePlain mode run.now result }
 {
     match mode {
         Mode::Brace => front_outside(run, BRACE, SPECIAL),
@@ -68,8 +67,7 @@ fn rarer_front(run: &[u8], mode: Mode) -> usize
 /// byte. Those are told at less cost than a row of bytes is.
 #[inline(always)]
 pub(crate) fn plain_front(run: &[u8], mode: Mode) -> usize
-    ensures within { result ≤ length run.now }
-    ensures plain { (k : ℕ) → k < result → is_plain mode (slice_index run.now k) ≡ true }
+    ensures { ArePlain mode run.now result }
 {
     if !is_plain_at(run, 0, mode) {
         return 0;
