@@ -1,9 +1,9 @@
 // What no clause says of a text with a gap: that it answers where there is memory, and that all bytes lie in
 // one piece from the asked place on behind an edit that changes something.
-use crate::session_runs::Dice;
-use crate::spliced::spliced;
 use shgap::GapText;
 use shtext::{Source, TextError};
+use shtreetests::dice::Dice;
+use shtreetests::spliced::spliced;
 use std::test::Fail;
 
 /// Whether the stretches of a text, one behind the other, are these bytes.

@@ -1,9 +1,9 @@
 //! The tests of the printer and of sessions, over their public calls. The devices, the refused growths and
 //! the tables that they use are those of the crate `shtreetests`.
 //!
-//! Start with the module of what is tested: `gap_..` are the tests of `shgap`, `printer_..` those of
-//! `shprint`, `session_..` those of `shlive`; those in `.._refused` refuse each growth of memory in turn.
-//! `spliced` is the model by which edits are judged, `windows` that of what they read.
+//! Start with the module of what is tested: `gap_..` are the tests of `shgap`, `printer_..` those of `shprint`
+//! and `shpieces`, `session_..` those of `shlive`; those in `.._refused` refuse each growth of memory in turn.
+//! `windows` is the model by which is judged what an edit reads.
 #![tactic(auto)]
 
 #[cfg(test)]
@@ -26,6 +26,5 @@ mod session_refused;
 mod session_runs;
 #[cfg(test)]
 mod session_windows;
-pub mod spliced;
 #[cfg(test)]
 mod windows;

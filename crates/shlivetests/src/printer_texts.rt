@@ -3,6 +3,8 @@ use shpieces::{PrintError, Printing, print_source};
 use shprint::{Layout, LayoutError, message, print};
 use shread::{Edition, Fault, FaultKind, Reader};
 use shtext::{Flat, Source};
+use shtreetests::both::Both;
+use shtreetests::dice::Dice;
 use shtreetests::in_pieces::InPieces;
 use shtreetests::table::rows;
 use std::alloc::Global;
@@ -59,6 +61,17 @@ const SCRIPTS: &[u8] = br###"
 ("a |\nb | c | { d;}", "a |\n\tb | c | {\n\t\td\n\t}\n") ("a | { b;} | { c;}", "a | {\n\tb\n} | {\n\tc\n}\n")
 ("a 1\\\n2\\\n3>b", "a 123>b\n") ("a\tb", "a b\n") ("{ a \\\nb\nc;}", "{\n\ta \\\n\t\tb\n\tc\n}\n")
 "###;
+
+/// What is put into a script.
+const NEW: [&[u8]; 7] = [
+    b"a",
+    b" ",
+    b"\n",
+    b"; b\n",
+    b"$(c)",
+    b"\nd <<E; e\nf\nE\n",
+    b"# g\n",
+];
 
 /// The printed text of a script by an edition, in parts: of the whole lines at its front first, and then of
 /// what follows.
@@ -161,6 +174,47 @@ fn blanks(rt: HostRuntime) -> Result<(), Fail> {
     let table =
         br###"("a && b ||\n# why\nc & # bg\n\n\nd\n", "a && b || # why\n  c & # bg\n\nd\n")"###;
     judge(&rt, rt.alloc(), Edition::Y2017, &layout, table)
+}
+
+/// The scripts of a table, one behind the other, with a newline behind each.
+fn all_scripts(alloc: Global, table: &[u8]) -> Result<Vec<u8>, Fail> {
+    let mut text = Vec::new(alloc);
+    for row in &rows(alloc, table)? {
+        let [script, _] = row.as_slice() else {
+            return Err(Fail::from("no row"));
+        };
+        text.extend_from_slice(&script.bytes)?;
+        text.push(b'\n')?;
+    }
+    Ok(text)
+}
+
+/// A script over a buffer is printed as in one piece, wherever the chunks end: behind random edits, which are
+/// taken back where they bring a fault.
+#[test]
+fn over_a_buffer(rt: HostRuntime) -> Result<(), Fail> {
+    let alloc = rt.alloc();
+    let layout = Layout::new(0, false, false, false)?;
+    let scripts = all_scripts(alloc, SCRIPTS)?;
+    let mut both = Both::of(alloc, &scripts)?;
+    for _ in 0..9 {
+        both.edit(0, 0, &scripts)?;
+    }
+    let mut dice = Dice(46);
+    for turn in 0..1_000 {
+        let (a, b) = both.part(&mut dice, 30);
+        let new = NEW.get(dice.below(NEW.len())).copied().unwrap_or(b"");
+        let old = both.edit(a, b, new)?;
+        let mut reader = Reader::for_edition(alloc, Edition::Y2017);
+        if reader.first_fault(&both.buffer)?.is_some() {
+            both.edit(a, a.saturating_add(new.len()), &old)?;
+        } else if turn % 50 == 0 {
+            let text = printed_from(alloc, Edition::Y2017, &layout, &both.buffer)?;
+            let wanted = printed_from(alloc, Edition::Y2017, &layout, &Flat::new(&both.bytes))?;
+            assert!(rt; text == wanted, "turn {turn}");
+        }
+    }
+    Ok(())
 }
 
 /// The `{` of a function on a line of its own; other bodies, and those behind comments, stand as without the

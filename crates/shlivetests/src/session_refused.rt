@@ -1,6 +1,5 @@
 // Each growth of a session refused in turn: `growths.rt` says how.
 use crate::session_runs::{alike, alike_at_each, opened, page_of};
-use crate::spliced::spliced;
 use crate::windows::window;
 use shlive::{LiveError, Session, run};
 use shprint::Layout;
@@ -8,6 +7,7 @@ use shread::Reader;
 use shtext::{Input, Output};
 use shtreetests::devices::{PAGE, Page, Same};
 use shtreetests::growths::Growths;
+use shtreetests::spliced::spliced;
 use std::alloc::{AllocError, Global};
 use std::io::Read;
 use std::process::Abort;

@@ -1,11 +1,12 @@
 // What no clause says: that requests are answered where nothing fails, what the replies look like, that a
 // failure of a device is told, and that edits by the thousand leave what a session opened anew would answer.
-use crate::spliced::spliced;
 use shlive::{LiveError, Session, run};
 use shprint::Layout;
 use shread::Reader;
 use shtext::{Input, Output};
 use shtreetests::devices::{PAGE, Page, Same, Tape};
+use shtreetests::dice::Dice;
+use shtreetests::spliced::spliced;
 use std::alloc::Global;
 use std::io::Read;
 use std::test::Fail;
@@ -146,6 +147,38 @@ fn rows(rt: HostRuntime) -> Result<(), Fail> {
     Ok(())
 }
 
+/// The first chunk of a script ends in the line that ends a here-document, or in single quotes, and an edit
+/// there is read as elsewhere.
+#[test]
+fn chunk_ends(rt: HostRuntime) -> Result<(), Fail> {
+    let alloc = rt.alloc();
+    let many = vec![in alloc; b'x'; 8_000]?;
+    for (before, count, behind, requests, (text, status)) in [
+        (
+            b"cat <<EOF\n".as_slice(),
+            4_083,
+            b"\nEOF\n".as_slice(),
+            b"edit 4096 4097 1\nX\nfault\nquit\n".as_slice(),
+            (b"ok 4098 1\nfault 4 1 5 9\n".as_slice(), 1),
+        ),
+        (b"'", 8_000, b"'\n", b"fault\nquit\n", (b"none\n", 0)),
+        (
+            b"'",
+            8_000,
+            b"'\n",
+            b"edit 4096 4096 1\n'\nfault\nquit\n",
+            (b"ok 8004 1\nfault 8002 1 8003 1\n", 1),
+        ),
+    ] {
+        let mut script = Vec::from_slice(alloc, before)?;
+        script.extend_from_slice(many.get(..count).unwrap_or(b""))?;
+        script.extend_from_slice(behind)?;
+        let tape = Tape::new(requests, 99);
+        assert!(rt; replies(alloc, &script, tape, (text, status))?, "{count}");
+    }
+    Ok(())
+}
+
 /// How much of `MENDED_REPLIES` is written where the input ends behind so many bytes
 /// of `MENDED`, and the status.
 fn cut_replies(len: usize) -> (usize, u8) {
@@ -263,21 +296,6 @@ pub(crate) fn alike_at_each(one: &Session, two: &Session, step: usize) -> Result
         at = at.saturating_add(step);
     }
     Ok(same)
-}
-
-/// Numbers that look random, from a seed on.
-#[derive(Drop)]
-pub(crate) struct Dice(pub(crate) u64);
-
-impl Dice {
-    /// A number below another, which is above 0.
-    pub(crate) fn below(&mut self, bound: usize) -> usize {
-        self.0 = self
-            .0
-            .wrapping_mul(6_364_136_223_846_793_005)
-            .wrapping_add(1_442_695_040_888_963_407);
-        (self.0 >> 33) as usize % bound.max(1)
-    }
 }
 
 const PIECES: [&[u8]; 16] = [

@@ -1,11 +1,12 @@
 // What an edit reads again, and that it changes no answer: rows with the meter, and edits by the thousand,
 // judged by a session opened anew and by the window as it is defined.
-use crate::session_runs::{Dice, alike_at_each, opened, page_of};
-use crate::spliced::spliced;
+use crate::session_runs::{alike_at_each, opened, page_of};
 use crate::windows::window;
 use shlive::{Session, run};
 use shtext::{Input, Output};
 use shtreetests::devices::{PAGE, Tape};
+use shtreetests::dice::Dice;
+use shtreetests::spliced::spliced;
 use std::alloc::Global;
 use std::test::Fail;
 

@@ -1,8 +1,8 @@
 // The window of an edit, told from its definition: the boundaries of the two scripts
 // are those of the lines that the reader reads.
-use crate::spliced::spliced;
 use shread::Reader;
 use shtext::Flat;
+use shtreetests::spliced::spliced;
 use std::alloc::Global;
 use std::test::Fail;
 

@@ -1,6 +1,15 @@
 pub mod Known
 pub mod Newlines
 pub mod Lines
-pub mod Searches
 pub mod Edits
 pub mod Counting
+pub mod Joined
+pub mod Fullness
+pub mod Parts
+pub mod Runs
+pub mod Summing
+pub mod Starts
+pub mod Moving
+pub mod Rows
+pub mod Filled
+pub mod Around

@@ -1,5 +1,5 @@
 -- Where a byte stands in a list of bytes, and the line and the column of an offset.
-use Rattle.std.specs.Prelude.{◌≡◌, ◌≢◌, ℕ, ◌+◌, ◌<◌, ◌≤◌, ◌==◌, Bool, true, false, List, Option, None, Some, length, take, slice_index, count_by, fold, if◌then◌else◌}
+use Rattle.std.specs.Prelude.{◌≡◌, ◌≢◌, ℕ, ◌+◌, ◌<◌, ◌≤◌, ◌==◌, Bool, List, Option, None, Some, length, take, slice_index, count_by, fold, if◌then◌else◌}
 use Rattle.shtext.specs.declared.source.Flat.{Flat}
 
 -- the bytes of a text that lies in one slice
@@ -37,10 +37,3 @@ column_of bytes at = 1 + since_newline (take at bytes)
 abbrev pub IsLineStart : List ℕ → ℕ → Option ℕ → Type 0
 IsLineStart bytes n None = (at : ℕ) → at ≤ length bytes → line_of bytes at ≢ n
 IsLineStart bytes n (Some at) = (at ≤ length bytes) × (line_of bytes at ≡ n) × (column_of bytes at ≡ 1)
-
--- the next newline from an offset on, or the length
-pub record IsNextNewline (bytes : List ℕ) (from at : ℕ) : Type 0 where
-  pub low : from ≤ at
-  pub high : at ≤ length bytes
-  pub none : (k : ℕ) → from ≤ k → k < at → is_newline (slice_index bytes k) ≡ false
-  pub here : at < length bytes → is_newline (slice_index bytes at) ≡ true

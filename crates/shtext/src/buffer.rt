@@ -1,33 +1,59 @@
 //! A text that is edited.
-ghost use Rattle.std.specs.Prelude.{◌≡◌, ◌≢◌, ◌+◌, ◌-◌, ◌≤◌, ℕ, List, [], IfErr, IfOk, IsOk, IsTrue, ◌↔◌, length};
-ghost use Rattle.shtext.specs.Buffer.{Fits, buffer_bytes, changed, edited_bytes};
-ghost use Rattle.shtext.specs.Edit.{IsAllowed, Refuses, edited, limit};
-ghost use Rattle.shtext.specs.Text.{IsLineStart, column_of, line_of};
+ghost use Rattle.std.specs.Prelude.{◌≡◌, ◌+◌, ◌*◌, ◌<◌, ◌≤◌, [], IfErr, IfOk, IsOk, length};
+ghost use Rattle.shtext.specs.Chunks.{AreFull, EachHas, HasSums, begin_of, ends_of, fewest, joined, lines_of, most};
+ghost use Rattle.shtext.specs.Edit.{Refuses, limit};
+ghost use Rattle.shtext.specs.Text.{IsRun};
 
-use crate::allow::{LIMIT, allowed};
-use crate::change::Change;
-use crate::edited::Edited;
+use crate::allow::allowed;
+use crate::chunk::{CHUNK, Chunk};
+use crate::cut::cut;
+use crate::edit::SEAM;
 use crate::error::TextError;
-use crate::line_col::line_col_of;
-use crate::newline::next_newline;
 use crate::source::Source;
-use crate::splice::replace_items;
+use crate::sums::{add_up, place_near, sum_before};
 use std::alloc::Global;
 
 /// A text that is edited in two steps, so that nothing can go wrong once its bytes change: a change is
 /// prepared, which takes what memory it needs, and committed. Between the two its edited text can be read.
+///
+/// Its bytes lie in a row of chunks. None is empty, none has more than `CHUNK` bytes, and none but
+/// the last has fewer than a quarter of that, so that an edit moves few bytes, however long the text is.
 #[derive(Debug, Drop)]
 pub struct Buffer {
-    bytes: Vec<u8>,
+    pub(crate) alloc: Global,
+    pub(crate) chunks: Vec<Chunk>,
+    /// Where each chunk ends.
+    pub(crate) ends: Vec<usize>,
+    /// How many newlines there are up to the end of each.
+    pub(crate) lines: Vec<usize>,
+    /// Chunks for those that come.
+    pub(crate) spare: Vec<Chunk>,
+    /// Room for the bytes around an edit in the chunks that give way. It is empty between calls.
+    pub(crate) seam: Vec<u8>,
+    ghost each: { EachHas 1 chunks.items },
+    ghost full: { AreFull chunks.items },
+    ghost small: { length (joined chunks.items) ≤ limit },
+    ghost end_count: { length ends.items ≡ length chunks.items },
+    ghost line_count: { length lines.items ≡ length chunks.items },
+    ghost all_ends: { HasSums ends_of chunks.items (length chunks.items) ends.items },
+    ghost all_lines: { HasSums lines_of chunks.items (length chunks.items) lines.items },
+    ghost no_seam: { length seam.items ≡ 0 },
 }
 
 impl Buffer {
+    ghost use Rattle.shtext.specs.Buffer.{buffer_bytes};
+
     /// The empty text.
     pub fn new(alloc: Global) -> Buffer
         ensures { buffer_bytes result ≡ [] }
     {
         Buffer {
-            bytes: Vec::new(alloc),
+            alloc,
+            chunks: Vec::new(alloc),
+            ends: Vec::new(alloc),
+            lines: Vec::new(alloc),
+            spare: Vec::new(alloc),
+            seam: Vec::new(alloc),
         }
     }
 
@@ -43,129 +69,83 @@ impl Buffer {
             return Ok(Buffer::new(alloc));
         }
         allowed(0, 0, 0, bytes.len())?;
-        let bytes = Vec::from_slice(alloc, bytes)?;
-        Ok(Buffer { bytes })
-    }
-
-    /// Whether so many bytes may be put in the place of those from `a` up to `b`, as
-    /// far as the text decides that. It takes no memory.
-    pub fn allows(&self, a: usize, b: usize, count: usize) -> Result<(), TextError>
-        ensures ok { IfOk result (λ _. (new : List ℕ) → length new ≡ count → IsAllowed (buffer_bytes self.now) a b new) }
-        ensures err { IfErr result (λ e. (new : List ℕ) → length new ≡ count → Refuses (buffer_bytes self.now) a b new e) }
-        ensures no_memory { IfErr result (λ e. e ≢ TextError.Memory) }
-    {
-        allowed(self.bytes.len(), a, b, count)
-    }
-
-    /// A change that puts these bytes in the place of those from `a` up to `b`. It
-    /// fits; no byte of the text changes, whatever is answered.
-    pub fn prepare(&mut self, a: usize, b: usize, bytes: &[u8]) -> Result<Change, TextError>
-        ensures bytes { buffer_bytes self.new ≡ buffer_bytes self.old }
-        ensures allowed { IfOk result (λ change. IsAllowed (buffer_bytes self.old) a b bytes.now) }
-        ensures fits { IfOk result (Fits self.new) }
-        ensures change { IfOk result (λ change. changed (buffer_bytes self.new) change ≡ edited (buffer_bytes self.old) a b bytes.now) }
-        ensures err { IfErr result (Refuses (buffer_bytes self.old) a b bytes.now) }
-    {
-        self.allows(a, b, bytes.len())?;
-        let alloc = *self.bytes.allocator();
-        let old = Vec::from_slice(alloc, &self.bytes[a..b])?;
-        let new = Vec::from_slice(alloc, bytes)?;
-        self.bytes.reserve(bytes.len().saturating_sub(b - a))?;
-        Ok(Change {
-            start: a,
-            end: b,
-            old,
-            new,
+        let chunks = cut(alloc, bytes)?;
+        let mut ends = Vec::with_capacity(alloc, chunks.len())?;
+        let mut lines = Vec::with_capacity(alloc, chunks.len())?;
+        let seam = Vec::with_capacity(alloc, SEAM)?;
+        add_up(&chunks, 0, &mut ends, &mut lines);
+        Ok(Buffer {
+            alloc,
+            chunks,
+            ends,
+            lines,
+            spare: Vec::new(alloc),
+            seam,
         })
     }
 
-    /// Whether a change fits: its places are there, the bytes between them are those that stood there when it
-    /// was prepared, and there is room for the edited text.
-    pub fn fits(&self, change: &Change) -> bool
-        ensures { IsTrue result ↔ Fits self.now change.now }
+    /// How many chunks the bytes lie in: at most one more than a 1,024th of them.
+    pub fn chunk_count(&self) -> usize
+        ensures count { result ≡ length self.now.chunks.items }
+        ensures few { result * fewest ≤ length (buffer_bytes self.now) + fewest }
     {
-        if change.start > change.end || change.end > self.len() {
-            return false;
-        }
-        let len = self.len() - (change.end - change.start) + change.new.len();
-        if len > LIMIT || len > self.bytes.capacity() {
-            return false;
-        }
-        self.bytes[change.start..change.end] == change.old[..]
+        self.chunks.len()
     }
 
-    /// The text that the change would make. It has to fit.
-    pub fn preview<'a>(&'a self, change: &'a Change) -> Edited<'a>
-        requires { Fits self.now change.now }
-        ensures { edited_bytes result ≡ changed (buffer_bytes self.now) change.now }
+    /// Where a chunk begins; the length, behind the last.
+    #[inline]
+    pub(crate) fn begin(&self, chunk: usize) -> usize
+        requires { chunk ≤ length self.now.chunks.items }
+        ensures { result ≡ begin_of self.now.chunks.items chunk }
     {
-        Edited {
-            before: &self.bytes[..change.start],
-            new: &change.new,
-            behind: &self.bytes[change.end..],
-        }
+        sum_before(&self.ends, chunk)
     }
 
-    /// Makes the change, which has to fit. It takes no memory: the room was made when
-    /// the change was prepared.
-    pub fn commit(&mut self, change: Change)
-        requires { Fits self.old change }
-        ensures { buffer_bytes self.new ≡ changed (buffer_bytes self.old) change }
+    /// The chunk of an offset. Where all before it have `CHUNK` bytes, that is the first guess.
+    #[inline]
+    pub(crate) fn find(&self, at: usize) -> usize
+        requires { at < length (buffer_bytes self.now) }
+        ensures within { result < length self.now.chunks.items }
+        ensures low { begin_of self.now.chunks.items result ≤ at }
+        ensures high { at < begin_of self.now.chunks.items (result + 1) }
     {
-        replace_items(&mut self.bytes, change.start, change.end, change.new);
+        place_near(&self.ends, at / CHUNK, at)
     }
 
-    /// The line and the column of an offset in bytes, which is at most the length.
-    /// Both count from 1, and the column counts bytes.
-    pub fn line_col(&self, at: usize) -> (usize, usize)
-        requires { at ≤ length (buffer_bytes self.now) }
-        ensures line { result.0 ≡ line_of (buffer_bytes self.now) at }
-        ensures column { result.1 ≡ column_of (buffer_bytes self.now) at }
+    /// The bytes of a chunk from an offset on.
+    #[inline]
+    fn piece(&self, at: usize) -> &[u8]
+        requires { at < length (buffer_bytes self.now) }
+        ensures run { IsRun (buffer_bytes self.now) at result.now }
+        ensures few { length result.now ≤ most }
     {
-        line_col_of(self, at)
-    }
-
-    /// The offset at which a line begins. There is none for 0, nor behind the last
-    /// line: a text has a line more than newlines.
-    pub fn line_start(&self, n: usize) -> Option<usize>
-        ensures { IsLineStart (buffer_bytes self.now) n result }
-    {
-        if n == 0 {
-            return None;
-        }
-        let mut line = 1;
-        let mut start = 0;
-        'lines: while line < n {
-            let newline = next_newline(self, start);
-            if newline == self.len() {
-                return None;
-            }
-            line += 1;
-            start = newline + 1;
-        }
-        Some(start)
+        let index = self.find(at);
+        let begin = self.begin(index);
+        let chunk = &self.chunks[index];
+        chunk.bytes_from(at - begin)
     }
 }
 
 impl Source for Buffer {
+    ghost use Rattle.shtext.specs.Buffer.{buffer_bytes};
+
     ghost bytes = { buffer_bytes };
 
     #[inline]
     fn len(&self) -> usize {
-        self.bytes.len()
+        self.begin(self.chunks.len())
     }
 
     #[inline]
     fn byte(&self, at: usize) -> Option<u8> {
-        self.bytes.get(at).copied()
+        self.run(at).first().copied()
     }
 
     #[inline]
-    fn run(&self, at: usize) -> &[u8] {
-        if at < self.bytes.len() {
-            &self.bytes[at..]
-        } else {
-            &[]
-        }
+    fn run(&self, at: usize) -> &[u8]
+        ensures run { IsRun (buffer_bytes self.now) at result.now }
+        ensures few { length result.now ≤ most }
+    {
+        if at < self.len() { self.piece(at) } else { &[] }
     }
 }

@@ -1,16 +1,25 @@
 //! The text that a change would make.
-ghost use Rattle.std.specs.Prelude.{◌+◌, ◌≤◌, length};
-ghost use Rattle.shtext.specs.Edit.{limit};
+ghost use Rattle.std.specs.Prelude.{◌+◌, ◌-◌, ◌≤◌, length};
+ghost use Rattle.shtext.specs.Chunks.{joined, most};
+ghost use Rattle.shtext.specs.Edit.{edited, limit};
+ghost use Rattle.shtext.specs.Text.{IsRun};
 
+use crate::buffer::Buffer;
+use crate::chunk::CHUNK;
 use crate::source::Source;
 
 /// The edited text: the buffer's bytes before the change, the new bytes, and the buffer's bytes behind it.
 #[derive(Clone, Copy, Debug)]
 pub struct Edited<'a> {
-    pub(crate) before: &'a [u8],
+    pub(crate) buffer: &'a Buffer,
     pub(crate) new: &'a [u8],
-    pub(crate) behind: &'a [u8],
-    ghost small: { length before.now + (length new.now + length behind.now) ≤ limit },
+    /// The new bytes stand in the place of those from here
+    pub(crate) start: usize,
+    /// up to here.
+    pub(crate) end: usize,
+    ghost order: { start ≤ end },
+    ghost within: { end ≤ length (joined buffer.now.chunks.items) },
+    ghost small: { length (edited (joined buffer.now.chunks.items) start end new.now) ≤ limit },
 }
 
 impl<'a> Source for Edited<'a> {
@@ -20,7 +29,7 @@ impl<'a> Source for Edited<'a> {
 
     #[inline]
     fn len(&self) -> usize {
-        self.before.len() + (self.new.len() + self.behind.len())
+        self.buffer.len() - (self.end - self.start) + self.new.len()
     }
 
     #[inline]
@@ -29,17 +38,22 @@ impl<'a> Source for Edited<'a> {
     }
 
     #[inline]
-    fn run(&self, at: usize) -> &[u8] {
-        if at < self.before.len() {
-            return &self.before[at..];
+    fn run(&self, at: usize) -> &[u8]
+        ensures run { IsRun (edited_bytes self.now) at result.now }
+        ensures few { length result.now ≤ most }
+    {
+        if at < self.start {
+            let run = self.buffer.run(at);
+            return &run[..run.len().min(self.start - at)];
         }
-        let at = at - self.before.len();
+        let at = at - self.start;
         if at < self.new.len() {
-            return &self.new[at..];
+            let run = &self.new[at..];
+            return &run[..run.len().min(CHUNK)];
         }
         let at = at - self.new.len();
-        if at < self.behind.len() {
-            &self.behind[at..]
+        if at < self.buffer.len() - self.end {
+            self.buffer.run(self.end + at)
         } else {
             &[]
         }

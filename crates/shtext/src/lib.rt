@@ -3,28 +3,38 @@
 //!
 //! Start with [`Source`], a text that is read by the byte or by stretches; [`Flat`] is one whose bytes lie in
 //! a slice, [`line_col_of`] tells the line and the column of an offset, and [`newlines_in`] counts the
-//! newlines of a stretch. [`Buffer`] is a text that is edited: it prepares a [`Change`], previews the
-//! [`Edited`] text, and commits the change; [`allowed`] tells which edits a text allows. [`Input`] and
-//! [`Output`] are a reader and a writer that remember how their devices fared. [`replace_items`] puts items
-//! of a vector in the place of others. The definitions that the contracts cite are in `specs/`.
+//! newlines of a stretch. [`Buffer`] is a text that is edited, in chunks of at most [`CHUNK`] bytes: it
+//! prepares a [`Change`], previews the [`Edited`] text, and commits the change; [`allowed`] tells which edits
+//! a text allows. [`Input`] and [`Output`] are a reader and a writer that remember how their devices fared.
+//! [`replace_items`] puts items of a vector in the place of others. The definitions that the contracts cite
+//! are in `specs/`.
 #![tactic(auto)]
 
 mod allow;
 mod buffer;
 mod change;
+mod chunk;
 mod count;
+mod cut;
 mod device;
+mod edit;
 mod edited;
 mod error;
+mod fill;
+mod filling;
 pub mod laws;
 mod line_col;
-mod newline;
+mod part;
+mod places;
+mod row;
 mod source;
 mod splice;
+mod sums;
 
 pub use allow::{LIMIT, allowed};
 pub use buffer::Buffer;
 pub use change::Change;
+pub use chunk::CHUNK;
 pub use count::newlines_in;
 pub use device::{Failed, Input, Output};
 pub use edited::Edited;

@@ -14,7 +14,7 @@ pub fn replace_items<T: Drop>(of: &mut Vec<T>, from: usize, to: usize, new: Vec<
 }
 
 /// Takes out the items between two places.
-fn take_out<T: Drop>(of: &mut Vec<T>, from: usize, to: usize)
+pub(crate) fn take_out<T: Drop>(of: &mut Vec<T>, from: usize, to: usize)
     requires order { from ≤ to }
     requires within { to ≤ vec_len of.old }
     ensures items { of.new.items ≡ take from of.old.items ++ drop to of.old.items }

@@ -5,16 +5,20 @@
 //! Start with the module of what is tested: `texts` is the tests of `shtext`, `tree_bodies`,
 //! `tree_documents`, `tree_moved` and `tree_normal` are those of `shtree`, and `tree_spare` is that of
 //! the room that `shast` keeps; `text_refused` refuses each growth of memory in turn. The others help,
-//! here and in the other crates of tests: [`devices`] has readers and writers that fail, [`growths`] asks
-//! for refusals, [`in_pieces`] cuts a text, [`table`] reads tables of rows, whose cells [`cell`] joins,
+//! here and in the other crates of tests: [`both`] edits a buffer and a vector alike, by [`spliced`], the model of
+//! an edit, [`devices`] has readers and writers that fail, [`dice`] throws numbers, [`growths`] asks for
+//! refusals, [`in_pieces`] cuts a text, [`table`] reads tables of rows, whose cells [`cell`] joins,
 //! [`shown`](shown::shown) writes a tree as text; `tree_built` builds trees by hand.
 #![tactic(auto)]
 
+pub mod both;
 pub mod cell;
 pub mod devices;
+pub mod dice;
 pub mod growths;
 pub mod in_pieces;
 pub mod shown;
+pub mod spliced;
 pub mod table;
 #[cfg(test)]
 mod text_refused;

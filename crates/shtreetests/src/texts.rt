@@ -1,8 +1,10 @@
 // What no clause says: that calls succeed where nothing fails, that a failure of a
 // device is told, and the numbers of the errors.
+use crate::both::Both;
 use crate::devices::{PAGE, Page, Tape};
+use crate::dice::Dice;
 use crate::in_pieces::InPieces;
-use shtext::{Buffer, Failed, Flat, Input, Output, Source, TextError, line_col_of};
+use shtext::{Buffer, CHUNK, Failed, Flat, Input, Output, Source, TextError, line_col_of};
 use std::alloc::{AllocError, Global};
 use std::io::{Read, Write};
 use std::test::Fail;
@@ -239,6 +241,147 @@ fn fitting(rt: HostRuntime) -> Result<(), Fail> {
     ] {
         assert!(rt; fits(rt.alloc(), (old, places.0, places.1), new, other)? == is_fit);
     }
+    Ok(())
+}
+
+/// Whether a text tells these bytes, in stretches of at most `CHUNK` bytes.
+fn tells_in_chunks<S: Source>(text: &S, bytes: &[u8]) -> bool {
+    let mut rest = bytes;
+    for _ in 0..bytes.len() {
+        if rest.is_empty() {
+            break;
+        }
+        let run = text.run(bytes.len().saturating_sub(rest.len()));
+        if run.is_empty() || run.len() > CHUNK || run.len() > rest.len() || !rest.starts_with(run) {
+            return false;
+        }
+        rest = &rest[run.len()..];
+    }
+    let end = bytes.len();
+    rest.is_empty() && text.len() == end && text.run(end).is_empty() && text.byte(end).is_none()
+}
+
+/// So many bytes, a newline among thirty.
+fn lines(alloc: Global, dice: &mut Dice, count: usize) -> Result<Vec<u8>, AllocError> {
+    let mut bytes = Vec::new(alloc);
+    for _ in 0..count {
+        bytes.push(if dice.below(30) == 0 { b'\n' } else { b'a' })?;
+    }
+    Ok(bytes)
+}
+
+/// Whether an edit is previewed, and made, as in the vector.
+fn edits_alike(both: &mut Both, (a, b): (usize, usize), new: &[u8]) -> Result<bool, TextError> {
+    let made = both.made(a, b, new)?;
+    let change = both.buffer.prepare(a, b, new)?;
+    if !both.buffer.fits(&change)
+        || !tells_in_chunks(&both.buffer, &both.bytes)
+        || !tells_in_chunks(&both.buffer.preview(&change), &made)
+    {
+        return Ok(false);
+    }
+    both.buffer.commit(change);
+    both.bytes = made;
+    let count = both.buffer.chunk_count();
+    let is_none = both.bytes.is_empty();
+    Ok(tells_in_chunks(&both.buffer, &both.bytes) && (count == 0) == is_none)
+}
+
+/// Whether some places have the lines and columns that a walk over all bytes tells.
+fn has_places(both: &Both, dice: &mut Dice) -> bool {
+    for _ in 0..8 {
+        let at = dice
+            .below(both.bytes.len().saturating_add(1))
+            .min(both.buffer.len())
+            .min(both.bytes.len());
+        let (line, column) = both.buffer.line_col(at);
+        if (line, column) != line_col_of(&Flat::new(&both.bytes), at)
+            || both.buffer.line_start(line) != Some(at.saturating_sub(column.saturating_sub(1)))
+        {
+            return false;
+        }
+    }
+    true
+}
+
+/// A buffer and a vector, edited alike: chunks come, go, are split and are joined.
+#[test]
+fn edited_alike(rt: HostRuntime) -> Result<(), Fail> {
+    let mut dice = Dice(7);
+    let mut both = Both::of(rt.alloc(), b"")?;
+    for round in 0..300 {
+        let most = if round % 5 == 0 { 20_000 } else { 40 };
+        let (a, b) = both.part(&mut dice, most);
+        let count = dice.below(most);
+        let new = lines(rt.alloc(), &mut dice, count)?;
+        assert!(rt; edits_alike(&mut both, (a, b), &new)?, "round {round}");
+        assert!(rt; has_places(&both, &mut dice), "round {round}");
+    }
+    Ok(())
+}
+
+/// Edits at the seams of chunks, of chunks that are full, and of all of them.
+#[test]
+fn seams(rt: HostRuntime) -> Result<(), Fail> {
+    let mut dice = Dice(11);
+    let mut both = Both::of(rt.alloc(), &lines(rt.alloc(), &mut dice, 3 * 4096 + 5)?)?;
+    let large = lines(rt.alloc(), &mut dice, 5 * 4096)?;
+    for ((a, b), count) in [
+        ((4096, 4096), 1),
+        ((0, 4096), 0),
+        ((4096, 4096), 4095),
+        ((4095, 4097), 8192),
+        ((2048, 2048), 2048),
+        ((0, 0), 4096),
+        ((0, 0), 1),
+        ((1, 4097), 0),
+        ((1, 1), 4097),
+        ((100, 12_000), 1),
+        ((0, usize::MAX), 0),
+        ((0, 0), 5 * 4096),
+        ((0, usize::MAX), 5 * 4096 - 1),
+        ((0, usize::MAX), 3),
+        ((0, usize::MAX), 0),
+        ((0, usize::MAX), 0),
+        ((0, usize::MAX), 2047),
+        ((0, usize::MAX), 5 * 4096),
+    ] {
+        let b = b.min(both.bytes.len());
+        let new = large.get(..count).unwrap_or(b"");
+        assert!(rt; edits_alike(&mut both, (a, b), new)?, "{a} {b} {count}");
+        assert!(rt; has_places(&both, &mut dice), "{a} {b} {count}");
+    }
+    Ok(())
+}
+
+/// What was prepared fits until a change is made, whatever else is prepared.
+#[test]
+fn prepared_twice(rt: HostRuntime) -> Result<(), Fail> {
+    let large = vec![in rt.alloc(); b'a'; 20_000]?;
+    let mut buffer = Buffer::from_slice(rt.alloc(), b"bc")?;
+    let first = buffer.prepare(1, 1, &large)?;
+    let second = buffer.prepare(2, 2, b"d")?;
+    assert!(rt; buffer.fits(&first) && buffer.fits(&second));
+    if buffer.fits(&first) {
+        buffer.commit(first);
+    }
+    assert!(rt; buffer.len() == 20_002 && buffer.byte(20_001) == Some(b'c'));
+    Ok(())
+}
+
+/// A text of 10,000 lines, the last of them empty.
+#[test]
+fn many_lines(rt: HostRuntime) -> Result<(), Fail> {
+    let mut bytes = Vec::new(rt.alloc());
+    for _ in 0..10_000 {
+        bytes.extend_from_slice(b"a\n")?;
+    }
+    let buffer = Buffer::from_slice(rt.alloc(), &bytes)?;
+    assert!(rt; buffer.len() >= 19_999 && buffer.line_col(19_999) == (10_000, 2));
+    assert!(rt; buffer.line_start(10_000) == Some(19_998));
+    assert!(rt; buffer.line_start(10_001) == Some(20_000));
+    assert!(rt; buffer.line_start(10_002).is_none() && buffer.line_start(0).is_none());
+    assert!(rt; buffer.chunk_count() == 5);
     Ok(())
 }
 

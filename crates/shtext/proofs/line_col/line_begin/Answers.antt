@@ -1,7 +1,7 @@
 use Rattle.std.proofs.Common.{◌<◌, length, ap, ◌∙◌, arith}
 use Rattle.shtext.specs.Text.{is_newline}
 use Rattle.shtext.proofs.Counting.{begun, still}
-use Rattle.shtext.proofs.Searches.{no_pass}
+use Rattle.shtext.proofs.Newlines.{no_pass}
 use Rattle.shtext.proofs.line_col.line_begin.Goals as goal
 
 pub returns-in-Some : goal.returns-in-Some

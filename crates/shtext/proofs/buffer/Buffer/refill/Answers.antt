@@ -1,0 +1,71 @@
+use Rattle.std.proofs.Common.{◌≡◌, ◌≤◌, ℕ, List, List as Row, length, arith, ap, sym, subst, length-append}
+use Rattle.shtext.specs.Chunks.{HasSums, SumsOn, ends_of, joined, lines_of}
+use Rattle.shtext.proofs.Filled.{refilled_behind, refilled_bytes, refilled_each, refilled_full}
+use Rattle.shtext.proofs.Moving.{sums_on, sums_on_others}
+use Rattle.shtext.proofs.Summing.{lines_append}
+use Rattle.shtext.proofs.buffer.Buffer.refill.Goals as goal
+
+pub add_up_anew-requires-clause-small : goal.add_up_anew-requires-clause-small
+add_up_anew-requires-clause-small g c =
+    let ks : Row (List ℕ) = c.args.self.now.chunks.items in
+    let js : Row (List ℕ) = c.fill_anew.new.chunks.items in
+    let bytes : List ℕ = g.S.Source.bytes c.args.source.now in
+    let all = ap length (refilled_bytes ks js c.args.from c.args.to bytes c.fill_anew.ensures) in
+    let value = ap (λ (l : Row (List ℕ)). length (joined l)) c.deref.ensures.value in
+    omega (arith, all, value, c.requires.small)
+
+pub add_up_anew-requires-clause-ends_on : goal.add_up_anew-requires-clause-ends_on
+add_up_anew-requires-clause-ends_on g c =
+    let ks : Row (List ℕ) = c.args.self.now.chunks.items in
+    let js : Row (List ℕ) = c.fill_anew.new.chunks.items in
+    let bytes : List ℕ = g.S.Source.bytes c.args.source.now in
+    let sums : List ℕ = c.args.self.now.ends.items in
+    let ok = c.args.self.now.chunks.ok in
+    let ok_ends = c.args.self.now.ends.ok in
+    let within : c.args.to ≤ length ks = omega (arith, c.requires.within) in
+    λ same.
+    let count : length js ≡ length ks = omega (arith, same, ap length c.deref.ensures.value, ok_ends.0, c.args.self.now.end_count) in
+    subst (λ (l : Row (List ℕ)). SumsOn ends_of l c.args.to sums) (sym c.deref.ensures.value)
+    (sums_on_others ends_of js ks sums c.args.to count (refilled_behind ks js c.args.from c.args.to bytes c.fill_anew.ensures c.requires.order within count)
+    (sums_on ends_of length-append ks sums c.args.to within c.args.self.now.all_ends))
+
+pub add_up_anew-requires-clause-lines_on : goal.add_up_anew-requires-clause-lines_on
+add_up_anew-requires-clause-lines_on g c =
+    let ks : Row (List ℕ) = c.args.self.now.chunks.items in
+    let js : Row (List ℕ) = c.fill_anew.new.chunks.items in
+    let bytes : List ℕ = g.S.Source.bytes c.args.source.now in
+    let sums : List ℕ = c.args.self.now.lines.items in
+    let ok = c.args.self.now.chunks.ok in
+    let ok_ends = c.args.self.now.ends.ok in
+    let within : c.args.to ≤ length ks = omega (arith, c.requires.within) in
+    λ same.
+    let count : length js ≡ length ks = omega (arith, same, ap length c.deref.ensures.value, ok_ends.0, c.args.self.now.end_count) in
+    subst (λ (l : Row (List ℕ)). SumsOn lines_of l c.args.to sums) (sym c.deref.ensures.value)
+    (sums_on_others lines_of js ks sums c.args.to count (refilled_behind ks js c.args.from c.args.to bytes c.fill_anew.ensures c.requires.order within count)
+    (sums_on lines_of lines_append ks sums c.args.to within c.args.self.now.all_lines))
+
+pub invariant_of-self : goal.invariant_of-self
+invariant_of-self g c =
+    let ks : Row (List ℕ) = c.args.self.now.chunks.items in
+    let js : Row (List ℕ) = c.fill_anew.new.chunks.items in
+    let bytes : List ℕ = g.S.Source.bytes c.args.source.now in
+    let is = c.fill_anew.ensures in
+    let value = c.deref.ensures.value in
+    let count = ap length value in
+    let within : c.args.to ≤ length ks = omega (arith, c.requires.within) in
+    let all = ap length (refilled_bytes ks js c.args.from c.args.to bytes is) in
+    let ok_ends = c.add_up_anew.new.ends.ok in
+    let ok_lines = c.add_up_anew.new.lines.ok in
+    record {
+      each = refilled_each ks js c.args.from c.args.to bytes is c.args.self.now.each;
+      full = refilled_full ks js c.args.from c.args.to bytes is c.requires.order within c.requires.full c.args.self.now.full;
+      small = omega (arith, all, c.requires.small);
+      end_count = omega (arith, count, ok_ends.0, c.add_up_anew.ensures.end_count);
+      line_count = omega (arith, count, ok_lines.0, c.add_up_anew.ensures.line_count);
+      all_ends = subst (λ (l : Row (List ℕ)). HasSums ends_of l (length l) c.add_up_anew.new.ends.items) value c.add_up_anew.ensures.ends;
+      no_seam = c.args.self.now.no_seam;
+      all_lines = subst (λ (l : Row (List ℕ)). HasSums lines_of l (length l) c.add_up_anew.new.lines.items) value c.add_up_anew.ensures.lines;
+    }
+
+pub returns : goal.returns
+returns g c = refilled_bytes c.args.self.now.chunks.items c.fill_anew.new.chunks.items c.args.from c.args.to (g.S.Source.bytes c.args.source.now) c.fill_anew.ensures
