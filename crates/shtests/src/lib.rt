@@ -16,6 +16,8 @@ pub mod joined_lines;
 #[cfg(test)]
 mod reader_beginnings;
 #[cfg(test)]
+mod reader_buffers;
+#[cfg(test)]
 mod reader_editions;
 #[cfg(test)]
 mod reader_lines;

@@ -36,7 +36,7 @@ fn numbers(rt: HostRuntime) {
 }
 
 /// The scripts of the table that have no fault and do not join a line behind them, a line each or more.
-fn all_lines(alloc: Global) -> Result<Vec<u8>, Fail> {
+pub(crate) fn all_lines(alloc: Global) -> Result<Vec<u8>, Fail> {
     let mut text = Vec::new(alloc);
     for row in &rows(alloc, ROWS)? {
         for script in split(row)?.0 {
@@ -140,7 +140,7 @@ const PARTS: [&[u8]; 48] = [
 ];
 
 /// A script of so many random parts. The seed moves on.
-fn random_script(alloc: Global, seed: &mut u32, parts: usize) -> Result<Vec<u8>, Fail> {
+pub(crate) fn random_script(alloc: Global, seed: &mut u32, parts: usize) -> Result<Vec<u8>, Fail> {
     let mut text = Vec::new(alloc);
     for _ in 0..parts {
         *seed = seed.wrapping_mul(1_664_525).wrapping_add(1_013_904_223);
