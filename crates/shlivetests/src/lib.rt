@@ -3,7 +3,8 @@
 //!
 //! Start with the module of what is tested: `gap_..` are the tests of `shgap`, `printer_..` those of `shprint`
 //! and `shpieces`, `session_..` those of `shlive`; those in `.._refused` refuse each growth of memory in turn.
-//! `windows` is the model by which is judged what an edit reads.
+//! `windows` is the model by which is judged what an edit reads, [`window_begin`](window_begin::window_begin)
+//! the part of it that a contract states.
 #![tactic(auto)]
 
 #[cfg(test)]
@@ -26,5 +27,6 @@ mod session_refused;
 mod session_runs;
 #[cfg(test)]
 mod session_windows;
+pub mod window_begin;
 #[cfg(test)]
 mod windows;

@@ -1,5 +1,6 @@
 // The window of an edit, told from its definition: the boundaries of the two scripts
 // are those of the lines that the reader reads.
+use crate::window_begin::window_begin;
 use shread::Reader;
 use shtext::Flat;
 use shtreetests::spliced::spliced;
@@ -27,19 +28,8 @@ fn boundaries(alloc: Global, bytes: &[u8]) -> Result<Vec<usize>, Fail> {
     Ok(found)
 }
 
-/// Where the window begins: at the greatest old boundary that is not behind `a`.
-fn begin(old: &[usize], a: usize) -> usize {
-    let mut begin = 0;
-    for place in old {
-        if *place <= a {
-            begin = *place;
-        }
-    }
-    begin
-}
-
-/// Where it ends, if not with the script: at the least new boundary at or past the end
-/// of the new bytes whose old place is a boundary.
+/// Where the window ends, if not with the script: at the least new boundary at or past the
+/// end of the new bytes whose old place is a boundary.
 fn end(old: &[usize], new: &[usize], behind: usize, b: usize) -> Option<usize> {
     for place in new {
         let there = b.saturating_add(place.saturating_sub(behind));
@@ -61,5 +51,5 @@ pub(crate) fn window(
     let old = boundaries(alloc, bytes)?;
     let behind = a.saturating_add(new.len());
     let end = end(&old, &boundaries(alloc, &made)?, behind, b).unwrap_or(made.len());
-    Ok(end.saturating_sub(begin(&old, a)))
+    Ok(end.saturating_sub(window_begin(&old, a)))
 }
