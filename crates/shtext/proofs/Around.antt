@@ -1,6 +1,6 @@
 -- What stands around an edit in the chunks that give way to it.
 use Rattle.std.proofs.Common.{◌≡◌, ℕ, ◌+◌, ◌-◌, ◌≤◌, List, [], ◌∷◌, ◌++◌, List as Row, length, take, drop, sym, ap, ◌∙◌, arith, length-append, length-drop}
-use Rattle.std.proofs.lemmas.List.{drop_at, length-take-le, take_at}
+use Rattle.std.proofs.lemmas.List.{drop_at, length-take-le, nil_from_length, take_at}
 use Rattle.shtext.specs.Chunks.{EachHas, HoldsPart, around_count, joined, needed, put_between}
 use Rattle.shtext.specs.Edit.{edited}
 use Rattle.shtext.proofs.Fullness.{holds_few, needed_more}
@@ -26,14 +26,19 @@ module _ (ks : Row (List ℕ)) (from to a b : ℕ) (order : a ≤ b) (holds : Ho
       let rest = length-drop b (joined ks) in
       length-take-le (length (joined (take to ks)) - b) (drop b (joined ks)) (omega (arith, rest, holds.high, joined_low to ks))
 
+  -- they are copied behind nothing
+  pub around_made : (none seam around : List ℕ) → length none ≡ 0 → seam ≡ none ++ (head ks from a ++ tail ks to b) → around ≡ seam → around ≡ head ks from a ++ tail ks to b
+  around_made none seam around empty copied same = same ∙ copied ∙ ap (λ l. l ++ (head ks from a ++ tail ks to b)) (nil_from_length none empty)
+
   -- what comes, cut at the bytes before the edit
-  pub around_is : (around new F : List ℕ) (n : ℕ) → around ≡ head ks from a ++ tail ks to b → n ≡ a - length (joined (take from ks)) → F ≡ take n around ++ (new ++ drop n around)
+  pub around_is : (around text new F : List ℕ) (n : ℕ) → around ≡ head ks from a ++ tail ks to b → n ≡ length (joined (take from ks)) → F ≡ take (a - n) around ++ (text ++ drop (a - n) around) → text ≡ new
       → F ≡ head ks from a ++ (new ++ tail ks to b)
-  around_is around new F n made cut is =
-      let long : length (head ks from a) ≡ n = head_length ∙ sym cut in
-      is ∙ ap (λ l. take n l ++ (new ++ drop n l)) made
-      ∙ ap (λ l. l ++ (new ++ drop n (head ks from a ++ tail ks to b))) (take_at (head ks from a) (tail ks to b) n long)
-      ∙ ap (λ l. head ks from a ++ (new ++ l)) (drop_at (head ks from a) (tail ks to b) n long)
+  around_is around text new F n made cut is same =
+      let long : length (head ks from a) ≡ a - n = head_length ∙ ap (λ m. a - m) (sym cut) in
+      is ∙ ap (λ l. take (a - n) l ++ (text ++ drop (a - n) l)) made
+      ∙ ap (λ l. l ++ (text ++ drop (a - n) (head ks from a ++ tail ks to b))) (take_at (head ks from a) (tail ks to b) (a - n) long)
+      ∙ ap (λ l. head ks from a ++ (text ++ l)) (drop_at (head ks from a) (tail ks to b) (a - n) long)
+      ∙ ap (λ l. head ks from a ++ (l ++ tail ks to b)) same
 
   module _ (new F : List ℕ) (is : F ≡ head ks from a ++ (new ++ tail ks to b)) where
     -- how many bytes come

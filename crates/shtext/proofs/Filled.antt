@@ -35,15 +35,12 @@ module _ (ks js : Row (List ℕ)) (from to : ℕ) (bytes : List ℕ) (is : Refil
       let count : length is.filled ≡ needed (length bytes) = is.count in
       omega (arith, all, one, two, three, four, count, order, within)
 
-  -- as many came as went
-  pub refilled_behind : from ≤ to → to ≤ length ks → length js ≡ length ks → drop to js ≡ drop to ks
-  refilled_behind order within same =
-      let all = refilled_count order within in
-      let many : length is.filled ≡ to - from = is.count ∙ omega (arith, all, same, order) in
+  -- those behind them stay
+  pub refilled_behind : from ≤ to → to ≤ length ks → drop (from + needed (length bytes)) js ≡ drop to ks
+  refilled_behind order within =
       let three = length-take-le from ks (omega (arith, order, within)) in
-      let there : from + (to - from) ≡ to = omega (arith, order) in
-      ap (λ m. drop m js) (sym there) ∙ sym (drop-drop (to - from) from js) ∙ ap (λ l. drop (to - from) (drop from l)) is.row
-      ∙ ap (drop (to - from)) (drop_at (take from ks) (is.filled ++ drop to ks) from three) ∙ drop_at is.filled (drop to ks) (to - from) many
+      sym (drop-drop (needed (length bytes)) from js) ∙ ap (λ l. drop (needed (length bytes)) (drop from l)) is.row
+      ∙ ap (drop (needed (length bytes))) (drop_at (take from ks) (is.filled ++ drop to ks) from three) ∙ drop_at is.filled (drop to ks) (needed (length bytes)) is.count
 
   -- none is empty
   pub refilled_each : EachHas 1 ks → EachHas 1 js

@@ -1,9 +1,10 @@
 -- Sums behind chunks that gave way to as many: they move.
-use Rattle.std.proofs.Common.{zero, suc, ◌≡◌, ℕ, ◌+◌, ◌-◌, ◌<◌, ◌≤◌, List, ◌++◌, List as Row, length, take, drop, get_or, sym, ap, ◌∙◌, arith, ⊎_elim}
+use Rattle.std.proofs.Common.{zero, suc, ◌≡◌, ℕ, ◌+◌, ◌-◌, ◌<◌, ◌≤◌, List, ◌++◌, List as Row, length, take, drop, get_or, sym, ap, subst, ◌∙◌, arith, ⊎_elim}
 use Rattle.std.proofs.lemmas.Bool.{cases_lt}
 use Rattle.std.proofs.lemmas.List.{get_or-append_right, get_or_append_left, get_or-drop, get_or-take, length-drop, length-take-le}
 use Rattle.std.proofs.Math.Seq.{take-add}
-use Rattle.shtext.specs.Chunks.{HasSums, SumsOn, before, joined}
+use Rattle.shtext.specs.Chunks.{HasSums, Refilled, SumsOn, before, joined, needed}
+use Rattle.shtext.proofs.Filled.{refilled_behind}
 use Rattle.shtext.proofs.Joined.{joined_append}
 
 -- what is measured of two lists is the sum
@@ -19,33 +20,43 @@ measured measure adds ks n m low =
     ∙ ap measure (joined_append (take n ks) (take (m - n) (drop n ks))) ∙ adds (joined (take n ks)) (joined (take (m - n) (drop n ks)))
 
 -- sums go on from each place
-pub sums_on : (measure : List ℕ → ℕ) → Adds measure → (ks : Row (List ℕ)) (sums : List ℕ) (n : ℕ) → n ≤ length ks → HasSums measure ks (length ks) sums → SumsOn measure ks n sums
-sums_on measure adds ks sums n within is m low high =
-    let one = is m high in
+pub sums_on : (measure : List ℕ → ℕ) → Adds measure → (ks : Row (List ℕ)) (sums : List ℕ) (n : ℕ) → n ≤ length ks → HasSums measure ks (length ks) sums
+    → SumsOn measure (drop n ks) (before sums n) (drop n sums)
+sums_on measure adds ks sums n within is m low =
+    let rest = length-drop n ks in
+    let one = is (suc (n + m)) (omega (arith, low, rest, within)) in
     let two = is n within in
-    let three = measured measure adds ks n m low in
-    omega (arith, one, two, three)
+    let three = measured measure adds ks n (suc (n + m)) (omega arith) in
+    let there : suc (n + m) - n ≡ m + 1 = omega arith in
+    let four = ap (λ k. measure (joined (take k (drop n ks)))) there in
+    get_or-drop n sums m 0 ∙ omega (arith, one, two, three, four)
 
--- they do not look before it
-pub sums_on_others : (measure : List ℕ → ℕ) (js ks : Row (List ℕ)) (sums : List ℕ) (n : ℕ) → length js ≡ length ks → drop n js ≡ drop n ks → SumsOn measure ks n sums → SumsOn measure js n sums
-sums_on_others measure js ks sums n count same is m low high =
-    is m low (omega (arith, high, count)) ∙ ap (λ l. before sums n + measure (joined (take (m - n) l))) (sym same)
+-- and so they do where other chunks came before it
+pub sums_stay : (measure : List ℕ → ℕ) → Adds measure → (ks js row : Row (List ℕ)) (from to n : ℕ) (bytes sums : List ℕ) → Refilled ks js from to bytes → from ≤ to → to ≤ length ks
+    → HasSums measure ks (length ks) sums → row ≡ js → n ≡ needed (length bytes) → SumsOn measure (drop (from + n) row) (before sums to) (drop to sums)
+sums_stay measure adds ks js row from to n bytes sums is order within all same count =
+    subst (λ l. SumsOn measure l (before sums to) (drop to sums))
+    (sym (ap (λ l. drop (from + n) l) same ∙ ap (λ m. drop (from + m) js) count ∙ refilled_behind ks js from to bytes is order within))
+    (sums_on measure adds ks sums to within all)
 
-module _ (measure : List ℕ → ℕ) (ks : Row (List ℕ)) (old mid : List ℕ) (to : ℕ) (within : to ≤ length ks) (count : length mid ≡ length ks) (same : drop to mid ≡ drop to old)
-    (on : SumsOn measure ks to old) where
+-- behind all chunks there are none
+pub sums_on_none : (measure : List ℕ → ℕ) (ks : Row (List ℕ)) (base : ℕ) (sums : List ℕ) (n : ℕ) → length ks ≤ n → SumsOn measure (drop n ks) base sums
+sums_on_none measure ks base sums n past m low = let rest = length-drop n ks in absurd (omega (arith, low, rest, past))
+
+module _ (measure : List ℕ → ℕ) (ks : Row (List ℕ)) (old mid : List ℕ) (to went : ℕ) (within : to ≤ length ks) (count : length mid ≡ length ks) (same : drop to mid ≡ old)
+    (on : SumsOn measure (drop to ks) went old) where
   -- a sum behind the place
-  pub sum_behind : (n : ℕ) → n < length (drop to mid) → get_or (drop to mid) n 0 ≡ before old to + measure (joined (take (n + 1) (drop to ks)))
+  pub sum_behind : (n : ℕ) → n < length (drop to mid) → get_or (drop to mid) n 0 ≡ went + measure (joined (take (n + 1) (drop to ks)))
   sum_behind n low =
       let rest = length-drop to mid in
-      let next : suc (to + n) - to ≡ n + 1 = omega arith in
-      ap (λ l. get_or l n 0) same ∙ get_or-drop to old n 0
-      ∙ on (suc (to + n)) (omega arith) (omega (arith, low, rest, count, within)) ∙ ap (λ m. before old to + measure (joined (take m (drop to ks)))) next
+      let left = length-drop to ks in
+      ap (λ l. get_or l n 0) same ∙ on n (omega (arith, low, rest, left, count))
 
   -- it is no less than what went
-  pub sum_low : (went : ℕ) → went ≡ before old to → (n : ℕ) → n < length (drop to mid) → went ≤ get_or (drop to mid) n 0
-  sum_low went is n low = let here = sum_behind n low in omega (arith, here, is)
+  pub sum_low : (n : ℕ) → n < length (drop to mid) → went ≤ get_or (drop to mid) n 0
+  sum_low n low = let here = sum_behind n low in omega (arith, here)
 
-  module _ (adds : Adds measure) (sums : HasSums measure ks to mid) (went came : ℕ) (is_went : went ≡ before old to) (is_came : came ≡ before mid to) where
+  module _ (adds : Adds measure) (sums : HasSums measure ks to mid) (came : ℕ) (is_came : came ≡ before mid to) where
     -- once it has moved it is the sum
     pub sum_moved : (n : ℕ) → n < length (drop to mid) → get_or (drop to mid) n 0 - went + came ≡ measure (joined (take (to + (n + 1)) ks))
     sum_moved n low =
@@ -54,7 +65,7 @@ module _ (measure : List ℕ → ℕ) (ks : Row (List ℕ)) (old mid : List ℕ)
         let there : to + (n + 1) - to ≡ n + 1 = omega arith in
         let rest = ap (λ m. measure (joined (take m (drop to ks)))) there in
         let begin = sums to (omega arith) in
-        omega (arith, here, all, rest, begin, is_went, is_came)
+        omega (arith, here, all, rest, begin, is_came)
 
     -- all sums, once those behind have moved
     pub sums_moved : (new moved : List ℕ) → new ≡ take to mid ++ moved → ((n : ℕ) → n < length (drop to mid) → get_or moved n 0 ≡ get_or (drop to mid) n 0 - went + came)

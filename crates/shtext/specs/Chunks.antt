@@ -48,9 +48,9 @@ before sums (suc n) = slice_index sums n
 abbrev pub HasSums : (List ℕ → ℕ) → Row (List ℕ) → ℕ → List ℕ → Type 0
 HasSums measure ks n sums = (m : ℕ) → m ≤ n → before sums m ≡ measure (joined (take m ks))
 
--- from a place on, each sum is that before the place and what is measured between
+-- the sums of chunks, with so much before them
 abbrev pub SumsOn : (List ℕ → ℕ) → Row (List ℕ) → ℕ → List ℕ → Type 0
-SumsOn measure ks n sums = (m : ℕ) → n ≤ m → m ≤ length ks → before sums m ≡ before sums n + measure (joined (take (m - n) (drop n ks)))
+SumsOn measure ks base sums = (m : ℕ) → m < length ks → slice_index sums m ≡ base + measure (joined (take (m + 1) ks))
 
 -- what is summed
 abbrev pub ends_of : List ℕ → ℕ

@@ -10,7 +10,7 @@ use crate::cut::cut;
 use crate::edit::SEAM;
 use crate::error::TextError;
 use crate::source::Source;
-use crate::sums::{add_up, place_near, sum_before};
+use crate::sums::{add_up_anew, place_near, sum_before};
 use std::alloc::Global;
 
 /// A text that is edited in two steps, so that nothing can go wrong once its bytes change: a change is
@@ -73,7 +73,7 @@ impl Buffer {
         let mut ends = Vec::with_capacity(alloc, chunks.len())?;
         let mut lines = Vec::with_capacity(alloc, chunks.len())?;
         let seam = Vec::with_capacity(alloc, SEAM)?;
-        add_up(&chunks, 0, &mut ends, &mut lines);
+        add_up_anew(&chunks, 0, 0, chunks.len(), &mut ends, &mut lines);
         Ok(Buffer {
             alloc,
             chunks,

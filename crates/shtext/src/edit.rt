@@ -235,7 +235,15 @@ impl Buffer {
             buffer_bytes self.new ≡ put_between self.old.chunks.items from to bytes }
     {
         fill_anew(&mut self.chunks, &mut self.spare, from, to, source);
-        add_up_anew(&self.chunks, from, to, &mut self.ends, &mut self.lines);
+        let count = chunks_for(source.len());
+        add_up_anew(
+            &self.chunks,
+            from,
+            to,
+            count,
+            &mut self.ends,
+            &mut self.lines,
+        );
     }
 }
 

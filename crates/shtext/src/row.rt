@@ -44,7 +44,7 @@ fn bring<T: Drop>(row: &mut Vec<T>, spare: &mut Vec<T>, at: usize, count: usize)
 }
 
 /// Moves the last items to a place.
-fn to_place<T>(row: &mut Vec<T>, at: usize, count: usize)
+pub(crate) fn to_place<T>(row: &mut Vec<T>, at: usize, count: usize)
     requires { at + count ≤ vec_len row.old }
     ensures items { row.new.items ≡ last_moved row.old.items (vec_len row.old) at count }
     ensures count { vec_len row.new ≡ vec_len row.old }

@@ -1,10 +1,12 @@
 //! Sums over the chunks of a row, each over those up to one, so that the chunk of an
 //! offset, or of a newline, is found in few steps.
-ghost use Rattle.std.specs.Prelude.{◌≡◌, ◌+◌, ◌-◌, ◌<◌, ◌≤◌, ◌++◌, ◌∷◌, ℕ, [], drop, length, slice_index, vec_capacity, vec_len};
+ghost use Rattle.std.specs.Prelude.{◌≡◌, ◌+◌, ◌-◌, ◌<◌, ◌≤◌, ℕ, drop, length, slice_index, take, vec_capacity, vec_len};
 ghost use Rattle.shtext.specs.Edit.{limit};
 ghost use Rattle.shtext.specs.Chunks.{HasSums, SumsOn, before, ends_of, joined, lines_of};
 
 use crate::chunk::Chunk;
+use crate::row::to_place;
+use crate::splice::take_out;
 
 /// How many places are looked at one by one before all are searched.
 const NEAR: usize = 16;
@@ -74,27 +76,27 @@ pub(crate) fn place_of(sums: &[usize], at: usize) -> usize
     low
 }
 
-/// Adds the sums up where the chunks from `from` up to `to` are others than they were. Where
-/// there are as many chunks as sums, those behind only move. It takes no memory.
+/// Adds the sums up where so many other chunks stand in the place of those from `from` up to `to`, and
+/// moves those behind by what came and went before them. It takes no memory.
 pub(crate) fn add_up_anew(
     chunks: &[Chunk],
     from: usize,
     to: usize,
+    count: usize,
     ends: &mut Vec<usize>,
     lines: &mut Vec<usize>,
 )
     requires order { from ≤ to }
-    requires within { vec_len ends.old ≡ length chunks.now → to ≤ length chunks.now }
-    requires from { from ≤ length chunks.now }
+    requires within { to ≤ vec_len ends.old }
+    requires count { vec_len ends.old + count ≡ length chunks.now + (to - from) }
+    requires lines_count { vec_len lines.old ≡ vec_len ends.old }
     requires small { length (joined chunks.now) ≤ limit }
-    requires count { vec_len ends.old ≡ vec_len lines.old }
-    requires old { from ≤ vec_len ends.old }
     requires ends { HasSums ends_of chunks.now from ends.old.items }
     requires lines { HasSums lines_of chunks.now from lines.old.items }
-    requires ends_on { vec_len ends.old ≡ length chunks.now →
-        SumsOn ends_of chunks.now to ends.old.items }
-    requires lines_on { vec_len ends.old ≡ length chunks.now →
-        SumsOn lines_of chunks.now to lines.old.items }
+    requires ends_on { let on = SumsOn ends_of (drop (from + count) chunks.now) in
+        on (before ends.old.items to) (drop to ends.old.items) }
+    requires lines_on { let on = SumsOn lines_of (drop (from + count) chunks.now) in
+        on (before lines.old.items to) (drop to lines.old.items) }
     requires end_room { length chunks.now ≤ vec_capacity ends.old }
     requires line_room { length chunks.now ≤ vec_capacity lines.old }
     ensures end_count { vec_len ends.new ≡ length chunks.now }
@@ -102,57 +104,54 @@ pub(crate) fn add_up_anew(
     ensures ends { HasSums ends_of chunks.now (length chunks.now) ends.new.items }
     ensures lines { HasSums lines_of chunks.now (length chunks.now) lines.new.items }
 {
-    if ends.len() == chunks.len() {
-        add_up_between(chunks, from, to, ends, lines);
+    let went = (sum_before(ends, to), sum_before(lines, to));
+    make_sums(ends, from, to, count);
+    make_sums(lines, from, to, count);
+    add_up_between(chunks, from, from + count, went, ends, lines);
+}
+
+/// Has so many sums stand in the place of those from `from` up to `to`. What they are is
+/// told later. It takes no memory.
+fn make_sums(sums: &mut Vec<usize>, from: usize, to: usize, count: usize)
+    requires order { from ≤ to }
+    requires within { to ≤ vec_len sums.old }
+    requires room { vec_len sums.old + (count - (to - from)) ≤ vec_capacity sums.old }
+    ensures count { vec_len sums.new + (to - from) ≡ vec_len sums.old + count }
+    ensures front { take from sums.new.items ≡ take from sums.old.items }
+    ensures back { drop (from + count) sums.new.items ≡ drop to sums.old.items }
+{
+    let held = to - from;
+    if count < held {
+        take_out(sums, from + count, to);
     } else {
-        add_up(chunks, from, ends, lines);
+        let more = count - held;
+        push_zeros(sums, more);
+        to_place(sums, to, more);
     }
 }
 
-/// Adds the sums from a chunk on, for which there is room; those before it stand. It takes
-/// no memory.
-pub(crate) fn add_up(chunks: &[Chunk], from: usize, ends: &mut Vec<usize>, lines: &mut Vec<usize>)
-    requires within { from ≤ length chunks.now }
-    requires small { length (joined chunks.now) ≤ limit }
-    requires end_count { from ≤ vec_len ends.old }
-    requires line_count { from ≤ vec_len lines.old }
-    requires ends { HasSums ends_of chunks.now from ends.old.items }
-    requires lines { HasSums lines_of chunks.now from lines.old.items }
-    requires end_room { length chunks.now ≤ vec_capacity ends.old }
-    requires line_room { length chunks.now ≤ vec_capacity lines.old }
-    ensures end_count { vec_len ends.new ≡ length chunks.now }
-    ensures line_count { vec_len lines.new ≡ length chunks.now }
-    ensures ends { HasSums ends_of chunks.now (length chunks.now) ends.new.items }
-    ensures lines { HasSums lines_of chunks.now (length chunks.now) lines.new.items }
+/// Adds so many zeros, for which there is room.
+fn push_zeros(into: &mut Vec<usize>, count: usize)
+    requires { vec_len into.old + count ≤ vec_capacity into.old }
+    ensures count { vec_len into.new ≡ vec_len into.old + count }
+    ensures front { take (vec_len into.old) into.new.items ≡ into.old.items }
 {
-    ends.truncate(from);
-    lines.truncate(from);
-    let mut end = sum_before(ends, from);
-    let mut line = sum_before(lines, from);
-    let mut index = from;
-    'chunks: while index < chunks.len() {
-        let chunk = &chunks[index];
-        end += chunk.len();
-        line += chunk.newlines();
-        push_one(ends, end);
-        push_one(lines, line);
-        index += 1;
+    let wanted = into.len() + count;
+    'zeros: while into.len() < wanted {
+        let _ = into.push(0);
     }
 }
 
-/// Adds a number, for which there is room.
-fn push_one(into: &mut Vec<usize>, number: usize)
-    requires { vec_len into.old < vec_capacity into.old }
-    ensures items { into.new.items ≡ into.old.items ++ number ∷ [] }
-    ensures len { vec_len into.new ≡ vec_len into.old + 1 }
-    ensures room { vec_capacity into.old ≤ vec_capacity into.new }
-{
-    let _ = into.push(number);
-}
-
-/// Adds the sums up of the chunks from `from` up to `to`, and moves those behind by what
-/// came and went before them.
-fn add_up_between(chunks: &[Chunk], from: usize, to: usize, ends: &mut [usize], lines: &mut [usize])
+/// Adds the sums up of the chunks from `from` up to `to`, and moves those behind, which have so much
+/// before them.
+fn add_up_between(
+    chunks: &[Chunk],
+    from: usize,
+    to: usize,
+    went: (usize, usize),
+    ends: &mut [usize],
+    lines: &mut [usize],
+)
     requires order { from ≤ to }
     requires within { to ≤ length chunks.now }
     requires small { length (joined chunks.now) ≤ limit }
@@ -160,18 +159,17 @@ fn add_up_between(chunks: &[Chunk], from: usize, to: usize, ends: &mut [usize], 
     requires line_count { length lines.old ≡ length chunks.now }
     requires ends { HasSums ends_of chunks.now from ends.old }
     requires lines { HasSums lines_of chunks.now from lines.old }
-    requires ends_on { SumsOn ends_of chunks.now to ends.old }
-    requires lines_on { SumsOn lines_of chunks.now to lines.old }
+    requires ends_on { SumsOn ends_of (drop to chunks.now) went.0 (drop to ends.old) }
+    requires lines_on { SumsOn lines_of (drop to chunks.now) went.1 (drop to lines.old) }
     ensures end_count { length ends.new ≡ length chunks.now }
     ensures line_count { length lines.new ≡ length chunks.now }
     ensures ends { HasSums ends_of chunks.now (length chunks.now) ends.new }
     ensures lines { HasSums lines_of chunks.now (length chunks.now) lines.new }
 {
-    let (old_end, old_line) = (sum_before(ends, to), sum_before(lines, to));
     sum_between(chunks, from, to, ends, lines);
     let (end, line) = (sum_before(ends, to), sum_before(lines, to));
-    move_sums(&mut ends[to..], old_end, end);
-    move_sums(&mut lines[to..], old_line, line);
+    move_sums(&mut ends[to..], went.0, end);
+    move_sums(&mut lines[to..], went.1, line);
 }
 
 /// Adds the sums up of the chunks from `from` up to `to`.

@@ -1,8 +1,7 @@
 use Rattle.std.proofs.Common.{◌≡◌, ◌≤◌, ◌+◌, ◌-◌, ◌++◌, ℕ, List, List as Row, length, take, drop, arith, refl, ap, sym, subst, ◌∙◌, length-append}
-use Rattle.std.proofs.lemmas.List.{nil_from_length}
 use Rattle.shtext.specs.Buffer.{filling_bytes}
 use Rattle.shtext.specs.Chunks.{LeavesFull, around_count, joined}
-use Rattle.shtext.proofs.Around.{around_edited, around_is, around_length, around_needed, head, head_length, tail}
+use Rattle.shtext.proofs.Around.{around_edited, around_is, around_made, around_length, around_needed, head, head_length, tail}
 use Rattle.shtext.proofs.buffer.Buffer.commit.Goals as goal
 
 pub new-filling-requires-clause-within : goal.new-filling-requires-clause-within
@@ -12,11 +11,13 @@ new-filling-requires-clause-within c =
     let to : ℕ = c.chunks_of-from.result.1 in
     let a : ℕ = c.args.change.start in
     let b : ℕ = c.args.change.«end» in
-    let none = ap (λ v. v.items) c.replace-seam.ensures.value ∙ nil_from_length c.args.self.now.seam.items c.args.self.now.no_seam in
-    let made : c.deref.result.now ≡ head ks from a ++ tail ks to b = c.deref.ensures.value ∙ c.copy_around.ensures ∙ ap (λ l. l ++ (head ks from a ++ tail ks to b)) none in
+    let order : a ≤ b = c.requires.allowed.0.0 in
+    let holds = c.chunks_of-from.ensures.holds in
+    let empty = ap (λ v. length v.items) c.replace-seam.ensures.value ∙ c.args.self.now.no_seam in
+    let made = around_made ks from to a b order holds c.replace-seam.result.items c.copy_around.new.seam.items c.deref.result.now empty c.copy_around.ensures c.deref.ensures.value in
     let all = ap length made in
     let one = length-append (head ks from a) (tail ks to b) in
-    let front = head_length ks from to a b c.requires.allowed.0.0 c.chunks_of-from.ensures.holds in
+    let front = head_length ks from to a b order holds in
     omega (arith, all, one, front, c.begin.ensures)
 
 pub new-filling-requires-clause-small : goal.new-filling-requires-clause-small
@@ -26,11 +27,11 @@ new-filling-requires-clause-small c =
     let to : ℕ = c.chunks_of-from.result.1 in
     let a : ℕ = c.args.change.start in
     let b : ℕ = c.args.change.«end» in
-    let none = ap (λ v. v.items) c.replace-seam.ensures.value ∙ nil_from_length c.args.self.now.seam.items c.args.self.now.no_seam in
-    let made : c.deref.result.now ≡ head ks from a ++ tail ks to b = c.deref.ensures.value ∙ c.copy_around.ensures ∙ ap (λ l. l ++ (head ks from a ++ tail ks to b)) none in
-    let new : List ℕ = c.args.change.new.items in
     let order : a ≤ b = c.requires.allowed.0.0 in
     let holds = c.chunks_of-from.ensures.holds in
+    let empty = ap (λ v. length v.items) c.replace-seam.ensures.value ∙ c.args.self.now.no_seam in
+    let made = around_made ks from to a b order holds c.replace-seam.result.items c.copy_around.new.seam.items c.deref.result.now empty c.copy_around.ensures c.deref.ensures.value in
+    let new : List ℕ = c.args.change.new.items in
     let all = ap length made in
     let one = length-append (head ks from a) (tail ks to b) in
     let two = ap length c.deref-2.ensures.value in
@@ -48,15 +49,13 @@ refill-requires-clause-full c =
     let to : ℕ = c.chunks_of-from.result.1 in
     let a : ℕ = c.args.change.start in
     let b : ℕ = c.args.change.«end» in
-    let none = ap (λ v. v.items) c.replace-seam.ensures.value ∙ nil_from_length c.args.self.now.seam.items c.args.self.now.no_seam in
-    let made : c.deref.result.now ≡ head ks from a ++ tail ks to b = c.deref.ensures.value ∙ c.copy_around.ensures ∙ ap (λ l. l ++ (head ks from a ++ tail ks to b)) none in
-    let new : List ℕ = c.args.change.new.items in
-    let F : List ℕ = filling_bytes c.new-filling.result in
     let order : a ≤ b = c.requires.allowed.0.0 in
     let holds = c.chunks_of-from.ensures.holds in
-    let is : F ≡ head ks from a ++ (new ++ tail ks to b)
-    = around_is ks from to a b order holds c.deref.result.now c.deref-2.result.now F (a - c.begin.result) made (ap (λ m. a - m) c.begin.ensures) c.new-filling.ensures
-    ∙ ap (λ l. head ks from a ++ (l ++ tail ks to b)) c.deref-2.ensures.value in
+    let empty = ap (λ v. length v.items) c.replace-seam.ensures.value ∙ c.args.self.now.no_seam in
+    let made = around_made ks from to a b order holds c.replace-seam.result.items c.copy_around.new.seam.items c.deref.result.now empty c.copy_around.ensures c.deref.ensures.value in
+    let new : List ℕ = c.args.change.new.items in
+    let F : List ℕ = filling_bytes c.new-filling.result in
+    let is = around_is ks from to a b order holds c.deref.result.now c.deref-2.result.now new F c.begin.result made c.begin.ensures c.new-filling.ensures c.deref-2.ensures.value in
     let count : c.len.result + around_count ks from to a b ≡ length F
     = ap (λ n. n + around_count ks from to a b) (c.len.ensures ∙ c.args.change.new.ok.0) ∙ sym (around_length ks from to a b order holds new F is) in
     subst (LeavesFull ks from to) count c.chunks_of-from.ensures.full
@@ -68,15 +67,13 @@ refill-requires-clause-small c =
     let to : ℕ = c.chunks_of-from.result.1 in
     let a : ℕ = c.args.change.start in
     let b : ℕ = c.args.change.«end» in
-    let none = ap (λ v. v.items) c.replace-seam.ensures.value ∙ nil_from_length c.args.self.now.seam.items c.args.self.now.no_seam in
-    let made : c.deref.result.now ≡ head ks from a ++ tail ks to b = c.deref.ensures.value ∙ c.copy_around.ensures ∙ ap (λ l. l ++ (head ks from a ++ tail ks to b)) none in
-    let new : List ℕ = c.args.change.new.items in
-    let F : List ℕ = filling_bytes c.new-filling.result in
     let order : a ≤ b = c.requires.allowed.0.0 in
     let holds = c.chunks_of-from.ensures.holds in
-    let is : F ≡ head ks from a ++ (new ++ tail ks to b)
-    = around_is ks from to a b order holds c.deref.result.now c.deref-2.result.now F (a - c.begin.result) made (ap (λ m. a - m) c.begin.ensures) c.new-filling.ensures
-    ∙ ap (λ l. head ks from a ++ (l ++ tail ks to b)) c.deref-2.ensures.value in
+    let empty = ap (λ v. length v.items) c.replace-seam.ensures.value ∙ c.args.self.now.no_seam in
+    let made = around_made ks from to a b order holds c.replace-seam.result.items c.copy_around.new.seam.items c.deref.result.now empty c.copy_around.ensures c.deref.ensures.value in
+    let new : List ℕ = c.args.change.new.items in
+    let F : List ℕ = filling_bytes c.new-filling.result in
+    let is = around_is ks from to a b order holds c.deref.result.now c.deref-2.result.now new F c.begin.result made c.begin.ensures c.new-filling.ensures c.deref-2.ensures.value in
     let all = ap length (around_edited ks from to a b order holds new F is) in
     omega (arith, all, c.requires.allowed.1)
 
@@ -87,15 +84,13 @@ refill-requires-clause-room c =
     let to : ℕ = c.chunks_of-from.result.1 in
     let a : ℕ = c.args.change.start in
     let b : ℕ = c.args.change.«end» in
-    let none = ap (λ v. v.items) c.replace-seam.ensures.value ∙ nil_from_length c.args.self.now.seam.items c.args.self.now.no_seam in
-    let made : c.deref.result.now ≡ head ks from a ++ tail ks to b = c.deref.ensures.value ∙ c.copy_around.ensures ∙ ap (λ l. l ++ (head ks from a ++ tail ks to b)) none in
-    let new : List ℕ = c.args.change.new.items in
-    let F : List ℕ = filling_bytes c.new-filling.result in
     let order : a ≤ b = c.requires.allowed.0.0 in
     let holds = c.chunks_of-from.ensures.holds in
-    let is : F ≡ head ks from a ++ (new ++ tail ks to b)
-    = around_is ks from to a b order holds c.deref.result.now c.deref-2.result.now F (a - c.begin.result) made (ap (λ m. a - m) c.begin.ensures) c.new-filling.ensures
-    ∙ ap (λ l. head ks from a ++ (l ++ tail ks to b)) c.deref-2.ensures.value in
+    let empty = ap (λ v. length v.items) c.replace-seam.ensures.value ∙ c.args.self.now.no_seam in
+    let made = around_made ks from to a b order holds c.replace-seam.result.items c.copy_around.new.seam.items c.deref.result.now empty c.copy_around.ensures c.deref.ensures.value in
+    let new : List ℕ = c.args.change.new.items in
+    let F : List ℕ = filling_bytes c.new-filling.result in
+    let is = around_is ks from to a b order holds c.deref.result.now c.deref-2.result.now new F c.begin.result made c.begin.ensures c.new-filling.ensures c.deref-2.ensures.value in
     let enough = around_needed ks from to a b order holds new F is c.args.self.now.each in
     let room = c.requires.room.row in
     record {
@@ -112,13 +107,11 @@ returns c =
     let to : ℕ = c.chunks_of-from.result.1 in
     let a : ℕ = c.args.change.start in
     let b : ℕ = c.args.change.«end» in
-    let none = ap (λ v. v.items) c.replace-seam.ensures.value ∙ nil_from_length c.args.self.now.seam.items c.args.self.now.no_seam in
-    let made : c.deref.result.now ≡ head ks from a ++ tail ks to b = c.deref.ensures.value ∙ c.copy_around.ensures ∙ ap (λ l. l ++ (head ks from a ++ tail ks to b)) none in
-    let new : List ℕ = c.args.change.new.items in
-    let F : List ℕ = filling_bytes c.new-filling.result in
     let order : a ≤ b = c.requires.allowed.0.0 in
     let holds = c.chunks_of-from.ensures.holds in
-    let is : F ≡ head ks from a ++ (new ++ tail ks to b)
-    = around_is ks from to a b order holds c.deref.result.now c.deref-2.result.now F (a - c.begin.result) made (ap (λ m. a - m) c.begin.ensures) c.new-filling.ensures
-    ∙ ap (λ l. head ks from a ++ (l ++ tail ks to b)) c.deref-2.ensures.value in
+    let empty = ap (λ v. length v.items) c.replace-seam.ensures.value ∙ c.args.self.now.no_seam in
+    let made = around_made ks from to a b order holds c.replace-seam.result.items c.copy_around.new.seam.items c.deref.result.now empty c.copy_around.ensures c.deref.ensures.value in
+    let new : List ℕ = c.args.change.new.items in
+    let F : List ℕ = filling_bytes c.new-filling.result in
+    let is = around_is ks from to a b order holds c.deref.result.now c.deref-2.result.now new F c.begin.result made c.begin.ensures c.new-filling.ensures c.deref-2.ensures.value in
     c.refill.ensures ∙ around_edited ks from to a b order holds new F is

@@ -1,8 +1,9 @@
-use Rattle.std.proofs.Common.{◌≡◌, ◌≤◌, ℕ, List, List as Row, [], ap, arith, length, refl, subst, ◌∙◌}
+use Rattle.std.proofs.Common.{◌≡◌, ◌≤◌, ◌+◌, ℕ, List, List as Row, [], ap, arith, length, refl, subst, ◌∙◌}
 use Rattle.std.proofs.lemmas.List.{append-nil}
 use Rattle.std.proofs.lemmas.Result.{err_from_is_err_and}
 use Rattle.shtext.specs.Edit.{IsAllowed, Refuses, limit}
 use Rattle.shtext.specs.Chunks.{HasSums, joined, ends_of, lines_of}
+use Rattle.shtext.proofs.Moving.{sums_on_none}
 use Rattle.shtext.proofs.Summing.{sums_none}
 use Rattle.shtext.proofs.buffer.Buffer.from_slice.Goals as goal
 
@@ -12,18 +13,24 @@ returns-in_err-allowed-clause-err c =
     let p = err_from_is_err_and c.from_residual.result c.from_residual.ensures.1 in
     rw (p.1, p.2) is
 
-pub add_up-requires-clause-small : goal.add_up-requires-clause-small
-add_up-requires-clause-small c =
+pub add_up_anew-requires-clause-small : goal.add_up_anew-requires-clause-small
+add_up_anew-requires-clause-small c =
     let is : IsAllowed [] 0 0 c.args.bytes.now = c.in_ok-allowed.ensures.ok [] c.args.bytes.now refl refl in
     let small : length c.args.bytes.now ≤ limit = rw (append-nil c.args.bytes.now) at is.1 in
     let same = ap (λ ks. length (joined ks)) c.deref.ensures.value ∙ ap length c.in_ok-chunks.ensures.bytes in
     omega (arith, small, same)
 
-pub add_up-requires-clause-ends : goal.add_up-requires-clause-ends
-add_up-requires-clause-ends c = sums_none ends_of refl c.deref.result.now c.in_ok-ends.ends.items
+pub add_up_anew-requires-clause-ends : goal.add_up_anew-requires-clause-ends
+add_up_anew-requires-clause-ends c = sums_none ends_of refl c.deref.result.now c.in_ok-ends.ends.items
 
-pub add_up-requires-clause-lines : goal.add_up-requires-clause-lines
-add_up-requires-clause-lines c = sums_none lines_of refl c.deref.result.now c.in_ok-lines.lines.items
+pub add_up_anew-requires-clause-lines : goal.add_up_anew-requires-clause-lines
+add_up_anew-requires-clause-lines c = sums_none lines_of refl c.deref.result.now c.in_ok-lines.lines.items
+
+pub add_up_anew-requires-clause-ends_on : goal.add_up_anew-requires-clause-ends_on
+add_up_anew-requires-clause-ends_on c = sums_on_none ends_of c.deref.result.now 0 c.in_ok-ends.ends.items (0 + c.len-3.result) (omega (arith, c.len-3.ensures))
+
+pub add_up_anew-requires-clause-lines_on : goal.add_up_anew-requires-clause-lines_on
+add_up_anew-requires-clause-lines_on c = sums_on_none lines_of c.deref.result.now 0 c.in_ok-lines.lines.items (0 + c.len-3.result) (omega (arith, c.len-3.ensures))
 
 pub invariant_of-result : goal.invariant_of-result
 invariant_of-result c =
@@ -35,9 +42,9 @@ invariant_of-result c =
       each = c.in_ok-chunks.ensures.each;
       full = c.in_ok-chunks.ensures.full;
       small = omega (arith, small, ap length c.in_ok-chunks.ensures.bytes);
-      end_count = omega (arith, count, c.add_up.ensures.end_count);
-      line_count = omega (arith, count, c.add_up.ensures.line_count);
-      all_ends = subst (λ (ks : Row (List ℕ)). HasSums ends_of ks (length ks) c.add_up.new.ends.items) value c.add_up.ensures.ends;
+      end_count = omega (arith, count, c.add_up_anew.ensures.end_count);
+      line_count = omega (arith, count, c.add_up_anew.ensures.line_count);
+      all_ends = subst (λ (ks : Row (List ℕ)). HasSums ends_of ks (length ks) c.add_up_anew.new.ends.items) value c.add_up_anew.ensures.ends;
       no_seam = ap length c.in_ok-seam.ensures.items;
-      all_lines = subst (λ (ks : Row (List ℕ)). HasSums lines_of ks (length ks) c.add_up.new.lines.items) value c.add_up.ensures.lines;
+      all_lines = subst (λ (ks : Row (List ℕ)). HasSums lines_of ks (length ks) c.add_up_anew.new.lines.items) value c.add_up_anew.ensures.lines;
     }

@@ -1,7 +1,7 @@
-use Rattle.std.proofs.Common.{◌≡◌, ◌≤◌, ℕ, List, List as Row, length, arith, ap, sym, subst, length-append}
-use Rattle.shtext.specs.Chunks.{HasSums, SumsOn, ends_of, joined, lines_of}
-use Rattle.shtext.proofs.Filled.{refilled_behind, refilled_bytes, refilled_each, refilled_full}
-use Rattle.shtext.proofs.Moving.{sums_on, sums_on_others}
+use Rattle.std.proofs.Common.{◌≤◌, ℕ, List, List as Row, length, arith, ap, subst, ◌∙◌, length-append}
+use Rattle.shtext.specs.Chunks.{HasSums, ends_of, joined, lines_of, needed}
+use Rattle.shtext.proofs.Filled.{refilled_bytes, refilled_each, refilled_full}
+use Rattle.shtext.proofs.Moving.{sums_stay}
 use Rattle.shtext.proofs.Summing.{lines_append}
 use Rattle.shtext.proofs.buffer.Buffer.refill.Goals as goal
 
@@ -16,33 +16,15 @@ add_up_anew-requires-clause-small g c =
 
 pub add_up_anew-requires-clause-ends_on : goal.add_up_anew-requires-clause-ends_on
 add_up_anew-requires-clause-ends_on g c =
-    let ks : Row (List ℕ) = c.args.self.now.chunks.items in
-    let js : Row (List ℕ) = c.fill_anew.new.chunks.items in
-    let bytes : List ℕ = g.S.Source.bytes c.args.source.now in
-    let sums : List ℕ = c.args.self.now.ends.items in
     let ok = c.args.self.now.chunks.ok in
-    let ok_ends = c.args.self.now.ends.ok in
-    let within : c.args.to ≤ length ks = omega (arith, c.requires.within) in
-    λ same.
-    let count : length js ≡ length ks = omega (arith, same, ap length c.deref.ensures.value, ok_ends.0, c.args.self.now.end_count) in
-    subst (λ (l : Row (List ℕ)). SumsOn ends_of l c.args.to sums) (sym c.deref.ensures.value)
-    (sums_on_others ends_of js ks sums c.args.to count (refilled_behind ks js c.args.from c.args.to bytes c.fill_anew.ensures c.requires.order within count)
-    (sums_on ends_of length-append ks sums c.args.to within c.args.self.now.all_ends))
+    sums_stay ends_of length-append c.args.self.now.chunks.items c.fill_anew.new.chunks.items c.deref.result.now c.args.from c.args.to c.chunks_for-count.result (g.S.Source.bytes c.args.source.now)
+    c.args.self.now.ends.items c.fill_anew.ensures c.requires.order (omega (arith, c.requires.within, ok.0)) c.args.self.now.all_ends c.deref.ensures.value (c.chunks_for-count.ensures ∙ ap needed c.len.ensures)
 
 pub add_up_anew-requires-clause-lines_on : goal.add_up_anew-requires-clause-lines_on
 add_up_anew-requires-clause-lines_on g c =
-    let ks : Row (List ℕ) = c.args.self.now.chunks.items in
-    let js : Row (List ℕ) = c.fill_anew.new.chunks.items in
-    let bytes : List ℕ = g.S.Source.bytes c.args.source.now in
-    let sums : List ℕ = c.args.self.now.lines.items in
     let ok = c.args.self.now.chunks.ok in
-    let ok_ends = c.args.self.now.ends.ok in
-    let within : c.args.to ≤ length ks = omega (arith, c.requires.within) in
-    λ same.
-    let count : length js ≡ length ks = omega (arith, same, ap length c.deref.ensures.value, ok_ends.0, c.args.self.now.end_count) in
-    subst (λ (l : Row (List ℕ)). SumsOn lines_of l c.args.to sums) (sym c.deref.ensures.value)
-    (sums_on_others lines_of js ks sums c.args.to count (refilled_behind ks js c.args.from c.args.to bytes c.fill_anew.ensures c.requires.order within count)
-    (sums_on lines_of lines_append ks sums c.args.to within c.args.self.now.all_lines))
+    sums_stay lines_of lines_append c.args.self.now.chunks.items c.fill_anew.new.chunks.items c.deref.result.now c.args.from c.args.to c.chunks_for-count.result (g.S.Source.bytes c.args.source.now)
+    c.args.self.now.lines.items c.fill_anew.ensures c.requires.order (omega (arith, c.requires.within, ok.0)) c.args.self.now.all_lines c.deref.ensures.value (c.chunks_for-count.ensures ∙ ap needed c.len.ensures)
 
 pub invariant_of-self : goal.invariant_of-self
 invariant_of-self g c =
