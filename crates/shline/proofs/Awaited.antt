@@ -19,7 +19,7 @@ use Rattle.shline.specs.declared.stop.Stop.{Stop}
 use Rattle.shline.specs.declared.stop.Stop.TheVariants.{Memory, Wrong}
 use Rattle.shline.specs.Clauses.{BodyRead, Fails, standing_with, view_waiting}
 use Rattle.shline.specs.Limits.{Limits}
-use Rattle.shgrammar.specs.Sights.{Given}
+use Rattle.shgrammar.specs.Sights.{Given, Waiting}
 use Rattle.shgrammar.specs.HereDocuments.{rest_of_line, stripped, past_line, delimiter_from, bodies_from, bodies_here, state_by}
 use Rattle.shgrammar.specs.Form.{change, does, nothing_read, raw}
 use Rattle.shgrammar.proofs.Stretches.{get_drop}
@@ -276,23 +276,22 @@ bytes_long T p q bytes long = none_short (q - p) (drop p T) bytes long
 
 -- ---- one document after another
 
-one_more : (i : ℕ) → suc i + 1 ≡ suc (i + 1)
-one_more i = omega arith
+module _ (g : Given) (w : Waiting) (rest : Row Waiting) (bodies : Row Span) (p : ℕ) where
+  pub body_more : (q : ℕ) → delimiter_from g.text w p ≡ Some q → bodies_from g (w ∷ rest) bodies p ≡ bodies_from g rest (bodies ++ span g.offset p q ∷ []) (past_line g.text q)
+  unfolding bodies_from
+  body_more q found = rw found refl
 
-pub document_more : (g : Given) (ws : Row the_waiting.Waiting) (i : ℕ) (d : the_waiting.Waiting) (bodies : Row Span) (p q : ℕ) → i < length ws → delimiter_from g.text (view_waiting (get_or ws i d)) p ≡ Some q
-    → bodies_from g (drop i (map view_waiting ws)) bodies p ≡ bodies_from g (drop (i + 1) (map view_waiting ws)) (bodies ++ span g.offset p q ∷ []) (past_line g.text q)
-unfolding bodies_from
-document_more g [] i d bodies p q lt found = absurd (omega (arith, lt))
-document_more g (w ∷ ws) zero d bodies p q lt found = rw found refl
-document_more g (w ∷ ws) (suc i) d bodies p q lt found =
-    document_more g ws i d bodies p q (omega (arith, lt)) found ∙ ap (λ n. bodies_from g (drop n (map view_waiting (w ∷ ws))) (bodies ++ span g.offset p q ∷ []) (past_line g.text q)) (sym (one_more i))
+  pub body_missing : delimiter_from g.text w p ≡ None → bodies_from g (w ∷ rest) bodies p ≡ Err (record { kind = UnclosedHere; at = w.operator })
+  unfolding bodies_from
+  body_missing found = rw found refl
 
-pub document_missing : (g : Given) (ws : Row the_waiting.Waiting) (i : ℕ) (d : the_waiting.Waiting) (bodies : Row Span) (p : ℕ) → i < length ws → delimiter_from g.text (view_waiting (get_or ws i d)) p ≡ None
-    → bodies_from g (drop i (map view_waiting ws)) bodies p ≡ Err (record { kind = UnclosedHere; at = (get_or ws i d).operator })
-unfolding bodies_from
-document_missing g [] i d bodies p lt found = absurd (omega (arith, lt))
-document_missing g (w ∷ ws) zero d bodies p lt found = rw found refl
-document_missing g (w ∷ ws) (suc i) d bodies p lt found = document_missing g ws i d bodies p (omega (arith, lt)) found
+-- those that wait from one on
+pub waiting_from : (ws : Row the_waiting.Waiting) (i : ℕ) (d : the_waiting.Waiting) → i < length ws → drop i (map view_waiting ws) ≡ view_waiting (get_or ws i d) ∷ drop (i + 1) (map view_waiting ws)
+waiting_from [] i d lt = absurd (omega (arith, lt))
+waiting_from (w ∷ ws) zero d lt = refl
+waiting_from (w ∷ ws) (suc i) d lt =
+    let one : suc i + 1 ≡ suc (i + 1) = omega arith in
+    waiting_from ws i d (omega (arith, lt)) ∙ ap (λ n. view_waiting (get_or ws i d) ∷ drop n (map view_waiting (w ∷ ws))) (sym one)
 
 documents_end : (g : Given) (ws : Row the_waiting.Waiting) (i : ℕ) (bodies : Row Span) (p : ℕ) → length ws ≤ i → bodies_from g (drop i (map view_waiting ws)) bodies p ≡ Ok (bodies, p)
 unfolding bodies_from

@@ -30,7 +30,7 @@ use Rattle.shgrammar.specs.declared.mode.Mode.{Mode}
 use Rattle.shgrammar.specs.declared.mode.Mode.TheVariants.{Plain}
 use Rattle.shgrammar.specs.Form.{Form, Read, Step, again, does, raw, step_if}
 use Rattle.shgrammar.specs.Plain.{ArePlain}
-use Rattle.shgrammar.specs.HereDocuments.{bodies_from, rest_of_line}
+use Rattle.shgrammar.specs.HereDocuments.{rest_of_line}
 use Rattle.shgrammar.specs.Standing.{at_end, raw_stands}
 
 -- ---- a cursor
@@ -243,10 +243,6 @@ abbrev pub view_told : Told → (Row AnEntry × Bool) × State
 view_told told = ((map view_entry told.entries.items, told.newline), standing told.len)
 
 -- ---- what is read into
-
--- the bodies of the documents that wait from an index on, behind these, and the place behind them
-abbrev pub bodies_of : {S : Type 0} {k : ℕ} {g : _} → Cursor S k g → ℕ → Row Span → ℕ → Result (Row Span × ℕ) Fault
-bodies_of cursor index bodies p = bodies_from (given_of cursor) (drop index (map view_waiting cursor.documents.waiting.items)) bodies p
 
 -- what one of the bodies that wait says of all of them
 abbrev pub BodiesFail : Limits → Stop → Result (Row Span × ℕ) Fault → Type 0

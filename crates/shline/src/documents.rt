@@ -1,11 +1,12 @@
 //! Here-documents: those that wait, and their bodies (XCU 2.7.4).
-ghost use Rattle.std.specs.Prelude.{◌≡◌, ◌+◌, ◌<◌, ◌≤◌, ◌==◌, ◌&&◌, All, bytes_eq, fold, nat_lt, not, [], IfErr, IfOk, IfSome, List as Row, ◌∷◌, ◌++◌, length, option_map, ◌-◌, true, false};
-ghost use Rattle.shline.specs.Clauses.{at_place, at_token, Between, bodies_of, BodiesFail, BodyRead, bytes_between, end_of, here_of, Inside, Keeps, limits_of, line_of, on, Reaches, Reads, seen, Takes, text_of, view_waiting};
+ghost use Rattle.std.specs.Prelude.{◌≡◌, ◌+◌, ◌<◌, ◌≤◌, ◌==◌, ◌&&◌, All, bytes_eq, fold, nat_lt, not, [], IfOk, IfSome, List as Row, ◌∷◌, length, option_map, ◌-◌, true, false};
+ghost use Rattle.shline.specs.Clauses.{at_place, at_token, Between, BodyRead, bytes_between, end_of, given_of, here_of, Inside, Keeps, limits_of, line_of, on, Reaches, Reads, seen, Stays, Takes, text_of, view_waiting};
 ghost use Rattle.shline.specs.Limits.{Waits};
+ghost use Rattle.shgrammar.specs.States.{Waiting as Awaited};
 ghost use Rattle.shgrammar.specs.Commands.{a_document, is_strip, nothing_waits, takes_here};
 ghost use Rattle.shgrammar.specs.Form.{change, raw};
-ghost use Rattle.shgrammar.specs.HereDocuments.{bodies_here, delimiter_from, delimiter_in, first_waiting, is_delimiter, own_level, past_line, takes_newline};
-ghost use Rattle.shgrammar.specs.Standing.{next_newline, raw_stands};
+ghost use Rattle.shgrammar.specs.HereDocuments.{bodies_from, bodies_here, delimiter_from, delimiter_in, first_waiting, is_delimiter, own_level, past_line, takes_newline};
+ghost use Rattle.shgrammar.specs.Standing.{at_end, next_newline, raw_stands};
 ghost use Rattle.shgrammar.specs.Unquoting.{view_delimiter};
 ghost use Rattle.shast.specs.View.{view_here};
 
@@ -276,67 +277,63 @@ impl<'a, S: Source, const KEEP: u8> Cursor<'a, S, KEEP> {
         (end, end + 1)
     }
 
-    /// Where the line begins that ends a document whose body begins at a place, and
-    /// the place behind that line.
-    #[tactic(auto, using(shgrammar::proofs::Delimiters::none_at_end, shgrammar::proofs::Delimiters::found_here, shgrammar::proofs::Delimiters::on_to_next, shgrammar::proofs::Delimiters::past_line_low))]
-    fn delimiter_line(&self, document: &Waiting, from: usize) -> Option<(usize, usize)>
-        requires { Inside self.now from }
-        ensures value { option_map (λ x. on self.now x.0) result ≡ delimiter_from (text_of self.now)
-            (view_waiting document.now) (on self.now from) }
-        ensures place { IfSome result (λ x. (from ≤ x.0) × Between self.now x.0 x.1) }
-        ensures past { IfSome result (λ x. on self.now x.1 ≡ seen self.now past_line x.0) }
+    /// Whether the text ends here.
+    fn ended(&self) -> bool
+        ensures { result ≡ at_end (text_of self.now) (here_of self.now) }
     {
-        let mut at = from;
+        self.at_end(self.at)
+    }
+
+    /// To the place behind the delimiter's line of a document whose body begins here; answers where in the
+    /// text that line begins. The stretch goes on with the lines.
+    #[tactic(auto, using(shgrammar::proofs::Delimiters::none_at_end, shgrammar::proofs::Delimiters::found_here, shgrammar::proofs::Delimiters::on_to_next, shgrammar::proofs::Delimiters::past_line_low))]
+    fn delimiter_line(&mut self, document: &Waiting) -> Option<usize>
+        ensures value { result ≡ delimiter_from (text_of self.old) (view_waiting document.now)
+            (here_of self.old) }
+        ensures within { IfSome result (λ line. line < length (text_of self.old)) }
+        ensures past { IfSome result (λ line. here_of self.new ≡ past_line (text_of self.old) line) }
+        ensures onward { here_of self.old ≤ here_of self.new }
+        ensures same { Stays self.old self.new }
+    {
         let mut taken = false;
-        'lines: while !self.at_end(at) {
+        'lines: while !self.ended() {
+            let (at, line) = (self.at, self.here());
             let (end, next) = self.line_end(at);
-            if self.ends_here(document, taken, at, end) {
-                return Some((at, next));
-            }
+            let ends = self.ends_here(document, taken, at, end);
             taken = self.takes_newline(document, at, end);
-            at = next;
+            self.at = next;
+            if ends {
+                return Some(line);
+            }
+            if next >= self.front.len() {
+                self.go_on();
+            }
         }
         None
     }
 
-    /// The body of a document that waits, which begins here, and the place behind its delimiter's line.
-    #[tactic(auto, using(crate::proofs::Awaited::document_missing))]
-    fn body_of(&self, index: usize) -> Result<(Span, usize), Stop>
-        requires { index < length self.now.documents.waiting.items }
-        ensures read { IfOk result (λ x. (bodies : Row Span) → bodies_of self.now index bodies
-            (here_of self.now) ≡ bodies_of self.now (index + 1) (bodies ++ x.0 ∷ []) (on
-            self.now x.1)) }
-        ensures wrong { IfErr result (λ e. (bodies : Row Span) → BodiesFail (limits_of self.now) e
-            (bodies_of self.now index bodies (here_of self.now))) }
-        ensures onward { IfOk result (λ x. Between self.now self.now.at x.1) }
+    /// The body of a document that waited, which begins here.
+    #[tactic(auto, using(crate::proofs::Awaited::body_missing, crate::proofs::Awaited::body_more))]
+    fn one_body(&mut self, document: &Waiting) -> Result<(), Stop>
+        requires { Waits (limits_of self.old) document.now }
+        ensures read { (rest : Row Awaited) → BodyRead (limits_of self.old) result (bodies_from
+            (given_of self.old) (view_waiting document.now ∷ rest) self.old.documents.bodies.items
+            (here_of self.old)) (bodies_from (given_of self.old) rest
+            self.new.documents.bodies.items (here_of self.new)) }
+        ensures onward { here_of self.old ≤ here_of self.new }
+        ensures same { Keeps self.old self.new }
     {
-        let document = &self.documents.waiting[index];
-        let Some((line, next)) = self.delimiter_line(document, self.at) else {
+        let start = self.here();
+        let Some(line) = self.delimiter_line(document) else {
             return Err(Stop::Wrong(Fault {
                 kind: FaultKind::UnclosedHere,
                 at: document.operator,
             }));
         };
-        let body = Span {
-            start: self.origin + self.here(),
-            end: self.origin + (self.begin + line),
-        };
-        Ok((body, next))
-    }
-
-    /// The body of one document that waits, which begins here.
-    fn one_body(&mut self, index: usize) -> Result<(), Stop>
-        requires { index < length self.old.documents.waiting.items }
-        ensures read { BodyRead (limits_of self.old) result (bodies_of self.old index
-            self.old.documents.bodies.items (here_of self.old)) (bodies_of self.old (index + 1)
-            self.new.documents.bodies.items (here_of self.new)) }
-        ensures waits { IfOk result (λ _. self.new.documents.waiting ≡ self.old.documents.waiting) }
-        ensures onward { IfOk result (λ _. here_of self.old ≤ here_of self.new) }
-        ensures same { Keeps self.old self.new }
-    {
-        let found = self.body_of(index)?;
-        self.documents.bodies.push(found.0)?;
-        self.at = found.1;
+        self.documents.bodies.push(Span {
+            start: self.origin + start,
+            end: self.origin + line,
+        })?;
         Ok(())
     }
 
@@ -346,12 +343,12 @@ impl<'a, S: Source, const KEEP: u8> Cursor<'a, S, KEEP> {
     pub(crate) fn bodies(&mut self) -> Result<(), Stop>
         ensures { Reads self.old (change bodies_here) result (λ _. tt) self.new }
     {
-        let mut index = 0;
-        'documents: while index < self.documents.waiting.len() {
-            self.one_body(index)?;
-            index += 1;
+        let mut waiting = mem::replace(&mut self.documents.waiting, Vec::new(self.alloc));
+        'documents: for document in &waiting {
+            self.one_body(document)?;
         }
-        self.documents.waiting.clear();
+        waiting.clear();
+        self.documents.waiting = waiting;
         Ok(())
     }
 

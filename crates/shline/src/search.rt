@@ -55,7 +55,23 @@ pub(crate) fn find_in<S: Source>(source: &S, from: usize, sought: Sought) -> usi
 
 impl<'a, S: Source, const KEEP: u8> Cursor<'a, S, KEEP> {
     /// The next place from a place on where a byte that is sought stands, or the end.
+    #[inline]
+    #[tactic(auto, using(crate::proofs::Searches::such_found))]
     pub(crate) fn find(&self, sought: Sought, from: usize) -> usize
+        requires { Inside self.now from }
+        ensures { Reaches self.now (next_such (is_sought sought)) from result }
+    {
+        if from < self.front.len()
+            && let Some(index) = sought.first_in(&self.front[from..])
+        {
+            return from + index;
+        }
+        self.find_behind(sought, from)
+    }
+
+    /// The same, where it may stand behind the front.
+    #[cold]
+    fn find_behind(&self, sought: Sought, from: usize) -> usize
         requires { Inside self.now from }
         ensures { Reaches self.now (next_such (is_sought sought)) from result }
     {
