@@ -12,14 +12,14 @@ ghost use Rattle.shlive.specs.HeldLines.{AreHeld, IsHeldLine};
 ghost use Rattle.shlive.specs.Printing.{PrintsLine};
 ghost use Rattle.shprint.specs.Printed.{print_blank, printed};
 ghost use Rattle.shprint.specs.Written.{Prints};
-ghost use Rattle.shgap.specs.Gap.{gap_bytes};
+ghost use Rattle.shtext.specs.Buffer.{buffer_bytes};
 ghost use Rattle.shtext.specs.Edit.{limit};
 ghost use Rattle.shwindow.specs.Lines.{IsRow};
 
 use crate::behind::Behind;
 use crate::top_lines::TopLine;
-use shgap::GapText;
 use shprint::{Layout, Page, Printer};
+use shtext::Buffer;
 use shtree::{NodeLine, nodes_at, outline_of};
 use shwindow::{HeldLine, HeldLines};
 use std::alloc::{AllocError, Global};
@@ -96,12 +96,12 @@ fn add_nodes_at(
 pub(crate) fn text_of_lines(
     alloc: Global,
     layout: &Layout,
-    source: &GapText,
+    source: &Buffer,
     lines: &HeldLines<TopLine>,
 ) -> Result<Vec<u8>, AllocError>
-    requires small { length (gap_bytes source.now) ≤ limit }
-    requires row { (edition : Edition) × IsRow (IsHeldLine edition) (gap_bytes source.now) lines.now }
-    ensures { IfOk result (λ text. text.items ≡ printed layout.now (shape_of (gap_bytes source.now) (script_of lines.now).entries)) }
+    requires small { length (buffer_bytes source.now) ≤ limit }
+    requires row { (edition : Edition) × IsRow (IsHeldLine edition) (buffer_bytes source.now) lines.now }
+    ensures { IfOk result (λ text. text.items ≡ printed layout.now (shape_of (buffer_bytes source.now) (script_of lines.now).entries)) }
 {
     let printer = Printer {
         alloc,
@@ -122,22 +122,19 @@ pub(crate) fn text_of_lines(
 /// Prints a line that begins at an offset, where there is a gap before it or none.
 /// Answers whether there is one behind it.
 fn print_line(
-    printer: &Printer<GapText>,
+    printer: &Printer<Buffer>,
     line: &HeldLine<TopLine>,
     begin: usize,
     gap: bool,
     page: &mut Page,
 ) -> Result<bool, AllocError>
-    ensures { IfOk result (λ gap_behind. (edition : Edition) → PrintsLine edition printer.now.layout (gap_bytes printer.now.source.now) begin line.now gap gap_behind page.old page.new) }
+    ensures { IfOk result (λ gap_behind. (edition : Edition) → PrintsLine edition printer.now.layout (buffer_bytes printer.now.source.now) begin line.now gap gap_behind page.old page.new) }
 {
     let Some(list) = line.kind.list() else {
         return Ok(true);
     };
     print_gap(gap, page)?;
-    let behind = Behind {
-        text: printer.source,
-        base: begin,
-    };
+    let behind = Behind::new(printer.source, begin);
     let printer = Printer {
         alloc: printer.alloc,
         layout: printer.layout,

@@ -1,17 +1,51 @@
 //! The rest of a text, as a text of its own.
-ghost use Rattle.shlive.specs.Behind.{behind_bytes};
+ghost use Rattle.shtext.specs.Buffer.{buffer_bytes};
+ghost use Rattle.shtext.specs.Text.{IsRun};
 
-use shgap::GapText;
-use shtext::Source;
+use shtext::{Buffer, Source};
 
 /// The bytes of a text from an offset on.
 #[derive(Clone, Copy)]
 pub(crate) struct Behind<'a> {
-    pub(crate) text: &'a GapText,
-    pub(crate) base: usize,
+    text: &'a Buffer,
+    base: usize,
+    /// The stretch of the text that begins there, in which most lines lie whole: its bytes are reached
+    /// faster.
+    front: &'a [u8],
+    ghost stretch: { IsRun (buffer_bytes text.now) base front.now },
+}
+
+impl<'a> Behind<'a> {
+    ghost use Rattle.std.specs.Prelude.{◌≡◌, drop};
+    ghost use Rattle.shlive.specs.Behind.{behind_bytes};
+
+    /// The bytes of this text from an offset on.
+    pub(crate) fn new(text: &'a Buffer, base: usize) -> Behind<'a>
+        ensures { behind_bytes result ≡ drop base (buffer_bytes text.now) }
+    {
+        Behind {
+            text,
+            base,
+            front: text.run(base),
+        }
+    }
+
+    /// A stretch that begins at any offset.
+    #[cold]
+    fn any_run(&self, at: usize) -> &[u8]
+        ensures { IsRun (behind_bytes self.now) at result.now }
+    {
+        if at < self.len() {
+            self.text.run(self.base + at)
+        } else {
+            &[]
+        }
+    }
 }
 
 impl<'a> Source for Behind<'a> {
+    ghost use Rattle.shlive.specs.Behind.{behind_bytes};
+
     ghost bytes = { behind_bytes };
 
     #[inline]
@@ -21,19 +55,15 @@ impl<'a> Source for Behind<'a> {
 
     #[inline]
     fn byte(&self, at: usize) -> Option<u8> {
-        if at < self.len() {
-            self.text.byte(self.base + at)
-        } else {
-            None
-        }
+        self.run(at).first().copied()
     }
 
     #[inline]
     fn run(&self, at: usize) -> &[u8] {
-        if at < self.len() {
-            self.text.run(self.base + at)
+        if at < self.front.len() {
+            &self.front[at..]
         } else {
-            &[]
+            self.any_run(at)
         }
     }
 }

@@ -4,7 +4,7 @@ ghost use Rattle.shread.specs.Answers.{edition_of, meter_of};
 ghost use Rattle.shtext.specs.Meter.{raised};
 ghost use Rattle.shgrammar.specs.Scripts.{FirstFault};
 ghost use Rattle.shgrammar.specs.declared.fault.Fault.{Fault};
-ghost use Rattle.shgap.specs.Gap.{gap_bytes};
+ghost use Rattle.shtext.specs.Buffer.{buffer_bytes};
 ghost use Rattle.shtext.specs.Edit.{IsAllowed, limit};
 ghost use Rattle.shlive.specs.Answers.{HasNodesAt, HasOutline, HasStatus, HasText, IsRefused};
 ghost use Rattle.shlive.specs.Edits.{IsMade, IsNotMade};
@@ -12,17 +12,13 @@ ghost use Rattle.shlive.specs.Edits.{IsMade, IsNotMade};
 use crate::answers::{nodes_of_lines, outline_of_lines, text_of_lines};
 use crate::error::LiveError;
 use crate::top_lines::{TopLine, TopLines};
-use shgap::GapText;
 use shprint::Layout;
 use shread::{Fault, Reader};
-use shtext::Source;
+use shtext::{Buffer, Source};
 use shtree::NodeLine;
 use shwindow::HeldLines;
 use std::alloc::{AllocError, Global};
 use std::marker::Model;
-
-/// How far before an edit behind a fault the gap of the text may stand.
-const NEAR: usize = 4096;
 
 /// A script that is edited, with its lines as they were read, all by the edition of its reader. After each
 /// edit every answer is that of the edited bytes read from scratch.
@@ -31,7 +27,7 @@ pub struct Session {
     alloc: Global,
     reader: TopLines,
     layout: Layout,
-    text: GapText,
+    text: Buffer,
     lines: HeldLines<TopLine>,
 }
 
@@ -66,7 +62,7 @@ impl Session {
         ensures empty { length bytes.now ≡ 0 → IsOk result }
     {
         let mut reader = TopLines { reader };
-        let text = GapText::from_slice(alloc, bytes)?;
+        let text = Buffer::from_slice(alloc, bytes)?;
         let lines = HeldLines::read(alloc, &mut reader, &text)?;
         Ok(Session {
             alloc,
@@ -77,19 +73,6 @@ impl Session {
         })
     }
 
-    /// Where the gap of the text stands best for an edit at an offset: where its window begins, so that what
-    /// is read lies in one piece. What stands far behind a fault is not read, so there the gap stays near
-    /// the edit: moving it would cost more than the reading.
-    fn gap_before(&self, a: usize) -> usize
-        ensures { result ≤ a }
-    {
-        let begin = self.lines.line_at(a).1;
-        match self.fault() {
-            Some(fault) if fault.at < a => begin.max(a.saturating_sub(NEAR)),
-            _ => begin,
-        }
-    }
-
     /// Puts bytes in the place of those from `a` up to `b`, and reads the window of the edit. An edit that is
     /// refused changes no answer; for want of memory it has read no more than the window.
     pub fn edit(&mut self, a: usize, b: usize, bytes: &[u8]) -> Result<(), LiveError>
@@ -97,16 +80,12 @@ impl Session {
         ensures refused { IfErr result (λ e. IsNotMade self.old a b bytes.now e self.new) }
     {
         self.allows(a, b, bytes.len())?;
-        let begin = self.gap_before(a);
-        let undo = self.text.edit(begin, a, b, bytes)?;
+        let change = self.text.prepare(a, b, bytes)?;
+        let edited = self.text.preview(&change);
         let end = a + bytes.len();
-        match self.lines.edit(&mut self.reader, &self.text, a, end, b) {
-            Ok(()) => Ok(()),
-            Err(error) => {
-                self.text.undo(undo);
-                Err(LiveError::from(error))
-            }
-        }
+        self.lines.edit(&mut self.reader, &edited, a, end, b)?;
+        self.text.commit(change);
+        Ok(())
     }
 
     /// Whether so many bytes may be put in the place of those from `a` up to `b`, as
@@ -130,8 +109,8 @@ impl Session {
     }
 
     /// The bytes.
-    pub(crate) fn bytes(&self) -> &GapText
-        ensures { gap_bytes result.now ≡ self.now.bytes }
+    pub(crate) fn bytes(&self) -> &Buffer
+        ensures { buffer_bytes result.now ≡ self.now.bytes }
     {
         &self.text
     }

@@ -1,10 +1,10 @@
 //! The texts of replies that tell nodes.
 ghost use Rattle.std.specs.Prelude.{◌≡◌, ◌+◌, ◌≤◌, ◌∷◌, ◌++◌, IfOk, codes, decimal, drop, length};
-ghost use Rattle.shgap.specs.Gap.{gap_bytes};
+ghost use Rattle.shtext.specs.Buffer.{buffer_bytes};
 ghost use Rattle.shlive.specs.Replies.{kind_text, name_text, node_text, nodes_text};
 
-use shgap::GapText;
 use shprint::add_bare;
+use shtext::Buffer;
 use shtree::{NodeKind, NodeLine, Span};
 use std::alloc::{AllocError, Global};
 
@@ -67,8 +67,8 @@ fn write_node(line: &mut [u8; LINE], node: &NodeLine) -> usize
 }
 
 /// Adds a node's name, where it has one.
-fn add_name(text: &mut Vec<u8>, script: &GapText, name: Option<Span>) -> Result<(), AllocError>
-    ensures { IfOk result (λ _. text.new.items ≡ text.old.items ++ name_text (gap_bytes script.now) name) }
+fn add_name(text: &mut Vec<u8>, script: &Buffer, name: Option<Span>) -> Result<(), AllocError>
+    ensures { IfOk result (λ _. text.new.items ≡ text.old.items ++ name_text (buffer_bytes script.now) name) }
 {
     match name {
         Some(span) => {
@@ -80,8 +80,8 @@ fn add_name(text: &mut Vec<u8>, script: &GapText, name: Option<Span>) -> Result<
 }
 
 /// Ends the line before, and adds that of a node but for its end.
-fn add_node(text: &mut Vec<u8>, script: &GapText, node: &NodeLine) -> Result<(), AllocError>
-    ensures { IfOk result (λ _. text.new.items ++ codes "\n" ≡ (text.old.items ++ codes "\n") ++ node_text (gap_bytes script.now) node.now) }
+fn add_node(text: &mut Vec<u8>, script: &Buffer, node: &NodeLine) -> Result<(), AllocError>
+    ensures { IfOk result (λ _. text.new.items ++ codes "\n" ≡ (text.old.items ++ codes "\n") ++ node_text (buffer_bytes script.now) node.now) }
 {
     let mut line = [0; LINE];
     let start = write_node(&mut line, node);
@@ -93,10 +93,10 @@ fn add_node(text: &mut Vec<u8>, script: &GapText, node: &NodeLine) -> Result<(),
 pub(crate) fn nodes_text(
     alloc: Global,
     word: &[u8],
-    script: &GapText,
+    script: &Buffer,
     nodes: &[NodeLine],
 ) -> Result<Vec<u8>, AllocError>
-    ensures { IfOk result (λ text. text.items ≡ nodes_text word.now (gap_bytes script.now) nodes.now) }
+    ensures { IfOk result (λ text. text.items ≡ nodes_text word.now (buffer_bytes script.now) nodes.now) }
 {
     let mut number = itoa::Buffer::new();
     let mut text = Vec::from_slice(alloc, word)?;

@@ -1,16 +1,12 @@
 //! The tests of the printer and of sessions, over their public calls. The devices, the refused growths and
 //! the tables that they use are those of the crate `shtreetests`.
 //!
-//! Start with the module of what is tested: `gap_..` are the tests of `shgap`, `printer_..` those of `shprint`
-//! and `shpieces`, `session_..` those of `shlive`; those in `.._refused` refuse each growth of memory in turn.
-//! `windows` is the model by which is judged what an edit reads, [`window_begin`](window_begin::window_begin)
-//! the part of it that a contract states.
+//! Start with the module of what is tested: `printer_..` are the tests of `shprint` and `shpieces`,
+//! `session_..` those of `shlive`; those in `.._refused` refuse each growth of memory in turn. `windows` is the
+//! model by which is judged what an edit reads, [`window_begin`](window_begin::window_begin) the part of it
+//! that a contract states.
 #![tactic(auto)]
 
-#[cfg(test)]
-mod gap_refused;
-#[cfg(test)]
-mod gap_text;
 #[cfg(test)]
 mod printer_refused;
 #[cfg(test)]

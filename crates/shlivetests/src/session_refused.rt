@@ -160,22 +160,14 @@ fn requests(rt: HostRuntime) -> Result<(), Fail> {
     let alloc = rt.alloc();
     let mut growths = Growths::of(alloc);
     let asked = b"edit 3 3 2\n c\noutline\nprint\nfault\nquit\n";
-    let mut was_spared = false;
     for _ in 1..200 {
         let mut page = page_of(PAGE);
         let status = written(alloc, asked.as_slice(), &mut growths, &mut page)?;
         assert!(rt; status == 0);
-        let is_whole = page.text()
-            == b"ok 5 0\noutline 2\n0 1 simple\n2 5 simple\ntext 6\na\nb c\n\nnone\n".as_slice();
         if !growths.is_met() {
-            assert!(rt; is_whole);
+            let whole = b"ok 5 0\noutline 2\n0 1 simple\n2 5 simple\ntext 6\na\nb c\n\nnone\n";
+            assert!(rt; page.text() == whole.as_slice());
             break;
-        }
-        // Where the text is refused memory for more than the edit needs, it asks for that alone.
-        if is_whole {
-            assert!(rt; !was_spared);
-            was_spared = true;
-            continue;
         }
         let is_told = [
             b"no memory\noutline 2\n0 1 simple\n2 3 simple\ntext 4\na\nb\n\nnone\n".as_slice(),

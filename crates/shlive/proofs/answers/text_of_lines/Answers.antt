@@ -2,7 +2,7 @@ use Rattle.std.proofs.Common.{[], ◌+◌, ◌∙◌, ap, arith, refl, subst, sy
 use Rattle.shast.specs.Shape.{shape_of}
 use Rattle.shprint.specs.Printed.{printed}
 use Rattle.shprint.specs.Written.{sheet_of}
-use Rattle.shgap.specs.Gap.{gap_bytes}
+use Rattle.shtext.specs.Buffer.{buffer_bytes}
 use Rattle.shwindow.specs.Walks.{lines_left}
 use Rattle.shheld.specs.Walk.{Walk, no_line, with_line, with_lines}
 use Rattle.shheld.proofs.Rows.{row_entries}
@@ -20,19 +20,19 @@ lines-init c =
       gap = refl;
       at = refl;
       entries = ap (with_lines no_line) c.lines-rest.ensures;
-      printed = none_yet c.args.layout.now (gap_bytes c.args.source.now) c.new-page.result c.new-page.ensures.0
+      printed = none_yet c.args.layout.now (buffer_bytes c.args.source.now) c.new-page.result c.new-page.ensures.0
           (ap (λ t. sheet_of t c.new-page.result.held.items) c.new-page.ensures.1 ∙ ap (sheet_of []) c.new-page.ensures.2);
     }
 
 pub overflow_add-begin : goal.overflow_add-begin
 overflow_add-begin c =
-    let within = walked_within c.args.lines.now (lines_left c.lines.rest) c.lines.begin c.in-Some.line.now (lines_left c.next.new.self) c.lines.invariant.walked c.in-Some.ensures.steps c.requires.row.0 (gap_bytes c.args.source.now) c.requires.row.1 in
+    let within = walked_within c.args.lines.now (lines_left c.lines.rest) c.lines.begin c.in-Some.line.now (lines_left c.next.new.self) c.lines.invariant.walked c.in-Some.ensures.steps c.requires.row.0 (buffer_bytes c.args.source.now) c.requires.row.1 in
     omega (arith, within, c.requires.small)
 
 pub lines-preserved : goal.lines-preserved
 lines-preserved c =
     let row = c.args.lines.now in
-    let B = gap_bytes c.args.source.now in
+    let B = buffer_bytes c.args.source.now in
     let l = c.in-Some.line.now in
     let left = lines_left c.lines.rest in
     let rest = lines_left c.next.new.self in
@@ -51,7 +51,7 @@ lines-preserved c =
 pub returns : goal.returns
 returns c =
     let row = c.args.lines.now in
-    let B = gap_bytes c.args.source.now in
+    let B = buffer_bytes c.args.source.now in
     let inv = c.lines.invariant in
     let all = ap (with_lines inv.so) (sym c.in_default.ensures.steps.0) ∙ inv.entries in
     all_printed c.args.layout.now B inv.so c.lines.page inv.printed

@@ -1,5 +1,5 @@
 use Rattle.std.proofs.Common.{◌≡◌, length}
-use Rattle.shgap.specs.Gap.{gap_bytes}
+use Rattle.shtext.specs.Buffer.{buffer_bytes}
 use Rattle.shwindow.specs.Walks.{lines_left}
 use Rattle.shheld.specs.Walk.{Walk, no_line, with_lines}
 use Rattle.shlive.specs.Printing.{IsOnPage}
@@ -13,7 +13,7 @@ invariant-lines l = record {
   gap : so.gap ≡ l.gap;
   at : so.at ≡ l.begin;
   entries : with_lines so (lines_left l.rest) ≡ with_lines no_line l.lines;
-  printed : IsOnPage l.layout (gap_bytes l.source) so l.page;
+  printed : IsOnPage l.layout (buffer_bytes l.source) so l.page;
 }
 
 abbrev pub decreases-lines : goal.decreases-lines

@@ -2,7 +2,7 @@ use Rattle.std.proofs.Common.{◌∙◌, None, subst, sym}
 use Rattle.shgrammar.specs.Scripts.{FirstFault}
 use Rattle.shprint.specs.ReadBack.{IsTextOf}
 use Rattle.shread.specs.Answers.{edition_of}
-use Rattle.shgap.specs.Gap.{gap_bytes}
+use Rattle.shtext.specs.Buffer.{buffer_bytes}
 use Rattle.shlive.specs.Held.{Held}
 use Rattle.shlive.proofs.LastLine.{no_fault, none_is, text_of_row}
 use Rattle.shlive.proofs.session.Session.print.Goals as goal
@@ -18,4 +18,4 @@ returns-clause-text c =
     let here = subst (λ (h : Held). FirstFault h.how.edition h.bytes None) (sym c.self.view_is) none in
     let text = c.in_ok-text.text.items in
     subst (λ (h : Held). IsTextOf h.how.edition h.how.layout h.bytes text) c.self.view_is
-    (text_of_row (edition_of session.reader.reader) session.layout (gap_bytes session.text) session.lines c.self.invariant.row here text c.in_ok-text.ensures)
+    (text_of_row (edition_of session.reader.reader) session.layout (buffer_bytes session.text) session.lines c.self.invariant.row here text c.in_ok-text.ensures)
