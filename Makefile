@@ -2,10 +2,12 @@
 # make test        the gate: proves every crate from nothing, runs every test; then the scripts over what the gate has built
 # make scripts     those scripts alone, over what the last gate has left
 # make bench       times the program beside dash and cat, and prints a table
-# make install     installs the program and its manual page below PREFIX, itself below DESTDIR where that is given
+# make install     installs the program, its manual page and its completions for bash, zsh and fish below PREFIX, itself below
+#                  DESTDIR where that is given
 
 PREFIX = /usr/local
 PROGRAM = crates/shform/out/shform
+SHARE = $(DESTDIR)$(PREFIX)/share
 TESTS = crates/shtreetests/out/shtreetests_tests crates/shtests/out/shtests_tests crates/shlivetests/out/shlivetests_tests crates/shform/out/shform_tests
 
 .PHONY: all test scripts bench install
@@ -26,6 +28,7 @@ scripts: $(PROGRAM) $(TESTS)
 	tests/second-reader
 	tests/launcher
 	tests/install
+	tests/completions
 
 $(PROGRAM) $(TESTS):
 	@echo "make scripts: there is no $@: run make test, whose gate leaves it" >&2; exit 1
@@ -35,6 +38,10 @@ bench:
 	@tests/bench
 
 install: all
-	install -d "$(DESTDIR)$(PREFIX)/bin" "$(DESTDIR)$(PREFIX)/share/man/man1"
+	install -d "$(DESTDIR)$(PREFIX)/bin" "$(SHARE)/man/man1" "$(SHARE)/bash-completion/completions" \
+		"$(SHARE)/zsh/site-functions" "$(SHARE)/fish/vendor_completions.d"
 	install -m 755 $(PROGRAM) "$(DESTDIR)$(PREFIX)/bin/shform"
-	install -m 644 shform.1 "$(DESTDIR)$(PREFIX)/share/man/man1/shform.1"
+	install -m 644 shform.1 "$(SHARE)/man/man1/shform.1"
+	install -m 644 contrib/completions/shform.bash "$(SHARE)/bash-completion/completions/shform"
+	install -m 644 contrib/completions/shform.zsh "$(SHARE)/zsh/site-functions/_shform"
+	install -m 644 contrib/completions/shform.fish "$(SHARE)/fish/vendor_completions.d/shform.fish"
