@@ -29,6 +29,7 @@ scripts: $(PROGRAM) $(TESTS)
 	tests/launcher
 	tests/install
 	tests/completions
+	tests/pre-commit
 
 $(PROGRAM) $(TESTS):
 	@echo "make scripts: there is no $@: run make test, whose gate leaves it" >&2; exit 1
