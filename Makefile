@@ -2,8 +2,8 @@
 # make test        the gate: proves every crate from nothing, runs every test; then the scripts over what the gate has built
 # make scripts     those scripts alone, over what the last gate has left
 # make bench       times the program beside dash and cat, and prints a table
-# make install     installs the program, its manual page and its completions for bash, zsh and fish below PREFIX, itself below
-#                  DESTDIR where that is given
+# make install     installs the program, its language server, its manual page and its completions for bash, zsh and fish below PREFIX,
+#                  itself below DESTDIR where that is given
 
 PREFIX = /usr/local
 PROGRAM = crates/shform/out/shform
@@ -22,6 +22,7 @@ test:
 scripts: $(PROGRAM) $(TESTS)
 	tests/run
 	tests/session
+	tests/lsp
 	tests/refused-growths
 	tests/leaks
 	tests/stack
@@ -42,6 +43,7 @@ install: all
 	install -d "$(DESTDIR)$(PREFIX)/bin" "$(SHARE)/man/man1" "$(SHARE)/bash-completion/completions" \
 		"$(SHARE)/zsh/site-functions" "$(SHARE)/fish/vendor_completions.d"
 	install -m 755 $(PROGRAM) "$(DESTDIR)$(PREFIX)/bin/shform"
+	install -m 755 contrib/lsp/shform-lsp "$(DESTDIR)$(PREFIX)/bin/shform-lsp"
 	install -m 644 shform.1 "$(SHARE)/man/man1/shform.1"
 	install -m 644 contrib/completions/shform.bash "$(SHARE)/bash-completion/completions/shform"
 	install -m 644 contrib/completions/shform.zsh "$(SHARE)/zsh/site-functions/_shform"
