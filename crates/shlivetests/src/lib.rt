@@ -2,9 +2,9 @@
 //! the tables that they use are those of the crate `shtreetests`.
 //!
 //! Start with the module of what is tested: `printer_..` are the tests of `shprint` and `shpieces`,
-//! `session_..` those of `shlive`; those in `.._refused` refuse each growth of memory in turn. `windows` is the
-//! model by which is judged what an edit reads, [`window_begin`](window_begin::window_begin) the part of it
-//! that a contract states.
+//! `session_..` those of `shlive`; those in `.._refused` refuse each growth of memory in turn. `windows` is
+//! the model by which is judged what an edit reads, [`window_begin`](window_begin::window_begin) the part of
+//! it that a contract states.
 #![tactic(auto)]
 
 #[cfg(test)]
