@@ -2,7 +2,7 @@
 use Rattle.std.proofs.Common.{◌≡◌, ℕ, ◌+◌, ◌-◌, ◌≤◌, List, [], ◌∷◌, ◌++◌, List as Row, length, take, drop, sym, ap, ◌∙◌, arith, length-append, length-drop}
 use Rattle.std.proofs.lemmas.List.{drop_at, length-take-le, nil_from_length, take_at}
 use Rattle.shtext.specs.Chunks.{EachHas, HoldsPart, around_count, joined, needed, put_between}
-use Rattle.shtext.specs.Edit.{edited}
+use Rattle.shtext.specs.Edit.{spliced}
 use Rattle.shtext.proofs.Fullness.{holds_few, needed_more}
 use Rattle.shtext.proofs.Joined.{joined_edited, joined_low, joined_mono, joined_nil}
 
@@ -50,7 +50,7 @@ module _ (ks : Row (List ℕ)) (from to a b : ℕ) (order : a ≤ b) (holds : Ho
         omega (arith, all, one, two, head_length, tail_length)
 
     -- the text that they make
-    pub around_edited : put_between ks from to F ≡ edited (joined ks) a b new
+    pub around_edited : put_between ks from to F ≡ spliced (joined ks) a b new
     around_edited = ap (λ l. joined (take from ks) ++ (l ++ joined (drop to ks))) is ∙ joined_edited ks from to a b new holds
 
     -- the chunks that give way, and as many as the growth needs, are enough

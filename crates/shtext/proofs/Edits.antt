@@ -2,10 +2,10 @@
 use Rattle.std.proofs.Common.{◌≡◌, ℕ, ◌+◌, ◌-◌, ◌≤◌, List, ◌++◌, length, take, drop, sym, ap, ◌∙◌, arith}
 use Rattle.std.proofs.lemmas.List.{length-append, length-take, length-take-le, length-drop, drop-drop, take-append-drop}
 use Rattle.std.proofs.Math.Seq.{take-append_seam, drop-append_seam, drop-append-add}
-use Rattle.shtext.specs.Edit.{edited}
+use Rattle.shtext.specs.Edit.{spliced}
 
 pub edited_length : (bytes : List ℕ) (a b : ℕ) (new : List ℕ) → a ≤ b → b ≤ length bytes
-    → length (edited bytes a b new) ≡ length bytes - (b - a) + length new
+    → length (spliced bytes a b new) ≡ length bytes - (b - a) + length new
 edited_length bytes a b new order within =
     let all = length-append (take a bytes) (new ++ drop b bytes) in
     let rest = length-append new (drop b bytes) in
@@ -14,9 +14,9 @@ edited_length bytes a b new order within =
     grind (arith, all, rest, before, behind, order, within)
 
 pub undone : (bytes new : List ℕ) (a b : ℕ) → a ≤ b → b ≤ length bytes
-    → edited (edited bytes a b new) a (a + length new) (take (b - a) (drop a bytes)) ≡ bytes
+    → spliced (spliced bytes a b new) a (a + length new) (take (b - a) (drop a bytes)) ≡ bytes
 undone bytes new a b order within =
-    let made : List ℕ = edited bytes a b new in
+    let made : List ℕ = spliced bytes a b new in
     let old : List ℕ = take (b - a) (drop a bytes) in
     let long : length (take a bytes) ≡ a = length-take-le a bytes (omega (arith, order, within)) in
     let front : take a made ≡ take a bytes = ap (λ m. take m made) (sym long) ∙ take-append_seam (take a bytes) (new ++ drop b bytes) in

@@ -3,7 +3,7 @@ use Rattle.std.proofs.Common.{◌≡◌, ℕ, ◌+◌, ◌-◌, ◌<◌, ◌≤�
 use Rattle.std.proofs.lemmas.Bool.{cases_lt}
 use Rattle.std.proofs.lemmas.List.{append-nil, drop_at, drop-drop, length-append, take-append-drop, take_at, take_more, take-take}
 use Rattle.std.proofs.Math.Seq.{take-add}
-use Rattle.shtext.specs.Edit.{edited}
+use Rattle.shtext.specs.Edit.{spliced}
 use Rattle.shtext.specs.Chunks.{HoldsPart, joined}
 
 pub joined_append : {X : Type 0} (js ks : Row (List X)) → joined (js ++ ks) ≡ joined js ++ joined ks
@@ -55,7 +55,7 @@ joined_around n ks k low is =
 -- what fills chunks in the place of those that hold a part: what is before an edit, what it brings, and what is behind it
 pub joined_edited : (ks : Row (List ℕ)) (from to a b : ℕ) (new : List ℕ) → HoldsPart ks from to a b
     → joined (take from ks) ++ ((take (a - length (joined (take from ks))) (drop (length (joined (take from ks))) (joined ks)) ++ (new ++ take (length (joined (take to ks)) - b) (drop b (joined ks)))) ++ joined (drop to ks))
-    ≡ edited (joined ks) a b new
+    ≡ spliced (joined ks) a b new
 joined_edited ks from to a b new holds =
     let text : List ℕ = joined ks in
     let s : ℕ = length (joined (take from ks)) in

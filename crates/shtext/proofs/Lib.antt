@@ -13,3 +13,4 @@ pub mod Moving
 pub mod Rows
 pub mod Filled
 pub mod Around
+pub mod Splices

@@ -1,10 +1,10 @@
 //! A text that is edited.
-ghost use Rattle.std.specs.Prelude.{◌≡◌, ◌+◌, ◌*◌, ◌<◌, ◌≤◌, [], IfErr, IfOk, IsOk, length};
+ghost use Rattle.std.specs.Prelude.{◌≡◌, ◌+◌, ◌*◌, ◌<◌, ◌≤◌, [], IfErr, IfOk, IsOk, OnOk, length};
 ghost use Rattle.shtext.specs.Chunks.{AreFull, EachHas, HasSums, begin_of, ends_of, fewest, joined, lines_of, most};
-ghost use Rattle.shtext.specs.Edit.{Refuses, limit};
+ghost use Rattle.shtext.specs.Edit.{AreAllowed, Refuses, limit, one};
 ghost use Rattle.shtext.specs.Text.{IsRun};
 
-use crate::allow::allowed;
+use crate::allow::Tally;
 use crate::chunk::{CHUNK, Chunk};
 use crate::cut::cut;
 use crate::edit::SEAM;
@@ -62,13 +62,13 @@ impl Buffer {
     pub fn from_slice(alloc: Global, bytes: &[u8]) -> Result<Buffer, TextError>
         ensures bytes { IfOk result (λ buffer. buffer_bytes buffer ≡ bytes.now) }
         ensures allowed { IfOk result (λ buffer. length bytes.now ≤ limit) }
-        ensures err { IfErr result (Refuses [] 0 0 bytes.now) }
+        ensures err { IfErr result (Refuses [] (one 0 0 bytes.now)) }
         ensures empty { length bytes.now ≡ 0 → IsOk result }
     {
         if bytes.is_empty() {
             return Ok(Buffer::new(alloc));
         }
-        allowed(0, 0, 0, bytes.len())?;
+        may_be_text(bytes)?;
         let chunks = cut(alloc, bytes)?;
         let mut ends = Vec::with_capacity(alloc, chunks.len())?;
         let mut lines = Vec::with_capacity(alloc, chunks.len())?;
@@ -148,4 +148,14 @@ impl Source for Buffer {
     {
         if at < self.len() { self.piece(at) } else { &[] }
     }
+}
+
+/// Whether a text may be of these bytes.
+fn may_be_text(bytes: &[u8]) -> Result<(), TextError>
+    ensures ok { OnOk result (AreAllowed [] (one 0 0 bytes.now)) }
+    ensures err { IfErr result (Refuses [] (one 0 0 bytes.now)) }
+{
+    let mut tally = Tally::new(0);
+    tally.add(0, 0, bytes.len());
+    tally.answer()
 }

@@ -1,11 +1,11 @@
 //! Edits of a text in chunks.
-ghost use Rattle.std.specs.Prelude.{◌≡◌, ◌≢◌, ◌⊎◌, ◌+◌, ◌-◌, ◌<◌, ◌≤◌, ◌++◌, ◌↔◌, ℕ, List, IfErr, IfOk, IsTrue, OnOk, length, slice_range, vec_capacity, vec_len};
-ghost use Rattle.shtext.specs.Buffer.{Fits, HasChunks, HasRoom, buffer_bytes, changed, edited_bytes};
+ghost use Rattle.std.specs.Prelude.{◌≡◌, ◌⊎◌, ◌+◌, ◌-◌, ◌<◌, ◌≤◌, ◌++◌, ◌↔◌, [], ℕ, IfErr, IfOk, IsTrue, OnOk, drop, length, slice_range, take, vec_capacity, vec_len};
+ghost use Rattle.shtext.specs.Buffer.{Fits, HasChunks, HasRoom, Makes, buffer_bytes, changed, edited_bytes, with_splices};
 ghost use Rattle.shtext.specs.Chunks.{HoldsPart, LeavesFull, around, around_count, begin_of, fewest, most, needed, put_between, seam_most};
-ghost use Rattle.shtext.specs.Edit.{IsAllowed, Refuses, edited, limit};
+ghost use Rattle.shtext.specs.Edit.{AreInRange, Refuses, RiseFrom, IsTally, first_begin, limit, one, splices_of};
 ghost use Rattle.shtext.specs.declared.change.Change.{Change};
 
-use crate::allow::{LIMIT, allowed};
+use crate::allow::{LIMIT, Tally};
 use crate::buffer::Buffer;
 use crate::change::Change;
 use crate::chunk::{CHUNK, Chunk, FEWEST};
@@ -16,6 +16,7 @@ use crate::fill::fill_anew;
 use crate::filling::Filling;
 use crate::part::{push_part, stand_at};
 use crate::source::Source;
+use crate::splice::Splice;
 use crate::sums::add_up_anew;
 use std::alloc::{AllocError, Global};
 use std::mem;
@@ -27,36 +28,60 @@ const KEPT: usize = 1;
 pub(crate) const SEAM: usize = CHUNK + CHUNK;
 
 impl Buffer {
-    /// Whether so many bytes may be put in the place of those from `a` up to `b`, as
-    /// far as the text decides that. It takes no memory.
-    pub fn allows(&self, a: usize, b: usize, count: usize) -> Result<(), TextError>
-        ensures ok { IfOk result (λ _. (new : List ℕ) → length new ≡ count → IsAllowed (buffer_bytes self.now) a b new) }
-        ensures err { IfErr result (λ e. (new : List ℕ) → length new ≡ count → Refuses (buffer_bytes self.now) a b new e) }
-        ensures no_memory { IfErr result (λ e. e ≢ TextError.Memory) }
+    /// A tally of this text, to which no splice was added. It takes no memory.
+    pub fn tally(&self) -> Tally
+        ensures { IsTally result (length (buffer_bytes self.now)) [] }
     {
-        allowed(self.len(), a, b, count)
+        Tally::new(self.len())
     }
 
-    /// A change that puts these bytes in the place of those from `a` up to `b`. It
-    /// fits, and what fitted fits still; no byte of the text changes, whatever is answered.
+    /// A change that puts these bytes in the place of those from `a` up to `b`, as
+    /// [`prepare_all`](Buffer::prepare_all) does with this splice alone.
     pub fn prepare(&mut self, a: usize, b: usize, bytes: &[u8]) -> Result<Change, TextError>
         ensures bytes { buffer_bytes self.new ≡ buffer_bytes self.old }
-        ensures allowed { IfOk result (λ change. IsAllowed (buffer_bytes self.old) a b bytes.now) }
         ensures fits { IfOk result (Fits self.new) }
-        ensures change { IfOk result (λ change. changed (buffer_bytes self.new) change ≡ edited (buffer_bytes self.old) a b bytes.now) }
-        ensures err { IfErr result (Refuses (buffer_bytes self.old) a b bytes.now) }
+        ensures change { IfOk result (Makes (buffer_bytes self.old) (one a b bytes.now)) }
+        ensures err { IfErr result (Refuses (buffer_bytes self.old) (one a b bytes.now)) }
         ensures others { (c : Change) → Fits self.old c → Fits self.new c }
     {
-        self.allows(a, b, bytes.len())?;
-        let old = self.copied(a, b)?;
-        let new = Vec::from_slice(self.alloc, bytes)?;
-        self.make_room(chunks_for(bytes.len().saturating_sub(b - a)))?;
+        self.prepare_all(&[Splice { a, b, bytes }])
+    }
+
+    /// A change that makes these splices, all or none; there is at least one. Their offsets are those of the
+    /// text as it is, and they rise: each begins at or behind the end of the one before. It fits, and what
+    /// fitted fits still; no byte of the text changes, whatever is answered.
+    pub fn prepare_all(&mut self, splices: &[Splice<'_>]) -> Result<Change, TextError>
+        requires { 0 < length splices.now }
+        ensures bytes { buffer_bytes self.new ≡ buffer_bytes self.old }
+        ensures fits { IfOk result (Fits self.new) }
+        ensures change { IfOk result (Makes (buffer_bytes self.old) (splices_of splices.now)) }
+        ensures err { IfErr result (Refuses (buffer_bytes self.old) (splices_of splices.now)) }
+        ensures others { (c : Change) → Fits self.old c → Fits self.new c }
+    {
+        let tally = self.tally_of(splices);
+        tally.answer()?;
+        let (start, end) = (first_begin(splices), tally.last_end());
+        let old = self.copied(start, end)?;
+        let mut new = Vec::with_capacity(self.alloc, tally.new_end().saturating_sub(start))?;
+        push_with(start, &old, splices, &mut new)?;
+        self.make_room(chunks_for(new.len().saturating_sub(end - start)))?;
         Ok(Change {
-            start: a,
-            end: b,
+            start,
+            end,
             old,
             new,
         })
+    }
+
+    /// What lengths tell of some splices.
+    fn tally_of(&self, splices: &[Splice<'_>]) -> Tally
+        ensures { IsTally result (length (buffer_bytes self.now)) (splices_of splices.now) }
+    {
+        let mut tally = self.tally();
+        'splices: for splice in splices {
+            tally.add(splice.a, splice.b, splice.bytes.len());
+        }
+        tally
     }
 
     /// The bytes from `a` up to `b`.
@@ -245,6 +270,55 @@ impl Buffer {
             &mut self.lines,
         );
     }
+}
+
+/// Adds what splices make of the bytes from `from` on: those before each of them, and behind the last, stay.
+fn push_with(
+    from: usize,
+    bytes: &[u8],
+    splices: &[Splice<'_>],
+    into: &mut Vec<u8>,
+) -> Result<(), AllocError>
+    requires in_range { AreInRange (from + length bytes.now) (splices_of splices.now) }
+    requires rising { RiseFrom from (splices_of splices.now) }
+    ensures { OnOk result (into.new.items ≡
+        into.old.items ++ with_splices from bytes.now (splices_of splices.now)) }
+{
+    let (mut at, mut rest) = (from, bytes);
+    'splices: for splice in splices {
+        rest = push_one(at, rest, splice, into)?;
+        at = splice.b;
+    }
+    into.extend_from_slice(rest)
+}
+
+/// Adds the bytes before a splice, of those from `from` on, and its own. The rest is answered: what
+/// stands behind it.
+fn push_one<'a>(
+    from: usize,
+    bytes: &'a [u8],
+    splice: &Splice<'_>,
+    into: &mut Vec<u8>,
+) -> Result<&'a [u8], AllocError>
+    requires low { from ≤ splice.now.a }
+    requires order { splice.now.a ≤ splice.now.b }
+    requires high { splice.now.b ≤ from + length bytes.now }
+    ensures into { OnOk result (into.new.items ≡
+        into.old.items ++ (take (splice.now.a - from) bytes.now ++ splice.now.bytes.now)) }
+    ensures rest { IfOk result (λ rest. rest.now ≡ drop (splice.now.b - from) bytes.now) }
+{
+    let (before, behind) = (splice.a - from, splice.b - from);
+    into.extend_from_slice(&bytes[..before])?;
+    into.extend_from_slice(splice.bytes)?;
+    Ok(&bytes[behind..])
+}
+
+/// Where the first of some splices begins.
+fn first_begin(splices: &[Splice<'_>]) -> usize
+    requires { 0 < length splices.now }
+    ensures { result ≡ first_begin (splices_of splices.now) }
+{
+    splices[0].a
 }
 
 /// Has as many spare chunks as wanted, or more.

@@ -1,7 +1,7 @@
 //! The text that a change would make.
 ghost use Rattle.std.specs.Prelude.{◌+◌, ◌-◌, ◌≤◌, length};
 ghost use Rattle.shtext.specs.Chunks.{joined, most};
-ghost use Rattle.shtext.specs.Edit.{edited, limit};
+ghost use Rattle.shtext.specs.Edit.{limit, spliced};
 ghost use Rattle.shtext.specs.Text.{IsRun};
 
 use crate::buffer::Buffer;
@@ -19,7 +19,7 @@ pub struct Edited<'a> {
     pub(crate) end: usize,
     ghost order: { start ≤ end },
     ghost within: { end ≤ length (joined buffer.now.chunks.items) },
-    ghost small: { length (edited (joined buffer.now.chunks.items) start end new.now) ≤ limit },
+    ghost small: { length (spliced (joined buffer.now.chunks.items) start end new.now) ≤ limit },
 }
 
 impl<'a> Source for Edited<'a> {

@@ -5,10 +5,11 @@ ghost use Rattle.shtext.specs.declared.error.TextError.TheVariants.{Memory};
 use std::alloc::AllocError;
 use thiserror::Error;
 
-/// Why a text was not taken. The numbers are fixed, and an edit is tested in their order.
+/// Why a text was not taken. The numbers are fixed. An edit is tested in this order: range, order, size,
+/// memory.
 #[derive(Clone, Copy, Debug, PartialEq, Eq, Error)]
 pub enum TextError {
-    /// The edit begins behind its end, or ends behind the text.
+    /// A splice begins behind its end, or ends behind the text.
     #[error("out of range")]
     Range = 1,
     /// The edited text has more bytes than a text may have.
@@ -17,6 +18,9 @@ pub enum TextError {
     /// Memory ran out.
     #[error("out of memory")]
     Memory = 3,
+    /// A splice begins before the end of the one before it.
+    #[error("out of order")]
+    Order = 5,
 }
 
 impl From<AllocError> for TextError {

@@ -1,6 +1,6 @@
 //! Laws of the definitions alone, which no code stands behind.
 ghost use Rattle.std.specs.Prelude.{◌≡◌, ◌⊎◌, ◌+◌, ◌-◌, ◌<◌, ◌≤◌, ℕ, List, None, Option, Some, drop, length, take};
-ghost use Rattle.shtext.specs.Edit.{edited};
+ghost use Rattle.shtext.specs.Edit.{spliced};
 ghost use Rattle.shtext.specs.Text.{IsLineStart, line_of};
 
 /// A line begins at one offset, and a text has the lines from 1 up to that of its length, and no others.
@@ -13,5 +13,5 @@ pub fn line_starts()
 /// An edit that puts back what another took out, in the place of what that put in, undoes it.
 pub fn undone()
     ensures { (bytes new : List ℕ) (a b : ℕ) → a ≤ b → b ≤ length bytes →
-        edited (edited bytes a b new) a (a + length new) (take (b - a) (drop a bytes)) ≡ bytes }
+        spliced (spliced bytes a b new) a (a + length new) (take (b - a) (drop a bytes)) ≡ bytes }
 {}

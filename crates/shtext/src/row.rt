@@ -1,8 +1,8 @@
 //! Items of a row that give way to as many as are to stand there.
-ghost use Rattle.std.specs.Prelude.{◌≡◌, ◌+◌, ◌-◌, ◌≤◌, ◌++◌, drop, length, reverse, take, vec_capacity, vec_len};
+ghost use Rattle.std.specs.Prelude.{◌≡◌, ◌+◌, ◌-◌, ◌≤◌, ◌++◌, drop, reverse, take, vec_capacity, vec_len};
 ghost use Rattle.shtext.specs.Rows.{last_moved};
 
-use crate::splice::take_out;
+use crate::items::take_out;
 
 /// Has so many items stand in the place of those from `from` up to `to`. Those that are
 /// too many are dropped, and those that are wanting come from the spare ones. It takes no memory.

@@ -5,8 +5,8 @@ ghost use Rattle.shtext.specs.Edit.{limit};
 ghost use Rattle.shtext.specs.Chunks.{HasSums, SumsOn, before, ends_of, joined, lines_of};
 
 use crate::chunk::Chunk;
+use crate::items::take_out;
 use crate::row::to_place;
-use crate::splice::take_out;
 
 /// How many places are looked at one by one before all are searched.
 const NEAR: usize = 16;

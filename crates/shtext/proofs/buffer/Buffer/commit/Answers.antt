@@ -11,7 +11,7 @@ new-filling-requires-clause-within c =
     let to : ℕ = c.chunks_of-from.result.1 in
     let a : ℕ = c.args.change.start in
     let b : ℕ = c.args.change.«end» in
-    let order : a ≤ b = c.requires.allowed.0.0 in
+    let order : a ≤ b = c.requires.allowed.in_range.0 in
     let holds = c.chunks_of-from.ensures.holds in
     let empty = ap (λ v. length v.items) c.replace-seam.ensures.value ∙ c.args.self.now.no_seam in
     let made = around_made ks from to a b order holds c.replace-seam.result.items c.copy_around.new.seam.items c.deref.result.now empty c.copy_around.ensures c.deref.ensures.value in
@@ -27,7 +27,7 @@ new-filling-requires-clause-small c =
     let to : ℕ = c.chunks_of-from.result.1 in
     let a : ℕ = c.args.change.start in
     let b : ℕ = c.args.change.«end» in
-    let order : a ≤ b = c.requires.allowed.0.0 in
+    let order : a ≤ b = c.requires.allowed.in_range.0 in
     let holds = c.chunks_of-from.ensures.holds in
     let empty = ap (λ v. length v.items) c.replace-seam.ensures.value ∙ c.args.self.now.no_seam in
     let made = around_made ks from to a b order holds c.replace-seam.result.items c.copy_around.new.seam.items c.deref.result.now empty c.copy_around.ensures c.deref.ensures.value in
@@ -40,7 +40,7 @@ new-filling-requires-clause-small c =
     let six = length-append (head ks from a ++ (new ++ tail ks to b)) (joined (drop to ks)) in
     let three = length-append (head ks from a) (new ++ tail ks to b) in
     let four = length-append new (tail ks to b) in
-    omega (arith, all, one, two, three, four, five, six, whole, c.requires.allowed.1)
+    omega (arith, all, one, two, three, four, five, six, whole, c.requires.allowed.small)
 
 pub refill-requires-clause-full : goal.refill-requires-clause-full
 refill-requires-clause-full c =
@@ -49,7 +49,7 @@ refill-requires-clause-full c =
     let to : ℕ = c.chunks_of-from.result.1 in
     let a : ℕ = c.args.change.start in
     let b : ℕ = c.args.change.«end» in
-    let order : a ≤ b = c.requires.allowed.0.0 in
+    let order : a ≤ b = c.requires.allowed.in_range.0 in
     let holds = c.chunks_of-from.ensures.holds in
     let empty = ap (λ v. length v.items) c.replace-seam.ensures.value ∙ c.args.self.now.no_seam in
     let made = around_made ks from to a b order holds c.replace-seam.result.items c.copy_around.new.seam.items c.deref.result.now empty c.copy_around.ensures c.deref.ensures.value in
@@ -67,7 +67,7 @@ refill-requires-clause-small c =
     let to : ℕ = c.chunks_of-from.result.1 in
     let a : ℕ = c.args.change.start in
     let b : ℕ = c.args.change.«end» in
-    let order : a ≤ b = c.requires.allowed.0.0 in
+    let order : a ≤ b = c.requires.allowed.in_range.0 in
     let holds = c.chunks_of-from.ensures.holds in
     let empty = ap (λ v. length v.items) c.replace-seam.ensures.value ∙ c.args.self.now.no_seam in
     let made = around_made ks from to a b order holds c.replace-seam.result.items c.copy_around.new.seam.items c.deref.result.now empty c.copy_around.ensures c.deref.ensures.value in
@@ -75,7 +75,7 @@ refill-requires-clause-small c =
     let F : List ℕ = filling_bytes c.new-filling.result in
     let is = around_is ks from to a b order holds c.deref.result.now c.deref-2.result.now new F c.begin.result made c.begin.ensures c.new-filling.ensures c.deref-2.ensures.value in
     let all = ap length (around_edited ks from to a b order holds new F is) in
-    omega (arith, all, c.requires.allowed.1)
+    omega (arith, all, c.requires.allowed.small)
 
 pub refill-requires-clause-room : goal.refill-requires-clause-room
 refill-requires-clause-room c =
@@ -84,7 +84,7 @@ refill-requires-clause-room c =
     let to : ℕ = c.chunks_of-from.result.1 in
     let a : ℕ = c.args.change.start in
     let b : ℕ = c.args.change.«end» in
-    let order : a ≤ b = c.requires.allowed.0.0 in
+    let order : a ≤ b = c.requires.allowed.in_range.0 in
     let holds = c.chunks_of-from.ensures.holds in
     let empty = ap (λ v. length v.items) c.replace-seam.ensures.value ∙ c.args.self.now.no_seam in
     let made = around_made ks from to a b order holds c.replace-seam.result.items c.copy_around.new.seam.items c.deref.result.now empty c.copy_around.ensures c.deref.ensures.value in
@@ -107,7 +107,7 @@ returns c =
     let to : ℕ = c.chunks_of-from.result.1 in
     let a : ℕ = c.args.change.start in
     let b : ℕ = c.args.change.«end» in
-    let order : a ≤ b = c.requires.allowed.0.0 in
+    let order : a ≤ b = c.requires.allowed.in_range.0 in
     let holds = c.chunks_of-from.ensures.holds in
     let empty = ap (λ v. length v.items) c.replace-seam.ensures.value ∙ c.args.self.now.no_seam in
     let made = around_made ks from to a b order holds c.replace-seam.result.items c.copy_around.new.seam.items c.deref.result.now empty c.copy_around.ensures c.deref.ensures.value in

@@ -1,22 +1,15 @@
 use Rattle.std.proofs.Common.{◌≡◌, ◌≤◌, ◌+◌, ℕ, List, List as Row, [], ap, arith, length, refl, subst, ◌∙◌}
 use Rattle.std.proofs.lemmas.List.{append-nil}
-use Rattle.std.proofs.lemmas.Result.{err_from_is_err_and}
-use Rattle.shtext.specs.Edit.{IsAllowed, Refuses, limit}
+use Rattle.shtext.specs.Edit.{AreAllowed, limit, one}
 use Rattle.shtext.specs.Chunks.{HasSums, joined, ends_of, lines_of}
 use Rattle.shtext.proofs.Moving.{sums_on_none}
 use Rattle.shtext.proofs.Summing.{sums_none}
 use Rattle.shtext.proofs.buffer.Buffer.from_slice.Goals as goal
 
-pub returns-in_err-allowed-clause-err : goal.returns-in_err-allowed-clause-err
-returns-in_err-allowed-clause-err c =
-    let is : Refuses [] 0 0 c.args.bytes.now c.in_err-allowed.field-0.0 = c.in_err-allowed.ensures.err [] c.args.bytes.now refl refl in
-    let p = err_from_is_err_and c.from_residual.result c.from_residual.ensures.1 in
-    rw (p.1, p.2) is
-
 pub add_up_anew-requires-clause-small : goal.add_up_anew-requires-clause-small
 add_up_anew-requires-clause-small c =
-    let is : IsAllowed [] 0 0 c.args.bytes.now = c.in_ok-allowed.ensures.ok [] c.args.bytes.now refl refl in
-    let small : length c.args.bytes.now ≤ limit = rw (append-nil c.args.bytes.now) at is.1 in
+    let is : AreAllowed [] (one 0 0 c.args.bytes.now) = c.in_ok-may_be_text.ensures.ok in
+    let small : length c.args.bytes.now ≤ limit = rw (append-nil c.args.bytes.now) at is.small in
     let same = ap (λ ks. length (joined ks)) c.deref.ensures.value ∙ ap length c.in_ok-chunks.ensures.bytes in
     omega (arith, small, same)
 
@@ -34,8 +27,8 @@ add_up_anew-requires-clause-lines_on c = sums_on_none lines_of c.deref.result.no
 
 pub invariant_of-result : goal.invariant_of-result
 invariant_of-result c =
-    let is : IsAllowed [] 0 0 c.args.bytes.now = c.in_ok-allowed.ensures.ok [] c.args.bytes.now refl refl in
-    let small : length c.args.bytes.now ≤ limit = rw (append-nil c.args.bytes.now) at is.1 in
+    let is : AreAllowed [] (one 0 0 c.args.bytes.now) = c.in_ok-may_be_text.ensures.ok in
+    let small : length c.args.bytes.now ≤ limit = rw (append-nil c.args.bytes.now) at is.small in
     let value : c.deref.result.now ≡ c.in_ok-chunks.chunks.items = c.deref.ensures.value in
     let count = ap length value in
     record {
