@@ -4,7 +4,7 @@ ghost use Rattle.shast.specs.Nodes.{AreWithin, nodes_at, outline};
 ghost use Rattle.shgrammar.specs.declared.edition.Edition.{Edition};
 ghost use Rattle.shgrammar.specs.Lines.{AKind};
 ghost use Rattle.shgrammar.specs.Scripts.{FirstFault, Outcome};
-ghost use Rattle.shtext.specs.Edit.{IsInRange, edited};
+ghost use Rattle.shtext.specs.Edit.{ASplice, AreInRange, Rise, edited, first_begin};
 ghost use Rattle.shwindow.specs.Lines.{IsRow, Reads, extent};
 ghost use Rattle.shwindow.specs.declared.line.HeldLine.{HeldLine};
 ghost use Rattle.shheld.specs.TopLines.{HasWindow, IsTopLine, script_of};
@@ -16,16 +16,16 @@ pub fn top_lines()
     ensures { (edition : Edition) → Reads (IsTopLine edition) }
 {}
 
-/// Each edit of any bytes has a window, and only one. If the edit lies in the bytes, the window begins at or
-/// before the edited place, and ends within the edited bytes, at its begin or behind that.
+/// Each edit of any bytes has a window, and only one. If its splices lie in the bytes and rise, the window
+/// begins at or before the first of them, and ends within the edited bytes, at its begin or behind that.
 pub fn windows()
-    ensures some { (edition : Edition) (bytes : List ℕ) (a b : ℕ) (new : List ℕ) →
-        (w t : ℕ) × HasWindow edition bytes a b new w t }
-    ensures only { (edition : Edition) (bytes : List ℕ) (a b : ℕ) (new : List ℕ) (w v t u : ℕ) →
-        HasWindow edition bytes a b new w t → HasWindow edition bytes a b new v u → (w ≡ v) × (t ≡ u) }
-    ensures order { (edition : Edition) (bytes : List ℕ) (a b : ℕ) (new : List ℕ) (w t : ℕ) →
-        IsInRange bytes a b → HasWindow edition bytes a b new w t →
-        (w ≤ a) × (w ≤ t) × (t ≤ length (edited bytes a b new)) }
+    ensures some { (edition : Edition) (bytes : List ℕ) (ss : Row ASplice) →
+        (w t : ℕ) × HasWindow edition bytes ss w t }
+    ensures only { (edition : Edition) (bytes : List ℕ) (ss : Row ASplice) (w v t u : ℕ) →
+        HasWindow edition bytes ss w t → HasWindow edition bytes ss v u → (w ≡ v) × (t ≡ u) }
+    ensures order { (edition : Edition) (bytes : List ℕ) (ss : Row ASplice) (w t : ℕ) →
+        AreInRange (length bytes) ss → Rise ss → HasWindow edition bytes ss w t →
+        (w ≤ first_begin ss) × (w ≤ t) × (t ≤ length (edited bytes ss)) }
 {}
 
 /// Bytes have a row of lines under each edition. What is read of them is the script of that row, whose

@@ -2,7 +2,7 @@
 use Rattle.std.specs.Prelude.{◌≡◌, ℕ, ◌+◌, ◌-◌, ◌≤◌, true, List, [], ◌∷◌, ◌++◌, List as Row, drop, length}
 use Rattle.shwindow.specs.declared.line.HeldLine.{HeldLine}
 use Rattle.shwindow.specs.Lines.{IsBoundary, IsRow, extent}
-use Rattle.shtext.specs.Edit.{edited}
+use Rattle.shtext.specs.Edit.{ASplice, AreInRange, Rise, edited, first_begin, last_end, new_end}
 use Rattle.shwindow.specs.Window.{Apart, Begins, IsShared, IsWindow}
 use Rattle.shwindow.specs.Blocks.{in_one_row}
 
@@ -38,9 +38,10 @@ module _ {K : Type 0} (Is : List ℕ → HeldLine K → Type 0) where
   abbrev pub WindowOrder : Type 0
   WindowOrder = (B U : List ℕ) (a e b w t : ℕ) → Apart B U a e b → IsWindow Is B U a e b w t → (w ≤ t) × (t ≤ length U)
 
-  -- one replacement is such an edit
+  -- splices that rise are such an edit, from where the first begins to where the last ends
   abbrev pub Splices : Type 0
-  Splices = (B : List ℕ) (a b : ℕ) (R : List ℕ) → a ≤ b → b ≤ length B → Apart B (edited B a b R) a (a + length R) b
+  Splices = (B : List ℕ) (ss : Row ASplice) → AreInRange (length B) ss → Rise ss
+      → Apart B (edited B ss) (first_begin ss) (new_end ss) (last_end ss)
 
   -- in blocks, a line begins where the blocks before it end
   abbrev pub BlocksFind : Type 0

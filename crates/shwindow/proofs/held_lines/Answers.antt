@@ -4,7 +4,7 @@ use Rattle.shwindow.proofs.Boundaries.{boundary_stays, line_stays}
 use Rattle.shwindow.proofs.Joined.{block_begins}
 use Rattle.shwindow.proofs.Rows.{row_extent, row_only}
 use Rattle.shwindow.proofs.SomeWindow.{some_window}
-use Rattle.shwindow.proofs.Splices.{splice_apart}
+use Rattle.shwindow.proofs.Splices.{splices_apart}
 use Rattle.shwindow.proofs.Windows.{front_stays, shared_rows, shared_text, window_only, window_order}
 use Rattle.shwindow.proofs.held_lines.Goals as goal
 
@@ -20,6 +20,6 @@ returns g c = record {
   window = λ line laws B U a e b w v t u x y. window_only (IsLineOf line) B U a e b w v t u x y;
   some = λ line laws B U a e b. some_window (IsLineOf line) laws (λ T. (line T, refl)) B U a e b;
   order = λ line laws B U a e b w t apart x. window_order (IsLineOf line) laws B U a e b apart w t x;
-  splices = λ line laws B a b R order within. splice_apart B a b R order within;
+  splices = λ line laws B ss range rising. splices_apart B ss range rising;
   blocks = λ line laws T js k ks some row. block_begins (IsLineOf line) laws T js k ks some row;
 }
