@@ -1,11 +1,11 @@
 -- After any list of edits.
-use Rattle.std.proofs.Common.{◌≡◌, ℕ, ◌+◌, ◌-◌, ◌<◌, ◌≤◌, ◌^◌, List, List as Row, [], ◌∷◌, Option, Result, Ok, Err, sym, ap, subst, refl, ◌∙◌, arith, length}
+use Rattle.std.proofs.Common.{◌≡◌, ℕ, ◌+◌, ◌-◌, ◌<◌, ◌≤◌, ◌^◌, List, List as Row, [], ◌∷◌, Option, Result, Ok, Err, sym, ap, subst, refl, ◌∙◌, arith}
 use Rattle.shast.specs.declared.node.NodeLine.{NodeLine}
 use Rattle.shgrammar.specs.Scripts.{FirstFault}
 use Rattle.shgrammar.specs.declared.edition.Edition.{Edition}
 use Rattle.shgrammar.specs.declared.fault.Fault.{Fault}
 use Rattle.shheld.specs.TopLines.{IsTopLine}
-use Rattle.shtext.specs.Edit.{edited}
+use Rattle.shtext.specs.Edit.{ASplice, edited, first_begin, last_end, new_end}
 use Rattle.shtext.specs.Meter.{raised}
 use Rattle.shwindow.proofs.Windows.{window_only}
 use Rattle.shheld.proofs.Windows.{some}
@@ -13,17 +13,17 @@ use Rattle.shlive.specs.Answers.{HasNodesAt, HasOutline, HasStatus, HasText}
 use Rattle.shlive.specs.Edits.{AreRead, AreReadBy, IsAfter, IsAfterBy, Tried, bytes_after, bytes_by, none_tried, one_tried}
 use Rattle.shlive.specs.Held.{Held, How}
 use Rattle.shlive.specs.declared.error.LiveError.{LiveError}
-use Rattle.shlive.specs.declared.error.LiveError.TheVariants.{Range, TooLarge, Memory}
+use Rattle.shlive.specs.declared.error.LiveError.TheVariants.{Range, TooLarge, Memory, Order}
 use Rattle.shlive.proofs.OneAnswer.{one_fault, one_outline, one_row_of_nodes, one_status, one_text}
 
 -- ---- one edit
 
-module _ (before : Held) (a b : ℕ) (new : List ℕ) (after : Held) where
-  bytes_one : (r : Result (Unit {0}) LiveError) → IsAfterBy r before a b new after → after.bytes ≡ bytes_by r before.bytes a b new
+module _ (before : Held) (ss : Row ASplice) (after : Held) where
+  bytes_one : (r : Result (Unit {0}) LiveError) → IsAfterBy r before ss after → after.bytes ≡ bytes_by r before.bytes ss
   bytes_one (Ok made) is = is.bytes
   bytes_one (Err error) is = is.bytes
 
-  how_one : (r : Result (Unit {0}) LiveError) → IsAfterBy r before a b new after → after.how ≡ before.how
+  how_one : (r : Result (Unit {0}) LiveError) → IsAfterBy r before ss after → after.how ≡ before.how
   how_one (Ok made) is = is.how
   how_one (Err error) is = is.how
 
@@ -34,10 +34,10 @@ module _ (before : Held) (a b : ℕ) (new : List ℕ) (after : Held) where
   none_read : (least most : ℕ) → before.meter < 2 ^ 64 → after.meter ≡ before.meter → (least ≡ 0) × (most ≡ 0) → Rose least most
   none_read least most low same (none, nor) = (omega (arith, low, same, none), omega (arith, low, same, nor))
 
-  rose_one : (r : Result (Unit {0}) LiveError) (least most : ℕ) → before.meter < 2 ^ 64 → IsAfterBy r before a b new after
-      → AreReadBy r before.how.edition before.bytes a b new least most → Rose least most
+  rose_one : (r : Result (Unit {0}) LiveError) (least most : ℕ) → before.meter < 2 ^ 64 → IsAfterBy r before ss after
+      → AreReadBy r before.how.edition before.bytes ss least most → Rose least most
   rose_one (Ok made) least most low is (w, t, window, l, m) =
-      let one = window_only (IsTopLine before.how.edition) before.bytes (edited before.bytes a b new) a (a + length new) b is.read.0 w is.read.1 t is.read.2 window in
+      let one = window_only (IsTopLine before.how.edition) before.bytes (edited before.bytes ss) (first_begin ss) (new_end ss) (last_end ss) is.read.0 w is.read.1 t is.read.2 window in
       let read = is.read.3 in
       (omega (arith, one.0, one.1, read, l), omega (arith, one.0, one.1, read, m))
   rose_one (Err Memory) least most low is (w, t, window, l, m) =
@@ -45,17 +45,18 @@ module _ (before : Held) (a b : ℕ) (new : List ℕ) (after : Held) where
       (omega (arith, low, rose.0, l), omega (arith, low, rose.1, m))
   rose_one (Err Range) least most low is none = none_read least most low is.read none
   rose_one (Err TooLarge) least most low is none = none_read least most low is.read none
+  rose_one (Err Order) least most low is none = none_read least most low is.read none
 
 -- ---- all of them
 
 pub all_bytes : (before after : Held) (es : Row Tried) → IsAfter before es after → after.bytes ≡ bytes_after before.bytes es
 all_bytes before after [] is = ap (λ (h : Held). h.bytes) is
 all_bytes before after (e ∷ es) (mid, one, rest) =
-    all_bytes mid after es rest ∙ ap (λ B. bytes_after B es) (bytes_one before e.a e.b e.new mid e.result one)
+    all_bytes mid after es rest ∙ ap (λ B. bytes_after B es) (bytes_one before e.splices mid e.result one)
 
 pub all_how : (before after : Held) (es : Row Tried) → IsAfter before es after → after.how ≡ before.how
 all_how before after [] is = ap (λ (h : Held). h.how) is
-all_how before after (e ∷ es) (mid, one, rest) = all_how mid after es rest ∙ how_one before e.a e.b e.new mid e.result one
+all_how before after (e ∷ es) (mid, one, rest) = all_how mid after es rest ∙ how_one before e.splices mid e.result one
 
 both_rose : (x y z l n m k : ℕ) → x < 2 ^ 64 → raised x l ≤ y → y ≤ raised x m → raised y n ≤ z → z ≤ raised y k
     → (raised x (l + n) ≤ z) × (z ≤ raised x (m + k))
@@ -65,28 +66,29 @@ pub all_rose : (before after : Held) (es : Row Tried) (least most : ℕ) → bef
     → AreRead before.how.edition before.bytes es least most → (raised before.meter least ≤ after.meter) × (after.meter ≤ raised before.meter most)
 all_rose before after [] _ _ low is none_tried = let same = ap (λ (h : Held). h.meter) is in (omega (arith, low, same), omega (arith, low, same))
 all_rose before after (e ∷ es) _ _ low (mid, one, rest) (one_tried l m n k by more) =
-    let rose = rose_one before e.a e.b e.new mid e.result l m low one by in
+    let rose = rose_one before e.splices mid e.result l m low one by in
     let small : mid.meter < 2 ^ 64 = omega (arith, low, rose.1) in
-    let from = subst (λ (h : How). AreRead h.edition (bytes_by e.result before.bytes e.a e.b e.new) es n k) (sym (how_one before e.a e.b e.new mid e.result one)) more in
-    let on = subst (λ B. AreRead mid.how.edition B es n k) (sym (bytes_one before e.a e.b e.new mid e.result one)) from in
+    let from = subst (λ (h : How). AreRead h.edition (bytes_by e.result before.bytes e.splices) es n k) (sym (how_one before e.splices mid e.result one)) more in
+    let on = subst (λ B. AreRead mid.how.edition B es n k) (sym (bytes_one before e.splices mid e.result one)) from in
     let behind = all_rose mid after es n k small rest on in
     both_rose before.meter mid.meter after.meter l n m k low rose.0 rose.1 behind.0 behind.1
 
 -- the sums are there, as each edit has a window
-sums_one : (r : Result (Unit {0}) LiveError) (edition : Edition) (bytes : List ℕ) (a b : ℕ) (new : List ℕ)
-    → (least most : ℕ) × AreReadBy r edition bytes a b new least most
-sums_one (Ok made) edition bytes a b new =
-    let w = some edition bytes a b new in (w.1 - w.0, w.1 - w.0, (w.0, w.1, w.2, refl, refl))
-sums_one (Err Memory) edition bytes a b new =
-    let w = some edition bytes a b new in (0, w.1 - w.0, (w.0, w.1, w.2, refl, refl))
-sums_one (Err Range) edition bytes a b new = (0, 0, (refl, refl))
-sums_one (Err TooLarge) edition bytes a b new = (0, 0, (refl, refl))
+sums_one : (r : Result (Unit {0}) LiveError) (edition : Edition) (bytes : List ℕ) (ss : Row ASplice)
+    → (least most : ℕ) × AreReadBy r edition bytes ss least most
+sums_one (Ok made) edition bytes ss =
+    let w = some edition bytes ss in (w.1 - w.0, w.1 - w.0, (w.0, w.1, w.2, refl, refl))
+sums_one (Err Memory) edition bytes ss =
+    let w = some edition bytes ss in (0, w.1 - w.0, (w.0, w.1, w.2, refl, refl))
+sums_one (Err Range) edition bytes ss = (0, 0, (refl, refl))
+sums_one (Err TooLarge) edition bytes ss = (0, 0, (refl, refl))
+sums_one (Err Order) edition bytes ss = (0, 0, (refl, refl))
 
 pub all_sums : (edition : Edition) (bytes : List ℕ) (es : Row Tried) → (least most : ℕ) × AreRead edition bytes es least most
 all_sums edition bytes [] = (0, 0, none_tried)
 all_sums edition bytes (e ∷ es) =
-    let one = sums_one e.result edition bytes e.a e.b e.new in
-    let more = all_sums edition (bytes_by e.result bytes e.a e.b e.new) es in
+    let one = sums_one e.result edition bytes e.splices in
+    let more = all_sums edition (bytes_by e.result bytes e.splices) es in
     (one.0 + more.0, one.1 + more.1, one_tried one.0 one.1 more.0 more.1 one.2 more.2)
 
 -- ---- answers

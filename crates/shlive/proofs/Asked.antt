@@ -1,17 +1,19 @@
 -- What the bytes of a request spell.
-use Rattle.std.proofs.Common.{◌≡◌, ℕ, ◌+◌, ◌-◌, ◌<◌, Bool, false, true, List, [], ◌∷◌, ◌++◌, Option, None, Some, length, take, drop, refl, sym, ap, ◌∙◌, arith, append_assoc, append-nil, length-append, subst, Result, Ok, Err, OnOk, IfErr}
+use Rattle.std.proofs.Common.{◌≡◌, ℕ, zero, suc, ◌+◌, ◌-◌, ◌<◌, Bool, false, true, List, [], ◌∷◌, ◌++◌, List as Row, Option, None, Some, length, take, drop, refl, sym, ap, ◌∙◌, arith, append_assoc, append-nil, length-append, subst, Result, Ok, Err, OnOk, IfErr}
 use Rattle.std.proofs.lemmas.List.{drop_all}
 use Rattle.std.proofs.Math.Seq.{drop-append_seam, take-append_seam}
 use Rattle.std.specs.Io.KnownBytes.{Appends}
 use Rattle.shlive.specs.Held.{Held}
 use Rattle.shlive.specs.Ahead.{Ahead, StopsBy, Takes}
 use Rattle.shlive.specs.Lines.{IsInLine}
-use Rattle.shlive.specs.Requests.{EndsBy, Request, asks, clean, cut, edit, edit_by, first_line, next_by_line, next_by_order, next_of, nothing, order_of_line, spoiled, unfinished}
-use Rattle.shlive.specs.Turns.{EndsAs, NoFurther, Replied, Sense, Spells, Stays, Tells, end_between, end_inside}
+use Rattle.shtext.specs.Edit.{ASplice}
+use Rattle.shlive.specs.Requests.{EndsBy, Request, Sense, asks, behind_bytes, clean, cut, edit, edit_alone, first_line, flawed, more_parts, next_by_line, next_by_order, next_of, nothing, order_of_line, part_by_line, splice_by, unfinished, with_bytes}
+use Rattle.shlive.specs.Turns.{EndsAs, NoFurther, Replied, Spells, Stays, Tells, end_between, end_inside}
 use Rattle.shlive.specs.declared.incoming.Stop.{Stop}
 use Rattle.shlive.specs.declared.incoming.Stop.TheVariants as stops
 use Rattle.shlive.specs.declared.order.Order.{Order}
-use Rattle.shlive.specs.declared.order.Order.TheVariants.{Edit}
+use Rattle.shlive.specs.declared.order.Part.{Part}
+use Rattle.shlive.specs.declared.parts.Flaw.TheVariants.{NoPayload}
 use Rattle.shlive.specs.declared.serve.End.{End}
 use Rattle.shlive.specs.declared.serve.End.TheVariants.{Clean, Quit, Cut, Unreadable, TooLong, Unwritable}
 use Rattle.shlive.proofs.InLine.{line_ends, line_open}
@@ -27,38 +29,50 @@ pub line_cut : (text : List ℕ) → IsInLine text → 0 < length text → next_
 line_cut [] p some = absurd (omega (arith, some))
 line_cut (c ∷ text) p some = ap next_by_line (line_open (c ∷ text) p)
 
--- ---- the bytes that an edit brings
+-- ---- the bytes of a splice
 
-module _ (a b : ℕ) (bytes : List ℕ) where
-  seam : (more : List ℕ) → next_by_order (Some (Edit a b (length bytes))) (bytes ++ more) ≡ edit_by a b bytes (first_line more)
-  seam more =
-      ap (λ l. edit_by a b l (first_line (drop (length bytes) (bytes ++ more)))) (take-append_seam bytes more)
-      ∙ ap (λ l. edit_by a b bytes (first_line l)) (drop-append_seam bytes more)
+module _ (part : Part) (next : ASplice → Sense) (bytes : List ℕ) where
+  seam : (more : List ℕ) → length bytes ≡ part.count → with_bytes part next (bytes ++ more) ≡ behind_bytes (next (splice_by part bytes)) (first_line more)
+  seam more all =
+      ap (λ n. behind_bytes (next (splice_by part (take n (bytes ++ more)))) (first_line (drop n (bytes ++ more)))) (sym all)
+      ∙ ap (λ l. behind_bytes (next (splice_by part l)) (first_line (drop (length bytes) (bytes ++ more)))) (take-append_seam bytes more)
+      ∙ ap (λ l. behind_bytes (next (splice_by part bytes)) (first_line l)) (drop-append_seam bytes more)
 
-  pub edit_whole : (count : ℕ) (text rest : List ℕ) → length bytes ≡ count → IsInLine text
-      → next_by_order (Some (Edit a b count)) ((bytes ++ (text ++ 10 ∷ [])) ++ rest) ≡ edit_by a b bytes (Some (text, rest))
-  edit_whole count text rest all p =
-      ap (λ n. next_by_order (Some (Edit a b n)) ((bytes ++ (text ++ 10 ∷ [])) ++ rest)) (sym all)
-      ∙ ap (next_by_order (Some (Edit a b (length bytes)))) (append_assoc bytes (text ++ 10 ∷ []) rest)
-      ∙ seam ((text ++ 10 ∷ []) ++ rest) ∙ ap (edit_by a b bytes) (line_ends text rest p)
+  pub bytes_whole : (text rest : List ℕ) → length bytes ≡ part.count → IsInLine text
+      → with_bytes part next ((bytes ++ (text ++ 10 ∷ [])) ++ rest) ≡ behind_bytes (next (splice_by part bytes)) (Some (text, rest))
+  bytes_whole text rest all p =
+      ap (with_bytes part next) (append_assoc bytes (text ++ 10 ∷ []) rest)
+      ∙ seam ((text ++ 10 ∷ []) ++ rest) all ∙ ap (behind_bytes (next (splice_by part bytes))) (line_ends text rest p)
 
-  pub edit_cut_bytes : (count : ℕ) → length bytes < count → next_by_order (Some (Edit a b count)) bytes ≡ unfinished
-  edit_cut_bytes count few = ap (λ l. edit_by a b (take count bytes) (first_line l)) (drop_all count bytes (omega (arith, few)))
+  pub bytes_cut : length bytes < part.count → with_bytes part next bytes ≡ unfinished
+  bytes_cut few =
+      ap (λ l. behind_bytes (next (splice_by part (take part.count bytes))) (first_line l)) (drop_all part.count bytes (omega (arith, few)))
 
-  pub edit_cut_line : (count : ℕ) (text : List ℕ) → length bytes ≡ count → IsInLine text → next_by_order (Some (Edit a b count)) (bytes ++ text) ≡ unfinished
-  edit_cut_line count text all p =
-      ap (λ n. next_by_order (Some (Edit a b n)) (bytes ++ text)) (sym all) ∙ seam text ∙ ap (edit_by a b bytes) (line_open text p)
+  pub bytes_cut_line : (text : List ℕ) → length bytes ≡ part.count → IsInLine text → with_bytes part next (bytes ++ text) ≡ unfinished
+  bytes_cut_line text all p = seam text all ∙ ap (behind_bytes (next (splice_by part bytes))) (line_open text p)
 
-  pub edit_asks : (text rest : List ℕ) → text ≡ [] → edit_by a b bytes (Some (text, rest)) ≡ asks (edit a b bytes) rest
-  edit_asks text rest none = ap (λ l. edit_by a b bytes (Some (l, rest))) none
+pub behind_none : (next : Sense) (text rest : List ℕ) → text ≡ [] → behind_bytes next (Some (text, rest)) ≡ next rest
+behind_none next text rest none = ap (λ l. behind_bytes next (Some (l, rest))) none
 
-  pub spoiled_asks : (text rest : List ℕ) → (text ≡ [] → ⊥) → edit_by a b bytes (Some (text, rest)) ≡ asks spoiled rest
-  spoiled_asks [] rest some = absurd (some refl)
-  spoiled_asks (c ∷ text) rest some = refl
+pub behind_some : (next : Sense) (text rest : List ℕ) → (text ≡ [] → ⊥) → behind_bytes next (Some (text, rest)) ≡ asks (flawed NoPayload) rest
+behind_some next [] rest some = absurd (some refl)
+behind_some next (c ∷ text) rest some = refl
 
-pub edit_begins : (a b count : ℕ) → next_by_order (Some (Edit a b count)) [] ≡ nothing → ⊥
-edit_begins a b count e =
-    let cut : next_by_order (Some (Edit a b count)) [] ≡ unfinished = ap (λ l. edit_by a b (take count []) (first_line l)) (drop_all count [] (omega arith)) in
+-- ---- parts
+
+-- where one more is to come
+pub parts_on : (left : ℕ) (ss : Row ASplice) (rest : List ℕ) → 0 < left
+    → more_parts left ss rest ≡ part_by_line (λ s. more_parts (left - 1) (ss ++ s ∷ [])) (first_line rest)
+parts_on zero ss rest none = absurd (omega (arith, none))
+parts_on (suc n) ss rest more = let less : n ≡ suc n - 1 = omega arith in ap (λ m. part_by_line (λ s. more_parts m (ss ++ s ∷ [])) (first_line rest)) less
+
+pub parts_begin : (count : ℕ) (ss : Row ASplice) → more_parts count ss [] ≡ nothing → ⊥
+parts_begin zero ss e = let wrong : asks (edit ss) [] ≡ nothing = e in absurd cc
+parts_begin (suc n) ss e = let wrong : unfinished ≡ nothing = e in absurd cc
+
+pub edit_begins : (part : Part) → with_bytes part edit_alone [] ≡ nothing → ⊥
+edit_begins part e =
+    let cut : with_bytes part edit_alone [] ≡ unfinished = ap (λ l. behind_bytes (edit_alone (splice_by part (take part.count []))) (first_line l)) (drop_all part.count [] (omega arith)) in
     let wrong : unfinished ≡ nothing = sym cut ∙ e in absurd cc
 
 -- what waited was taken, where nothing waits any more

@@ -8,6 +8,7 @@ pub mod Passed
 pub mod Words
 pub mod Numbers
 pub mod Taken
+pub mod Came
 pub mod InLine
 pub mod Written
 pub mod Asked

@@ -1,8 +1,10 @@
 -- An input spells one list of requests.
-use Rattle.std.proofs.Common.{◌≡◌, ℕ, zero, suc, ◌<◌, ◌≤◌, Bool, true, false, cond, List, [], ◌∷◌, ◌++◌, Option, None, Some, length, take, drop, refl, sym, ap, ◌∙◌, arith, append_assoc, append-nil, length-drop, subst}
+use Rattle.std.proofs.Common.{◌≡◌, ℕ, zero, suc, ◌<◌, ◌≤◌, Bool, true, false, cond, List, [], ◌∷◌, ◌++◌, List as Row, Option, None, Some, length, take, drop, refl, sym, ap, ◌∙◌, arith, append_assoc, append-nil, length-drop, subst}
 use Rattle.shtext.specs.Text.{is_newline}
-use Rattle.shlive.specs.Requests.{Begins, Ending, EndsBy, Lined, Next, Request, Requests, asks, behind, clean, cut, edit_by, first_line, leaves, left, next_by_line, next_by_order, next_of, none_yet, nothing, one_more, order_of_line, unfinished}
+use Rattle.shtext.specs.Edit.{ASplice}
+use Rattle.shlive.specs.Requests.{Begins, Ending, EndsBy, Lined, Next, Request, Requests, Sense, asks, behind, behind_bytes, clean, cut, edit_alone, first_line, leaves, left, more_parts, next_by_line, next_by_order, next_by_part, next_of, none_yet, nothing, one_more, order_of_line, part_by_line, part_of_line, splice_by, unfinished, with_bytes}
 use Rattle.shlive.specs.declared.order.Order.{Order}
+use Rattle.shlive.specs.declared.order.Part.{Part}
 use Rattle.shlive.specs.declared.order.Order.TheVariants as orders
 
 -- ---- what follows a request is shorter
@@ -31,15 +33,37 @@ Leaves n unfinished = Unit {0}
 Leaves n leaves = Unit {0}
 Leaves n (asks request rest) = length rest < n
 
-leaves_edit : (a b : ℕ) (new text : List ℕ) (l : Lined) (n : ℕ) → Shorter text l → length text < n → Leaves n (edit_by a b new l)
-leaves_edit a b new text None n p low = tt
-leaves_edit a b new text (Some ([], rest)) n p low = omega (arith, p, low)
-leaves_edit a b new text (Some (c ∷ line, rest)) n p low = omega (arith, p, low)
+-- where what it goes on with does
+abbrev GoesOn : ℕ → Sense → Type 0
+GoesOn n next = (rest : List ℕ) → length rest < n → Leaves n (next rest)
+
+leaves_behind : (next : Sense) (text : List ℕ) (l : Lined) (n : ℕ) → Shorter text l → length text < n → GoesOn n next → Leaves n (behind_bytes next l)
+leaves_behind next text None n p low on = tt
+leaves_behind next text (Some ([], rest)) n p low on = on rest (omega (arith, p, low))
+leaves_behind next text (Some (c ∷ line, rest)) n p low on = omega (arith, p, low)
+
+leaves_bytes : (part : Part) (next : ASplice → Sense) (rest : List ℕ) (n : ℕ) → length rest < n → ((s : ASplice) → GoesOn n (next s)) → Leaves n (with_bytes part next rest)
+leaves_bytes part next rest n low on =
+    let less = length-drop part.count rest in
+    let behind : List ℕ = drop part.count rest in
+    leaves_behind (next (splice_by part (take part.count rest))) behind (first_line behind) n (line_shorter behind) (omega (arith, less, low)) (on _)
+
+leaves_part : (part : Option Part) (next : ASplice → Sense) (rest : List ℕ) (n : ℕ) → length rest < n → ((s : ASplice) → GoesOn n (next s)) → Leaves n (next_by_part part next rest)
+leaves_part None next rest n low on = low
+leaves_part (Some part) next rest n low on = leaves_bytes part next rest n low on
+
+leaves_part_line : (next : ASplice → Sense) (text : List ℕ) (l : Lined) (n : ℕ) → Shorter text l → length text < n → ((s : ASplice) → GoesOn n (next s)) → Leaves n (part_by_line next l)
+leaves_part_line next text None n p low on = tt
+leaves_part_line next text (Some (line, rest)) n p low on = leaves_part (part_of_line line) next rest n (omega (arith, p, low)) on
+
+leaves_parts : (count : ℕ) (ss : Row ASplice) (n : ℕ) → GoesOn n (more_parts count ss)
+leaves_parts zero ss n rest low = low
+leaves_parts (suc count) ss n rest low =
+    leaves_part_line (λ s. more_parts count (ss ++ s ∷ [])) rest (first_line rest) n (line_shorter rest) low (λ s. leaves_parts count (ss ++ s ∷ []) n)
 
 leaves_order : (order : Option Order) (rest : List ℕ) (n : ℕ) → length rest < n → Leaves n (next_by_order order rest)
-leaves_order (Some (orders.Edit a b count)) rest n low =
-    let less = length-drop count rest in
-    leaves_edit a b (take count rest) (drop count rest) (first_line (drop count rest)) n (line_shorter (drop count rest)) (omega (arith, less, low))
+leaves_order (Some (orders.Edit part)) rest n low = leaves_bytes part edit_alone rest n low (λ s r less. less)
+leaves_order (Some (orders.Batch count)) rest n low = leaves_parts count [] n rest low
 leaves_order (Some (orders.Ask question)) rest n low = low
 leaves_order (Some orders.Quit) rest n low = tt
 leaves_order None rest n low = low

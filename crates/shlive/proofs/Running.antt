@@ -7,7 +7,7 @@ use Rattle.shlive.specs.Held.{Held}
 use Rattle.shlive.specs.Ahead.{Ahead, Takes, too_many}
 use Rattle.shlive.specs.Replies.{Step}
 use Rattle.shlive.specs.Replies as of_replies
-use Rattle.shlive.specs.Requests.{Begins, Ending, EndsBy, Request, asks, clean, cut, edit, spoiled, outline, at, fault, print, unknown, left, next_of}
+use Rattle.shlive.specs.Requests.{Begins, Ending, EndsBy, Request, asks, clean, cut, edit, flawed, outline, at, fault, print, unknown, left, next_of}
 use Rattle.shlive.specs.Requests as of_requests
 use Rattle.shlive.specs.Runs.{Answered, Ended, Finishes, HasAnswer, IsRun}
 use Rattle.shlive.specs.Turns.{EndsAs, Replied, Spells}
@@ -18,9 +18,9 @@ use Rattle.shlive.proofs.Taken.{takes_both}
 
 -- a request leaves how a session reads and prints
 pub step_how : (before after : Held) (request : Request) (reply : List ℕ) → Step before request reply after → after.how ≡ before.how
-step_how before after (edit a b new) reply step =
-    ⊎_elim (λ made. made.0.how) (λ (left : (error : LiveError) × IsNotMade before a b new error after × (reply ≡ of_replies.refusal_text error)). left.1.how) step
-step_how before after spoiled reply step = ap (λ (h : Held). h.how) step.1
+step_how before after (edit ss) reply step =
+    ⊎_elim (λ made. made.0.how) (λ (left : (error : LiveError) × IsNotMade before ss error after × (reply ≡ of_replies.refusal_text error)). left.1.how) step
+step_how before after (flawed flaw) reply step = ap (λ (h : Held). h.how) step.1
 step_how before after outline reply step = ap (λ (h : Held). h.how) step.1
 step_how before after (at p) reply step = ap (λ (h : Held). h.how) step.1
 step_how before after fault reply step = ap (λ (h : Held). h.how) step.1

@@ -1,8 +1,7 @@
 -- The words of a line, found from left to right.
-use Rattle.std.proofs.Common.{◌≡◌, ℕ, ◌+◌, ◌<◌, ◌≤◌, ◌==◌, cond, Bool, true, false, List, [], ◌∷◌, ◌++◌, length, take, drop, get_or, refl, sym, ap, ◌∙◌, append_assoc, append-nil, add-one, drop-cons, None, codes}
+use Rattle.std.proofs.Common.{◌≡◌, ℕ, ◌+◌, ◌<◌, ◌≤◌, ◌==◌, cond, Bool, true, false, List, [], ◌∷◌, ◌++◌, length, take, drop, get_or, refl, sym, ap, ◌∙◌, append_assoc, append-nil, add-one, drop-cons, None}
 use Rattle.std.proofs.lemmas.List.{take_more, take_all, drop_all}
-use Rattle.std.specs.Str.{bytes_eq}
-use Rattle.shlive.specs.Orders.{before, order_of_words, words}
+use Rattle.shlive.specs.Orders.{before, named, number_alone, order_of_words, part_of_words, words}
 
 before_nothing : (ws : List (List ℕ)) → before [] (before [] ws) ≡ before [] ws
 before_nothing [] = refl
@@ -46,28 +45,23 @@ no_cut line at end =
 
 -- ---- words too many
 
-at_more : (p : List ℕ) (ws : List (List ℕ)) → order_of_words (codes "at" ∷ p ∷ before [] ws) ≡ None
-at_more p [] = refl
-at_more p (w ∷ []) = refl
-at_more p (w ∷ v ∷ []) = refl
-at_more p (w ∷ v ∷ u ∷ us) = refl
+alone_more : (p : List ℕ) (ws : List (List ℕ)) → number_alone (p ∷ before [] ws) ≡ None
+alone_more p [] = refl
+alone_more p (w ∷ ws) = refl
 
-pub at_too_many : (p line : List ℕ) → order_of_words (codes "at" ∷ p ∷ words line) ≡ None
-at_too_many p line = rw (from_start line) (at_more p (words line))
+pub not_alone : (p line : List ℕ) → number_alone (p ∷ words line) ≡ None
+not_alone p line = rw (from_start line) (alone_more p (words line))
 
-edit_more : (a b n : List ℕ) (ws : List (List ℕ)) → order_of_words (codes "edit" ∷ a ∷ b ∷ n ∷ before [] ws) ≡ None
-edit_more a b n [] = refl
-edit_more a b n (w ∷ ws) = refl
+part_more : (a b n : List ℕ) (ws : List (List ℕ)) → part_of_words (a ∷ b ∷ n ∷ before [] ws) ≡ None
+part_more a b n [] = refl
+part_more a b n (w ∷ ws) = refl
 
-pub edit_too_many : (a b n line : List ℕ) → order_of_words (codes "edit" ∷ a ∷ b ∷ n ∷ words line) ≡ None
-edit_too_many a b n line = rw (from_start line) (edit_more a b n (words line))
+pub part_too_many : (a b n line : List ℕ) → part_of_words (a ∷ b ∷ n ∷ words line) ≡ None
+part_too_many a b n line = rw (from_start line) (part_more a b n (words line))
 
-other_words : (name : List ℕ) (ws : List (List ℕ)) → bytes_eq name (codes "at") ≡ false → bytes_eq name (codes "edit") ≡ false → order_of_words (name ∷ before [] ws) ≡ None
-other_words name [] p q = rw p refl
-other_words name (w ∷ []) p q = rw p refl
-other_words name (w ∷ v ∷ []) p q = refl
-other_words name (w ∷ v ∷ u ∷ []) p q = rw q refl
-other_words name (w ∷ v ∷ u ∷ t ∷ ts) p q = refl
+named_more : (name : List ℕ) (ws : List (List ℕ)) → order_of_words (name ∷ before [] ws) ≡ named name (before [] ws)
+named_more name [] = refl
+named_more name (w ∷ ws) = refl
 
-pub other : (name line : List ℕ) → bytes_eq name (codes "at") ≡ false → bytes_eq name (codes "edit") ≡ false → order_of_words (name ∷ words line) ≡ None
-other name line p q = rw (from_start line) (other_words name (words line) p q)
+pub by_name : (name line : List ℕ) → order_of_words (name ∷ words line) ≡ named name (words line)
+by_name name line = rw (from_start line) (named_more name (words line))

@@ -1,17 +1,17 @@
 -- What a session answers for the bytes of a script: what reading them from scratch says.
-use Rattle.std.specs.Prelude.{◌≡◌, ℕ, List, Option, None, Some}
+use Rattle.std.specs.Prelude.{◌≡◌, ℕ, List, List as Row, Option, None, Some}
 use Rattle.shgrammar.specs.Scripts.{AScript, FirstFault, Outcome}
 use Rattle.shgrammar.specs.declared.edition.Edition.{Edition}
 use Rattle.shgrammar.specs.declared.fault.Fault.{Fault}
 use Rattle.shast.specs.Nodes.{nodes_at, outline}
 use Rattle.shast.specs.declared.node.NodeLine.{NodeLine}
-use Rattle.shtext.specs.Edit.{Refuses}
+use Rattle.shtext.specs.Edit.{ASplice, Refuses}
 use Rattle.shtext.specs.declared.error.TextError.{TextError}
 use Rattle.shtext.specs.declared.error.TextError.TheVariants as text_errors
 use Rattle.shprint.specs.ReadBack.{IsTextOf}
 use Rattle.shlive.specs.Held.{How}
 use Rattle.shlive.specs.declared.error.LiveError.{LiveError}
-use Rattle.shlive.specs.declared.error.LiveError.TheVariants.{Range, TooLarge, Memory}
+use Rattle.shlive.specs.declared.error.LiveError.TheVariants.{Range, TooLarge, Memory, Order}
 
 -- ---- answers
 
@@ -43,9 +43,11 @@ abbrev pub as_live : TextError → LiveError
 as_live text_errors.Range = Range
 as_live text_errors.TooLarge = TooLarge
 as_live text_errors.Memory = Memory
+as_live text_errors.Order = Order
 
 -- why an edit of the bytes is refused: as an edit of a text is
-abbrev pub IsRefused : List ℕ → ℕ → ℕ → List ℕ → LiveError → Type 0
-IsRefused bytes a b new Range = Refuses bytes a b new text_errors.Range
-IsRefused bytes a b new TooLarge = Refuses bytes a b new text_errors.TooLarge
-IsRefused bytes a b new Memory = Refuses bytes a b new text_errors.Memory
+abbrev pub IsRefused : List ℕ → Row ASplice → LiveError → Type 0
+IsRefused bytes ss Range = Refuses bytes ss text_errors.Range
+IsRefused bytes ss TooLarge = Refuses bytes ss text_errors.TooLarge
+IsRefused bytes ss Memory = Refuses bytes ss text_errors.Memory
+IsRefused bytes ss Order = Refuses bytes ss text_errors.Order

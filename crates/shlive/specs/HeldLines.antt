@@ -6,6 +6,7 @@ use Rattle.shgrammar.specs.declared.fault.Fault.{Fault}
 use Rattle.shgrammar.specs.Lines.{AKind, FaultWithin, entries_line, faulty_line}
 use Rattle.shread.specs.Answers.{meter_of}
 use Rattle.shread.specs.declared.reader.Reader.{Reader}
+use Rattle.shtext.specs.Edit.{ASplice}
 use Rattle.shtext.specs.Meter.{raised}
 use Rattle.shwindow.specs.Lines.{IsRow}
 use Rattle.shwindow.specs.Meter.{RoseWithin}
@@ -35,9 +36,11 @@ abbrev pub count_of : Reader → ℕ
 count_of reader = min (meter_of reader) (2 ^ 64 - 1)
 
 -- a meter rose by the length of the window of an edit
-abbrev pub HasReadWindow : Edition → List ℕ → ℕ → ℕ → List ℕ → ℕ → ℕ → Type 0
-HasReadWindow edition bytes a b new before meter = (w t : ℕ) × HasWindow edition bytes a b new w t × (meter ≡ raised before (t - w))
+abbrev pub HasReadWindow : Edition → List ℕ → Row ASplice → ℕ → ℕ → Type 0
+HasReadWindow edition bytes ss before meter =
+    (w t : ℕ) × HasWindow edition bytes ss w t × (meter ≡ raised before (t - w))
 
 -- or by no more
-abbrev pub HasReadNoMore : Edition → List ℕ → ℕ → ℕ → List ℕ → ℕ → ℕ → Type 0
-HasReadNoMore edition bytes a b new before meter = (w t : ℕ) → HasWindow edition bytes a b new w t → RoseWithin (t - w) before meter
+abbrev pub HasReadNoMore : Edition → List ℕ → Row ASplice → ℕ → ℕ → Type 0
+HasReadNoMore edition bytes ss before meter =
+    (w t : ℕ) → HasWindow edition bytes ss w t → RoseWithin (t - w) before meter

@@ -14,4 +14,5 @@ pub mod Payload
 pub mod Edits
 pub mod Replies
 pub mod Turns
+pub mod Parts
 pub mod Runs

@@ -1,8 +1,9 @@
 -- What the line of a request asks for: words, parted by one blank each, and numbers.
-use Rattle.std.specs.Prelude.{ℕ, ◌+◌, ◌-◌, ◌*◌, ◌==◌, Bool, ◌&&◌, not, nat_le, nat_lt, List, [], ◌∷◌, ◌++◌, length, Option, None, Some, option_map, codes, if◌then◌else◌}
+use Rattle.std.specs.Prelude.{ℕ, ◌+◌, ◌-◌, ◌*◌, ◌<◌, ◌==◌, Bool, ◌&&◌, not, nat_le, nat_lt, List, [], ◌∷◌, ◌++◌, length, Option, None, Some, option_and_then, option_map, codes, if◌then◌else◌}
 use Rattle.std.specs.Str.{bytes_eq}
 use Rattle.shlive.specs.declared.order.Order.{Order}
-use Rattle.shlive.specs.declared.order.Order.TheVariants.{Edit, Ask, Quit}
+use Rattle.shlive.specs.declared.order.Order.TheVariants.{Edit, Batch, Ask, Quit}
+use Rattle.shlive.specs.declared.order.Part.{Part}
 use Rattle.shlive.specs.declared.order.Question.TheVariants.{Outline, At, Fault, Print}
 
 -- ---- words
@@ -33,6 +34,25 @@ abbrev pub number_of : List ℕ → Option ℕ
 number_of [] = None
 number_of (d ∷ ds) = if nat_le (length ds) 9 && not (d == 48 && nat_lt 0 (length ds)) then digits_from 0 (d ∷ ds) else None
 
+-- a number and no word more
+abbrev pub number_alone : List (List ℕ) → Option ℕ
+number_alone (n ∷ []) = number_of n
+number_alone _ = None
+
+-- ---- parts of an edit
+
+abbrev pub part_by : Option ℕ → Option ℕ → Option ℕ → Option Part
+part_by (Some a) (Some b) (Some n) = Some (record { a = a; b = b; count = n })
+part_by _ _ _ = None
+
+-- A B N
+abbrev pub part_of_words : List (List ℕ) → Option Part
+part_of_words (a ∷ b ∷ n ∷ []) = part_by (number_of a) (number_of b) (number_of n)
+part_of_words _ = None
+
+abbrev pub part_of : List ℕ → Option Part
+part_of line = part_of_words (words line)
+
 -- ---- requests
 
 -- a request of one word
@@ -43,15 +63,26 @@ asked word =
     else if bytes_eq word (codes "print") then Some (Ask Print)
     else if bytes_eq word (codes "quit") then Some Quit else None
 
-abbrev pub edit_by : Option ℕ → Option ℕ → Option ℕ → Option Order
-edit_by (Some a) (Some b) (Some n) = Some (Edit a b n)
-edit_by _ _ _ = None
+-- a batch has 1 to 64 parts
+abbrev pub batch_of : ℕ → Option Order
+batch_of n = if nat_le 1 n && nat_le n 64 then Some (Batch n) else None
+
+-- a batch has a part
+abbrev pub HasParts : Order → Type 0
+HasParts (Batch n) = 0 < n
+HasParts _ = Unit {0}
+
+-- a request of a name and more words
+abbrev pub named : List ℕ → List (List ℕ) → Option Order
+named name ws =
+    if bytes_eq name (codes "at") then option_map (λ n. Ask (At n)) (number_alone ws)
+    else if bytes_eq name (codes "edit") then option_map Edit (part_of_words ws)
+    else if bytes_eq name (codes "batch") then option_and_then batch_of (number_alone ws) else None
 
 abbrev pub order_of_words : List (List ℕ) → Option Order
+order_of_words [] = None
 order_of_words (name ∷ []) = asked name
-order_of_words (name ∷ p ∷ []) = if bytes_eq name (codes "at") then option_map (λ n. Ask (At n)) (number_of p) else None
-order_of_words (name ∷ a ∷ b ∷ n ∷ []) = if bytes_eq name (codes "edit") then edit_by (number_of a) (number_of b) (number_of n) else None
-order_of_words _ = None
+order_of_words (name ∷ w ∷ ws) = named name (w ∷ ws)
 
 -- what a line asks for, None for one that is no request
 abbrev pub order_of : List ℕ → Option Order

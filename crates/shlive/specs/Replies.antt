@@ -1,5 +1,5 @@
 -- The replies to requests: a fold over what a session holds, the bytes of its script and its meter.
-use Rattle.std.specs.Prelude.{◌≡◌, ◌⊎◌, ℕ, ◌<◌, ◌++◌, [], ◌∷◌, List, flat_map, length, Option, None, Some, codes, decimal}
+use Rattle.std.specs.Prelude.{◌≡◌, ◌⊎◌, ℕ, ◌<◌, ◌++◌, [], ◌∷◌, List, List as Row, flat_map, length, Option, None, Some, codes, decimal}
 use Rattle.shgrammar.specs.Scripts.{FirstFault}
 use Rattle.shgrammar.specs.declared.fault.Fault.{Fault}
 use Rattle.shgrammar.specs.declared.fault.FaultKind.{FaultKind}
@@ -9,13 +9,16 @@ use Rattle.shast.specs.declared.node.NodeKind.{NodeKind}
 use Rattle.shast.specs.declared.node.NodeKind.TheVariants as nodes
 use Rattle.shast.specs.declared.node.NodeLine.{NodeLine}
 use Rattle.shast.specs.declared.tree.Span.{Span}
+use Rattle.shtext.specs.Edit.{ASplice}
 use Rattle.shtext.specs.Text.{column_of, line_of}
 use Rattle.shlive.specs.Held.{Held, How}
 use Rattle.shlive.specs.Answers.{HasNodesAt, HasOutline, HasStatus, HasText}
 use Rattle.shlive.specs.Edits.{IsNotMade, IsMade}
-use Rattle.shlive.specs.Requests.{Request, edit, spoiled, outline, at, fault, print, unknown}
+use Rattle.shlive.specs.Requests.{Request, edit, flawed, outline, at, fault, print, unknown}
 use Rattle.shlive.specs.declared.error.LiveError.{LiveError}
-use Rattle.shlive.specs.declared.error.LiveError.TheVariants.{Range, TooLarge, Memory}
+use Rattle.shlive.specs.declared.error.LiveError.TheVariants.{Range, TooLarge, Memory, Order}
+use Rattle.shlive.specs.declared.parts.Flaw.{Flaw}
+use Rattle.shlive.specs.declared.parts.Flaw.TheVariants.{NoPart, NoPayload}
 
 -- ---- texts
 
@@ -89,6 +92,11 @@ abbrev pub refusal_text : LiveError → List ℕ
 refusal_text Range = codes "no range\n"
 refusal_text TooLarge = codes "no room\n"
 refusal_text Memory = codes "no memory\n"
+refusal_text Order = codes "no order\n"
+
+abbrev pub flaw_text : Flaw → List ℕ
+flaw_text NoPart = codes "no part\n"
+flaw_text NoPayload = codes "no payload\n"
 
 -- ---- replies
 
@@ -97,16 +105,16 @@ abbrev pub IsNoMemory : List ℕ → Type 0
 IsNoMemory reply = reply ≡ codes "no memory\n"
 
 -- the reply to an edit, and what is held after it
-abbrev pub IsEditReply : Held → ℕ → ℕ → List ℕ → List ℕ → Held → Type 0
-IsEditReply before a b new reply after =
-    (IsMade before a b new after × ((status : ℕ) × HasStatus after.how.edition after.bytes status
+abbrev pub IsEditReply : Held → Row ASplice → List ℕ → Held → Type 0
+IsEditReply before ss reply after =
+    (IsMade before ss after × ((status : ℕ) × HasStatus after.how.edition after.bytes status
     × (reply ≡ ok_text (length after.bytes) status)))
-    ⊎ ((error : LiveError) × IsNotMade before a b new error after × (reply ≡ refusal_text error))
+    ⊎ ((error : LiveError) × IsNotMade before ss error after × (reply ≡ refusal_text error))
 
 -- The reply to a request on the bytes of a script. Memory may run out where a tree or a text is made.
 abbrev pub IsReply : How → List ℕ → Request → List ℕ → Type 0
-IsReply how bytes (edit a b new) reply = ⊥
-IsReply how bytes spoiled reply = reply ≡ codes "no payload\n"
+IsReply how bytes (edit ss) reply = ⊥
+IsReply how bytes (flawed flaw) reply = reply ≡ flaw_text flaw
 IsReply how bytes outline reply = ((lines : List NodeLine) × HasOutline how.edition bytes lines × (reply ≡ nodes_text (codes "outline") bytes lines)) ⊎ IsNoMemory reply
 IsReply how bytes (at p) reply =
     ((lines : List NodeLine) × HasNodesAt how.edition bytes p lines × (reply ≡ nodes_text (codes "at") bytes lines)) ⊎ ((p < length bytes) × IsNoMemory reply)
@@ -117,7 +125,7 @@ IsReply how bytes unknown reply = reply ≡ codes "no request\n"
 
 -- a request, its reply, and what is held after it: an edit alone changes it
 abbrev pub Step : Held → Request → List ℕ → Held → Type 0
-Step before (edit a b new) reply after = IsEditReply before a b new reply after
+Step before (edit ss) reply after = IsEditReply before ss reply after
 Step before request reply after = IsReply before.how before.bytes request reply × (after ≡ before)
 
 -- requests to a session, the replies to them, and what is held after them

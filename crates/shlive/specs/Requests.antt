@@ -1,17 +1,21 @@
 -- The requests that an input spells, and its end.
-use Rattle.std.specs.Prelude.{◌≡◌, ℕ, nat_le, List, [], ◌∷◌, ◌++◌, length, take, drop, Option, None, Some, if◌then◌else◌}
+use Rattle.std.specs.Prelude.{◌≡◌, zero, suc, ℕ, nat_le, List, [], ◌∷◌, ◌++◌, List as Row, length, take, drop, Option, None, Some, if◌then◌else◌}
+use Rattle.shtext.specs.Edit.{ASplice}
 use Rattle.shtext.specs.Text.{is_newline}
-use Rattle.shlive.specs.Orders.{order_of}
+use Rattle.shlive.specs.Orders.{order_of, part_of}
 use Rattle.shlive.specs.declared.order.Order.{Order}
 use Rattle.shlive.specs.declared.order.Order.TheVariants as orders
+use Rattle.shlive.specs.declared.order.Part.{Part}
 use Rattle.shlive.specs.declared.order.Question.{Question}
 use Rattle.shlive.specs.declared.order.Question.TheVariants as questions
+use Rattle.shlive.specs.declared.parts.Flaw.{Flaw}
+use Rattle.shlive.specs.declared.parts.Flaw.TheVariants.{NoPart, NoPayload}
 
 pub data Request : Type 0 where
-  -- these bytes in the place of those from a up to b
-  edit : (a b : ℕ) (new : List ℕ) → Request
-  -- an edit whose bytes are not followed by a newline
-  spoiled : Request
+  -- all of these splices, or none
+  edit : (splices : Row ASplice) → Request
+  -- an edit that has a flaw
+  flawed : (flaw : Flaw) → Request
   outline : Request
   at : (p : ℕ) → Request
   fault : Request
@@ -46,13 +50,53 @@ abbrev pub first_line : List ℕ → Lined
 first_line [] = None
 first_line (b ∷ bs) = if is_newline b then Some ([], bs) else behind (b ∷ []) (first_line bs)
 
--- ---- requests
+-- ---- how bytes are understood
 
--- an edit whose bytes were read, by the rest of the last line of the request
-abbrev pub edit_by : ℕ → ℕ → List ℕ → Lined → Next
-edit_by a b new None = unfinished
-edit_by a b new (Some ([], rest)) = asks (edit a b new) rest
-edit_by a b new (Some (c ∷ line, rest)) = asks spoiled rest
+abbrev pub Sense : Type 0
+Sense = List ℕ → Next
+
+-- ---- edits
+
+-- what follows the bytes of a splice, by the rest of their last line: it has to be empty
+abbrev pub behind_bytes : Sense → Lined → Next
+behind_bytes next None = unfinished
+behind_bytes next (Some ([], rest)) = next rest
+behind_bytes next (Some (c ∷ line, rest)) = asks (flawed NoPayload) rest
+
+abbrev pub splice_by : Part → List ℕ → ASplice
+splice_by p bytes = record { a = p.a; b = p.b; bytes = bytes }
+
+-- what follows the line of a part: its bytes and a newline, and then what the splice goes on with
+abbrev pub with_bytes : Part → (ASplice → Sense) → Sense
+with_bytes p next rest =
+    behind_bytes (next (splice_by p (take p.count rest))) (first_line (drop p.count rest))
+
+-- the most bytes that the line of a request has, and that of a part
+abbrev pub line_limit : ℕ
+line_limit = 64
+
+-- what a line is taken for: a longer one is no part
+abbrev pub part_of_line : List ℕ → Option Part
+part_of_line line = if nat_le (length line) line_limit then part_of line else None
+
+abbrev pub next_by_part : Option Part → (ASplice → Sense) → Sense
+next_by_part None next rest = asks (flawed NoPart) rest
+next_by_part (Some p) next rest = with_bytes p next rest
+
+abbrev pub part_by_line : (ASplice → Sense) → Lined → Next
+part_by_line next None = unfinished
+part_by_line next (Some (line, rest)) = next_by_part (part_of_line line) next rest
+
+-- so many parts behind those of these splices: the first flaw ends the request
+abbrev pub more_parts : ℕ → Row ASplice → Sense
+more_parts zero ss rest = asks (edit ss) rest
+more_parts (suc n) ss rest = part_by_line (λ s. more_parts n (ss ++ s ∷ [])) (first_line rest)
+
+-- an edit of one splice
+abbrev pub edit_alone : ASplice → Sense
+edit_alone s = asks (edit (s ∷ []))
+
+-- ---- requests
 
 abbrev pub request_of : Question → Request
 request_of questions.Outline = outline
@@ -62,14 +106,11 @@ request_of questions.Print = print
 
 -- what a line asks for, by what follows it
 abbrev pub next_by_order : Option Order → List ℕ → Next
-next_by_order (Some (orders.Edit a b n)) rest = edit_by a b (take n rest) (first_line (drop n rest))
+next_by_order (Some (orders.Edit p)) rest = with_bytes p edit_alone rest
+next_by_order (Some (orders.Batch n)) rest = more_parts n [] rest
 next_by_order (Some (orders.Ask question)) rest = asks (request_of question) rest
 next_by_order (Some orders.Quit) rest = leaves
 next_by_order None rest = asks unknown rest
-
--- the most bytes that the line of a request has
-abbrev pub line_limit : ℕ
-line_limit = 64
 
 -- what a line is taken for: a longer one is no request
 abbrev pub order_of_line : List ℕ → Option Order

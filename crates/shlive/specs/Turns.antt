@@ -4,7 +4,7 @@ use Rattle.shtext.specs.Device.{Writes}
 use Rattle.shlive.specs.Held.{Held}
 use Rattle.shlive.specs.Ahead.{Ahead, StopsBy, Takes}
 use Rattle.shlive.specs.Replies.{Step}
-use Rattle.shlive.specs.Requests.{Ending, EndsBy, Next, Request, asks, leaves, nothing, unfinished}
+use Rattle.shlive.specs.Requests.{Ending, EndsBy, Request, Sense, asks, leaves, nothing, unfinished}
 use Rattle.shlive.specs.declared.incoming.Stop.{Stop}
 use Rattle.shlive.specs.declared.incoming.Stop.TheVariants as stops
 use Rattle.shlive.specs.declared.serve.End.{End}
@@ -13,11 +13,6 @@ use Rattle.shlive.specs.declared.serve.End.TheVariants.{Clean, Quit, Cut, Unread
 -- the reply to a request was written, or where the device failed a beginning of it
 abbrev pub Tells : Held → Request → Held → Option (List ℕ) → Option (List ℕ) → Bool → Type 0
 Tells before request after held holds failed = (reply : List ℕ) × Step before request reply after × Writes held holds failed reply
-
--- How what comes is understood, behind what was taken before it: as requests, or as
--- what follows the line of one.
-abbrev pub Sense : Type 0
-Sense = List ℕ → Next
 
 -- whatever follows it, the text is understood so
 abbrev pub Spells : Sense → List ℕ → Sense → Type 0

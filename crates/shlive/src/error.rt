@@ -7,11 +7,11 @@ use shtext::TextError;
 use std::alloc::AllocError;
 use thiserror::Error;
 
-/// Why a session does not take a script or an edit. The numbers are fixed, and an edit
-/// is tested in their order.
+/// Why a session does not take a script or an edit. The numbers are fixed. An edit is tested in this order:
+/// range, order, size, memory.
 #[derive(Clone, Copy, Debug, PartialEq, Eq, Error)]
 pub enum LiveError {
-    /// The edit begins behind its end, or ends behind the script.
+    /// A splice begins behind its end, or ends behind the script.
     #[error("out of range")]
     Range = 1,
     /// The script would have more bytes than a script may have.
@@ -20,6 +20,9 @@ pub enum LiveError {
     /// Memory ran out.
     #[error("out of memory")]
     Memory = 3,
+    /// A splice begins before the end of the one before it.
+    #[error("out of order")]
+    Order = 5,
 }
 
 impl From<TextError> for LiveError {
@@ -30,6 +33,7 @@ impl From<TextError> for LiveError {
             TextError::Range => LiveError::Range,
             TextError::TooLarge => LiveError::TooLarge,
             TextError::Memory => LiveError::Memory,
+            TextError::Order => LiveError::Order,
         }
     }
 }

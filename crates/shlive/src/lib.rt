@@ -13,6 +13,7 @@ mod incoming;
 pub mod laws;
 mod lines;
 mod order;
+mod parts;
 mod payload;
 mod replies;
 mod reply;

@@ -1,6 +1,9 @@
 //! What the line of a request asks for.
-ghost use Rattle.std.specs.Prelude.{◌≡◌, ◌∷◌, [], MatchOption, codes};
-ghost use Rattle.shlive.specs.Orders.{asked, number_of, order_of, order_of_words, words};
+ghost use Rattle.std.specs.Prelude.{◌≡◌, ◌∷◌, [], IfSome, MatchOption};
+ghost use Rattle.shlive.specs.Orders.{HasParts, asked, batch_of, named, number_alone, number_of, order_of, part_of, words};
+
+/// The most parts of a batch.
+const MOST_PARTS: usize = 64;
 
 /// A question, which changes nothing.
 #[derive(Clone, Copy, Debug, PartialEq, Eq)]
@@ -11,11 +14,21 @@ pub(crate) enum Question {
     Print,
 }
 
+/// Bytes in the place of those from `a` up to `b`: so many, which follow the line.
+#[derive(Clone, Copy, Debug, PartialEq, Eq)]
+pub(crate) struct Part {
+    pub(crate) a: usize,
+    pub(crate) b: usize,
+    pub(crate) count: usize,
+}
+
 /// What a line asks for.
 #[derive(Clone, Copy, Debug, PartialEq, Eq)]
 pub(crate) enum Order {
-    /// Bytes in the place of those from `a` up to `b`: so many, which follow the line.
-    Edit { a: usize, b: usize, count: usize },
+    /// An edit of one splice.
+    Edit(Part),
+    /// An edit of so many splices, each of which has a line of its own.
+    Batch(usize),
     /// An answer.
     Ask(Question),
     /// The end of the run.
@@ -56,7 +69,8 @@ fn cut_word(line: &[u8]) -> (&[u8], Option<&[u8]>)
 
 /// What a line of this one word asks for.
 fn asked(word: &[u8]) -> Option<Order>
-    ensures { result ≡ asked word.now }
+    ensures is { result ≡ asked word.now }
+    ensures parts { IfSome result HasParts }
 {
     if word == b"outline".as_slice() {
         Some(Order::Ask(Question::Outline))
@@ -71,28 +85,28 @@ fn asked(word: &[u8]) -> Option<Order>
     }
 }
 
-/// What a line asks for whose first word is `at`.
-fn at_of(rest: &[u8]) -> Option<Order>
-    ensures { result ≡ order_of_words (codes "at" ∷ words rest.now) }
+/// The number that a text spells which is one word.
+fn number_alone(text: &[u8]) -> Option<usize>
+    ensures { result ≡ number_alone (words text.now) }
 {
-    match cut_word(rest) {
-        (at, None) => Some(Order::Ask(Question::At(number_of(at)?))),
+    match cut_word(text) {
+        (number, None) => number_of(number),
         (_, Some(_)) => None,
     }
 }
 
-/// What a line asks for whose first word is `edit`.
-fn edit_of(rest: &[u8]) -> Option<Order>
-    ensures { result ≡ order_of_words (codes "edit" ∷ words rest.now) }
+/// The part that a line spells: `A B N`.
+pub(crate) fn part_of(line: &[u8]) -> Option<Part>
+    ensures { result ≡ part_of line.now }
 {
-    let (a, Some(rest)) = cut_word(rest) else {
+    let (a, Some(rest)) = cut_word(line) else {
         return None;
     };
     let (b, Some(rest)) = cut_word(rest) else {
         return None;
     };
     match cut_word(rest) {
-        (count, None) => Some(Order::Edit {
+        (count, None) => Some(Part {
             a: number_of(a)?,
             b: number_of(b)?,
             count: number_of(count)?,
@@ -101,20 +115,41 @@ fn edit_of(rest: &[u8]) -> Option<Order>
     }
 }
 
+/// A batch of so many parts, where there may be so many.
+fn batch_of(count: usize) -> Option<Order>
+    ensures is { result ≡ batch_of count }
+    ensures parts { IfSome result HasParts }
+{
+    if 1 <= count && count <= MOST_PARTS {
+        Some(Order::Batch(count))
+    } else {
+        None
+    }
+}
+
+/// What a line asks for that has words behind its name.
+fn named(name: &[u8], rest: &[u8]) -> Option<Order>
+    ensures is { result ≡ named name.now (words rest.now) }
+    ensures parts { IfSome result HasParts }
+{
+    if name == b"at".as_slice() {
+        Some(Order::Ask(Question::At(number_alone(rest)?)))
+    } else if name == b"edit".as_slice() {
+        Some(Order::Edit(part_of(rest)?))
+    } else if name == b"batch".as_slice() {
+        batch_of(number_alone(rest)?)
+    } else {
+        None
+    }
+}
+
 /// What a line asks for, or `None` where it is none of the requests.
 pub(crate) fn order_of(line: &[u8]) -> Option<Order>
-    ensures { result ≡ order_of line.now }
+    ensures is { result ≡ order_of line.now }
+    ensures parts { IfSome result HasParts }
 {
     match cut_word(line) {
         (word, None) => asked(word),
-        (word, Some(rest)) => {
-            if word == b"at".as_slice() {
-                at_of(rest)
-            } else if word == b"edit".as_slice() {
-                edit_of(rest)
-            } else {
-                None
-            }
-        }
+        (name, Some(rest)) => named(name, rest),
     }
 }

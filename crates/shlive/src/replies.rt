@@ -1,20 +1,22 @@
 //! The replies to requests whose payload, where they have one, was read.
-ghost use Rattle.std.specs.Prelude.{◌≡◌, ◌||◌, ◌≤◌, ℕ, IfErr, IfOk, List, OnOk, Some, codes, is_ok, length, not, option_map};
+ghost use Rattle.std.specs.Prelude.{◌≡◌, ◌||◌, ◌<◌, ◌≤◌, IfErr, IfOk, List, List as Row, OnOk, Some, codes, is_ok, length, not};
 ghost use Rattle.shtext.specs.Device.{Writes, held_of, output_failed};
+ghost use Rattle.shtext.specs.Edit.{ASplice, splices_of};
 ghost use Rattle.shast.specs.declared.node.NodeLine.{NodeLine};
 ghost use Rattle.shlive.specs.Answers.{HasNodesAt, HasOutline};
 ghost use Rattle.shlive.specs.Edits.{IsMade, IsNotMade};
-ghost use Rattle.shlive.specs.Payload.{AreKept};
-ghost use Rattle.shlive.specs.Replies.{fault_text, nodes_text, number_of_kind, ok_text, printed_text, refusal_text};
+ghost use Rattle.shlive.specs.Parts.{AreSplices, Hold, request_by};
+ghost use Rattle.shlive.specs.Replies.{fault_text, flaw_text, nodes_text, number_of_kind, ok_text, printed_text, refusal_text};
 ghost use Rattle.shlive.specs.Requests.{at as asks_at, edit, fault, outline, print};
 ghost use Rattle.shlive.specs.Turns.{Tells};
 
 use crate::error::LiveError;
+use crate::parts::{Flaw, KeptSplice, Parts};
 use crate::reply::write_flushed;
 use crate::session::Session;
 use crate::texts::nodes_text;
 use shread::{Fault, FaultKind};
-use shtext::{Failed, Output};
+use shtext::{Failed, Output, Splice};
 use std::alloc::{AllocError, Global};
 use std::io::Write;
 
@@ -35,29 +37,53 @@ fn refusal_text(error: LiveError) -> &'static [u8]
         LiveError::Range => b"no range\n",
         LiveError::TooLarge => b"no room\n",
         LiveError::Memory => NO_MEMORY,
+        LiveError::Order => b"no order\n",
     }
 }
 
-/// Makes an edit whose bytes came, where they were kept.
-fn edit_kept(
-    session: &mut Session,
-    a: usize,
-    b: usize,
-    count: usize,
-    payload: Option<Vec<u8>>,
-) -> Result<(), LiveError>
-    ensures made { OnOk result ((new : List ℕ) → length new ≡ count → AreKept (option_map (λ v. v.items) payload) new →
-        IsMade session.old a b new session.new) }
-    ensures refused { IfErr result (λ e. (new : List ℕ) → length new ≡ count → AreKept (option_map (λ v. v.items) payload) new →
-        IsNotMade session.old a b new e session.new) }
+/// What a reply says of a flaw.
+fn flaw_text(flaw: Flaw) -> &'static [u8]
+    ensures { result.now ≡ flaw_text flaw }
 {
-    if let Err(error) = session.allows(a, b, count) {
-        return Err(error);
+    match flaw {
+        Flaw::NoPart => b"no part\n",
+        Flaw::NoPayload => b"no payload\n",
     }
-    match payload {
-        Some(bytes) => session.edit(a, b, &bytes),
-        None => Err(LiveError::Memory),
+}
+
+/// The splices that were kept.
+fn splices_kept(alloc: Global, kept: &[KeptSplice]) -> Result<Vec<Splice<'_>>, AllocError>
+    ensures { IfOk result (λ splices. (ss : Row ASplice) →
+        AreSplices (Some kept.now) ss → splices_of splices.items ≡ ss) }
+{
+    let mut splices = Vec::with_capacity(alloc, kept.len())?;
+    'kept: for splice in kept {
+        splices.push(Splice {
+            a: splice.a,
+            b: splice.b,
+            bytes: &splice.bytes,
+        })?;
     }
+    Ok(splices)
+}
+
+/// Makes an edit whose splices came, where they were kept.
+fn edit_kept(alloc: Global, session: &mut Session, parts: &Parts) -> Result<(), LiveError>
+    ensures made { OnOk result ((ss : Row ASplice) → 0 < length ss →
+        Hold parts.now (length session.old.bytes) ss → IsMade session.old ss session.new) }
+    ensures refused { IfErr result (λ e. (ss : Row ASplice) → 0 < length ss →
+        Hold parts.now (length session.old.bytes) ss → IsNotMade session.old ss e session.new) }
+{
+    parts.tally.answer()?;
+    let Some(kept) = &parts.kept else {
+        return Err(LiveError::Memory);
+    };
+    let splices = splices_kept(alloc, kept)?;
+    // It never is: an edit has a splice, and `edit_all` asks for one.
+    if splices.is_empty() {
+        return Ok(());
+    }
+    session.edit_all(&splices)
 }
 
 /// Says that an edit was made: how many bytes the script has now, and its status.
@@ -78,23 +104,43 @@ fn tell_ok<W: Write>(output: &mut Output<W>, len: usize, status: u8) -> Result<(
     )
 }
 
-/// Replies to an edit whose bytes came. They need not have been kept.
-pub(crate) fn reply_to_edit<W: Write>(
+/// Replies to an edit whose splices came. They need not have been kept.
+fn reply_to_splices<W: Write>(
+    alloc: Global,
     session: &mut Session,
     output: &mut Output<W>,
-    a: usize,
-    b: usize,
-    count: usize,
-    payload: Option<Vec<u8>>,
+    parts: &Parts,
 ) -> Result<(), Failed>
-    ensures tells { (new : List ℕ) → length new ≡ count → AreKept (option_map (λ v. v.items) payload) new →
-        Tells session.old (edit a b new) session.new (held_of W.contents output.old) (held_of W.contents output.new) (not (is_ok result)) }
+    ensures tells { (ss : Row ASplice) → 0 < length ss →
+        Hold parts.now (length session.old.bytes) ss →
+        Tells session.old (edit ss) session.new
+        (held_of W.contents output.old) (held_of W.contents output.new) (not (is_ok result)) }
     ensures failed { output_failed output.new ≡ (output_failed output.old || not (is_ok result)) }
 {
-    if let Err(error) = edit_kept(session, a, b, count, payload) {
+    if let Err(error) = edit_kept(alloc, session, parts) {
         return write_flushed(output, &[refusal_text(error)]);
     }
     tell_ok(output, session.script_len(), session.status())
+}
+
+/// Replies to an edit that came, whole or up to a flaw.
+pub(crate) fn reply_to_edit<W: Write>(
+    alloc: Global,
+    session: &mut Session,
+    output: &mut Output<W>,
+    parts: &Parts,
+    came: Result<(), Flaw>,
+) -> Result<(), Failed>
+    ensures tells { (ss : Row ASplice) → OnOk came (0 < length ss) →
+        Hold parts.now (length session.old.bytes) ss →
+        Tells session.old (request_by came ss) session.new
+        (held_of W.contents output.old) (held_of W.contents output.new) (not (is_ok result)) }
+    ensures failed { output_failed output.new ≡ (output_failed output.old || not (is_ok result)) }
+{
+    match came {
+        Ok(()) => reply_to_splices(alloc, session, output, parts),
+        Err(flaw) => write_flushed(output, &[flaw_text(flaw)]),
+    }
 }
 
 /// What is said of an outline.

@@ -1,18 +1,19 @@
 //! A session over a reader and a writer.
-ghost use Rattle.std.specs.Prelude.{◌≡◌, ◌<◌, ◌||◌, IfErr, ℕ, List, OnOk, false, Some, is_ok, length, not, option_map};
+ghost use Rattle.std.specs.Prelude.{◌≡◌, ◌<◌, ◌||◌, Bool, IfErr, IfSome, IsOk, ℕ, List, OnOk, false, Some, is_ok, length, not};
 ghost use Rattle.shtext.specs.Device.{held_of, input_ended, input_failed, left_of, output_failed};
-ghost use Rattle.shlive.specs.Ahead.{IsOpen, ahead_of, too_many};
+ghost use Rattle.shlive.specs.Ahead.{Ahead, IsOpen, ahead_of, too_many};
 ghost use Rattle.shlive.specs.Lines.{Keeps};
-ghost use Rattle.shlive.specs.Payload.{AreKept};
-ghost use Rattle.shlive.specs.Requests.{edit_by, next_by_order, next_of, order_of_line, request_of, Request, asks};
+ghost use Rattle.shlive.specs.Orders.{HasParts};
+ghost use Rattle.shlive.specs.Parts.{Comes};
+ghost use Rattle.shlive.specs.Requests.{Sense, next_by_order, next_of, order_of_line, request_of};
 ghost use Rattle.shlive.specs.Runs.{HasAnswer, IsRun};
 ghost use Rattle.shlive.specs.Turns.{EndsAs, Replied, Tells, end_between, end_inside};
-ghost use Rattle.shlive.specs.declared.order.Order.TheVariants.{Edit};
+ghost use Rattle.shlive.specs.declared.order.Order.TheVariants.{Batch, Edit};
 
 use crate::incoming::{Incoming, Stop};
 use crate::lines::{Line, take_line};
-use crate::order::{Order, Question, order_of};
-use crate::payload::take_payload;
+use crate::order::{Order, Part, Question, order_of};
+use crate::parts::{Flaw, Parts, take_parts, take_splice};
 use crate::replies::{
     reply_to_at, reply_to_edit, reply_to_fault, reply_to_outline, reply_to_print,
 };
@@ -75,7 +76,8 @@ impl End {
 
 /// What a line asks for. One that is too long is no request.
 fn order_of_line(line: &Line) -> Option<Order>
-    ensures { (text : List ℕ) → Keeps line.now text → result ≡ order_of_line text }
+    ensures is { (text : List ℕ) → Keeps line.now text → result ≡ order_of_line text }
+    ensures parts { IfSome result HasParts }
 {
     match line.text() {
         Some(text) => order_of(text),
@@ -102,26 +104,33 @@ fn reply_to<W: Write>(
     }
 }
 
-/// Replies to an edit whose bytes came, by the rest of its last line: no byte has to stand there.
-fn reply_to_payload<W: Write>(
+/// Replies to an edit as it came.
+fn answer_came<W: Write>(
+    alloc: Global,
     session: &mut Session,
     output: &mut Output<W>,
-    a: usize,
-    b: usize,
-    count: usize,
-    payload: Option<Vec<u8>>,
-    line: &Line,
-) -> Result<(), Failed>
-    ensures tells { (bytes text : List ℕ) → length bytes ≡ count → AreKept (option_map (λ v. v.items) payload) bytes → Keeps line.now text →
-        (request : Request) × ((rest : List ℕ) → edit_by a b bytes (Some (text, rest)) ≡ asks request rest)
-        × Tells session.old request session.new
-        (held_of W.contents output.old) (held_of W.contents output.new) (not (is_ok result)) }
-    ensures failed { output_failed output.new ≡ (output_failed output.old || not (is_ok result)) }
+    parts: &Parts,
+    came: Result<Result<(), Flaw>, Stop>,
+) -> Result<(), End>
+    requires unbroken { output_failed output.old ≡ false }
+    ensures unbroken { OnOk result (output_failed output.new ≡ false) }
+    ensures came { OnOk result (IsOk came) }
+    ensures ok { OnOk result ((sense : Sense) (old new : Ahead) (failed ended : Bool) →
+        Comes sense old new failed ended parts.now (length session.old.bytes) came →
+        Replied sense session.old session.new old new
+        (held_of W.contents output.old) (held_of W.contents output.new) false) }
+    ensures err { IfErr result (λ end. (sense : Sense) (old new : Ahead) (failed ended : Bool) →
+        Comes sense old new failed ended parts.now (length session.old.bytes) came →
+        EndsAs sense end session.old session.new old new failed ended
+        (held_of W.contents output.old) (held_of W.contents output.new) (output_failed output.new)) }
 {
-    if line.is_empty() {
-        reply_to_edit(session, output, a, b, count, payload)
-    } else {
-        write_flushed(output, &[b"no payload\n"])
+    let came = match came {
+        Ok(came) => came,
+        Err(stop) => return Err(End::inside(stop)),
+    };
+    match reply_to_edit(alloc, session, output, parts, came) {
+        Ok(()) => Ok(()),
+        Err(Failed) => Err(End::Unwritable),
     }
 }
 
@@ -132,9 +141,7 @@ fn answer_edit<R: Read, W: Write>(
     incoming: &mut Incoming,
     input: &mut Input<R>,
     output: &mut Output<W>,
-    a: usize,
-    b: usize,
-    count: usize,
+    part: Part,
 ) -> Result<(), End>
     requires open { IsOpen input.old }
     requires few { incoming.old.count < too_many }
@@ -142,27 +149,48 @@ fn answer_edit<R: Read, W: Write>(
     ensures open { OnOk result (IsOpen input.new) }
     ensures few { OnOk result (incoming.new.count < too_many) }
     ensures unbroken { OnOk result (output_failed output.new ≡ false) }
-    ensures ok { OnOk result (Replied (next_by_order (Some (Edit a b count))) session.old session.new
+    ensures ok { OnOk result (Replied (next_by_order (Some (Edit part))) session.old session.new
         (ahead_of R.remaining input.old incoming.old) (ahead_of R.remaining input.new incoming.new)
         (held_of W.contents output.old) (held_of W.contents output.new) false) }
-    ensures err { IfErr result (λ end. EndsAs (next_by_order (Some (Edit a b count))) end session.old session.new
+    ensures err { IfErr result (λ end. EndsAs (next_by_order (Some (Edit part))) end
+        session.old session.new
         (ahead_of R.remaining input.old incoming.old) (ahead_of R.remaining input.new incoming.new)
         (input_failed input.new) (input_ended input.new)
         (held_of W.contents output.old) (held_of W.contents output.new) (output_failed output.new)) }
 {
-    let wanted = session.allows(a, b, count).is_ok();
-    let payload = match take_payload(alloc, incoming, input, count, wanted) {
-        Ok(payload) => payload,
-        Err(stop) => return Err(End::inside(stop)),
-    };
-    let line = match take_line(incoming, input) {
-        Ok(line) => line,
-        Err(stop) => return Err(End::inside(stop)),
-    };
-    match reply_to_payload(session, output, a, b, count, payload, &line) {
-        Ok(()) => Ok(()),
-        Err(Failed) => Err(End::Unwritable),
-    }
+    let mut parts = Parts::new(alloc, session.tally());
+    let came = take_splice(alloc, incoming, input, part, &mut parts);
+    answer_came(alloc, session, output, &parts, came)
+}
+
+/// Takes the parts of a batch, and replies.
+fn answer_batch<R: Read, W: Write>(
+    alloc: Global,
+    session: &mut Session,
+    incoming: &mut Incoming,
+    input: &mut Input<R>,
+    output: &mut Output<W>,
+    count: usize,
+) -> Result<(), End>
+    requires some { 0 < count }
+    requires open { IsOpen input.old }
+    requires few { incoming.old.count < too_many }
+    requires unbroken { output_failed output.old ≡ false }
+    ensures open { OnOk result (IsOpen input.new) }
+    ensures few { OnOk result (incoming.new.count < too_many) }
+    ensures unbroken { OnOk result (output_failed output.new ≡ false) }
+    ensures ok { OnOk result (Replied (next_by_order (Some (Batch count))) session.old session.new
+        (ahead_of R.remaining input.old incoming.old) (ahead_of R.remaining input.new incoming.new)
+        (held_of W.contents output.old) (held_of W.contents output.new) false) }
+    ensures err { IfErr result (λ end. EndsAs (next_by_order (Some (Batch count))) end
+        session.old session.new
+        (ahead_of R.remaining input.old incoming.old) (ahead_of R.remaining input.new incoming.new)
+        (input_failed input.new) (input_ended input.new)
+        (held_of W.contents output.old) (held_of W.contents output.new) (output_failed output.new)) }
+{
+    let mut parts = Parts::new(alloc, session.tally());
+    let came = take_parts(alloc, incoming, input, count, &mut parts);
+    answer_came(alloc, session, output, &parts, came)
 }
 
 /// Takes the next request and replies to it.
@@ -195,9 +223,8 @@ fn answer_next<R: Read, W: Write>(
         Err(stop) => return Err(End::inside(stop)),
     };
     match order_of_line(&line) {
-        Some(Order::Edit { a, b, count }) => answer_edit(
-            alloc, session, incoming, input, output, a, b, count,
-        ),
+        Some(Order::Edit(part)) => answer_edit(alloc, session, incoming, input, output, part),
+        Some(Order::Batch(count)) => answer_batch(alloc, session, incoming, input, output, count),
         Some(Order::Ask(question)) => match reply_to(alloc, session, output, question) {
             Ok(()) => Ok(()),
             Err(Failed) => Err(End::Unwritable),
@@ -215,7 +242,8 @@ fn answer_next<R: Read, W: Write>(
 /// 1 for one with a fault. It is 2 where the input ends inside a request, where a read, a write or a
 /// flush fails, and where the input has 2^63 bytes or more.
 ///
-/// Nothing but the payload of an edit and the script takes more memory than the last reply.
+/// Nothing but the payload of an edit, what stands between its splices and the script takes more memory than
+/// the last reply.
 pub fn run<R: Read, W: Write>(
     alloc: Global,
     session: &mut Session,

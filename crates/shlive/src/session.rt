@@ -1,11 +1,11 @@
 //! The open script.
-ghost use Rattle.std.specs.Prelude.{◌≡◌, ◌≤◌, ℕ, List, [], IfErr, IfOk, IfSome, IsOk, OnOk, length, option_map, Some, false, true, ◌<◌};
+ghost use Rattle.std.specs.Prelude.{◌≡◌, ◌≤◌, [], IfErr, IfOk, IfSome, IsOk, OnOk, length, option_map, Some, false, true, ◌<◌};
 ghost use Rattle.shread.specs.Answers.{edition_of, meter_of};
 ghost use Rattle.shtext.specs.Meter.{raised};
 ghost use Rattle.shgrammar.specs.Scripts.{FirstFault};
 ghost use Rattle.shgrammar.specs.declared.fault.Fault.{Fault};
 ghost use Rattle.shtext.specs.Buffer.{buffer_bytes};
-ghost use Rattle.shtext.specs.Edit.{IsAllowed, limit};
+ghost use Rattle.shtext.specs.Edit.{IsTally, limit, one, splices_of};
 ghost use Rattle.shlive.specs.Answers.{HasNodesAt, HasOutline, HasStatus, HasText, IsRefused};
 ghost use Rattle.shlive.specs.Edits.{IsMade, IsNotMade};
 
@@ -14,7 +14,7 @@ use crate::error::LiveError;
 use crate::top_lines::{TopLine, TopLines};
 use shprint::Layout;
 use shread::{Fault, Reader};
-use shtext::{Buffer, Source};
+use shtext::{Buffer, Source, Splice, Tally};
 use shtree::NodeLine;
 use shwindow::HeldLines;
 use std::alloc::{AllocError, Global};
@@ -58,7 +58,7 @@ impl Session {
         ensures edition { IfOk result (λ session. session.how.edition ≡ edition_of reader) }
         ensures layout { IfOk result (λ session. session.how.layout ≡ layout) }
         ensures meter { IfOk result (λ session. session.meter ≡ raised (meter_of reader) (length bytes.now)) }
-        ensures err { IfErr result (IsRefused [] 0 0 bytes.now) }
+        ensures err { IfErr result (IsRefused [] (one 0 0 bytes.now)) }
         ensures empty { length bytes.now ≡ 0 → IsOk result }
     {
         let mut reader = TopLines { reader };
@@ -73,31 +73,39 @@ impl Session {
         })
     }
 
-    /// Puts bytes in the place of those from `a` up to `b`, and reads the window of the edit. An edit that is
-    /// refused changes no answer; for want of memory it has read no more than the window.
+    /// Puts bytes in the place of those from `a` up to `b`, as [`edit_all`](Session::edit_all) does with this
+    /// splice alone.
     pub fn edit(&mut self, a: usize, b: usize, bytes: &[u8]) -> Result<(), LiveError>
-        ensures made { OnOk result (IsMade self.old a b bytes.now self.new) }
-        ensures refused { IfErr result (λ e. IsNotMade self.old a b bytes.now e self.new) }
+        ensures made { OnOk result (IsMade self.old (one a b bytes.now) self.new) }
+        ensures refused { IfErr result (λ e. IsNotMade self.old (one a b bytes.now) e self.new) }
     {
-        self.allows(a, b, bytes.len())?;
-        let change = self.text.prepare(a, b, bytes)?;
+        self.edit_all(&[Splice { a, b, bytes }])
+    }
+
+    /// Makes these splices, all or none, and reads the window of this edit; there is at least one. Their
+    /// offsets are those of the script as it is, and they rise: each begins at or behind the end of the one
+    /// before. An edit that is refused changes no answer; for want of memory it has read no more than the
+    /// window.
+    pub fn edit_all(&mut self, splices: &[Splice<'_>]) -> Result<(), LiveError>
+        requires { 0 < length splices.now }
+        ensures made { OnOk result (IsMade self.old (splices_of splices.now) self.new) }
+        ensures refused { IfErr result (λ e.
+            IsNotMade self.old (splices_of splices.now) e self.new) }
+    {
+        let change = self.text.prepare_all(splices)?;
+        let (start, end, old_end) = change.places();
         let edited = self.text.preview(&change);
-        let end = a + bytes.len();
-        self.lines.edit(&mut self.reader, &edited, a, end, b)?;
+        self.lines
+            .edit(&mut self.reader, &edited, start, end, old_end)?;
         self.text.commit(change);
         Ok(())
     }
 
-    /// Whether so many bytes may be put in the place of those from `a` up to `b`, as
-    /// far as the script decides that. It takes no memory.
-    pub(crate) fn allows(&self, a: usize, b: usize, count: usize) -> Result<(), LiveError>
-        ensures ok { IfOk result (λ _. (new : List ℕ) → length new ≡ count → IsAllowed self.now.bytes a b new) }
-        ensures err { IfErr result (λ e. (new : List ℕ) → length new ≡ count → IsRefused self.now.bytes a b new e) }
+    /// A tally of the script, to which no splice was added. It takes no memory.
+    pub(crate) fn tally(&self) -> Tally
+        ensures { IsTally result (length self.now.bytes) [] }
     {
-        match self.text.allows(a, b, count) {
-            Ok(()) => Ok(()),
-            Err(error) => Err(LiveError::from(error)),
-        }
+        self.text.tally()
     }
 
     /// Whether an offset is at or past the end, where no node stands. It takes no memory.

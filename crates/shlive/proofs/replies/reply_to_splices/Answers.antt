@@ -1,10 +1,10 @@
 use Rattle.std.proofs.Common.{ap, inl}
 use Rattle.shlive.specs.Replies.{ok_text}
-use Rattle.shlive.proofs.replies.reply_to_edit.Goals as goal
+use Rattle.shlive.proofs.replies.reply_to_splices.Goals as goal
 
 pub returns-clause-tells : goal.returns-clause-tells
-returns-clause-tells g c new all kept =
-    let made = c.in_default.ensures.made new all kept in (
+returns-clause-tells g c ss some held =
+    let made = c.in_default.ensures.made ss some held in (
       ok_text c.script_len.result c.status.result,
       inl (made, (c.status.result, c.status.ensures, ap (λ n. ok_text n c.status.result) c.script_len.ensures.length)),
       c.tell_ok.ensures.bytes,

@@ -1,0 +1,25 @@
+use Rattle.std.proofs.Common.{Some, length}
+use Rattle.shtext.specs.Device.{input_ended, input_failed}
+use Rattle.shlive.specs.Ahead.{ahead_of}
+use Rattle.shlive.specs.Requests.{next_by_order}
+use Rattle.shlive.specs.declared.order.Order.TheVariants.{Batch}
+use Rattle.shlive.proofs.Asked.{err_through, ok_through}
+use Rattle.shlive.proofs.serve.answer_batch.Goals as goal
+
+pub returns-clause-ok : goal.returns-clause-ok
+returns-clause-ok g c =
+    let ahead = ahead_of g.R.Read.remaining in
+    let len = length c.args.session.now.bytes in
+    let comes = c.take_parts-came.ensures.comes len (c.new-parts.ensures len c.tally.ensures) in
+    ok_through c.answer_came.result
+    (λ told. told (next_by_order (Some (Batch c.args.count))) (ahead c.args.input.now c.args.incoming.now) (ahead c.take_parts-came.new.input c.take_parts-came.new.incoming)
+    (input_failed c.take_parts-came.new.input) (input_ended c.take_parts-came.new.input) comes) c.answer_came.ensures.ok
+
+pub returns-clause-err : goal.returns-clause-err
+returns-clause-err g c =
+    let ahead = ahead_of g.R.Read.remaining in
+    let len = length c.args.session.now.bytes in
+    let comes = c.take_parts-came.ensures.comes len (c.new-parts.ensures len c.tally.ensures) in
+    err_through _ _ c.answer_came.result
+    (λ why told. told (next_by_order (Some (Batch c.args.count))) (ahead c.args.input.now c.args.incoming.now) (ahead c.take_parts-came.new.input c.take_parts-came.new.incoming)
+    (input_failed c.take_parts-came.new.input) (input_ended c.take_parts-came.new.input) comes) c.answer_came.ensures.err
