@@ -2,6 +2,7 @@
 // and such that fill one, empty it or take lines of some.
 use crate::session_runs::opened;
 use crate::session_windows::is_right;
+use shtreetests::spliced::part;
 use std::alloc::{AllocError, Global};
 use std::test::Fail;
 
@@ -34,7 +35,7 @@ fn rows(rt: HostRuntime) -> Result<(), Fail> {
     ] {
         let new = lines(alloc, come, b"b\n")?;
         assert!(rt;
-            is_right(alloc, &mut session, &mut bytes, ((a, b), &new), 499)?,
+            is_right(alloc, &mut session, &mut bytes, &[part(a, b, &new)], 499)?,
             "{a} {b} {come}"
         );
     }

@@ -1,13 +1,13 @@
 // Each growth of a session refused in turn: `growths.rt` says how.
-use crate::session_runs::{alike, alike_at_each, opened, page_of};
+use crate::session_runs::{alike, alike_at_each, make, opened, page_of};
 use crate::windows::window;
 use shlive::{LiveError, Session, run};
 use shprint::Layout;
 use shread::Reader;
-use shtext::{Input, Output};
+use shtext::{Input, Output, Splice};
 use shtreetests::devices::{PAGE, Page, Same};
 use shtreetests::growths::Growths;
-use shtreetests::spliced::spliced;
+use shtreetests::spliced::{part, spliced_all};
 use std::alloc::{AllocError, Global};
 use std::io::Read;
 use std::process::Abort;
@@ -53,22 +53,22 @@ pub(crate) fn each_refused(
     rt: &impl Abort,
     alloc: Global,
     script: &[u8],
-    ((a, b), new): ((usize, usize), &[u8]),
+    splices: &[Splice<'_>],
     step: usize,
 ) -> Result<(), Fail> {
     let before = opened(alloc, script)?;
-    let made = opened(alloc, &spliced(alloc, script, a, b, new)?)?;
-    let window = window(alloc, script, (a, b), new)?;
+    let made = opened(alloc, &spliced_all(alloc, script, splices)?)?;
+    let window = window(alloc, script, splices)?;
     let mut growths = Growths::of(alloc);
     for _ in 1..200 {
         let mut session = opened(alloc, script)?;
         growths.refuse_next();
-        let edited = session.edit(a, b, new);
+        let edited = make(&mut session, splices);
         let is_met = growths.is_met();
         if let Err(error) = edited {
             assert!(rt; is_met && error == LiveError::Memory);
             assert!(rt; is_as_before(&session, &before, window, step)?);
-            session.edit(a, b, new)?;
+            make(&mut session, splices)?;
         }
         assert!(rt; alike_at_each(&session, &made, step)?);
         if !is_met {
@@ -81,7 +81,13 @@ pub(crate) fn each_refused(
 
 #[test]
 fn edit(rt: HostRuntime) -> Result<(), Fail> {
-    each_refused(&rt, rt.alloc(), SCRIPT, ((17, 17), NEW), 1)
+    each_refused(&rt, rt.alloc(), SCRIPT, &[part(17, 17, NEW)], 1)
+}
+
+#[test]
+fn edit_all(rt: HostRuntime) -> Result<(), Fail> {
+    let splices = [part(3, 4, b"x y"), part(17, 17, NEW), part(30, 31, b"z")];
+    each_refused(&rt, rt.alloc(), SCRIPT, &splices, 1)
 }
 
 #[test]
@@ -182,6 +188,54 @@ fn requests(rt: HostRuntime) -> Result<(), Fail> {
     Ok(())
 }
 
+/// The answer of a run over the session that asks for two splices together.
+fn asked_together(alloc: Global, session: &mut Session, page: &mut Page) -> u8 {
+    let mut input = Input::new(b"batch 2\n0 1 1\nx\n4 5 2\nyy\n".as_slice());
+    let mut output = Output::new(page);
+    run(alloc, session, &mut input, &mut output)
+}
+
+/// After `no memory` all is as before, and the same request is made once there is memory.
+#[test]
+fn batch(rt: HostRuntime) -> Result<(), Fail> {
+    let alloc = rt.alloc();
+    let before = opened(alloc, b"a\nb\nc\n")?;
+    let made = opened(alloc, b"x\nb\nyy\n")?;
+    let mut growths = Growths::of(alloc);
+    for _ in 1..200 {
+        let mut session = opened(alloc, b"a\nb\nc\n")?;
+        let mut page = page_of(PAGE);
+        growths.refuse_next();
+        let mut status = asked_together(alloc, &mut session, &mut page);
+        let is_met = growths.is_met();
+        if page.text() == b"no memory\n".as_slice() {
+            assert!(rt; is_met && status == 0 && is_as_before(&session, &before, 7, 1)?);
+            page = page_of(PAGE);
+            status = asked_together(alloc, &mut session, &mut page);
+        }
+        assert!(rt; status == 0 && page.text() == b"ok 7 0\n".as_slice());
+        assert!(rt; alike(&session, &made)?);
+        if !is_met {
+            break;
+        }
+    }
+    assert!(rt; growths.were_each_refused());
+    Ok(())
+}
+
+/// That splices are out of order is told before the memory that the bytes of the first did not get.
+#[test]
+fn batch_out_of_order(rt: HostRuntime) -> Result<(), Fail> {
+    let alloc = rt.alloc();
+    let mut growths = Growths::of(alloc);
+    let mut page = page_of(PAGE);
+    let requests = b"batch 2\n0 2 1\nx\n1 3 1\ny\nquit\n";
+    let status = written(alloc, requests.as_slice(), &mut growths, &mut page)?;
+    assert!(rt; !growths.are_refused() || growths.is_met());
+    assert!(rt; status == 0 && page.text() == b"no order\n".as_slice());
+    Ok(())
+}
+
 /// No bytes take no memory, so the refusal is not met.
 #[test]
 fn open_without_bytes(rt: HostRuntime) -> Result<(), Fail> {
@@ -220,12 +274,13 @@ fn without_memory(rt: HostRuntime) -> Result<(), Fail> {
     let mut growths = Growths::of(alloc);
     let status = written(
         alloc,
-        b"hello\nedit 5 9 4\nabcd\nfault\nat 3\nquit\n".as_slice(),
+        b"hello\nedit 5 9 4\nabcd\nbatch 2\n5 9 1\nx\n0 1 1\ny\nfault\nat 3\nquit\n".as_slice(),
         &mut growths,
         &mut page,
     )?;
     assert!(rt; !growths.is_met());
-    assert!(rt; status == 0 && page.text() == b"no request\nno range\nnone\nat 0\n".as_slice());
+    let text = b"no request\nno range\nno range\nnone\nat 0\n";
+    assert!(rt; status == 0 && page.text() == text.as_slice());
     let mut page = page_of(PAGE);
     let requests = b"edit 0 0 16777214\n"
         .as_slice()

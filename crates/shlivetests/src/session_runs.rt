@@ -3,7 +3,7 @@
 use shlive::{LiveError, Session, run};
 use shprint::Layout;
 use shread::Reader;
-use shtext::{Input, Output};
+use shtext::{Input, Output, Splice};
 use shtreetests::devices::{PAGE, Page, Same, Tape};
 use shtreetests::dice::Dice;
 use shtreetests::spliced::spliced;
@@ -15,6 +15,18 @@ use std::test::Fail;
 pub(crate) fn opened(alloc: Global, script: &[u8]) -> Result<Session, Fail> {
     let layout = Layout::new(0, false, false, false)?;
     Ok(Session::open(alloc, Reader::new(alloc), layout, script)?)
+}
+
+/// Makes some splices: one alone as an edit of one.
+pub(crate) fn make(session: &mut Session, splices: &[Splice<'_>]) -> Result<(), LiveError> {
+    if splices.is_empty() {
+        return Ok(());
+    }
+    if let [one] = splices {
+        session.edit(one.a, one.b, one.bytes)
+    } else {
+        session.edit_all(splices)
+    }
 }
 
 /// A page that takes five bytes at a time, and fails once where it is full. Whatever
@@ -147,6 +159,84 @@ fn rows(rt: HostRuntime) -> Result<(), Fail> {
     Ok(())
 }
 
+/// How batches and their parts are spelled. What follows a line that is no part is read as requests.
+#[test]
+fn batches(rt: HostRuntime) -> Result<(), Fail> {
+    for (requests, text, status) in [
+        (
+            b"batch\nbatch 1 1\nbatch 01\nbatch -1\nbatch  1\nbatch 65\n".as_slice(),
+            b"no request\nno request\nno request\nno request\nno request\nno request\n".as_slice(),
+            0,
+        ),
+        (
+            b"batch 1\n0 1 1\nx\nprint\nquit\n",
+            b"ok 6 0\ntext 6\nx\nb\nc\n\n",
+            0,
+        ),
+        (
+            b"batch 1\nedit 0 1 0\n\nfault\n",
+            b"no part\nno request\nnone\n",
+            0,
+        ),
+        (b"batch 1\nquit\nquit\n", b"no part\n", 0),
+        (b"batch 2\n00 1 0\nquit\n", b"no part\n", 0),
+        (
+            b"batch 1\n0 1\nbatch 1\n0 1 0 \nbatch 1\n\n",
+            b"no part\nno part\nno part\n",
+            0,
+        ),
+        (
+            b"batch 1\n0 1 00000000000000000000000000000000000000000000000000000000001\nx\nquit\n",
+            b"no part\nno request\n",
+            0,
+        ),
+        (
+            b"batch 1\n0 1 9\nv\nw\nx\ny\nz\nprint\n",
+            b"ok 14 0\ntext 14\nv\nw\nx\ny\nz\nb\nc\n\n",
+            0,
+        ),
+    ] {
+        for step in [1, 99] {
+            let tape = Tape::new(requests, step);
+            assert!(rt;
+                replies(rt.alloc(), THREE, tape, (text, status))?,
+                "{requests:?}"
+            );
+        }
+    }
+    Ok(())
+}
+
+/// A batch for three lines.
+const BATCH: &[u8] = b"batch 2\n0 1 1\nx\n4 5 2\nyy\n";
+
+/// Nothing is replied where the input ends in a batch, or cannot be read on.
+#[test]
+fn cut_batches(rt: HostRuntime) -> Result<(), Fail> {
+    for len in 1..BATCH.len() {
+        let tape = Tape::new(BATCH.get(..len).unwrap_or(b""), 99);
+        assert!(rt; replies(rt.alloc(), THREE, tape, (b"", 2))?, "{len}");
+        let tape = Tape::failing(BATCH, 1, len.saturating_add(1));
+        assert!(rt; replies(rt.alloc(), THREE, tape, (b"", 2))?, "{len}");
+    }
+    assert!(rt; replies(rt.alloc(), THREE, Tape::new(BATCH, 1), (b"ok 7 0\n", 0))?);
+    Ok(())
+}
+
+/// A batch may have 64 parts.
+#[test]
+fn most_parts(rt: HostRuntime) -> Result<(), Fail> {
+    let mut requests = Vec::from_slice(rt.alloc(), b"batch 64\n")?;
+    for _ in 0..64 {
+        requests.extend_from_slice(b"0 0 1\n\n\n")?;
+    }
+    requests.extend_from_slice(b"outline\n")?;
+    let text = b"ok 70 0\noutline 3\n64 65 simple\n66 67 simple\n68 69 simple\n";
+    let tape = Tape::new(&requests, 99);
+    assert!(rt; replies(rt.alloc(), THREE, tape, (text, 0))?);
+    Ok(())
+}
+
 /// The first chunk of a script ends in the line that ends a here-document, or in single quotes, and an edit
 /// there is read as elsewhere.
 #[test]
@@ -256,6 +346,26 @@ fn no_room(rt: HostRuntime) -> Result<(), Fail> {
         .chain(payload)
         .chain(b"\nprint\nquit\n".as_slice());
     assert!(rt; replies(rt.alloc(), b"a\n", requests, (b"no room\ntext 2\na\n\n", 0))?);
+    Ok(())
+}
+
+/// The first part alone would make the script too large. What the second takes out, of as many bytes as it
+/// says, makes room.
+#[test]
+fn room_in_a_batch(rt: HostRuntime) -> Result<(), Fail> {
+    for (last, text) in [
+        (
+            b"\n0 2 0\n\nfault\n".as_slice(),
+            b"ok 16777216 0\nnone\n".as_slice(),
+        ),
+        (b"\n0 1 0\n\nfault\n", b"no room\nnone\n"),
+    ] {
+        let requests = b"batch 2\n0 0 16777216\n"
+            .as_slice()
+            .chain(Same(b'x', 16_777_216))
+            .chain(last);
+        assert!(rt; replies(rt.alloc(), b"a\n", requests, (text, 0))?);
+    }
     Ok(())
 }
 

@@ -1,13 +1,13 @@
 // What an edit reads again, and that it changes no answer: rows with the meter, and edits by the thousand,
 // judged by a session opened anew and by the window as it is defined.
-use crate::session_runs::{alike_at_each, opened, page_of};
+use crate::session_runs::{alike_at_each, make, opened, page_of};
 use crate::windows::window;
-use shlive::{Session, run};
-use shtext::{Input, Output};
+use shlive::{LiveError, Session, run};
+use shtext::{Input, Output, Splice};
 use shtreetests::devices::{PAGE, Tape};
 use shtreetests::dice::Dice;
-use shtreetests::spliced::spliced;
-use std::alloc::Global;
+use shtreetests::spliced::{part, spliced_all};
+use std::alloc::{AllocError, Global};
 use std::test::Fail;
 
 /// Whether requests on a script get these replies, and the session has read so many
@@ -77,19 +77,95 @@ fn rows(rt: HostRuntime) -> Result<(), Fail> {
     Ok(())
 }
 
+/// One window is read for all parts of a batch, and none for a batch that is not made. What follows a flaw is
+/// read as requests.
+#[test]
+fn batches(rt: HostRuntime) -> Result<(), Fail> {
+    for (requests, text, meter) in [
+        (
+            b"batch 2\n0 1 1\nx\n4 5 2\nyy\n".as_slice(),
+            b"ok 7 0\n".as_slice(),
+            13,
+        ),
+        (
+            b"batch 2\n2 2 2\nx\n\n2 2 2\ny\n\nprint\n",
+            b"ok 10 0\ntext 10\na\nx\ny\nb\nc\n\n",
+            10,
+        ),
+        (b"batch 2\n2 3 2\n'x\n3 3 1\n'\n", b"ok 8 0\n", 10),
+        (b"batch 2\n0 0 1\n'\n5 5 1\n'\n", b"ok 8 0\n", 14),
+        (b"batch 1\n2 3 2\nbb\n", b"ok 7 0\n", 9),
+        (
+            b"batch 2\n0 3 0\n\n2 4 0\n\nfault\n",
+            b"no order\nnone\n",
+            6,
+        ),
+        (b"batch 2\n4 5 0\n\n9 9 0\n\n", b"no range\n", 6),
+        (
+            b"batch 2\n0 1 1\nx\nzz\nprint\n",
+            b"no part\ntext 6\na\nb\nc\n\n",
+            6,
+        ),
+        (b"batch 2\n9 9 1\nx\nzz\n", b"no part\n", 6),
+        (
+            b"batch 2\n0 1 1\nxy\nprint\n",
+            b"no payload\ntext 6\na\nb\nc\n\n",
+            6,
+        ),
+        (
+            b"batch 2\n0 1 1\nx\n4 5 1\nyz\nprint\n",
+            b"no payload\ntext 6\na\nb\nc\n\n",
+            6,
+        ),
+        (b"batch 0\nbatch 65\n", b"no request\nno request\n", 6),
+    ] {
+        assert!(rt;
+            reads(rt.alloc(), b"a\nb\nc\n", requests, (text, meter))?,
+            "{requests:?}"
+        );
+    }
+    Ok(())
+}
+
+/// Splices that are refused leave the script and the meter.
+#[test]
+fn refused_together(rt: HostRuntime) -> Result<(), Fail> {
+    let most = vec![in rt.alloc(); b'x'; 16_777_216]?;
+    let mut session = opened(rt.alloc(), b"a\nb\nc\n")?;
+    for (splices, error) in [
+        (
+            [part(0, 1, b""), part(6, 7, b"")].as_slice(),
+            LiveError::Range,
+        ),
+        (&[part(4, 3, b""), part(0, 1, b"")], LiveError::Range),
+        (&[part(0, 3, &most), part(2, 4, b"")], LiveError::Order),
+        (&[part(0, 5, b""), part(5, 5, &most)], LiveError::TooLarge),
+    ] {
+        assert!(rt; make(&mut session, splices) == Err(error));
+        assert!(rt; session.meter() == 6 && session.script_len() == 6);
+    }
+    assert!(rt;
+        LiveError::Range as u8 == 1
+            && LiveError::TooLarge as u8 == 2
+            && LiveError::Memory as u8 == 3
+            && LiveError::Order as u8 == 5
+    );
+    Ok(())
+}
+
 /// Whether an edit makes answers those of a session opened anew, where nodes are asked for at one offset of
 /// so many, and raises the meter by the length of the window.
 pub(crate) fn is_right(
     alloc: Global,
     session: &mut Session,
     bytes: &mut Vec<u8>,
-    ((a, b), new): ((usize, usize), &[u8]),
+    splices: &[Splice<'_>],
     step: usize,
 ) -> Result<bool, Fail> {
-    let rise = window(alloc, bytes, (a, b), new)?;
+    let rise = window(alloc, bytes, splices)?;
     let meter = session.meter().saturating_add(rise as u64);
-    session.edit(a, b, new)?;
-    *bytes = spliced(alloc, bytes, a, b, new)?;
+    make(session, splices)?;
+    *bytes = spliced_all(alloc, bytes, splices)?;
     Ok(session.meter() == meter && alike_at_each(session, &opened(alloc, bytes)?, step)?)
 }
 
@@ -125,12 +201,12 @@ const PIECES: [&[u8]; 24] = [
 ];
 
 /// A random edit of bytes: most take out a few of them.
-fn thrown(dice: &mut Dice, len: usize) -> ((usize, usize), &'static [u8]) {
+fn thrown(dice: &mut Dice, len: usize) -> Splice<'static> {
     let a = dice.below(len.saturating_add(1));
     let most = if dice.below(8) == 0 { 40 } else { 4 };
     let b = a.saturating_add(dice.below(most)).min(len);
     let new = PIECES.get(dice.below(24)).copied().unwrap_or(b"");
-    ((a, b), new)
+    part(a, b, new)
 }
 
 /// Whether an edit is to be undone: most of those that leave a fault are.
@@ -155,19 +231,121 @@ fn random_edits(rt: HostRuntime) -> Result<(), Fail> {
     let mut bytes = Vec::from_slice(alloc, SCRIPT)?;
     let mut session = opened(alloc, &bytes)?;
     for turn in 0..1_000 {
-        let ((a, b), new) = thrown(&mut dice, bytes.len());
-        let old = Vec::from_slice(alloc, bytes.get(a..b).unwrap_or(b""))?;
-        let right = is_right(alloc, &mut session, &mut bytes, ((a, b), new), 7)?;
+        let edit = thrown(&mut dice, bytes.len());
+        let old = Vec::from_slice(alloc, bytes.get(edit.a..edit.b).unwrap_or(b""))?;
+        let right = is_right(alloc, &mut session, &mut bytes, &[edit], 7)?;
         assert!(rt; right, "seed {seed}, turn {turn}");
         if is_undone(&mut dice, &session) {
-            let there = (a, a.saturating_add(new.len()));
-            let right = is_right(alloc, &mut session, &mut bytes, (there, &old), 7)?;
+            let undone = part(edit.a, edit.a.saturating_add(edit.bytes.len()), &old);
+            let right = is_right(alloc, &mut session, &mut bytes, &[undone], 7)?;
             assert!(rt; right, "seed {seed}, turn {turn} undone");
         }
         if is_over(&mut dice, &session) {
-            let all = (0, bytes.len());
-            let right = is_right(alloc, &mut session, &mut bytes, (all, SCRIPT), 7)?;
+            let anew = part(0, bytes.len(), SCRIPT);
+            let right = is_right(alloc, &mut session, &mut bytes, &[anew], 7)?;
             assert!(rt; right, "seed {seed}, turn {turn} anew");
+        }
+    }
+    Ok(())
+}
+
+/// Random edits that rise, five at most: near to each other, or all over the bytes.
+fn thrown_together(
+    alloc: Global,
+    dice: &mut Dice,
+    len: usize,
+) -> Result<Vec<Splice<'static>>, AllocError> {
+    let count = dice.below(5).saturating_add(1);
+    let (mut at, most) = match dice.below(2) {
+        0 => (0, len / count.max(1)),
+        _ => (dice.below(len.saturating_add(1)), 8),
+    };
+    let mut splices = Vec::new(alloc);
+    for _ in 0..count {
+        let edit = thrown(dice, most);
+        let a = at.saturating_add(edit.a).min(len);
+        let b = at.saturating_add(edit.b).min(len);
+        splices.push(part(a, b, edit.bytes))?;
+        at = b;
+    }
+    Ok(splices)
+}
+
+/// What undoes splices of these bytes, once they are made.
+fn undoing<'a>(
+    alloc: Global,
+    bytes: &'a [u8],
+    splices: &[Splice<'_>],
+) -> Result<Vec<Splice<'a>>, AllocError> {
+    let mut undone = Vec::new(alloc);
+    let (mut last, mut made): (usize, usize) = (0, 0);
+    for splice in splices {
+        let a = made.saturating_add(splice.a.saturating_sub(last));
+        made = a.saturating_add(splice.bytes.len());
+        last = splice.b;
+        let old = bytes.get(splice.a..splice.b).unwrap_or(b"");
+        undone.push(part(a, made, old))?;
+    }
+    Ok(undone)
+}
+
+#[test]
+fn random_batches(rt: HostRuntime) -> Result<(), Fail> {
+    let alloc = rt.alloc();
+    let seed = 20_261_130;
+    let mut dice = Dice(seed);
+    let mut bytes = Vec::from_slice(alloc, SCRIPT)?;
+    let mut session = opened(alloc, &bytes)?;
+    for turn in 0..2_000 {
+        let splices = thrown_together(alloc, &mut dice, bytes.len())?;
+        let old = Vec::from_slice(alloc, &bytes)?;
+        let right = is_right(alloc, &mut session, &mut bytes, &splices, 7)?;
+        assert!(rt; right, "seed {seed}, turn {turn}");
+        if is_undone(&mut dice, &session) {
+            let undone = undoing(alloc, &old, &splices)?;
+            let right = is_right(alloc, &mut session, &mut bytes, &undone, 7)?;
+            assert!(rt; right && bytes == old, "seed {seed}, turn {turn} undone");
+        }
+        if is_over(&mut dice, &session) {
+            let anew = part(0, bytes.len(), SCRIPT);
+            let right = is_right(alloc, &mut session, &mut bytes, &[anew], 7)?;
+            assert!(rt; right, "seed {seed}, turn {turn} anew");
+        }
+    }
+    Ok(())
+}
+
+/// The script behind so many newlines that its first chunk ends somewhere in it.
+fn behind_newlines(alloc: Global, dice: &mut Dice) -> Result<Vec<u8>, Fail> {
+    let count = 4_096_usize.saturating_sub(dice.below(SCRIPT.len()));
+    let mut bytes = vec![in alloc; b'\n'; count]?;
+    bytes.extend_from_slice(SCRIPT)?;
+    Ok(bytes)
+}
+
+/// A random edit of the last of these bytes, of which there are as many as the script has.
+fn thrown_behind(dice: &mut Dice, len: usize) -> Splice<'static> {
+    let begin = len.saturating_sub(SCRIPT.len());
+    let edit = thrown(dice, len.saturating_sub(begin));
+    let (a, b) = (begin.saturating_add(edit.a), begin.saturating_add(edit.b));
+    part(a, b, edit.bytes)
+}
+
+/// Edits where a chunk ends and the next one begins.
+#[test]
+fn over_chunks(rt: HostRuntime) -> Result<(), Fail> {
+    let alloc = rt.alloc();
+    let seed = 20_261_129;
+    let mut dice = Dice(seed);
+    for turn in 0..200 {
+        let mut bytes = behind_newlines(alloc, &mut dice)?;
+        let mut session = opened(alloc, &bytes)?;
+        for _ in 0..3 {
+            let edit = thrown_behind(&mut dice, bytes.len());
+            assert!(rt;
+                is_right(alloc, &mut session, &mut bytes, &[edit], 97)?,
+                "seed {seed}, turn {turn}"
+            );
         }
     }
     Ok(())
@@ -205,7 +383,7 @@ fn many_lines(rt: HostRuntime) -> Result<(), Fail> {
         let b = a.saturating_add(dice.below(most)).min(bytes.len());
         let new = lines(alloc, &mut dice)?;
         assert!(rt;
-            is_right(alloc, &mut session, &mut bytes, ((a, b), &new), 997)?,
+            is_right(alloc, &mut session, &mut bytes, &[part(a, b, &new)], 997)?,
             "seed {seed}, turn {turn}"
         );
     }

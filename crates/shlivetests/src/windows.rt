@@ -2,8 +2,8 @@
 // are those of the lines that the reader reads.
 use crate::window_begin::window_begin;
 use shread::Reader;
-use shtext::Flat;
-use shtreetests::spliced::spliced;
+use shtext::{Flat, Splice};
+use shtreetests::spliced::spliced_all;
 use std::alloc::Global;
 use std::test::Fail;
 
@@ -40,16 +40,16 @@ fn end(old: &[usize], new: &[usize], behind: usize, b: usize) -> Option<usize> {
     None
 }
 
-/// How many bytes an edit has to read.
-pub(crate) fn window(
-    alloc: Global,
-    bytes: &[u8],
-    (a, b): (usize, usize),
-    new: &[u8],
-) -> Result<usize, Fail> {
-    let made = spliced(alloc, bytes, a, b, new)?;
+/// How many bytes an edit of some splices has to read.
+pub(crate) fn window(alloc: Global, bytes: &[u8], splices: &[Splice<'_>]) -> Result<usize, Fail> {
+    let (Some(first), Some(last)) = (splices.first(), splices.last()) else {
+        return Ok(0);
+    };
+    let made = spliced_all(alloc, bytes, splices)?;
     let old = boundaries(alloc, bytes)?;
-    let behind = a.saturating_add(new.len());
-    let end = end(&old, &boundaries(alloc, &made)?, behind, b).unwrap_or(made.len());
-    Ok(end.saturating_sub(window_begin(&old, a)))
+    // What stands behind the last splice stays.
+    let stays = bytes.len().saturating_sub(last.b);
+    let behind = made.len().saturating_sub(stays);
+    let end = end(&old, &boundaries(alloc, &made)?, behind, last.b).unwrap_or(made.len());
+    Ok(end.saturating_sub(window_begin(&old, first.a)))
 }

@@ -1,8 +1,8 @@
 //! A text in a buffer, and the same in a vector.
 
 use crate::dice::Dice;
-use crate::spliced::spliced;
-use shtext::{Buffer, TextError};
+use crate::spliced::{spliced, spliced_all};
+use shtext::{Buffer, Splice, TextError};
 use std::alloc::{AllocError, Global};
 
 /// A buffer, and a vector with the bytes that it should have.
@@ -28,6 +28,11 @@ impl Both {
     /// The bytes with others in the place of those from `a` up to `b`.
     pub fn made(&self, a: usize, b: usize, new: &[u8]) -> Result<Vec<u8>, AllocError> {
         spliced(self.alloc, &self.bytes, a, b, new)
+    }
+
+    /// The bytes with splices made together.
+    pub fn all_made(&self, splices: &[Splice<'_>]) -> Result<Vec<u8>, AllocError> {
+        spliced_all(self.alloc, &self.bytes, splices)
     }
 
     /// Puts bytes in the place of those from `a` up to `b` in both, and answers those.

@@ -4,7 +4,10 @@ use crate::both::Both;
 use crate::devices::{PAGE, Page, Tape};
 use crate::dice::Dice;
 use crate::in_pieces::InPieces;
-use shtext::{Buffer, CHUNK, Failed, Flat, Input, Output, Source, TextError, line_col_of};
+use crate::spliced::part;
+use shtext::{
+    Buffer, CHUNK, Change, Failed, Flat, Input, Output, Source, Splice, TextError, line_col_of,
+};
 use std::alloc::{AllocError, Global};
 use std::io::{Read, Write};
 use std::test::Fail;
@@ -152,6 +155,64 @@ fn edited(rt: HostRuntime) -> Result<(), Fail> {
     Ok(())
 }
 
+/// Whether splices are previewed and made as asked for, and change no byte before they are made.
+fn edits_all(
+    alloc: Global,
+    old: &[u8],
+    splices: &[Splice<'_>],
+    edited: &[u8],
+) -> Result<bool, TextError> {
+    let mut buffer = Buffer::from_slice(alloc, old)?;
+    if splices.is_empty() {
+        return Ok(false);
+    }
+    let change = buffer.prepare_all(splices)?;
+    if !buffer.fits(&change) || !tells(&buffer, old) || !tells(&buffer.preview(&change), edited) {
+        return Ok(false);
+    }
+    buffer.commit(change);
+    Ok(tells(&buffer, edited))
+}
+
+/// A text, splices that are made together, and the edited text: far apart, one at the end of another, at one
+/// place in the order given, and of no bytes.
+#[test]
+fn edited_together(rt: HostRuntime) -> Result<(), Fail> {
+    for (old, splices, edited) in [
+        (
+            b"a\nb\nc\nd\n".as_slice(),
+            [part(0, 1, b"xyz"), part(6, 7, b"")].as_slice(),
+            b"xyz\nb\nc\n\n".as_slice(),
+        ),
+        (b"abcdef", &[part(1, 3, b"x"), part(3, 4, b"yz")], b"axyzef"),
+        (b"abc", &[part(1, 1, b"x"), part(1, 1, b"yz")], b"axyzbc"),
+        (b"abc", &[part(1, 1, b"x"), part(1, 2, b"yz")], b"axyzc"),
+        (b"abc", &[part(1, 2, b"x"), part(2, 2, b"yz")], b"axyzc"),
+        (
+            b"abc",
+            &[part(0, 1, b""), part(1, 2, b""), part(2, 3, b"")],
+            b"",
+        ),
+        (b"abc", &[part(0, 1, b""), part(3, 3, b"de")], b"bcde"),
+        (
+            b"abc",
+            &[part(3, 3, b"d"), part(3, 3, b""), part(3, 3, b"e")],
+            b"abcde",
+        ),
+        (
+            b"abcd",
+            &[part(0, 2, b"x"), part(2, 2, b""), part(3, 4, b"y")],
+            b"xcy",
+        ),
+        (b"abc", &[part(1, 1, b""), part(2, 2, b"")], b"abc"),
+        (b"", &[part(0, 0, b"b"), part(0, 0, b"a")], b"ba"),
+        (b"abcdef", &[part(1, 4, b"xy")], b"axyef"),
+    ] {
+        assert!(rt; edits_all(rt.alloc(), old, splices, edited)?, "{edited:?}");
+    }
+    Ok(())
+}
+
 /// An edit that puts back what another took out undoes it.
 #[test]
 fn undone(rt: HostRuntime) -> Result<(), Fail> {
@@ -199,7 +260,69 @@ fn refusals(rt: HostRuntime) -> Result<(), Fail> {
         TextError::Range as u8 == 1
             && TextError::TooLarge as u8 == 2
             && TextError::Memory as u8 == 3
+            && TextError::Order as u8 == 5
     );
+    Ok(())
+}
+
+/// Why a buffer refuses splices, of which there is one at least.
+fn refusal(buffer: &mut Buffer, splices: &[Splice<'_>]) -> Option<TextError> {
+    if splices.is_empty() {
+        return None;
+    }
+    buffer.prepare_all(splices).err()
+}
+
+/// Splices that are refused leave the bytes. That one is out of range is told first, then that they are out
+/// of order, then that the text would be too large.
+#[test]
+fn refused_together(rt: HostRuntime) -> Result<(), Fail> {
+    let large = letters(rt.alloc(), 16_777_217)?;
+    let most = large.get(..16_777_216).unwrap_or(b"");
+    let mut buffer = Buffer::from_slice(rt.alloc(), b"abc")?;
+    for (splices, error) in [
+        (
+            [part(1, 0, b""), part(1, 2, b"")].as_slice(),
+            TextError::Range,
+        ),
+        (&[part(0, 1, b""), part(3, 4, b"")], TextError::Range),
+        (
+            &[part(0, 1, b""), part(2, usize::MAX, b"")],
+            TextError::Range,
+        ),
+        (&[part(1, 3, &large), part(0, 4, b"")], TextError::Range),
+        (&[part(0, 2, b""), part(1, 3, b"")], TextError::Order),
+        (&[part(1, 2, b""), part(0, 0, b"")], TextError::Order),
+        (
+            &[part(0, 2, b""), part(1, 1, b""), part(2, 3, b"")],
+            TextError::Order,
+        ),
+        (&[part(1, 3, &large), part(0, 1, b"")], TextError::Order),
+        (&[part(0, 0, most), part(0, 2, b"")], TextError::TooLarge),
+        (&[part(0, 2, b""), part(3, 3, most)], TextError::TooLarge),
+    ] {
+        assert!(rt; refusal(&mut buffer, splices) == Some(error));
+        assert!(rt; tells(&buffer, b"abc"));
+    }
+    Ok(())
+}
+
+/// Splices make a text as large as a text may be, though the first of them alone would make it too large.
+#[test]
+fn made_together_at_the_limit(rt: HostRuntime) -> Result<(), Fail> {
+    let most = letters(rt.alloc(), 16_777_216)?;
+    let mut buffer = Buffer::from_slice(rt.alloc(), b"abc")?;
+    assert!(rt; buffer.prepare(0, 0, &most).err() == Some(TextError::TooLarge));
+    let change = buffer.prepare_all(&[part(0, 0, &most), part(0, 3, b"")])?;
+    buffer.commit(change);
+    assert!(rt; buffer.len() == 16_777_216 && buffer.byte(16_777_215) == Some(b'x'));
+    let one_more = [part(0, 2, b"y"), part(2, 2, b"yz")];
+    assert!(rt; buffer.prepare_all(&one_more).err() == Some(TextError::TooLarge));
+    let as_many = [part(0, 0, b"yz"), part(16_777_214, 16_777_216, b"")];
+    let change = buffer.prepare_all(&as_many)?;
+    buffer.commit(change);
+    assert!(rt; buffer.len() == 16_777_216 && buffer.byte(1) == Some(b'z'));
+    assert!(rt; buffer.byte(16_777_215) == Some(b'x'));
     Ok(())
 }
 
@@ -270,21 +393,36 @@ fn lines(alloc: Global, dice: &mut Dice, count: usize) -> Result<Vec<u8>, AllocE
     Ok(bytes)
 }
 
-/// Whether an edit is previewed, and made, as in the vector.
-fn edits_alike(both: &mut Both, (a, b): (usize, usize), new: &[u8]) -> Result<bool, TextError> {
-    let made = both.made(a, b, new)?;
-    let change = both.buffer.prepare(a, b, new)?;
+/// Whether a change is previewed, and made, as in the vector, which has these bytes then.
+fn makes_alike(both: &mut Both, change: Change, made: Vec<u8>) -> bool {
     if !both.buffer.fits(&change)
         || !tells_in_chunks(&both.buffer, &both.bytes)
         || !tells_in_chunks(&both.buffer.preview(&change), &made)
     {
-        return Ok(false);
+        return false;
     }
     both.buffer.commit(change);
     both.bytes = made;
     let count = both.buffer.chunk_count();
     let is_none = both.bytes.is_empty();
-    Ok(tells_in_chunks(&both.buffer, &both.bytes) && (count == 0) == is_none)
+    tells_in_chunks(&both.buffer, &both.bytes) && (count == 0) == is_none
+}
+
+/// Whether an edit is previewed, and made, as in the vector.
+fn edits_alike(both: &mut Both, (a, b): (usize, usize), new: &[u8]) -> Result<bool, TextError> {
+    let made = both.made(a, b, new)?;
+    let change = both.buffer.prepare(a, b, new)?;
+    Ok(makes_alike(both, change, made))
+}
+
+/// Whether an edit of splices is, of which there is one at least.
+fn edits_all_alike(both: &mut Both, splices: &[Splice<'_>]) -> Result<bool, TextError> {
+    if splices.is_empty() {
+        return Ok(false);
+    }
+    let made = both.all_made(splices)?;
+    let change = both.buffer.prepare_all(splices)?;
+    Ok(makes_alike(both, change, made))
 }
 
 /// Whether some places have the lines and columns that a walk over all bytes tells.
@@ -316,6 +454,90 @@ fn edited_alike(rt: HostRuntime) -> Result<(), Fail> {
         let new = lines(rt.alloc(), &mut dice, count)?;
         assert!(rt; edits_alike(&mut both, (a, b), &new)?, "round {round}");
         assert!(rt; has_places(&both, &mut dice), "round {round}");
+    }
+    Ok(())
+}
+
+/// Splices that rise in a text of so many bytes, at most 64: most take out few bytes and bring few of the
+/// pool, some more than a chunk has, and some begin where the one before ends.
+fn rising<'a>(
+    alloc: Global,
+    dice: &mut Dice,
+    len: usize,
+    pool: &'a [u8],
+) -> Result<Vec<Splice<'a>>, AllocError> {
+    let count = dice.below(64).saturating_add(1);
+    let mut splices = Vec::new(alloc);
+    let mut at: usize = 0;
+    for _ in 0..count {
+        let gap = if dice.below(4) == 0 {
+            1
+        } else {
+            len / count.max(1)
+        };
+        let a = at.saturating_add(dice.below(gap)).min(len);
+        let most = if dice.below(30) == 0 { 9_000 } else { 40 };
+        let b = a.saturating_add(dice.below(most)).min(len);
+        let from = dice.below(pool.len());
+        let new = pool.get(from..from.saturating_add(dice.below(most)));
+        splices.push(part(a, b, new.unwrap_or(b"")))?;
+        at = b;
+    }
+    Ok(splices)
+}
+
+/// A buffer and a vector, in which splices are made together, in text that lies in many chunks.
+#[test]
+fn spliced_alike(rt: HostRuntime) -> Result<(), Fail> {
+    let mut dice = Dice(13);
+    let pool = lines(rt.alloc(), &mut dice, 30_000)?;
+    let mut both = Both::of(rt.alloc(), &pool)?;
+    for round in 0..300 {
+        let len = both.bytes.len();
+        let splices = rising(rt.alloc(), &mut dice, len, &pool)?;
+        assert!(rt; edits_all_alike(&mut both, &splices)?, "round {round}");
+        assert!(rt; has_places(&both, &mut dice), "round {round}");
+        let len = both.bytes.len();
+        if !(20_000..=40_000).contains(&len) {
+            assert!(rt; edits_alike(&mut both, (0, len), &pool)?, "round {round}");
+        }
+    }
+    Ok(())
+}
+
+/// Splices at the seams of chunks, each time of the same text.
+#[test]
+fn spliced_at_seams(rt: HostRuntime) -> Result<(), Fail> {
+    let mut dice = Dice(17);
+    let text = lines(rt.alloc(), &mut dice, 3 * 4096 + 5)?;
+    let large = lines(rt.alloc(), &mut dice, 2 * 4096)?;
+    for splices in [
+        [part(4096, 4096, b"x"), part(8192, 8192, b"y")].as_slice(),
+        &[part(4095, 4096, b""), part(4096, 4097, b"")],
+        &[
+            part(0, 4096, b""),
+            part(4096, 8192, b""),
+            part(8192, 12_288, b""),
+        ],
+        &[
+            part(0, 0, &large),
+            part(4096, 4096, &large),
+            part(12_293, 12_293, &large),
+        ],
+        &[
+            part(1, 4095, b""),
+            part(4097, 8191, b""),
+            part(8193, 12_287, b""),
+        ],
+        &[
+            part(2048, 6144, &large),
+            part(6144, 10_240, b""),
+            part(10_240, 12_293, b"z"),
+        ],
+    ] {
+        let mut both = Both::of(rt.alloc(), &text)?;
+        assert!(rt; edits_all_alike(&mut both, splices)?);
+        assert!(rt; has_places(&both, &mut dice));
     }
     Ok(())
 }
@@ -366,6 +588,20 @@ fn prepared_twice(rt: HostRuntime) -> Result<(), Fail> {
         buffer.commit(first);
     }
     assert!(rt; buffer.len() == 20_002 && buffer.byte(20_001) == Some(b'c'));
+    Ok(())
+}
+
+/// Chunks that most bytes leave are joined: ten times 3,500 bytes go, and 596 stay between them.
+#[test]
+fn few_chunks(rt: HostRuntime) -> Result<(), Fail> {
+    let mut buffer = Buffer::from_slice(rt.alloc(), &vec![in rt.alloc(); b'a'; 40_960]?)?;
+    let mut a: usize = 0;
+    for _ in 0..10 {
+        let change = buffer.prepare(a, a.saturating_add(3_500), b"")?;
+        buffer.commit(change);
+        a = a.saturating_add(596);
+    }
+    assert!(rt; buffer.len() == 5_960 && buffer.chunk_count() <= 6);
     Ok(())
 }
 
