@@ -2,13 +2,19 @@
 """Keeps `shform session` in step with a file that is being edited, and shows its outline and its first fault.
 
   examples/client.py PROGRAM FILE [SECONDS]
+  examples/client.py PROGRAM FILE OLD NEW
 
 Looks at FILE each half second, sends what changed as one edit, and shows what is new. It ends after SECONDS, where they are given,
-or when it is interrupted.
+or when it is interrupted. With OLD and NEW it shows what the script is like with NEW in the place of each OLD, which it sends as
+batches, and ends. FILE is not written.
 """
+import os
+import re
 import subprocess
 import sys
 import time
+
+MOST_PARTS = 64  # of a batch
 
 
 class Session:
@@ -36,6 +42,22 @@ class Session:
         if not reply.startswith("ok "):
             raise ValueError(reply)
         self.text = self.text[:start] + new + self.text[end:]
+
+    def batch(self, parts):
+        """Makes at most MOST_PARTS edits (start, end, new) at once: they rise, by offsets before them all. Refused as an edit is."""
+        rows = [b"%d %d %d\n%b\n" % (start, end, len(new), new) for start, end, new in parts]
+        reply = self.ask(b"batch %d\n%b" % (len(rows), b"".join(rows)))
+        if not reply.startswith("ok "):
+            raise ValueError(reply)
+        for start, end, new in reversed(parts):
+            self.text = self.text[:start] + new + self.text[end:]
+
+    def replace(self, old, new):
+        """Puts bytes in the place of others wherever these stand: the last first, so that those before stay where they are."""
+        parts = [(found.start(), found.end(), new) for found in re.finditer(re.escape(old), self.text)]
+        while parts:
+            self.batch(parts[-MOST_PARTS:])
+            del parts[-MOST_PARTS:]
 
     def become(self, text):
         """Makes the script this text: one edit for what stands between the common begin and the common end."""
@@ -84,25 +106,38 @@ def show(session):
     print(flush=True)
 
 
-def main():
-    if len(sys.argv) not in (3, 4):
-        sys.exit(__doc__)
-    program, file = sys.argv[1:3]
-    ends = time.monotonic() + float(sys.argv[3]) if len(sys.argv) == 4 else None
-    session = Session(program)
+def read(file):
+    with open(file, "rb") as script:
+        return script.read()
+
+
+def watch(session, file, ends):
     shown = None
-    try:
-        while True:
-            with open(file, "rb") as script:
-                session.become(script.read())
-            if session.text != shown:
-                shown = session.text
-                show(session)
-            if ends is not None and time.monotonic() >= ends:
-                break
-            time.sleep(0.5)
-    except KeyboardInterrupt:
-        pass
+    while True:
+        session.become(read(file))
+        if session.text != shown:
+            shown = session.text
+            show(session)
+        if ends is not None and time.monotonic() >= ends:
+            break
+        time.sleep(0.5)
+
+
+def main():
+    if len(sys.argv) not in (3, 4, 5):
+        sys.exit(__doc__)
+    program, file, *words = sys.argv[1:]
+    ends = time.monotonic() + float(words[0]) if len(words) == 1 else None
+    session = Session(program)
+    if len(words) == 2:
+        session.become(read(file))
+        session.replace(*map(os.fsencode, words))
+        show(session)
+    else:
+        try:
+            watch(session, file, ends)
+        except KeyboardInterrupt:
+            pass
     sys.exit(session.quit())
 
 
