@@ -29,10 +29,15 @@ def edit(start, end, new):
     return b"edit %d %d %d\n%b\n" % (start, end, len(new), new)
 
 
+def batch(*parts):
+    return b"batch %d\n" % len(parts) + b"".join(b"%d %d %d\n%b\n" % (start, end, len(new), new) for start, end, new in parts)
+
+
 def requests_of(script):
     """What a session is asked. Each leaves the script as it was."""
     at, text = script.at, script.text
-    old, deeper = text[at : at + 1], b"$(b)"
+    size, old, deeper = len(text), text[at : at + 1], b"$(b)"
+    behind = size - len(old) + 2  # the length, with two bytes in the place of the old one
     return {
         "open": b"",
         "fault": b"fault\n",
@@ -42,8 +47,12 @@ def requests_of(script):
         "edit": edit(at, at + len(old), b"cc") + edit(at, at + 2, old),
         "edit deeper": edit(at, at + len(old), deeper) + b"fault\nprint\n" + edit(at, at + len(deeper), old),
         "edit of a quote": edit(0, 0, b"'") + b"outline\n" + edit(0, 1, b""),
-        "edit of all": edit(0, len(text), b"") + edit(0, 0, text),
+        "edit of all": edit(0, size, b"") + edit(0, 0, text),
         "refused": edit(1, 0, b"") + b"edit 0 0 0\nx\nstatus\n",
+        "batch": batch((at, at + len(old), b"cc"), (size, size, b"\n")) + batch((at, at + 2, old), (behind, behind + 1, b"")),
+        "batch of quotes": batch((0, 0, b"'"), (size, size, b"'")) + b"outline\n" + batch((0, 1, b""), (size + 1, size + 2, b"")),
+        "batch of all": batch((0, at, b""), (at, size, b"")) + batch((0, 0, text[:at]), (0, 0, text[at:])),
+        "refused batches": batch((0, 0, text), (1, 0, b"")) + batch((size, size, text), (0, 0, text)) + b"batch 2\n0 0 1\nb\n0 0 1\nbb\n",
     }
 
 
