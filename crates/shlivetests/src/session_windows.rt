@@ -127,23 +127,32 @@ fn batches(rt: HostRuntime) -> Result<(), Fail> {
     Ok(())
 }
 
+/// Whether a session of `a\nb\nc\n` refuses splices, and leaves the script and the meter.
+fn refuses(session: &mut Session, splices: &[Splice<'_>], error: LiveError) -> bool {
+    make(session, splices) == Err(error) && session.meter() == 6 && session.script_len() == 6
+}
+
+/// Whether it refuses splices with so many bytes: out of order, else too large.
+fn refuses_most(session: &mut Session, most: &[u8]) -> bool {
+    let none: &[u8] = most.get(..0).unwrap_or(most);
+    let out_of_order = [part(0, 3, most), part(2, 4, none)];
+    let too_large = [part(0, 5, none), part(5, 5, most)];
+    refuses(session, &out_of_order, LiveError::Order)
+        && refuses(session, &too_large, LiveError::TooLarge)
+}
+
 /// Splices that are refused leave the script and the meter.
 #[test]
 fn refused_together(rt: HostRuntime) -> Result<(), Fail> {
     let most = vec![in rt.alloc(); b'x'; 16_777_216]?;
     let mut session = opened(rt.alloc(), b"a\nb\nc\n")?;
-    for (splices, error) in [
-        (
-            [part(0, 1, b""), part(6, 7, b"")].as_slice(),
-            LiveError::Range,
-        ),
-        (&[part(4, 3, b""), part(0, 1, b"")], LiveError::Range),
-        (&[part(0, 3, &most), part(2, 4, b"")], LiveError::Order),
-        (&[part(0, 5, b""), part(5, 5, &most)], LiveError::TooLarge),
+    for splices in [
+        [part(0, 1, b""), part(6, 7, b"")].as_slice(),
+        &[part(4, 3, b""), part(0, 1, b"")],
     ] {
-        assert!(rt; make(&mut session, splices) == Err(error));
-        assert!(rt; session.meter() == 6 && session.script_len() == 6);
+        assert!(rt; refuses(&mut session, splices, LiveError::Range));
     }
+    assert!(rt; refuses_most(&mut session, &most));
     assert!(rt;
         LiveError::Range as u8 == 1
             && LiveError::TooLarge as u8 == 2

@@ -265,20 +265,18 @@ fn refusals(rt: HostRuntime) -> Result<(), Fail> {
     Ok(())
 }
 
-/// Why a buffer refuses splices, of which there is one at least.
-fn refusal(buffer: &mut Buffer, splices: &[Splice<'_>]) -> Option<TextError> {
+/// Whether a buffer of `abc` refuses splices, of which there is one at least, and leaves its bytes.
+fn is_refused(buffer: &mut Buffer, splices: &[Splice<'_>], error: TextError) -> bool {
     if splices.is_empty() {
-        return None;
+        return false;
     }
-    buffer.prepare_all(splices).err()
+    buffer.prepare_all(splices).err() == Some(error) && tells(buffer, b"abc")
 }
 
 /// Splices that are refused leave the bytes. That one is out of range is told first, then that they are out
-/// of order, then that the text would be too large.
+/// of order.
 #[test]
 fn refused_together(rt: HostRuntime) -> Result<(), Fail> {
-    let large = letters(rt.alloc(), 16_777_217)?;
-    let most = large.get(..16_777_216).unwrap_or(b"");
     let mut buffer = Buffer::from_slice(rt.alloc(), b"abc")?;
     for (splices, error) in [
         (
@@ -290,20 +288,39 @@ fn refused_together(rt: HostRuntime) -> Result<(), Fail> {
             &[part(0, 1, b""), part(2, usize::MAX, b"")],
             TextError::Range,
         ),
-        (&[part(1, 3, &large), part(0, 4, b"")], TextError::Range),
+        (&[part(1, 3, b"x"), part(0, 4, b"")], TextError::Range),
         (&[part(0, 2, b""), part(1, 3, b"")], TextError::Order),
         (&[part(1, 2, b""), part(0, 0, b"")], TextError::Order),
         (
             &[part(0, 2, b""), part(1, 1, b""), part(2, 3, b"")],
             TextError::Order,
         ),
-        (&[part(1, 3, &large), part(0, 1, b"")], TextError::Order),
-        (&[part(0, 0, most), part(0, 2, b"")], TextError::TooLarge),
-        (&[part(0, 2, b""), part(3, 3, most)], TextError::TooLarge),
     ] {
-        assert!(rt; refusal(&mut buffer, splices) == Some(error));
-        assert!(rt; tells(&buffer, b"abc"));
+        assert!(rt; is_refused(&mut buffer, splices, error));
     }
+    Ok(())
+}
+
+/// Whether splices with many bytes are refused: where they are out of range or out of order for that, else
+/// because they make a text too large. One has these bytes, and others have more than a text may have.
+fn are_refused(buffer: &mut Buffer, most: &[u8], large: &[u8]) -> bool {
+    let out_of_range = [part(1, 3, large), part(0, 4, large)];
+    let out_of_order = [part(1, 3, large), part(0, 1, large)];
+    let none: &[u8] = most.get(..0).unwrap_or(most);
+    let too_large = [part(0, 0, most), part(0, 2, none)];
+    let too_large_behind = [part(0, 2, none), part(3, 3, most)];
+    is_refused(buffer, &out_of_range, TextError::Range)
+        && is_refused(buffer, &out_of_order, TextError::Order)
+        && is_refused(buffer, &too_large, TextError::TooLarge)
+        && is_refused(buffer, &too_large_behind, TextError::TooLarge)
+}
+
+#[test]
+fn large_refused_together(rt: HostRuntime) -> Result<(), Fail> {
+    let large = letters(rt.alloc(), 16_777_217)?;
+    let most = letters(rt.alloc(), 16_777_216)?;
+    let mut buffer = Buffer::from_slice(rt.alloc(), b"abc")?;
+    assert!(rt; are_refused(&mut buffer, &most, &large));
     Ok(())
 }
 
@@ -505,12 +522,22 @@ fn spliced_alike(rt: HostRuntime) -> Result<(), Fail> {
     Ok(())
 }
 
+/// Whether a buffer and a vector of the same bytes are alike when splices are made of both.
+fn makes_of(
+    alloc: Global,
+    dice: &mut Dice,
+    text: &[u8],
+    splices: &[Splice<'_>],
+) -> Result<bool, TextError> {
+    let mut both = Both::of(alloc, text)?;
+    Ok(edits_all_alike(&mut both, splices)? && has_places(&both, dice))
+}
+
 /// Splices at the seams of chunks, each time of the same text.
 #[test]
 fn spliced_at_seams(rt: HostRuntime) -> Result<(), Fail> {
     let mut dice = Dice(17);
     let text = lines(rt.alloc(), &mut dice, 3 * 4096 + 5)?;
-    let large = lines(rt.alloc(), &mut dice, 2 * 4096)?;
     for splices in [
         [part(4096, 4096, b"x"), part(8192, 8192, b"y")].as_slice(),
         &[part(4095, 4096, b""), part(4096, 4097, b"")],
@@ -520,25 +547,43 @@ fn spliced_at_seams(rt: HostRuntime) -> Result<(), Fail> {
             part(8192, 12_288, b""),
         ],
         &[
-            part(0, 0, &large),
-            part(4096, 4096, &large),
-            part(12_293, 12_293, &large),
-        ],
-        &[
             part(1, 4095, b""),
             part(4097, 8191, b""),
             part(8193, 12_287, b""),
         ],
-        &[
-            part(2048, 6144, &large),
-            part(6144, 10_240, b""),
-            part(10_240, 12_293, b"z"),
-        ],
     ] {
-        let mut both = Both::of(rt.alloc(), &text)?;
-        assert!(rt; edits_all_alike(&mut both, splices)?);
-        assert!(rt; has_places(&both, &mut dice));
+        assert!(rt; makes_of(rt.alloc(), &mut dice, &text, splices)?);
     }
+    Ok(())
+}
+
+/// Whether splices with these bytes, of some chunks, are made alike: between chunks and over their seams.
+fn makes_large(
+    alloc: Global,
+    dice: &mut Dice,
+    text: &[u8],
+    large: &[u8],
+) -> Result<bool, TextError> {
+    let none: &[u8] = large.get(..0).unwrap_or(large);
+    let between = [
+        part(0, 0, large),
+        part(4096, 4096, large),
+        part(12_293, 12_293, large),
+    ];
+    let over = [
+        part(2048, 6144, large),
+        part(6144, 10_240, none),
+        part(10_240, 12_293, large),
+    ];
+    Ok(makes_of(alloc, dice, text, &between)? && makes_of(alloc, dice, text, &over)?)
+}
+
+#[test]
+fn chunks_spliced_at_seams(rt: HostRuntime) -> Result<(), Fail> {
+    let mut dice = Dice(18);
+    let text = lines(rt.alloc(), &mut dice, 3 * 4096 + 5)?;
+    let large = lines(rt.alloc(), &mut dice, 2 * 4096)?;
+    assert!(rt; makes_large(rt.alloc(), &mut dice, &text, &large)?);
     Ok(())
 }
 
