@@ -1,10 +1,11 @@
-/* Refuses one growth of a process, counted from where it is asked for, and counts what is given back.
-   tests/refused-growths and tests/leaks load it by LD_PRELOAD.
+/* Refuses one growth of a process, counted from where it is asked for, or many by chance, and counts what is
+   given back. tests/refused-growths, tests/leaks and tests/soak load it by LD_PRELOAD.
 
    A process asks by a request for PTRDIFF_MAX - n bytes, 1 <= n < 65536, which no allocator grants: the nth
    growth from there on is refused, and no later one. With REFUSE=n in the environment it is the nth growth
-   of the process. A block that is made smaller is no growth. With KEEP=n the nth block that is given back
-   is kept.
+   of the process; with ONE_IN=k too, each growth from the nth on is refused by chance, one in k, as the
+   numbers from SEED on have it. A block that is made smaller is no growth. With KEEP=n the nth block that is
+   given back is kept.
 
    To the file named by REFUSE_LOG it writes a line "loaded" at the start, a line "refused" for each refusal
    at once, and at the end a line "end" with three numbers: the growths, the blocks that were given back,
@@ -23,8 +24,10 @@
 
 enum { FARTHEST = 65536 };
 
-static long due;  /* the number of growths up to the refused one, 0 if none is to be */
-static long keep; /* which block is kept that is given back, 0 if none is to be */
+static long due;    /* the number of growths up to the refused one, 0 if none is to be */
+static long one_in; /* of how many growths from there on one is refused by chance, 0 if that one alone is */
+static uint64_t number_drawn;
+static long keep;   /* which block is kept that is given back, 0 if none is to be */
 static long growths, given_back, left;
 static void *(*next_malloc)(size_t);
 static void *(*next_realloc)(void *, size_t);
@@ -54,6 +57,8 @@ __attribute__((constructor)) static void begin(void)
     next_malloc = (void *(*)(size_t))dlsym(RTLD_NEXT, "malloc");
     note("loaded\n");
     keep = number("KEEP");
+    one_in = number("ONE_IN");
+    number_drawn = (uint64_t)number("SEED");
     due = number("REFUSE");
     growths = given_back = left = 0;
 }
@@ -65,10 +70,18 @@ __attribute__((destructor)) static void end(void)
     note(line);
 }
 
+/* Whether chance refuses this growth. The next one is due too. */
+static int is_drawn(void)
+{
+    due = 1;
+    number_drawn = number_drawn * 6364136223846793005u + 1442695040888963407u;
+    return (number_drawn >> 33) % (uint64_t)one_in == 0;
+}
+
 static int is_refused(void)
 {
     growths++;
-    if (due == 0 || --due > 0)
+    if (due == 0 || --due > 0 || (one_in > 0 && !is_drawn()))
         return 0;
     note("refused\n");
     return 1;
