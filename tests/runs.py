@@ -8,6 +8,8 @@ import sys
 import tempfile
 from typing import NamedTuple
 
+from edits import batch_of
+
 HERE = os.path.dirname(os.path.realpath(__file__))
 PROGRAM = f"{os.path.dirname(HERE)}/crates/shform/out/shform"
 SECONDS = 60
@@ -30,7 +32,7 @@ def edit(start, end, new):
 
 
 def batch(*parts):
-    return b"batch %d\n" % len(parts) + b"".join(b"%d %d %d\n%b\n" % (start, end, len(new), new) for start, end, new in parts)
+    return batch_of(parts)
 
 
 def requests_of(script):
