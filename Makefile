@@ -22,6 +22,7 @@ test:
 scripts: $(PROGRAM) $(TESTS)
 	tests/run
 	tests/session
+	tests/soak
 	tests/lsp
 	tests/refused-growths
 	tests/leaks

@@ -1,4 +1,5 @@
-"""What tests/stack and tests/leaks ask of the program over a script, and how they run it over many."""
+"""What tests/stack and tests/leaks ask of the program over a script, and how they and tests/soak run it over
+many."""
 import argparse
 import functools
 import multiprocessing
