@@ -7,10 +7,12 @@ use Rattle.shlive.specs.Held.{Held}
 use Rattle.shlive.specs.Ahead.{Ahead, StopsBy, Takes}
 use Rattle.shlive.specs.Lines.{IsInLine}
 use Rattle.shtext.specs.Edit.{ASplice}
-use Rattle.shlive.specs.Requests.{EndsBy, Request, Sense, asks, behind_bytes, clean, cut, edit, edit_alone, first_line, flawed, more_parts, next_by_line, next_by_order, next_of, nothing, order_of_line, part_by_line, splice_by, unfinished, with_bytes}
+use Rattle.shlive.specs.Requests.{EndsBy, Request, Sense, asks, behind_bytes, clean, cut, edit, edit_alone, first_line, flawed, more_parts, next_by_form, next_by_line, next_by_order, next_of, nothing, order_of_line, part_by_line, splice_by, unfinished, with_bytes}
 use Rattle.shlive.specs.Turns.{EndsAs, NoFurther, Replied, Spells, Stays, Tells, end_between, end_inside}
 use Rattle.shlive.specs.declared.incoming.Stop.{Stop}
 use Rattle.shlive.specs.declared.incoming.Stop.TheVariants as stops
+use Rattle.shlive.specs.declared.order.EditForm.{EditForm}
+use Rattle.shlive.specs.declared.order.EditForm.TheVariants as forms
 use Rattle.shlive.specs.declared.order.Order.{Order}
 use Rattle.shlive.specs.declared.order.Part.{Part}
 use Rattle.shlive.specs.declared.parts.Flaw.TheVariants.{NoPayload}
@@ -66,14 +68,18 @@ pub parts_on : (left : ℕ) (ss : Row ASplice) (rest : List ℕ) → 0 < left
 parts_on zero ss rest none = absurd (omega (arith, none))
 parts_on (suc n) ss rest more = let less : n ≡ suc n - 1 = omega arith in ap (λ m. part_by_line (λ s. more_parts m (ss ++ s ∷ [])) (first_line rest)) less
 
-pub parts_begin : (count : ℕ) (ss : Row ASplice) → more_parts count ss [] ≡ nothing → ⊥
+parts_begin : (count : ℕ) (ss : Row ASplice) → more_parts count ss [] ≡ nothing → ⊥
 parts_begin zero ss e = let wrong : asks (edit ss) [] ≡ nothing = e in absurd cc
 parts_begin (suc n) ss e = let wrong : unfinished ≡ nothing = e in absurd cc
 
-pub edit_begins : (part : Part) → with_bytes part edit_alone [] ≡ nothing → ⊥
+edit_begins : (part : Part) → with_bytes part edit_alone [] ≡ nothing → ⊥
 edit_begins part e =
     let cut : with_bytes part edit_alone [] ≡ unfinished = ap (λ l. behind_bytes (edit_alone (splice_by part (take part.count []))) (first_line l)) (drop_all part.count [] (omega arith)) in
     let wrong : unfinished ≡ nothing = sym cut ∙ e in absurd cc
+
+pub form_begins : (form : EditForm) → next_by_form form [] ≡ nothing → ⊥
+form_begins (forms.Alone part) e = edit_begins part e
+form_begins (forms.Batch count) e = parts_begin count [] e
 
 -- what waited was taken, where nothing waits any more
 pub some_taken : (old new : Ahead) (taken : List ℕ) → Takes old new taken → 0 < length old.waiting.bytes → new.waiting.bytes ≡ [] → 0 < length taken

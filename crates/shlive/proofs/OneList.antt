@@ -5,6 +5,7 @@ use Rattle.shtext.specs.Edit.{ASplice}
 use Rattle.shlive.specs.Requests.{Begins, Ending, EndsBy, Lined, Next, Request, Requests, Sense, asks, behind, behind_bytes, clean, cut, edit_alone, first_line, leaves, left, more_parts, next_by_line, next_by_order, next_by_part, next_of, none_yet, nothing, one_more, order_of_line, part_by_line, part_of_line, splice_by, unfinished, with_bytes}
 use Rattle.shlive.specs.declared.order.Order.{Order}
 use Rattle.shlive.specs.declared.order.Part.{Part}
+use Rattle.shlive.specs.declared.order.EditForm.TheVariants as forms
 use Rattle.shlive.specs.declared.order.Order.TheVariants as orders
 
 -- ---- what follows a request is shorter
@@ -62,8 +63,8 @@ leaves_parts (suc count) ss n rest low =
     leaves_part_line (λ s. more_parts count (ss ++ s ∷ [])) rest (first_line rest) n (line_shorter rest) low (λ s. leaves_parts count (ss ++ s ∷ []) n)
 
 leaves_order : (order : Option Order) (rest : List ℕ) (n : ℕ) → length rest < n → Leaves n (next_by_order order rest)
-leaves_order (Some (orders.Edit part)) rest n low = leaves_bytes part edit_alone rest n low (λ s r less. less)
-leaves_order (Some (orders.Batch count)) rest n low = leaves_parts count [] n rest low
+leaves_order (Some (orders.Edit (forms.Alone part))) rest n low = leaves_bytes part edit_alone rest n low (λ s r less. less)
+leaves_order (Some (orders.Edit (forms.Batch count))) rest n low = leaves_parts count [] n rest low
 leaves_order (Some (orders.Ask question)) rest n low = low
 leaves_order (Some orders.Quit) rest n low = tt
 leaves_order None rest n low = low

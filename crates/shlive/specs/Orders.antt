@@ -1,8 +1,10 @@
 -- What the line of a request asks for: words, parted by one blank each, and numbers.
 use Rattle.std.specs.Prelude.{ℕ, ◌+◌, ◌-◌, ◌*◌, ◌<◌, ◌==◌, Bool, ◌&&◌, not, nat_le, nat_lt, List, [], ◌∷◌, ◌++◌, length, Option, None, Some, option_and_then, option_map, codes, if◌then◌else◌}
 use Rattle.std.specs.Str.{bytes_eq}
+use Rattle.shlive.specs.declared.order.EditForm.{EditForm}
+use Rattle.shlive.specs.declared.order.EditForm.TheVariants.{Alone, Batch}
 use Rattle.shlive.specs.declared.order.Order.{Order}
-use Rattle.shlive.specs.declared.order.Order.TheVariants.{Edit, Batch, Ask, Quit}
+use Rattle.shlive.specs.declared.order.Order.TheVariants.{Edit, Ask, Quit}
 use Rattle.shlive.specs.declared.order.Part.{Part}
 use Rattle.shlive.specs.declared.order.Question.TheVariants.{Outline, At, Fault, Print}
 
@@ -65,18 +67,22 @@ asked word =
 
 -- a batch has 1 to 64 parts
 abbrev pub batch_of : ℕ → Option Order
-batch_of n = if nat_le 1 n && nat_le n 64 then Some (Batch n) else None
+batch_of n = if nat_le 1 n && nat_le n 64 then Some (Edit (Batch n)) else None
 
 -- a batch has a part
+abbrev pub HasPart : EditForm → Type 0
+HasPart (Alone p) = Unit {0}
+HasPart (Batch n) = 0 < n
+
 abbrev pub HasParts : Order → Type 0
-HasParts (Batch n) = 0 < n
+HasParts (Edit form) = HasPart form
 HasParts _ = Unit {0}
 
 -- a request of a name and more words
 abbrev pub named : List ℕ → List (List ℕ) → Option Order
 named name ws =
     if bytes_eq name (codes "at") then option_map (λ n. Ask (At n)) (number_alone ws)
-    else if bytes_eq name (codes "edit") then option_map Edit (part_of_words ws)
+    else if bytes_eq name (codes "edit") then option_map (λ p. Edit (Alone p)) (part_of_words ws)
     else if bytes_eq name (codes "batch") then option_and_then batch_of (number_alone ws) else None
 
 abbrev pub order_of_words : List (List ℕ) → Option Order

@@ -3,6 +3,8 @@ use Rattle.std.specs.Prelude.{◌≡◌, zero, suc, ℕ, nat_le, List, [], ◌�
 use Rattle.shtext.specs.Edit.{ASplice}
 use Rattle.shtext.specs.Text.{is_newline}
 use Rattle.shlive.specs.Orders.{order_of, part_of}
+use Rattle.shlive.specs.declared.order.EditForm.{EditForm}
+use Rattle.shlive.specs.declared.order.EditForm.TheVariants as forms
 use Rattle.shlive.specs.declared.order.Order.{Order}
 use Rattle.shlive.specs.declared.order.Order.TheVariants as orders
 use Rattle.shlive.specs.declared.order.Part.{Part}
@@ -104,10 +106,14 @@ request_of (questions.At p) = at p
 request_of questions.Fault = fault
 request_of questions.Print = print
 
+-- the edit that splices make which come so
+abbrev pub next_by_form : EditForm → Sense
+next_by_form (forms.Alone p) = with_bytes p edit_alone
+next_by_form (forms.Batch n) = more_parts n []
+
 -- what a line asks for, by what follows it
 abbrev pub next_by_order : Option Order → List ℕ → Next
-next_by_order (Some (orders.Edit p)) rest = with_bytes p edit_alone rest
-next_by_order (Some (orders.Batch n)) rest = more_parts n [] rest
+next_by_order (Some (orders.Edit form)) rest = next_by_form form rest
 next_by_order (Some (orders.Ask question)) rest = asks (request_of question) rest
 next_by_order (Some orders.Quit) rest = leaves
 next_by_order None rest = asks unknown rest

@@ -22,13 +22,20 @@ pub(crate) struct Part {
     pub(crate) count: usize,
 }
 
+/// How the splices of an edit come.
+#[derive(Clone, Copy, Debug, PartialEq, Eq)]
+pub(crate) enum EditForm {
+    /// One, whose bytes follow the line of the request.
+    Alone(Part),
+    /// So many, each of which has a line of its own.
+    Batch(usize),
+}
+
 /// What a line asks for.
 #[derive(Clone, Copy, Debug, PartialEq, Eq)]
 pub(crate) enum Order {
-    /// An edit of one splice.
-    Edit(Part),
-    /// An edit of so many splices, each of which has a line of its own.
-    Batch(usize),
+    /// A change of the script.
+    Edit(EditForm),
     /// An answer.
     Ask(Question),
     /// The end of the run.
@@ -121,7 +128,7 @@ fn batch_of(count: usize) -> Option<Order>
     ensures parts { IfSome result HasParts }
 {
     if 1 <= count && count <= MOST_PARTS {
-        Some(Order::Batch(count))
+        Some(Order::Edit(EditForm::Batch(count)))
     } else {
         None
     }
@@ -135,7 +142,7 @@ fn named(name: &[u8], rest: &[u8]) -> Option<Order>
     if name == b"at".as_slice() {
         Some(Order::Ask(Question::At(number_alone(rest)?)))
     } else if name == b"edit".as_slice() {
-        Some(Order::Edit(part_of(rest)?))
+        Some(Order::Edit(EditForm::Alone(part_of(rest)?)))
     } else if name == b"batch".as_slice() {
         batch_of(number_alone(rest)?)
     } else {

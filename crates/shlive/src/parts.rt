@@ -6,12 +6,13 @@ ghost use Rattle.shlive.specs.Ahead.{IsOpen, StopsBy, Takes, ahead_of, too_many}
 ghost use Rattle.shlive.specs.Lines.{Keeps};
 ghost use Rattle.shlive.specs.Parts.{AreSplices, Comes, Hold, after_bytes};
 ghost use Rattle.shlive.specs.Payload.{AreKept};
-ghost use Rattle.shlive.specs.Requests.{Sense, edit_alone, more_parts, part_of_line, splice_by, unfinished, with_bytes};
+ghost use Rattle.shlive.specs.Orders.{HasPart};
+ghost use Rattle.shlive.specs.Requests.{Sense, more_parts, next_by_form, part_of_line, splice_by, unfinished, with_bytes};
 ghost use Rattle.shlive.specs.Turns.{Spells};
 
 use crate::incoming::{Incoming, Stop};
 use crate::lines::{Line, take_line};
-use crate::order::{Part, part_of};
+use crate::order::{EditForm, Part, part_of};
 use crate::payload::take_payload;
 use shtext::{Input, LIMIT, Tally, TextError};
 use std::alloc::Global;
@@ -116,7 +117,7 @@ fn with_one(
 }
 
 /// Takes the bytes of a splice and the newline behind them, and keeps the splice behind the others.
-pub(crate) fn take_bytes<R: Read>(
+fn take_bytes<R: Read>(
     alloc: Global,
     incoming: &mut Incoming,
     input: &mut Input<R>,
@@ -153,28 +154,8 @@ pub(crate) fn take_bytes<R: Read>(
     }
 }
 
-/// Takes the bytes of the one splice of an edit.
-pub(crate) fn take_splice<R: Read>(
-    alloc: Global,
-    incoming: &mut Incoming,
-    input: &mut Input<R>,
-    part: Part,
-    parts: &mut Parts,
-) -> Result<Result<(), Flaw>, Stop>
-    requires open { IsOpen input.old }
-    requires few { incoming.old.count < too_many }
-    ensures open { OnOk result (IsOpen input.new) }
-    ensures few { OnOk result (incoming.new.count < too_many) }
-    ensures comes { (len : ℕ) → Hold parts.old len [] →
-        Comes (with_bytes part edit_alone)
-        (ahead_of R.remaining input.old incoming.old) (ahead_of R.remaining input.new incoming.new)
-        (input_failed input.new) (input_ended input.new) parts.new len result }
-{
-    take_bytes(alloc, incoming, input, part, true, parts)
-}
-
 /// Takes so many parts of an edit, up to the first flaw.
-pub(crate) fn take_parts<R: Read>(
+fn take_parts<R: Read>(
     alloc: Global,
     incoming: &mut Incoming,
     input: &mut Input<R>,
@@ -213,5 +194,29 @@ fn part_of_line(line: &Line) -> Option<Part>
     match line.text() {
         Some(text) => part_of(text),
         None => None,
+    }
+}
+
+/// Takes the splices of an edit, up to the first flaw.
+pub(crate) fn take_splices<R: Read>(
+    alloc: Global,
+    incoming: &mut Incoming,
+    input: &mut Input<R>,
+    form: EditForm,
+    parts: &mut Parts,
+) -> Result<Result<(), Flaw>, Stop>
+    requires some { HasPart form }
+    requires open { IsOpen input.old }
+    requires few { incoming.old.count < too_many }
+    ensures open { OnOk result (IsOpen input.new) }
+    ensures few { OnOk result (incoming.new.count < too_many) }
+    ensures comes { (len : ℕ) → Hold parts.old len [] →
+        Comes (next_by_form form)
+        (ahead_of R.remaining input.old incoming.old) (ahead_of R.remaining input.new incoming.new)
+        (input_failed input.new) (input_ended input.new) parts.new len result }
+{
+    match form {
+        EditForm::Alone(part) => take_bytes(alloc, incoming, input, part, true, parts),
+        EditForm::Batch(count) => take_parts(alloc, incoming, input, count, parts),
     }
 }

@@ -3,17 +3,16 @@ ghost use Rattle.std.specs.Prelude.{◌≡◌, ◌<◌, ◌||◌, Bool, IfErr, I
 ghost use Rattle.shtext.specs.Device.{held_of, input_ended, input_failed, left_of, output_failed};
 ghost use Rattle.shlive.specs.Ahead.{Ahead, IsOpen, ahead_of, too_many};
 ghost use Rattle.shlive.specs.Lines.{Keeps};
-ghost use Rattle.shlive.specs.Orders.{HasParts};
+ghost use Rattle.shlive.specs.Orders.{HasPart, HasParts};
 ghost use Rattle.shlive.specs.Parts.{Comes};
-ghost use Rattle.shlive.specs.Requests.{Sense, next_by_order, next_of, order_of_line, request_of};
+ghost use Rattle.shlive.specs.Requests.{Sense, next_by_form, next_of, order_of_line, request_of};
 ghost use Rattle.shlive.specs.Runs.{HasAnswer, IsRun};
 ghost use Rattle.shlive.specs.Turns.{EndsAs, Replied, Tells, end_between, end_inside};
-ghost use Rattle.shlive.specs.declared.order.Order.TheVariants.{Batch, Edit};
 
 use crate::incoming::{Incoming, Stop};
 use crate::lines::{Line, take_line};
-use crate::order::{Order, Part, Question, order_of};
-use crate::parts::{Flaw, Parts, take_parts, take_splice};
+use crate::order::{EditForm, Order, Question, order_of};
+use crate::parts::{Flaw, Parts, take_splices};
 use crate::replies::{
     reply_to_at, reply_to_edit, reply_to_fault, reply_to_outline, reply_to_print,
 };
@@ -134,62 +133,33 @@ fn answer_came<W: Write>(
     }
 }
 
-/// Takes the bytes that an edit brings and the newline behind them, and replies.
+/// Takes what an edit brings, and replies.
 fn answer_edit<R: Read, W: Write>(
     alloc: Global,
     session: &mut Session,
     incoming: &mut Incoming,
     input: &mut Input<R>,
     output: &mut Output<W>,
-    part: Part,
+    form: EditForm,
 ) -> Result<(), End>
+    requires some { HasPart form }
     requires open { IsOpen input.old }
     requires few { incoming.old.count < too_many }
     requires unbroken { output_failed output.old ≡ false }
     ensures open { OnOk result (IsOpen input.new) }
     ensures few { OnOk result (incoming.new.count < too_many) }
     ensures unbroken { OnOk result (output_failed output.new ≡ false) }
-    ensures ok { OnOk result (Replied (next_by_order (Some (Edit part))) session.old session.new
+    ensures ok { OnOk result (Replied (next_by_form form) session.old session.new
         (ahead_of R.remaining input.old incoming.old) (ahead_of R.remaining input.new incoming.new)
         (held_of W.contents output.old) (held_of W.contents output.new) false) }
-    ensures err { IfErr result (λ end. EndsAs (next_by_order (Some (Edit part))) end
+    ensures err { IfErr result (λ end. EndsAs (next_by_form form) end
         session.old session.new
         (ahead_of R.remaining input.old incoming.old) (ahead_of R.remaining input.new incoming.new)
         (input_failed input.new) (input_ended input.new)
         (held_of W.contents output.old) (held_of W.contents output.new) (output_failed output.new)) }
 {
     let mut parts = Parts::new(alloc, session.tally());
-    let came = take_splice(alloc, incoming, input, part, &mut parts);
-    answer_came(alloc, session, output, &parts, came)
-}
-
-/// Takes the parts of a batch, and replies.
-fn answer_batch<R: Read, W: Write>(
-    alloc: Global,
-    session: &mut Session,
-    incoming: &mut Incoming,
-    input: &mut Input<R>,
-    output: &mut Output<W>,
-    count: usize,
-) -> Result<(), End>
-    requires some { 0 < count }
-    requires open { IsOpen input.old }
-    requires few { incoming.old.count < too_many }
-    requires unbroken { output_failed output.old ≡ false }
-    ensures open { OnOk result (IsOpen input.new) }
-    ensures few { OnOk result (incoming.new.count < too_many) }
-    ensures unbroken { OnOk result (output_failed output.new ≡ false) }
-    ensures ok { OnOk result (Replied (next_by_order (Some (Batch count))) session.old session.new
-        (ahead_of R.remaining input.old incoming.old) (ahead_of R.remaining input.new incoming.new)
-        (held_of W.contents output.old) (held_of W.contents output.new) false) }
-    ensures err { IfErr result (λ end. EndsAs (next_by_order (Some (Batch count))) end
-        session.old session.new
-        (ahead_of R.remaining input.old incoming.old) (ahead_of R.remaining input.new incoming.new)
-        (input_failed input.new) (input_ended input.new)
-        (held_of W.contents output.old) (held_of W.contents output.new) (output_failed output.new)) }
-{
-    let mut parts = Parts::new(alloc, session.tally());
-    let came = take_parts(alloc, incoming, input, count, &mut parts);
+    let came = take_splices(alloc, incoming, input, form, &mut parts);
     answer_came(alloc, session, output, &parts, came)
 }
 
@@ -223,8 +193,7 @@ fn answer_next<R: Read, W: Write>(
         Err(stop) => return Err(End::inside(stop)),
     };
     match order_of_line(&line) {
-        Some(Order::Edit(part)) => answer_edit(alloc, session, incoming, input, output, part),
-        Some(Order::Batch(count)) => answer_batch(alloc, session, incoming, input, output, count),
+        Some(Order::Edit(form)) => answer_edit(alloc, session, incoming, input, output, form),
         Some(Order::Ask(question)) => match reply_to(alloc, session, output, question) {
             Ok(()) => Ok(()),
             Err(Failed) => Err(End::Unwritable),

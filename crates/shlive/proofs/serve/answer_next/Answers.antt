@@ -2,8 +2,8 @@ use Rattle.std.proofs.Common.{◌≡◌, [], ◌∷◌, ◌++◌, ◌∙◌, ◌
 use Rattle.shtext.specs.Device.{output_failed}
 use Rattle.shlive.specs.Ahead.{ahead_of}
 use Rattle.shlive.specs.Requests.{next_by_order, next_of, order_of_line, request_of, unknown}
-use Rattle.shlive.specs.declared.order.Order.TheVariants.{Ask, Batch, Edit, Quit}
-use Rattle.shlive.proofs.Asked.{edit_begins, ends_through, err_through, line_cut, line_is, ok_through, parts_begin, plain_replied, replied_through, some_taken, stops_inside}
+use Rattle.shlive.specs.declared.order.Order.TheVariants.{Ask, Edit, Quit}
+use Rattle.shlive.proofs.Asked.{ends_through, err_through, form_begins, line_cut, line_is, ok_through, plain_replied, replied_through, some_taken, stops_inside}
 use Rattle.shlive.proofs.Taken.{takes_both}
 use Rattle.shlive.proofs.serve.answer_next.Goals as goal
 
@@ -28,7 +28,7 @@ returns-in-Some-Edit-clause-ok g c =
     let filled = ahead c.fill.new.input c.fill.new.self in
     let mid = ahead c.take_line.new.input c.take_line.new.incoming in
     let new = ahead c.answer_edit.new.input c.answer_edit.new.incoming in
-    let order = Some (Edit c.in-Some-Edit.part) in
+    let order = Some (Edit c.in-Some-Edit.form) in
     let told = c.order_of_line.ensures.is q.0 q.2 in
     let is : order ≡ order_of_line q.0 = search (rules, told, c.in-Some-Edit.is, c.in-Some-Edit.field-0-is) in
     ok_through c.answer_edit.result
@@ -44,45 +44,13 @@ returns-in-Some-Edit-clause-err g c =
     let filled = ahead c.fill.new.input c.fill.new.self in
     let mid = ahead c.take_line.new.input c.take_line.new.incoming in
     let new = ahead c.answer_edit.new.input c.answer_edit.new.incoming in
-    let order = Some (Edit c.in-Some-Edit.part) in
+    let order = Some (Edit c.in-Some-Edit.form) in
     let told = c.order_of_line.ensures.is q.0 q.2 in
     let is : order ≡ order_of_line q.0 = search (rules, told, c.in-Some-Edit.is, c.in-Some-Edit.field-0-is) in
     err_through _ _ c.answer_edit.result
     (λ why s. ends_through q.0 (next_by_order order) (line_is q.0 q.1 order is) _ _ start mid new _ _
-    (takes_both start filled mid [] (q.0 ++ 10 ∷ []) _ c.fill.ensures.takes q.3 refl) _ _ _ (edit_begins c.in-Some-Edit.part) why s)
+    (takes_both start filled mid [] (q.0 ++ 10 ∷ []) _ c.fill.ensures.takes q.3 refl) _ _ _ (form_begins c.in-Some-Edit.form) why s)
     c.answer_edit.ensures.err
-
-pub returns-in-Some-Batch-clause-ok : goal.returns-in-Some-Batch-clause-ok
-returns-in-Some-Batch-clause-ok g c =
-    let ahead = ahead_of g.R.Read.remaining in
-    let q = c.in-Ok.ensures.line in
-    let start = ahead c.args.input.now c.args.incoming.now in
-    let filled = ahead c.fill.new.input c.fill.new.self in
-    let mid = ahead c.take_line.new.input c.take_line.new.incoming in
-    let new = ahead c.answer_batch.new.input c.answer_batch.new.incoming in
-    let order = Some (Batch c.in-Some-Batch.count) in
-    let told = c.order_of_line.ensures.is q.0 q.2 in
-    let is : order ≡ order_of_line q.0 = search (rules, told, c.in-Some-Batch.is, c.in-Some-Batch.field-0-is) in
-    ok_through c.answer_batch.result
-    (replied_through q.0 (next_by_order order) (line_is q.0 q.1 order is) _ _ start mid new _ _
-    (takes_both start filled mid [] (q.0 ++ 10 ∷ []) _ c.fill.ensures.takes q.3 refl) _)
-    c.answer_batch.ensures.ok
-
-pub returns-in-Some-Batch-clause-err : goal.returns-in-Some-Batch-clause-err
-returns-in-Some-Batch-clause-err g c =
-    let ahead = ahead_of g.R.Read.remaining in
-    let q = c.in-Ok.ensures.line in
-    let start = ahead c.args.input.now c.args.incoming.now in
-    let filled = ahead c.fill.new.input c.fill.new.self in
-    let mid = ahead c.take_line.new.input c.take_line.new.incoming in
-    let new = ahead c.answer_batch.new.input c.answer_batch.new.incoming in
-    let order = Some (Batch c.in-Some-Batch.count) in
-    let told = c.order_of_line.ensures.is q.0 q.2 in
-    let is : order ≡ order_of_line q.0 = search (rules, told, c.in-Some-Batch.is, c.in-Some-Batch.field-0-is) in
-    err_through _ _ c.answer_batch.result
-    (λ why s. ends_through q.0 (next_by_order order) (line_is q.0 q.1 order is) _ _ start mid new _ _
-    (takes_both start filled mid [] (q.0 ++ 10 ∷ []) _ c.fill.ensures.takes q.3 refl) _ _ _ (parts_begin c.in-Some-Batch.count []) why s)
-    c.answer_batch.ensures.err
 
 pub returns-in-Some-Quit-clause-err : goal.returns-in-Some-Quit-clause-err
 returns-in-Some-Quit-clause-err g c =
