@@ -1,0 +1,26 @@
+use Rattle.std.proofs.Common.{◌∙◌, None, Some, ap, refl, subst, sym}
+use Rattle.shast.specs.Shape.{shape_of}
+use Rattle.shgrammar.specs.Scripts.{FirstFault}
+use Rattle.shheld.specs.TopLines.{script_of}
+use Rattle.shprint.specs.Printed.{printed}
+use Rattle.shprint.specs.ReadBack.{IsTextOf}
+use Rattle.shread.specs.Answers.{edition_of}
+use Rattle.shtext.specs.Buffer.{buffer_bytes}
+use Rattle.shlive.specs.Held.{Held}
+use Rattle.shlive.proofs.LastLine.{no_fault, none_is, text_of_row}
+use Rattle.shlive.proofs.session.Session.print_behind.Goals as goal
+
+pub returns-in_err-text-clause-faulty : goal.returns-in_err-text-clause-faulty
+returns-in_err-text-clause-faulty c = λ fault first.
+    absurd (no_fault c.args.self.now.how.edition c.args.self.now.bytes c.fault.result c.fault.ensures.first (sym c.is_some.ensures ∙ c.if-is_some.false) fault first)
+
+pub returns-clause-text : goal.returns-clause-text
+returns-clause-text c =
+    let session = c.self.inside in
+    let none = subst (FirstFault c.args.self.now.how.edition c.args.self.now.bytes) (none_is c.fault.result (sym c.is_some.ensures ∙ c.if-is_some.false)) c.fault.ensures.first in
+    let here = subst (λ (h : Held). FirstFault h.how.edition h.bytes None) (sym c.self.view_is) none in
+    let text = printed session.layout (shape_of (buffer_bytes session.text) (script_of session.lines).entries) in
+    let has : IsTextOf c.args.self.now.how.edition c.args.self.now.how.layout c.args.self.now.bytes text =
+    subst (λ (h : Held). IsTextOf h.how.edition h.how.layout h.bytes text) c.self.view_is
+    (text_of_row (edition_of session.reader.reader) session.layout (buffer_bytes session.text) session.lines c.self.invariant.row here text refl) in
+    (Some text, has, ap Some c.in_ok-text.ensures)
