@@ -29,11 +29,12 @@ mod tools;
 mod usage;
 mod words;
 
-use asked::Settings;
+use asked::{Settings, Tool};
 use clap::error::ErrorKind;
 use report::{Stop, give_up};
 use shtext::{Input, Output};
 use std::alloc::AllocError;
+use std::io::Read;
 use std::process::ExitCode;
 use std::{env, fs, io};
 use tools::run_tool;
@@ -58,8 +59,24 @@ fn on_ends(rt: &HostRuntime, settings: &Settings<'_>, mut file: Option<Input<fs:
     )
 }
 
+/// How far below its begin the stack of a session goes (`tests/stack --least`).
+const DEEPEST: usize = 376 * 1024;
+
+/// Whether a session has an input, without which FILE would be opened in its place.
+///
+/// It is asked from as deep in the stack as any call of a session goes, while little memory is held: by a
+/// limit of address space (`ulimit -v`) the stack may not grow where memory has used that up.
+#[inline(never)]
+fn has_input(rt: &HostRuntime) -> bool {
+    let mut room = [0; DEEPEST];
+    rt.stdin().read(&mut room[..0]).is_ok()
+}
+
 /// Does what the settings ask for, where the FILE that they name can be opened.
 fn on_settings(rt: &HostRuntime, settings: &Settings<'_>) -> u8 {
+    if settings.tool == Tool::Session && !has_input(rt) {
+        return 2;
+    }
     let Some(name) = settings.file else {
         return on_ends(rt, settings, None);
     };
