@@ -24,6 +24,7 @@ scripts: $(PROGRAM) $(TESTS)
 	tests/session
 	tests/soak
 	tests/lsp
+	tests/terminal
 	tests/refused-growths
 	tests/leaks
 	tests/stack
