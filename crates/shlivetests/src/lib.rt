@@ -16,6 +16,8 @@ mod session_blocks;
 #[cfg(test)]
 mod session_blocks_refused;
 #[cfg(test)]
+mod session_cut;
+#[cfg(test)]
 mod session_editions;
 #[cfg(test)]
 mod session_refused;
