@@ -29,7 +29,10 @@ fn type_script(rt: &impl Abort, alloc: Global, script: &[u8]) -> Result<(), Fail
         let right = is_right(alloc, &mut session, &mut typed, &[part(end, end, &new)], 1)?;
         assert!(rt; right, "{script:?} at {end}");
     }
-    assert!(rt; typed.as_slice() == script && session.status() == 0, "{script:?}");
+    assert!(rt;
+        typed.as_slice() == script && session.status() == 0,
+        "{script:?}"
+    );
     Ok(())
 }
 
@@ -95,9 +98,16 @@ fn beginnings(rt: HostRuntime) -> Result<(), Fail> {
     let mut session = opened(rt.alloc(), b"")?;
     for len in 0..=WORDS.len() {
         let begun = WORDS.get(..len).unwrap_or(WORDS);
-        assert!(rt; opened(rt.alloc(), begun)?.fault() == fault_of(len), "{len}");
+        assert!(rt;
+            opened(rt.alloc(), begun)?.fault() == fault_of(len),
+            "{len}"
+        );
         assert!(rt; session.fault() == fault_of(len), "{len}");
-        session.edit(len, len, WORDS.get(len..len.saturating_add(1)).unwrap_or(b""))?;
+        session.edit(
+            len,
+            len,
+            WORDS.get(len..len.saturating_add(1)).unwrap_or(b""),
+        )?;
     }
     Ok(())
 }
