@@ -6,11 +6,12 @@ ghost use Rattle.shast.specs.View.{view_list};
 
 use shline::Stop;
 use shpass::{ScriptLines, faultless_front};
-use shread::{Edition, Line, LineKind, ReadError, Reader};
+use shread::{Edition, Line, LineKind, ReadError, Reader, Script};
 use shtext::{Flat, Source};
 use shtree::laws::greater_limit;
 use shtree::{List, NodeKind, NodeLine};
 use shtreetests::growths::Growths;
+use shtreetests::table::rows;
 use std::alloc::{AllocError, Global};
 use std::process::Abort;
 use std::test::Fail;
@@ -203,33 +204,39 @@ fn add(
     }
 }
 
-/// Adds nodes with each growth refused in turn: after a refusal the vector is as it
-/// was, and at last it has so many nodes more.
-fn adds(rt: &impl Abort, alloc: Global, list: &List, asked: Asked, count: usize) -> Result<(), Fail>
+/// Adds nodes with each growth refused in turn: after a refusal the vector is as it was, and the same call
+/// adds them. Answers how many they are.
+fn adds(rt: &impl Abort, alloc: Global, list: &List, asked: Asked) -> Result<usize, Fail>
     requires { AreWithin usize.MAX (view_list list.now) }
 {
+    let mut wanted = vec![in alloc; EARLIER; 1]?;
+    add(alloc, list, asked, &mut wanted)?;
     let mut growths = Growths::of(alloc);
     for _ in 1..100 {
-        let mut lines = Vec::new(alloc);
-        lines.push(EARLIER)?;
+        let mut lines = vec![in alloc; EARLIER; 1]?;
         growths.refuse_next();
-        let added = add(alloc, list, asked, &mut lines);
-        if !growths.is_met() {
-            added?;
-            assert!(rt; lines.first() == Some(&EARLIER) && lines.len() == count.wrapping_add(1));
+        let mut added = add(alloc, list, asked, &mut lines);
+        let is_met = growths.is_met();
+        if is_met {
+            assert!(rt; added.is_err() && lines.as_slice() == [EARLIER].as_slice());
+            added = add(alloc, list, asked, &mut lines);
+        }
+        added?;
+        assert!(rt; lines == wanted);
+        if !is_met {
             break;
         }
-        assert!(rt; added.is_err() && lines.as_slice() == [EARLIER].as_slice());
     }
-    assert!(rt; growths.were_each_refused());
-    Ok(())
+    assert!(rt; growths.were_each_refused() && wanted.first() == Some(&EARLIER));
+    Ok(wanted.len().saturating_sub(1))
 }
 
 #[test]
 fn outline_of(rt: HostRuntime) -> Result<(), Fail> {
     let script = Reader::new(rt.alloc()).read_script(&Flat::new(TEXT))?;
     greater_limit();
-    adds(&rt, rt.alloc(), &script.list, Asked::Outline, 18)
+    assert!(rt; adds(&rt, rt.alloc(), &script.list, Asked::Outline)? == 18);
+    Ok(())
 }
 
 /// The byte is that of `f`.
@@ -237,7 +244,90 @@ fn outline_of(rt: HostRuntime) -> Result<(), Fail> {
 fn nodes_at(rt: HostRuntime) -> Result<(), Fail> {
     let script = Reader::new(rt.alloc()).read_script(&Flat::new(TEXT))?;
     greater_limit();
-    adds(&rt, rt.alloc(), &script.list, Asked::At(27), 4)
+    assert!(rt; adds(&rt, rt.alloc(), &script.list, Asked::At(27))? == 4);
+    Ok(())
+}
+
+/// Scripts of one line, and an offset in each. The first has here-documents.
+const SCRIPTS: &[u8] = br#"
+("cat <<A <<'B' && c\n1\nA\n2\nB\n" at 6)
+("case $1 in # k\n-h|--help) usage;;\n(*) ;; # rest\nesac\n" at 27)
+("for i in a \\\n  b # n\ndo echo \"$i\"; done >f\n" at 24)
+("f() { echo $(a | b); }\n" at 17)
+"#;
+
+/// What a reader is asked for: the line at the begin of a script, or the script.
+#[derive(Clone, Copy)]
+enum Part {
+    Line,
+    Script,
+}
+
+/// What it answers.
+#[derive(Debug, Drop)]
+enum Found {
+    Line(Line),
+    Script(Script),
+}
+
+fn find(reader: &mut Reader, script: &[u8], part: Part) -> Result<Found, ReadError> {
+    let source = Flat::new(script);
+    match part {
+        Part::Line => Ok(Found::Line(reader.read_line(&source, 0)?)),
+        Part::Script => Ok(Found::Script(reader.read_script(&source)?)),
+    }
+}
+
+/// An answer with all its spans, as `Debug` writes it.
+fn told(alloc: Global, found: &Found) -> Result<String, Fail> {
+    let mut text = String::new(alloc);
+    write!(text, "{found:?}")?;
+    Ok(text)
+}
+
+/// Reads with each growth refused in turn: after a refusal the meter stays, and the same call answers.
+fn reads(rt: &impl Abort, alloc: Global, script: &[u8], part: Part) -> Result<(), Fail> {
+    let wanted = told(alloc, &find(&mut Reader::new(alloc), script, part)?)?;
+    let mut growths = Growths::of(alloc);
+    for _ in 1..100 {
+        let mut reader = Reader::new(alloc);
+        growths.refuse_next();
+        let mut found = find(&mut reader, script, part);
+        let is_met = growths.is_met();
+        if is_met {
+            assert!(rt; matches!(&found, Err(ReadError::Memory)) && reader.meter() == 0);
+            found = find(&mut reader, script, part);
+        }
+        assert_eq!(rt; told(alloc, &found?)?.as_str(), wanted.as_str());
+        assert!(rt; reader.meter() == script.len() as u64);
+        if !is_met {
+            break;
+        }
+    }
+    assert!(rt; growths.were_each_refused());
+    Ok(())
+}
+
+/// Asks for the nodes of a script: all, and those at an offset.
+fn asks(rt: &impl Abort, alloc: Global, script: &[u8], at: usize) -> Result<(), Fail> {
+    let script = Reader::new(alloc).read_script(&Flat::new(script))?;
+    greater_limit();
+    adds(rt, alloc, &script.list, Asked::Outline)?;
+    adds(rt, alloc, &script.list, Asked::At(at))?;
+    Ok(())
+}
+
+#[test]
+fn scripts(rt: HostRuntime) -> Result<(), Fail> {
+    for row in &rows(rt.alloc(), SCRIPTS)? {
+        let [script] = row.as_slice() else {
+            return Err(Fail::from("no row"));
+        };
+        reads(&rt, rt.alloc(), &script.bytes, Part::Line)?;
+        reads(&rt, rt.alloc(), &script.bytes, Part::Script)?;
+        asks(&rt, rt.alloc(), &script.bytes, script.number)?;
+    }
+    Ok(())
 }
 
 /// The entries of the next line, and whether the first is blank, where another line follows.

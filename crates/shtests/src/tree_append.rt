@@ -6,6 +6,7 @@ use shtree::List;
 use shtree::make::list_of;
 use shtreetests::growths::Growths;
 use shtreetests::shown::shown;
+use shtreetests::table::rows;
 use std::alloc::Global;
 use std::process::Abort;
 use std::test::Fail;
@@ -52,32 +53,63 @@ fn each_line(rt: HostRuntime) -> Result<(), Fail> {
 }
 
 /// The list of the first line alone.
-fn first(alloc: Global) -> Result<List, Fail> {
+fn first(alloc: Global, text: &[u8]) -> Result<List, Fail> {
     let mut list = list_of(Vec::new(alloc));
-    let line = Reader::new(alloc).read_line(&Flat::new(LINES), 0)?;
+    let line = Reader::new(alloc).read_line(&Flat::new(text), 0)?;
     append_line(alloc, &line, 0, &mut list)?;
     Ok(list)
 }
 
-// After a growth that was refused the list is what it was.
-#[test]
-fn each_growth(rt: HostRuntime) -> Result<(), Fail> {
-    let alloc = rt.alloc();
+/// Appends the second line of a text with each growth refused in turn. After a refusal the list is what it
+/// was, and the same call appends the line.
+fn appends(rt: &impl Abort, alloc: Global, text: &[u8]) -> Result<(), Fail> {
+    if text.len() < SECOND {
+        return Err(Fail::from("no second line"));
+    }
+    let before = shown(alloc, &first(alloc, text)?)?;
+    let second = Reader::new(alloc).read_line(&Flat::new(text), SECOND)?;
+    let mut both = first(alloc, text)?;
+    append_line(alloc, &second, SECOND, &mut both)?;
     let mut growths = Growths::of(alloc);
-    let before = shown(alloc, &first(alloc)?)?;
-    let second = Reader::new(alloc).read_line(&Flat::new(LINES), SECOND)?;
     for _ in 1..200 {
-        let mut list = first(alloc)?;
+        let mut list = first(alloc, text)?;
         growths.refuse_next();
-        let added = append_line(alloc, &second, SECOND, &mut list);
-        if !growths.is_met() {
-            added?;
-            assert!(rt; 1 < list.entries.len());
+        let mut added = append_line(alloc, &second, SECOND, &mut list);
+        let is_met = growths.is_met();
+        if is_met {
+            assert!(rt; added.is_err());
+            assert_eq!(rt; shown(alloc, &list)?.as_str(), before.as_str());
+            added = append_line(alloc, &second, SECOND, &mut list);
+        }
+        added?;
+        assert_eq!(rt;
+            shown(alloc, &list)?.as_str(),
+            shown(alloc, &both)?.as_str()
+        );
+        if !is_met {
             break;
         }
-        assert!(rt; added.is_err());
-        assert_eq!(rt; shown(alloc, &list)?.as_str(), before.as_str());
     }
-    assert!(rt; growths.were_each_refused());
+    assert!(rt; growths.were_each_refused() && 1 < both.entries.len());
+    Ok(())
+}
+
+/// Texts of two lines: the second has here-documents, is a `case`, a loop, or a function.
+const TEXTS: &[u8] = br#"
+("first # one\ncat <<A <<'B' && c\n1\nA\n2\nB\n")
+("first # one\ncase $1 in # k\n-h|--help) usage;;\n(*) ;; # rest\nesac\n")
+("first # one\nfor i in a \\\n  b # n\ndo echo \"$i\"; done >f\n")
+("first # one\nf() { echo $(a | b); }\n")
+"#;
+
+#[test]
+fn each_growth(rt: HostRuntime) -> Result<(), Fail> {
+    appends(&rt, rt.alloc(), LINES)?;
+    for row in &rows(rt.alloc(), TEXTS)? {
+        let [text] = row.as_slice() else {
+            return Err(Fail::from("no row"));
+        };
+        appends(&rt, rt.alloc(), &text.bytes)?;
+    }
     Ok(())
 }
