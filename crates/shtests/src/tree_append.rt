@@ -56,6 +56,9 @@ fn each_line(rt: HostRuntime) -> Result<(), Fail> {
 fn first(alloc: Global, text: &[u8]) -> Result<List, Fail> {
     let mut list = list_of(Vec::new(alloc));
     let line = Reader::new(alloc).read_line(&Flat::new(text), 0)?;
+    if line.next != SECOND {
+        return Err(Fail::from("another first line"));
+    }
     append_line(alloc, &line, 0, &mut list)?;
     Ok(list)
 }
@@ -68,6 +71,7 @@ fn appends(rt: &impl Abort, alloc: Global, text: &[u8]) -> Result<(), Fail> {
     }
     let before = shown(alloc, &first(alloc, text)?)?;
     let second = Reader::new(alloc).read_line(&Flat::new(text), SECOND)?;
+    assert!(rt; SECOND < second.next);
     let mut both = first(alloc, text)?;
     append_line(alloc, &second, SECOND, &mut both)?;
     let mut growths = Growths::of(alloc);
