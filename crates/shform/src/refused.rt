@@ -124,12 +124,26 @@ fn check(rt: HostRuntime) {
     assert!(rt; !refuses || 0 < met && met < 99, "{met}");
 }
 
-/// The status of a print with the nth growth refused, and what it wrote and told.
-fn print_refused(alloc: Global, nth: usize) -> Result<(u8, Page, Page), LayoutError> {
-    let script = [b'\n'; 20_000];
-    let reader = script
-        .as_slice()
-        .chain(b"{ if a; then b; fi; } # c\n".as_slice());
+/// The status of the check of 20,000 newlines and a script without a fault with the nth growth refused, what it
+/// wrote, and what it told.
+fn faultless_refused(alloc: Global, nth: usize, script: &[u8]) -> (u8, Page, Page) {
+    let newlines = [b'\n'; 20_000];
+    let reader = newlines.as_slice().chain(script);
+    let mut written = Page::new();
+    let mut told = Page::new();
+    refuse(alloc, nth);
+    let (status, _) = checked(alloc, reader, &mut written, &mut told);
+    (status, written, told)
+}
+
+/// The same of its print.
+fn print_refused(
+    alloc: Global,
+    nth: usize,
+    script: &[u8],
+) -> Result<(u8, Page, Page), LayoutError> {
+    let newlines = [b'\n'; 20_000];
+    let reader = newlines.as_slice().chain(script);
     let mut written = Page::new();
     let mut told = Page::new();
     refuse(alloc, nth);
@@ -158,7 +172,8 @@ fn session_refused(alloc: Global, nth: usize) -> Result<(u8, Page, Page), Layout
 /// What is run with a growth refused.
 #[derive(Clone, Copy)]
 enum Run {
-    Print,
+    Check(&'static [u8]),
+    Print(&'static [u8]),
     Session,
 }
 
@@ -166,7 +181,8 @@ impl Run {
     /// The status of a run with the nth growth refused, what it wrote, and what it told.
     fn refused(self, alloc: Global, nth: usize) -> Result<(u8, Page, Page), LayoutError> {
         match self {
-            Run::Print => print_refused(alloc, nth),
+            Run::Check(script) => Ok(faultless_refused(alloc, nth, script)),
+            Run::Print(script) => print_refused(alloc, nth, script),
             Run::Session => session_refused(alloc, nth),
         }
     }
@@ -206,8 +222,33 @@ fn refused_in_turn(
 /// before it is printed can be done without.
 #[test]
 fn print(rt: HostRuntime) -> Result<(), Fail> {
+    let run = Run::Print(b"{ if a; then b; fi; } # c\n");
     let text = b"{\n\tif a; then\n\t\tb\n\tfi\n} # c\n".as_slice();
-    refused_in_turn(&rt, rt.alloc(), Run::Print, 0, text)
+    refused_in_turn(&rt, rt.alloc(), run, 0, text)
+}
+
+/// Scripts with here-documents, with a `case`, with a loop and with a function, checked and printed.
+#[test]
+fn scripts(rt: HostRuntime) -> Result<(), Fail> {
+    for (script, text) in [
+        (
+            b"cat <<A <<'B' && c\n1\nA\n2\nB\n".as_slice(),
+            b"cat <<A <<'B' && c\n1\nA\n2\nB\n".as_slice(),
+        ),
+        (
+            b"case $1 in # k\n-h|--help) usage;;\n(*) ;; # rest\nesac\n",
+            b"case $1 in\n# k\n-h | --help)\n\tusage\n\t;;\n*) ;;\n# rest\nesac\n",
+        ),
+        (
+            b"for i in a \\\n  b # n\ndo echo \"$i\"; done >f\n",
+            b"for i in a \\\n\tb; do\n\t# n\n\techo \"$i\"\ndone >f\n",
+        ),
+        (b"f() { echo $(a | b); }\n", b"f() {\n\techo $(a | b)\n}\n"),
+    ] {
+        refused_in_turn(&rt, rt.alloc(), Run::Check(script), 0, b"")?;
+        refused_in_turn(&rt, rt.alloc(), Run::Print(script), 0, text)?;
+    }
+    Ok(())
 }
 
 /// FILE is read in several growths, and opened in some more.
