@@ -4,7 +4,9 @@ use shprint::{Layout, print};
 use shread::{Edition, Reader};
 use shtext::Flat;
 use shtreetests::growths::Growths;
+use shtreetests::table::rows;
 use std::alloc::{AllocError, Global};
+use std::process::Abort;
 use std::test::Fail;
 
 const SCRIPT: &[u8] =
@@ -14,9 +16,13 @@ const TEXT: &[u8] =
     b"{\n\tif a && b |\n\t\tc; then\n\t\td\n\tfi\n} # e\n\nf() {\n\tcase g in\n\t$(h))\n\t\ti\n\t\t;;\n\tesac\n}\nj <<K <<\"L\"M\nk\nK\nl\nLM\n";
 
 /// The text of a whole tree, with the next growth of its printing refused. The tree is there before.
-fn printed(alloc: Global, growths: &mut Growths) -> Result<Result<Vec<u8>, AllocError>, Fail> {
+fn printed(
+    alloc: Global,
+    growths: &mut Growths,
+    script: &[u8],
+) -> Result<Result<Vec<u8>, AllocError>, Fail> {
     let layout = Layout::new(0, false, false, false)?;
-    let source = Flat::new(SCRIPT);
+    let source = Flat::new(script);
     let script = Reader::new(alloc).read_script(&source)?;
     if script.fault.is_some() {
         return Err(Fail::from("a fault"));
@@ -25,18 +31,40 @@ fn printed(alloc: Global, growths: &mut Growths) -> Result<Result<Vec<u8>, Alloc
     Ok(print(alloc, &layout, &script, &source))
 }
 
-#[test]
-fn tree(rt: HostRuntime) -> Result<(), Fail> {
-    let mut growths = Growths::of(rt.alloc());
+/// Prints a script with each growth refused in turn.
+fn prints(rt: &impl Abort, alloc: Global, script: &[u8], wanted: &[u8]) -> Result<(), Fail> {
+    let mut growths = Growths::of(alloc);
     for _ in 1..100 {
-        let text = printed(rt.alloc(), &mut growths)?;
+        let text = printed(alloc, &mut growths, script)?;
         if !growths.is_met() {
-            assert!(rt; text?.as_slice() == TEXT);
+            assert!(rt; text?.as_slice() == wanted);
             break;
         }
         assert!(rt; text.err() == Some(AllocError));
     }
     assert!(rt; growths.were_each_refused());
+    Ok(())
+}
+
+/// Scripts, and their texts.
+const SCRIPTS: &[u8] = br#"
+("cat <<A <<'B' && c\n1\nA\n2\nB\n", "cat <<A <<'B' && c\n1\nA\n2\nB\n")
+("case $1 in # k\n-h|--help) usage;;\n(*) ;; # rest\nesac\n",
+    "case $1 in\n# k\n-h | --help)\n\tusage\n\t;;\n*) ;;\n# rest\nesac\n")
+("for i in a \\\n  b # n\ndo echo \"$i\"; done >f\n",
+    "for i in a \\\n\tb; do\n\t# n\n\techo \"$i\"\ndone >f\n")
+("f() { echo $(a | b); }\n", "f() {\n\techo $(a | b)\n}\n")
+"#;
+
+#[test]
+fn tree(rt: HostRuntime) -> Result<(), Fail> {
+    prints(&rt, rt.alloc(), SCRIPT, TEXT)?;
+    for row in &rows(rt.alloc(), SCRIPTS)? {
+        let [script, text] = row.as_slice() else {
+            return Err(Fail::from("no row"));
+        };
+        prints(&rt, rt.alloc(), &script.bytes, &text.bytes)?;
+    }
     Ok(())
 }
 

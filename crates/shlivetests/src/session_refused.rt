@@ -8,6 +8,7 @@ use shtext::{Input, Output, Splice};
 use shtreetests::devices::{PAGE, Page, Same};
 use shtreetests::growths::Growths;
 use shtreetests::spliced::{part, spliced_all};
+use shtreetests::table::rows;
 use std::alloc::{AllocError, Global};
 use std::io::Read;
 use std::process::Abort;
@@ -48,7 +49,8 @@ fn is_as_before(
 }
 
 /// Refuses each growth of an edit in turn. Where one cannot be done without, all is as before, but for what
-/// was read, and then the same edit is made. Nodes are asked for at one offset of so many.
+/// was read, and then the same edit is made. To make it, the window is read. Nodes are asked for at one offset
+/// of so many.
 pub(crate) fn each_refused(
     rt: &impl Abort,
     alloc: Global,
@@ -63,13 +65,16 @@ pub(crate) fn each_refused(
     for _ in 1..200 {
         let mut session = opened(alloc, script)?;
         growths.refuse_next();
+        let mut read = session.meter();
         let edited = make(&mut session, splices);
         let is_met = growths.is_met();
         if let Err(error) = edited {
             assert!(rt; is_met && error == LiveError::Memory);
             assert!(rt; is_as_before(&session, &before, window, step)?);
+            read = session.meter();
             make(&mut session, splices)?;
         }
+        assert!(rt; session.meter() == read.saturating_add(window as u64));
         assert!(rt; alike_at_each(&session, &made, step)?);
         if !is_met {
             break;
@@ -82,6 +87,35 @@ pub(crate) fn each_refused(
 #[test]
 fn edit(rt: HostRuntime) -> Result<(), Fail> {
     each_refused(&rt, rt.alloc(), SCRIPT, &[part(17, 17, NEW)], 1)
+}
+
+/// Scripts, and the bytes that an edit puts in the place of theirs between two offsets. Some leave a fault, and
+/// two begin with one; in others a here-document begins, ends and is left.
+const EDITS: &[u8] = br#"
+("a\nb\nc\n" from 2, "bb" to 3)
+("a\nb\nc\n" from 2, "'" to 2)
+("a\n'b\nc\n" from 2, "" to 3)
+("a\n\nb\n" from 0, "" to 2)
+("a\nb\nE\nc\n" from 0, "x <<E" to 1)
+("cat <<A <<'B' && c\n1\nA\n2\nB\n" from 19, "A\n" to 19)
+("cat <<A <<'B' && c\n1\nA\n2\nB\n" from 25, "" to 26)
+("cat A <<'B' && c\n1\nA\n2\nB\n" from 4, "<<" to 4)
+("case $1 in # k\n-h|--help) usage;;\n(*) ;; # rest\nesac\n" from 20, "'" to 20)
+("case $1 in # k\n-h|--'help) usage;;\n(*) ;; # rest\nesac\n" from 20, "" to 21)
+("for i in a \\\n  b # n\ndo echo \"$i\"; done >f\n" from 24, "x\n" to 24)
+("f() { echo $(a | b); }\n" from 13, "c && d" to 14)
+"#;
+
+#[test]
+fn edits(rt: HostRuntime) -> Result<(), Fail> {
+    for row in &rows(rt.alloc(), EDITS)? {
+        let [script, new] = row.as_slice() else {
+            return Err(Fail::from("no row"));
+        };
+        let splices = [part(script.number, new.number, &new.bytes)];
+        each_refused(&rt, rt.alloc(), &script.bytes, &splices, 1)?;
+    }
+    Ok(())
 }
 
 #[test]

@@ -379,9 +379,11 @@ fn limits(rt: HostRuntime) -> Result<(), Fail> {
     let session = Session::open(rt.alloc(), Reader::new(rt.alloc()), layout, &script);
     assert!(rt; session.err() == Some(LiveError::TooLarge));
     script.truncate(16_777_216);
+    let before = opened(rt.alloc(), &script)?;
     let mut session = opened(rt.alloc(), &script)?;
     assert!(rt; session.edit(0, 0, b"b") == Err(LiveError::TooLarge));
     assert!(rt; session.script_len() == 16_777_216 && session.status() == 0);
+    assert!(rt; session.meter() == before.meter() && alike_at_each(&session, &before, 4_000_000)?);
     assert!(rt; session.edit(0, 1, b"b") == Ok(()));
     assert!(rt; session.edit(2, 1, b"") == Err(LiveError::Range));
     assert!(rt; session.script_len() == 16_777_216);
