@@ -1,8 +1,7 @@
 -- The lines of a script printed one after the other: on the page stands what is
 -- printed for the entries that a walk over them gathers.
-use Rattle.std.proofs.Common.{◌≡◌, ℕ, zero, suc, ◌+◌, ◌&&◌, Bool, true, false, nat_lt, List, [], ◌∷◌, ◌++◌, None, length, drop, refl, sym, ap, ◌∙◌, arith, append_assoc}
+use Rattle.std.proofs.Common.{◌≡◌, ℕ, suc, ◌&&◌, Bool, true, false, nat_lt, List, [], ◌∷◌, ◌++◌, None, length, drop, refl, sym, ap, ◌∙◌, arith, append_assoc}
 use Rattle.std.proofs.lemmas.Bool.Decides.{nat_tests}
-use Rattle.std.proofs.lemmas.List.{length-append}
 use Rattle.shgrammar.specs.declared.edition.Edition.{Edition}
 use Rattle.shast.specs.Everywhere.{AllWithin}
 use Rattle.shast.specs.Moved.{appended, moved}
@@ -18,10 +17,10 @@ use Rattle.shprint.specs.declared.page.Page.{Page}
 use Rattle.shprint.specs.Marks.{Marks, held_behind, laid, laid_behind, line_end, text}
 use Rattle.shprint.specs.Printed.{print_background, print_blank, print_content, print_entries, print_entry, print_own_comment, printed}
 use Rattle.shprint.specs.Written.{Prints, Sheet, sheet, sheet_of, written}
-use Rattle.shprint.proofs.Writing.{held_append, laid_append, written_append, written_line_alone, written_none}
+use Rattle.shprint.proofs.Writing.{held_append, laid_append, written_append, written_first, written_line_alone, written_none}
 use Rattle.shwindow.specs.declared.line.HeldLine.{HeldLine}
 use Rattle.shlive.specs.HeldLines.{entries_in}
-use Rattle.shlive.specs.Printing.{IsOnPage, has_blank}
+use Rattle.shlive.specs.Printing.{IsOnPage}
 use Rattle.shlive.proofs.Placed.{BeginsPlain, line_plain, plain_moved, shape_placed}
 
 -- ---- what is printed for the entries of one more line
@@ -73,10 +72,6 @@ held_none y (more_entries e es) =
 some_length : (n : ℕ) → nat_lt 0 (suc n) ≡ true
 some_length n = grind (arith, nat_tests)
 
-lt_behind : (m n : ℕ) → nat_lt m (m + n) ≡ nat_lt 0 n
-lt_behind m zero = grind (arith, nat_tests)
-lt_behind m (suc n) = grind (arith, nat_tests)
-
 longer : (a b c : Text) → nat_lt 0 (length ((a ++ (10 ∷ b)) ++ c)) ≡ true
 longer [] b c = some_length (length (b ++ c))
 longer (x ∷ a) b c = some_length (length ((a ++ (10 ∷ b)) ++ c))
@@ -95,11 +90,6 @@ some_laid y B (more_entries e es) =
     laid_append [] one rest ∙ ap (λ t. t ++ laid_behind (held_behind [] one) rest) line in
     ap (λ t. nat_lt 0 (length t)) all ∙ longer (laid front) (held_behind [] front ++ []) (laid_behind (held_behind [] one) rest)
 
--- what stands behind a text
-written_behind : (front : Text) (ms : Marks) → written (sheet_of front []) ms ≡ sheet_of (front ++ laid ms) (held_behind [] ms)
-unfolding written
-written_behind front ms = refl
-
 -- ---- an empty line, or none
 
 pub one_blank : (s : Sheet) (blank : Bool) → blank ≡ true → s.held ≡ [] → sheet_of (s.so_far ++ 10 ∷ []) s.held ≡ written s (print_blank blank)
@@ -117,46 +107,42 @@ none_with so blank_line none = refl
 none_with so end_line none = refl
 none_with so (faulty_line f) none = refl
 
-module _ (y : Layout) (B : List ℕ) (front : Text) (so : Walk) (before : Page) (is : IsOnPage y B front so before) where
-  all_laid : sheet before ≡ sheet_of (front ++ laid (marks y B so.entries)) (held_behind [] (marks y B so.entries))
-  all_laid = is.is ∙ written_behind front (marks y B so.entries)
+module _ (y : Layout) (B : List ℕ) (so : Walk) (before : Page) (is : IsOnPage y B so before) where
+  first_laid : sheet before ≡ sheet_of (laid (marks y B so.entries)) (held_behind [] (marks y B so.entries))
+  first_laid = is.is ∙ written_first (marks y B so.entries)
 
   pub nothing_waits : before.held.items ≡ []
-  nothing_waits = ap (λ (s : Sheet). s.held) all_laid ∙ held_none y (shape_of B so.entries)
+  nothing_waits = ap (λ (s : Sheet). s.held) first_laid ∙ held_none y (shape_of B so.entries)
 
-  -- there is more text exactly where there is an entry
-  pub more_text : nat_lt (length front) (length before.text.items) ≡ has_entry so.entries
-  more_text =
-      let text = laid (marks y B so.entries) in
-      ap (λ (s : Sheet). nat_lt (length front) (length s.so_far)) all_laid
-      ∙ ap (nat_lt (length front)) (length-append front text) ∙ lt_behind (length front) (length text) ∙ some_laid y B so.entries
+  text_some : nat_lt 0 (length before.text.items) ≡ has_entry so.entries
+  text_some = ap (λ (s : Sheet). nat_lt 0 (length s.so_far)) first_laid ∙ some_laid y B so.entries
 
-  pub none_printed : (l : HeldLine AKind) → entries_in l.kind ≡ None → IsOnPage y B front (with_line so l) before
-  none_printed l none = record { margin = is.margin; is = is.is ∙ ap (λ es. written (sheet_of front []) (marks y B es)) (sym (none_with so l.kind none)) }
+  pub none_printed : (l : HeldLine AKind) → entries_in l.kind ≡ None → IsOnPage y B (with_line so l) before
+  none_printed l none = record { margin = is.margin; is = is.is ∙ ap (λ es. written (sheet_of [] []) (marks y B es)) (sym (none_with so l.kind none)) }
 
   pub line_printed : (edition : Edition) (l : HeldLine AKind) (xs : Entries) → l.kind ≡ entries_line xs → IsTopLine edition (drop so.at B) l
-      → (mid after : Page) → Prints before mid (print_blank (has_blank so))
-      → Prints mid after (print_entries y mid.margin.items (shape_of (drop so.at B) xs)) → IsOnPage y B front (with_line so l) after
+      → (mid after : Page) → Prints before mid (print_blank (so.gap && nat_lt 0 (length before.text.items)))
+      → Prints mid after (print_entries y mid.margin.items (shape_of (drop so.at B) xs)) → IsOnPage y B (with_line so l) after
   line_printed edition l xs kind_is line mid after gap entries =
       let margin : mid.margin.items ≡ [] = gap.1 ∙ is.margin in
-      let blank = print_blank (has_blank so) in
+      let blank = print_blank (so.gap && has_entry so.entries) in
       let here = print_entries y [] (shape_of (drop so.at B) xs) in
-      let first = sheet_of front [] in
-      let up_to : sheet mid ≡ written first (marks y B so.entries ++ blank) =
-      gap.0 ∙ ap (λ s. written s blank) is.is ∙ written_append first (marks y B so.entries) blank in
-      let all : sheet after ≡ written first (marks y B so.entries ++ (blank ++ here)) =
+      let empty = sheet_of [] [] in
+      let up_to : sheet mid ≡ written empty (marks y B so.entries ++ blank) =
+      gap.0 ∙ ap (λ b. written (sheet before) (print_blank (so.gap && b))) text_some ∙ ap (λ s. written s blank) is.is ∙ written_append empty (marks y B so.entries) blank in
+      let all : sheet after ≡ written empty (marks y B so.entries ++ (blank ++ here)) =
       entries.0 ∙ ap (λ m. written (sheet mid) (print_entries y m (shape_of (drop so.at B) xs))) margin ∙ ap (λ s. written s here) up_to
-      ∙ written_append first (marks y B so.entries ++ blank) here ∙ ap (written first) (append_assoc (marks y B so.entries) blank here) in
+      ∙ written_append empty (marks y B so.entries ++ blank) here ∙ ap (written empty) (append_assoc (marks y B so.entries) blank here) in
       let more = marks_more y B so.entries so.gap so.at l.len xs (line_plain edition (drop so.at B) (as_read l) line xs kind_is) (line_all_within edition (drop so.at B) l xs line kind_is) in
       record {
         margin = entries.1 ∙ margin;
-        is = all ∙ ap (written first) (sym more) ∙ ap (λ k. written first (marks y B (entries_with so k))) (sym kind_is);
+        is = all ∙ ap (written empty) (sym more) ∙ ap (λ k. written empty (marks y B (entries_with so k))) (sym kind_is);
       }
 
 -- ---- the first line and the last
 
-pub none_yet : (y : Layout) (B : List ℕ) (front : Text) (page : Page) → page.margin.items ≡ [] → sheet page ≡ sheet_of front [] → IsOnPage y B front no_line page
-none_yet y B front page margin is = record { margin = margin; is = is ∙ sym (written_none (sheet_of front [])) }
+pub none_yet : (y : Layout) (B : List ℕ) (page : Page) → page.margin.items ≡ [] → sheet page ≡ sheet_of [] [] → IsOnPage y B no_line page
+none_yet y B page margin is = record { margin = margin; is = is ∙ sym (written_none (sheet_of [] [])) }
 
-pub all_printed : (y : Layout) (B : List ℕ) (front : Text) (so : Walk) (page : Page) → IsOnPage y B front so page → page.text.items ≡ front ++ printed y (shape_of B so.entries)
-all_printed y B front so page is = ap (λ (s : Sheet). s.so_far) (all_laid y B front so page is)
+pub all_printed : (y : Layout) (B : List ℕ) (so : Walk) (page : Page) → IsOnPage y B so page → page.text.items ≡ printed y (shape_of B so.entries)
+all_printed y B so page is = ap (λ (s : Sheet). s.so_far) (is.is ∙ written_first (marks y B so.entries))

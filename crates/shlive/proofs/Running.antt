@@ -1,5 +1,6 @@
 -- A run, request by request.
 use Rattle.std.proofs.Common.{◌≡◌, ℕ, ◌≤◌, Bool, false, List, [], ◌∷◌, ◌++◌, Option, length, refl, sym, ap, ◌∙◌, arith, append_assoc, append-nil, subst, ⊎_elim}
+use Rattle.std.specs.Io.KnownBytes.{Appends}
 use Rattle.shtext.proofs.Known.{Appends-trans}
 use Rattle.shlive.specs.Edits.{IsNotMade}
 use Rattle.shlive.specs.Held.{Held}

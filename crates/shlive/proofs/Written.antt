@@ -1,14 +1,26 @@
--- Replies that are put together from their end on.
-use Rattle.std.proofs.Common.{◌≡◌, ℕ, ◌-◌, ◌++◌, List, Option, None, Some, ap, drop, length, refl, sym, take, ◌∙◌}
-use Rattle.std.proofs.lemmas.List.{take_rest}
-use Rattle.std.specs.Prelude.{option_map}
+-- A text that is written piece by piece.
+use Rattle.std.proofs.Common.{◌≡◌, ℕ, ◌+◌, ◌<◌, Bool, true, false, List, ◌++◌, Option, drop, flat_map, get_or, length, refl, sym, ap, ◌∙◌, add-one, append_assoc, drop-cons, subst, Result, Ok, Err, is_ok, is_err, not}
+use Rattle.std.specs.Io.KnownBytes.{Appends}
+use Rattle.shtext.specs.Device.{Writes}
+use Rattle.shtext.proofs.Known.{Appends-trans, Writes-after, Writes-early}
+use denote.Bor.{Bor}
 
--- what is written: all from the begin of a reply on
-pub behind_start : (line : List ℕ) (start size : ℕ) → length line ≡ size → take (size - start) (drop start line) ≡ drop start line
-behind_start line start size is = ap (λ n. take (n - start) (drop start line)) (sym is) ∙ take_rest line start
+pub next_piece : (pieces : List (Bor (List ℕ))) (i : ℕ) (d : Bor (List ℕ)) → i < length pieces
+    → flat_map (λ p. p.now) (drop i pieces) ≡ (get_or pieces i d).now ++ flat_map (λ p. p.now) (drop (i + 1) pieces)
+next_piece pieces i d low = rw (add-one, drop-cons pieces i d) refl
 
--- a text behind others is that of a script which has one
-pub text_behind : (front behind : List ℕ) (text : Option (List ℕ)) → Some behind ≡ option_map (λ t. front ++ t) text
-    → (t : List ℕ) × (text ≡ Some t) × (behind ≡ front ++ t)
-text_behind front behind None is = absurd cc
-text_behind front behind (Some t) is = (t, refl, cc)
+pub piece_failed : (a b c : Option (List ℕ)) (f : Bool) (all text rest piece more : List ℕ) → f ≡ true → all ≡ text ++ rest → rest ≡ piece ++ more
+    → Appends a b text → Writes b c f piece → Writes a c true all
+piece_failed a b c f all text rest piece more failed whole next p q =
+    subst (Writes a c true) (sym (whole ∙ ap (λ l. text ++ l) next))
+    (Writes-after a b c true text (piece ++ more) p (Writes-early b c piece more (subst (λ g. Writes b c g piece) failed q)))
+
+pub piece_written : (a b c : Option (List ℕ)) (f : Bool) (text piece : List ℕ) → f ≡ false → Appends a b text → Writes b c f piece → Appends a c (text ++ piece)
+piece_written a b c f text piece fine p q = Appends-trans a b c text piece _ p (subst (λ g. Writes b c g piece) fine q) refl
+
+pub piece_next : (all text rest piece more : List ℕ) → all ≡ text ++ rest → rest ≡ piece ++ more → all ≡ (text ++ piece) ++ more
+piece_next all text rest piece more whole next = whole ∙ ap (λ l. text ++ l) next ∙ sym (append_assoc text piece more)
+
+pub not_ok : {A E : Type 0} (r : Result A E) → not (is_ok r) ≡ is_err r
+not_ok (Ok x) = refl
+not_ok (Err e) = refl

@@ -1,8 +1,7 @@
 -- What is printed of the lines of a script, one after the other.
-use Rattle.std.specs.Prelude.{◌≡◌, ℕ, ◌&&◌, Bool, List, [], drop}
-use Rattle.shast.specs.Shape.{Text, shape_of}
+use Rattle.std.specs.Prelude.{◌≡◌, ℕ, Bool, List, [], drop}
+use Rattle.shast.specs.Shape.{shape_of}
 use Rattle.shgrammar.specs.declared.edition.Edition.{Edition}
-use Rattle.shgrammar.specs.Joined.{has_entry}
 use Rattle.shgrammar.specs.Lines.{AKind}
 use Rattle.shheld.specs.TopLines.{IsTopLine}
 use Rattle.shheld.specs.Walk.{Walk, with_line}
@@ -12,18 +11,14 @@ use Rattle.shprint.specs.declared.layout.Layout.{Layout}
 use Rattle.shprint.specs.declared.page.Page.{Page}
 use Rattle.shwindow.specs.declared.line.HeldLine.{HeldLine}
 
--- on the page are, behind a text, the entries that a walk over lines of the bytes gathered, and nothing else
-pub record IsOnPage (y : Layout) (bytes : List ℕ) (front : Text) (so : Walk) (page : Page) : Type 0 where
+-- the entries that a walk over lines of the bytes gathered are on the page, and nothing else
+pub record IsOnPage (y : Layout) (bytes : List ℕ) (so : Walk) (page : Page) : Type 0 where
   pub margin : page.margin.items ≡ []
-  pub is : sheet page ≡ written (sheet_of front []) (print_entries y [] (shape_of bytes so.entries))
+  pub is : sheet page ≡ written (sheet_of [] []) (print_entries y [] (shape_of bytes so.entries))
 
--- an empty line stands before the entries of the next line, where it has some
-abbrev pub has_blank : Walk → Bool
-has_blank so = so.gap && has_entry so.entries
-
--- The line at a base was printed, with an empty line before its entries and a gap behind it, or with none:
--- where the lines before it were on the page, those up to it are.
+-- The line at a base was printed, with a gap before it and one behind it, or with none: where
+-- the lines before it were on the page, those up to it are.
 abbrev pub PrintsLine : Edition → Layout → List ℕ → ℕ → HeldLine AKind → Bool → Bool → Page → Page → Type 0
-PrintsLine edition y bytes base line blank gap_behind before after =
-    (front : Text) (so : Walk) → blank ≡ has_blank so → so.at ≡ base → IsTopLine edition (drop base bytes) line → IsOnPage y bytes front so before
-    → (gap_behind ≡ (with_line so line).gap) × IsOnPage y bytes front (with_line so line) after
+PrintsLine edition y bytes base line gap gap_behind before after =
+    (so : Walk) → so.gap ≡ gap → so.at ≡ base → IsTopLine edition (drop base bytes) line → IsOnPage y bytes so before
+    → (gap_behind ≡ (with_line so line).gap) × IsOnPage y bytes (with_line so line) after

@@ -79,10 +79,6 @@ fault_text bytes (Some f) =
     codes "fault " ++ decimal f.at ++ codes " " ++ decimal (line_of bytes f.at) ++ codes " " ++ decimal (column_of bytes f.at) ++ codes " "
     ++ decimal (number_of_kind f.kind) ++ codes "\n"
 
--- what a printed text stands behind before its length is known: room for `text N`, and the newline
-abbrev pub front : List ℕ
-front = codes "                         \n"
-
 -- text N, and the bytes
 abbrev pub printed_text : Option (List ℕ) → List ℕ
 printed_text None = codes "none\n"

@@ -1,5 +1,5 @@
 //! What the lines of a script answer, each where it stands.
-ghost use Rattle.std.specs.Prelude.{◌≡◌, ◌+◌, ◌-◌, ◌<◌, ◌≤◌, ◌++◌, ℕ, [], IfOk, List as Row, OnOk, length};
+ghost use Rattle.std.specs.Prelude.{◌≡◌, ◌+◌, ◌-◌, ◌<◌, ◌≤◌, ◌++◌, ◌&&◌, ℕ, [], IfOk, List as Row, OnOk, length, nat_lt};
 ghost use Rattle.shast.specs.Nodes.{AreWithin};
 ghost use Rattle.shast.specs.Shape.{shape_of};
 ghost use Rattle.shast.specs.Tree.{Entries};
@@ -92,17 +92,16 @@ fn add_nodes_at(
     }
 }
 
-/// The printed text of all lines, whose bytes the source has, behind these bytes.
+/// The printed text of all lines, whose bytes the source has.
 pub(crate) fn text_of_lines(
     alloc: Global,
     layout: &Layout,
     source: &Buffer,
     lines: &HeldLines<TopLine>,
-    front: &[u8],
 ) -> Result<Vec<u8>, AllocError>
     requires small { length (buffer_bytes source.now) ≤ limit }
     requires row { (edition : Edition) × IsRow (IsHeldLine edition) (buffer_bytes source.now) lines.now }
-    ensures { IfOk result (λ text. text.items ≡ front.now ++ printed layout.now (shape_of (buffer_bytes source.now) (script_of lines.now).entries)) }
+    ensures { IfOk result (λ text. text.items ≡ printed layout.now (shape_of (buffer_bytes source.now) (script_of lines.now).entries)) }
 {
     let printer = Printer {
         alloc,
@@ -110,33 +109,31 @@ pub(crate) fn text_of_lines(
         source,
     };
     let mut page = Page::new(alloc);
-    page.text.extend_from_slice(front)?;
     let mut gap = false;
     let mut begin = 0;
     let mut rest = lines.lines();
     'lines: while let Some(line) = rest.next() {
-        let blank = gap && page.text.len() > front.len();
-        gap = print_line(&printer, line, begin, blank, &mut page)?;
+        gap = print_line(&printer, line, begin, gap, &mut page)?;
         begin += line.len;
     }
     Ok(page.text)
 }
 
-/// Prints a line that begins at an offset, with an empty line before its entries or without. Answers whether
-/// there is a gap behind it.
+/// Prints a line that begins at an offset, where there is a gap before it or none.
+/// Answers whether there is one behind it.
 fn print_line(
     printer: &Printer<Buffer>,
     line: &HeldLine<TopLine>,
     begin: usize,
-    blank: bool,
+    gap: bool,
     page: &mut Page,
 ) -> Result<bool, AllocError>
-    ensures { IfOk result (λ gap. (edition : Edition) → PrintsLine edition printer.now.layout (buffer_bytes printer.now.source.now) begin line.now blank gap page.old page.new) }
+    ensures { IfOk result (λ gap_behind. (edition : Edition) → PrintsLine edition printer.now.layout (buffer_bytes printer.now.source.now) begin line.now gap gap_behind page.old page.new) }
 {
     let Some(list) = line.kind.list() else {
         return Ok(true);
     };
-    print_blank(blank, page)?;
+    print_gap(gap, page)?;
     let behind = Behind::new(printer.source, begin);
     let printer = Printer {
         alloc: printer.alloc,
@@ -147,11 +144,11 @@ fn print_line(
     Ok(false)
 }
 
-/// An empty line, or none.
-fn print_blank(blank: bool, page: &mut Page) -> Result<(), AllocError>
-    ensures { IfOk result (λ _. page.old.held.items ≡ [] → Prints page.old page.new (print_blank blank)) }
+/// An empty line for a gap between entries. Before the first entry there is none.
+fn print_gap(gap: bool, page: &mut Page) -> Result<(), AllocError>
+    ensures { IfOk result (λ _. page.old.held.items ≡ [] → Prints page.old page.new (print_blank (gap && nat_lt 0 (length page.old.text.items)))) }
 {
-    if blank {
+    if gap && !page.text.is_empty() {
         // The line before has ended, and the bodies of its here-documents wait no more.
         page.text.push(b'\n')?;
     }

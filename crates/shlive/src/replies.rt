@@ -1,18 +1,18 @@
 //! The replies to requests whose payload, where they have one, was read.
-ghost use Rattle.std.specs.Prelude.{◌≡◌, ◌⊎◌, ◌||◌, ◌++◌, ◌<◌, ◌≤◌, IfErr, IfOk, List, List as Row, OnOk, Some, codes, is_ok, length, not, ℕ};
+ghost use Rattle.std.specs.Prelude.{◌≡◌, ◌||◌, ◌<◌, ◌≤◌, IfErr, IfOk, List, List as Row, OnOk, Some, codes, is_ok, length, not};
 ghost use Rattle.shtext.specs.Device.{Writes, held_of, output_failed};
 ghost use Rattle.shtext.specs.Edit.{ASplice, splices_of};
 ghost use Rattle.shast.specs.declared.node.NodeLine.{NodeLine};
 ghost use Rattle.shlive.specs.Answers.{HasNodesAt, HasOutline};
 ghost use Rattle.shlive.specs.Edits.{IsMade, IsNotMade};
 ghost use Rattle.shlive.specs.Parts.{AreSplices, Hold, request_by};
-ghost use Rattle.shlive.specs.Replies.{IsNoMemory, fault_text, flaw_text, front, nodes_text, number_of_kind, ok_text, printed_text, refusal_text};
+ghost use Rattle.shlive.specs.Replies.{fault_text, flaw_text, nodes_text, number_of_kind, ok_text, printed_text, refusal_text};
 ghost use Rattle.shlive.specs.Requests.{at as asks_at, edit, fault, outline, print};
 ghost use Rattle.shlive.specs.Turns.{Tells};
 
 use crate::error::LiveError;
 use crate::parts::{Flaw, KeptSplice, Parts};
-use crate::reply::{NUMBER, write_flushed, write_number, write_word};
+use crate::reply::write_flushed;
 use crate::session::Session;
 use crate::texts::nodes_text;
 use shread::{Fault, FaultKind};
@@ -21,15 +21,6 @@ use std::alloc::{AllocError, Global};
 use std::io::Write;
 
 const NO_MEMORY: &[u8] = b"no memory\n";
-
-/// The most bytes of `ok LENGTH STATUS`, with its newline.
-const OK: usize = 2 + 2 * NUMBER + 1;
-
-/// The most bytes of `fault AT LINE COL KIND`, with its newline.
-const FAULT: usize = 5 + 4 * NUMBER + 1;
-
-/// What a printed text stands behind until it is known how long it is: room for `text N`, and a newline.
-const FRONT: &[u8; 4 + NUMBER + 1] = b"                         \n";
 
 /// The number by which a reply tells a kind of fault.
 fn number_of_kind(kind: FaultKind) -> u8
@@ -100,11 +91,17 @@ fn tell_ok<W: Write>(output: &mut Output<W>, len: usize, status: u8) -> Result<(
     ensures bytes { Writes (held_of W.contents output.old) (held_of W.contents output.new) (not (is_ok result)) (ok_text len status) }
     ensures failed { output_failed output.new ≡ (output_failed output.old || not (is_ok result)) }
 {
-    let mut line = [b'\n'; OK];
-    let end = write_number(&mut line, OK - 1, status as usize, b' ');
-    let end = write_number(&mut line, end, len, b' ');
-    let start = write_word(&mut line, end, b"ok");
-    write_flushed(output, &line[start..])
+    let (mut len_text, mut status_text) = (itoa::Buffer::new(), itoa::Buffer::new());
+    write_flushed(
+        output,
+        &[
+            b"ok ",
+            len_text.format(len).as_bytes(),
+            b" ",
+            status_text.format(status).as_bytes(),
+            b"\n",
+        ],
+    )
 }
 
 /// Replies to an edit whose splices came. They need not have been kept.
@@ -121,7 +118,7 @@ fn reply_to_splices<W: Write>(
     ensures failed { output_failed output.new ≡ (output_failed output.old || not (is_ok result)) }
 {
     if let Err(error) = edit_kept(alloc, session, parts) {
-        return write_flushed(output, refusal_text(error));
+        return write_flushed(output, &[refusal_text(error)]);
     }
     tell_ok(output, session.script_len(), session.status())
 }
@@ -142,7 +139,7 @@ pub(crate) fn reply_to_edit<W: Write>(
 {
     match came {
         Ok(()) => reply_to_splices(alloc, session, output, parts),
-        Err(flaw) => write_flushed(output, flaw_text(flaw)),
+        Err(flaw) => write_flushed(output, &[flaw_text(flaw)]),
     }
 }
 
@@ -164,8 +161,8 @@ pub(crate) fn reply_to_outline<W: Write>(
     ensures failed { output_failed output.new ≡ (output_failed output.old || not (is_ok result)) }
 {
     match outline_text(alloc, session) {
-        Ok(text) => write_flushed(output, &text),
-        Err(_) => write_flushed(output, NO_MEMORY),
+        Ok(text) => write_flushed(output, &[&text]),
+        Err(_) => write_flushed(output, &[NO_MEMORY]),
     }
 }
 
@@ -188,11 +185,11 @@ pub(crate) fn reply_to_at<W: Write>(
     ensures failed { output_failed output.new ≡ (output_failed output.old || not (is_ok result)) }
 {
     if session.is_past(at) {
-        return write_flushed(output, b"at 0\n");
+        return write_flushed(output, &[b"at 0\n"]);
     }
     match at_text(alloc, session, at) {
-        Ok(text) => write_flushed(output, &text),
-        Err(_) => write_flushed(output, NO_MEMORY),
+        Ok(text) => write_flushed(output, &[&text]),
+        Err(_) => write_flushed(output, &[NO_MEMORY]),
     }
 }
 
@@ -207,18 +204,22 @@ fn tell_fault<W: Write>(
     ensures failed { output_failed output.new ≡ (output_failed output.old || not (is_ok result)) }
 {
     let (line, col) = session.bytes().line_col(fault.at);
-    let mut text = [b'\n'; FAULT];
-    let end = write_number(
-        &mut text,
-        FAULT - 1,
-        number_of_kind(fault.kind) as usize,
-        b' ',
-    );
-    let end = write_number(&mut text, end, col, b' ');
-    let end = write_number(&mut text, end, line, b' ');
-    let end = write_number(&mut text, end, fault.at, b' ');
-    let start = write_word(&mut text, end, b"fault");
-    write_flushed(output, &text[start..])
+    let (mut at_text, mut line_text) = (itoa::Buffer::new(), itoa::Buffer::new());
+    let (mut col_text, mut kind_text) = (itoa::Buffer::new(), itoa::Buffer::new());
+    write_flushed(
+        output,
+        &[
+            b"fault ",
+            at_text.format(fault.at).as_bytes(),
+            b" ",
+            line_text.format(line).as_bytes(),
+            b" ",
+            col_text.format(col).as_bytes(),
+            b" ",
+            kind_text.format(number_of_kind(fault.kind)).as_bytes(),
+            b"\n",
+        ],
+    )
 }
 
 /// Replies to `fault`. It takes no memory.
@@ -231,26 +232,26 @@ pub(crate) fn reply_to_fault<W: Write>(
 {
     match session.fault() {
         Some(fault) => tell_fault(session, output, fault),
-        None => write_flushed(output, b"none\n"),
+        None => write_flushed(output, &[b"none\n"]),
     }
 }
 
-/// Replies to `print` with the printed text that stands behind `FRONT`, and puts what is told before it there.
-fn tell_text<W: Write>(output: &mut Output<W>, mut text: Vec<u8>) -> Result<(), Failed>
-    requires { (printed : List ℕ) × (text.items ≡ front ++ printed) }
-    ensures told { (printed : List ℕ) → text.items ≡ front ++ printed → (reply : List ℕ)
-        × ((reply ≡ printed_text (Some printed)) ⊎ IsNoMemory reply)
-        × Writes (held_of W.contents output.old) (held_of W.contents output.new) (not (is_ok result)) reply }
+/// Replies to `print` where the script has a printed text.
+fn tell_text<W: Write>(output: &mut Output<W>, text: &[u8]) -> Result<(), Failed>
+    ensures bytes { Writes (held_of W.contents output.old) (held_of W.contents output.new) (not (is_ok result)) (printed_text (Some text.now)) }
     ensures failed { output_failed output.new ≡ (output_failed output.old || not (is_ok result)) }
 {
-    let len = text.len() - FRONT.len();
-    let Ok(()) = text.push(b'\n') else {
-        return write_flushed(output, NO_MEMORY);
-    };
-    let line = text.as_mut_slice();
-    let end = write_number(line, FRONT.len() - 1, len, b' ');
-    let start = write_word(line, end, b"text");
-    write_flushed(output, &line[start..])
+    let mut len = itoa::Buffer::new();
+    write_flushed(
+        output,
+        &[
+            b"text ",
+            len.format(text.len()).as_bytes(),
+            b"\n",
+            text,
+            b"\n",
+        ],
+    )
 }
 
 /// Replies to `print`. For a faulty script this takes no memory.
@@ -262,11 +263,11 @@ pub(crate) fn reply_to_print<W: Write>(
     ensures failed { output_failed output.new ≡ (output_failed output.old || not (is_ok result)) }
 {
     if session.fault().is_some() {
-        return write_flushed(output, b"none\n");
+        return write_flushed(output, &[b"none\n"]);
     }
-    match session.print_behind(FRONT) {
-        Ok(Some(text)) => tell_text(output, text),
-        Ok(None) => write_flushed(output, b"none\n"),
-        Err(_) => write_flushed(output, NO_MEMORY),
+    match session.print() {
+        Ok(Some(text)) => tell_text(output, &text),
+        Ok(None) => write_flushed(output, &[b"none\n"]),
+        Err(_) => write_flushed(output, &[NO_MEMORY]),
     }
 }

@@ -199,7 +199,7 @@ fn answer_next<R: Read, W: Write>(
             Err(Failed) => Err(End::Unwritable),
         },
         Some(Order::Quit) => Err(End::Quit),
-        None => match write_flushed(output, b"no request\n") {
+        None => match write_flushed(output, &[b"no request\n"]) {
             Ok(()) => Ok(()),
             Err(Failed) => Err(End::Unwritable),
         },

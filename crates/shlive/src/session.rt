@@ -1,5 +1,5 @@
 //! The open script.
-ghost use Rattle.std.specs.Prelude.{◌≡◌, ◌≤◌, [], ◌++◌, ◌<◌, IfErr, IfOk, IfSome, IsOk, List, OnOk, Option, Some, false, length, option_map, true, ℕ};
+ghost use Rattle.std.specs.Prelude.{◌≡◌, ◌≤◌, [], IfErr, IfOk, IfSome, IsOk, OnOk, length, option_map, Some, false, true, ◌<◌};
 ghost use Rattle.shread.specs.Answers.{edition_of, meter_of};
 ghost use Rattle.shtext.specs.Meter.{raised};
 ghost use Rattle.shgrammar.specs.Scripts.{FirstFault};
@@ -182,19 +182,10 @@ impl Session {
         ensures text { IfOk result (λ text. HasText self.now.how self.now.bytes (option_map (λ t. t.items) text)) }
         ensures faulty { (fault : Fault) → FirstFault self.now.how.edition self.now.bytes (Some fault) → IsOk result }
     {
-        self.print_behind(b"")
-    }
-
-    /// The printed text behind these bytes, and none for a faulty script, which takes no memory.
-    pub(crate) fn print_behind(&self, front: &[u8]) -> Result<Option<Vec<u8>>, AllocError>
-        ensures text { IfOk result (λ behind. (text : Option (List ℕ)) × HasText self.now.how self.now.bytes text
-            × (option_map (λ t. t.items) behind ≡ option_map (λ t. front.now ++ t) text)) }
-        ensures faulty { (fault : Fault) → FirstFault self.now.how.edition self.now.bytes (Some fault) → IsOk result }
-    {
         if self.fault().is_some() {
             return Ok(None);
         }
-        let text = text_of_lines(self.alloc, &self.layout, &self.text, &self.lines, front)?;
+        let text = text_of_lines(self.alloc, &self.layout, &self.text, &self.lines)?;
         Ok(Some(text))
     }
 

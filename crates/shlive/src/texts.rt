@@ -1,9 +1,8 @@
 //! The texts of replies that tell nodes.
-ghost use Rattle.std.specs.Prelude.{◌≡◌, ◌≤◌, ◌++◌, IfOk, codes, decimal, drop, length};
+ghost use Rattle.std.specs.Prelude.{◌≡◌, ◌+◌, ◌≤◌, ◌∷◌, ◌++◌, IfOk, codes, decimal, drop, length};
 ghost use Rattle.shtext.specs.Buffer.{buffer_bytes};
 ghost use Rattle.shlive.specs.Replies.{kind_text, name_text, node_text, nodes_text};
 
-use crate::reply::{NUMBER, write_number};
 use shprint::add_bare;
 use shtext::Buffer;
 use shtree::{NodeKind, NodeLine, Span};
@@ -14,7 +13,7 @@ const KIND: usize = 8;
 
 /// The longest line of a node up to its name: the end of the line before, two numbers
 /// of 20 digits with a blank behind each, and a kind.
-const LINE: usize = 1 + 2 * NUMBER + KIND;
+const LINE: usize = 43 + KIND;
 
 /// What a reply calls a kind of node, at the end of as many bytes for each, and how
 /// many of them stand before it unused.
@@ -41,6 +40,17 @@ fn kind_text(kind: NodeKind) -> (&'static [u8; KIND], usize)
         NodeKind::Pipeline => (b"pipeline", 0),
         NodeKind::AndOr => (b"   andor", 3),
     }
+}
+
+/// Writes a number so that it ends at `end`, and this byte before it. Answers where the byte stands.
+fn write_number(line: &mut [u8], end: usize, number: usize, before: u8) -> usize
+    requires { (21 ≤ end) × (end ≤ length line.old) }
+    ensures room { end ≤ result + 21 }
+    ensures written { drop result line.new ≡ before ∷ decimal number ++ drop end line.old }
+{
+    let start = itoa::write_digits(number as u64, line, end) - 1;
+    line[start] = before;
+    start
 }
 
 /// Writes the line of a node up to its name to the end of these bytes, with the end of

@@ -1,6 +1,5 @@
-use Rattle.std.proofs.Common.{◌≡◌, ◌+◌, ◌++◌, ◌&&◌, ◌∙◌, length, nat_lt, ap, arith, refl, subst, sym}
+use Rattle.std.proofs.Common.{[], ◌+◌, ◌∙◌, ap, arith, refl, subst, sym}
 use Rattle.shast.specs.Shape.{shape_of}
-use Rattle.shgrammar.specs.Joined.{has_entry}
 use Rattle.shprint.specs.Printed.{printed}
 use Rattle.shprint.specs.Written.{sheet_of}
 use Rattle.shtext.specs.Buffer.{buffer_bytes}
@@ -8,11 +7,9 @@ use Rattle.shwindow.specs.Walks.{lines_left}
 use Rattle.shheld.specs.Walk.{Walk, no_line, with_line, with_lines}
 use Rattle.shheld.proofs.Rows.{row_entries}
 use Rattle.shlive.proofs.TopLines.{row_top}
-use Rattle.shlive.specs.Printing.{has_blank}
-use Rattle.shlive.proofs.Printing.{all_printed, more_text, none_yet}
+use Rattle.shlive.proofs.Printing.{all_printed, none_yet}
 use Rattle.shlive.proofs.Walking.{Walked, walked_line, walked_more, walked_start, walked_within}
 use Rattle.shlive.proofs.answers.text_of_lines.Goals as goal
-use Rattle.shlive.proofs.answers.text_of_lines.Goals.{then-gap, else-gap}
 
 pub lines-init : goal.lines-init
 lines-init c =
@@ -23,9 +20,8 @@ lines-init c =
       gap = refl;
       at = refl;
       entries = ap (with_lines no_line) c.lines-rest.ensures;
-      printed = none_yet c.args.layout.now (buffer_bytes c.args.source.now) c.args.front.now _ c.new-page.ensures.0
-          (ap (λ t. sheet_of t c.new-page.result.held.items) (c.in_ok-extend_from_slice.ensures.items ∙ ap (λ t. t ++ c.args.front.now) c.new-page.ensures.1)
-          ∙ ap (sheet_of c.args.front.now) c.new-page.ensures.2);
+      printed = none_yet c.args.layout.now (buffer_bytes c.args.source.now) c.new-page.result c.new-page.ensures.0
+          (ap (λ t. sheet_of t c.new-page.result.held.items) c.new-page.ensures.1 ∙ ap (sheet_of []) c.new-page.ensures.2);
     }
 
 pub overflow_add-begin : goal.overflow_add-begin
@@ -42,13 +38,7 @@ lines-preserved c =
     let rest = lines_left c.next.new.self in
     let inv = c.lines.invariant in
     let line = walked_line row left c.lines.begin l rest inv.walked c.in-Some.ensures.steps c.requires.row.0 B c.requires.row.1 in
-    let some = more_text c.args.layout.now B c.args.front.now inv.so c.lines.page inv.printed in
-    let blank : c.if-gap.blank ≡ has_blank inv.so =
-    elim c.if-gap.branch [
-      | then-gap w ↦ w.blank-is ∙ ap (nat_lt (length c.args.front.now)) (w.len.ensures ∙ c.lines.page.text.ok.0) ∙ some ∙ sym (ap (λ g. g && has_entry inv.so.entries) (inv.gap ∙ w.if-gap.true))
-      | else-gap w ↦ w.blank-is ∙ w.if-gap.false ∙ sym (ap (λ g. g && has_entry inv.so.entries) (inv.gap ∙ w.if-gap.false))
-    ] in
-    let more = c.in_ok-gap.ensures c.requires.row.0 c.args.front.now inv.so blank inv.at line inv.printed in
+    let more = c.in_ok-gap.ensures c.requires.row.0 inv.so inv.gap inv.at line inv.printed in
     record {
       walked = walked_more row left c.lines.begin l rest inv.walked c.in-Some.ensures.steps;
       so = with_line inv.so l;
@@ -64,6 +54,6 @@ returns c =
     let B = buffer_bytes c.args.source.now in
     let inv = c.lines.invariant in
     let all = ap (with_lines inv.so) (sym c.in_default.ensures.steps.0) ∙ inv.entries in
-    all_printed c.args.layout.now B c.args.front.now inv.so c.lines.page inv.printed
-    ∙ ap (λ (w : Walk). c.args.front.now ++ printed c.args.layout.now (shape_of B w.entries)) all
-    ∙ sym (ap (λ es. c.args.front.now ++ printed c.args.layout.now (shape_of B es)) (row_entries c.requires.row.0 B row (row_top c.requires.row.0 B row c.requires.row.1)))
+    all_printed c.args.layout.now B inv.so c.lines.page inv.printed
+    ∙ ap (λ (w : Walk). printed c.args.layout.now (shape_of B w.entries)) all
+    ∙ sym (ap (λ es. printed c.args.layout.now (shape_of B es)) (row_entries c.requires.row.0 B row (row_top c.requires.row.0 B row c.requires.row.1)))

@@ -13,7 +13,7 @@ invariant-lines l = record {
   gap : so.gap ≡ l.gap;
   at : so.at ≡ l.begin;
   entries : with_lines so (lines_left l.rest) ≡ with_lines no_line l.lines;
-  printed : IsOnPage l.layout (buffer_bytes l.source) l.front so l.page;
+  printed : IsOnPage l.layout (buffer_bytes l.source) so l.page;
 }
 
 abbrev pub decreases-lines : goal.decreases-lines

@@ -1,15 +1,21 @@
-use Rattle.std.proofs.Common.{◌≡◌, [], ◌++◌, ◌∙◌, List, ℕ, Option, None, Some, refl, subst, sym}
-use Rattle.std.proofs.lemmas.Result.{IfOk-weaker}
-use Rattle.std.specs.Prelude.{option_map}
-use Rattle.shlive.specs.Answers.{HasText}
+use Rattle.std.proofs.Common.{◌∙◌, None, subst, sym}
+use Rattle.shgrammar.specs.Scripts.{FirstFault}
+use Rattle.shprint.specs.ReadBack.{IsTextOf}
+use Rattle.shread.specs.Answers.{edition_of}
+use Rattle.shtext.specs.Buffer.{buffer_bytes}
+use Rattle.shlive.specs.Held.{Held}
+use Rattle.shlive.proofs.LastLine.{no_fault, none_is, text_of_row}
 use Rattle.shlive.proofs.session.Session.print.Goals as goal
 
-behind_none : (text : Option (List ℕ)) → option_map (λ t. [] ++ t) text ≡ text
-behind_none None = refl
-behind_none (Some t) = refl
+pub returns-in_err-text-clause-faulty : goal.returns-in_err-text-clause-faulty
+returns-in_err-text-clause-faulty c = λ fault first.
+    absurd (no_fault c.args.self.now.how.edition c.args.self.now.bytes c.fault.result c.fault.ensures.first (sym c.is_some.ensures ∙ c.if-is_some.false) fault first)
 
 pub returns-clause-text : goal.returns-clause-text
 returns-clause-text c =
-    IfOk-weaker c.print_behind.result _ _
-    (λ behind is. subst (HasText c.args.self.now.how c.args.self.now.bytes) (sym (is.2 ∙ behind_none is.0)) is.1)
-    c.print_behind.ensures.text
+    let session = c.self.inside in
+    let none = subst (FirstFault c.args.self.now.how.edition c.args.self.now.bytes) (none_is c.fault.result (sym c.is_some.ensures ∙ c.if-is_some.false)) c.fault.ensures.first in
+    let here = subst (λ (h : Held). FirstFault h.how.edition h.bytes None) (sym c.self.view_is) none in
+    let text = c.in_ok-text.text.items in
+    subst (λ (h : Held). IsTextOf h.how.edition h.how.layout h.bytes text) c.self.view_is
+    (text_of_row (edition_of session.reader.reader) session.layout (buffer_bytes session.text) session.lines c.self.invariant.row here text c.in_ok-text.ensures)
