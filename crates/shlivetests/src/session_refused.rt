@@ -1,6 +1,7 @@
 // Each growth of a session refused in turn: `growths.rt` says how.
 use crate::session_runs::{alike, alike_at_each, make, opened, page_of};
 use crate::windows::window;
+use shast::NodeLine;
 use shlive::{LiveError, Session, run};
 use shprint::Layout;
 use shread::Reader;
@@ -18,21 +19,37 @@ const SCRIPT: &[u8] = b"if a; then b; fi\nf() { echo $(c | d); }\n";
 
 const NEW: &[u8] = b"while e; do f; done\n";
 
-#[test]
-fn open(rt: HostRuntime) -> Result<(), Fail> {
-    let alloc = rt.alloc();
+/// The scripts: commands in a line, here-documents, a `case`, a loop, a function.
+const SCRIPTS: [&[u8]; 5] = [
+    SCRIPT,
+    b"cat <<A <<'B' && c\n1\nA\n2\nB\n",
+    b"case $1 in # k\n-h|--help) usage;;\n(*) ;; # rest\nesac\n",
+    b"for i in a \\\n  b # n\ndo echo \"$i\"; done >f\n",
+    b"f() { echo $(a | b); }\n",
+];
+
+/// Refuses each growth of an `open` in turn.
+fn opened_in_turn(rt: &impl Abort, alloc: Global, script: &[u8]) -> Result<(), Fail> {
     let mut growths = Growths::of(alloc);
     let layout = Layout::new(0, false, false, false)?;
     for _ in 1..200 {
         growths.refuse_next();
-        let session = Session::open(alloc, Reader::new(alloc), layout, SCRIPT);
+        let session = Session::open(alloc, Reader::new(alloc), layout, script);
         if !growths.is_met() {
-            assert!(rt; alike(&session?, &opened(alloc, SCRIPT)?)?);
+            assert!(rt; alike(&session?, &opened(alloc, script)?)?);
             break;
         }
         assert!(rt; session.err() == Some(LiveError::Memory));
     }
-    assert!(rt; growths.were_each_refused());
+    assert!(rt; growths.were_each_refused(), "{script:?}");
+    Ok(())
+}
+
+#[test]
+fn open(rt: HostRuntime) -> Result<(), Fail> {
+    for script in SCRIPTS {
+        opened_in_turn(&rt, rt.alloc(), script)?;
+    }
     Ok(())
 }
 
@@ -124,61 +141,78 @@ fn edit_all(rt: HostRuntime) -> Result<(), Fail> {
     each_refused(&rt, rt.alloc(), SCRIPT, &splices, 1)
 }
 
-#[test]
-fn outline(rt: HostRuntime) -> Result<(), Fail> {
-    let alloc = rt.alloc();
+/// What a session is asked, though it changes nothing.
+#[derive(Clone, Copy)]
+enum Question {
+    Outline,
+    NodesAt(usize),
+    Print,
+}
+
+/// What it answers.
+#[derive(PartialEq)]
+enum Answer {
+    Nodes(Vec<NodeLine>),
+    Text(Option<Vec<u8>>),
+}
+
+/// Asks a session.
+fn ask(session: &Session, question: Question) -> Result<Answer, AllocError> {
+    Ok(match question {
+        Question::Outline => Answer::Nodes(session.outline()?),
+        Question::NodesAt(at) => Answer::Nodes(session.nodes_at(at)?),
+        Question::Print => Answer::Text(session.print()?),
+    })
+}
+
+/// Refuses each growth of a question in turn.
+fn asked_in_turn(
+    rt: &impl Abort,
+    alloc: Global,
+    script: &[u8],
+    question: Question,
+) -> Result<(), Fail> {
+    let session = opened(alloc, script)?;
+    let wanted = ask(&session, question)?;
     let mut growths = Growths::of(alloc);
-    let session = opened(alloc, SCRIPT)?;
-    let wanted = session.outline()?;
     for _ in 1..200 {
         growths.refuse_next();
-        let found = session.outline();
+        let answer = ask(&session, question);
         if !growths.is_met() {
-            assert!(rt; found? == wanted);
+            assert!(rt; answer? == wanted);
             break;
         }
-        assert!(rt; found == Err(AllocError));
+        assert!(rt; answer.is_err());
     }
-    assert!(rt; growths.were_each_refused());
+    assert!(rt; growths.were_each_refused(), "{script:?}");
     Ok(())
 }
 
 #[test]
-fn nodes_at(rt: HostRuntime) -> Result<(), Fail> {
-    let alloc = rt.alloc();
-    let mut growths = Growths::of(alloc);
-    let session = opened(alloc, SCRIPT)?;
-    let wanted = session.nodes_at(25)?;
-    for _ in 1..200 {
-        growths.refuse_next();
-        let found = session.nodes_at(25);
-        if !growths.is_met() {
-            assert!(rt; found? == wanted);
-            break;
+fn questions(rt: HostRuntime) -> Result<(), Fail> {
+    for script in SCRIPTS {
+        for question in [
+            Question::Outline,
+            Question::NodesAt(13),
+            Question::NodesAt(20),
+            Question::Print,
+        ] {
+            asked_in_turn(&rt, rt.alloc(), script, question)?;
         }
-        assert!(rt; found == Err(AllocError));
     }
-    assert!(rt; growths.were_each_refused());
     Ok(())
 }
 
-#[test]
-fn print(rt: HostRuntime) -> Result<(), Fail> {
-    let alloc = rt.alloc();
-    let mut growths = Growths::of(alloc);
-    let session = opened(alloc, SCRIPT)?;
-    let wanted = session.print()?;
-    for _ in 1..200 {
-        growths.refuse_next();
-        let found = session.print();
-        if !growths.is_met() {
-            assert!(rt; found? == wanted);
-            break;
-        }
-        assert!(rt; found == Err(AllocError));
-    }
-    assert!(rt; growths.were_each_refused());
-    Ok(())
+/// The answer of a run over a session.
+fn served<R: Read + Drop>(
+    alloc: Global,
+    session: &mut Session,
+    requests: R,
+    page: &mut Page,
+) -> u8 {
+    let mut input = Input::new(requests);
+    let mut output = Output::new(page);
+    run(alloc, session, &mut input, &mut output)
 }
 
 /// What a run writes on the script with the next growth refused, and its answer.
@@ -189,10 +223,56 @@ fn written<R: Read + Drop>(
     page: &mut Page,
 ) -> Result<u8, Fail> {
     let mut session = opened(alloc, b"a\nb")?;
-    let mut input = Input::new(requests);
-    let mut output = Output::new(page);
     growths.refuse_next();
-    Ok(run(alloc, &mut session, &mut input, &mut output))
+    Ok(served(alloc, &mut session, requests, page))
+}
+
+/// Refuses each growth of a request in turn: its reply is as with ample memory, or `no memory`, and then the
+/// script is as before. The request behind it needs none.
+fn replied_in_turn(
+    rt: &impl Abort,
+    alloc: Global,
+    script: &[u8],
+    requests: &[u8],
+) -> Result<(), Fail> {
+    let before = opened(alloc, script)?;
+    let mut made = opened(alloc, script)?;
+    let mut whole = page_of(PAGE);
+    assert!(rt; served(alloc, &mut made, requests, &mut whole) == 0);
+    let mut growths = Growths::of(alloc);
+    for _ in 1..200 {
+        let mut session = opened(alloc, script)?;
+        let mut page = page_of(PAGE);
+        growths.refuse_next();
+        let status = served(alloc, &mut session, requests, &mut page);
+        let is_met = growths.is_met();
+        if page.text() == whole.text() {
+            assert!(rt; status == 0 && alike(&session, &made)?);
+        } else {
+            assert!(rt; is_met && page.text() == b"no memory\nnone\n".as_slice());
+            assert!(rt; status == 0 && alike(&session, &before)?);
+        }
+        if !is_met {
+            break;
+        }
+    }
+    assert!(rt; growths.were_each_refused(), "{script:?} {requests:?}");
+    Ok(())
+}
+
+#[test]
+fn replies(rt: HostRuntime) -> Result<(), Fail> {
+    for script in SCRIPTS {
+        for requests in [
+            b"outline\nfault\n".as_slice(),
+            b"at 13\nfault\n",
+            b"print\nfault\n",
+            b"edit 0 0 4\na b\n\nfault\n",
+        ] {
+            replied_in_turn(&rt, rt.alloc(), script, requests)?;
+        }
+    }
+    Ok(())
 }
 
 #[test]
@@ -222,14 +302,9 @@ fn requests(rt: HostRuntime) -> Result<(), Fail> {
     Ok(())
 }
 
-/// The answer of a run over the session that asks for two splices together.
-fn asked_together(alloc: Global, session: &mut Session, page: &mut Page) -> u8 {
-    let mut input = Input::new(b"batch 2\n0 1 1\nx\n4 5 2\nyy\n".as_slice());
-    let mut output = Output::new(page);
-    run(alloc, session, &mut input, &mut output)
-}
+const TOGETHER: &[u8] = b"batch 2\n0 1 1\nx\n4 5 2\nyy\n";
 
-/// After `no memory` all is as before, and the same request is made once there is memory.
+/// After `no memory` all is as before, and the same request is made once there is memory: it reads the window.
 #[test]
 fn batch(rt: HostRuntime) -> Result<(), Fail> {
     let alloc = rt.alloc();
@@ -240,15 +315,17 @@ fn batch(rt: HostRuntime) -> Result<(), Fail> {
         let mut session = opened(alloc, b"a\nb\nc\n")?;
         let mut page = page_of(PAGE);
         growths.refuse_next();
-        let mut status = asked_together(alloc, &mut session, &mut page);
+        let mut read = session.meter();
+        let mut status = served(alloc, &mut session, TOGETHER, &mut page);
         let is_met = growths.is_met();
         if page.text() == b"no memory\n".as_slice() {
             assert!(rt; is_met && status == 0 && is_as_before(&session, &before, 7, 1)?);
             page = page_of(PAGE);
-            status = asked_together(alloc, &mut session, &mut page);
+            read = session.meter();
+            status = served(alloc, &mut session, TOGETHER, &mut page);
         }
         assert!(rt; status == 0 && page.text() == b"ok 7 0\n".as_slice());
-        assert!(rt; alike(&session, &made)?);
+        assert!(rt; session.meter() == read.saturating_add(7) && alike(&session, &made)?);
         if !is_met {
             break;
         }
