@@ -4,3 +4,4 @@ pub mod Words
 pub mod ProgramEnds
 pub mod SessionReport
 pub mod ToolReport
+pub mod Gathering

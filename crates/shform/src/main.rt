@@ -6,15 +6,18 @@
 //! piece into a `sink`, which is a `part` of it, for a print with its text a `printed_part`; they have the
 //! first fault or the text from the reader and the printer, and tell the one by `report`, or write the
 //! other. `session_engine` reads FILE so, into a vector, and its session is that of `shlive`. `words` reads
-//! the command line. The ends, which remember how their devices fared, are those of `shtext`; what is
-//! opened, is opened here.
+//! the command line. The ends, which remember how their devices fared, are those of `shtext`, and before
+//! what is written stands a writer that is `gathering` it; what is opened, is opened here.
 #![tactic(auto)]
 
-ghost use Rattle.std.specs.Prelude.{◌≡◌, IfSome, is_some};
+ghost use Rattle.std.specs.Prelude.{◌≡◌, IfSome, false, is_some};
 ghost use Rattle.shlive.specs.Ahead.{IsOpen};
+ghost use Rattle.shtext.specs.Device.{output_failed};
 
 mod asked;
 mod engine;
+mod front;
+mod gathering;
 mod part;
 mod passing;
 mod printed_part;
@@ -31,15 +34,23 @@ mod words;
 
 use asked::{Settings, Tool};
 use clap::error::ErrorKind;
+use gathering::Gathering;
 use report::{Stop, give_up};
 use shtext::{Input, Output};
 use std::alloc::AllocError;
-use std::io::Read;
+use std::io::{Read, Write};
 use std::process::ExitCode;
 use std::{env, fs, io};
 use tools::run_tool;
 use usage::Usage;
 use words::settings;
+
+/// An output of the program. What is written comes to the device when it is flushed.
+fn output_to<W: Write>(rt: &HostRuntime, device: W) -> Output<Gathering<W>>
+    ensures { output_failed result ≡ false }
+{
+    Output::new(Gathering::new(rt.alloc(), device))
+}
 
 /// Runs the tool over FILE, where the settings name one, and over the program's own ends.
 fn on_ends(rt: &HostRuntime, settings: &Settings<'_>, mut file: Option<Input<fs::File>>) -> u8
@@ -47,8 +58,8 @@ fn on_ends(rt: &HostRuntime, settings: &Settings<'_>, mut file: Option<Input<fs:
     requires fresh { IfSome file IsOpen }
 {
     let mut input = Input::new(rt.stdin());
-    let mut output = Output::new(rt.stdout());
-    let mut errors = Output::new(rt.stderr());
+    let mut output = output_to(rt, rt.stdout());
+    let mut errors = output_to(rt, rt.stderr());
     run_tool(
         rt.alloc(),
         settings,
@@ -116,7 +127,7 @@ fn on_usage(rt: &HostRuntime, usage: &Usage) -> u8 {
 
 /// Tells on standard error why the run was given up.
 fn give_up_on(rt: &HostRuntime, name: &str, stop: Stop) -> u8 {
-    give_up(name, stop, &mut Output::new(rt.stderr()))
+    give_up(name, stop, &mut output_to(rt, rt.stderr()))
 }
 
 /// Runs the program on the words after its name.

@@ -1,11 +1,12 @@
 //! A script while it is read. Lines that are whole and without a fault are passed, and need not be held; so
 //! the check of a script of short lines takes as much memory as a piece of it, however long it is.
-ghost use Rattle.std.specs.Prelude.{◌≡◌, ◌+◌, ◌++◌, ◌≤◌, ℕ, List, [], IfOk, drop, length};
+ghost use Rattle.std.specs.Prelude.{◌≡◌, ◌+◌, ◌++◌, ◌≤◌, ℕ, List, [], IfOk, length};
 ghost use Rattle.shform.specs.Part.{EndsLine, Held, Holds, IsFound, IsFoundAt, bytes_read};
 ghost use Rattle.shgrammar.specs.declared.edition.Edition.{Edition as AnEdition};
 ghost use Rattle.shgrammar.specs.Moved.{moved_fault};
 ghost use Rattle.shtext.specs.Edit.{limit};
 
+use crate::front::drop_front;
 use crate::part::{Found, Part};
 use crate::sink::Sink;
 use shpass::faultless_front;
@@ -15,16 +16,6 @@ use std::alloc::{AllocError, Global};
 
 /// How many bytes are held before lines are looked for among them.
 const ENOUGH: usize = 65_536;
-
-/// Takes so many bytes away at the front.
-fn drop_front(text: &mut Vec<u8>, count: usize)
-    requires { count ≤ length text.old.items }
-    ensures { text.new.items ≡ drop count text.old.items }
-{
-    let len = text.len();
-    text.copy_within(count..len, 0);
-    text.truncate(len - count);
-}
 
 impl Part {
     /// Nothing was read.

@@ -1,6 +1,7 @@
 // Each growth refused in turn, as in the tests of the reader: by the library that
 // `tests/refused-growths` loads. Without it, as in the gate, each test runs once. They catch the
 // wrong body `always_out_of_memory`, which no contract can.
+use crate::gathering::Gathering;
 use crate::tests::checked;
 use crate::tests::print::print as printed;
 use crate::tests::session::session as served;
@@ -256,4 +257,33 @@ fn scripts(rt: HostRuntime) -> Result<(), Fail> {
 fn session(rt: HostRuntime) -> Result<(), Fail> {
     let text = b"fault 20002 1 20003 11\n".as_slice();
     refused_in_turn(&rt, rt.alloc(), Run::Session, 1, text)
+}
+
+/// What stands on a page when pieces were gathered for it with the nth growth refused.
+fn gathered_refused(alloc: Global, nth: usize) -> io::Result<Page> {
+    let mut page = Page::new();
+    let mut gathering = Gathering::new(alloc, &mut page);
+    refuse(alloc, nth);
+    for piece in [b"ok ".as_slice(), b"16777216", b" ", b"0", b"\n"] {
+        gathering.write_all(piece)?;
+    }
+    gathering.flush()?;
+    Ok(page)
+}
+
+/// Pieces for which there is no memory are written as they come.
+#[test]
+fn gathered(rt: HostRuntime) -> Result<(), Fail> {
+    let refuses = refuses(rt.alloc());
+    let mut met = 0;
+    for nth in 1..100 {
+        let page = gathered_refused(rt.alloc(), nth)?;
+        assert!(rt; page.text() == b"ok 16777216 0\n".as_slice());
+        if !refuses || !was_refused(rt.alloc(), nth) {
+            break;
+        }
+        met = nth;
+    }
+    assert!(rt; !refuses || 0 < met && met < 99, "{met}");
+    Ok(())
 }

@@ -3,6 +3,7 @@
 ghost use Rattle.std.specs.Prelude.{IfSome};
 ghost use Rattle.shlive.specs.Ahead.{IsOpen};
 
+mod gathering;
 mod parts;
 pub(crate) mod print;
 pub(crate) mod session;
