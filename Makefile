@@ -21,6 +21,7 @@ test:
 
 scripts: $(PROGRAM) $(TESTS)
 	tests/run
+	tests/examples
 	tests/session
 	tests/soak
 	tests/lsp
