@@ -150,7 +150,7 @@ enum Question {
 }
 
 /// What it answers.
-#[derive(PartialEq)]
+#[derive(Drop, PartialEq)]
 enum Answer {
     Nodes(Vec<NodeLine>),
     Text(Option<Vec<u8>>),
