@@ -19,7 +19,7 @@ const SCRIPT: &[u8] = b"if a; then b; fi\nf() { echo $(c | d); }\n";
 
 const NEW: &[u8] = b"while e; do f; done\n";
 
-/// The scripts: commands in a line, here-documents, a `case`, a loop, a function.
+/// The scripts: an `if` and a function, here-documents, a `case`, a loop, a function alone.
 const SCRIPTS: [&[u8]; 5] = [
     SCRIPT,
     b"cat <<A <<'B' && c\n1\nA\n2\nB\n",
