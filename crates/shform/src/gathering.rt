@@ -8,8 +8,8 @@ use crate::front::drop_front;
 use std::alloc::Global;
 use std::io::{Error, ErrorKind, Result, Write};
 
-/// Where nothing is held, as many bytes go to the device at once, and no copy of them is made. The memory
-/// that more of them took is given back at the flush.
+/// Where nothing is held, this many bytes or more go to the device at once, and no copy of them is made. The
+/// memory that more of them took is given back at the flush.
 const LARGE: usize = 4096;
 
 /// A writer before a device.
@@ -64,7 +64,8 @@ impl<W: Write> Gathering<W> {
 impl<W: Write> Write for Gathering<W> {
     ghost contents = { gathered W.contents };
 
-    /// Holds these bytes; where there is no memory for them, hands on all.
+    /// Holds these bytes. Many of them before which none is held, and those for which there is no memory, the
+    /// device takes, as many as it does, behind those that were held.
     fn write(&mut self, buf: &[u8]) -> Result<usize> {
         let goes_through = self.held.is_empty() && buf.len() >= LARGE;
         if !goes_through && self.held.extend_from_slice(buf).is_ok() {

@@ -45,7 +45,7 @@ use tools::run_tool;
 use usage::Usage;
 use words::settings;
 
-/// An output of the program. What is written comes to the device when it is flushed.
+/// An output of the program. What is written has come to the device when it is flushed.
 fn output_to<W: Write>(rt: &HostRuntime, device: W) -> Output<Gathering<W>>
     ensures { output_failed result ≡ false }
 {

@@ -70,6 +70,16 @@ fn one_write(rt: HostRuntime) -> Result<(), Fail> {
     Ok(())
 }
 
+/// The device is flushed too.
+#[test]
+fn failed_flush(rt: HostRuntime) {
+    let mut page = Page::new(9, WhenFull::Fails);
+    page.can_flush = false;
+    let mut output = Output::new(Gathering::new(rt.alloc(), &mut page));
+    assert!(rt; output.write_whole(b"none\n").is_ok() && output.flush().is_err());
+    assert!(rt; page.text() == b"none\n".as_slice());
+}
+
 /// Where the device takes no more, it has a beginning of what it was to have.
 #[test]
 fn full_device(rt: HostRuntime) {
