@@ -2,3 +2,4 @@ pub mod Told
 pub mod Options
 pub mod Reported
 pub mod Parts
+pub mod FirstWord

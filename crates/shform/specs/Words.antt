@@ -68,9 +68,13 @@ session_app years = printing_app years (codes "session")
 abbrev pub with_settings : App → App
 with_settings a = record { top = record a.top { no_binary_name = true; subcommand_required = true; has_version = true }; subs = a.subs }
 
+-- shform
+abbrev pub top_app : App
+top_app = with_settings (new_app (codes "shform"))
+
 -- shform check
 abbrev pub first_app : Years → App
-first_app years = with_subcommand (with_settings (new_app (codes "shform"))) (check_app years).top
+first_app years = with_subcommand top_app (check_app years).top
 
 -- shform check, shform print
 abbrev pub second_app : Years → App
@@ -79,6 +83,18 @@ second_app years = with_subcommand (first_app years) (print_app years).top
 -- shform check, shform print, shform session
 abbrev pub tool_app : Years → App
 tool_app years = with_subcommand (second_app years) (session_app years).top
+
+-- shform with the subcommand of a name alone; where there is none, with all
+abbrev pub app_named : Years → Text → App
+app_named years name = if bytes_eq name (codes "check") then first_app years
+    else (if bytes_eq name (codes "print") then with_subcommand top_app (print_app years).top
+    else (if bytes_eq name (codes "session") then with_subcommand top_app (session_app years).top
+    else tool_app years))
+
+-- what is built for some words: that for the first of them
+abbrev pub app_for : Years → List Text → App
+app_for years [] = tool_app years
+app_for years (word ∷ words) = app_named years word
 
 -- ---- what its matches give
 

@@ -4,7 +4,7 @@ ghost use Rattle.clap.specs.Matches.{has_subcommand};
 ghost use Rattle.clap.specs.Words.{FailsBy, app_of, fault_of, first_value, found_of, one_text, rule_of, subcommand_of, subcommand_rows_of, with_rule};
 ghost use Rattle.clap.specs.declared.builder.command.Command.TheViews.{out-Command};
 ghost use Rattle.shform.specs.declared.asked.Tool.TheVariants.{Check};
-ghost use Rattle.shform.specs.Words.{AreOptions, AreSettingsOf, FailsFor, IsLayoutFor, check_app, edition_in, edition_rule, file_in, file_rule, first_app, flag_rule, indent_in, indent_rule, print_app, printing_app, reading_app, second_app, session_app, tool_app, tool_named};
+ghost use Rattle.shform.specs.Words.{AreOptions, AreSettingsOf, FailsFor, IsLayoutFor, app_for, app_named, check_app, edition_in, edition_rule, file_in, file_rule, first_app, flag_rule, indent_in, indent_rule, print_app, printing_app, reading_app, second_app, session_app, tool_app, tool_named, top_app};
 
 use crate::asked::{Settings, Tool};
 use crate::usage::Usage;
@@ -158,18 +158,27 @@ fn session_command<'a>(alloc: Global, years: &'a [&'a str]) -> Result<Command<'a
     )
 }
 
+/// The program's command, without a subcommand yet.
+fn top_command<'a>(alloc: Global) -> Result<Command<'a>, AllocError>
+    ensures app { IfOk result (λ c. app_of c ≡ top_app) }
+    ensures local { IfOk result (λ c. (out-Command c).has_globals ≡ false) }
+{
+    Ok(
+        Command::new(alloc, "shform")
+            .bin_name("shform")?
+            .version("0.1.0")
+            .about("Checks and prints scripts of the POSIX shell")
+            .no_binary_name(true)
+            .subcommand_required(true),
+    )
+}
+
 /// The program's command with `check` alone.
 fn first_command<'a>(alloc: Global, years: &'a [&'a str]) -> Result<Command<'a>, AllocError>
     ensures app { IfOk result (λ c. app_of c ≡ first_app years.entry) }
     ensures local { IfOk result (λ c. (out-Command c).has_globals ≡ false) }
 {
-    Command::new(alloc, "shform")
-        .bin_name("shform")?
-        .version("0.1.0")
-        .about("Checks and prints scripts of the POSIX shell")
-        .no_binary_name(true)
-        .subcommand_required(true)
-        .subcommand(check_command(alloc, years)?)
+    top_command(alloc)?.subcommand(check_command(alloc, years)?)
 }
 
 /// The program's command with `check` and `print`.
@@ -188,6 +197,39 @@ fn tool_command<'a>(alloc: Global, years: &'a [&'a str]) -> Result<Command<'a>, 
     second_command(alloc, years)?.subcommand(session_command(alloc, years)?)
 }
 
+/// The program's command with the subcommand of this name alone; where there is none, with all.
+fn command_named<'a>(
+    alloc: Global,
+    years: &'a [&'a str],
+    name: &str,
+) -> Result<Command<'a>, AllocError>
+    ensures app { IfOk result (λ c. app_of c ≡ app_named years.entry name.now) }
+    ensures local { IfOk result (λ c. (out-Command c).has_globals ≡ false) }
+{
+    match name {
+        "check" => first_command(alloc, years),
+        "print" => top_command(alloc)?.subcommand(print_command(alloc, years)?),
+        "session" => top_command(alloc)?.subcommand(session_command(alloc, years)?),
+        _ => tool_command(alloc, years),
+    }
+}
+
+/// The program's command, with no other subcommand than the one that the words begin with: the rest of them
+/// is taken by it alone, and the others need not be built.
+fn command_for<'a>(
+    alloc: Global,
+    years: &'a [&'a str],
+    words: &[&str],
+) -> Result<Command<'a>, AllocError>
+    ensures app { IfOk result (λ c. app_of c ≡ app_for years.entry (map (λ w. w.now) words.now)) }
+    ensures local { IfOk result (λ c. (out-Command c).has_globals ≡ false) }
+{
+    match words.split_first() {
+        Some((name, _)) => command_named(alloc, years, name),
+        None => tool_command(alloc, years),
+    }
+}
+
 /// What `clap` takes the words for. A subcommand is always among it.
 fn matches_of<'a>(
     alloc: Global,
@@ -198,7 +240,7 @@ fn matches_of<'a>(
     ensures some { IfOk result (λ m. has_subcommand m ≡ true) }
     ensures fails { FailsBy (fault_of (tool_app years.entry) (map (λ w. w.now) words.entry.now)) result }
 {
-    tool_command(alloc, years)?.try_get_matches_from(words)
+    command_for(alloc, years, words)?.try_get_matches_from(words)
 }
 
 /// The tool of a subcommand's name.

@@ -87,7 +87,8 @@ fn full_device(rt: HostRuntime) {
         for room in 0..9 {
             let mut page = Page::new(room, when_full);
             let mut output = Output::new(Gathering::new(rt.alloc(), &mut page));
-            let written = output.write_whole(b"ok 1").is_ok() && output.write_whole(b"2 0\n").is_ok();
+            let written = output.write_whole(b"ok 1").is_ok()
+                && output.write_whole(b"2 0\n").is_ok();
             assert!(rt; written && output.flush().is_ok() == (room == 8), "{room}");
             assert!(rt; page.text() == &b"ok 12 0\n"[..room.min(8)], "{room}");
         }
