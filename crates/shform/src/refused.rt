@@ -268,6 +268,7 @@ fn gathered_refused(alloc: Global, nth: usize) -> io::Result<Page> {
         gathering.write_all(piece)?;
     }
     gathering.flush()?;
+    drop(gathering);
     Ok(page)
 }
 

@@ -46,6 +46,7 @@ fn come(alloc: Global, pieces: &[usize], flushed: bool) -> io::Result<Lengths> {
     if flushed {
         gathering.flush()?;
     }
+    drop(gathering);
     Ok(device)
 }
 
@@ -76,8 +77,9 @@ fn failed_flush(rt: HostRuntime) {
     let mut page = Page::new(9, WhenFull::Fails);
     page.can_flush = false;
     let mut output = Output::new(Gathering::new(rt.alloc(), &mut page));
-    assert!(rt; output.write_whole(b"none\n").is_ok() && output.flush().is_err());
-    assert!(rt; page.text() == b"none\n".as_slice());
+    let fails = output.write_whole(b"none\n").is_ok() && output.flush().is_err();
+    drop(output);
+    assert!(rt; fails && page.text() == b"none\n".as_slice());
 }
 
 /// Where the device takes no more, it has a beginning of what it was to have.
@@ -89,7 +91,9 @@ fn full_device(rt: HostRuntime) {
             let mut output = Output::new(Gathering::new(rt.alloc(), &mut page));
             let written = output.write_whole(b"ok 1").is_ok()
                 && output.write_whole(b"2 0\n").is_ok();
-            assert!(rt; written && output.flush().is_ok() == (room == 8), "{room}");
+            let flushed = output.flush().is_ok();
+            drop(output);
+            assert!(rt; written && flushed == (room == 8), "{room}");
             assert!(rt; page.text() == &b"ok 12 0\n"[..room.min(8)], "{room}");
         }
     }
