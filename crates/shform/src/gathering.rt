@@ -1,16 +1,20 @@
 //! A writer that holds what it is given until it is flushed, so that the device takes a reply, or what is
 //! told of a script, by one write.
-ghost use Rattle.std.specs.Prelude.{◌≡◌, ◌≤◌, [], OnOk, length, take};
+ghost use Rattle.std.specs.Prelude.{◌≡◌, ◌≤◌, ◌++◌, [], OnErr, OnOk, length, take};
 ghost use Rattle.std.specs.Io.KnownBytes.{Appends, Keeps};
 ghost use Rattle.shform.specs.Gathering.{gathered, gathering_held, gathering_writer};
 
 use crate::front::drop_front;
-use std::alloc::Global;
-use std::io::{Error, ErrorKind, Result, Write};
+use std::alloc::{AllocError, Global};
+use std::io;
+use std::io::{Error, ErrorKind, Write};
 
-/// Where nothing is held, this many bytes or more go to the device at once, and no copy of them is made. The
-/// memory that more of them took is given back at the flush.
+/// Where nothing is held, this many bytes or more go to the device at once, and no copy of them is made. Memory
+/// for more of them is given back at the flush.
 const LARGE: usize = 4096;
+
+/// The room that is asked for behind a large piece: what ends a reply has it, so that nothing grows for that.
+const BEHIND_LARGE: usize = 16;
 
 /// A writer before a device.
 #[derive(Drop)]
@@ -46,8 +50,21 @@ impl<W: Write> Gathering<W> {
         }
     }
 
+    /// Holds these bytes too. Where there is no memory for them, it holds what it held.
+    fn hold(&mut self, bytes: &[u8]) -> Result<(), AllocError>
+        ensures ok { OnOk result (gathering_held self.new ≡ gathering_held self.old ++ bytes.now) }
+        ensures err { OnErr result (gathering_held self.new ≡ gathering_held self.old) }
+        ensures writer { gathering_writer self.new ≡ gathering_writer self.old }
+    {
+        if bytes.len() >= LARGE {
+            self.held
+                .reserve_exact(bytes.len().saturating_add(BEHIND_LARGE))?;
+        }
+        self.held.extend_from_slice(bytes)
+    }
+
     /// Hands on what it holds. What the device does not take, it still holds.
-    fn hand_on(&mut self) -> Result<()>
+    fn hand_on(&mut self) -> io::Result<()>
         ensures bytes { Keeps (gathered W.contents self.old) (gathered W.contents self.new) }
         ensures held { OnOk result (gathering_held self.new ≡ []) }
     {
@@ -66,21 +83,23 @@ impl<W: Write> Write for Gathering<W> {
 
     /// Holds these bytes. Many of them before which none is held, and those for which there is no memory, the
     /// device takes, as many as it does, behind those that were held.
-    fn write(&mut self, buf: &[u8]) -> Result<usize> {
+    fn write(&mut self, buf: &[u8]) -> io::Result<usize> {
         let goes_through = self.held.is_empty() && buf.len() >= LARGE;
-        if !goes_through && self.held.extend_from_slice(buf).is_ok() {
+        if !goes_through && self.hold(buf).is_ok() {
             return Ok(buf.len());
         }
         self.hand_on()?;
         self.writer.write(buf)
     }
 
-    fn flush(&mut self) -> Result<()>
+    fn flush(&mut self) -> io::Result<()>
         ensures bytes { Keeps (gathered W.contents self.old) (gathered W.contents self.new) }
         ensures held { OnOk result (gathering_held self.new ≡ []) }
     {
         self.hand_on()?;
-        self.held.shrink_to(LARGE);
+        if self.held.capacity() > LARGE {
+            self.held.shrink_to_fit();
+        }
         self.writer.flush()
     }
 }
