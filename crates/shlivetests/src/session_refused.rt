@@ -194,7 +194,7 @@ fn questions(rt: HostRuntime) -> Result<(), Fail> {
         for question in [
             Question::Outline,
             Question::NodesAt(13),
-            Question::NodesAt(20),
+            Question::NodesAt(5),
             Question::Print,
         ] {
             asked_in_turn(&rt, rt.alloc(), script, question)?;
