@@ -72,9 +72,13 @@ with_settings a = record { top = record a.top { no_binary_name = true; subcomman
 abbrev pub top_app : App
 top_app = with_settings (new_app (codes "shform"))
 
+-- shform with one subcommand
+abbrev pub alone_app : App → App
+alone_app sub = with_subcommand top_app sub.top
+
 -- shform check
 abbrev pub first_app : Years → App
-first_app years = with_subcommand top_app (check_app years).top
+first_app years = alone_app (check_app years)
 
 -- shform check, shform print
 abbrev pub second_app : Years → App
@@ -86,10 +90,9 @@ tool_app years = with_subcommand (second_app years) (session_app years).top
 
 -- shform with the subcommand of a name alone; where there is none, with all
 abbrev pub app_named : Years → Text → App
-app_named years name = if bytes_eq name (codes "check") then first_app years
-    else (if bytes_eq name (codes "print") then with_subcommand top_app (print_app years).top
-    else (if bytes_eq name (codes "session") then with_subcommand top_app (session_app years).top
-    else tool_app years))
+app_named years name = if bytes_eq name (codes "check") then alone_app (check_app years)
+    else (if bytes_eq name (codes "print") then alone_app (print_app years)
+    else (if bytes_eq name (codes "session") then alone_app (session_app years) else tool_app years))
 
 -- what is built for some words: that for the first of them
 abbrev pub app_for : Years → List Text → App
