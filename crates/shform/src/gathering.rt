@@ -81,8 +81,8 @@ impl<W: Write> Gathering<W> {
 impl<W: Write> Write for Gathering<W> {
     ghost contents = { gathered W.contents };
 
-    /// Holds these bytes. Many of them before which none is held, and those for which there is no memory, the
-    /// device takes, as many as it does, behind those that were held.
+    /// Holds these bytes. Where none is held and they are many, or where there is no memory for them, the device
+    /// takes what it can of them, behind what was held.
     fn write(&mut self, buf: &[u8]) -> io::Result<usize> {
         let goes_through = self.held.is_empty() && buf.len() >= LARGE;
         if !goes_through && self.hold(buf).is_ok() {
