@@ -9,7 +9,7 @@ use Rattle.shast.specs.declared.node.NodeKind.{NodeKind}
 use Rattle.shast.specs.declared.node.NodeLine.{NodeLine}
 use Rattle.shast.specs.declared.tree.Span.{Span}
 use Rattle.shast.specs.Tree.{Entries, no_entry, more_entries, AnEntry, entry, AContent, command, remark, AnAndOr, and_or, AndOrParts, no_and_or, more_and_or, APipeline, pipeline, PipelineParts, no_pipe, more_pipes, ACommand, simple, compound, function, ACompound, formed, AForm, brace, subshell, if_then, while_do, until_do, for_in, case_in, ABranch, branch, Branches, no_branch, more_branches, Otherwise, no_else, otherwise, ForWords, no_in, in_words, CaseItems, no_case, more_cases, ACaseItem, case_item, Patterns, no_pattern, more_patterns, Items, no_item, more_items, AnItem, item, assign, argument, redirect, AWord, word, Substs, no_subst, more_substs, ASubst, subst}
-use Rattle.shast.specs.Nodes.{AreWithin, IsSpanWithin, IsWithin, and_or_node, and_or_nodes, and_or_parts_nodes, and_or_span, branch_nodes, branches_nodes, case_nodes, cases_nodes, command_nodes, command_span, comment_node, compound_nodes, compound_span, content_nodes, else_nodes, entries_nodes, entry_nodes, for_words_nodes, form_node, form_nodes, holds, in_outline, item_nodes, item_span, items_nodes, items_span, last_command, last_item, last_pipeline, named, node, nodes_at, nodes_of, outline, patterns_nodes, pipeline_node, pipeline_nodes, pipeline_span, pipes_nodes, placed, placed_span, subst_nodes, substs_nodes, through, word_nodes, word_span}
+use Rattle.shast.specs.Nodes.{AreWithin, IsSpanWithin, IsWithin, and_or_node, and_or_nodes, and_or_parts_nodes, and_or_span, branch_nodes, branches_nodes, case_nodes, cases_nodes, command_nodes, command_span, comment_node, compound_nodes, compound_span, content_nodes, else_nodes, entries_nodes, entry_nodes, for_words_nodes, form_node, form_nodes, holds, in_outline, item_nodes, item_span, items_nodes, items_span, last_command, last_item, last_pipeline, named_node, node, nodes_at, nodes_of, outline, patterns_nodes, pipeline_node, pipeline_nodes, pipeline_span, pipes_nodes, placed, placed_span, subst_nodes, substs_nodes, through, word_nodes, word_span}
 use Rattle.shast.specs.Moved.{carried, carried_and_or, carried_and_or_parts, carried_branch, carried_branches, carried_case, carried_cases, carried_command, carried_compound, carried_content, carried_else, carried_entry, carried_for_words, carried_form, carried_item, carried_items, carried_patterns, carried_pipeline, carried_pipes, carried_subst, carried_substs, carried_word, moved, placed_body}
 use Rattle.shast.specs.Everywhere.{HaveItems, IsSome, InEntry, InContent, InAndOr, InAndOrParts, InPipeline, InPipes, InCommand, InCompound, InForm, InBranch, InBranches, InElse, InForWords, InCases, InCase, InPatterns, InItems, InItem, InWord, InSubsts, InSubst, Throughout}
 
@@ -145,8 +145,8 @@ module _ (b : ℕ) where
         one_more (node NodeKind.Simple (items_span (carried_items f fb true items))) (node NodeKind.Simple (items_span items)) _ _ (ap (λ (s : Span). node NodeKind.Simple s) (items_there items so.0)) (items_nodes_there items so.1)
     command_nodes_there (compound c) so = compound_nodes_there c so
     command_nodes_there (function name comments body) so =
-        one_more (named NodeKind.Function (through (f name) (compound_span (carried_compound f fb true body))) (f name)) (named NodeKind.Function (through name (compound_span body)) name) _ _
-        (ap (λ (s : Span). named NodeKind.Function (through (f name) s) (f name)) (compound_there body))
+        one_more (named_node NodeKind.Function (through (f name) (compound_span (carried_compound f fb true body))) (f name)) (named_node NodeKind.Function (through name (compound_span body)) name) _ _
+        (ap (λ (s : Span). named_node NodeKind.Function (through (f name) s) (f name)) (compound_there body))
         (two (map comment_node comments) (compound_nodes body) _ _ (comments_there comments) (compound_nodes_there body so.2))
 
     compound_nodes_there : (c : ACompound) → InCompound Always IsSome c → compound_nodes (carried_compound f fb true c) ≡ there (compound_nodes c)

@@ -75,8 +75,8 @@ abbrev pub node : NodeKind → Span → NodeLine
 node kind span = record { start = span.start; «end» = span.«end»; kind = kind; name = None }
 
 -- a node that has a name, which stands there
-abbrev pub named : NodeKind → Span → Span → NodeLine
-named kind span name = record { start = span.start; «end» = span.«end»; kind = kind; name = Some name }
+abbrev pub named_node : NodeKind → Span → Span → NodeLine
+named_node kind span name = record { start = span.start; «end» = span.«end»; kind = kind; name = Some name }
 
 abbrev pub comment_node : Span → NodeLine
 comment_node span = node NodeKind.Comment span
@@ -98,7 +98,7 @@ form_node (subshell es) span = node NodeKind.Subshell span
 form_node (if_then first rest other) span = node NodeKind.If span
 form_node (while_do b) span = node NodeKind.While span
 form_node (until_do b) span = node NodeKind.Until span
-form_node (for_in name words body) span = named NodeKind.For span (word_span name)
+form_node (for_in name words body) span = named_node NodeKind.For span (word_span name)
 form_node (case_in w items tail) span = node NodeKind.Case span
 
 -- ---- the nodes of each part of a script: itself, and then what it holds from left to right
@@ -134,7 +134,7 @@ abbrev mutual
   pub command_nodes : ACommand → Row NodeLine
   command_nodes (simple items) = node NodeKind.Simple (items_span items) ∷ items_nodes items
   command_nodes (compound c) = compound_nodes c
-  command_nodes (function name comments body) = named NodeKind.Function (through name (compound_span body)) name ∷ map comment_node comments ++ compound_nodes body
+  command_nodes (function name comments body) = named_node NodeKind.Function (through name (compound_span body)) name ∷ map comment_node comments ++ compound_nodes body
 
   pub compound_nodes : ACompound → Row NodeLine
   compound_nodes (formed form span redirects) = form_node form (through span (last_item span redirects)) ∷ form_nodes form ++ items_nodes redirects

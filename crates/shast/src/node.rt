@@ -1,6 +1,6 @@
 //! A node of a script's tree, as an editor asks for it: what stands where in the text.
 ghost use Rattle.std.specs.Prelude.{◌≡◌, ◌-◌};
-ghost use Rattle.shast.specs.Nodes.{IsSpanWithin, IsWithin, is_outlined, named, node, placed, placed_span};
+ghost use Rattle.shast.specs.Nodes.{IsSpanWithin, IsWithin, is_outlined, named_node, node, placed, placed_span};
 
 use crate::tree::Span;
 
@@ -66,8 +66,8 @@ impl NodeLine {
     }
 
     /// A node that has a name.
-    pub fn named(kind: NodeKind, span: Span, name: Span) -> NodeLine
-        ensures { result ≡ named kind span name }
+    pub fn named_node(kind: NodeKind, span: Span, name: Span) -> NodeLine
+        ensures { result ≡ named_node kind span name }
     {
         NodeLine {
             start: span.start,

@@ -5,14 +5,14 @@ use Rattle.std.proofs.lemmas.List.{append-nil, append_assoc, drop-append-le, tak
 use Rattle.std.proofs.lemmas.List.Sums.{fold-append, sum_by-append}
 use Rattle.std.proofs.lemmas.Option.{get_or_from_slice_get, slice_get_within}
 use Rattle.std.proofs.Math.Seq.{drop-drop, take-add}
-use Rattle.shform.specs.Part.{EndsLine, Held, Holds, HoldsPrinted, IsFoundAt, bytes_read}
-use Rattle.shform.specs.declared.part.Found.{Found}
+use Rattle.shform.specs.PartialScript.{EndsLine, Held, Holds, HoldsPrinted, IsLocatedAt, bytes_read}
+use Rattle.shform.specs.declared.partial_script.LocatedFault.{LocatedFault}
 use Rattle.shform.specs.declared.printed_part.PrintedPart.{PrintedPart}
 use Rattle.shpieces.specs.declared.by_line.Printing.{Printing}
 use Rattle.shprint.specs.declared.layout.Layout.{Layout}
 use Rattle.shpieces.specs.Printing.{IsPrinted}
 use Rattle.shgrammar.specs.Search.{MayPass}
-use Rattle.shform.specs.declared.part.Part.{Part}
+use Rattle.shform.specs.declared.partial_script.PartialScript.{PartialScript}
 use Rattle.shgrammar.specs.declared.edition.Edition.{Edition}
 use Rattle.shgrammar.specs.declared.fault.Fault.{Fault}
 use Rattle.shgrammar.specs.Moved.{moved_fault}
@@ -22,7 +22,7 @@ use Rattle.shtext.specs.Text.{column_of, is_newline, line_of, since_newline}
 use Rattle.shtext.proofs.Newlines.{since_start}
 
 -- how many bytes were read
-pub size_is : (read : List ℕ) (part : Part) → Held read part → length read ≡ bytes_read part
+pub size_is : (read : List ℕ) (part : PartialScript) → Held read part → length read ≡ bytes_read part
 size_is read part is = omega (arith, is.low, length-drop part.passed read, ap length is.text)
 
 -- a fault that is moved twice, or not at all
@@ -35,7 +35,7 @@ stays None = refl
 stays (Some f) = ap (λ (at : ℕ). Some (record { kind = f.kind; at = at })) (sym (zero-add f.at))
 
 -- nothing was read
-pub held_none : (part : Part) → part.passed ≡ 0 → part.newlines ≡ 0 → part.text.items ≡ [] → Held [] part
+pub held_none : (part : PartialScript) → part.passed ≡ 0 → part.newlines ≡ 0 → part.text.items ≡ [] → Held [] part
 held_none part passed newlines text = record {
   low = omega (arith, passed);
   text = text ∙ sym (ap (λ (p : ℕ). drop p []) passed);
@@ -43,7 +43,7 @@ held_none part passed newlines text = record {
   fresh = ap (λ (p : ℕ). since_newline (take p [])) passed ∙ since_start [];
 }
 
-pub holds_none : (edition : Edition) (part : Part) → part.edition ≡ edition → part.passed ≡ 0 → part.newlines ≡ 0 → part.text.items ≡ [] → Holds edition [] part
+pub holds_none : (edition : Edition) (part : PartialScript) → part.edition ≡ edition → part.passed ≡ 0 → part.newlines ≡ 0 → part.text.items ≡ [] → Holds edition [] part
 holds_none edition part by passed newlines text = record {
   held = held_none part passed newlines text;
   by = by;
@@ -52,7 +52,7 @@ holds_none edition part by passed newlines text = record {
 }
 
 -- of a part only what it has counts
-pub held_as : (read : List ℕ) (old new : Part) → new.passed ≡ old.passed → new.newlines ≡ old.newlines → new.text.items ≡ old.text.items → Held read old → Held read new
+pub held_as : (read : List ℕ) (old new : PartialScript) → new.passed ≡ old.passed → new.newlines ≡ old.newlines → new.text.items ≡ old.text.items → Held read old → Held read new
 held_as read old new passed newlines text is = record {
   low = subst (λ (p : ℕ). p ≤ length read) (sym passed) is.low;
   text = text ∙ is.text ∙ sym (ap (λ (p : ℕ). drop p read) passed);
@@ -61,7 +61,7 @@ held_as read old new passed newlines text is = record {
 }
 
 -- some more was read
-pub held_more : (read bytes : List ℕ) (old new : Part) → Held read old → new.passed ≡ old.passed → new.newlines ≡ old.newlines → new.text.items ≡ old.text.items ++ bytes → Held (read ++ bytes) new
+pub held_more : (read bytes : List ℕ) (old new : PartialScript) → Held read old → new.passed ≡ old.passed → new.newlines ≡ old.newlines → new.text.items ≡ old.text.items ++ bytes → Held (read ++ bytes) new
 held_more read bytes old new is passed newlines text =
     let front : take old.passed (read ++ bytes) ≡ take old.passed read = take-append-le old.passed read bytes is.low in record {
       low = omega (arith, passed, is.low, Rattle.std.proofs.Common.length-append read bytes);
@@ -70,7 +70,7 @@ held_more read bytes old new is passed newlines text =
       fresh = ap (λ (p : ℕ). since_newline (take p (read ++ bytes))) passed ∙ ap since_newline front ∙ is.fresh;
     }
 
-pub holds_more : (edition : Edition) (read bytes : List ℕ) (old new : Part) → Holds edition read old → Held (read ++ bytes) new → new.passed ≡ old.passed → new.edition ≡ old.edition → Holds edition (read ++ bytes) new
+pub holds_more : (edition : Edition) (read bytes : List ℕ) (old new : PartialScript) → Holds edition read old → Held (read ++ bytes) new → new.passed ≡ old.passed → new.edition ≡ old.edition → Holds edition (read ++ bytes) new
 holds_more edition read bytes old new is held passed same_edition = record {
   held = held;
   by = same_edition ∙ is.by;
@@ -89,7 +89,7 @@ printed_more edition y read bytes old new is held passed same =
     }
 
 -- lines were passed
-module _ (read : List ℕ) (old : Part) (n : ℕ) (is : Held read old) (ends : EndsLine old n) where
+module _ (read : List ℕ) (old : PartialScript) (n : ℕ) (is : Held read old) (ends : EndsLine old n) where
   front : take (old.passed + n) read ≡ take old.passed read ++ take n old.text.items
   front = take-add old.passed n read ∙ ap (λ (xs : List ℕ). take old.passed read ++ take n xs) (sym is.text)
 
@@ -105,7 +105,7 @@ module _ (read : List ℕ) (old : Part) (n : ℕ) (is : Held read old) (ends : E
       ap (λ (m : ℕ). since_newline (take m read)) up ∙ (Rattle.shtext.proofs.Newlines.ends read i (slice_get_within read i 10 byte) (ap is_newline (get_or_from_slice_get read i 10 0 byte))).1)
       (λ (ge : n ≤ 0). let none : old.passed + n ≡ old.passed = omega (arith, ge) in ap (λ (m : ℕ). since_newline (take m read)) none ∙ is.fresh) (cases_lt 0 n)
 
-  pub held_passed : (new : Part) → new.passed ≡ old.passed + n → new.newlines ≡ old.newlines + count_by is_newline (take n old.text.items) → new.text.items ≡ drop n old.text.items → Held read new
+  pub held_passed : (new : PartialScript) → new.passed ≡ old.passed + n → new.newlines ≡ old.newlines + count_by is_newline (take n old.text.items) → new.text.items ≡ drop n old.text.items → Held read new
   held_passed new passed newlines text = record {
     low = omega (arith, passed, high);
     text = text ∙ ap (drop n) is.text ∙ drop-drop n old.passed read ∙ sym (ap (λ (p : ℕ). drop p read) passed);
@@ -114,7 +114,7 @@ module _ (read : List ℕ) (old : Part) (n : ℕ) (is : Held read old) (ends : E
     fresh = ap (λ (p : ℕ). since_newline (take p read)) passed ∙ fresh;
   }
 
-pub holds_passed : (edition : Edition) (read : List ℕ) (old new : Part) (n : ℕ) → Holds edition read old → n ≤ length old.text.items → MayPass edition old.text.items n → Held read new → new.passed ≡ old.passed + n → new.edition ≡ old.edition → Holds edition read new
+pub holds_passed : (edition : Edition) (read : List ℕ) (old new : PartialScript) (n : ℕ) → Holds edition read old → n ≤ length old.text.items → MayPass edition old.text.items n → Held read new → new.passed ≡ old.passed + n → new.edition ≡ old.edition → Holds edition read new
 holds_passed edition read old new n is within can held passed same_edition = record {
   held = held;
   by = same_edition ∙ is.by;
@@ -135,17 +135,17 @@ printed_passed edition y read old new n is held passed more =
     record { held = held; is = subst (λ (X : List ℕ). IsPrinted edition y X new.printing) (sym pieces) (more edition y (take old.part.passed read) is.is) }
 
 -- where all was read, the text of what is held behind what is printed is that of the script
-pub whole_is : (read : List ℕ) (part : Part) → Held read part → take part.passed read ++ part.text.items ≡ read
+pub whole_is : (read : List ℕ) (part : PartialScript) → Held read part → take part.passed read ++ part.text.items ≡ read
 whole_is read part is = ap (λ (xs : List ℕ). take part.passed read ++ xs) is.text ∙ take-append-drop part.passed read
 
 -- where all was read, the first fault is that of what is held
-pub first_is : (edition : Edition) (read : List ℕ) (part : Part) → Holds edition read part → (f : Option Fault) → FirstFault edition part.text.items f → FirstFault edition read (option_map (moved_fault part.passed) f)
+pub first_is : (edition : Edition) (read : List ℕ) (part : PartialScript) → Holds edition read part → (f : Option Fault) → FirstFault edition part.text.items f → FirstFault edition read (option_map (moved_fault part.passed) f)
 first_is edition read part is f first =
     let whole : read ++ [] ≡ read = append-nil read in
     let here : FirstFault edition (drop part.passed (read ++ [])) f = subst (λ (xs : List ℕ). FirstFault edition xs f) (is.held.text ∙ sym (ap (drop part.passed) whole)) first in
     subst (λ (xs : List ℕ). FirstFault edition xs (option_map (moved_fault part.passed) f)) whole (is.behind [] f here)
 
-module _ (read : List ℕ) (part : Part) (is : Held read part) where
+module _ (read : List ℕ) (part : PartialScript) (is : Held read part) where
   front_at : (at : ℕ) → take (part.passed + at) read ≡ take part.passed read ++ take at part.text.items
   front_at at = take-add part.passed at read ∙ ap (λ (xs : List ℕ). take part.passed read ++ take at xs) (sym is.text)
 
@@ -163,15 +163,15 @@ module _ (read : List ℕ) (part : Part) (is : Held read part) where
       ∙ ap (λ (n : ℕ). Rattle.std.specs.List.fold (λ n b. Rattle.std.proofs.Common.cond (is_newline b) 0 (n + 1)) n (take at part.text.items)) is.fresh))
 
 -- a fault that was found there
-pub found_there : (edition : Edition) (read : List ℕ) (fault : Fault) (found : Found) → IsFoundAt read fault found → FirstFault edition read (Some fault) → FirstFault edition read (Some found.fault) × IsFoundAt read found.fault found
-found_there edition read fault found at first =
+pub located_there : (edition : Edition) (read : List ℕ) (fault : Fault) (found : LocatedFault) → IsLocatedAt read fault found → FirstFault edition read (Some fault) → FirstFault edition read (Some found.fault) × IsLocatedAt read found.fault found
+located_there edition read fault found at first =
     let same : fault ≡ found.fault = sym at.0 in (
       subst (λ (f : Fault). FirstFault edition read (Some f)) same first,
       (refl, at.1 ∙ ap (λ (f : Fault). line_of read f.at) same, at.2 ∙ ap (λ (f : Fault). column_of read f.at) same),
     )
 
 -- the first fault of what is held behind what is printed
-pub unprinted_is : (edition : Edition) (read : List ℕ) (part : Part) → Held read part → (bytes : List ℕ) (fault : Fault) → bytes ≡ part.text.items
+pub unprinted_is : (edition : Edition) (read : List ℕ) (part : PartialScript) → Held read part → (bytes : List ℕ) (fault : Fault) → bytes ≡ part.text.items
     → FirstFault edition (take part.passed read ++ bytes) (Some (moved_fault (length (take part.passed read)) fault)) → FirstFault edition read (Some (moved_fault part.passed fault))
 unprinted_is edition read part is bytes fault same first =
     let size : length (take part.passed read) ≡ part.passed = omega (arith, length-take part.passed read, is.low) in

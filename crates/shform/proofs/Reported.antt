@@ -9,8 +9,8 @@ use Rattle.shprint.specs.declared.layout.Layout.{Layout}
 use Rattle.shtext.specs.Device.{Writes}
 use Rattle.shform.specs.Report.{IsPrintReport, IsReport, IsTold, StopsFor, TellsFault}
 use Rattle.shtext.specs.Edit.{limit}
-use Rattle.shform.specs.declared.report.Stop.{Stop}
-use Rattle.shform.specs.declared.report.Stop.TheVariants.{Memory, Unwritable}
+use Rattle.shform.specs.declared.report.RunError.{RunError}
+use Rattle.shform.specs.declared.report.RunError.TheVariants.{Memory, Unwritable}
 use Rattle.shtext.proofs.Known.{Writes-nothing}
 
 -- a fault that a check told, or for which memory ran out
@@ -24,7 +24,7 @@ fault_reported edition name had has failed ended read consumed sound met low hel
 
 module _ (edition : Edition) (layout : Layout) (name : List ℕ) (had has : Option (List ℕ)) (failed ended : Bool) (read : List ℕ) (consumed : Consumes had has read) where
   -- a run that was given up before anything was printed
-  pub given_up : (out held holds : Option (List ℕ)) (unwritable broken : Bool) (status : ℕ) (stop : Stop) → unwritable ≡ false → StopsFor read failed ended stop
+  pub given_up : (out held holds : Option (List ℕ)) (unwritable broken : Bool) (status : ℕ) (stop : RunError) → unwritable ≡ false → StopsFor read failed ended stop
       → IsTold name read (Err stop) held holds broken status → IsPrintReport edition layout name had has failed ended out out unwritable held holds broken status
   given_up out held holds unwritable broken status stop whole judged told = record {
     read = read;

@@ -2,7 +2,7 @@
 use Rattle.std.proofs.Common.{◌≡◌, ℕ, ◌||◌, Bool, true, false, List, Option, Err, cond, refl}
 use Rattle.shtext.specs.Device.{Writes}
 use Rattle.shform.specs.Report.{IsTold, text_of_stop}
-use Rattle.shform.specs.declared.report.Stop.{Stop}
+use Rattle.shform.specs.declared.report.RunError.{RunError}
 use Rattle.shtext.proofs.Known.{Writes-marked}
 
 -- the answer is 2, whether the device failed or not
@@ -11,7 +11,7 @@ two true status e = e
 two false status e = e
 
 -- why the input was given up
-pub given-up : (name read text : List ℕ) (stop : Stop) (a b : Option (List ℕ)) (before after wrote : Bool)
+pub given-up : (name read text : List ℕ) (stop : RunError) (a b : Option (List ℕ)) (before after wrote : Bool)
     → before ≡ false → after ≡ (before || wrote) → text ≡ text_of_stop name stop → Writes a b wrote text → IsTold name read (Err stop) a b after 2
 given-up name read text stop a b before after wrote sound told same p =
     record { written = Writes-marked a b before after wrote text (text_of_stop name stop) sound told same p; answer = two after 2 refl }

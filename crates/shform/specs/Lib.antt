@@ -1,4 +1,4 @@
-pub mod Part
+pub mod PartialScript
 pub mod Report
 pub mod Words
 pub mod ProgramEnds

@@ -10,11 +10,11 @@ use Rattle.shtext.specs.Edit.{limit}
 use Rattle.shprint.specs.Message.{message_text}
 use Rattle.shprint.specs.ReadBack.{IsTextOf}
 use Rattle.shprint.specs.declared.layout.Layout.{Layout}
-use Rattle.shform.specs.declared.report.Stop.{Stop}
-use Rattle.shform.specs.declared.report.Stop.TheVariants.{Unreadable, TooLarge, Memory, Unwritable}
+use Rattle.shform.specs.declared.report.RunError.{RunError}
+use Rattle.shform.specs.declared.report.RunError.TheVariants.{Unreadable, TooLarge, Memory, Unwritable}
 
 -- what is said where a run is given up
-abbrev pub text_of_stop : List ℕ → Stop → List ℕ
+abbrev pub text_of_stop : List ℕ → RunError → List ℕ
 text_of_stop name Unreadable = codes "shform: cannot read " ++ name ++ codes "\n"
 text_of_stop name TooLarge = codes "shform: " ++ name ++ codes ": too large\n"
 text_of_stop name Memory = codes "shform: out of memory\n"
@@ -22,21 +22,21 @@ text_of_stop name Unwritable = codes "shform: cannot write\n"
 
 -- A verdict is the first fault of a script, None where it has none, or why there is no answer.
 -- Here, what is said for a verdict on the bytes that were read.
-abbrev pub text_of : List ℕ → List ℕ → Result (Option Fault) Stop → List ℕ
-text_of name read (Ok None) = []
-text_of name read (Ok (Some fault)) = message_text name (line_of read fault.at) (column_of read fault.at) fault
-text_of name read (Err stop) = text_of_stop name stop
+abbrev pub text_of_verdict : List ℕ → List ℕ → Result (Option Fault) RunError → List ℕ
+text_of_verdict name read (Ok None) = []
+text_of_verdict name read (Ok (Some fault)) = message_text name (line_of read fault.at) (column_of read fault.at) fault
+text_of_verdict name read (Err stop) = text_of_stop name stop
 
 -- the status of a verdict
-abbrev pub status_of_verdict : Result (Option Fault) Stop → ℕ
+abbrev pub status_of_verdict : Result (Option Fault) RunError → ℕ
 status_of_verdict (Ok None) = 0
 status_of_verdict (Ok (Some fault)) = 1
 status_of_verdict (Err stop) = 2
 
 -- The verdict on the bytes that were read was told: standard error held and holds
 -- bytes, whether a write there failed; and the status.
-pub record IsTold (name read : List ℕ) (verdict : Result (Option Fault) Stop) (held holds : Option (List ℕ)) (broken : Bool) (status : ℕ) : Type 0 where
-  pub written : Writes held holds broken (text_of name read verdict)
+pub record IsTold (name read : List ℕ) (verdict : Result (Option Fault) RunError) (held holds : Option (List ℕ)) (broken : Bool) (status : ℕ) : Type 0 where
+  pub written : Writes held holds broken (text_of_verdict name read verdict)
   pub answer : status ≡ (if broken then 2 else status_of_verdict verdict)
 
 -- the fault was told, or that memory ran out
@@ -46,18 +46,18 @@ TellsFault name read fault held holds broken status =
 
 -- what was read and which ends were met where an input is given up: memory may run out at any time, before
 -- the end and after it. What is written has no part in it.
-abbrev pub StopsFor : List ℕ → Bool → Bool → Stop → Type 0
+abbrev pub StopsFor : List ℕ → Bool → Bool → RunError → Type 0
 StopsFor read failed ended Unreadable = (failed ≡ true) × (ended ≡ false) × (length read ≤ limit)
 StopsFor read failed ended TooLarge = (failed ≡ false) × (ended ≡ false) × (length read ≡ limit + 1)
 StopsFor read failed ended Memory = (failed ≡ false) × (length read ≤ limit)
 StopsFor read failed ended Unwritable = ⊥
 
 -- the same for what follows bytes that were read, of which there are so many
-abbrev pub StopsBehind : ℕ → List ℕ → Bool → Bool → Stop → Type 0
+abbrev pub StopsBehind : ℕ → List ℕ → Bool → Bool → RunError → Type 0
 StopsBehind held more failed ended stop = (read : List ℕ) → length read ≡ held + length more → StopsFor read failed ended stop
 
 -- what was read and which ends were met where a verdict stands
-abbrev pub JudgedFor : Edition → List ℕ → Bool → Bool → Result (Option Fault) Stop → Type 0
+abbrev pub JudgedFor : Edition → List ℕ → Bool → Bool → Result (Option Fault) RunError → Type 0
 JudgedFor edition read failed ended (Ok fault) = (failed ≡ false) × (ended ≡ true) × (length read ≤ limit) × FirstFault edition read fault
 JudgedFor edition read failed ended (Err stop) = StopsFor read failed ended stop
 
@@ -65,14 +65,14 @@ JudgedFor edition read failed ended (Err stop) = StopsFor read failed ended stop
 -- the bytes that standard error held and holds, whether a write there failed; and the status.
 pub record IsReport (edition : Edition) (name : List ℕ) (had has : Option (List ℕ)) (failed ended : Bool) (held holds : Option (List ℕ)) (broken : Bool) (status : ℕ) : Type 0 where
   pub read : List ℕ
-  pub verdict : Result (Option Fault) Stop
+  pub verdict : Result (Option Fault) RunError
   pub consumed : Consumes had has read
   pub judged : JudgedFor edition read failed ended verdict
   pub told : IsTold name read verdict held holds broken status
 
 -- What standard output held and holds, and whether it failed, for a verdict on the bytes that were read:
 -- where they are a script without a fault, its printed text was written there; else it is as it was.
-abbrev pub PrintsFor : Edition → Layout → List ℕ → Result (Option Fault) Stop → Option (List ℕ) → Option (List ℕ) → Bool → Type 0
+abbrev pub PrintsFor : Edition → Layout → List ℕ → Result (Option Fault) RunError → Option (List ℕ) → Option (List ℕ) → Bool → Type 0
 PrintsFor edition layout read (Ok None) held holds broken = (text : List ℕ) × IsTextOf edition layout read text × Writes held holds broken text
 PrintsFor edition layout read (Ok (Some fault)) held holds broken = (holds ≡ held) × (broken ≡ false)
 PrintsFor edition layout read (Err stop) held holds broken = (holds ≡ held) × (broken ≡ false)
@@ -82,7 +82,7 @@ PrintsFor edition layout read (Err stop) held holds broken = (holds ≡ held) ×
 pub record IsPrintReport (edition : Edition) (layout : Layout) (name : List ℕ) (had has : Option (List ℕ)) (failed ended : Bool)
     (printed_held printed_holds : Option (List ℕ)) (unwritable : Bool) (held holds : Option (List ℕ)) (broken : Bool) (status : ℕ) : Type 0 where
   pub read : List ℕ
-  pub verdict : Result (Option Fault) Stop
+  pub verdict : Result (Option Fault) RunError
   pub consumed : Consumes had has read
   pub judged : JudgedFor edition read failed ended verdict
   pub prints : PrintsFor edition layout read verdict printed_held printed_holds unwritable

@@ -4,7 +4,7 @@ use Rattle.std.specs.Prelude.{Option, None, Some, Err}
 use Rattle.std.specs.Io.KnownBytes.{Consumes, IsAtEnd}
 use Rattle.shgrammar.specs.declared.edition.Edition.{Edition}
 use Rattle.shlive.specs.Held.{Held, How}
-use Rattle.shlive.specs.Runs.{IsRun}
+use Rattle.shlive.specs.Runs.{IsSessionRun}
 use Rattle.shprint.specs.declared.layout.Layout.{Layout}
 use Rattle.shtext.specs.Device.{held_of, input_ended, input_failed, left_of, output_failed}
 use Rattle.shtext.specs.Edit.{limit}
@@ -12,7 +12,7 @@ use Rattle.shtext.specs.Meter.{raised}
 use Rattle.shtext.specs.declared.device.Input.{Input}
 use Rattle.shform.specs.ProgramEnds.{ProgramEnds, Devices}
 use Rattle.shform.specs.Report.{IsTold, StopsFor}
-use Rattle.shform.specs.declared.report.Stop.{Stop}
+use Rattle.shform.specs.declared.report.RunError.{RunError}
 
 -- ---- the session
 
@@ -28,7 +28,7 @@ opened_on how meter bytes = record { bytes = bytes; how = how; meter = raised me
 abbrev pub HasRun : Held → Option (List ℕ) → Option (List ℕ) → Bool → Bool
     → Option (List ℕ) → Option (List ℕ) → Bool → ℕ → Type 0
 HasRun before had has failed ended held holds broken answer =
-    (after : Held) × IsRun before after had has failed ended held holds broken answer
+    (after : Held) × IsSessionRun before after had has failed ended held holds broken answer
 
 -- ---- FILE
 
@@ -43,7 +43,7 @@ IsReadWhole remaining _ _ read = ⊥
 
 -- FILE was given up, with these bytes read; without FILE there is nothing to give up
 abbrev pub IsGivenUp : {F : Type 0} → (F → Option (List ℕ))
-    → Option (Input F) → Option (Input F) → List ℕ → Stop → Type 0
+    → Option (Input F) → Option (Input F) → List ℕ → RunError → Type 0
 IsGivenUp remaining (Some old) (Some new) read stop =
     Consumes (left_of remaining old) (left_of remaining new) read
     × StopsFor read (input_failed new) (input_ended new) stop
@@ -69,7 +69,7 @@ pub record Serves {F I O E : Type 0} (devices : Devices F I O E) (how : How) (me
 pub record GivesUp {F I O E : Type 0} (devices : Devices F I O E) (name : List ℕ)
     (old new : ProgramEnds F I O E) (status : ℕ) : Type 0 where
   pub read : List ℕ
-  pub stop : Stop
+  pub stop : RunError
   pub file : IsGivenUp devices.file old.file new.file read stop
   pub told : IsTold name read (Err stop)
       (held_of devices.errors old.errors) (held_of devices.errors new.errors) (output_failed new.errors)

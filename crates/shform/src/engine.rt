@@ -5,9 +5,9 @@ ghost use Rattle.shtext.specs.Device.{held_of, input_ended, input_failed, left_o
 ghost use Rattle.shtext.specs.Edit.{limit};
 ghost use Rattle.shform.specs.Report.{IsPrintReport, IsReport, StopsBehind, StopsFor};
 
-use crate::part::Part;
+use crate::partial_script::PartialScript;
 use crate::printed_part::{PrintedPart, Unprinted};
-use crate::report::{Stop, give_up, tell, write_flushed};
+use crate::report::{RunError, give_up, tell, write_flushed};
 use crate::sink::Sink;
 use shprint::Layout;
 use shread::{Edition, ReadError};
@@ -16,11 +16,11 @@ use std::alloc::Global;
 use std::io::{Read, Write};
 
 /// The most bytes that are read at once.
-const PIECE: usize = 16_384;
+const READ_SIZE: usize = 16_384;
 
 /// Reads once, into the front of the piece, what follows so many bytes. Answers how many came: none at the
 /// end. It never reads past the first byte beyond the limit.
-fn read_piece<R: Read>(input: &mut Input<R>, piece: &mut [u8], held: usize) -> Result<usize, Stop>
+fn read_piece<R: Read>(input: &mut Input<R>, piece: &mut [u8], held: usize) -> Result<usize, RunError>
     requires sound { input_failed input.old ≡ false }
     requires open { input_ended input.old ≡ false }
     requires low { held ≤ limit }
@@ -37,17 +37,17 @@ fn read_piece<R: Read>(input: &mut Input<R>, piece: &mut [u8], held: usize) -> R
     let room = (LIMIT - held + 1).min(piece.len());
     let count = match input.read(&mut piece[..room]) {
         Ok(count) => count,
-        Err(Failed) => return Err(Stop::Unreadable),
+        Err(Failed) => return Err(RunError::Unreadable),
     };
     if count > LIMIT - held {
-        return Err(Stop::TooLarge);
+        return Err(RunError::TooLarge);
     }
     Ok(count)
 }
 
 /// Reads the input to its end into a sink. It stands apart, so that no piece lies on the stack behind it.
 #[inline(never)]
-fn read_into<R: Read, S: Sink>(input: &mut Input<R>, mut sink: S) -> Result<S, Stop>
+fn read_into<R: Read, S: Sink>(input: &mut Input<R>, mut sink: S) -> Result<S, RunError>
     requires sound { input_failed input.old ≡ false }
     requires open { input_ended input.old ≡ false }
     requires empty { (setup : S.Setup) × S.holds setup [] sink }
@@ -60,21 +60,21 @@ fn read_into<R: Read, S: Sink>(input: &mut Input<R>, mut sink: S) -> Result<S, S
         × StopsFor read (input_failed input.new) (input_ended input.new) stop) }
 {
     let mut held = 0;
-    let mut piece = [0; PIECE];
+    let mut piece = [0; READ_SIZE];
     'pieces: loop {
         let count = read_piece(input, &mut piece, held)?;
         if count == 0 {
             return Ok(sink);
         }
         let Ok(()) = sink.take(&piece[..count]) else {
-            return Err(Stop::Memory);
+            return Err(RunError::Memory);
         };
         held += count;
     }
 }
 
 /// The whole input. Memory grows with what was read.
-pub fn read_whole<R: Read>(alloc: Global, input: &mut Input<R>) -> Result<Vec<u8>, Stop>
+pub fn read_whole<R: Read>(alloc: Global, input: &mut Input<R>) -> Result<Vec<u8>, RunError>
     requires sound { input_failed input.old ≡ false }
     requires open { input_ended input.old ≡ false }
     ensures ok { IfOk result (λ text. Consumes (left_of R.remaining input.old) (left_of R.remaining input.new) text.items
@@ -108,14 +108,14 @@ pub fn check_engine<R: Read, O: Write, E: Write>(
     ensures silent { output.new ≡ output.old }
 {
     let _ = &*output;
-    let part = match read_into(input, Part::new(alloc, edition)) {
+    let part = match read_into(input, PartialScript::new(alloc, edition)) {
         Ok(part) => part,
         Err(stop) => return give_up(name, stop, errors),
     };
     match part.first_fault(alloc) {
         Ok(None) => 0,
         Ok(Some(found)) => tell(alloc, name, found.line, found.col, found.fault, errors),
-        Err(ReadError::Memory) => give_up(name, Stop::Memory, errors),
+        Err(ReadError::Memory) => give_up(name, RunError::Memory, errors),
     }
 }
 
@@ -151,10 +151,10 @@ pub fn print_engine<R: Read, O: Write, E: Write>(
         Err(Unprinted::Faulty(found)) => {
             return tell(alloc, name, found.line, found.col, found.fault, errors);
         }
-        Err(Unprinted::Memory) => return give_up(name, Stop::Memory, errors),
+        Err(Unprinted::Memory) => return give_up(name, RunError::Memory, errors),
     };
     match write_flushed(output, &text) {
         Ok(()) => 0,
-        Err(Failed) => give_up(name, Stop::Unwritable, errors),
+        Err(Failed) => give_up(name, RunError::Unwritable, errors),
     }
 }

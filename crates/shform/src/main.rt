@@ -18,7 +18,7 @@ mod asked;
 mod engine;
 mod front;
 mod gathering;
-mod part;
+mod partial_script;
 mod passing;
 mod printed_part;
 #[cfg(test)]
@@ -35,7 +35,7 @@ mod words;
 use asked::{Settings, Tool};
 use clap::error::ErrorKind;
 use gathering::Gathering;
-use report::{Stop, give_up};
+use report::{RunError, give_up};
 use shtext::{Input, Output};
 use std::alloc::AllocError;
 use std::io::{Read, Write};
@@ -93,7 +93,7 @@ fn on_settings(rt: &HostRuntime, settings: &Settings<'_>) -> u8 {
     };
     match fs::open(rt, name) {
         Ok(file) => on_ends(rt, settings, Some(Input::new(file))),
-        Err(_) => give_up_on(rt, name, Stop::Unreadable),
+        Err(_) => give_up_on(rt, name, RunError::Unreadable),
     }
 }
 
@@ -101,14 +101,14 @@ fn on_settings(rt: &HostRuntime, settings: &Settings<'_>) -> u8 {
 /// standard output, with status 0.
 fn on_words(rt: &HostRuntime, error: &clap::Error) -> u8 {
     if error.kind() == ErrorKind::OutOfMemory {
-        return give_up_on(rt, "-", Stop::Memory);
+        return give_up_on(rt, "-", RunError::Memory);
     }
     let printed = error.print(rt).is_ok();
     if error.use_stderr() {
         return 2;
     }
     if !printed {
-        return give_up_on(rt, "-", Stop::Unwritable);
+        return give_up_on(rt, "-", RunError::Unwritable);
     }
     0
 }
@@ -126,7 +126,7 @@ fn on_usage(rt: &HostRuntime, usage: &Usage) -> u8 {
 }
 
 /// Tells on standard error why the run was given up.
-fn give_up_on(rt: &HostRuntime, name: &str, stop: Stop) -> u8 {
+fn give_up_on(rt: &HostRuntime, name: &str, stop: RunError) -> u8 {
     give_up(name, stop, &mut output_to(rt, rt.stderr()))
 }
 
@@ -148,11 +148,11 @@ fn run(rt: &HostRuntime, all: env::Args) -> Result<u8, AllocError> {
 
 fn main(rt: HostRuntime) -> ExitCode {
     let status = match env::args(&rt) {
-        Ok(all) => run(&rt, all).unwrap_or_else(|_| give_up_on(&rt, "-", Stop::Memory)),
+        Ok(all) => run(&rt, all).unwrap_or_else(|_| give_up_on(&rt, "-", RunError::Memory)),
         Err(error) if error.kind() == io::ErrorKind::OutOfMemory => give_up_on(
             &rt,
             "-",
-            Stop::Memory,
+            RunError::Memory,
         ),
         Err(_) => {
             let _ = rt.eprint("shform: arguments are not UTF-8\n");

@@ -1,13 +1,13 @@
 //! A script while it is read. Lines that are whole and without a fault are passed, and need not be held; so
 //! the check of a script of short lines takes as much memory as a piece of it, however long it is.
 ghost use Rattle.std.specs.Prelude.{◌≡◌, ◌+◌, ◌++◌, ◌≤◌, ℕ, List, [], IfOk, length};
-ghost use Rattle.shform.specs.Part.{EndsLine, Held, Holds, IsFound, IsFoundAt, bytes_read};
+ghost use Rattle.shform.specs.PartialScript.{EndsLine, Held, Holds, IsLocated, IsLocatedAt, bytes_read};
 ghost use Rattle.shgrammar.specs.declared.edition.Edition.{Edition as AnEdition};
 ghost use Rattle.shgrammar.specs.Moved.{moved_fault};
 ghost use Rattle.shtext.specs.Edit.{limit};
 
 use crate::front::drop_front;
-use crate::part::{Found, Part};
+use crate::partial_script::{LocatedFault, PartialScript};
 use crate::sink::Sink;
 use shpass::faultless_front;
 use shread::{Edition, Fault, ReadError, Reader};
@@ -17,12 +17,12 @@ use std::alloc::{AllocError, Global};
 /// How many bytes are held before lines are looked for among them.
 const ENOUGH: usize = 65_536;
 
-impl Part {
+impl PartialScript {
     /// Nothing was read.
-    pub fn new(alloc: Global, edition: Edition) -> Part
+    pub fn new(alloc: Global, edition: Edition) -> PartialScript
         ensures { Holds edition [] result }
     {
-        Part {
+        PartialScript {
             edition,
             text: Vec::new(alloc),
             passed: 0,
@@ -75,12 +75,12 @@ impl Part {
     }
 
     /// A fault of what is held, in the script.
-    pub(crate) fn found(&self, fault: Fault) -> Found
+    pub(crate) fn locate(&self, fault: Fault) -> LocatedFault
         requires { fault.at ≤ length self.now.text.items }
-        ensures { (read : List ℕ) → Held read self.now → IsFoundAt read (moved_fault self.now.passed fault) result }
+        ensures { (read : List ℕ) → Held read self.now → IsLocatedAt read (moved_fault self.now.passed fault) result }
     {
         let (line, col) = line_col_of(&Flat::new(&self.text), fault.at);
-        Found {
+        LocatedFault {
             fault: Fault {
                 kind: fault.kind,
                 at: self.passed + fault.at,
@@ -91,17 +91,17 @@ impl Part {
     }
 
     /// The first fault of the script, where all of it was read.
-    pub fn first_fault(&self, alloc: Global) -> Result<Option<Found>, ReadError>
-        ensures { IfOk result (λ found. (edition : AnEdition) (read : List ℕ) → Holds edition read self.now → IsFound edition read found) }
+    pub fn first_fault(&self, alloc: Global) -> Result<Option<LocatedFault>, ReadError>
+        ensures { IfOk result (λ found. (edition : AnEdition) (read : List ℕ) → Holds edition read self.now → IsLocated edition read found) }
     {
         match Reader::for_edition(alloc, self.edition).first_fault(&Flat::new(&self.text))? {
             None => Ok(None),
-            Some(fault) => Ok(Some(self.found(fault))),
+            Some(fault) => Ok(Some(self.locate(fault))),
         }
     }
 }
 
-impl Sink for Part {
+impl Sink for PartialScript {
     ghost Setup = { AnEdition };
 
     ghost holds = { Holds };

@@ -1,12 +1,12 @@
 //! A script that is printed while it is read. Lines that are whole and without a fault are printed, and need
 //! not be held; so only its text and a piece of the script are, however long that is.
 ghost use Rattle.std.specs.Prelude.{ℕ, List, [], IfErr, IfOk};
-ghost use Rattle.shform.specs.Part.{HoldsPrinted, IsUnprinted};
+ghost use Rattle.shform.specs.PartialScript.{HoldsPrinted, IsUnprinted};
 ghost use Rattle.shgrammar.specs.declared.edition.Edition.{Edition as AnEdition};
 ghost use Rattle.shprint.specs.declared.layout.Layout.{Layout as ALayout};
 ghost use Rattle.shprint.specs.ReadBack.{IsTextOf};
 
-use crate::part::{Found, Part};
+use crate::partial_script::{LocatedFault, PartialScript};
 use crate::sink::Sink;
 use shpieces::{PrintError, Printing};
 use shprint::Layout;
@@ -17,7 +17,7 @@ use std::alloc::{AllocError, Global};
 /// What was read of a script, and what is printed of it.
 #[derive(Drop)]
 pub struct PrintedPart {
-    part: Part,
+    part: PartialScript,
     printing: Printing,
 }
 
@@ -25,7 +25,7 @@ pub struct PrintedPart {
 #[derive(Clone, Copy, Debug)]
 pub enum Unprinted {
     /// This is its first fault.
-    Faulty(Found),
+    Faulty(LocatedFault),
     /// Memory ran out.
     Memory,
 }
@@ -36,7 +36,7 @@ impl PrintedPart {
         ensures { HoldsPrinted edition layout.now [] result }
     {
         PrintedPart {
-            part: Part::new(alloc, edition),
+            part: PartialScript::new(alloc, edition),
             printing: Printing::new(alloc, edition, layout),
         }
     }
@@ -64,7 +64,7 @@ impl PrintedPart {
         let PrintedPart { part, printing } = self;
         match printing.print_rest(&Flat::new(&part.text)) {
             Ok(text) => Ok(text),
-            Err(PrintError::Faulty(fault)) => Err(Unprinted::Faulty(part.found(fault))),
+            Err(PrintError::Faulty(fault)) => Err(Unprinted::Faulty(part.locate(fault))),
             Err(PrintError::Memory) => Err(Unprinted::Memory),
         }
     }

@@ -12,7 +12,7 @@ use std::io::Write;
 
 /// Why a run was given up.
 #[derive(Clone, Copy, Debug, PartialEq, Eq)]
-pub enum Stop {
+pub enum RunError {
     /// The input cannot be read.
     Unreadable,
     /// It has more bytes than the limit.
@@ -49,17 +49,17 @@ fn write_parts<E: Write>(
 }
 
 /// Says why the run was given up, and answers 2. It takes no memory.
-pub fn give_up<E: Write>(name: &str, stop: Stop, errors: &mut Output<E>) -> u8
+pub fn give_up<E: Write>(name: &str, stop: RunError, errors: &mut Output<E>) -> u8
     requires sound { output_failed errors.old ≡ false }
     ensures answer { result ≡ 2 }
     ensures told { (read : List ℕ) → IsTold name.now read (Err stop)
         (held_of E.contents errors.old) (held_of E.contents errors.new) (output_failed errors.new) result }
 {
     let _ = match stop {
-        Stop::Unreadable => write_parts(errors, b"shform: cannot read ", name.as_bytes(), b"\n"),
-        Stop::TooLarge => write_parts(errors, b"shform: ", name.as_bytes(), b": too large\n"),
-        Stop::Memory => write_flushed(errors, b"shform: out of memory\n"),
-        Stop::Unwritable => write_flushed(errors, b"shform: cannot write\n"),
+        RunError::Unreadable => write_parts(errors, b"shform: cannot read ", name.as_bytes(), b"\n"),
+        RunError::TooLarge => write_parts(errors, b"shform: ", name.as_bytes(), b": too large\n"),
+        RunError::Memory => write_flushed(errors, b"shform: out of memory\n"),
+        RunError::Unwritable => write_flushed(errors, b"shform: cannot write\n"),
     };
     2
 }
@@ -80,7 +80,7 @@ pub fn tell<E: Write>(
         (held_of E.contents errors.old) (held_of E.contents errors.new) (output_failed errors.new) result }
 {
     let Ok(text) = message(alloc, name.as_bytes(), line, col, fault) else {
-        return give_up(name, Stop::Memory, errors);
+        return give_up(name, RunError::Memory, errors);
     };
     match write_flushed(errors, &text) {
         Ok(()) => 1,

@@ -9,7 +9,7 @@ ghost use Rattle.shform.specs.ProgramEnds.{program_ends, devices};
 ghost use Rattle.shform.specs.SessionReport.{IsGivenUp, IsReadWhole, IsSessionReport, how_of, opened_on};
 
 use crate::engine::read_whole;
-use crate::report::{Stop, give_up};
+use crate::report::{RunError, give_up};
 use shlive::Session;
 use shprint::Layout;
 use shread::Reader;
@@ -19,16 +19,16 @@ use std::io::{Read, Write};
 
 /// A session on these bytes. They are within the limit, so that only memory can be wanting; for no bytes
 /// it cannot.
-fn session_on(alloc: Global, reader: Reader, layout: Layout, bytes: &[u8]) -> Result<Session, Stop>
+fn session_on(alloc: Global, reader: Reader, layout: Layout, bytes: &[u8]) -> Result<Session, RunError>
     requires low { length bytes.now ≤ limit }
     ensures ok { IfOk result (λ session.
         session ≡ opened_on (how_of (edition_of reader) layout) (meter_of reader) bytes.now) }
-    ensures err { IfErr result (λ stop. stop ≡ Stop.Memory) }
+    ensures err { IfErr result (λ stop. stop ≡ RunError.Memory) }
     ensures empty { length bytes.now ≡ 0 → IsOk result }
 {
     match Session::open(alloc, reader, layout, bytes) {
         Ok(session) => Ok(session),
-        Err(_) => Err(Stop::Memory),
+        Err(_) => Err(RunError::Memory),
     }
 }
 
@@ -38,7 +38,7 @@ fn open_session<F: Read>(
     reader: Reader,
     layout: Layout,
     file: &mut Option<Input<F>>,
-) -> Result<Session, Stop>
+) -> Result<Session, RunError>
     requires fresh { IfSome file.old IsOpen }
     ensures ok { IfOk result (λ session. (read : List ℕ) × IsReadWhole F.remaining file.old file.new read
         × (session ≡ opened_on (how_of (edition_of reader) layout) (meter_of reader) read)) }

@@ -25,14 +25,14 @@ use Rattle.shgrammar.specs.Comments.{span}
 use Rattle.shgrammar.specs.Sights.{Given, State, Sight, seen, the_piece, Move}
 use Rattle.shgrammar.specs.HereDocuments.{ADelimiter, Change, changed, own_level, outer_level}
 use Rattle.shgrammar.specs.Form.{raw, nothing_read, change, with_bytes, a_level, Spelled, Told, Read, ◌▸◌, Form, give, see, move, push, stop, both, when, token, many, ends_as, with_end, ◌>>=◌, Step, again, done, step_if, leads_on, turns, does, in_substitution}
-use Rattle.shgrammar.specs.Words.{single, escaped_turn, backquoted, Inner, Held, having, opened, piece_row, a_piece, contents, a_word}
+use Rattle.shgrammar.specs.Words.{single, escaped_turn, backquoted_text, Inner, WordSoFar, having, opened, piece_row, a_piece, contents, a_word}
 use Rattle.shgrammar.specs.Levels.{level}
 use Rattle.shgrammar.specs.Tokens.{is_end}
-use Rattle.shgrammar.specs.Commands.{pick, is_newline, is_semicolon, a_semicolon, a_join_of, is_pipe, is_bang, begins_simple, begins_word, begins_redirect, begins_pipeline, opener_of, compound_by, and_or_operator_of, next_token, Items, so_many, breaks, behind_word, is_number_token, redirect_operator_of, takes_here, is_long, is_strip, document_by, a_document, none_waits, nothing_waits, a_number, an_operator, operator_by, a_target, one_redirect, behind_redirect, redirect_turn, redirected, an_item, item_by, item_turn, a_simple, comment_by, a_comment, a_newline, what_is_wrong, unexpected, JoinSo, join_so, with_comment, join_turn, a_join, a_command, a_bang, Piped, piped, one_command, pipe_turn, a_pipeline, Joined, joined_so, one_pipeline, joined_by, join_pipeline, an_and_or, separator_of, separator_by, a_separator, Entered, an_entry, a_worded, is_word, is_paren, named, ASeparator, past_separator, ends_item, falls_through}
+use Rattle.shgrammar.specs.Commands.{pick, is_newline_token, is_semicolon, a_semicolon, a_join_of, is_pipe, is_bang, begins_simple, begins_word, begins_redirect, begins_pipeline, opener_of, compound_by, and_or_operator_of, next_token, Items, so_many, breaks, behind_word, is_number_token, redirect_operator_of, takes_here, is_long, is_strip, document_by, a_document, none_waits, nothing_waits, a_number, an_operator, operator_by, a_target, one_redirect, behind_redirect, redirect_turn, with_redirect_list, an_item, item_by, item_turn, a_simple, comment_by, a_comment, a_newline, what_is_wrong, unexpected, JoinSo, join_so, with_comment, join_turn, a_join, a_command, a_bang, Piped, piped, one_command, pipe_turn, a_pipeline, Joined, joined_so, one_pipeline, joined_by, join_pipeline, an_and_or, separator_of, separator_by, a_separator, Entered, an_entry, a_word_command, is_word, is_paren, named_function, ASeparator, past_separator, ends_item, falls_through}
 use Rattle.shgrammar.specs.Lines.{end_of_line, an_open_line, a_line}
 use Rattle.shgrammar.specs.Lists.{Listed, ListSo, list_so, none_listed, with_command, next_line, one_entry, entry_turn, remark_by, a_remark, on_line, list_turn, a_list}
-use Rattle.shgrammar.specs.Compounds.{is_closing, is_open_paren, is_close_paren, passed, closing, Closed, closed, a_branch, Branched, branched, elif_turn, an_else, an_if, a_loop, a_group, a_for_name, a_linebreak, a_sequential_sep, Headed, word_turn, for_words, a_for_head, a_for, a_form, a_compound, a_function, a_case_word, begins_pattern, Patterned, a_pattern, one_pattern, pattern_turn, a_pattern_list, an_open_bracket, a_body, ItemEnd, an_ender, an_item_end, CasesSo, cases_so, one_case, case_turn, a_case_head, a_case}
-use Rattle.shgrammar.specs.Substitutions.{substituted, a_substitution, one_substitution}
+use Rattle.shgrammar.specs.Compounds.{is_closing, is_open_paren, is_close_paren, reserved_or_paren, closing, Closed, closed, a_branch, Branched, branched, elif_turn, an_else, an_if, a_loop, a_group, a_for_name, a_linebreak, a_sequential_sep, Headed, word_turn, for_words, a_for_head, a_for, a_form, a_compound, a_function, a_case_word, begins_pattern, Patterned, a_pattern, one_pattern, pattern_turn, a_pattern_list, an_open_bracket, a_body, ItemEnd, an_ender, an_item_end, CasesSo, cases_so, one_case, case_turn, a_case_head, a_case}
+use Rattle.shgrammar.specs.Substitutions.{substitution_list, a_substitution, one_substitution}
 use Rattle.shgrammar.proofs.Turns.{turns_on, turns_rest, turns_done, turns_fault}
 use Rattle.shast.specs.Nodes.{word_span}
 use Rattle.shgrammar.specs.Words.{dollar_single}
@@ -56,7 +56,7 @@ SameStep S (done x) (again y) = ⊥
 SameStep S (done x) (done y) = S x y
 
 -- as many brackets are open
-abbrev pub SameHeld : Held → Held → Type 0
+abbrev pub SameHeld : WordSoFar → WordSoFar → Type 0
 SameHeld h i = h.nested ≡ i.nested
 
 module _ (g : Given) where
@@ -235,9 +235,9 @@ module _ (g : Given) where
       same_if true = tt
       same_if false = tt
 
-  alike_backquoted : Alike All backquoted backquoted
-  unfolding backquoted
-  alike_backquoted = alike_see (λ b. alike_on (alike_many All (escaped_turn escapings.Backquotes b) (escaped_turn escapings.Backquotes b) (λ u v same. alike_escaped_turn escapings.Backquotes b u v) tt tt tt))
+  alike_backquoted_text : Alike All backquoted_text backquoted_text
+  unfolding backquoted_text
+  alike_backquoted_text = alike_see (λ b. alike_on (alike_many All (escaped_turn escapings.Backquotes b) (escaped_turn escapings.Backquotes b) (λ u v same. alike_escaped_turn escapings.Backquotes b u v) tt tt tt))
 
   alike_dollar_single : Alike All dollar_single dollar_single
   unfolding dollar_single
@@ -254,10 +254,10 @@ module _ (g : Given) where
     pub function : (name : Span) → Alike SameNext (inner.function name) (inner.function name)
 
   module _ (inner : Inner) (fits : Fits inner) where
-    alike_opened : (mode : Mode) (b : ℕ) (h i : Held) → SameHeld h i → Alike (SameStep SameHeld) (opened inner mode b h) (opened inner mode b i)
+    alike_opened : (mode : Mode) (b : ℕ) (h i : WordSoFar) → SameHeld h i → Alike (SameStep SameHeld) (opened inner mode b h) (opened inner mode b i)
     alike_opened mode b h i same = alike_then (fits.construct mode b h.substs i.substs) (λ x y so. alike_give same)
 
-    alike_piece_by : (mode : Mode) (b : ℕ) (h i : Held) (piece : Piece) → SameHeld h i → Alike (SameStep SameHeld) (piece_row inner mode b h piece) (piece_row inner mode b i piece)
+    alike_piece_by : (mode : Mode) (b : ℕ) (h i : WordSoFar) (piece : Piece) → SameHeld h i → Alike (SameStep SameHeld) (piece_row inner mode b h piece) (piece_row inner mode b i piece)
     alike_piece_by mode b h i pieces.Closer same = alike_on (alike_give same)
     alike_piece_by mode b h i pieces.Missing same = alike_stop
     alike_piece_by mode b h i pieces.LoneBackslash same = alike_see (λ q. alike_stop)
@@ -265,7 +265,7 @@ module _ (g : Given) where
     alike_piece_by mode b h i pieces.Single same = alike_then alike_single (λ x y so. alike_give same)
     alike_piece_by mode b h i pieces.DollarSingle same = alike_then alike_dollar_single (λ x y so. alike_give same)
     alike_piece_by mode b h i pieces.Double same = alike_see (λ q. alike_on (alike_opened _ q h i same))
-    alike_piece_by mode b h i pieces.Backquote same = alike_then alike_backquoted (λ x y so. alike_give same)
+    alike_piece_by mode b h i pieces.Backquote same = alike_then alike_backquoted_text (λ x y so. alike_give same)
     alike_piece_by mode b h i pieces.Pid same = alike_on (alike_on (alike_give same))
     alike_piece_by mode b h i pieces.Subst same =
         alike_see (λ q. alike_on (alike_on (alike_then (fits.substitution q h.substs i.substs) (λ x y so. alike_give same))))
@@ -278,7 +278,7 @@ module _ (g : Given) where
     alike_piece_by mode b h i pieces.BadClose same = alike_see (λ q. alike_stop)
     alike_piece_by mode b h i pieces.Ordinary same = alike_on (alike_give same)
 
-    alike_piece : (mode : Mode) (b : ℕ) (h i : Held) → SameHeld h i → Alike (SameStep SameHeld) (a_piece inner mode b h) (a_piece inner mode b i)
+    alike_piece : (mode : Mode) (b : ℕ) (h i : WordSoFar) → SameHeld h i → Alike (SameStep SameHeld) (a_piece inner mode b h) (a_piece inner mode b i)
     unfolding a_piece
     alike_piece mode b h i same = alike_same (ap (the_piece mode) same) (λ piece. alike_piece_by mode b h i piece same)
 
@@ -391,7 +391,7 @@ module _ (g : Given) where
 
     alike_newline : (n : Next) → Alike (λ x y. x ≡ y) (a_newline n) (a_newline n)
     unfolding a_newline
-    alike_newline n = alike_pick (is_newline n.token) _ refl (alike_on (alike_then {S = All} (alike_change tt) (λ u v so. alike_then (alike_next _) (λ m k same. alike_give (ap (λ z. (true, z)) same))))) (alike_give refl)
+    alike_newline n = alike_pick (is_newline_token n.token) _ refl (alike_on (alike_then {S = All} (alike_change tt) (λ u v so. alike_then (alike_next _) (λ m k same. alike_give (ap (λ z. (true, z)) same))))) (alike_give refl)
 
     alike_none_waits : (w : Option ℕ) → Alike All (none_waits w) (none_waits w)
     alike_none_waits (Some b) = alike_stop
@@ -445,28 +445,28 @@ module _ (g : Given) where
     alike_redirect_turn i j same =
         alike_pick _ _ (ap (λ (n : Next). begins_redirect n.token) same.1) (alike_redirect_at _ _ Command Command i.items j.items i.next j.next refl same.1) (alike_give same)
 
-    alike_redirected : (c d : ACommand × Next) → SameNext c d → Alike SameNext (redirected inner c) (redirected inner d)
-    unfolding redirected
-    alike_redirected c d same =
+    alike_with_redirect_list : (c d : ACommand × Next) → SameNext c d → Alike SameNext (with_redirect_list inner c) (with_redirect_list inner d)
+    unfolding with_redirect_list
+    alike_with_redirect_list c d same =
         alike_then (alike_many SameItems (redirect_turn inner) (redirect_turn inner) alike_redirect_turn (so_many [] Command c.1) (so_many [] Command d.1) (refl, same)) (λ i j so. alike_give so.1)
 
     alike_compound_by : (n : Next) (o : Option Opener) → Alike SameNext (compound_by inner n o) (compound_by inner n o)
-    alike_compound_by n (Some o) = alike_then (fits.compound o) alike_redirected
+    alike_compound_by n (Some o) = alike_then (fits.compound o) alike_with_redirect_list
     alike_compound_by n None = alike_unexpected n
 
-    alike_named : (good : Bool) (w v : AWord) → SamePlace w v → Alike SameNext (named inner good (word_span w)) (named inner good (word_span v))
-    alike_named good w v same = alike_pick good _ refl (subst (λ z. Alike SameNext (inner.function (word_span w)) (inner.function z)) same (fits.function (word_span w))) (alike_stop_at (ap (λ (s : Span). s.start) same))
+    alike_named_function : (good : Bool) (w v : AWord) → SamePlace w v → Alike SameNext (named_function inner good (word_span w)) (named_function inner good (word_span v))
+    alike_named_function good w v same = alike_pick good _ refl (subst (λ z. Alike SameNext (inner.function (word_span w)) (inner.function z)) same (fits.function (word_span w))) (alike_stop_at (ap (λ (s : Span). s.start) same))
 
-    alike_worded : Alike SameNext (a_worded inner) (a_worded inner)
-    unfolding a_worded
-    alike_worded =
+    alike_word_command : Alike SameNext (a_word_command inner) (a_word_command inner)
+    unfolding a_word_command
+    alike_word_command =
         alike_see (λ good. alike_then alike_word (λ w v so. alike_then (alike_next _) (λ n m same.
-        alike_pick _ _ (ap (λ (z : Next). is_paren z.token) same) (alike_named good w v so) (alike_pushed (alike_simple (so_many _ Suffix n) (so_many _ Suffix m) (refl, same))))))
+        alike_pick _ _ (ap (λ (z : Next). is_paren z.token) same) (alike_named_function good w v so) (alike_pushed (alike_simple (so_many _ Suffix n) (so_many _ Suffix m) (refl, same))))))
 
     alike_command : (n : Next) → Alike SameNext (a_command inner n) (a_command inner n)
     unfolding a_command
     alike_command n =
-        alike_pick (is_word n.token) _ refl alike_worded
+        alike_pick (is_word n.token) _ refl alike_word_command
         (alike_pick (begins_simple n.token) _ refl (alike_simple (so_many [] Command n) (so_many [] Command n) (refl, refl)) (alike_compound_by n (opener_of n.token)))
 
     alike_bang : (n : Next) → Alike SameNext (a_bang n) (a_bang n)
@@ -582,14 +582,14 @@ module _ (g : Given) where
         alike_then (alike_many SameList (list_turn inner) (list_turn inner) alike_list_turn (list_so (none_listed false) n) (list_so (none_listed false) n) (refl, refl))
         (λ l m same. alike_pick _ _ same.0 (alike_give same.1) (alike_at (unexpected inner) alike_unexpected l.next m.next same.1))
 
-    alike_passed : (text : Spelled) (paren : Bool) (position : Position) → Alike (λ x y. x ≡ y) (passed text paren position) (passed text paren position)
-    unfolding passed
-    alike_passed text paren position =
+    alike_reserved_or_paren : (text : Spelled) (paren : Bool) (position : Position) → Alike (λ x y. x ≡ y) (reserved_or_paren text paren position) (reserved_or_paren text paren position)
+    unfolding reserved_or_paren
+    alike_reserved_or_paren text paren position =
         alike_then alike_place (λ x y so. rw (← so) (alike_then (alike_next _) (λ m k same. alike_give (ap (λ z. (x.1, z)) same))))
 
     alike_closing : (c : Closing) (n : Next) → Alike (λ x y. x ≡ y) (closing inner c n) (closing inner c n)
     unfolding closing
-    alike_closing c n = alike_pick (is_closing c n.token) _ refl (alike_passed _ (is_close_paren c) _) (alike_unexpected n)
+    alike_closing c n = alike_pick (is_closing c n.token) _ refl (alike_reserved_or_paren _ (is_close_paren c) _) (alike_unexpected n)
 
     -- what was read last, and the token behind it
     abbrev SameClosed : {X : Type 0} → Closed X → Closed X → Type 0
@@ -613,14 +613,14 @@ module _ (g : Given) where
     unfolding elif_turn
     alike_elif b c same =
         alike_pick _ _ (ap (λ (n : Next). is_closing closings.Elif n.token) same)
-        (alike_then (alike_passed _ false _) (λ k m so. alike_then (alike_at (a_branch inner) alike_branch k.1 m.1 (ap (λ (z : Span × Next). z.1) so)) (λ x y so'. alike_pushed (alike_give so'))))
+        (alike_then (alike_reserved_or_paren _ false _) (λ k m so. alike_then (alike_at (a_branch inner) alike_branch k.1 m.1 (ap (λ (z : Span × Next). z.1) so)) (λ x y so'. alike_pushed (alike_give so'))))
         (alike_give same)
 
     alike_else : (n : Next) → Alike SameNext (an_else inner n) (an_else inner n)
     unfolding an_else
     alike_else n =
         alike_pick (is_closing closings.Else n.token) _ refl
-        (alike_then (alike_passed _ false _) (λ k m so. alike_then (alike_at (a_list inner) alike_list k.1 m.1 (ap (λ (z : Span × Next). z.1) so)) (λ x y so'. alike_give so')))
+        (alike_then (alike_reserved_or_paren _ false _) (λ k m so. alike_then (alike_at (a_list inner) alike_list k.1 m.1 (ap (λ (z : Span × Next). z.1) so)) (λ x y so'. alike_give so')))
         (alike_give refl)
 
     alike_if : (n : Next) → Alike SameClosed (an_if inner n) (an_if inner n)
@@ -662,7 +662,7 @@ module _ (g : Given) where
     alike_for_words : (cs ds : Row Span) → Alike SameHead (for_words inner cs) (for_words inner ds)
     unfolding for_words
     alike_for_words cs ds =
-        alike_then (alike_passed _ false _) (λ i j so. alike_then (alike_many SameItems (word_turn inner) (word_turn inner) alike_word_turn (so_many [] Suffix i.1) (so_many [] Suffix j.1) (refl, ap (λ (z : Span × Next). z.1) so))
+        alike_then (alike_reserved_or_paren _ false _) (λ i j so. alike_then (alike_many SameItems (word_turn inner) (word_turn inner) alike_word_turn (so_many [] Suffix i.1) (so_many [] Suffix j.1) (refl, ap (λ (z : Span × Next). z.1) so))
         (λ ws vs same. alike_then (alike_sep cs ds ws.next vs.next same.1) (λ l k is. alike_give is.1)))
 
     alike_for_head : (n : Next) → Alike SameHead (a_for_head inner n) (a_for_head inner n)
@@ -771,24 +771,24 @@ module _ (g : Given) where
     pub alike_compound : (o : Opener) → Alike SameNext (a_compound inner o) (a_compound inner o)
     unfolding a_compound
     alike_compound o =
-        alike_then (alike_passed _ (is_open_paren o) _) (λ x y so. alike_then (alike_at (a_form inner o) (alike_form o) x.1 y.1 (ap (λ (z : Span × Next). z.1) so)) (λ f g same. alike_pushed (alike_give same)))
+        alike_then (alike_reserved_or_paren _ (is_open_paren o) _) (λ x y so. alike_then (alike_at (a_form inner o) (alike_form o) x.1 y.1 (ap (λ (z : Span × Next). z.1) so)) (λ f g same. alike_pushed (alike_give same)))
 
     -- ---- substitutions
 
-    alike_substituted : Alike All (substituted inner) (substituted inner)
-    unfolding substituted
-    alike_substituted =
+    alike_substitution_list : Alike All (substitution_list inner) (substitution_list inner)
+    unfolding substitution_list
+    alike_substitution_list =
         alike_then (alike_next _) (λ n m same. alike_then (alike_many SameList (list_turn inner) (list_turn inner) alike_list_turn (list_so (none_listed false) n) (list_so (none_listed false) m) (refl, same))
         (λ l k so. alike_pick _ _ (ap (λ (x : Next). is_closing closings.Paren x.token) so.1) (alike_then alike_nothing_waits (λ u v so. alike_on (alike_give tt))) (alike_at (unexpected inner) alike_unexpected l.next k.next so.1)))
 
     pub alike_substitution : (b : ℕ) (ss zs : Row ASubst) → Alike All (a_substitution inner b ss) (a_substitution inner b zs)
     unfolding a_substitution one_substitution
-    alike_substitution b ss zs = alike_inside (alike_then (alike_level_of {S = All} {R = All} (alike_ending alike_substituted) (λ a b k so. tt)) (λ x y so. alike_see (λ q. alike_push tt)))
+    alike_substitution b ss zs = alike_inside (alike_then (alike_level_of {S = All} {R = All} (alike_ending alike_substitution_list) (λ a b k so. tt)) (λ x y so. alike_see (λ q. alike_push tt)))
 
     pub alike_function : (name : Span) → Alike SameNext (a_function inner name) (a_function inner name)
     unfolding a_function
     alike_function name =
-        alike_then (alike_passed _ true _) (λ o p so. alike_then (alike_at (closing inner closings.Paren) (alike_closing closings.Paren) o.1 p.1 (ap (λ (z : Span × Next). z.1) so))
+        alike_then (alike_reserved_or_paren _ true _) (λ o p so. alike_then (alike_at (closing inner closings.Paren) (alike_closing closings.Paren) o.1 p.1 (ap (λ (z : Span × Next). z.1) so))
         (λ c d so'. alike_then (alike_linebreak [] [] c.1 d.1 (ap (λ (z : Span × Next). z.1) so'))
         (λ l k is. alike_then (alike_at (λ n. compound_by inner n (opener_of n.token)) (λ n. alike_compound_by n (opener_of n.token)) l.next k.next is.1) (λ b e same. alike_give same))))
 
@@ -796,7 +796,7 @@ module _ (g : Given) where
 
     alike_end : (n : Next) → Alike (λ x y. x ≡ y) (end_of_line inner n) (end_of_line inner n)
     unfolding end_of_line
-    alike_end n = alike_pick (is_newline n.token) _ refl (alike_on (alike_then {S = All} (alike_change tt) (λ u v so. alike_give refl)))
+    alike_end n = alike_pick (is_newline_token n.token) _ refl (alike_on (alike_then {S = All} (alike_change tt) (λ u v so. alike_give refl)))
         (alike_pick (is_end n.token) _ refl (alike_then alike_nothing_waits (λ u v so. alike_give refl)) (alike_unexpected n))
 
     alike_open_line : (blank pale : Bool) → Alike SameEnd (an_open_line inner blank) (an_open_line inner pale)

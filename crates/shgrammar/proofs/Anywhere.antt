@@ -14,7 +14,7 @@ use Rattle.shgrammar.specs.Bytes.{ends, ends_word, byte_at, stands}
 use Rattle.shast.specs.Tree.{ASubst, AWord, AWordOf, word, substs_of}
 use Rattle.shgrammar.specs.Sights.{Sight, seen, Move, Given, given, State, standing}
 use Rattle.shgrammar.specs.Form.{moved_on, many, Spelled, as_it_stands, Read, ◌▸◌, Form, give, see, move, both, token, Step, again, done, does, Comes, may, raw, Just, just, Then, and_then, or_stops, OneToken, whole, broken_off}
-use Rattle.shgrammar.specs.Words.{Held, having, opened, piece_row, a_piece, single, escaped_turn, backquoted, Inner, contents, a_word}
+use Rattle.shgrammar.specs.Words.{WordSoFar, having, opened, piece_row, a_piece, single, escaped_turn, backquoted_text, Inner, contents, a_word}
 use Rattle.shgrammar.specs.Levels.{level, ReadsWord}
 use Rattle.shgrammar.proofs.Stretches.{get_drop}
 use Rattle.shgrammar.proofs.Holds.{tells_seen, tells_many, tells_level, tells_any, Holds, holds_then, Tells, Turned, tells_so, tells_then, tells_when, tells_token, Behind, low, tells_inside}
@@ -233,9 +233,9 @@ module _ (g : Given) where
   unfolding single
   single_still s = sees (moves (moves (tells_when Whole g (same tt) (same (refl, refl)))))
 
-  backquoted_still : (s : State) → W backquoted s
-  unfolding backquoted escaped_turn
-  backquoted_still s =
+  backquoted_text_still : (s : State) → W backquoted_text s
+  unfolding backquoted_text escaped_turn
+  backquoted_text_still s =
       sees (moves (turns_still _ (λ u t. moves (tells_when Whole g (same tt) (tells_when Whole g (same tt) (sees (moves still))))) tt _))
 
   dollar_single_still : (s : State) → W dollar_single s
@@ -249,10 +249,10 @@ module _ (g : Given) where
     substitution : (b : ℕ) (ss : Row ASubst) (s : State) → W (inner.substitution b ss) s
 
   module _ (inner : Inner) (quiet : Quiet inner) where
-    opened_still : (mode : Mode) (b : ℕ) (h : Held) (s : State) → W (opened inner mode b h) s
+    opened_still : (mode : Mode) (b : ℕ) (h : WordSoFar) (s : State) → W (opened inner mode b h) s
     opened_still mode b h s = goes (quiet.construct mode b h.substs s) (λ x t. still)
 
-    piece_still : (mode : Mode) (b : ℕ) (h : Held) (piece : Piece) (s : State) → W (piece_row inner mode b h piece) s
+    piece_still : (mode : Mode) (b : ℕ) (h : WordSoFar) (piece : Piece) (s : State) → W (piece_row inner mode b h piece) s
     piece_still mode b h pieces.Closer s = moves still
     piece_still mode b h pieces.Missing s = same tt
     piece_still mode b h pieces.LoneBackslash s = sees (same tt)
@@ -260,7 +260,7 @@ module _ (g : Given) where
     piece_still mode b h pieces.Single s = goes (single_still s) (λ x t. still)
     piece_still mode b h pieces.DollarSingle s = goes (dollar_single_still s) (λ x t. still)
     piece_still mode b h pieces.Double s = sees (moves (opened_still _ _ h _))
-    piece_still mode b h pieces.Backquote s = goes (backquoted_still s) (λ x t. still)
+    piece_still mode b h pieces.Backquote s = goes (backquoted_text_still s) (λ x t. still)
     piece_still mode b h pieces.Pid s = moves (moves still)
     piece_still mode b h pieces.Subst s = sees (moves (moves (goes (quiet.substitution _ h.substs _) (λ x t. still))))
     piece_still mode b h pieces.Arith s = sees (moves (moves (moves (opened_still _ _ h _))))

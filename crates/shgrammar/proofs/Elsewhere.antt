@@ -20,7 +20,7 @@ use Rattle.shgrammar.specs.Plain.{is_plain}
 use Rattle.shgrammar.specs.Tokens.{Spelling, is_word_at, first_of_words, reserved_words, reserved_at, begins_assignment, is_name_at, is_number, word_by, token_of, token_at}
 use Rattle.shgrammar.specs.Sights.{Given, given, State, standing}
 use Rattle.shgrammar.specs.Form.{Read, again, as_it_stands, token, loop, many, leads_on, does}
-use Rattle.shgrammar.specs.Words.{Held, having, a_piece, contents, a_word}
+use Rattle.shgrammar.specs.Words.{WordSoFar, having, a_piece, contents, a_word}
 use Rattle.shgrammar.specs.Levels.{level, ReadsWord}
 use Rattle.shgrammar.specs.Commands.{behind_word}
 use Rattle.shgrammar.proofs.Stretches.{place_low, past_more, past_none, stands_in_low, raw_stays}
@@ -102,8 +102,8 @@ module _ {edition : Edition} {T U : List ℕ} {a L : ℕ} {to : ℕ → ℕ} (K 
   record Goes (r : ℕ) : Type 0 where
     low : a ≤ r
     opener : ℕ
-    start : Held
-    found : Held
+    start : WordSoFar
+    found : WordSoFar
     last : State
     goes : does (loop (a_piece (level room) Plain opener) start) Whole (given edition T o) (standing r) ≡ Ok (found, last)
     there : last.at ≡ L
@@ -144,7 +144,7 @@ module _ {edition : Edition} {T U : List ℕ} {a L : ℕ} {to : ℕ → ℕ} (K 
   same_ends w = ⊎_elim (λ i. ap ends (here_byte K i)) (λ at. subst (λ r. ends (byte_at U (to r)) ≡ ends (byte_at T r)) (sym at) (W.there ∙ sym W.here)) (place_of w)
 
   -- an ordinary byte is a piece
-  ordinary_turn : (r b opener : ℕ) (c : Held) → byte_at T r ≡ Some b → is_plain Plain b ≡ true
+  ordinary_turn : (r b opener : ℕ) (c : WordSoFar) → byte_at T r ≡ Some b → is_plain Plain b ≡ true
       → does (a_piece (level room) Plain opener c) Whole (given edition T o) (standing r) ≡ Ok (again c, standing (behind T r))
   unfolding a_piece piece_at
   ordinary_turn r b opener c is plain = rw (is, ordinary_by T r Plain c.nested b plain) refl

@@ -21,8 +21,8 @@ use Rattle.shgrammar.specs.Form.{Spelled, does}
 use Rattle.shgrammar.specs.Words.{Inner}
 use Rattle.shgrammar.specs.Commands.{is_pipe, begins_word, opener_of, Items, so_many, is_word, ends_item, falls_through}
 use Rattle.shgrammar.specs.Lists.{list_so, none_listed, Listed}
-use Rattle.shgrammar.specs.Compounds.{held_apart, Branched, branched, Closed, is_closing, is_open_paren, is_close_paren, passed, closing, a_branch, elif_turn, an_else, an_if, a_loop, a_group, a_for_name, a_sequential_sep, Headed, word_turn, for_words, a_for_head, behind_remarks, a_for, a_form, a_compound, a_function, under_name, a_case_word, begins_pattern, Patterned, a_pattern, one_pattern, pattern_turn, a_pattern_list, a_body, body_end, ItemEnd, an_ender, an_item_end, CasesSo, cases_so, one_case, case_turn, a_case_head, a_case}
-use Rattle.shgrammar.specs.Substitutions.{substituted, a_substitution, one_substitution}
+use Rattle.shgrammar.specs.Compounds.{held_apart, Branched, branched, Closed, is_closing, is_open_paren, is_close_paren, reserved_or_paren, closing, a_branch, elif_turn, an_else, an_if, a_loop, a_group, a_for_name, a_sequential_sep, Headed, word_turn, for_words, a_for_head, behind_remarks, a_for, a_form, a_compound, a_function, under_name, a_case_word, begins_pattern, Patterned, a_pattern, one_pattern, pattern_turn, a_pattern_list, a_body, body_end, ItemEnd, an_ender, an_item_end, CasesSo, cases_so, one_case, case_turn, a_case_head, a_case}
+use Rattle.shgrammar.specs.Substitutions.{substitution_list, a_substitution, one_substitution}
 use Rattle.shgrammar.specs.Levels.{most_open, level}
 use Rattle.shgrammar.specs.Lines.{AKind, an_open_line, a_line, ALine, IsLine, blank_line, entries_line, end_line, faulty_line, line_read, line_stops, kind_of, EntriesEverywhere}
 use Rattle.shgrammar.specs.Scripts.{the_line}
@@ -38,13 +38,13 @@ module _ {g : Given} {limit : ℕ} where
   module _ {inner : Inner} (fine : Fine g limit inner) where
     -- ---- compound commands
 
-    passed_in : (text : Spelled) (paren : Bool) (position : Position) (s : State) → UpTo g limit (passed text paren position) (λ x. IsSpanWithin limit x.0) s
-    unfolding passed
-    passed_in text paren position s = first bare_token (λ x t so. after (λ n u. gives so))
+    reserved_or_paren_in : (text : Spelled) (paren : Bool) (position : Position) (s : State) → UpTo g limit (reserved_or_paren text paren position) (λ x. IsSpanWithin limit x.0) s
+    unfolding reserved_or_paren
+    reserved_or_paren_in text paren position s = first bare_token (λ x t so. after (λ n u. gives so))
 
     closing_in : (c : Closing) (n : Next) (s : State) → UpTo g limit (closing inner c n) (λ x. IsSpanWithin limit x.0) s
     unfolding closing
-    closing_in c n s = picks (is_closing c n.token) (passed_in _ (is_close_paren c) _ s) (stopped inner n)
+    closing_in c n s = picks (is_closing c n.token) (reserved_or_paren_in _ (is_close_paren c) _ s) (stopped inner n)
 
     branch_in : (n : Next) (s : State) → UpTo g limit (a_branch inner n) (λ x. BranchIn limit x.0) s
     unfolding a_branch
@@ -213,20 +213,20 @@ module _ {g : Given} {limit : ℕ} where
     compound_in : (o : Opener) (s : State) → UpTo g limit (a_compound inner o) (λ c. CommandIn limit c.0) s
     unfolding a_compound
     compound_in o s =
-        first (passed_in _ (is_open_paren o) _ s) (λ x t begin. first (form_in o x.1 t) (λ f u so. first (adds {P = λ cs. CommandIn limit (held_apart cs)} (so.0, (begin.0, so.1.1), tt)) (λ cs v good. gives good)))
+        first (reserved_or_paren_in _ (is_open_paren o) _ s) (λ x t begin. first (form_in o x.1 t) (λ f u so. first (adds {P = λ cs. CommandIn limit (held_apart cs)} (so.0, (begin.0, so.1.1), tt)) (λ cs v good. gives good)))
 
     -- ---- substitutions
 
-    substituted_in : (s : State) → UpTo g limit (substituted inner) (EntriesIn limit) s
-    unfolding substituted
-    substituted_in s =
+    substitution_list_in : (s : State) → UpTo g limit (substitution_list inner) (EntriesIn limit) s
+    unfolding substitution_list
+    substitution_list_in s =
         after (λ n t. first (lines_in fine n t)
         (λ l u all. picks (is_closing closings.Paren l.next.token) (after (λ w z. after (λ x v. gives (entries_in limit l.list.entries all.0)))) (stopped inner l.next)))
 
     substitution_in : (b : ℕ) (ss : Row ASubst) (s : State) → b ≤ g.offset + s.at → All (SubstIn limit) ss → UpTo g limit (a_substitution inner b ss) (All (SubstIn limit)) s
     unfolding a_substitution one_substitution
     substitution_in b ss s from so =
-        in_subst (first_on (in_level (ending (substituted_in (own_level s))))
+        in_subst (first_on (in_level (ending (substitution_list_in (own_level s))))
         (λ es t on one. sees (unless (λ b. pushes (SubstIn limit) so (bodies_in limit es.1 es.0 one.1 one.0, (omega (arith, from, on, b), b))))))
 
     -- ---- functions

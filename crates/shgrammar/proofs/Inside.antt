@@ -14,7 +14,7 @@ use Rattle.shgrammar.specs.Bytes.{past, past_continuations, byte_at, behind, sta
 use Rattle.shgrammar.specs.Pieces.{past_taken, next_quote, is_last_backslash, past_parameter, rest_mode}
 use Rattle.shgrammar.specs.Sights.{Given, given, State}
 use Rattle.shgrammar.specs.Form.{Read, Form, Step, again, done, step_if, loop, many, leads_on, turns, does}
-use Rattle.shgrammar.specs.Words.{single, escaped_turn, backquoted}
+use Rattle.shgrammar.specs.Words.{single, escaped_turn, backquoted_text}
 use Rattle.shgrammar.proofs.Stretches.{place_low, past_more, past_none, stands_in_low}
 use Rattle.shgrammar.proofs.Places.{behind_low, next_of_low}
 use Rattle.shgrammar.proofs.Shifted.{state_from}
@@ -280,10 +280,10 @@ module _ {edition : Edition} {T U : List ℕ} {a L : ℕ} {to : ℕ → ℕ} (K 
               ),
             )
 
-  pub backquotes_in : (s : State) → a ≤ s.at → Clear K s.at → Holds (Ends backquoted (In K) s) (does backquoted Whole g s)
-  unfolding backquoted many
+  pub backquotes_in : (s : State) → a ≤ s.at → Clear K s.at → Holds (Ends backquoted_text (In K) s) (does backquoted_text Whole g s)
+  unfolding backquoted_text many
   backquotes_in s from e =
-      holds_so _ (Ends backquoted (In K) s) (does (loop (escaped_turn escapings.Backquotes b) tt) Whole g inside)
+      holds_so _ (Ends backquoted_text (In K) s) (does (loop (escaped_turn escapings.Backquotes b) tt) Whole g inside)
       (looped (λ (c d : Unit {0}). Unit {0}) (escaped_turn escapings.Backquotes b) (escaped_turn escapings.Backquotes b2) Below UpTo (λ p lt. omega (arith, lt)) (λ p le. le) (escaped_each escapings.Backquotes b b2) tt inside (omega (arith, from, behind_low T s.at)))
       (λ x t ends le. let w = ends le in
       let i = clear K s.at from (omega (arith, w.0, behind_is T s.at)) e in

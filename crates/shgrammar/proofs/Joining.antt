@@ -10,7 +10,7 @@ use Rattle.shgrammar.specs.Form.{Read, does}
 use Rattle.shgrammar.specs.Commands.{is_empty}
 use Rattle.shgrammar.specs.Sights.{State, given, standing}
 use Rattle.shgrammar.specs.Lines.{ALine, IsLine, kind_of}
-use Rattle.shgrammar.specs.Scripts.{AScript, Outcome, SoFar, is_blank_line, line_from, line_of, line_of_text, line_told, nothing_yet, script_at, script_on, the_line, with_line}
+use Rattle.shgrammar.specs.Scripts.{AScript, Outcome, SoFar, as_line, is_blank_line, line_from, line_of_text, line_told, nothing_yet, script_at, script_on, the_line, with_line}
 use Rattle.shgrammar.specs.Moved.{Same}
 use Rattle.shgrammar.specs.Joined.{AreLines, blanked, has_entry, lines_joined, line_joined_by, last_of, more_of}
 use Rattle.shgrammar.proofs.Lined.{line_faulty, line_last, line_more, nothing}
@@ -92,8 +92,8 @@ module _ (edition : Edition) (B : List ℕ) where
         line_last edition B so p blank refl es t (with_line so es) read refl ∙ ap (λ zs. record { entries = entries_of (so.entries ++ zs); wrong = None }) entries_are ∙ line_at_last p so fs q
 
     -- the last line of the row
-    last_by : (x y : Read (Row AnEntry × Bool)) → line_from edition B Whole blank p ≡ x → Same p blank x y → (line_of (drop p B) y).ended ≡ false → (line_of (drop p B) y).next ≡ length (drop p B)
-        → Joins p so (line_of (drop p B) y ∷ [])
+    last_by : (x y : Read (Row AnEntry × Bool)) → line_from edition B Whole blank p ≡ x → Same p blank x y → (as_line (drop p B) y).ended ≡ false → (as_line (drop p B) y).next ≡ length (drop p B)
+        → Joins p so (as_line (drop p B) y ∷ [])
     last_by (Ok ((es, true), t)) (Ok ((fs, true), u)) read (entries_are, flag, at_is) not_ended whole =
         goes fs u es t entries_are at_is read [] (λ then. at_end then (p + u.at) (omega (arith, whole, length-drop p B)))
     last_by (Ok ((es, false), t)) (Ok ((fs, false), u)) read (entries_are, flag, at_is) not_ended whole = ends fs u es t entries_are read (p + u.at)
@@ -105,8 +105,8 @@ module _ (edition : Edition) (B : List ℕ) where
     last_by (Err f) (Ok x) read is not_ended whole = absurd is
 
     -- one of the others
-    more_by : (x y : Read (Row AnEntry × Bool)) → line_from edition B Whole blank p ≡ x → Same p blank x y → (line_of (drop p B) y).ended ≡ true → (ls : Row ALine) → Rest (p + (line_of (drop p B) y).next) ls
-        → Joins p so (line_of (drop p B) y ∷ ls)
+    more_by : (x y : Read (Row AnEntry × Bool)) → line_from edition B Whole blank p ≡ x → Same p blank x y → (as_line (drop p B) y).ended ≡ true → (ls : Row ALine) → Rest (p + (as_line (drop p B) y).next) ls
+        → Joins p so (as_line (drop p B) y ∷ ls)
     more_by (Ok ((es, true), t)) (Ok ((fs, true), u)) read (entries_are, flag, at_is) ended ls rest = goes fs u es t entries_are at_is read ls rest
     more_by (Ok ((es, false), t)) (Ok ((fs, false), u)) read (entries_are, flag, at_is) ended ls rest = absurd cc
     more_by (Ok ((es, true), t)) (Ok ((fs, false), u)) read (entries_are, flag, at_is) ended ls rest = absurd cc
@@ -117,7 +117,7 @@ module _ (edition : Edition) (B : List ℕ) where
 
   -- ---- all lines
 
-  line_is_read : (p : ℕ) (l : ALine) → IsLine edition (drop p B) l → l ≡ line_of (drop p B) (line_told edition B Whole false p 0)
+  line_is_read : (p : ℕ) (l : ALine) → IsLine edition (drop p B) l → l ≡ as_line (drop p B) (line_told edition B Whole false p 0)
   unfolding line_of_text
   line_is_read p l is = line_only edition (drop p B) l is
 

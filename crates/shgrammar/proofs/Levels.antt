@@ -12,7 +12,7 @@ use Rattle.shgrammar.specs.Sights.{Given, State}
 use Rattle.shgrammar.specs.Form.{does, pushed, grows}
 use Rattle.shgrammar.specs.Compounds.{a_compound, a_function}
 use Rattle.shgrammar.specs.Comments.{span}
-use Rattle.shgrammar.specs.Substitutions.{substituted, one_substitution}
+use Rattle.shgrammar.specs.Substitutions.{substitution_list, one_substitution}
 use Rattle.shgrammar.specs.Words.{Inner, contents}
 use Rattle.shgrammar.specs.Lines.{a_line, an_open_line}
 use Rattle.shgrammar.specs.Levels.{level}
@@ -40,7 +40,7 @@ module _ (keep : Keep) (g : Given) (s : State) where
   substitution_closed room b ss e = rw e refl
 
   -- a substitution that was read: as one more of these, if a tree is grown
-  pub substitution_read : (inner : Inner) (p : ℕ) (ss : Row ASubst) (es : Entries) (t : State) → does (substituted inner) keep g (own_level s) ≡ Ok (es, t)
+  pub substitution_read : (inner : Inner) (p : ℕ) (ss : Row ASubst) (es : Entries) (t : State) → does (substitution_list inner) keep g (own_level s) ≡ Ok (es, t)
       → does (one_substitution inner (g.offset + p) ss) keep g s ≡ Ok (pushed (grows keep) ss (subst (filled t.bodies es) (span g.offset p t.at)), outer_level s t)
   unfolding one_substitution
   substitution_read inner p ss es t is = rw is refl

@@ -18,7 +18,7 @@ use Rattle.shast.specs.Bodies.{filled_row}
 use Rattle.shgrammar.specs.Form.{nothing_read, ◌▸◌, Form, Read, does, many, turns, turns_below}
 use Rattle.shgrammar.specs.Words.{Inner}
 use Rattle.shgrammar.specs.Levels.{level}
-use Rattle.shgrammar.specs.Commands.{is_newline, next_token, a_comment, none_waits, nothing_waits, what_is_wrong}
+use Rattle.shgrammar.specs.Commands.{is_newline_token, next_token, a_comment, none_waits, nothing_waits, what_is_wrong}
 use Rattle.shgrammar.specs.Lines.{line_end_by, end_of_line, an_open_line, a_line}
 use Rattle.shgrammar.specs.Levels.{most_open}
 use Rattle.shgrammar.specs.Lists.{list_so, none_listed, entry_turn, a_remark, on_line}
@@ -53,7 +53,7 @@ ended_by inner keep g s false false n =
 
 pub end_ended : (inner : Inner) (keep : Keep) (g : Given) (s : State) (n : Next) → Tells keep g (end_of_line inner n) (Ended s) s
 unfolding end_of_line
-end_ended inner keep g s n = record { told = ended_by inner keep g s (is_newline n.token) (is_end n.token) n }
+end_ended inner keep g s n = record { told = ended_by inner keep g s (is_newline_token n.token) (is_end n.token) n }
 
 abbrev LineEnded : State → Row AnEntry × Bool → State → Type 0
 LineEnded s x t = x.1 ≡ true → s.at < t.at

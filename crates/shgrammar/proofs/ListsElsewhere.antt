@@ -23,9 +23,9 @@ use Rattle.shgrammar.specs.Comments.{span, comment_at, past_comment}
 use Rattle.shgrammar.specs.Sights.{Given, given, State, Move, a_comment_on, here, is_a_name}
 use Rattle.shgrammar.specs.Form.{change, Told, Read, Form, give, move, push, token, many, ◌>>=◌, ◌>>◌, Step, step_if, does, Spelled}
 use Rattle.shgrammar.specs.Words.{Inner, a_word}
-use Rattle.shgrammar.specs.Commands.{is_strip, document, document_by, a_document, is_empty, pick, next_token, is_newline, is_semicolon, a_semicolon, a_join_of, is_pipe, is_bang, begins_simple, begins_word, begins_redirect, begins_pipeline, opener_of, compound_by, and_or_operator_of, Items, so_many, breaks, behind_word, is_number_token, redirect_operator_of, takes_here, is_long, a_number, an_operator, operator_by, a_target, one_redirect, behind_redirect, redirect_turn, redirected, as_item, an_item, item_by, item_turn, a_simple, comment_by, a_comment, a_newline, unexpected, JoinSo, join_so, with_comment, join_turn, a_join, a_command, a_bang, Piped, piped, one_command, pipe_turn, a_pipeline, Joined, joined_so, one_pipeline, joined_by, join_pipeline, an_and_or, separator_of, separator_by, a_separator, is_background, ASeparator, past_separator, Entered, an_entry, is_word, is_paren, ends_item, falls_through, named, a_worded}
+use Rattle.shgrammar.specs.Commands.{is_strip, document, document_by, a_document, is_empty, pick, next_token, is_newline_token, is_semicolon, a_semicolon, a_join_of, is_pipe, is_bang, begins_simple, begins_word, begins_redirect, begins_pipeline, opener_of, compound_by, and_or_operator_of, Items, so_many, breaks, behind_word, is_number_token, redirect_operator_of, takes_here, is_long, a_number, an_operator, operator_by, a_target, one_redirect, behind_redirect, redirect_turn, with_redirect_list, as_item, an_item, item_by, item_turn, a_simple, comment_by, a_comment, a_newline, unexpected, JoinSo, join_so, with_comment, join_turn, a_join, a_command, a_bang, Piped, piped, one_command, pipe_turn, a_pipeline, Joined, joined_so, one_pipeline, joined_by, join_pipeline, an_and_or, separator_of, separator_by, a_separator, is_background, ASeparator, past_separator, Entered, an_entry, is_word, is_paren, ends_item, falls_through, named_function, a_word_command}
 use Rattle.shgrammar.specs.Lists.{Listed, ListSo, list_so, none_listed, is_blank_next, with_command, next_line, one_entry, entry_turn, remark_by, a_remark, on_line, list_turn, a_list}
-use Rattle.shgrammar.specs.Compounds.{a_linebreak, is_closing, is_open_paren, is_close_paren, passed, closing, Closed, a_branch, Branched, branched, elif_turn, an_else, an_if, a_loop, a_group, a_for_name, a_sequential_sep, Headed, word_turn, for_words, a_for_head, behind_remarks, a_for, a_form, held_apart, a_compound, under_name, a_function, a_case_word, begins_pattern, Patterned, a_pattern, one_pattern, pattern_turn, a_pattern_list, an_open_bracket, a_body, ItemEnd, an_ender, an_item_end, CasesSo, cases_so, one_case, case_turn, a_case_head, a_case}
+use Rattle.shgrammar.specs.Compounds.{a_linebreak, is_closing, is_open_paren, is_close_paren, reserved_or_paren, closing, Closed, a_branch, Branched, branched, elif_turn, an_else, an_if, a_loop, a_group, a_for_name, a_sequential_sep, Headed, word_turn, for_words, a_for_head, behind_remarks, a_for, a_form, held_apart, a_compound, under_name, a_function, a_case_word, begins_pattern, Patterned, a_pattern, one_pattern, pattern_turn, a_pattern_list, an_open_bracket, a_body, ItemEnd, an_ender, an_item_end, CasesSo, cases_so, one_case, case_turn, a_case_head, a_case}
 use Rattle.shgrammar.proofs.Holds.{Holds, move_low}
 use Rattle.shgrammar.proofs.Within.{before_blanks_low}
 use Rattle.shgrammar.proofs.Alike.{SameStep}
@@ -228,7 +228,7 @@ module _ {edition : Edition} {T U : List ℕ} {a M : ℕ} {to : ℕ → ℕ} {li
     where
       one : (n : Next) → Goes2 (λ x y. x ≡ y) (a_newline n) (a_newline n)
       one n =
-          picks (is_newline n.token) _ refl (then moves_on (λ x y all. then (go_bodies E o o2 B B2 stands stands_there) (λ u v any. then (next Command) (λ m k same. gives (ap (λ z. (true, z)) same))))) (gives refl)
+          picks (is_newline_token n.token) _ refl (then moves_on (λ x y all. then (go_bodies E o o2 B B2 stands stands_there) (λ u v any. then (next Command) (λ m k same. gives (ap (λ z. (true, z)) same))))) (gives refl)
 
   semicolon : (n m : Next) → n ≡ m → Goes2 (λ x y. x ≡ y) (a_semicolon n) (a_semicolon m)
   unfolding a_semicolon
@@ -453,27 +453,27 @@ module _ {edition : Edition} {T U : List ℕ} {a M : ℕ} {to : ℕ → ℕ} {li
     with_same (function f es b) (compound e) is js one two = absurd cc
     with_same (function f es b) (simple ys) is js one two = absurd cc
 
-    redirected_same : (c d : ACommand × Next) → SameCommand c d → Goes2 SameCommand (redirected inner c) (redirected inner d)
-    unfolding redirected
-    redirected_same c d same =
+    with_redirect_list_same : (c d : ACommand × Next) → SameCommand c d → Goes2 SameCommand (with_redirect_list inner c) (with_redirect_list inner d)
+    unfolding with_redirect_list
+    with_redirect_list_same c d same =
         then (repeats SameItems (redirect_turn inner) (redirect_turn inner) redirect_on (so_many [] Command c.1) (so_many [] Command d.1) (refl, (refl, same.1)))
         (λ k l so. gives (with_same c.0 d.0 (items_of k.items) (items_of l.items) same.0 (items_same k l so), so.1.1))
 
     compound_by_same : (n : Next) (c : Option Opener) → Goes2 SameCommand (compound_by inner n c) (compound_by inner n c)
-    compound_by_same n (Some c) = then (fine.compound c) redirected_same
+    compound_by_same n (Some c) = then (fine.compound c) with_redirect_list_same
     compound_by_same n None = stopped n
 
     name_same : (w v : AWord) → SameWord w v → text_at B (word_span w) ≡ text_at B2 (word_span v)
     name_same (word c ss) (word d zs) same = cc
 
-    named_same : (good pure : Bool) (w v : AWord) → good ≡ pure → SameWord w v → Goes2 SameCommand (named inner good (word_span w)) (named inner pure (word_span v))
-    named_same good pure w v is so = picks good pure is (fine.function (word_span w) (word_span v) (name_same w v so)) (go_stop E o o2 B B2 stands stands_there)
+    named_function_same : (good pure : Bool) (w v : AWord) → good ≡ pure → SameWord w v → Goes2 SameCommand (named_function inner good (word_span w)) (named_function inner pure (word_span v))
+    named_function_same good pure w v is so = picks good pure is (fine.function (word_span w) (word_span v) (name_same w v so)) (go_stop E o o2 B B2 stands stands_there)
 
-    worded_same : Goes2 SameCommand (a_worded inner) (a_worded inner)
-    unfolding a_worded
-    worded_same =
+    word_command_same : Goes2 SameCommand (a_word_command inner) (a_word_command inner)
+    unfolding a_word_command
+    word_command_same =
         then (go_see E o o2 B B2 stands stands_there {l = is_a_name} (λ s from e. same_name E e)) (λ good pure is. then fine.word (λ w v so. then (next Suffix)
-        (λ n m same. picks _ _ (ap (λ (k : Next). is_paren k.token) same) (named_same good pure w v is so)
+        (λ n m same. picks _ _ (ap (λ (k : Next). is_paren k.token) same) (named_function_same good pure w v is so)
         (then (pushes {S = λ is js. map (shape_of_item B) is ≡ map (shape_of_item B2) js} (rows_more (shape_of_item B) (shape_of_item B2) [] (item false (as_item Suffix w)) [] (item false (as_item Suffix v)) refl (item_same Suffix false false w v refl so)))
         (λ is js all. simple_same (so_many is Suffix n) (so_many js Suffix m) (all, (refl, same)))))))
 
@@ -483,7 +483,7 @@ module _ {edition : Edition} {T U : List ℕ} {a M : ℕ} {to : ℕ → ℕ} {li
       where
         one : (n : Next) → Goes2 SameCommand (a_command inner n) (a_command inner n)
         one n =
-            picks (is_word n.token) _ refl worded_same
+            picks (is_word n.token) _ refl word_command_same
             (picks (begins_simple n.token) _ refl (simple_same (so_many [] Command n) (so_many [] Command n) (refl, (refl, refl))) (compound_by_same n (opener_of n.token)))
 
     bang : (n : Next) → Goes2 (λ x y. (shape_of_bang x.0 ≡ shape_of_bang y.0) × (x.1 ≡ y.1)) (a_bang n) (a_bang n)
@@ -636,13 +636,13 @@ module _ {edition : Edition} {T U : List ℕ} {a M : ℕ} {to : ℕ → ℕ} {li
     -- ---- compound commands
 
     -- spans do not count
-    passed_same : (text : Spelled) (paren : Bool) (position : Position) → Goes2 (λ x y. x.1 ≡ y.1) (passed text paren position) (passed text paren position)
-    unfolding passed
-    passed_same text paren position = then marks (λ x y all. then (next position) (λ n m same. gives same))
+    reserved_or_paren_same : (text : Spelled) (paren : Bool) (position : Position) → Goes2 (λ x y. x.1 ≡ y.1) (reserved_or_paren text paren position) (reserved_or_paren text paren position)
+    unfolding reserved_or_paren
+    reserved_or_paren_same text paren position = then marks (λ x y all. then (next position) (λ n m same. gives same))
 
     closing_same : (c : Closing) (n m : Next) → n ≡ m → Goes2 (λ x y. x.1 ≡ y.1) (closing inner c n) (closing inner c m)
     unfolding closing
-    closing_same c n m same = at_same (closing inner c) (closing inner c) (λ n. picks (is_closing c n.token) _ refl (passed_same _ (is_close_paren c) _) (stopped n)) n m same
+    closing_same c n m same = at_same (closing inner c) (closing inner c) (λ n. picks (is_closing c n.token) _ refl (reserved_or_paren_same _ (is_close_paren c) _) (stopped n)) n m same
 
     abbrev SameBranch : ABranch × Next → ABranch × Next → Type 0
     SameBranch x y = (shape_of_branch B x.0 ≡ shape_of_branch B2 y.0) × (x.1 ≡ y.1)
@@ -659,7 +659,7 @@ module _ {edition : Edition} {T U : List ℕ} {a M : ℕ} {to : ℕ → ℕ} {li
     unfolding elif_turn
     elif_on b c same =
         picks _ _ (ap (λ (n : Next). is_closing closings.Elif n.token) same.1)
-        (then (passed_same _ false _) (λ k m so. then (branch_same k.1 m.1 so)
+        (then (reserved_or_paren_same _ false _) (λ k m so. then (branch_same k.1 m.1 so)
         (λ x y is. then (pushes {S = λ bs cs. map (shape_of_branch B) bs ≡ map (shape_of_branch B2) cs} (rows_more (shape_of_branch B) (shape_of_branch B2) b.branches x.0 c.branches y.0 same.0 is.0))
         (λ bs cs all. gives (all, is.1)))))
         (gives same)
@@ -667,7 +667,7 @@ module _ {edition : Edition} {T U : List ℕ} {a M : ℕ} {to : ℕ → ℕ} {li
     else_same : (n m : Next) → n ≡ m → Goes2 (λ x y. (shape_of_else B x.0 ≡ shape_of_else B2 y.0) × (x.1 ≡ y.1)) (an_else inner n) (an_else inner m)
     unfolding an_else
     else_same n m same =
-        picks _ _ (ap (λ (n : Next). is_closing closings.Else n.token) same) (then (passed_same _ false _) (λ k l so. then (list_same k.1 l.1 so) (λ x y is. gives (rw is.0 refl, is.1)))) (gives (refl, same))
+        picks _ _ (ap (λ (n : Next). is_closing closings.Else n.token) same) (then (reserved_or_paren_same _ false _) (λ k l so. then (list_same k.1 l.1 so) (λ x y is. gives (rw is.0 refl, is.1)))) (gives (refl, same))
 
     abbrev SameForm : Closed AForm → Closed AForm → Type 0
     SameForm x y = (shape_of_form B x.what ≡ shape_of_form B2 y.what) × (x.next ≡ y.next)
@@ -715,7 +715,7 @@ module _ {edition : Edition} {T U : List ℕ} {a M : ℕ} {to : ℕ → ℕ} {li
     for_words_same : (cs ds : Row Span) → SameComments cs ds → Goes2 SameHead (for_words inner cs) (for_words inner ds)
     unfolding for_words
     for_words_same cs ds all =
-        then (passed_same _ false _) (λ i j so. then (repeats SameItems (word_turn inner) (word_turn inner) word_on (so_many [] Suffix i.1) (so_many [] Suffix j.1) (refl, (refl, so)))
+        then (reserved_or_paren_same _ false _) (λ i j so. then (repeats SameItems (word_turn inner) (word_turn inner) word_on (so_many [] Suffix i.1) (so_many [] Suffix j.1) (refl, (refl, so)))
         (λ ws vs same. then (sep_same cs ds ws.next vs.next all same.1.1) (λ l k is. gives (rw (items_same ws vs same) refl, is.1))))
 
     for_head_same : (n m : Next) → n ≡ m → Goes2 SameHead (a_for_head inner n) (a_for_head inner m)
@@ -856,7 +856,7 @@ module _ {edition : Edition} {T U : List ℕ} {a M : ℕ} {to : ℕ → ℕ} {li
     pub compound_same : (c : Opener) → Goes2 SameCommand (a_compound inner c) (a_compound inner c)
     unfolding a_compound
     compound_same c =
-        then (passed_same _ (is_open_paren c) _) (λ x y so. then (form_same c x.1 y.1 so)
+        then (reserved_or_paren_same _ (is_open_paren c) _) (λ x y so. then (form_same c x.1 y.1 so)
         (λ f k is. then (pushes {S = λ cs ds. map (shape_of_command B) cs ≡ map (shape_of_command B2) ds} (forms_same f.what k.what (through x.0 f.closer) (through y.0 k.closer) is.0))
         (λ cs ds all. gives (apart_same cs ds all, is.1))))
 
@@ -877,7 +877,7 @@ module _ {edition : Edition} {T U : List ℕ} {a M : ℕ} {to : ℕ → ℕ} {li
     pub function_same : (name new : Span) → text_at B name ≡ text_at B2 new → Goes2 SameCommand (a_function inner name) (a_function inner new)
     unfolding a_function
     function_same name new same =
-        then (passed_same _ true Command) (λ x y so. then (closing_same closings.Paren x.1 y.1 so) (λ c d one. then (linebreak [] [] c.1 d.1 refl one)
+        then (reserved_or_paren_same _ true Command) (λ x y so. then (closing_same closings.Paren x.1 y.1 so) (λ c d one. then (linebreak [] [] c.1 d.1 refl one)
         (λ l k two. then (at_same the_body the_body (λ n. compound_by_same n (opener_of n.token)) l.next k.next two.1.1)
         (λ b e three. gives (under_same name new l.join.comments k.join.comments b.0 e.0 same two.1.0 three.0, three.1)))))
       where

@@ -22,8 +22,8 @@ use Rattle.shgrammar.specs.Comments.{span, comment_at}
 use Rattle.shgrammar.specs.Sights.{Given, State}
 use Rattle.shgrammar.specs.HereDocuments.{ADelimiter}
 use Rattle.shgrammar.specs.Form.{Spelled, push, many}
-use Rattle.shgrammar.specs.Words.{Inner, Held, having, opened, piece_row, a_piece, contents, a_word}
-use Rattle.shgrammar.specs.Commands.{is_pipe, is_bang, begins_simple, begins_redirect, begins_pipeline, behind_word, opener_of, compound_by, and_or_operator_of, breaks, Items, so_many, is_number_token, redirect_operator_of, is_strip, takes_here, document_by, a_document, a_number, an_operator, operator_by, a_target, one_redirect, behind_redirect, redirect_turn, redirected, as_item, an_item, item_by, item_turn, a_simple, a_bang, a_comment, comment_by, unexpected, with_comment, JoinSo, join_turn, a_join, a_command, Piped, piped, one_command, pipe_turn, a_pipeline, Joined, joined_so, one_pipeline, joined_by, join_pipeline, an_and_or, an_entry, a_worded, is_word, is_paren, separator_of, separator_by, a_separator, past_separator}
+use Rattle.shgrammar.specs.Words.{Inner, WordSoFar, having, opened, piece_row, a_piece, contents, a_word}
+use Rattle.shgrammar.specs.Commands.{is_pipe, is_bang, begins_simple, begins_redirect, begins_pipeline, behind_word, opener_of, compound_by, and_or_operator_of, breaks, Items, so_many, is_number_token, redirect_operator_of, is_strip, takes_here, document_by, a_document, a_number, an_operator, operator_by, a_target, one_redirect, behind_redirect, redirect_turn, with_redirect_list, as_item, an_item, item_by, item_turn, a_simple, a_bang, a_comment, comment_by, unexpected, with_comment, JoinSo, join_turn, a_join, a_command, Piped, piped, one_command, pipe_turn, a_pipeline, Joined, joined_so, one_pipeline, joined_by, join_pipeline, an_and_or, an_entry, a_word_command, is_word, is_paren, separator_of, separator_by, a_separator, past_separator}
 use Rattle.shgrammar.specs.Lists.{ListSo, list_so, none_listed, one_entry, entry_turn, remark_by, a_remark, on_line, list_turn, a_list}
 use Rattle.shgrammar.specs.Compounds.{a_linebreak}
 use Rattle.shast.specs.Everywhere.{IsSome}
@@ -35,7 +35,7 @@ use Rattle.shgrammar.proofs.EachSpan.{AndOrIn, AreIn, CommandIn, EntriesIn, Entr
 -- ---- what holds of what was read so far
 
 module _ (limit : ℕ) where
-  abbrev pub SubstsIn : Held → Type 0
+  abbrev pub SubstsIn : WordSoFar → Type 0
   SubstsIn h = All (SubstIn limit) h.substs
 
   abbrev pub ItemsIn : Items → Type 0
@@ -154,10 +154,10 @@ module _ {g : Given} {limit : ℕ} where
   -- ---- words
 
   module _ {inner : Inner} (fine : Fine g limit inner) where
-    opened_in : (mode : Mode) (b : ℕ) (h : Held) (s : State) → SubstsIn limit h → UpTo g limit (opened inner mode b h) (Stepped (SubstsIn limit)) s
+    opened_in : (mode : Mode) (b : ℕ) (h : WordSoFar) (s : State) → SubstsIn limit h → UpTo g limit (opened inner mode b h) (Stepped (SubstsIn limit)) s
     opened_in mode b h s so = first (fine.construct mode b h.substs s so) (λ zs t good. gives good)
 
-    piece_in_by : (mode : Mode) (b : ℕ) (h : Held) (piece : Piece) (s : State) → SubstsIn limit h → UpTo g limit (piece_row inner mode b h piece) (Stepped (SubstsIn limit)) s
+    piece_in_by : (mode : Mode) (b : ℕ) (h : WordSoFar) (piece : Piece) (s : State) → SubstsIn limit h → UpTo g limit (piece_row inner mode b h piece) (Stepped (SubstsIn limit)) s
     piece_in_by mode b h pieces.Closer s so = after (λ x t. gives so)
     piece_in_by mode b h pieces.Missing s so = stops
     piece_in_by mode b h pieces.LoneBackslash s so = after (λ q t. stops)
@@ -178,7 +178,7 @@ module _ {g : Given} {limit : ℕ} where
     piece_in_by mode b h pieces.BadClose s so = after (λ q t. stops)
     piece_in_by mode b h pieces.Ordinary s so = after (λ x t. gives so)
 
-    piece_in : (mode : Mode) (b : ℕ) (h : Held) (s : State) → SubstsIn limit h → UpTo g limit (a_piece inner mode b h) (Stepped (SubstsIn limit)) s
+    piece_in : (mode : Mode) (b : ℕ) (h : WordSoFar) (s : State) → SubstsIn limit h → UpTo g limit (a_piece inner mode b h) (Stepped (SubstsIn limit)) s
     unfolding a_piece
     piece_in mode b h s so = after (λ piece t. piece_in_by mode b h piece t so)
 
@@ -245,18 +245,18 @@ module _ {g : Given} {limit : ℕ} where
     with_redirects_in (compound (formed form span others)) is so all = (so.0, so.1, items_in limit is all)
     with_redirects_in (function name comments body) is so all = so
 
-    redirected_in : (c : ACommand × Next) (s : State) → CommandIn limit c.0 → UpTo g limit (redirected inner c) (λ d. CommandIn limit d.0) s
-    unfolding redirected
-    redirected_in c s so =
+    with_redirect_list_in : (c : ACommand × Next) (s : State) → CommandIn limit c.0 → UpTo g limit (with_redirect_list inner c) (λ d. CommandIn limit d.0) s
+    unfolding with_redirect_list
+    with_redirect_list_in c s so =
         first (repeats (ItemsIn limit) (redirect_turn inner) redirect_turn_in (so_many [] Command c.1) s (All-nil (ItemIn limit))) (λ r t all. gives (with_redirects_in c.0 r.items so all))
 
     pub compound_in_by : (n : Next) (o : Option Opener) (s : State) → UpTo g limit (compound_by inner n o) (λ c. CommandIn limit c.0) s
-    compound_in_by n (Some o) s = first (fine.compound o s) redirected_in
+    compound_in_by n (Some o) s = first (fine.compound o s) with_redirect_list_in
     compound_in_by n None s = stopped inner n
 
-    worded_in : (s : State) → UpTo g limit (a_worded inner) (λ c. CommandIn limit c.0) s
-    unfolding a_worded
-    worded_in s =
+    word_command_in : (s : State) → UpTo g limit (a_word_command inner) (λ c. CommandIn limit c.0) s
+    unfolding a_word_command
+    word_command_in s =
         after (λ good t. first (word_in t) (λ w u one. after (λ n v.
         picks (is_paren n.token) (picks good (fine.function (word_span w) v (place_in w one)) stops)
         (first (one_more (All-nil (ItemIn limit)) one) (λ is x all. simple_in (so_many is Suffix n) x (all.0, λ no. all.1))))))
@@ -264,7 +264,7 @@ module _ {g : Given} {limit : ℕ} where
     command_in : (n : Next) (s : State) → UpTo g limit (a_command inner n) (λ c. CommandIn limit c.0) s
     unfolding a_command
     command_in n s =
-        picks (is_word n.token) (worded_in s)
+        picks (is_word n.token) (word_command_in s)
         (picks_by (begins_simple n.token) (λ yes. simple_in (so_many [] Command n) s (All-nil (ItemIn limit), λ no. absurd (cc))) (λ no. compound_in_by n (opener_of n.token) s))
 
     one_command_in : (p : Piped) (s : State) → PipesIn limit p → UpTo g limit (one_command inner p) (Stepped (PipesIn limit)) s

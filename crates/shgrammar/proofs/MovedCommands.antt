@@ -16,7 +16,7 @@ use Rattle.shgrammar.specs.declared.token.Separator.{Separator}
 use Rattle.shgrammar.specs.HereDocuments.{ADelimiter}
 use Rattle.shgrammar.specs.Form.{Spelled, give, many, Step, again, done, step_if}
 use Rattle.shgrammar.specs.Words.{Inner}
-use Rattle.shgrammar.specs.Commands.{is_empty, begins_redirect, begins_simple, behind_word, redirect_operator_of, Items, so_many, breaks, as_item, an_item, a_number, is_strip, an_operator, operator_by, a_target, document, document_by, a_document, one_redirect, behind_redirect, item_by, item_turn, a_simple, a_newline, a_semicolon, none_waits, nothing_waits, JoinSo, join_so, a_join_of, with_comment, join_turn, a_join, redirect_turn, redirected, compound_by, opener_of, named, a_worded, a_command, a_bang, Piped, piped, one_command, pipe_turn, a_pipeline, Joined, joined_so, one_pipeline, joined_by, join_pipeline, and_or_operator_of, an_and_or, ASeparator, separator_by, separator_of, a_separator}
+use Rattle.shgrammar.specs.Commands.{is_empty, begins_redirect, begins_simple, behind_word, redirect_operator_of, Items, so_many, breaks, as_item, an_item, a_number, is_strip, an_operator, operator_by, a_target, document, document_by, a_document, one_redirect, behind_redirect, item_by, item_turn, a_simple, a_newline, a_semicolon, none_waits, nothing_waits, JoinSo, join_so, a_join_of, with_comment, join_turn, a_join, redirect_turn, with_redirect_list, compound_by, opener_of, named_function, a_word_command, a_command, a_bang, Piped, piped, one_command, pipe_turn, a_pipeline, Joined, joined_so, one_pipeline, joined_by, join_pipeline, and_or_operator_of, an_and_or, ASeparator, separator_by, separator_of, a_separator}
 use Rattle.shgrammar.proofs.Moved.{Place, Any, same, each, first, of_first, step, of_step, Moves, moves_give, moves_move, moves_stop, moves_so, moves_then, moves_see, moves_here, moves_see_waiting, moves_on, moves_pushed, moves_push, moves_pick_by, moves_pick, moves_token, moves_with_bytes, moves_many, moves_waits, moves_newline}
 use Rattle.shgrammar.proofs.MovedTrees.{is_empty_map, pushed_some, span_to, join_to, here_to, word_to, item_to, command_to, pipe_to, pipeline_to, part_to, and_or_to, items_row, pipes_row, parts_row, redirects_to, word_span_to, CommandEnds, simple_ends, redirects_end, PipeEnds, PipelineEnds, pipeline_ends, PartEnds, AndOrEnds, and_or_ends}
 use Rattle.shgrammar.proofs.MovedWords.{Fits, moves_next, moves_mark, moves_comment, moves_word, moves_unexpected}
@@ -183,30 +183,30 @@ module _ (z : Place) where
     unfolding redirect_turn
     moves_redirect_turn i = moves_pick _ (moves_so (of_any SomeItems) (moves_redirect i.next.broken i.next.broken refl Command i.items i.next)) (moves_give refl tt)
 
-    moves_redirected : (c : ACommand × Next) → CommandEnds k deep c.0 → Moves z (first {Y = Next} (command_to k deep)) (of_first (CommandEnds k deep)) (redirected inner c) (redirected inner (first (command_to k deep) c))
-    unfolding redirected
-    moves_redirected c ends =
+    moves_with_redirect_list : (c : ACommand × Next) → CommandEnds k deep c.0 → Moves z (first {Y = Next} (command_to k deep)) (of_first (CommandEnds k deep)) (with_redirect_list inner c) (with_redirect_list inner (first (command_to k deep) c))
+    unfolding with_redirect_list
+    moves_with_redirect_list c ends =
         moves_then (moves_many items_to Any Any (redirect_turn inner) (redirect_turn inner) (λ i so. moves_redirect_turn i) (λ i so. tt) (so_many [] Command c.1) tt)
         (λ r so. moves_give (ap (λ is. (with_redirects (command_to k deep c.0) is, r.next)) (items_row k deep r.items) ∙ ap (λ (d : ACommand). (d, r.next)) (redirects_to k deep c.0 (items_of r.items))) (redirects_end k deep c.0 (items_of r.items) ends))
 
     pub moves_compound_by : (n : Next) (o : Option Opener) → Moves z (first {Y = Next} (command_to k deep)) (of_first (CommandEnds k deep)) (compound_by inner n o) (compound_by inner n o)
-    moves_compound_by n (Some o) = moves_then (fits.compound o) (λ c ends. moves_redirected c ends)
+    moves_compound_by n (Some o) = moves_then (fits.compound o) (λ c ends. moves_with_redirect_list c ends)
     moves_compound_by n None = moves_unexpected z inner fits n
 
-    moves_named : (good : Bool) (w : AWord) → Moves z (first {Y = Next} (command_to k deep)) (of_first (CommandEnds k deep)) (named inner good (word_span w)) (named inner good (word_span (word_to k deep w)))
-    moves_named good w =
-        subst (λ (s : Span). Moves z (first {Y = Next} (command_to k deep)) (of_first (CommandEnds k deep)) (named inner good (word_span w)) (named inner good s)) (sym (word_span_to k deep w))
+    moves_named_function : (good : Bool) (w : AWord) → Moves z (first {Y = Next} (command_to k deep)) (of_first (CommandEnds k deep)) (named_function inner good (word_span w)) (named_function inner good (word_span (word_to k deep w)))
+    moves_named_function good w =
+        subst (λ (s : Span). Moves z (first {Y = Next} (command_to k deep)) (of_first (CommandEnds k deep)) (named_function inner good (word_span w)) (named_function inner good s)) (sym (word_span_to k deep w))
         (moves_pick good (fits.function (word_span w)) moves_stop)
 
-    moves_worded : Moves z (first {Y = Next} (command_to k deep)) (of_first (CommandEnds k deep)) (a_worded inner) (a_worded inner)
-    unfolding a_worded
-    moves_worded =
+    moves_word_command : Moves z (first {Y = Next} (command_to k deep)) (of_first (CommandEnds k deep)) (a_word_command inner) (a_word_command inner)
+    unfolding a_word_command
+    moves_word_command =
         moves_see (λ s. refl) (λ good. moves_then (moves_word z inner fits) (λ w so. moves_then (moves_next z _) (λ n all.
-        moves_pick _ (moves_named good w) (moves_pushed (item_to k deep) refl refl (moves_simple (so_many (item false (argument w) ∷ []) Suffix n) refl)))))
+        moves_pick _ (moves_named_function good w) (moves_pushed (item_to k deep) refl refl (moves_simple (so_many (item false (argument w) ∷ []) Suffix n) refl)))))
 
     moves_command : (n : Next) → Moves z (first {Y = Next} (command_to k deep)) (of_first (CommandEnds k deep)) (a_command inner n) (a_command inner n)
     unfolding a_command
-    moves_command n = moves_pick _ moves_worded (moves_pick_by _ (λ e. moves_simple (so_many [] Command n) e) (λ e. moves_compound_by n (opener_of n.token)))
+    moves_command n = moves_pick _ moves_word_command (moves_pick_by _ (λ e. moves_simple (so_many [] Command n) e) (λ e. moves_compound_by n (opener_of n.token)))
 
     -- ---- pipelines
 

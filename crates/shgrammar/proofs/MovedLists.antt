@@ -19,8 +19,8 @@ use Rattle.shgrammar.specs.Form.{Spelled, many}
 use Rattle.shgrammar.specs.Words.{Inner}
 use Rattle.shgrammar.specs.Commands.{opener_of, Items, so_many, join_so, a_join_of, ASeparator, is_background, past_separator, Entered, an_entry}
 use Rattle.shgrammar.specs.Lists.{Listed, ListSo, list_so, none_listed, is_blank_next, next_line, one_entry, entry_turn, remark_by, a_remark, on_line, list_turn, a_list}
-use Rattle.shgrammar.specs.Compounds.{is_open_paren, is_close_paren, passed, closing, Closed, closed, a_branch, Branched, branched, elif_turn, an_else, an_if, a_loop, a_group, a_for_name, a_linebreak, a_sequential_sep, Headed, headed, word_turn, for_words, a_for_head, a_for, a_form, a_compound, a_function, a_case_word, Patterned, patterned, a_pattern, one_pattern, pattern_turn, a_pattern_list, an_open_bracket, a_body, body_end, ItemEnd, item_end, an_ender, an_item_end, CasesSo, cases_so, one_case, case_turn, a_case_head, a_case}
-use Rattle.shgrammar.specs.Substitutions.{substituted, one_substitution}
+use Rattle.shgrammar.specs.Compounds.{is_open_paren, is_close_paren, reserved_or_paren, closing, Closed, closed, a_branch, Branched, branched, elif_turn, an_else, an_if, a_loop, a_group, a_for_name, a_linebreak, a_sequential_sep, Headed, headed, word_turn, for_words, a_for_head, a_for, a_form, a_compound, a_function, a_case_word, Patterned, patterned, a_pattern, one_pattern, pattern_turn, a_pattern_list, an_open_bracket, a_body, body_end, ItemEnd, item_end, an_ender, an_item_end, CasesSo, cases_so, one_case, case_turn, a_case_head, a_case}
+use Rattle.shgrammar.specs.Substitutions.{substitution_list, one_substitution}
 use Rattle.shast.specs.Moved.{carried_patterns}
 use Rattle.shgrammar.proofs.Moved.{Place, Any, same, first, of_first, step, of_step, Moves, moves_give, moves_stop, moves_so, moves_then, moves_see, moves_here, moves_on, moves_pushed, moves_push, moves_pick, moves_level, moves_ending, moves_many}
 use Rattle.shgrammar.proofs.MovedBodies.{filled_moved}
@@ -71,9 +71,9 @@ module _ (z : Place) where
 
   -- ---- what opens, parts and closes lists
 
-  moves_passed : (text : Spelled) (paren : Bool) (position : Position) → Moves z (first {Y = Next} (span_to k)) Any (passed text paren position) (passed text paren position)
-  unfolding passed
-  moves_passed text paren position = moves_then (moves_mark z) (λ x so. moves_then (moves_next z _) (λ n all. moves_give refl tt))
+  moves_reserved_or_paren : (text : Spelled) (paren : Bool) (position : Position) → Moves z (first {Y = Next} (span_to k)) Any (reserved_or_paren text paren position) (reserved_or_paren text paren position)
+  unfolding reserved_or_paren
+  moves_reserved_or_paren text paren position = moves_then (moves_mark z) (λ x so. moves_then (moves_next z _) (λ n all. moves_give refl tt))
 
   abbrev closed_to : {X : Type 0} → (X → X) → Closed X → Closed X
   closed_to c x = record { what = c x.what; closer = span_to k x.closer; next = x.next }
@@ -127,7 +127,7 @@ module _ (z : Place) where
 
     moves_closing : (c : Closing) (n : Next) → Moves z (first {Y = Next} (span_to k)) Any (closing inner c n) (closing inner c n)
     unfolding closing
-    moves_closing c n = moves_pick _ (moves_passed _ (is_close_paren c) _) (moves_unexpected z inner fits n)
+    moves_closing c n = moves_pick _ (moves_reserved_or_paren _ (is_close_paren c) _) (moves_unexpected z inner fits n)
 
     -- ---- groups, `if` and loops
 
@@ -144,11 +144,11 @@ module _ (z : Place) where
 
     moves_elif : (b : Branched) → Moves z (step branched_to) (of_step Any) (elif_turn inner b) (elif_turn inner (branched_to b))
     unfolding elif_turn
-    moves_elif b = moves_pick _ (moves_then (moves_passed _ false _) (λ e so. moves_then (moves_branch e.1) (λ x so2. moves_pushed (branch_to k deep) refl refl (moves_give refl tt)))) (moves_give refl tt)
+    moves_elif b = moves_pick _ (moves_then (moves_reserved_or_paren _ false _) (λ e so. moves_then (moves_branch e.1) (λ x so2. moves_pushed (branch_to k deep) refl refl (moves_give refl tt)))) (moves_give refl tt)
 
     moves_else : (n : Next) → Moves z (first {Y = Next} (else_to k deep)) Any (an_else inner n) (an_else inner n)
     unfolding an_else
-    moves_else n = moves_pick _ (moves_then (moves_passed _ false _) (λ e so. moves_then (moves_list e.1) (λ l so2. moves_give refl tt))) (moves_give refl tt)
+    moves_else n = moves_pick _ (moves_then (moves_reserved_or_paren _ false _) (λ e so. moves_then (moves_list e.1) (λ l so2. moves_give refl tt))) (moves_give refl tt)
 
     moves_an_if : (n : Next) → Moves z (closed_to (form_to k deep)) Any (an_if inner n) (an_if inner n)
     unfolding an_if
@@ -184,7 +184,7 @@ module _ (z : Place) where
     moves_for_words : (cs : Row Span) → Moves z headed_to Any (for_words inner cs) (for_words inner (map (span_to k) cs))
     unfolding for_words
     moves_for_words cs =
-        moves_then (moves_passed _ false _) (λ i so. moves_then (moves_many (items_to z) Any Any (word_turn inner) (word_turn inner) (λ j all. moves_word_turn j) (λ j all. tt) (so_many [] Suffix i.1) tt)
+        moves_then (moves_reserved_or_paren _ false _) (λ i so. moves_then (moves_many (items_to z) Any Any (word_turn inner) (word_turn inner) (λ j all. moves_word_turn j) (λ j all. tt) (so_many [] Suffix i.1) tt)
         (λ ws so2. moves_then (moves_sep cs ws.next) (λ l so3. moves_give (ap (λ is. headed (in_words is) (join_so_to z l)) (items_row k deep ws.items)) tt)))
 
     moves_for_head : (n : Next) → Moves z headed_to Any (a_for_head inner n) (a_for_head inner n)
@@ -299,24 +299,24 @@ module _ (z : Place) where
     pub moves_compound : (o : Opener) → Moves z (first {Y = Next} (command_to k deep)) (of_first (CommandEnds k deep)) (a_compound inner o) (a_compound inner o)
     unfolding a_compound
     moves_compound o =
-        moves_then (moves_passed _ (is_open_paren o) _) (λ x so. moves_then (moves_form o x.1)
+        moves_then (moves_reserved_or_paren _ (is_open_paren o) _) (λ x so. moves_then (moves_form o x.1)
         (λ f all. moves_pushed (command_to k deep) refl refl (moves_give refl (compound_ends k deep (formed f.what (through x.0 f.closer) no_item)))))
 
     pub moves_function : (name : Span) → Moves z (first {Y = Next} (command_to k deep)) (of_first (CommandEnds k deep)) (a_function inner name) (a_function inner (span_to k name))
     unfolding a_function
     moves_function name =
-        moves_then (moves_passed _ true _) (λ o so. moves_then (moves_closing closings.Paren o.1) (λ c so2. moves_then (moves_linebreak [] c.1)
+        moves_then (moves_reserved_or_paren _ true _) (λ o so. moves_then (moves_closing closings.Paren o.1) (λ c so2. moves_then (moves_linebreak [] c.1)
         (λ l so3. moves_then (moves_compound_by z inner fits l.next (opener_of l.next.token))
         (λ b ends. moves_give (ap (λ (d : ACommand). (d, b.1)) (under_name_to k deep name l.join.comments b.0)) (under_name_ends k deep name l.join.comments b.0 ends)))))
 
-    moves_substituted : Moves z (list_to k deep) Any (substituted inner) (substituted inner)
-    unfolding substituted
-    moves_substituted =
+    moves_substitution_list : Moves z (list_to k deep) Any (substitution_list inner) (substitution_list inner)
+    unfolding substitution_list
+    moves_substitution_list =
         moves_then (moves_next z _) (λ n so. moves_then (moves_lines n)
         (λ l all. moves_pick _ (moves_then (moves_nothing_waits z) (λ u so2. moves_on (moves_give (entries_row k deep l.list.entries) tt))) (moves_unexpected z inner fits l.next)))
 
     pub moves_one_substitution : (b : ℕ) (ss : Row ASubst) → Moves z (map (subst_to k deep)) Any (one_substitution inner b ss) (one_substitution inner (k + b) (map (subst_to k deep) ss))
     unfolding one_substitution
     moves_one_substitution b ss =
-        moves_then (moves_level (moves_ending moves_substituted))
+        moves_then (moves_level (moves_ending moves_substitution_list))
         (λ es so. moves_here (λ q. moves_push (subst_to k deep) refl (ap (λ (xs : Entries). subst_of xs (span_to k (record { start = b; «end» = q }))) (filled_moved (span_to k) (body_to k) deep es.1 es.0)) tt))

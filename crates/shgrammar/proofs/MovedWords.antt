@@ -14,7 +14,7 @@ use Rattle.shgrammar.specs.declared.token.Opener.{Opener}
 use Rattle.shgrammar.specs.declared.token.Position.{Position}
 use Rattle.shgrammar.specs.Sights.{Move}
 use Rattle.shgrammar.specs.Form.{Told, move, token, step_if}
-use Rattle.shgrammar.specs.Words.{single, escaped_turn, backquoted, Inner, Held, having, opened, piece_row, a_piece, contents, a_word}
+use Rattle.shgrammar.specs.Words.{single, escaped_turn, backquoted_text, Inner, WordSoFar, having, opened, piece_row, a_piece, contents, a_word}
 use Rattle.shgrammar.specs.Tokens.{is_end}
 use Rattle.shgrammar.specs.Commands.{next_token, comment_by, a_comment, wrong_with, what_is_wrong, unexpected}
 use Rattle.shgrammar.proofs.Moved.{Place, Any, same, each, first, of_first, step, of_step, Moves, moves_give, moves_move, moves_stop, moves_then, moves_see, moves_here, moves_byte, moves_see_comment, moves_see_waiting, moves_on, moves_pick, moves_when, moves_token, moves_many}
@@ -47,9 +47,9 @@ module _ (z : Place) where
       any_if true = tt
       any_if false = tt
 
-  moves_backquoted : Moves z same Any backquoted backquoted
-  unfolding backquoted
-  moves_backquoted = moves_byte (λ b. moves_on (moves_many same Any Any (escaped_turn escapings.Backquotes b) (escaped_turn escapings.Backquotes (k + b)) (λ u so. moves_escaped_turn escapings.Backquotes b u) (λ u so. tt) tt tt))
+  moves_backquoted_text : Moves z same Any backquoted_text backquoted_text
+  unfolding backquoted_text
+  moves_backquoted_text = moves_byte (λ b. moves_on (moves_many same Any Any (escaped_turn escapings.Backquotes b) (escaped_turn escapings.Backquotes (k + b)) (λ u so. moves_escaped_turn escapings.Backquotes b u) (λ u so. tt) tt tt))
 
   moves_dollar_single : Moves z same Any dollar_single dollar_single
   unfolding dollar_single
@@ -81,14 +81,14 @@ module _ (z : Place) where
     pub compound : (o : Opener) → Moves z (first {Y = Next} (command_to k deep)) (of_first (CommandEnds k deep)) (inner.compound o) (inner.compound o)
     pub function : (name : Span) → Moves z (first {Y = Next} (command_to k deep)) (of_first (CommandEnds k deep)) (inner.function name) (inner.function (span_to k name))
 
-  abbrev held_to : Held → Held
+  abbrev held_to : WordSoFar → WordSoFar
   held_to h = having h.nested (substs_to k deep h.substs)
 
   module _ (inner : Inner) (fits : Fits inner) where
-    moves_opened : (mode : Mode) (b : ℕ) (h : Held) → Moves z (step held_to) (of_step Any) (opened inner mode b h) (opened inner mode (k + b) (held_to h))
+    moves_opened : (mode : Mode) (b : ℕ) (h : WordSoFar) → Moves z (step held_to) (of_step Any) (opened inner mode b h) (opened inner mode (k + b) (held_to h))
     moves_opened mode b h = moves_then (fits.construct mode b h.substs) (λ ss so. moves_give refl tt)
 
-    moves_piece_by : (mode : Mode) (b : ℕ) (h : Held) (piece : Piece) → Moves z (step held_to) (of_step Any) (piece_row inner mode b h piece) (piece_row inner mode (k + b) (held_to h) piece)
+    moves_piece_by : (mode : Mode) (b : ℕ) (h : WordSoFar) (piece : Piece) → Moves z (step held_to) (of_step Any) (piece_row inner mode b h piece) (piece_row inner mode (k + b) (held_to h) piece)
     moves_piece_by mode b h pieces.Closer = moves_on (moves_give refl tt)
     moves_piece_by mode b h pieces.Missing = moves_stop
     moves_piece_by mode b h pieces.LoneBackslash = moves_byte (λ q. moves_stop)
@@ -96,7 +96,7 @@ module _ (z : Place) where
     moves_piece_by mode b h pieces.Single = moves_then moves_single (λ u so. moves_give refl tt)
     moves_piece_by mode b h pieces.DollarSingle = moves_then moves_dollar_single (λ u so. moves_give refl tt)
     moves_piece_by mode b h pieces.Double = moves_byte (λ q. moves_on (moves_opened _ q h))
-    moves_piece_by mode b h pieces.Backquote = moves_then moves_backquoted (λ u so. moves_give refl tt)
+    moves_piece_by mode b h pieces.Backquote = moves_then moves_backquoted_text (λ u so. moves_give refl tt)
     moves_piece_by mode b h pieces.Pid = moves_on (moves_on (moves_give refl tt))
     moves_piece_by mode b h pieces.Subst = moves_byte (λ q. moves_on (moves_on (moves_then (fits.substitution q h.substs) (λ ss so. moves_give refl tt))))
     moves_piece_by mode b h pieces.Arith = moves_byte (λ q. moves_on (moves_on (moves_on (moves_opened _ q h))))
@@ -106,7 +106,7 @@ module _ (z : Place) where
     moves_piece_by mode b h pieces.BadClose = moves_byte (λ q. moves_stop)
     moves_piece_by mode b h pieces.Ordinary = moves_on (moves_give refl tt)
 
-    moves_piece : (mode : Mode) (b : ℕ) (h : Held) → Moves z (step held_to) (of_step Any) (a_piece inner mode b h) (a_piece inner mode (k + b) (held_to h))
+    moves_piece : (mode : Mode) (b : ℕ) (h : WordSoFar) → Moves z (step held_to) (of_step Any) (a_piece inner mode b h) (a_piece inner mode (k + b) (held_to h))
     unfolding a_piece
     moves_piece mode b h = moves_see (λ s. refl) (λ piece. moves_piece_by mode b h piece)
 

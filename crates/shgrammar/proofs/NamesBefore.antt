@@ -19,7 +19,7 @@ use Rattle.shgrammar.specs.Plain.{is_plain}
 use Rattle.shgrammar.specs.Tokens.{Spelling, is_word_at, first_of_words, reserved_words, reserved_at, begins_assignment, is_name_at, is_number, first_word, token_of, token_at}
 use Rattle.shgrammar.specs.Sights.{Given, given, standing}
 use Rattle.shgrammar.specs.Form.{Read, again, done, many, does}
-use Rattle.shgrammar.specs.Words.{Held, having, a_piece, contents, a_word}
+use Rattle.shgrammar.specs.Words.{WordSoFar, having, a_piece, contents, a_word}
 use Rattle.shgrammar.specs.Levels.{level, ReadsWord}
 use Rattle.shast.specs.Tree.{AWord, word, no_subst}
 use Rattle.shgrammar.proofs.Stretches.{past_more, past_none, stands_in_low, raw_stays}
@@ -56,16 +56,16 @@ byte_in test T r e = passed_byte test (byte_at T r) e
 
 module _ (edition : Edition) (room : ℕ) (T : List ℕ) (o opener : ℕ) where
   -- a byte of a NAME is a piece
-  name_turn : (r b : ℕ) (c : Held) → byte_at T r ≡ Some b → is_name b ≡ true → does (a_piece (level room) Plain opener c) Whole (given edition T o) (standing r) ≡ Ok (again c, standing (behind T r))
+  name_turn : (r b : ℕ) (c : WordSoFar) → byte_at T r ≡ Some b → is_name b ≡ true → does (a_piece (level room) Plain opener c) Whole (given edition T o) (standing r) ≡ Ok (again c, standing (behind T r))
   unfolding a_piece piece_at
   name_turn r b c is_b e = rw (is_b, ordinary_by T r Plain c.nested b (name_plain b e)) refl
 
-  end_turn : (r : ℕ) (c : Held) → ends_word T r ≡ true → does (a_piece (level room) Plain opener c) Whole (given edition T o) (standing r) ≡ Ok (done c, standing r)
+  end_turn : (r : ℕ) (c : WordSoFar) → ends_word T r ≡ true → does (a_piece (level room) Plain opener c) Whole (given edition T o) (standing r) ≡ Ok (done c, standing r)
   unfolding a_piece piece_at ends_word
   end_turn r c e = rw (closer_at T r c.nested (byte_at T r) e) refl
 
   -- up to where the NAME ends
-  names_on : (n r : ℕ) (c : Held) → length T - r < n → ends_word T (past is_name T r) ≡ true
+  names_on : (n r : ℕ) (c : WordSoFar) → length T - r < n → ends_word T (past is_name T r) ≡ true
       → does (many (a_piece (level room) Plain opener) c) Whole (given edition T o) (standing r) ≡ Ok (c, standing (past is_name T r))
   names_on zero r c few e = absurd (omega arith)
   names_on (suc n) r c few e =

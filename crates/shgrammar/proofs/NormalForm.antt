@@ -18,11 +18,11 @@ use Rattle.shast.specs.Tree.{APipelinePart, AnAndOrPart, ABranch, AForm, Entries
 use Rattle.shast.specs.Normal.{is_blank_entry, is_broken, is_command, holds_command, first_not_blank, first_not_broken, is_whole, are_normal, is_normal_entry, are_normal_items, is_normal_item, is_normal_word, are_normal_substs, is_normal_subst, is_normal_join, broken_by, is_normal_command, is_normal_pipeline, are_normal_pipes, is_normal_and_or, are_normal_and_ors, is_normal_branch, are_normal_branches, is_normal_else, are_normal_words, is_normal_form, is_normal, are_normal_patterns, is_normal_case, are_normal_cases}
 use Rattle.shgrammar.specs.Sights.{Given, given, State, standing}
 use Rattle.shgrammar.specs.Form.{Read, Form, push, both, step_if}
-use Rattle.shgrammar.specs.Words.{Inner, Held, having, opened, piece_row, a_piece, contents, a_word}
-use Rattle.shgrammar.specs.Commands.{is_empty, pick, is_pipe, begins_simple, begins_word, begins_redirect, begins_pipeline, opener_of, compound_by, and_or_operator_of, breaks, Items, so_many, behind_word, a_target, one_redirect, behind_redirect, redirect_turn, redirected, as_item, an_item, item_by, item_turn, a_simple, unexpected, with_comment, JoinSo, join_turn, a_join, a_command, Piped, piped, one_command, pipe_turn, a_pipeline, Joined, joined_so, one_pipeline, joined_by, join_pipeline, an_and_or, an_entry, a_worded, is_word, is_paren}
+use Rattle.shgrammar.specs.Words.{Inner, WordSoFar, having, opened, piece_row, a_piece, contents, a_word}
+use Rattle.shgrammar.specs.Commands.{is_empty, pick, is_pipe, begins_simple, begins_word, begins_redirect, begins_pipeline, opener_of, compound_by, and_or_operator_of, breaks, Items, so_many, behind_word, a_target, one_redirect, behind_redirect, redirect_turn, with_redirect_list, as_item, an_item, item_by, item_turn, a_simple, unexpected, with_comment, JoinSo, join_turn, a_join, a_command, Piped, piped, one_command, pipe_turn, a_pipeline, Joined, joined_so, one_pipeline, joined_by, join_pipeline, an_and_or, an_entry, a_word_command, is_word, is_paren}
 use Rattle.shgrammar.specs.Lists.{Listed, ListSo, list_so, none_listed, is_blank_next, with_command, with_remark, next_line, one_entry, entry_turn, remark_by, a_remark, on_line, list_turn, a_list}
 use Rattle.shgrammar.specs.Compounds.{Branched, branched, Closed, is_closing, a_branch, elif_turn, an_else, an_if, a_loop, a_group, a_for_name, word_turn, for_words, a_for_head, behind_remarks, a_for, a_form, a_compound, a_function, under_name, a_case_word, begins_pattern, Patterned, a_pattern, one_pattern, pattern_turn, a_pattern_list, a_body, CasesSo, cases_so, one_case, case_turn, a_case_head, a_case}
-use Rattle.shgrammar.specs.Substitutions.{substituted, a_substitution, one_substitution}
+use Rattle.shgrammar.specs.Substitutions.{substitution_list, a_substitution, one_substitution}
 use Rattle.shgrammar.specs.Levels.{most_open, level}
 use Rattle.shgrammar.specs.Lines.{an_open_line, a_line}
 use Rattle.shgrammar.specs.HereDocuments.{own_level}
@@ -208,7 +208,7 @@ module _ (g : Given) where
 
   -- ---- words
 
-  abbrev Substs : Held → State → Type 0
+  abbrev Substs : WordSoFar → State → Type 0
   Substs h t = are_normal_substs (substs_of h.substs) ≡ true
 
   pub record Fine (inner : Inner) : Type 0 where
@@ -220,10 +220,10 @@ module _ (g : Given) where
     pub function : (name : Span) (s : State) → N (inner.function name) (λ c t. is_normal_command c.0 ≡ true) s
 
   module _ (inner : Inner) (fine : Fine inner) where
-    normal_opened : (mode : Mode) (b : ℕ) (h : Held) (s : State) → Substs h s → N (opened inner mode b h) (Turned Whole g Substs) s
+    normal_opened : (mode : Mode) (b : ℕ) (h : WordSoFar) (s : State) → Substs h s → N (opened inner mode b h) (Turned Whole g Substs) s
     normal_opened mode b h s so = tells_then Whole g (fine.construct mode b h.substs s so) (λ zs t good. tells_give Whole g good)
 
-    normal_piece_by : (mode : Mode) (b : ℕ) (h : Held) (piece : Piece) (s : State) → Substs h s → N (piece_row inner mode b h piece) (Turned Whole g Substs) s
+    normal_piece_by : (mode : Mode) (b : ℕ) (h : WordSoFar) (piece : Piece) (s : State) → Substs h s → N (piece_row inner mode b h piece) (Turned Whole g Substs) s
     normal_piece_by mode b h pieces.Closer s so = after (λ x t. tells_give Whole g so)
     normal_piece_by mode b h pieces.Missing s so = record { told = tt }
     normal_piece_by mode b h pieces.LoneBackslash s so = record { told = tt }
@@ -242,7 +242,7 @@ module _ (g : Given) where
     normal_piece_by mode b h pieces.BadClose s so = record { told = tt }
     normal_piece_by mode b h pieces.Ordinary s so = after (λ x t. tells_give Whole g so)
 
-    normal_piece : (mode : Mode) (b : ℕ) (h : Held) (s : State) → Substs h s → N (a_piece inner mode b h) (Turned Whole g Substs) s
+    normal_piece : (mode : Mode) (b : ℕ) (h : WordSoFar) (s : State) → Substs h s → N (a_piece inner mode b h) (Turned Whole g Substs) s
     unfolding a_piece
     normal_piece mode b h s so = after (λ piece t. normal_piece_by mode b h piece t so)
 
@@ -336,18 +336,18 @@ module _ (g : Given) where
     normal_with_redirects (simple items) is one all = one
     normal_with_redirects (function name comments body) is one all = one
 
-    normal_redirected : (c : ACommand × Next) (s : State) → is_normal_command c.0 ≡ true → N (redirected inner c) (λ d t. is_normal_command d.0 ≡ true) s
-    unfolding redirected
-    normal_redirected c s one =
+    normal_with_redirect_list : (c : ACommand × Next) (s : State) → is_normal_command c.0 ≡ true → N (with_redirect_list inner c) (λ d t. is_normal_command d.0 ≡ true) s
+    unfolding with_redirect_list
+    normal_with_redirect_list c s one =
         tells_then Whole g (tells_many Whole g (redirect_turn inner) RedirectsSo normal_redirect_turn (so_many [] Command c.1) s refl) (λ r t all. tells_give Whole g (normal_with_redirects c.0 (items_of r.items) one all))
 
     normal_compound_by : (n : Next) (o : Option Opener) (s : State) → N (compound_by inner n o) (λ c t. is_normal_command c.0 ≡ true) s
-    normal_compound_by n (Some o) s = tells_then Whole g (fine.compound o s) normal_redirected
+    normal_compound_by n (Some o) s = tells_then Whole g (fine.compound o s) normal_with_redirect_list
     normal_compound_by n None s = stopped n
 
-    normal_worded : (s : State) → N (a_worded inner) (λ c t. is_normal_command c.0 ≡ true) s
-    unfolding a_worded
-    normal_worded s =
+    normal_word_command : (s : State) → N (a_word_command inner) (λ c t. is_normal_command c.0 ≡ true) s
+    unfolding a_word_command
+    normal_word_command s =
         after (λ good t. tells_then Whole g (normal_word t) (λ w u so. after (λ n v.
         normal_pick (is_paren n.token) (λ e. normal_pick good (λ f. fine.function (word_span w) v) (record { told = tt }))
         (pushed_on (normal_simple (so_many (item false (argument w) ∷ []) Suffix n) v (row_more [] (item false (argument w)) false no_items so refl))))))
@@ -355,7 +355,7 @@ module _ (g : Given) where
     normal_command : (n : Next) (s : State) → N (a_command inner n) (λ c t. is_normal_command c.0 ≡ true) s
     unfolding a_command
     normal_command n s =
-        normal_pick (is_word n.token) (λ e. normal_worded s)
+        normal_pick (is_word n.token) (λ e. normal_word_command s)
         (normal_pick (begins_simple n.token) (λ e. normal_simple (so_many [] Command n) s no_items) (normal_compound_by n (opener_of n.token) s))
 
     abbrev PipedHolds : Piped → State → Type 0
@@ -594,16 +594,16 @@ module _ (g : Given) where
 
     -- ---- substitutions
 
-    normal_substituted : (s : State) → N (substituted inner) (λ es t. (first_not_blank es ≡ true) × (are_normal es ≡ true)) s
-    unfolding substituted
-    normal_substituted s =
+    normal_substitution_list : (s : State) → N (substitution_list inner) (λ es t. (first_not_blank es ≡ true) × (are_normal es ≡ true)) s
+    unfolding substitution_list
+    normal_substitution_list s =
         after (λ n t. tells_then Whole g (tells_many Whole g (list_turn inner) (ListHolds false) (normal_list_turn false) (list_so (none_listed false) n) t (no_entries false))
         (λ l u so. normal_pick (is_closing closings.Paren l.next.token) (λ e. after (λ w z. after (λ x v. tells_give Whole g (so.first refl, so.all)))) (stopped l.next)))
 
     normal_substitution : (b : ℕ) (ss : Row ASubst) (s : State) → are_normal_substs (substs_of ss) ≡ true → N (a_substitution inner b ss) (λ zs t. are_normal_substs (substs_of zs) ≡ true) s
     unfolding a_substitution one_substitution
     normal_substitution b ss s so =
-        tells_inside Whole g (tells_then Whole g {P = λ es t. (first_not_blank es.0 ≡ true) × (are_normal es.0 ≡ true)} (tells_level Whole g (tells_ending Whole g (normal_substituted (own_level s))) (λ es t one. one))
+        tells_inside Whole g (tells_then Whole g {P = λ es t. (first_not_blank es.0 ≡ true) × (are_normal es.0 ≡ true)} (tells_level Whole g (tells_ending Whole g (normal_substitution_list (own_level s))) (λ es t one. one))
         (λ es t one. after (λ q u. record { told = substs_more ss _ so (and_from _ _ (first_filled es.1 es.0 ∙ one.0) (all_filled es.1 es.0 ∙ one.1)) })))
 
     -- ---- functions

@@ -17,7 +17,7 @@ use Rattle.shast.specs.Shape.{shape_of_subst}
 use Rattle.shast.specs.Tree.{ASubst}
 use Rattle.shgrammar.specs.Sights.{Given, given, State}
 use Rattle.shgrammar.specs.Form.{Read, ◌▸◌, Form, Step, again, done, loop, many, leads_on, does}
-use Rattle.shgrammar.specs.Words.{single, backquoted, Inner, Held, having, opened, piece_row, a_piece, contents}
+use Rattle.shgrammar.specs.Words.{single, backquoted_text, Inner, WordSoFar, having, opened, piece_row, a_piece, contents}
 use Rattle.shgrammar.proofs.Stretches.{place_low}
 use Rattle.shgrammar.proofs.Places.{behind_low, parameter_low}
 use Rattle.shgrammar.proofs.Holds.{Holds, holds_then, holds_so}
@@ -64,7 +64,7 @@ module _ {edition : Edition} {T U : List ℕ} {a L : ℕ} {to : ℕ → ℕ} (K 
   SameSubsts ss zs = map (shape_of_subst B) ss ≡ map (shape_of_subst B2) zs
 
   -- and as many brackets are open
-  abbrev pub Agree : Held → Held → Type 0
+  abbrev pub Agree : WordSoFar → WordSoFar → Type 0
   Agree c d = SameHeld c d × SameSubsts c.substs d.substs
 
   -- what a construct holds is the same elsewhere, wherever its opener stands and
@@ -78,10 +78,10 @@ module _ {edition : Edition} {T U : List ℕ} {a L : ℕ} {to : ℕ → ℕ} (K 
 
   module _ (inner : Inner) (local : Local inner) where
     -- a construct as a piece
-    abbrev Opens : Mode → ℕ → Held → State → Step Held → State → Type 0
-    Opens mode b2 c s x t = t.at ≤ L → Inside s.at × ((d : Held) → Agree c d → (y : Step Held) × ((does (opened inner mode b2 d) Whole h (over s) ≡ Ok (y, over t)) × SameStep Agree x y))
+    abbrev Opens : Mode → ℕ → WordSoFar → State → Step WordSoFar → State → Type 0
+    Opens mode b2 c s x t = t.at ≤ L → Inside s.at × ((d : WordSoFar) → Agree c d → (y : Step WordSoFar) × ((does (opened inner mode b2 d) Whole h (over s) ≡ Ok (y, over t)) × SameStep Agree x y))
 
-    opens : (mode : Mode) → Closed mode → (b b2 : ℕ) (c : Held) (s : State) → a ≤ s.at → Holds (Opens mode b2 c s) (does (opened inner mode b c) Whole g s)
+    opens : (mode : Mode) → Closed mode → (b b2 : ℕ) (c : WordSoFar) (s : State) → a ≤ s.at → Holds (Opens mode b2 c s) (does (opened inner mode b c) Whole g s)
     opens mode closed b b2 c s from =
         holds_then (Holding (inner.construct mode b2) c.substs s) (Opens mode b2 c s) (does (inner.construct mode b c.substs) Whole g s) (λ x t. Ok (again (having c.nested x), t)) (local.construct mode closed b b2 c.substs s from)
         (λ x t inside le. let w = inside le in (w.0, λ d so. let v = w.1 d.substs so.1 in (again (having d.nested v.0), (rw v.1.0 refl, (so.0, v.1.1)))))
@@ -135,7 +135,7 @@ module _ {edition : Edition} {T U : List ℕ} {a L : ℕ} {to : ℕ → ℕ} (K 
         let three : (b == 36) ≡ false = grind (arith, nat_tests) in
         rw (one, two, three, e) refl
 
-    module _ (inner : Inner) (local : Local inner) (mode : Mode) (b b2 : ℕ) (c : Held) (s : State) (from : a ≤ s.at) where
+    module _ (inner : Inner) (local : Local inner) (mode : Mode) (b b2 : ℕ) (c : WordSoFar) (s : State) (from : a ≤ s.at) where
       abbrev p : ℕ
       p = s.at
 
@@ -149,7 +149,7 @@ module _ {edition : Edition} {T U : List ℕ} {a L : ℕ} {to : ℕ → ℕ} (K 
       q_low = omega (arith, from, behind_low T p)
 
       -- a turn, as it is elsewhere
-      abbrev Turn : Step Held → State → Type 0
+      abbrev Turn : Step WordSoFar → State → Type 0
       Turn x t = Turned K o o2 Agree (a_piece inner mode b) (a_piece inner mode b2) (From mode) (Last mode) c s x t
 
       abbrev Again : Piece → Type 0
@@ -162,11 +162,11 @@ module _ {edition : Edition} {T U : List ℕ} {a L : ℕ} {to : ℕ → ℕ} (K 
       abbrev Known : Piece → Type 0
       Known x = Again (piece_in edition mode x)
 
-      abbrev Found : (Step Held → Type 0) → State → Held → Read (Step Held) → Type 0
-      Found P t d x = (y : Step Held) × ((x ≡ Ok (y, over t)) × P y)
+      abbrev Found : (Step WordSoFar → Type 0) → State → WordSoFar → Read (Step WordSoFar) → Type 0
+      Found P t d x = (y : Step WordSoFar) × ((x ≡ Ok (y, over t)) × P y)
 
       -- the row of the piece that is there
-      row_there : (x : Piece) → Told x → (d : Held) → Agree c d → (P : Step Held → Type 0) (t : State) → Found P t d (does (piece_row inner mode b2 d x) Whole h (over s)) → Found P t d (does (a_piece inner mode b2 d) Whole h (over s))
+      row_there : (x : Piece) → Told x → (d : WordSoFar) → Agree c d → (P : Step WordSoFar → Type 0) (t : State) → Found P t d (does (piece_row inner mode b2 d x) Whole h (over s)) → Found P t d (does (a_piece inner mode b2 d) Whole h (over s))
       unfolding a_piece
       row_there x told d so P t found =
           (found.0, (subst (λ (z : Piece). does (piece_row inner mode b2 d z) Whole h (over s) ≡ Ok (found.0, over t)) (sym told ∙ ap (λ m. piece_in edition mode (piece_at U mode m (to p))) so.0) found.1.0, found.1.1))
@@ -175,8 +175,8 @@ module _ {edition : Edition} {T U : List ℕ} {a L : ℕ} {to : ℕ → ℕ} (K 
       leads_byte lt = lt-ltb _ _ (omega (arith, lt, behind_is T p, place_low T p))
 
       -- one byte
-      one_byte_row : (is_byte (byte_at T p) 92 ≡ false) → past_continuations T p < length T → (w : Held → Held) → ((d : Held) → Agree c d → Agree (w c) (w d)) → (x : Piece) → (Inside p → From mode q → Told x)
-          → ((d : Held) → does (piece_row inner mode b2 d x) Whole h (over s) ≡ Ok (again (w d), there_at K o o2 (behind U (to p)) s)) → Turn (again (w c)) (placed q s)
+      one_byte_row : (is_byte (byte_at T p) 92 ≡ false) → past_continuations T p < length T → (w : WordSoFar → WordSoFar) → ((d : WordSoFar) → Agree c d → Agree (w c) (w d)) → (x : Piece) → (Inside p → From mode q → Told x)
+          → ((d : WordSoFar) → does (piece_row inner mode b2 d x) Whole h (over s) ≡ Ok (again (w d), there_at K o o2 (behind U (to p)) s)) → Turn (again (w c)) (placed q s)
       one_byte_row e lt w same x told row goal =
           let i = clear K p from (omega (arith, goal.0, behind_is T p)) e in
           let next = goal.1 (leads_byte lt) in
@@ -212,7 +212,7 @@ module _ {edition : Edition} {T U : List ℕ} {a L : ℕ} {to : ℕ → ℕ} (K 
           escape_told v is e i some lt = rw (here_byte K i, is, e, here_behind K i, same_end K q q_low lt, some) refl
 
       -- text that is not read
-      text_row : (x : Piece) (r : Form (Unit {0})) → Holds (Ends K o o2 r Inside s) (does r Whole g s) → (Inside p → Told x) → ((d : Held) → does (piece_row inner mode b2 d x) Whole h (over s) ≡ (does r Whole h (over s) ▸ λ u v. Ok (again d, v)))
+      text_row : (x : Piece) (r : Form (Unit {0})) → Holds (Ends K o o2 r Inside s) (does r Whole g s) → (Inside p → Told x) → ((d : WordSoFar) → does (piece_row inner mode b2 d x) Whole h (over s) ≡ (does r Whole h (over s) ▸ λ u v. Ok (again d, v)))
           → Holds Turn (does r Whole g s ▸ λ u v. Ok (again c, v))
       text_row x r ended told row =
           holds_then (Ends K o o2 r Inside s) Turn (does r Whole g s) (λ u v. Ok (again c, v)) ended
@@ -223,7 +223,7 @@ module _ {edition : Edition} {T U : List ℕ} {a L : ℕ} {to : ℕ → ℕ} (K 
       quoted e told = text_row pieces.Single single (quote_in K o o2 s from e) told (λ d. refl)
 
       backquote : is_byte (byte_at T p) 92 ≡ false → (Inside p → Told pieces.Backquote) → Again pieces.Backquote
-      backquote e told = text_row pieces.Backquote backquoted (backquotes_in K o o2 s from e) told (λ d. refl)
+      backquote e told = text_row pieces.Backquote backquoted_text (backquotes_in K o o2 s from e) told (λ d. refl)
 
       dollar_quoted : is_byte (byte_at T p) 92 ≡ false → is_byte (byte_at T q) 92 ≡ false → (Inside p → Inside q → Told pieces.DollarSingle) → Again pieces.DollarSingle
       dollar_quoted e e2 told =
@@ -231,13 +231,13 @@ module _ {edition : Edition} {T U : List ℕ} {a L : ℕ} {to : ℕ → ℕ} (K 
           (λ u t ends goal. let w = ends goal.0 in
           (inl w.0.0, λ d so. row_there pieces.DollarSingle (told w.0.0 w.0.1) d so (SameStep Agree (again c)) t (again d, (rw w.1.1 refl, so))))
 
-      goal_high : (x : Step Held) (t : State) → Goal K o o2 Agree (a_piece inner mode b) (a_piece inner mode b2) (From mode) (Last mode) s x t → t.at ≤ L
+      goal_high : (x : Step WordSoFar) (t : State) → Goal K o o2 Agree (a_piece inner mode b) (a_piece inner mode b2) (From mode) (Last mode) s x t → t.at ≤ L
       goal_high (again d) t goal = goal.0
       goal_high (done d) t goal = goal.0
 
       -- a construct, from behind its opener on
       open_row : (x : Piece) (m : Mode) → Closed m → (k k2 r : ℕ) → a ≤ r
-          → (Inside r → Inside p × (Told x × ((d : Held) → does (piece_row inner mode b2 d x) Whole h (over s) ≡ does (opened inner m k2 d) Whole h (there_at K o o2 (to r) s)))) → Holds Turn (does (opened inner m k c) Whole g (placed r s))
+          → (Inside r → Inside p × (Told x × ((d : WordSoFar) → does (piece_row inner mode b2 d x) Whole h (over s) ≡ does (opened inner m k2 d) Whole h (there_at K o o2 (to r) s)))) → Holds Turn (does (opened inner m k c) Whole g (placed r s))
       open_row x m closed k k2 r low_r start =
           holds_so (Opens inner local m k2 c (placed r s)) Turn (does (opened inner m k c) Whole g (placed r s)) (opens inner local m closed k k2 c (placed r s) low_r)
           (λ y t inside goal. let w = inside (goal_high y t goal) in
@@ -362,7 +362,7 @@ module _ {edition : Edition} {T U : List ℕ} {a L : ℕ} {to : ℕ → ℕ} (K 
 
     -- ---- by the mode
 
-    module _ (inner : Inner) (local : Local inner) (b b2 : ℕ) (c : Held) (s : State) (from : a ≤ s.at) where
+    module _ (inner : Inner) (local : Local inner) (b b2 : ℕ) (c : WordSoFar) (s : State) (from : a ≤ s.at) where
       abbrev AgainIn : Mode → Piece → Type 0
       AgainIn mode x = Again inner local mode b b2 c s from x
 
@@ -439,13 +439,13 @@ module _ {edition : Edition} {T U : List ℕ} {a L : ℕ} {to : ℕ → ℕ} (K 
     -- ---- constructs in constructs
 
     module _ (inner : Inner) (local : Local inner) where
-      pieces_in : (mode : Mode) (b b2 : ℕ) (c : Held) (s : State) → a ≤ s.at
+      pieces_in : (mode : Mode) (b b2 : ℕ) (c : WordSoFar) (s : State) → a ≤ s.at
           → Holds (Looped K o o2 Agree (a_piece inner mode b) (a_piece inner mode b2) (From mode) (Last mode) c s) (does (loop (a_piece inner mode b) c) Whole g s)
       pieces_in mode b b2 c s from =
           looped K o o2 Agree (a_piece inner mode b) (a_piece inner mode b2) (From mode) (Last mode) (from_high mode) (last_high mode) (λ d t low. piece_turn inner local b b2 d t low mode) c s from
 
       -- where the pieces of a word that ends at the limit begin
-      pub word_from : (b : ℕ) (c : Held) (s : State) → a ≤ s.at → Holds (λ x t. t.at ≡ L → From Plain s.at) (does (loop (a_piece inner Plain b) c) Whole g s)
+      pub word_from : (b : ℕ) (c : WordSoFar) (s : State) → a ≤ s.at → Holds (λ x t. t.at ≡ L → From Plain s.at) (does (loop (a_piece inner Plain b) c) Whole g s)
       word_from b c s from = holds_so _ (λ x t. t.at ≡ L → From Plain s.at) (does (loop (a_piece inner Plain b) c) Whole g s) (pieces_in Plain b b c s from) (λ x t ends is. (ends (omega (arith, is), λ e. is)).0)
 
       last_of : (mode : Mode) → Closed mode → (r : ℕ) → r ≤ L → Last mode r

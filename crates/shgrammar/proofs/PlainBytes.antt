@@ -10,7 +10,7 @@ use Rattle.shgrammar.specs.Comments.{span}
 use Rattle.shgrammar.specs.Sights.{Given, State, Waiting, given}
 use Rattle.shast.specs.declared.tree.Span.{Span}
 use Rattle.shgrammar.specs.Form.{Read, ◌▸◌, again, done, does, many}
-use Rattle.shgrammar.specs.Words.{Inner, Held, having, a_piece, contents, a_word}
+use Rattle.shgrammar.specs.Words.{Inner, WordSoFar, having, a_piece, contents, a_word}
 use Rattle.shgrammar.specs.Levels.{level}
 use Rattle.shgrammar.specs.Plain.{is_special_in, is_plain, ArePlain}
 use Rattle.shast.specs.Tree.{ASubst, word, no_subst, substs_of}
@@ -110,21 +110,21 @@ abbrev pub placed : Row Waiting → Row Span → ℕ → State
 placed ws ds p = record { at = p; waiting = ws; bodies = ds }
 
 -- what pieces give is the substitutions, and where they end
-abbrev pub given_by : Read Held → Read (Row ASubst)
+abbrev pub given_by : Read WordSoFar → Read (Row ASubst)
 given_by read = read ▸ λ h t. Ok (h.substs, t)
 
 module _ (inner : Inner) (keep : Keep) (g : Given) (mode : Mode) (b : ℕ) (ws : Row Waiting) (ds : Row Span) where
   -- one turn, and all
-  abbrev turn : Held → State → Read (Rattle.shgrammar.specs.Form.Step Held)
+  abbrev turn : WordSoFar → State → Read (Rattle.shgrammar.specs.Form.Step WordSoFar)
   turn h s = does (a_piece inner mode b h) keep g s
 
-  abbrev all : Held → ℕ → Read Held
+  abbrev all : WordSoFar → ℕ → Read WordSoFar
   all h p = does (many (a_piece inner mode b) h) keep g (placed ws ds p)
 
-  abbrev all_from : Row Waiting → Row Span → Held → ℕ → Read Held
+  abbrev all_from : Row Waiting → Row Span → WordSoFar → ℕ → Read WordSoFar
   all_from vs es h p = does (many (a_piece inner mode b) h) keep g (placed vs es p)
 
-  plain_piece : (h : Held) (p : ℕ) → raw_in (is_plain mode) g.text p ≡ true → turn h (placed ws ds p) ≡ Ok (again h, placed ws ds (p + 1))
+  plain_piece : (h : WordSoFar) (p : ℕ) → raw_in (is_plain mode) g.text p ≡ true → turn h (placed ws ds p) ≡ Ok (again h, placed ws ds (p + 1))
   unfolding a_piece piece_at behind
   plain_piece h p plain =
       let same = stays (is_plain mode) g.text p (no_backslash mode) plain in
@@ -132,7 +132,7 @@ module _ (inner : Inner) (keep : Keep) (g : Given) (mode : Mode) (b : ℕ) (ws :
       ap (λ q. piece_by g.text p mode h.nested (slice_get g.text q)) same ∙ ordinary_at g.text p mode h.nested (slice_get g.text p) (unfold raw_in in plain) in
       rw (ordinary, same) refl
 
-  plain_run : (h : Held) (p m : ℕ) → ArePlain mode g.text p (p + m) → p + m ≤ length g.text → all h p ≡ all h (p + m)
+  plain_run : (h : WordSoFar) (p m : ℕ) → ArePlain mode g.text p (p + m) → p + m ≤ length g.text → all h p ≡ all h (p + m)
   plain_run h p zero plain high =
       let same : p + zero ≡ p = omega arith in
       ap (all h) (sym same)
@@ -142,19 +142,19 @@ module _ (inner : Inner) (keep : Keep) (g : Given) (mode : Mode) (b : ℕ) (ws :
       ∙ plain_run h (p + 1) m (λ k low below. plain k (omega arith) (omega arith)) (omega arith)
       ∙ ap (all h) next
 
-  pub plain_turns : (h : Held) (p q : ℕ) → ArePlain mode g.text p q → p ≤ q → q ≤ length g.text → all h p ≡ all h q
+  pub plain_turns : (h : WordSoFar) (p q : ℕ) → ArePlain mode g.text p q → p ≤ q → q ≤ length g.text → all h p ≡ all h q
   plain_turns h p q plain low high =
       let there : p + (q - p) ≡ q = omega arith in
       plain_run h p (q - p) (λ k k_low k_high. plain k k_low (omega (arith, k_high))) (omega arith) ∙ ap (all h) there
 
   -- one piece, and the plain bytes behind it
-  pub piece_and_plain : (h i : Held) (vs : Row Waiting) (es : Row Span) (p q r : ℕ) (x : Read Held) → all_from vs es h p ≡ x → turn h (placed vs es p) ≡ Ok (again i, placed ws ds q) → p < q → q ≤ length g.text
+  pub piece_and_plain : (h i : WordSoFar) (vs : Row Waiting) (es : Row Span) (p q r : ℕ) (x : Read WordSoFar) → all_from vs es h p ≡ x → turn h (placed vs es p) ≡ Ok (again i, placed ws ds q) → p < q → q ≤ length g.text
       → ArePlain mode g.text q r → q ≤ r → r ≤ length g.text → all i r ≡ x
   piece_and_plain h i vs es p q r x before piece onward within plain low high =
       sym (plain_turns i q r plain low high) ∙ sym (many_again (a_piece inner mode b) keep g h i (placed vs es p) (placed ws ds q) piece onward within) ∙ before
 
   -- the last piece
-  pub contents_done : (h : Held) (ss : Row ASubst) (vs : Row Waiting) (es : Row Span) (p s q : ℕ) → all h p ≡ all_from vs es (having 0 ss) s → turn h (placed ws ds p) ≡ Ok (done h, placed ws ds q)
+  pub contents_done : (h : WordSoFar) (ss : Row ASubst) (vs : Row Waiting) (es : Row Span) (p s q : ℕ) → all h p ≡ all_from vs es (having 0 ss) s → turn h (placed ws ds p) ≡ Ok (done h, placed ws ds q)
       → does (contents inner mode b ss) keep g (placed vs es s) ≡ Ok (h.substs, placed ws ds q)
   unfolding contents
   contents_done h ss vs es p s q so last = ap given_by (sym so ∙ many_done (a_piece inner mode b) keep g h h (placed ws ds p) (placed ws ds q) last)
@@ -166,7 +166,7 @@ module _ (inner : Inner) (keep : Keep) (g : Given) (mode : Mode) (b : ℕ) (ws :
   plain_closed ss p q plain low high end =
       ap given_by (plain_turns (having 0 ss) p q plain low high ∙ many_done (a_piece inner mode b) keep g (having 0 ss) (having 0 ss) (placed ws ds q) (placed ws ds (past_closer g.text mode q)) (rw end refl))
 
-  ordinary_piece : (h : Held) (p : ℕ) → piece_in g.edition mode (piece_at g.text mode h.nested p) ≡ pieces.Ordinary → turn h (placed ws ds p) ≡ Ok (again h, placed ws ds (past_continuations g.text p + 1))
+  ordinary_piece : (h : WordSoFar) (p : ℕ) → piece_in g.edition mode (piece_at g.text mode h.nested p) ≡ pieces.Ordinary → turn h (placed ws ds p) ≡ Ok (again h, placed ws ds (past_continuations g.text p + 1))
   unfolding a_piece behind
   ordinary_piece h p ordinary = rw ordinary refl
 

@@ -18,7 +18,7 @@ use Rattle.shgrammar.specs.Form.{nothing_read, a_level, level_read, level_stops,
 use Rattle.shgrammar.specs.Words.{Inner}
 use Rattle.shgrammar.specs.Levels.{level}
 use Rattle.shgrammar.specs.Tokens.{is_end}
-use Rattle.shgrammar.specs.Commands.{is_newline, next_token, none_waits, nothing_waits, what_is_wrong}
+use Rattle.shgrammar.specs.Commands.{is_newline_token, next_token, none_waits, nothing_waits, what_is_wrong}
 use Rattle.shgrammar.specs.Lines.{line_end_by, end_of_line, an_open_line, a_line, ALine, IsLine, SameBytes, NoFurther, line_read, line_stops, kind_of}
 use Rattle.shgrammar.specs.Levels.{most_open}
 use Rattle.shgrammar.specs.Lists.{ListSo, list_so, none_listed, on_line}
@@ -132,7 +132,7 @@ module _ {edition : Edition} {T U : List ℕ} {a M : ℕ} {to : ℕ → ℕ} (E 
   ending_again : (inner : Inner) (l : ListSo) (s : State) → a ≤ s.at → Begins g l.next s → (y : Read (Row AnEntry × Bool)) (k : Row Spelled) → may (at_end inner l) g s y k → Again (at_end inner l) s y
   unfolding end_of_line
   ending_again inner l s from begins y k part =
-      ending_by inner l.list.entries (is_newline l.next.token) (is_end l.next.token) l.next s from (λ e. newline_here g l.next s begins e) y ((is_form (at_end inner l) g s).only y k part)
+      ending_by inner l.list.entries (is_newline_token l.next.token) (is_end l.next.token) l.next s from (λ e. newline_here g l.next s begins e) y ((is_form (at_end inner l) g s).only y k part)
 
   abbrev at_entries : Inner → Bool → Next → Form (Row AnEntry × Bool)
   at_entries inner blank n = both (on_line inner (list_so (none_listed blank) n)) (at_end inner)

@@ -5,14 +5,14 @@ use Rattle.shast.specs.Tree.{AnEntry}
 use Rattle.shgrammar.specs.Sights.{given, standing}
 use Rattle.shgrammar.specs.Form.{Read, Spelled, may}
 use Rattle.shgrammar.specs.Lines.{ALine, IsLine, line_read, line_stops}
-use Rattle.shgrammar.specs.Scripts.{AScript, SoFar, is_blank_line, with_line, the_line, Lines, line_ended, last_line, faulty, nothing_yet, Outcome, line_from, script_by, script_below, script_on, script_at, line_of, line_of_text}
+use Rattle.shgrammar.specs.Scripts.{AScript, SoFar, is_blank_line, with_line, the_line, Lines, line_ended, last_line, faulty, nothing_yet, Outcome, line_from, script_by, script_below, script_on, script_at, as_line, line_of_text}
 use Rattle.shgrammar.proofs.OneOutcome.{Is, is}
 use Rattle.shgrammar.proofs.Lined.{leaves_less, line_more, line_last, line_faulty}
 use Rattle.shgrammar.specs.declared.edition.Edition.{Edition}
 
 -- ---- a line
 
-line_by : (edition : Edition) → (T : List ℕ) (x : Read (Row AnEntry × Bool)) (k : Row Spelled) → may (the_line false) (given edition T 0) (standing 0) x k → IsLine edition T (line_of T x)
+line_by : (edition : Edition) → (T : List ℕ) (x : Read (Row AnEntry × Bool)) (k : Row Spelled) → may (the_line false) (given edition T 0) (standing 0) x k → IsLine edition T (as_line T x)
 line_by edition T (Ok ((es, newline), t)) k part = line_read es newline t k part
 line_by edition T (Err f) k part = line_stops f k part
 
@@ -24,8 +24,8 @@ line_is edition T = let one = (is (the_line false) (given edition T 0) (standing
 -- and there is no other
 pub line_only : (edition : Edition) → (T : List ℕ) (l : ALine) → IsLine edition T l → l ≡ line_of_text edition T
 unfolding line_of_text
-line_only edition T l (line_read es newline t k part) = ap (line_of T) ((is (the_line false) (given edition T 0) (standing 0)).only _ _ part)
-line_only edition T l (line_stops f k part) = ap (line_of T) ((is (the_line false) (given edition T 0) (standing 0)).only _ _ part)
+line_only edition T l (line_read es newline t k part) = ap (as_line T) ((is (the_line false) (given edition T 0) (standing 0)).only _ _ part)
+line_only edition T l (line_stops f k part) = ap (as_line T) ((is (the_line false) (given edition T 0) (standing 0)).only _ _ part)
 
 -- ---- a script
 

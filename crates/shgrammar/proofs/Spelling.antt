@@ -20,9 +20,9 @@ use Rattle.shgrammar.specs.Comments.{span}
 use Rattle.shgrammar.specs.Sights.{Given, given, State, standing, Sight, Move}
 use Rattle.shgrammar.specs.Form.{change, with_bytes, a_level, Changed, changes, cannot, WithBytes, with_its_bytes, without_bytes, OwnLevel, level_read, level_stops, Spelled, Read, Step, again, done, step_if, Form, give, see, move, push, stop, both, Told, by, tell, token, many, Just, just, Halts, halted, Then, and_then, or_stops, OneToken, whole, broken_off, Turns, last, rests, more, halts, raw, may}
 use Rattle.shgrammar.specs.Words.{Inner, a_word}
-use Rattle.shgrammar.specs.Commands.{pick, next_token, is_newline, is_semicolon, a_semicolon, is_pipe, is_bang, begins_simple, begins_word, begins_redirect, begins_pipeline, opener_of, compound_by, and_or_operator_of, Items, so_many, behind_word, is_number_token, redirect_operator_of, takes_here, is_strip, document_by, a_document, none_waits, nothing_waits, a_number, an_operator, operator_by, a_target, one_redirect, behind_redirect, redirect_turn, redirected, as_item, breaks, an_item, item_by, item_turn, a_simple, unexpected, comment_by, a_comment, a_newline, with_comment, JoinSo, join_turn, a_join, a_command, a_bang, Piped, piped, one_command, pipe_turn, a_pipeline, Joined, joined_so, one_pipeline, joined_by, join_pipeline, an_and_or, separator_of, told_separator, separator_by, a_separator, is_background, an_entry, a_worded, is_word, is_paren, ends_item, falls_through}
+use Rattle.shgrammar.specs.Commands.{pick, next_token, is_newline_token, is_semicolon, a_semicolon, is_pipe, is_bang, begins_simple, begins_word, begins_redirect, begins_pipeline, opener_of, compound_by, and_or_operator_of, Items, so_many, behind_word, is_number_token, redirect_operator_of, takes_here, is_strip, document_by, a_document, none_waits, nothing_waits, a_number, an_operator, operator_by, a_target, one_redirect, behind_redirect, redirect_turn, with_redirect_list, as_item, breaks, an_item, item_by, item_turn, a_simple, unexpected, comment_by, a_comment, a_newline, with_comment, JoinSo, join_turn, a_join, a_command, a_bang, Piped, piped, one_command, pipe_turn, a_pipeline, Joined, joined_so, one_pipeline, joined_by, join_pipeline, an_and_or, separator_of, told_separator, separator_by, a_separator, is_background, an_entry, a_word_command, is_word, is_paren, ends_item, falls_through}
 use Rattle.shgrammar.specs.Lists.{ListSo, list_so, none_listed, is_blank_next, one_entry, entry_turn, remark_by, a_remark, on_line, list_turn, a_list}
-use Rattle.shgrammar.specs.Compounds.{Branched, branched, is_closing, opener_text, closing_text, passed, closing, a_group, a_branch, elif_turn, an_else, an_if, a_loop, a_for_name, a_linebreak, a_sequential_sep, Headed, word_turn, for_words, a_for_head, behind_remarks, a_for, a_form, a_compound, a_function, under_name, a_case_word, begins_pattern, Patterned, a_pattern, one_pattern, pattern_turn, a_pattern_list, an_open_bracket, a_body, an_ender, an_item_end, CasesSo, cases_so, one_case, case_turn, a_case_head, a_case}
+use Rattle.shgrammar.specs.Compounds.{Branched, branched, is_closing, opener_text, closing_text, reserved_or_paren, closing, a_group, a_branch, elif_turn, an_else, an_if, a_loop, a_for_name, a_linebreak, a_sequential_sep, Headed, word_turn, for_words, a_for_head, behind_remarks, a_for, a_form, a_compound, a_function, under_name, a_case_word, begins_pattern, Patterned, a_pattern, one_pattern, pattern_turn, a_pattern_list, an_open_bracket, a_body, an_ender, an_item_end, CasesSo, cases_so, one_case, case_turn, a_case_head, a_case}
 use Rattle.shgrammar.specs.Levels.{most_open, level}
 use Rattle.shgrammar.specs.Tokens.{is_end}
 use Rattle.shgrammar.specs.Lines.{an_open_line, a_line, end_of_line}
@@ -259,7 +259,7 @@ module _ (g : Given) where
 
   silent_newline : (n : Next) (s : State) → Passing (a_newline n) Silent s
   unfolding a_newline
-  silent_newline n s = pass_pick (is_newline n.token) (pass_on pass_move (λ u v. pass_on pass_change (λ x t. pass_on (silent_next Command t) (λ m w. pass_give refl)))) (pass_give refl)
+  silent_newline n s = pass_pick (is_newline_token n.token) (pass_on pass_move (λ u v. pass_on pass_change (λ x t. pass_on (silent_next Command t) (λ m w. pass_give refl)))) (pass_give refl)
 
   silent_semicolon : (n : Next) (s : State) → Passing (a_semicolon n) Silent s
   unfolding a_semicolon
@@ -399,22 +399,22 @@ module _ (B : List ℕ) (g : Given) (stands : g.text ≡ drop g.offset B) where
         let first : k ≡ spell_form (shape_of_form B form) ++ [] = rw one at two in
         (formed form mark is, rw one refl, rw (one, first, ← three) (ap (λ z. z ++ spell_items (shape_of_items B is)) (append-nil _)))
 
-    pass_redirected : (c : ACommand × Next) (k : Tokens) (s : State) → IsBare c k → Passing g (redirected inner c) (λ d l. IsCompound d (k ++ l)) s
-    unfolding redirected
-    pass_redirected c k s so =
+    pass_with_redirect_list : (c : ACommand × Next) (k : Tokens) (s : State) → IsBare c k → Passing g (with_redirect_list inner c) (λ d l. IsCompound d (k ++ l)) s
+    unfolding with_redirect_list
+    pass_with_redirect_list c k s so =
         pass_last g (pass_many g spelled_items (redirect_turn inner) pass_redirect_turn (so_many [] Command c.1) s) (λ r l is. with_spelled c.0 so.0 so.1 (items_of r.items) k l so.2 so.3 is)
 
     pass_compound_by : (n : Next) (o : Option Opener) (s : State) → Passing g (compound_by inner n o) IsCompound s
-    pass_compound_by n (Some o) s = pass_then g (fine.compound o s) (λ c t k so. pass_redirected c k t so)
+    pass_compound_by n (Some o) s = pass_then g (fine.compound o s) (λ c t k so. pass_with_redirect_list c k t so)
     pass_compound_by n None s = pass_unexpected g inner n s
 
     -- a word is one token
     word_is : (w : AWord) → spell_word (shape_of_word B w) ≡ text_at B (word_span w) ∷ []
     word_is (word s ss) = refl
 
-    pass_worded : (s : State) → Passing g (a_worded inner) (Spells (λ c. spell_command (shape_of_command B c.0))) s
-    unfolding a_worded
-    pass_worded s =
+    pass_word_command : (s : State) → Passing g (a_word_command inner) (Spells (λ c. spell_command (shape_of_command B c.0))) s
+    unfolding a_word_command
+    pass_word_command s =
         pass_on g (pass_see g) (λ good t. pass_then g (pass_word inner t) (λ w u k so. pass_on g (silent_next g Suffix u) (λ n v.
         pass_pick g (is_paren n.token) (pass_pick g good (pass_so g (fine.function (word_span w) v) (λ c l is. ap (λ z. z ++ l) (so ∙ word_is w) ∙ is)) (pass_stop g))
         (pass_pushed g (λ x. pass_so g (pass_simple (so_many (item false (argument w) ∷ []) Suffix n) x) (λ c l is. ap (λ z. z ++ l) (so ∙ sym (append-nil _)) ∙ is))))))
@@ -422,7 +422,7 @@ module _ (B : List ℕ) (g : Given) (stands : g.text ≡ drop g.offset B) where
     pass_command : (n : Next) (s : State) → Passing g (a_command inner n) (Spells (λ c. spell_command (shape_of_command B c.0))) s
     unfolding a_command
     pass_command n s =
-        pass_pick g (is_word n.token) (pass_worded s)
+        pass_pick g (is_word n.token) (pass_word_command s)
         (pass_pick g (begins_simple n.token) (pass_simple (so_many [] Command n) s) (pass_so g (pass_compound_by n (opener_of n.token) s) (λ c k so. so.2)))
 
     pass_bang : (n : Next) (s : State) → Passing g (a_bang n) (Spells (λ x. spell_bang (shape_of_bang x.0))) s
@@ -543,13 +543,13 @@ module _ (B : List ℕ) (g : Given) (stands : g.text ≡ drop g.offset B) where
 
     -- ---- compound commands
 
-    pass_passed : (text : Spelled) (paren : Bool) (position : Position) (s : State) → Passing g (passed text paren position) (OneText g text) s
-    unfolding passed
-    pass_passed text paren position s = pass_then g (pass_text g) (λ x t k so. pass_on g (silent_next g position t) (λ n u. pass_give g (append-nil k ∙ so)))
+    pass_reserved_or_paren : (text : Spelled) (paren : Bool) (position : Position) (s : State) → Passing g (reserved_or_paren text paren position) (OneText g text) s
+    unfolding reserved_or_paren
+    pass_reserved_or_paren text paren position s = pass_then g (pass_text g) (λ x t k so. pass_on g (silent_next g position t) (λ n u. pass_give g (append-nil k ∙ so)))
 
     pass_closing : (c : Closing) (n : Next) (s : State) → Passing g (closing inner c n) (OneText g (closing_text c)) s
     unfolding closing
-    pass_closing c n s = pass_pick g (is_closing c n.token) (pass_passed (closing_text c) _ _ s) (pass_unexpected g inner n s)
+    pass_closing c n s = pass_pick g (is_closing c n.token) (pass_reserved_or_paren (closing_text c) _ _ s) (pass_unexpected g inner n s)
 
     pass_group : (c : Closing) (n : Next) (s : State) → Passing g (a_group inner c n) (Spells (λ x. spelling (shape_of B x.what) ++ (closing_text c ∷ []))) s
     unfolding a_group
@@ -567,7 +567,7 @@ module _ (B : List ℕ) (g : Given) (stands : g.text ≡ drop g.offset B) where
     unfolding elif_turn
     pass_elif b s =
         pass_pick g (is_closing closings.Elif b.next.token)
-        (pass_then g (pass_passed (closing_text closings.Elif) false _ s) (λ x t k is. pass_then g (pass_branch x.1 t) (λ c u l so. pass_pushed g (λ v. pass_give g
+        (pass_then g (pass_reserved_or_paren (closing_text closings.Elif) false _ s) (λ x t k is. pass_then g (pass_branch x.1 t) (λ c u l so. pass_pushed g (λ v. pass_give g
         (branches_last B b.branches c.0 ∙ ap (λ z. spelled_branches b ++ z) (rw (is, so) (ap (λ z. codes "elif" ∷ z) (sym (append-nil _)))))))))
         (pass_give g (grows_none g spelled_branches b))
 
@@ -575,7 +575,7 @@ module _ (B : List ℕ) (g : Given) (stands : g.text ≡ drop g.offset B) where
     unfolding an_else
     pass_else n s =
         pass_pick g (is_closing closings.Else n.token)
-        (pass_then g (pass_passed (closing_text closings.Else) false _ s) (λ x t k is. pass_last g (pass_list x.1 t) (λ l m so. rw (is, so) refl)))
+        (pass_then g (pass_reserved_or_paren (closing_text closings.Else) false _ s) (λ x t k is. pass_last g (pass_list x.1 t) (λ l m so. rw (is, so) refl)))
         (pass_give g refl)
 
     pass_if : (n : Next) (s : State) → Passing g (an_if inner n) (λ f k. codes "if" ∷ k ≡ spell_form (shape_of_form B f.what)) s
@@ -616,7 +616,7 @@ module _ (B : List ℕ) (g : Given) (stands : g.text ≡ drop g.offset B) where
     pass_for_words : (cs : Row Span) (s : State) → Passing g (for_words inner cs) HeadSpelled s
     unfolding for_words
     pass_for_words cs s =
-        pass_then g (pass_passed (closing_text closings.In) false _ s) (λ i t k is. pass_then g (pass_many g spelled_items (word_turn inner) pass_word_turn (so_many [] Suffix i.1) t) (λ ws u l so.
+        pass_then g (pass_reserved_or_paren (closing_text closings.In) false _ s) (λ i t k is. pass_then g (pass_many g spelled_items (word_turn inner) pass_word_turn (so_many [] Suffix i.1) t) (λ ws u l so.
         pass_on g (silent_sep cs ws.next u) (λ x v. pass_give g (rw (is, append-nil l, ← so) refl))))
 
     pass_for_head : (n : Next) (s : State) → Passing g (a_for_head inner n) HeadSpelled s
@@ -735,7 +735,7 @@ module _ (B : List ℕ) (g : Given) (stands : g.text ≡ drop g.offset B) where
     pass_compound : (o : Opener) (s : State) → Passing g (a_compound inner o) IsBare s
     unfolding a_compound
     pass_compound o s =
-        pass_then g (pass_passed (opener_text o) _ _ s) (λ x t k is. pass_then g (pass_form o x.1 t) (λ f u m so. pass_pushed g (λ v. pass_give g (f.what, _, refl, rw (is, append-nil m) (so ∙ sym (append-nil _))))))
+        pass_then g (pass_reserved_or_paren (opener_text o) _ _ s) (λ x t k is. pass_then g (pass_form o x.1 t) (λ f u m so. pass_pushed g (λ v. pass_give g (f.what, _, refl, rw (is, append-nil m) (so ∙ sym (append-nil _))))))
 
     -- ---- functions
 
@@ -746,14 +746,14 @@ module _ (B : List ℕ) (g : Given) (stands : g.text ≡ drop g.offset B) where
     pass_function : (name : Span) (s : State) → Passing g (a_function inner name) (λ c k. text_at B name ∷ k ≡ spell_command (shape_of_command B c.0)) s
     unfolding a_function
     pass_function name s =
-        pass_then g (pass_passed (opener_text openers.Paren) true _ s) (λ o t k1 one. pass_then g (pass_closing closings.Paren o.1 t) (λ c u k2 two. pass_on g (silent_linebreak g [] c.1 u) (λ l v.
+        pass_then g (pass_reserved_or_paren (opener_text openers.Paren) true _ s) (λ o t k1 one. pass_then g (pass_closing closings.Paren o.1 t) (λ c u k2 two. pass_on g (silent_linebreak g [] c.1 u) (λ l v.
         pass_last g (pass_compound_by l.next (opener_of l.next.token) v) (λ b k3 three. rw (one, two, three.2) (under_spelled name l.join.comments b.0 three.0 three.1)))))
 
     -- ---- lines
 
     silent_end : (n : Next) (s : State) → Passing g (end_of_line inner n) (Silent g) s
     unfolding end_of_line nothing_waits
-    silent_end n s = pass_pick g (is_newline n.token) (pass_on g (pass_move g) (λ u v. pass_on g (pass_change g) (λ x t. pass_give g refl)))
+    silent_end n s = pass_pick g (is_newline_token n.token) (pass_on g (pass_move g) (λ u v. pass_on g (pass_change g) (λ x t. pass_give g refl)))
         (pass_pick g (is_end n.token) (pass_on g (pass_on g (pass_see g) (λ w t. none_waiting w t)) (λ u v. pass_give g refl)) (pass_unexpected g inner n s))
       where
         none_waiting : (w : Option ℕ) (t : State) → Passing g (none_waits w) (Silent g) t

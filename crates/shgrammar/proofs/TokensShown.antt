@@ -17,16 +17,16 @@ use Rattle.shast.specs.declared.tree.AndOrOperator.{AndOrOperator}
 use Rattle.shast.specs.declared.tree.Span.{Span}
 use Rattle.shast.specs.Nodes.{word_span}
 use Rattle.shast.specs.Tree.{ACommand, AnItem, AWord}
-use Rattle.shtext.specs.Text.{is_newline as is_newline_byte}
+use Rattle.shtext.specs.Text.{is_newline}
 use Rattle.shgrammar.specs.Bytes.{byte_at, behind, past_continuations, stands}
 use Rattle.shgrammar.specs.Comments.{comment_at}
 use Rattle.shgrammar.specs.Tokens.{begins_assignment, first_word, is_number, reserved_at, is_later, token_at, token_in, token_of, word_by, word_of}
 use Rattle.shgrammar.specs.Sights.{Given, State}
 use Rattle.shgrammar.specs.Form.{Spelled, Form, push, both, many, step_if}
 use Rattle.shgrammar.specs.Words.{Inner}
-use Rattle.shgrammar.specs.Commands.{pick, next_token, is_newline, is_semicolon, a_semicolon, is_pipe, is_bang, begins_simple, begins_word, begins_redirect, begins_pipeline, opener_of, compound_by, and_or_operator_of, Items, so_many, breaks, behind_word, one_redirect, behind_redirect, redirect_turn, redirected, an_item, item_by, item_turn, a_simple, unexpected, comment_by, a_comment, a_newline, with_comment, JoinSo, join_turn, a_join, a_command, a_bang, Piped, piped, one_command, pipe_turn, a_pipeline, Joined, joined_so, one_pipeline, joined_by, join_pipeline, an_and_or, separator_of, separator_by, a_separator, an_entry, is_paren, is_word, a_worded, ends_item, falls_through}
+use Rattle.shgrammar.specs.Commands.{pick, next_token, is_newline_token, is_semicolon, a_semicolon, is_pipe, is_bang, begins_simple, begins_word, begins_redirect, begins_pipeline, opener_of, compound_by, and_or_operator_of, Items, so_many, breaks, behind_word, one_redirect, behind_redirect, redirect_turn, with_redirect_list, an_item, item_by, item_turn, a_simple, unexpected, comment_by, a_comment, a_newline, with_comment, JoinSo, join_turn, a_join, a_command, a_bang, Piped, piped, one_command, pipe_turn, a_pipeline, Joined, joined_so, one_pipeline, joined_by, join_pipeline, an_and_or, separator_of, separator_by, a_separator, an_entry, is_paren, is_word, a_word_command, ends_item, falls_through}
 use Rattle.shgrammar.specs.Lists.{ListSo, list_so, none_listed, one_entry, entry_turn, remark_by, a_remark, on_line, list_turn, a_list}
-use Rattle.shgrammar.specs.Compounds.{Branched, branched, Closed, is_closing, is_open_paren, is_close_paren, passed, closing, a_branch, elif_turn, an_else, an_if, a_loop, a_group, a_for_name, a_linebreak, a_sequential_sep, Headed, word_turn, for_words, a_for_head, a_for, a_form, a_compound, a_function, a_case_word, begins_pattern, Patterned, a_pattern, one_pattern, pattern_turn, a_pattern_list, a_body, ItemEnd, an_ender, an_item_end, CasesSo, cases_so, one_case, case_turn, a_case_head, a_case}
+use Rattle.shgrammar.specs.Compounds.{Branched, branched, Closed, is_closing, is_open_paren, is_close_paren, reserved_or_paren, closing, a_branch, elif_turn, an_else, an_if, a_loop, a_group, a_for_name, a_linebreak, a_sequential_sep, Headed, word_turn, for_words, a_for_head, a_for, a_form, a_compound, a_function, a_case_word, begins_pattern, Patterned, a_pattern, one_pattern, pattern_turn, a_pattern_list, a_body, ItemEnd, an_ender, an_item_end, CasesSo, cases_so, one_case, case_turn, a_case_head, a_case}
 use Rattle.shgrammar.specs.Levels.{level}
 use Rattle.shgrammar.proofs.Shown.{blanks_still}
 use Rattle.shgrammar.proofs.Holds.{Tells, Turned, tells_give, tells_then, tells_many, tells_after, tells_seen, tells_pushed}
@@ -68,7 +68,7 @@ module _ (g : Given) where
 
   shown_newline : (n : Next) (s : State) → Begins n s → N (a_newline n) Behind s
   unfolding a_newline
-  shown_newline n s so = picked (is_newline n.token) (after (λ x t. after (λ y v. tells_then Whole g (shown_next Command v) (λ m u good. tells_give Whole g good)))) (tells_give Whole g so)
+  shown_newline n s so = picked (is_newline_token n.token) (after (λ x t. after (λ y v. tells_then Whole g (shown_next Command v) (λ m u good. tells_give Whole g good)))) (tells_give Whole g so)
 
   shown_semicolon : (n : Next) (s : State) → Begins n s → N (a_semicolon n) Behind s
   unfolding a_semicolon
@@ -146,25 +146,25 @@ module _ (g : Given) where
     unfolding redirect_turn
     shown_redirect_turn i s so = picked (begins_redirect i.next.token) (shown_redirect i.next.broken Command i.items i.next s) (tells_give Whole g so)
 
-    shown_redirected : (c : ACommand × Next) (s : State) → Begins c.1 s → N (redirected inner c) Behind s
-    unfolding redirected
-    shown_redirected c s so =
+    shown_with_redirect_list : (c : ACommand × Next) (s : State) → Begins c.1 s → N (with_redirect_list inner c) Behind s
+    unfolding with_redirect_list
+    shown_with_redirect_list c s so =
         tells_then Whole g (tells_many Whole g (redirect_turn inner) ItemsShown shown_redirect_turn (so_many [] Command c.1) s so) (λ r t good. tells_give Whole g good)
 
     shown_compound_by : (n : Next) (o : Option Opener) (s : State) → N (compound_by inner n o) Behind s
-    shown_compound_by n (Some o) s = tells_then Whole g (fine.compound o s) shown_redirected
+    shown_compound_by n (Some o) s = tells_then Whole g (fine.compound o s) shown_with_redirect_list
     shown_compound_by n None s = stopped n
 
-    shown_worded : (s : State) → N (a_worded inner) Behind s
-    unfolding a_worded
-    shown_worded s =
+    shown_word_command : (s : State) → N (a_word_command inner) Behind s
+    unfolding a_word_command
+    shown_word_command s =
         after (λ good t. after (λ w u. tells_then Whole g (shown_next Suffix u)
         (λ n v so. picked (is_paren n.token) (picked good (fine.function (word_span w) v) (record { told = tt })) (pushed_on (shown_simple (so_many _ Suffix n) v so)))))
 
     shown_command : (n : Next) (s : State) → Begins n s → N (a_command inner n) Behind s
     unfolding a_command
     shown_command n s so =
-        picked (is_word n.token) (shown_worded s) (picked (begins_simple n.token) (shown_simple (so_many [] Command n) s so) (shown_compound_by n (opener_of n.token) s))
+        picked (is_word n.token) (shown_word_command s) (picked (begins_simple n.token) (shown_simple (so_many [] Command n) s so) (shown_compound_by n (opener_of n.token) s))
 
     shown_bang : (n : Next) (s : State) → Begins n s → N (a_bang n) Behind s
     unfolding a_bang
@@ -251,13 +251,13 @@ module _ (g : Given) where
 
     -- ---- compound commands
 
-    shown_passed : (text : Spelled) (paren : Bool) (position : Position) (s : State) → N (passed text paren position) Behind s
-    unfolding passed
-    shown_passed text paren position s = after (λ x t. tells_then Whole g (shown_next position t) (λ n u good. tells_give Whole g good))
+    shown_reserved_or_paren : (text : Spelled) (paren : Bool) (position : Position) (s : State) → N (reserved_or_paren text paren position) Behind s
+    unfolding reserved_or_paren
+    shown_reserved_or_paren text paren position s = after (λ x t. tells_then Whole g (shown_next position t) (λ n u good. tells_give Whole g good))
 
     shown_closing : (c : Closing) (n : Next) (s : State) → N (closing inner c n) Behind s
     unfolding closing
-    shown_closing c n s = picked (is_closing c n.token) (shown_passed _ (is_close_paren c) _ s) (stopped n)
+    shown_closing c n s = picked (is_closing c n.token) (shown_reserved_or_paren _ (is_close_paren c) _ s) (stopped n)
 
     shown_branch : (n : Next) (s : State) → Begins n s → N (a_branch inner n) Behind s
     unfolding a_branch
@@ -271,14 +271,14 @@ module _ (g : Given) where
     unfolding elif_turn
     shown_elif b s so =
         picked (is_closing closings.Elif b.next.token)
-        (tells_then Whole g (shown_passed _ false _ s) (λ k t one. tells_then Whole g (shown_branch k.1 t one) (λ x u good. pushed_on (tells_give Whole g good))))
+        (tells_then Whole g (shown_reserved_or_paren _ false _ s) (λ k t one. tells_then Whole g (shown_branch k.1 t one) (λ x u good. pushed_on (tells_give Whole g good))))
         (tells_give Whole g so)
 
     shown_else : (n : Next) (s : State) → Begins n s → N (an_else inner n) Behind s
     unfolding an_else
     shown_else n s so =
         picked (is_closing closings.Else n.token)
-        (tells_then Whole g (shown_passed _ false _ s) (λ k t one. tells_then Whole g (shown_list k.1 t one) (λ l u good. tells_give Whole g good)))
+        (tells_then Whole g (shown_reserved_or_paren _ false _ s) (λ k t one. tells_then Whole g (shown_list k.1 t one) (λ l u good. tells_give Whole g good)))
         (tells_give Whole g so)
 
     abbrev ClosedShown : {X : Type 0} → Closed X → State → Type 0
@@ -321,7 +321,7 @@ module _ (g : Given) where
     shown_for_words : (cs : Row Span) (s : State) → N (for_words inner cs) HeadShown s
     unfolding for_words
     shown_for_words cs s =
-        tells_then Whole g (shown_passed _ false _ s) (λ i t one. tells_then Whole g (tells_many Whole g (word_turn inner) ItemsShown shown_word_turn (so_many [] Suffix i.1) t one)
+        tells_then Whole g (shown_reserved_or_paren _ false _ s) (λ i t one. tells_then Whole g (tells_many Whole g (word_turn inner) ItemsShown shown_word_turn (so_many [] Suffix i.1) t one)
         (λ ws u two. tells_then Whole g (shown_sep cs ws.next u two) (λ l v good. tells_give Whole g good)))
 
     shown_for_head : (n : Next) (s : State) → Begins n s → N (a_for_head inner n) HeadShown s
@@ -414,12 +414,12 @@ module _ (g : Given) where
 
     shown_compound : (o : Opener) (s : State) → N (a_compound inner o) Behind s
     unfolding a_compound
-    shown_compound o s = tells_then Whole g (shown_passed _ (is_open_paren o) _ s) (λ x t one. tells_then Whole g (shown_form o x.1 t one) (λ f u good. pushed_on (tells_give Whole g good)))
+    shown_compound o s = tells_then Whole g (shown_reserved_or_paren _ (is_open_paren o) _ s) (λ x t one. tells_then Whole g (shown_form o x.1 t one) (λ f u good. pushed_on (tells_give Whole g good)))
 
     shown_function : (name : Span) (s : State) → N (a_function inner name) Behind s
     unfolding a_function
     shown_function name s =
-        tells_then Whole g (shown_passed _ true Command s) (λ o t one. tells_then Whole g (shown_closing closings.Paren o.1 t)
+        tells_then Whole g (shown_reserved_or_paren _ true Command s) (λ o t one. tells_then Whole g (shown_closing closings.Paren o.1 t)
         (λ c u two. tells_then Whole g (shown_linebreak [] c.1 u two) (λ l v three. tells_then Whole g (shown_compound_by l.next (opener_of l.next.token) v)
         (λ b w good. tells_give Whole g good))))
 
@@ -462,7 +462,7 @@ paren_by false x other is = absurd (other is)
 close_byte : (position : Position) (T : List ℕ) (p : ℕ) (x : Option ℕ) → token_of position T p x ≡ tokens.CloseParen → x ≡ Some 41
 close_byte position T p None is = absurd cc
 close_byte position T p (Some b) is =
-    let newline = paren_else (is_newline_byte b) _ _ (λ e. absurd cc) is in
+    let newline = paren_else (is_newline b) _ _ (λ e. absurd cc) is in
     let semicolon = paren_else (b == 59) _ _ (λ e. paren_both (stands T (behind T p) 59) _ _ (λ f. absurd cc) (λ f. paren_both (stands T (behind T p) 38) _ _ (λ g. absurd cc) (λ g. absurd cc) f) e) newline.1 in
     let ampersand = paren_else (b == 38) _ _ (λ e. paren_both (stands T (behind T p) 38) _ _ (λ f. absurd cc) (λ f. absurd cc) e) semicolon.1 in
     let bar = paren_else (b == 124) _ _ (λ e. paren_both (stands T (behind T p) 124) _ _ (λ f. absurd cc) (λ f. absurd cc) e) ampersand.1 in
@@ -517,7 +517,7 @@ no_newline Suffix T p is = absurd cc
 newline_byte : (position : Position) (T : List ℕ) (p : ℕ) (x : Option ℕ) → token_of position T p x ≡ tokens.Newline → x ≡ Some 10
 newline_byte position T p None is = absurd cc
 newline_byte position T p (Some b) is =
-    let here : (b == 10) ≡ true = newline_else (is_newline_byte b) _ is (λ e.
+    let here : (b == 10) ≡ true = newline_else (is_newline b) _ is (λ e.
     newline_both (b == 59) _ _ (λ f. newline_both (stands T (behind T p) 59) _ _ (λ h. absurd cc) (λ h. newline_both (stands T (behind T p) 38) _ _ (λ i. absurd cc) (λ i. absurd cc) h) f)
     (λ f. newline_both (b == 38) _ _ (λ h. newline_both (stands T (behind T p) 38) _ _ (λ i. absurd cc) (λ i. absurd cc) h)
     (λ h. newline_both (b == 124) _ _ (λ i. newline_both (stands T (behind T p) 124) _ _ (λ j. absurd cc) (λ j. absurd cc) i)
@@ -530,20 +530,20 @@ newline_byte position T p (Some b) is =
     let same : b ≡ 10 = grind (arith, nat_tests, here) in
     rw same refl
 
-newline_is : (t : Token) → is_newline t ≡ true → t ≡ tokens.Newline
+newline_is : (t : Token) → is_newline_token t ≡ true → t ≡ tokens.Newline
 newline_is tokens.Newline e = refl
 newline_is _ e = absurd cc
 
-newline_in : (later : Bool) → is_newline (cond later tokens.SemicolonAmpersand tokens.Semicolon) ≡ true → ⊥
+newline_in : (later : Bool) → is_newline_token (cond later tokens.SemicolonAmpersand tokens.Semicolon) ≡ true → ⊥
 newline_in true e = absurd cc
 newline_in false e = absurd cc
 
-newline_of : (edition : Edition) (t : Token) → is_newline (token_in edition t) ≡ true → t ≡ tokens.Newline
+newline_of : (edition : Edition) (t : Token) → is_newline_token (token_in edition t) ≡ true → t ≡ tokens.Newline
 newline_of edition tokens.Newline e = refl
 newline_of edition tokens.SemicolonAmpersand e = absurd (newline_in (is_later edition) e)
 newline_of edition _ e = absurd cc
 
 -- where a row hands on a newline, that byte stands
-pub newline_here : (g : Given) (n : Next) (t : State) → Begins g n t → is_newline n.token ≡ true → (byte_at g.text t.at ≡ Some 10) × (past_continuations g.text t.at ≡ t.at)
+pub newline_here : (g : Given) (n : Next) (t : State) → Begins g n t → is_newline_token n.token ≡ true → (byte_at g.text t.at ≡ Some 10) × (past_continuations g.text t.at ≡ t.at)
 unfolding token_at
-newline_here g n t (position, (token, still)) is = (newline_byte position g.text t.at (byte_at g.text t.at) (newline_of g.edition _ (ap is_newline (sym token) ∙ is)), still)
+newline_here g n t (position, (token, still)) is = (newline_byte position g.text t.at (byte_at g.text t.at) (newline_of g.edition _ (ap is_newline_token (sym token) ∙ is)), still)

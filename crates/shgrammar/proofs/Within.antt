@@ -32,11 +32,11 @@ use Rattle.shgrammar.specs.Classes.{is_blank}
 use Rattle.shgrammar.specs.Sights.{Given, given, State, standing, here, one_byte, the_digits}
 use Rattle.shgrammar.specs.HereDocuments.{own_level}
 use Rattle.shgrammar.specs.Form.{with_bytes, a_level, Spelled, Told, Read, Form, give, move, push, both, many, token, ends_as, does, Step, again, done, step_if, pushed, see, grows, inside}
-use Rattle.shgrammar.specs.Words.{Inner, Held, having, opened, piece_row, a_piece, contents, a_word}
-use Rattle.shgrammar.specs.Commands.{pick, is_pipe, is_bang, begins_simple, begins_word, begins_redirect, begins_pipeline, opener_of, compound_by, and_or_operator_of, breaks, Items, so_many, behind_word, is_number_token, redirect_operator_of, is_strip, a_number, an_operator, operator_by, a_target, one_redirect, behind_redirect, redirect_turn, redirected, as_item, an_item, item_by, item_turn, a_simple, a_bang, a_comment, comment_by, unexpected, with_comment, JoinSo, join_turn, a_join, a_command, Piped, piped, one_command, pipe_turn, a_pipeline, Joined, joined_so, one_pipeline, joined_by, join_pipeline, an_and_or, is_background, an_entry, a_worded, is_word, is_paren, separator_of, separator_by, a_separator, past_separator, ends_item, falls_through}
+use Rattle.shgrammar.specs.Words.{Inner, WordSoFar, having, opened, piece_row, a_piece, contents, a_word}
+use Rattle.shgrammar.specs.Commands.{pick, is_pipe, is_bang, begins_simple, begins_word, begins_redirect, begins_pipeline, opener_of, compound_by, and_or_operator_of, breaks, Items, so_many, behind_word, is_number_token, redirect_operator_of, is_strip, a_number, an_operator, operator_by, a_target, one_redirect, behind_redirect, redirect_turn, with_redirect_list, as_item, an_item, item_by, item_turn, a_simple, a_bang, a_comment, comment_by, unexpected, with_comment, JoinSo, join_turn, a_join, a_command, Piped, piped, one_command, pipe_turn, a_pipeline, Joined, joined_so, one_pipeline, joined_by, join_pipeline, an_and_or, is_background, an_entry, a_word_command, is_word, is_paren, separator_of, separator_by, a_separator, past_separator, ends_item, falls_through}
 use Rattle.shgrammar.specs.Lists.{ListSo, list_so, none_listed, is_blank_next, one_entry, entry_turn, remark_by, a_remark, on_line, list_turn, a_list, Listed}
-use Rattle.shgrammar.specs.Compounds.{Branched, branched, Closed, is_closing, is_open_paren, is_close_paren, passed, closing, a_branch, elif_turn, an_else, an_if, a_loop, a_group, a_for_name, a_linebreak, a_sequential_sep, Headed, word_turn, for_words, a_for_head, behind_remarks, a_for, a_form, held_apart, a_compound, a_function, under_name, a_case_word, begins_pattern, Patterned, a_pattern, one_pattern, pattern_turn, a_pattern_list, a_body, body_end, ItemEnd, an_ender, an_item_end, CasesSo, cases_so, one_case, case_turn, a_case_head, a_case}
-use Rattle.shgrammar.specs.Substitutions.{substituted, a_substitution, one_substitution}
+use Rattle.shgrammar.specs.Compounds.{Branched, branched, Closed, is_closing, is_open_paren, is_close_paren, reserved_or_paren, closing, a_branch, elif_turn, an_else, an_if, a_loop, a_group, a_for_name, a_linebreak, a_sequential_sep, Headed, word_turn, for_words, a_for_head, behind_remarks, a_for, a_form, held_apart, a_compound, a_function, under_name, a_case_word, begins_pattern, Patterned, a_pattern, one_pattern, pattern_turn, a_pattern_list, a_body, body_end, ItemEnd, an_ender, an_item_end, CasesSo, cases_so, one_case, case_turn, a_case_head, a_case}
+use Rattle.shgrammar.specs.Substitutions.{substitution_list, a_substitution, one_substitution}
 use Rattle.shgrammar.specs.Levels.{most_open, level}
 use Rattle.shgrammar.specs.Lines.{an_open_line, a_line, ALine, IsLine, line_read, line_stops, kind_of}
 use Rattle.shgrammar.specs.Scripts.{SoFar, the_line, with_line}
@@ -143,7 +143,7 @@ module _ (keep : Keep) (g : Given) (limit : ℕ) where
 
   -- ---- words
 
-  abbrev SubstsFit : Held → Type 0
+  abbrev SubstsFit : WordSoFar → Type 0
   SubstsFit h = All (SubstFits limit) h.substs
 
   -- a command, but for the redirections of a compound one
@@ -159,10 +159,10 @@ module _ (keep : Keep) (g : Given) (limit : ℕ) where
     pub function : (name : Span) (s : State) → IsSpanWithin limit name → R (inner.function name) (λ c. CommandFits limit c.0) s
 
   module _ (inner : Inner) (fine : Fine inner) where
-    opened_fits : (mode : Mode) (b : ℕ) (h : Held) (s : State) → SubstsFit h → R (opened inner mode b h) (Stepped SubstsFit) s
+    opened_fits : (mode : Mode) (b : ℕ) (h : WordSoFar) (s : State) → SubstsFit h → R (opened inner mode b h) (Stepped SubstsFit) s
     opened_fits mode b h s so = first (fine.construct mode b h.substs s so) (λ zs t good. gives good)
 
-    piece_fits_by : (mode : Mode) (b : ℕ) (h : Held) (piece : Piece) (s : State) → SubstsFit h → R (piece_row inner mode b h piece) (Stepped SubstsFit) s
+    piece_fits_by : (mode : Mode) (b : ℕ) (h : WordSoFar) (piece : Piece) (s : State) → SubstsFit h → R (piece_row inner mode b h piece) (Stepped SubstsFit) s
     piece_fits_by mode b h pieces.Closer s so = after (λ x t. gives so)
     piece_fits_by mode b h pieces.Missing s so = record { told = tt }
     piece_fits_by mode b h pieces.LoneBackslash s so = record { told = tt }
@@ -183,7 +183,7 @@ module _ (keep : Keep) (g : Given) (limit : ℕ) where
     piece_fits_by mode b h pieces.BadClose s so = record { told = tt }
     piece_fits_by mode b h pieces.Ordinary s so = after (λ x t. gives so)
 
-    piece_fits : (mode : Mode) (b : ℕ) (h : Held) (s : State) → SubstsFit h → R (a_piece inner mode b h) (Stepped SubstsFit) s
+    piece_fits : (mode : Mode) (b : ℕ) (h : WordSoFar) (s : State) → SubstsFit h → R (a_piece inner mode b h) (Stepped SubstsFit) s
     unfolding a_piece
     piece_fits mode b h s so = after (λ piece t. piece_fits_by mode b h piece t so)
 
@@ -288,21 +288,21 @@ module _ (keep : Keep) (g : Given) (limit : ℕ) where
     with_redirects_fits (compound (formed form span others)) is so all = fits_compound limit form span is so.0 so.1 all
     with_redirects_fits (function name comments body) is so all = so
 
-    redirected_fits : (c : ACommand × Next) (s : State) → BareFits c.0 → R (redirected inner c) (λ d. CommandFits limit d.0) s
-    unfolding redirected
-    redirected_fits c s so =
+    with_redirect_list_fits : (c : ACommand × Next) (s : State) → BareFits c.0 → R (with_redirect_list inner c) (λ d. CommandFits limit d.0) s
+    unfolding with_redirect_list
+    with_redirect_list_fits c s so =
         first (repeats ItemsFit (redirect_turn inner) redirect_turn_fits (so_many [] Command c.1) s (All-nil (ItemFits limit))) (λ r t all. gives (with_redirects_fits c.0 r.items so all))
 
     compound_fits_by : (n : Next) (o : Option Opener) (s : State) → R (compound_by inner n o) (λ c. CommandFits limit c.0) s
-    compound_fits_by n (Some o) s = first (fine.compound o s) redirected_fits
+    compound_fits_by n (Some o) s = first (fine.compound o s) with_redirect_list_fits
     compound_fits_by n None s = stopped n
 
     place_fits : (w : AWord) → WordFits limit w → IsSpanWithin limit (word_span w)
     place_fits (word s ss) so = so.0
 
-    worded_fits : (s : State) → R (a_worded inner) (λ c. CommandFits limit c.0) s
-    unfolding a_worded
-    worded_fits s =
+    word_command_fits : (s : State) → R (a_word_command inner) (λ c. CommandFits limit c.0) s
+    unfolding a_word_command
+    word_command_fits s =
         after (λ good t. first (word_fits t) (λ w u one. after (λ n v.
         picks (is_paren n.token) (picks good (fine.function (word_span w) v (place_fits w one)) (record { told = tt }))
         (first (pushes (ItemFits limit) (All-nil (ItemFits limit)) (fits_argument limit false w one)) (λ is x all. simple_fits (so_many is Suffix n) x all)))))
@@ -310,7 +310,7 @@ module _ (keep : Keep) (g : Given) (limit : ℕ) where
     command_fits : (n : Next) (s : State) → R (a_command inner n) (λ c. CommandFits limit c.0) s
     unfolding a_command
     command_fits n s =
-        picks (is_word n.token) (worded_fits s)
+        picks (is_word n.token) (word_command_fits s)
         (picks (begins_simple n.token) (simple_fits (so_many [] Command n) s (All-nil (ItemFits limit))) (compound_fits_by n (opener_of n.token) s))
 
     abbrev PipesFit : Piped → Type 0
@@ -416,13 +416,13 @@ module _ (keep : Keep) (g : Given) (limit : ℕ) where
 
     -- ---- compound commands
 
-    passed_fits : (text : Spelled) (paren : Bool) (position : Position) (s : State) → R (passed text paren position) (λ x. IsSpanWithin limit x.0) s
-    unfolding passed
-    passed_fits text paren position s = first (tokens {P = λ u. Unit {0}} (record { told = λ b. tt })) (λ x t so. after (λ n u. gives so.1))
+    reserved_or_paren_fits : (text : Spelled) (paren : Bool) (position : Position) (s : State) → R (reserved_or_paren text paren position) (λ x. IsSpanWithin limit x.0) s
+    unfolding reserved_or_paren
+    reserved_or_paren_fits text paren position s = first (tokens {P = λ u. Unit {0}} (record { told = λ b. tt })) (λ x t so. after (λ n u. gives so.1))
 
     closing_fits : (c : Closing) (n : Next) (s : State) → R (closing inner c n) (λ x. IsSpanWithin limit x.0) s
     unfolding closing
-    closing_fits c n s = picks (is_closing c n.token) (passed_fits _ (is_close_paren c) _ s) (stopped n)
+    closing_fits c n s = picks (is_closing c n.token) (reserved_or_paren_fits _ (is_close_paren c) _ s) (stopped n)
 
     branch_fits : (n : Next) (s : State) → R (a_branch inner n) (λ x. BranchFits limit x.0) s
     unfolding a_branch
@@ -610,24 +610,24 @@ module _ (keep : Keep) (g : Given) (limit : ℕ) where
 
     compound_fits : (o : Opener) (s : State) → R (a_compound inner o) (λ c. BareFits c.0) s
     unfolding a_compound
-    compound_fits o s = first (passed_fits _ (is_open_paren o) _ s) (λ x t begin. first (form_fits o x.1 t)
+    compound_fits o s = first (reserved_or_paren_fits _ (is_open_paren o) _ s) (λ x t begin. first (form_fits o x.1 t)
         (λ f u so. first (pushes BareFits (All-nil BareFits) ((begin.0, so.1.1), so.0)) (λ cs v all. gives (apart_fits cs all))))
 
     -- ---- substitutions
 
-    substituted_fits : (s : State) → R (substituted inner) (AreWithin limit) s
-    unfolding substituted
-    substituted_fits s =
+    substitution_list_fits : (s : State) → R (substitution_list inner) (AreWithin limit) s
+    unfolding substitution_list
+    substitution_list_fits s =
         after (λ n t. first (repeats ListFits (list_turn inner) list_turn_fits (list_so (none_listed false) n) t (All-nil (EntryFits limit), tt))
         (λ l u all. picks (is_closing closings.Paren l.next.token) (after (λ w z. after (λ x v. gives (fits_entries limit l.list.entries all.0)))) (stopped l.next)))
 
     substitution_fits : (b : ℕ) (ss : Row ASubst) (s : State) → b ≤ g.offset + s.at → All (SubstFits limit) ss → R (one_substitution inner b ss) (All (SubstFits limit)) s
     unfolding one_substitution
     substitution_fits b ss s from so =
-        let body = a_level (ends_as UnclosedSubst b (substituted inner)) in
+        let body = a_level (ends_as UnclosedSubst b (substitution_list inner)) in
         tells_then keep g {P = λ es t. (Before t → AreWithin limit es.0) × (s.at ≤ t.at)}
         (record {
-          told = holds_and (λ es t. Before t → AreWithin limit es.0) (λ es t. s.at ≤ t.at) (does body keep g s) (in_level (tells_ending keep g (substituted_fits (own_level s)))).told (low body keep g s).told;
+          told = holds_and (λ es t. Before t → AreWithin limit es.0) (λ es t. s.at ≤ t.at) (does body keep g s) (in_level (tells_ending keep g (substitution_list_fits (own_level s)))).told (low body keep g s).told;
         })
         (λ es t one. tells_seen keep g
         (record { told = λ before. pushed_all (SubstFits limit) (grows keep) ss _ so (fits_subst limit (filled es.1 es.0) _ (omega (arith, from, one.1, before), before) (filled_within limit es.1 es.0 (one.0 before))) }))

@@ -23,7 +23,7 @@ use Rattle.shgrammar.specs.Words.{Inner, contents, a_word}
 use Rattle.shgrammar.specs.Commands.{none_waits, nothing_waits, next_token, pick, unexpected, what_is_wrong}
 use Rattle.shgrammar.specs.Lists.{ListSo, list_so, none_listed, list_turn}
 use Rattle.shgrammar.specs.Compounds.{is_closing}
-use Rattle.shgrammar.specs.Substitutions.{substituted, a_substitution, one_substitution}
+use Rattle.shgrammar.specs.Substitutions.{substitution_list, a_substitution, one_substitution}
 use Rattle.shgrammar.specs.Levels.{level}
 use Rattle.shgrammar.proofs.Holds.{Holds, Behind, low}
 use Rattle.shgrammar.proofs.SameBytes.{Kept, Here, at_limit}
@@ -220,8 +220,8 @@ module _ (room : ℕ) (all : Everywhere (level room)) where
               ∙ ap (λ (p : ℕ). Ok (entries_of k.list.entries, state_from (o + a) (o2 + to a) p u)) (same_behind E at_limit)
 
           -- what stands in it, and its `)`
-          same_inside : does (substituted inner) Whole h (over_there s) ≡ Ok (entries_of k.list.entries, over_there last)
-          unfolding substituted
+          same_inside : does (substitution_list inner) Whole h (over_there s) ≡ Ok (entries_of k.list.entries, over_there last)
+          unfolding substitution_list
           same_inside =
               let closes_there : closes k ≡ true = ap (λ (n : Next). is_closing closings.Paren n.token) (sym same_lines.1.1.1) ∙ closed in
               ap (λ (z : Read Next). ◌▸◌ {Y = Entries} z (λ n t. ◌▸◌ {Y = Entries} (does (all_lines n) Whole h t) (λ l t. does (the_close l (closes l)) Whole h t))) same_start
@@ -286,7 +286,7 @@ module _ (room : ℕ) (all : Everywhere (level room)) where
       by_lines (Err f) is begins onward still = tt
 
       substitution_there : Holds There (does (a_substitution inner b ss) Whole g outer)
-      unfolding a_substitution one_substitution substituted next_token
+      unfolding a_substitution one_substitution substitution_list next_token
       substitution_there =
           by_lines (does (all_lines the_next) Whole g start) refl (shown_lines g inner (shown_level g room) the_next start (shown_next g Command s).told).told (low (all_lines the_next) Whole g start).told
           (low (next_token Command) Whole g s).told

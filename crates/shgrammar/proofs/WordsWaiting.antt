@@ -13,7 +13,7 @@ use Rattle.shgrammar.specs.Comments.{span}
 use Rattle.shgrammar.specs.HereDocuments.{own_level, outer_level}
 use Rattle.shgrammar.specs.Sights.{Given, State, standing, Sight, seen, Move}
 use Rattle.shgrammar.specs.Form.{Form, give, see, move, push, stop, both, when, token, many, a_level, Told, Step, again, done, Read, ◌▸◌, does, may, moved_on, leads_on, turns, turns_below, next, Spelled, in_substitution}
-use Rattle.shgrammar.specs.Words.{Held, having, opened, piece_row, a_piece, single, escaped_turn, backquoted, Inner, contents, a_word}
+use Rattle.shgrammar.specs.Words.{WordSoFar, having, opened, piece_row, a_piece, single, escaped_turn, backquoted_text, Inner, contents, a_word}
 use Rattle.shgrammar.specs.Substitutions.{a_substitution, one_substitution}
 use Rattle.shgrammar.specs.Levels.{level}
 use Rattle.shgrammar.proofs.OneOutcome.{is}
@@ -121,9 +121,9 @@ module _ (g : Given) where
   unfolding single
   single_blind = blind_sees (λ s t. refl) (λ b. blind_moves (blind_moves (blind_when (λ s t. refl) blind_stop blind_move)))
 
-  backquoted_blind : Blind backquoted
-  unfolding backquoted escaped_turn
-  backquoted_blind =
+  backquoted_text_blind : Blind backquoted_text
+  unfolding backquoted_text escaped_turn
+  backquoted_text_blind =
       blind_sees (λ s t. refl) (λ b. blind_moves (blind_many _ (λ u. blind_moves (blind_when (λ s t. refl) blind_stop (blind_when (λ s t. refl) blind_stop (blind_sees (λ s t. refl) (λ x. blind_moves blind_give))))) tt))
 
   dollar_single_blind : Blind dollar_single
@@ -136,10 +136,10 @@ module _ (g : Given) where
     substitution : (b : ℕ) (ss : Row ASubst) → Blind (inner.substitution b ss)
 
   module _ (inner : Inner) (blinds : Blinds inner) where
-    opened_blind : (mode : Mode) (b : ℕ) (h : Held) → Blind (opened inner mode b h)
+    opened_blind : (mode : Mode) (b : ℕ) (h : WordSoFar) → Blind (opened inner mode b h)
     opened_blind mode b h = blind_both (blinds.construct mode b h.substs) (λ x. blind_give)
 
-    piece_blind : (mode : Mode) (b : ℕ) (h : Held) (piece : Piece) → Blind (piece_row inner mode b h piece)
+    piece_blind : (mode : Mode) (b : ℕ) (h : WordSoFar) (piece : Piece) → Blind (piece_row inner mode b h piece)
     piece_blind mode b h pieces.Closer = blind_moves blind_give
     piece_blind mode b h pieces.Missing = blind_stop
     piece_blind mode b h pieces.LoneBackslash = blind_sees (λ s t. refl) (λ x. blind_stop)
@@ -147,7 +147,7 @@ module _ (g : Given) where
     piece_blind mode b h pieces.Single = blind_both single_blind (λ x. blind_give)
     piece_blind mode b h pieces.DollarSingle = blind_both dollar_single_blind (λ x. blind_give)
     piece_blind mode b h pieces.Double = blind_sees (λ s t. refl) (λ x. blind_moves (opened_blind _ _ h))
-    piece_blind mode b h pieces.Backquote = blind_both backquoted_blind (λ x. blind_give)
+    piece_blind mode b h pieces.Backquote = blind_both backquoted_text_blind (λ x. blind_give)
     piece_blind mode b h pieces.Pid = blind_moves (blind_moves blind_give)
     piece_blind mode b h pieces.Subst = blind_sees (λ s t. refl) (λ x. blind_moves (blind_moves (blind_both (blinds.substitution _ h.substs) (λ y. blind_give))))
     piece_blind mode b h pieces.Arith = blind_sees (λ s t. refl) (λ x. blind_moves (blind_moves (blind_moves (opened_blind _ _ h))))

@@ -17,12 +17,12 @@ use Rattle.shgrammar.specs.Pieces.{dollar_by, dollar_at, bracket_by, byte_by, pi
 use Rattle.shast.specs.Tree.{ASubst, entries_of}
 use Rattle.shgrammar.specs.Sights.{Given, State, standing, one_byte}
 use Rattle.shgrammar.specs.Form.{Read, Form, give, move, ◌>>◌, Step, again, done, step_if, as_it_stands, token, many, does}
-use Rattle.shgrammar.specs.Words.{single, escaped_turn, backquoted, Inner, Held, having, opened, piece_row, a_piece, contents, a_word}
+use Rattle.shgrammar.specs.Words.{single, escaped_turn, backquoted_text, Inner, WordSoFar, having, opened, piece_row, a_piece, contents, a_word}
 use Rattle.shgrammar.specs.HereDocuments.{first_waiting, own_level}
 use Rattle.shgrammar.specs.Commands.{none_waits, nothing_waits, pick, unexpected}
 use Rattle.shgrammar.specs.Lists.{ListSo}
 use Rattle.shgrammar.specs.Compounds.{is_closing}
-use Rattle.shgrammar.specs.Substitutions.{substituted, a_substitution, one_substitution}
+use Rattle.shgrammar.specs.Substitutions.{substitution_list, a_substitution, one_substitution}
 use Rattle.shgrammar.specs.Levels.{level, ReadsWord}
 use Rattle.shgrammar.proofs.Stretches.{place_low}
 use Rattle.shgrammar.proofs.Places.{behind_low, behind_high, stands_low, not_end_low, next_of_low, parameter_low, parameter_high, quote_clear}
@@ -117,9 +117,9 @@ module _ (g : Given) where
         q : ℕ
         q = next_escaped how T s.at
 
-  backquoted_on : (s : State) → past_continuations T s.at < length T → Holds (On s) (does backquoted Whole g s)
-  unfolding backquoted
-  backquoted_on s lt =
+  backquoted_text_on : (s : State) → past_continuations T s.at < length T → Holds (On s) (does backquoted_text Whole g s)
+  unfolding backquoted_text
+  backquoted_text_on s lt =
       let b = g.offset + past_continuations T s.at in
       (tells_many Whole g (escaped_turn escapings.Backquotes b) (On s) (escaped_each s escapings.Backquotes b) tt (placed (behind T s.at) s) (behind_low T s.at, behind_high T s.at lt)).told
 
@@ -240,8 +240,8 @@ module _ (g : Given) where
   closer_last DoubleBrace p le so = (behind_high T p so, λ e. absurd cc)
   closer_last Arith p le so = (behind_high T (behind T p) so, λ e. absurd cc)
 
-  module _ (inner : Inner) (stays : Stays inner) (mode : Mode) (b : ℕ) (c : Held) (s : State) (le : s.at ≤ length T) where
-    abbrev Turn : Step Held → State → Type 0
+  module _ (inner : Inner) (stays : Stays inner) (mode : Mode) (b : ℕ) (c : WordSoFar) (s : State) (le : s.at ≤ length T) where
+    abbrev Turn : Step WordSoFar → State → Type 0
     Turn x t = Ends (Last mode) s x t
 
     abbrev p : ℕ
@@ -260,7 +260,7 @@ module _ (g : Given) where
     row pieces.Single so = holds_then (On s) Turn (does single Whole g s) (λ u t. Ok (again c, t)) (single_on s) (λ u t on. on)
     row pieces.DollarSingle so = holds_then (On s) Turn (does dollar_single Whole g s) (λ u t. Ok (again c, t)) (dollar_single_on s so) (λ u t on. on)
     row pieces.Double so = opens Double _ (placed (behind T p) s) (behind_low T p) (behind_high T p so)
-    row pieces.Backquote so = holds_then (On s) Turn (does backquoted Whole g s) (λ u t. Ok (again c, t)) (backquoted_on s so) (λ u t on. on)
+    row pieces.Backquote so = holds_then (On s) Turn (does backquoted_text Whole g s) (λ u t. Ok (again c, t)) (backquoted_text_on s so) (λ u t on. on)
     row pieces.Pid so = (omega (arith, behind_low T p, behind_low T (behind T p)), behind_high T (behind T p) so)
     row pieces.Subst so =
         holds_then (λ x t. (behind T (behind T p) ≤ t.at) × (t.at ≤ length T)) Turn (does (inner.substitution _ c.substs) Whole g (placed (behind T (behind T p)) s)) (λ x t. Ok (again (having c.nested x), t))
@@ -309,9 +309,9 @@ module _ (g : Given) where
         by_waiting None = refl
 
     -- a list, and the `)` behind it
-    substituted_end : (s : State) → Tells Whole g (substituted inner) (λ x t. t.at ≤ length T) s
-    unfolding substituted
-    substituted_end s =
+    substitution_list_end : (s : State) → Tells Whole g (substitution_list inner) (λ x t. t.at ≤ length T) s
+    unfolding substitution_list
+    substitution_list_end s =
         tells_then Whole g (shown_next g Command s) (λ n t one. tells_then Whole g (shown_lines g inner fine n t one) (λ l u two. closed_by (is_closing closings.Paren l.next.token) l u refl two))
       where
         closed_by : (b : Bool) → (l : ListSo) (u : State) → is_closing closings.Paren l.next.token ≡ b → Begins g l.next u
@@ -323,7 +323,7 @@ module _ (g : Given) where
 
     substitution_high : (b : ℕ) (ss : Row ASubst) (s : State) → Tells Whole g (a_substitution inner b ss) (λ x t. t.at ≤ length T) s
     unfolding a_substitution one_substitution
-    substitution_high b ss s = tells_inside Whole g (tells_then Whole g (tells_level Whole g (tells_ending Whole g (substituted_end (own_level s))) (λ a t so. so)) (λ x t so. tells_seen Whole g (record { told = so })))
+    substitution_high b ss s = tells_inside Whole g (tells_then Whole g (tells_level Whole g (tells_ending Whole g (substitution_list_end (own_level s))) (λ a t so. so)) (λ x t so. tells_seen Whole g (record { told = so })))
 
     substitution_end : (b : ℕ) (ss : Row ASubst) (s : State) → Holds (λ x t. (s.at ≤ t.at) × (t.at ≤ length T)) (does (a_substitution inner b ss) Whole g s)
     substitution_end b ss s = holds_also (does (a_substitution inner b ss) Whole g s) (low (a_substitution inner b ss) Whole g s).told (substitution_high b ss s).told

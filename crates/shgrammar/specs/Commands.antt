@@ -42,9 +42,9 @@ pick false r q = q
 
 -- ---- which row a token begins
 
-abbrev pub is_newline : Token → Bool
-is_newline tokens.Newline = true
-is_newline _ = false
+abbrev pub is_newline_token : Token → Bool
+is_newline_token tokens.Newline = true
+is_newline_token _ = false
 
 abbrev pub is_pipe : Token → Bool
 is_pipe tokens.Pipe = true
@@ -268,7 +268,7 @@ a_simple inner so = many (item_turn inner) so >>= λ i. give (simple (items_of i
 
 -- a newline with the bodies that follow it, where the token is one, and the token behind it
 unfoldable pub a_newline : Next → Form (Bool × Next)
-a_newline n = pick (is_newline n.token) (move one_byte >> change bodies_here >> next_token Command >>= λ m. give (true, m)) (give (false, n))
+a_newline n = pick (is_newline_token n.token) (move one_byte >> change bodies_here >> next_token Command >>= λ m. give (true, m)) (give (false, n))
 
 -- a `;`, where the token is one, and the token behind it
 unfoldable pub a_semicolon : Next → Form (Bool × Next)
@@ -320,30 +320,30 @@ unfoldable pub redirect_turn : Inner → Items → Form (Step Items)
 redirect_turn inner r = pick (begins_redirect r.next.token) (one_redirect inner r.next.broken Command r.items r.next) (give (done r))
 
 -- a compound command with the redirections behind it, and the token behind them
-unfoldable pub redirected : Inner → ACommand × Next → Form (ACommand × Next)
-redirected inner c = many (redirect_turn inner) (so_many [] Command c.1) >>= λ r. give (with_redirects c.0 (items_of r.items), r.next)
+unfoldable pub with_redirect_list : Inner → ACommand × Next → Form (ACommand × Next)
+with_redirect_list inner c = many (redirect_turn inner) (so_many [] Command c.1) >>= λ r. give (with_redirects c.0 (items_of r.items), r.next)
 
 -- While its redirections are read, a compound command is not open any more.
 abbrev pub compound_by : Inner → Next → Option Opener → Form (ACommand × Next)
-compound_by inner n (Some o) = inner.compound o >>= redirected inner
+compound_by inner n (Some o) = inner.compound o >>= with_redirect_list inner
 compound_by inner n None = unexpected inner n
 
 -- A word that `(` follows is the name of a function, and has to be a NAME (XCU 2.10.2, rule 8).
-abbrev pub named : Inner → Bool → Span → Form (ACommand × Next)
-named inner good name = pick good (inner.function name) (stop BadFunctionName name.start)
+abbrev pub named_function : Inner → Bool → Span → Form (ACommand × Next)
+named_function inner good name = pick good (inner.function name) (stop BadFunctionName name.start)
 
 -- the command that begins with the word here: a function, or a simple command
-unfoldable pub a_worded : Inner → Form (ACommand × Next)
-a_worded inner =
+unfoldable pub a_word_command : Inner → Form (ACommand × Next)
+a_word_command inner =
     see is_a_name >>= λ good.
     a_word inner >>= λ w.
     next_token Suffix >>= λ n.
-    pick (is_paren n.token) (named inner good (word_span w)) (push [] (item false (argument w)) >>= λ is. a_simple inner (so_many is Suffix n))
+    pick (is_paren n.token) (named_function inner good (word_span w)) (push [] (item false (argument w)) >>= λ is. a_simple inner (so_many is Suffix n))
 
 -- the command that the token here begins, and the token behind it
 unfoldable pub a_command : Inner → Next → Form (ACommand × Next)
 a_command inner n =
-    pick (is_word n.token) (a_worded inner)
+    pick (is_word n.token) (a_word_command inner)
     (pick (begins_simple n.token) (a_simple inner (so_many [] Command n))
     (compound_by inner n (opener_of n.token)))
 

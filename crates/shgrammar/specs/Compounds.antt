@@ -78,12 +78,12 @@ behind_opener _ = Command
 
 -- the round bracket or the reserved word here, told by this text, and the token behind
 -- it, which stands in this position
-unfoldable pub passed : Spelled → Bool → Position → Form (Span × Next)
-passed text paren position = token (by text) (move (past_opener paren)) >>= λ x. next_token position >>= λ n. give (x.1, n)
+unfoldable pub reserved_or_paren : Spelled → Bool → Position → Form (Span × Next)
+reserved_or_paren text paren position = token (by text) (move (past_opener paren)) >>= λ x. next_token position >>= λ n. give (x.1, n)
 
 -- what has to stand here, and the token behind it
 unfoldable pub closing : Inner → Closing → Next → Form (Span × Next)
-closing inner c n = pick (is_closing c n.token) (passed (closing_text c) (is_close_paren c) Command) (unexpected inner n)
+closing inner c n = pick (is_closing c n.token) (reserved_or_paren (closing_text c) (is_close_paren c) Command) (unexpected inner n)
 
 -- ---- compound commands, from behind their openers
 
@@ -116,11 +116,11 @@ branched bs n = record { branches = bs; next = n }
 unfoldable pub elif_turn : Inner → Branched → Form (Step Branched)
 elif_turn inner b =
     pick (is_closing closings.Elif b.next.token)
-    (passed (closing_text closings.Elif) false Command >>= λ k. a_branch inner k.1 >>= λ x. push b.branches x.0 >>= λ bs. give (again (branched bs x.1)))
+    (reserved_or_paren (closing_text closings.Elif) false Command >>= λ k. a_branch inner k.1 >>= λ x. push b.branches x.0 >>= λ bs. give (again (branched bs x.1)))
     (give (done b))
 
 unfoldable pub an_else : Inner → Next → Form (Otherwise × Next)
-an_else inner n = pick (is_closing closings.Else n.token) (passed (closing_text closings.Else) false Command >>= λ k. a_list inner k.1 >>= λ l. give (otherwise l.0, l.1)) (give (no_else, n))
+an_else inner n = pick (is_closing closings.Else n.token) (reserved_or_paren (closing_text closings.Else) false Command >>= λ k. a_list inner k.1 >>= λ l. give (otherwise l.0, l.1)) (give (no_else, n))
 
 unfoldable pub an_if : Inner → Next → Form (Closed AForm)
 an_if inner n =
@@ -173,7 +173,7 @@ word_turn inner i = pick (is_word i.next.token) (an_item inner i Suffix) (give (
 -- `in`, words, and what ends them; none of the words is reserved
 unfoldable pub for_words : Inner → Row Span → Form Headed
 for_words inner cs =
-    passed (closing_text closings.In) false Suffix >>= λ i.
+    reserved_or_paren (closing_text closings.In) false Suffix >>= λ i.
     many (word_turn inner) (so_many [] Suffix i.1) >>= λ ws.
     a_sequential_sep inner cs ws.next >>= λ l.
     give (headed (in_words (items_of ws.items)) l)
@@ -337,7 +337,7 @@ held_apart (c ∷ cs) = c
 -- the compound command that opens here, and the token behind it
 unfoldable pub a_compound : Inner → Opener → Form (ACommand × Next)
 a_compound inner o =
-    passed (opener_text o) (is_open_paren o) (behind_opener o) >>= λ x.
+    reserved_or_paren (opener_text o) (is_open_paren o) (behind_opener o) >>= λ x.
     a_form inner o x.1 >>= λ f.
     push [] (compound (formed f.what (through x.0 f.closer) no_item)) >>= λ cs.
     give (held_apart cs, f.next)
@@ -352,7 +352,7 @@ under_name name comments other = other
 -- the brackets behind a name, newlines and comments, and the body, which is a compound command
 unfoldable pub a_function : Inner → Span → Form (ACommand × Next)
 a_function inner name =
-    passed (opener_text openers.Paren) true Command >>= λ o.
+    reserved_or_paren (opener_text openers.Paren) true Command >>= λ o.
     closing inner closings.Paren o.1 >>= λ c.
     a_linebreak [] c.1 >>= λ l.
     compound_by inner l.next (opener_of l.next.token) >>= λ b.

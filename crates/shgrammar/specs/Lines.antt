@@ -14,7 +14,7 @@ use Rattle.shgrammar.specs.Sights.{one_byte, given, standing, State}
 use Rattle.shgrammar.specs.Form.{Form, give, move, change, a_level, ◌>>=◌, ◌>>◌, may, Spelled}
 use Rattle.shgrammar.specs.Words.{Inner}
 use Rattle.shgrammar.specs.Tokens.{is_end}
-use Rattle.shgrammar.specs.Commands.{pick, is_newline, next_token, nothing_waits, unexpected}
+use Rattle.shgrammar.specs.Commands.{pick, is_newline_token, next_token, nothing_waits, unexpected}
 use Rattle.shgrammar.specs.Lists.{list_so, none_listed, on_line}
 use Rattle.shgrammar.specs.Levels.{most_open, level}
 
@@ -23,7 +23,7 @@ abbrev pub line_end_by : Inner → Bool → Bool → Next → Form Bool
 line_end_by inner newline end n = pick newline (move one_byte >> change bodies_here >> give true) (pick end (nothing_waits >> give false) (unexpected inner n))
 
 unfoldable pub end_of_line : Inner → Next → Form Bool
-end_of_line inner n = line_end_by inner (is_newline n.token) (is_end n.token) n
+end_of_line inner n = line_end_by inner (is_newline_token n.token) (is_end n.token) n
 
 -- a line, whose first entry may be blank: entries, and a newline or the end
 unfoldable pub an_open_line : Inner → Bool → Form (Row AnEntry × Bool)

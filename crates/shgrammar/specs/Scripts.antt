@@ -86,12 +86,12 @@ script_at edition B = script_on edition B nothing_yet 0
 
 -- ---- one line read as a script of its own, and the first fault from a place on
 
-abbrev pub line_of : List ℕ → Read (Row AnEntry × Bool) → ALine
-line_of T (Ok ((es, newline), t)) = record { kind = kind_of es newline; next = t.at; ended = is_ended T newline t.at }
-line_of T (Err f) = record { kind = faulty_line f; next = length T; ended = false }
+abbrev pub as_line : List ℕ → Read (Row AnEntry × Bool) → ALine
+as_line T (Ok ((es, newline), t)) = record { kind = kind_of es newline; next = t.at; ended = is_ended T newline t.at }
+as_line T (Err f) = record { kind = faulty_line f; next = length T; ended = false }
 
 unfoldable pub line_of_text : Edition → List ℕ → ALine
-line_of_text edition T = line_of T (does (the_line false) Whole (given edition T 0) (standing 0))
+line_of_text edition T = as_line T (does (the_line false) Whole (given edition T 0) (standing 0))
 
 unfoldable pub first_fault_from : Edition → List ℕ → ℕ → Option Fault
 first_fault_from edition B p = (script_on edition B nothing_yet p).wrong

@@ -13,8 +13,8 @@ use Rattle.shgrammar.specs.Lists.{list_so, none_listed, list_turn}
 use Rattle.shgrammar.specs.Compounds.{is_closing}
 
 -- what stands in a substitution, and its `)`: a list, or newlines and comments alone
-unfoldable pub substituted : Inner → Form Entries
-substituted inner =
+unfoldable pub substitution_list : Inner → Form Entries
+substitution_list inner =
     next_token Command >>= λ n.
     many (list_turn inner) (list_so (none_listed false) n) >>= λ l.
     pick (is_closing closings.Paren l.next.token) (nothing_waits >> move one_byte >> give (entries_of l.list.entries)) (unexpected inner l.next)
@@ -23,7 +23,7 @@ substituted inner =
 -- closed where the text ends in it. Its here-documents are its own.
 unfoldable pub one_substitution : Inner → ℕ → Row ASubst → Form (Row ASubst)
 one_substitution inner b ss =
-    a_level (ends_as UnclosedSubst b (substituted inner)) >>= λ es. see here >>= λ q. push ss (subst (filled es.1 es.0) (record { start = b; «end» = q }))
+    a_level (ends_as UnclosedSubst b (substitution_list inner)) >>= λ es. see here >>= λ q. push ss (subst (filled es.1 es.0) (record { start = b; «end» = q }))
 
 -- the same, of which less may be kept than of what stands around it
 unfoldable pub a_substitution : Inner → ℕ → Row ASubst → Form (Row ASubst)

@@ -30,8 +30,8 @@ escaped_turn how b u =
     (see (a_raw (closes_by how)) >>= λ last. move one_taken >> give (step_if (not last) tt)))
 
 -- text in backquotes, from its opener on
-unfoldable pub backquoted : Form (Unit {0})
-backquoted = see the_byte >>= λ b. move one_byte >> many (escaped_turn escapings.Backquotes b) tt
+unfoldable pub backquoted_text : Form (Unit {0})
+backquoted_text = see the_byte >>= λ b. move one_byte >> many (escaped_turn escapings.Backquotes b) tt
 
 -- text in dollar-single quotes, from its `$` on
 unfoldable pub dollar_single : Form (Unit {0})
@@ -55,20 +55,20 @@ pub record Inner : Type 1 where
 -- ---- pieces
 
 -- how many brackets are open in arithmetic, and the substitutions so far
-pub record Held : Type 0 where
+pub record WordSoFar : Type 0 where
   pub nested : ℕ
   pub substs : Row ASubst
 
-abbrev pub having : ℕ → Row ASubst → Held
+abbrev pub having : ℕ → Row ASubst → WordSoFar
 having n ss = record { nested = n; substs = ss }
 
 -- a construct, from behind its opener on
-abbrev pub opened : Inner → Mode → ℕ → Held → Form (Step Held)
+abbrev pub opened : Inner → Mode → ℕ → WordSoFar → Form (Step WordSoFar)
 opened inner mode b h = inner.construct mode b h.substs >>= λ ss. give (again (having h.nested ss))
 
 -- One piece, or the end of the construct that opened at b. A fault stands where the piece begins, past
 -- continuations; that of text that ends inside at the opener.
-abbrev pub piece_row : Inner → Mode → ℕ → Held → Piece → Form (Step Held)
+abbrev pub piece_row : Inner → Mode → ℕ → WordSoFar → Piece → Form (Step WordSoFar)
 piece_row inner mode b h pieces.Closer = move (the_closer mode) >> give (done h)
 piece_row inner mode b h pieces.Missing = stop (unclosed mode) b
 piece_row inner mode b h pieces.LoneBackslash = see the_byte >>= λ q. stop LoneBackslash q
@@ -76,7 +76,7 @@ piece_row inner mode b h pieces.Escape = move continuations >> move one_taken >>
 piece_row inner mode b h pieces.Single = single >> give (again h)
 piece_row inner mode b h pieces.DollarSingle = dollar_single >> give (again h)
 piece_row inner mode b h pieces.Double = see the_byte >>= λ q. move one_byte >> opened inner Double q h
-piece_row inner mode b h pieces.Backquote = backquoted >> give (again h)
+piece_row inner mode b h pieces.Backquote = backquoted_text >> give (again h)
 piece_row inner mode b h pieces.Pid = move one_byte >> move one_byte >> give (again h)
 piece_row inner mode b h pieces.Subst =
     see the_byte >>= λ q. move one_byte >> move one_byte >> inner.substitution q h.substs >>= λ ss. give (again (having h.nested ss))
@@ -97,7 +97,7 @@ holds_others pieces.Arith = true
 holds_others pieces.Param = true
 holds_others _ = false
 
-unfoldable pub a_piece : Inner → Mode → ℕ → Held → Form (Step Held)
+unfoldable pub a_piece : Inner → Mode → ℕ → WordSoFar → Form (Step WordSoFar)
 a_piece inner mode b h = see (the_piece mode h.nested) >>= piece_row inner mode b h
 
 -- what a construct holds, up to its end, behind these substitutions

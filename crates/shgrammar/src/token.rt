@@ -235,7 +235,7 @@ pub enum Opener {
 impl Opener {
     /// The position behind it.
     #[inline(always)]
-    pub fn behind(self) -> Position
+    pub fn position_after(self) -> Position
         ensures { result ≡ behind_opener self }
     {
         match self {

@@ -22,9 +22,9 @@ use Rattle.shgrammar.specs.declared.token.Token.{Token}
 use Rattle.shgrammar.specs.declared.token.Token.TheVariants as tokens
 use Rattle.shgrammar.specs.Bytes.{behind}
 use Rattle.shgrammar.specs.Classes.{is_digit, is_name}
-use Rattle.shgrammar.specs.Commands.{pick, next_token, is_newline, is_semicolon, a_semicolon, is_pipe, is_bang, begins_simple, begins_word, begins_redirect, begins_pipeline, opener_of, compound_by, and_or_operator_of, Items, so_many, breaks, behind_word, one_redirect, behind_redirect, redirect_turn, redirected, an_item, item_by, item_turn, a_simple, unexpected, comment_by, a_comment, a_newline, with_comment, JoinSo, join_turn, a_join, a_command, a_bang, Piped, piped, one_command, pipe_turn, a_pipeline, Joined, one_pipeline, joined_by, join_pipeline, an_and_or, separator_of, separator_by, a_separator, an_entry, is_paren, is_word, a_worded, ends_item, falls_through, is_long, is_number_token, is_strip, redirect_operator_of, a_number, an_operator, operator_by, a_target, a_document, document_by, takes_here}
+use Rattle.shgrammar.specs.Commands.{pick, next_token, is_newline_token, is_semicolon, a_semicolon, is_pipe, is_bang, begins_simple, begins_word, begins_redirect, begins_pipeline, opener_of, compound_by, and_or_operator_of, Items, so_many, breaks, behind_word, one_redirect, behind_redirect, redirect_turn, with_redirect_list, an_item, item_by, item_turn, a_simple, unexpected, comment_by, a_comment, a_newline, with_comment, JoinSo, join_turn, a_join, a_command, a_bang, Piped, piped, one_command, pipe_turn, a_pipeline, Joined, one_pipeline, joined_by, join_pipeline, an_and_or, separator_of, separator_by, a_separator, an_entry, is_paren, is_word, a_word_command, ends_item, falls_through, is_long, is_number_token, is_strip, redirect_operator_of, a_number, an_operator, operator_by, a_target, a_document, document_by, takes_here}
 use Rattle.shgrammar.specs.Comments.{comment_at, past_comment}
-use Rattle.shgrammar.specs.Compounds.{Branched, branched, Closed, is_closing, is_open_paren, is_close_paren, past_opener, passed, closing, a_branch, elif_turn, an_else, an_if, a_loop, a_group, a_for_name, a_linebreak, a_sequential_sep, begins_words, Headed, word_turn, for_words, a_for_head, a_for, a_form, a_compound, a_function, a_case_word, begins_pattern, Patterned, a_pattern, one_pattern, pattern_turn, a_pattern_list, an_open_bracket, a_body, ItemEnd, an_ender, an_item_end, CasesSo, cases_so, one_case, case_turn, a_case_head, a_case}
+use Rattle.shgrammar.specs.Compounds.{Branched, branched, Closed, is_closing, is_open_paren, is_close_paren, past_opener, reserved_or_paren, closing, a_branch, elif_turn, an_else, an_if, a_loop, a_group, a_for_name, a_linebreak, a_sequential_sep, begins_words, Headed, word_turn, for_words, a_for_head, a_for, a_form, a_compound, a_function, a_case_word, begins_pattern, Patterned, a_pattern, one_pattern, pattern_turn, a_pattern_list, an_open_bracket, a_body, ItemEnd, an_ender, an_item_end, CasesSo, cases_so, one_case, case_turn, a_case_head, a_case}
 use Rattle.shgrammar.specs.Form.{Form, Spelled, Told, give, see, move, push, both, change, many, step_if, token}
 use Rattle.shgrammar.specs.HereDocuments.{ADelimiter, bodies_from, bodies_here, changed, state_by, waits, with_waiting}
 use Rattle.shgrammar.specs.Levels.{level}
@@ -157,8 +157,8 @@ module _ (g : Given) where
   newline_in : (n : Next) (s : State) → Handed n s → N (a_newline n) Behind s
   unfolding a_newline
   newline_in n s so =
-      picked (is_newline n.token)
-      (λ e. moved_on one_byte (read_on n s so is_newline refl e) ▹ λ x t le. bodies_in t le ▹ λ y u low.
+      picked (is_newline_token n.token)
+      (λ e. moved_on one_byte (read_on n s so is_newline_token refl e) ▹ λ x t le. bodies_in t le ▹ λ y u low.
       onward Command low ▹ λ m v good. gives good)
       (gives so)
 
@@ -321,9 +321,9 @@ module _ (g : Given) where
         (λ e. redirect_in i.next.broken Command i.items i.next s so)
         (gives so)
 
-    redirected_in : (c : ACommand × Next) (s : State) → Handed c.1 s → N (redirected inner c) Behind s
-    unfolding redirected
-    redirected_in c s so =
+    with_redirect_list_in : (c : ACommand × Next) (s : State) → Handed c.1 s → N (with_redirect_list inner c) Behind s
+    unfolding with_redirect_list
+    with_redirect_list_in c s so =
         let none = so_many [] Command c.1 in
         tells_many Whole g (redirect_turn inner) ItemsHanded redirect_turn_in none s so ▹ λ r t good.
         gives good
@@ -333,12 +333,12 @@ module _ (g : Given) where
       where
         by_opener : (o : Option Opener) → opener_of n.token ≡ o → N (compound_by inner n o) Behind s
         by_opener (Some o) is =
-            stays.compound o s (read n s so (λ t. is_some (opener_of t)) refl (ap is_some is)) ▹ redirected_in
+            stays.compound o s (read n s so (λ t. is_some (opener_of t)) refl (ap is_some is)) ▹ with_redirect_list_in
         by_opener None is = stops inner n
 
-    worded_in : (s : State) → s.at ≤ length T → N (a_worded inner) Behind s
-    unfolding a_worded
-    worded_in s le =
+    word_command_in : (s : State) → s.at ≤ length T → N (a_word_command inner) Behind s
+    unfolding a_word_command
+    word_command_in s le =
         sees (stays.words s le ▹ λ w u low. onward Suffix low ▹ λ n v so.
         picked (is_paren n.token)
         (λ e. let byte = read n v so is_paren refl e in
@@ -348,7 +348,7 @@ module _ (g : Given) where
     command_in : (n : Next) (s : State) → Handed n s → N (a_command inner n) Behind s
     unfolding a_command
     command_in n s so =
-        picked (is_word n.token) (λ e. worded_in s so.within)
+        picked (is_word n.token) (λ e. word_command_in s so.within)
         (picked (begins_simple n.token) (λ e. simple_in (so_many [] Command n) s so) (compound_in n s so))
 
     bang_in : (n : Next) (s : State) → Handed n s → N (a_bang n) Behind s
@@ -464,10 +464,10 @@ module _ (g : Given) where
     opener_high true p is = behind_high T p is
     opener_high false p is = reserved_high p is
 
-    passed_in : (text : Spelled) (paren : Bool) (position : Position) (s : State) → IsRead T s.at
-        → N (passed text paren position) Behind s
-    unfolding passed
-    passed_in text paren position s is =
+    reserved_or_paren_in : (text : Spelled) (paren : Bool) (position : Position) (s : State) → IsRead T s.at
+        → N (reserved_or_paren text paren position) Behind s
+    unfolding reserved_or_paren
+    reserved_or_paren_in text paren position s is =
         token_on (moved_on (past_opener paren) (opener_high paren s.at is)) ▹ λ x t le.
         onward position le ▹ λ n u good. gives good
 
@@ -478,7 +478,7 @@ module _ (g : Given) where
     unfolding closing
     closing_in c n s so =
         picked (is_closing c n.token)
-        (λ e. passed_in _ (is_close_paren c) _ s (closes c n s so e))
+        (λ e. reserved_or_paren_in _ (is_close_paren c) _ s (closes c n s so e))
         (stops inner n)
 
     branch_in : (n : Next) (s : State) → Handed n s → N (a_branch inner n) Behind s
@@ -495,7 +495,7 @@ module _ (g : Given) where
     unfolding elif_turn
     elif_in b s so =
         picked (is_closing closings.Elif b.next.token)
-        (λ e. passed_in _ false _ s (closes closings.Elif b.next s so e) ▹ λ k t one.
+        (λ e. reserved_or_paren_in _ false _ s (closes closings.Elif b.next s so e) ▹ λ k t one.
         branch_in k.1 t one ▹ λ x u good. pushed_on (gives good))
         (gives so)
 
@@ -503,7 +503,7 @@ module _ (g : Given) where
     unfolding an_else
     else_in n s so =
         picked (is_closing closings.Else n.token)
-        (λ e. passed_in _ false _ s (closes closings.Else n s so e) ▹ λ k t one.
+        (λ e. reserved_or_paren_in _ false _ s (closes closings.Else n s so e) ▹ λ k t one.
         list_in k.1 t one ▹ λ l u good. gives good)
         (gives so)
 
@@ -555,7 +555,7 @@ module _ (g : Given) where
     for_words_in : (cs : Row Span) (s : State) → IsRead T s.at → N (for_words inner cs) HeadHanded s
     unfolding for_words
     for_words_in cs s is =
-        passed_in _ false _ s is ▹ λ i t one.
+        reserved_or_paren_in _ false _ s is ▹ λ i t one.
         tells_many Whole g (word_turn inner) ItemsHanded word_turn_in _ t one ▹ λ ws u two.
         sep_in cs ws.next u two ▹ λ l v good. gives good
 
@@ -675,13 +675,13 @@ module _ (g : Given) where
     a_compound_in : (o : Opener) (s : State) → IsRead T s.at → N (a_compound inner o) Behind s
     unfolding a_compound
     a_compound_in o s is =
-        passed_in _ (is_open_paren o) _ s is ▹ λ x t one. form_in o x.1 t one ▹ λ f u good.
+        reserved_or_paren_in _ (is_open_paren o) _ s is ▹ λ x t one. form_in o x.1 t one ▹ λ f u good.
         pushed_on (gives good)
 
     a_function_in : (name : Span) (s : State) → IsRead T s.at → N (a_function inner name) Behind s
     unfolding a_function
     a_function_in name s is =
-        passed_in _ true Command s is ▹ λ o t one. closing_in closings.Paren o.1 t one ▹ λ c u two.
+        reserved_or_paren_in _ true Command s is ▹ λ o t one. closing_in closings.Paren o.1 t one ▹ λ c u two.
         linebreak_in [] c.1 u two ▹ λ l v three. compound_in l.next v three ▹ λ b w good. gives good
 
   words_in : (room : ℕ) (s : State) → s.at ≤ length T → N (a_word (level room)) InText s

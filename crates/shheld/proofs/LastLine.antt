@@ -10,7 +10,7 @@ use Rattle.shgrammar.specs.declared.token.Position.TheVariants.{Command}
 use Rattle.shgrammar.specs.declared.token.Token.{Token}
 use Rattle.shgrammar.specs.declared.token.Token.TheVariants as tokens
 use Rattle.shgrammar.specs.Bytes.{behind}
-use Rattle.shgrammar.specs.Commands.{is_newline, none_waits, nothing_waits}
+use Rattle.shgrammar.specs.Commands.{is_newline_token, none_waits, nothing_waits}
 use Rattle.shgrammar.specs.Form.{change, does, nothing_read}
 use Rattle.shgrammar.specs.HereDocuments.{bodies_here, first_waiting, own_level}
 use Rattle.shgrammar.specs.Levels.{level, most_open}
@@ -34,7 +34,7 @@ use Rattle.shheld.proofs.TopLines.{held, top_lines}
 
 -- ---- where a line ends
 
-newline_is : (t : Token) → is_newline t ≡ true → t ≡ tokens.Newline
+newline_is : (t : Token) → is_newline_token t ≡ true → t ≡ tokens.Newline
 newline_is tokens.Newline e = refl
 newline_is _ e = absurd cc
 
@@ -77,13 +77,13 @@ module _ (g : Given) where
       → Tells Whole g (end_of_line inner n) Rest s
   unfolding end_of_line behind
   end_rest inner n s so =
-      picked g (is_newline n.token)
+      picked g (is_newline_token n.token)
       (λ e. let here = so.shows.6 in
       let at : s.at ≡ behind T s.at - 1 = omega (arith, here) in
       let newline = subst (λ p. raw_stands T p 10 ≡ true) at (so.shows.2 (newline_is n.token e)) in
       tells_moved Whole g
       (tells_then Whole g
-      (bodies_rest (record s { at = behind T s.at }) (read_on g n s so is_newline refl e) newline)
+      (bodies_rest (record s { at = behind T s.at }) (read_on g n s so is_newline_token refl e) newline)
       (λ x t rest. tells_give Whole g rest)))
       (picked g (is_end n.token)
       (λ e. let within = so.within in

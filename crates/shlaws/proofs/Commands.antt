@@ -20,7 +20,7 @@ use Rattle.shgrammar.specs.Shows.{IsRead}
 use Rattle.shgrammar.specs.Sights.{Given, State, one_byte}
 use Rattle.shgrammar.specs.Tokens.{is_end}
 use Rattle.shgrammar.specs.Words.{Inner}
-use Rattle.shgrammar.specs.Commands.{ASeparator, Items, Joined, JoinSo, Piped, a_bang, a_command, a_comment, a_document, a_join, a_newline, a_number, a_pipeline, a_semicolon, a_separator, a_simple, a_target, a_worded, an_and_or, an_entry, an_item, an_operator, and_or_operator_of, begins_redirect, begins_simple, begins_word, behind_redirect, behind_word, breaks, comment_by, compound_by, document_by, is_bang, is_long, is_newline, is_number_token, is_paren, is_pipe, is_semicolon, is_strip, is_word, item_by, item_turn, join_pipeline, join_turn, joined_by, joined_so, next_token, none_waits, nothing_waits, one_command, one_pipeline, one_redirect, opener_of, operator_by, past_separator, pipe_turn, piped, redirect_operator_of, redirect_turn, redirected, separator_by, separator_of, so_many, takes_here, unexpected, what_is_wrong, with_comment}
+use Rattle.shgrammar.specs.Commands.{ASeparator, Items, Joined, JoinSo, Piped, a_bang, a_command, a_comment, a_document, a_join, a_newline, a_number, a_pipeline, a_semicolon, a_separator, a_simple, a_target, a_word_command, an_and_or, an_entry, an_item, an_operator, and_or_operator_of, begins_redirect, begins_simple, begins_word, behind_redirect, behind_word, breaks, comment_by, compound_by, document_by, is_bang, is_long, is_newline_token, is_number_token, is_paren, is_pipe, is_semicolon, is_strip, is_word, item_by, item_turn, join_pipeline, join_turn, joined_by, joined_so, next_token, none_waits, nothing_waits, one_command, one_pipeline, one_redirect, opener_of, operator_by, past_separator, pipe_turn, piped, redirect_operator_of, redirect_turn, with_redirect_list, separator_by, separator_of, so_many, takes_here, unexpected, what_is_wrong, with_comment}
 use Rattle.shgrammar.proofs.Places.{behind_low}
 use Rattle.shgrammar.proofs.Shown.{shown_in}
 use Rattle.shlaws.proofs.Forms.{Goes, Steps, ahead, beyond, changing, first, follows, gives, leads_byte, leads_far, leads_from, led, led_on, moves, moves_to, picks, picks_by, pushes, repeats, sees, step_by, stops, tokens as one_token, with_the_bytes}
@@ -106,8 +106,8 @@ module _ (g : Given) where
   pub newline_on : (n : Next) (s : State) → Begins g n s → Goes g (a_newline n) (FurtherIf s) s
   unfolding a_newline
   newline_on n s so =
-      picks_by g (is_newline n.token)
-      (λ e. let on = byte_leads s (read_here is_newline refl n s so e) in
+      picks_by g (is_newline_token n.token)
+      (λ e. let on = byte_leads s (read_here is_newline_token refl n s so e) in
       moves g (follows g (led_on g s on (first g (changing g) (λ x t one. next_given Command t)))
       (λ x u good. (good.0, λ f. good.1))))
       (λ e. gives g (so, λ f. absurd cc))
@@ -248,19 +248,19 @@ module _ (g : Given) where
         picks g (begins_redirect i.next.token)
         (redirect_on i.next.broken Command i.items i.next s so) (gives g so)
 
-    redirected_on : (c : ACommand × Next) (s : State) → Begins g c.1 s → Goes g (redirected inner c) Behind s
-    unfolding redirected
-    redirected_on c s so =
+    with_redirect_list_on : (c : ACommand × Next) (s : State) → Begins g c.1 s → Goes g (with_redirect_list inner c) Behind s
+    unfolding with_redirect_list
+    with_redirect_list_on c s so =
         first g (repeats g ItemsShown redirect_turn_on (so_many [] Command c.1) s so)
         (λ r t good. gives g good)
 
     pub compound_on_by : (n : Next) (o : Option Opener) (s : State) → Goes g (compound_by inner n o) Behind s
-    compound_on_by n (Some o) s = first g (fine.compound o s) redirected_on
+    compound_on_by n (Some o) s = first g (fine.compound o s) with_redirect_list_on
     compound_on_by n None s = stopped n
 
-    worded_on : (s : State) → Goes g (a_worded inner) Behind s
-    unfolding a_worded
-    worded_on s =
+    word_command_on : (s : State) → Goes g (a_word_command inner) Behind s
+    unfolding a_word_command
+    word_command_on s =
         sees g (first g (word_on g inner fine s) (λ w t one. first g (next_on Suffix t)
         (λ n u so. picks g (is_paren n.token) (picks g _ (fine.function (word_span w) u) (stops g))
         (pushes g (simple_on (so_many _ Suffix n) u so)))))
@@ -268,7 +268,7 @@ module _ (g : Given) where
     command_on : (n : Next) (s : State) → Begins g n s → Goes g (a_command inner n) Behind s
     unfolding a_command
     command_on n s so =
-        picks g (is_word n.token) (worded_on s)
+        picks g (is_word n.token) (word_command_on s)
         (picks g (begins_simple n.token) (simple_on (so_many [] Command n) s so)
         (compound_on_by n (opener_of n.token) s))
 

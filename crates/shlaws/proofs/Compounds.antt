@@ -20,8 +20,8 @@ use Rattle.shgrammar.specs.Tokens.{past_reserved}
 use Rattle.shgrammar.specs.Words.{Inner}
 use Rattle.shgrammar.specs.Commands.{Items, begins_pipeline, begins_word, ends_item, falls_through, is_paren, is_pipe, is_word, opener_of, so_many}
 use Rattle.shgrammar.specs.Lists.{ListSo, a_list, a_remark, entry_turn, list_so, list_turn, none_listed, on_line, one_entry, remark_by}
-use Rattle.shgrammar.specs.Compounds.{Branched, CasesSo, Closed, Headed, ItemEnd, Patterned, a_body, a_branch, a_case, a_case_head, a_case_word, a_compound, a_for, a_for_head, a_for_name, a_form, a_function, a_group, a_linebreak, a_loop, a_pattern, a_pattern_list, a_sequential_sep, an_else, an_ender, an_if, an_item_end, an_open_bracket, begins_pattern, branched, case_turn, cases_so, closing, elif_turn, for_words, is_close_paren, is_closing, is_open_paren, one_case, one_pattern, passed, past_opener, pattern_turn, word_turn}
-use Rattle.shgrammar.specs.Substitutions.{a_substitution, one_substitution, substituted}
+use Rattle.shgrammar.specs.Compounds.{Branched, CasesSo, Closed, Headed, ItemEnd, Patterned, a_body, a_branch, a_case, a_case_head, a_case_word, a_compound, a_for, a_for_head, a_for_name, a_form, a_function, a_group, a_linebreak, a_loop, a_pattern, a_pattern_list, a_sequential_sep, an_else, an_ender, an_if, an_item_end, an_open_bracket, begins_pattern, branched, case_turn, cases_so, closing, elif_turn, for_words, is_close_paren, is_closing, is_open_paren, one_case, one_pattern, past_opener, pattern_turn, reserved_or_paren, word_turn}
+use Rattle.shgrammar.specs.Substitutions.{a_substitution, one_substitution, substitution_list}
 use Rattle.shgrammar.proofs.Places.{behind_low, past_low}
 use Rattle.shgrammar.specs.Classes.{is_name}
 use Rattle.shlaws.proofs.Forms.{Goes, Steps, ahead, ending, first, follows, gives, in_level, in_subst, leads_byte, leads_from, led, moves, moves_to, picks, picks_by, pushes, pushes_to, repeats, sees, step_by, stops, tokens as one_token}
@@ -58,18 +58,18 @@ module _ (g : Given) where
   T = g.text
 
   -- a bracket or a reserved word, where a byte is read
-  passed_on : (text : Spelled) (paren : Bool) (position : Position) (s : State)
-      → Goes g (passed text paren position)
+  reserved_or_paren_on : (text : Spelled) (paren : Bool) (position : Position) (s : State)
+      → Goes g (reserved_or_paren text paren position)
       (λ x t. Begins g x.1 t × (IsRead T s.at → leads_on g s t ≡ true)) s
-  unfolding passed
-  passed_on text paren position s =
+  unfolding reserved_or_paren
+  reserved_or_paren_on text paren position s =
       first g (one_token g {P = λ x t. s.at < t.at} (moves_to g (opener_far paren T s.at)))
       (λ x t on. follows g (ahead g (next_given g position t))
       (λ y u good. (good.0, λ read. leads_byte g s u read (omega (arith, on, good.1)))))
 
-  passed_only : (text : Spelled) (paren : Bool) (position : Position) (s : State)
-      → Goes g (passed text paren position) (Behind g) s
-  passed_only text paren position s = follows g (passed_on text paren position s) (λ x t good. good.0)
+  reserved_or_paren_only : (text : Spelled) (paren : Bool) (position : Position) (s : State)
+      → Goes g (reserved_or_paren text paren position) (Behind g) s
+  reserved_or_paren_only text paren position s = follows g (reserved_or_paren_on text paren position s) (λ x t good. good.0)
 
   linebreak_on : (cs : Row Span) (n : Next) (s : State) → Begins g n s
       → Goes g (a_linebreak cs n) (JoinShown g) s
@@ -126,7 +126,7 @@ module _ (g : Given) where
     unfolding closing
     closing_on c n s so =
         picks_by g (is_closing c n.token)
-        (λ e. follows g (passed_on _ (is_close_paren c) _ s)
+        (λ e. follows g (reserved_or_paren_on _ (is_close_paren c) _ s)
         (λ x t good. (good.0, good.1 (read_here g (is_closing c) (end_closes c) n s so e))))
         (λ e. stopped g inner fine n)
 
@@ -153,7 +153,7 @@ module _ (g : Given) where
     unfolding elif_turn
     elif_turn_on b s so =
         picks_by g (is_closing closings.Elif b.next.token)
-        (λ e. first g (passed_on _ false Command s)
+        (λ e. first g (reserved_or_paren_on _ false Command s)
         (λ k t one. led g BranchedShown s (one.1 (read_here g (is_closing closings.Elif) refl b.next s so e))
         (first g (branch_on k.1 t one.0) (λ x u good. pushes g (gives g good)))))
         (λ e. gives g so)
@@ -162,7 +162,7 @@ module _ (g : Given) where
     unfolding an_else
     else_on n s so =
         picks g (is_closing closings.Else n.token)
-        (first g (passed_only _ false Command s)
+        (first g (reserved_or_paren_only _ false Command s)
         (λ k t one. first g (list_on k.1 t one) (λ l u good. gives g good)))
         (gives g so)
 
@@ -212,7 +212,7 @@ module _ (g : Given) where
     for_words_on : (cs : Row Span) (s : State) → Goes g (for_words inner cs) HeadShown s
     unfolding for_words
     for_words_on cs s =
-        first g (passed_only _ false Suffix s)
+        first g (reserved_or_paren_only _ false Suffix s)
         (λ i t one. first g (repeats g (ItemsShown g) word_turn_on (so_many [] Suffix i.1) t one)
         (λ ws u two. first g (sep_on cs ws.next u two) (λ l v good. gives g good)))
 
@@ -326,22 +326,22 @@ module _ (g : Given) where
     pub compound_on : (o : Opener) (s : State) → Goes g (a_compound inner o) (Behind g) s
     unfolding a_compound
     compound_on o s =
-        first g (passed_only _ (is_open_paren o) _ s) (λ x t one. first g (form_on o x.1 t one)
+        first g (reserved_or_paren_only _ (is_open_paren o) _ s) (λ x t one. first g (form_on o x.1 t one)
         (λ f u good. pushes g (gives g good)))
 
     pub function_on : (name : Span) (s : State) → Goes g (a_function inner name) (Behind g) s
     unfolding a_function
     function_on name s =
-        first g (passed_only _ true Command s) (λ o t one. first g (closing_on closings.Paren o.1 t one)
+        first g (reserved_or_paren_only _ true Command s) (λ o t one. first g (closing_on closings.Paren o.1 t one)
         (λ c u two. first g (linebreak_on [] c.1 u two.0)
         (λ l v three. first g (compound_on_by g inner fine l.next (opener_of l.next.token) v)
         (λ b w good. gives g good))))
 
     -- ---- substitutions
 
-    substituted_on : (s : State) → Goes g (substituted inner) (All g) s
-    unfolding substituted
-    substituted_on s =
+    substitution_list_on : (s : State) → Goes g (substitution_list inner) (All g) s
+    unfolding substitution_list
+    substitution_list_on s =
         first g (next_on g Command s) (λ n t one. first g (lines_on n t one) (λ l u two.
         picks g (is_closing closings.Paren l.next.token) (first g (nothing_on g u)
         (λ w v three. moves g (gives g tt))) (stopped g inner fine l.next)))
@@ -349,5 +349,5 @@ module _ (g : Given) where
     pub substitution_on : (b : ℕ) (ss : Row ASubst) (s : State) → Goes g (a_substitution inner b ss) (All g) s
     unfolding a_substitution one_substitution
     substitution_on b ss s =
-        in_subst g (first g (in_level g (ending g (substituted_on (own_level s))))
+        in_subst g (first g (in_level g (ending g (substitution_list_on (own_level s))))
         (λ es t one. sees g (pushes_to g tt)))

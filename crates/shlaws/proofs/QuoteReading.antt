@@ -28,7 +28,7 @@ use Rattle.shgrammar.specs.Standing.{at_end, is_byte, raw_stands}
 use Rattle.shgrammar.specs.States.{Given, State, given, standing}
 use Rattle.shgrammar.specs.Tokens.{is_later}
 use Rattle.shgrammar.specs.Unquoting.{left_of}
-use Rattle.shgrammar.specs.Words.{Held, a_piece, a_word, contents, having, piece_row, single}
+use Rattle.shgrammar.specs.Words.{WordSoFar, a_piece, a_word, contents, having, piece_row, single}
 use Rattle.shgrammar.proofs.Anywhere.{anywhere}
 use Rattle.shgrammar.proofs.Levels.{level_below, level_closed}
 use Rattle.shgrammar.proofs.OneOutcome.{is}
@@ -119,10 +119,10 @@ module _ (edition : Edition) (W : List ℕ) (o : ℕ) where
   abbrev g : Given
   g = given edition W o
 
-  abbrev one : ℕ → Mode → ℕ → Held → State → Read (Step Held)
+  abbrev one : ℕ → Mode → ℕ → WordSoFar → State → Read (Step WordSoFar)
   one room mode b h s = does (a_piece (level room) mode b h) Whole g s
 
-  abbrev all : ℕ → Mode → ℕ → Held → State → Read Held
+  abbrev all : ℕ → Mode → ℕ → WordSoFar → State → Read WordSoFar
   all room mode b h s = does (many (a_piece (level room) mode b) h) Whole g s
 
   abbrev place : State → ℕ → State
@@ -136,7 +136,7 @@ module _ (edition : Edition) (W : List ℕ) (o : ℕ) where
   nested_alike DoubleBrace n p read = absurd cc
   nested_alike Arith n p read = absurd cc
 
-  row_is : (room : ℕ) (mode : Mode) (b : ℕ) (h : Held) (s : State) (z : Piece) → is_unquoted mode ≡ true
+  row_is : (room : ℕ) (mode : Mode) (b : ℕ) (h : WordSoFar) (s : State) (z : Piece) → is_unquoted mode ≡ true
       → piece_by_edition edition W mode s.at ≡ z
       → one room mode b h s ≡ does (piece_row (level room) mode b h z) Whole g s
   unfolding a_piece
@@ -144,11 +144,11 @@ module _ (edition : Edition) (W : List ℕ) (o : ℕ) where
       ap (λ y. does (piece_row (level room) mode b h y) Whole g s)
       (ap (piece_in edition mode) (nested_alike mode h.nested s.at read) ∙ is)
 
-  fails : (room : ℕ) (mode : Mode) (b : ℕ) (h h2 : Held) (s t : State) (f : Fault)
+  fails : (room : ℕ) (mode : Mode) (b : ℕ) (h h2 : WordSoFar) (s t : State) (f : Fault)
       → one room mode b h s ≡ Err f → all room mode b h s ≡ Ok (h2, t) → ⊥
   unfolding many
   fails room mode b h h2 s t f one_is whole =
-      let no : ◌≡◌ {A = Read Held} (Err f) (Ok (h2, t)) =
+      let no : ◌≡◌ {A = Read WordSoFar} (Err f) (Ok (h2, t)) =
       sym (turns_fault g (λ a u. one room mode b a u) h s f one_is) ∙ whole in
       absurd cc
 
@@ -157,11 +157,11 @@ module _ (edition : Edition) (W : List ℕ) (o : ℕ) where
 
   abbrev Finds : ℕ → Type 0
   Finds n =
-      (room : ℕ) (mode : Mode) (b : ℕ) (h h2 : Held) (s t : State) → is_unquoted mode ≡ true
+      (room : ℕ) (mode : Mode) (b : ℕ) (h h2 : WordSoFar) (s t : State) → is_unquoted mode ≡ true
       → length W - s.at < n → s.at ≤ length W → Clear (is_later edition) W (quoting_in mode) s.at
       → all room mode b h s ≡ Ok (h2, t) → Goes mode s.at t.at
 
-  module _ (n : ℕ) (finds : Finds n) (room : ℕ) (mode : Mode) (b : ℕ) (h h2 : Held) (s t : State)
+  module _ (n : ℕ) (finds : Finds n) (room : ℕ) (mode : Mode) (b : ℕ) (h h2 : WordSoFar) (s t : State)
       (read : is_unquoted mode ≡ true) (few : length W - s.at < suc n) (within : s.at ≤ length W)
       (clear : Clear (is_later edition) W (quoting_in mode) s.at)
       (whole : all room mode b h s ≡ Ok (h2, t)) where
@@ -169,7 +169,7 @@ module _ (edition : Edition) (W : List ℕ) (o : ℕ) where
     Is z = piece_by_edition edition W mode s.at ≡ z
 
     -- a turn that leads on
-    goes_on : (h1 : Held) (u : State) (text : List ℕ) → one room mode b h s ≡ Ok (again h1, u) → s.at < u.at
+    goes_on : (h1 : WordSoFar) (u : State) (text : List ℕ) → one room mode b h s ≡ Ok (again h1, u) → s.at < u.at
         → u.at ≤ length W
         → Leads (is_later edition) W (quoting_in mode) s.at text (quoting_in mode) u.at → Goes mode u.at t.at
     goes_on h1 u text turn onward inside leads =
@@ -177,7 +177,7 @@ module _ (edition : Edition) (W : List ℕ) (o : ℕ) where
         (clear_on (is_later edition) W (quoting_in mode) (quoting_in mode) s.at u.at text leads clear)
         (sym (many_again (a_piece (level room) mode b) Whole g h h1 s u turn onward inside) ∙ whole)
 
-    abbrev turned : Held → State → Read (Step Held)
+    abbrev turned : WordSoFar → State → Read (Step WordSoFar)
     turned h1 u = Ok (again h1, u)
 
     byte_within : (p c : ℕ) → byte_at W p ≡ Some c → behind W p ≤ length W
@@ -189,10 +189,10 @@ module _ (edition : Edition) (W : List ℕ) (o : ℕ) where
         let last =
         many_done (a_piece (level room) mode b) Whole g h h s (place s (past_closer W mode s.at))
         (row_is room mode b h s pieces.Closer read is) in
-        let same : ◌≡◌ {A = Read Held} (Ok (h, place s (past_closer W mode s.at))) (Ok (h2, t)) =
+        let same : ◌≡◌ {A = Read WordSoFar} (Ok (h, place s (past_closer W mode s.at))) (Ok (h2, t)) =
         sym last ∙ whole in
-        let pair : ◌≡◌ {A = Held × State} (h, place s (past_closer W mode s.at)) (h2, t) = cc in
-        let at : past_closer W mode s.at ≡ t.at = ap (λ (z : Held × State). z.1.at) pair in
+        let pair : ◌≡◌ {A = WordSoFar × State} (h, place s (past_closer W mode s.at)) (h2, t) = cc in
+        let at : past_closer W mode s.at ≡ t.at = ap (λ (z : WordSoFar × State). z.1.at) pair in
         subst (λ (q : ℕ). Goes mode s.at q) at ([], ended is)
 
     ordinary_here : Is pieces.Ordinary → Goes mode s.at t.at
@@ -279,7 +279,7 @@ module _ (edition : Edition) (W : List ℕ) (o : ℕ) where
     abbrev inside_at : State
     inside_at = place s (behind W s.at)
 
-    abbrev held_by : Read Held → Read (Step Held)
+    abbrev held_by : Read WordSoFar → Read (Step WordSoFar)
     held_by x = x ▸ (λ k u. Ok (k.substs, u)) ▸ (λ ss u. Ok (again (having h.nested ss), u))
 
     double_turn : 0 < room
@@ -296,7 +296,7 @@ module _ (edition : Edition) (W : List ℕ) (o : ℕ) where
         ap (λ x. x ▸ λ ss u. Ok (again (having h.nested ss), u))
         (level_closed Whole g inside_at room Double (o + past_continuations W s.at) h.substs none)
 
-    double_by : Is pieces.Double → 0 < room → (x : Read Held)
+    double_by : Is pieces.Double → 0 < room → (x : Read WordSoFar)
         → all (room - 1) Double (o + past_continuations W s.at) (having 0 h.substs) inside_at ≡ x
         → Goes mode s.at t.at
     double_by is some (Err f) inner =
@@ -413,10 +413,10 @@ module _ (edition : Edition) (W : List ℕ) (o : ℕ) where
   abbrev with_span : Row ASubst → State → Read (Row ASubst × Span)
   with_span ss u = Ok ((ss, span o 0 u.at), u)
 
-  abbrev word_by : Read Held → Read AWord
+  abbrev word_by : Read WordSoFar → Read AWord
   word_by x = x ▸ (λ k u. Ok (k.substs, u)) ▸ with_span ▸ (λ y u. Ok (word y.1 (substs_of y.0), u))
 
-  abbrev pieces_by : ℕ → Read Held
+  abbrev pieces_by : ℕ → Read WordSoFar
   pieces_by room = all room Plain (o + 0) (having 0 []) (standing 0)
 
   word_is : (room : ℕ) → does (a_word (level room)) Whole g (standing 0) ≡ word_by (pieces_by room)
@@ -431,7 +431,7 @@ module _ (edition : Edition) (W : List ℕ) (o : ℕ) where
       read : ◌≡◌ {A = Read AWord} (Ok (w, standing n)) (word_by (pieces_by room))
       read = (is (a_word (level room)) g (standing 0)).only _ _ part ∙ word_is room
 
-      by : (x : Read Held) → pieces_by room ≡ x → Goes Plain 0 n
+      by : (x : Read WordSoFar) → pieces_by room ≡ x → Goes Plain 0 n
       by (Err f) whole =
           let no : ◌≡◌ {A = Read AWord} (Ok (w, standing n)) (Err f) = read ∙ ap word_by whole in
           absurd cc

@@ -6,7 +6,7 @@ use Rattle.shast.specs.Tree.{AnEntry, AWord}
 use Rattle.shgrammar.specs.HereDocuments.{own_level}
 use Rattle.shgrammar.specs.Form.{Read, Spelled, may}
 use Rattle.shgrammar.specs.Levels.{level, most_open}
-use Rattle.shgrammar.specs.Commands.{is_newline}
+use Rattle.shgrammar.specs.Commands.{is_newline_token}
 use Rattle.shgrammar.specs.Lines.{a_line, an_open_line, line_end_by, end_of_line}
 use Rattle.shgrammar.specs.Lists.{list_so, none_listed}
 use Rattle.shgrammar.specs.Scripts.{AScript, Lines, Passes, SoFar, faulty, is_blank_line, last_line, line_ended, the_line}
@@ -48,7 +48,7 @@ module _ (g : Given) where
 
     end_on : (n : Next) (s : State) → Goes g (end_of_line inner n) (All g) s
     unfolding end_of_line
-    end_on n s = end_on_by (is_newline n.token) (is_end n.token) n s
+    end_on n s = end_on_by (is_newline_token n.token) (is_end n.token) n s
 
     open_line_on : (blank : Bool) (s : State) → Goes g (an_open_line inner blank) (All g) s
     unfolding an_open_line

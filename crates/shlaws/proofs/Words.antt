@@ -19,7 +19,7 @@ use Rattle.shgrammar.specs.Tokens.{is_later}
 use Rattle.shgrammar.specs.Form.{Step, again, give, leads_on, ◌>>=◌}
 use Rattle.shgrammar.specs.Shows.{IsRead, Shows}
 use Rattle.shgrammar.specs.Sights.{Given, State}
-use Rattle.shgrammar.specs.Words.{Held, Inner, a_piece, a_word, backquoted, contents, dollar_single, escaped_turn, having, opened, piece_row, single}
+use Rattle.shgrammar.specs.Words.{Inner, WordSoFar, a_piece, a_word, backquoted_text, contents, dollar_single, escaped_turn, having, opened, piece_row, single}
 use Rattle.shgrammar.proofs.Places.{behind_low, next_escaped_low, next_of_low, not_end_low, parameter_low, word_longer}
 use Rattle.shgrammar.proofs.Stretches.{place_low}
 use Rattle.shlaws.proofs.Forms.{Goes, Stepped, Steps, ahead, beyond, first, follows, gives, leads_byte, led_until, moves, moves_to, repeats, repeats_until, sees, step_by, stops, tokens, whens, whens_by}
@@ -59,9 +59,9 @@ module _ (g : Given) where
       leads_past : (t : State) {q : ℕ} → q < length T → s.at ≤ q → q < t.at → leads_on g s t ≡ true
       leads_past t within before on = lt-ltb _ _ (omega (arith, within, before, on))
 
-  backquoted_on : (s : State) → Goes g backquoted (λ u t. s.at < t.at) s
-  unfolding backquoted
-  backquoted_on s =
+  backquoted_text_on : (s : State) → Goes g backquoted_text (λ u t. s.at < t.at) s
+  unfolding backquoted_text
+  backquoted_text_on s =
       sees g (moves g (beyond g s.at (behind_low T s.at)
       (repeats g All (λ u t so. escaped_on escapings.Backquotes _ u t) tt _ tt)))
 
@@ -176,11 +176,11 @@ module _ (g : Given) where
     needs = needs_known (piece_at T mode n p) (needs_by (byte_at T p) refl)
 
   module _ (inner : Inner) (fine : Fine inner) where
-    module _ (mode : Mode) (b : ℕ) (h : Held) (s : State) where
+    module _ (mode : Mode) (b : ℕ) (h : WordSoFar) (s : State) where
       abbrev p : ℕ
       p = s.at
 
-      abbrev Turn : Step Held → State → Type 0
+      abbrev Turn : Step WordSoFar → State → Type 0
       Turn x t = Stepped g All (Last mode) s x t
 
       one : p < behind T p
@@ -193,7 +193,7 @@ module _ (g : Given) where
       three = omega (arith, two, behind_low T (behind T (behind T p)))
 
       -- a piece that is read in one go
-      at_once : {k : Held} {t : State} → IsRead T p → p < t.at → Goes g (give (again k)) Turn t
+      at_once : {k : WordSoFar} {t : State} → IsRead T p → p < t.at → Goes g (give (again k)) Turn t
       at_once {t = t} read on = gives g (leads_byte g s t read on, tt)
 
       -- a construct in it
@@ -203,9 +203,9 @@ module _ (g : Given) where
           (first g (fine.construct m q h.substs t) (λ ss u so. gives g tt))
 
       -- a substitution
-      substituted : (q : ℕ) {t : State} → IsRead T p → p < t.at
+      substitution_list : (q : ℕ) {t : State} → IsRead T p → p < t.at
           → Goes g (inner.substitution q h.substs >>= λ ss. give (again (having h.nested ss))) Turn t
-      substituted q {t = t} read on =
+      substitution_list q {t = t} read on =
           led_until g All (Last mode) s (leads_byte g s t read on)
           (first g (fine.substitution q h.substs t) (λ ss u so. gives g tt))
 
@@ -226,9 +226,9 @@ module _ (g : Given) where
       row pieces.Single so = first g (single_on s) (λ u t on. at_once so on)
       row pieces.DollarSingle so = first g (dollar_single_on s) (λ u t on. at_once so on)
       row pieces.Double so = sees g (moves g (opens Double _ so one))
-      row pieces.Backquote so = first g (backquoted_on s) (λ u t on. at_once so on)
+      row pieces.Backquote so = first g (backquoted_text_on s) (λ u t on. at_once so on)
       row pieces.Pid so = moves g (moves g (at_once so two))
-      row pieces.Subst so = sees g (moves g (moves g (substituted _ so two)))
+      row pieces.Subst so = sees g (moves g (moves g (substitution_list _ so two)))
       row pieces.Arith so = sees g (moves g (moves g (moves g (opens Arith _ so three))))
       row pieces.Param so =
           sees g (moves g (moves g (moves g (sees g

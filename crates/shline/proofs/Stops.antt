@@ -12,7 +12,7 @@ use Rattle.shline.specs.Limits.{Limits}
 use Rattle.shgrammar.specs.Sights.{Given, State, Waiting, given}
 use Rattle.shgrammar.specs.Form.{Form, Read, Step, does, many}
 use Rattle.shgrammar.specs.Plain.{ArePlain}
-use Rattle.shgrammar.specs.Words.{Held, Inner, a_piece, a_word, contents, having}
+use Rattle.shgrammar.specs.Words.{Inner, WordSoFar, a_piece, a_word, contents, having}
 use Rattle.shgrammar.proofs.PlainBytes.{given_by, placed, plain_contents}
 use Rattle.shgrammar.proofs.Turns.{turns_fault}
 use Rattle.shgrammar.specs.declared.edition.Edition.{Edition}
@@ -25,17 +25,17 @@ module _ {A : Type 0} (turn : A → Form (Step A)) (keep : Keep) (g : Given) whe
 
 -- ---- in a word
 
-stops : (bound : Limits) (e : Stop) (x : Read Held) → Fails bound e x → Fails bound e (given_by x)
+stops : (bound : Limits) (e : Stop) (x : Read WordSoFar) → Fails bound e x → Fails bound e (given_by x)
 stops bound Memory x stop = stop
 stops bound (Wrong f) x stop = (rw (stop.0) refl, stop.1)
 
 module _ (inner : Inner) (keep : Keep) (g : Given) (mode : Mode) (b : ℕ) (ws : Row Waiting) (ds : Row Span) where
   -- all pieces
-  abbrev all : Row Waiting → Row Span → Held → ℕ → Read Held
+  abbrev all : Row Waiting → Row Span → WordSoFar → ℕ → Read WordSoFar
   all vs es h p = does (many (a_piece inner mode b) h) keep g (placed vs es p)
 
   -- a piece that stops, stops all
-  pub contents_stop : (h : Held) (ss : Row ASubst) (vs : Row Waiting) (es : Row Span) (p s : ℕ) (bound : Limits) (e : Stop) → all ws ds h p ≡ all vs es (having 0 ss) s
+  pub contents_stop : (h : WordSoFar) (ss : Row ASubst) (vs : Row Waiting) (es : Row Span) (p s : ℕ) (bound : Limits) (e : Stop) → all ws ds h p ≡ all vs es (having 0 ss) s
       → Fails bound e (does (a_piece inner mode b h) keep g (placed ws ds p)) → Fails bound e (does (contents inner mode b ss) keep g (placed vs es s))
   unfolding contents
   contents_stop h ss vs es p s bound e so stop = stops bound e _ (subst (Fails bound e) so (many_stop (a_piece inner mode b) keep g h (placed ws ds p) bound e stop))

@@ -15,7 +15,7 @@ use Rattle.shast.specs.declared.tree.Subst.{Subst}
 use Rattle.shast.specs.Tree.{ACommand, AWord, AnEntry, compound, substs_of, word}
 use Rattle.shast.specs.View.{view_command, view_entry, view_join}
 use Rattle.shline.specs.Rows.{view_substs}
-use Rattle.shline.specs.declared.told.Told.{Told}
+use Rattle.shline.specs.declared.parsed_line.ParsedLine.{ParsedLine}
 use Rattle.shline.specs.declared.stop.Stop.{Stop}
 use Rattle.shline.specs.declared.stop.Stop.TheVariants.{Memory, Wrong}
 use Rattle.shgrammar.specs.declared.token.Next.{Next}
@@ -62,8 +62,8 @@ abbrev pub bytes_between : {S : Type 0} {k : ℕ} {g : _} → Cursor S k g → �
 bytes_between cursor p q = raw (text_of cursor) (on cursor p) (on cursor q)
 
 -- what is left of the line at one
-abbrev pub line_of : {S : Type 0} {k : ℕ} {g : _} → Cursor S k g → ℕ → List ℕ
-line_of cursor p = seen cursor rest_of_line p
+abbrev pub line_bytes_from : {S : Type 0} {k : ℕ} {g : _} → Cursor S k g → ℕ → List ℕ
+line_bytes_from cursor p = seen cursor rest_of_line p
 
 -- where the reading stands, if no token is in hand
 abbrev pub here_of : {S : Type 0} {k : ℕ} {g : _} → Cursor S k g → ℕ
@@ -239,7 +239,7 @@ Ended T q true = (raw_stands T (q - 1) 10 ≡ true) ⊎ (at_end T q ≡ true)
 Ended T q false = at_end T q ≡ true
 
 -- what was told of a line, in the definitions
-abbrev pub view_told : Told → (Row AnEntry × Bool) × State
+abbrev pub view_told : ParsedLine → (Row AnEntry × Bool) × State
 view_told told = ((map view_entry told.entries.items, told.newline), standing told.len)
 
 -- ---- what is read into

@@ -56,7 +56,7 @@ impl<'a, S: Source, const KEEP: u8> Cursor<'a, S, KEEP> {
     /// The place behind the byte that is read at a place.
     #[inline(always)]
     #[tactic(auto, unfolding(shgrammar::specs::Bytes::behind))]
-    pub(crate) fn behind(&self, at: usize) -> usize
+    pub(crate) fn past_byte(&self, at: usize) -> usize
         requires { Inside self.now at × IsRead (text_of self.now) (on self.now at) }
         ensures value { on self.now result ≡ seen self.now behind at }
         ensures past { seen self.now past_continuations at < on self.now result }
@@ -74,7 +74,7 @@ impl<'a, S: Source, const KEEP: u8> Cursor<'a, S, KEEP> {
         ensures past { past_continuations (text_of self.old) (here_of self.old) < here_of self.new }
     {
         let at = self.at;
-        self.at = self.behind(at);
+        self.at = self.past_byte(at);
     }
 
     /// Passes the first byte of the token in hand: no continuation stands before it.

@@ -2,7 +2,7 @@
 ghost use Rattle.std.specs.Prelude.{◌≡◌, ◌<◌, ◌==◌, [], false, IfErr, IfOk, Some, true};
 ghost use Rattle.shgrammar.specs.Bytes.{ends_word};
 ghost use Rattle.shline.specs.Clauses.{keep_of, Keeps, start_of, Takes, text_of, Turns};
-ghost use Rattle.shgrammar.specs.Commands.{a_command, a_simple, a_worded, an_item, as_item, behind_word, item_turn, so_many};
+ghost use Rattle.shgrammar.specs.Commands.{a_command, a_simple, a_word_command, an_item, as_item, behind_word, item_turn, so_many};
 ghost use Rattle.shgrammar.specs.declared.token.Position.TheVariants.{Command as AsCommand, Suffix};
 ghost use Rattle.shgrammar.specs.declared.token.Position.{Position};
 ghost use Rattle.shgrammar.specs.Form.{again, grows, many, pushed};
@@ -147,10 +147,10 @@ impl<'a, S: Source, const KEEP: u8> Cursor<'a, S, KEEP> {
 
     /// The command that begins with the word here: a function, if `(` follows, or a simple command.
     #[cycle(commands)]
-    #[tactic(auto, unfolding(shgrammar::specs::Commands::a_worded, shgrammar::specs::Commands::a_simple, shgrammar::specs::Commands::next_token, crate::specs::InHand::InHand))]
-    fn worded(&mut self, room: usize) -> Result<Command, Stop>
+    #[tactic(auto, unfolding(shgrammar::specs::Commands::a_word_command, shgrammar::specs::Commands::a_simple, shgrammar::specs::Commands::next_token, crate::specs::InHand::InHand))]
+    fn word_command(&mut self, room: usize) -> Result<Command, Stop>
         requires { behind_word self.old.next.token ≡ Some Suffix }
-        ensures { Takes self.old (a_worded (level room)) result
+        ensures { Takes self.old (a_word_command (level room)) result
             (λ x. (view_command x, self.new.next)) self.new }
     {
         let start = self.start();
@@ -159,7 +159,7 @@ impl<'a, S: Source, const KEEP: u8> Cursor<'a, S, KEEP> {
         let word = self.word_from(start, substs);
         self.next_token(Position::Suffix);
         if let Token::OpenParen = self.next.token {
-            return self.named(word.span, start, room);
+            return self.named_function(word.span, start, room);
         }
         // Made here and not handed over: a vector that was just pushed to is slow to move.
         let mut items = self.room_for_items();
@@ -178,7 +178,7 @@ impl<'a, S: Source, const KEEP: u8> Cursor<'a, S, KEEP> {
             (λ x. (view_command x, self.new.next)) self.new }
     {
         match self.next.token {
-            Token::Word => self.worded(room),
+            Token::Word => self.word_command(room),
             Token::Assignment | Token::Number | Token::Redirect(_) => { self.simple(room) }
             _ => self.compound_by(room),
         }

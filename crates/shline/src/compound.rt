@@ -3,7 +3,7 @@
 ghost use Rattle.std.specs.Prelude.{◌<◌, [], IfOk};
 ghost use Rattle.shgrammar.specs.Shows.{IsRead};
 ghost use Rattle.shline.specs.Clauses.{Boxed, Finds, Keeps, start_of, Takes, text_of, Turns};
-ghost use Rattle.shgrammar.specs.Compounds.{a_branch, a_form, a_group, a_loop, an_else, an_if, branched, closing, elif_turn, passed, closed};
+ghost use Rattle.shgrammar.specs.Compounds.{a_branch, a_form, a_group, a_loop, an_else, an_if, branched, closing, elif_turn, reserved_or_paren, closed};
 ghost use Rattle.shgrammar.specs.Form.{many, Spelled};
 ghost use Rattle.shgrammar.specs.Levels.{level};
 ghost use Rattle.shline.specs.Rows.{view_branches};
@@ -22,10 +22,10 @@ use std::mem;
 
 impl<'a, S: Source, const KEEP: u8> Cursor<'a, S, KEEP> {
     /// Passes the round bracket or the reserved word here. The token behind it stands in this position.
-    #[tactic(auto, unfolding(shgrammar::specs::Compounds::passed, shgrammar::specs::Commands::next_token))]
-    pub(crate) fn passed(&mut self, paren: bool, position: Position) -> Span
+    #[tactic(auto, unfolding(shgrammar::specs::Compounds::reserved_or_paren, shgrammar::specs::Commands::next_token))]
+    pub(crate) fn reserved_or_paren(&mut self, paren: bool, position: Position) -> Span
         requires { IsRead (text_of self.old) (start_of self.old) }
-        ensures value { (text : Spelled) → Finds self.old (passed text paren position)
+        ensures value { (text : Spelled) → Finds self.old (reserved_or_paren text paren position)
             (result, self.new.next) self.new }
         ensures onward { start_of self.old < start_of self.new }
         ensures same { Keeps self.old self.new }
@@ -52,7 +52,7 @@ impl<'a, S: Source, const KEEP: u8> Cursor<'a, S, KEEP> {
         if !self.next.token.is_closing(what) {
             return Err(Stop::Wrong(self.what_is_wrong(room)?));
         }
-        Ok(self.passed(matches!(what, Closing::Paren), Position::Command))
+        Ok(self.reserved_or_paren(matches!(what, Closing::Paren), Position::Command))
     }
 
     /// The list of a group, and what closes it.
@@ -90,7 +90,7 @@ impl<'a, S: Source, const KEEP: u8> Cursor<'a, S, KEEP> {
         if !self.next.token.is_closing(Closing::Elif) {
             return Ok(false);
         }
-        let _ = self.passed(false, Position::Command);
+        let _ = self.reserved_or_paren(false, Position::Command);
         let branch = self.branch(room)?;
         if self.grows() {
             branches.push(branch)?;
@@ -120,7 +120,7 @@ impl<'a, S: Source, const KEEP: u8> Cursor<'a, S, KEEP> {
         if !self.next.token.is_closing(Closing::Else) {
             return Ok(None);
         }
-        let _ = self.passed(false, Position::Command);
+        let _ = self.reserved_or_paren(false, Position::Command);
         Ok(Some(self.list(room)?))
     }
 
@@ -194,7 +194,7 @@ impl<'a, S: Source, const KEEP: u8> Cursor<'a, S, KEEP> {
             let at = self.start();
             return Err(self.wrong_at(FaultKind::TooDeep, at));
         }
-        let opened = self.passed(matches!(opener, Opener::Paren), opener.behind());
+        let opened = self.reserved_or_paren(matches!(opener, Opener::Paren), opener.position_after());
         let (form, closer) = self.form(opener, room - 1)?;
         if !self.grows() {
             mem::forget(form);

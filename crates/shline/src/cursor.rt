@@ -5,7 +5,7 @@ ghost use Rattle.shline.specs.InHand.{InHand, in_hand_prop};
 ghost use Rattle.shtext.specs.Text.{IsRun};
 
 use crate::documents::Documents;
-use crate::told::Begin;
+use crate::parsed_line::Begin;
 use shast::{Entry, Item, Spare};
 use shgrammar::{Edition, Keep, Next, Token};
 use shtext::Source;

@@ -1,6 +1,6 @@
 //! Here-documents: those that wait, and their bodies (XCU 2.7.4).
 ghost use Rattle.std.specs.Prelude.{◌≡◌, ◌+◌, ◌<◌, ◌≤◌, ◌==◌, ◌&&◌, All, bytes_eq, fold, nat_lt, not, [], IfOk, IfSome, List as Row, ◌∷◌, length, option_map, ◌-◌, true, false};
-ghost use Rattle.shline.specs.Clauses.{at_place, at_token, Between, BodyRead, bytes_between, end_of, given_of, here_of, Inside, Keeps, limits_of, line_of, on, Reaches, Reads, seen, Stays, Takes, text_of, view_waiting};
+ghost use Rattle.shline.specs.Clauses.{at_place, at_token, Between, BodyRead, bytes_between, end_of, given_of, here_of, Inside, Keeps, limits_of, line_bytes_from, on, Reaches, Reads, seen, Stays, Takes, text_of, view_waiting};
 ghost use Rattle.shline.specs.Limits.{Waits};
 ghost use Rattle.shgrammar.specs.States.{Waiting as Awaited};
 ghost use Rattle.shgrammar.specs.Commands.{a_document, is_strip, nothing_waits, takes_here};
@@ -213,7 +213,7 @@ impl<'a, S: Source, const KEEP: u8> Cursor<'a, S, KEEP> {
     #[tactic(auto, using(crate::proofs::Awaited::stripped_line, crate::proofs::Awaited::tabs_before))]
     fn is_delimiter(&self, document: &Waiting, from: usize, end: usize) -> bool
         requires { Reaches self.now next_newline from end }
-        ensures { result ≡ is_delimiter (view_waiting document.now) (line_of self.now from) }
+        ensures { result ≡ is_delimiter (view_waiting document.now) (line_bytes_from self.now from) }
     {
         if document.strip {
             return self.are_bytes(self.raw_past(from, Class::Tab), end, &document.delimiter);
@@ -224,7 +224,7 @@ impl<'a, S: Source, const KEEP: u8> Cursor<'a, S, KEEP> {
     /// Whether this line ends a document; one that the line before takes in does not.
     fn ends_here(&self, document: &Waiting, taken: bool, from: usize, end: usize) -> bool
         requires { Reaches self.now next_newline from end }
-        ensures { result ≡ (not taken && is_delimiter (view_waiting document.now) (line_of
+        ensures { result ≡ (not taken && is_delimiter (view_waiting document.now) (line_bytes_from
             self.now from)) }
     {
         !taken && self.is_delimiter(document, from, end)
@@ -257,7 +257,7 @@ impl<'a, S: Source, const KEEP: u8> Cursor<'a, S, KEEP> {
     /// Whether a line takes in the one behind it.
     fn takes_newline(&self, document: &Waiting, from: usize, end: usize) -> bool
         requires { Reaches self.now next_newline from end }
-        ensures { result ≡ takes_newline (view_waiting document.now) (line_of self.now from) }
+        ensures { result ≡ takes_newline (view_waiting document.now) (line_bytes_from self.now from) }
     {
         !document.literal && self.ends_odd(from, end)
     }
@@ -278,7 +278,7 @@ impl<'a, S: Source, const KEEP: u8> Cursor<'a, S, KEEP> {
     }
 
     /// Whether the text ends here.
-    fn ended(&self) -> bool
+    fn is_at_end(&self) -> bool
         ensures { result ≡ at_end (text_of self.now) (here_of self.now) }
     {
         self.at_end(self.at)
@@ -296,7 +296,7 @@ impl<'a, S: Source, const KEEP: u8> Cursor<'a, S, KEEP> {
         ensures same { Stays self.old self.new }
     {
         let mut taken = false;
-        'lines: while !self.ended() {
+        'lines: while !self.is_at_end() {
             let (at, line) = (self.at, self.here());
             let (end, next) = self.line_end(at);
             let ends = self.ends_here(document, taken, at, end);

@@ -136,7 +136,7 @@ impl<'a, S: Source, const KEEP: u8> Cursor<'a, S, KEEP> {
             lines.new) self.new.next)) self.new }
         ensures tree { IfOk result (λ words. GrowsNone KEEP lines.old lines.new) }
     {
-        let _ = self.passed(false, Position::Suffix);
+        let _ = self.reserved_or_paren(false, Position::Suffix);
         let words = self.words(room)?;
         self.sequential_sep(lines, room)?;
         Ok(words)

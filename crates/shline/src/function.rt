@@ -2,7 +2,7 @@
 ghost use Rattle.std.specs.Prelude.{◌≡◌, ◌+◌, ◌≤◌, map, IfErr, IfOk, true};
 ghost use Rattle.shgrammar.specs.Shows.{IsRead};
 ghost use Rattle.shline.specs.Clauses.{Boxed, is_compound, start_of, Takes, text_of};
-ghost use Rattle.shgrammar.specs.Commands.{compound_by, named, opener_of};
+ghost use Rattle.shgrammar.specs.Commands.{compound_by, named_function, opener_of};
 ghost use Rattle.shgrammar.specs.Compounds.{a_function, under_name};
 ghost use Rattle.shgrammar.specs.Levels.{level};
 ghost use Rattle.shgrammar.specs.Tokens.{is_name_at};
@@ -49,7 +49,7 @@ impl<'a, S: Source, const KEEP: u8> Cursor<'a, S, KEEP> {
         match self.next.token.opener() {
             Some(opener) => {
                 let command = self.compound(opener, room)?;
-                self.redirected(command, room)
+                self.with_redirect_list(command, room)
             }
             None => Err(Stop::Wrong(self.what_is_wrong(room)?)),
         }
@@ -63,7 +63,7 @@ impl<'a, S: Source, const KEEP: u8> Cursor<'a, S, KEEP> {
         ensures { Takes self.old (a_function (level room) name) result
             (λ x. (view_command x, self.new.next)) self.new }
     {
-        let _ = self.passed(true, Position::Command);
+        let _ = self.reserved_or_paren(true, Position::Command);
         self.closing(Closing::Paren, room)?;
         let mut lines = Join {
             broken: false,
@@ -77,10 +77,10 @@ impl<'a, S: Source, const KEEP: u8> Cursor<'a, S, KEEP> {
     /// The function whose name, which begins at `start`, has to be a NAME. Its `(` stands here.
     #[cycle(commands)]
     #[tactic(auto, unfolding(crate::specs::InHand::InHand), using(shgrammar::proofs::Levels::function_below, shgrammar::proofs::Levels::function_closed))]
-    pub(crate) fn named(&mut self, name: Span, start: usize, room: usize) -> Result<Command, Stop>
+    pub(crate) fn named_function(&mut self, name: Span, start: usize, room: usize) -> Result<Command, Stop>
         requires here { IsRead (text_of self.old) (start_of self.old) }
         requires name { (start ≤ start_of self.old) × (name.start ≡ self.old.origin + start) }
-        ensures { Takes self.old (named (level room) (is_name_at (text_of self.old) start) name)
+        ensures { Takes self.old (named_function (level room) (is_name_at (text_of self.old) start) name)
             result (λ x. (view_command x, self.new.next)) self.new }
     {
         if !self.is_name_from(start) {

@@ -33,9 +33,9 @@ mod stop;
 mod stretch;
 mod substitution;
 mod token;
-mod told;
+mod parsed_line;
 mod word;
 
 pub use cursor::{How, KEPT, SEEN};
 pub use stop::Stop;
-pub use told::{Begin, Told, line_at};
+pub use parsed_line::{Begin, ParsedLine, line_at};

@@ -6,7 +6,7 @@ ghost use Rattle.shline.specs.Pieces.{PieceShows};
 ghost use Rattle.shline.specs.Clauses.{ByteHere, here_of, Inside, IsHere, Moves, on, Reads, text_of};
 ghost use Rattle.shgrammar.specs.Form.{many, step_if};
 ghost use Rattle.shgrammar.specs.Pieces.{bracket_by, byte_by, dollar_at, past_parameter, piece_at, piece_in, rest_mode};
-ghost use Rattle.shgrammar.specs.Words.{backquoted, dollar_single, escaped_turn, single};
+ghost use Rattle.shgrammar.specs.Words.{backquoted_text, dollar_single, escaped_turn, single};
 
 use crate::cursor::Cursor;
 use crate::search::Sought;
@@ -33,7 +33,7 @@ impl<'a, S: Source, const KEEP: u8> Cursor<'a, S, KEEP> {
         match self.byte_at(next) {
             Some(b'$') => Piece::Pid,
             Some(b'(') => {
-                if self.stands(self.behind(next), b'(') {
+                if self.stands(self.past_byte(next), b'(') {
                     Piece::Arith
                 } else {
                     Piece::Subst
@@ -195,7 +195,7 @@ impl<'a, S: Source, const KEEP: u8> Cursor<'a, S, KEEP> {
     /// Text in which a backslash takes one byte, from behind its opener on, which stands at a place of the
     /// text.
     #[tactic(auto, using(shgrammar::proofs::Turns::many_again, shgrammar::proofs::Turns::many_done, crate::proofs::Stops::many_stop))]
-    fn escaped(&mut self, escaping: Escaping, opener: usize) -> Result<(), Stop>
+    fn escaped_text(&mut self, escaping: Escaping, opener: usize) -> Result<(), Stop>
         requires { opener ≤ here_of self.old }
         ensures value { Reads self.old (many (escaped_turn escaping (self.old.origin + opener)) tt)
             result (λ _. tt) self.new }
@@ -206,15 +206,15 @@ impl<'a, S: Source, const KEEP: u8> Cursor<'a, S, KEEP> {
     }
 
     /// Text in backquotes, from its opener on.
-    #[tactic(auto, unfolding(shgrammar::specs::Words::backquoted, shgrammar::specs::Bytes::behind), using(shgrammar::proofs::Stretches::place_low))]
-    pub(crate) fn backquoted(&mut self, here: usize) -> Result<(), Stop>
+    #[tactic(auto, unfolding(shgrammar::specs::Words::backquoted_text, shgrammar::specs::Bytes::behind), using(shgrammar::proofs::Stretches::place_low))]
+    pub(crate) fn backquoted_text(&mut self, here: usize) -> Result<(), Stop>
         requires here { ByteHere self.old here }
-        ensures value { Reads self.old backquoted result (λ _. tt) self.new }
+        ensures value { Reads self.old backquoted_text result (λ _. tt) self.new }
         ensures onward { IfOk result (λ _. on self.old here < here_of self.new) }
     {
         let opener = self.begin + here;
         self.at = here + 1;
-        self.escaped(Escaping::Backquotes, opener)
+        self.escaped_text(Escaping::Backquotes, opener)
     }
 
     /// Text in dollar-single quotes, from its `$` on.
@@ -226,7 +226,7 @@ impl<'a, S: Source, const KEEP: u8> Cursor<'a, S, KEEP> {
         ensures onward { IfOk result (λ _. on self.old here < here_of self.new) }
     {
         let opener = self.begin + here;
-        self.at = self.behind(here + 1);
-        self.escaped(Escaping::DollarSingle, opener)
+        self.at = self.past_byte(here + 1);
+        self.escaped_text(Escaping::DollarSingle, opener)
     }
 }

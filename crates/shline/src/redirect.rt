@@ -1,7 +1,7 @@
 //! Redirections (XCU 2.7): among the items of a simple command, and behind a compound command.
 ghost use Rattle.std.specs.Prelude.{◌≡◌, ◌+◌, ◌<◌, ◌≤◌, [], IfOk, Some};
 ghost use Rattle.shline.specs.Clauses.{Adds, at_place, at_token, end_of, Finds, here_of, is_compound, Leads, Reads, start_of, Takes, text_of};
-ghost use Rattle.shgrammar.specs.Commands.{a_number, a_target, an_operator, is_long, one_redirect, redirect_operator_of, redirect_turn, redirected, so_many};
+ghost use Rattle.shgrammar.specs.Commands.{a_number, a_target, an_operator, is_long, one_redirect, redirect_operator_of, redirect_turn, so_many, with_redirect_list};
 ghost use Rattle.shgrammar.specs.declared.token.Position.TheVariants.{Command as AsCommand};
 ghost use Rattle.shgrammar.specs.Form.{many, raw};
 ghost use Rattle.shgrammar.specs.Levels.{level};
@@ -130,9 +130,9 @@ impl<'a, S: Source, const KEEP: u8> Cursor<'a, S, KEEP> {
 
     /// A compound command with the redirections behind it.
     #[cycle(commands)]
-    #[tactic(auto, unfolding(shgrammar::specs::Commands::redirected), using(crate::proofs::Wanted::same_kind))]
-    pub(crate) fn redirected(&mut self, inner: Command, room: usize) -> Result<Command, Stop>
-        ensures value { Takes self.old (redirected (level room) (view_command inner, self.old.next))
+    #[tactic(auto, unfolding(shgrammar::specs::Commands::with_redirect_list), using(crate::proofs::Wanted::same_kind))]
+    pub(crate) fn with_redirect_list(&mut self, inner: Command, room: usize) -> Result<Command, Stop>
+        ensures value { Takes self.old (with_redirect_list (level room) (view_command inner, self.old.next))
             result (λ x. (view_command x, self.new.next)) self.new }
         ensures kind { IfOk result
             (λ x. is_compound (view_command x) ≡ is_compound (view_command inner)) }

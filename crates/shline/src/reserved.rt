@@ -152,14 +152,14 @@ impl<'a, S: Source, const KEEP: u8> Cursor<'a, S, KEEP> {
             if !self.stands(at, *letter) {
                 return false;
             }
-            at = self.behind(at);
+            at = self.past_byte(at);
         }
         self.ends_at(at)
     }
 
     /// This reserved word, if it stands at a place.
     #[inline(always)]
-    fn spelled(&self, at: usize, word: &[u8], reserved: Reserved) -> Option<Reserved>
+    fn reserved_if_spelled(&self, at: usize, word: &[u8], reserved: Reserved) -> Option<Reserved>
         requires { Inside self.now at }
         ensures { result ≡ (if seen self.now is_word_at at word.now then Some reserved else None) }
     {
@@ -173,7 +173,7 @@ impl<'a, S: Source, const KEEP: u8> Cursor<'a, S, KEEP> {
     /// This reserved word, or that one, if one of them stands at a place.
     #[inline(always)]
     #[tactic(auto, unfolding(shgrammar::specs::Tokens::first_of_words))]
-    fn spelled_as(
+    fn reserved_of_two(
         &self,
         at: usize,
         word: &[u8],
@@ -188,7 +188,7 @@ impl<'a, S: Source, const KEEP: u8> Cursor<'a, S, KEEP> {
         if self.is_word(at, word) {
             return Some(reserved);
         }
-        self.spelled(at, other, second)
+        self.reserved_if_spelled(at, other, second)
     }
 
     /// The reserved word that stands at a place, where this byte is the first, if one does. Most words begin
@@ -213,22 +213,22 @@ impl<'a, S: Source, const KEEP: u8> Cursor<'a, S, KEEP> {
         ensures { result ≡ seen self.now reserved_at at }
     {
         match self.raw_byte(at) {
-            Some(b'!') => self.spelled(at, b"!", Reserved::Bang),
-            Some(b'{') => self.spelled(at, b"{", Reserved::OpenBrace),
-            Some(b'}') => self.spelled(at, b"}", Reserved::CloseBrace),
-            Some(b'c') => self.spelled(at, b"case", Reserved::Case),
-            Some(b'd') => self.spelled_as(at, b"do", Reserved::Do, b"done", Reserved::Done),
+            Some(b'!') => self.reserved_if_spelled(at, b"!", Reserved::Bang),
+            Some(b'{') => self.reserved_if_spelled(at, b"{", Reserved::OpenBrace),
+            Some(b'}') => self.reserved_if_spelled(at, b"}", Reserved::CloseBrace),
+            Some(b'c') => self.reserved_if_spelled(at, b"case", Reserved::Case),
+            Some(b'd') => self.reserved_of_two(at, b"do", Reserved::Do, b"done", Reserved::Done),
             Some(b'e') => {
                 if self.is_word(at, b"elif") {
                     return Some(Reserved::Elif);
                 }
-                self.spelled_as(at, b"else", Reserved::Else, b"esac", Reserved::Esac)
+                self.reserved_of_two(at, b"else", Reserved::Else, b"esac", Reserved::Esac)
             }
-            Some(b'f') => self.spelled_as(at, b"fi", Reserved::Fi, b"for", Reserved::For),
-            Some(b'i') => self.spelled_as(at, b"if", Reserved::If, b"in", Reserved::In),
-            Some(b't') => self.spelled(at, b"then", Reserved::Then),
-            Some(b'u') => self.spelled(at, b"until", Reserved::Until),
-            Some(b'w') => self.spelled(at, b"while", Reserved::While),
+            Some(b'f') => self.reserved_of_two(at, b"fi", Reserved::Fi, b"for", Reserved::For),
+            Some(b'i') => self.reserved_of_two(at, b"if", Reserved::If, b"in", Reserved::In),
+            Some(b't') => self.reserved_if_spelled(at, b"then", Reserved::Then),
+            Some(b'u') => self.reserved_if_spelled(at, b"until", Reserved::Until),
+            Some(b'w') => self.reserved_if_spelled(at, b"while", Reserved::While),
             _ => None,
         }
     }

@@ -127,7 +127,7 @@ impl<'a, S: Source, const KEEP: u8> Cursor<'a, S, KEEP> {
     /// the end. Most often there are none or one: a test for each is foretold better than a loop.
     #[inline(always)]
     #[tactic(auto, unfolding(shgrammar::specs::Standing::raw_in), using(shgrammar::proofs::Stretches::raw_none, crate::proofs::Passed::raw_one_on, crate::proofs::Passed::raw_two_on))]
-    pub(crate) fn raw_past_to(&self, from: usize, class: Class) -> (usize, Option<u8>)
+    pub(crate) fn raw_past_and_byte(&self, from: usize, class: Class) -> (usize, Option<u8>)
         requires { Inside self.now from }
         ensures place { Reaches self.now (raw_past (in_class class)) from result.0 }
         ensures byte { result.1 ≡ seen self.now slice_get result.0 }
@@ -140,7 +140,7 @@ impl<'a, S: Source, const KEEP: u8> Cursor<'a, S, KEEP> {
         if !is_in(second, class) {
             return (from + 1, second);
         }
-        let end = self.raw_behind(from + 2, class);
+        let end = self.raw_past_by_byte(from + 2, class);
         (end, self.raw_byte(end))
     }
 
@@ -150,13 +150,13 @@ impl<'a, S: Source, const KEEP: u8> Cursor<'a, S, KEEP> {
         requires { Inside self.now from }
         ensures { Reaches self.now (raw_past (in_class class)) from result }
     {
-        self.raw_past_to(from, class).0
+        self.raw_past_and_byte(from, class).0
     }
 
     /// The same, byte by byte.
     #[inline(always)]
     #[tactic(auto, using(shgrammar::proofs::Stretches::raw_more, shgrammar::proofs::Stretches::raw_none))]
-    fn raw_behind(&self, from: usize, class: Class) -> usize
+    fn raw_past_by_byte(&self, from: usize, class: Class) -> usize
         requires { Inside self.now from }
         ensures { Reaches self.now (raw_past (in_class class)) from result }
     {

@@ -4,7 +4,7 @@ ghost use Rattle.shline.specs.Clauses.{here_of, keep_of, Reads};
 ghost use Rattle.shgrammar.specs.Comments.{span};
 ghost use Rattle.shgrammar.specs.Form.{grows, pushed};
 ghost use Rattle.shgrammar.specs.Levels.{level};
-ghost use Rattle.shgrammar.specs.Substitutions.{one_substitution, substituted};
+ghost use Rattle.shgrammar.specs.Substitutions.{one_substitution, substitution_list};
 ghost use Rattle.shline.specs.Rows.{view_substs};
 ghost use Rattle.shast.specs.Bodies.{filled};
 ghost use Rattle.shast.specs.Tree.{subst};
@@ -31,9 +31,9 @@ fn filled_list(mut list: List, bodies: &[Span]) -> List
 impl<'a, S: Source, const KEEP: u8> Cursor<'a, S, KEEP> {
     /// What stands in a substitution, and its `)`.
     #[cycle(commands)]
-    #[tactic(auto, unfolding(shgrammar::specs::Substitutions::substituted, shgrammar::specs::Commands::next_token, crate::specs::InHand::InHand))]
-    fn substituted(&mut self, room: usize) -> Result<List, Stop>
-        ensures { Reads self.old (substituted (level room)) result view_list self.new }
+    #[tactic(auto, unfolding(shgrammar::specs::Substitutions::substitution_list, shgrammar::specs::Commands::next_token, crate::specs::InHand::InHand))]
+    fn substitution_list(&mut self, room: usize) -> Result<List, Stop>
+        ensures { Reads self.old (substitution_list (level room)) result view_list self.new }
     {
         self.next_token(Position::Command);
         let mut listed = Listed::new(self.alloc, false);
@@ -85,7 +85,7 @@ impl<'a, S: Source, const KEEP: u8> Cursor<'a, S, KEEP> {
             (view_substs substs.old)) result (λ _. view_substs substs.new) self.new }
     {
         let outer = self.open_level();
-        match self.substituted(room) {
+        match self.substitution_list(room) {
             Ok(list) => {
                 let bodies = self.close_level(outer);
                 self.add_subst(list, bodies, opener, substs)?;

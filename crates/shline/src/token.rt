@@ -82,7 +82,7 @@ impl<'a, S: Source, const KEEP: u8> Cursor<'a, S, KEEP> {
         ensures { result ≡ seen self.now less_at at }
     {
         if self.stands(at, b'<') {
-            if self.stands(self.behind(at), b'-') {
+            if self.stands(self.past_byte(at), b'-') {
                 RedirectOperator::HereStripped
             } else {
                 RedirectOperator::Here
@@ -227,7 +227,7 @@ impl<'a, S: Source, const KEEP: u8> Cursor<'a, S, KEEP> {
         ensures { Looks self.old position self.new }
     {
         let from = self.at;
-        let (at, byte) = self.raw_past_to(from, Class::Blank);
+        let (at, byte) = self.raw_past_and_byte(from, Class::Blank);
         if self.continues_with(at, byte) {
             return self.next_token_joined(at, position);
         }

@@ -31,7 +31,7 @@ impl<'a, S: Source, const KEEP: u8> Cursor<'a, S, KEEP> {
         match mode {
             Mode::Plain => {}
             Mode::Double | Mode::Brace | Mode::DoubleBrace => self.at = here + 1,
-            Mode::Arith => self.at = self.behind(here + 1),
+            Mode::Arith => self.at = self.past_byte(here + 1),
         }
     }
 
@@ -107,7 +107,7 @@ impl<'a, S: Source, const KEEP: u8> Cursor<'a, S, KEEP> {
             Piece::Escape => self.at = here + 2,
             Piece::Single => self.single(here)?,
             Piece::DollarSingle => self.dollar_single(here)?,
-            Piece::Backquote => self.backquoted(here)?,
+            Piece::Backquote => self.backquoted_text(here)?,
             Piece::Open => {
                 *nested += 1;
                 self.at = here + 1;
@@ -116,7 +116,7 @@ impl<'a, S: Source, const KEEP: u8> Cursor<'a, S, KEEP> {
                 *nested -= 1;
                 self.at = here + 1;
             }
-            Piece::Pid => self.at = self.behind(here + 1),
+            Piece::Pid => self.at = self.past_byte(here + 1),
             // an ordinary byte: by the contract nothing else is left
             _ => self.at = here + 1,
         }
@@ -185,15 +185,15 @@ impl<'a, S: Source, const KEEP: u8> Cursor<'a, S, KEEP> {
                 self.construct(Mode::Double, place, substs, room)?;
             }
             Piece::Subst => {
-                self.at = self.behind(here + 1);
+                self.at = self.past_byte(here + 1);
                 self.substitution(place, substs, room)?;
             }
             Piece::Arith => {
-                self.at = self.behind(self.behind(here + 1));
+                self.at = self.past_byte(self.past_byte(here + 1));
                 self.construct(Mode::Arith, place, substs, room)?;
             }
             Piece::Param => {
-                self.at = self.behind(here + 1);
+                self.at = self.past_byte(here + 1);
                 self.parameter();
                 let rest = self.rest_mode(mode);
                 self.construct(rest, place, substs, room)?;

@@ -7,10 +7,10 @@ use Rattle.shlive.specs.Held.{Held}
 use Rattle.shlive.specs.Ahead.{Ahead, StopsBy, Takes}
 use Rattle.shlive.specs.Lines.{IsInLine}
 use Rattle.shtext.specs.Edit.{ASplice}
-use Rattle.shlive.specs.Requests.{EndsBy, Request, Sense, asks, behind_bytes, clean, cut, edit, edit_alone, first_line, flawed, more_parts, next_by_form, next_by_line, next_by_order, next_of, nothing, order_of_line, part_by_line, splice_by, unfinished, with_bytes}
+use Rattle.shlive.specs.Requests.{EndsBy, Request, Sense, asks, behind_bytes, clean, cut, edit, edit_alone, first_line, flawed, more_parts, next_by_form, next_by_line, next_by_order, next_request_of, nothing, order_of_line, part_by_line, splice_by, unfinished, with_bytes}
 use Rattle.shlive.specs.Turns.{EndsAs, NoFurther, Replied, Spells, Stays, Tells, end_between, end_inside}
-use Rattle.shlive.specs.declared.incoming.Stop.{Stop}
-use Rattle.shlive.specs.declared.incoming.Stop.TheVariants as stops
+use Rattle.shlive.specs.declared.incoming.InputEnd.{InputEnd}
+use Rattle.shlive.specs.declared.incoming.InputEnd.TheVariants as stops
 use Rattle.shlive.specs.declared.order.EditForm.{EditForm}
 use Rattle.shlive.specs.declared.order.EditForm.TheVariants as forms
 use Rattle.shlive.specs.declared.order.Order.{Order}
@@ -23,11 +23,11 @@ use Rattle.shlive.proofs.Taken.{takes_both}
 
 -- ---- the line of a request
 
-pub line_first : (text rest : List ℕ) → IsInLine text → next_of ((text ++ 10 ∷ []) ++ rest) ≡ next_by_order (order_of_line text) rest
+pub line_first : (text rest : List ℕ) → IsInLine text → next_request_of ((text ++ 10 ∷ []) ++ rest) ≡ next_by_order (order_of_line text) rest
 line_first [] rest p = refl
 line_first (c ∷ text) rest p = ap next_by_line (line_ends (c ∷ text) rest p)
 
-pub line_cut : (text : List ℕ) → IsInLine text → 0 < length text → next_of text ≡ unfinished
+pub line_cut : (text : List ℕ) → IsInLine text → 0 < length text → next_request_of text ≡ unfinished
 line_cut [] p some = absurd (omega (arith, some))
 line_cut (c ∷ text) p some = ap next_by_line (line_open (c ∷ text) p)
 
@@ -102,7 +102,7 @@ err_through P Q (Err e) f p = f e p
 
 module _ (sense : Sense) (before after : Held) (old new : Ahead) (failed ended : Bool) (held holds : Option (List ℕ)) (broken : Bool)
     (same : after ≡ before) (silent : holds ≡ held) (sound : broken ≡ false) where
-  pub stops_inside : (stop : Stop) (taken : List ℕ) → Takes old new taken → (new.waiting.bytes ≡ [] → sense taken ≡ unfinished) → StopsBy stop failed ended new
+  pub stops_inside : (stop : InputEnd) (taken : List ℕ) → Takes old new taken → (new.waiting.bytes ≡ [] → sense taken ≡ unfinished) → StopsBy stop failed ended new
       → EndsAs sense (end_inside stop) before after old new failed ended held holds broken
   stops_inside stops.Met taken takes whole s =
       record { taken = taken; takes = takes; none = (whole s.2, s); same = same; silent = silent; sound = sound }
@@ -111,7 +111,7 @@ module _ (sense : Sense) (before after : Held) (old new : Ahead) (failed ended :
   stops_inside stops.TooLong taken takes whole s =
       record { taken = taken; takes = takes; none = s; same = same; silent = silent; sound = sound }
 
-  pub stops_between : (stop : Stop) → Takes old new [] → sense [] ≡ nothing → StopsBy stop failed ended new
+  pub stops_between : (stop : InputEnd) → Takes old new [] → sense [] ≡ nothing → StopsBy stop failed ended new
       → EndsAs sense (end_between stop) before after old new failed ended held holds broken
   stops_between stops.Met takes none s =
       record { taken = []; takes = takes; none = (refl, none, s); same = same; silent = silent; sound = sound }
@@ -122,15 +122,15 @@ module _ (sense : Sense) (before after : Held) (old new : Ahead) (failed ended :
 
 -- ---- what follows the line of a request goes on with it
 
-module _ (text : List ℕ) (sense : Sense) (front : (rest : List ℕ) → next_of ((text ++ 10 ∷ []) ++ rest) ≡ sense rest)
+module _ (text : List ℕ) (sense : Sense) (front : (rest : List ℕ) → next_request_of ((text ++ 10 ∷ []) ++ rest) ≡ sense rest)
     (before after : Held) (old mid new : Ahead) (held holds : Option (List ℕ)) (first : Takes old mid (text ++ 10 ∷ [])) where
-  through : (taken rest : List ℕ) → next_of (((text ++ 10 ∷ []) ++ taken) ++ rest) ≡ sense (taken ++ rest)
-  through taken rest = ap next_of (append_assoc (text ++ 10 ∷ []) taken rest) ∙ front (taken ++ rest)
+  through : (taken rest : List ℕ) → next_request_of (((text ++ 10 ∷ []) ++ taken) ++ rest) ≡ sense (taken ++ rest)
+  through taken rest = ap next_request_of (append_assoc (text ++ 10 ∷ []) taken rest) ∙ front (taken ++ rest)
 
-  through_all : (taken : List ℕ) → next_of ((text ++ 10 ∷ []) ++ taken) ≡ sense taken
+  through_all : (taken : List ℕ) → next_request_of ((text ++ 10 ∷ []) ++ taken) ≡ sense taken
   through_all taken = front taken
 
-  pub replied_through : (failed : Bool) → Replied sense before after mid new held holds failed → Replied next_of before after old new held holds failed
+  pub replied_through : (failed : Bool) → Replied sense before after mid new held holds failed → Replied next_request_of before after old new held holds failed
   replied_through failed r = record {
     taken = (text ++ 10 ∷ []) ++ r.taken;
     request = r.request;
@@ -140,7 +140,7 @@ module _ (text : List ℕ) (sense : Sense) (front : (rest : List ℕ) → next_o
   }
 
   module _ (failed ended broken : Bool) (begun : sense [] ≡ nothing → ⊥) where
-    none_through : («end» : End) (taken : List ℕ) → NoFurther sense «end» taken failed ended new → NoFurther next_of «end» ((text ++ 10 ∷ []) ++ taken) failed ended new
+    none_through : («end» : End) (taken : List ℕ) → NoFurther sense «end» taken failed ended new → NoFurther next_request_of «end» ((text ++ 10 ∷ []) ++ taken) failed ended new
     none_through Clean taken n = absurd (begun n.1)
     none_through Quit taken n = ((λ rest. through taken rest ∙ n.0 rest), n.1)
     none_through Cut taken n = (through_all taken ∙ n.0, n.1)
@@ -148,7 +148,7 @@ module _ (text : List ℕ) (sense : Sense) (front : (rest : List ℕ) → next_o
     none_through TooLong taken n = n
     none_through Unwritable taken n = n
 
-    stays_through : («end» : End) → Stays sense «end» before after mid new failed ended held holds broken → Stays next_of «end» before after old new failed ended held holds broken
+    stays_through : («end» : End) → Stays sense «end» before after mid new failed ended held holds broken → Stays next_request_of «end» before after old new failed ended held holds broken
     stays_through why s = record {
       taken = (text ++ 10 ∷ []) ++ s.taken;
       takes = takes_both old mid new (text ++ 10 ∷ []) s.taken _ first s.takes refl;
@@ -159,7 +159,7 @@ module _ (text : List ℕ) (sense : Sense) (front : (rest : List ℕ) → next_o
     }
 
     pub ends_through : («end» : End) → EndsAs sense «end» before after mid new failed ended held holds broken
-        → EndsAs next_of «end» before after old new failed ended held holds broken
+        → EndsAs next_request_of «end» before after old new failed ended held holds broken
     ends_through Clean s = stays_through Clean s
     ends_through Quit s = stays_through Quit s
     ends_through Cut s = stays_through Cut s
@@ -170,17 +170,17 @@ module _ (text : List ℕ) (sense : Sense) (front : (rest : List ℕ) → next_o
 -- ---- a request that is a line alone
 
 module _ (text : List ℕ) (inline : IsInLine text) (order : Option Order) (is : order ≡ order_of_line text) where
-  pub line_is : (rest : List ℕ) → next_of ((text ++ 10 ∷ []) ++ rest) ≡ next_by_order order rest
+  pub line_is : (rest : List ℕ) → next_request_of ((text ++ 10 ∷ []) ++ rest) ≡ next_by_order order rest
   line_is rest = line_first text rest inline ∙ ap (λ o. next_by_order o rest) (sym is)
 
   pub plain_replied : (before after : Held) (old new : Ahead) (held holds : Option (List ℕ)) (failed : Bool) (request : Request)
       → Takes old new (text ++ 10 ∷ []) → ((rest : List ℕ) → next_by_order order rest ≡ asks request rest) → Tells before request after held holds failed
-      → Replied next_of before after old new held holds failed
+      → Replied next_request_of before after old new held holds failed
   plain_replied before after old new held holds failed request takes next tells =
       record { taken = text ++ 10 ∷ []; request = request; takes = takes; spelled = λ rest. line_is rest ∙ next rest; tells = tells }
 
 -- a request has a byte
-pub some_spelled : (taken : List ℕ) (request : Request) → Spells next_of taken (asks request) → 0 < length taken
+pub some_spelled : (taken : List ℕ) (request : Request) → Spells next_request_of taken (asks request) → 0 < length taken
 some_spelled [] request spelled = let wrong : nothing ≡ asks request [] = spelled [] in absurd cc
 some_spelled (b ∷ taken) request spelled = omega arith
 

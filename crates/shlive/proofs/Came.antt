@@ -6,7 +6,7 @@ use Rattle.shlive.specs.Parts.{Comes, Hold, after_bytes, request_by}
 use Rattle.shlive.specs.Requests.{Sense, asks, edit, edit_alone, first_line, flawed, more_parts, next_by_part, part_by_line, part_of_line, splice_by, unfinished, with_bytes}
 use Rattle.shlive.specs.Lines.{IsInLine}
 use Rattle.shlive.specs.Turns.{Spells}
-use Rattle.shlive.specs.declared.incoming.Stop.{Stop}
+use Rattle.shlive.specs.declared.incoming.InputEnd.{InputEnd}
 use Rattle.shlive.specs.declared.order.Part.{Part}
 use Rattle.shlive.specs.declared.parts.Flaw.{Flaw}
 use Rattle.shlive.specs.declared.parts.Flaw.TheVariants.{NoPart}
@@ -25,7 +25,7 @@ some_if (Err flaw) P p = tt
 
 module _ (part : Part) (old new : Ahead) (failed ended : Bool) (before after : Parts) (len : ℕ) (none : Hold before len []) where
   -- one splice
-  pub comes_alone : (r : Result (Result (Unit {0}) Flaw) Stop) → OnOk r ((failed ≡ false) × (ended ≡ false))
+  pub comes_alone : (r : Result (Result (Unit {0}) Flaw) InputEnd) → OnOk r ((failed ≡ false) × (ended ≡ false))
       → IfOk r (λ came. (taken bytes : List ℕ) × Takes old new taken
       × ((next : ASplice → Sense) → Spells (with_bytes part next) taken (after_bytes came (next (splice_by part bytes))))
       × ((n : ℕ) (ss : Row ASplice) → Hold before n ss → Hold after n (ss ++ splice_by part bytes ∷ [])))
@@ -50,7 +50,7 @@ after_whole (Ok whole) next rest is = refl
 after_whole (Err flaw) next rest is = absurd (true≢false is)
 
 -- the input ended in an edit
-pub comes_cut : (sense : Sense) (old new : Ahead) (failed ended : Bool) (parts : Parts) (len : ℕ) (r : Result (Result (Unit {0}) Flaw) Stop) (e stop : Stop) → r ≡ Err e → e ≡ stop
+pub comes_cut : (sense : Sense) (old new : Ahead) (failed ended : Bool) (parts : Parts) (len : ℕ) (r : Result (Result (Unit {0}) Flaw) InputEnd) (e stop : InputEnd) → r ≡ Err e → e ≡ stop
     → (taken : List ℕ) → Takes old new taken → sense taken ≡ unfinished → StopsBy stop failed ended new → Comes sense old new failed ended parts len r
 comes_cut sense old new failed ended parts len r e stop is same taken takes cut stops =
     subst (Comes sense old new failed ended parts len) (sym is)

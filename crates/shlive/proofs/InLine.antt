@@ -1,14 +1,14 @@
 -- Texts without a newline.
 use Rattle.std.proofs.Common.{◌≡◌, ℕ, false, List, [], ◌∷◌, ◌++◌, None, Some, refl, sym, ap, ◌∙◌, append_assoc, append-nil}
 use Rattle.shtext.specs.Text.{is_newline}
-use Rattle.shlive.specs.Requests.{Lined, behind, first_line}
+use Rattle.shlive.specs.Requests.{Lined, first_line, with_text_before}
 use Rattle.shlive.specs.Lines.{IsInLine}
 
-behind_nothing : (l : Lined) → l ≡ behind [] l
+behind_nothing : (l : Lined) → l ≡ with_text_before [] l
 behind_nothing None = refl
 behind_nothing (Some (line, rest)) = refl
 
-behind_both : (t u : List ℕ) (l : Lined) → behind t (behind u l) ≡ behind (t ++ u) l
+behind_both : (t u : List ℕ) (l : Lined) → with_text_before t (with_text_before u l) ≡ with_text_before (t ++ u) l
 behind_both t u None = refl
 behind_both t u (Some (line, rest)) = ap (λ l. Some (l, rest)) (sym (append_assoc t u line))
 
@@ -17,8 +17,8 @@ in_line_nothing rest = behind_nothing (first_line rest)
 
 pub in_line_more : (text : List ℕ) (b : ℕ) → IsInLine text → is_newline b ≡ false → IsInLine (text ++ b ∷ [])
 in_line_more text b p other rest =
-    let here : first_line (b ∷ rest) ≡ behind (b ∷ []) (first_line rest) = rw other refl in
-    ap first_line (append_assoc text (b ∷ []) rest) ∙ p (b ∷ rest) ∙ ap (behind text) here ∙ behind_both text (b ∷ []) (first_line rest)
+    let here : first_line (b ∷ rest) ≡ with_text_before (b ∷ []) (first_line rest) = rw other refl in
+    ap first_line (append_assoc text (b ∷ []) rest) ∙ p (b ∷ rest) ∙ ap (with_text_before text) here ∙ behind_both text (b ∷ []) (first_line rest)
 
 -- a newline ends its line
 pub line_ends : (text rest : List ℕ) → IsInLine text → first_line ((text ++ 10 ∷ []) ++ rest) ≡ Some (text, rest)

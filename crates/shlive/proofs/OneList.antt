@@ -2,7 +2,7 @@
 use Rattle.std.proofs.Common.{◌≡◌, ℕ, zero, suc, ◌<◌, ◌≤◌, Bool, true, false, cond, List, [], ◌∷◌, ◌++◌, List as Row, Option, None, Some, length, take, drop, refl, sym, ap, ◌∙◌, arith, append_assoc, append-nil, length-drop, subst}
 use Rattle.shtext.specs.Text.{is_newline}
 use Rattle.shtext.specs.Edit.{ASplice}
-use Rattle.shlive.specs.Requests.{Begins, Ending, EndsBy, Lined, Next, Request, Requests, Sense, asks, behind, behind_bytes, clean, cut, edit_alone, first_line, leaves, left, more_parts, next_by_line, next_by_order, next_by_part, next_of, none_yet, nothing, one_more, order_of_line, part_by_line, part_of_line, splice_by, unfinished, with_bytes}
+use Rattle.shlive.specs.Requests.{Begins, Ending, EndsBy, Lined, Next, Request, Requests, Sense, asks, behind_bytes, clean, cut, edit_alone, first_line, leaves, left, more_parts, next_by_line, next_by_order, next_by_part, next_request_of, none_yet, nothing, one_more, order_of_line, part_by_line, part_of_line, splice_by, unfinished, with_bytes, with_text_before}
 use Rattle.shlive.specs.declared.order.Order.{Order}
 use Rattle.shlive.specs.declared.order.Part.{Part}
 use Rattle.shlive.specs.declared.order.EditForm.TheVariants as forms
@@ -15,11 +15,11 @@ abbrev Shorter : List ℕ → Lined → Type 0
 Shorter text None = Unit {0}
 Shorter text (Some (line, rest)) = length rest < length text
 
-shorter_behind : (b : ℕ) (text : List ℕ) (l : Lined) → Shorter text l → Shorter (b ∷ text) (behind (b ∷ []) l)
+shorter_behind : (b : ℕ) (text : List ℕ) (l : Lined) → Shorter text l → Shorter (b ∷ text) (with_text_before (b ∷ []) l)
 shorter_behind b text None p = tt
 shorter_behind b text (Some (line, rest)) p = omega (arith, p)
 
-shorter_by : (b : ℕ) (text : List ℕ) (c : Bool) (l : Lined) → Shorter text l → Shorter (b ∷ text) (cond c (Some ([], text)) (behind (b ∷ []) l))
+shorter_by : (b : ℕ) (text : List ℕ) (c : Bool) (l : Lined) → Shorter text l → Shorter (b ∷ text) (cond c (Some ([], text)) (with_text_before (b ∷ []) l))
 shorter_by b text true l p = omega arith
 shorter_by b text false l p = shorter_behind b text l p
 
@@ -46,8 +46,8 @@ leaves_behind next text (Some (c ∷ line, rest)) n p low on = omega (arith, p, 
 leaves_bytes : (part : Part) (next : ASplice → Sense) (rest : List ℕ) (n : ℕ) → length rest < n → ((s : ASplice) → GoesOn n (next s)) → Leaves n (with_bytes part next rest)
 leaves_bytes part next rest n low on =
     let less = length-drop part.count rest in
-    let behind : List ℕ = drop part.count rest in
-    leaves_behind (next (splice_by part (take part.count rest))) behind (first_line behind) n (line_shorter behind) (omega (arith, less, low)) (on _)
+    let after : List ℕ = drop part.count rest in
+    leaves_behind (next (splice_by part (take part.count rest))) after (first_line after) n (line_shorter after) (omega (arith, less, low)) (on _)
 
 leaves_part : (part : Option Part) (next : ASplice → Sense) (rest : List ℕ) (n : ℕ) → length rest < n → ((s : ASplice) → GoesOn n (next s)) → Leaves n (next_by_part part next rest)
 leaves_part None next rest n low on = low
@@ -73,7 +73,7 @@ leaves_line : (text : List ℕ) (l : Lined) → Shorter text l → Leaves (lengt
 leaves_line text None p = tt
 leaves_line text (Some (line, rest)) p = leaves_order (order_of_line line) rest (length text) p
 
-next_shorter : (input : List ℕ) → Leaves (length input) (next_of input)
+next_shorter : (input : List ℕ) → Leaves (length input) (next_request_of input)
 next_shorter [] = tt
 next_shorter (b ∷ text) = leaves_line (b ∷ text) (first_line (b ∷ text)) (line_shorter (b ∷ text))
 
@@ -83,10 +83,10 @@ abbrev Ended : List ℕ → Type 0
 Ended input = (requests : List Request) × ((ending : Ending) × Requests input requests ending)
 
 module _ (input : List ℕ) where
-  ends : (asked : List Request) (mid : List ℕ) (next : Next) (e : Ending) → Begins input asked mid → next_of mid ≡ next → EndsBy next e → Ended input
+  ends : (asked : List Request) (mid : List ℕ) (next : Next) (e : Ending) → Begins input asked mid → next_request_of mid ≡ next → EndsBy next e → Ended input
   ends asked mid next e b is end = (asked, (e, (mid, b, subst (λ n. EndsBy n e) (sym is) end)))
 
-  by_next : (n : ℕ) (asked : List Request) (mid : List ℕ) (next : Next) → length mid ≤ n → Begins input asked mid → next_of mid ≡ next → Leaves (length mid) (next_of mid) → Ended input
+  by_next : (n : ℕ) (asked : List Request) (mid : List ℕ) (next : Next) → length mid ≤ n → Begins input asked mid → next_request_of mid ≡ next → Leaves (length mid) (next_request_of mid) → Ended input
   by_next n asked mid nothing low b is less = ends asked mid nothing clean b is tt
   by_next n asked mid unfinished low b is less = ends asked mid unfinished cut b is tt
   by_next n asked mid leaves low b is less = ends asked mid leaves left b is tt
@@ -94,17 +94,17 @@ module _ (input : List ℕ) where
       let few : length rest < length mid = subst (Leaves (length mid)) is less in absurd (omega (arith, few, low))
   by_next (suc n) asked mid (asks request rest) low b is less =
       let few : length rest < length mid = subst (Leaves (length mid)) is less in
-      by_next n (asked ++ request ∷ []) rest (next_of rest) (omega (arith, few, low)) (one_more request rest b is) refl (next_shorter rest)
+      by_next n (asked ++ request ∷ []) rest (next_request_of rest) (omega (arith, few, low)) (one_more request rest b is) refl (next_shorter rest)
 
 pub some_list : (input : List ℕ) → Ended input
-some_list input = by_next input (length input) [] input (next_of input) (omega arith) none_yet refl (next_shorter input)
+some_list input = by_next input (length input) [] input (next_request_of input) (omega arith) none_yet refl (next_shorter input)
 
 -- ---- there is no other
 
 -- the same from the first request on
 abbrev Goes : List ℕ → List Request → Ending → Type 0
-Goes input [] e = EndsBy (next_of input) e
-Goes input (r ∷ rs) e = (rest : List ℕ) × (next_of input ≡ asks r rest) × Goes rest rs e
+Goes input [] e = EndsBy (next_request_of input) e
+Goes input (r ∷ rs) e = (rest : List ℕ) × (next_request_of input ≡ asks r rest) × Goes rest rs e
 
 goes_before : (input : List ℕ) (asked : List Request) (mid : List ℕ) (e : Ending) (more : List Request) → Begins input asked mid → Goes mid more e → Goes input (asked ++ more) e
 goes_before input _ _ e more none_yet g = g
@@ -145,9 +145,9 @@ rest_in leaves = []
 rest_in (asks r rest) = rest
 
 goes_one : (input : List ℕ) (rs ss : List Request) (d e : Ending) → Goes input rs d → Goes input ss e → (rs ≡ ss) × (d ≡ e)
-goes_one input [] [] d e p q = (refl, one_end (next_of input) d e p q)
-goes_one input [] (s ∷ ss) d e p (rest, is, q) = absurd (no_end (next_of input) d s rest is p)
-goes_one input (r ∷ rs) [] d e (rest, is, p) q = absurd (no_end (next_of input) e r rest is q)
+goes_one input [] [] d e p q = (refl, one_end (next_request_of input) d e p q)
+goes_one input [] (s ∷ ss) d e p (rest, is, q) = absurd (no_end (next_request_of input) d s rest is p)
+goes_one input (r ∷ rs) [] d e (rest, is, p) q = absurd (no_end (next_request_of input) e r rest is q)
 goes_one input (r ∷ rs) (s ∷ ss) d e (m, is, p) (n, also, q) =
     let same : asks r m ≡ asks s n = sym is ∙ also in
     let one : r ≡ s = ap (request_in r) same in

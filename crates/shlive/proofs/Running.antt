@@ -7,9 +7,9 @@ use Rattle.shlive.specs.Held.{Held}
 use Rattle.shlive.specs.Ahead.{Ahead, Takes, too_many}
 use Rattle.shlive.specs.Replies.{Step}
 use Rattle.shlive.specs.Replies as of_replies
-use Rattle.shlive.specs.Requests.{Begins, Ending, EndsBy, Request, asks, clean, cut, edit, flawed, outline, at, fault, print, unknown, left, next_of}
+use Rattle.shlive.specs.Requests.{Begins, Ending, EndsBy, Request, asks, clean, cut, edit, flawed, outline, at, fault, print, unknown, left, next_request_of}
 use Rattle.shlive.specs.Requests as of_requests
-use Rattle.shlive.specs.Runs.{Answered, Ended, Finishes, HasAnswer, IsRun}
+use Rattle.shlive.specs.Runs.{Answered, Ended, Finishes, HasAnswer, IsSessionRun}
 use Rattle.shlive.specs.Turns.{EndsAs, Replied, Spells}
 use Rattle.shlive.specs.declared.error.LiveError.{LiveError}
 use Rattle.shlive.specs.declared.serve.End.{End}
@@ -37,13 +37,13 @@ pub record SoFar (before after : Held) (old new : Ahead) (held holds : Option (L
   pub how : after.how ≡ before.how
 
 module _ (before mid after : Held) (old now new : Ahead) (held has holds : Option (List ℕ)) (so : SoFar before mid old now held has) where
-  begins_more : (taken : List ℕ) (request : Request) → Spells next_of taken (asks request) → (rest : List ℕ)
+  begins_more : (taken : List ℕ) (request : Request) → Spells next_request_of taken (asks request) → (rest : List ℕ)
       → Begins ((so.taken ++ taken) ++ rest) (so.asked ++ request ∷ []) rest
   begins_more taken request spelled rest =
       of_requests.one_more request rest (subst (λ l. Begins l so.asked (taken ++ rest)) (sym (append_assoc so.taken taken rest)) (so.begins (taken ++ rest))) (spelled rest)
 
   -- one more request, and its reply
-  pub goes_on : Replied next_of mid after now new has holds false → SoFar before after old new held holds
+  pub goes_on : Replied next_request_of mid after now new has holds false → SoFar before after old new held holds
   goes_on r = record {
     taken = so.taken ++ r.taken;
     asked = so.asked ++ r.request ∷ [];
@@ -71,7 +71,7 @@ module _ (before mid after : Held) (old now new : Ahead) (held has holds : Optio
     -- nothing more was asked and nothing told
     stayed : («end» : End) (taken : List ℕ) → (t : Takes old new (so.taken ++ taken)) → Ended «end» t.more so.asked failed ended
         → Finishes «end» mid after t.more so.asked has holds broken → HasAnswer before.how.edition «end» after.bytes status
-        → IsRun before after old.left new.left failed ended held holds broken status
+        → IsSessionRun before after old.left new.left failed ended held holds broken status
     stayed why taken t ends finishes answer = record {
       read = t.more;
       requests = so.asked;
@@ -89,14 +89,14 @@ module _ (before mid after : Held) (old now new : Ahead) (held has holds : Optio
     all_of taken takes = takes_both old now new so.taken taken _ so.takes takes refl
 
     -- nothing waits and nothing was taken
-    none_left : (taken waits : List ℕ) → taken ≡ [] → waits ≡ [] → EndsBy (next_of (taken ++ waits)) clean
-    none_left taken waits p q = subst (λ l. EndsBy (next_of l) clean) (sym (ap (λ l. l ++ waits) p ∙ q)) tt
+    none_left : (taken waits : List ℕ) → taken ≡ [] → waits ≡ [] → EndsBy (next_request_of (taken ++ waits)) clean
+    none_left taken waits p q = subst (λ l. EndsBy (next_request_of l) clean) (sym (ap (λ l. l ++ waits) p ∙ q)) tt
 
-    all_taken : (taken : List ℕ) (e : Ending) → new.waiting.bytes ≡ [] → EndsBy (next_of taken) e → EndsBy (next_of (taken ++ new.waiting.bytes)) e
-    all_taken taken e none ends = subst (λ l. EndsBy (next_of l) e) (sym (ap (λ l. taken ++ l) none ∙ append-nil taken)) ends
+    all_taken : (taken : List ℕ) (e : Ending) → new.waiting.bytes ≡ [] → EndsBy (next_request_of taken) e → EndsBy (next_request_of (taken ++ new.waiting.bytes)) e
+    all_taken taken e none ends = subst (λ l. EndsBy (next_request_of l) e) (sym (ap (λ l. taken ++ l) none ∙ append-nil taken)) ends
 
-    pub ended_run : («end» : End) → EndsAs next_of «end» mid after now new failed ended has holds broken → HasAnswer before.how.edition «end» after.bytes status
-        → IsRun before after old.left new.left failed ended held holds broken status
+    pub ended_run : («end» : End) → EndsAs next_request_of «end» mid after now new failed ended has holds broken → HasAnswer before.how.edition «end» after.bytes status
+        → IsSessionRun before after old.left new.left failed ended held holds broken status
     ended_run Clean s answer =
         let t = all_of s.taken s.takes in
         stayed Clean s.taken t ((s.taken ++ new.waiting.bytes, begun s.taken t, none_left s.taken new.waiting.bytes s.none.0 s.none.2.2), s.none.2.0, s.none.2.1)
@@ -123,7 +123,7 @@ module _ (before mid after : Held) (old now new : Ahead) (held has holds : Optio
         stayed Unwritable r.taken t f (record { request = r.request; rest = new.waiting.bytes; begins = begins; tells = r.tells }, b) answer
 
     -- how a session reads and prints is what it was, whatever ended the run
-    pub ended_how : («end» : End) → EndsAs next_of «end» mid after now new failed ended has holds broken → after.how ≡ before.how
+    pub ended_how : («end» : End) → EndsAs next_request_of «end» mid after now new failed ended has holds broken → after.how ≡ before.how
     ended_how Clean s = ap (λ (h : Held). h.how) s.same ∙ so.how
     ended_how Quit s = ap (λ (h : Held). h.how) s.same ∙ so.how
     ended_how Cut s = ap (λ (h : Held). h.how) s.same ∙ so.how

@@ -3,8 +3,8 @@ use Rattle.std.specs.Prelude.{◌≡◌, ℕ, ◌+◌, ◌^◌, ◌≤◌, ◌++
 use Rattle.std.specs.Io.KnownBytes.{Consumes, IsAtEnd}
 use Rattle.shtext.specs.declared.device.Input.{Input}
 use Rattle.shlive.specs.Waiting.{Waiting}
-use Rattle.shlive.specs.declared.incoming.Stop.{Stop}
-use Rattle.shlive.specs.declared.incoming.Stop.TheVariants.{Met, Unreadable, TooLong}
+use Rattle.shlive.specs.declared.incoming.InputEnd.{InputEnd}
+use Rattle.shlive.specs.declared.incoming.InputEnd.TheVariants.{Met, Unreadable, TooLong}
 
 -- what the reader has left, where it tells, and what waits
 pub record Ahead : Type 0 where
@@ -31,7 +31,7 @@ abbrev pub too_many : ℕ
 too_many = 2 ^ 63
 
 -- why there are no more bytes
-abbrev pub StopsBy : Stop → Bool → Bool → Ahead → Type 0
+abbrev pub StopsBy : InputEnd → Bool → Bool → Ahead → Type 0
 StopsBy Met failed ended ahead = (failed ≡ false) × (ended ≡ true) × (ahead.waiting.bytes ≡ []) × IsAtEnd ahead.left
 StopsBy Unreadable failed ended ahead = (failed ≡ true) × (ended ≡ false) × (ahead.waiting.bytes ≡ [])
 StopsBy TooLong failed ended ahead = (failed ≡ false) × (ended ≡ false) × (too_many ≤ ahead.waiting.count)

@@ -2,7 +2,7 @@ pub mod Held
 pub mod HeldLines
 pub mod Answers
 pub mod Kept
-pub mod Behind
+pub mod TextFrom
 pub mod Printing
 pub mod Waiting
 pub mod Ahead

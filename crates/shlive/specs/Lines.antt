@@ -1,12 +1,12 @@
 -- The line of a request, as far as it is kept.
 use Rattle.std.specs.Prelude.{◌≡◌, ℕ, ◌<◌, ◌≤◌, ◌++◌, List, length, take, MatchBool}
-use Rattle.shlive.specs.Requests.{behind, first_line, line_limit}
-use Rattle.shlive.specs.declared.lines.Line.{Line}
+use Rattle.shlive.specs.Requests.{first_line, line_limit, with_text_before}
+use Rattle.shlive.specs.declared.lines.RequestLine.{RequestLine}
 
 -- a text without a newline: what follows it goes on with its line
 abbrev pub IsInLine : List ℕ → Type 0
-IsInLine text = (rest : List ℕ) → first_line (text ++ rest) ≡ behind text (first_line rest)
+IsInLine text = (rest : List ℕ) → first_line (text ++ rest) ≡ with_text_before text (first_line rest)
 
 -- the text is kept, or it is longer than the line of a request
-abbrev pub Keeps : Line → List ℕ → Type 0
-Keeps line text = MatchBool line.over (line_limit < length text) ((length text ≤ line_limit) × (length text ≡ line.len) × (take line.len line.bytes ≡ text))
+abbrev pub KeepsText : RequestLine → List ℕ → Type 0
+KeepsText line text = MatchBool line.over (line_limit < length text) ((length text ≤ line_limit) × (length text ≡ line.len) × (take line.len line.bytes ≡ text))

@@ -58,8 +58,8 @@ part_of line = part_of_words (words line)
 -- ---- requests
 
 -- a request of one word
-abbrev pub asked : List ℕ → Option Order
-asked word =
+abbrev pub order_of_one_word : List ℕ → Option Order
+order_of_one_word word =
     if bytes_eq word (codes "outline") then Some (Ask Outline)
     else if bytes_eq word (codes "fault") then Some (Ask Fault)
     else if bytes_eq word (codes "print") then Some (Ask Print)
@@ -79,16 +79,16 @@ HasParts (Edit form) = HasPart form
 HasParts _ = Unit {0}
 
 -- a request of a name and more words
-abbrev pub named : List ℕ → List (List ℕ) → Option Order
-named name ws =
+abbrev pub order_by_name : List ℕ → List (List ℕ) → Option Order
+order_by_name name ws =
     if bytes_eq name (codes "at") then option_map (λ n. Ask (At n)) (number_alone ws)
     else if bytes_eq name (codes "edit") then option_map (λ p. Edit (Alone p)) (part_of_words ws)
     else if bytes_eq name (codes "batch") then option_and_then batch_of (number_alone ws) else None
 
 abbrev pub order_of_words : List (List ℕ) → Option Order
 order_of_words [] = None
-order_of_words (name ∷ []) = asked name
-order_of_words (name ∷ w ∷ ws) = named name (w ∷ ws)
+order_of_words (name ∷ []) = order_of_one_word name
+order_of_words (name ∷ w ∷ ws) = order_by_name name (w ∷ ws)
 
 -- what a line asks for, None for one that is no request
 abbrev pub order_of : List ℕ → Option Order

@@ -4,7 +4,7 @@ use Rattle.shtext.specs.Edit.{ASplice, IsTally}
 use Rattle.shlive.specs.Ahead.{Ahead, StopsBy, Takes}
 use Rattle.shlive.specs.Requests.{Request, Sense, asks, edit, flawed, unfinished}
 use Rattle.shlive.specs.Turns.{Spells}
-use Rattle.shlive.specs.declared.incoming.Stop.{Stop}
+use Rattle.shlive.specs.declared.incoming.InputEnd.{InputEnd}
 use Rattle.shlive.specs.declared.parts.Flaw.{Flaw}
 use Rattle.shlive.specs.declared.parts.KeptSplice.{KeptSplice}
 use Rattle.shlive.specs.declared.parts.Parts.{Parts}
@@ -35,7 +35,7 @@ after_bytes (Err flaw) next = asks (flawed flaw)
 
 -- What came of an edit that is understood so: it was taken whole or up to a flaw, or the input ended in it.
 abbrev pub Comes : Sense → Ahead → Ahead → Bool → Bool → Parts → ℕ
-    → Result (Result (Unit {0}) Flaw) Stop → Type 0
+    → Result (Result (Unit {0}) Flaw) InputEnd → Type 0
 Comes sense old new failed ended parts len (Ok came) =
     (taken : List ℕ) × (ss : Row ASplice) × OnOk came (0 < length ss) × Takes old new taken
     × Spells sense taken (asks (request_by came ss)) × Hold parts len ss × (failed ≡ false)

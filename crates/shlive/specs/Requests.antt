@@ -43,14 +43,14 @@ abbrev pub Lined : Type 0
 Lined = Option (List ℕ × List ℕ)
 
 -- the line that text before this line makes
-abbrev pub behind : List ℕ → Lined → Lined
-behind text None = None
-behind text (Some (line, rest)) = Some (text ++ line, rest)
+abbrev pub with_text_before : List ℕ → Lined → Lined
+with_text_before text None = None
+with_text_before text (Some (line, rest)) = Some (text ++ line, rest)
 
 -- the first line, where a newline ends it
 abbrev pub first_line : List ℕ → Lined
 first_line [] = None
-first_line (b ∷ bs) = if is_newline b then Some ([], bs) else behind (b ∷ []) (first_line bs)
+first_line (b ∷ bs) = if is_newline b then Some ([], bs) else with_text_before (b ∷ []) (first_line bs)
 
 -- ---- how bytes are understood
 
@@ -126,9 +126,9 @@ abbrev pub next_by_line : Lined → Next
 next_by_line None = unfinished
 next_by_line (Some (line, rest)) = next_by_order (order_of_line line) rest
 
-abbrev pub next_of : List ℕ → Next
-next_of [] = nothing
-next_of (b ∷ bs) = next_by_line (first_line (b ∷ bs))
+abbrev pub next_request_of : List ℕ → Next
+next_request_of [] = nothing
+next_request_of (b ∷ bs) = next_by_line (first_line (b ∷ bs))
 
 -- ---- all requests of an input
 
@@ -136,7 +136,7 @@ next_of (b ∷ bs) = next_by_line (first_line (b ∷ bs))
 pub data Begins (input : List ℕ) : List Request → List ℕ → Type 0 where
   none_yet : Begins input [] input
   one_more : {requests : List Request} {mid : List ℕ} (request : Request) (rest : List ℕ)
-      → Begins input requests mid → next_of mid ≡ asks request rest → Begins input (requests ++ request ∷ []) rest
+      → Begins input requests mid → next_request_of mid ≡ asks request rest → Begins input (requests ++ request ∷ []) rest
 
 -- how an input ends behind its requests
 pub data Ending : Type 0 where
@@ -152,4 +152,4 @@ EndsBy _ _ = ⊥
 
 -- the requests of an input, and how it ends behind them
 abbrev pub Requests : List ℕ → List Request → Ending → Type 0
-Requests input requests ending = (rest : List ℕ) × Begins input requests rest × EndsBy (next_of rest) ending
+Requests input requests ending = (rest : List ℕ) × Begins input requests rest × EndsBy (next_request_of rest) ending

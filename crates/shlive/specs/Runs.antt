@@ -59,7 +59,7 @@ HasAnswer edition end bytes status = status ≡ 2
 -- The run of a session: what it holds before and after; the bytes that the reader had and has left, whether a
 -- read failed or met the end; the bytes that the writer held and holds, whether a
 -- write failed; and the answer.
-pub record IsRun (before after : Held) (had has : Option (List ℕ)) (failed ended : Bool)
+pub record IsSessionRun (before after : Held) (had has : Option (List ℕ)) (failed ended : Bool)
     (held holds : Option (List ℕ)) (broken : Bool) (answer : ℕ) : Type 0 where
   pub read : List ℕ
   pub requests : List Request

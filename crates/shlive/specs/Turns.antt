@@ -5,8 +5,8 @@ use Rattle.shlive.specs.Held.{Held}
 use Rattle.shlive.specs.Ahead.{Ahead, StopsBy, Takes}
 use Rattle.shlive.specs.Replies.{Step}
 use Rattle.shlive.specs.Requests.{Ending, EndsBy, Request, Sense, asks, leaves, nothing, unfinished}
-use Rattle.shlive.specs.declared.incoming.Stop.{Stop}
-use Rattle.shlive.specs.declared.incoming.Stop.TheVariants as stops
+use Rattle.shlive.specs.declared.incoming.InputEnd.{InputEnd}
+use Rattle.shlive.specs.declared.incoming.InputEnd.TheVariants as stops
 use Rattle.shlive.specs.declared.serve.End.{End}
 use Rattle.shlive.specs.declared.serve.End.TheVariants.{Clean, Quit, Cut, Unreadable, TooLong, Unwritable}
 
@@ -52,12 +52,12 @@ EndsAs sense Unwritable before after old new failed ended held holds broken =
     Replied sense before after old new held holds true × (failed ≡ false) × (broken ≡ true)
 EndsAs sense why before after old new failed ended held holds broken = Stays sense why before after old new failed ended held holds broken
 
-abbrev pub end_between : Stop → End
+abbrev pub end_between : InputEnd → End
 end_between stops.Met = Clean
 end_between stops.Unreadable = Unreadable
 end_between stops.TooLong = TooLong
 
-abbrev pub end_inside : Stop → End
+abbrev pub end_inside : InputEnd → End
 end_inside stops.Met = Cut
 end_inside stops.Unreadable = Unreadable
 end_inside stops.TooLong = TooLong

@@ -16,7 +16,7 @@ ghost use Rattle.shtext.specs.Buffer.{buffer_bytes};
 ghost use Rattle.shtext.specs.Edit.{limit};
 ghost use Rattle.shwindow.specs.Lines.{IsRow};
 
-use crate::behind::Behind;
+use crate::text_from::TextFrom;
 use crate::top_lines::TopLine;
 use shprint::{Layout, Page, Printer};
 use shtext::Buffer;
@@ -134,7 +134,7 @@ fn print_line(
         return Ok(true);
     };
     print_gap(gap, page)?;
-    let behind = Behind::new(printer.source, begin);
+    let behind = TextFrom::new(printer.source, begin);
     let printer = Printer {
         alloc: printer.alloc,
         layout: printer.layout,

@@ -8,14 +8,14 @@ use std::io::Read;
 use std::marker::Model;
 
 /// The most bytes that are read at once.
-const PIECE: usize = 2_048;
+const READ_SIZE: usize = 2_048;
 
 /// As many bytes as no input of a run has.
 const TOO_MANY: u64 = 1 << 63;
 
 /// Why no more bytes come.
 #[derive(Clone, Copy, Debug, PartialEq, Eq)]
-pub(crate) enum Stop {
+pub(crate) enum InputEnd {
     /// The input ended.
     Met,
     /// A read failed.
@@ -27,7 +27,7 @@ pub(crate) enum Stop {
 /// The bytes that were read and wait to be taken, and how many were read so far.
 #[derive(Drop)]
 pub(crate) struct Incoming {
-    piece: [u8; PIECE],
+    piece: [u8; READ_SIZE],
     at: usize,
     end: usize,
     count: u64,
@@ -52,7 +52,7 @@ impl Incoming {
         ensures count { result.count ≡ 0 }
     {
         Incoming {
-            piece: [0; PIECE],
+            piece: [0; READ_SIZE],
             at: 0,
             end: 0,
             count: 0,
@@ -60,7 +60,7 @@ impl Incoming {
     }
 
     /// Sees to it that a byte waits: reads where none does.
-    pub(crate) fn fill<R: Read>(&mut self, input: &mut Input<R>) -> Result<(), Stop>
+    pub(crate) fn fill<R: Read>(&mut self, input: &mut Input<R>) -> Result<(), InputEnd>
         requires open { IsOpen input.old }
         requires few { self.old.count < too_many }
         ensures some { OnOk result (0 < length self.new.bytes) }
@@ -74,10 +74,10 @@ impl Incoming {
         }
         let count = match input.read(&mut self.piece) {
             Ok(count) => count,
-            Err(Failed) => return Err(Stop::Unreadable),
+            Err(Failed) => return Err(InputEnd::Unreadable),
         };
         if count == 0 {
-            return Err(Stop::Met);
+            return Err(InputEnd::Met);
         }
         self.at = 0;
         self.end = count;
@@ -85,7 +85,7 @@ impl Incoming {
         if self.count < TOO_MANY {
             Ok(())
         } else {
-            Err(Stop::TooLong)
+            Err(InputEnd::TooLong)
         }
     }
 

@@ -7,7 +7,7 @@
 #![tactic(auto)]
 
 mod answers;
-mod behind;
+mod text_from;
 mod error;
 mod incoming;
 pub mod laws;

@@ -2,32 +2,32 @@
 ghost use Rattle.std.specs.Prelude.{◌≡◌, ◌<◌, ◌≤◌, ◌∷◌, ◌++◌, [], ℕ, IfErr, IfOk, List, MatchOption, OnOk, IsTrue, ◌↔◌, length};
 ghost use Rattle.shtext.specs.Device.{input_ended, input_failed};
 ghost use Rattle.shlive.specs.Ahead.{IsOpen, StopsBy, Takes, ahead_of, too_many};
-ghost use Rattle.shlive.specs.Lines.{IsInLine, Keeps};
+ghost use Rattle.shlive.specs.Lines.{IsInLine, KeepsText};
 ghost use Rattle.shlive.specs.Requests.{line_limit};
 
-use crate::incoming::{Incoming, Stop};
+use crate::incoming::{Incoming, InputEnd};
 use shtext::Input;
 use std::io::Read;
 
 /// The most bytes that the line of a request has.
-const LIMIT: usize = 64;
+const LINE_LIMIT: usize = 64;
 
 /// A line, which is kept in a fixed array as far as that has room.
 #[derive(Drop)]
-pub(crate) struct Line {
-    bytes: [u8; LIMIT],
+pub(crate) struct RequestLine {
+    bytes: [u8; LINE_LIMIT],
     len: usize,
     /// It has more bytes.
     over: bool,
 }
 
-impl Line {
+impl RequestLine {
     /// A line without a byte.
-    fn new() -> Line
-        ensures { Keeps result [] }
+    fn new() -> RequestLine
+        ensures { KeepsText result [] }
     {
-        Line {
-            bytes: [0; LIMIT],
+        RequestLine {
+            bytes: [0; LINE_LIMIT],
             len: 0,
             over: false,
         }
@@ -35,9 +35,9 @@ impl Line {
 
     /// Adds a byte.
     fn push(&mut self, byte: u8)
-        ensures { (text : List ℕ) → Keeps self.old text → Keeps self.new (text ++ byte ∷ []) }
+        ensures { (text : List ℕ) → KeepsText self.old text → KeepsText self.new (text ++ byte ∷ []) }
     {
-        if self.len < LIMIT {
+        if self.len < LINE_LIMIT {
             self.bytes[self.len] = byte;
             self.len += 1;
         } else {
@@ -47,7 +47,7 @@ impl Line {
 
     /// Its bytes, unless it is longer than the line of a request.
     pub(crate) fn text(&self) -> Option<&[u8]>
-        ensures { (text : List ℕ) → Keeps self.now text → MatchOption result (line_limit < length text) (λ t. (t.now ≡ text) × (length text ≤ line_limit)) }
+        ensures { (text : List ℕ) → KeepsText self.now text → MatchOption result (line_limit < length text) (λ t. (t.now ≡ text) × (length text ≤ line_limit)) }
     {
         if self.over {
             return None;
@@ -57,7 +57,7 @@ impl Line {
 
     /// Whether it has no byte.
     pub(crate) fn is_empty(&self) -> bool
-        ensures { (text : List ℕ) → Keeps self.now text → IsTrue result ↔ (text ≡ []) }
+        ensures { (text : List ℕ) → KeepsText self.now text → IsTrue result ↔ (text ≡ []) }
     {
         !self.over && self.len == 0
     }
@@ -67,18 +67,18 @@ impl Line {
 pub(crate) fn take_line<R: Read>(
     incoming: &mut Incoming,
     input: &mut Input<R>,
-) -> Result<Line, Stop>
+) -> Result<RequestLine, InputEnd>
     requires open { IsOpen input.old }
     requires few { incoming.old.count < too_many }
     ensures open { OnOk result (IsOpen input.new) }
     ensures few { OnOk result (incoming.new.count < too_many) }
-    ensures line { IfOk result (λ line. (text : List ℕ) × IsInLine text × Keeps line text
+    ensures line { IfOk result (λ line. (text : List ℕ) × IsInLine text × KeepsText line text
         × Takes (ahead_of R.remaining input.old incoming.old) (ahead_of R.remaining input.new incoming.new) (text ++ 10 ∷ [])) }
     ensures cut { IfErr result (λ stop. (text : List ℕ) × IsInLine text
         × Takes (ahead_of R.remaining input.old incoming.old) (ahead_of R.remaining input.new incoming.new) text
         × StopsBy stop (input_failed input.new) (input_ended input.new) (ahead_of R.remaining input.new incoming.new)) }
 {
-    let mut line = Line::new();
+    let mut line = RequestLine::new();
     'bytes: loop {
         if let Err(stop) = incoming.fill(input) {
             return Err(stop);

@@ -1,6 +1,6 @@
 //! What the line of a request asks for.
 ghost use Rattle.std.specs.Prelude.{◌≡◌, ◌∷◌, [], IfSome, MatchOption};
-ghost use Rattle.shlive.specs.Orders.{HasParts, asked, batch_of, named, number_alone, number_of, order_of, part_of, words};
+ghost use Rattle.shlive.specs.Orders.{HasParts, batch_of, number_alone, number_of, order_by_name, order_of, order_of_one_word, part_of, words};
 
 /// The most parts of a batch.
 const MOST_PARTS: usize = 64;
@@ -75,8 +75,8 @@ fn cut_word(line: &[u8]) -> (&[u8], Option<&[u8]>)
 }
 
 /// What a line of this one word asks for.
-fn asked(word: &[u8]) -> Option<Order>
-    ensures is { result ≡ asked word.now }
+fn order_of_one_word(word: &[u8]) -> Option<Order>
+    ensures is { result ≡ order_of_one_word word.now }
     ensures parts { IfSome result HasParts }
 {
     if word == b"outline".as_slice() {
@@ -135,8 +135,8 @@ fn batch_of(count: usize) -> Option<Order>
 }
 
 /// What a line asks for that has words behind its name.
-fn named(name: &[u8], rest: &[u8]) -> Option<Order>
-    ensures is { result ≡ named name.now (words rest.now) }
+fn order_by_name(name: &[u8], rest: &[u8]) -> Option<Order>
+    ensures is { result ≡ order_by_name name.now (words rest.now) }
     ensures parts { IfSome result HasParts }
 {
     if name == b"at".as_slice() {
@@ -156,7 +156,7 @@ pub(crate) fn order_of(line: &[u8]) -> Option<Order>
     ensures parts { IfSome result HasParts }
 {
     match cut_word(line) {
-        (word, None) => asked(word),
-        (name, Some(rest)) => named(name, rest),
+        (word, None) => order_of_one_word(word),
+        (name, Some(rest)) => order_by_name(name, rest),
     }
 }

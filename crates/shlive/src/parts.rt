@@ -3,15 +3,15 @@ ghost use Rattle.std.specs.Prelude.{◌≡◌, ◌<◌, ◌∷◌, ◌++◌, [],
 ghost use Rattle.shtext.specs.Edit.{ASplice, IsTally};
 ghost use Rattle.shtext.specs.Device.{input_ended, input_failed};
 ghost use Rattle.shlive.specs.Ahead.{IsOpen, StopsBy, Takes, ahead_of, too_many};
-ghost use Rattle.shlive.specs.Lines.{Keeps};
+ghost use Rattle.shlive.specs.Lines.{KeepsText};
 ghost use Rattle.shlive.specs.Parts.{AreSplices, Comes, Hold, after_bytes};
 ghost use Rattle.shlive.specs.Payload.{AreKept};
 ghost use Rattle.shlive.specs.Orders.{HasPart};
 ghost use Rattle.shlive.specs.Requests.{Sense, more_parts, next_by_form, part_of_line, splice_by, unfinished, with_bytes};
 ghost use Rattle.shlive.specs.Turns.{Spells};
 
-use crate::incoming::{Incoming, Stop};
-use crate::lines::{Line, take_line};
+use crate::incoming::{Incoming, InputEnd};
+use crate::lines::{RequestLine, take_line};
 use crate::order::{EditForm, Part, part_of};
 use crate::payload::take_payload;
 use shtext::{Input, LIMIT, Tally, TextError};
@@ -124,7 +124,7 @@ fn take_bytes<R: Read>(
     part: Part,
     is_last: bool,
     parts: &mut Parts,
-) -> Result<Result<(), Flaw>, Stop>
+) -> Result<Result<(), Flaw>, InputEnd>
     requires open { IsOpen input.old }
     requires few { incoming.old.count < too_many }
     ensures open { OnOk result (IsOpen input.new) }
@@ -161,7 +161,7 @@ fn take_parts<R: Read>(
     input: &mut Input<R>,
     count: usize,
     parts: &mut Parts,
-) -> Result<Result<(), Flaw>, Stop>
+) -> Result<Result<(), Flaw>, InputEnd>
     requires some { 0 < count }
     requires open { IsOpen input.old }
     requires few { incoming.old.count < too_many }
@@ -188,8 +188,8 @@ fn take_parts<R: Read>(
 }
 
 /// The part that a line spells. One that is too long is none.
-fn part_of_line(line: &Line) -> Option<Part>
-    ensures { (text : List ℕ) → Keeps line.now text → result ≡ part_of_line text }
+fn part_of_line(line: &RequestLine) -> Option<Part>
+    ensures { (text : List ℕ) → KeepsText line.now text → result ≡ part_of_line text }
 {
     match line.text() {
         Some(text) => part_of(text),
@@ -204,7 +204,7 @@ pub(crate) fn take_splices<R: Read>(
     input: &mut Input<R>,
     form: EditForm,
     parts: &mut Parts,
-) -> Result<Result<(), Flaw>, Stop>
+) -> Result<Result<(), Flaw>, InputEnd>
     requires some { HasPart form }
     requires open { IsOpen input.old }
     requires few { incoming.old.count < too_many }

@@ -4,7 +4,7 @@ ghost use Rattle.shtext.specs.Device.{input_ended, input_failed};
 ghost use Rattle.shlive.specs.Ahead.{IsOpen, StopsBy, Takes, ahead_of, too_many};
 ghost use Rattle.shlive.specs.Payload.{AreKept};
 
-use crate::incoming::{Incoming, Stop};
+use crate::incoming::{Incoming, InputEnd};
 use shtext::Input;
 use std::alloc::Global;
 use std::io::Read;
@@ -30,7 +30,7 @@ pub(crate) fn take_payload<R: Read>(
     input: &mut Input<R>,
     count: usize,
     wanted: bool,
-) -> Result<Kept, Stop>
+) -> Result<Kept, InputEnd>
     requires open { IsOpen input.old }
     requires few { incoming.old.count < too_many }
     ensures open { OnOk result (IsOpen input.new) }

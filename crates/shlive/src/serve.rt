@@ -2,15 +2,15 @@
 ghost use Rattle.std.specs.Prelude.{◌≡◌, ◌<◌, ◌||◌, Bool, IfErr, IfSome, IsOk, ℕ, List, OnOk, false, Some, is_ok, length, not};
 ghost use Rattle.shtext.specs.Device.{held_of, input_ended, input_failed, left_of, output_failed};
 ghost use Rattle.shlive.specs.Ahead.{Ahead, IsOpen, ahead_of, too_many};
-ghost use Rattle.shlive.specs.Lines.{Keeps};
+ghost use Rattle.shlive.specs.Lines.{KeepsText};
 ghost use Rattle.shlive.specs.Orders.{HasPart, HasParts};
 ghost use Rattle.shlive.specs.Parts.{Comes};
-ghost use Rattle.shlive.specs.Requests.{Sense, next_by_form, next_of, order_of_line, request_of};
-ghost use Rattle.shlive.specs.Runs.{HasAnswer, IsRun};
+ghost use Rattle.shlive.specs.Requests.{Sense, next_by_form, next_request_of, order_of_line, request_of};
+ghost use Rattle.shlive.specs.Runs.{HasAnswer, IsSessionRun};
 ghost use Rattle.shlive.specs.Turns.{EndsAs, Replied, Tells, end_between, end_inside};
 
-use crate::incoming::{Incoming, Stop};
-use crate::lines::{Line, take_line};
+use crate::incoming::{Incoming, InputEnd};
+use crate::lines::{RequestLine, take_line};
 use crate::order::{EditForm, Order, Question, order_of};
 use crate::parts::{Flaw, Parts, take_splices};
 use crate::replies::{
@@ -41,24 +41,24 @@ pub(crate) enum End {
 
 impl End {
     /// Why a run ends for which no more bytes come, where a request would begin.
-    fn between(stop: Stop) -> End
+    fn between(stop: InputEnd) -> End
         ensures { result ≡ end_between stop }
     {
         match stop {
-            Stop::Met => End::Clean,
-            Stop::Unreadable => End::Unreadable,
-            Stop::TooLong => End::TooLong,
+            InputEnd::Met => End::Clean,
+            InputEnd::Unreadable => End::Unreadable,
+            InputEnd::TooLong => End::TooLong,
         }
     }
 
     /// Why a run ends for which no more bytes come, inside a request.
-    fn inside(stop: Stop) -> End
+    fn inside(stop: InputEnd) -> End
         ensures { result ≡ end_inside stop }
     {
         match stop {
-            Stop::Met => End::Cut,
-            Stop::Unreadable => End::Unreadable,
-            Stop::TooLong => End::TooLong,
+            InputEnd::Met => End::Cut,
+            InputEnd::Unreadable => End::Unreadable,
+            InputEnd::TooLong => End::TooLong,
         }
     }
 
@@ -74,8 +74,8 @@ impl End {
 }
 
 /// What a line asks for. One that is too long is no request.
-fn order_of_line(line: &Line) -> Option<Order>
-    ensures is { (text : List ℕ) → Keeps line.now text → result ≡ order_of_line text }
+fn order_of_line(line: &RequestLine) -> Option<Order>
+    ensures is { (text : List ℕ) → KeepsText line.now text → result ≡ order_of_line text }
     ensures parts { IfSome result HasParts }
 {
     match line.text() {
@@ -109,7 +109,7 @@ fn answer_came<W: Write>(
     session: &mut Session,
     output: &mut Output<W>,
     parts: &Parts,
-    came: Result<Result<(), Flaw>, Stop>,
+    came: Result<Result<(), Flaw>, InputEnd>,
 ) -> Result<(), End>
     requires unbroken { output_failed output.old ≡ false }
     ensures unbroken { OnOk result (output_failed output.new ≡ false) }
@@ -177,10 +177,10 @@ fn answer_next<R: Read, W: Write>(
     ensures open { OnOk result (IsOpen input.new) }
     ensures few { OnOk result (incoming.new.count < too_many) }
     ensures unbroken { OnOk result (output_failed output.new ≡ false) }
-    ensures ok { OnOk result (Replied next_of session.old session.new
+    ensures ok { OnOk result (Replied next_request_of session.old session.new
         (ahead_of R.remaining input.old incoming.old) (ahead_of R.remaining input.new incoming.new)
         (held_of W.contents output.old) (held_of W.contents output.new) false) }
-    ensures err { IfErr result (λ end. EndsAs next_of end session.old session.new
+    ensures err { IfErr result (λ end. EndsAs next_request_of end session.old session.new
         (ahead_of R.remaining input.old incoming.old) (ahead_of R.remaining input.new incoming.new)
         (input_failed input.new) (input_ended input.new)
         (held_of W.contents output.old) (held_of W.contents output.new) (output_failed output.new)) }
@@ -222,7 +222,7 @@ pub fn run<R: Read, W: Write>(
     requires sound { input_failed input.old ≡ false }
     requires open { input_ended input.old ≡ false }
     requires unbroken { output_failed output.old ≡ false }
-    ensures run { IsRun session.old session.new (left_of R.remaining input.old) (left_of R.remaining input.new)
+    ensures run { IsSessionRun session.old session.new (left_of R.remaining input.old) (left_of R.remaining input.new)
         (input_failed input.new) (input_ended input.new)
         (held_of W.contents output.old) (held_of W.contents output.new) (output_failed output.new) result }
     ensures how { session.new.how ≡ session.old.how }

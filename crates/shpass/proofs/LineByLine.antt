@@ -14,7 +14,7 @@ use Rattle.shline.specs.Limits.{Limits}
 use Rattle.shgrammar.specs.Commands.{is_empty}
 use Rattle.std.proofs.lemmas.List.{map-append}
 use Rattle.shgrammar.specs.declared.keep.Keep.TheVariants.{Outer, Whole}
-use Rattle.shline.specs.declared.told.Told.{Told}
+use Rattle.shline.specs.declared.parsed_line.ParsedLine.{ParsedLine}
 use Rattle.shpass.specs.declared.script_lines.ScriptLines.{ScriptLines}
 use Rattle.shast.specs.Nodes.{AreWithin}
 use Rattle.shpass.specs.declared.script_lines.LinesBefore.{LinesBefore}
@@ -61,12 +61,12 @@ outer_read edition B so p (Err f) read =
 -- ---- what is told, from what is computed
 
 told_by : (bound : Limits) (reads : Read (Row AnEntry × Bool) → Type 0) (read : Read (Row AnEntry × Bool)) → reads read
-    → (r : Result Told Stop) → Gives bound view_told r read → IsReadBy reads r
+    → (r : Result ParsedLine Stop) → Gives bound view_told r read → IsReadBy reads r
 told_by bound reads read is (Ok told) gives = subst reads gives is
 told_by bound reads read is (Err (Wrong f)) fails = subst reads fails.0 is
 told_by bound reads read is (Err Memory) fails = tt
 
-module _ {S : Type 0} (B : Row ℕ) (bound : Limits) (old : ScriptLines S) (r : Result Told Stop) (so : SoFar) (stood : Stands old so) where
+module _ {S : Type 0} (B : Row ℕ) (bound : Limits) (old : ScriptLines S) (r : Result ParsedLine Stop) (so : SoFar) (stood : Stands old so) where
   pub next_line : Gives bound view_told r (line_from old.edition B Whole (is_blank_behind old.before) old.at) → IsReadBy (LineReads old.edition B so old.at) r
   next_line gives = told_by bound (LineReads old.edition B so old.at) _ (line_read old.edition B so old.at (is_blank_behind old.before) _ (blank_is old.before so stood) refl) r gives
 
@@ -74,7 +74,7 @@ module _ {S : Type 0} (B : Row ℕ) (bound : Limits) (old : ScriptLines S) (r : 
   outer_line gives = told_by bound (OuterReads old.edition B so old.at) _ (outer_read old.edition B so old.at _ (ap (λ blank. line_from old.edition B Outer blank old.at) (sym (blank_is old.before so stood)))) r gives
 
 -- the same, where the bytes are those of another source, and the edition has another name
-pub told_in : (reads : Edition → Row ℕ → Read (Row AnEntry × Bool) → Type 0) (B other : Row ℕ) (edition by : Edition) (r : Result Told Stop) → other ≡ B → by ≡ edition
+pub told_in : (reads : Edition → Row ℕ → Read (Row AnEntry × Bool) → Type 0) (B other : Row ℕ) (edition by : Edition) (r : Result ParsedLine Stop) → other ≡ B → by ≡ edition
     → IsReadBy (reads by other) r → IsReadBy (reads edition B) r
 told_in reads B other edition by r same is told = subst (λ e. IsReadBy (reads e B) r) is (subst (λ b. IsReadBy (reads by b) r) same told)
 
@@ -91,7 +91,7 @@ line_leads : (edition : Edition) (B : Row ℕ) (so : SoFar) (p n : ℕ) (es : Ro
 line_leads edition B so p n es true read = λ s rest. (read.0 ++ rest.0, line_ended es (standing n) read.0 read.1 rest.1)
 line_leads edition B so p n es false read = (read.0, last_line es (standing n) read.0 read.1)
 
-pub leads_on : (edition : Edition) (B : Row ℕ) (so : SoFar) (p : ℕ) (told : Told) (newline : Bool) → told.newline ≡ newline
+pub leads_on : (edition : Edition) (B : Row ℕ) (so : SoFar) (p : ℕ) (told : ParsedLine) (newline : Bool) → told.newline ≡ newline
     → IsReadBy (LineReads edition B so p) (Ok told) → LeadsOn edition B so p (map view_entry told.entries.items) newline (p + told.len)
 leads_on edition B so p told newline is read =
     subst (λ b. LeadsOn edition B so p (map view_entry told.entries.items) b (p + told.len)) is

@@ -5,7 +5,7 @@ use Rattle.shgrammar.specs.declared.edition.Edition.{Edition}
 use Rattle.shgrammar.specs.declared.keep.Keep.TheVariants.{Outer}
 use Rattle.shline.specs.declared.stop.Stop.{Stop}
 use Rattle.shline.specs.declared.stop.Stop.TheVariants.{Memory, Wrong}
-use Rattle.shline.specs.declared.told.Told.{Told}
+use Rattle.shline.specs.declared.parsed_line.ParsedLine.{ParsedLine}
 use Rattle.shline.specs.Clauses.{Onward, view_told}
 use Rattle.shpass.specs.declared.script_lines.LinesBefore.{LinesBefore}
 use Rattle.shpass.specs.declared.script_lines.ScriptLines.{ScriptLines}
@@ -30,13 +30,13 @@ OuterReads edition B so p (Ok x) = line_from edition B Outer (is_blank_line so) 
 OuterReads edition B so p (Err f) = LineReads edition B so p (Err f)
 
 -- What was told of a line, or its fault, is what is read of it so. Where memory ran out nothing is said.
-abbrev pub IsReadBy : (Read (Row AnEntry × Bool) → Type 0) → Result Told Stop → Type 0
+abbrev pub IsReadBy : (Read (Row AnEntry × Bool) → Type 0) → Result ParsedLine Stop → Type 0
 IsReadBy reads (Ok told) = reads (Ok (view_told told))
 IsReadBy reads (Err (Wrong f)) = reads (Err f)
 IsReadBy reads (Err Memory) = Unit {0}
 
 -- no node of a line's entries names an offset above this one, nor does its fault
-abbrev pub LineWithin : ℕ → Result Told Stop → Type 0
+abbrev pub LineWithin : ℕ → Result ParsedLine Stop → Type 0
 LineWithin limit (Ok told) = AreWithin limit (entries_of (map view_entry told.entries.items))
 LineWithin limit (Err (Wrong f)) = f.at ≤ limit
 LineWithin limit (Err Memory) = Unit {0}
@@ -87,13 +87,13 @@ module _ {S : Type 0} where
   SameScript old new = (new.source ≡ old.source) × (new.edition ≡ old.edition) × (new.alloc ≡ old.alloc)
 
   -- The reading goes behind a line that was told, and what the lines gave has its entries too.
-  abbrev pub Behind : ScriptLines S → Told → ScriptLines S → Type 0
+  abbrev pub Behind : ScriptLines S → ParsedLine → ScriptLines S → Type 0
   Behind old told new =
       SameScript old new × (new.at ≡ old.at + told.len) × ((so : SoFar) → Stands old so → Stands new (with_line so (map view_entry told.entries.items)))
 
   -- It goes behind the line at its place: further on where a newline ended it, and never past the end. At a
   -- fault nothing moves, nor where memory ran out.
-  abbrev pub MovesOn : (S → List ℕ) → ScriptLines S → Result Told Stop → ScriptLines S → Type 0
+  abbrev pub MovesOn : (S → List ℕ) → ScriptLines S → Result ParsedLine Stop → ScriptLines S → Type 0
   MovesOn bytes old (Ok told) new =
       Behind old told new × Onward old.at new.at told.newline × (new.at ≤ length (bytes_of bytes old))
   MovesOn bytes old (Err e) new = new ≡ old
@@ -116,7 +116,7 @@ module _ {S : Type 0} where
 -- One more line is read, by these rules. No node of its entries names an offset above the script's length, nor
 -- does a fault.
 pub record ReadsLine {S : Type 0} (reads : Edition → List ℕ → SoFar → ℕ → Read (Row AnEntry × Bool) → Type 0) (bytes : S → List ℕ)
-    (old : ScriptLines S) (result : Result Told Stop) (new : ScriptLines S) : Type 0 where
+    (old : ScriptLines S) (result : Result ParsedLine Stop) (new : ScriptLines S) : Type 0 where
   pub line : (so : SoFar) → Stands old so → IsReadBy (reads old.edition (bytes_of bytes old) so old.at) result
   pub moves : MovesOn bytes old result new
   pub within : LineWithin (length (bytes_of bytes old)) result

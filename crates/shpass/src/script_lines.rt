@@ -10,7 +10,7 @@ ghost use Rattle.shpass.specs.LineByLine.{before_of, bytes_of, edition_of, is_bl
 use crate::newline::ends_in_newline;
 use shast::{Entry, Spare};
 use shgrammar::{Edition, Keep};
-use shline::{Begin, How, KEPT, Stop, Told, line_at};
+use shline::{Begin, How, KEPT, ParsedLine, Stop, line_at};
 use shtext::Source;
 use std::alloc::{AllocError, Global};
 
@@ -54,11 +54,11 @@ impl<'a, S: Source> ScriptLines<'a, S> {
         ensures edition { edition_of result ≡ edition }
         ensures start { AtStart result }
     {
-        ScriptLines::behind(alloc, edition, source, LinesBefore::none())
+        ScriptLines::following(alloc, edition, source, LinesBefore::none())
     }
 
     /// The lines of the source, which is what follows some lines of a script.
-    pub fn behind(
+    pub fn following(
         alloc: Global,
         edition: Edition,
         source: &'a S,
@@ -92,7 +92,7 @@ impl<'a, S: Source> ScriptLines<'a, S> {
     }
 
     /// Moves behind a line that was told.
-    fn pass(&mut self, told: &Told)
+    fn pass(&mut self, told: &ParsedLine)
         requires { place_of self.old + told.now.len < 2 ^ 64 }
         ensures { Behind self.old told.now self.new }
     {
@@ -104,7 +104,7 @@ impl<'a, S: Source> ScriptLines<'a, S> {
     }
 
     /// Reads one more line, of whose tree this is kept.
-    fn read(&mut self, keep: Keep, spare: Option<&mut Spare>) -> Result<Told, Stop>
+    fn read(&mut self, keep: Keep, spare: Option<&mut Spare>) -> Result<ParsedLine, Stop>
         requires { place_of self.old ≤ length (bytes_of S.bytes self.old) }
         ensures value { let bytes = bytes_of S.bytes self.old in
             let place = place_of self.old in
@@ -137,7 +137,7 @@ impl<'a, S: Source> ScriptLines<'a, S> {
     /// # Errors
     ///
     /// [`Stop`]: the script's first fault, or want of memory. Nothing moves then; the line may be read again.
-    pub fn read_next(&mut self, spare: Option<&mut Spare>) -> Result<Told, Stop>
+    pub fn read_next(&mut self, spare: Option<&mut Spare>) -> Result<ParsedLine, Stop>
         requires { place_of self.old ≤ length (bytes_of S.bytes self.old) }
         ensures { ReadsLine LineReads S.bytes self.old result self.new }
     {
@@ -150,7 +150,7 @@ impl<'a, S: Source> ScriptLines<'a, S> {
     /// # Errors
     ///
     /// [`Stop`], as there.
-    pub fn read_outer(&mut self, spare: Option<&mut Spare>) -> Result<Told, Stop>
+    pub fn read_outer(&mut self, spare: Option<&mut Spare>) -> Result<ParsedLine, Stop>
         requires { place_of self.old ≤ length (bytes_of S.bytes self.old) }
         ensures { ReadsLine OuterReads S.bytes self.old result self.new }
     {

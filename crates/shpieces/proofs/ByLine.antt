@@ -7,7 +7,7 @@ use Rattle.shgrammar.specs.declared.fault.Fault.{Fault}
 use Rattle.shpass.specs.declared.script_lines.LinesBefore.{LinesBefore}
 use Rattle.shline.specs.declared.stop.Stop.{Stop}
 use Rattle.shline.specs.declared.stop.Stop.TheVariants.{Memory, Wrong}
-use Rattle.shline.specs.declared.told.Told.{Told}
+use Rattle.shline.specs.declared.parsed_line.ParsedLine.{ParsedLine}
 use Rattle.shpass.specs.declared.script_lines.ScriptLines.{ScriptLines}
 use Rattle.shgrammar.specs.Commands.{is_empty}
 use Rattle.shpass.specs.LineByLine.{Before, IsReadBy, IsWholeLine, LineWithin, OuterReads, Rest, Stands, before_of, no_lines, place_of}
@@ -219,11 +219,11 @@ module _ {S : Type 0} (edition : Edition) (y : Layout) (H front : List ℕ) wher
       prints : Prints (blanked_row (is_blank_line b.so) (map (moved_entry old.at) es))
 
     -- what is told by the edition of the lines, and of the bytes of another source that are these
-    told_here : (other : List ℕ) (r : Result Told Stop) → other ≡ H → IsReadBy (OuterReads old.edition other b.so old.at) r → IsReadBy (OuterReads edition H b.so old.at) r
+    told_here : (other : List ℕ) (r : Result ParsedLine Stop) → other ≡ H → IsReadBy (OuterReads old.edition other b.so old.at) r → IsReadBy (OuterReads edition H b.so old.at) r
     told_here other r same told = told_in (λ e B. OuterReads e B b.so old.at) H other edition old.edition r same by told
 
     -- the line of it
-    line_here : (other : List ℕ) (told : Told) (newline : Bool) → other ≡ H → told.newline ≡ newline → IsReadBy (OuterReads old.edition other b.so old.at) (Ok told)
+    line_here : (other : List ℕ) (told : ParsedLine) (newline : Bool) → other ≡ H → told.newline ≡ newline → IsReadBy (OuterReads old.edition other b.so old.at) (Ok told)
         → OuterReads edition H b.so old.at (Ok ((map view_entry told.entries.items, newline), standing told.len))
     line_here other told newline same is read =
         subst (λ (n : Bool). OuterReads edition H b.so old.at (Ok ((map view_entry told.entries.items, n), standing told.len))) is (told_here other (Ok told) same read)
@@ -245,7 +245,7 @@ module _ {S : Type 0} (edition : Edition) (y : Layout) (H front : List ℕ) wher
           prints = outer_printed y H q blank line a.0 text then a.3 is;
         }
 
-    pub behind_line : (other : List ℕ) (told : Told) → other ≡ H → told.newline ≡ true → IsReadBy (OuterReads old.edition other b.so old.at) (Ok told)
+    pub behind_line : (other : List ℕ) (told : ParsedLine) → other ≡ H → told.newline ≡ true → IsReadBy (OuterReads old.edition other b.so old.at) (Ok told)
         → new.at ≡ old.at + told.len → Stands new (with_line b.so (map view_entry told.entries.items)) → Prints (map view_entry told.entries.items) → Between new then
     behind_line other told same newline read ends stands is =
         let q = old.at in
@@ -260,7 +260,7 @@ module _ {S : Type 0} (edition : Edition) (y : Layout) (H front : List ℕ) wher
           is = sheet_more edition y H (front ++ H) q n b.so true p.es p.t p.there text then b.is p.prints;
         }
 
-    pub last_printed : (other : List ℕ) (told : Told) → other ≡ H → told.newline ≡ false → IsReadBy (OuterReads old.edition other b.so old.at) (Ok told)
+    pub last_printed : (other : List ℕ) (told : ParsedLine) → other ≡ H → told.newline ≡ false → IsReadBy (OuterReads old.edition other b.so old.at) (Ok told)
         → Prints (map view_entry told.entries.items) → IsTextOf edition y (front ++ H) then.so_far
     last_printed other told same newline read is =
         let q = old.at in

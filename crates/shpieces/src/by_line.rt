@@ -99,7 +99,7 @@ impl Printing {
             layout: self.layout,
             source,
         };
-        let mut lines = ScriptLines::behind(self.alloc, self.edition, source, self.before);
+        let mut lines = ScriptLines::following(self.alloc, self.edition, source, self.before);
         'lines: loop {
             let Some(entries) = lines.read_whole(Some(&mut self.spare))? else {
                 self.before = lines.before();
@@ -130,7 +130,7 @@ impl Printing {
         };
         // The text is about as long as the script. Where there is no room for all of it at once, it grows.
         let _ = self.page.text.reserve_exact(source.len());
-        let mut lines = ScriptLines::behind(self.alloc, self.edition, source, self.before);
+        let mut lines = ScriptLines::following(self.alloc, self.edition, source, self.before);
         'lines: loop {
             let told = lines.read_outer(Some(&mut self.spare))?;
             printer.print_entries(&told.entries, &mut self.page)?;

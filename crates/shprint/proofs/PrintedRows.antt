@@ -31,10 +31,10 @@ use Rattle.shgrammar.specs.Words.{Inner, a_word}
 use Rattle.shgrammar.specs.Levels.{most_open, level}
 use Rattle.shast.specs.Nodes.{through, word_span}
 use Rattle.shast.specs.Normal.{is_normal_form, is_normal_else, are_normal_branches, is_normal_branch, is_whole, is_command, holds_command, is_normal_entry, first_not_blank, are_normal, is_normal_and_or, are_normal_and_ors, is_normal_pipeline, are_normal_pipes, first_not_broken, is_normal_join, is_normal_compound, is_normal_command, are_normal_words, are_normal_cases, is_normal_case, are_normal_patterns}
-use Rattle.shgrammar.specs.Compounds.{a_compound, is_open_paren, behind_opener, a_for, a_for_head, a_for_name, a_linebreak, a_sequential_sep, for_words, word_turn, headed, an_if, a_group, a_form, opener_text, Closed, a_loop, an_else, elif_turn, branched, a_branch, passed, closing, closing_text, is_closing, is_close_paren, under_name, a_function, a_case, a_case_head, a_case_word, begins_pattern, patterned, a_pattern, one_pattern, pattern_turn, a_pattern_list, an_open_bracket, a_body, body_end, item_end, an_item_end, an_ender, ender_told, cases_so, one_case, case_turn}
+use Rattle.shgrammar.specs.Compounds.{a_compound, is_open_paren, behind_opener, a_for, a_for_head, a_for_name, a_linebreak, a_sequential_sep, for_words, word_turn, headed, an_if, a_group, a_form, opener_text, Closed, a_loop, an_else, elif_turn, branched, a_branch, reserved_or_paren, closing, closing_text, is_closing, is_close_paren, under_name, a_function, a_case, a_case_head, a_case_word, begins_pattern, patterned, a_pattern, one_pattern, pattern_turn, a_pattern_list, an_open_bracket, a_body, body_end, item_end, an_item_end, an_ender, ender_told, cases_so, one_case, case_turn}
 use Rattle.shgrammar.specs.Lines.{a_line, an_open_line, end_of_line}
 use Rattle.shgrammar.specs.Lists.{Listed, list_so, none_listed, one_entry, entry_turn, a_remark, on_line, list_turn, a_list}
-use Rattle.shgrammar.specs.Commands.{nothing_waits, a_document, open_document, is_strip, Entered, a_semicolon, is_semicolon, an_entry, a_separator, separator_of, told_separator, is_background, an_and_or, one_pipeline, join_pipeline, joined_so, a_bang, a_pipeline, begins_pipeline, and_or_operator_of, is_pipe, piped, one_command, pipe_turn, a_command, a_newline, a_comment, join_turn, join_so, a_join_of, a_join, begins_simple, opener_of, is_newline, is_bang, is_empty, next_token, pick, Items, behind_word, begins_word, begins_redirect, is_number_token, redirect_operator_of, is_long, a_number, an_operator, operator_by, a_target, one_redirect, behind_redirect, redirect_turn, redirected, so_many, breaks, as_item, an_item, item_turn, a_simple, is_word, is_paren, a_worded, compound_by, ASeparator, past_separator, ends_item, falls_through}
+use Rattle.shgrammar.specs.Commands.{nothing_waits, a_document, open_document, is_strip, Entered, a_semicolon, is_semicolon, an_entry, a_separator, separator_of, told_separator, is_background, an_and_or, one_pipeline, join_pipeline, joined_so, a_bang, a_pipeline, begins_pipeline, and_or_operator_of, is_pipe, piped, one_command, pipe_turn, a_command, a_newline, a_comment, join_turn, join_so, a_join_of, a_join, begins_simple, opener_of, is_newline_token, is_bang, is_empty, next_token, pick, Items, behind_word, begins_word, begins_redirect, is_number_token, redirect_operator_of, is_long, a_number, an_operator, operator_by, a_target, one_redirect, behind_redirect, redirect_turn, with_redirect_list, so_many, breaks, as_item, an_item, item_turn, a_simple, is_word, is_paren, a_word_command, compound_by, ASeparator, past_separator, ends_item, falls_through}
 use Rattle.shgrammar.proofs.Places.{must_fail, blanks_low}
 use Rattle.shgrammar.proofs.Anywhere.{WordOf, word_span as spanned}
 use Rattle.shgrammar.specs.HereDocuments.{delimiter_of}
@@ -130,7 +130,7 @@ begins_command t = begins_simple t || is_some (opener_of t)
 
 -- what such a token is not
 pub record NoOther (t : Token) : Type 0 where
-  pub newline : is_newline t ≡ false
+  pub newline : is_newline_token t ≡ false
   pub comment : is_comment t ≡ false
   pub bang : is_bang t ≡ false
 
@@ -886,11 +886,11 @@ module _ (edition : Edition) (B T : List ℕ) (o : ℕ) (here : drop o B ≡ T) 
       next_round h {position = position} (one_more {is = is} good others) e at = item_no_round (asked position e).token (next_item h is e good at).begins
 
       -- a simple command that begins with a word
-      worded_read : (h : Held) {last : Position} {w : Text} {ss : Shape SubstsOf} {is : Shape ItemsOf} (p : ℕ) → ItemAnywhere edition room Command tokens.Word w ss → GoodItems edition room of_command Suffix is last → At h p (text w ∷ (print_items y m is ++ rest))
-          → Got h (a_worded inner) p rest (command_bodies (simple (more_items (an_item_of false Suffix (word w ss)) is)))
+      word_command_read : (h : Held) {last : Position} {w : Text} {ss : Shape SubstsOf} {is : Shape ItemsOf} (p : ℕ) → ItemAnywhere edition room Command tokens.Word w ss → GoodItems edition room of_command Suffix is last → At h p (text w ∷ (print_items y m is ++ rest))
+          → Got h (a_word_command inner) p rest (command_bodies (simple (more_items (an_item_of false Suffix (word w ss)) is)))
           (λ c. shape_of_command B c ≡ open_command [] (simple (more_items (an_item_of false Suffix (word w ss)) is)))
-      unfolding a_worded a_simple open_command open_items command_bodies items_bodies item_bodies item_content_bodies
-      worded_read h {w = w} {ss = ss} {is = is} p good others at =
+      unfolding a_word_command a_simple open_command open_items command_bodies items_bodies item_bodies item_content_bodies
+      word_command_read h {w = w} {ss = ss} {is = is} p good others at =
           let ms = print_items y m is ++ rest in
           let there = at ∙ laid_text h w ms in
           let found = good.there g p (lay h ms) there (items_follow y m is rest follow (held_bytes h.waiting)) in
@@ -932,7 +932,7 @@ module _ (edition : Edition) (B T : List ℕ) (o : ℕ) (here : drop o B ≡ T) 
               let token_here : n.token ≡ token = token_is ∙ tell_word (item_is_word token (ap is_some is_item)) found.token_is in
               ⊎_elim
               (λ (k : (token ≡ tokens.Word) × (next ≡ Suffix)).
-              let r = worded_read h p (subst (λ (t : Token). ItemAnywhere edition room Command t w ss) k.0 one) (subst (λ (q : Position). GoodItems edition room of_command q is last) k.1 others) there in
+              let r = word_command_read h p (subst (λ (t : Token). ItemAnywhere edition room Command t w ss) k.0 one) (subst (λ (q : Position). GoodItems edition room of_command q is last) k.1 others) there in
               let same : more_items (an_item_of false Suffix (word w ss)) is ≡ more_items (an_item_of b next (word w ss)) is = rw (first_item b next (word w ss) is first, k.1) refl in
               subst (λ is. Got h (a_command inner n) p rest (command_bodies (simple is)) (λ c. shape_of_command B c ≡ open_command [] (simple is))) same
               (record { value = r.value; «end» = r.«end»; later = r.later; at = r.at; texts = r.texts; reads = first_of _ _ (ap is_word (token_here ∙ k.0)) r.reads; is = r.is }))
@@ -968,7 +968,7 @@ module _ (edition : Edition) (B T : List ℕ) (o : ℕ) (here : drop o B ≡ T) 
       pub texts : Adds h later no_more
 
     -- a newline, and the bodies that wait for it
-    pub newline_read : (h : Held) (n : Next) (p : ℕ) (ms : Marks) → is_newline n.token ≡ true → At h p (line_end ∷ ms) → NewlineRead h n p ms
+    pub newline_read : (h : Held) (n : Next) (p : ℕ) (ms : Marks) → is_newline_token n.token ≡ true → At h p (line_end ∷ ms) → NewlineRead h n p ms
     unfolding a_newline
     newline_read h n p ms is at =
         let line = emptied edition B T o here h p ms at in
@@ -982,7 +982,7 @@ module _ (edition : Edition) (B T : List ℕ) (o : ℕ) (here : drop o B ≡ T) 
           texts = λ ts. ap (λ r. r ++ ts) line.texts;
         }
 
-    pub no_newline_read : (h : Held) (n : Next) (p : ℕ) → is_newline n.token ≡ false → Gives g (a_newline n) (state h p) (false, n) (state h p)
+    pub no_newline_read : (h : Held) (n : Next) (p : ℕ) → is_newline_token n.token ≡ false → Gives g (a_newline n) (state h p) (false, n) (state h p)
     unfolding a_newline
     no_newline_read h n p is = second_of _ _ is given_here
 
@@ -1020,7 +1020,7 @@ module _ (edition : Edition) (B T : List ℕ) (o : ℕ) (here : drop o B ≡ T) 
     pub record Operand (p : ℕ) : Type 0 where
       pub start : Start T p
       pub no_comment : raw_stands T p 35 ≡ false
-      pub no_newline : is_newline (told Command p) ≡ false
+      pub no_newline : is_newline_token (told Command p) ≡ false
 
     or_true : (b : Bool) → (b || true) ≡ true
     or_true true = refl
@@ -1031,7 +1031,7 @@ module _ (edition : Edition) (B T : List ℕ) (o : ℕ) (here : drop o B ≡ T) 
     or_false false = refl
 
     -- the turns of a join: none, a comment and its newline, a newline
-    last_join_turn : (h : Held) (b : Bool) (acc : Row Span) (n : Next) (p : ℕ) → raw_stands T p 35 ≡ false → is_newline n.token ≡ false
+    last_join_turn : (h : Held) (b : Bool) (acc : Row Span) (n : Next) (p : ℕ) → raw_stands T p 35 ≡ false → is_newline_token n.token ≡ false
         → Gives g (join_turn (join_so (a_join_of b acc) n)) (state h p) (done (join_so (a_join_of b acc) n)) (state h p)
     unfolding join_turn
     last_join_turn h b acc n p no_comment no_newline =
@@ -1059,7 +1059,7 @@ module _ (edition : Edition) (B T : List ℕ) (o : ℕ) (here : drop o B ≡ T) 
         let line = newline_next h Command e ms behind_it in
         let s = span o p e in
         let at_e = subst (λ q. At h q (line_end ∷ ms)) (sym line.1) behind_it in
-        let r = newline_read h (asked Command e) (past_blanks T e) ms (ap (λ (n : Next). is_newline n.token) line.0) at_e in
+        let r = newline_read h (asked Command e) (past_blanks T e) ms (ap (λ (n : Next). is_newline_token n.token) line.0) at_e in
         let z = asked Command r.q in
         let last_state = state r.later (past_blanks T r.q) in
         record {
@@ -1072,7 +1072,7 @@ module _ (edition : Edition) (B T : List ℕ) (o : ℕ) (here : drop o B ≡ T) 
           texts = r.texts;
         }
 
-    newline_join_turn : (h : Held) (b : Bool) (acc : Row Span) (n : Next) (p : ℕ) (ms : Marks) → is_newline n.token ≡ true → At h p (line_end ∷ ms) → TurnRead h b acc acc n p ms
+    newline_join_turn : (h : Held) (b : Bool) (acc : Row Span) (n : Next) (p : ℕ) (ms : Marks) → is_newline_token n.token ≡ true → At h p (line_end ∷ ms) → TurnRead h b acc acc n p ms
     unfolding join_turn
     newline_join_turn h b acc n p ms is at =
         let there = at ∙ laid_line h ms in
@@ -1224,7 +1224,7 @@ module _ (edition : Edition) (B T : List ℕ) (o : ℕ) (here : drop o B ≡ T) 
           let line = newline_next h Command e (text d ∷ ms) at in
           let q = past_blanks T e in
           let at_q = subst (λ r. At h r (line_end ∷ text d ∷ ms)) (sym line.1) at in
-          let turn = newline_join_turn h b [] (asked Command e) q (text d ∷ ms) (ap (λ (n : Next). is_newline n.token) line.0) at_q in
+          let turn = newline_join_turn h b [] (asked Command e) q (text d ∷ ms) (ap (λ (n : Next). is_newline_token n.token) line.0) at_q in
           let rest = operand_line turn.later true [] turn.q turn.at in
           record {
             comments = rest.comments;
@@ -1417,7 +1417,7 @@ module _ (edition : Edition) (B T : List ℕ) (o : ℕ) (here : drop o B ≡ T) 
 
         function_command : (h : Held) (m name : Text) (cs : Row Text) (body : Shape ACompoundOf) (n : Next) (p : ℕ) (rest : Marks) (t : Token) → all_blank m ≡ true → GoodFunction edition room name cs body → is_normal_compound body ≡ true
             → Follower rest t → begins_simple t ≡ false → n.token ≡ told Command p → At h p (print_command y m (function name cs body) ++ rest) → Got h (a_command inner n) p rest (command_bodies (function name cs body)) (λ v. shape_of_command B v ≡ open_command [] (function name cs body))
-        unfolding a_command a_worded open_command command_bodies
+        unfolding a_command a_word_command open_command command_bodies
         function_command h m name cs body n p rest t blank good normal f none token_is at =
             let there = name_there h m name cs body p rest at in
             let found = good.before.there g p _ there in
@@ -1446,7 +1446,7 @@ module _ (edition : Edition) (B T : List ℕ) (o : ℕ) (here : drop o B ≡ T) 
         -- a compound command with the redirections behind it
         pub whole_compound : (h : Held) (m : Text) (c : Shape ACompoundOf) (n : Next) (p : ℕ) (rest : Marks) (t : Token) → all_blank m ≡ true → GoodCompound edition room c → is_normal_compound c ≡ true
             → Follower rest t → begins_simple t ≡ false → n.token ≡ told Command p → At h p (print_compound y m c ++ rest) → Got h (compound_by inner n (opener_of n.token)) p rest (compound_bodies c) (λ v. shape_of_command B v ≡ open_command [] (compound c))
-        unfolding redirected
+        unfolding with_redirect_list
         whole_compound h m c n p rest t blank good normal f none token_is at =
             let P = print_items y m (redirects_of c) in
             let b = fine.opens h m c p rest good at in
@@ -1454,7 +1454,7 @@ module _ (edition : Edition) (B T : List ℕ) (o : ℕ) (here : drop o B ≡ T) 
             let d = deeper_some y m in
             let r = fine.back h m c p (P ++ rest) b.0 blank good normal (items_follow y m (redirects_of c) rest f.follow) b.1 (at ∙ ap (lay h) (compound_printed m c rest)) in
             let is = items_read y m d.0 d.1 (deeper_blank y m blank) d.2 rest f.follow (follower_behind f none) r.later (good_redirects c good).items [] r.«end» tt r.at in
-            let read : Gives g (inner.compound b.0 >>= redirected inner) (state h p) (with_redirects r.value (items_of is.more_items_read), asked Command is.«end») (state is.later (past_blanks T is.«end»)) =
+            let read : Gives g (inner.compound b.0 >>= with_redirect_list inner) (state h p) (with_redirects r.value (items_of is.more_items_read), asked Command is.«end») (state is.later (past_blanks T is.«end»)) =
             r.reads ⟫ (is.reads ⟫ given_here) in
             record {
               value = with_redirects r.value (items_of is.more_items_read);
@@ -1620,7 +1620,7 @@ module _ (edition : Edition) (B T : List ℕ) (o : ℕ) (here : drop o B ≡ T) 
         bang_begins h p ms at =
             let k = bang_here T p 32 (lay h ms) refl refl (at ∙ laid_text h (codes "! ") ms) in (
               record {
-                operand = record { start = k.start; no_comment = no_sharp p k.start.place (ap is_comment (tell k.token)); no_newline = ap is_newline (tell k.token) };
+                operand = record { start = k.start; no_comment = no_sharp p k.start.place (ap is_comment (tell k.token)); no_newline = ap is_newline_token (tell k.token) };
                 begins = ap begins_pipeline (tell k.token);
               },
               ap is_bang (tell k.token),
@@ -2200,7 +2200,7 @@ module _ (edition : Edition) (B T : List ℕ) (o : ℕ) (here : drop o B ≡ T) 
             }
           where
             must_move : (h : Held) (p q : ℕ) → p ≤ q → PipelineBegins p → At h q (line_end ∷ rest) → p < q
-            must_move h p q low b at_q = ⊎_elim (λ lt. lt) (λ ge. let same : p ≡ q = omega (arith, low, ge) in absurd (both_ways (is_newline (told Command p)) b.operand.no_newline (ap is_newline (tell (newline_token Command T p (after_line h rest) (subst (λ r. drop r T ≡ 10 ∷ after_line h rest) (sym same) (at_q ∙ laid_line h rest))))))) (cases_lt p q)
+            must_move h p q low b at_q = ⊎_elim (λ lt. lt) (λ ge. let same : p ≡ q = omega (arith, low, ge) in absurd (both_ways (is_newline_token (told Command p)) b.operand.no_newline (ap is_newline_token (tell (newline_token Command T p (after_line h rest) (subst (λ r. drop r T ≡ 10 ∷ after_line h rest) (sym same) (at_q ∙ laid_line h rest))))))) (cases_lt p q)
 
         -- a comment on a line of its own
         remark_on_line : (h : Held) (acc : Row AnEntry) (blank commands : Bool) (before : Option ℕ) (c : Text) (n : Next) (p : ℕ) (rest : Marks) → CommentAnywhere c → n.token ≡ told Command p → At h p (text c ∷ line_end ∷ rest)
@@ -2264,7 +2264,7 @@ module _ (edition : Edition) (B T : List ℕ) (o : ℕ) (here : drop o B ≡ T) 
             let q = past_blanks T r.«end» in
             let low = gives_on (on_line inner (list_so (at_line_start acc blank commands before) n)) _ _ _ r.reads in
             let within = some_here q 10 (after_line r.later rest) (line.at_q ∙ laid_line r.later rest) in
-            let z = newline_read r.later (asked Command r.«end») q rest (ap (λ (n : Next). is_newline n.token) line.n_is) line.at_q in
+            let z = newline_read r.later (asked Command r.«end») q rest (ap (λ (n : Next). is_newline_token n.token) line.n_is) line.at_q in
             record {
               value = r.value;
               f = z.q;
@@ -2292,7 +2292,7 @@ module _ (edition : Edition) (B T : List ℕ) (o : ℕ) (here : drop o B ≡ T) 
         empty_line h acc blank commands before e rest at =
             let line = line_end_here h e rest at in
             let p = past_blanks T e in
-            let z = newline_read h (asked Command e) p rest (ap (λ (n : Next). is_newline n.token) line.n_is) line.at_q in
+            let z = newline_read h (asked Command e) p rest (ap (λ (n : Next). is_newline_token n.token) line.n_is) line.at_q in
             record {
               later = z.later;
               q = z.q;
@@ -2305,7 +2305,7 @@ module _ (edition : Edition) (B T : List ℕ) (o : ℕ) (here : drop o B ≡ T) 
         -- what ends a list begins none of its lines
         pub record Closes (e : ℕ) : Type 0 where
           pub no_entry_it : begins_pipeline (told Command (past_blanks T e)) ≡ false
-          pub no_newline_it : is_newline (told Command (past_blanks T e)) ≡ false
+          pub no_newline_it : is_newline_token (told Command (past_blanks T e)) ≡ false
           pub no_comment_it : raw_stands T (past_blanks T e) 35 ≡ false
 
         pub record ListRead (h : Held) (acc : Row AnEntry) (commands : Bool) (before : Option ℕ) (n : Next) (p : ℕ) (es : Shape EntriesOf) (rest : Marks) : Type 0 where
@@ -2510,17 +2510,17 @@ module _ (edition : Edition) (B T : List ℕ) (o : ℕ) (here : drop o B ≡ T) 
           s : Span
           f : ℕ
           at : At h f ms
-          reads : (label : Spelled) (position : Position) → Gives g (passed label false position) (state h (past_blanks T e)) (s, asked position f) (state h (past_blanks T f))
+          reads : (label : Spelled) (position : Position) → Gives g (reserved_or_paren label false position) (state h (past_blanks T e)) (s, asked position f) (state h (past_blanks T f))
 
-        passed_by : (h : Held) (label : Spelled) (position : Position) (q f : ℕ) → past_reserved T q ≡ f → Gives g (passed label false position) (state h q) (span o q f, asked position f) (state h (past_blanks T f))
-        unfolding passed
-        passed_by h label position q f is =
+        reserved_or_paren_by : (h : Held) (label : Spelled) (position : Position) (q f : ℕ) → past_reserved T q ≡ f → Gives g (reserved_or_paren label false position) (state h q) (span o q f, asked position f) (state h (past_blanks T f))
+        unfolding reserved_or_paren
+        reserved_or_paren_by h label position q f is =
             let moved : Gives g (move the_reserved) (state h q) tt (state h f) = subst (λ p. Gives g (move the_reserved) (state h q) tt (state h p)) is (moved_here the_reserved) in
             told_here (by label) moved ⟫ next_read h position f ⟫ given_here
 
-        passed_paren : (h : Held) (label : Spelled) (q : ℕ) → behind T q ≡ q + 1 → Gives g (passed label true Command) (state h q) (span o q (q + 1), asked Command (q + 1)) (state h (past_blanks T (q + 1)))
-        unfolding passed
-        passed_paren h label q is =
+        paren_alone : (h : Held) (label : Spelled) (q : ℕ) → behind T q ≡ q + 1 → Gives g (reserved_or_paren label true Command) (state h q) (span o q (q + 1), asked Command (q + 1)) (state h (past_blanks T (q + 1)))
+        unfolding reserved_or_paren
+        paren_alone h label q is =
             let moved : Gives g (move one_byte) (state h q) tt (state h (q + 1)) = subst (λ p. Gives g (move one_byte) (state h q) tt (state h p)) is (moved_here one_byte) in
             told_here (by label) moved ⟫ next_read h Command (q + 1) ⟫ given_here
 
@@ -2538,14 +2538,14 @@ module _ (edition : Edition) (B T : List ℕ) (o : ℕ) (here : drop o B ≡ T) 
               s = span o q (q + length w);
               f = q + length w;
               at = at_text h q w ms at_q;
-              reads = λ label position. passed_by h label position q (q + length w) kq.past_it;
+              reads = λ label position. reserved_or_paren_by h label position q (q + length w) kq.past_it;
             }
 
         -- a closing word closes
         keyword_closes : (m w : Text) (r : Reserved) (ms : Marks) → all_blank m ≡ true → Key w r ms → begins_pipeline (tokens.Reserved r) ≡ false → (h : Held) (e : ℕ) → At h e (text m ∷ text w ∷ ms) → Closes e
         keyword_closes m w r ms blank key none h e at =
             let k = keyword_read h m w r e ms blank key at in
-            record { no_entry_it = ap begins_pipeline k.token_is ∙ none; no_newline_it = ap is_newline k.token_is; no_comment_it = k.no_comment_it }
+            record { no_entry_it = ap begins_pipeline k.token_is ∙ none; no_newline_it = ap is_newline_token k.token_is; no_comment_it = k.no_comment_it }
 
         -- what has to stand here
         closing_read : (h : Held) (c : Closing) (r : Reserved) (e : ℕ) (ms : Marks) → is_closing c (tokens.Reserved r) ≡ true → is_close_paren c ≡ false → (k : KeywordRead h e r ms)
@@ -3047,7 +3047,7 @@ module _ (edition : Edition) (B T : List ℕ) (o : ℕ) (here : drop o B ≡ T) 
             ∙ ap (λ z. codes " in" ++ z) (laid_same P (text (codes "; do") ∷ ms) (text (codes "; ") ∷ text (codes "do") ∷ ms) (λ held. refl) held)
 
         -- no comment, and no newline
-        no_lines : (h : Held) (n : Next) (p : ℕ) → raw_stands T p 35 ≡ false → is_newline n.token ≡ false → Gives g (a_linebreak [] n) (state h p) (join_so (a_join_of false []) n) (state h p)
+        no_lines : (h : Held) (n : Next) (p : ℕ) → raw_stands T p 35 ≡ false → is_newline_token n.token ≡ false → Gives g (a_linebreak [] n) (state h p) (join_so (a_join_of false []) n) (state h p)
         unfolding a_linebreak
         no_lines h n p no_comment no_newline = last_turn join_turn (last_join_turn h false [] n p no_comment no_newline)
 
@@ -3078,7 +3078,7 @@ module _ (edition : Edition) (B T : List ℕ) (o : ℕ) (here : drop o B ≡ T) 
             let moved : Gives g (move one_byte) (state h q) tt (state h (q + 1)) = subst (λ p. Gives g (move one_byte) (state h q) tt (state h p)) r_q.behind_it (moved_here one_byte) in (
               k,
               first_of _ _ (ap (λ (n : Next). is_semicolon n.token) n_is) (moved ⟫ next_read h Command (q + 1) ⟫ given_here)
-                  ⟫ no_lines h (asked Command (q + 1)) (past_blanks T (q + 1)) k.no_comment_it (ap is_newline k.token_is) ⟫ given_here,
+                  ⟫ no_lines h (asked Command (q + 1)) (past_blanks T (q + 1)) k.no_comment_it (ap is_newline_token k.token_is) ⟫ given_here,
             )
 
         words_read : (h : Held) (m : Text) (items : Shape ItemsOf) (f : ℕ) (ms : Marks) → all_blank m ≡ true → GoodForWords edition room (in_words items) → are_normal_words (in_words items) ≡ true → Ends ms
@@ -3100,7 +3100,7 @@ module _ (edition : Edition) (B T : List ℕ) (o : ℕ) (here : drop o B ≡ T) 
               e = past_blanks T is.«end» + 1;
               later = is.later;
               key = sep.0;
-              reads = no_semicolon h n q (ap is_semicolon k.token_is) ⟫ no_lines h n q k.no_comment_it (ap is_newline k.token_is)
+              reads = no_semicolon h n q (ap is_semicolon k.token_is) ⟫ no_lines h n q k.no_comment_it (ap is_newline_token k.token_is)
                   ⟫ first_of _ _ (ap (is_closing closings.In) k.token_is) (k.reads (closing_text closings.In) Suffix ⟫ is.reads ⟫ sep.1 ⟫ given_here);
               shape = ap in_words (is.shape ∙ for_words_open good.items);
               texts = λ ts. is.texts ts ∙ ap (λ us. texts_of edition B T o here h ++ us) (for_words_bodies good.items ts);
@@ -3118,7 +3118,7 @@ module _ (edition : Edition) (B T : List ℕ) (o : ℕ) (here : drop o B ≡ T) 
               e = f;
               later = h;
               key = k;
-              reads = no_semicolon h n q (ap is_semicolon k.token_is) ⟫ no_lines h n q k.no_comment_it (ap is_newline k.token_is) ⟫ second_of _ _ (ap (is_closing closings.In) k.token_is) given_here;
+              reads = no_semicolon h n q (ap is_semicolon k.token_is) ⟫ no_lines h n q k.no_comment_it (ap is_newline_token k.token_is) ⟫ second_of _ _ (ap (is_closing closings.In) k.token_is) given_here;
               shape = refl;
               texts = λ ts. refl;
             }
@@ -3165,7 +3165,7 @@ module _ (edition : Edition) (B T : List ℕ) (o : ℕ) (here : drop o B ≡ T) 
             let line = paren_line h m e ms blank at in
             record {
               no_entry_it = ap begins_pipeline line.0;
-              no_newline_it = ap is_newline line.0;
+              no_newline_it = ap is_newline_token line.0;
               no_comment_it = no_byte (past_blanks T e) 41 (lay h ms) 35 refl (line.1 ∙ laid_text h (codes ")") ms);
             }
 
@@ -3204,7 +3204,7 @@ module _ (edition : Edition) (B T : List ℕ) (o : ℕ) (here : drop o B ≡ T) 
               later = k;
               at = r.rest;
               texts = b.texts;
-              reads = b.reads ⟫ first_of _ _ (ap (is_closing closings.Paren) line.0) (passed_paren k (closing_text closings.Paren) q r.behind_it) ⟫ given_here;
+              reads = b.reads ⟫ first_of _ _ (ap (is_closing closings.Paren) line.0) (paren_alone k (closing_text closings.Paren) q r.behind_it) ⟫ given_here;
               is = b.is;
             }
 
@@ -3216,7 +3216,7 @@ module _ (edition : Edition) (B T : List ℕ) (o : ℕ) (here : drop o B ≡ T) 
         key_operand : (h : Held) (w : Text) (r : Reserved) (ms : Marks) → Key w r ms → (p : ℕ) → At h p (text w ∷ ms) → Operand p
         key_operand h w r ms key p at =
             let k = key h p (at ∙ laid_text h w ms) in
-            record { start = k.start; no_comment = no_sharp p k.start.place (ap is_comment (tell k.token)); no_newline = ap is_newline (tell k.token) }
+            record { start = k.start; no_comment = no_sharp p k.start.place (ap is_comment (tell k.token)); no_newline = ap is_newline_token (tell k.token) }
 
         -- a word behind a margin
         record WordAt (h : Held) (position : Position) (begins : Token → Bool) (f : ℕ) (w : Shape AWordOf) (ms : Marks) : Type 0 where
@@ -3331,7 +3331,7 @@ module _ (edition : Edition) (B T : List ℕ) (o : ℕ) (here : drop o B ≡ T) 
         record FirstPattern (t : Token) : Type 0 where
           bracket : is_paren t ≡ false
           esac : is_closing closings.Esac t ≡ false
-          newline : is_newline t ≡ false
+          newline : is_newline_token t ≡ false
           comment : is_comment t ≡ false
 
         first_pattern : (t : Token) → begins_pattern t ≡ true → FirstPattern t
@@ -3431,7 +3431,7 @@ module _ (edition : Edition) (B T : List ℕ) (o : ℕ) (here : drop o B ≡ T) 
           break_read h cs e good at =
               let X = print_comment_lines d cs ++ (text m ∷ ms) in
               let line = line_end_here h e X at in
-              let turn = newline_join_turn h false [] (asked Command e) (past_blanks T e) X (ap (λ (n : Next). is_newline n.token) line.n_is) line.at_q in
+              let turn = newline_join_turn h false [] (asked Command e) (past_blanks T e) X (ap (λ (n : Next). is_newline_token n.token) line.n_is) line.at_q in
               let rest = lines_read turn.later cs [] turn.q good turn.at in
               record {
                 comments = rest.comments;
@@ -3457,7 +3457,7 @@ module _ (edition : Edition) (B T : List ℕ) (o : ℕ) (here : drop o B ≡ T) 
         falls_as true = refl
         falls_as false = refl
 
-        begins_none : (falls : Bool) → (begins_pipeline (ender_token falls) ≡ false) × (is_newline (ender_token falls) ≡ false)
+        begins_none : (falls : Bool) → (begins_pipeline (ender_token falls) ≡ false) × (is_newline_token (ender_token falls) ≡ false)
         begins_none true = (refl, refl)
         begins_none false = (refl, refl)
 
@@ -3495,7 +3495,7 @@ module _ (edition : Edition) (B T : List ℕ) (o : ℕ) (here : drop o B ≡ T) 
         ender_closes m falls ms blank later h e at =
             let d = ender_read h m e falls ms blank later at in
             let none = begins_none falls in
-            record { no_entry_it = ap begins_pipeline d.token_is ∙ none.0; no_newline_it = ap is_newline d.token_is ∙ none.1; no_comment_it = d.no_comment_it }
+            record { no_entry_it = ap begins_pipeline d.token_is ∙ none.0; no_newline_it = ap is_newline_token d.token_is ∙ none.1; no_comment_it = d.no_comment_it }
 
         -- ---- bodies
 
@@ -3675,7 +3675,7 @@ module _ (edition : Edition) (B T : List ℕ) (o : ℕ) (here : drop o B ≡ T) 
             let turned : Gives g (case_turn inner (cases_so acc before n)) (state h q) (again (cases_so (acc ++ it ∷ []) l.comments (asked Command l.e))) (state l.later (past_blanks T l.e)) =
             second_of _ _ other.esac
             (seen_here the_place ⟫ second_of _ _ other.bracket given_here ⟫ listed
-            ⟫ first_of _ _ (ap (λ (n : Next). is_closing closings.Paren n.token) bracket.0) (passed_paren h (closing_text closings.Paren) z r_z.behind_it)
+            ⟫ first_of _ _ (ap (λ (n : Next). is_closing closings.Paren n.token) bracket.0) (paren_alone h (closing_text closings.Paren) z r_z.behind_it)
             ⟫ b.reads ⟫ ended ⟫ pushed_here acc it ⟫ given_here) in
             let onward : q < past_blanks T l.e = omega (arith, v.on, blanks_low T v.e, patterns_low, blanks_low T (z + 1), body_low, d.low, blanks_low T d.f, lines_low) in
             let on = leads h l.later q (past_blanks T l.e) onward v.within in
@@ -3724,7 +3724,7 @@ module _ (edition : Edition) (B T : List ℕ) (o : ℕ) (here : drop o B ≡ T) 
               later = c.later;
               at = c.key.at;
               texts = λ ts. c.texts ts ∙ l.texts (cases_bodies items ts);
-              reads = (first_of _ _ v.begin (v.reads ⟫ next_read h Command v.e ⟫ given_here) ⟫ no_lines h (asked Command v.e) (past_blanks T v.e) k.no_comment_it (ap is_newline k.token_is)
+              reads = (first_of _ _ v.begin (v.reads ⟫ next_read h Command v.e ⟫ given_here) ⟫ no_lines h (asked Command v.e) (past_blanks T v.e) k.no_comment_it (ap is_newline_token k.token_is)
                   ⟫ closing_read h closings.In reserved.In v.e X refl refl k ⟫ l.reads ⟫ given_here) ⟫ c.reads ⟫ closing_read c.later closings.Esac reserved.Esac c.f rest refl refl c.key ⟫ given_here;
               is = case_shape v.value c.value c.comments w items tail v.shape c.shape c.tail_shape;
             }
@@ -3811,7 +3811,7 @@ module _ (edition : Edition) (B T : List ℕ) (o : ℕ) (here : drop o B ≡ T) 
           s : Span
           f : ℕ
           at : At h f ms
-          reads : Gives g (passed (opener_text k) (is_open_paren k) (behind_opener k)) (state h p) (s, asked (behind_opener k) f) (state h (past_blanks T f))
+          reads : Gives g (reserved_or_paren (opener_text k) (is_open_paren k) (behind_opener k)) (state h p) (s, asked (behind_opener k) f) (state h (past_blanks T f))
 
         opened_by : (h : Held) (k : Opener) (r : Reserved) (p : ℕ) (ms : Marks) → is_open_paren k ≡ false → begins_simple (tokens.Reserved r) ≡ false → opener_of (tokens.Reserved r) ≡ Some k → Key (opener_text k) r ms
             → At h p (text (opener_text k) ∷ ms) → Opened h p k ms
@@ -3822,7 +3822,7 @@ module _ (edition : Edition) (B T : List ℕ) (o : ℕ) (here : drop o B ≡ T) 
               s = span o p (p + length (opener_text k));
               f = p + length (opener_text k);
               at = at_text h p (opener_text k) ms at;
-              reads = rw no_paren (passed_by h (opener_text k) (behind_opener k) p (p + length (opener_text k)) it.past_it);
+              reads = rw no_paren (reserved_or_paren_by h (opener_text k) (behind_opener k) p (p + length (opener_text k)) it.past_it);
             }
 
         opened_paren : (h : Held) (p : ℕ) (ms : Marks) → At h p (text (codes "(") ∷ ms) → Opened h p openers.Paren ms
@@ -3835,7 +3835,7 @@ module _ (edition : Edition) (B T : List ℕ) (o : ℕ) (here : drop o B ≡ T) 
               s = span o p (p + 1);
               f = p + 1;
               at = r.rest;
-              reads = passed_paren h (codes "(") p r.behind_it;
+              reads = paren_alone h (codes "(") p r.behind_it;
             }
 
         form_opened : (h : Held) (m : Text) (form : Shape AFormOf) (p : ℕ) (rest : Marks) → GoodForm edition room form → At h p (text (opener_text (opener_for form)) ∷ form_rest m form rest) → Opened h p (opener_for form) (form_rest m form rest)
@@ -3958,7 +3958,7 @@ module _ (edition : Edition) (B T : List ℕ) (o : ℕ) (here : drop o B ≡ T) 
             let r2 = byte_here T (p + 1) 41 (lay h X) refl r.rest in
             let gap = no_gap (start_here r2 refl) in
             let closes = ap (λ (n : Next). is_closing closings.Paren n.token) (asked_behind Command gap) ∙ ap (is_closing closings.Paren) (tell (close_token Command T (p + 1) (lay h X) r.rest)) in
-            let closed = subst (λ q. Gives g (passed (closing_text closings.Paren) true Command) (state h q) (span o (p + 1) (p + 1 + 1), asked Command (p + 1 + 1)) (state h (past_blanks T (p + 1 + 1)))) (sym gap.blanks) (passed_paren h (closing_text closings.Paren) (p + 1) r2.behind_it) in
+            let closed = subst (λ q. Gives g (reserved_or_paren (closing_text closings.Paren) true Command) (state h q) (span o (p + 1) (p + 1 + 1), asked Command (p + 1 + 1)) (state h (past_blanks T (p + 1 + 1)))) (sym gap.blanks) (paren_alone h (closing_text closings.Paren) (p + 1) r2.behind_it) in
             let operand : (h : Held) (q : ℕ) → At h q ms → Operand q = λ h q at. let b = fine.opens h m body q rest good at in begins_operand q (record { start = b.1.start; command = opens_by (told Command q) b.0 b.1.opener }) in
             let lines = function_gap m blank ms operand h cs body (p + 1 + 1) own r2.rest in
             let back = whole_compound lines.later m body lines.next lines.q rest t blank good normal f none lines.token_is lines.at in
@@ -3968,7 +3968,7 @@ module _ (edition : Edition) (B T : List ℕ) (o : ℕ) (here : drop o B ≡ T) 
               later = back.later;
               at = back.at;
               texts = λ ts. back.texts ts ∙ lines.texts (compound_bodies body ts);
-              reads = passed_paren h (opener_text openers.Paren) p r.behind_it ⟫ first_of _ _ closes closed ⟫ lines.reads ⟫ back.reads ⟫ given_here;
+              reads = paren_alone h (opener_text openers.Paren) p r.behind_it ⟫ first_of _ _ closes closed ⟫ lines.reads ⟫ back.reads ⟫ given_here;
               is = under_shape name lines.comments back.value body cs back.is lines.shape;
             }
 
@@ -4015,7 +4015,7 @@ module _ (edition : Edition) (B T : List ℕ) (o : ℕ) (here : drop o B ≡ T) 
     first_at q ms at = at ∙ ap (λ held. laid_behind held ms) (sym no_bytes)
 
     -- the newline behind what stands on the line
-    ended_by : (h : Held) (n : Next) (q : ℕ) (rest : Marks) → is_newline n.token ≡ true → At h q (line_end ∷ rest) → (line : Emptied edition B T o here h q rest) × Gives g (end_of_line top n) (state h q) true (state line.later line.q)
+    ended_by : (h : Held) (n : Next) (q : ℕ) (rest : Marks) → is_newline_token n.token ≡ true → At h q (line_end ∷ rest) → (line : Emptied edition B T o here h q rest) × Gives g (end_of_line top n) (state h q) true (state line.later line.q)
     unfolding end_of_line
     ended_by h n q rest is at =
         let line = emptied edition B T o here h q rest at in
@@ -4049,7 +4049,7 @@ module _ (edition : Edition) (B T : List ℕ) (o : ℕ) (here : drop o B ≡ T) 
         let r = entry_on_line most_open y (fine y most_open) h [] [] blank false None what background comment n p rest refl good good_c normal refl at_p in
         let line = line_end_here most_open y (fine y most_open) r.later r.«end» rest r.at in
         let q = past_blanks T r.«end» in
-        let z = ended_by r.later (asked Command r.«end») q rest (ap (λ (n : Next). is_newline n.token) line.n_is) line.at_q in
+        let z = ended_by r.later (asked Command r.«end») q rest (ap (λ (n : Next). is_newline_token n.token) line.n_is) line.at_q in
         let k = z.0.later in
         let all : Adds nothing_held k (entry_bodies x) = λ ts. ap (λ us. us ++ ts) z.0.texts ∙ r.texts ts in
         let v = entry_filled B r.value k.bodies x r.shape (bodies_are k (entry_bodies x) z.0.none all) in
@@ -4072,7 +4072,7 @@ module _ (edition : Edition) (B T : List ℕ) (o : ℕ) (here : drop o B ≡ T) 
         let line = line_end_here most_open y (fine y most_open) h 0 rest (first_at 0 (line_end ∷ rest) at) in
         let q = past_blanks T 0 in
         let n = asked Command 0 in
-        let z = ended_by h n q rest (ap (λ (n : Next). is_newline n.token) line.n_is) line.at_q in
+        let z = ended_by h n q rest (ap (λ (n : Next). is_newline_token n.token) line.n_is) line.at_q in
         let k = z.0.later in
         let whole : Gives g (an_open_line top blank) (standing 0) ([], true) (state k z.0.q) =
         next_read h Command 0 ⟫ nothing_on_line most_open y (fine y most_open) h (none_listed blank) n q (ap (λ (n : Next). begins_pipeline n.token) line.n_is) line.no_comment_q ⟫ z.1 ⟫ given_here in
@@ -4094,6 +4094,6 @@ module _ (edition : Edition) (B T : List ℕ) (o : ℕ) (here : drop o B ≡ T) 
         let at_q = subst (λ p. drop p T ≡ []) (sym it.gap.blanks) at in
         let whole : Gives g (an_open_line top blank) (standing 0) ([], false) (state h q) =
         next_read h Command 0 ⟫ nothing_on_line most_open y (fine y most_open) h (none_listed blank) n q (ap begins_pipeline token_is) (no_byte_end T q 35 at_q)
-        ⟫ second_of _ _ (ap is_newline token_is) (first_of _ _ (ap is_end token_is) ((seen_here a_document_waits ⟫ given_here) ⟫ given_here)) ⟫ given_here in
+        ⟫ second_of _ _ (ap is_newline_token token_is) (first_of _ _ (ap is_end token_is) ((seen_here a_document_waits ⟫ given_here) ⟫ given_here)) ⟫ given_here in
         let filled : Gives g (a_line top blank) (standing 0) (filled_row [] [], false) (standing q) = level_here h 0 q whole ⟫ given_here in
         record { f = q; at = at_q; reads = subst (λ es. Gives g (a_line top blank) (standing 0) (es, false) (standing q)) (none_filled []) filled }

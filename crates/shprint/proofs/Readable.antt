@@ -31,9 +31,9 @@ use Rattle.shgrammar.specs.States.{Waiting}
 use Rattle.shgrammar.specs.HereDocuments.{ADelimiter, bodies_here, delimiter_in}
 use Rattle.shgrammar.specs.Form.{Spelled, Read, Form, see, move, push, stop, give, ◌>>=◌, ◌>>◌, both, when, token, loop, ends_as, change, with_bytes, a_level, in_substitution, many, Step, again, done, step_if, may, raw, does}
 use Rattle.shgrammar.specs.Words.{Inner, a_word}
-use Rattle.shgrammar.specs.Commands.{pick, next_token, is_newline, is_semicolon, a_semicolon, is_pipe, is_bang, begins_simple, begins_word, begins_redirect, begins_pipeline, opener_of, compound_by, and_or_operator_of, Items, so_many, behind_word, is_number_token, redirect_operator_of, takes_here, a_number, an_operator, operator_by, a_target, one_redirect, behind_redirect, redirect_turn, redirected, as_item, breaks, an_item, item_by, item_turn, a_simple, unexpected, comment_by, a_comment, a_newline, with_comment, JoinSo, join_turn, a_join, a_command, a_bang, Piped, piped, one_command, pipe_turn, a_pipeline, Joined, joined_so, one_pipeline, joined_by, join_pipeline, an_and_or, separator_of, separator_by, a_separator, an_entry, is_word, is_paren, a_worded, ASeparator, past_separator, ends_item, falls_through, a_document, document_by, open_document, is_long, is_strip, nothing_waits}
+use Rattle.shgrammar.specs.Commands.{pick, next_token, is_newline_token, is_semicolon, a_semicolon, is_pipe, is_bang, begins_simple, begins_word, begins_redirect, begins_pipeline, opener_of, compound_by, and_or_operator_of, Items, so_many, behind_word, is_number_token, redirect_operator_of, takes_here, a_number, an_operator, operator_by, a_target, one_redirect, behind_redirect, redirect_turn, with_redirect_list, as_item, breaks, an_item, item_by, item_turn, a_simple, unexpected, comment_by, a_comment, a_newline, with_comment, JoinSo, join_turn, a_join, a_command, a_bang, Piped, piped, one_command, pipe_turn, a_pipeline, Joined, joined_so, one_pipeline, joined_by, join_pipeline, an_and_or, separator_of, separator_by, a_separator, an_entry, is_word, is_paren, a_word_command, ASeparator, past_separator, ends_item, falls_through, a_document, document_by, open_document, is_long, is_strip, nothing_waits}
 use Rattle.shgrammar.specs.Lists.{ListSo, list_so, none_listed, is_blank_next, one_entry, entry_turn, remark_by, a_remark, on_line, list_turn, a_list}
-use Rattle.shgrammar.specs.Compounds.{Branched, branched, Closed, is_closing, passed, closing, a_group, a_branch, elif_turn, an_else, an_if, a_loop, behind_opener, a_for_name, a_linebreak, a_sequential_sep, Headed, word_turn, for_words, a_for_head, behind_remarks, a_for, a_form, a_compound, under_name, a_function, a_case_word, begins_pattern, Patterned, a_pattern, one_pattern, pattern_turn, a_pattern_list, an_open_bracket, a_body, ItemEnd, an_ender, an_item_end, CasesSo, cases_so, one_case, case_turn, a_case_head, a_case}
+use Rattle.shgrammar.specs.Compounds.{Branched, branched, Closed, is_closing, reserved_or_paren, closing, a_group, a_branch, elif_turn, an_else, an_if, a_loop, behind_opener, a_for_name, a_linebreak, a_sequential_sep, Headed, word_turn, for_words, a_for_head, behind_remarks, a_for, a_form, a_compound, under_name, a_function, a_case_word, begins_pattern, Patterned, a_pattern, one_pattern, pattern_turn, a_pattern_list, an_open_bracket, a_body, ItemEnd, an_ender, an_item_end, CasesSo, cases_so, one_case, case_turn, a_case_head, a_case}
 use Rattle.shgrammar.specs.Levels.{most_open, level}
 use Rattle.shgrammar.specs.Lines.{a_line, an_open_line, line_end_by, end_of_line}
 use Rattle.shgrammar.specs.Tokens.{is_end}
@@ -380,7 +380,7 @@ module _ (g : Given) where
   reads_newline : (X : Type 0) (n : Next) (p : ℕ) → (X → Stands Command n p) → Reads (a_newline n) (λ l e. (X → Stands Command l.1 e) × (l.0 ≡ true → Stands Command l.1 e)) p
   unfolding a_newline
   reads_newline X n p so =
-      picks (is_newline n.token) (λ is. after tt (λ u d. first (reads_bodies d) (λ v f any. first (reads_next Command f) (λ m e stands. gives ((λ y. stands), (λ y. stands)))))) (gives (so, (λ y. absurd cc)))
+      picks (is_newline_token n.token) (λ is. after tt (λ u d. first (reads_bodies d) (λ v f any. first (reads_next Command f) (λ m e stands. gives ((λ y. stands), (λ y. stands)))))) (gives (so, (λ y. absurd cc)))
 
   reads_separator : (n : Next) (p : ℕ) → Reads (a_separator n) (λ s e. is_some s.0 ≡ true → Stands Command s.1 e) p
   unfolding a_separator
@@ -390,13 +390,13 @@ module _ (g : Given) where
       by_separator (Some s) = next_on tt (λ x m e stands. λ y. stands)
       by_separator None = gives (λ y. absurd cc)
 
-  reads_passed : (text : Spelled) (paren : Bool) (position : Position) (p : ℕ) → Reads (passed text paren position) (λ x e. Stands position x.1 e) p
-  unfolding passed
-  reads_passed text paren position p = after tt (λ x e. first (reads_next position e) (λ n d stands. gives stands))
+  reads_reserved_or_paren : (text : Spelled) (paren : Bool) (position : Position) (p : ℕ) → Reads (reserved_or_paren text paren position) (λ x e. Stands position x.1 e) p
+  unfolding reserved_or_paren
+  reads_reserved_or_paren text paren position p = after tt (λ x e. first (reads_next position e) (λ n d stands. gives stands))
 
   reads_closing : (inner : Inner) (c : Closing) (n : Next) (p : ℕ) → Reads (closing inner c n) (λ x e. Stands Command x.1 e) p
   unfolding closing
-  reads_closing inner c n p = picks (is_closing c n.token) (λ is. reads_passed _ _ _ p) (stopped inner n)
+  reads_closing inner c n p = picks (is_closing c n.token) (λ is. reads_reserved_or_paren _ _ _ p) (stopped inner n)
 
   -- ---- words
 
@@ -783,15 +783,15 @@ module _ (B : List ℕ) (g : Given) (here : g.text ≡ drop g.offset B) where
           opens_two g (formed form mark (items_of is)) (λ f js. formed f mark (items_of js)) (λ ts. rw (items_going is (fill_form form ts).1) refl)
           (λ f js good all. compound_with g.edition room (shape_of_form B f) (shape_of_items B (items_of js)) good (record { last = Command; items = all })) one more
 
-      reads_redirected : (C : Row Due) (c : ACommand × Next) (D : Row Due) (p : ℕ) → Bare_is C c D p → Adds g D (redirected inner c) (Compound_is C) p
-      unfolding redirected
-      reads_redirected C c D p (form, mark, is, under, stands) =
+      reads_with_redirect_list : (C : Row Due) (c : ACommand × Next) (D : Row Due) (p : ℕ) → Bare_is C c D p → Adds g D (with_redirect_list inner c) (Compound_is C) p
+      unfolding with_redirect_list
+      reads_with_redirect_list C c D p (form, mark, is, under, stands) =
           add_first g (add_repeats g (redirect_turn inner) (RedirectsSo D) (RedirectsSo D) (RedirectsSo D) (reads_redirect_turn D) (λ r E e on. on) (λ r E e on. on) (so_many [] Command c.1) D p
           (record { place = refl; good = opens_none g fill_item none_more; stands = stands }))
           (λ r E e all. add_gives g (formed form mark (items_of r.items), ap (λ (x : ACommand). with_redirects x (items_of r.items)) is, compound_open form mark r.items under all.good))
 
       reads_compound_by : (n : Next) (o : Option Opener) (D : Row Due) (p : ℕ) → Adds g D (compound_by inner n o) (Compound_is D) p
-      reads_compound_by n (Some o) D p = add_first g (fine.compound o D p) (λ c E e so. reads_redirected D c E e so)
+      reads_compound_by n (Some o) D p = add_first g (fine.compound o D p) (λ c E e so. reads_with_redirect_list D c E e so)
       reads_compound_by n None D p = add_stopped g inner n
 
       compound_good : {D E : Row Due} (c : ACommand) (body : ACompound) → c ≡ compound body → OpenCompound D body E → OpenCommand D c E
@@ -805,9 +805,9 @@ module _ (B : List ℕ) (g : Given) (here : g.text ≡ drop g.offset B) where
           let place : word_span w ≡ span g.offset p q = ap word_span read.is in
           subst (NameBefore room) (raw_at B g here p q ∙ ap (text_at B) (sym place)) before
 
-      reads_worded : (n : Next) (D : Row Due) (p : ℕ) → n.token ≡ tokens.Word → Stands g Command n p → Adds g D (a_worded inner) (Command_is D) p
-      unfolding a_worded
-      reads_worded n D p is so =
+      reads_word_command : (n : Next) (D : Row Due) (p : ℕ) → n.token ≡ tokens.Word → Stands g Command n p → Adds g D (a_word_command inner) (Command_is D) p
+      unfolding a_word_command
+      reads_word_command n D p is so =
           let word_is : behind_word n.token ≡ Some Suffix = ap behind_word is in
           add_sees g (λ s. refl) (behind g (reads_word g room p) (λ w q read. behind g (reads_next g Suffix q) (λ m e stands.
           add_picks g (is_paren m.token)
@@ -818,7 +818,7 @@ module _ (B : List ℕ) (g : Given) (here : g.text ≡ drop g.offset B) where
       reads_command : (n : Next) (D : Row Due) (p : ℕ) → Stands g Command n p → Adds g D (a_command inner n) (Command_is D) p
       unfolding a_command
       reads_command n D p so =
-          add_picks g (is_word n.token) (λ is. reads_worded n D p (word_token n.token is) so)
+          add_picks g (is_word n.token) (λ is. reads_word_command n D p (word_token n.token is) so)
           (add_picks g (begins_simple n.token) (λ begins. reads_simple D (so_many [] Command n) D p (no_items_so n D p begins so))
           (so_adds g (reads_compound_by n (opener_of n.token) D p) (λ c E e good. compound_good c.0 good.0 good.1 good.2)))
 
@@ -980,7 +980,7 @@ module _ (B : List ℕ) (g : Given) (here : g.text ≡ drop g.offset B) where
       -- behind a line all have their bodies
       line_ends : (n : Next) (D : Row Due) (s : State) → DocsAt g D s → Tells Whole g (end_of_line inner n) (λ x t. Feeds g D t.bodies []) s
       unfolding end_of_line
-      line_ends n D s docs = by_end (is_newline n.token) (is_end n.token)
+      line_ends n D s docs = by_end (is_newline_token n.token) (is_end n.token)
         where
           by_end : (newline end : Bool) → Tells Whole g (line_end_by inner newline end n) (λ x t. Feeds g D t.bodies []) s
           by_end true end =
@@ -1034,7 +1034,7 @@ module _ (B : List ℕ) (g : Given) (here : g.text ≡ drop g.offset B) where
       unfolding elif_turn
       reads_elif C b D p so =
           add_picks g (is_closing closings.Elif b.next.token)
-          (λ is. behind g (reads_passed g _ _ _ p) (λ k e stands. add_first g (reads_branch k.1 D e stands) (λ x E f good. add_pushes g (add_gives g (opens_last g b.branches x.0 (branches_more B g.edition room) so good)))))
+          (λ is. behind g (reads_reserved_or_paren g _ _ _ p) (λ k e stands. add_first g (reads_branch k.1 D e stands) (λ x E f good. add_pushes g (add_gives g (opens_last g b.branches x.0 (branches_more B g.edition room) so good)))))
           (add_gives g so)
 
       else_open : {D E : Row Due} (es : Entries) → OpenEntries D es E → OpenElse D (otherwise es) E
@@ -1048,7 +1048,7 @@ module _ (B : List ℕ) (g : Given) (here : g.text ≡ drop g.offset B) where
       reads_else : (n : Next) (D : Row Due) (p : ℕ) → Adds g D (an_else inner n) (λ x E e. OpenElse D x.0 E) p
       unfolding an_else
       reads_else n D p =
-          add_picks g (is_closing closings.Else n.token) (λ is. behind g (reads_passed g _ _ _ p) (λ k e stands. add_first g (reads_list k.1 D e stands) (λ l E f good. add_gives g (else_open l.0 good))))
+          add_picks g (is_closing closings.Else n.token) (λ is. behind g (reads_reserved_or_paren g _ _ _ p) (λ k e stands. add_first g (reads_list k.1 D e stands) (λ l E f good. add_gives g (else_open l.0 good))))
           (add_gives g no_else_open)
 
       abbrev FormGood : Row Due → Closed AForm → Row Due → ℕ → Type 0
@@ -1136,7 +1136,7 @@ module _ (B : List ℕ) (g : Given) (here : g.text ≡ drop g.offset B) where
       reads_for_words : (cs : Row Span) (p : ℕ) → Comments cs → Reads g (for_words inner cs) HeadGood p
       unfolding for_words
       reads_for_words cs p good =
-          first g (reads_passed g _ _ _ p) (λ i e stands.
+          first g (reads_reserved_or_paren g _ _ _ p) (λ i e stands.
           first g (repeats g (word_turn inner) WordsSo WordsSo WordsDone reads_word_turn (λ j d on. on) words_are (so_many [] Suffix i.1) e (record { good = none_more; stands = stands })) (λ ws f words.
           first g (reads_sep cs ws.next f good) (λ l h lines. gives g (words, lines.0, lines.1))))
 
@@ -1335,7 +1335,7 @@ module _ (B : List ℕ) (g : Given) (here : g.text ≡ drop g.offset B) where
           → Adds g D (a_compound inner o) (λ c E e. (form : AForm) × (mark : Span) × (c.0 ≡ compound (formed form mark no_item)) × OpenForm D form E × Stands g Command c.1 e) p
       unfolding a_compound
       reads_compound o D p =
-          behind g (reads_passed g _ _ _ p) (λ x e stands. add_first g (reads_form o x.1 D e stands) (λ f E d good. add_pushes g (add_gives g (f.what, _, refl, good.0, good.1))))
+          behind g (reads_reserved_or_paren g _ _ _ p) (λ x e stands. add_first g (reads_form o x.1 D e stands) (λ f E d good. add_pushes g (add_gives g (f.what, _, refl, good.0, good.1))))
 
       -- ---- functions
 
@@ -1351,7 +1351,7 @@ module _ (B : List ℕ) (g : Given) (here : g.text ≡ drop g.offset B) where
       reads_function : (name : Span) (D : Row Due) (p : ℕ) → NameBefore (suc room) (text_at B name) → Adds g D (a_function inner name) (λ c E e. OpenFunction D c.0 E) p
       unfolding a_function
       reads_function name D p before =
-          behind g (reads_passed g _ true Command p) (λ o e stands. behind g (reads_closing g inner closings.Paren o.1 e) (λ c f behind_it.
+          behind g (reads_reserved_or_paren g _ true Command p) (λ o e stands. behind g (reads_closing g inner closings.Paren o.1 e) (λ c f behind_it.
           behind g (reads_linebreak (Unit {0}) [] c.1 f tt (λ y. behind_it)) (λ l h lines.
           add_first g (reads_compound_by l.next (opener_of l.next.token) D h) (λ b E k one. add_gives g (under_good name l.join.comments b.0 one.0 one.1 before lines.0 one.2)))))
 

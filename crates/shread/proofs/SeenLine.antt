@@ -9,7 +9,7 @@ use Rattle.shgrammar.specs.Sights.{standing}
 use Rattle.shgrammar.proofs.FirstFault.{beyond, here_within, nowhere}
 use Rattle.shline.specs.declared.stop.Stop.{Stop}
 use Rattle.shline.specs.declared.stop.Stop.TheVariants.{Memory, Wrong}
-use Rattle.shline.specs.declared.told.Told.{Told}
+use Rattle.shline.specs.declared.parsed_line.ParsedLine.{ParsedLine}
 use Rattle.shline.specs.Clauses.{Gives, Onward, view_told}
 use Rattle.shline.specs.Limits.{limits}
 use Rattle.shline.proofs.Wanted.{seen_behind}
@@ -19,7 +19,7 @@ no_fault_before : (edition : Edition) (B : List ℕ) (p n : ℕ) (es : List AnEn
 no_fault_before edition B p n es true read some within = (beyond edition B p (standing n) es read, omega (arith, some), within)
 no_fault_before edition B p n es false read some within = nowhere edition B p (standing n) es read
 
-pub tells : (edition : Edition) (B : List ℕ) (p : ℕ) (r : Result Told Stop) → p ≤ length B
+pub tells : (edition : Edition) (B : List ℕ) (p : ℕ) (r : Result ParsedLine Stop) → p ≤ length B
     → Gives (limits 0 p (drop p B)) view_told r (line_from edition B Nothing false p) → IfOk r (λ x. Onward 0 x.len x.newline)
     → IfOk r (λ x. p + x.len ≤ length B) → Tells edition B p r
 tells edition B p (Ok told) low read some within = no_fault_before edition B p told.len (map view_entry told.entries.items) told.newline read some within

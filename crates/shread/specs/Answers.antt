@@ -2,7 +2,7 @@
 use Rattle.std.specs.Prelude.{◌≡◌, ℕ, ◌+◌, ◌-◌, ◌<◌, ◌≤◌, Bool, true, false, List, None, Some, Result, Ok, Err, length}
 use Rattle.shline.specs.declared.stop.Stop.{Stop}
 use Rattle.shline.specs.declared.stop.Stop.TheVariants.{Memory, Wrong}
-use Rattle.shline.specs.declared.told.Told.{Told}
+use Rattle.shline.specs.declared.parsed_line.ParsedLine.{ParsedLine}
 use Rattle.shline.specs.Limits.{wants_memory}
 use Rattle.shread.specs.declared.reader.Reader.{Reader}
 use Rattle.shread.specs.declared.reader.Line as the_line
@@ -38,7 +38,7 @@ NoFaultBefore edition bytes p q false = first_fault_from edition bytes p ≡ Non
 
 -- What was told of the line at an offset is true of the first fault from there on. Memory ran out only where a
 -- reading that keeps nothing may want some.
-abbrev pub Tells : Edition → List ℕ → ℕ → Result Told Stop → Type 0
+abbrev pub Tells : Edition → List ℕ → ℕ → Result ParsedLine Stop → Type 0
 Tells edition bytes at (Ok told) = NoFaultBefore edition bytes at (at + told.len) told.newline
 Tells edition bytes at (Err (Wrong fault)) = (first_fault_from edition bytes at ≡ Some fault) × (fault.at ≤ length bytes)
 Tells edition bytes at (Err Memory) = wants_memory 0 bytes ≡ true

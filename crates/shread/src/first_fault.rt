@@ -6,13 +6,13 @@ ghost use Rattle.shread.specs.Answers.{Tells};
 
 use crate::error::ReadError;
 use shgrammar::{Edition, Fault, Keep};
-use shline::{Begin, How, SEEN, Stop, Told, line_at};
+use shline::{Begin, How, ParsedLine, SEEN, Stop, line_at};
 use shtext::Source;
 use std::alloc::Global;
 use std::mem;
 
 /// The line at an offset, of which nothing is kept.
-fn see_line<S: Source>(alloc: Global, edition: Edition, source: &S, at: usize) -> Result<Told, Stop>
+fn see_line<S: Source>(alloc: Global, edition: Edition, source: &S, at: usize) -> Result<ParsedLine, Stop>
     requires { at ≤ length (S.bytes source.now) }
     ensures value { Tells edition (S.bytes source.now) at result }
     ensures fits { IfOk result (λ told. at + told.len < 2 ^ 64) }

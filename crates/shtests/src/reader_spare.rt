@@ -1,7 +1,7 @@
 // Lines that are read into vectors which earlier lines gave back: they have what they have without.
 use crate::reader_trees::ROWS;
 use shast::{Entry, Spare};
-use shline::{Stop, Told};
+use shline::{ParsedLine, Stop};
 use shpass::{LinesBefore, ScriptLines};
 use shread::Edition;
 use shtext::Flat;
@@ -10,7 +10,7 @@ use std::alloc::Global;
 use std::test::Fail;
 
 /// What was told of a line, as text.
-fn told(alloc: Global, line: &Result<Told, Stop>) -> Result<String, Fail> {
+fn told(alloc: Global, line: &Result<ParsedLine, Stop>) -> Result<String, Fail> {
     let mut text = String::new(alloc);
     write!(text, "{line:?}")?;
     Ok(text)
@@ -29,9 +29,9 @@ fn are_alike(alloc: Global, script: &[u8], spare: &mut Spare) -> Result<bool, Fa
     let mut before = LinesBefore::none();
     for _ in 0..=script.len() {
         let source = Flat::new(rest);
-        let mut lines = ScriptLines::behind(alloc, Edition::Y2017, &source, before);
+        let mut lines = ScriptLines::following(alloc, Edition::Y2017, &source, before);
         let line = lines.read_next(None);
-        let other = ScriptLines::behind(alloc, Edition::Y2017, &source, before).read_next(Some(
+        let other = ScriptLines::following(alloc, Edition::Y2017, &source, before).read_next(Some(
             &mut *spare,
         ));
         if told(alloc, &line)? != told(alloc, &other)? {
@@ -57,9 +57,9 @@ fn are_whole_alike(alloc: Global, script: &[u8], spare: &mut Spare) -> Result<bo
     let mut before = LinesBefore::none();
     for _ in 0..=script.len() {
         let source = Flat::new(rest);
-        let mut lines = ScriptLines::behind(alloc, Edition::Y2017, &source, before);
+        let mut lines = ScriptLines::following(alloc, Edition::Y2017, &source, before);
         let line = lines.read_whole(None)?;
-        let other = ScriptLines::behind(alloc, Edition::Y2017, &source, before).read_whole(Some(
+        let other = ScriptLines::following(alloc, Edition::Y2017, &source, before).read_whole(Some(
             &mut *spare,
         ))?;
         if told_whole(alloc, &line)? != told_whole(alloc, &other)? {

@@ -22,7 +22,7 @@ use std::alloc::{AllocError, Global};
 use std::mem;
 
 /// How many spare chunks stay behind an edit: what a key that is typed wants.
-const KEPT: usize = 1;
+const SPARE_KEPT: usize = 1;
 
 /// The most bytes around an edit in the chunks that give way to it.
 pub(crate) const SEAM: usize = CHUNK + CHUNK;
@@ -61,7 +61,7 @@ impl Buffer {
         let tally = self.tally_of(splices);
         tally.answer()?;
         let (start, end) = (first_begin(splices), tally.last_end());
-        let old = self.copied(start, end)?;
+        let old = self.copy_between(start, end)?;
         let mut new = Vec::with_capacity(self.alloc, tally.new_end().saturating_sub(start))?;
         push_with(start, &old, splices, &mut new)?;
         self.make_room(chunks_for(new.len().saturating_sub(end - start)))?;
@@ -85,7 +85,7 @@ impl Buffer {
     }
 
     /// The bytes from `a` up to `b`.
-    fn copied(&self, a: usize, b: usize) -> Result<Vec<u8>, AllocError>
+    fn copy_between(&self, a: usize, b: usize) -> Result<Vec<u8>, AllocError>
         requires order { a ≤ b }
         requires within { b ≤ length (buffer_bytes self.now) }
         ensures { IfOk result (λ copy. copy.items ≡ slice_range (buffer_bytes self.now) a b) }
@@ -164,7 +164,7 @@ impl Buffer {
         self.copy_around(from, to, change.start, change.end, &mut seam);
         let filling = Filling::new(&seam, head, &change.new);
         self.refill(from, to, &filling);
-        self.spare.truncate(KEPT);
+        self.spare.truncate(SPARE_KEPT);
         seam.clear();
         self.seam = seam;
     }

@@ -50,7 +50,7 @@ fn append_list(into: &mut List, more: &mut List) -> Result<(), AllocError>
 }
 
 /// A span at this base. Where an offset would be none that there is, the greatest one stands in its place.
-fn carried(span: Span, base: usize) -> Span
+fn carried_span(span: Span, base: usize) -> Span
     ensures { result ≡ capped base span }
 {
     Span {
@@ -65,7 +65,7 @@ fn carried_body(body: Span, base: usize) -> Span
     ensures { result ≡ capped_body base body }
 {
     if body.end > 0 {
-        carried(body, base)
+        carried_span(body, base)
     } else {
         body
     }
@@ -75,7 +75,7 @@ fn carry_span(span: Option<Span>, base: usize) -> Option<Span>
     ensures { result ≡ option_map (capped base) span }
 {
     match span {
-        Some(span) => Some(carried(span, base)),
+        Some(span) => Some(carried_span(span, base)),
         None => None,
     }
 }
@@ -84,7 +84,7 @@ fn carry_comment(comment: Comment, base: usize) -> Comment
     ensures { view_comment result ≡ capped base (view_comment comment) }
 {
     Comment {
-        span: carried(comment.span, base),
+        span: carried_span(comment.span, base),
     }
 }
 
@@ -310,7 +310,7 @@ fn carry_function(alloc: Global, function: &Function, base: usize) -> Result<Fun
 {
     let comments = carry_comments(alloc, &function.comments, base)?;
     let body = carry_compound(alloc, &function.body, base)?;
-    Ok(function_of(carried(function.name, base), comments, body))
+    Ok(function_of(carried_span(function.name, base), comments, body))
 }
 
 #[cycle(carry)]
@@ -319,7 +319,7 @@ fn carry_compound(alloc: Global, compound: &Compound, base: usize) -> Result<Com
 {
     let form = carry_form(alloc, &compound.form, base)?;
     let redirects = carry_items(alloc, &compound.redirects, base)?;
-    Ok(compound_of(form, carried(compound.span, base), redirects))
+    Ok(compound_of(form, carried_span(compound.span, base), redirects))
 }
 
 #[cycle(carry)]
@@ -417,7 +417,7 @@ fn carry_case(alloc: Global, item: &CaseItem, base: usize) -> Result<CaseItem, A
         comments,
         patterns,
         body,
-        carried(item.span, base),
+        carried_span(item.span, base),
         item.falls,
     ))
 }
@@ -484,7 +484,7 @@ fn carry_redirection(
     Ok(redirection_of(
         carry_span(redirection.number, base),
         redirection.operator,
-        carried(redirection.span, base),
+        carried_span(redirection.span, base),
         word,
         carry_here(redirection.here, base),
     ))
@@ -495,7 +495,7 @@ fn carry_word(alloc: Global, word: &Word, base: usize) -> Result<Word, AllocErro
     ensures { Carries base carried_word view_word word.now result }
 {
     let substs = carry_substs(alloc, &word.substs, base)?;
-    Ok(word_of(carried(word.span, base), substs))
+    Ok(word_of(carried_span(word.span, base), substs))
 }
 
 #[cycle(carry)]
@@ -515,5 +515,5 @@ fn carry_subst(alloc: Global, subst: &Subst, base: usize) -> Result<Subst, Alloc
     ensures { Carries base carried_subst view_subst subst.now result }
 {
     let list = carry_list(alloc, &subst.list, base)?;
-    Ok(subst_of(list, carried(subst.span, base)))
+    Ok(subst_of(list, carried_span(subst.span, base)))
 }

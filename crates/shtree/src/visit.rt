@@ -123,7 +123,7 @@ fn form_line(form: &Form, span: Span) -> NodeLine
     ensures { result ≡ form_node (view_form form.now) span }
 {
     let kind = match form {
-        Form::For { name, .. } => return NodeLine::named(NodeKind::For, span, name.span),
+        Form::For { name, .. } => return NodeLine::named_node(NodeKind::For, span, name.span),
         Form::Brace(_) => NodeKind::Brace,
         Form::Subshell(_) => NodeKind::Subshell,
         Form::If { .. } => NodeKind::If,
@@ -309,7 +309,7 @@ fn visit_function<W: Wanted>(
 {
     let span = function_span(function);
     add(
-        NodeLine::named(NodeKind::Function, span, function.name),
+        NodeLine::named_node(NodeKind::Function, span, function.name),
         wanted,
         lines,
     )?;

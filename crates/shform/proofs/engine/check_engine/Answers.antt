@@ -1,6 +1,6 @@
 use Rattle.std.proofs.Common.{sym, ap, cond, None, Ok, Err}
 use Rattle.shtext.specs.Device.{output_failed}
-use Rattle.shform.specs.declared.report.Stop.TheVariants.{Memory}
+use Rattle.shform.specs.declared.report.RunError.TheVariants.{Memory}
 use Rattle.shtext.proofs.Known.{Writes-nothing}
 use Rattle.shform.proofs.Reported.{fault_reported}
 use Rattle.shform.proofs.engine.check_engine.Goals as goal

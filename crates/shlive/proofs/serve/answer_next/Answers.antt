@@ -1,7 +1,7 @@
 use Rattle.std.proofs.Common.{◌≡◌, [], ◌∷◌, ◌++◌, ◌∙◌, ◌||◌, None, Some, ap, codes, refl, sym, true, rules}
 use Rattle.shtext.specs.Device.{output_failed}
 use Rattle.shlive.specs.Ahead.{ahead_of}
-use Rattle.shlive.specs.Requests.{next_by_order, next_of, order_of_line, request_of, unknown}
+use Rattle.shlive.specs.Requests.{next_by_order, next_request_of, order_of_line, request_of, unknown}
 use Rattle.shlive.specs.declared.order.Order.TheVariants.{Ask, Edit, Quit}
 use Rattle.shlive.proofs.Asked.{ends_through, err_through, form_begins, line_cut, line_is, ok_through, plain_replied, replied_through, some_taken, stops_inside}
 use Rattle.shlive.proofs.Taken.{takes_both}
@@ -15,7 +15,7 @@ returns-in-Err-take_line-clause-err g c =
     let filled = ahead c.fill.new.input c.fill.new.self in
     let new = ahead c.take_line.new.input c.take_line.new.incoming in
     rw c.inside.ensures (
-    stops_inside next_of _ _ start new _ _ _ _ (output_failed c.args.output.now) refl refl c.requires.unbroken c.in-Err-take_line.stop q.0
+    stops_inside next_request_of _ _ start new _ _ _ _ (output_failed c.args.output.now) refl refl c.requires.unbroken c.in-Err-take_line.stop q.0
     (takes_both start filled new [] q.0 _ c.fill.ensures.takes q.2 refl)
     (λ none. line_cut q.0 q.1 (some_taken filled new q.0 q.2 c.in_default.ensures.some none)) q.3
     )

@@ -1,6 +1,6 @@
 use Rattle.std.proofs.Common.{◌++◌, ◌∙◌, ap, subst, take}
 use Rattle.shprint.specs.ReadBack.{IsTextOf}
-use Rattle.shform.proofs.Parts.{found_there, unprinted_is, whole_is}
+use Rattle.shform.proofs.Parts.{located_there, unprinted_is, whole_is}
 use Rattle.shform.proofs.printed_part.PrintedPart.text.Goals as goal
 
 pub returns-in-Ok-clause-printed : goal.returns-in-Ok-clause-printed
@@ -14,4 +14,4 @@ returns-in-Err-Faulty-clause-err c = λ e y read is.
     let part = c.args.self.part in
     let same = c.new.ensures ∙ c.deref.ensures.value in
     let refused = rw c.in-Err-Faulty.field-0-is at (c.in-Err-Faulty.ensures.err e y (take part.passed read) is.is) in
-    found_there e read _ c.found.result (c.found.ensures read is.held) (unprinted_is e read part is.held _ c.in-Err-Faulty.fault same refused.0)
+    located_there e read _ c.locate.result (c.locate.ensures read is.held) (unprinted_is e read part is.held _ c.in-Err-Faulty.fault same refused.0)

@@ -9,7 +9,7 @@ use Rattle.shgrammar.specs.HereDocuments.{outer_level, own_level}
 use Rattle.shgrammar.specs.Pieces.{piece_at, piece_in}
 use Rattle.shgrammar.specs.Plain.{ArePlain}
 use Rattle.shgrammar.specs.Sights.{State, given}
-use Rattle.shgrammar.specs.Substitutions.{substituted}
+use Rattle.shgrammar.specs.Substitutions.{substitution_list}
 use Rattle.shgrammar.specs.Words.{having}
 use Rattle.shgrammar.specs.Levels.{level}
 use Rattle.shast.specs.declared.tree.Span.{Span}
@@ -63,10 +63,10 @@ one_substitution-returns-in-Ok g t c =
     let shut = c.close_level-bodies.ensures in
     let after = c.close_level-bodies.new.self in
     let list = view_list c.in-Ok.list in
-    let inner = at_place c.substituted.new.self in
+    let inner = at_place c.substitution_list.new.self in
     let ss = map view_subst c.args.substs.now.items in
     let here = given start.how.edition (text_of start) start.origin in
-    let stands : does (substituted (level c.args.room)) keep here (own_level (at_place start)) ≡ Ok (list, inner) =
+    let stands : does (substitution_list (level c.args.room)) keep here (own_level (at_place start)) ≡ Ok (list, inner) =
     rw (own.same.0, own.same.1, own.same.2, own.same.3, own.level) at c.in-Ok.ensures.0 in
     let read = substitution_read keep here (at_place start) (level c.args.room) c.args.opener ss list inner stands in
     let origin : after.origin ≡ start.origin = shut.same.2 ∙ same.2 ∙ own.same.2 in

@@ -49,8 +49,8 @@ decreases-redirect g l = 128 * l.room + 14
 abbrev pub decreases-redirects : goal.decreases-redirects
 decreases-redirects g l = 128 * l.room + 18
 
-abbrev pub decreases-redirected : goal.decreases-redirected
-decreases-redirected g l = 128 * l.room + 20
+abbrev pub decreases-with_redirect_list : goal.decreases-with_redirect_list
+decreases-with_redirect_list g l = 128 * l.room + 20
 
 abbrev pub decreases-next_item : goal.decreases-next_item
 decreases-next_item g l = 128 * l.room + 16
@@ -106,11 +106,11 @@ decreases-compound_by g l = 128 * l.room + 22
 abbrev pub decreases-function : goal.decreases-function
 decreases-function g l = 128 * l.room + 24
 
-abbrev pub decreases-named : goal.decreases-named
-decreases-named g l = 128 * l.room + 26
+abbrev pub decreases-named_function : goal.decreases-named_function
+decreases-named_function g l = 128 * l.room + 26
 
-abbrev pub decreases-worded : goal.decreases-worded
-decreases-worded g l = 128 * l.room + 28
+abbrev pub decreases-word_command : goal.decreases-word_command
+decreases-word_command g l = 128 * l.room + 28
 
 abbrev pub decreases-command : goal.decreases-command
 decreases-command g l = 128 * l.room + 30
@@ -148,8 +148,8 @@ decreases-list_lines g l = 128 * l.room + 58
 abbrev pub decreases-list : goal.decreases-list
 decreases-list g l = 128 * l.room + 60
 
-abbrev pub decreases-substituted : goal.decreases-substituted
-decreases-substituted g l = 128 * l.room + 60
+abbrev pub decreases-substitution_list : goal.decreases-substitution_list
+decreases-substitution_list g l = 128 * l.room + 60
 
 abbrev pub decreases-one_substitution : goal.decreases-one_substitution
 decreases-one_substitution g l = 128 * l.room + 62

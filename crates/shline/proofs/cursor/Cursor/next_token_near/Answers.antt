@@ -20,19 +20,19 @@ pub token-token-requires : goal.token-token-requires
 token-token-requires g c =
     let T = text_of c.args.self.now in
     let none = sym c.continues_with.ensures ∙ c.if-continues_with.false in
-    (omega arith, ((c.raw_past_to-at.ensures.place.1.1, joined_none T (on c.args.self.now c.raw_past_to-at.result.0) none), c.raw_past_to-at.ensures.byte))
+    (omega arith, ((c.raw_past_and_byte-at.ensures.place.1.1, joined_none T (on c.args.self.now c.raw_past_and_byte-at.result.0) none), c.raw_past_and_byte-at.ensures.byte))
 
 pub returns : goal.returns
 returns g c =
     let T = text_of c.args.self.now in
     let none = sym c.continues_with.ensures ∙ c.if-continues_with.false in
-    let blanks = whole T (here_of c.args.self.now) (on c.args.self.now c.raw_past_to-at.result.0) c.raw_past_to-at.ensures.place.0 none in
-    (rw (blanks.0, blanks.1, c.token-token.ensures) refl, sym blanks.0, omega (arith, c.raw_past_to-at.ensures.place.1), search rules)
+    let blanks = whole T (here_of c.args.self.now) (on c.args.self.now c.raw_past_and_byte-at.result.0) c.raw_past_and_byte-at.ensures.place.0 none in
+    (rw (blanks.0, blanks.1, c.token-token.ensures) refl, sym blanks.0, omega (arith, c.raw_past_and_byte-at.ensures.place.1), search rules)
 
 pub invariant_of-self-clause-shows : goal.invariant_of-self-clause-shows
 unfolding InHand
 invariant_of-self-clause-shows g c =
     let T = text_of c.args.self.now in
     let none = sym c.continues_with.ensures ∙ c.if-continues_with.false in
-    let blanks = whole T (here_of c.args.self.now) (on c.args.self.now c.raw_past_to-at.result.0) c.raw_past_to-at.ensures.place.0 none in
+    let blanks = whole T (here_of c.args.self.now) (on c.args.self.now c.raw_past_and_byte-at.result.0) c.raw_past_and_byte-at.ensures.place.0 none in
     rw (c.token-token.ensures, ← blanks.0) (shown_in c.args.self.now.how.edition c.args.position T (here_of c.args.self.now))

@@ -8,15 +8,15 @@ pub lines-init : goal.lines-init
 lines-init g c =
     let bytes = g.S.Source.bytes c.args.source.now in
     let self = c.args.self.now in
-    let start = c.behind-lines.ensures.start in (
-      λ e y front is. start_printed e y front bytes self.before c.behind-lines.result.before c.behind-lines.result.at (sheet self.page) start.0 start.1 is.0,
+    let start = c.following-lines.ensures.start in (
+      λ e y front is. start_printed e y front bytes self.before c.following-lines.result.before c.following-lines.result.at (sheet self.page) start.0 start.1 is.0,
       refl,
-      c.behind-lines.ensures.source,
+      c.following-lines.ensures.source,
       omega (arith, start.0),
       λ some. absurd (omega (arith, some, start.0)),
       refl,
       refl,
-      c.behind-lines.ensures.edition,
+      c.following-lines.ensures.edition,
     )
 
 pub lines-preserved : goal.lines-preserved

@@ -8,14 +8,14 @@ pub lines-init : goal.lines-init
 lines-init g c =
     let bytes = g.S.Source.bytes c.args.source.now in
     let self = c.args.self in
-    let start = c.behind-lines.ensures.start in (
+    let start = c.following-lines.ensures.start in (
       λ e y front is.
-          let begun = at_start e y bytes front c.behind-lines.result self.before (sheet self.page) start.0 start.1 is.0 in
+          let begun = at_start e y bytes front c.following-lines.result self.before (sheet self.page) start.0 start.1 is.0 in
           rw c.reserve_exact.ensures.items begun,
       refl,
-      c.behind-lines.ensures.source,
+      c.following-lines.ensures.source,
       omega (arith, start.0),
-      c.behind-lines.ensures.edition,
+      c.following-lines.ensures.edition,
     )
 
 pub lines-preserved : goal.lines-preserved

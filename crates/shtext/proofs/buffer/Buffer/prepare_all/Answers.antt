@@ -5,8 +5,8 @@ use Rattle.shtext.specs.Edit.{ASplice, AreAllowed, first_begin, last_end, splice
 use Rattle.shtext.proofs.Splices.{ends_rise, ends_within, in_old, new_end_is, rise_start, some_is, text_is}
 use Rattle.shtext.proofs.buffer.Buffer.prepare_all.Goals as goal
 
-pub copied-requires-clause-order : goal.copied-requires-clause-order
-copied-requires-clause-order c =
+pub copy_between-requires-clause-order : goal.copy_between-requires-clause-order
+copy_between-requires-clause-order c =
     let bytes : List ℕ = buffer_bytes c.args.self.now in
     let ss : Row ASplice = splices_of c.args.splices.now in
     let is : AreAllowed bytes ss = c.in_ok-answer.ensures.ok bytes ss c.tally_of-tally.ensures in
@@ -16,8 +16,8 @@ copied-requires-clause-order c =
     let rise : first_begin ss ≤ last_end ss = ends_rise bytes ss some is.in_range is.rising in
     omega (arith, first, last, rise)
 
-pub copied-requires-clause-within : goal.copied-requires-clause-within
-copied-requires-clause-within c =
+pub copy_between-requires-clause-within : goal.copy_between-requires-clause-within
+copy_between-requires-clause-within c =
     let bytes : List ℕ = buffer_bytes c.args.self.now in
     let ss : Row ASplice = splices_of c.args.splices.now in
     let is : AreAllowed bytes ss = c.in_ok-answer.ensures.ok bytes ss c.tally_of-tally.ensures in

@@ -1,6 +1,6 @@
 use Rattle.std.proofs.Common.{◌++◌}
 use Rattle.shform.proofs.Parts.{holds_more}
-use Rattle.shform.proofs.passing.PartSink.take.Goals as goal
+use Rattle.shform.proofs.passing.PartialScriptSink.take.Goals as goal
 
 pub returns : goal.returns
 returns c = λ edition read is.

@@ -1,7 +1,7 @@
 use Rattle.std.proofs.Common.{◌≡◌, ◌+◌, ap, count_by, refl, take}
 use Rattle.shtext.specs.Text.{is_newline}
 use Rattle.shform.proofs.Parts.{held_passed}
-use Rattle.shform.proofs.part.Part.pass.Goals as goal
+use Rattle.shform.proofs.partial_script.PartialScript.pass.Goals as goal
 
 pub returns-clause-held : goal.returns-clause-held
 returns-clause-held c = λ read is.

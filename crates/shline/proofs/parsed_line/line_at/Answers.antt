@@ -10,7 +10,7 @@ use Rattle.shgrammar.specs.Sights.{given, standing}
 use Rattle.shgrammar.proofs.Levels.{line_read}
 use Rattle.shgrammar.proofs.Within.{line_within}
 use Rattle.shline.proofs.LineEnds.{newline_there, whole_there}
-use Rattle.shline.proofs.told.line_at.Goals as goal
+use Rattle.shline.proofs.parsed_line.line_at.Goals as goal
 
 pub returns-clause-value : goal.returns-clause-value
 returns-clause-value g c =

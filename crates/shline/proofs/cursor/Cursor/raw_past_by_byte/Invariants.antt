@@ -2,7 +2,7 @@ use Rattle.std.proofs.Common.{◌≡◌, ◌≤◌, ◌-◌, length, drop}
 use Rattle.shgrammar.specs.Standing.{raw_past}
 use Rattle.shgrammar.specs.Classes.{in_class}
 use Rattle.shline.specs.Clauses.{Inside, on}
-use Rattle.shline.proofs.cursor.Cursor.raw_behind.Given as goal
+use Rattle.shline.proofs.cursor.Cursor.raw_past_by_byte.Given as goal
 
 abbrev pub invariant-bytes : goal.invariant-bytes
 invariant-bytes g l =

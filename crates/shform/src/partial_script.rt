@@ -6,7 +6,7 @@ use shread::{Edition, Fault};
 
 /// What was read of a script.
 #[derive(Drop)]
-pub struct Part {
+pub struct PartialScript {
     /// By which it is read.
     pub(crate) edition: Edition,
     /// What is not passed.
@@ -23,7 +23,7 @@ pub struct Part {
 
 /// A fault, and where it stands.
 #[derive(Clone, Copy, Debug)]
-pub struct Found {
+pub struct LocatedFault {
     pub fault: Fault,
     pub line: usize,
     pub col: usize,

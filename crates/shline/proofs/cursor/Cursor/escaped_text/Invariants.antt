@@ -2,7 +2,7 @@ use Rattle.std.proofs.Common.{◌+◌, ◌-◌, length}
 use Rattle.shline.specs.Clauses.{at_place, here_of, Rests, text_of}
 use Rattle.shgrammar.specs.Form.{many}
 use Rattle.shgrammar.specs.Words.{escaped_turn}
-use Rattle.shline.proofs.cursor.Cursor.escaped.Given as goal
+use Rattle.shline.proofs.cursor.Cursor.escaped_text.Given as goal
 
 abbrev pub invariant-turns : goal.invariant-turns
 invariant-turns g l =

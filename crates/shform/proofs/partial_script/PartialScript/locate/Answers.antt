@@ -1,6 +1,6 @@
 use Rattle.std.proofs.Common.{◌+◌, ◌∙◌, ap, refl}
 use Rattle.shform.proofs.Parts.{column_is, line_is}
-use Rattle.shform.proofs.part.Part.found.Goals as goal
+use Rattle.shform.proofs.partial_script.PartialScript.locate.Goals as goal
 
 pub returns : goal.returns
 returns c = λ read is.

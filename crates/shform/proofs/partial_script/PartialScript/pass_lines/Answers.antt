@@ -1,6 +1,6 @@
 use Rattle.std.proofs.Common.{◌∙◌}
 use Rattle.shform.proofs.Parts.{holds_passed}
-use Rattle.shform.proofs.part.Part.pass_lines.Goals as goal
+use Rattle.shform.proofs.partial_script.PartialScript.pass_lines.Goals as goal
 
 pub returns : goal.returns
 returns c = λ edition read is.

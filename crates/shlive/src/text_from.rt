@@ -6,7 +6,7 @@ use shtext::{Buffer, Source};
 
 /// The bytes of a text from an offset on.
 #[derive(Clone, Copy)]
-pub(crate) struct Behind<'a> {
+pub(crate) struct TextFrom<'a> {
     text: &'a Buffer,
     base: usize,
     /// The stretch of the text that begins there, in which most lines lie whole: its bytes are reached
@@ -15,15 +15,15 @@ pub(crate) struct Behind<'a> {
     ghost stretch: { IsRun (buffer_bytes text.now) base front.now },
 }
 
-impl<'a> Behind<'a> {
+impl<'a> TextFrom<'a> {
     ghost use Rattle.std.specs.Prelude.{◌≡◌, drop};
-    ghost use Rattle.shlive.specs.Behind.{behind_bytes};
+    ghost use Rattle.shlive.specs.TextFrom.{text_from_bytes};
 
     /// The bytes of this text from an offset on.
-    pub(crate) fn new(text: &'a Buffer, base: usize) -> Behind<'a>
-        ensures { behind_bytes result ≡ drop base (buffer_bytes text.now) }
+    pub(crate) fn new(text: &'a Buffer, base: usize) -> TextFrom<'a>
+        ensures { text_from_bytes result ≡ drop base (buffer_bytes text.now) }
     {
-        Behind {
+        TextFrom {
             text,
             base,
             front: text.run(base),
@@ -33,7 +33,7 @@ impl<'a> Behind<'a> {
     /// A stretch that begins at any offset.
     #[cold]
     fn any_run(&self, at: usize) -> &[u8]
-        ensures { IsRun (behind_bytes self.now) at result.now }
+        ensures { IsRun (text_from_bytes self.now) at result.now }
     {
         if at < self.len() {
             self.text.run(self.base + at)
@@ -43,10 +43,10 @@ impl<'a> Behind<'a> {
     }
 }
 
-impl<'a> Source for Behind<'a> {
-    ghost use Rattle.shlive.specs.Behind.{behind_bytes};
+impl<'a> Source for TextFrom<'a> {
+    ghost use Rattle.shlive.specs.TextFrom.{text_from_bytes};
 
-    ghost bytes = { behind_bytes };
+    ghost bytes = { text_from_bytes };
 
     #[inline]
     fn len(&self) -> usize {

@@ -31,7 +31,7 @@ pub struct Begin {
 
 /// What was read of a line that has no fault.
 #[derive(Debug, Drop)]
-pub struct Told {
+pub struct ParsedLine {
     /// Its entries, with spans that count from `origin` of [`line_at`].
     pub entries: Vec<Entry>,
     /// A newline ends it.
@@ -53,7 +53,7 @@ pub fn line_at<'a, S: Source, const KEEP: u8>(
     begin: Begin,
     how: How,
     spare: Option<&'a mut Spare>,
-) -> Result<Told, Stop>
+) -> Result<ParsedLine, Stop>
     requires { (begin.at ≤ length (S.bytes source.now)) × (begin.origin ≤ begin.at) }
     ensures value { Gives (limits KEEP begin.origin (drop begin.at (S.bytes source.now))) view_told
         result (line_told how.edition (S.bytes source.now) (kept KEEP how.keep) begin.blank begin.at
@@ -73,7 +73,7 @@ pub fn line_at<'a, S: Source, const KEEP: u8>(
     let _ = source.len();
     // Many lines are empty: they need no cursor.
     if let Some(b'\n') = source.byte(begin.at) {
-        return Ok(Told {
+        return Ok(ParsedLine {
             entries: Vec::new(alloc),
             newline: true,
             len: 1,
@@ -83,7 +83,7 @@ pub fn line_at<'a, S: Source, const KEEP: u8>(
     // It holds no here-document yet: the line's level is its own.
     let (entries, newline) = cursor.open_line(begin.blank, MOST_OPEN)?;
     let len = cursor.begin + cursor.at;
-    Ok(Told {
+    Ok(ParsedLine {
         entries: filled_entries(entries, cursor.documents.bodies),
         newline,
         len,

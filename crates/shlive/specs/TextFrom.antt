@@ -1,0 +1,8 @@
+-- The rest of a text.
+use Rattle.std.specs.Prelude.{ℕ, List, drop}
+use Rattle.shtext.specs.Buffer.{buffer_bytes}
+use Rattle.shlive.specs.declared.text_from.TextFrom.{TextFrom}
+
+-- the bytes from its base on
+abbrev pub text_from_bytes : TextFrom → List ℕ
+text_from_bytes behind = drop behind.base (buffer_bytes behind.text.now)
