@@ -8,39 +8,49 @@ use Rattle.shast.specs.Opened.{item_content_bodies, item_bodies, items_bodies, e
 module _ {T M : Type 0} where
   -- ---- a row of parts and another
 
-  pub entries_append : (xs ys : Row (AnEntryOf T M)) (ts : Row T) → entries_bodies (entries_of (xs ++ ys)) ts ≡ entries_bodies (entries_of xs) (entries_bodies (entries_of ys) ts)
+  pub entries_append : (xs ys : Row (AnEntryOf T M)) (ts : Row T) →
+      entries_bodies (entries_of (xs ++ ys)) ts ≡ entries_bodies (entries_of xs) (entries_bodies (entries_of ys) ts)
   unfolding entries_bodies
   entries_append [] ys ts = refl
   entries_append (x ∷ xs) ys ts = rw (entries_append xs ys ts) refl
 
-  pub and_or_parts_append : (xs ys : Row (AnAndOrPartOf T M)) (ts : Row T) → and_or_parts_bodies (and_or_parts_of (xs ++ ys)) ts ≡ and_or_parts_bodies (and_or_parts_of xs) (and_or_parts_bodies (and_or_parts_of ys) ts)
+  pub and_or_parts_append : (xs ys : Row (AnAndOrPartOf T M)) (ts : Row T) →
+      and_or_parts_bodies (and_or_parts_of (xs ++ ys)) ts
+      ≡ and_or_parts_bodies (and_or_parts_of xs) (and_or_parts_bodies (and_or_parts_of ys) ts)
   unfolding and_or_parts_bodies
   and_or_parts_append [] ys ts = refl
   and_or_parts_append (x ∷ xs) ys ts = rw (and_or_parts_append xs ys ts) refl
 
-  pub pipes_append : (xs ys : Row (APipelinePartOf T M)) (ts : Row T) → pipes_bodies (pipeline_parts_of (xs ++ ys)) ts ≡ pipes_bodies (pipeline_parts_of xs) (pipes_bodies (pipeline_parts_of ys) ts)
+  pub pipes_append : (xs ys : Row (APipelinePartOf T M)) (ts : Row T) →
+      pipes_bodies (pipeline_parts_of (xs ++ ys)) ts
+      ≡ pipes_bodies (pipeline_parts_of xs) (pipes_bodies (pipeline_parts_of ys) ts)
   unfolding pipes_bodies
   pipes_append [] ys ts = refl
   pipes_append (x ∷ xs) ys ts = rw (pipes_append xs ys ts) refl
 
-  pub branches_append : (xs ys : Row (ABranchOf T M)) (ts : Row T) → branches_bodies (branches_of (xs ++ ys)) ts ≡ branches_bodies (branches_of xs) (branches_bodies (branches_of ys) ts)
+  pub branches_append : (xs ys : Row (ABranchOf T M)) (ts : Row T) →
+      branches_bodies (branches_of (xs ++ ys)) ts
+      ≡ branches_bodies (branches_of xs) (branches_bodies (branches_of ys) ts)
   unfolding branches_bodies
   branches_append [] ys ts = refl
   branches_append (x ∷ xs) ys ts = rw (branches_append xs ys ts) refl
 
-  pub cases_append : (xs ys : Row (ACaseItemOf T M)) (ts : Row T) → cases_bodies (cases_of (xs ++ ys)) ts ≡ cases_bodies (cases_of xs) (cases_bodies (cases_of ys) ts)
+  pub cases_append : (xs ys : Row (ACaseItemOf T M)) (ts : Row T) →
+      cases_bodies (cases_of (xs ++ ys)) ts ≡ cases_bodies (cases_of xs) (cases_bodies (cases_of ys) ts)
   unfolding cases_bodies
   cases_append [] ys ts = refl
   cases_append (x ∷ xs) ys ts = rw (cases_append xs ys ts) refl
 
-  pub items_append : (xs ys : Row (AnItemOf T M)) (ts : Row T) → items_bodies (items_of (xs ++ ys)) ts ≡ items_bodies (items_of xs) (items_bodies (items_of ys) ts)
+  pub items_append : (xs ys : Row (AnItemOf T M)) (ts : Row T) →
+      items_bodies (items_of (xs ++ ys)) ts ≡ items_bodies (items_of xs) (items_bodies (items_of ys) ts)
   unfolding items_bodies
   items_append [] ys ts = refl
   items_append (x ∷ xs) ys ts = rw (items_append xs ys ts) refl
 
   -- ---- the bodies of a part stand before what follows
 
-  pub item_content_before : (c : AnItemContentOf T M) (ts us : Row T) → item_content_bodies c (ts ++ us) ≡ item_content_bodies c ts ++ us
+  pub item_content_before : (c : AnItemContentOf T M) (ts us : Row T) →
+      item_content_bodies c (ts ++ us) ≡ item_content_bodies c ts ++ us
   unfolding item_content_bodies
   item_content_before (assign w) ts us = refl
   item_content_before (argument w) ts us = refl
@@ -57,9 +67,11 @@ module _ {T M : Type 0} where
   items_before (more_items i is) ts us = rw (items_before is ts us) (item_before i (items_bodies is ts) us)
 
   mutual
-    unfolding entries_bodies entry_bodies content_bodies and_or_bodies and_or_parts_bodies pipeline_bodies pipes_bodies command_bodies compound_bodies form_bodies branch_bodies branches_bodies else_bodies cases_bodies case_bodies
+    unfolding entries_bodies entry_bodies content_bodies and_or_bodies and_or_parts_bodies pipeline_bodies pipes_bodies
+        command_bodies compound_bodies form_bodies branch_bodies branches_bodies else_bodies cases_bodies case_bodies
 
-    pub entries_before : (es : EntriesOf T M) (ts us : Row T) → entries_bodies es (ts ++ us) ≡ entries_bodies es ts ++ us
+    pub entries_before : (es : EntriesOf T M) (ts us : Row T) →
+        entries_bodies es (ts ++ us) ≡ entries_bodies es ts ++ us
     entries_before no_entry ts us = refl
     entries_before (more_entries e es) ts us = rw (entries_before es ts us) (entry_before e (entries_bodies es ts) us)
 
@@ -71,16 +83,22 @@ module _ {T M : Type 0} where
     content_before (remark c) ts us = refl
 
     pub and_or_before : (a : AnAndOrOf T M) (ts us : Row T) → and_or_bodies a (ts ++ us) ≡ and_or_bodies a ts ++ us
-    and_or_before (and_or first rest) ts us = rw (and_or_parts_before rest ts us) (pipeline_before first (and_or_parts_bodies rest ts) us)
+    and_or_before (and_or first rest) ts us =
+        rw (and_or_parts_before rest ts us) (pipeline_before first (and_or_parts_bodies rest ts) us)
 
-    pub and_or_parts_before : (ps : AndOrPartsOf T M) (ts us : Row T) → and_or_parts_bodies ps (ts ++ us) ≡ and_or_parts_bodies ps ts ++ us
+    pub and_or_parts_before : (ps : AndOrPartsOf T M) (ts us : Row T) →
+        and_or_parts_bodies ps (ts ++ us) ≡ and_or_parts_bodies ps ts ++ us
     and_or_parts_before no_and_or ts us = refl
-    and_or_parts_before (more_and_or operator join p ps) ts us = rw (and_or_parts_before ps ts us) (pipeline_before p (and_or_parts_bodies ps ts) us)
+    and_or_parts_before (more_and_or operator join p ps) ts us =
+        rw (and_or_parts_before ps ts us) (pipeline_before p (and_or_parts_bodies ps ts) us)
 
-    pub pipeline_before : (p : APipelineOf T M) (ts us : Row T) → pipeline_bodies p (ts ++ us) ≡ pipeline_bodies p ts ++ us
-    pipeline_before (pipeline bang first rest) ts us = rw (pipes_before rest ts us) (command_before first (pipes_bodies rest ts) us)
+    pub pipeline_before : (p : APipelineOf T M) (ts us : Row T) →
+        pipeline_bodies p (ts ++ us) ≡ pipeline_bodies p ts ++ us
+    pipeline_before (pipeline bang first rest) ts us =
+        rw (pipes_before rest ts us) (command_before first (pipes_bodies rest ts) us)
 
-    pub pipes_before : (cs : PipelinePartsOf T M) (ts us : Row T) → pipes_bodies cs (ts ++ us) ≡ pipes_bodies cs ts ++ us
+    pub pipes_before : (cs : PipelinePartsOf T M) (ts us : Row T) →
+        pipes_bodies cs (ts ++ us) ≡ pipes_bodies cs ts ++ us
     pipes_before no_pipe ts us = refl
     pipes_before (more_pipes join c cs) ts us = rw (pipes_before cs ts us) (command_before c (pipes_bodies cs ts) us)
 
@@ -89,24 +107,31 @@ module _ {T M : Type 0} where
     command_before (compound c) ts us = compound_before c ts us
     command_before (function name comments body) ts us = compound_before body ts us
 
-    pub compound_before : (c : ACompoundOf T M) (ts us : Row T) → compound_bodies c (ts ++ us) ≡ compound_bodies c ts ++ us
-    compound_before (formed form mark redirects) ts us = rw (items_before redirects ts us) (form_before form (items_bodies redirects ts) us)
+    pub compound_before : (c : ACompoundOf T M) (ts us : Row T) →
+        compound_bodies c (ts ++ us) ≡ compound_bodies c ts ++ us
+    compound_before (formed form mark redirects) ts us =
+        rw (items_before redirects ts us) (form_before form (items_bodies redirects ts) us)
 
     pub form_before : (f : AFormOf T M) (ts us : Row T) → form_bodies f (ts ++ us) ≡ form_bodies f ts ++ us
     form_before (brace es) ts us = entries_before es ts us
     form_before (subshell es) ts us = entries_before es ts us
-    form_before (if_then first rest other) ts us = rw (else_before other ts us, branches_before rest (else_bodies other ts) us) (branch_before first (branches_bodies rest (else_bodies other ts)) us)
+    form_before (if_then first rest other) ts us =
+        rw (else_before other ts us, branches_before rest (else_bodies other ts) us)
+        (branch_before first (branches_bodies rest (else_bodies other ts)) us)
     form_before (while_do b) ts us = branch_before b ts us
     form_before (until_do b) ts us = branch_before b ts us
     form_before (for_in name words body) ts us = entries_before body ts us
     form_before (case_in w cases tail) ts us = cases_before cases ts us
 
     pub branch_before : (b : ABranchOf T M) (ts us : Row T) → branch_bodies b (ts ++ us) ≡ branch_bodies b ts ++ us
-    branch_before (branch condition body) ts us = rw (entries_before body ts us) (entries_before condition (entries_bodies body ts) us)
+    branch_before (branch condition body) ts us =
+        rw (entries_before body ts us) (entries_before condition (entries_bodies body ts) us)
 
-    pub branches_before : (bs : BranchesOf T M) (ts us : Row T) → branches_bodies bs (ts ++ us) ≡ branches_bodies bs ts ++ us
+    pub branches_before : (bs : BranchesOf T M) (ts us : Row T) →
+        branches_bodies bs (ts ++ us) ≡ branches_bodies bs ts ++ us
     branches_before no_branch ts us = refl
-    branches_before (more_branches b bs) ts us = rw (branches_before bs ts us) (branch_before b (branches_bodies bs ts) us)
+    branches_before (more_branches b bs) ts us =
+        rw (branches_before bs ts us) (branch_before b (branches_bodies bs ts) us)
 
     pub else_before : (o : OtherwiseOf T M) (ts us : Row T) → else_bodies o (ts ++ us) ≡ else_bodies o ts ++ us
     else_before no_else ts us = refl
@@ -120,5 +145,6 @@ module _ {T M : Type 0} where
     case_before (case_item comments patterns body mark) ts us = entries_before body ts us
 
   -- the bodies of two rows of entries are those of the one and those of the other
-  pub bodies_append : (xs ys : Row (AnEntryOf T M)) → bodies_of (entries_of (xs ++ ys)) ≡ bodies_of (entries_of xs) ++ bodies_of (entries_of ys)
+  pub bodies_append : (xs ys : Row (AnEntryOf T M)) →
+      bodies_of (entries_of (xs ++ ys)) ≡ bodies_of (entries_of xs) ++ bodies_of (entries_of ys)
   bodies_append xs ys = rw (entries_append xs ys []) (entries_before (entries_of xs) [] (bodies_of (entries_of ys)))

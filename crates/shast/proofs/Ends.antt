@@ -14,17 +14,23 @@ end_up_to before xs i = commands_end before (entries_of (map view_entry (take i 
 abbrev entry_end : ℕ → AnEntry → ℕ
 entry_end before (entry what background blank comment) = command_end before what
 
-entry_first : (before i : ℕ) (x : Entry) (xs : Row Entry) → end_up_to before (x ∷ xs) (suc i) ≡ end_up_to (entry_end before (view_entry x)) xs i
+entry_first : (before i : ℕ) (x : Entry) (xs : Row Entry) →
+    end_up_to before (x ∷ xs) (suc i) ≡ end_up_to (entry_end before (view_entry x)) xs i
 entry_first before i x xs = rw (entry_seen x) refl
 
-entry_is : (before : ℕ) (x : Entry) → entry_end before (view_entry x) ≡ command_end before (view_content (out-Entry x).what)
+entry_is : (before : ℕ) (x : Entry) →
+    entry_end before (view_entry x) ≡ command_end before (view_content (out-Entry x).what)
 entry_is before x = rw (entry_seen x) refl
 
-end_suc : (before : ℕ) (xs : Row Entry) (i : ℕ) (d : Entry) → i < length xs → end_up_to before xs (suc i) ≡ command_end (end_up_to before xs i) (view_content (out-Entry (get_or xs i d)).what)
+end_suc : (before : ℕ) (xs : Row Entry) (i : ℕ) (d : Entry) → i < length xs →
+    end_up_to before xs (suc i) ≡ command_end (end_up_to before xs i) (view_content (out-Entry (get_or xs i d)).what)
 end_suc before [] i d h = absurd (omega arith)
 end_suc before (x ∷ xs) zero d h = rw (entry_first before zero x xs) (entry_is before x)
-end_suc before (x ∷ xs) (suc i) d h = rw (entry_first before (suc i) x xs, entry_first before i x xs) (end_suc (entry_end before (view_entry x)) xs i d (omega arith))
+end_suc before (x ∷ xs) (suc i) d h =
+    rw (entry_first before (suc i) x xs, entry_first before i x xs)
+    (end_suc (entry_end before (view_entry x)) xs i d (omega arith))
 
 -- one entry more
-pub end_more : (before : ℕ) (xs : Row Entry) (i : ℕ) (d : Entry) → i < length xs → end_up_to before xs (i + 1) ≡ command_end (end_up_to before xs i) (view_content (out-Entry (get_or xs i d)).what)
+pub end_more : (before : ℕ) (xs : Row Entry) (i : ℕ) (d : Entry) → i < length xs →
+    end_up_to before xs (i + 1) ≡ command_end (end_up_to before xs i) (view_content (out-Entry (get_or xs i d)).what)
 end_more before xs i d h = rw add-one (end_suc before xs i d h)

@@ -6,7 +6,8 @@ use Rattle.shast.specs.Bodies.{fill_item_content, fill_item, fill_items, fill_en
 use Rattle.shast.specs.Opened.{open_item_content, open_item, open_items, opened, open_entry, open_content, open_and_or, open_and_or_parts, open_pipeline, open_pipes, open_command, open_compound, open_form, open_branch, open_branches, open_else, open_cases, open_case, item_content_bodies, item_bodies, items_bodies, entries_bodies, entry_bodies, content_bodies, and_or_bodies, and_or_parts_bodies, pipeline_bodies, pipes_bodies, command_bodies, compound_bodies, form_bodies, branch_bodies, branches_bodies, else_bodies, cases_bodies, case_bodies, bodies_of}
 
 module _ {T M : Type 0} (nothing : T) where
-  item_content_back : (c : AnItemContentOf T M) (ts : Row T) → fill_item_content (open_item_content nothing c) (item_content_bodies c ts) ≡ (c, ts)
+  item_content_back : (c : AnItemContentOf T M) (ts : Row T) →
+      fill_item_content (open_item_content nothing c) (item_content_bodies c ts) ≡ (c, ts)
   unfolding fill_item_content open_item_content item_content_bodies
   item_content_back (assign w) ts = refl
   item_content_back (argument w) ts = refl
@@ -23,54 +24,77 @@ module _ {T M : Type 0} (nothing : T) where
   items_back (more_items i is) ts = rw (item_back i (items_bodies is ts), items_back is ts) refl
 
   mutual
-    unfolding fill_entries fill_entry fill_content fill_and_or fill_and_or_parts fill_pipeline fill_pipes fill_command fill_compound fill_form fill_branch fill_branches fill_else fill_cases fill_case opened open_entry open_content open_and_or open_and_or_parts open_pipeline open_pipes open_command open_compound open_form open_branch open_branches open_else open_cases open_case entries_bodies entry_bodies content_bodies and_or_bodies and_or_parts_bodies pipeline_bodies pipes_bodies command_bodies compound_bodies form_bodies branch_bodies branches_bodies else_bodies cases_bodies case_bodies
+    unfolding fill_entries fill_entry fill_content fill_and_or fill_and_or_parts fill_pipeline fill_pipes fill_command
+        fill_compound fill_form fill_branch fill_branches fill_else fill_cases fill_case opened open_entry open_content
+        open_and_or open_and_or_parts open_pipeline open_pipes open_command open_compound open_form open_branch
+        open_branches open_else open_cases open_case entries_bodies entry_bodies content_bodies and_or_bodies
+        and_or_parts_bodies pipeline_bodies pipes_bodies command_bodies compound_bodies form_bodies branch_bodies
+        branches_bodies else_bodies cases_bodies case_bodies
 
-    entries_back : (es : EntriesOf T M) (ts : Row T) → fill_entries (opened nothing es) (entries_bodies es ts) ≡ (es, ts)
+    entries_back : (es : EntriesOf T M) (ts : Row T) →
+        fill_entries (opened nothing es) (entries_bodies es ts) ≡ (es, ts)
     entries_back no_entry ts = refl
     entries_back (more_entries e es) ts = rw (entry_back e (entries_bodies es ts), entries_back es ts) refl
 
     entry_back : (e : AnEntryOf T M) (ts : Row T) → fill_entry (open_entry nothing e) (entry_bodies e ts) ≡ (e, ts)
     entry_back (entry what background blank comment) ts = rw (content_back what ts) refl
 
-    content_back : (c : AContentOf T M) (ts : Row T) → fill_content (open_content nothing c) (content_bodies c ts) ≡ (c, ts)
+    content_back : (c : AContentOf T M) (ts : Row T) →
+        fill_content (open_content nothing c) (content_bodies c ts) ≡ (c, ts)
     content_back (command a) ts = rw (and_or_back a ts) refl
     content_back (remark c) ts = refl
 
     and_or_back : (a : AnAndOrOf T M) (ts : Row T) → fill_and_or (open_and_or nothing a) (and_or_bodies a ts) ≡ (a, ts)
-    and_or_back (and_or first rest) ts = rw (pipeline_back first (and_or_parts_bodies rest ts), and_or_parts_back rest ts) refl
+    and_or_back (and_or first rest) ts =
+        rw (pipeline_back first (and_or_parts_bodies rest ts), and_or_parts_back rest ts) refl
 
-    and_or_parts_back : (ps : AndOrPartsOf T M) (ts : Row T) → fill_and_or_parts (open_and_or_parts nothing ps) (and_or_parts_bodies ps ts) ≡ (ps, ts)
+    and_or_parts_back : (ps : AndOrPartsOf T M) (ts : Row T) →
+        fill_and_or_parts (open_and_or_parts nothing ps) (and_or_parts_bodies ps ts) ≡ (ps, ts)
     and_or_parts_back no_and_or ts = refl
-    and_or_parts_back (more_and_or operator join p ps) ts = rw (pipeline_back p (and_or_parts_bodies ps ts), and_or_parts_back ps ts) refl
+    and_or_parts_back (more_and_or operator join p ps) ts =
+        rw (pipeline_back p (and_or_parts_bodies ps ts), and_or_parts_back ps ts) refl
 
-    pipeline_back : (p : APipelineOf T M) (ts : Row T) → fill_pipeline (open_pipeline nothing p) (pipeline_bodies p ts) ≡ (p, ts)
-    pipeline_back (pipeline bang first rest) ts = rw (command_back first (pipes_bodies rest ts), pipes_back rest ts) refl
+    pipeline_back : (p : APipelineOf T M) (ts : Row T) →
+        fill_pipeline (open_pipeline nothing p) (pipeline_bodies p ts) ≡ (p, ts)
+    pipeline_back (pipeline bang first rest) ts =
+        rw (command_back first (pipes_bodies rest ts), pipes_back rest ts) refl
 
-    pipes_back : (cs : PipelinePartsOf T M) (ts : Row T) → fill_pipes (open_pipes nothing cs) (pipes_bodies cs ts) ≡ (cs, ts)
+    pipes_back : (cs : PipelinePartsOf T M) (ts : Row T) →
+        fill_pipes (open_pipes nothing cs) (pipes_bodies cs ts) ≡ (cs, ts)
     pipes_back no_pipe ts = refl
     pipes_back (more_pipes join c cs) ts = rw (command_back c (pipes_bodies cs ts), pipes_back cs ts) refl
 
-    command_back : (c : ACommandOf T M) (ts : Row T) → fill_command (open_command nothing c) (command_bodies c ts) ≡ (c, ts)
+    command_back : (c : ACommandOf T M) (ts : Row T) →
+        fill_command (open_command nothing c) (command_bodies c ts) ≡ (c, ts)
     command_back (simple items) ts = rw (items_back items ts) refl
     command_back (compound c) ts = rw (compound_back c ts) refl
     command_back (function name comments body) ts = rw (compound_back body ts) refl
 
-    compound_back : (c : ACompoundOf T M) (ts : Row T) → fill_compound (open_compound nothing c) (compound_bodies c ts) ≡ (c, ts)
-    compound_back (formed form mark redirects) ts = rw (form_back form (items_bodies redirects ts), items_back redirects ts) refl
+    compound_back : (c : ACompoundOf T M) (ts : Row T) →
+        fill_compound (open_compound nothing c) (compound_bodies c ts) ≡ (c, ts)
+    compound_back (formed form mark redirects) ts =
+        rw (form_back form (items_bodies redirects ts), items_back redirects ts) refl
 
     form_back : (f : AFormOf T M) (ts : Row T) → fill_form (open_form nothing f) (form_bodies f ts) ≡ (f, ts)
     form_back (brace es) ts = rw (entries_back es ts) refl
     form_back (subshell es) ts = rw (entries_back es ts) refl
-    form_back (if_then first rest other) ts = rw (branch_back first (branches_bodies rest (else_bodies other ts)), branches_back rest (else_bodies other ts), else_back other ts) refl
+    form_back (if_then first rest other) ts =
+        rw (
+          branch_back first (branches_bodies rest (else_bodies other ts)),
+          branches_back rest (else_bodies other ts),
+          else_back other ts,
+        ) refl
     form_back (while_do b) ts = rw (branch_back b ts) refl
     form_back (until_do b) ts = rw (branch_back b ts) refl
     form_back (for_in name words body) ts = rw (entries_back body ts) refl
     form_back (case_in w cases tail) ts = rw (cases_back cases ts) refl
 
     branch_back : (b : ABranchOf T M) (ts : Row T) → fill_branch (open_branch nothing b) (branch_bodies b ts) ≡ (b, ts)
-    branch_back (branch condition body) ts = rw (entries_back condition (entries_bodies body ts), entries_back body ts) refl
+    branch_back (branch condition body) ts =
+        rw (entries_back condition (entries_bodies body ts), entries_back body ts) refl
 
-    branches_back : (bs : BranchesOf T M) (ts : Row T) → fill_branches (open_branches nothing bs) (branches_bodies bs ts) ≡ (bs, ts)
+    branches_back : (bs : BranchesOf T M) (ts : Row T) →
+        fill_branches (open_branches nothing bs) (branches_bodies bs ts) ≡ (bs, ts)
     branches_back no_branch ts = refl
     branches_back (more_branches b bs) ts = rw (branch_back b (branches_bodies bs ts), branches_back bs ts) refl
 
@@ -78,7 +102,8 @@ module _ {T M : Type 0} (nothing : T) where
     else_back no_else ts = refl
     else_back (otherwise es) ts = rw (entries_back es ts) refl
 
-    cases_back : (cs : CaseItemsOf T M) (ts : Row T) → fill_cases (open_cases nothing cs) (cases_bodies cs ts) ≡ (cs, ts)
+    cases_back : (cs : CaseItemsOf T M) (ts : Row T) →
+        fill_cases (open_cases nothing cs) (cases_bodies cs ts) ≡ (cs, ts)
     cases_back no_case ts = refl
     cases_back (more_cases c cs) ts = rw (case_back c (cases_bodies cs ts), cases_back cs ts) refl
 
@@ -107,7 +132,8 @@ module _ {T M : Type 0} where
   items_none (more_items i is) = rw (item_none i, items_none is) refl
 
   mutual
-    unfolding fill_entries fill_entry fill_content fill_and_or fill_and_or_parts fill_pipeline fill_pipes fill_command fill_compound fill_form fill_branch fill_branches fill_else fill_cases fill_case
+    unfolding fill_entries fill_entry fill_content fill_and_or fill_and_or_parts fill_pipeline fill_pipes fill_command
+        fill_compound fill_form fill_branch fill_branches fill_else fill_cases fill_case
 
     entries_none : (es : EntriesOf T M) → fill_entries es [] ≡ (es, [])
     entries_none no_entry = refl

@@ -6,7 +6,8 @@ use Rattle.shast.specs.Bodies.{fill_item_content, fill_item, fill_items, fill_en
 use Rattle.shast.specs.Opened.{open_item_content, open_item, open_items, opened, open_entry, open_content, open_and_or, open_and_or_parts, open_pipeline, open_pipes, open_command, open_compound, open_form, open_branch, open_branches, open_else, open_cases, open_case}
 
 module _ {T M : Type 0} (nothing : T) where
-  item_content_blind : (c : AnItemContentOf T M) (ts : Row T) → open_item_content nothing (fill_item_content c ts).0 ≡ open_item_content nothing c
+  item_content_blind : (c : AnItemContentOf T M) (ts : Row T) →
+      open_item_content nothing (fill_item_content c ts).0 ≡ open_item_content nothing c
   unfolding fill_item_content open_item_content
   item_content_blind (assign w) ts = refl
   item_content_blind (argument w) ts = refl
@@ -24,7 +25,10 @@ module _ {T M : Type 0} (nothing : T) where
   items_blind (more_items i is) ts = rw (item_blind i ts, items_blind is (fill_item i ts).1) refl
 
   mutual
-    unfolding fill_entries fill_entry fill_content fill_and_or fill_and_or_parts fill_pipeline fill_pipes fill_command fill_compound fill_form fill_branch fill_branches fill_else fill_cases fill_case opened open_entry open_content open_and_or open_and_or_parts open_pipeline open_pipes open_command open_compound open_form open_branch open_branches open_else open_cases open_case
+    unfolding fill_entries fill_entry fill_content fill_and_or fill_and_or_parts fill_pipeline fill_pipes fill_command
+        fill_compound fill_form fill_branch fill_branches fill_else fill_cases fill_case opened open_entry open_content
+        open_and_or open_and_or_parts open_pipeline open_pipes open_command open_compound open_form open_branch
+        open_branches open_else open_cases open_case
 
     entries_blind : (es : EntriesOf T M) (ts : Row T) → opened nothing (fill_entries es ts).0 ≡ opened nothing es
     entries_blind no_entry ts = refl
@@ -33,31 +37,41 @@ module _ {T M : Type 0} (nothing : T) where
     entry_blind : (e : AnEntryOf T M) (ts : Row T) → open_entry nothing (fill_entry e ts).0 ≡ open_entry nothing e
     entry_blind (entry what background blank comment) ts = rw (content_blind what ts) refl
 
-    content_blind : (c : AContentOf T M) (ts : Row T) → open_content nothing (fill_content c ts).0 ≡ open_content nothing c
+    content_blind : (c : AContentOf T M) (ts : Row T) →
+        open_content nothing (fill_content c ts).0 ≡ open_content nothing c
     content_blind (command a) ts = rw (and_or_blind a ts) refl
     content_blind (remark c) ts = refl
 
     and_or_blind : (a : AnAndOrOf T M) (ts : Row T) → open_and_or nothing (fill_and_or a ts).0 ≡ open_and_or nothing a
-    and_or_blind (and_or first rest) ts = rw (pipeline_blind first ts, and_or_parts_blind rest (fill_pipeline first ts).1) refl
+    and_or_blind (and_or first rest) ts =
+        rw (pipeline_blind first ts, and_or_parts_blind rest (fill_pipeline first ts).1) refl
 
-    and_or_parts_blind : (ps : AndOrPartsOf T M) (ts : Row T) → open_and_or_parts nothing (fill_and_or_parts ps ts).0 ≡ open_and_or_parts nothing ps
+    and_or_parts_blind : (ps : AndOrPartsOf T M) (ts : Row T) →
+        open_and_or_parts nothing (fill_and_or_parts ps ts).0 ≡ open_and_or_parts nothing ps
     and_or_parts_blind no_and_or ts = refl
-    and_or_parts_blind (more_and_or operator join p ps) ts = rw (pipeline_blind p ts, and_or_parts_blind ps (fill_pipeline p ts).1) refl
+    and_or_parts_blind (more_and_or operator join p ps) ts =
+        rw (pipeline_blind p ts, and_or_parts_blind ps (fill_pipeline p ts).1) refl
 
-    pipeline_blind : (p : APipelineOf T M) (ts : Row T) → open_pipeline nothing (fill_pipeline p ts).0 ≡ open_pipeline nothing p
-    pipeline_blind (pipeline bang first rest) ts = rw (command_blind first ts, pipes_blind rest (fill_command first ts).1) refl
+    pipeline_blind : (p : APipelineOf T M) (ts : Row T) →
+        open_pipeline nothing (fill_pipeline p ts).0 ≡ open_pipeline nothing p
+    pipeline_blind (pipeline bang first rest) ts =
+        rw (command_blind first ts, pipes_blind rest (fill_command first ts).1) refl
 
-    pipes_blind : (cs : PipelinePartsOf T M) (ts : Row T) → open_pipes nothing (fill_pipes cs ts).0 ≡ open_pipes nothing cs
+    pipes_blind : (cs : PipelinePartsOf T M) (ts : Row T) →
+        open_pipes nothing (fill_pipes cs ts).0 ≡ open_pipes nothing cs
     pipes_blind no_pipe ts = refl
     pipes_blind (more_pipes join c cs) ts = rw (command_blind c ts, pipes_blind cs (fill_command c ts).1) refl
 
-    command_blind : (c : ACommandOf T M) (ts : Row T) → open_command nothing (fill_command c ts).0 ≡ open_command nothing c
+    command_blind : (c : ACommandOf T M) (ts : Row T) →
+        open_command nothing (fill_command c ts).0 ≡ open_command nothing c
     command_blind (simple items) ts = rw (items_blind items ts) refl
     command_blind (compound c) ts = rw (compound_blind c ts) refl
     command_blind (function name comments body) ts = rw (compound_blind body ts) refl
 
-    compound_blind : (c : ACompoundOf T M) (ts : Row T) → open_compound nothing (fill_compound c ts).0 ≡ open_compound nothing c
-    compound_blind (formed form mark redirects) ts = rw (form_blind form ts, items_blind redirects (fill_form form ts).1) refl
+    compound_blind : (c : ACompoundOf T M) (ts : Row T) →
+        open_compound nothing (fill_compound c ts).0 ≡ open_compound nothing c
+    compound_blind (formed form mark redirects) ts =
+        rw (form_blind form ts, items_blind redirects (fill_form form ts).1) refl
 
     form_blind : (f : AFormOf T M) (ts : Row T) → open_form nothing (fill_form f ts).0 ≡ open_form nothing f
     form_blind (brace es) ts = rw (entries_blind es ts) refl
@@ -72,9 +86,11 @@ module _ {T M : Type 0} (nothing : T) where
     form_blind (case_in w cases tail) ts = rw (cases_blind cases ts) refl
 
     branch_blind : (b : ABranchOf T M) (ts : Row T) → open_branch nothing (fill_branch b ts).0 ≡ open_branch nothing b
-    branch_blind (branch condition body) ts = rw (entries_blind condition ts, entries_blind body (fill_entries condition ts).1) refl
+    branch_blind (branch condition body) ts =
+        rw (entries_blind condition ts, entries_blind body (fill_entries condition ts).1) refl
 
-    branches_blind : (bs : BranchesOf T M) (ts : Row T) → open_branches nothing (fill_branches bs ts).0 ≡ open_branches nothing bs
+    branches_blind : (bs : BranchesOf T M) (ts : Row T) →
+        open_branches nothing (fill_branches bs ts).0 ≡ open_branches nothing bs
     branches_blind no_branch ts = refl
     branches_blind (more_branches b bs) ts = rw (branch_blind b ts, branches_blind bs (fill_branch b ts).1) refl
 

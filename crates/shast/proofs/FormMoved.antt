@@ -79,7 +79,8 @@ module _ (f h : Span → Span) where
     same_of_form (case_in w items tail) = rw (same_word w, same_cases items) refl
 
     same_branch : (b : ABranch) → is_normal_branch (carried_branch f h true b) ≡ is_normal_branch b
-    same_branch (branch condition body) = rw (same_whole condition, same_all condition, same_whole body, same_all body) refl
+    same_branch (branch condition body) =
+        rw (same_whole condition, same_all condition, same_whole body, same_all body) refl
 
     same_branches : (bs : Branches) → are_normal_branches (carried_branches f h true bs) ≡ are_normal_branches bs
     same_branches no_branch = refl
@@ -128,4 +129,7 @@ module _ (f h : Span → Span) where
 
 -- at another base
 pub form_moved : (base : ℕ) (es : Entries) → is_normal (moved base es) ≡ is_normal es
-form_moved base es = rw (same_first (placed_span base) (placed_body base) es, same_all (placed_span base) (placed_body base) es) refl
+form_moved base es = rw (
+  same_first (placed_span base) (placed_body base) es,
+  same_all (placed_span base) (placed_body base) es,
+) refl

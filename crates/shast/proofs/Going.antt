@@ -31,22 +31,26 @@ module _ {A : Type 0} (f : A → Row Span → A × Row Span) where
     unfolding going
     going_suc [] i x y bs cs h e = absurd (omega arith)
     going_suc (w ∷ xs) zero x y bs cs h e = rw (← e) refl
-    going_suc (w ∷ xs) (suc i) x y bs cs h e = ap (λ (r : Row A × Row Span). (v w ∷ r.0, r.1)) (going_suc xs i x y bs cs (omega arith) e)
+    going_suc (w ∷ xs) (suc i) x y bs cs h e =
+        ap (λ (r : Row A × Row Span). (v w ∷ r.0, r.1)) (going_suc xs i x y bs cs (omega arith) e)
 
     -- one node more
-    pub going_more : (xs : Row X) (i : ℕ) (x y : X) (bs cs : Row Span) → i < length xs → (v y, cs) ≡ f (v (get_or xs i x)) bs
+    pub going_more : (xs : Row X) (i : ℕ) (x y : X) (bs cs : Row Span) → i < length xs →
+        (v y, cs) ≡ f (v (get_or xs i x)) bs
         → going (map v (set xs i y)) (i + 1) cs ≡ going (map v xs) i bs
     going_more xs i x y bs cs h e = rw add-one (going_suc xs i x y bs cs h e)
 
 -- the same, for a row of parts of the code
-pub going_over : {A X : Type 0} (f : A → Row Span → A × Row Span) (v : X → A) (xs : Row X) (i : ℕ) (bs : Row Span) → length xs ≤ i → going f (map v xs) i bs ≡ (map v xs, bs)
+pub going_over : {A X : Type 0} (f : A → Row Span → A × Row Span) (v : X → A) (xs : Row X) (i : ℕ) (bs : Row Span) →
+    length xs ≤ i → going f (map v xs) i bs ≡ (map v xs, bs)
 going_over f v xs i bs h =
     let k : length (map v xs) ≤ i = omega (arith, length-map xs v) in
     going_end f (map v xs) i bs k
 
 -- ---- the walks of the definitions, as rows
 
-pub items_going : (is : Row AnItem) (bs : Row Span) → let r = going fill_item is 0 bs in fill_items (items_of is) bs ≡ (items_of r.0, r.1)
+pub items_going : (is : Row AnItem) (bs : Row Span) → let r = going fill_item is 0 bs in
+    fill_items (items_of is) bs ≡ (items_of r.0, r.1)
 unfolding going fill_items
 items_going [] bs = refl
 items_going (i ∷ is) bs = rw (items_going is (fill_item i bs).1) refl
@@ -56,27 +60,32 @@ unfolding going fill_row
 row_going [] bs = refl
 row_going (e ∷ es) bs = rw (row_going es (fill_entry e bs).1) refl
 
-pub entries_going : (es : Row AnEntry) (bs : Row Span) → let r = going fill_entry es 0 bs in fill_entries (entries_of es) bs ≡ (entries_of r.0, r.1)
+pub entries_going : (es : Row AnEntry) (bs : Row Span) → let r = going fill_entry es 0 bs in
+    fill_entries (entries_of es) bs ≡ (entries_of r.0, r.1)
 unfolding going fill_entries
 entries_going [] bs = refl
 entries_going (e ∷ es) bs = rw (entries_going es (fill_entry e bs).1) refl
 
-pub and_or_parts_going : (ps : Row AnAndOrPart) (bs : Row Span) → let r = going fill_and_or_part ps 0 bs in fill_and_or_parts (and_or_parts_of ps) bs ≡ (and_or_parts_of r.0, r.1)
+pub and_or_parts_going : (ps : Row AnAndOrPart) (bs : Row Span) → let r = going fill_and_or_part ps 0 bs in
+    fill_and_or_parts (and_or_parts_of ps) bs ≡ (and_or_parts_of r.0, r.1)
 unfolding going fill_and_or_parts
 and_or_parts_going [] bs = refl
 and_or_parts_going (p ∷ ps) bs = rw (and_or_parts_going ps (fill_pipeline p.pipeline bs).1) refl
 
-pub pipes_going : (ps : Row APipelinePart) (bs : Row Span) → let r = going fill_pipe ps 0 bs in fill_pipes (pipeline_parts_of ps) bs ≡ (pipeline_parts_of r.0, r.1)
+pub pipes_going : (ps : Row APipelinePart) (bs : Row Span) → let r = going fill_pipe ps 0 bs in
+    fill_pipes (pipeline_parts_of ps) bs ≡ (pipeline_parts_of r.0, r.1)
 unfolding going fill_pipes
 pipes_going [] bs = refl
 pipes_going (p ∷ ps) bs = rw (pipes_going ps (fill_command p.command bs).1) refl
 
-pub branches_going : (ps : Row ABranch) (bs : Row Span) → let r = going fill_branch ps 0 bs in fill_branches (branches_of ps) bs ≡ (branches_of r.0, r.1)
+pub branches_going : (ps : Row ABranch) (bs : Row Span) → let r = going fill_branch ps 0 bs in
+    fill_branches (branches_of ps) bs ≡ (branches_of r.0, r.1)
 unfolding going fill_branches
 branches_going [] bs = refl
 branches_going (p ∷ ps) bs = rw (branches_going ps (fill_branch p bs).1) refl
 
-pub cases_going : (cs : Row ACaseItem) (bs : Row Span) → let r = going fill_case cs 0 bs in fill_cases (cases_of cs) bs ≡ (cases_of r.0, r.1)
+pub cases_going : (cs : Row ACaseItem) (bs : Row Span) → let r = going fill_case cs 0 bs in
+    fill_cases (cases_of cs) bs ≡ (cases_of r.0, r.1)
 unfolding going fill_cases
 cases_going [] bs = refl
 cases_going (c ∷ cs) bs = rw (cases_going cs (fill_case c bs).1) refl
@@ -93,7 +102,8 @@ unfolding filled_row
 row_some [] es some = absurd (omega arith)
 row_some (b ∷ bs) es some = refl
 
-list_by_row : (es : Row AnEntry) (bs : Row Span) → fill_entries (entries_of es) bs ≡ (entries_of (fill_row es bs).0, (fill_row es bs).1)
+list_by_row : (es : Row AnEntry) (bs : Row Span) →
+    fill_entries (entries_of es) bs ≡ (entries_of (fill_row es bs).0, (fill_row es bs).1)
 unfolding fill_entries fill_row
 list_by_row [] bs = refl
 list_by_row (e ∷ es) bs = rw (list_by_row es (fill_entry e bs).1) refl

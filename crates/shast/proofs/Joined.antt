@@ -13,7 +13,8 @@ use Rattle.shast.specs.Nodes.{and_or_node, and_or_span, node, pipeline_node, pip
 use Rattle.shast.specs.View.{view_and_or, view_and_or_part, view_command, view_pipeline, view_pipeline_part}
 use Rattle.shast.proofs.Seen.{and_or_seen, pipeline_seen}
 
-one_pipeline : (p : APipeline) (xs : Row AndOrPart) → length xs ≡ 0 → and_or_node (and_or p (and_or_parts_of (map view_and_or_part xs))) ≡ []
+one_pipeline : (p : APipeline) (xs : Row AndOrPart) → length xs ≡ 0 →
+    and_or_node (and_or p (and_or_parts_of (map view_and_or_part xs))) ≡ []
 one_pipeline p [] h = refl
 one_pipeline p (x ∷ xs) h = absurd (omega arith)
 
@@ -21,11 +22,13 @@ pub and_or_alone : (a : AndOr) → length (out-AndOr a).rest.items ≡ 0 → and
 and_or_alone a h = rw (and_or_seen a) (one_pipeline (view_pipeline (out-AndOr a).first) (out-AndOr a).rest.items h)
 
 pipelines : (p : APipeline) (xs : Row AndOrPart) → 0 < length xs
-    → let a = and_or p (and_or_parts_of (map view_and_or_part xs)) in and_or_node a ≡ node NodeKind.AndOr (and_or_span a) ∷ []
+    → let a = and_or p (and_or_parts_of (map view_and_or_part xs)) in
+    and_or_node a ≡ node NodeKind.AndOr (and_or_span a) ∷ []
 pipelines p [] h = absurd (omega arith)
 pipelines p (x ∷ xs) h = refl
 
-pub and_or_joined : (a : AndOr) → 0 < length (out-AndOr a).rest.items → and_or_node (view_and_or a) ≡ node NodeKind.AndOr (and_or_span (view_and_or a)) ∷ []
+pub and_or_joined : (a : AndOr) → 0 < length (out-AndOr a).rest.items →
+    and_or_node (view_and_or a) ≡ node NodeKind.AndOr (and_or_span (view_and_or a)) ∷ []
 and_or_joined a h = rw (and_or_seen a) (pipelines (view_pipeline (out-AndOr a).first) (out-AndOr a).rest.items h)
 
 one_command : (bang : Option Span) (c : ACommand) (xs : Row PipelinePart) → bang ≡ None → length xs ≡ 0
@@ -34,11 +37,14 @@ one_command None c [] none h = refl
 one_command (Some s) c [] none h = absurd (cc)
 one_command bang c (x ∷ xs) none h = absurd (omega arith)
 
-pub pipeline_alone : (p : Pipeline) → (out-Pipeline p).bang ≡ None → length (out-Pipeline p).rest.items ≡ 0 → pipeline_node (view_pipeline p) ≡ []
-pipeline_alone p none h = rw (pipeline_seen p) (one_command (out-Pipeline p).bang (view_command (out-Pipeline p).first) (out-Pipeline p).rest.items none h)
+pub pipeline_alone : (p : Pipeline) → (out-Pipeline p).bang ≡ None → length (out-Pipeline p).rest.items ≡ 0 →
+    pipeline_node (view_pipeline p) ≡ []
+pipeline_alone p none h = rw (pipeline_seen p)
+    (one_command (out-Pipeline p).bang (view_command (out-Pipeline p).first) (out-Pipeline p).rest.items none h)
 
 commands : (bang : Option Span) (c : ACommand) (xs : Row PipelinePart) → (is_some bang ≡ true) ⊎ (0 < length xs)
-    → let p = pipeline bang c (pipeline_parts_of (map view_pipeline_part xs)) in pipeline_node p ≡ node NodeKind.Pipeline (pipeline_span p) ∷ []
+    → let p = pipeline bang c (pipeline_parts_of (map view_pipeline_part xs)) in
+    pipeline_node p ≡ node NodeKind.Pipeline (pipeline_span p) ∷ []
 commands (Some s) c [] h = refl
 commands (Some s) c (x ∷ xs) h = refl
 commands None c [] (inl h) = absurd (cc)
@@ -47,4 +53,5 @@ commands None c (x ∷ xs) h = refl
 
 pub pipeline_joined : (p : Pipeline) → (is_some (out-Pipeline p).bang ≡ true) ⊎ (0 < length (out-Pipeline p).rest.items)
     → pipeline_node (view_pipeline p) ≡ node NodeKind.Pipeline (pipeline_span (view_pipeline p)) ∷ []
-pipeline_joined p h = rw (pipeline_seen p) (commands (out-Pipeline p).bang (view_command (out-Pipeline p).first) (out-Pipeline p).rest.items h)
+pipeline_joined p h = rw (pipeline_seen p)
+    (commands (out-Pipeline p).bang (view_command (out-Pipeline p).first) (out-Pipeline p).rest.items h)

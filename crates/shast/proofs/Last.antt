@@ -16,7 +16,8 @@ module _ {A X : Type 0} (f : A → Span) (v : X → A) where
   last_span before [] = before
   last_span before (x ∷ xs) = last_span (f (v x)) xs
 
-  at_last : (before : Span) (xs : Row X) (k : ℕ) (x : X) → suc k ≡ length xs → Some x ≡ slice_get xs k → last_span before xs ≡ f (v x)
+  at_last : (before : Span) (xs : Row X) (k : ℕ) (x : X) → suc k ≡ length xs → Some x ≡ slice_get xs k →
+      last_span before xs ≡ f (v x)
   unfolding last_span
   at_last before [] k x h e = absurd (omega arith)
   at_last before (y ∷ []) zero x h e = let k : x ≡ y = cc in rw k refl
@@ -28,32 +29,39 @@ module _ {A X : Type 0} (f : A → Span) (v : X → A) where
   last_is before [] x e = absurd (cc)
   last_is before (y ∷ ys) x e = at_last before (y ∷ ys) (length (y ∷ ys) - 1) x (omega arith) e
 
-items_last : (before : Span) (xs : Row Item) → last_item before (items_of (map view_item xs)) ≡ last_span item_span view_item before xs
+items_last : (before : Span) (xs : Row Item) →
+    last_item before (items_of (map view_item xs)) ≡ last_span item_span view_item before xs
 unfolding last_span
 items_last before [] = refl
 items_last before (x ∷ xs) = items_last (item_span (view_item x)) xs
 
-pub last_item_is : (before : Span) (xs : Row Item) (x : Item) → Some x ≡ slice_get xs (length xs - 1) → last_item before (items_of (map view_item xs)) ≡ item_span (view_item x)
+pub last_item_is : (before : Span) (xs : Row Item) (x : Item) → Some x ≡ slice_get xs (length xs - 1) →
+    last_item before (items_of (map view_item xs)) ≡ item_span (view_item x)
 last_item_is before xs x e = rw (items_last before xs) (last_is item_span view_item before xs x e)
 
 abbrev part_span : AnAndOrPart → Span
 part_span p = pipeline_span p.pipeline
 
-parts_last : (before : Span) (xs : Row AndOrPart) → last_pipeline before (and_or_parts_of (map view_and_or_part xs)) ≡ last_span part_span view_and_or_part before xs
+parts_last : (before : Span) (xs : Row AndOrPart) →
+    last_pipeline before (and_or_parts_of (map view_and_or_part xs)) ≡ last_span part_span view_and_or_part before xs
 unfolding last_span
 parts_last before [] = refl
 parts_last before (x ∷ xs) = parts_last (part_span (view_and_or_part x)) xs
 
-pub last_pipeline_is : (before : Span) (xs : Row AndOrPart) (x : AndOrPart) → Some x ≡ slice_get xs (length xs - 1) → last_pipeline before (and_or_parts_of (map view_and_or_part xs)) ≡ pipeline_span (view_and_or_part x).pipeline
+pub last_pipeline_is : (before : Span) (xs : Row AndOrPart) (x : AndOrPart) → Some x ≡ slice_get xs (length xs - 1) →
+    last_pipeline before (and_or_parts_of (map view_and_or_part xs)) ≡ pipeline_span (view_and_or_part x).pipeline
 last_pipeline_is before xs x e = rw (parts_last before xs) (last_is part_span view_and_or_part before xs x e)
 
 abbrev pipe_span : APipelinePart → Span
 pipe_span p = command_span p.command
 
-pipes_last : (before : Span) (xs : Row PipelinePart) → last_command before (pipeline_parts_of (map view_pipeline_part xs)) ≡ last_span pipe_span view_pipeline_part before xs
+pipes_last : (before : Span) (xs : Row PipelinePart) →
+    last_command before (pipeline_parts_of (map view_pipeline_part xs))
+    ≡ last_span pipe_span view_pipeline_part before xs
 unfolding last_span
 pipes_last before [] = refl
 pipes_last before (x ∷ xs) = pipes_last (pipe_span (view_pipeline_part x)) xs
 
-pub last_command_is : (before : Span) (xs : Row PipelinePart) (x : PipelinePart) → Some x ≡ slice_get xs (length xs - 1) → last_command before (pipeline_parts_of (map view_pipeline_part xs)) ≡ command_span (view_pipeline_part x).command
+pub last_command_is : (before : Span) (xs : Row PipelinePart) (x : PipelinePart) → Some x ≡ slice_get xs (length xs - 1)
+    → last_command before (pipeline_parts_of (map view_pipeline_part xs)) ≡ command_span (view_pipeline_part x).command
 last_command_is before xs x e = rw (pipes_last before xs) (last_is pipe_span view_pipeline_part before xs x e)

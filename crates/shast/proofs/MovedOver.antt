@@ -10,9 +10,11 @@ use Rattle.shast.specs.Moved.{carried, carried_and_or, carried_and_or_parts, car
 use Rattle.shast.specs.Everywhere.{AllWithin, OfSome, OfEach, OfHere, Throughout, InEntry, InContent, InAndOr, InAndOrParts, InPipeline, InPipes, InCommand, InCompound, InForm, InBranch, InBranches, InElse, InForWords, InCases, InCase, InPatterns, InItems, InItem, InItemContent, InWord, InSubsts, InSubst}
 use Rattle.shast.specs.Capped.{capped, capped_body, capped_by}
 
--- ---- what f makes of what h makes of a span, where g makes it of each span of which P holds; and fb, hb and gb of a body
+-- ---- what f makes of what h makes of a span, where g makes it of each span of which P holds; and fb, hb and
+-- gb of a body
 
-module _ (f h g fb hb gb : Span → Span) (P : Span → Type 0) (Q : Items → Type 0) (is : (s : Span) → P s → f (h s) ≡ g s) (body_is : (s : Span) → P s → fb (hb s) ≡ gb s) where
+module _ (f h g fb hb gb : Span → Span) (P : Span → Type 0) (Q : Items → Type 0) (is : (s : Span) → P s → f (h s) ≡ g s)
+    (body_is : (s : Span) → P s → fb (hb s) ≡ gb s) where
   some_over : (c : Option Span) → OfSome P c → option_map f (option_map h c) ≡ option_map g c
   some_over None so = refl
   some_over (Some s) so = ap Some (is s so)
@@ -24,100 +26,130 @@ module _ (f h g fb hb gb : Span → Span) (P : Span → Type 0) (Q : Items → T
   join_over : (j : AJoin) → OfEach P j.comments → carried_join f fb (carried_join h hb j) ≡ carried_join g gb j
   join_over j so = ap (λ (cs : Row Span). record { broken = j.broken; comments = cs }) (each_over j.comments so)
 
-  here_over : (d : Option AHere) → OfHere P d → option_map (carried_here f fb) (option_map (carried_here h hb) d) ≡ option_map (carried_here g gb) d
+  here_over : (d : Option AHere) → OfHere P d →
+      option_map (carried_here f fb) (option_map (carried_here h hb) d) ≡ option_map (carried_here g gb) d
   here_over None so = refl
-  here_over (Some d) so = ap (λ (s : Span). Some (record { literal = d.literal; strip = d.strip; body = s })) (body_is d.body so)
+  here_over (Some d) so = ap (λ (s : Span). Some (record { literal = d.literal; strip = d.strip; body = s }))
+      (body_is d.body so)
 
   mutual
     pub over : (es : Entries) → Throughout P Q es → carried f fb true (carried h hb true es) ≡ carried g gb true es
     over no_entry so = refl
     over (more_entries e es) so = rw (entry_over e so.0, over es so.1) refl
 
-    entry_over : (e : AnEntry) → InEntry P Q e → carried_entry f fb true (carried_entry h hb true e) ≡ carried_entry g gb true e
+    entry_over : (e : AnEntry) → InEntry P Q e →
+        carried_entry f fb true (carried_entry h hb true e) ≡ carried_entry g gb true e
     entry_over (entry what background blank comment) so = rw (content_over what so.0, some_over comment so.1) refl
 
-    content_over : (c : AContent) → InContent P Q c → carried_content f fb true (carried_content h hb true c) ≡ carried_content g gb true c
+    content_over : (c : AContent) → InContent P Q c →
+        carried_content f fb true (carried_content h hb true c) ≡ carried_content g gb true c
     content_over (command a) so = ap command (and_or_over a so)
     content_over (remark c) so = ap remark (is c so)
 
-    and_or_over : (a : AnAndOr) → InAndOr P Q a → carried_and_or f fb true (carried_and_or h hb true a) ≡ carried_and_or g gb true a
+    and_or_over : (a : AnAndOr) → InAndOr P Q a →
+        carried_and_or f fb true (carried_and_or h hb true a) ≡ carried_and_or g gb true a
     and_or_over (and_or first rest) so = rw (pipeline_over first so.0, and_or_parts_over rest so.1) refl
 
-    and_or_parts_over : (ps : AndOrParts) → InAndOrParts P Q ps → carried_and_or_parts f fb true (carried_and_or_parts h hb true ps) ≡ carried_and_or_parts g gb true ps
+    and_or_parts_over : (ps : AndOrParts) → InAndOrParts P Q ps →
+        carried_and_or_parts f fb true (carried_and_or_parts h hb true ps) ≡ carried_and_or_parts g gb true ps
     and_or_parts_over no_and_or so = refl
-    and_or_parts_over (more_and_or operator join p ps) so = rw (join_over join so.0, pipeline_over p so.1, and_or_parts_over ps so.2) refl
+    and_or_parts_over (more_and_or operator join p ps) so =
+        rw (join_over join so.0, pipeline_over p so.1, and_or_parts_over ps so.2) refl
 
-    pipeline_over : (p : APipeline) → InPipeline P Q p → carried_pipeline f fb true (carried_pipeline h hb true p) ≡ carried_pipeline g gb true p
-    pipeline_over (pipeline bang first rest) so = rw (some_over bang so.0, command_over first so.1, pipes_over rest so.2) refl
+    pipeline_over : (p : APipeline) → InPipeline P Q p →
+        carried_pipeline f fb true (carried_pipeline h hb true p) ≡ carried_pipeline g gb true p
+    pipeline_over (pipeline bang first rest) so =
+        rw (some_over bang so.0, command_over first so.1, pipes_over rest so.2) refl
 
-    pipes_over : (cs : PipelineParts) → InPipes P Q cs → carried_pipes f fb true (carried_pipes h hb true cs) ≡ carried_pipes g gb true cs
+    pipes_over : (cs : PipelineParts) → InPipes P Q cs →
+        carried_pipes f fb true (carried_pipes h hb true cs) ≡ carried_pipes g gb true cs
     pipes_over no_pipe so = refl
     pipes_over (more_pipes join c cs) so = rw (join_over join so.0, command_over c so.1, pipes_over cs so.2) refl
 
-    command_over : (c : ACommand) → InCommand P Q c → carried_command f fb true (carried_command h hb true c) ≡ carried_command g gb true c
+    command_over : (c : ACommand) → InCommand P Q c →
+        carried_command f fb true (carried_command h hb true c) ≡ carried_command g gb true c
     command_over (simple items) so = ap simple (items_over items so.1)
     command_over (compound c) so = ap compound (compound_over c so)
-    command_over (function name comments body) so = rw (is name so.0, each_over comments so.1, compound_over body so.2) refl
+    command_over (function name comments body) so =
+        rw (is name so.0, each_over comments so.1, compound_over body so.2) refl
 
-    compound_over : (c : ACompound) → InCompound P Q c → carried_compound f fb true (carried_compound h hb true c) ≡ carried_compound g gb true c
-    compound_over (formed form span redirects) so = rw (form_over form so.0, is span so.1, items_over redirects so.2) refl
+    compound_over : (c : ACompound) → InCompound P Q c →
+        carried_compound f fb true (carried_compound h hb true c) ≡ carried_compound g gb true c
+    compound_over (formed form span redirects) so =
+        rw (form_over form so.0, is span so.1, items_over redirects so.2) refl
 
-    form_over : (m : AForm) → InForm P Q m → carried_form f fb true (carried_form h hb true m) ≡ carried_form g gb true m
+    form_over : (m : AForm) → InForm P Q m →
+        carried_form f fb true (carried_form h hb true m) ≡ carried_form g gb true m
     form_over (brace es) so = ap brace (over es so)
     form_over (subshell es) so = ap subshell (over es so)
-    form_over (if_then first rest other) so = rw (branch_over first so.0, branches_over rest so.1, else_over other so.2) refl
+    form_over (if_then first rest other) so =
+        rw (branch_over first so.0, branches_over rest so.1, else_over other so.2) refl
     form_over (while_do b) so = ap while_do (branch_over b so)
     form_over (until_do b) so = ap until_do (branch_over b so)
     form_over (for_in name words body) so = rw (word_over name so.0, for_words_over words so.1, over body so.2) refl
     form_over (case_in w cases tail) so = rw (word_over w so.0, cases_over cases so.1, each_over tail so.2) refl
 
-    branch_over : (b : ABranch) → InBranch P Q b → carried_branch f fb true (carried_branch h hb true b) ≡ carried_branch g gb true b
+    branch_over : (b : ABranch) → InBranch P Q b →
+        carried_branch f fb true (carried_branch h hb true b) ≡ carried_branch g gb true b
     branch_over (branch condition body) so = rw (over condition so.0, over body so.1) refl
 
-    branches_over : (bs : Branches) → InBranches P Q bs → carried_branches f fb true (carried_branches h hb true bs) ≡ carried_branches g gb true bs
+    branches_over : (bs : Branches) → InBranches P Q bs →
+        carried_branches f fb true (carried_branches h hb true bs) ≡ carried_branches g gb true bs
     branches_over no_branch so = refl
     branches_over (more_branches b bs) so = rw (branch_over b so.0, branches_over bs so.1) refl
 
-    else_over : (o : Otherwise) → InElse P Q o → carried_else f fb true (carried_else h hb true o) ≡ carried_else g gb true o
+    else_over : (o : Otherwise) → InElse P Q o →
+        carried_else f fb true (carried_else h hb true o) ≡ carried_else g gb true o
     else_over no_else so = refl
     else_over (otherwise es) so = ap otherwise (over es so)
 
-    for_words_over : (ws : ForWords) → InForWords P Q ws → carried_for_words f fb true (carried_for_words h hb true ws) ≡ carried_for_words g gb true ws
+    for_words_over : (ws : ForWords) → InForWords P Q ws →
+        carried_for_words f fb true (carried_for_words h hb true ws) ≡ carried_for_words g gb true ws
     for_words_over no_in so = refl
     for_words_over (in_words items) so = ap in_words (items_over items so)
 
-    cases_over : (cs : CaseItems) → InCases P Q cs → carried_cases f fb true (carried_cases h hb true cs) ≡ carried_cases g gb true cs
+    cases_over : (cs : CaseItems) → InCases P Q cs →
+        carried_cases f fb true (carried_cases h hb true cs) ≡ carried_cases g gb true cs
     cases_over no_case so = refl
     cases_over (more_cases c cs) so = rw (case_over c so.0, cases_over cs so.1) refl
 
-    case_over : (c : ACaseItem) → InCase P Q c → carried_case f fb true (carried_case h hb true c) ≡ carried_case g gb true c
-    case_over (case_item comments patterns body mark) so = rw (each_over comments so.0, patterns_over patterns so.1, over body so.2, is mark.mark so.3) refl
+    case_over : (c : ACaseItem) → InCase P Q c →
+        carried_case f fb true (carried_case h hb true c) ≡ carried_case g gb true c
+    case_over (case_item comments patterns body mark) so =
+        rw (each_over comments so.0, patterns_over patterns so.1, over body so.2, is mark.mark so.3) refl
 
-    patterns_over : (ws : Patterns) → InPatterns P Q ws → carried_patterns f fb true (carried_patterns h hb true ws) ≡ carried_patterns g gb true ws
+    patterns_over : (ws : Patterns) → InPatterns P Q ws →
+        carried_patterns f fb true (carried_patterns h hb true ws) ≡ carried_patterns g gb true ws
     patterns_over no_pattern so = refl
     patterns_over (more_patterns w ws) so = rw (word_over w so.0, patterns_over ws so.1) refl
 
-    items_over : (is2 : Items) → InItems P Q is2 → carried_items f fb true (carried_items h hb true is2) ≡ carried_items g gb true is2
+    items_over : (is2 : Items) → InItems P Q is2 →
+        carried_items f fb true (carried_items h hb true is2) ≡ carried_items g gb true is2
     items_over no_item so = refl
     items_over (more_items i rest) so = rw (item_over i so.0, items_over rest so.1) refl
 
-    item_over : (i : AnItem) → InItem P Q i → carried_item f fb true (carried_item h hb true i) ≡ carried_item g gb true i
+    item_over : (i : AnItem) → InItem P Q i →
+        carried_item f fb true (carried_item h hb true i) ≡ carried_item g gb true i
     item_over (item broken what) so = ap (item broken) (item_content_over what so)
 
-    item_content_over : (c : AnItemContent) → InItemContent P Q c → carried_item_content f fb true (carried_item_content h hb true c) ≡ carried_item_content g gb true c
+    item_content_over : (c : AnItemContent) → InItemContent P Q c →
+        carried_item_content f fb true (carried_item_content h hb true c) ≡ carried_item_content g gb true c
     item_content_over (assign w) so = ap assign (word_over w so)
     item_content_over (argument w) so = ap argument (word_over w so)
     item_content_over (redirect number operator span w d) so =
         rw (some_over number so.0, is span so.1, word_over w so.2, here_over d so.3) refl
 
-    word_over : (w : AWord) → InWord P Q w → carried_word f fb true (carried_word h hb true w) ≡ carried_word g gb true w
+    word_over : (w : AWord) → InWord P Q w →
+        carried_word f fb true (carried_word h hb true w) ≡ carried_word g gb true w
     word_over (word span substs) so = rw (is span so.0, substs_over substs so.1) refl
 
-    substs_over : (ss : Substs) → InSubsts P Q ss → carried_substs f fb true (carried_substs h hb true ss) ≡ carried_substs g gb true ss
+    substs_over : (ss : Substs) → InSubsts P Q ss →
+        carried_substs f fb true (carried_substs h hb true ss) ≡ carried_substs g gb true ss
     substs_over no_subst so = refl
     substs_over (more_substs s ss) so = rw (subst_over s so.0, substs_over ss so.1) refl
 
-    subst_over : (s : ASubst) → InSubst P Q s → carried_subst f fb true (carried_subst h hb true s) ≡ carried_subst g gb true s
+    subst_over : (s : ASubst) → InSubst P Q s →
+        carried_subst f fb true (carried_subst h hb true s) ≡ carried_subst g gb true s
     subst_over (subst entries span) so = rw (over entries so.0, is span so.1) refl
 
 -- ---- where f leaves each span as it is, and fb each body
@@ -136,7 +168,8 @@ module _ (f fb : Span → Span) (is : (s : Span) → f s ≡ s) (body_is : (s : 
 
   here_same : (d : Option AHere) → option_map (carried_here f fb) d ≡ d
   here_same None = refl
-  here_same (Some d) = ap (λ (s : Span). Some (record { literal = d.literal; strip = d.strip; body = s })) (body_is d.body)
+  here_same (Some d) = ap (λ (s : Span). Some (record { literal = d.literal; strip = d.strip; body = s }))
+      (body_is d.body)
 
   mutual
     pub same : (es : Entries) → carried f fb true es ≡ es
@@ -201,7 +234,8 @@ module _ (f fb : Span → Span) (is : (s : Span) → f s ≡ s) (body_is : (s : 
     cases_same (more_cases c cs) = rw (case_same c, cases_same cs) refl
 
     case_same : (c : ACaseItem) → carried_case f fb true c ≡ c
-    case_same (case_item comments patterns body mark) = rw (each_same comments, patterns_same patterns, same body, is mark.mark) refl
+    case_same (case_item comments patterns body mark) =
+        rw (each_same comments, patterns_same patterns, same body, is mark.mark) refl
 
     patterns_same : (ws : Patterns) → carried_patterns f fb true ws ≡ ws
     patterns_same no_pattern = refl
@@ -383,7 +417,8 @@ body_twice a b s (suc n) is =
 
 pub by_both : (a b : ℕ) (es : Entries) → moved b (moved a es) ≡ moved (a + b) es
 by_both a b es =
-    over (placed_span b) (placed_span a) (placed_span (a + b)) (placed_body b) (placed_body a) (placed_body (a + b)) always any
+    over (placed_span b) (placed_span a) (placed_span (a + b)) (placed_body b) (placed_body a)
+    (placed_body (a + b)) always any
     (λ s so. span_twice a b s) (λ s so. body_twice a b s s.«end» refl) es (all always any (λ s. tt) (λ items. tt) es)
 
 -- ---- where no offset goes beyond the greatest one
@@ -398,18 +433,23 @@ read_moves base s lt =
     let is : s.«end» ≡ suc (s.«end» - 1) = omega (arith, lt) in
     sym (ap (capped_by base s) is)
 
-capped_is : (base : ℕ) (s : Span) → base ≤ 2 ^ 64 - 1 → IsSpanWithin (2 ^ 64 - 1 - base) s → capped base s ≡ placed_span base s
+capped_is : (base : ℕ) (s : Span) → base ≤ 2 ^ 64 - 1 → IsSpanWithin (2 ^ 64 - 1 - base) s →
+    capped base s ≡ placed_span base s
 capped_is base s fits so =
     let one : min (base + s.start) (2 ^ 64 - 1) ≡ base + s.start = min-eq_left (omega (arith, fits, so.0)) in
     let two : min (base + s.«end») (2 ^ 64 - 1) ≡ base + s.«end» = min-eq_left (omega (arith, fits, so.1)) in
     rw (one, two) refl
 
-capped_body_is : (base : ℕ) (s : Span) (n : ℕ) → base ≤ 2 ^ 64 - 1 → IsSpanWithin (2 ^ 64 - 1 - base) s → s.«end» ≡ n → capped_body base s ≡ placed_body base s
+capped_body_is : (base : ℕ) (s : Span) (n : ℕ) → base ≤ 2 ^ 64 - 1 → IsSpanWithin (2 ^ 64 - 1 - base) s → s.«end» ≡ n →
+    capped_body base s ≡ placed_body base s
 capped_body_is base s zero fits so is = ap (capped_by base s) is ∙ sym (body_unread base s is)
-capped_body_is base s (suc n) fits so is = ap (capped_by base s) is ∙ capped_is base s fits so ∙ sym (body_read base s n is)
+capped_body_is base s (suc n) fits so is = ap (capped_by base s) is ∙ capped_is base s fits so
+    ∙ sym (body_read base s n is)
 
-pub capped_moved : (base : ℕ) (es : Entries) → base ≤ 2 ^ 64 - 1 → AllWithin (2 ^ 64 - 1 - base) es → carried (capped base) (capped_body base) true es ≡ moved base es
+pub capped_moved : (base : ℕ) (es : Entries) → base ≤ 2 ^ 64 - 1 → AllWithin (2 ^ 64 - 1 - base) es →
+    carried (capped base) (capped_body base) true es ≡ moved base es
 capped_moved base es fits so =
     ap (carried (capped base) (capped_body base) true) (sym (same (λ s. s) (λ s. s) (λ s. refl) (λ s. refl) es))
-    ∙ over (capped base) (λ s. s) (placed_span base) (capped_body base) (λ s. s) (placed_body base) (IsSpanWithin (2 ^ 64 - 1 - base)) any
+    ∙ over (capped base) (λ s. s) (placed_span base) (capped_body base) (λ s. s) (placed_body base)
+    (IsSpanWithin (2 ^ 64 - 1 - base)) any
     (λ s within. capped_is base s fits within) (λ s within. capped_body_is base s s.«end» fits within refl) es so

@@ -37,37 +37,56 @@ module _ (b : ℕ) where
   item_there (item broken (argument w)) = word_there w
   item_there (item broken (redirect number operator span w here)) = rw (begin_there number span, word_there w) refl
 
-  last_item_there : (before behind : Span) (is : Items) → behind ≡ f before → last_item behind (carried_items f fb true is) ≡ f (last_item before is)
+  last_item_there : (before behind : Span) (is : Items) → behind ≡ f before →
+      last_item behind (carried_items f fb true is) ≡ f (last_item before is)
   last_item_there before behind no_item e = e
-  last_item_there before behind (more_items i is) e = last_item_there (item_span i) (item_span (carried_item f fb true i)) is (item_there i)
+  last_item_there before behind (more_items i is) e =
+      last_item_there (item_span i) (item_span (carried_item f fb true i)) is (item_there i)
 
   items_there : (is : Items) → IsSome is → items_span (carried_items f fb true is) ≡ f (items_span is)
   items_there no_item some = absurd some
-  items_there (more_items i is) some = rw (last_item_there (item_span i) (item_span (carried_item f fb true i)) is (item_there i), item_there i) refl
+  items_there (more_items i is) some =
+      rw (last_item_there (item_span i) (item_span (carried_item f fb true i)) is (item_there i), item_there i) refl
 
   compound_there : (c : ACompound) → compound_span (carried_compound f fb true c) ≡ f (compound_span c)
   compound_there (formed form span redirects) = rw (last_item_there span (f span) redirects refl) refl
 
-  command_there : (c : ACommand) → InCommand Always IsSome c → command_span (carried_command f fb true c) ≡ f (command_span c)
+  command_there : (c : ACommand) → InCommand Always IsSome c →
+      command_span (carried_command f fb true c) ≡ f (command_span c)
   command_there (simple items) so = items_there items so.0
   command_there (compound c) so = compound_there c
   command_there (function name comments body) so = rw (compound_there body) refl
 
-  last_command_there : (before behind : Span) (cs : PipelineParts) → InPipes Always IsSome cs → behind ≡ f before → last_command behind (carried_pipes f fb true cs) ≡ f (last_command before cs)
+  last_command_there : (before behind : Span) (cs : PipelineParts) → InPipes Always IsSome cs → behind ≡ f before →
+      last_command behind (carried_pipes f fb true cs) ≡ f (last_command before cs)
   last_command_there before behind no_pipe so e = e
-  last_command_there before behind (more_pipes join c cs) so e = last_command_there (command_span c) (command_span (carried_command f fb true c)) cs so.2 (command_there c so.1)
+  last_command_there before behind (more_pipes join c cs) so e =
+      last_command_there (command_span c) (command_span (carried_command f fb true c)) cs so.2 (command_there c so.1)
 
-  pipeline_there : (p : APipeline) → InPipeline Always IsSome p → pipeline_span (carried_pipeline f fb true p) ≡ f (pipeline_span p)
+  pipeline_there : (p : APipeline) → InPipeline Always IsSome p →
+      pipeline_span (carried_pipeline f fb true p) ≡ f (pipeline_span p)
   pipeline_there (pipeline bang first rest) so =
-      rw (last_command_there (command_span first) (command_span (carried_command f fb true first)) rest so.2 (command_there first so.1), command_there first so.1, begin_there bang (command_span first)) refl
+      rw (
+        last_command_there (command_span first) (command_span (carried_command f fb true first)) rest so.2
+            (command_there first so.1),
+        command_there first so.1,
+        begin_there bang (command_span first),
+      ) refl
 
-  last_pipeline_there : (before behind : Span) (ps : AndOrParts) → InAndOrParts Always IsSome ps → behind ≡ f before → last_pipeline behind (carried_and_or_parts f fb true ps) ≡ f (last_pipeline before ps)
+  last_pipeline_there : (before behind : Span) (ps : AndOrParts) → InAndOrParts Always IsSome ps → behind ≡ f before →
+      last_pipeline behind (carried_and_or_parts f fb true ps) ≡ f (last_pipeline before ps)
   last_pipeline_there before behind no_and_or so e = e
-  last_pipeline_there before behind (more_and_or operator join p ps) so e = last_pipeline_there (pipeline_span p) (pipeline_span (carried_pipeline f fb true p)) ps so.2 (pipeline_there p so.1)
+  last_pipeline_there before behind (more_and_or operator join p ps) so e =
+      last_pipeline_there (pipeline_span p) (pipeline_span (carried_pipeline f fb true p)) ps so.2
+      (pipeline_there p so.1)
 
   and_or_there : (a : AnAndOr) → InAndOr Always IsSome a → and_or_span (carried_and_or f fb true a) ≡ f (and_or_span a)
   and_or_there (and_or first rest) so =
-      rw (last_pipeline_there (pipeline_span first) (pipeline_span (carried_pipeline f fb true first)) rest so.1 (pipeline_there first so.0), pipeline_there first so.0) refl
+      rw (
+        last_pipeline_there (pipeline_span first) (pipeline_span (carried_pipeline f fb true first)) rest so.1
+            (pipeline_there first so.0),
+        pipeline_there first so.0,
+      ) refl
 
   -- ---- nodes
 
@@ -78,7 +97,8 @@ module _ (b : ℕ) where
   comments_there [] = refl
   comments_there (c ∷ cs) = ap (λ r. comment_node (f c) ∷ r) (comments_there cs)
 
-  comment_there : (c : Option Span) → map comment_node (option_to_list (option_map f c)) ≡ there (map comment_node (option_to_list c))
+  comment_there : (c : Option Span) →
+      map comment_node (option_to_list (option_map f c)) ≡ there (map comment_node (option_to_list c))
   comment_there None = refl
   comment_there (Some c) = refl
 
@@ -91,86 +111,121 @@ module _ (b : ℕ) where
   form_there (for_in (word name substs) words body) s = refl
   form_there (case_in w items tail) s = refl
 
-  and_or_node_there : (a : AnAndOr) → InAndOr Always IsSome a → and_or_node (carried_and_or f fb true a) ≡ there (and_or_node a)
+  and_or_node_there : (a : AnAndOr) → InAndOr Always IsSome a →
+      and_or_node (carried_and_or f fb true a) ≡ there (and_or_node a)
   and_or_node_there (and_or first no_and_or) so = refl
   and_or_node_there (and_or first (more_and_or operator join p ps)) so =
       ap (λ (s : Span). node NodeKind.AndOr s ∷ []) (and_or_there (and_or first (more_and_or operator join p ps)) so)
 
-  pipeline_node_there : (p : APipeline) → InPipeline Always IsSome p → pipeline_node (carried_pipeline f fb true p) ≡ there (pipeline_node p)
+  pipeline_node_there : (p : APipeline) → InPipeline Always IsSome p →
+      pipeline_node (carried_pipeline f fb true p) ≡ there (pipeline_node p)
   pipeline_node_there (pipeline None first no_pipe) so = refl
-  pipeline_node_there (pipeline None first (more_pipes join c cs)) so = ap (λ (s : Span). node NodeKind.Pipeline s ∷ []) (pipeline_there (pipeline None first (more_pipes join c cs)) so)
-  pipeline_node_there (pipeline (Some bang) first rest) so = ap (λ (s : Span). node NodeKind.Pipeline s ∷ []) (pipeline_there (pipeline (Some bang) first rest) so)
+  pipeline_node_there (pipeline None first (more_pipes join c cs)) so =
+      ap (λ (s : Span). node NodeKind.Pipeline s ∷ []) (pipeline_there (pipeline None first (more_pipes join c cs)) so)
+  pipeline_node_there (pipeline (Some bang) first rest) so =
+      ap (λ (s : Span). node NodeKind.Pipeline s ∷ []) (pipeline_there (pipeline (Some bang) first rest) so)
 
   two : (ms ns : Row NodeLine) (os qs : Row NodeLine) → os ≡ there ms → qs ≡ there ns → os ++ qs ≡ there (ms ++ ns)
   two ms ns os qs one other = rw (one, other) (sym (map-append (placed b) ms ns))
 
-  three : (ls ms ns os qs rs : Row NodeLine) → os ≡ there ls → qs ≡ there ms → rs ≡ there ns → os ++ qs ++ rs ≡ there (ls ++ ms ++ ns)
+  three : (ls ms ns os qs rs : Row NodeLine) → os ≡ there ls → qs ≡ there ms → rs ≡ there ns →
+      os ++ qs ++ rs ≡ there (ls ++ ms ++ ns)
   three ls ms ns os qs rs one other last = two (ls ++ ms) ns (os ++ qs) rs (two ls ms os qs one other) last
 
   one_more : (m n : NodeLine) (ms ns : Row NodeLine) → m ≡ placed b n → ms ≡ there ns → m ∷ ms ≡ there (n ∷ ns)
   one_more m n ms ns one other = rw (one, other) refl
 
   mutual
-    entries_there : (es : Entries) → Throughout Always IsSome es → entries_nodes (carried f fb true es) ≡ there (entries_nodes es)
+    entries_there : (es : Entries) → Throughout Always IsSome es →
+        entries_nodes (carried f fb true es) ≡ there (entries_nodes es)
     entries_there no_entry so = refl
-    entries_there (more_entries e es) so = two (entry_nodes e) (entries_nodes es) _ _ (entry_there e so.0) (entries_there es so.1)
+    entries_there (more_entries e es) so =
+        two (entry_nodes e) (entries_nodes es) _ _ (entry_there e so.0) (entries_there es so.1)
 
-    entry_there : (e : AnEntry) → InEntry Always IsSome e → entry_nodes (carried_entry f fb true e) ≡ there (entry_nodes e)
-    entry_there (entry what background blank comment) so = two (content_nodes what) _ _ _ (content_there what so.0) (comment_there comment)
+    entry_there : (e : AnEntry) → InEntry Always IsSome e →
+        entry_nodes (carried_entry f fb true e) ≡ there (entry_nodes e)
+    entry_there (entry what background blank comment) so =
+        two (content_nodes what) _ _ _ (content_there what so.0) (comment_there comment)
 
-    content_there : (c : AContent) → InContent Always IsSome c → content_nodes (carried_content f fb true c) ≡ there (content_nodes c)
+    content_there : (c : AContent) → InContent Always IsSome c →
+        content_nodes (carried_content f fb true c) ≡ there (content_nodes c)
     content_there (command a) so = and_or_nodes_there a so
     content_there (remark c) so = refl
 
-    and_or_nodes_there : (a : AnAndOr) → InAndOr Always IsSome a → and_or_nodes (carried_and_or f fb true a) ≡ there (and_or_nodes a)
+    and_or_nodes_there : (a : AnAndOr) → InAndOr Always IsSome a →
+        and_or_nodes (carried_and_or f fb true a) ≡ there (and_or_nodes a)
     and_or_nodes_there (and_or first rest) so =
-        three (and_or_node (and_or first rest)) (pipeline_nodes first) (and_or_parts_nodes rest) _ _ _ (and_or_node_there (and_or first rest) so) (pipeline_nodes_there first so.0) (parts_there rest so.1)
+        three (and_or_node (and_or first rest)) (pipeline_nodes first) (and_or_parts_nodes rest) _ _ _
+        (and_or_node_there (and_or first rest) so) (pipeline_nodes_there first so.0) (parts_there rest so.1)
 
-    parts_there : (ps : AndOrParts) → InAndOrParts Always IsSome ps → and_or_parts_nodes (carried_and_or_parts f fb true ps) ≡ there (and_or_parts_nodes ps)
+    parts_there : (ps : AndOrParts) → InAndOrParts Always IsSome ps →
+        and_or_parts_nodes (carried_and_or_parts f fb true ps) ≡ there (and_or_parts_nodes ps)
     parts_there no_and_or so = refl
     parts_there (more_and_or operator join p ps) so =
-        three (map comment_node join.comments) (pipeline_nodes p) (and_or_parts_nodes ps) _ _ _ (comments_there join.comments) (pipeline_nodes_there p so.1) (parts_there ps so.2)
+        three (map comment_node join.comments) (pipeline_nodes p) (and_or_parts_nodes ps) _ _ _
+        (comments_there join.comments) (pipeline_nodes_there p so.1) (parts_there ps so.2)
 
-    pipeline_nodes_there : (p : APipeline) → InPipeline Always IsSome p → pipeline_nodes (carried_pipeline f fb true p) ≡ there (pipeline_nodes p)
+    pipeline_nodes_there : (p : APipeline) → InPipeline Always IsSome p →
+        pipeline_nodes (carried_pipeline f fb true p) ≡ there (pipeline_nodes p)
     pipeline_nodes_there (pipeline bang first rest) so =
-        three (pipeline_node (pipeline bang first rest)) (command_nodes first) (pipes_nodes rest) _ _ _ (pipeline_node_there (pipeline bang first rest) so) (command_nodes_there first so.1) (pipes_there rest so.2)
+        three (pipeline_node (pipeline bang first rest)) (command_nodes first) (pipes_nodes rest) _ _ _
+        (pipeline_node_there (pipeline bang first rest) so) (command_nodes_there first so.1) (pipes_there rest so.2)
 
-    pipes_there : (cs : PipelineParts) → InPipes Always IsSome cs → pipes_nodes (carried_pipes f fb true cs) ≡ there (pipes_nodes cs)
+    pipes_there : (cs : PipelineParts) → InPipes Always IsSome cs →
+        pipes_nodes (carried_pipes f fb true cs) ≡ there (pipes_nodes cs)
     pipes_there no_pipe so = refl
     pipes_there (more_pipes join c cs) so =
-        three (map comment_node join.comments) (command_nodes c) (pipes_nodes cs) _ _ _ (comments_there join.comments) (command_nodes_there c so.1) (pipes_there cs so.2)
+        three (map comment_node join.comments) (command_nodes c) (pipes_nodes cs) _ _ _ (comments_there join.comments)
+        (command_nodes_there c so.1) (pipes_there cs so.2)
 
-    command_nodes_there : (c : ACommand) → InCommand Always IsSome c → command_nodes (carried_command f fb true c) ≡ there (command_nodes c)
+    command_nodes_there : (c : ACommand) → InCommand Always IsSome c →
+        command_nodes (carried_command f fb true c) ≡ there (command_nodes c)
     command_nodes_there (simple items) so =
-        one_more (node NodeKind.Simple (items_span (carried_items f fb true items))) (node NodeKind.Simple (items_span items)) _ _ (ap (λ (s : Span). node NodeKind.Simple s) (items_there items so.0)) (items_nodes_there items so.1)
+        one_more (node NodeKind.Simple (items_span (carried_items f fb true items)))
+        (node NodeKind.Simple (items_span items)) _ _
+        (ap (λ (s : Span). node NodeKind.Simple s) (items_there items so.0)) (items_nodes_there items so.1)
     command_nodes_there (compound c) so = compound_nodes_there c so
     command_nodes_there (function name comments body) so =
-        one_more (named_node NodeKind.Function (through (f name) (compound_span (carried_compound f fb true body))) (f name)) (named_node NodeKind.Function (through name (compound_span body)) name) _ _
+        one_more (named_node NodeKind.Function (through (f name) (compound_span (carried_compound f fb true body)))
+        (f name)) (named_node NodeKind.Function (through name (compound_span body)) name) _ _
         (ap (λ (s : Span). named_node NodeKind.Function (through (f name) s) (f name)) (compound_there body))
-        (two (map comment_node comments) (compound_nodes body) _ _ (comments_there comments) (compound_nodes_there body so.2))
+        (two (map comment_node comments) (compound_nodes body) _ _ (comments_there comments)
+        (compound_nodes_there body so.2))
 
-    compound_nodes_there : (c : ACompound) → InCompound Always IsSome c → compound_nodes (carried_compound f fb true c) ≡ there (compound_nodes c)
+    compound_nodes_there : (c : ACompound) → InCompound Always IsSome c →
+        compound_nodes (carried_compound f fb true c) ≡ there (compound_nodes c)
     compound_nodes_there (formed form span redirects) so =
-        one_more (form_node (carried_form f fb true form) (through (f span) (last_item (f span) (carried_items f fb true redirects)))) (form_node form (through span (last_item span redirects))) _ _
-        (ap (λ (s : Span). form_node (carried_form f fb true form) (through (f span) s)) (last_item_there span (f span) redirects refl) ∙ form_there form (through span (last_item span redirects)))
-        (two (form_nodes form) (items_nodes redirects) _ _ (form_nodes_there form so.0) (items_nodes_there redirects so.2))
+        one_more (form_node (carried_form f fb true form)
+        (through (f span) (last_item (f span) (carried_items f fb true redirects))))
+        (form_node form (through span (last_item span redirects))) _ _
+        (ap (λ (s : Span). form_node (carried_form f fb true form) (through (f span) s))
+        (last_item_there span (f span) redirects refl) ∙ form_there form (through span (last_item span redirects)))
+        (two (form_nodes form) (items_nodes redirects) _ _ (form_nodes_there form so.0)
+        (items_nodes_there redirects so.2))
 
-    form_nodes_there : (m : AForm) → InForm Always IsSome m → form_nodes (carried_form f fb true m) ≡ there (form_nodes m)
+    form_nodes_there : (m : AForm) → InForm Always IsSome m →
+        form_nodes (carried_form f fb true m) ≡ there (form_nodes m)
     form_nodes_there (brace es) so = entries_there es so
     form_nodes_there (subshell es) so = entries_there es so
     form_nodes_there (if_then first rest other) so =
-        three (branch_nodes first) (branches_nodes rest) (else_nodes other) _ _ _ (branch_there first so.0) (branches_there rest so.1) (else_there other so.2)
+        three (branch_nodes first) (branches_nodes rest) (else_nodes other) _ _ _ (branch_there first so.0)
+        (branches_there rest so.1) (else_there other so.2)
     form_nodes_there (while_do c) so = branch_there c so
     form_nodes_there (until_do c) so = branch_there c so
     form_nodes_there (for_in name words body) so =
-        three (word_nodes name) (for_words_nodes words) (entries_nodes body) _ _ _ (word_nodes_there name so.0) (for_words_there words so.1) (entries_there body so.2)
+        three (word_nodes name) (for_words_nodes words) (entries_nodes body) _ _ _ (word_nodes_there name so.0)
+        (for_words_there words so.1) (entries_there body so.2)
     form_nodes_there (case_in w cases tail) so =
-        three (word_nodes w) (cases_nodes cases) (map comment_node tail) _ _ _ (word_nodes_there w so.0) (cases_there cases so.1) (comments_there tail)
+        three (word_nodes w) (cases_nodes cases) (map comment_node tail) _ _ _ (word_nodes_there w so.0)
+        (cases_there cases so.1) (comments_there tail)
 
-    branch_there : (c : ABranch) → InBranch Always IsSome c → branch_nodes (carried_branch f fb true c) ≡ there (branch_nodes c)
-    branch_there (branch condition body) so = two (entries_nodes condition) _ _ _ (entries_there condition so.0) (entries_there body so.1)
+    branch_there : (c : ABranch) → InBranch Always IsSome c →
+        branch_nodes (carried_branch f fb true c) ≡ there (branch_nodes c)
+    branch_there (branch condition body) so =
+        two (entries_nodes condition) _ _ _ (entries_there condition so.0) (entries_there body so.1)
 
-    branches_there : (bs : Branches) → InBranches Always IsSome bs → branches_nodes (carried_branches f fb true bs) ≡ there (branches_nodes bs)
+    branches_there : (bs : Branches) → InBranches Always IsSome bs →
+        branches_nodes (carried_branches f fb true bs) ≡ there (branches_nodes bs)
     branches_there no_branch so = refl
     branches_there (more_branches c bs) so = two (branch_nodes c) _ _ _ (branch_there c so.0) (branches_there bs so.1)
 
@@ -178,51 +233,70 @@ module _ (b : ℕ) where
     else_there no_else so = refl
     else_there (otherwise es) so = entries_there es so
 
-    for_words_there : (ws : ForWords) → InForWords Always IsSome ws → for_words_nodes (carried_for_words f fb true ws) ≡ there (for_words_nodes ws)
+    for_words_there : (ws : ForWords) → InForWords Always IsSome ws →
+        for_words_nodes (carried_for_words f fb true ws) ≡ there (for_words_nodes ws)
     for_words_there no_in so = refl
     for_words_there (in_words items) so = items_nodes_there items so
 
-    cases_there : (cs : CaseItems) → InCases Always IsSome cs → cases_nodes (carried_cases f fb true cs) ≡ there (cases_nodes cs)
+    cases_there : (cs : CaseItems) → InCases Always IsSome cs →
+        cases_nodes (carried_cases f fb true cs) ≡ there (cases_nodes cs)
     cases_there no_case so = refl
     cases_there (more_cases c cs) so = two (case_nodes c) _ _ _ (case_there c so.0) (cases_there cs so.1)
 
     case_there : (c : ACaseItem) → InCase Always IsSome c → case_nodes (carried_case f fb true c) ≡ there (case_nodes c)
     case_there (case_item comments patterns body mark) so =
         one_more (node NodeKind.Item (f mark.mark)) (node NodeKind.Item mark.mark) _ _ refl
-        (three (map comment_node comments) (patterns_nodes patterns) (entries_nodes body) _ _ _ (comments_there comments) (patterns_there patterns so.1) (entries_there body so.2))
+        (three (map comment_node comments) (patterns_nodes patterns) (entries_nodes body) _ _ _
+        (comments_there comments) (patterns_there patterns so.1) (entries_there body so.2))
 
-    patterns_there : (ws : Patterns) → InPatterns Always IsSome ws → patterns_nodes (carried_patterns f fb true ws) ≡ there (patterns_nodes ws)
+    patterns_there : (ws : Patterns) → InPatterns Always IsSome ws →
+        patterns_nodes (carried_patterns f fb true ws) ≡ there (patterns_nodes ws)
     patterns_there no_pattern so = refl
     patterns_there (more_patterns w ws) so = two (word_nodes w) _ _ _ (word_nodes_there w so.0) (patterns_there ws so.1)
 
-    items_nodes_there : (is : Items) → InItems Always IsSome is → items_nodes (carried_items f fb true is) ≡ there (items_nodes is)
+    items_nodes_there : (is : Items) → InItems Always IsSome is →
+        items_nodes (carried_items f fb true is) ≡ there (items_nodes is)
     items_nodes_there no_item so = refl
-    items_nodes_there (more_items i is) so = two (item_nodes i) _ _ _ (item_nodes_there i so.0) (items_nodes_there is so.1)
+    items_nodes_there (more_items i is) so =
+        two (item_nodes i) _ _ _ (item_nodes_there i so.0) (items_nodes_there is so.1)
 
-    item_nodes_there : (i : AnItem) → InItem Always IsSome i → item_nodes (carried_item f fb true i) ≡ there (item_nodes i)
-    item_nodes_there (item broken (assign (word span substs))) so = one_more (node NodeKind.Assign (f span)) (node NodeKind.Assign span) _ _ refl (substs_there substs so.1)
+    item_nodes_there : (i : AnItem) → InItem Always IsSome i →
+        item_nodes (carried_item f fb true i) ≡ there (item_nodes i)
+    item_nodes_there (item broken (assign (word span substs))) so =
+        one_more (node NodeKind.Assign (f span)) (node NodeKind.Assign span) _ _ refl (substs_there substs so.1)
     item_nodes_there (item broken (argument w)) so = word_nodes_there w so
     item_nodes_there (item broken (redirect number operator span w here)) so =
-        one_more (node NodeKind.Redirect (through (unwrap_or (option_map f number) (f span)) (word_span (carried_word f fb true w)))) (node NodeKind.Redirect (through (unwrap_or number span) (word_span w))) _ _
-        (ap (λ (s : Span). node NodeKind.Redirect (through s (word_span (carried_word f fb true w)))) (begin_there number span) ∙ ap (λ (s : Span). node NodeKind.Redirect (through (f (unwrap_or number span)) s)) (word_there w))
+        one_more (node NodeKind.Redirect
+        (through (unwrap_or (option_map f number) (f span)) (word_span (carried_word f fb true w))))
+        (node NodeKind.Redirect (through (unwrap_or number span) (word_span w))) _ _
+        (ap (λ (s : Span). node NodeKind.Redirect (through s (word_span (carried_word f fb true w))))
+        (begin_there number span) ∙ ap
+        (λ (s : Span). node NodeKind.Redirect (through (f (unwrap_or number span)) s)) (word_there w))
         (word_nodes_there w so.2)
 
-    word_nodes_there : (w : AWord) → InWord Always IsSome w → word_nodes (carried_word f fb true w) ≡ there (word_nodes w)
-    word_nodes_there (word span substs) so = one_more (node NodeKind.Word (f span)) (node NodeKind.Word span) _ _ refl (substs_there substs so.1)
+    word_nodes_there : (w : AWord) → InWord Always IsSome w →
+        word_nodes (carried_word f fb true w) ≡ there (word_nodes w)
+    word_nodes_there (word span substs) so =
+        one_more (node NodeKind.Word (f span)) (node NodeKind.Word span) _ _ refl (substs_there substs so.1)
 
-    substs_there : (ss : Substs) → InSubsts Always IsSome ss → substs_nodes (carried_substs f fb true ss) ≡ there (substs_nodes ss)
+    substs_there : (ss : Substs) → InSubsts Always IsSome ss →
+        substs_nodes (carried_substs f fb true ss) ≡ there (substs_nodes ss)
     substs_there no_subst so = refl
     substs_there (more_substs s ss) so = two (subst_nodes s) _ _ _ (subst_there s so.0) (substs_there ss so.1)
 
-    subst_there : (s : ASubst) → InSubst Always IsSome s → subst_nodes (carried_subst f fb true s) ≡ there (subst_nodes s)
-    subst_there (subst entries span) so = one_more (node NodeKind.Subst (f span)) (node NodeKind.Subst span) _ _ refl (entries_there entries so.0)
+    subst_there : (s : ASubst) → InSubst Always IsSome s →
+        subst_nodes (carried_subst f fb true s) ≡ there (subst_nodes s)
+    subst_there (subst entries span) so =
+        one_more (node NodeKind.Subst (f span)) (node NodeKind.Subst span) _ _ refl (entries_there entries so.0)
 
-pub nodes_moved : (base : ℕ) (es : Entries) → HaveItems es → entries_nodes (moved base es) ≡ map (placed base) (entries_nodes es)
+pub nodes_moved : (base : ℕ) (es : Entries) → HaveItems es →
+    entries_nodes (moved base es) ≡ map (placed base) (entries_nodes es)
 nodes_moved base es so = entries_there base es so
 
 -- ---- what is asked for
 
-name_again : (a b : ℕ) (name : Option Span) → option_map (placed_span a) (option_map (placed_span b) name) ≡ option_map (placed_span (b + a)) name
+name_again : (a b : ℕ) (name : Option Span) →
+    option_map (placed_span a) (option_map (placed_span b) name) ≡ option_map (placed_span (b + a)) name
 name_again a b None = refl
 name_again a b (Some s) =
     let one : a + (b + s.start) ≡ b + a + s.start = omega arith in
@@ -239,25 +313,36 @@ placed_again : (a b : ℕ) (ns : Row NodeLine) → map (placed a) (map (placed b
 placed_again a b [] = refl
 placed_again a b (n ∷ ns) = rw (placed_again a b ns) (ap (λ m. m ∷ map (placed (b + a)) ns) (one_again a b n))
 
-nodes_of_moved : (more base : ℕ) (es : Entries) → HaveItems es → nodes_of more (moved base es) ≡ nodes_of (base + more) es
+nodes_of_moved : (more base : ℕ) (es : Entries) → HaveItems es →
+    nodes_of more (moved base es) ≡ nodes_of (base + more) es
 nodes_of_moved more base es so = rw (nodes_moved base es so, placed_again more base (entries_nodes es)) refl
 
-pub outline_moved : (base more : ℕ) (es : Entries) → HaveItems es → outline more (moved base es) ≡ outline (base + more) es
+pub outline_moved : (base more : ℕ) (es : Entries) → HaveItems es →
+    outline more (moved base es) ≡ outline (base + more) es
 outline_moved base more es so = ap (filter in_outline) (nodes_of_moved more base es so)
 
-pub nodes_at_moved : (base more at : ℕ) (es : Entries) → HaveItems es → nodes_at more at (moved base es) ≡ nodes_at (base + more) at es
+pub nodes_at_moved : (base more at : ℕ) (es : Entries) → HaveItems es →
+    nodes_at more at (moved base es) ≡ nodes_at (base + more) at es
 nodes_at_moved base more at es so = ap (filter (holds at)) (nodes_of_moved more base es so)
 
 -- ---- a limit
 
-name_up : (limit base : ℕ) (name : Option Span) → MatchOption name (Unit {0}) (IsSpanWithin limit) → MatchOption (option_map (placed_span base) name) (Unit {0}) (IsSpanWithin (base + limit))
+name_up : (limit base : ℕ) (name : Option Span) → MatchOption name (Unit {0}) (IsSpanWithin limit) →
+    MatchOption (option_map (placed_span base) name) (Unit {0}) (IsSpanWithin (base + limit))
 name_up limit base None so = tt
 name_up limit base (Some s) so = (omega (arith, so.0), omega (arith, so.1))
 
 node_up : (limit base : ℕ) (n : NodeLine) → IsWithin limit n → IsWithin (base + limit) (placed base n)
-node_up limit base n so = record { start = omega (arith, so.start); «end» = omega (arith, so.«end»); name = name_up limit base n.name so.name }
+node_up limit base n so = record {
+  start = omega (arith, so.start);
+  «end» = omega (arith, so.«end»);
+  name = name_up limit base n.name so.name;
+}
 
-pub within_moved : (limit base : ℕ) (es : Entries) → HaveItems es → AreWithin limit es → AreWithin (base + limit) (moved base es)
+pub within_moved : (limit base : ℕ) (es : Entries) → HaveItems es → AreWithin limit es →
+    AreWithin (base + limit) (moved base es)
 within_moved limit base es some so =
     All-same (IsWithin (base + limit)) _ _ (nodes_moved base es some)
-    (All-map (IsWithin (base + limit)) (placed base) (entries_nodes es) (All-weaker (IsWithin limit) (λ n. IsWithin (base + limit) (placed base n)) (λ n. node_up limit base n) (entries_nodes es) so))
+    (All-map (IsWithin (base + limit)) (placed base) (entries_nodes es)
+    (All-weaker (IsWithin limit) (λ n. IsWithin (base + limit) (placed base n)) (λ n. node_up limit base n)
+    (entries_nodes es) so))

@@ -21,15 +21,18 @@ module _ (nothing : Span) where
   span_item (item broken (argument w)) = refl
   span_item (item broken (redirect number operator span w here)) = refl
 
-  last_items : (is : Items) (before behind : Span) → before ≡ behind → last_item before (open_items nothing is) ≡ last_item behind is
+  last_items : (is : Items) (before behind : Span) → before ≡ behind →
+      last_item before (open_items nothing is) ≡ last_item behind is
   unfolding open_items
   last_items no_item before behind e = e
-  last_items (more_items i is) before behind e = last_items is (item_span (open_item nothing i)) (item_span i) (span_item i)
+  last_items (more_items i is) before behind e =
+      last_items is (item_span (open_item nothing i)) (item_span i) (span_item i)
 
   span_items : (is : Items) → items_span (open_items nothing is) ≡ items_span is
   unfolding open_items
   span_items no_item = refl
-  span_items (more_items i is) = rw (last_items is (item_span (open_item nothing i)) (item_span i) (span_item i), span_item i) refl
+  span_items (more_items i is) =
+      rw (last_items is (item_span (open_item nothing i)) (item_span i) (span_item i), span_item i) refl
 
   span_compound : (c : ACompound) → compound_span (open_compound nothing c) ≡ compound_span c
   unfolding open_compound
@@ -41,34 +44,49 @@ module _ (nothing : Span) where
   span_command (compound c) = span_compound c
   span_command (function name comments body) = rw (span_compound body) refl
 
-  last_commands : (cs : PipelineParts) (before behind : Span) → before ≡ behind → last_command before (open_pipes nothing cs) ≡ last_command behind cs
+  last_commands : (cs : PipelineParts) (before behind : Span) → before ≡ behind →
+      last_command before (open_pipes nothing cs) ≡ last_command behind cs
   unfolding open_pipes
   last_commands no_pipe before behind e = e
-  last_commands (more_pipes join c cs) before behind e = last_commands cs (command_span (open_command nothing c)) (command_span c) (span_command c)
+  last_commands (more_pipes join c cs) before behind e =
+      last_commands cs (command_span (open_command nothing c)) (command_span c) (span_command c)
 
   span_pipeline : (p : APipeline) → pipeline_span (open_pipeline nothing p) ≡ pipeline_span p
   unfolding open_pipeline
-  span_pipeline (pipeline bang first rest) = rw (last_commands rest (command_span (open_command nothing first)) (command_span first) (span_command first), span_command first) refl
+  span_pipeline (pipeline bang first rest) =
+      rw (
+        last_commands rest (command_span (open_command nothing first)) (command_span first) (span_command first),
+        span_command first,
+      ) refl
 
-  last_pipelines : (ps : AndOrParts) (before behind : Span) → before ≡ behind → last_pipeline before (open_and_or_parts nothing ps) ≡ last_pipeline behind ps
+  last_pipelines : (ps : AndOrParts) (before behind : Span) → before ≡ behind →
+      last_pipeline before (open_and_or_parts nothing ps) ≡ last_pipeline behind ps
   unfolding open_and_or_parts
   last_pipelines no_and_or before behind e = e
-  last_pipelines (more_and_or operator join p ps) before behind e = last_pipelines ps (pipeline_span (open_pipeline nothing p)) (pipeline_span p) (span_pipeline p)
+  last_pipelines (more_and_or operator join p ps) before behind e =
+      last_pipelines ps (pipeline_span (open_pipeline nothing p)) (pipeline_span p) (span_pipeline p)
 
   span_and_or : (a : AnAndOr) → and_or_span (open_and_or nothing a) ≡ and_or_span a
   unfolding open_and_or
-  span_and_or (and_or first rest) = rw (last_pipelines rest (pipeline_span (open_pipeline nothing first)) (pipeline_span first) (span_pipeline first), span_pipeline first) refl
+  span_and_or (and_or first rest) =
+      rw (
+        last_pipelines rest (pipeline_span (open_pipeline nothing first)) (pipeline_span first) (span_pipeline first),
+        span_pipeline first,
+      ) refl
 
-  end_command : (c : AContent) (before behind : ℕ) → before ≡ behind → command_end before (open_content nothing c) ≡ command_end behind c
+  end_command : (c : AContent) (before behind : ℕ) → before ≡ behind →
+      command_end before (open_content nothing c) ≡ command_end behind c
   unfolding open_content
   end_command (command a) before behind e = ap (λ (s : Span). s.«end») (span_and_or a)
   end_command (remark c) before behind e = e
 
-  end_entries : (es : Entries) (before behind : ℕ) → before ≡ behind → commands_end before (opened nothing es) ≡ commands_end behind es
+  end_entries : (es : Entries) (before behind : ℕ) → before ≡ behind →
+      commands_end before (opened nothing es) ≡ commands_end behind es
   unfolding opened open_entry
   end_entries no_entry before behind e = e
   end_entries (more_entries (entry what background blank comment) es) before behind e =
-      end_entries es (command_end before (open_content nothing what)) (command_end behind what) (end_command what before behind e)
+      end_entries es (command_end before (open_content nothing what)) (command_end behind what)
+      (end_command what before behind e)
 
   -- where the last and-or list ends
   pub ends_open : (es : Entries) (before : ℕ) → commands_end before (opened nothing es) ≡ commands_end before es
@@ -77,14 +95,23 @@ module _ (nothing : Span) where
   node_and_or : (a : AnAndOr) → and_or_node (open_and_or nothing a) ≡ and_or_node a
   unfolding open_and_or open_and_or_parts
   node_and_or (and_or first no_and_or) = refl
-  node_and_or (and_or first (more_and_or operator join p ps)) = rw (last_pipelines ps (pipeline_span (open_pipeline nothing p)) (pipeline_span p) (span_pipeline p), span_pipeline first) refl
+  node_and_or (and_or first (more_and_or operator join p ps)) =
+      rw (
+        last_pipelines ps (pipeline_span (open_pipeline nothing p)) (pipeline_span p) (span_pipeline p),
+        span_pipeline first,
+      ) refl
 
   node_pipeline : (p : APipeline) → pipeline_node (open_pipeline nothing p) ≡ pipeline_node p
   unfolding open_pipeline open_pipes
   node_pipeline (pipeline None first no_pipe) = refl
-  node_pipeline (pipeline None first (more_pipes join c cs)) = rw (last_commands cs (command_span (open_command nothing c)) (command_span c) (span_command c), span_command first) refl
+  node_pipeline (pipeline None first (more_pipes join c cs)) =
+      rw (
+        last_commands cs (command_span (open_command nothing c)) (command_span c) (span_command c),
+        span_command first,
+      ) refl
   node_pipeline (pipeline (Some b) first no_pipe) = rw (span_command first) refl
-  node_pipeline (pipeline (Some b) first (more_pipes join c cs)) = rw (last_commands cs (command_span (open_command nothing c)) (command_span c) (span_command c)) refl
+  node_pipeline (pipeline (Some b) first (more_pipes join c cs)) =
+      rw (last_commands cs (command_span (open_command nothing c)) (command_span c) (span_command c)) refl
 
   node_form : (f : AForm) (span : Span) → form_node (open_form nothing f) span ≡ form_node f span
   unfolding open_form
@@ -108,7 +135,8 @@ module _ (nothing : Span) where
   items_same (more_items i is) = rw (item_same i, items_same is) refl
 
   mutual
-    unfolding opened open_entry open_content open_and_or open_and_or_parts open_pipeline open_pipes open_command open_compound open_form open_branch open_branches open_else open_cases open_case
+    unfolding opened open_entry open_content open_and_or open_and_or_parts open_pipeline open_pipes open_command
+        open_compound open_form open_branch open_branches open_else open_cases open_case
 
     -- the nodes
     pub nodes_open : (es : Entries) → entries_nodes (opened nothing es) ≡ entries_nodes es
@@ -123,14 +151,16 @@ module _ (nothing : Span) where
     content_same (remark c) = refl
 
     and_or_same : (a : AnAndOr) → and_or_nodes (open_and_or nothing a) ≡ and_or_nodes a
-    and_or_same (and_or first rest) = rw (node_and_or (and_or first rest), pipeline_same first, and_or_parts_same rest) refl
+    and_or_same (and_or first rest) =
+        rw (node_and_or (and_or first rest), pipeline_same first, and_or_parts_same rest) refl
 
     and_or_parts_same : (ps : AndOrParts) → and_or_parts_nodes (open_and_or_parts nothing ps) ≡ and_or_parts_nodes ps
     and_or_parts_same no_and_or = refl
     and_or_parts_same (more_and_or operator join p ps) = rw (pipeline_same p, and_or_parts_same ps) refl
 
     pipeline_same : (p : APipeline) → pipeline_nodes (open_pipeline nothing p) ≡ pipeline_nodes p
-    pipeline_same (pipeline bang first rest) = rw (node_pipeline (pipeline bang first rest), command_same first, pipes_same rest) refl
+    pipeline_same (pipeline bang first rest) =
+        rw (node_pipeline (pipeline bang first rest), command_same first, pipes_same rest) refl
 
     pipes_same : (cs : PipelineParts) → pipes_nodes (open_pipes nothing cs) ≡ pipes_nodes cs
     pipes_same no_pipe = refl
@@ -142,7 +172,8 @@ module _ (nothing : Span) where
     command_same (function name comments body) = rw (span_compound body, compound_same body) refl
 
     compound_same : (c : ACompound) → compound_nodes (open_compound nothing c) ≡ compound_nodes c
-    compound_same (formed form span redirects) = rw (last_items redirects span span refl, node_form form, form_same form, items_same redirects) refl
+    compound_same (formed form span redirects) =
+        rw (last_items redirects span span refl, node_form form, form_same form, items_same redirects) refl
 
     form_same : (f : AForm) → form_nodes (open_form nothing f) ≡ form_nodes f
     form_same (brace es) = nodes_open es
@@ -180,7 +211,8 @@ filled_nodes bs es =
 pub filled_within : (limit : ℕ) (bs : Row Span) (es : Entries) → AreWithin limit es → AreWithin limit (filled bs es)
 filled_within limit bs es so = All-same (IsWithin limit) _ _ (filled_nodes bs es) so
 
-pub filled_ends : (bs : Row Span) (es : Entries) (before : ℕ) → commands_end before (filled bs es) ≡ commands_end before es
+pub filled_ends : (bs : Row Span) (es : Entries) (before : ℕ) →
+    commands_end before (filled bs es) ≡ commands_end before es
 filled_ends bs es before =
     let nothing : Span = record { start = 0; «end» = 0 } in
     rw (← ends_open nothing (filled bs es) before, filled_blind nothing bs es) (ends_open nothing es before)
@@ -211,7 +243,8 @@ module _ {T M : Type 0} (nothing : T) where
   whole_open : (es : EntriesOf T M) → is_whole (opened nothing es) ≡ is_whole es
   whole_open es = rw (holds_open es, first_open es) refl
 
-  normal_content_open : (c : AnItemContentOf T M) → is_normal_content (open_item_content nothing c) ≡ is_normal_content c
+  normal_content_open : (c : AnItemContentOf T M) →
+      is_normal_content (open_item_content nothing c) ≡ is_normal_content c
   unfolding open_item_content
   normal_content_open (assign w) = refl
   normal_content_open (argument w) = refl
@@ -227,7 +260,8 @@ module _ {T M : Type 0} (nothing : T) where
   normal_items_open (more_items i is) = rw (normal_item_open i, normal_items_open is) refl
 
   mutual
-    unfolding opened open_entry open_content open_and_or open_and_or_parts open_pipeline open_pipes open_command open_compound open_form open_branch open_branches open_else open_cases open_case
+    unfolding opened open_entry open_content open_and_or open_and_or_parts open_pipeline open_pipes open_command
+        open_compound open_form open_branch open_branches open_else open_cases open_case
 
     all_open : (es : EntriesOf T M) → are_normal (opened nothing es) ≡ are_normal es
     all_open no_entry = refl
@@ -240,7 +274,8 @@ module _ {T M : Type 0} (nothing : T) where
     normal_and_or_open : (a : AnAndOrOf T M) → is_normal_and_or (open_and_or nothing a) ≡ is_normal_and_or a
     normal_and_or_open (and_or first rest) = rw (normal_pipeline_open first, normal_and_ors_open rest) refl
 
-    normal_and_ors_open : (ps : AndOrPartsOf T M) → are_normal_and_ors (open_and_or_parts nothing ps) ≡ are_normal_and_ors ps
+    normal_and_ors_open : (ps : AndOrPartsOf T M) →
+        are_normal_and_ors (open_and_or_parts nothing ps) ≡ are_normal_and_ors ps
     normal_and_ors_open no_and_or = refl
     normal_and_ors_open (more_and_or operator join p ps) = rw (normal_pipeline_open p, normal_and_ors_open ps) refl
 
@@ -262,16 +297,19 @@ module _ {T M : Type 0} (nothing : T) where
     normal_form_open : (f : AFormOf T M) → is_normal_form (open_form nothing f) ≡ is_normal_form f
     normal_form_open (brace es) = rw (whole_open es, all_open es) refl
     normal_form_open (subshell es) = rw (whole_open es, all_open es) refl
-    normal_form_open (if_then first rest other) = rw (normal_branch_open first, normal_branches_open rest, normal_else_open other) refl
+    normal_form_open (if_then first rest other) =
+        rw (normal_branch_open first, normal_branches_open rest, normal_else_open other) refl
     normal_form_open (while_do b) = normal_branch_open b
     normal_form_open (until_do b) = normal_branch_open b
     normal_form_open (for_in name words body) = rw (whole_open body, all_open body) refl
     normal_form_open (case_in w cases tail) = rw (normal_cases_open cases) refl
 
     normal_branch_open : (b : ABranchOf T M) → is_normal_branch (open_branch nothing b) ≡ is_normal_branch b
-    normal_branch_open (branch condition body) = rw (whole_open condition, all_open condition, whole_open body, all_open body) refl
+    normal_branch_open (branch condition body) =
+        rw (whole_open condition, all_open condition, whole_open body, all_open body) refl
 
-    normal_branches_open : (bs : BranchesOf T M) → are_normal_branches (open_branches nothing bs) ≡ are_normal_branches bs
+    normal_branches_open : (bs : BranchesOf T M) →
+        are_normal_branches (open_branches nothing bs) ≡ are_normal_branches bs
     normal_branches_open no_branch = refl
     normal_branches_open (more_branches b bs) = rw (normal_branch_open b, normal_branches_open bs) refl
 
@@ -305,7 +343,8 @@ unfolding filled
 filled_normal [] es = refl
 filled_normal (b ∷ bs) es = filled_normal_by b (b ∷ bs) es
 
-pub first_filled : {T M : Type 0} (bs : Row T) (es : EntriesOf T M) → first_not_blank (filled bs es) ≡ first_not_blank es
+pub first_filled : {T M : Type 0} (bs : Row T) (es : EntriesOf T M) →
+    first_not_blank (filled bs es) ≡ first_not_blank es
 unfolding filled
 first_filled [] es = refl
 first_filled (b ∷ bs) es = first_filled_by b (b ∷ bs) es
@@ -330,7 +369,8 @@ module _ (nothing : Text) where
   spelled_items (more_items i is) = rw (spelled_item i, spelled_items is) refl
 
   mutual
-    unfolding opened open_entry open_content open_and_or open_and_or_parts open_pipeline open_pipes open_command open_compound open_form open_branch open_branches open_else open_cases open_case
+    unfolding opened open_entry open_content open_and_or open_and_or_parts open_pipeline open_pipes open_command
+        open_compound open_form open_branch open_branches open_else open_cases open_case
 
     -- the tokens of a shape
     pub spelling_open : (es : Shape EntriesOf) → spelling (opened nothing es) ≡ spelling es
@@ -344,7 +384,8 @@ module _ (nothing : Text) where
     spelled_and_or : (a : Shape AnAndOrOf) → spell_and_or (open_and_or nothing a) ≡ spell_and_or a
     spelled_and_or (and_or first rest) = rw (spelled_pipeline first, spelled_parts rest) refl
 
-    spelled_parts : (ps : Shape AndOrPartsOf) → spell_and_or_parts (open_and_or_parts nothing ps) ≡ spell_and_or_parts ps
+    spelled_parts : (ps : Shape AndOrPartsOf) →
+        spell_and_or_parts (open_and_or_parts nothing ps) ≡ spell_and_or_parts ps
     spelled_parts no_and_or = refl
     spelled_parts (more_and_or operator join p ps) = rw (spelled_pipeline p, spelled_parts ps) refl
 

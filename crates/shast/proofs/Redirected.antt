@@ -9,5 +9,7 @@ use Rattle.shast.specs.View.{view_compound, view_item}
 use Rattle.shast.proofs.Seen.{compound_seen}
 
 pub compound_redirected : (c : Compound) (is : Vec Item Global)
-    → view_compound (roll-Compound record { form = (out-Compound c).form; span = (out-Compound c).span; redirects = is }) ≡ compound_with (view_compound c) (items_of (map view_item is.items))
+    → view_compound (roll-Compound
+    record { form = (out-Compound c).form; span = (out-Compound c).span; redirects = is })
+    ≡ compound_with (view_compound c) (items_of (map view_item is.items))
 compound_redirected c is = rw (compound_seen c) (search (rules, fold-roll-Compound))

@@ -78,7 +78,8 @@ module _ (B : List ℕ) where
     same_of_form (case_in w items tail) = rw (same_word w, same_cases items) refl
 
     same_branch : (b : ABranch) → is_normal_branch (shape_of_branch B b) ≡ is_normal_branch b
-    same_branch (branch condition body) = rw (same_whole condition, same_all condition, same_whole body, same_all body) refl
+    same_branch (branch condition body) =
+        rw (same_whole condition, same_all condition, same_whole body, same_all body) refl
 
     same_branches : (bs : Branches) → are_normal_branches (shape_of_branches B bs) ≡ are_normal_branches bs
     same_branches no_branch = refl

@@ -29,7 +29,8 @@ use Rattle.shast.specs.View.{view_and_or, view_and_or_part, view_branch, view_ca
 pub list_seen : (l : List) → view_list l ≡ entries_of (map view_entry (out-List l).entries.items)
 list_seen l = search (rules, fold_out-List)
 
-pub list_made : (entries : Vec Entry Global) → view_list (roll-List (record { entries = entries })) ≡ entries_of (map view_entry entries.items)
+pub list_made : (entries : Vec Entry Global) →
+    view_list (roll-List (record { entries = entries })) ≡ entries_of (map view_entry entries.items)
 list_made entries = search (rules, fold-roll-List)
 
 pub subst_seen : (s : Subst) → view_subst s ≡ subst (view_list (out-Subst s).list) (out-Subst s).span
@@ -38,35 +39,59 @@ subst_seen s = search (rules, fold_out-Subst)
 pub word_seen : (w : Word) → view_word w ≡ word (out-Word w).span (substs_of (map view_subst (out-Word w).substs.items))
 word_seen w = search (rules, fold_out-Word)
 
-pub and_or_seen : (a : AndOr) → view_and_or a ≡ and_or (view_pipeline (out-AndOr a).first) (and_or_parts_of (map view_and_or_part (out-AndOr a).rest.items))
+pub and_or_seen : (a : AndOr) →
+    view_and_or a ≡ and_or (view_pipeline (out-AndOr a).first)
+    (and_or_parts_of (map view_and_or_part (out-AndOr a).rest.items))
 and_or_seen a = search (rules, fold_out-AndOr)
 
-pub and_or_part_seen : (p : AndOrPart) → view_and_or_part p ≡ record { operator = (out-AndOrPart p).operator; join = view_join (out-AndOrPart p).join; pipeline = view_pipeline (out-AndOrPart p).pipeline }
+pub and_or_part_seen : (p : AndOrPart) →
+    view_and_or_part p ≡ record {
+      operator = (out-AndOrPart p).operator;
+      join = view_join (out-AndOrPart p).join;
+      pipeline = view_pipeline (out-AndOrPart p).pipeline;
+    }
 and_or_part_seen p = search (rules, fold_out-AndOrPart)
 
-pub pipeline_seen : (p : Pipeline) → view_pipeline p ≡ pipeline (out-Pipeline p).bang (view_command (out-Pipeline p).first) (pipeline_parts_of (map view_pipeline_part (out-Pipeline p).rest.items))
+pub pipeline_seen : (p : Pipeline) →
+    view_pipeline p ≡ pipeline (out-Pipeline p).bang (view_command (out-Pipeline p).first)
+    (pipeline_parts_of (map view_pipeline_part (out-Pipeline p).rest.items))
 pipeline_seen p = search (rules, fold_out-Pipeline)
 
-pub pipeline_part_seen : (p : PipelinePart) → view_pipeline_part p ≡ record { join = view_join (out-PipelinePart p).join; command = view_command (out-PipelinePart p).command }
+pub pipeline_part_seen : (p : PipelinePart) →
+    view_pipeline_part p ≡ record {
+      join = view_join (out-PipelinePart p).join;
+      command = view_command (out-PipelinePart p).command;
+    }
 pipeline_part_seen p = search (rules, fold_out-PipelinePart)
 
-pub compound_seen : (c : Compound) → view_compound c ≡ formed (view_form (out-Compound c).form) (out-Compound c).span (items_of (map view_item (out-Compound c).redirects.items))
+pub compound_seen : (c : Compound) →
+    view_compound c ≡ formed (view_form (out-Compound c).form) (out-Compound c).span
+    (items_of (map view_item (out-Compound c).redirects.items))
 compound_seen c = search (rules, fold_out-Compound)
 
-pub branch_seen : (b : Branch) → view_branch b ≡ branch (view_list (out-Branch b).condition) (view_list (out-Branch b).body)
+pub branch_seen : (b : Branch) →
+    view_branch b ≡ branch (view_list (out-Branch b).condition) (view_list (out-Branch b).body)
 branch_seen b = search (rules, fold_out-Branch)
 
-pub case_item_seen : (c : CaseItem) → view_case_item c ≡ case_item (map view_comment (out-CaseItem c).comments.items) (patterns_of (map view_word (out-CaseItem c).patterns.items)) (view_list (out-CaseItem c).body) (record { mark = (out-CaseItem c).span; falls = (out-CaseItem c).falls })
+pub case_item_seen : (c : CaseItem) →
+    view_case_item c ≡ case_item (map view_comment (out-CaseItem c).comments.items)
+    (patterns_of (map view_word (out-CaseItem c).patterns.items)) (view_list (out-CaseItem c).body)
+    (record { mark = (out-CaseItem c).span; falls = (out-CaseItem c).falls })
 case_item_seen c = search (rules, fold_out-CaseItem)
 
-pub entry_seen : (e : Entry) → view_entry e ≡ entry (view_content (out-Entry e).what) (out-Entry e).background (out-Entry e).blank (option_map view_comment (out-Entry e).comment)
+pub entry_seen : (e : Entry) →
+    view_entry e ≡ entry (view_content (out-Entry e).what) (out-Entry e).background (out-Entry e).blank
+    (option_map view_comment (out-Entry e).comment)
 entry_seen e = search (rules, fold_out-Entry)
 
-pub function_seen : (f : Function) → view_function f ≡ function (out-Function f).name (map view_comment (out-Function f).comments.items) (view_compound (out-Function f).body)
+pub function_seen : (f : Function) →
+    view_function f ≡ function (out-Function f).name (map view_comment (out-Function f).comments.items)
+    (view_compound (out-Function f).body)
 function_seen f = search (rules, fold_out-Function)
 
 pub redirection_seen : (r : Redirection)
-    → view_redirection r ≡ redirect (out-Redirection r).number (out-Redirection r).operator (out-Redirection r).span (view_word (out-Redirection r).word) (option_map view_here (out-Redirection r).here)
+    → view_redirection r ≡ redirect (out-Redirection r).number (out-Redirection r).operator (out-Redirection r).span
+    (view_word (out-Redirection r).word) (option_map view_here (out-Redirection r).here)
 redirection_seen r = search (rules, fold_out-Redirection)
 
 pub item_seen : (i : Item) → view_item i ≡ item (out-Item i).broken (view_item_content (out-Item i).what)
@@ -74,31 +99,39 @@ item_seen i = search (rules, fold_out-Item)
 
 -- ---- by the kind of a node
 
-pub simple_seen : (items : Vec Item Global) → view_command (the_command.TheVariants.Simple items) ≡ simple (items_of (map view_item items.items))
+pub simple_seen : (items : Vec Item Global) →
+    view_command (the_command.TheVariants.Simple items) ≡ simple (items_of (map view_item items.items))
 simple_seen items = rw (← rolls-Simple items) (search (rules, fold-roll-Command))
 
 pub assign_seen : (w : Word) → view_item_content (the_item_content.TheVariants.Assign w) ≡ assign (view_word w)
 assign_seen w = rw (← rolls-Assign w) (search (rules, fold-roll-ItemContent))
 
-pub if_seen : (first : Branch) (rest : Vec Branch Global) → view_form (the_form.TheVariants.If first rest None) ≡ if_then (view_branch first) (branches_of (map view_branch rest.items)) no_else
+pub if_seen : (first : Branch) (rest : Vec Branch Global) →
+    view_form (the_form.TheVariants.If first rest None)
+    ≡ if_then (view_branch first) (branches_of (map view_branch rest.items)) no_else
 if_seen first rest = rw (← rolls-If first rest None) (search (rules, fold-roll-Form))
 
 pub if_else_seen : (first : Branch) (rest : Vec Branch Global) (other : List)
-    → view_form (the_form.TheVariants.If first rest (Some other)) ≡ if_then (view_branch first) (branches_of (map view_branch rest.items)) (otherwise (view_list other))
+    → view_form (the_form.TheVariants.If first rest (Some other))
+    ≡ if_then (view_branch first) (branches_of (map view_branch rest.items)) (otherwise (view_list other))
 if_else_seen first rest other = rw (← rolls-If first rest (Some other)) (search (rules, fold-roll-Form))
 
 pub if_all_seen : (first : Branch) (rest : Vec Branch Global) (other : Option List)
-    → view_form (the_form.TheVariants.If first rest other) ≡ if_then (view_branch first) (branches_of (map view_branch rest.items)) (view_otherwise other)
+    → view_form (the_form.TheVariants.If first rest other)
+    ≡ if_then (view_branch first) (branches_of (map view_branch rest.items)) (view_otherwise other)
 if_all_seen first rest None = if_seen first rest
 if_all_seen first rest (Some other) = if_else_seen first rest other
 
-pub for_seen : (name : Word) (body : List) → view_form (the_form.TheVariants.For name None body) ≡ for_in (view_word name) no_in (view_list body)
+pub for_seen : (name : Word) (body : List) →
+    view_form (the_form.TheVariants.For name None body) ≡ for_in (view_word name) no_in (view_list body)
 for_seen name body = rw (← rolls-For name None body) (search (rules, fold-roll-Form))
 
 pub for_words_seen : (name : Word) (words : Vec Item Global) (body : List)
-    → view_form (the_form.TheVariants.For name (Some words) body) ≡ for_in (view_word name) (in_words (items_of (map view_item words.items))) (view_list body)
+    → view_form (the_form.TheVariants.For name (Some words) body)
+    ≡ for_in (view_word name) (in_words (items_of (map view_item words.items))) (view_list body)
 for_words_seen name words body = rw (← rolls-For name (Some words) body) (search (rules, fold-roll-Form))
 
 pub case_seen : (w : Word) (items : Vec CaseItem Global) (tail : Vec Comment Global)
-    → view_form (the_form.TheVariants.Case w items tail) ≡ case_in (view_word w) (cases_of (map view_case_item items.items)) (map view_comment tail.items)
+    → view_form (the_form.TheVariants.Case w items tail)
+    ≡ case_in (view_word w) (cases_of (map view_case_item items.items)) (map view_comment tail.items)
 case_seen w items tail = rw (← rolls-Case w items tail) (search (rules, fold-roll-Form))

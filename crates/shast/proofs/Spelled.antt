@@ -53,43 +53,56 @@ a_list p q = list_of (a_command p q)
 -- commands that are joined, in the background
 joined :
     spelling (shape_of (codes "! a=1 b | c && d || e &")
-    (more_entries (entry (command (and_or (pipeline (Some nowhere) (simple (items_of (item false (assign (a_word 2 5)) ∷ a_name 6 7 ∷ []))) (more_pipes join (a_command 10 11) no_pipe))
-    (more_and_or And join (alone (a_command 15 16)) (more_and_or Or join (alone (a_command 20 21)) no_and_or)))) true false None) no_entry))
-    ≡ codes "!" ∷ codes "a=1" ∷ codes "b" ∷ codes "|" ∷ codes "c" ∷ codes "&&" ∷ codes "d" ∷ codes "||" ∷ codes "e" ∷ codes "&" ∷ []
+    (more_entries (entry (command
+    (and_or (pipeline (Some nowhere) (simple (items_of (item false (assign (a_word 2 5)) ∷ a_name 6 7 ∷ [])))
+    (more_pipes join (a_command 10 11) no_pipe))
+    (more_and_or And join (alone (a_command 15 16)) (more_and_or Or join (alone (a_command 20 21)) no_and_or)))) true
+    false None) no_entry))
+    ≡ codes "!" ∷ codes "a=1" ∷ codes "b" ∷ codes "|" ∷ codes "c" ∷ codes "&&" ∷ codes "d" ∷ codes "||" ∷ codes "e"
+    ∷ codes "&" ∷ []
 joined = refl
 
 -- groups; a comment is no token
 grouped :
     spelling (shape_of (codes "{ a; } # b\n(c)")
-    (more_entries (an_entry (a_compound (brace (a_list 2 3)))) (more_entries (entry (remark nowhere) false false None) (list_of (a_compound (subshell (a_list 12 13)))))))
+    (more_entries (an_entry (a_compound (brace (a_list 2 3))))
+    (more_entries (entry (remark nowhere) false false None) (list_of (a_compound (subshell (a_list 12 13)))))))
     ≡ codes "{" ∷ codes "a" ∷ codes "}" ∷ codes "(" ∷ codes "c" ∷ codes ")" ∷ []
 grouped = refl
 
 -- conditions
 chosen :
     spelling (shape_of (codes "if a; then b; elif c; then d; else e; fi")
-    (list_of (a_compound (if_then (branch (a_list 3 4) (a_list 11 12)) (branches_of (branch (a_list 19 20) (a_list 27 28) ∷ [])) (otherwise (a_list 35 36))))))
-    ≡ codes "if" ∷ codes "a" ∷ codes "then" ∷ codes "b" ∷ codes "elif" ∷ codes "c" ∷ codes "then" ∷ codes "d" ∷ codes "else" ∷ codes "e" ∷ codes "fi" ∷ []
+    (list_of (a_compound (if_then (branch (a_list 3 4) (a_list 11 12))
+    (branches_of (branch (a_list 19 20) (a_list 27 28) ∷ [])) (otherwise (a_list 35 36))))))
+    ≡ codes "if" ∷ codes "a" ∷ codes "then" ∷ codes "b" ∷ codes "elif" ∷ codes "c" ∷ codes "then" ∷ codes "d"
+    ∷ codes "else" ∷ codes "e" ∷ codes "fi" ∷ []
 chosen = refl
 
 -- loops
 repeated :
     spelling (shape_of (codes "while a; do b; done; until c; do d; done")
-    (more_entries (an_entry (a_compound (while_do (branch (a_list 6 7) (a_list 12 13))))) (list_of (a_compound (until_do (branch (a_list 27 28) (a_list 33 34)))))))
-    ≡ codes "while" ∷ codes "a" ∷ codes "do" ∷ codes "b" ∷ codes "done" ∷ codes "until" ∷ codes "c" ∷ codes "do" ∷ codes "d" ∷ codes "done" ∷ []
+    (more_entries (an_entry (a_compound (while_do (branch (a_list 6 7) (a_list 12 13)))))
+    (list_of (a_compound (until_do (branch (a_list 27 28) (a_list 33 34)))))))
+    ≡ codes "while" ∷ codes "a" ∷ codes "do" ∷ codes "b" ∷ codes "done" ∷ codes "until" ∷ codes "c" ∷ codes "do"
+    ∷ codes "d" ∷ codes "done" ∷ []
 repeated = refl
 
 for_each :
     spelling (shape_of (codes "for a in b c; do d; done; for e do f; done")
-    (more_entries (an_entry (a_compound (for_in (a_word 4 5) (in_words (items_of (a_name 9 10 ∷ a_name 11 12 ∷ []))) (a_list 17 18))))
+    (more_entries (an_entry (a_compound
+    (for_in (a_word 4 5) (in_words (items_of (a_name 9 10 ∷ a_name 11 12 ∷ []))) (a_list 17 18))))
     (list_of (a_compound (for_in (a_word 30 31) no_in (a_list 35 36))))))
-    ≡ codes "for" ∷ codes "a" ∷ codes "in" ∷ codes "b" ∷ codes "c" ∷ codes "do" ∷ codes "d" ∷ codes "done" ∷ codes "for" ∷ codes "e" ∷ codes "do" ∷ codes "f" ∷ codes "done" ∷ []
+    ≡ codes "for" ∷ codes "a" ∷ codes "in" ∷ codes "b" ∷ codes "c" ∷ codes "do" ∷ codes "d" ∷ codes "done" ∷ codes "for"
+    ∷ codes "e" ∷ codes "do" ∷ codes "f" ∷ codes "done" ∷ []
 for_each = refl
 
 -- neither the round bracket before a pattern nor `;;`; `;&` is a token
 matched :
     spelling (shape_of (codes "case a in (b|c) d;& *) e;; *) esac")
-    (list_of (a_compound (case_in (a_word 5 6) (cases_of (case_item [] (patterns_of (a_word 11 12 ∷ a_word 13 14 ∷ [])) (a_list 16 17) (record { mark = nowhere; falls = true })
+    (list_of (a_compound (case_in (a_word 5 6)
+    (cases_of (case_item [] (patterns_of (a_word 11 12 ∷ a_word 13 14 ∷ [])) (a_list 16 17)
+    (record { mark = nowhere; falls = true })
     ∷ case_item [] (patterns_of (a_word 20 21 ∷ [])) (a_list 23 24) (record { mark = nowhere; falls = false })
     ∷ case_item [] (patterns_of (a_word 27 28 ∷ [])) no_entry (record { mark = nowhere; falls = false }) ∷ [])) []))))
     ≡ codes "case" ∷ codes "a" ∷ codes "in" ∷ codes "b" ∷ codes "|" ∷ codes "c" ∷ codes ")" ∷ codes "d" ∷ codes ";&"
@@ -106,9 +119,13 @@ named = refl
 -- a number by its bare text, a word as it stands
 redirected :
     spelling (shape_of (codes "a 1\\\n2<\"$(b)\" >c >>d <&e >&f <>g >|h <<i <<-j")
-    (list_of (simple (items_of (a_name 0 1 ∷ item false (redirect (Some (at 2 6)) Input nowhere (word (at 7 13) (substs_of (subst (a_list 10 11) nowhere ∷ []))) None)
-    ∷ to Output 15 16 ∷ to Append 19 20 ∷ to DuplicateInput 23 24 ∷ to DuplicateOutput 27 28 ∷ to ReadWrite 31 32 ∷ to Clobber 35 36 ∷ to Here 39 40 ∷ to HereStripped 44 45 ∷ [])))))
+    (list_of (simple (items_of (a_name 0 1
+    ∷ item false (redirect (Some (at 2 6)) Input nowhere
+    (word (at 7 13) (substs_of (subst (a_list 10 11) nowhere ∷ []))) None)
+    ∷ to Output 15 16 ∷ to Append 19 20 ∷ to DuplicateInput 23 24 ∷ to DuplicateOutput 27 28 ∷ to ReadWrite 31 32
+    ∷ to Clobber 35 36 ∷ to Here 39 40 ∷ to HereStripped 44 45 ∷ [])))))
     ≡ codes "a" ∷ codes "12" ∷ codes "<" ∷ codes "\"$(b)\"" ∷ codes ">" ∷ codes "c"
-    ∷ codes ">>" ∷ codes "d" ∷ codes "<&" ∷ codes "e" ∷ codes ">&" ∷ codes "f" ∷ codes "<>" ∷ codes "g" ∷ codes ">|" ∷ codes "h" ∷ codes "<<" ∷ codes "i" ∷ codes "<<-" ∷ codes "j" ∷ []
+    ∷ codes ">>" ∷ codes "d" ∷ codes "<&" ∷ codes "e" ∷ codes ">&" ∷ codes "f" ∷ codes "<>" ∷ codes "g" ∷ codes ">|"
+    ∷ codes "h" ∷ codes "<<" ∷ codes "i" ∷ codes "<<-" ∷ codes "j" ∷ []
 unfolding bare
 redirected = refl

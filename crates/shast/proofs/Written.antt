@@ -41,16 +41,23 @@ substituted n = item false (argument (word 0 (more_substs (subst (list n) 0) no_
 -- the documents of the level by the number of each, and one in a word
 abbrev whole : ℕ → ℕ → ℕ → ℕ → ℕ → ℕ → ℕ → ℕ → ℕ → ℕ → ℕ → ℕ → ℕ → ℕ → ℕ → ℕ → ℕ → Numbered EntriesOf
 whole a b c d e f g h i j k l m n o p q =
-    more_entries (entry (command (and_or (pipeline None (one a) (more_pipes a_join (one b) no_pipe)) (more_and_or And a_join (pipeline None (one c) no_pipe) no_and_or))) false false None)
-    (more_entries (of_command (before (if_then (tested d e) (more_branches (tested f g) no_branch) (otherwise (list h))) i))
+    more_entries (entry (command (and_or (pipeline None (one a) (more_pipes a_join (one b) no_pipe))
+    (more_and_or And a_join (pipeline None (one c) no_pipe) no_and_or))) false false None)
+    (more_entries (of_command (before
+    (if_then (tested d e) (more_branches (tested f g) no_branch) (otherwise (list h))) i))
     (more_entries (of_command (before (while_do (tested j k)) l))
     (more_entries (of_command (before (for_in a_word no_in (list m)) n))
-    (more_entries (of_command (before (case_in a_word (more_cases (case_item [] (more_patterns a_word no_pattern) (list o) (record { mark = 0; falls = false })) no_case) []) p))
-    (more_entries (of_command (function 0 [] (formed (brace (alone (of_command (simple (more_items (substituted 99) (more_items (document q) no_item)))))) 0 no_item)))
+    (more_entries (of_command (before
+    (case_in a_word (more_cases (case_item [] (more_patterns a_word no_pattern) (list o)
+    (record { mark = 0; falls = false })) no_case) []) p))
+    (more_entries (of_command (function 0 []
+    (formed (brace (alone (of_command (simple (more_items (substituted 99) (more_items (document q) no_item)))))) 0
+    no_item)))
     no_entry)))))
 
 pub filled_whole :
-    filled (1 ∷ 2 ∷ 3 ∷ 4 ∷ 5 ∷ 6 ∷ 7 ∷ 8 ∷ 9 ∷ 10 ∷ 11 ∷ 12 ∷ 13 ∷ 14 ∷ 15 ∷ 16 ∷ 17 ∷ []) (whole 0 0 0 0 0 0 0 0 0 0 0 0 0 0 0 0 0)
+    filled (1 ∷ 2 ∷ 3 ∷ 4 ∷ 5 ∷ 6 ∷ 7 ∷ 8 ∷ 9 ∷ 10 ∷ 11 ∷ 12 ∷ 13 ∷ 14 ∷ 15 ∷ 16 ∷ 17 ∷ [])
+    (whole 0 0 0 0 0 0 0 0 0 0 0 0 0 0 0 0 0)
     ≡ whole 1 2 3 4 5 6 7 8 9 10 11 12 13 14 15 16 17
 unfolding filled fill_entries fill_items fill_item fill_item_content
 filled_whole = refl
@@ -60,7 +67,8 @@ unfolding opened open_items open_item open_item_content
 opened_whole = refl
 
 pub bodies_of_whole :
-    bodies_of (whole 1 2 3 4 5 6 7 8 9 10 11 12 13 14 15 16 17) ≡ 1 ∷ 2 ∷ 3 ∷ 4 ∷ 5 ∷ 6 ∷ 7 ∷ 8 ∷ 9 ∷ 10 ∷ 11 ∷ 12 ∷ 13 ∷ 14 ∷ 15 ∷ 16 ∷ 17 ∷ []
+    bodies_of (whole 1 2 3 4 5 6 7 8 9 10 11 12 13 14 15 16 17) ≡ 1 ∷ 2 ∷ 3 ∷ 4 ∷ 5 ∷ 6 ∷ 7 ∷ 8 ∷ 9 ∷ 10 ∷ 11 ∷ 12 ∷ 13
+    ∷ 14 ∷ 15 ∷ 16 ∷ 17 ∷ []
 unfolding entries_bodies items_bodies item_bodies item_content_bodies
 bodies_of_whole = refl
 

@@ -82,7 +82,8 @@ module _ (P : Span → Type 0) (Q : Items → Type 0) where
     InCases (more_cases c cs) = InCase c × InCases cs
 
     pub InCase : ACaseItem → Type 0
-    InCase (case_item comments patterns body mark) = OfEach P comments × InPatterns patterns × Throughout body × P mark.mark
+    InCase (case_item comments patterns body mark) = OfEach P comments × InPatterns patterns × Throughout body
+        × P mark.mark
 
     pub InPatterns : Patterns → Type 0
     InPatterns no_pattern = Unit {0}

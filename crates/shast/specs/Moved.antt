@@ -26,7 +26,8 @@ module _ (f h : Span → Span) where
       carried (more_entries e es) = more_entries (carried_entry e) (carried es)
 
       pub carried_entry : AnEntry → AnEntry
-      carried_entry (entry what background blank comment) = entry (carried_content what) background blank (option_map f comment)
+      carried_entry (entry what background blank comment) =
+          entry (carried_content what) background blank (option_map f comment)
 
       pub carried_content : AContent → AContent
       carried_content (command a) = command (carried_and_or a)
@@ -37,10 +38,12 @@ module _ (f h : Span → Span) where
 
       pub carried_and_or_parts : AndOrParts → AndOrParts
       carried_and_or_parts no_and_or = no_and_or
-      carried_and_or_parts (more_and_or operator join p ps) = more_and_or operator (carried_join join) (carried_pipeline p) (carried_and_or_parts ps)
+      carried_and_or_parts (more_and_or operator join p ps) =
+          more_and_or operator (carried_join join) (carried_pipeline p) (carried_and_or_parts ps)
 
       pub carried_pipeline : APipeline → APipeline
-      carried_pipeline (pipeline bang first rest) = pipeline (option_map f bang) (carried_command first) (carried_pipes rest)
+      carried_pipeline (pipeline bang first rest) =
+          pipeline (option_map f bang) (carried_command first) (carried_pipes rest)
 
       pub carried_pipes : PipelineParts → PipelineParts
       carried_pipes no_pipe = no_pipe
@@ -57,7 +60,8 @@ module _ (f h : Span → Span) where
       pub carried_form : AForm → AForm
       carried_form (brace es) = brace (carried es)
       carried_form (subshell es) = subshell (carried es)
-      carried_form (if_then first rest other) = if_then (carried_branch first) (carried_branches rest) (carried_else other)
+      carried_form (if_then first rest other) =
+          if_then (carried_branch first) (carried_branches rest) (carried_else other)
       carried_form (while_do b) = while_do (carried_branch b)
       carried_form (until_do b) = until_do (carried_branch b)
       carried_form (for_in name words body) = for_in (carried_word name) (carried_for_words words) (carried body)
@@ -83,7 +87,8 @@ module _ (f h : Span → Span) where
       carried_cases (more_cases c cs) = more_cases (carried_case c) (carried_cases cs)
 
       pub carried_case : ACaseItem → ACaseItem
-      carried_case (case_item comments patterns body mark) = case_item (map f comments) (carried_patterns patterns) (carried body) (marked f mark)
+      carried_case (case_item comments patterns body mark) =
+          case_item (map f comments) (carried_patterns patterns) (carried body) (marked f mark)
 
       pub carried_patterns : Patterns → Patterns
       carried_patterns no_pattern = no_pattern
@@ -99,7 +104,8 @@ module _ (f h : Span → Span) where
       pub carried_item_content : AnItemContent → AnItemContent
       carried_item_content (assign w) = assign (carried_word w)
       carried_item_content (argument w) = argument (carried_word w)
-      carried_item_content (redirect number operator span w here) = redirect (option_map f number) operator (f span) (carried_word w) (option_map carried_here here)
+      carried_item_content (redirect number operator span w here) =
+          redirect (option_map f number) operator (f span) (carried_word w) (option_map carried_here here)
 
       pub carried_word : AWord → AWord
       carried_word (word span substs) = word (f span) (kept_substs deep (carried_substs substs))
@@ -112,7 +118,11 @@ module _ (f h : Span → Span) where
       carried_subst (subst entries span) = subst (carried entries) (f span)
 
     abbrev pub carried_and_or_part : AnAndOrPart → AnAndOrPart
-    carried_and_or_part p = record { operator = p.operator; join = carried_join p.join; pipeline = carried_pipeline p.pipeline }
+    carried_and_or_part p = record {
+      operator = p.operator;
+      join = carried_join p.join;
+      pipeline = carried_pipeline p.pipeline;
+    }
 
     abbrev pub carried_pipe : APipelinePart → APipelinePart
     carried_pipe p = record { join = carried_join p.join; command = carried_command p.command }

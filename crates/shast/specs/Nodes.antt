@@ -49,7 +49,8 @@ last_command before (more_pipes join c cs) = last_command (command_span c) cs
 
 -- from its `!`, where it has one, to its last command
 abbrev pub pipeline_span : APipeline → Span
-pipeline_span (pipeline bang first rest) = through (unwrap_or bang (command_span first)) (last_command (command_span first) rest)
+pipeline_span (pipeline bang first rest) =
+    through (unwrap_or bang (command_span first)) (last_command (command_span first) rest)
 
 abbrev pub last_pipeline : Span → AndOrParts → Span
 last_pipeline before no_and_or = before
@@ -84,7 +85,8 @@ comment_node span = node NodeKind.Comment span
 -- an and-or list is a node where an operator joins pipelines
 abbrev pub and_or_node : AnAndOr → Row NodeLine
 and_or_node (and_or first no_and_or) = []
-and_or_node (and_or first (more_and_or operator join p ps)) = node NodeKind.AndOr (and_or_span (and_or first (more_and_or operator join p ps))) ∷ []
+and_or_node (and_or first (more_and_or operator join p ps)) =
+    node NodeKind.AndOr (and_or_span (and_or first (more_and_or operator join p ps))) ∷ []
 
 -- a pipeline is a node where `!` stands before it or `|` joins commands
 abbrev pub pipeline_node : APipeline → Row NodeLine
@@ -122,10 +124,12 @@ abbrev mutual
   -- comments between two operands stand before the second
   pub and_or_parts_nodes : AndOrParts → Row NodeLine
   and_or_parts_nodes no_and_or = []
-  and_or_parts_nodes (more_and_or operator join p ps) = map comment_node join.comments ++ pipeline_nodes p ++ and_or_parts_nodes ps
+  and_or_parts_nodes (more_and_or operator join p ps) = map comment_node join.comments ++ pipeline_nodes p
+      ++ and_or_parts_nodes ps
 
   pub pipeline_nodes : APipeline → Row NodeLine
-  pipeline_nodes (pipeline bang first rest) = pipeline_node (pipeline bang first rest) ++ command_nodes first ++ pipes_nodes rest
+  pipeline_nodes (pipeline bang first rest) = pipeline_node (pipeline bang first rest) ++ command_nodes first
+      ++ pipes_nodes rest
 
   pub pipes_nodes : PipelineParts → Row NodeLine
   pipes_nodes no_pipe = []
@@ -134,10 +138,12 @@ abbrev mutual
   pub command_nodes : ACommand → Row NodeLine
   command_nodes (simple items) = node NodeKind.Simple (items_span items) ∷ items_nodes items
   command_nodes (compound c) = compound_nodes c
-  command_nodes (function name comments body) = named_node NodeKind.Function (through name (compound_span body)) name ∷ map comment_node comments ++ compound_nodes body
+  command_nodes (function name comments body) = named_node NodeKind.Function (through name (compound_span body)) name
+      ∷ map comment_node comments ++ compound_nodes body
 
   pub compound_nodes : ACompound → Row NodeLine
-  compound_nodes (formed form span redirects) = form_node form (through span (last_item span redirects)) ∷ form_nodes form ++ items_nodes redirects
+  compound_nodes (formed form span redirects) = form_node form (through span (last_item span redirects))
+      ∷ form_nodes form ++ items_nodes redirects
 
   pub form_nodes : AForm → Row NodeLine
   form_nodes (brace es) = entries_nodes es
@@ -168,7 +174,8 @@ abbrev mutual
   cases_nodes (more_cases c cs) = case_nodes c ++ cases_nodes cs
 
   pub case_nodes : ACaseItem → Row NodeLine
-  case_nodes (case_item comments patterns body mark) = node NodeKind.Item mark.mark ∷ map comment_node comments ++ patterns_nodes patterns ++ entries_nodes body
+  case_nodes (case_item comments patterns body mark) = node NodeKind.Item mark.mark ∷ map comment_node comments
+      ++ patterns_nodes patterns ++ entries_nodes body
 
   pub patterns_nodes : Patterns → Row NodeLine
   patterns_nodes no_pattern = []
@@ -182,7 +189,8 @@ abbrev mutual
   pub item_nodes : AnItem → Row NodeLine
   item_nodes (item broken (assign (word span substs))) = node NodeKind.Assign span ∷ substs_nodes substs
   item_nodes (item broken (argument w)) = word_nodes w
-  item_nodes (item broken (redirect number operator span w here)) = node NodeKind.Redirect (through (unwrap_or number span) (word_span w)) ∷ word_nodes w
+  item_nodes (item broken (redirect number operator span w here)) =
+      node NodeKind.Redirect (through (unwrap_or number span) (word_span w)) ∷ word_nodes w
 
   pub word_nodes : AWord → Row NodeLine
   word_nodes (word span substs) = node NodeKind.Word span ∷ substs_nodes substs
@@ -217,7 +225,12 @@ abbrev pub placed_span : ℕ → Span → Span
 placed_span base s = record { start = base + s.start; «end» = base + s.«end» }
 
 abbrev pub placed : ℕ → NodeLine → NodeLine
-placed base n = record { start = base + n.start; «end» = base + n.«end»; kind = n.kind; name = option_map (placed_span base) n.name }
+placed base n = record {
+  start = base + n.start;
+  «end» = base + n.«end»;
+  kind = n.kind;
+  name = option_map (placed_span base) n.name;
+}
 
 -- the nodes of a list that stands at a base, in order
 abbrev pub nodes_of : ℕ → Entries → Row NodeLine

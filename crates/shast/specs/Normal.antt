@@ -58,7 +58,8 @@ module _ {T M : Type 0} where
 
     pub are_normal_and_ors : AndOrPartsOf T M → Bool
     are_normal_and_ors no_and_or = true
-    are_normal_and_ors (more_and_or operator join p ps) = is_normal_join join && is_normal_pipeline p && are_normal_and_ors ps
+    are_normal_and_ors (more_and_or operator join p ps) = is_normal_join join && is_normal_pipeline p
+        && are_normal_and_ors ps
 
     pub is_normal_pipeline : APipelineOf T M → Bool
     is_normal_pipeline (pipeline bang first rest) = is_normal_command first && are_normal_pipes rest
@@ -78,14 +79,17 @@ module _ {T M : Type 0} where
     pub is_normal_form : AFormOf T M → Bool
     is_normal_form (brace es) = is_whole es && are_normal es
     is_normal_form (subshell es) = is_whole es && are_normal es
-    is_normal_form (if_then first rest other) = is_normal_branch first && are_normal_branches rest && is_normal_else other
+    is_normal_form (if_then first rest other) = is_normal_branch first && are_normal_branches rest
+        && is_normal_else other
     is_normal_form (while_do b) = is_normal_branch b
     is_normal_form (until_do b) = is_normal_branch b
-    is_normal_form (for_in name words body) = is_normal_word name && are_normal_words words && is_whole body && are_normal body
+    is_normal_form (for_in name words body) = is_normal_word name && are_normal_words words && is_whole body
+        && are_normal body
     is_normal_form (case_in w items tail) = is_normal_word w && are_normal_cases items
 
     pub is_normal_branch : ABranchOf T M → Bool
-    is_normal_branch (branch condition body) = is_whole condition && are_normal condition && is_whole body && are_normal body
+    is_normal_branch (branch condition body) = is_whole condition && are_normal condition && is_whole body
+        && are_normal body
 
     pub are_normal_branches : BranchesOf T M → Bool
     are_normal_branches no_branch = true
@@ -104,7 +108,8 @@ module _ {T M : Type 0} where
     are_normal_cases (more_cases c cs) = is_normal_case c && are_normal_cases cs
 
     pub is_normal_case : ACaseItemOf T M → Bool
-    is_normal_case (case_item comments patterns body span) = are_normal_patterns patterns && first_not_blank body && are_normal body
+    is_normal_case (case_item comments patterns body span) = are_normal_patterns patterns && first_not_blank body
+        && are_normal body
 
     pub are_normal_patterns : PatternsOf T M → Bool
     are_normal_patterns no_pattern = true

@@ -40,7 +40,8 @@ module _ {T M : Type 0} (nothing : T) where
 
     pub open_and_or_parts : AndOrPartsOf T M → AndOrPartsOf T M
     open_and_or_parts no_and_or = no_and_or
-    open_and_or_parts (more_and_or operator join p ps) = more_and_or operator join (open_pipeline p) (open_and_or_parts ps)
+    open_and_or_parts (more_and_or operator join p ps) =
+        more_and_or operator join (open_pipeline p) (open_and_or_parts ps)
 
     pub open_pipeline : APipelineOf T M → APipelineOf T M
     open_pipeline (pipeline bang first rest) = pipeline bang (open_command first) (open_pipes rest)

@@ -61,7 +61,8 @@ module _ (B : List ℕ) where
     shape_of (more_entries e es) = more_entries (shape_of_entry e) (shape_of es)
 
     pub shape_of_entry : AnEntry → Shape AnEntryOf
-    shape_of_entry (entry what background blank comment) = entry (shape_of_content what) background blank (option_map shape_of_comment comment)
+    shape_of_entry (entry what background blank comment) =
+        entry (shape_of_content what) background blank (option_map shape_of_comment comment)
 
     pub shape_of_content : AContent → Shape AContentOf
     shape_of_content (command a) = command (shape_of_and_or a)
@@ -72,10 +73,12 @@ module _ (B : List ℕ) where
 
     pub shape_of_and_or_parts : AndOrParts → Shape AndOrPartsOf
     shape_of_and_or_parts no_and_or = no_and_or
-    shape_of_and_or_parts (more_and_or operator join p ps) = more_and_or operator (shape_of_join join) (shape_of_pipeline p) (shape_of_and_or_parts ps)
+    shape_of_and_or_parts (more_and_or operator join p ps) =
+        more_and_or operator (shape_of_join join) (shape_of_pipeline p) (shape_of_and_or_parts ps)
 
     pub shape_of_pipeline : APipeline → Shape APipelineOf
-    shape_of_pipeline (pipeline bang first rest) = pipeline (shape_of_bang bang) (shape_of_command first) (shape_of_pipes rest)
+    shape_of_pipeline (pipeline bang first rest) =
+        pipeline (shape_of_bang bang) (shape_of_command first) (shape_of_pipes rest)
 
     pub shape_of_pipes : PipelineParts → Shape PipelinePartsOf
     shape_of_pipes no_pipe = no_pipe
@@ -84,15 +87,18 @@ module _ (B : List ℕ) where
     pub shape_of_command : ACommand → Shape ACommandOf
     shape_of_command (simple items) = simple (shape_of_items items)
     shape_of_command (compound c) = compound (shape_of_compound c)
-    shape_of_command (function name comments body) = function (text_at B name) (shape_of_comments comments) (shape_of_compound body)
+    shape_of_command (function name comments body) =
+        function (text_at B name) (shape_of_comments comments) (shape_of_compound body)
 
     pub shape_of_compound : ACompound → Shape ACompoundOf
-    shape_of_compound (formed form span redirects) = formed (shape_of_form form) (shape_of_mark span) (shape_of_items redirects)
+    shape_of_compound (formed form span redirects) =
+        formed (shape_of_form form) (shape_of_mark span) (shape_of_items redirects)
 
     pub shape_of_form : AForm → Shape AFormOf
     shape_of_form (brace es) = brace (shape_of es)
     shape_of_form (subshell es) = subshell (shape_of es)
-    shape_of_form (if_then first rest other) = if_then (shape_of_branch first) (shape_of_branches rest) (shape_of_else other)
+    shape_of_form (if_then first rest other) =
+        if_then (shape_of_branch first) (shape_of_branches rest) (shape_of_else other)
     shape_of_form (while_do b) = while_do (shape_of_branch b)
     shape_of_form (until_do b) = until_do (shape_of_branch b)
     shape_of_form (for_in name words body) = for_in (shape_of_word name) (shape_of_for_words words) (shape_of body)
@@ -118,7 +124,8 @@ module _ (B : List ℕ) where
     shape_of_cases (more_cases c cs) = more_cases (shape_of_case c) (shape_of_cases cs)
 
     pub shape_of_case : ACaseItem → Shape ACaseItemOf
-    shape_of_case (case_item comments patterns body mark) = case_item (shape_of_comments comments) (shape_of_patterns patterns) (shape_of body) (marked shape_of_mark mark)
+    shape_of_case (case_item comments patterns body mark) =
+        case_item (shape_of_comments comments) (shape_of_patterns patterns) (shape_of body) (marked shape_of_mark mark)
 
     pub shape_of_patterns : Patterns → Shape PatternsOf
     shape_of_patterns no_pattern = no_pattern
@@ -135,7 +142,9 @@ module _ (B : List ℕ) where
     pub shape_of_item_content : AnItemContent → Shape AnItemContentOf
     shape_of_item_content (assign w) = assign (shape_of_word w)
     shape_of_item_content (argument w) = argument (shape_of_word w)
-    shape_of_item_content (redirect number operator span w here) = redirect (option_map (bare_at B) number) operator (shape_of_mark span) (shape_of_word w) (option_map shape_of_here here)
+    shape_of_item_content (redirect number operator span w here) =
+        redirect (option_map (bare_at B) number) operator (shape_of_mark span) (shape_of_word w)
+        (option_map shape_of_here here)
 
     -- a word as it stands, and the shapes of its substitutions
     pub shape_of_word : AWord → Shape AWordOf

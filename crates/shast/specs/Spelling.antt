@@ -59,7 +59,8 @@ spell_word (word text substs) = text ∷ []
 abbrev pub spell_item : Shape AnItemOf → Tokens
 spell_item (item broken (assign w)) = spell_word w
 spell_item (item broken (argument w)) = spell_word w
-spell_item (item broken (redirect number operator mark w here)) = spell_number number ++ redirect_text operator ∷ spell_word w
+spell_item (item broken (redirect number operator mark w here)) = spell_number number ++ redirect_text operator
+    ∷ spell_word w
 
 abbrev pub spell_items : Shape ItemsOf → Tokens
 spell_items no_item = []
@@ -113,10 +114,12 @@ abbrev mutual
   pub spell_form : Shape AFormOf → Tokens
   spell_form (brace es) = codes "{" ∷ spelling es ++ codes "}" ∷ []
   spell_form (subshell es) = codes "(" ∷ spelling es ++ codes ")" ∷ []
-  spell_form (if_then first rest other) = codes "if" ∷ spell_branch first ++ spell_branches rest ++ spell_else other ++ codes "fi" ∷ []
+  spell_form (if_then first rest other) = codes "if" ∷ spell_branch first ++ spell_branches rest ++ spell_else other
+      ++ codes "fi" ∷ []
   spell_form (while_do b) = codes "while" ∷ spell_loop b
   spell_form (until_do b) = codes "until" ∷ spell_loop b
-  spell_form (for_in name words body) = codes "for" ∷ spell_word name ++ spell_for_words words ++ codes "do" ∷ spelling body ++ codes "done" ∷ []
+  spell_form (for_in name words body) = codes "for" ∷ spell_word name ++ spell_for_words words ++ codes "do"
+      ∷ spelling body ++ codes "done" ∷ []
   spell_form (case_in w items tail) = codes "case" ∷ spell_word w ++ codes "in" ∷ spell_cases items ++ codes "esac" ∷ []
 
   pub spell_branch : Shape ABranchOf → Tokens
@@ -138,4 +141,5 @@ abbrev mutual
   spell_cases (more_cases c cs) = spell_case c ++ spell_cases cs
 
   pub spell_case : Shape ACaseItemOf → Tokens
-  spell_case (case_item comments patterns body mark) = spell_first_pattern patterns ++ (codes ")" ∷ (spelling body ++ spell_falls mark.falls))
+  spell_case (case_item comments patterns body mark) = spell_first_pattern patterns
+      ++ (codes ")" ∷ (spelling body ++ spell_falls mark.falls))

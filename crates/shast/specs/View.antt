@@ -37,8 +37,10 @@ view_here h = record { literal = h.literal; strip = h.strip; body = h.body }
 
 -- ---- one level of each type, with what is below it seen already
 
-abbrev pub Seen : (Type 0 → Type 0 → Type 0 → Type 0 → Type 0 → Type 0 → Type 0 → Type 0 → Type 0 → Type 0 → Type 0 → Type 0 → Type 0 → Type 0 → Type 0 → Type 0 → Type 0 → Type 0 → Type 0) → Type 0
-Seen F = F ACommand AContent AForm AnItemContent AnAndOr AnAndOrPart ABranch ACaseItem ACompound AnEntry ACommand AnItem Entries APipeline APipelinePart AnItemContent ASubst AWord
+abbrev pub Seen : (Type 0 → Type 0 → Type 0 → Type 0 → Type 0 → Type 0 → Type 0 → Type 0 → Type 0 → Type 0 → Type 0 →
+    Type 0 → Type 0 → Type 0 → Type 0 → Type 0 → Type 0 → Type 0 → Type 0) → Type 0
+Seen F = F ACommand AContent AForm AnItemContent AnAndOr AnAndOrPart ABranch ACaseItem ACompound AnEntry ACommand AnItem
+    Entries APipeline APipelinePart AnItemContent ASubst AWord
 
 abbrev pub command_step : Seen Command-F → ACommand
 command_step (Command-F.Simple items) = simple (items_of items.items)
@@ -78,7 +80,8 @@ abbrev pub branch_step : Seen Branch-F → ABranch
 branch_step b = branch b.condition b.body
 
 abbrev pub case_item_step : Seen CaseItem-F → ACaseItem
-case_item_step c = case_item (map view_comment c.comments.items) (patterns_of c.patterns.items) c.body (record { mark = c.span; falls = c.falls })
+case_item_step c = case_item (map view_comment c.comments.items) (patterns_of c.patterns.items) c.body
+    (record { mark = c.span; falls = c.falls })
 
 abbrev pub compound_step : Seen Compound-F → ACompound
 compound_step c = formed c.form c.span (items_of c.redirects.items)
@@ -115,15 +118,20 @@ word_step w = word w.span (substs_of w.substs.items)
 -- a fold, at these steps
 abbrev Steps : Type 0 → Type 0
 Steps V =
-    (Seen Command-F → ACommand) → (Seen Content-F → AContent) → (Seen Form-F → AForm) → (Seen ItemContent-F → AnItemContent)
-    → (Seen AndOr-F → AnAndOr) → (Seen AndOrPart-F → AnAndOrPart) → (Seen Branch-F → ABranch) → (Seen CaseItem-F → ACaseItem)
-    → (Seen Compound-F → ACompound) → (Seen Entry-F → AnEntry) → (Seen Function-F → ACommand) → (Seen Item-F → AnItem) → (Seen List-F → Entries)
-    → (Seen Pipeline-F → APipeline) → (Seen PipelinePart-F → APipelinePart) → (Seen Redirection-F → AnItemContent) → (Seen Subst-F → ASubst) → (Seen Word-F → AWord) → V
+    (Seen Command-F → ACommand) → (Seen Content-F → AContent) → (Seen Form-F → AForm) →
+    (Seen ItemContent-F → AnItemContent)
+    → (Seen AndOr-F → AnAndOr) → (Seen AndOrPart-F → AnAndOrPart) → (Seen Branch-F → ABranch) →
+    (Seen CaseItem-F → ACaseItem)
+    → (Seen Compound-F → ACompound) → (Seen Entry-F → AnEntry) → (Seen Function-F → ACommand) → (Seen Item-F → AnItem) →
+    (Seen List-F → Entries)
+    → (Seen Pipeline-F → APipeline) → (Seen PipelinePart-F → APipelinePart) → (Seen Redirection-F → AnItemContent) →
+    (Seen Subst-F → ASubst) → (Seen Word-F → AWord) → V
 
 abbrev seen : {V : Type 0} → Steps V → V
 seen fold =
     fold command_step content_step form_step item_content_step and_or_step and_or_part_step branch_step case_item_step
-    compound_step entry_step function_step item_step list_step pipeline_step pipeline_part_step redirection_step subst_step word_step
+    compound_step entry_step function_step item_step list_step pipeline_step pipeline_part_step redirection_step
+    subst_step word_step
 
 abbrev pub view_list : the_list.List → Entries
 view_list = seen (fold-List _ _ _ _ _ _ _ _ _ _ _ _ _ _ _ _ _ _)

@@ -40,7 +40,8 @@ pub fn put_bodies_in(entries: &mut [Entry], bodies: &[Span])
 
 #[cycle(fill)]
 fn fill_list(list: &mut List, bodies: &[Span], next: &mut usize)
-    ensures { (view_list list.new, drop next.new bodies.now) ≡ fill_entries (view_list list.old) (drop next.old bodies.now) }
+    ensures { (view_list list.new, drop next.new bodies.now)
+        ≡ fill_entries (view_list list.old) (drop next.old bodies.now) }
 {
     fill_entries(&mut list.entries, bodies, next);
 }
@@ -48,8 +49,10 @@ fn fill_list(list: &mut List, bodies: &[Span], next: &mut usize)
 #[cycle(fill)]
 #[tactic(auto, using(crate::proofs::Going::going_more, crate::proofs::Going::going_over, crate::proofs::Going::entries_going, crate::proofs::Going::row_going))]
 fn fill_entries(entries: &mut [Entry], bodies: &[Span], next: &mut usize)
-    ensures list { (entries_of (map view_entry entries.new), drop next.new bodies.now) ≡ fill_entries (entries_of (map view_entry entries.old)) (drop next.old bodies.now) }
-    ensures row { (map view_entry entries.new, drop next.new bodies.now) ≡ fill_row (map view_entry entries.old) (drop next.old bodies.now) }
+    ensures list { (entries_of (map view_entry entries.new), drop next.new bodies.now)
+        ≡ fill_entries (entries_of (map view_entry entries.old)) (drop next.old bodies.now) }
+    ensures row { (map view_entry entries.new, drop next.new bodies.now)
+        ≡ fill_row (map view_entry entries.old) (drop next.old bodies.now) }
 {
     for entry in entries.iter_mut() {
         fill_entry(entry, bodies, next);
@@ -59,7 +62,8 @@ fn fill_entries(entries: &mut [Entry], bodies: &[Span], next: &mut usize)
 #[cycle(fill)]
 #[tactic(auto, unfolding(crate::specs::Bodies::fill_entry), using(crate::proofs::Going::none_left))]
 fn fill_entry(entry: &mut Entry, bodies: &[Span], next: &mut usize)
-    ensures { (view_entry entry.new, drop next.new bodies.now) ≡ fill_entry (view_entry entry.old) (drop next.old bodies.now) }
+    ensures { (view_entry entry.new, drop next.new bodies.now)
+        ≡ fill_entry (view_entry entry.old) (drop next.old bodies.now) }
 {
     // Once each body has its place no further entry is looked into.
     if *next < bodies.len() {
@@ -70,7 +74,8 @@ fn fill_entry(entry: &mut Entry, bodies: &[Span], next: &mut usize)
 #[cycle(fill)]
 #[tactic(auto, unfolding(crate::specs::Bodies::fill_content))]
 fn fill_content(content: &mut Content, bodies: &[Span], next: &mut usize)
-    ensures { (view_content content.new, drop next.new bodies.now) ≡ fill_content (view_content content.old) (drop next.old bodies.now) }
+    ensures { (view_content content.new, drop next.new bodies.now)
+        ≡ fill_content (view_content content.old) (drop next.old bodies.now) }
 {
     match content {
         Content::AndOr(and_or) => fill_and_or(and_or, bodies, next),
@@ -81,7 +86,8 @@ fn fill_content(content: &mut Content, bodies: &[Span], next: &mut usize)
 #[cycle(fill)]
 #[tactic(auto, unfolding(crate::specs::Bodies::fill_and_or))]
 fn fill_and_or(and_or: &mut AndOr, bodies: &[Span], next: &mut usize)
-    ensures { (view_and_or and_or.new, drop next.new bodies.now) ≡ fill_and_or (view_and_or and_or.old) (drop next.old bodies.now) }
+    ensures { (view_and_or and_or.new, drop next.new bodies.now)
+        ≡ fill_and_or (view_and_or and_or.old) (drop next.old bodies.now) }
 {
     fill_pipeline(&mut and_or.first, bodies, next);
     fill_and_or_parts(&mut and_or.rest, bodies, next);
@@ -90,7 +96,9 @@ fn fill_and_or(and_or: &mut AndOr, bodies: &[Span], next: &mut usize)
 #[cycle(fill)]
 #[tactic(auto, using(crate::proofs::Going::going_more, crate::proofs::Going::going_over, crate::proofs::Going::and_or_parts_going))]
 fn fill_and_or_parts(parts: &mut [AndOrPart], bodies: &[Span], next: &mut usize)
-    ensures { (and_or_parts_of (map view_and_or_part parts.new), drop next.new bodies.now) ≡ fill_and_or_parts (and_or_parts_of (map view_and_or_part parts.old)) (drop next.old bodies.now) }
+    ensures { (and_or_parts_of (map view_and_or_part parts.new), drop next.new bodies.now)
+        ≡ fill_and_or_parts (and_or_parts_of (map view_and_or_part parts.old))
+        (drop next.old bodies.now) }
 {
     for part in parts.iter_mut() {
         fill_and_or_part(part, bodies, next);
@@ -99,7 +107,8 @@ fn fill_and_or_parts(parts: &mut [AndOrPart], bodies: &[Span], next: &mut usize)
 
 #[cycle(fill)]
 fn fill_and_or_part(part: &mut AndOrPart, bodies: &[Span], next: &mut usize)
-    ensures { (view_and_or_part part.new, drop next.new bodies.now) ≡ fill_and_or_part (view_and_or_part part.old) (drop next.old bodies.now) }
+    ensures { (view_and_or_part part.new, drop next.new bodies.now)
+        ≡ fill_and_or_part (view_and_or_part part.old) (drop next.old bodies.now) }
 {
     fill_pipeline(&mut part.pipeline, bodies, next);
 }
@@ -107,7 +116,8 @@ fn fill_and_or_part(part: &mut AndOrPart, bodies: &[Span], next: &mut usize)
 #[cycle(fill)]
 #[tactic(auto, unfolding(crate::specs::Bodies::fill_pipeline))]
 fn fill_pipeline(pipeline: &mut Pipeline, bodies: &[Span], next: &mut usize)
-    ensures { (view_pipeline pipeline.new, drop next.new bodies.now) ≡ fill_pipeline (view_pipeline pipeline.old) (drop next.old bodies.now) }
+    ensures { (view_pipeline pipeline.new, drop next.new bodies.now)
+        ≡ fill_pipeline (view_pipeline pipeline.old) (drop next.old bodies.now) }
 {
     fill_command(&mut pipeline.first, bodies, next);
     fill_pipes(&mut pipeline.rest, bodies, next);
@@ -116,7 +126,9 @@ fn fill_pipeline(pipeline: &mut Pipeline, bodies: &[Span], next: &mut usize)
 #[cycle(fill)]
 #[tactic(auto, using(crate::proofs::Going::going_more, crate::proofs::Going::going_over, crate::proofs::Going::pipes_going))]
 fn fill_pipes(parts: &mut [PipelinePart], bodies: &[Span], next: &mut usize)
-    ensures { (pipeline_parts_of (map view_pipeline_part parts.new), drop next.new bodies.now) ≡ fill_pipes (pipeline_parts_of (map view_pipeline_part parts.old)) (drop next.old bodies.now) }
+    ensures { (pipeline_parts_of (map view_pipeline_part parts.new), drop next.new bodies.now)
+        ≡ fill_pipes (pipeline_parts_of (map view_pipeline_part parts.old))
+        (drop next.old bodies.now) }
 {
     for part in parts.iter_mut() {
         fill_pipe(part, bodies, next);
@@ -125,7 +137,8 @@ fn fill_pipes(parts: &mut [PipelinePart], bodies: &[Span], next: &mut usize)
 
 #[cycle(fill)]
 fn fill_pipe(part: &mut PipelinePart, bodies: &[Span], next: &mut usize)
-    ensures { (view_pipeline_part part.new, drop next.new bodies.now) ≡ fill_pipe (view_pipeline_part part.old) (drop next.old bodies.now) }
+    ensures { (view_pipeline_part part.new, drop next.new bodies.now)
+        ≡ fill_pipe (view_pipeline_part part.old) (drop next.old bodies.now) }
 {
     fill_command(&mut part.command, bodies, next);
 }
@@ -133,7 +146,8 @@ fn fill_pipe(part: &mut PipelinePart, bodies: &[Span], next: &mut usize)
 #[cycle(fill)]
 #[tactic(auto, unfolding(crate::specs::Bodies::fill_command))]
 fn fill_command(command: &mut Command, bodies: &[Span], next: &mut usize)
-    ensures { (view_command command.new, drop next.new bodies.now) ≡ fill_command (view_command command.old) (drop next.old bodies.now) }
+    ensures { (view_command command.new, drop next.new bodies.now)
+        ≡ fill_command (view_command command.old) (drop next.old bodies.now) }
 {
     match command {
         Command::Simple { items } => fill_items(items, bodies, next),
@@ -144,14 +158,16 @@ fn fill_command(command: &mut Command, bodies: &[Span], next: &mut usize)
 
 #[cycle(fill)]
 fn fill_boxed(compound: &mut Box<Compound>, bodies: &[Span], next: &mut usize)
-    ensures { (view_compound compound.new.value, drop next.new bodies.now) ≡ fill_compound (view_compound compound.old.value) (drop next.old bodies.now) }
+    ensures { (view_compound compound.new.value, drop next.new bodies.now)
+        ≡ fill_compound (view_compound compound.old.value) (drop next.old bodies.now) }
 {
     fill_compound(compound, bodies, next);
 }
 
 #[cycle(fill)]
 fn fill_function(function: &mut Box<Function>, bodies: &[Span], next: &mut usize)
-    ensures { (view_function function.new.value, drop next.new bodies.now) ≡ fill_command (view_function function.old.value) (drop next.old bodies.now) }
+    ensures { (view_function function.new.value, drop next.new bodies.now)
+        ≡ fill_command (view_function function.old.value) (drop next.old bodies.now) }
 {
     fill_body(function, bodies, next);
 }
@@ -159,7 +175,8 @@ fn fill_function(function: &mut Box<Function>, bodies: &[Span], next: &mut usize
 #[cycle(fill)]
 #[tactic(auto, unfolding(crate::specs::Bodies::fill_command))]
 fn fill_body(function: &mut Function, bodies: &[Span], next: &mut usize)
-    ensures { (view_function function.new, drop next.new bodies.now) ≡ fill_command (view_function function.old) (drop next.old bodies.now) }
+    ensures { (view_function function.new, drop next.new bodies.now)
+        ≡ fill_command (view_function function.old) (drop next.old bodies.now) }
 {
     fill_compound(&mut function.body, bodies, next);
 }
@@ -167,7 +184,8 @@ fn fill_body(function: &mut Function, bodies: &[Span], next: &mut usize)
 #[cycle(fill)]
 #[tactic(auto, unfolding(crate::specs::Bodies::fill_compound))]
 fn fill_compound(compound: &mut Compound, bodies: &[Span], next: &mut usize)
-    ensures { (view_compound compound.new, drop next.new bodies.now) ≡ fill_compound (view_compound compound.old) (drop next.old bodies.now) }
+    ensures { (view_compound compound.new, drop next.new bodies.now)
+        ≡ fill_compound (view_compound compound.old) (drop next.old bodies.now) }
 {
     fill_form(&mut compound.form, bodies, next);
     fill_items(&mut compound.redirects, bodies, next);
@@ -176,7 +194,8 @@ fn fill_compound(compound: &mut Compound, bodies: &[Span], next: &mut usize)
 #[cycle(fill)]
 #[tactic(auto, unfolding(crate::specs::Bodies::fill_form))]
 fn fill_form(form: &mut Form, bodies: &[Span], next: &mut usize)
-    ensures { (view_form form.new, drop next.new bodies.now) ≡ fill_form (view_form form.old) (drop next.old bodies.now) }
+    ensures { (view_form form.new, drop next.new bodies.now)
+        ≡ fill_form (view_form form.old) (drop next.old bodies.now) }
 {
     match form {
         Form::Brace(list) => fill_list(list, bodies, next),
@@ -200,7 +219,8 @@ fn fill_form(form: &mut Form, bodies: &[Span], next: &mut usize)
 #[cycle(fill)]
 #[tactic(auto, unfolding(crate::specs::Bodies::fill_branch))]
 fn fill_branch(branch: &mut Branch, bodies: &[Span], next: &mut usize)
-    ensures { (view_branch branch.new, drop next.new bodies.now) ≡ fill_branch (view_branch branch.old) (drop next.old bodies.now) }
+    ensures { (view_branch branch.new, drop next.new bodies.now)
+        ≡ fill_branch (view_branch branch.old) (drop next.old bodies.now) }
 {
     fill_list(&mut branch.condition, bodies, next);
     fill_list(&mut branch.body, bodies, next);
@@ -209,7 +229,8 @@ fn fill_branch(branch: &mut Branch, bodies: &[Span], next: &mut usize)
 #[cycle(fill)]
 #[tactic(auto, using(crate::proofs::Going::going_more, crate::proofs::Going::going_over, crate::proofs::Going::branches_going))]
 fn fill_branches(branches: &mut [Branch], bodies: &[Span], next: &mut usize)
-    ensures { (branches_of (map view_branch branches.new), drop next.new bodies.now) ≡ fill_branches (branches_of (map view_branch branches.old)) (drop next.old bodies.now) }
+    ensures { (branches_of (map view_branch branches.new), drop next.new bodies.now)
+        ≡ fill_branches (branches_of (map view_branch branches.old)) (drop next.old bodies.now) }
 {
     for branch in branches.iter_mut() {
         fill_branch(branch, bodies, next);
@@ -219,7 +240,8 @@ fn fill_branches(branches: &mut [Branch], bodies: &[Span], next: &mut usize)
 #[cycle(fill)]
 #[tactic(auto, unfolding(crate::specs::Bodies::fill_else))]
 fn fill_else(otherwise: &mut Option<List>, bodies: &[Span], next: &mut usize)
-    ensures { (otherwise_of (option_map view_list otherwise.new), drop next.new bodies.now) ≡ fill_else (otherwise_of (option_map view_list otherwise.old)) (drop next.old bodies.now) }
+    ensures { (otherwise_of (option_map view_list otherwise.new), drop next.new bodies.now)
+        ≡ fill_else (otherwise_of (option_map view_list otherwise.old)) (drop next.old bodies.now) }
 {
     if let Some(list) = otherwise {
         fill_list(list, bodies, next);
@@ -229,7 +251,8 @@ fn fill_else(otherwise: &mut Option<List>, bodies: &[Span], next: &mut usize)
 #[cycle(fill)]
 #[tactic(auto, using(crate::proofs::Going::going_more, crate::proofs::Going::going_over, crate::proofs::Going::cases_going))]
 fn fill_cases(items: &mut [CaseItem], bodies: &[Span], next: &mut usize)
-    ensures { (cases_of (map view_case_item items.new), drop next.new bodies.now) ≡ fill_cases (cases_of (map view_case_item items.old)) (drop next.old bodies.now) }
+    ensures { (cases_of (map view_case_item items.new), drop next.new bodies.now)
+        ≡ fill_cases (cases_of (map view_case_item items.old)) (drop next.old bodies.now) }
 {
     for item in items.iter_mut() {
         fill_case(item, bodies, next);
@@ -239,14 +262,16 @@ fn fill_cases(items: &mut [CaseItem], bodies: &[Span], next: &mut usize)
 #[cycle(fill)]
 #[tactic(auto, unfolding(crate::specs::Bodies::fill_case))]
 fn fill_case(item: &mut CaseItem, bodies: &[Span], next: &mut usize)
-    ensures { (view_case_item item.new, drop next.new bodies.now) ≡ fill_case (view_case_item item.old) (drop next.old bodies.now) }
+    ensures { (view_case_item item.new, drop next.new bodies.now)
+        ≡ fill_case (view_case_item item.old) (drop next.old bodies.now) }
 {
     fill_list(&mut item.body, bodies, next);
 }
 
 #[tactic(auto, using(crate::proofs::Going::going_more, crate::proofs::Going::going_over, crate::proofs::Going::items_going))]
 fn fill_items(items: &mut [Item], bodies: &[Span], next: &mut usize)
-    ensures { (items_of (map view_item items.new), drop next.new bodies.now) ≡ fill_items (items_of (map view_item items.old)) (drop next.old bodies.now) }
+    ensures { (items_of (map view_item items.new), drop next.new bodies.now)
+        ≡ fill_items (items_of (map view_item items.old)) (drop next.old bodies.now) }
 {
     for item in items.iter_mut() {
         fill_item(item, bodies, next);
@@ -255,14 +280,16 @@ fn fill_items(items: &mut [Item], bodies: &[Span], next: &mut usize)
 
 #[tactic(auto, unfolding(crate::specs::Bodies::fill_item))]
 fn fill_item(item: &mut Item, bodies: &[Span], next: &mut usize)
-    ensures { (view_item item.new, drop next.new bodies.now) ≡ fill_item (view_item item.old) (drop next.old bodies.now) }
+    ensures { (view_item item.new, drop next.new bodies.now)
+        ≡ fill_item (view_item item.old) (drop next.old bodies.now) }
 {
     fill_item_content(&mut item.what, bodies, next);
 }
 
 #[tactic(auto, unfolding(crate::specs::Bodies::fill_item_content))]
 fn fill_item_content(content: &mut ItemContent, bodies: &[Span], next: &mut usize)
-    ensures { (view_item_content content.new, drop next.new bodies.now) ≡ fill_item_content (view_item_content content.old) (drop next.old bodies.now) }
+    ensures { (view_item_content content.new, drop next.new bodies.now)
+        ≡ fill_item_content (view_item_content content.old) (drop next.old bodies.now) }
 {
     if let ItemContent::Redirect(redirect) = content {
         fill_boxed_redirection(redirect, bodies, next);
@@ -270,20 +297,23 @@ fn fill_item_content(content: &mut ItemContent, bodies: &[Span], next: &mut usiz
 }
 
 fn fill_boxed_redirection(redirect: &mut Box<Redirection>, bodies: &[Span], next: &mut usize)
-    ensures { (view_redirection redirect.new.value, drop next.new bodies.now) ≡ fill_item_content (view_redirection redirect.old.value) (drop next.old bodies.now) }
+    ensures { (view_redirection redirect.new.value, drop next.new bodies.now)
+        ≡ fill_item_content (view_redirection redirect.old.value) (drop next.old bodies.now) }
 {
     fill_redirection(redirect, bodies, next);
 }
 
 #[tactic(auto, unfolding(crate::specs::Bodies::fill_item_content))]
 fn fill_redirection(redirect: &mut Redirection, bodies: &[Span], next: &mut usize)
-    ensures { (view_redirection redirect.new, drop next.new bodies.now) ≡ fill_item_content (view_redirection redirect.old) (drop next.old bodies.now) }
+    ensures { (view_redirection redirect.new, drop next.new bodies.now)
+        ≡ fill_item_content (view_redirection redirect.old) (drop next.old bodies.now) }
 {
     fill_here(&mut redirect.here, bodies, next);
 }
 
 fn fill_here(here: &mut Option<HereDocument>, bodies: &[Span], next: &mut usize)
-    ensures { (option_map view_here here.new, drop next.new bodies.now) ≡ fill_here (option_map view_here here.old) (drop next.old bodies.now) }
+    ensures { (option_map view_here here.new, drop next.new bodies.now)
+        ≡ fill_here (option_map view_here here.old) (drop next.old bodies.now) }
 {
     if let Some(here) = here
         && *next < bodies.len()

@@ -24,7 +24,8 @@ pub fn command_entry(
     blank: bool,
     comment: Option<Comment>,
 ) -> Entry
-    ensures { view_entry result ≡ entry (command (view_and_or and_or)) background blank (option_map view_comment comment) }
+    ensures { view_entry result
+        ≡ entry (command (view_and_or and_or)) background blank (option_map view_comment comment) }
 {
     Entry {
         what: Content::AndOr(and_or),
@@ -48,14 +49,16 @@ pub fn comment_entry(comment: Comment, blank: bool) -> Entry
 
 /// An and-or list of these pipelines (XCU 2.9.3).
 pub fn and_or_of(first: Pipeline, rest: Vec<AndOrPart>) -> AndOr
-    ensures { view_and_or result ≡ and_or (view_pipeline first) (and_or_parts_of (map view_and_or_part rest.items)) }
+    ensures { view_and_or result
+        ≡ and_or (view_pipeline first) (and_or_parts_of (map view_and_or_part rest.items)) }
 {
     AndOr { first, rest }
 }
 
 /// An operator of an and-or list, what stands around it, and the pipeline behind it.
 pub fn and_or_part_of(operator: AndOrOperator, join: Join, pipeline: Pipeline) -> AndOrPart
-    ensures { view_and_or_part result ≡ record { operator = operator; join = view_join join; pipeline = view_pipeline pipeline } }
+    ensures { view_and_or_part result
+        ≡ record { operator = operator; join = view_join join; pipeline = view_pipeline pipeline } }
 {
     AndOrPart {
         operator,
@@ -66,14 +69,17 @@ pub fn and_or_part_of(operator: AndOrOperator, join: Join, pipeline: Pipeline) -
 
 /// A pipeline of these commands, and the `!` before it (XCU 2.9.2).
 pub fn pipeline_of(bang: Option<Span>, first: Command, rest: Vec<PipelinePart>) -> Pipeline
-    ensures { view_pipeline result ≡ pipeline bang (view_command first) (pipeline_parts_of (map view_pipeline_part rest.items)) }
+    ensures { view_pipeline result
+        ≡ pipeline bang (view_command first)
+        (pipeline_parts_of (map view_pipeline_part rest.items)) }
 {
     Pipeline { bang, first, rest }
 }
 
 /// The command behind a `|`, and what stands around that.
 pub fn pipeline_part_of(join: Join, command: Command) -> PipelinePart
-    ensures { view_pipeline_part result ≡ record { join = view_join join; command = view_command command } }
+    ensures { view_pipeline_part result
+        ≡ record { join = view_join join; command = view_command command } }
 {
     PipelinePart { join, command }
 }
@@ -88,7 +94,8 @@ pub fn simple_of(items: Vec<Item>) -> Command
 /// A compound command of this form, from its opener to its closer, and the
 /// redirections behind it (XCU 2.9.4).
 pub fn compound_of(form: Form, span: Span, redirects: Vec<Item>) -> Compound
-    ensures { view_compound result ≡ formed (view_form form) span (items_of (map view_item redirects.items)) }
+    ensures { view_compound result
+        ≡ formed (view_form form) span (items_of (map view_item redirects.items)) }
 {
     Compound {
         form,
@@ -107,7 +114,8 @@ pub fn compound_command(of: Box<Compound>) -> Command
 /// Puts these redirections in the place of its own.
 #[tactic(auto, using(crate::proofs::Redirected::compound_redirected))]
 fn redirect_to(compound: &mut Compound, redirects: Vec<Item>)
-    ensures { view_compound compound.new ≡ compound_with (view_compound compound.old) (items_of (map view_item redirects.items)) }
+    ensures { view_compound compound.new
+        ≡ compound_with (view_compound compound.old) (items_of (map view_item redirects.items)) }
 {
     compound.redirects = redirects;
 }
@@ -115,7 +123,8 @@ fn redirect_to(compound: &mut Compound, redirects: Vec<Item>)
 /// A compound command with these redirections in the place of its own. A command of
 /// another kind stays as it is.
 pub fn with_redirects(command: Command, redirects: Vec<Item>) -> Command
-    ensures { view_command result ≡ with_redirects (view_command command) (items_of (map view_item redirects.items)) }
+    ensures { view_command result
+        ≡ with_redirects (view_command command) (items_of (map view_item redirects.items)) }
 {
     match command {
         Command::Compound(mut compound) => {
@@ -128,7 +137,8 @@ pub fn with_redirects(command: Command, redirects: Vec<Item>) -> Command
 
 /// The definition of a function: its name, the comments before its body, and that (XCU 2.9.5).
 pub fn function_of(name: Span, comments: Vec<Comment>, body: Compound) -> Function
-    ensures { view_function result ≡ function name (map view_comment comments.items) (view_compound body) }
+    ensures { view_function result
+        ≡ function name (map view_comment comments.items) (view_compound body) }
 {
     Function {
         name,
@@ -161,7 +171,9 @@ pub fn subshell_of(list: List) -> Form
 /// An `if` with these branches, the first of `if` and the others of `elif`, and what
 /// follows its `else` (XCU 2.9.4.4).
 pub fn if_of(first: Branch, rest: Vec<Branch>, otherwise: Option<List>) -> Form
-    ensures { view_form result ≡ if_then (view_branch first) (branches_of (map view_branch rest.items)) (view_otherwise otherwise) }
+    ensures { view_form result
+        ≡ if_then (view_branch first) (branches_of (map view_branch rest.items))
+        (view_otherwise otherwise) }
 {
     Form::If {
         first,
@@ -186,14 +198,18 @@ pub fn until_of(branch: Branch) -> Form
 
 /// A `for` of this name, the words behind its `in` where that stands, and what it runs (XCU 2.9.4.2).
 pub fn for_of(name: Word, words: Option<Vec<Item>>, body: List) -> Form
-    ensures { view_form result ≡ for_in (view_word name) (for_words_of (option_map (λ v. map view_item v.items) words)) (view_list body) }
+    ensures { view_form result
+        ≡ for_in (view_word name) (for_words_of (option_map (λ v. map view_item v.items) words))
+        (view_list body) }
 {
     Form::For { name, words, body }
 }
 
 /// A `case` of this word, its items, and the comments behind the last one (XCU 2.9.4.3).
 pub fn case_of(word: Word, items: Vec<CaseItem>, tail: Vec<Comment>) -> Form
-    ensures { view_form result ≡ case_in (view_word word) (cases_of (map view_case_item items.items)) (map view_comment tail.items) }
+    ensures { view_form result
+        ≡ case_in (view_word word) (cases_of (map view_case_item items.items))
+        (map view_comment tail.items) }
 {
     Form::Case { word, items, tail }
 }
@@ -206,7 +222,9 @@ pub fn case_item_of(
     span: Span,
     falls: bool,
 ) -> CaseItem
-    ensures { view_case_item result ≡ case_item (map view_comment comments.items) (patterns_of (map view_word patterns.items)) (view_list body) (record { mark = span; falls = falls }) }
+    ensures { view_case_item result
+        ≡ case_item (map view_comment comments.items) (patterns_of (map view_word patterns.items))
+        (view_list body) (record { mark = span; falls = falls }) }
 {
     CaseItem {
         comments,
@@ -253,7 +271,8 @@ pub fn redirection_of(
     word: Word,
     here: Option<HereDocument>,
 ) -> Redirection
-    ensures { view_redirection result ≡ redirect number operator span (view_word word) (option_map view_here here) }
+    ensures { view_redirection result
+        ≡ redirect number operator span (view_word word) (option_map view_here here) }
 {
     Redirection {
         number,

@@ -5,4 +5,5 @@ use Rattle.shast.proofs.Going.{going}
 use Rattle.shast.proofs.bodies.fill_items.Given as goal
 
 abbrev pub invariant-loop-item : goal.invariant-loop-item
-invariant-loop-item l = going fill_item (map view_item l.items) l.item-index (drop l.next l.bodies) ≡ going fill_item (map view_item l.fn.items) 0 (drop l.fn.next l.fn.bodies)
+invariant-loop-item l = going fill_item (map view_item l.items) l.item-index (drop l.next l.bodies)
+    ≡ going fill_item (map view_item l.fn.items) 0 (drop l.fn.next l.fn.bodies)
