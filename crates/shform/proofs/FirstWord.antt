@@ -76,7 +76,8 @@ module _ (years : Years) (words : List Text) where
   session : Same years (alone_app (session_app years)) (codes "session" ∷ words)
   session = alone (session_app years) (codes "session") refl refl refl refl refl refl refl
 
-  by_name : {a : App} {name word : Text} → Same years a (name ∷ words) → bytes_eq word name ≡ true → Same years a (word ∷ words)
+  by_name : {a : App} {name word : Text} → Same years a (name ∷ words) → bytes_eq word name ≡ true →
+      Same years a (word ∷ words)
   by_name {a} {name} {word} same is =
       subst (λ w. Same years a (w ∷ words)) (sym ((bytes_eq-Decides word name).0 is)) same
 

@@ -9,8 +9,10 @@ use Rattle.shform.specs.Words.{indent_in}
 
 -- by whether there is a text, and what it reads as
 pub indent_read : (E : Type 0) (gives : Text → Result ℕ E → Type 0) (given : Option Text) (read : Option ℕ)
-    → ((t : Text) (r : Result ℕ E) → gives t r → ParsesUnsigned 8 10 t r) → (given ≡ None → read ≡ None) → ((t : Text) → given ≡ Some t → ReadsOne gives t read)
+    → ((t : Text) (r : Result ℕ E) → gives t r → ParsesUnsigned 8 10 t r) → (given ≡ None → read ≡ None) →
+    ((t : Text) → given ≡ Some t → ReadsOne gives t read)
     → unwrap_or read 0 ≡ indent_in given
 indent_read E gives None read parses none some = ap (λ r. unwrap_or r 0) (none refl)
 indent_read E gives (Some t) (Some n) parses none some = byte_read {E = E} t (Ok n) (parses t (Ok n) (some t refl))
-indent_read E gives (Some t) None parses none some = let failed = some t refl in byte_read {E = E} t (Err failed.0) (parses t (Err failed.0) failed.1)
+indent_read E gives (Some t) None parses none some = let failed = some t refl in
+    byte_read {E = E} t (Err failed.0) (parses t (Err failed.0) failed.1)

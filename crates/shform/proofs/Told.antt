@@ -12,6 +12,10 @@ two false status e = e
 
 -- why the input was given up
 pub given-up : (name read text : List ℕ) (stop : RunError) (a b : Option (List ℕ)) (before after wrote : Bool)
-    → before ≡ false → after ≡ (before || wrote) → text ≡ text_of_stop name stop → Writes a b wrote text → IsTold name read (Err stop) a b after 2
+    → before ≡ false → after ≡ (before || wrote) → text ≡ text_of_stop name stop → Writes a b wrote text →
+    IsTold name read (Err stop) a b after 2
 given-up name read text stop a b before after wrote sound told same p =
-    record { written = Writes-marked a b before after wrote text (text_of_stop name stop) sound told same p; answer = two after 2 refl }
+    record {
+      written = Writes-marked a b before after wrote text (text_of_stop name stop) sound told same p;
+      answer = two after 2 refl;
+    }

@@ -28,7 +28,8 @@ pub record Held (read : List ℕ) (part : PartialScript) : Type 0 where
 pub record Holds (edition : Edition) (read : List ℕ) (part : PartialScript) : Type 0 where
   pub held : Held read part
   pub by : part.edition ≡ edition
-  pub behind : (more : List ℕ) (f : Option Fault) → FirstFault edition (drop part.passed (read ++ more)) f → FirstFault edition (read ++ more) (option_map (moved_fault part.passed) f)
+  pub behind : (more : List ℕ) (f : Option Fault) → FirstFault edition (drop part.passed (read ++ more)) f →
+      FirstFault edition (read ++ more) (option_map (moved_fault part.passed) f)
 
 -- those passed are lines that are printed
 pub record HoldsPrinted (edition : Edition) (y : Layout) (read : List ℕ) (printed : PrintedPart) : Type 0 where
@@ -42,7 +43,8 @@ pub record EndsLine (part : PartialScript) (count : ℕ) : Type 0 where
 
 -- a fault with its line and its column in these bytes
 abbrev pub IsLocatedAt : List ℕ → Fault → LocatedFault → Type 0
-IsLocatedAt read fault found = (found.fault ≡ fault) × (found.line ≡ line_of read fault.at) × (found.col ≡ column_of read fault.at)
+IsLocatedAt read fault found = (found.fault ≡ fault) × (found.line ≡ line_of read fault.at)
+    × (found.col ≡ column_of read fault.at)
 
 -- the first fault of a script, or that it has none
 abbrev pub IsLocated : Edition → List ℕ → Option LocatedFault → Type 0
@@ -51,5 +53,6 @@ IsLocated edition read (Some found) = FirstFault edition read (Some found.fault)
 
 -- the script has no printed text, and this is why
 abbrev pub IsUnprinted : Edition → List ℕ → Unprinted → Type 0
-IsUnprinted edition read (Faulty found) = FirstFault edition read (Some found.fault) × IsLocatedAt read found.fault found
+IsUnprinted edition read (Faulty found) = FirstFault edition read (Some found.fault)
+    × IsLocatedAt read found.fault found
 IsUnprinted edition read Memory = Unit {0}

@@ -35,7 +35,8 @@ status_of_verdict (Err stop) = 2
 
 -- The verdict on the bytes that were read was told: standard error held and holds
 -- bytes, whether a write there failed; and the status.
-pub record IsTold (name read : List ℕ) (verdict : Result (Option Fault) RunError) (held holds : Option (List ℕ)) (broken : Bool) (status : ℕ) : Type 0 where
+pub record IsTold (name read : List ℕ) (verdict : Result (Option Fault) RunError) (held holds : Option (List ℕ))
+    (broken : Bool) (status : ℕ) : Type 0 where
   pub written : Writes held holds broken (text_of_verdict name read verdict)
   pub answer : status ≡ (if broken then 2 else status_of_verdict verdict)
 
@@ -54,16 +55,19 @@ StopsFor read failed ended Unwritable = ⊥
 
 -- the same for what follows bytes that were read, of which there are so many
 abbrev pub StopsBehind : ℕ → List ℕ → Bool → Bool → RunError → Type 0
-StopsBehind held more failed ended stop = (read : List ℕ) → length read ≡ held + length more → StopsFor read failed ended stop
+StopsBehind held more failed ended stop = (read : List ℕ) → length read ≡ held + length more →
+    StopsFor read failed ended stop
 
 -- what was read and which ends were met where a verdict stands
 abbrev pub JudgedFor : Edition → List ℕ → Bool → Bool → Result (Option Fault) RunError → Type 0
-JudgedFor edition read failed ended (Ok fault) = (failed ≡ false) × (ended ≡ true) × (length read ≤ limit) × FirstFault edition read fault
+JudgedFor edition read failed ended (Ok fault) = (failed ≡ false) × (ended ≡ true) × (length read ≤ limit)
+    × FirstFault edition read fault
 JudgedFor edition read failed ended (Err stop) = StopsFor read failed ended stop
 
 -- The report of a check. The bytes that the reader had and has left, whether a read failed or met the end;
 -- the bytes that standard error held and holds, whether a write there failed; and the status.
-pub record IsReport (edition : Edition) (name : List ℕ) (had has : Option (List ℕ)) (failed ended : Bool) (held holds : Option (List ℕ)) (broken : Bool) (status : ℕ) : Type 0 where
+pub record IsReport (edition : Edition) (name : List ℕ) (had has : Option (List ℕ)) (failed ended : Bool)
+    (held holds : Option (List ℕ)) (broken : Bool) (status : ℕ) : Type 0 where
   pub read : List ℕ
   pub verdict : Result (Option Fault) RunError
   pub consumed : Consumes had has read
@@ -72,15 +76,19 @@ pub record IsReport (edition : Edition) (name : List ℕ) (had has : Option (Lis
 
 -- What standard output held and holds, and whether it failed, for a verdict on the bytes that were read:
 -- where they are a script without a fault, its printed text was written there; else it is as it was.
-abbrev pub PrintsFor : Edition → Layout → List ℕ → Result (Option Fault) RunError → Option (List ℕ) → Option (List ℕ) → Bool → Type 0
-PrintsFor edition layout read (Ok None) held holds broken = (text : List ℕ) × IsTextOf edition layout read text × Writes held holds broken text
+abbrev pub PrintsFor : Edition → Layout → List ℕ → Result (Option Fault) RunError → Option (List ℕ) → Option (List ℕ) →
+    Bool → Type 0
+PrintsFor edition layout read (Ok None) held holds broken = (text : List ℕ) × IsTextOf edition layout read text
+    × Writes held holds broken text
 PrintsFor edition layout read (Ok (Some fault)) held holds broken = (holds ≡ held) × (broken ≡ false)
 PrintsFor edition layout read (Err stop) held holds broken = (holds ≡ held) × (broken ≡ false)
 
 -- The report of a print: as that of a check, and what was written on standard output.
 -- Where that failed, standard error says so.
-pub record IsPrintReport (edition : Edition) (layout : Layout) (name : List ℕ) (had has : Option (List ℕ)) (failed ended : Bool)
-    (printed_held printed_holds : Option (List ℕ)) (unwritable : Bool) (held holds : Option (List ℕ)) (broken : Bool) (status : ℕ) : Type 0 where
+pub record IsPrintReport (edition : Edition) (layout : Layout) (name : List ℕ) (had has : Option (List ℕ))
+    (failed ended : Bool)
+    (printed_held printed_holds : Option (List ℕ)) (unwritable : Bool) (held holds : Option (List ℕ)) (broken : Bool)
+    (status : ℕ) : Type 0 where
   pub read : List ℕ
   pub verdict : Result (Option Fault) RunError
   pub consumed : Consumes had has read

@@ -25,7 +25,8 @@ file_rule = new_rule (codes "FILE")
 
 -- -i N, --indent N: a number from 0 to 16
 abbrev pub indent_rule : Rule
-indent_rule = record (new_rule (codes "indent")) { short = Some 105; long = Some (codes "indent"); value_names = 1; parser = Some (Signed (pos 0) (pos 16)) }
+indent_rule = record (new_rule (codes "indent"))
+    { short = Some 105; long = Some (codes "indent"); value_names = 1; parser = Some (Signed (pos 0) (pos 16)) }
 
 -- the names of the editions, as they lie in memory
 abbrev pub Years : Type 0
@@ -36,7 +37,8 @@ AreYears years = map (λ year. year.now) years.now ≡ codes "2017" ∷ codes "2
 
 -- --edition YEAR: one of them
 abbrev pub edition_rule : Years → Rule
-edition_rule years = record (new_rule (codes "edition")) { long = Some (codes "edition"); value_names = 1; parser = Some (Names years) }
+edition_rule years = record (new_rule (codes "edition"))
+    { long = Some (codes "edition"); value_names = 1; parser = Some (Names years) }
 
 -- a flag --NAME
 abbrev pub flag_rule : Text → Rule
@@ -53,7 +55,8 @@ check_app years = with_rule (reading_app years (codes "check")) file_rule
 -- NAME [OPTIONS] [FILE]
 abbrev pub printing_app : Years → Text → App
 printing_app years name = with_rule (with_rule (with_rule (with_rule (with_rule (reading_app years name) indent_rule)
-    (flag_rule (codes "case-indent"))) (flag_rule (codes "space-redirects"))) (flag_rule (codes "func-next-line"))) file_rule
+    (flag_rule (codes "case-indent"))) (flag_rule (codes "space-redirects"))) (flag_rule (codes "func-next-line")))
+    file_rule
 
 -- print [OPTIONS] [FILE]
 abbrev pub print_app : Years → App
@@ -66,7 +69,10 @@ session_app years = printing_app years (codes "session")
 -- what holds of the whole command: the words begin after the program's name, one of
 -- them is a subcommand, and there is a version
 abbrev pub with_settings : App → App
-with_settings a = record { top = record a.top { no_binary_name = true; subcommand_required = true; has_version = true }; subs = a.subs }
+with_settings a = record {
+  top = record a.top { no_binary_name = true; subcommand_required = true; has_version = true };
+  subs = a.subs;
+}
 
 -- shform
 abbrev pub top_app : App
@@ -103,7 +109,8 @@ app_for years (word ∷ words) = app_named years word
 
 -- the tool of a subcommand's name
 abbrev pub tool_named : Text → Tool
-tool_named name = if bytes_eq name (codes "print") then Print else if bytes_eq name (codes "session") then Session else Check
+tool_named name = if bytes_eq name (codes "print") then Print else if bytes_eq name (codes "session") then Session
+    else Check
 
 -- the edition of a year; that of 2017 where none is given
 abbrev pub edition_in : Option Text → Edition
@@ -131,7 +138,8 @@ pub record AreOptions (own : ArgMatches) (layout : Layout) : Type 0 where
   pub func_next_line : IsFlag (one_text (found_of own) (codes "func-next-line")) layout.func_next_line
 
 abbrev pub IsLayoutFor : Tool → ArgMatches → Layout → Type 0
-IsLayoutFor Check own layout = layout ≡ record { indent = 0; case_indent = false; space_redirects = false; func_next_line = false }
+IsLayoutFor Check own layout = layout
+    ≡ record { indent = 0; case_indent = false; space_redirects = false; func_next_line = false }
 IsLayoutFor Print own layout = AreOptions own layout
 IsLayoutFor Session own layout = AreOptions own layout
 

@@ -20,14 +20,19 @@ const READ_SIZE: usize = 16_384;
 
 /// Reads once, into the front of the piece, what follows so many bytes. Answers how many came: none at the
 /// end. It never reads past the first byte beyond the limit.
-fn read_piece<R: Read>(input: &mut Input<R>, piece: &mut [u8], held: usize) -> Result<usize, RunError>
+fn read_piece<R: Read>(
+    input: &mut Input<R>,
+    piece: &mut [u8],
+    held: usize,
+) -> Result<usize, RunError>
     requires sound { input_failed input.old ≡ false }
     requires open { input_ended input.old ≡ false }
     requires low { held ≤ limit }
     requires some { 0 < length piece.old }
     ensures size { length piece.new ≡ length piece.old }
     ensures ok { IfOk result (λ count. (count ≤ length piece.new) × (held + count ≤ limit)
-        × (Consumes (left_of R.remaining input.old) (left_of R.remaining input.new) (take count piece.new))
+        × (Consumes (left_of R.remaining input.old) (left_of R.remaining input.new)
+        (take count piece.new))
         × (input_failed input.new ≡ false) × (input_ended input.new ≡ (count == 0))
         × (count ≡ 0 → IsAtEnd (left_of R.remaining input.new))) }
     ensures err { IfErr result (λ stop. (more : List ℕ)
@@ -51,7 +56,9 @@ fn read_into<R: Read, S: Sink>(input: &mut Input<R>, mut sink: S) -> Result<S, R
     requires sound { input_failed input.old ≡ false }
     requires open { input_ended input.old ≡ false }
     requires empty { (setup : S.Setup) × S.holds setup [] sink }
-    ensures ok { IfOk result (λ full. (read : List ℕ) × ((setup : S.Setup) → S.holds setup [] sink → S.holds setup read full)
+    ensures ok { IfOk result
+        (λ full. (read : List ℕ)
+        × ((setup : S.Setup) → S.holds setup [] sink → S.holds setup read full)
         × (Consumes (left_of R.remaining input.old) (left_of R.remaining input.new) read)
         × (IsAtEnd (left_of R.remaining input.new)) × (length read ≤ limit)
         × (input_failed input.new ≡ false) × (input_ended input.new ≡ true)) }
@@ -77,7 +84,8 @@ fn read_into<R: Read, S: Sink>(input: &mut Input<R>, mut sink: S) -> Result<S, R
 pub fn read_whole<R: Read>(alloc: Global, input: &mut Input<R>) -> Result<Vec<u8>, RunError>
     requires sound { input_failed input.old ≡ false }
     requires open { input_ended input.old ≡ false }
-    ensures ok { IfOk result (λ text. Consumes (left_of R.remaining input.old) (left_of R.remaining input.new) text.items
+    ensures ok { IfOk result
+        (λ text. Consumes (left_of R.remaining input.old) (left_of R.remaining input.new) text.items
         × (IsAtEnd (left_of R.remaining input.new)) × (length text.items ≤ limit)
         × (input_failed input.new ≡ false) × (input_ended input.new ≡ true)) }
     ensures err { IfErr result (λ stop. (read : List ℕ)
@@ -101,10 +109,13 @@ pub fn check_engine<R: Read, O: Write, E: Write>(
     requires sound { input_failed input.old ≡ false }
     requires open { input_ended input.old ≡ false }
     requires unbroken { output_failed errors.old ≡ false }
-    ensures report { IsReport edition name.now (left_of R.remaining input.old) (left_of R.remaining input.new)
+    ensures report { IsReport edition name.now (left_of R.remaining input.old)
+        (left_of R.remaining input.new)
         (input_failed input.new) (input_ended input.new)
-        (held_of E.contents errors.old) (held_of E.contents errors.new) (output_failed errors.new) result }
-    ensures whole { result ≢ 2 → (input_ended input.new ≡ true) × IsAtEnd (left_of R.remaining input.new) }
+        (held_of E.contents errors.old) (held_of E.contents errors.new)
+        (output_failed errors.new) result }
+    ensures whole { result ≢ 2 → (input_ended input.new ≡ true)
+        × IsAtEnd (left_of R.remaining input.new) }
     ensures silent { output.new ≡ output.old }
 {
     let _ = &*output;
@@ -136,11 +147,14 @@ pub fn print_engine<R: Read, O: Write, E: Write>(
     requires open { input_ended input.old ≡ false }
     requires unbroken { output_failed errors.old ≡ false }
     requires whole { output_failed output.old ≡ false }
-    ensures report { IsPrintReport edition layout.now name.now (left_of R.remaining input.old) (left_of R.remaining input.new)
+    ensures report { IsPrintReport edition layout.now name.now (left_of R.remaining input.old)
+        (left_of R.remaining input.new)
         (input_failed input.new) (input_ended input.new)
         (held_of O.contents output.old) (held_of O.contents output.new) (output_failed output.new)
-        (held_of E.contents errors.old) (held_of E.contents errors.new) (output_failed errors.new) result }
-    ensures whole { result ≢ 2 → (input_ended input.new ≡ true) × IsAtEnd (left_of R.remaining input.new) }
+        (held_of E.contents errors.old) (held_of E.contents errors.new)
+        (output_failed errors.new) result }
+    ensures whole { result ≢ 2 → (input_ended input.new ≡ true)
+        × IsAtEnd (left_of R.remaining input.new) }
 {
     let printed = match read_into(input, PrintedPart::new(alloc, edition, layout)) {
         Ok(printed) => printed,

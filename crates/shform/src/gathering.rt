@@ -9,8 +9,8 @@ use std::alloc::{AllocError, Global};
 use std::io;
 use std::io::{Error, ErrorKind, Write};
 
-/// Where nothing is held, this many bytes or more go to the device at once, and no copy of them is made. Memory
-/// for more of them is given back at the flush.
+/// Where nothing is held, this many bytes or more go to the device at once, and no copy of them is made.
+/// Memory for more of them is given back at the flush.
 const LARGE: usize = 4096;
 
 /// The room that is asked for behind a large piece: what ends a reply has it, so that nothing grows for that.
@@ -26,7 +26,8 @@ pub struct Gathering<W> {
 /// Writes a beginning of these bytes, which ends where the writer fails, and answers how many it has.
 fn write_front<W: Write>(writer: &mut W, bytes: &[u8]) -> usize
     ensures bound { result ≤ length bytes.now }
-    ensures bytes { Appends (W.contents writer.old) (W.contents writer.new) (take result bytes.now) }
+    ensures bytes { Appends (W.contents writer.old) (W.contents writer.new)
+        (take result bytes.now) }
 {
     let mut taken = 0;
     while taken < bytes.len() {
@@ -81,8 +82,8 @@ impl<W: Write> Gathering<W> {
 impl<W: Write> Write for Gathering<W> {
     ghost contents = { gathered W.contents };
 
-    /// Holds these bytes. Where none is held and they are many, or where there is no memory for them, the device
-    /// takes what it can of them, behind what was held.
+    /// Holds these bytes. Where none is held and they are many, or where there is no memory for them, the
+    /// device takes what it can of them, behind what was held.
     fn write(&mut self, buf: &[u8]) -> io::Result<usize> {
         let goes_through = self.held.is_empty() && buf.len() >= LARGE;
         if !goes_through && self.hold(buf).is_ok() {

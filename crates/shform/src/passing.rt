@@ -34,7 +34,8 @@ impl PartialScript {
     /// Some more bytes were read. Where memory runs out, all is as before.
     pub(crate) fn add(&mut self, bytes: &[u8]) -> Result<(), AllocError>
         requires { bytes_read self.old + length bytes.now ≤ limit }
-        ensures held { IfOk result (λ done. (read : List ℕ) → Held read self.old → Held (read ++ bytes.now) self.new) }
+        ensures held { IfOk result
+            (λ done. (read : List ℕ) → Held read self.old → Held (read ++ bytes.now) self.new) }
         ensures passed { IfOk result (λ done. self.new.passed ≡ self.old.passed) }
         ensures edition { IfOk result (λ done. self.new.edition ≡ self.old.edition) }
     {
@@ -63,7 +64,8 @@ impl PartialScript {
 
     /// Passes what lines there are, where enough is held to look for them.
     fn pass_lines(&mut self) -> Result<(), AllocError>
-        ensures { IfOk result (λ done. (edition : AnEdition) (read : List ℕ) → Holds edition read self.old → Holds edition read self.new) }
+        ensures { IfOk result (λ done. (edition : AnEdition) (read : List ℕ) →
+            Holds edition read self.old → Holds edition read self.new) }
     {
         if !self.is_due() {
             return Ok(());
@@ -77,7 +79,8 @@ impl PartialScript {
     /// A fault of what is held, in the script.
     pub(crate) fn locate(&self, fault: Fault) -> LocatedFault
         requires { fault.at ≤ length self.now.text.items }
-        ensures { (read : List ℕ) → Held read self.now → IsLocatedAt read (moved_fault self.now.passed fault) result }
+        ensures { (read : List ℕ) → Held read self.now →
+            IsLocatedAt read (moved_fault self.now.passed fault) result }
     {
         let (line, col) = line_col_of(&Flat::new(&self.text), fault.at);
         LocatedFault {
@@ -92,7 +95,8 @@ impl PartialScript {
 
     /// The first fault of the script, where all of it was read.
     pub fn first_fault(&self, alloc: Global) -> Result<Option<LocatedFault>, ReadError>
-        ensures { IfOk result (λ found. (edition : AnEdition) (read : List ℕ) → Holds edition read self.now → IsLocated edition read found) }
+        ensures { IfOk result (λ found. (edition : AnEdition) (read : List ℕ) →
+            Holds edition read self.now → IsLocated edition read found) }
     {
         match Reader::for_edition(alloc, self.edition).first_fault(&Flat::new(&self.text))? {
             None => Ok(None),

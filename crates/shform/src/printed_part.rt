@@ -43,7 +43,8 @@ impl PrintedPart {
 
     /// Prints what lines there are, where enough is held to look for them.
     fn print_lines(&mut self) -> Result<(), AllocError>
-        ensures { IfOk result (λ done. (e : AnEdition) (y : ALayout) (read : List ℕ) → HoldsPrinted e y read self.old →
+        ensures { IfOk result (λ done. (e : AnEdition) (y : ALayout) (read : List ℕ) →
+            HoldsPrinted e y read self.old →
             HoldsPrinted e y read self.new) }
     {
         if !self.part.is_due() {
@@ -56,9 +57,11 @@ impl PrintedPart {
 
     /// The printed text of the script, where all of it was read.
     pub fn text(self) -> Result<Vec<u8>, Unprinted>
-        ensures printed { IfOk result (λ text. (e : AnEdition) (y : ALayout) (read : List ℕ) → HoldsPrinted e y read self →
+        ensures printed { IfOk result
+            (λ text. (e : AnEdition) (y : ALayout) (read : List ℕ) → HoldsPrinted e y read self →
             IsTextOf e y read text.items) }
-        ensures err { IfErr result (λ error. (e : AnEdition) (y : ALayout) (read : List ℕ) → HoldsPrinted e y read self →
+        ensures err { IfErr result
+            (λ error. (e : AnEdition) (y : ALayout) (read : List ℕ) → HoldsPrinted e y read self →
             IsUnprinted e read error) }
     {
         let PrintedPart { part, printing } = self;

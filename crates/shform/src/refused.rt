@@ -125,8 +125,8 @@ fn check(rt: HostRuntime) {
     assert!(rt; !refuses || 0 < met && met < 99, "{met}");
 }
 
-/// The status of the check of 20,000 newlines and a script without a fault with the nth growth refused, what it
-/// wrote, and what it told.
+/// The status of the check of 20,000 newlines and a script without a fault with the nth growth refused, what
+/// it wrote, and what it told.
 fn faultless_refused(alloc: Global, nth: usize, script: &[u8]) -> (u8, Page, Page) {
     let newlines = [b'\n'; 20_000];
     let reader = newlines.as_slice().chain(script);

@@ -25,7 +25,8 @@ pub enum RunError {
 
 /// Writes a text and flushes it.
 pub fn write_flushed<W: Write>(output: &mut Output<W>, text: &[u8]) -> Result<(), Failed>
-    ensures bytes { Writes (held_of W.contents output.old) (held_of W.contents output.new) (not (is_ok result)) text.now }
+    ensures bytes { Writes (held_of W.contents output.old) (held_of W.contents output.new)
+        (not (is_ok result)) text.now }
     ensures failed { output_failed output.new ≡ (output_failed output.old || not (is_ok result)) }
 {
     output.write_whole(text)?;
@@ -39,7 +40,8 @@ fn write_parts<E: Write>(
     name: &[u8],
     after: &[u8],
 ) -> Result<(), Failed>
-    ensures bytes { Writes (held_of E.contents errors.old) (held_of E.contents errors.new) (not (is_ok result))
+    ensures bytes { Writes (held_of E.contents errors.old) (held_of E.contents errors.new)
+        (not (is_ok result))
         (before.now ++ name.now ++ after.now) }
     ensures failed { output_failed errors.new ≡ (output_failed errors.old || not (is_ok result)) }
 {
@@ -53,10 +55,16 @@ pub fn give_up<E: Write>(name: &str, stop: RunError, errors: &mut Output<E>) -> 
     requires sound { output_failed errors.old ≡ false }
     ensures answer { result ≡ 2 }
     ensures told { (read : List ℕ) → IsTold name.now read (Err stop)
-        (held_of E.contents errors.old) (held_of E.contents errors.new) (output_failed errors.new) result }
+        (held_of E.contents errors.old) (held_of E.contents errors.new)
+        (output_failed errors.new) result }
 {
     let _ = match stop {
-        RunError::Unreadable => write_parts(errors, b"shform: cannot read ", name.as_bytes(), b"\n"),
+        RunError::Unreadable => write_parts(
+            errors,
+            b"shform: cannot read ",
+            name.as_bytes(),
+            b"\n",
+        ),
         RunError::TooLarge => write_parts(errors, b"shform: ", name.as_bytes(), b": too large\n"),
         RunError::Memory => write_flushed(errors, b"shform: out of memory\n"),
         RunError::Unwritable => write_flushed(errors, b"shform: cannot write\n"),
@@ -77,7 +85,8 @@ pub fn tell<E: Write>(
     requires sound { output_failed errors.old ≡ false }
     ensures told { (read : List ℕ) → line ≡ line_of read fault.at → col ≡ column_of read fault.at →
         TellsFault name.now read fault
-        (held_of E.contents errors.old) (held_of E.contents errors.new) (output_failed errors.new) result }
+        (held_of E.contents errors.old) (held_of E.contents errors.new)
+        (output_failed errors.new) result }
 {
     let Ok(text) = message(alloc, name.as_bytes(), line, col, fault) else {
         return give_up(name, RunError::Memory, errors);

@@ -19,7 +19,12 @@ use std::io::{Read, Write};
 
 /// A session on these bytes. They are within the limit, so that only memory can be wanting; for no bytes
 /// it cannot.
-fn session_on(alloc: Global, reader: Reader, layout: Layout, bytes: &[u8]) -> Result<Session, RunError>
+fn session_on(
+    alloc: Global,
+    reader: Reader,
+    layout: Layout,
+    bytes: &[u8],
+) -> Result<Session, RunError>
     requires low { length bytes.now ≤ limit }
     ensures ok { IfOk result (λ session.
         session ≡ opened_on (how_of (edition_of reader) layout) (meter_of reader) bytes.now) }
@@ -40,7 +45,8 @@ fn open_session<F: Read>(
     file: &mut Option<Input<F>>,
 ) -> Result<Session, RunError>
     requires fresh { IfSome file.old IsOpen }
-    ensures ok { IfOk result (λ session. (read : List ℕ) × IsReadWhole F.remaining file.old file.new read
+    ensures ok { IfOk result
+        (λ session. (read : List ℕ) × IsReadWhole F.remaining file.old file.new read
         × (session ≡ opened_on (how_of (edition_of reader) layout) (meter_of reader) read)) }
     ensures err { IfErr result (λ stop. (read : List ℕ)
         × IsGivenUp F.remaining file.old file.new read stop) }

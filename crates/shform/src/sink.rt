@@ -14,8 +14,10 @@ pub trait Sink: Drop {
 
     /// Takes some more bytes that were read. Where memory runs out nothing more may be taken.
     fn take(&mut self, bytes: &[u8]) -> Result<(), AllocError>
-        requires { (setup : Setup) × (read : List ℕ) × (holds setup read self.old) × (length read + length bytes.now ≤ limit) }
-        ensures { IfOk result (λ done. (setup : Setup) (read : List ℕ) → holds setup read self.old → holds setup (read ++ bytes.now) self.new) };
+        requires { (setup : Setup) × (read : List ℕ) × (holds setup read self.old)
+            × (length read + length bytes.now ≤ limit) }
+        ensures { IfOk result (λ done. (setup : Setup) (read : List ℕ) → holds setup read self.old →
+            holds setup (read ++ bytes.now) self.new) };
 }
 
 impl Sink for Vec<u8> {

@@ -70,8 +70,10 @@ fn with_flag<'a>(
     name: &'a str,
     help: &'a str,
 ) -> Result<Command<'a>, AllocError>
-    ensures app { IfOk result (λ c. app_of c ≡ with_rule (app_of command.entry) (flag_rule name.entry.now)) }
-    ensures local { (out-Command command.entry).has_globals ≡ false → IfOk result (λ c. (out-Command c).has_globals ≡ false) }
+    ensures app { IfOk result
+        (λ c. app_of c ≡ with_rule (app_of command.entry) (flag_rule name.entry.now)) }
+    ensures local { (out-Command command.entry).has_globals ≡ false →
+        IfOk result (λ c. (out-Command c).has_globals ≡ false) }
 {
     command.arg(flag_arg(alloc, name, help))
 }
@@ -236,9 +238,12 @@ fn matches_of<'a>(
     years: &'a [&'a str],
     words: &'a [&'a str],
 ) -> Result<ArgMatches<'a>, clap::Error>
-    ensures rows { IfOk result (λ m. subcommand_rows_of m ≡ subcommand_of (tool_app years.entry) (map (λ w. w.now) words.entry.now)) }
+    ensures rows { IfOk result
+        (λ m. subcommand_rows_of m
+        ≡ subcommand_of (tool_app years.entry) (map (λ w. w.now) words.entry.now)) }
     ensures some { IfOk result (λ m. has_subcommand m ≡ true) }
-    ensures fails { FailsBy (fault_of (tool_app years.entry) (map (λ w. w.now) words.entry.now)) result }
+    ensures fails { FailsBy (fault_of (tool_app years.entry) (map (λ w. w.now) words.entry.now))
+        result }
 {
     command_for(alloc, years, words)?.try_get_matches_from(words)
 }
@@ -265,7 +270,8 @@ fn indent_of(matches: &ArgMatches<'_>) -> u8
 fn options_of(matches: &ArgMatches<'_>) -> Result<Layout, LayoutError>
     ensures options { IfOk result (λ layout. AreOptions matches.now layout) }
     ensures indent { IfOk result (λ layout. layout.indent ≤ 16) }
-    ensures err { IfErr result (λ e. 16 < indent_in (one_text (found_of matches.now) (codes "indent"))) }
+    ensures err { IfErr result
+        (λ e. 16 < indent_in (one_text (found_of matches.now) (codes "indent"))) }
 {
     Layout::new(
         indent_of(matches),
@@ -279,7 +285,9 @@ fn options_of(matches: &ArgMatches<'_>) -> Result<Layout, LayoutError>
 fn layout_of(tool: Tool, matches: &ArgMatches<'_>) -> Result<Layout, LayoutError>
     ensures layout { IfOk result (λ layout. IsLayoutFor tool matches.now layout) }
     ensures indent { IfOk result (λ layout. layout.indent ≤ 16) }
-    ensures err { IfErr result (λ e. (tool ≢ Check) × (16 < indent_in (one_text (found_of matches.now) (codes "indent")))) }
+    ensures err { IfErr result
+        (λ e. (tool ≢ Check) × (16 < indent_in
+        (one_text (found_of matches.now) (codes "indent")))) }
 {
     match tool {
         Tool::Check => Layout::new(0, false, false, false),
@@ -299,7 +307,8 @@ fn edition_of(matches: &ArgMatches<'_>) -> Edition
 
 /// FILE, where it is given and is not `-`.
 fn file_of<'a>(matches: &ArgMatches<'a>) -> Option<&'a str>
-    ensures { option_map (λ t. t.now) result ≡ file_in (first_value (found_of matches.now) (codes "FILE")) }
+    ensures { option_map (λ t. t.now) result
+        ≡ file_in (first_value (found_of matches.now) (codes "FILE")) }
 {
     match matches.get_str("FILE") {
         Some("-") => None,

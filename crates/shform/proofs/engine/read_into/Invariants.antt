@@ -5,8 +5,10 @@ use Rattle.shform.proofs.engine.read_into.Given as goal
 
 abbrev pub invariant-pieces : goal.invariant-pieces
 invariant-pieces g l = record {
-  taken : (read : List ℕ) × ((setup : g.S.Sink.Setup) → g.S.Sink.holds setup [] l.fn.sink → g.S.Sink.holds setup read l.sink)
-      × Consumes (g.R.Read.remaining l.fn.input.reader) (g.R.Read.remaining l.input.reader) read × (length read ≡ l.held);
+  taken : (read : List ℕ) × ((setup : g.S.Sink.Setup) → g.S.Sink.holds setup [] l.fn.sink →
+      g.S.Sink.holds setup read l.sink)
+      × Consumes (g.R.Read.remaining l.fn.input.reader) (g.R.Read.remaining l.input.reader) read
+      × (length read ≡ l.held);
   low : l.held ≤ limit;
   size : length l.piece ≡ 16384;
   sound : l.input.failed ≡ false;

@@ -10,16 +10,20 @@ returns-in-Unreadable-clause-told g c read =
     (g.E.Write.contents c.args.errors.now.writer) (g.E.Write.contents c.write_parts.new.errors.writer)
     (output_failed c.args.errors.now) (output_failed c.write_parts.new.errors) (not (is_ok c.write_parts.result))
     c.requires.sound c.write_parts.ensures.failed
-    (ap (λ (n : List ℕ). codes "shform: cannot read " ++ n ++ codes "\n") c.as_bytes.ensures.value ∙ ap (text_of_stop c.args.name.now) (sym c.in-Unreadable.is))
+    (ap (λ (n : List ℕ). codes "shform: cannot read " ++ n ++ codes "\n") c.as_bytes.ensures.value
+    ∙ ap (text_of_stop c.args.name.now) (sym c.in-Unreadable.is))
     c.write_parts.ensures.bytes
 
 pub returns-in-TooLarge-clause-told : goal.returns-in-TooLarge-clause-told
 returns-in-TooLarge-clause-told g c read =
-    given-up c.args.name.now read (codes "shform: " ++ c.as_bytes-in-TooLarge.result.now ++ codes ": too large\n") c.args.stop
+    given-up c.args.name.now read
+    (codes "shform: " ++ c.as_bytes-in-TooLarge.result.now ++ codes ": too large\n") c.args.stop
     (g.E.Write.contents c.args.errors.now.writer) (g.E.Write.contents c.write_parts-in-TooLarge.new.errors.writer)
-    (output_failed c.args.errors.now) (output_failed c.write_parts-in-TooLarge.new.errors) (not (is_ok c.write_parts-in-TooLarge.result))
+    (output_failed c.args.errors.now) (output_failed c.write_parts-in-TooLarge.new.errors)
+    (not (is_ok c.write_parts-in-TooLarge.result))
     c.requires.sound c.write_parts-in-TooLarge.ensures.failed
-    (ap (λ (n : List ℕ). codes "shform: " ++ n ++ codes ": too large\n") c.as_bytes-in-TooLarge.ensures.value ∙ ap (text_of_stop c.args.name.now) (sym c.in-TooLarge.is))
+    (ap (λ (n : List ℕ). codes "shform: " ++ n ++ codes ": too large\n") c.as_bytes-in-TooLarge.ensures.value
+    ∙ ap (text_of_stop c.args.name.now) (sym c.in-TooLarge.is))
     c.write_parts-in-TooLarge.ensures.bytes
 
 pub returns-in-Memory-clause-told : goal.returns-in-Memory-clause-told
@@ -35,7 +39,8 @@ pub returns-in-Unwritable-clause-told : goal.returns-in-Unwritable-clause-told
 returns-in-Unwritable-clause-told g c read =
     given-up c.args.name.now read (codes "shform: cannot write\n") c.args.stop
     (g.E.Write.contents c.args.errors.now.writer) (g.E.Write.contents c.write_flushed-in-Unwritable.new.output.writer)
-    (output_failed c.args.errors.now) (output_failed c.write_flushed-in-Unwritable.new.output) (not (is_ok c.write_flushed-in-Unwritable.result))
+    (output_failed c.args.errors.now) (output_failed c.write_flushed-in-Unwritable.new.output)
+    (not (is_ok c.write_flushed-in-Unwritable.result))
     c.requires.sound c.write_flushed-in-Unwritable.ensures.failed
     (ap (text_of_stop c.args.name.now) (sym c.in-Unwritable.is))
     c.write_flushed-in-Unwritable.ensures.bytes

@@ -7,5 +7,6 @@ use Rattle.shform.proofs.words.indent_of.Goals as goal
 pub returns : goal.returns
 returns c =
     c.unwrap_or.ensures
-    ∙ indent_read _ (λ t r. ParsesUnsigned 8 10 t r × ExplainsUnsignedError 10 t r × HasUnsignedDigitsIfOk t r) (one_text (found_of c.args.matches.now) (codes "indent"))
+    ∙ indent_read _ (λ t r. ParsesUnsigned 8 10 t r × ExplainsUnsignedError 10 t r × HasUnsignedDigitsIfOk t r)
+    (one_text (found_of c.args.matches.now) (codes "indent"))
     c.get_one.result (λ t r gives. gives.0) c.get_one.ensures.none c.get_one.ensures.value
