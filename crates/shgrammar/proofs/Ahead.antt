@@ -21,7 +21,8 @@ behind_is T p = refl
 
 -- what ends a word is none of these
 pub ender : (b c : ℕ) → ends (Some b) ≡ true → ends (Some c) ≡ false → (b == c) ≡ false
-ender b c e f = must_fail (b == c) (λ g. let is : b ≡ c = grind (arith, nat_tests) in both_ways (ends (Some b)) (rw is f) e)
+ender b c e f = must_fail (b == c)
+    (λ g. let is : b ≡ c = grind (arith, nat_tests) in both_ways (ends (Some b)) (rw is f) e)
 
 -- what the byte at the limit is: it is no byte over which anything that is looked for
 -- goes on, and it ends a word
@@ -36,10 +37,28 @@ pub record Ender (c : ℕ) : Type 0 where
   pub no_greater : (c == 62) ≡ false
 
 pub newline_ends : Ender 10
-newline_ends = record { ends_it = refl; no_open = refl; no_blank = refl; no_semicolon = refl; no_ampersand = refl; no_bar = refl; no_less = refl; no_greater = refl }
+newline_ends = record {
+  ends_it = refl;
+  no_open = refl;
+  no_blank = refl;
+  no_semicolon = refl;
+  no_ampersand = refl;
+  no_bar = refl;
+  no_less = refl;
+  no_greater = refl;
+}
 
 pub bracket_ends : Ender 41
-bracket_ends = record { ends_it = refl; no_open = refl; no_blank = refl; no_semicolon = refl; no_ampersand = refl; no_bar = refl; no_less = refl; no_greater = refl }
+bracket_ends = record {
+  ends_it = refl;
+  no_open = refl;
+  no_blank = refl;
+  no_semicolon = refl;
+  no_ampersand = refl;
+  no_bar = refl;
+  no_less = refl;
+  no_greater = refl;
+}
 
 -- a test that holds only of bytes over which it goes on, and not of the one at the limit
 pub record Goes (c : ℕ) (test : ℕ → Bool) : Type 0 where
@@ -47,13 +66,25 @@ pub record Goes (c : ℕ) (test : ℕ → Bool) : Type 0 where
   pub not_limit : test c ≡ false
 
 pub goes_name : (c : ℕ) → Ender c → Goes c is_name
-goes_name c e = record { on = λ b f. grind (arith, nat_tests); not_limit = let f = e.ends_it in grind (arith, nat_tests) }
+goes_name c e = record {
+  on = λ b f. grind (arith, nat_tests);
+  not_limit = let f = e.ends_it in
+      grind (arith, nat_tests);
+}
 
 pub goes_letter : (c : ℕ) → Ender c → Goes c is_letter
-goes_letter c e = record { on = λ b f. grind (arith, nat_tests); not_limit = let f = e.ends_it in grind (arith, nat_tests) }
+goes_letter c e = record {
+  on = λ b f. grind (arith, nat_tests);
+  not_limit = let f = e.ends_it in
+      grind (arith, nat_tests);
+}
 
 pub goes_digit : (c : ℕ) → Ender c → Goes c is_digit
-goes_digit c e = record { on = λ b f. grind (arith, nat_tests); not_limit = let f = e.ends_it in grind (arith, nat_tests) }
+goes_digit c e = record {
+  on = λ b f. grind (arith, nat_tests);
+  not_limit = let f = e.ends_it in
+      grind (arith, nat_tests);
+}
 
 pub goes_blank : (c : ℕ) → Ender c → Goes c is_blank
 goes_blank c e = record { on = λ b f. grind (arith, nat_tests); not_limit = e.no_blank }
@@ -94,7 +125,8 @@ pub spelled_none : (T : List ℕ) (p : ℕ) → is_word_at T p [] ≡ ends (byte
 unfolding is_word_at ends_word
 spelled_none T p = refl
 
-pub spelled_more : (T : List ℕ) (p x : ℕ) (xs : List ℕ) → is_word_at T p (x ∷ xs) ≡ (stands T p x && is_word_at T (behind T p) xs)
+pub spelled_more : (T : List ℕ) (p x : ℕ) (xs : List ℕ) →
+    is_word_at T p (x ∷ xs) ≡ (stands T p x && is_word_at T (behind T p) xs)
 unfolding is_word_at
 spelled_more T p x xs = refl
 
@@ -135,7 +167,11 @@ module _ {edition : Edition} {T T2 : List ℕ} {a L : ℕ} {to : ℕ → ℕ} {c
   limit_byte_there = ap (slice_get T2) limit_place_there ∙ E.kept.same L E.under (omega arith) ∙ E.byte
 
   pub W : WordEnds T T2 L to
-  W = record { here = ap ends limit_byte ∙ E.ender.ends_it; there = ap ends limit_byte_there ∙ E.ender.ends_it; closed = ap (λ b. is_byte b 40) limit_byte_there ∙ E.ender.no_open }
+  W = record {
+    here = ap ends limit_byte ∙ E.ender.ends_it;
+    there = ap ends limit_byte_there ∙ E.ender.ends_it;
+    closed = ap (λ b. is_byte b 40) limit_byte_there ∙ E.ender.no_open;
+  }
 
   -- where no continuation begins in the first text none begins in the second
   at_limit_same : (p : ℕ) → a ≤ p → p < L → continues T p ≡ false → continues T2 (to p) ≡ false
@@ -144,7 +180,12 @@ module _ {edition : Edition} {T T2 : List ℕ} {a L : ℕ} {to : ℕ → ℕ} {c
   -- where it is safe the same byte is read, up to the limit
   seen_by : {p : ℕ} → a ≤ p → Place T T2 L to p → Here T T2 a (L + 1) to p
   seen_by low (inside lt there) = record { low = low; inside = omega (arith, lt); there = there }
-  seen_by low (outside one two) = record { low = low; inside = omega (arith, one, limit_place); there = two ∙ limit_place_there ∙ ap to (sym (one ∙ limit_place)) }
+  seen_by low (outside one two) =
+      record {
+        low = low;
+        inside = omega (arith, one, limit_place);
+        there = two ∙ limit_place_there ∙ ap to (sym (one ∙ limit_place));
+      }
 
   pub seen : {p : ℕ} → Safe T a L p → Here T T2 a (L + 1) to p
   seen s = seen_by (safe_low K s) (place K at_limit_same s)
@@ -173,7 +214,8 @@ module _ {edition : Edition} {T T2 : List ℕ} {a L : ℕ} {to : ℕ → ℕ} {c
   pub place_safe : {p : ℕ} → Safe T a L p → Safe T a L (past_continuations T p)
   place_safe at_limit = subst (Safe T a L) (sym limit_place) at_limit
   place_safe (halts {p = p} low lt none stop) = subst (Safe T a L) (sym (joined_none T p none)) (halts low lt none stop)
-  place_safe (one_byte {p = p} low on rest) = subst (Safe T a L) (sym (joined_none T p (no_backslash T p (on_no_backslash T p on)))) (one_byte low on rest)
+  place_safe (one_byte {p = p} low on rest) =
+      subst (Safe T a L) (sym (joined_none T p (no_backslash T p (on_no_backslash T p on)))) (one_byte low on rest)
   place_safe (two_bytes {p = p} low c rest) = subst (Safe T a L) (sym (joined_more T p c)) (place_safe rest)
 
   -- behind a byte as it stands
@@ -181,7 +223,8 @@ module _ {edition : Edition} {T T2 : List ℕ} {a L : ℕ} {to : ℕ → ℕ} {c
   raw_safe at_limit on other = absurd (other refl)
   raw_safe (halts low lt none stop) on other = absurd (both_ways _ stop on)
   raw_safe (one_byte low on rest) also other = rest
-  raw_safe (two_bytes {p = p} low c rest) on other = absurd (both_ways (raw_stands T p 92) (on_no_backslash T p on) (continued T p c).0)
+  raw_safe (two_bytes {p = p} low c rest) on other =
+      absurd (both_ways (raw_stands T p 92) (on_no_backslash T p on) (continued T p c).0)
 
   module _ (test : ℕ → Bool) (g : Goes c test) where
     not_there : (p : ℕ) → raw_in test T p ≡ true → p ≡ L → ⊥
@@ -202,13 +245,18 @@ module _ {edition : Edition} {T T2 : List ℕ} {a L : ℕ} {to : ℕ → ℕ} {c
         let r = read_raw p e in
         subst (Safe T a L) (sym (behind_is T p)) (raw_safe (place_safe s) (raw_on _ r) (not_there _ r))
 
-    past_below : (n p : ℕ) → length T - p < n → Safe T a L p → Safe T a L (past test T p) × (past test T2 (to p) ≡ to (past test T p))
+    past_below : (n p : ℕ) → length T - p < n → Safe T a L p → Safe T a L (past test T p)
+        × (past test T2 (to p) ≡ to (past test T p))
     past_below zero p few s = absurd (omega arith)
     past_below (suc n) p few s =
         ⊎_elim
         (λ (e : stands_in test T p ≡ true). let more = past_more test T p e in
-        let rest = past_below n (behind T p) (omega (arith, few, behind_low T p, stands_in_low test T p e, place_low T p)) (next_safe s e) in
-        (subst (Safe T a L) (sym more) rest.0, past_more test T2 (to p) (same_stands_in s test ∙ e) ∙ ap (past test T2) (same_behind s) ∙ rest.1 ∙ ap to (sym more)))
+        let rest = past_below n (behind T p)
+        (omega (arith, few, behind_low T p, stands_in_low test T p e, place_low T p)) (next_safe s e) in (
+          subst (Safe T a L) (sym more) rest.0,
+          past_more test T2 (to p) (same_stands_in s test ∙ e) ∙ ap (past test T2) (same_behind s) ∙ rest.1
+              ∙ ap to (sym more),
+        ))
         (λ (e : stands_in test T p ≡ false). let none = past_none test T p e in
         (subst (Safe T a L) (sym none) s, past_none test T2 (to p) (same_stands_in s test ∙ e) ∙ ap to (sym none)))
         (cases_Bool (stands_in test T p))
@@ -227,7 +275,8 @@ module _ {edition : Edition} {T T2 : List ℕ} {a L : ℕ} {to : ℕ → ℕ} {c
         ⊎_elim
         (λ (e : stands_in test T p ≡ true).
         safe_behind K p low (raw_clear p e)
-        (back_below n (behind T p) (omega (arith, few, behind_low T p, stands_in_low test T p e, place_low T p)) (omega (arith, low, behind_low T p)) (subst (Safe T a L) (past_more test T p e) s)))
+        (back_below n (behind T p) (omega (arith, few, behind_low T p, stands_in_low test T p e, place_low T p))
+        (omega (arith, low, behind_low T p)) (subst (Safe T a L) (past_more test T p e) s)))
         (λ (e : stands_in test T p ≡ false). subst (Safe T a L) (past_none test T p e) s)
         (cases_Bool (stands_in test T p))
 
@@ -237,19 +286,23 @@ module _ {edition : Edition} {T T2 : List ℕ} {a L : ℕ} {to : ℕ → ℕ} {c
 
   -- ---- blanks
 
-  pub blanks_safe : {p : ℕ} → Safe T a L p → Safe T a L (past_blanks T p) × (past_blanks T2 (to p) ≡ to (past_blanks T p))
+  pub blanks_safe : {p : ℕ} → Safe T a L p → Safe T a L (past_blanks T p)
+      × (past_blanks T2 (to p) ≡ to (past_blanks T p))
   unfolding past_blanks
-  blanks_safe s = let r = past_safe is_blank (goes_blank c E.ender) s in (place_safe r.0, ap (past_continuations T2) r.1 ∙ same_place r.0)
+  blanks_safe s = let r = past_safe is_blank (goes_blank c E.ender) s in
+      (place_safe r.0, ap (past_continuations T2) r.1 ∙ same_place r.0)
 
   pub blanks_back : (p : ℕ) → a ≤ p → Safe T a L (past_blanks T p) → Safe T a L p
   unfolding past_blanks
-  blanks_back p low s = past_back is_blank (goes_blank c E.ender) p low (safe_place K (past is_blank T p) (omega (arith, low, past_low is_blank T p)) s)
+  blanks_back p low s = past_back is_blank (goes_blank c E.ender) p low
+      (safe_place K (past is_blank T p) (omega (arith, low, past_low is_blank T p)) s)
 
   pub same_raw_in : (test : ℕ → Bool) (p : ℕ) → a ≤ p → p ≤ L → raw_in test T2 (to p) ≡ raw_in test T p
   unfolding raw_in
   same_raw_in test p low high = ap (passes test) (E.kept.same p low (omega (arith, high)))
 
-  raw_blanks_below : (n p : ℕ) → L - p < n → Safe T a L p → Safe T a L (raw_past is_blank T p) × (raw_past is_blank T2 (to p) ≡ to (raw_past is_blank T p))
+  raw_blanks_below : (n p : ℕ) → L - p < n → Safe T a L p → Safe T a L (raw_past is_blank T p)
+      × (raw_past is_blank T2 (to p) ≡ to (raw_past is_blank T p))
   raw_blanks_below zero p few s = absurd (omega arith)
   raw_blanks_below (suc n) p few s =
       let low = safe_low K s in
@@ -257,9 +310,13 @@ module _ {edition : Edition} {T T2 : List ℕ} {a L : ℕ} {to : ℕ → ℕ} {c
       let same = same_raw_in is_blank p low high in
       ⊎_elim
       (λ (e : raw_in is_blank T p ≡ true). let more = raw_more is_blank T p e in
-      let next = raw_safe s (raw_on is_blank (goes_blank c E.ender) p e) (not_there is_blank (goes_blank c E.ender) p e) in
-      let rest = raw_blanks_below n (p + 1) (omega (arith, few, safe_high K next)) next in
-      (subst (Safe T a L) (sym more) rest.0, raw_more is_blank T2 (to p) (same ∙ e) ∙ ap (raw_past is_blank T2) (sym (E.kept.on p 1 low)) ∙ rest.1 ∙ ap to (sym more)))
+      let next = raw_safe s (raw_on is_blank (goes_blank c E.ender) p e)
+      (not_there is_blank (goes_blank c E.ender) p e) in
+      let rest = raw_blanks_below n (p + 1) (omega (arith, few, safe_high K next)) next in (
+        subst (Safe T a L) (sym more) rest.0,
+        raw_more is_blank T2 (to p) (same ∙ e) ∙ ap (raw_past is_blank T2) (sym (E.kept.on p 1 low)) ∙ rest.1
+            ∙ ap to (sym more),
+      ))
       (λ (e : raw_in is_blank T p ≡ false). let none = raw_none is_blank T p e in
       (subst (Safe T a L) (sym none) s, raw_none is_blank T2 (to p) (same ∙ e) ∙ ap to (sym none)))
       (cases_Bool (raw_in is_blank T p))
@@ -274,7 +331,8 @@ module _ {edition : Edition} {T T2 : List ℕ} {a L : ℕ} {to : ℕ → ℕ} {c
 
   pub same_broken : {p : ℕ} → Safe T a L p → is_broken_at T2 (to p) ≡ is_broken_at T p
   unfolding is_broken_at
-  same_broken {p = p} s = let r = raw_blanks_below (suc (L - p)) p (omega arith) s in ap (continues T2) r.1 ∙ same_continues r.0
+  same_broken {p = p} s = let r = raw_blanks_below (suc (L - p)) p (omega arith) s in
+      ap (continues T2) r.1 ∙ same_continues r.0
 
   -- ---- words that are spelled
 
@@ -282,17 +340,21 @@ module _ {edition : Edition} {T T2 : List ℕ} {a L : ℕ} {to : ℕ → ℕ} {c
   unfolding stands stands_in
   stands_is p x f = stands_passes (byte_at T p) x f
 
-  pub same_word : (word : List ℕ) (p : ℕ) → all_go word ≡ true → Safe T a L p → is_word_at T2 (to p) word ≡ is_word_at T p word
+  pub same_word : (word : List ℕ) (p : ℕ) → all_go word ≡ true → Safe T a L p →
+      is_word_at T2 (to p) word ≡ is_word_at T p word
   same_word [] p e s = spelled_none T2 (to p) ∙ ap ends (same_byte s) ∙ sym (spelled_none T p)
   same_word (x ∷ xs) p e s =
       let here = and_parts _ _ e in
       let there = and_parts _ _ here.1 in
       spelled_more T2 (to p) x xs ∙ ap (λ b. b && is_word_at T2 (behind T2 (to p)) xs) (same_stands s x)
       ∙ same_and (stands T p x) _ _ (λ f. ap (λ q. is_word_at T2 q xs) (same_behind s)
-      ∙ same_word xs (behind T p) there.1 (next_safe (λ b. b == x) (goes_one c x here.0 (ender c x E.ender.ends_it (not_false (ends (Some x)) there.0))) s (stands_is p x f)))
+      ∙ same_word xs (behind T p) there.1
+      (next_safe (λ b. b == x) (goes_one c x here.0 (ender c x E.ender.ends_it (not_false (ends (Some x)) there.0)))
+      s (stands_is p x f)))
       ∙ sym (spelled_more T p x xs)
 
-  same_words : (ws : Row Spelling) (p : ℕ) → all_words ws ≡ true → Safe T a L p → first_of_words T2 (to p) ws ≡ first_of_words T p ws
+  same_words : (ws : Row Spelling) (p : ℕ) → all_words ws ≡ true → Safe T a L p →
+      first_of_words T2 (to p) ws ≡ first_of_words T p ws
   unfolding first_of_words
   same_words [] p e s = refl
   same_words (w ∷ ws) p e s = let both = and_parts _ _ e in rw (same_word w.0 p both.0 s, same_words ws p both.1 s) refl
@@ -331,35 +393,43 @@ module _ {edition : Edition} {T T2 : List ℕ} {a L : ℕ} {to : ℕ → ℕ} {c
   same_less {q = q} s =
       rw (same_stands s 60, same_stands s 38, same_stands s 62)
       (same_if (stands T q 60) _ _ _ _
-      (λ e. let next = next_safe (λ x. x == 60) (goes_one c 60 refl E.ender.no_less) s (stands_is q 60 e) in rw (same_behind s, same_stands next 45) refl)
+      (λ e. let next = next_safe (λ x. x == 60) (goes_one c 60 refl E.ender.no_less) s (stands_is q 60 e) in
+      rw (same_behind s, same_stands next 45) refl)
       (λ e. refl))
 
   same_greater : {q : ℕ} → Safe T a L q → greater_at T2 (to q) ≡ greater_at T q
   unfolding greater_at
   same_greater s = rw (same_stands s 62, same_stands s 38, same_stands s 124) refl
 
-  token_by : (position : Position) {p : ℕ} (x : Option ℕ) → Safe T a L p → byte_at T p ≡ x → token_of position T2 (to p) x ≡ token_of position T p x
+  token_by : (position : Position) {p : ℕ} (x : Option ℕ) → Safe T a L p → byte_at T p ≡ x →
+      token_of position T2 (to p) x ≡ token_of position T p x
   unfolding stands_in
   token_by position None s is = refl
   token_by position {p = p} (Some b) s is =
       same_if (is_newline b) _ _ _ _ (λ e. refl)
       (λ e. same_if (b == 59) _ _ _ _
-      (λ f. let next = next_safe (λ x. x == 59) (goes_one c 59 refl E.ender.no_semicolon) s (rw is f) in rw (same_behind s, same_stands next 59, same_stands next 38) refl)
+      (λ f. let next = next_safe (λ x. x == 59) (goes_one c 59 refl E.ender.no_semicolon) s (rw is f) in
+      rw (same_behind s, same_stands next 59, same_stands next 38) refl)
       (λ f. same_if (b == 38) _ _ _ _
-      (λ g. let next = next_safe (λ x. x == 38) (goes_one c 38 refl E.ender.no_ampersand) s (rw is g) in rw (same_behind s, same_stands next 38) refl)
+      (λ g. let next = next_safe (λ x. x == 38) (goes_one c 38 refl E.ender.no_ampersand) s (rw is g) in
+      rw (same_behind s, same_stands next 38) refl)
       (λ g. same_if (b == 124) _ _ _ _
-      (λ h. let next = next_safe (λ x. x == 124) (goes_one c 124 refl E.ender.no_bar) s (rw is h) in rw (same_behind s, same_stands next 124) refl)
+      (λ h. let next = next_safe (λ x. x == 124) (goes_one c 124 refl E.ender.no_bar) s (rw is h) in
+      rw (same_behind s, same_stands next 124) refl)
       (λ h. same_if (b == 40) _ _ _ _ (λ i. refl)
       (λ i. same_if (b == 41) _ _ _ _ (λ j. refl)
       (λ j. same_if (b == 60) _ _ _ _
-      (λ k. let next = next_safe (λ x. x == 60) (goes_one c 60 refl E.ender.no_less) s (rw is k) in ap tokens.Redirect (ap (less_at T2) (same_behind s) ∙ same_less next))
+      (λ k. let next = next_safe (λ x. x == 60) (goes_one c 60 refl E.ender.no_less) s (rw is k) in
+      ap tokens.Redirect (ap (less_at T2) (same_behind s) ∙ same_less next))
       (λ k. same_if (b == 62) _ _ _ _
-      (λ l. let next = next_safe (λ x. x == 62) (goes_one c 62 refl E.ender.no_greater) s (rw is l) in ap tokens.Redirect (ap (greater_at T2) (same_behind s) ∙ same_greater next))
+      (λ l. let next = next_safe (λ x. x == 62) (goes_one c 62 refl E.ender.no_greater) s (rw is l) in
+      ap tokens.Redirect (ap (greater_at T2) (same_behind s) ∙ same_greater next))
       (λ l. rw (same_number s, same_in_position position s) refl))))))))
 
   pub same_token : (position : Position) {p : ℕ} → Safe T a L p → token_at position T2 (to p) ≡ token_at position T p
   unfolding token_at
-  same_token position {p = p} s = ap (token_of position T2 (to p)) (same_byte s) ∙ token_by position (byte_at T p) s refl
+  same_token position {p = p} s = ap (token_of position T2 (to p)) (same_byte s)
+      ∙ token_by position (byte_at T p) s refl
 
   pub same_next : (position : Position) {p : ℕ} → Safe T a L p → next_at position T2 (to p) ≡ next_at position T p
   same_next position s = let r = blanks_safe s in rw (r.1, same_token position r.0, same_broken s) refl

@@ -8,19 +8,27 @@ use Rattle.shgrammar.specs.declared.edition.Edition.{Edition}
 pub line_answered : (edition : Edition) → (T : List ℕ) (l : ALine) → l ≡ line_of_text edition T → IsLine edition T l
 line_answered edition T l is = subst (IsLine edition T) (sym is) (line_is edition T)
 
-pub line_alone : (edition : Edition) → (T : List ℕ) (l : ALine) → l ≡ line_of_text edition T → (a : ALine) → IsLine edition T a → a ≡ l
+pub line_alone : (edition : Edition) → (T : List ℕ) (l : ALine) → l ≡ line_of_text edition T → (a : ALine) →
+    IsLine edition T a → a ≡ l
 line_alone edition T l is a other = line_only edition T a other ∙ sym is
 
 pub script_answered : (edition : Edition) → (B : List ℕ) (s : AScript) → s ≡ script_at edition B → Outcome edition B s
 script_answered edition B s is = subst (Outcome edition B) (sym is) (script_is edition B)
 
-pub script_alone : (edition : Edition) → (B : List ℕ) (s : AScript) → s ≡ script_at edition B → (a : AScript) → Outcome edition B a → a ≡ s
+pub script_alone : (edition : Edition) → (B : List ℕ) (s : AScript) → s ≡ script_at edition B → (a : AScript) →
+    Outcome edition B a → a ≡ s
 script_alone edition B s is a other = script_only edition B a other ∙ sym is
 
-pub fault_answered : (edition : Edition) → (B : List ℕ) (f : _) → f ≡ first_fault_from edition B 0 → FirstFault edition B f
+pub fault_answered : (edition : Edition) → (B : List ℕ) (f : _) → f ≡ first_fault_from edition B 0 →
+    FirstFault edition B f
 unfolding first_fault_from script_at
-fault_answered edition B f is = ((script_at edition B).entries, subst (λ z. Outcome edition B (record { entries = (script_at edition B).entries; wrong = z })) (sym is) (script_is edition B))
+fault_answered edition B f is = (
+  (script_at edition B).entries,
+  subst (λ z. Outcome edition B (record { entries = (script_at edition B).entries; wrong = z })) (sym is)
+      (script_is edition B),
+)
 
-pub fault_alone : (edition : Edition) → (B : List ℕ) (f : _) → f ≡ first_fault_from edition B 0 → (a : AScript) → Outcome edition B a → a.wrong ≡ f
+pub fault_alone : (edition : Edition) → (B : List ℕ) (f : _) → f ≡ first_fault_from edition B 0 → (a : AScript) →
+    Outcome edition B a → a.wrong ≡ f
 unfolding first_fault_from script_at
 fault_alone edition B f is a other = ap (λ (s : AScript). s.wrong) (script_only edition B a other) ∙ sym is

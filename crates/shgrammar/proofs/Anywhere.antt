@@ -31,30 +31,42 @@ use Rattle.shgrammar.specs.Words.{dollar_single}
 just_is : {X : Type 0} {x : X} {t : State} (y : Read X) (k : Row Spelled) → Just x t y k → (y ≡ Ok (x, t)) × (k ≡ [])
 just_is y k just = (refl, refl)
 
-token_is : {X : Type 0} {g : Given} {r : Comes X} {s : State} (y : Read (X × Span)) (k : Row Spelled) → OneToken as_it_stands g r s y k → (x : X × Span) (t : State) → y ≡ Ok (x, t) → k ≡ raw g.text s.at t.at ∷ []
+token_is : {X : Type 0} {g : Given} {r : Comes X} {s : State} (y : Read (X × Span)) (k : Row Spelled) →
+    OneToken as_it_stands g r s y k → (x : X × Span) (t : State) → y ≡ Ok (x, t) → k ≡ raw g.text s.at t.at ∷ []
 token_is {X = X} {g = g} {s = s} y k (whole {x = a} {t = u} part) x t is =
-    let same : ◌≡◌ {A = (X × Span) × State} ((a, span g.offset s.at u.at), u) (x, t) = cc in ap (λ (z : (X × Span) × State). raw g.text s.at z.1.at ∷ []) same
+    let same : ◌≡◌ {A = (X × Span) × State} ((a, span g.offset s.at u.at), u) (x, t) = cc in
+    ap (λ (z : (X × Span) × State). raw g.text s.at z.1.at ∷ []) same
 token_is y k (broken_off part) x t is = absurd cc
 
-then_is : {X Y : Type 0} {r : Comes X} {q : X → Comes Y} {s : State} (P : Row Spelled → Type 0) (c : Y) (u : State) (y : Read Y) (k : Row Spelled) → Then r q s y k → y ≡ Ok (c, u)
+then_is : {X Y : Type 0} {r : Comes X} {q : X → Comes Y} {s : State} (P : Row Spelled → Type 0) (c : Y) (u : State)
+    (y : Read Y) (k : Row Spelled) → Then r q s y k → y ≡ Ok (c, u)
     → ((x : X) (t : State) (m l : Row Spelled) → r s (Ok (x, t)) m → q x t (Ok (c, u)) l → P (m ++ l)) → P k
-then_is {Y = Y} {q = q} P c u y k (and_then {x = x} {t = t} {k = m} {l = l} one two) is so = so x t m l one (subst (λ (z : Read Y). q x t z l) is two)
+then_is {Y = Y} {q = q} P c u y k (and_then {x = x} {t = t} {k = m} {l = l} one two) is so =
+    so x t m l one (subst (λ (z : Read Y). q x t z l) is two)
 then_is P c u y k (or_stops one) is so = absurd cc
 
 -- a word has its span
-pub word_span : (inner : Inner) (g : Given) (s t : State) (w : AWord) (k : Row Spelled) → may (a_word inner) g s (Ok (w, t)) k → (ss : Row ASubst) × (w ≡ word (span g.offset s.at t.at) (substs_of ss))
+pub word_span : (inner : Inner) (g : Given) (s t : State) (w : AWord) (k : Row Spelled) →
+    may (a_word inner) g s (Ok (w, t)) k → (ss : Row ASubst) × (w ≡ word (span g.offset s.at t.at) (substs_of ss))
 unfolding a_word
 word_span inner g s t w k part =
     spanned (does (contents inner Plain (g.offset + s.at) []) Whole g s) (sym ((is (a_word inner) g s).only _ _ part))
   where
-    spanned : (x : Read (Row ASubst)) → ◌▸◌ {Y = AWord} (◌▸◌ {Y = Row ASubst × Span} x (λ b u. Ok ((b, span g.offset s.at u.at), u))) (λ z u. Ok (word z.1 (substs_of z.0), u)) ≡ Ok (w, t) → (ss : Row ASubst) × (w ≡ word (span g.offset s.at t.at) (substs_of ss))
+    spanned : (x : Read (Row ASubst)) →
+        ◌▸◌ {Y = AWord} (◌▸◌ {Y = Row ASubst × Span} x (λ b u. Ok ((b, span g.offset s.at u.at), u)))
+        (λ z u. Ok (word z.1 (substs_of z.0), u)) ≡ Ok (w, t) → (ss : Row ASubst)
+        × (w ≡ word (span g.offset s.at t.at) (substs_of ss))
     spanned (Ok (ss, u)) read =
-        let same : ◌≡◌ {A = AWord × State} (word (span g.offset s.at u.at) (substs_of ss), u) (w, t) = cc in
-        (ss, sym (ap (λ (z : AWord × State). z.0) same) ∙ ap (λ (z : AWord × State). word (span g.offset s.at z.1.at) (substs_of ss)) same)
+        let same : ◌≡◌ {A = AWord × State} (word (span g.offset s.at u.at) (substs_of ss), u) (w, t) = cc in (
+          ss,
+          sym (ap (λ (z : AWord × State). z.0) same)
+              ∙ ap (λ (z : AWord × State). word (span g.offset s.at z.1.at) (substs_of ss)) same,
+        )
     spanned (Err f) read = absurd cc
 
 -- what a word tells is its bytes as they stand
-pub word_told : (inner : Inner) (g : Given) (s t : State) (w : AWord) (k : Row Spelled) → may (a_word inner) g s (Ok (w, t)) k → k ≡ raw g.text s.at t.at ∷ []
+pub word_told : (inner : Inner) (g : Given) (s t : State) (w : AWord) (k : Row Spelled) →
+    may (a_word inner) g s (Ok (w, t)) k → k ≡ raw g.text s.at t.at ∷ []
 unfolding a_word
 word_told inner g s t w k part =
     then_is (λ k. k ≡ raw g.text s.at t.at ∷ []) w t (Ok (w, t)) k part refl
@@ -69,17 +81,20 @@ word_told inner g s t w k part =
     rw (first.1, last.1, told, ap (λ (y : ℕ × State). y.1) here_too, ap (λ (y : AWord × State). y.1) end_too) refl))
 
 -- from p on in the first text, and from q on in the second
-same_front_of : (A B : List ℕ) (p q n r : ℕ) → take n (drop q B) ≡ take n (drop p A) → r < n → slice_get B (q + r) ≡ slice_get A (p + r)
+same_front_of : (A B : List ℕ) (p q n r : ℕ) → take n (drop q B) ≡ take n (drop p A) → r < n →
+    slice_get B (q + r) ≡ slice_get A (p + r)
 same_front_of A B p q n r same lt = sym (get_drop q B r) ∙ same_front n (drop p A) (drop q B) same r lt ∙ get_drop p A r
 
 abbrev pub from_to : ℕ → ℕ → ℕ → ℕ
 from_to p q r = q + (r - p)
 
-pub kept : (edition : Edition) (T U : List ℕ) (p q n : ℕ) → take n (drop q U) ≡ take n (drop p T) → Kept edition T U p (p + n) (from_to p q)
+pub kept : (edition : Edition) (T U : List ℕ) (p q n : ℕ) → take n (drop q U) ≡ take n (drop p T) →
+    Kept edition T U p (p + n) (from_to p q)
 kept edition T U p q n same = record {
   under = omega arith;
   on = λ r k from. omega (arith, from);
-  same = λ r from lt. let is : p + (r - p) ≡ r = omega (arith, from) in same_front_of T U p q n (r - p) same (omega (arith, lt, from)) ∙ ap (slice_get T) is;
+  same = λ r from lt. let is : p + (r - p) ≡ r = omega (arith, from) in
+      same_front_of T U p q n (r - p) same (omega (arith, lt, from)) ∙ ap (slice_get T) is;
 }
 
 -- the bytes of a text, from an offset on
@@ -91,7 +106,8 @@ pub padded_is : (o : ℕ) (T : List ℕ) → T ≡ drop o (padded o T)
 padded_is zero T = refl
 padded_is (suc o) T = padded_is o T
 
-module _ (room : ℕ) (g h : Given) (p q n : ℕ) (same : take n (drop q h.text) ≡ take n (drop p g.text)) (ender : ends (byte_at h.text (q + n)) ≡ true) (no_open : is_byte (byte_at h.text (q + n)) 40 ≡ false)
+module _ (room : ℕ) (g h : Given) (p q n : ℕ) (same : take n (drop q h.text) ≡ take n (drop p g.text))
+    (ender : ends (byte_at h.text (q + n)) ≡ true) (no_open : is_byte (byte_at h.text (q + n)) 40 ≡ false)
     (B C : List ℕ) (stands_in : g.text ≡ drop g.offset B) (stands_there : h.text ≡ drop h.offset C) where
   -- the other text, read by the edition of this one
   abbrev k : Given
@@ -127,10 +143,13 @@ module _ (room : ℕ) (g h : Given) (p q n : ℕ) (same : take n (drop q h.text)
   abbrev SameSubsts : Row ASubst → Row ASubst → Type 0
   SameSubsts ss zs = map (shape_of_subst B) ss ≡ map (shape_of_subst C) zs
 
-  contents_by : Holds (there_is SameSubsts holds_there) (does (contents inner Plain (g.offset + p) []) Whole g (standing p))
+  contents_by : Holds (there_is SameSubsts holds_there)
+      (does (contents inner Plain (g.offset + p) []) Whole g (standing p))
   contents_by =
-      let local = (everywhere room).local g.edition g.text h.text p (p + n) (from_to p q) K g.offset h.offset B C stands_in stands_there here_ends here_no_open in
-      word_in K g.offset h.offset B C here_ends here_no_open inner local (g.offset + p) (h.offset + from_to p q p) (standing p) (omega arith)
+      let local = (everywhere room).local g.edition g.text h.text p (p + n)
+      (from_to p q) K g.offset h.offset B C stands_in stands_there here_ends here_no_open in
+      word_in K g.offset h.offset B C here_ends here_no_open inner local (g.offset + p) (h.offset + from_to p q p)
+      (standing p) (omega arith)
 
   -- the bytes of a span
   raw_same : raw g.text p (p + n) ≡ raw h.text q (q + n)
@@ -139,10 +158,13 @@ module _ (room : ℕ) (g h : Given) (p q n : ℕ) (same : take n (drop q h.text)
       let there : q + n - q ≡ n = omega arith in
       ap (λ m. take m (drop p g.text)) here ∙ sym same ∙ ap (λ m. take m (drop q h.text)) (sym there)
 
-  texts_same : (e : ℕ) → e ≡ p + n → text_at B (span g.offset p e) ≡ text_at C (span h.offset (from_to p q p) (from_to p q e))
+  texts_same : (e : ℕ) → e ≡ p + n →
+      text_at B (span g.offset p e) ≡ text_at C (span h.offset (from_to p q p) (from_to p q e))
   texts_same e is =
-      ap (λ r. text_at B (span g.offset p r)) is ∙ sym (raw_at B g stands_in p (p + n)) ∙ raw_same ∙ raw_at C h stands_there q (q + n)
-      ∙ ap (λ r. text_at C (span h.offset r (q + n))) (sym begin_there) ∙ ap (λ r. text_at C (span h.offset (from_to p q p) r)) (sym end_there ∙ ap (from_to p q) (sym is))
+      ap (λ r. text_at B (span g.offset p r)) is ∙ sym (raw_at B g stands_in p (p + n)) ∙ raw_same
+      ∙ raw_at C h stands_there q (q + n)
+      ∙ ap (λ r. text_at C (span h.offset r (q + n))) (sym begin_there)
+      ∙ ap (λ r. text_at C (span h.offset (from_to p q p) r)) (sym end_there ∙ ap (from_to p q) (sym is))
 
   abbrev SameToken : Row ASubst × Span → Row ASubst × Span → Type 0
   SameToken x y = SameSubsts x.0 y.0 × (text_at B x.1 ≡ text_at C y.1)
@@ -150,50 +172,69 @@ module _ (room : ℕ) (g h : Given) (p q n : ℕ) (same : take n (drop q h.text)
   abbrev SameShape : AWord → AWord → Type 0
   SameShape w v = shape_of_word B w ≡ shape_of_word C v
 
-  words_same : (x y : Row ASubst × Span) → SameToken x y → SameShape (word x.1 (substs_of x.0)) (word y.1 (substs_of y.0))
+  words_same : (x y : Row ASubst × Span) → SameToken x y →
+      SameShape (word x.1 (substs_of x.0)) (word y.1 (substs_of y.0))
   words_same x y so = rw (so.1, substs_shape B x.0, so.0, sym (substs_shape C y.0)) refl
 
   word_by : Holds (there_is SameShape (a_word inner)) (does (a_word inner) Whole g (standing p))
   unfolding a_word
   word_by =
-      holds_then (there_is SameToken (token as_it_stands holds_there)) (there_is SameShape (a_word inner)) (does (token as_it_stands (contents inner Plain (g.offset + p) [])) Whole g (standing p)) _
-      (holds_then (there_is SameSubsts holds_there) (there_is SameToken (token as_it_stands holds_there)) (does (contents inner Plain (g.offset + p) []) Whole g (standing p)) _ contents_by
-      (λ x t found is. let f = found is in ((f.0, span h.offset (from_to p q p) (from_to p q t.at)), (rw f.1.0 refl, (f.1.1, texts_same t.at is)))))
+      holds_then (there_is SameToken (token as_it_stands holds_there)) (there_is SameShape (a_word inner))
+      (does (token as_it_stands (contents inner Plain (g.offset + p) [])) Whole g (standing p)) _
+      (holds_then (there_is SameSubsts holds_there) (there_is SameToken (token as_it_stands holds_there))
+      (does (contents inner Plain (g.offset + p) []) Whole g (standing p)) _ contents_by
+      (λ x t found is. let f = found is in
+      ((f.0, span h.offset (from_to p q p) (from_to p q t.at)), (rw f.1.0 refl, (f.1.1, texts_same t.at is)))))
       (λ x t found is. let f = found is in (word f.0.1 (substs_of f.0.0), (rw f.1.0 refl, words_same x f.0 f.1.1)))
 
-  word_there : (w : AWord) → does (a_word (level room)) Whole g (standing p) ≡ Ok (w, standing (p + n)) → (v : AWord) × ((does (a_word (level room)) Whole k (standing q) ≡ Ok (v, standing (q + n))) × SameShape w v)
+  word_there : (w : AWord) → does (a_word (level room)) Whole g (standing p) ≡ Ok (w, standing (p + n)) → (v : AWord)
+      × ((does (a_word (level room)) Whole k (standing q) ≡ Ok (v, standing (q + n))) × SameShape w v)
   word_there w is =
       let found = subst (Holds (there_is SameShape (a_word inner))) is word_by refl in (
         found.0,
         (
-          subst (λ r. does (a_word (level room)) Whole k (standing r) ≡ Ok (found.0, standing (q + n))) begin_there (subst (λ r. does (a_word (level room)) Whole k (standing (from_to p q p)) ≡ Ok (found.0, standing r)) end_there found.1.0),
+          subst (λ r. does (a_word (level room)) Whole k (standing r) ≡ Ok (found.0, standing (q + n))) begin_there
+              (subst (λ r. does (a_word (level room)) Whole k (standing (from_to p q p)) ≡ Ok (found.0, standing r))
+              end_there found.1.0),
           found.1.1,
         ),
       )
 
 -- a word of this shape, where the text stands in the bytes B from its offset on
 abbrev pub WordOf : ℕ → Given → ℕ → ℕ → List ℕ → Shape AWordOf → Type 0
-WordOf room g p n B shape = (w : AWord) × (may (a_word (level room)) g (standing p) (Ok (w, standing (p + n))) (raw g.text p (p + n) ∷ []) × (shape_of_word B w ≡ shape))
+WordOf room g p n B shape = (w : AWord)
+    × (may (a_word (level room)) g (standing p) (Ok (w, standing (p + n))) (raw g.text p (p + n) ∷ [])
+    × (shape_of_word B w ≡ shape))
 
 -- what is read is a word that tells its bytes
-pub word_may : (room : ℕ) (h : Given) (q n : ℕ) (v : AWord) → does (a_word (level room)) Whole h (standing q) ≡ Ok (v, standing (q + n)) → may (a_word (level room)) h (standing q) (Ok (v, standing (q + n))) (raw h.text q (q + n) ∷ [])
+pub word_may : (room : ℕ) (h : Given) (q n : ℕ) (v : AWord) →
+    does (a_word (level room)) Whole h (standing q) ≡ Ok (v, standing (q + n)) →
+    may (a_word (level room)) h (standing q) (Ok (v, standing (q + n))) (raw h.text q (q + n) ∷ [])
 word_may room h q n v e =
     let some = (is (a_word (level room)) h (standing q)).some in
     let part = subst (λ (x : Read AWord). may (a_word (level room)) h (standing q) x some.0) e some.1 in
-    subst (λ (k : Row Spelled). may (a_word (level room)) h (standing q) (Ok (v, standing (q + n))) k) (word_told (level room) h (standing q) (standing (q + n)) v some.0 part) part
+    subst (λ (k : Row Spelled). may (a_word (level room)) h (standing q) (Ok (v, standing (q + n))) k)
+    (word_told (level room) h (standing q) (standing (q + n)) v some.0 part) part
 
 -- the word that is read there, and that its shape is the same
-pub same_word : (room : ℕ) (g h : Given) (p q n : ℕ) (w : AWord) (told : Row Spelled) → may (a_word (level room)) g (standing p) (Ok (w, standing (p + n))) told → take n (drop q h.text) ≡ take n (drop p g.text)
-    → ends_word h.text (q + n) ≡ true → stands h.text (q + n) 40 ≡ false → (B C : List ℕ) → g.text ≡ drop g.offset B → h.text ≡ drop h.offset C
+pub same_word : (room : ℕ) (g h : Given) (p q n : ℕ) (w : AWord) (told : Row Spelled) →
+    may (a_word (level room)) g (standing p) (Ok (w, standing (p + n))) told →
+    take n (drop q h.text) ≡ take n (drop p g.text)
+    → ends_word h.text (q + n) ≡ true → stands h.text (q + n) 40 ≡ false → (B C : List ℕ) → g.text ≡ drop g.offset B →
+    h.text ≡ drop h.offset C
     → WordOf room (given g.edition h.text h.offset) q n C (shape_of_word B w)
 unfolding ends_word stands
 same_word room g h p q n w told part same ender no_open B C stands_in stands_there =
-    let v = word_there room g h p q n same ender no_open B C stands_in stands_there w (sym ((is (a_word (level room)) g (standing p)).only _ _ part)) in
+    let v = word_there room g h p q n same ender no_open B C stands_in stands_there w
+    (sym ((is (a_word (level room)) g (standing p)).only _ _ part)) in
     (v.0, (word_may room (given g.edition h.text h.offset) q n v.0 v.1.0, sym v.1.1))
 
-pub anywhere : (room : ℕ) (g h : Given) (p q n : ℕ) → ReadsWord room g p n → take n (drop q h.text) ≡ take n (drop p g.text) → ends_word h.text (q + n) ≡ true → stands h.text (q + n) 40 ≡ false → ReadsWord room (given g.edition h.text h.offset) q n
+pub anywhere : (room : ℕ) (g h : Given) (p q n : ℕ) → ReadsWord room g p n →
+    take n (drop q h.text) ≡ take n (drop p g.text) → ends_word h.text (q + n) ≡ true → stands h.text (q + n) 40 ≡ false
+    → ReadsWord room (given g.edition h.text h.offset) q n
 anywhere room g h p q n (w, part) same ender no_open =
-    let v = same_word room g h p q n w _ part same ender no_open (padded g.offset g.text) (padded h.offset h.text) (padded_is g.offset g.text) (padded_is h.offset h.text) in
+    let v = same_word room g h p q n w _ part same ender no_open (padded g.offset g.text) (padded h.offset h.text)
+    (padded_is g.offset g.text) (padded_is h.offset h.text) in
     (v.0, v.1.0)
 
 -- what waits, and the bodies, stay as they are
@@ -216,14 +257,19 @@ module _ (g : Given) where
   sees : {X Y : Type 0} {l : Sight X} {q : X → Form Y} {s : State} → W (q (seen l g s)) s → W (both (see l) q) s
   sees rest = tells_seen Whole g rest
 
-  moves : {Y : Type 0} {m : Move} {q : Unit {0} → Form Y} {s : State} → W (q tt) (moved_on m g s) → W (both (move m) q) s
+  moves : {Y : Type 0} {m : Move} {q : Unit {0} → Form Y} {s : State} → W (q tt) (moved_on m g s) →
+      W (both (move m) q) s
   moves rest = same rest.told
 
-  goes : {X Y : Type 0} {r : Form X} {q : X → Form Y} {s : State} → W r s → ((x : X) (t : State) → W (q x) t) → W (both r q) s
-  goes {q = q} one rest = tells_then Whole g one (λ x t so. tells_so Whole g (rest x t) (λ y u more. (more.0 ∙ so.0, more.1 ∙ so.1)))
+  goes : {X Y : Type 0} {r : Form X} {q : X → Form Y} {s : State} → W r s → ((x : X) (t : State) → W (q x) t) →
+      W (both r q) s
+  goes {q = q} one rest = tells_then Whole g one
+      (λ x t so. tells_so Whole g (rest x t) (λ y u more. (more.0 ∙ so.0, more.1 ∙ so.1)))
 
-  turns_still : {A : Type 0} (turn : A → Form (Step A)) → ((a : A) (s : State) → W (turn a) s) → (a : A) (s : State) → W (many turn a) s
-  turns_still {A = A} turn each a s = tells_many Whole g turn (Waits s) (λ b t one. tells_so Whole g (each b t) (turned t one)) a s (refl, refl)
+  turns_still : {A : Type 0} (turn : A → Form (Step A)) → ((a : A) (s : State) → W (turn a) s) → (a : A) (s : State) →
+      W (many turn a) s
+  turns_still {A = A} turn each a s =
+      tells_many Whole g turn (Waits s) (λ b t one. tells_so Whole g (each b t) (turned t one)) a s (refl, refl)
     where
       turned : (t : State) → Still s t → (c : Step A) (u : State) → Still t u → Turned Whole g (Waits s) c u
       turned t one (again c) u two = (two.0 ∙ one.0, two.1 ∙ one.1)
@@ -236,12 +282,14 @@ module _ (g : Given) where
   backquoted_text_still : (s : State) → W backquoted_text s
   unfolding backquoted_text escaped_turn
   backquoted_text_still s =
-      sees (moves (turns_still _ (λ u t. moves (tells_when Whole g (same tt) (tells_when Whole g (same tt) (sees (moves still))))) tt _))
+      sees (moves (turns_still _ (λ u t. moves
+      (tells_when Whole g (same tt) (tells_when Whole g (same tt) (sees (moves still))))) tt _))
 
   dollar_single_still : (s : State) → W dollar_single s
   unfolding dollar_single escaped_turn
   dollar_single_still s =
-      sees (moves (moves (turns_still _ (λ u t. moves (tells_when Whole g (same tt) (tells_when Whole g (same tt) (sees (moves still))))) tt _)))
+      sees (moves (moves (turns_still _
+      (λ u t. moves (tells_when Whole g (same tt) (tells_when Whole g (same tt) (sees (moves still))))) tt _)))
 
   -- what may be opened leaves it so
   record Quiet (inner : Inner) : Type 0 where
@@ -252,7 +300,8 @@ module _ (g : Given) where
     opened_still : (mode : Mode) (b : ℕ) (h : WordSoFar) (s : State) → W (opened inner mode b h) s
     opened_still mode b h s = goes (quiet.construct mode b h.substs s) (λ x t. still)
 
-    piece_still : (mode : Mode) (b : ℕ) (h : WordSoFar) (piece : Piece) (s : State) → W (piece_row inner mode b h piece) s
+    piece_still : (mode : Mode) (b : ℕ) (h : WordSoFar) (piece : Piece) (s : State) →
+        W (piece_row inner mode b h piece) s
     piece_still mode b h pieces.Closer s = moves still
     piece_still mode b h pieces.Missing s = same tt
     piece_still mode b h pieces.LoneBackslash s = sees (same tt)
@@ -272,7 +321,8 @@ module _ (g : Given) where
 
     contents_still : (mode : Mode) (b : ℕ) (ss : Row ASubst) (s : State) → W (contents inner mode b ss) s
     unfolding contents a_piece
-    contents_still mode b ss s = goes (turns_still _ (λ h t. sees (piece_still mode b h _ t)) (having 0 ss) s) (λ h t. still)
+    contents_still mode b ss s = goes (turns_still _ (λ h t. sees (piece_still mode b h _ t)) (having 0 ss) s)
+        (λ h t. still)
 
     word_still : (s : State) → W (a_word inner) s
     unfolding a_word
@@ -281,7 +331,8 @@ module _ (g : Given) where
     -- a substitution is a level of its own
     substitution_still : (b : ℕ) (ss : Row ASubst) (s : State) → W (a_substitution inner b ss) s
     unfolding a_substitution one_substitution
-    substitution_still b ss s = tells_inside Whole g (goes (tells_level Whole g (tells_any Whole g) (λ x t so. (refl, refl))) (λ x t. sees (same (refl, refl))))
+    substitution_still b ss s = tells_inside Whole g
+        (goes (tells_level Whole g (tells_any Whole g) (λ x t so. (refl, refl))) (λ x t. sees (same (refl, refl))))
 
   quiet_level : (room : ℕ) → Quiet (level room)
   unfolding level
@@ -299,7 +350,8 @@ pub state_is : (t : State) → t.waiting ≡ [] → t.bodies ≡ [] → t ≡ st
 state_is t one two = rw (← one, ← two) refl
 
 -- whatever the row of a word reads is a word
-pub word_read : (room : ℕ) (g : Given) (p : ℕ) (w : AWord) (t : State) (told : Row Spelled) → may (a_word (level room)) g (standing p) (Ok (w, t)) told
+pub word_read : (room : ℕ) (g : Given) (p : ℕ) (w : AWord) (t : State) (told : Row Spelled) →
+    may (a_word (level room)) g (standing p) (Ok (w, t)) told
     → may (a_word (level room)) g (standing p) (Ok (w, standing (p + (t.at - p)))) (raw g.text p (p + (t.at - p)) ∷ [])
 word_read room g p w t told part =
     let is_read = (is (a_word (level room)) g (standing p)).only _ _ part in
@@ -308,16 +360,20 @@ word_read room g p w t told part =
     let told_is = word_told (level room) g (standing p) t w told part in
     let end : t.at ≡ p + (t.at - p) = omega (arith, on) in
     let same = state_is t stays.0 stays.1 ∙ ap standing end in
-    subst (λ k. may (a_word (level room)) g (standing p) (Ok (w, standing (p + (t.at - p)))) k) (told_is ∙ ap (λ q. raw g.text p q ∷ []) end) (subst (λ u. may (a_word (level room)) g (standing p) (Ok (w, u)) told) same part)
+    subst (λ k. may (a_word (level room)) g (standing p) (Ok (w, standing (p + (t.at - p)))) k)
+    (told_is ∙ ap (λ q. raw g.text p q ∷ []) end)
+    (subst (λ u. may (a_word (level room)) g (standing p) (Ok (w, u)) told) same part)
 
-pub read_word : (room : ℕ) (g : Given) (p : ℕ) (w : AWord) (t : State) (told : Row Spelled) → may (a_word (level room)) g (standing p) (Ok (w, t)) told → ReadsWord room g p (t.at - p)
+pub read_word : (room : ℕ) (g : Given) (p : ℕ) (w : AWord) (t : State) (told : Row Spelled) →
+    may (a_word (level room)) g (standing p) (Ok (w, t)) told → ReadsWord room g p (t.at - p)
 read_word room g p w t told part = (w, word_read room g p w t told part)
 
 -- at a place no two words are read
 pub one_word : (room : ℕ) (g : Given) (p m n : ℕ) → ReadsWord room g p m → ReadsWord room g p n → m ≡ n
 one_word room g p m n (w, one) (v, two) =
     let only = (is (a_word (level room)) g (standing p)).only in
-    let same : ◌≡◌ {A = Read AWord} (Ok (w, standing (p + m))) (Ok (v, standing (p + n))) = only _ _ one ∙ sym (only _ _ two) in
+    let same : ◌≡◌ {A = Read AWord} (Ok (w, standing (p + m))) (Ok (v, standing (p + n))) = only _ _ one
+    ∙ sym (only _ _ two) in
     let pair : ◌≡◌ {A = AWord × State} (w, standing (p + m)) (v, standing (p + n)) = cc in
     let end : p + m ≡ p + n = ap (λ (z : AWord × State). z.1.at) pair in
     omega (arith, end)

@@ -29,11 +29,13 @@ Good T a M p = Safe T a M p
 
 -- behind continuations none stands
 none_there : (T : List ℕ) (p : ℕ) → continues T (past_continuations T p) ≡ false
-none_there T p = must_fail _ (λ c. let is = place_same T p in let more = joined_more T (past_continuations T p) c in let low = place_low T (past_continuations T p + 2) in absurd (omega (arith, is, more, low)))
+none_there T p = must_fail _ (λ c. let is = place_same T p in let more = joined_more T (past_continuations T p) c in
+    let low = place_low T (past_continuations T p + 2) in absurd (omega (arith, is, more, low)))
 
 -- U has the bytes of T from a up to the place M, where the same byte ends what is
 -- looked for in both; `to` says where
-module _ {edition : Edition} {T U : List ℕ} {a M : ℕ} {to : ℕ → ℕ} {limit : ℕ} (E : ListEnds edition T U a M to limit) where
+module _ {edition : Edition} {T U : List ℕ} {a M : ℕ} {to : ℕ → ℕ} {limit : ℕ}
+    (E : ListEnds edition T U a M to limit) where
   abbrev G : ℕ → Type 0
   G p = Good T a M p
 
@@ -52,18 +54,23 @@ module _ {edition : Edition} {T U : List ℕ} {a M : ℕ} {to : ℕ → ℕ} {li
   good_back : (q : ℕ) → a ≤ q → continues T q ≡ false → G (q + 1) → G q
   good_back q low none s =
       let lt = high s in
-      ⊎_elim (λ on. one_byte low on s) (λ off. good_halt q low (omega (arith, lt)) none off) (cases_Bool (raw_in goes_on T q))
+      ⊎_elim (λ on. one_byte low on s) (λ off. good_halt q low (omega (arith, lt)) none off)
+      (cases_Bool (raw_in goes_on T q))
 
   good_over_below : (n p q : ℕ) → q ≤ p + n → a ≤ p → p ≤ q + 1 → continues T q ≡ false → G (q + 1) → G p
   good_over_below zero p q few low le none s =
-      ⊎_elim (λ lt. let is : q ≡ p = omega (arith, few, lt) in subst G is (good_back q (omega (arith, low, is)) none s)) (λ ge. let is : q + 1 ≡ p = omega (arith, ge, le) in subst G is s) (cases_lt p (q + 1))
+      ⊎_elim (λ lt. let is : q ≡ p = omega (arith, few, lt) in subst G is (good_back q (omega (arith, low, is)) none s))
+      (λ ge. let is : q + 1 ≡ p = omega (arith, ge, le) in subst G is s) (cases_lt p (q + 1))
   good_over_below (suc n) p q few low le none s =
       ⊎_elim
       (λ lt. ⊎_elim
       (λ c. ⊎_elim
-      (λ l. two_bytes low c (good_over_below n (p + 2) q (omega (arith, few)) (omega (arith, low)) (omega (arith, l)) none s))
-      (λ g. let is : p ≡ q = omega (arith, g, lt) in absurd (both_ways (continues T q) none (subst (λ z. continues T z ≡ true) is c))) (cases_lt p q))
-      (λ c. good_back p low c (good_over_below n (p + 1) q (omega (arith, few)) (omega (arith, low)) (omega (arith, lt)) none s))
+      (λ l. two_bytes low c (good_over_below n (p + 2) q (omega (arith, few)) (omega (arith, low))
+      (omega (arith, l)) none s))
+      (λ g. let is : p ≡ q = omega (arith, g, lt) in
+      absurd (both_ways (continues T q) none (subst (λ z. continues T z ≡ true) is c))) (cases_lt p q))
+      (λ c. good_back p low c (good_over_below n (p + 1) q (omega (arith, few)) (omega (arith, low))
+      (omega (arith, lt)) none s))
       (cases_Bool (continues T p)))
       (λ ge. let is : q + 1 ≡ p = omega (arith, ge, le) in subst G is s) (cases_lt p (q + 1))
 
@@ -81,7 +88,8 @@ module _ {edition : Edition} {T U : List ℕ} {a M : ℕ} {to : ℕ → ℕ} {li
   moves_behind p = (
     omega (arith, behind_low T p),
     λ low s.
-        let g : G p = good_over p (past_continuations T p) low (omega (arith, place_low T p)) (none_there T p) (subst G (behind_is T p) s) in
+        let g : G p = good_over p (past_continuations T p) low (omega (arith, place_low T p)) (none_there T p)
+        (subst G (behind_is T p) s) in
         (g, same_behind E g),
   )
 
@@ -89,7 +97,8 @@ module _ {edition : Edition} {T U : List ℕ} {a M : ℕ} {to : ℕ → ℕ} {li
   moves_twice p = (
     omega (arith, behind_low T p, behind_low T (behind T p)),
     λ low s.
-        let w = (moves_behind (behind T p)).1 (omega (arith, low, behind_low T p)) s in let v = (moves_behind p).1 low w.0 in (v.0, ap (behind U) v.1 ∙ w.1),
+        let w = (moves_behind (behind T p)).1 (omega (arith, low, behind_low T p)) s in
+        let v = (moves_behind p).1 low w.0 in (v.0, ap (behind U) v.1 ∙ w.1),
   )
 
   pub moves_blanks : (p : ℕ) → Moves past_blanks p
@@ -102,7 +111,8 @@ module _ {edition : Edition} {T U : List ℕ} {a M : ℕ} {to : ℕ → ℕ} {li
   moves_closer DoubleBrace p = moves_behind p
   moves_closer Arith p = moves_twice p
 
-  moves_past : (test : ℕ → Bool) → Goes limit test → (p : ℕ) → a ≤ p → G (past test T p) → G p × (past test U (to p) ≡ to (past test T p))
+  moves_past : (test : ℕ → Bool) → Goes limit test → (p : ℕ) → a ≤ p → G (past test T p) → G p
+      × (past test U (to p) ≡ to (past test T p))
   moves_past test goes p low s = let g = past_back E test goes p low s in (g, (past_safe E test goes g).1)
 
   pub moves_reserved : (p : ℕ) → Moves past_reserved p
@@ -124,12 +134,30 @@ module _ {edition : Edition} {T U : List ℕ} {a M : ℕ} {to : ℕ → ℕ} {li
     parameter_low T p,
     λ low s.
         ⊎_elim
-        (λ (e : stands_in is_letter T p ≡ true). let w = moves_past is_name (goes_name limit E.ender) p low (rw e at s) in (w.0, rw (same_stands_in E w.0 is_letter, e) w.1))
+        (λ (e : stands_in is_letter T p ≡ true). let w =
+        moves_past is_name (goes_name limit E.ender) p low (rw e at s) in
+        (w.0, rw (same_stands_in E w.0 is_letter, e) w.1))
         (λ (e : stands_in is_letter T p ≡ false). ⊎_elim
-        (λ (f : stands_in is_digit T p ≡ true). let w = moves_past is_digit (goes_digit limit E.ender) p low (rw (e, f) at s) in (w.0, rw (same_stands_in E w.0 is_letter, e, same_stands_in E w.0 is_digit, f) w.1))
+        (λ (f : stands_in is_digit T p ≡ true). let w =
+        moves_past is_digit (goes_digit limit E.ender) p low (rw (e, f) at s) in
+        (w.0, rw (same_stands_in E w.0 is_letter, e, same_stands_in E w.0 is_digit, f) w.1))
         (λ (f : stands_in is_digit T p ≡ false). ⊎_elim
-        (λ (g : stands_in is_special T p ≡ true). let w = (moves_behind p).1 low (rw (e, f, g) at s) in (w.0, rw (same_stands_in E w.0 is_letter, e, same_stands_in E w.0 is_digit, f, same_stands_in E w.0 is_special, g) w.1))
-        (λ (g : stands_in is_special T p ≡ false). let w : G p = rw (e, f, g) at s in (w, rw (same_stands_in E w is_letter, e, same_stands_in E w is_digit, f, same_stands_in E w is_special, g) refl))
+        (λ (g : stands_in is_special T p ≡ true). let w = (moves_behind p).1 low (rw (e, f, g) at s) in (
+          w.0,
+          rw (
+            same_stands_in E w.0 is_letter,
+            e,
+            same_stands_in E w.0 is_digit,
+            f,
+            same_stands_in E w.0 is_special,
+            g,
+          ) w.1,
+        ))
+        (λ (g : stands_in is_special T p ≡ false). let w : G p = rw (e, f, g) at s in (
+          w,
+          rw (same_stands_in E w is_letter, e, same_stands_in E w is_digit, f, same_stands_in E w is_special, g)
+              refl,
+        ))
         (cases_Bool (stands_in is_special T p)))
         (cases_Bool (stands_in is_digit T p)))
         (cases_Bool (stands_in is_letter T p)),
@@ -143,13 +171,15 @@ module _ {edition : Edition} {T U : List ℕ} {a M : ℕ} {to : ℕ → ℕ} {li
   no_newline q e = must_fail _ (λ c. both_ways (raw_stands T (q + 1) 10) e (continued T q c).1)
 
   -- from p, behind which b stands, up to what is looked for, which is no newline
-  found_good : (test : ℕ → Bool) (b p : ℕ) → a ≤ p → p ≤ b → raw_stands T (raw_past test T b) 10 ≡ false → G (raw_past test T b) → G p × (raw_past test U (to b) ≡ to (raw_past test T b))
+  found_good : (test : ℕ → Bool) (b p : ℕ) → a ≤ p → p ≤ b → raw_stands T (raw_past test T b) 10 ≡ false →
+      G (raw_past test T b) → G p × (raw_past test U (to b) ≡ to (raw_past test T b))
   found_good test b p low le other s =
       let q = raw_past test T b in
       let from : b ≤ q = raw_past_low test T b in (
         ⊎_elim
             (λ lt. let back : q - 1 + 1 ≡ q = omega (arith, lt) in
-            good_over p (q - 1) low (omega (arith, lt)) (no_newline (q - 1) (subst (λ z. raw_stands T z 10 ≡ false) (sym back) other)) (subst G (sym back) s))
+            good_over p (q - 1) low (omega (arith, lt))
+            (no_newline (q - 1) (subst (λ z. raw_stands T z 10 ≡ false) (sym back) other)) (subst G (sym back) s))
             (λ ge. let is : q ≡ p = omega (arith, ge, le, from) in subst G is s) (cases_lt p q),
         raw_there E.kept test b (omega (arith, low, le)) (omega (arith, high s)),
       )
@@ -158,7 +188,8 @@ module _ {edition : Edition} {T U : List ℕ} {a M : ℕ} {to : ℕ → ℕ} {li
   quote_other None c e f = refl
   quote_other (Some b) c e f = grind (arith, nat_tests)
 
-  escaped_other : (how : Escaping) (x : Option ℕ) → passes (λ b. not (b == closes_by how || b == 92)) x ≡ false → is_byte x 10 ≡ false
+  escaped_other : (how : Escaping) (x : Option ℕ) → passes (λ b. not (b == closes_by how || b == 92)) x ≡ false →
+      is_byte x 10 ≡ false
   escaped_other how None e = refl
   escaped_other escapings.Backquotes (Some b) e = grind (arith, nat_tests)
   escaped_other escapings.DollarSingle (Some b) e = grind (arith, nat_tests)
@@ -167,13 +198,24 @@ module _ {edition : Edition} {T U : List ℕ} {a M : ℕ} {to : ℕ → ℕ} {li
   moves_one p e = (omega arith, λ low s. (good_back p low (no_backslash T p e) s, sym (on p 1 low)))
 
   pub moves_two : (p : ℕ) → raw_stands T p 92 ≡ true → Moves (λ T p. p + 2) p
-  moves_two p e = (omega arith, λ low s. (⊎_elim (λ c. two_bytes low c s) (λ c. safe_escape (K E) p low c e (high s)) (cases_Bool (continues T p)), sym (on p 2 low)))
+  moves_two p e = (
+    omega arith,
+    λ low s. (
+      ⊎_elim (λ c. two_bytes low c s) (λ c. safe_escape (K E) p low c e (high s))
+          (cases_Bool (continues T p)),
+      sym (on p 2 low),
+    ),
+  )
 
   pub same_taken : (p : ℕ) → raw_stands T p 92 ≡ true → a ≤ p → G p → at_end U (to p + 1) ≡ at_end T (p + 1)
   unfolding raw_stands
   same_taken p e low s =
       ap (at_end U) (sym (on p 1 low))
-      ∙ same_end (p + 1) (omega (arith, low)) (⊎_elim (λ lt. omega (arith, lt)) (λ ge. let is : p ≡ M = omega (arith, ge, high s) in absurd (both_ways (is_byte (slice_get T M) 92) (rw E.byte (not_backslash limit E.ender)) (rw (sym is) e))) (cases_lt p M))
+      ∙ same_end (p + 1) (omega (arith, low))
+      (⊎_elim (λ lt. omega (arith, lt))
+      (λ ge. let is : p ≡ M = omega (arith, ge, high s) in
+      absurd (both_ways (is_byte (slice_get T M) 92) (rw E.byte (not_backslash limit E.ender)) (rw (sym is) e)))
+      (cases_lt p M))
 
   pub same_raw_stands : (p c : ℕ) → a ≤ p → p ≤ M → raw_stands U (to p) c ≡ raw_stands T p c
   unfolding raw_stands
@@ -186,13 +228,15 @@ module _ {edition : Edition} {T U : List ℕ} {a M : ℕ} {to : ℕ → ℕ} {li
   pub newline_near : limit ≡ 10 → (p : ℕ) → p ≤ M → next_newline T p ≤ M
   unfolding raw_in
   newline_near ten p le =
-      ⊎_elim (λ lt. absurd (both_ways _ (newline_by (slice_get T M) (E.byte ∙ ap Some ten)) (raw_past_all (λ b. not (b == 10)) T p M le lt))) (λ ge. ge) (cases_lt M (next_newline T p))
+      ⊎_elim (λ lt. absurd (both_ways _ (newline_by (slice_get T M) (E.byte ∙ ap Some ten))
+      (raw_past_all (λ b. not (b == 10)) T p M le lt))) (λ ge. ge) (cases_lt M (next_newline T p))
 
   pub same_newline : (p : ℕ) → a ≤ p → next_newline T p ≤ M → next_newline U (to p) ≡ to (next_newline T p)
   same_newline p low near = raw_there E.kept (λ b. not (b == 10)) p low (omega (arith, near))
 
   -- before q, behind a byte at p that is no blank
-  before_there : (n p q : ℕ) → q ≤ p + n → a ≤ p → p < q → q ≤ M → raw_in is_blank T p ≡ false → (before_blanks U (to q) ≡ to (before_blanks T q)) × (p ≤ before_blanks T q)
+  before_there : (n p q : ℕ) → q ≤ p + n → a ≤ p → p < q → q ≤ M → raw_in is_blank T p ≡ false →
+      (before_blanks U (to q) ≡ to (before_blanks T q)) × (p ≤ before_blanks T q)
   before_there zero p q few low lt le first = absurd (omega (arith, few, lt))
   before_there (suc n) p q few low lt le first =
       let r = q - 1 in
@@ -202,16 +246,25 @@ module _ {edition : Edition} {T U : List ℕ} {a M : ℕ} {to : ℕ → ℕ} {li
       let same = same_raw_in E is_blank r (omega (arith, low, lt)) (omega (arith, le)) in
       ⊎_elim
       (λ (e : raw_in is_blank T r ≡ true).
-      let other : p < r = ⊎_elim (λ l. l) (λ g. let is : r ≡ p = omega (arith, g, lt) in absurd (both_ways (raw_in is_blank T p) first (subst (λ z. raw_in is_blank T z ≡ true) is e))) (cases_lt p r) in
+      let other : p < r = ⊎_elim (λ l. l)
+      (λ g. let is : r ≡ p = omega (arith, g, lt) in
+      absurd (both_ways (raw_in is_blank T p) first (subst (λ z. raw_in is_blank T z ≡ true) is e)))
+      (cases_lt p r) in
       let rest = before_there n p r (omega (arith, few, lt)) low other (omega (arith, le)) first in
-      let here : before_blanks T q ≡ before_blanks T r = blanks_before T q (omega (arith, lt)) e in
-      (blanks_before U (to q) (omega (arith, to_is)) (ap (raw_in is_blank U) back ∙ same ∙ e) ∙ ap (before_blanks U) back ∙ rest.0 ∙ ap to (sym here), omega (arith, here, rest.1)))
+      let here : before_blanks T q ≡ before_blanks T r = blanks_before T q (omega (arith, lt)) e in (
+        blanks_before U (to q) (omega (arith, to_is)) (ap (raw_in is_blank U) back ∙ same ∙ e)
+            ∙ ap (before_blanks U) back ∙ rest.0 ∙ ap to (sym here),
+        omega (arith, here, rest.1),
+      ))
       (λ (e : raw_in is_blank T r ≡ false).
-      let here : before_blanks T q ≡ q = no_blanks_before T q (omega (arith, lt)) e in
-      (no_blanks_before U (to q) (omega (arith, to_is)) (ap (raw_in is_blank U) back ∙ same ∙ e) ∙ ap to (sym here), omega (arith, here, lt)))
+      let here : before_blanks T q ≡ q = no_blanks_before T q (omega (arith, lt)) e in (
+        no_blanks_before U (to q) (omega (arith, to_is)) (ap (raw_in is_blank U) back ∙ same ∙ e) ∙ ap to (sym here),
+        omega (arith, here, lt),
+      ))
       (cases_Bool (raw_in is_blank T r))
 
-  hash_goes : (x : Option ℕ) → is_byte x 35 ≡ true → (passes goes_on x ≡ false) × (passes is_blank x ≡ false) × (passes (λ b. not (b == 10)) x ≡ true)
+  hash_goes : (x : Option ℕ) → is_byte x 35 ≡ true → (passes goes_on x ≡ false) × (passes is_blank x ≡ false)
+      × (passes (λ b. not (b == 10)) x ≡ true)
   hash_goes None e = absurd cc
   hash_goes (Some b) e = (grind (arith, nat_tests), grind (arith, nat_tests), grind (arith, nat_tests))
 
@@ -221,7 +274,9 @@ module _ {edition : Edition} {T U : List ℕ} {a M : ℕ} {to : ℕ → ℕ} {li
   at_hash : (p : ℕ) → a ≤ p → p ≤ M → raw_stands T p 35 ≡ true → G p
   unfolding raw_stands raw_in
   at_hash p low le e =
-      let lt : p < M = ⊎_elim (λ l. l) (λ g. let is : M ≡ p = omega (arith, g, le) in absurd (both_ways (is_byte (slice_get T M) 35) (rw E.byte no_hash) (rw is e))) (cases_lt p M) in
+      let lt : p < M = ⊎_elim (λ l. l)
+      (λ g. let is : M ≡ p = omega (arith, g, le) in
+      absurd (both_ways (is_byte (slice_get T M) 35) (rw E.byte no_hash) (rw is e))) (cases_lt p M) in
       good_halt p low lt (no_backslash T p (byte_other (slice_get T p) 35 92 refl e)) (hash_goes (slice_get T p) e).0
 
   same_take : (n : ℕ) (A B : List ℕ) → ((i : ℕ) → i < n → slice_get A i ≡ slice_get B i) → take n A ≡ take n B
@@ -237,14 +292,17 @@ module _ {edition : Edition} {T U : List ℕ} {a M : ℕ} {to : ℕ → ℕ} {li
   long_there : (p q : ℕ) → a ≤ p → a ≤ q → to q - to p ≡ q - p
   long_there p q low from =
       ⊎_elim
-      (λ lt. let far : to q ≡ to p + (q - p) = let is : p + (q - p) ≡ q = omega (arith, lt) in ap to (sym is) ∙ on p (q - p) low in omega (arith, far))
-      (λ ge. let far : to p ≡ to q + (p - q) = let is : q + (p - q) ≡ p = omega (arith, ge) in ap to (sym is) ∙ on q (p - q) from in omega (arith, far, ge)) (cases_lt p q)
+      (λ lt. let far : to q ≡ to p + (q - p) = let is : p + (q - p) ≡ q = omega (arith, lt) in
+      ap to (sym is) ∙ on p (q - p) low in omega (arith, far))
+      (λ ge. let far : to p ≡ to q + (p - q) = let is : q + (p - q) ≡ p = omega (arith, ge) in
+      ap to (sym is) ∙ on q (p - q) from in omega (arith, far, ge)) (cases_lt p q)
 
   -- up to the limit, and with it
   pub same_raw_to : (p q : ℕ) → a ≤ p → a ≤ q → q ≤ M + 1 → raw U (to p) (to q) ≡ raw T p q
   same_raw_to p q low from le =
       rw (long_there p q low from) (same_take (q - p) (drop (to p) U) (drop p T)
-      (λ i lt. get_drop (to p) U i ∙ ap (slice_get U) (sym (on p i low)) ∙ E.kept.same (p + i) (omega (arith, low)) (omega (arith, lt, le)) ∙ sym (get_drop p T i)))
+      (λ i lt. get_drop (to p) U i ∙ ap (slice_get U) (sym (on p i low))
+      ∙ E.kept.same (p + i) (omega (arith, low)) (omega (arith, lt, le)) ∙ sym (get_drop p T i)))
 
   pub same_raw : (p q : ℕ) → a ≤ p → a ≤ q → q ≤ M → raw U (to p) (to q) ≡ raw T p q
   same_raw p q low from le = same_raw_to p q low from (omega (arith, le))
@@ -262,11 +320,13 @@ module _ {edition : Edition} {T U : List ℕ} {a M : ℕ} {to : ℕ → ℕ} {li
       absurd (both_ways (b == limit) other (grind (arith, nat_tests, f)))) (cases_lt (past_continuations T p) M)
 
   -- where this byte is read, and behind it
-  next_byte : (p b c : ℕ) → G p → byte_at T p ≡ Some b → (b == c) ≡ true → goes_on c ≡ true → (limit == c) ≡ false → G (behind T p)
+  next_byte : (p b c : ℕ) → G p → byte_at T p ≡ Some b → (b == c) ≡ true → goes_on c ≡ true → (limit == c) ≡ false →
+      G (behind T p)
   unfolding stands_in
   next_byte p b c s is e on other = next_safe E (λ x. x == c) (goes_one limit c on other) s (rw is e)
 
-  same_next : (p b c x : ℕ) → G p → byte_at T p ≡ Some b → (b == c) ≡ true → goes_on c ≡ true → (limit == c) ≡ false → stands U (behind U (to p)) x ≡ stands T (behind T p) x
+  same_next : (p b c x : ℕ) → G p → byte_at T p ≡ Some b → (b == c) ≡ true → goes_on c ≡ true → (limit == c) ≡ false →
+      stands U (behind U (to p)) x ≡ stands T (behind T p) x
   same_next p b c x s is e on other = rw (same_behind E s) (same_stands E (next_byte p b c s is e on other) x)
 
   -- a bracket that may close arithmetic is not at the limit
@@ -286,19 +346,23 @@ module _ {edition : Edition} {T U : List ℕ} {a M : ℕ} {to : ℕ → ℕ} {li
       let next = next_byte p b 36 s is e refl (ender limit 36 E.ender.ends_it refl) in
       rw (same_behind E s, same_byte E next) (dollar_by_same (behind T p) (byte_at T (behind T p)) next refl)
 
-  byte_same : (mode : Mode) (p n b : ℕ) → NoBracket mode → G p → byte_at T p ≡ Some b → byte_by U (to p) mode n b ≡ byte_by T p mode n b
+  byte_same : (mode : Mode) (p n b : ℕ) → NoBracket mode → G p → byte_at T p ≡ Some b →
+      byte_by U (to p) mode n b ≡ byte_by T p mode n b
   byte_same Plain p n b other s is = refl
   byte_same Double p n b other s is = refl
   byte_same Brace p n b other s is = refl
   byte_same DoubleBrace p n b other s is = refl
-  byte_same Arith p n b other s is = same_if (b == 41) _ _ _ _ (λ e. rw (same_next p b 41 41 s is e refl other) refl) (λ e. refl)
+  byte_same Arith p n b other s is =
+      same_if (b == 41) _ _ _ _ (λ e. rw (same_next p b 41 41 s is e refl other) refl) (λ e. refl)
 
-  piece_same : (mode : Mode) (p n : ℕ) (x : Option ℕ) → NoBracket mode → G p → byte_at T p ≡ x → piece_by U (to p) mode n x ≡ piece_by T p mode n x
+  piece_same : (mode : Mode) (p n : ℕ) (x : Option ℕ) → NoBracket mode → G p → byte_at T p ≡ x →
+      piece_by U (to p) mode n x ≡ piece_by T p mode n x
   piece_same mode p n None free s is = refl
   piece_same mode p n (Some b) free s is =
       same_if (b == 92) _ _ _ _
       (λ e. let clear = not_backslash limit E.ender in let other : (b == limit) ≡ false = grind (arith, nat_tests) in
-      rw (same_behind E s, same_end (behind T p) (omega (arith, low_of s, behind_low T p)) (escape_in p b s is other)) refl)
+      rw (same_behind E s, same_end (behind T p) (omega (arith, low_of s, behind_low T p)) (escape_in p b s is other))
+      refl)
       (λ e. same_if (b == 96) _ _ _ _ (λ f. refl)
       (λ f. same_if (b == 36) _ _ _ _ (λ g. dollar_same p b s is g) (λ g. byte_same mode p n b free s is)))
 
@@ -315,7 +379,8 @@ module _ {edition : Edition} {T U : List ℕ} {a M : ℕ} {to : ℕ → ℕ} {li
   pub moves_joined : (p : ℕ) → Moves past_continuations p
   moves_joined p = (place_low T p, λ low s. let g = safe_place (K E) p low s in (g, same_place E g))
 
-  by_taken : (p n : ℕ) (b : Bool) → raw_stands T p 92 ≡ b → a ≤ p → G (p + cond b 2 1) → G p × (to p + cond b 2 1 ≡ to (p + cond b 2 1))
+  by_taken : (p n : ℕ) (b : Bool) → raw_stands T p 92 ≡ b → a ≤ p → G (p + cond b 2 1) → G p
+      × (to p + cond b 2 1 ≡ to (p + cond b 2 1))
   by_taken p n true e low s = (moves_two p e).1 low s
   by_taken p n false e low s = (moves_one p e).1 low s
 
@@ -333,7 +398,8 @@ module _ {edition : Edition} {T U : List ℕ} {a M : ℕ} {to : ℕ → ℕ} {li
   moves_quote p = (
     next_of_low 39 T p,
     λ low s.
-        found_good (λ x. not (x == 39)) p p low (omega arith) (quote_other (slice_get T (next_of 39 T p)) 10 refl (raw_past_stops (λ x. not (x == 39)) T p)) s,
+        found_good (λ x. not (x == 39)) p p low (omega arith)
+        (quote_other (slice_get T (next_of 39 T p)) 10 refl (raw_past_stops (λ x. not (x == 39)) T p)) s,
   )
 
   pub moves_escaped : (how : Escaping) (p : ℕ) → Moves (next_escaped how) p
@@ -342,7 +408,8 @@ module _ {edition : Edition} {T U : List ℕ} {a M : ℕ} {to : ℕ → ℕ} {li
     next_escaped_low how T p,
     λ low s.
         found_good (λ x. not (x == closes_by how || x == 92)) p p low (omega arith)
-        (escaped_other how (slice_get T (next_escaped how T p)) (raw_past_stops (λ x. not (x == closes_by how || x == 92)) T p)) s,
+        (escaped_other how (slice_get T (next_escaped how T p))
+        (raw_past_stops (λ x. not (x == closes_by how || x == 92)) T p)) s,
   )
 
   pub moves_comment : (p : ℕ) → Moves past_comment p
@@ -355,7 +422,8 @@ module _ {edition : Edition} {T U : List ℕ} {a M : ℕ} {to : ℕ → ℕ} {li
         let le : p ≤ M = omega (arith, next_newline_low T p, high t) in
         let g : G p = at_hash p low le e in
         (g, rw (same_raw_stands p 35 low le, e) (same_newline p low (high t))))
-        (λ (e : raw_stands T p 35 ≡ false). let g : G p = rw e at s in (g, rw (same_raw_stands p 35 low (high g), e) refl)) (cases_Bool (raw_stands T p 35)),
+        (λ (e : raw_stands T p 35 ≡ false). let g : G p = rw e at s in
+        (g, rw (same_raw_stands p 35 low (high g), e) refl)) (cases_Bool (raw_stands T p 35)),
   )
     where
       comment_far : (b : Bool) → p ≤ cond b (next_newline T p) p
@@ -368,11 +436,13 @@ module _ {edition : Edition} {T U : List ℕ} {a M : ℕ} {to : ℕ → ℕ} {li
   same_end_here p low s = same_end p low (high s)
 
   pub same_last_backslash : (p : ℕ) → a ≤ p → G p → is_last_backslash U (to p) ≡ is_last_backslash T p
-  same_last_backslash p low s = rw (same_raw_stands p 92 low (high s)) (same_and (raw_stands T p 92) _ _ (λ e. same_taken p e low s))
+  same_last_backslash p low s =
+      rw (same_raw_stands p 92 low (high s)) (same_and (raw_stands T p 92) _ _ (λ e. same_taken p e low s))
 
   -- where a comment ends
   pub comment_end : (p : ℕ) → G p → raw_stands T p 35 ≡ true → next_newline T p ≤ M
-      → (before_blanks U (next_newline U (to p)) ≡ to (before_blanks T (next_newline T p))) × (p ≤ before_blanks T (next_newline T p))
+      → (before_blanks U (next_newline U (to p)) ≡ to (before_blanks T (next_newline T p)))
+      × (p ≤ before_blanks T (next_newline T p))
   unfolding raw_in raw_stands
   comment_end p s e near =
       let low = low_of s in
@@ -383,14 +453,17 @@ module _ {edition : Edition} {T U : List ℕ} {a M : ℕ} {to : ℕ → ℕ} {li
       let w = before_there q p q (omega arith) low lt near bytes.1 in
       (rw (same_newline p low near) w.0, w.1)
 
-  pub same_comment : (o o2 : ℕ) → ((p q : ℕ) → a ≤ p → a ≤ q → span o2 (to p) (to q) ≡ span o p q) → (p : ℕ) → G p → (raw_stands T p 35 ≡ true → next_newline T p ≤ M) → comment_at U o2 (to p) ≡ comment_at T o p
+  pub same_comment : (o o2 : ℕ) → ((p q : ℕ) → a ≤ p → a ≤ q → span o2 (to p) (to q) ≡ span o p q) → (p : ℕ) → G p →
+      (raw_stands T p 35 ≡ true → next_newline T p ≤ M) → comment_at U o2 (to p) ≡ comment_at T o p
   unfolding comment_at
   same_comment o o2 spans p s near =
       let low = low_of s in
       ⊎_elim
       (λ (e : raw_stands T p 35 ≡ true). let w = comment_end p s e (near e) in
-      rw (same_raw_stands p 35 low (high s), e, w.0) (ap Some (spans p (before_blanks T (next_newline T p)) low (omega (arith, low, w.1)))))
-      (λ (e : raw_stands T p 35 ≡ false). rw (same_raw_stands p 35 low (high s), e) refl) (cases_Bool (raw_stands T p 35))
+      rw (same_raw_stands p 35 low (high s), e, w.0)
+      (ap Some (spans p (before_blanks T (next_newline T p)) low (omega (arith, low, w.1)))))
+      (λ (e : raw_stands T p 35 ≡ false). rw (same_raw_stands p 35 low (high s), e) refl)
+      (cases_Bool (raw_stands T p 35))
 
   -- ---- all moves
 

@@ -67,25 +67,34 @@ module _ (w : Waiting) where
   found_in zero taken X = None
   found_in (suc n) taken [] = None
   found_in (suc n) taken (b ∷ bs) =
-      turn taken (front (b ∷ bs)) (past_front (b ∷ bs)) (found_in n (takes_newline w (front (b ∷ bs))) (drop (past_front (b ∷ bs)) (b ∷ bs)))
+      turn taken (front (b ∷ bs)) (past_front (b ∷ bs))
+      (found_in n (takes_newline w (front (b ∷ bs))) (drop (past_front (b ∷ bs)) (b ∷ bs)))
 
   -- ---- what follows makes no difference
 
   pub by_turn : (n : ℕ) (taken : Bool) (b : ℕ) (bs Y : List ℕ) → closed (b ∷ bs) ≡ true
       → found_in (suc n) taken ((b ∷ bs) ++ Y)
-      ≡ turn taken (front (b ∷ bs)) (width (b ∷ bs) + 1) (found_in n (takes_newline w (front (b ∷ bs))) (drop (width (b ∷ bs) + 1) (b ∷ bs) ++ Y))
+      ≡ turn taken (front (b ∷ bs)) (width (b ∷ bs) + 1)
+      (found_in n (takes_newline w (front (b ∷ bs))) (drop (width (b ∷ bs) + 1) (b ∷ bs) ++ Y))
   unfolding found_in
   by_turn n taken b bs Y so =
       let e = ends b bs Y so in
-      let same : front ((b ∷ bs) ++ Y) ≡ front (b ∷ bs) = ap (λ k. take k ((b ∷ bs) ++ Y)) e.0 ∙ take-append-le (width (b ∷ bs)) (b ∷ bs) Y (omega (arith, e.1)) in
+      let same : front ((b ∷ bs) ++ Y) ≡ front (b ∷ bs) = ap (λ k. take k ((b ∷ bs) ++ Y)) e.0
+      ∙ take-append-le (width (b ∷ bs)) (b ∷ bs) Y (omega (arith, e.1)) in
       let past : past_front ((b ∷ bs) ++ Y) ≡ width (b ∷ bs) + 1 = omega (arith, e.0, e.1, length-append (b ∷ bs) Y) in
-      let left : drop (width (b ∷ bs) + 1) ((b ∷ bs) ++ Y) ≡ drop (width (b ∷ bs) + 1) (b ∷ bs) ++ Y = drop-append-le (width (b ∷ bs) + 1) (b ∷ bs) Y (omega (arith, e.1)) in
-      ap (λ l. turn taken l (past_front ((b ∷ bs) ++ Y)) (found_in n (takes_newline w l) (drop (past_front ((b ∷ bs) ++ Y)) ((b ∷ bs) ++ Y)))) same
-      ∙ ap (λ k. turn taken (front (b ∷ bs)) k (found_in n (takes_newline w (front (b ∷ bs))) (drop k ((b ∷ bs) ++ Y)))) past
-      ∙ ap (λ X. turn taken (front (b ∷ bs)) (width (b ∷ bs) + 1) (found_in n (takes_newline w (front (b ∷ bs))) X)) left
+      let left : drop (width (b ∷ bs) + 1) ((b ∷ bs) ++ Y) ≡ drop (width (b ∷ bs) + 1) (b ∷ bs) ++ Y =
+      drop-append-le (width (b ∷ bs) + 1) (b ∷ bs) Y (omega (arith, e.1)) in
+      ap (λ l. turn taken l (past_front ((b ∷ bs) ++ Y))
+      (found_in n (takes_newline w l) (drop (past_front ((b ∷ bs) ++ Y)) ((b ∷ bs) ++ Y)))) same
+      ∙ ap (λ k. turn taken (front (b ∷ bs)) k (found_in n (takes_newline w (front (b ∷ bs))) (drop k ((b ∷ bs) ++ Y))))
+      past
+      ∙ ap (λ X. turn taken (front (b ∷ bs)) (width (b ∷ bs) + 1) (found_in n (takes_newline w (front (b ∷ bs))) X))
+      left
 
-  pub turn_alone : (k i : ℕ) (rest other : Option ℕ) → ((j : ℕ) → rest ≡ Some j → k + j ≡ i → other ≡ Some j) → (t : Bool)
-      → cond t (Some 0) (option_map (λ (q : ℕ). k + q) rest) ≡ Some i → cond t (Some 0) (option_map (λ (q : ℕ). k + q) other) ≡ Some i
+  pub turn_alone : (k i : ℕ) (rest other : Option ℕ) → ((j : ℕ) → rest ≡ Some j → k + j ≡ i → other ≡ Some j) →
+      (t : Bool)
+      → cond t (Some 0) (option_map (λ (q : ℕ). k + q) rest) ≡ Some i →
+      cond t (Some 0) (option_map (λ (q : ℕ). k + q) other) ≡ Some i
   turn_alone k i rest other more true found = found
   turn_alone k i None other more false found = absurd cc
   turn_alone k i (Some j) other more false found = rw (more j refl cc) found
@@ -105,18 +114,22 @@ module _ (w : Waiting) where
       let rest = drop (width (b ∷ bs) + 1) (b ∷ bs) in
       let left : length rest ≡ length (b ∷ bs) - (width (b ∷ bs) + 1) = length-drop (width (b ∷ bs) + 1) (b ∷ bs) in
       by_turn m taken b bs Z so
-      ∙ turn_alone (width (b ∷ bs) + 1) i (found_in n (takes_newline w line) (rest ++ Y)) (found_in m (takes_newline w line) (rest ++ Z))
-      (λ j r is. alone n m (takes_newline w line) rest Y Z j (closed_drop (width (b ∷ bs) + 1) (b ∷ bs) so) (omega (arith, many, left, e.1)) r (omega (arith, before, is, left, e.1)))
+      ∙ turn_alone (width (b ∷ bs) + 1) i (found_in n (takes_newline w line) (rest ++ Y))
+      (found_in m (takes_newline w line) (rest ++ Z))
+      (λ j r is. alone n m (takes_newline w line) rest Y Z j (closed_drop (width (b ∷ bs) + 1) (b ∷ bs) so)
+      (omega (arith, many, left, e.1)) r (omega (arith, before, is, left, e.1)))
       (not taken && is_delimiter w line) (sym (by_turn n taken b bs Y so) ∙ found)
 
   -- ---- nor does where the bytes stand
 
-  over : (p k : ℕ) (r : Option ℕ) → option_map (λ (q : ℕ). (p + k) + q) r ≡ option_map (λ (q : ℕ). p + q) (option_map (λ (q : ℕ). k + q) r)
+  over : (p k : ℕ) (r : Option ℕ) →
+      option_map (λ (q : ℕ). (p + k) + q) r ≡ option_map (λ (q : ℕ). p + q) (option_map (λ (q : ℕ). k + q) r)
   over p k None = refl
   over p k (Some q) = ap (λ (x : ℕ). Some x) (omega arith)
 
   over_turn : (p k : ℕ) (r : Option ℕ) (t : Bool)
-      → cond t (Some p) (option_map (λ (q : ℕ). (p + k) + q) r) ≡ option_map (λ (q : ℕ). p + q) (cond t (Some 0) (option_map (λ (q : ℕ). k + q) r))
+      → cond t (Some p) (option_map (λ (q : ℕ). (p + k) + q) r)
+      ≡ option_map (λ (q : ℕ). p + q) (cond t (Some 0) (option_map (λ (q : ℕ). k + q) r))
   over_turn p k r true = ap (λ (x : ℕ). Some x) (omega arith)
   over_turn p k r false = over p k r
 
@@ -127,21 +140,35 @@ module _ (w : Waiting) where
       ap is_none (ap (slice_get T) (sym is) ∙ sym (get_drop p T 0))
 
   found_by : (n : ℕ) (taken : Bool) (T : List ℕ) (p : ℕ) (X : List ℕ) → drop p T ≡ X → p ≤ length T
-      → ((t : Bool) (r : ℕ) → r ≤ length T → delimiter_below n T w t r ≡ option_map (λ (q : ℕ). r + q) (found_in n t (drop r T)))
+      → ((t : Bool) (r : ℕ) → r ≤ length T →
+      delimiter_below n T w t r ≡ option_map (λ (q : ℕ). r + q) (found_in n t (drop r T)))
       → delimiter_below (suc n) T w taken p ≡ option_map (λ (q : ℕ). p + q) (found_in (suc n) taken X)
   unfolding found_in delimiter_below raw_past
   found_by n taken T p [] is within more = rw (end_there T p, is) refl
   found_by n taken T p (b ∷ bs) is within more =
       let long : length (b ∷ bs) ≡ length T - p = ap length (sym is) ∙ length-drop p T in
-      let wide : past_line T p ≡ p + past_front (b ∷ bs) = ap (λ X. min (p + width X + 1) (length T)) is ∙ omega (arith, long, within) in
-      let line : rest_of_line T p ≡ front (b ∷ bs) = ap (λ X. take ((p + width X) - p) X) is ∙ ap (λ k. take k (b ∷ bs)) (omega arith) in
-      let left : drop (p + past_front (b ∷ bs)) T ≡ drop (past_front (b ∷ bs)) (b ∷ bs) = sym (drop-drop (past_front (b ∷ bs)) p T) ∙ ap (drop (past_front (b ∷ bs))) is in
+      let wide : past_line T p ≡ p + past_front (b ∷ bs) = ap (λ X. min (p + width X + 1) (length T)) is
+      ∙ omega (arith, long, within) in
+      let line : rest_of_line T p ≡ front (b ∷ bs) = ap (λ X. take ((p + width X) - p) X) is
+      ∙ ap (λ k. take k (b ∷ bs)) (omega arith) in
+      let left : drop (p + past_front (b ∷ bs)) T ≡ drop (past_front (b ∷ bs)) (b ∷ bs) =
+      sym (drop-drop (past_front (b ∷ bs)) p T) ∙ ap (drop (past_front (b ∷ bs))) is in
       let start : at_end T p ≡ false = end_there T p ∙ ap (λ X. is_none (slice_get X 0)) is in
-      rw (start, line, wide, more (takes_newline w (front (b ∷ bs))) (p + past_front (b ∷ bs)) (omega (arith, long, within)), left)
-      (over_turn p (past_front (b ∷ bs)) (found_in n (takes_newline w (front (b ∷ bs))) (drop (past_front (b ∷ bs)) (b ∷ bs))) (not taken && is_delimiter w (front (b ∷ bs))))
+      rw (
+        start,
+        line,
+        wide,
+        more (takes_newline w (front (b ∷ bs))) (p + past_front (b ∷ bs))
+            (omega (arith, long, within)),
+        left,
+      )
+      (over_turn p (past_front (b ∷ bs))
+      (found_in n (takes_newline w (front (b ∷ bs))) (drop (past_front (b ∷ bs)) (b ∷ bs)))
+      (not taken && is_delimiter w (front (b ∷ bs))))
 
   -- the place is that in the bytes from p on
-  pub found_at : (n : ℕ) (taken : Bool) (T : List ℕ) (p : ℕ) → p ≤ length T → delimiter_below n T w taken p ≡ option_map (λ (q : ℕ). p + q) (found_in n taken (drop p T))
+  pub found_at : (n : ℕ) (taken : Bool) (T : List ℕ) (p : ℕ) → p ≤ length T →
+      delimiter_below n T w taken p ≡ option_map (λ (q : ℕ). p + q) (found_in n taken (drop p T))
   unfolding found_in delimiter_below
   found_at zero taken T p within = refl
   found_at (suc n) taken T p within = found_by n taken T p (drop p T) refl within (λ t r. found_at n t T r)
@@ -154,15 +181,20 @@ module _ (w : Waiting) where
 
   -- L stands in one text from p on, and in another from r on, and its last byte is a
   -- newline: a document that ends in L ends there in both
-  pub same_delimiter : (T U L Y Z : List ℕ) (p r q : ℕ) → p ≤ length T → r ≤ length U → drop p T ≡ L ++ Y → drop r U ≡ L ++ Z → closed L ≡ true → q < length L
+  pub same_delimiter : (T U L Y Z : List ℕ) (p r q : ℕ) → p ≤ length T → r ≤ length U → drop p T ≡ L ++ Y →
+      drop r U ≡ L ++ Z → closed L ≡ true → q < length L
       → delimiter_from T w p ≡ Some (p + q) → delimiter_from U w r ≡ Some (r + q)
   unfolding delimiter_on
   same_delimiter T U L Y Z p r q within inside here there so before found =
       let size : length (drop r U) ≡ length L + length Z = ap length there ∙ length-append L Z in
-      let read : found_in (suc (length T - p)) false (L ++ Y) ≡ Some q = from_found p q _ (ap (λ X. option_map (λ (i : ℕ). p + i) (found_in (suc (length T - p)) false X)) (sym here) ∙ sym (found_at (suc (length T - p)) false T p within) ∙ found) in
+      let read : found_in (suc (length T - p)) false (L ++ Y) ≡ Some q =
+      from_found p q _ (ap (λ X. option_map (λ (i : ℕ). p + i) (found_in (suc (length T - p)) false X)) (sym here)
+      ∙ sym (found_at (suc (length T - p)) false T p within) ∙ found) in
       found_at (suc (length U - r)) false U r inside
       ∙ ap (λ X. option_map (λ (i : ℕ). r + i) (found_in (suc (length U - r)) false X)) there
-      ∙ ap (option_map (λ (i : ℕ). r + i)) (alone (suc (length T - p)) (suc (length U - r)) false L Y Z q so (omega (arith, size, length-drop r U)) read before)
+      ∙ ap (option_map (λ (i : ℕ). r + i))
+      (alone (suc (length T - p)) (suc (length U - r)) false L Y Z q so
+      (omega (arith, size, length-drop r U)) read before)
 
 -- ---- bodies
 
@@ -174,12 +206,14 @@ ends_some (b ∷ bs) Y so some = ends b bs Y so
 abbrev step_in : List ℕ → ℕ → ℕ
 step_in L q = q + (width (drop q L) + 1)
 
-past_in : (T L Y : List ℕ) (p q : ℕ) → p ≤ length T → drop p T ≡ L ++ Y → closed L ≡ true → q < length L → (past_line T (p + q) ≡ p + step_in L q) × (step_in L q ≤ length L)
+past_in : (T L Y : List ℕ) (p q : ℕ) → p ≤ length T → drop p T ≡ L ++ Y → closed L ≡ true → q < length L →
+    (past_line T (p + q) ≡ p + step_in L q) × (step_in L q ≤ length L)
 unfolding raw_past
 past_in T L Y p q within here so before =
     let left : length (drop q L) ≡ length L - q = length-drop q L in
     let e = ends_some (drop q L) Y (closed_drop q L so) (omega (arith, left, before)) in
-    let rest : drop (p + q) T ≡ drop q L ++ Y = sym (drop-drop q p T) ∙ ap (drop q) here ∙ drop-append-le q L Y (omega (arith, before)) in
+    let rest : drop (p + q) T ≡ drop q L ++ Y = sym (drop-drop q p T) ∙ ap (drop q) here
+    ∙ drop-append-le q L Y (omega (arith, before)) in
     let wide : width (drop (p + q) T) ≡ width (drop q L) = ap width rest ∙ e.0 in
     let size : length T - p ≡ length L + length Y = sym (length-drop p T) ∙ ap length here ∙ length-append L Y in
     (omega (arith, wide, e.1, left, size, before, within), omega (arith, e.1, left, before))
@@ -202,35 +236,46 @@ module _ (edition : Edition) (T U Y Z : List ℕ) (o u : ℕ) where
   Same ws bodies p r x = bodies_from (given edition U u) ws bodies r ≡ done (x.0, r + (x.1 - p))
 
   abbrev Alike : Row Waiting → Row Span × ℕ → Type 0
-  Alike ws x = (bodies : Row Span) (L : List ℕ) (p r : ℕ) → p ≤ length T → r ≤ length U → o + p ≡ u + r → drop p T ≡ L ++ Y → drop r U ≡ L ++ Z → closed L ≡ true
+  Alike ws x = (bodies : Row Span) (L : List ℕ) (p r : ℕ) → p ≤ length T → r ≤ length U → o + p ≡ u + r →
+      drop p T ≡ L ++ Y → drop r U ≡ L ++ Z → closed L ≡ true
       → bodies_from (given edition T o) ws bodies p ≡ Ok x → x.1 ≤ p + length L → Same ws bodies p r x
 
   behind_in : (V W L : List ℕ) (p k : ℕ) → drop p V ≡ L ++ W → k ≤ length L → drop (p + k) V ≡ drop k L ++ W
   behind_in V W L p k here le = sym (drop-drop k p V) ∙ ap (drop k) here ∙ drop-append-le k L W le
 
-  one_alike : (w : Waiting) (ws : Row Waiting) (x : Row Span × ℕ) → Alike ws x → (bodies : Row Span) (L : List ℕ) (p r : ℕ) → p ≤ length T → r ≤ length U → o + p ≡ u + r
-      → drop p T ≡ L ++ Y → drop r U ≡ L ++ Z → closed L ≡ true → (d : Option ℕ) → delimiter_from T w p ≡ d → body_by (bodies_from (given edition T o) ws) (given edition T o) w bodies p d ≡ Ok x
-      → x.1 ≤ p + length L → body_by (bodies_from (given edition U u) ws) (given edition U u) w bodies r (delimiter_from U w r) ≡ done (x.0, r + (x.1 - p))
+  one_alike : (w : Waiting) (ws : Row Waiting) (x : Row Span × ℕ) → Alike ws x →
+      (bodies : Row Span) (L : List ℕ) (p r : ℕ) → p ≤ length T → r ≤ length U → o + p ≡ u + r
+      → drop p T ≡ L ++ Y → drop r U ≡ L ++ Z → closed L ≡ true → (d : Option ℕ) → delimiter_from T w p ≡ d →
+      body_by (bodies_from (given edition T o) ws) (given edition T o) w bodies p d ≡ Ok x
+      → x.1 ≤ p + length L → body_by (bodies_from (given edition U u) ws) (given edition U u) w bodies r
+      (delimiter_from U w r) ≡ done (x.0, r + (x.1 - p))
   one_alike w ws x more bodies L p r within inside off here there so None found read low = absurd cc
   one_alike w ws x more bodies L p r within inside off here there so (Some d) found read low =
       let one = between T w false p d found in
-      let go = bodies_go (given edition T o) ws (bodies ++ span o p d ∷ []) (past_line T d) x read (past_line_high T d) in
+      let go = bodies_go (given edition T o) ws (bodies ++ span o p d ∷ []) (past_line T d) x read
+      (past_line_high T d) in
       let q = d - p in
       let is : d ≡ p + q = omega (arith, one.0) in
       let before : q < length L = omega (arith, go.0, low, one.0, one.1, next_newline_low T d) in
       let k = step_in L q in
       let mine = past_in T L Y p q within here so before in
       let other = past_in U L Z r q inside there so before in
-      let met : delimiter_from U w r ≡ Some (r + q) = same_delimiter w T U L Y Z p r q within inside here there so before (found ∙ ap (λ (n : ℕ). Some n) is) in
+      let met : delimiter_from U w r ≡ Some (r + q) =
+      same_delimiter w T U L Y Z p r q within inside here there so before (found ∙ ap (λ (n : ℕ). Some n) is) in
       let past : past_line T d ≡ p + k = ap (past_line T) is ∙ mine.0 in
-      let same : bodies ++ span o p d ∷ [] ≡ bodies ++ span u r (r + q) ∷ [] = ap (λ s. bodies ++ s ∷ []) (ap (span o p) is ∙ same_span o u p r q off) in
-      let read_on : bodies_from (given edition T o) ws (bodies ++ span u r (r + q) ∷ []) (p + k) ≡ Ok x = ap (λ b. bodies_from (given edition T o) ws b (p + k)) (sym same) ∙ ap (bodies_from (given edition T o) ws (bodies ++ span o p d ∷ [])) (sym past) ∙ read in
+      let same : bodies ++ span o p d ∷ [] ≡ bodies ++ span u r (r + q) ∷ [] =
+      ap (λ s. bodies ++ s ∷ []) (ap (span o p) is ∙ same_span o u p r q off) in
+      let read_on : bodies_from (given edition T o) ws (bodies ++ span u r (r + q) ∷ []) (p + k) ≡ Ok x =
+      ap (λ b. bodies_from (given edition T o) ws b (p + k)) (sym same)
+      ∙ ap (bodies_from (given edition T o) ws (bodies ++ span o p d ∷ [])) (sym past) ∙ read in
       let left : length (drop k L) ≡ length L - k = length-drop k L in
       let high : p + k ≤ x.1 = omega (arith, go.0, past) in
       ap (body_by (bodies_from (given edition U u) ws) (given edition U u) w bodies r) met
       ∙ ap (bodies_from (given edition U u) ws (bodies ++ span u r (r + q) ∷ [])) other.0
-      ∙ more (bodies ++ span u r (r + q) ∷ []) (drop k L) (p + k) (r + k) (omega (arith, past, past_line_high T d)) (omega (arith, other.0, past_line_high U (r + q))) (omega (arith, off))
-      (behind_in T Y L p k here mine.1) (behind_in U Z L r k there mine.1) (closed_drop k L so) read_on (omega (arith, low, left, mine.1))
+      ∙ more (bodies ++ span u r (r + q) ∷ []) (drop k L) (p + k) (r + k) (omega (arith, past, past_line_high T d))
+      (omega (arith, other.0, past_line_high U (r + q))) (omega (arith, off))
+      (behind_in T Y L p k here mine.1) (behind_in U Z L r k there mine.1) (closed_drop k L so) read_on
+      (omega (arith, low, left, mine.1))
       ∙ ap (λ (n : ℕ). done (x.0, n)) (omega (arith, high))
 
   pub same_bodies : (ws : Row Waiting) (x : Row Span × ℕ) → Alike ws x
@@ -239,4 +284,5 @@ module _ (edition : Edition) (T U Y Z : List ℕ) (o u : ℕ) where
       let is : (bodies, p) ≡ x = cc in
       subst (Same [] bodies p r) is (ap (λ (n : ℕ). done (bodies, n)) (omega arith))
   same_bodies (w ∷ ws) x bodies L p r within inside off here there so read low =
-      one_alike w ws x (same_bodies ws x) bodies L p r within inside off here there so (delimiter_from T w p) refl read low
+      one_alike w ws x (same_bodies ws x) bodies L p r within inside off here there so
+      (delimiter_from T w p) refl read low

@@ -31,10 +31,13 @@ bytes_same (b ∷ xs) (c ∷ ys) is =
 
 -- ---- tabs that are taken off
 
-stripped_twice_by : (b : ℕ) (X : List ℕ) → drop (count_front (λ c. c == 9) (drop (count_front (λ c. c == 9) X) X)) (drop (count_front (λ c. c == 9) X) X) ≡ drop (count_front (λ c. c == 9) X) X
+stripped_twice_by : (b : ℕ) (X : List ℕ) →
+    drop (count_front (λ c. c == 9) (drop (count_front (λ c. c == 9) X) X)) (drop (count_front (λ c. c == 9) X) X)
+    ≡ drop (count_front (λ c. c == 9) X) X
     → (t : Bool) → (b == 9) ≡ t → stripped true (stripped true (b ∷ X)) ≡ stripped true (b ∷ X)
 unfolding count_front
-stripped_twice_by b X more true is = let next : 1 + count_front (λ c. c == 9) X ≡ suc (count_front (λ c. c == 9) X) = omega arith in rw (is, next) more
+stripped_twice_by b X more true is = let next : 1 + count_front (λ c. c == 9) X ≡ suc (count_front (λ c. c == 9) X) =
+    omega arith in rw (is, next) more
 stripped_twice_by b X more false is = rw is (rw is refl)
 
 stripped_more : (X : List ℕ) → stripped true (stripped true X) ≡ stripped true X
@@ -109,32 +112,40 @@ module _ (w : Waiting) where
   -- ---- what is found where the bytes begin
 
   -- the delimiter's line is found here
-  found_first : (m : ℕ) (X : List ℕ) → 0 < length X → is_delimiter w (front X) ≡ true → found_in w (suc m) false X ≡ Some 0
+  found_first : (m : ℕ) (X : List ℕ) → 0 < length X → is_delimiter w (front X) ≡ true →
+      found_in w (suc m) false X ≡ Some 0
   unfolding found_in
   found_first m [] some is = absurd (omega (arith, some))
   found_first m (b ∷ bs) some is = rw is refl
 
-  free_by : (taken : Bool) (b : ℕ) (bs : List ℕ) (k : ℕ) (rest : Option ℕ) → 0 < k → (t : Bool) → (not taken && is_delimiter w (front (b ∷ bs))) ≡ t
-      → cond t (Some 0) (option_map (λ (q : ℕ). k + q) rest) ≡ Some 0 → (taken ≡ false) × (is_delimiter w (front (b ∷ bs)) ≡ true)
+  free_by : (taken : Bool) (b : ℕ) (bs : List ℕ) (k : ℕ) (rest : Option ℕ) → 0 < k → (t : Bool) →
+      (not taken && is_delimiter w (front (b ∷ bs))) ≡ t
+      → cond t (Some 0) (option_map (λ (q : ℕ). k + q) rest) ≡ Some 0 → (taken ≡ false)
+      × (is_delimiter w (front (b ∷ bs)) ≡ true)
   free_by true b bs k rest some true is found = absurd cc
   free_by false b bs k rest some true is found = (refl, is)
   free_by taken b bs k None some false is found = absurd cc
   free_by taken b bs k (Some q) some false is found = let none : k + q ≡ 0 = cc in absurd (omega (arith, none, some))
 
-  free_first : (n : ℕ) (taken : Bool) (Y : List ℕ) → found_in w n taken Y ≡ Some 0 → (taken ≡ false) × (is_delimiter w (front Y) ≡ true)
+  free_first : (n : ℕ) (taken : Bool) (Y : List ℕ) → found_in w n taken Y ≡ Some 0 → (taken ≡ false)
+      × (is_delimiter w (front Y) ≡ true)
   unfolding found_in
   free_first zero taken Y found = absurd cc
   free_first (suc n) taken [] found = absurd cc
   free_first (suc n) taken (b ∷ bs) found =
-      free_by taken b bs (past_front (b ∷ bs)) (found_in w n (takes_newline w (front (b ∷ bs))) (drop (past_front (b ∷ bs)) (b ∷ bs))) (omega arith) (not taken && is_delimiter w (front (b ∷ bs))) refl found
+      free_by taken b bs (past_front (b ∷ bs))
+      (found_in w n (takes_newline w (front (b ∷ bs))) (drop (past_front (b ∷ bs)) (b ∷ bs))) (omega arith)
+      (not taken && is_delimiter w (front (b ∷ bs))) refl found
 
   -- ---- the same body, and other bytes behind it that begin with the delimiter's line
 
-  pub rewritten : (n m : ℕ) (taken : Bool) (L Y Z : List ℕ) → closed L ≡ true → length L < m → ((k : ℕ) → found_in w (suc k) false Z ≡ Some 0)
+  pub rewritten : (n m : ℕ) (taken : Bool) (L Y Z : List ℕ) → closed L ≡ true → length L < m →
+      ((k : ℕ) → found_in w (suc k) false Z ≡ Some 0)
       → found_in w n taken (L ++ Y) ≡ Some (length L) → found_in w m taken (L ++ Z) ≡ Some (length L)
   rewritten n zero taken L Y Z so many start found = absurd (omega (arith, many))
   rewritten n (suc m) taken [] Y Z so many start found = let free = free_first n taken Y found in rw free.0 (start m)
-  rewritten zero (suc m) taken (b ∷ bs) Y Z so many start found = none_found w ((b ∷ bs) ++ Y) taken (length (b ∷ bs)) found
+  rewritten zero (suc m) taken (b ∷ bs) Y Z so many start found =
+      none_found w ((b ∷ bs) ++ Y) taken (length (b ∷ bs)) found
   rewritten (suc n) (suc m) taken (b ∷ bs) Y Z so many start found =
       let e = ends b bs Y so in
       let line = front (b ∷ bs) in
@@ -142,9 +153,11 @@ module _ (w : Waiting) where
       let rest = drop k (b ∷ bs) in
       let left : length rest ≡ length (b ∷ bs) - k = length-drop k (b ∷ bs) in
       by_turn w m taken b bs Z so
-      ∙ turn_alone w k (length (b ∷ bs)) (found_in w n (takes_newline w line) (rest ++ Y)) (found_in w m (takes_newline w line) (rest ++ Z))
+      ∙ turn_alone w k (length (b ∷ bs)) (found_in w n (takes_newline w line) (rest ++ Y))
+      (found_in w m (takes_newline w line) (rest ++ Z))
       (λ j r is. let all : j ≡ length rest = omega (arith, is, left, e.1) in
-      rewritten n m (takes_newline w line) rest Y Z (closed_drop k (b ∷ bs) so) (omega (arith, many, left, e.1)) start (r ∙ ap (λ (x : ℕ). Some x) all) ∙ ap (λ (x : ℕ). Some x) (sym all))
+      rewritten n m (takes_newline w line) rest Y Z (closed_drop k (b ∷ bs) so) (omega (arith, many, left, e.1)) start
+      (r ∙ ap (λ (x : ℕ). Some x) all) ∙ ap (λ (x : ℕ). Some x) (sym all))
       (not taken && is_delimiter w line) (sym (by_turn w n taken b bs Y so) ∙ found)
 
   -- ---- what was found is a body and a delimiter
@@ -156,12 +169,14 @@ module _ (w : Waiting) where
   closed_join (b ∷ []) (c ∷ Y) one two = two
   closed_join (b ∷ c ∷ X) Y one two = closed_join (c ∷ X) Y one two
 
-  first_line_by : (b : ℕ) (X : List ℕ) → (width X < length X → closed (take (suc (width X)) X) ≡ true) → width (b ∷ X) < length (b ∷ X) → (t : Bool) → (b == 10) ≡ t
+  first_line_by : (b : ℕ) (X : List ℕ) → (width X < length X → closed (take (suc (width X)) X) ≡ true) →
+      width (b ∷ X) < length (b ∷ X) → (t : Bool) → (b == 10) ≡ t
       → closed (take (suc (width (b ∷ X))) (b ∷ X)) ≡ true
   unfolding closed
   first_line_by b X more some true is = let none = newline_first b X is in rw none is
   first_line_by b [] more some false is = let one = text_first b [] is in absurd (omega (arith, one, some))
-  first_line_by b (c ∷ cs) more some false is = let one = text_first b (c ∷ cs) is in rw one (more (omega (arith, one, some)))
+  first_line_by b (c ∷ cs) more some false is = let one = text_first b (c ∷ cs) is in
+      rw one (more (omega (arith, one, some)))
 
   -- a line that is not the last one, with its newline
   first_line : (X : List ℕ) → width X < length X → closed (take (suc (width X)) X) ≡ true
@@ -183,13 +198,15 @@ module _ (w : Waiting) where
   unfolding closed
   cut_here X i is none = subst (λ n. Cut X n) none (record { lines = refl; within = omega arith; line = is })
 
-  cut_on : (n : ℕ) (taken : Bool) (X : List ℕ) (j : ℕ) → found_in w n taken (drop (past_front X) X) ≡ Some j → Cut (drop (past_front X) X) j → Cut X (past_front X + j)
+  cut_on : (n : ℕ) (taken : Bool) (X : List ℕ) (j : ℕ) → found_in w n taken (drop (past_front X) X) ≡ Some j →
+      Cut (drop (past_front X) X) j → Cut X (past_front X + j)
   cut_on n taken X j found rest =
       let k = past_front X in
       let left : length (drop k X) ≡ length X - k = length-drop k X in
       let whole : closed (take k X) ≡ true = ⊎_elim
       (λ lt. let is : k ≡ suc (width X) = omega (arith, lt) in ap (λ m. closed (take m X)) is ∙ first_line X lt)
-      (λ ge. none_in n taken j (ap (found_in w n taken) (sym (empty_row (drop k X) (omega (arith, ge, left)))) ∙ found)) (cases_lt (width X) (length X)) in
+      (λ ge. none_in n taken j (ap (found_in w n taken) (sym (empty_row (drop k X) (omega (arith, ge, left)))) ∙ found))
+      (cases_lt (width X) (length X)) in
       record {
         lines = ap closed (take-add k j X) ∙ closed_join (take k X) (take j (drop k X)) whole rest.lines;
         within = omega (arith, left, rest.within);
@@ -200,12 +217,16 @@ module _ (w : Waiting) where
       empty_row [] is = refl
       empty_row (b ∷ X) is = absurd (omega (arith, is))
 
-  cut_by : (n : ℕ) (taken : Bool) (b : ℕ) (bs : List ℕ) (i : ℕ) (r : Option ℕ) → found_in w n taken (drop (past_front (b ∷ bs)) (b ∷ bs)) ≡ r → ((j : ℕ) → r ≡ Some j → Cut (drop (past_front (b ∷ bs)) (b ∷ bs)) j)
-      → (before : Bool) (t : Bool) → (not before && is_delimiter w (front (b ∷ bs))) ≡ t → cond t (Some 0) (option_map (λ (q : ℕ). past_front (b ∷ bs) + q) r) ≡ Some i → Cut (b ∷ bs) i
+  cut_by : (n : ℕ) (taken : Bool) (b : ℕ) (bs : List ℕ) (i : ℕ) (r : Option ℕ) →
+      found_in w n taken (drop (past_front (b ∷ bs)) (b ∷ bs)) ≡ r →
+      ((j : ℕ) → r ≡ Some j → Cut (drop (past_front (b ∷ bs)) (b ∷ bs)) j)
+      → (before : Bool) (t : Bool) → (not before && is_delimiter w (front (b ∷ bs))) ≡ t →
+      cond t (Some 0) (option_map (λ (q : ℕ). past_front (b ∷ bs) + q) r) ≡ Some i → Cut (b ∷ bs) i
   cut_by n taken b bs i r is more true true e found = absurd cc
   cut_by n taken b bs i r is more false true e found = cut_here (b ∷ bs) i e cc
   cut_by n taken b bs i None is more before false e found = absurd cc
-  cut_by n taken b bs i (Some j) is more before false e found = let all : past_front (b ∷ bs) + j ≡ i = cc in subst (λ m. Cut (b ∷ bs) m) all (cut_on n taken (b ∷ bs) j is (more j refl))
+  cut_by n taken b bs i (Some j) is more before false e found = let all : past_front (b ∷ bs) + j ≡ i = cc in
+      subst (λ m. Cut (b ∷ bs) m) all (cut_on n taken (b ∷ bs) j is (more j refl))
 
   pub cut : (n : ℕ) (taken : Bool) (X : List ℕ) (i : ℕ) → found_in w n taken X ≡ Some i → Cut X i
   unfolding found_in
@@ -213,25 +234,31 @@ module _ (w : Waiting) where
   cut (suc n) taken [] i found = absurd cc
   cut (suc n) taken (b ∷ bs) i found =
       let rest = found_in w n (takes_newline w (front (b ∷ bs))) (drop (past_front (b ∷ bs)) (b ∷ bs)) in
-      cut_by n (takes_newline w (front (b ∷ bs))) b bs i rest refl (λ j is. cut n (takes_newline w (front (b ∷ bs))) (drop (past_front (b ∷ bs)) (b ∷ bs)) j is)
+      cut_by n (takes_newline w (front (b ∷ bs))) b bs i rest refl
+      (λ j is. cut n (takes_newline w (front (b ∷ bs))) (drop (past_front (b ∷ bs)) (b ∷ bs)) j is)
       taken (not taken && is_delimiter w (front (b ∷ bs))) refl found
 
 -- where the operator stands makes no difference
-same_found : (b c : ℕ) (strip : Bool) (d : ADelimiter) (n : ℕ) (taken : Bool) (X : List ℕ) → found_in (document b strip d) n taken X ≡ found_in (document c strip d) n taken X
+same_found : (b c : ℕ) (strip : Bool) (d : ADelimiter) (n : ℕ) (taken : Bool) (X : List ℕ) →
+    found_in (document b strip d) n taken X ≡ found_in (document c strip d) n taken X
 unfolding found_in
 same_found b c strip d zero taken X = refl
 same_found b c strip d (suc n) taken [] = refl
 same_found b c strip d (suc n) taken (x ∷ xs) =
     ap (λ r. turn (document b strip d) taken (front (x ∷ xs)) (past_front (x ∷ xs)) r)
-    (same_found b c strip d n (takes_newline (document b strip d) (front (x ∷ xs))) (drop (past_front (x ∷ xs)) (x ∷ xs)))
+    (same_found b c strip d n (takes_newline (document b strip d) (front (x ∷ xs)))
+    (drop (past_front (x ∷ xs)) (x ∷ xs)))
 
 -- ---- a document, wherever its body and the line of its delimiter stand
 
 pub record DocumentAnywhere (strip : Bool) (d : ADelimiter) (t : List ℕ) : Type 0 where
-  pub ends_there : (U : List ℕ) (b r : ℕ) (Z : List ℕ) → r ≤ length U → drop r U ≡ t ++ (d.text ++ 10 ∷ Z) → delimiter_from U (document b strip d) r ≡ Some (r + length t)
-  pub past_it : (U : List ℕ) (r : ℕ) (Z : List ℕ) → r ≤ length U → drop r U ≡ t ++ (d.text ++ 10 ∷ Z) → past_line U (r + length t) ≡ r + (length t + (length d.text + 1))
+  pub ends_there : (U : List ℕ) (b r : ℕ) (Z : List ℕ) → r ≤ length U → drop r U ≡ t ++ (d.text ++ 10 ∷ Z) →
+      delimiter_from U (document b strip d) r ≡ Some (r + length t)
+  pub past_it : (U : List ℕ) (r : ℕ) (Z : List ℕ) → r ≤ length U → drop r U ≡ t ++ (d.text ++ 10 ∷ Z) →
+      past_line U (r + length t) ≡ r + (length t + (length d.text + 1))
 
-module _ (T : List ℕ) (b p q : ℕ) (strip : Bool) (d : ADelimiter) (within : p ≤ length T) (found : delimiter_from T (document b strip d) p ≡ Some q) where
+module _ (T : List ℕ) (b p q : ℕ) (strip : Bool) (d : ADelimiter) (within : p ≤ length T)
+    (found : delimiter_from T (document b strip d) p ≡ Some q) where
   abbrev w : Waiting
   w = document b strip d
 
@@ -246,7 +273,8 @@ module _ (T : List ℕ) (b p q : ℕ) (strip : Bool) (d : ADelimiter) (within : 
   found_here =
       let low = (between T w false p q found).0 in
       let is : q ≡ p + i = omega (arith, low) in
-      from_found w p i (found_in w (suc (length T - p)) false bytes) (sym (found_at w (suc (length T - p)) false T p within) ∙ found ∙ ap (λ (x : ℕ). Some x) is)
+      from_found w p i (found_in w (suc (length T - p)) false bytes)
+      (sym (found_at w (suc (length T - p)) false T p within) ∙ found ∙ ap (λ (x : ℕ). Some x) is)
 
   cut_here_is : Cut w bytes i
   cut_here_is = cut w (suc (length T - p)) false bytes i found_here
@@ -262,7 +290,8 @@ module _ (T : List ℕ) (b p q : ℕ) (strip : Bool) (d : ADelimiter) (within : 
 
   its_own : is_delimiter w d.text ≡ true
   its_own =
-      let same : stripped strip d.text ≡ d.text = ap (stripped strip) (sym line_is) ∙ stripped_twice strip line ∙ line_is in
+      let same : stripped strip d.text ≡ d.text = ap (stripped strip) (sym line_is) ∙ stripped_twice strip line
+      ∙ line_is in
       ap (λ X. bytes_eq X d.text) same ∙ bytes_self d.text
 
   some_there : (X Z : List ℕ) (c : ℕ) → 0 < length (X ++ c ∷ Z)
@@ -270,28 +299,35 @@ module _ (T : List ℕ) (b p q : ℕ) (strip : Bool) (d : ADelimiter) (within : 
   some_there (b ∷ X) Z c = omega arith
 
   starts : (Z : List ℕ) (k : ℕ) → found_in w (suc k) false (d.text ++ 10 ∷ Z) ≡ Some 0
-  starts Z k = found_first w k (d.text ++ 10 ∷ Z) (some_there d.text Z 10) (ap (is_delimiter w) (line_front d.text Z delimiter_text) ∙ its_own)
+  starts Z k = found_first w k (d.text ++ 10 ∷ Z) (some_there d.text Z 10)
+      (ap (is_delimiter w) (line_front d.text Z delimiter_text) ∙ its_own)
 
   long : length (take i bytes) ≡ i
   long = length-take-le i bytes cut_here_is.within
 
   found_whole : found_in w (suc (length T - p)) false (take i bytes ++ drop i bytes) ≡ Some (length (take i bytes))
-  found_whole = ap (found_in w (suc (length T - p)) false) (take-append-drop i bytes) ∙ found_here ∙ ap (λ (x : ℕ). Some x) (sym long)
+  found_whole = ap (found_in w (suc (length T - p)) false) (take-append-drop i bytes) ∙ found_here
+      ∙ ap (λ (x : ℕ). Some x) (sym long)
 
   pub document_anywhere : DocumentAnywhere strip d (raw T p q)
   unfolding delimiter_on raw_past
   document_anywhere = record {
     ends_there = λ U c r Z inside here.
         let L = take i bytes in
-        let size : length (drop r U) ≡ length L + length (d.text ++ 10 ∷ Z) = ap length here ∙ length-append L (d.text ++ 10 ∷ Z) in
+        let size : length (drop r U) ≡ length L + length (d.text ++ 10 ∷ Z) = ap length here
+        ∙ length-append L (d.text ++ 10 ∷ Z) in
         found_at (document c strip d) (suc (length U - r)) false U r inside
-        ∙ ap (option_map (λ (n : ℕ). r + n)) (ap (found_in (document c strip d) (suc (length U - r)) false) here ∙ same_found c b strip d (suc (length U - r)) false (L ++ (d.text ++ 10 ∷ Z))
-        ∙ rewritten w (suc (length T - p)) (suc (length U - r)) false L (drop i bytes) (d.text ++ 10 ∷ Z) cut_here_is.lines (omega (arith, size, length-drop r U)) (starts Z) found_whole);
+        ∙ ap (option_map (λ (n : ℕ). r + n))
+        (ap (found_in (document c strip d) (suc (length U - r)) false) here
+        ∙ same_found c b strip d (suc (length U - r)) false (L ++ (d.text ++ 10 ∷ Z))
+        ∙ rewritten w (suc (length T - p)) (suc (length U - r)) false L (drop i bytes)
+        (d.text ++ 10 ∷ Z) cut_here_is.lines (omega (arith, size, length-drop r U)) (starts Z) found_whole);
     past_it = λ U r Z inside here.
         let L = take i bytes in
         let rest : drop (r + length L) U ≡ d.text ++ 10 ∷ Z = skipped U r L (d.text ++ 10 ∷ Z) here in
         let wide : width (drop (r + length L) U) ≡ length d.text = ap width rest ∙ line_width d.text Z delimiter_text in
-        let size : length U - r ≡ length L + (length d.text + suc (length Z)) = sym (length-drop r U) ∙ ap length here ∙ length-append L (d.text ++ 10 ∷ Z) ∙ ap (λ n. length L + n) (length-append d.text (10 ∷ Z)) in
+        let size : length U - r ≡ length L + (length d.text + suc (length Z)) = sym (length-drop r U) ∙ ap length here
+        ∙ length-append L (d.text ++ 10 ∷ Z) ∙ ap (λ n. length L + n) (length-append d.text (10 ∷ Z)) in
         omega (arith, wide, size, inside);
   }
     where

@@ -24,15 +24,20 @@ module _ (g : Given) (limit : ℕ) where
   HoldsWithin s = All (IsSpanWithin limit) s.bodies
 
   -- of what begins above the limit nothing is said, since no form goes back
-  pub unless_above : {X : Type 0} {P : X → State → Type 0} (r : Form X) (s : State) → (Before s → Tells Whole g r (λ x t. Before t → P x t) s) → Tells Whole g r (λ x t. Before t → P x t) s
+  pub unless_above : {X : Type 0} {P : X → State → Type 0} (r : Form X) (s : State) →
+      (Before s → Tells Whole g r (λ x t. Before t → P x t) s) → Tells Whole g r (λ x t. Before t → P x t) s
   unless_above r s so =
-      ⊎_elim (λ lt. tells_so Whole g (low r Whole g s) (λ x t on. λ b. absurd (omega (arith, lt, on, b)))) (λ ge. so (omega (arith, ge))) (cases_lt limit (g.offset + s.at))
+      ⊎_elim (λ lt. tells_so Whole g (low r Whole g s) (λ x t on. λ b. absurd (omega (arith, lt, on, b))))
+      (λ ge. so (omega (arith, ge))) (cases_lt limit (g.offset + s.at))
 
   -- ---- the bodies behind a newline
 
-  body_step : (w : Waiting) (ws : Row Waiting) (bodies : Row Span) (p : ℕ) (x : Row Span × ℕ) → g.offset + x.1 ≤ limit → All (IsSpanWithin limit) bodies
-      → ((bs : Row Span) (q : ℕ) → bodies_from g ws bs q ≡ Ok x → All (IsSpanWithin limit) bs → All (IsSpanWithin limit) x.0)
-      → (o : Option ℕ) → delimiter_from g.text w p ≡ o → body_by (bodies_from g ws) g w bodies p o ≡ Ok x → All (IsSpanWithin limit) x.0
+  body_step : (w : Waiting) (ws : Row Waiting) (bodies : Row Span) (p : ℕ) (x : Row Span × ℕ) → g.offset + x.1 ≤ limit →
+      All (IsSpanWithin limit) bodies
+      → ((bs : Row Span) (q : ℕ) → bodies_from g ws bs q ≡ Ok x → All (IsSpanWithin limit) bs →
+      All (IsSpanWithin limit) x.0)
+      → (o : Option ℕ) → delimiter_from g.text w p ≡ o → body_by (bodies_from g ws) g w bodies p o ≡ Ok x →
+      All (IsSpanWithin limit) x.0
   body_step w ws bodies p x le all more None none read = absurd cc
   body_step w ws bodies p x le all more (Some q) found read =
       let one = between g.text w false p q found in
@@ -41,14 +46,18 @@ module _ (g : Given) (limit : ℕ) where
       more (bodies ++ span g.offset p q ∷ []) (past_line g.text q) read
       (All-push (IsSpanWithin limit) bodies (span g.offset p q) all (omega (arith, ends, one.0), ends))
 
-  bodies_within : (ws : Row Waiting) (bodies : Row Span) (p : ℕ) (x : Row Span × ℕ) → bodies_from g ws bodies p ≡ Ok x → g.offset + x.1 ≤ limit → All (IsSpanWithin limit) bodies
+  bodies_within : (ws : Row Waiting) (bodies : Row Span) (p : ℕ) (x : Row Span × ℕ) → bodies_from g ws bodies p ≡ Ok x →
+      g.offset + x.1 ≤ limit → All (IsSpanWithin limit) bodies
       → All (IsSpanWithin limit) x.0
   unfolding bodies_from
-  bodies_within [] bodies p x read le all = let is : (bodies, p) ≡ x = cc in subst (λ (y : Row Span × ℕ). All (IsSpanWithin limit) y.0) is all
+  bodies_within [] bodies p x read le all = let is : (bodies, p) ≡ x = cc in
+      subst (λ (y : Row Span × ℕ). All (IsSpanWithin limit) y.0) is all
   bodies_within (w ∷ ws) bodies p x read le all =
-      body_step w ws bodies p x le all (λ bs q read_on. bodies_within ws bs q x read_on le) (delimiter_from g.text w p) refl read
+      body_step w ws bodies p x le all (λ bs q read_on. bodies_within ws bs q x read_on le)
+      (delimiter_from g.text w p) refl read
 
-  state_within : (s t : State) → HoldsWithin s → Before t → (x : Result (Row Span × ℕ) Fault) → bodies_from g s.waiting s.bodies s.at ≡ x → state_by x ≡ Ok t → HoldsWithin t
+  state_within : (s t : State) → HoldsWithin s → Before t → (x : Result (Row Span × ℕ) Fault) →
+      bodies_from g s.waiting s.bodies s.at ≡ x → state_by x ≡ Ok t → HoldsWithin t
   state_within s t so b (Ok x) read is =
       let same : record { at = x.1; waiting = []; bodies = x.0 } ≡ t = cc in
       let le : g.offset + x.1 ≤ limit = subst (λ (u : State). g.offset + u.at ≤ limit) (sym same) b in
@@ -67,14 +76,16 @@ module _ (g : Given) (limit : ℕ) where
   held (move m) s so = record { told = λ b. so }
   held (push xs x) s so = record { told = λ b. so }
   held (stop kind at) s so = record { told = tt }
-  held (both r q) s so = tells_then Whole g (held r s so) (λ a t there. unless_above (q a) t (λ b. held (q a) t (there b)))
+  held (both r q) s so = tells_then Whole g (held r s so)
+      (λ a t there. unless_above (q a) t (λ b. held (q a) t (there b)))
   held (when f r q) s so = tells_when Whole g (held r s so) (held q s so)
   held (token how r) s so = tells_token Whole g (held r s so) (λ a t there. there)
   held {X = X} (loop turn a) s so =
       tells_loop Whole g turn (λ b t. Before t → HoldsWithin t)
       (λ b t there. tells_so Whole g (unless_above (turn b) t (λ c. held (turn b) t (there c))) turned) a s (λ b. so)
     where
-      turned : (c : Step X) (u : State) → (Before u → HoldsWithin u) → Turned Whole g (λ b t. Before t → HoldsWithin t) c u
+      turned : (c : Step X) (u : State) → (Before u → HoldsWithin u) →
+          Turned Whole g (λ b t. Before t → HoldsWithin t) c u
       turned (again c) u there = there
       turned (done c) u there = there
   held (ends_as kind at r) s so = tells_ending Whole g (held r s so)

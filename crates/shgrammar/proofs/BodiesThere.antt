@@ -39,7 +39,8 @@ past_ends T q lt =
     ap (slice_get T) is ∙ newline_is T (next_newline T q) (omega (arith, lt)) (raw_past_stops (λ b. not (b == 10)) T q)
 
 module _ (g : Given) where
-  before_step : (w : Waiting) (ws : Row Waiting) (bodies : Row Span) (p : ℕ) (x : Row Span × ℕ) → x.1 < length g.text → p < x.1
+  before_step : (w : Waiting) (ws : Row Waiting) (bodies : Row Span) (p : ℕ) (x : Row Span × ℕ) → x.1 < length g.text →
+      p < x.1
       → ((bs : Row Span) (q : ℕ) → bodies_from g ws bs q ≡ Ok x → q < x.1 → slice_get g.text (x.1 - 1) ≡ Some 10)
       → (o : Option ℕ) → body_by (bodies_from g ws) g w bodies p o ≡ Ok x → slice_get g.text (x.1 - 1) ≡ Some 10
   before_step w ws bodies p x within on more None read = absurd cc
@@ -50,17 +51,22 @@ module _ (g : Given) where
       (cases_lt (past_line g.text q) x.1)
 
   -- where bodies end before the text does, a newline stands before
-  pub newline_before : (ws : Row Waiting) (bodies : Row Span) (p : ℕ) (x : Row Span × ℕ) → bodies_from g ws bodies p ≡ Ok x → x.1 < length g.text → p < x.1 → slice_get g.text (x.1 - 1) ≡ Some 10
+  pub newline_before : (ws : Row Waiting) (bodies : Row Span) (p : ℕ) (x : Row Span × ℕ) →
+      bodies_from g ws bodies p ≡ Ok x → x.1 < length g.text → p < x.1 → slice_get g.text (x.1 - 1) ≡ Some 10
   unfolding bodies_from
-  newline_before [] bodies p x read within on = let is : (bodies, p) ≡ x = cc in let same : p ≡ x.1 = ap (λ (y : Row Span × ℕ). y.1) is in absurd (omega (arith, same, on))
-  newline_before (w ∷ ws) bodies p x read within on = before_step w ws bodies p x within on (λ bs q more lt. newline_before ws bs q x more within lt) (delimiter_from g.text w p) read
+  newline_before [] bodies p x read within on = let is : (bodies, p) ≡ x = cc in
+      let same : p ≡ x.1 = ap (λ (y : Row Span × ℕ). y.1) is in absurd (omega (arith, same, on))
+  newline_before (w ∷ ws) bodies p x read within on =
+      before_step w ws bodies p x within on (λ bs q more lt. newline_before ws bs q x more within lt)
+      (delimiter_from g.text w p) read
 
 abbrev ended_in : State → Read (Unit {0}) → State
 ended_in s (Ok (x, t)) = t
 ended_in s (Err f) = s
 
 -- bodies that begin behind a newline end behind one, or where the text ends
-ends_by : (g : Given) (s t : State) (x : Result (Row Span × ℕ) Fault) → bodies_from g s.waiting s.bodies s.at ≡ x → nothing_read (state_by x) ≡ Ok (tt, t) → raw_stands g.text (s.at - 1) 10 ≡ true
+ends_by : (g : Given) (s t : State) (x : Result (Row Span × ℕ) Fault) → bodies_from g s.waiting s.bodies s.at ≡ x →
+    nothing_read (state_by x) ≡ Ok (tt, t) → raw_stands g.text (s.at - 1) 10 ≡ true
     → (raw_stands g.text (t.at - 1) 10 ≡ true) ⊎ (at_end g.text t.at ≡ true)
 unfolding raw_stands at_end
 ends_by g s t (Ok x) read is newline =
@@ -68,13 +74,15 @@ ends_by g s t (Ok x) read is newline =
     let at : x.1 ≡ t.at = ap (λ (v : State). v.at) same in
     ⊎_elim
     (λ on. ⊎_elim
-    (λ lt. inl (ap (λ n. is_byte (slice_get g.text (n - 1)) 10) (sym at) ∙ ap (λ o. is_byte o 10) (newline_before g s.waiting s.bodies s.at x read lt on)))
+    (λ lt. inl (ap (λ n. is_byte (slice_get g.text (n - 1)) 10) (sym at)
+    ∙ ap (λ o. is_byte o 10) (newline_before g s.waiting s.bodies s.at x read lt on)))
     (λ ge. inr (ap is_none (slice_get_past g.text t.at (omega (arith, at, ge))))) (cases_lt x.1 (length g.text)))
     (λ ge. let still : t.at ≡ s.at = omega (arith, at, ge, bodies_low g s.waiting s.bodies s.at x read) in
     inl (ap (λ n. is_byte (slice_get g.text (n - 1)) 10) still ∙ newline)) (cases_lt s.at x.1)
 ends_by g s t (Err f) read is newline = absurd cc
 
-pub ends_line : (keep : Keep) (g : Given) (s t : State) → does (change bodies_here) keep g s ≡ Ok (tt, t) → raw_stands g.text (s.at - 1) 10 ≡ true → (raw_stands g.text (t.at - 1) 10 ≡ true) ⊎ (at_end g.text t.at ≡ true)
+pub ends_line : (keep : Keep) (g : Given) (s t : State) → does (change bodies_here) keep g s ≡ Ok (tt, t) →
+    raw_stands g.text (s.at - 1) 10 ≡ true → (raw_stands g.text (t.at - 1) 10 ≡ true) ⊎ (at_end g.text t.at ≡ true)
 ends_line keep g s t is newline = ends_by g s t (bodies_from g s.waiting s.bodies s.at) refl is newline
 
 -- bytes of which the last is a newline
@@ -92,12 +100,14 @@ closed_raw T p q le newline =
     (λ lt. let n = q - p - 1 in
     let many : q - p ≡ suc n = omega (arith, lt) in
     let last : p + n ≡ q - 1 = omega (arith, lt) in
-    ap (λ m. closed (take m (drop p T))) many ∙ closed_take n (drop p T) (get_drop p T n ∙ ap (slice_get T) last ∙ newline lt))
+    ap (λ m. closed (take m (drop p T))) many
+    ∙ closed_take n (drop p T) (get_drop p T n ∙ ap (slice_get T) last ∙ newline lt))
     (λ ge. let none : q - p ≡ 0 = omega (arith, ge) in ap (λ m. closed (take m (drop p T))) none) (cases_lt p q)
 
 -- ---- the same bodies there
 
-module _ {edition : Edition} {T U : List ℕ} {a M : ℕ} {to : ℕ → ℕ} {limit : ℕ} (E : ListEnds edition T U a M to limit) where
+module _ {edition : Edition} {T U : List ℕ} {a M : ℕ} {to : ℕ → ℕ} {limit : ℕ}
+    (E : ListEnds edition T U a M to limit) where
   long : M < length T
   long = slice_get_within T M limit E.byte
 
@@ -108,30 +118,37 @@ module _ {edition : Edition} {T U : List ℕ} {a M : ℕ} {to : ℕ → ℕ} {li
   far p q from le = let is : p + (q - p) ≡ q = omega (arith, le) in ap to (sym is) ∙ on E p (q - p) from
 
   -- what begins before bodies that end at a good place begins at one
-  pub good_before : (o : ℕ) (ws : Row Waiting) (bodies : Row Span) (p : ℕ) (x : Row Span × ℕ) → a ≤ p → bodies_from (given edition T o) ws bodies p ≡ Ok x → Good T a M x.1 → Good T a M p
+  pub good_before : (o : ℕ) (ws : Row Waiting) (bodies : Row Span) (p : ℕ) (x : Row Span × ℕ) → a ≤ p →
+      bodies_from (given edition T o) ws bodies p ≡ Ok x → Good T a M x.1 → Good T a M p
   unfolding raw_stands
   good_before o ws bodies p x from read good =
       let onward = bodies_low (given edition T o) ws bodies p x read in
       ⊎_elim
-      (λ lt. let newline = newline_before (given edition T o) ws bodies p x read (omega (arith, high E good, long)) lt in
+      (λ lt. let newline = newline_before (given edition T o) ws bodies p x read
+      (omega (arith, high E good, long)) lt in
       let none = no_backslash T (x.1 - 1) (byte_other (slice_get T (x.1 - 1)) 10 92 refl (rw newline refl)) in
       let is : x.1 - 1 + 1 ≡ x.1 = omega (arith, lt) in
       good_over E p (x.1 - 1) from (omega (arith, lt)) none (subst (Good T a M) (sym is) good))
       (λ ge. let is : x.1 ≡ p = omega (arith, ge, onward) in subst (Good T a M) is good) (cases_lt p x.1)
 
-  good_after : (o : ℕ) (s t : State) → a ≤ s.at → Good T a M t.at → (x : Result (Row Span × ℕ) Fault) → bodies_from (given edition T o) s.waiting s.bodies s.at ≡ x → state_by x ≡ Ok t → Good T a M s.at
+  good_after : (o : ℕ) (s t : State) → a ≤ s.at → Good T a M t.at → (x : Result (Row Span × ℕ) Fault) →
+      bodies_from (given edition T o) s.waiting s.bodies s.at ≡ x → state_by x ≡ Ok t → Good T a M s.at
   good_after o s t from good (Ok x) read is =
       let same : record { at = x.1; waiting = []; bodies = x.0 } ≡ t = cc in
       good_before o s.waiting s.bodies s.at x from read (subst (λ (v : State). Good T a M v.at) (sym same) good)
   good_after o s t from good (Err f) read is = absurd cc
 
   -- what changes up to a good place changes from a good place on
-  pub change_good : (o : ℕ) (c : Change) (s t : State) → a ≤ s.at → changed c (given edition T o) s ≡ Ok t → Good T a M t.at → Good T a M s.at
-  change_good o (waits w) s t from is good = let same : with_waiting w s ≡ t = cc in subst (λ (v : State). Good T a M v.at) (sym same) good
-  change_good o bodies_here s t from is good = good_after o s t from good (bodies_from (given edition T o) s.waiting s.bodies s.at) refl is
+  pub change_good : (o : ℕ) (c : Change) (s t : State) → a ≤ s.at → changed c (given edition T o) s ≡ Ok t →
+      Good T a M t.at → Good T a M s.at
+  change_good o (waits w) s t from is good = let same : with_waiting w s ≡ t = cc in
+      subst (λ (v : State). Good T a M v.at) (sym same) good
+  change_good o bodies_here s t from is good =
+      good_after o s t from good (bodies_from (given edition T o) s.waiting s.bodies s.at) refl is
 
   module _ (o u : ℕ) (off : (p : ℕ) → a ≤ p → u + to p ≡ o + p) where
-    pub bodies_there : (ws : Row Waiting) (bodies : Row Span) (p : ℕ) (x : Row Span × ℕ) → a ≤ p → bodies_from (given edition T o) ws bodies p ≡ Ok x → x.1 ≤ M + 1 → closed (raw T p x.1) ≡ true
+    pub bodies_there : (ws : Row Waiting) (bodies : Row Span) (p : ℕ) (x : Row Span × ℕ) → a ≤ p →
+        bodies_from (given edition T o) ws bodies p ≡ Ok x → x.1 ≤ M + 1 → closed (raw T p x.1) ≡ true
         → bodies_from (given edition U u) ws bodies (to p) ≡ Ok (x.0, to x.1)
     bodies_there ws bodies p x from read high_x so =
         let onward = bodies_low (given edition T o) ws bodies p x read in
@@ -140,11 +157,16 @@ module _ {edition : Edition} {T U : List ℕ} {a M : ℕ} {to : ℕ → ℕ} {li
         let end = far p x.1 from onward in
         let limit_there = far p M from in
         let many : to x.1 - to p ≡ n = omega (arith, end) in
-        let same : take n (drop (to p) U) ≡ L = ap (λ m. take m (drop (to p) U)) (sym many) ∙ same_raw_to E p x.1 from (omega (arith, from, onward)) high_x in
+        let same : take n (drop (to p) U) ≡ L = ap (λ m. take m (drop (to p) U)) (sym many)
+        ∙ same_raw_to E p x.1 from (omega (arith, from, onward)) high_x in
         let size : length L ≡ n = length-take-le n (drop p T) (omega (arith, long, high_x, onward, length-drop p T)) in
-        let inside : to p ≤ length U = ⊎_elim (λ lt. omega (arith, limit_there (omega (arith, lt)), long_there)) (λ ge. omega (arith, far M p E.under ge, long_there, onward, high_x)) (cases_lt p M) in
-        same_bodies edition T U (drop n (drop p T)) (drop n (drop (to p) U)) o u ws x bodies L p (to p) (omega (arith, long, high_x, onward)) inside (sym (off p from)) (sym (take-append-drop n (drop p T)))
-        (sym (take-append-drop n (drop (to p) U)) ∙ ap (λ X. X ++ drop n (drop (to p) U)) same) so read (omega (arith, size, onward))
+        let inside : to p ≤ length U =
+        ⊎_elim (λ lt. omega (arith, limit_there (omega (arith, lt)), long_there))
+        (λ ge. omega (arith, far M p E.under ge, long_there, onward, high_x)) (cases_lt p M) in
+        same_bodies edition T U (drop n (drop p T)) (drop n (drop (to p) U)) o u ws x bodies L p (to p)
+        (omega (arith, long, high_x, onward)) inside (sym (off p from)) (sym (take-append-drop n (drop p T)))
+        (sym (take-append-drop n (drop (to p) U)) ∙ ap (λ X. X ++ drop n (drop (to p) U)) same) so read
+        (omega (arith, size, onward))
         ∙ ap (λ (m : ℕ). Ok (x.0, m)) (sym end)
 
     -- ---- a state, elsewhere
@@ -155,36 +177,50 @@ module _ {edition : Edition} {T U : List ℕ} {a M : ℕ} {to : ℕ → ℕ} {li
     abbrev behind_bodies : Row Span × ℕ → State
     behind_bodies x = record { at = x.1; waiting = []; bodies = x.0 }
 
-    read_there : (s t : State) → a ≤ s.at → t.at ≤ M + 1 → (s.at < t.at → slice_get T (t.at - 1) ≡ Some 10) → (x : Result (Row Span × ℕ) Fault) → bodies_from (given edition T o) s.waiting s.bodies s.at ≡ x → state_by x ≡ Ok t
+    read_there : (s t : State) → a ≤ s.at → t.at ≤ M + 1 → (s.at < t.at → slice_get T (t.at - 1) ≡ Some 10) →
+        (x : Result (Row Span × ℕ) Fault) → bodies_from (given edition T o) s.waiting s.bodies s.at ≡ x →
+        state_by x ≡ Ok t
         → changed bodies_here (given edition U u) (over s) ≡ Ok (over t)
     read_there s t from high_t newline (Ok x) read is =
         let same : behind_bodies x ≡ t = cc in
         let at : x.1 ≡ t.at = ap (λ (v : State). v.at) same in
-        let so = closed_raw T s.at x.1 (bodies_low (given edition T o) s.waiting s.bodies s.at x read) (λ lt. ap (λ n. slice_get T (n - 1)) at ∙ newline (omega (arith, at, lt))) in
-        ap state_by (bodies_there s.waiting s.bodies s.at x from read (omega (arith, at, high_t)) so) ∙ ap (λ v. Ok (over v)) same
+        let so = closed_raw T s.at x.1 (bodies_low (given edition T o) s.waiting s.bodies s.at x read)
+        (λ lt. ap (λ n. slice_get T (n - 1)) at ∙ newline (omega (arith, at, lt))) in
+        ap state_by (bodies_there s.waiting s.bodies s.at x from read (omega (arith, at, high_t)) so)
+        ∙ ap (λ v. Ok (over v)) same
     read_there s t from high_t newline (Err f) read is = absurd cc
 
     -- the bodies that end behind the limit, where that is a newline
-    pub read_to_limit : (s t : State) → a ≤ s.at → t.at ≡ M + 1 → limit ≡ 10 → changed bodies_here (given edition T o) s ≡ Ok t → changed bodies_here (given edition U u) (over s) ≡ Ok (over t)
+    pub read_to_limit : (s t : State) → a ≤ s.at → t.at ≡ M + 1 → limit ≡ 10 →
+        changed bodies_here (given edition T o) s ≡ Ok t →
+        changed bodies_here (given edition U u) (over s) ≡ Ok (over t)
     read_to_limit s t from at ten is =
         let last : t.at - 1 ≡ M = omega (arith, at) in
-        read_there s t from (omega (arith, at)) (λ lt. ap (slice_get T) last ∙ E.byte ∙ ap (λ (b : ℕ). Some b) ten) (bodies_from (given edition T o) s.waiting s.bodies s.at) refl is
+        read_there s t from (omega (arith, at)) (λ lt. ap (slice_get T) last ∙ E.byte ∙ ap (λ (b : ℕ). Some b) ten)
+        (bodies_from (given edition T o) s.waiting s.bodies s.at) refl is
 
-    good_by : (s t : State) → a ≤ s.at → Good T a M t.at → (x : Result (Row Span × ℕ) Fault) → bodies_from (given edition T o) s.waiting s.bodies s.at ≡ x → state_by x ≡ Ok t
+    good_by : (s t : State) → a ≤ s.at → Good T a M t.at → (x : Result (Row Span × ℕ) Fault) →
+        bodies_from (given edition T o) s.waiting s.bodies s.at ≡ x → state_by x ≡ Ok t
         → Good T a M s.at × (changed bodies_here (given edition U u) (over s) ≡ Ok (over t))
     good_by s t from good (Ok x) read is =
         let same : behind_bodies x ≡ t = cc in
         let at : x.1 ≡ t.at = ap (λ (v : State). v.at) same in
-        let newline : s.at < t.at → slice_get T (t.at - 1) ≡ Some 10 = λ lt. ap (λ n. slice_get T (n - 1)) (sym at) ∙ newline_before (given edition T o) s.waiting s.bodies s.at x read (omega (arith, at, high E good, long)) (omega (arith, at, lt)) in
-        (good_before o s.waiting s.bodies s.at x from read (subst (Good T a M) (sym at) good), read_there s t from (omega (arith, high E good)) newline (Ok x) read is)
+        let newline : s.at < t.at → slice_get T (t.at - 1) ≡ Some 10 = λ lt. ap (λ n. slice_get T (n - 1)) (sym at)
+        ∙ newline_before (given edition T o) s.waiting s.bodies s.at x read (omega (arith, at, high E good, long))
+        (omega (arith, at, lt)) in (
+          good_before o s.waiting s.bodies s.at x from read (subst (Good T a M) (sym at) good),
+          read_there s t from (omega (arith, high E good)) newline (Ok x) read is,
+        )
     good_by s t from good (Err f) read is = absurd cc
 
     -- what changes up to a good place changes so there, from a good place on
-    pub change_there : (c : Change) (s t : State) → a ≤ s.at → Good T a M t.at → changed c (given edition T o) s ≡ Ok t → Good T a M s.at × (changed c (given edition U u) (over s) ≡ Ok (over t))
+    pub change_there : (c : Change) (s t : State) → a ≤ s.at → Good T a M t.at → changed c (given edition T o) s ≡ Ok t
+        → Good T a M s.at × (changed c (given edition U u) (over s) ≡ Ok (over t))
     change_there (waits w) s t from good is =
         let same : with_waiting w s ≡ t = cc in
         (subst (λ (v : State). Good T a M v.at) (sym same) good, ap (λ v. Ok (over v)) same)
-    change_there bodies_here s t from good is = good_by s t from good (bodies_from (given edition T o) s.waiting s.bodies s.at) refl is
+    change_there bodies_here s t from good is =
+        good_by s t from good (bodies_from (given edition T o) s.waiting s.bodies s.at) refl is
 
   -- ---- at other offsets
 
@@ -204,41 +240,63 @@ module _ {edition : Edition} {T U : List ℕ} {a M : ℕ} {to : ℕ → ℕ} {li
     first_shift x = omega arith
 
     -- through a text whose offsets are those of the other
-    pub bodies_moved : (ws : Row Waiting) (bodies : Row Span) (p : ℕ) (x : Row Span × ℕ) → a ≤ p → bodies_from (given edition T o) ws bodies p ≡ Ok x → x.1 ≤ M + 1 → closed (raw T p x.1) ≡ true
-        → bodies_from (given edition U u) (map move_waiting ws) (map move_span bodies) (to p) ≡ Ok (map move_span x.0, to x.1)
+    pub bodies_moved : (ws : Row Waiting) (bodies : Row Span) (p : ℕ) (x : Row Span × ℕ) → a ≤ p →
+        bodies_from (given edition T o) ws bodies p ≡ Ok x → x.1 ≤ M + 1 → closed (raw T p x.1) ≡ true
+        → bodies_from (given edition U u) (map move_waiting ws) (map move_span bodies) (to p)
+        ≡ Ok (map move_span x.0, to x.1)
     bodies_moved ws bodies p x from read high_x so =
-        let one = moved edition T o (to a) (o + a) (to a + a) a (omega arith) (λ q low. omega (arith, low)) ws bodies p x from read in
-        let two = bodies_there (to a) a (λ q low. omega (arith, far a q (omega arith) low)) (map (waiting_from (o + a) (to a + a)) ws) (map (span_from (o + a) (to a + a)) bodies) p (map (span_from (o + a) (to a + a)) x.0, x.1) from one high_x so in
+        let one = moved edition T o (to a) (o + a) (to a + a) a (omega arith)
+        (λ q low. omega (arith, low)) ws bodies p x from read in
+        let two = bodies_there (to a) a (λ q low. omega (arith, far a q (omega arith) low))
+        (map (waiting_from (o + a) (to a + a)) ws) (map (span_from (o + a) (to a + a)) bodies) p
+        (map (span_from (o + a) (to a + a)) x.0, x.1) from one high_x so in
         let low_to : to a ≤ to p = omega (arith, far a p (omega arith) from) in
-        let three = moved edition U a u (a + to a) (u + to a) (to a) (omega arith) (λ q low. omega (arith, low)) (map (waiting_from (o + a) (to a + a)) ws) (map (span_from (o + a) (to a + a)) bodies) (to p) (map (span_from (o + a) (to a + a)) x.0, to x.1) low_to two in
+        let three = moved edition U a u (a + to a) (u + to a) (to a) (omega arith) (λ q low. omega (arith, low))
+        (map (waiting_from (o + a) (to a + a)) ws) (map (span_from (o + a) (to a + a)) bodies) (to p)
+        (map (span_from (o + a) (to a + a)) x.0, to x.1) low_to two in
         let f : ℕ → ℕ = λ (n : ℕ). shifted (o + a) (u + to a) n in
-        ap (λ vs. bodies_from (given edition U u) vs (map move_span bodies) (to p)) (sym (twice_waits (o + a) (to a + a) (a + to a) (u + to a) f first_shift ws))
-        ∙ ap (λ bs. bodies_from (given edition U u) (map (waiting_from (a + to a) (u + to a)) (map (waiting_from (o + a) (to a + a)) ws)) bs (to p)) (sym (twice_spans (o + a) (to a + a) (a + to a) (u + to a) f first_shift bodies))
-        ∙ three ∙ ap (λ (bs : Row Span). Ok (bs, to x.1)) (twice_spans (o + a) (to a + a) (a + to a) (u + to a) f first_shift x.0)
+        ap (λ vs. bodies_from (given edition U u) vs (map move_span bodies) (to p))
+        (sym (twice_waits (o + a) (to a + a) (a + to a) (u + to a) f first_shift ws))
+        ∙ ap (λ bs. bodies_from (given edition U u)
+        (map (waiting_from (a + to a) (u + to a)) (map (waiting_from (o + a) (to a + a)) ws)) bs (to p))
+        (sym (twice_spans (o + a) (to a + a) (a + to a) (u + to a) f first_shift bodies))
+        ∙ three ∙ ap (λ (bs : Row Span). Ok (bs, to x.1))
+        (twice_spans (o + a) (to a + a) (a + to a) (u + to a) f first_shift x.0)
 
-    moved_by : (s t : State) → a ≤ s.at → Good T a M t.at → (x : Result (Row Span × ℕ) Fault) → bodies_from (given edition T o) s.waiting s.bodies s.at ≡ x → state_by x ≡ Ok t
+    moved_by : (s t : State) → a ≤ s.at → Good T a M t.at → (x : Result (Row Span × ℕ) Fault) →
+        bodies_from (given edition T o) s.waiting s.bodies s.at ≡ x → state_by x ≡ Ok t
         → changed bodies_here (given edition U u) (moved_to s) ≡ Ok (moved_to t)
     moved_by s t from good (Ok x) read is =
         let same : record { at = x.1; waiting = []; bodies = x.0 } ≡ t = cc in
         let at : x.1 ≡ t.at = ap (λ (v : State). v.at) same in
         let le = high E good in
-        let so = closed_raw T s.at x.1 (bodies_low (given edition T o) s.waiting s.bodies s.at x read) (λ lt. newline_before (given edition T o) s.waiting s.bodies s.at x read (omega (arith, at, le, long)) lt) in
-        ap state_by (bodies_moved s.waiting s.bodies s.at x from read (omega (arith, at, le)) so) ∙ ap (λ v. Ok (moved_to v)) same
+        let so = closed_raw T s.at x.1 (bodies_low (given edition T o) s.waiting s.bodies s.at x read)
+        (λ lt. newline_before (given edition T o) s.waiting s.bodies s.at x read
+        (omega (arith, at, le, long)) lt) in
+        ap state_by (bodies_moved s.waiting s.bodies s.at x from read (omega (arith, at, le)) so)
+        ∙ ap (λ v. Ok (moved_to v)) same
     moved_by s t from good (Err f) read is = absurd cc
 
-    pub bodies_over : (s t : State) → a ≤ s.at → Good T a M t.at → changed bodies_here (given edition T o) s ≡ Ok t → changed bodies_here (given edition U u) (moved_to s) ≡ Ok (moved_to t)
-    bodies_over s t from good is = moved_by s t from good (bodies_from (given edition T o) s.waiting s.bodies s.at) refl is
+    pub bodies_over : (s t : State) → a ≤ s.at → Good T a M t.at → changed bodies_here (given edition T o) s ≡ Ok t →
+        changed bodies_here (given edition U u) (moved_to s) ≡ Ok (moved_to t)
+    bodies_over s t from good is =
+        moved_by s t from good (bodies_from (given edition T o) s.waiting s.bodies s.at) refl is
 
     -- one more waits
-    pub waits_over : (w : Waiting) (s t : State) → changed (waits w) (given edition T o) s ≡ Ok t → changed (waits (move_waiting w)) (given edition U u) (moved_to s) ≡ Ok (moved_to t)
+    pub waits_over : (w : Waiting) (s t : State) → changed (waits w) (given edition T o) s ≡ Ok t →
+        changed (waits (move_waiting w)) (given edition U u) (moved_to s) ≡ Ok (moved_to t)
     waits_over w s t is =
         let same : with_waiting w s ≡ t = cc in
-        ap (λ vs. Ok (record { at = to s.at; waiting = vs; bodies = map move_span s.bodies })) (sym (map-append move_waiting s.waiting (w ∷ []))) ∙ ap (λ v. Ok (moved_to v)) same
+        ap (λ vs. Ok (record { at = to s.at; waiting = vs; bodies = map move_span s.bodies }))
+        (sym (map-append move_waiting s.waiting (w ∷ []))) ∙ ap (λ v. Ok (moved_to v)) same
 
     -- the first that waits
-    pub first_over : (s : State) → first_waiting (moved_to s) ≡ option_map (λ (n : ℕ). shifted (o + a) (u + to a) n) (first_waiting s)
+    pub first_over : (s : State) →
+        first_waiting (moved_to s) ≡ option_map (λ (n : ℕ). shifted (o + a) (u + to a) n) (first_waiting s)
     first_over s = by s.waiting
       where
-        by : (ws : Row Waiting) → first_waiting (record { at = to s.at; waiting = map move_waiting ws; bodies = map move_span s.bodies }) ≡ option_map (λ (n : ℕ). shifted (o + a) (u + to a) n) (first_waiting (record s { waiting = ws }))
+        by : (ws : Row Waiting) → first_waiting
+            (record { at = to s.at; waiting = map move_waiting ws; bodies = map move_span s.bodies })
+            ≡ option_map (λ (n : ℕ). shifted (o + a) (u + to a) n) (first_waiting (record s { waiting = ws }))
         by [] = refl
         by (w ∷ ws) = refl

@@ -48,23 +48,29 @@ comment_by true z c is = let e : z ≡ c = cc in (refl, sym e)
 comment_by false z c is = absurd cc
 
 -- where a comment begins, and which span it has
-pub comment_is : (T : List ℕ) (o p : ℕ) (c : Span) → comment_at T o p ≡ Some c → (raw_stands T p 35 ≡ true) × (c ≡ span o p (before_blanks T (next_newline T p)))
+pub comment_is : (T : List ℕ) (o p : ℕ) (c : Span) → comment_at T o p ≡ Some c → (raw_stands T p 35 ≡ true)
+    × (c ≡ span o p (before_blanks T (next_newline T p)))
 unfolding comment_at
 comment_is T o p c is = comment_by (raw_stands T p 35) _ c is
 
 -- behind a byte that is no blank no more than blanks are taken away
-before_is : (T : List ℕ) (p q : ℕ) → p < q → raw_in is_blank T p ≡ false → (p < before_blanks T q) × ((before_blanks T q ≤ q) × (raw_in is_blank T (before_blanks T q - 1) ≡ false))
+before_is : (T : List ℕ) (p q : ℕ) → p < q → raw_in is_blank T p ≡ false → (p < before_blanks T q)
+    × ((before_blanks T q ≤ q) × (raw_in is_blank T (before_blanks T q - 1) ≡ false))
 unfolding before_blanks
 before_is T p zero lt clear = absurd (omega arith)
 before_is T p (suc q) lt clear =
     ⊎_elim
-    (λ (e : raw_in is_blank T q ≡ true). let less : p < q = ⊎_elim (λ l. l) (λ ge. let same : p ≡ q = omega (arith, lt, ge) in absurd (both_ways (raw_in is_blank T q) (subst (λ r. raw_in is_blank T r ≡ false) same clear) e)) (cases_lt p q) in
+    (λ (e : raw_in is_blank T q ≡ true). let less : p < q =
+    ⊎_elim (λ l. l) (λ ge. let same : p ≡ q = omega (arith, lt, ge) in
+    absurd (both_ways (raw_in is_blank T q) (subst (λ r. raw_in is_blank T r ≡ false) same clear) e))
+    (cases_lt p q) in
     let rest = before_is T p q less clear in
     rw e (rest.0, (omega (arith, rest.1.0), rest.1.1)))
     (λ (e : raw_in is_blank T q ≡ false). let back : suc q - 1 ≡ q = omega arith in rw e (lt, (omega arith, rw back e)))
     (cases_Bool (raw_in is_blank T q))
 
-sharp_in : (x : Option ℕ) → is_byte x 35 ≡ true → (passes is_blank x ≡ false) × ((passes (λ b. not (b == 10)) x ≡ true) × (x ≡ Some 35))
+sharp_in : (x : Option ℕ) → is_byte x 35 ≡ true → (passes is_blank x ≡ false)
+    × ((passes (λ b. not (b == 10)) x ≡ true) × (x ≡ Some 35))
 sharp_in None e = absurd cc
 sharp_in (Some b) e = let is : b ≡ 35 = grind (arith, nat_tests) in rw is (refl, (refl, refl))
 
@@ -72,7 +78,8 @@ sharp_in (Some b) e = let is : b ≡ 35 = grind (arith, nat_tests) in rw is (ref
 pub record CommentAnywhere (c : List ℕ) : Type 0 where
   pub some : 0 < length c
   pub there : (T : List ℕ) (o q : ℕ) (zs : List ℕ) → drop q T ≡ c ++ 10 ∷ zs
-      → (comment_at T o q ≡ Some (span o q (q + length c))) × (past_comment T q ≡ q + length c) × (past_continuations T q ≡ q) × (stands_in is_blank T q ≡ false) × (byte_at T q ≡ Some 35)
+      → (comment_at T o q ≡ Some (span o q (q + length c))) × (past_comment T q ≡ q + length c)
+      × (past_continuations T q ≡ q) × (stands_in is_blank T q ≡ false) × (byte_at T q ≡ Some 35)
 
 -- a comment that stands at p, up to e, and before a newline at q in another text
 module _ (T : List ℕ) (p : ℕ) (sharp : raw_stands T p 35 ≡ true) where
@@ -82,7 +89,8 @@ module _ (T : List ℕ) (p : ℕ) (sharp : raw_stands T p 35 ≡ true) where
   abbrev last : ℕ
   last = before_blanks T newline
 
-  first : (passes is_blank (slice_get T p) ≡ false) × ((passes (λ b. not (b == 10)) (slice_get T p) ≡ true) × (slice_get T p ≡ Some 35))
+  first : (passes is_blank (slice_get T p) ≡ false)
+      × ((passes (λ b. not (b == 10)) (slice_get T p) ≡ true) × (slice_get T p ≡ Some 35))
   unfolding raw_stands
   first = sharp_in (slice_get T p) sharp
 
@@ -101,7 +109,8 @@ module _ (T : List ℕ) (p : ℕ) (sharp : raw_stands T p 35 ≡ true) where
   text = take (last - p) (drop p T)
 
   text_length : length text ≡ last - p
-  text_length = let e = ended in stretch_length T p (last - p) (omega (arith, e.0, e.1.0, next_newline_high T p (omega (arith, within))))
+  text_length = let e = ended in
+      stretch_length T p (last - p) (omega (arith, e.0, e.1.0, next_newline_high T p (omega (arith, within))))
 
   module _ (U : List ℕ) (o q : ℕ) (zs : List ℕ) (is : drop q U ≡ text ++ 10 ∷ zs) where
     same_byte : (i : ℕ) → i < last - p → slice_get U (q + i) ≡ slice_get T (p + i)
@@ -130,7 +139,8 @@ module _ (T : List ℕ) (p : ℕ) (sharp : raw_stands T p 35 ≡ true) where
         (λ k low lt. let i = k - q in
         let is_k : q + i ≡ k = omega (arith, low) in
         subst (λ r. raw_in (λ b. not (b == 10)) U r ≡ true) is_k
-        (same_in (λ b. not (b == 10)) i (omega (arith, low, lt)) ∙ raw_past_all (λ b. not (b == 10)) T p (p + i) (omega arith) (omega (arith, low, lt, ended.1.0))))
+        (same_in (λ b. not (b == 10)) i (omega (arith, low, lt))
+        ∙ raw_past_all (λ b. not (b == 10)) T p (p + i) (omega arith) (omega (arith, low, lt, ended.1.0))))
         at_behind
 
     no_blank_last : raw_in is_blank U (q + (last - p) - 1) ≡ false
@@ -139,7 +149,8 @@ module _ (T : List ℕ) (p : ℕ) (sharp : raw_stands T p 35 ≡ true) where
         let i = last - p - 1 in
         let there : q + i ≡ q + (last - p) - 1 = omega (arith, e.0) in
         let here : p + i ≡ last - 1 = omega (arith, e.0) in
-        ap (raw_in is_blank U) (sym there) ∙ same_in is_blank i (omega (arith, e.0)) ∙ ap (raw_in is_blank T) here ∙ e.1.1
+        ap (raw_in is_blank U) (sym there) ∙ same_in is_blank i (omega (arith, e.0)) ∙ ap (raw_in is_blank T) here
+        ∙ e.1.1
 
     is_sharp : raw_stands U q 35 ≡ true
     unfolding raw_stands
@@ -162,7 +173,9 @@ module _ (T : List ℕ) (p : ℕ) (sharp : raw_stands T p 35 ≡ true) where
     comment_there : comment_at U o q ≡ Some (span o q (q + length text))
     unfolding comment_at
     comment_there =
-        rw is_sharp (ap (λ r. Some (span o q r)) (ap (before_blanks U) line_end ∙ no_blanks_before U (q + (last - p)) (omega (arith, ended.0)) no_blank_last ∙ end_is))
+        rw is_sharp (ap (λ r. Some (span o q r))
+        (ap (before_blanks U) line_end ∙ no_blanks_before U (q + (last - p)) (omega (arith, ended.0)) no_blank_last
+        ∙ end_is))
 
     past_there : past_comment U q ≡ q + length text
     unfolding past_comment
@@ -171,12 +184,21 @@ module _ (T : List ℕ) (p : ℕ) (sharp : raw_stands T p 35 ≡ true) where
   anywhere : CommentAnywhere text
   anywhere = record {
     some = omega (arith, text_length, ended.0);
-    there = λ U o q zs is. (comment_there U o q zs is, past_there U o q zs is, stays U o q zs is, no_blank U o q zs is, byte_is U o q zs is);
+    there = λ U o q zs is. (
+      comment_there U o q zs is,
+      past_there U o q zs is,
+      stays U o q zs is,
+      no_blank U o q zs is,
+      byte_is U o q zs is,
+    );
   }
 
 -- what is a comment where it stands is one anywhere
-pub comment_anywhere : (T : List ℕ) (o p : ℕ) (c : Span) → comment_at T o p ≡ Some c → CommentAnywhere (take (c.«end» - c.start) (drop p T))
+pub comment_anywhere : (T : List ℕ) (o p : ℕ) (c : Span) → comment_at T o p ≡ Some c →
+    CommentAnywhere (take (c.«end» - c.start) (drop p T))
 comment_anywhere T o p c is =
     let e = comment_is T o p c is in
-    let size : c.«end» - c.start ≡ before_blanks T (next_newline T p) - p = (let apart : o + before_blanks T (next_newline T p) - (o + p) ≡ before_blanks T (next_newline T p) - p = omega arith in ap (λ (s : Span). s.«end» - s.start) e.1 ∙ apart) in
+    let size : c.«end» - c.start ≡ before_blanks T (next_newline T p) - p =
+    (let apart : o + before_blanks T (next_newline T p) - (o + p) ≡ before_blanks T (next_newline T p) - p =
+    omega arith in ap (λ (s : Span). s.«end» - s.start) e.1 ∙ apart) in
     subst (λ n. CommentAnywhere (take n (drop p T))) (sym size) (anywhere T p e.0)

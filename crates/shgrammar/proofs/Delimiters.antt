@@ -27,13 +27,16 @@ module _ (T : List ℕ) where
     ends_here taken p = not taken && is_delimiter w (rest_of_line T p)
 
     -- which is looked for in no more lines than there are bytes
-    enough : (n m : ℕ) (taken : Bool) (p : ℕ) → length T - p < n → length T - p < m → delimiter_below n T w taken p ≡ delimiter_below m T w taken p
+    enough : (n m : ℕ) (taken : Bool) (p : ℕ) → length T - p < n → length T - p < m →
+        delimiter_below n T w taken p ≡ delimiter_below m T w taken p
     unfolding delimiter_below
     enough zero m taken p few less = absurd (omega arith)
     enough (suc n) zero taken p few less = absurd (omega arith)
     enough (suc n) (suc m) taken p few less =
         same_else (at_end T p) None _ _ (λ some. same_else (ends_here taken p) (Some p) _ _ (λ other.
-        enough n m (takes_newline w (rest_of_line T p)) (past_line T p) (omega (arith, few, past_line_low p some, not_end_low T p some)) (omega (arith, less, past_line_low p some, not_end_low T p some))))
+        enough n m (takes_newline w (rest_of_line T p)) (past_line T p)
+        (omega (arith, few, past_line_low p some, not_end_low T p some))
+        (omega (arith, less, past_line_low p some, not_end_low T p some))))
 
     -- ---- a line of the body, as a loop goes on
 
@@ -41,7 +44,8 @@ module _ (T : List ℕ) where
     unfolding delimiter_on delimiter_below
     none_at_end taken p end = rw end refl
 
-    pub found_here : (taken : Bool) (p : ℕ) → at_end T p ≡ false → ends_here taken p ≡ true → delimiter_on T w taken p ≡ Some p
+    pub found_here : (taken : Bool) (p : ℕ) → at_end T p ≡ false → ends_here taken p ≡ true →
+        delimiter_on T w taken p ≡ Some p
     unfolding delimiter_on delimiter_below
     found_here taken p some ends = rw (some, ends) refl
 
@@ -49,14 +53,16 @@ module _ (T : List ℕ) where
         → delimiter_on T w taken p ≡ delimiter_on T w (takes_newline w (rest_of_line T p)) (past_line T p)
     unfolding delimiter_on delimiter_below
     on_to_next taken p some other =
-        rw (some, other) (enough (length T - p) (suc (length T - past_line T p)) (takes_newline w (rest_of_line T p)) (past_line T p) (omega (arith, past_line_low p some, not_end_low T p some)) (omega arith))
+        rw (some, other) (enough (length T - p) (suc (length T - past_line T p)) (takes_newline w (rest_of_line T p))
+        (past_line T p) (omega (arith, past_line_low p some, not_end_low T p some)) (omega arith))
 
     -- ---- where the delimiter's line begins
 
     abbrev Between : ℕ → ℕ → Type 0
     Between p q = (p ≤ q) × (q < length T)
 
-    between_step : (p q : ℕ) (rest : Option ℕ) → (at_end T p ≡ false → rest ≡ Some q → Between p q) → (b : Bool) → at_end T p ≡ b → (c : Bool)
+    between_step : (p q : ℕ) (rest : Option ℕ) → (at_end T p ≡ false → rest ≡ Some q → Between p q) → (b : Bool) →
+        at_end T p ≡ b → (c : Bool)
         → cond b None (cond c (Some p) rest) ≡ Some q → Between p q
     between_step p q rest more true end c found = absurd cc
     between_step p q rest more false some true found =
@@ -69,7 +75,8 @@ module _ (T : List ℕ) where
     between_below zero taken p q found = absurd cc
     between_below (suc n) taken p q found =
         between_step p q (delimiter_below n T w (takes_newline w (rest_of_line T p)) (past_line T p))
-        (λ some rest. let r = between_below n (takes_newline w (rest_of_line T p)) (past_line T p) q rest in (omega (arith, r.0, past_line_low p some), r.1))
+        (λ some rest. let r = between_below n (takes_newline w (rest_of_line T p)) (past_line T p) q rest in
+        (omega (arith, r.0, past_line_low p some), r.1))
         (at_end T p) refl (ends_here taken p) found
 
     -- not before the body, and in the text
@@ -86,15 +93,20 @@ module _ (g : Given) where
 
   bodies_step : (w : Waiting) (ws : Row Waiting) (bodies : Row Span) (p : ℕ) (x : Row Span × ℕ)
       → ((bs : Row Span) (q : ℕ) → bodies_from g ws bs q ≡ Ok x → q ≤ length g.text → Go ws bs q x)
-      → (o : Option ℕ) → delimiter_from g.text w p ≡ o → body_by (bodies_from g ws) g w bodies p o ≡ Ok x → Go (w ∷ ws) bodies p x
+      → (o : Option ℕ) → delimiter_from g.text w p ≡ o → body_by (bodies_from g ws) g w bodies p o ≡ Ok x →
+      Go (w ∷ ws) bodies p x
   bodies_step w ws bodies p x more None none read = absurd cc
   bodies_step w ws bodies p x more (Some q) found read =
       let one = between g.text w false p q found in
-      let r = more (bodies ++ span g.offset p q ∷ []) (past_line g.text q) read (past_line_high g.text q) in
-      (omega (arith, one.0, one.1, r.0, next_newline_low g.text q), r.1, omega (arith, r.2, length-append bodies (span g.offset p q ∷ [])))
+      let r = more (bodies ++ span g.offset p q ∷ []) (past_line g.text q) read (past_line_high g.text q) in (
+        omega (arith, one.0, one.1, r.0, next_newline_low g.text q),
+        r.1,
+        omega (arith, r.2, length-append bodies (span g.offset p q ∷ [])),
+      )
 
   -- not back, wherever they begin
-  low_step : (w : Waiting) (ws : Row Waiting) (bodies : Row Span) (p : ℕ) (x : Row Span × ℕ) → ((bs : Row Span) (q : ℕ) → bodies_from g ws bs q ≡ Ok x → q ≤ x.1)
+  low_step : (w : Waiting) (ws : Row Waiting) (bodies : Row Span) (p : ℕ) (x : Row Span × ℕ) →
+      ((bs : Row Span) (q : ℕ) → bodies_from g ws bs q ≡ Ok x → q ≤ x.1)
       → (o : Option ℕ) → delimiter_from g.text w p ≡ o → body_by (bodies_from g ws) g w bodies p o ≡ Ok x → p ≤ x.1
   low_step w ws bodies p x more None none read = absurd cc
   low_step w ws bodies p x more (Some q) found read =
@@ -102,12 +114,16 @@ module _ (g : Given) where
       let r = more (bodies ++ span g.offset p q ∷ []) (past_line g.text q) read in
       omega (arith, one.0, one.1, r, next_newline_low g.text q)
 
-  pub bodies_low : (ws : Row Waiting) (bodies : Row Span) (p : ℕ) (x : Row Span × ℕ) → bodies_from g ws bodies p ≡ Ok x → p ≤ x.1
+  pub bodies_low : (ws : Row Waiting) (bodies : Row Span) (p : ℕ) (x : Row Span × ℕ) → bodies_from g ws bodies p ≡ Ok x
+      → p ≤ x.1
   unfolding bodies_from
-  bodies_low [] bodies p x read = let is : (bodies, p) ≡ x = cc in subst (λ (y : Row Span × ℕ). p ≤ y.1) is (omega arith)
-  bodies_low (w ∷ ws) bodies p x read = low_step w ws bodies p x (λ bs q. bodies_low ws bs q x) (delimiter_from g.text w p) refl read
+  bodies_low [] bodies p x read = let is : (bodies, p) ≡ x = cc in
+      subst (λ (y : Row Span × ℕ). p ≤ y.1) is (omega arith)
+  bodies_low (w ∷ ws) bodies p x read =
+      low_step w ws bodies p x (λ bs q. bodies_low ws bs q x) (delimiter_from g.text w p) refl read
 
-  pub bodies_go : (ws : Row Waiting) (bodies : Row Span) (p : ℕ) (x : Row Span × ℕ) → bodies_from g ws bodies p ≡ Ok x → p ≤ length g.text → Go ws bodies p x
+  pub bodies_go : (ws : Row Waiting) (bodies : Row Span) (p : ℕ) (x : Row Span × ℕ) → bodies_from g ws bodies p ≡ Ok x →
+      p ≤ length g.text → Go ws bodies p x
   unfolding bodies_from
   bodies_go [] bodies p x read within =
       let is : (bodies, p) ≡ x = cc in

@@ -11,10 +11,12 @@ use Rattle.shgrammar.proofs.Unquoted.{rest_stands}
 abbrev turn : Quoting → Bool → ℕ → List ℕ → List ℕ → Bool
 turn q second b rest behind = cond (is_live q 92 b) (has_dollar_single q second behind)
     (cond (is_quote q b) (has_dollar_single (behind_quote q b) false rest)
-    (cond (is_live q 36 b) ((not second && is_quote q 39 && stands rest 0 39) || has_dollar_single q (not second && stands rest 0 36) rest)
+    (cond (is_live q 36 b) ((not second && is_quote q 39 && stands rest 0 39)
+    || has_dollar_single q (not second && stands rest 0 36) rest)
     (has_dollar_single q second rest)))
 
-turns : (q : Quoting) (second : Bool) (b c : ℕ) (bs : List ℕ) → has_dollar_single q second (b ∷ c ∷ bs) ≡ turn q second b (c ∷ bs) bs
+turns : (q : Quoting) (second : Bool) (b c : ℕ) (bs : List ℕ) →
+    has_dollar_single q second (b ∷ c ∷ bs) ≡ turn q second b (c ∷ bs) bs
 unfolding has_dollar_single
 turns q second b c bs = refl
 
@@ -22,30 +24,40 @@ module _ (q : Quoting) (second : Bool) (word : List ℕ) (at : ℕ) (lt : at + 1
   next : at + 1 + 1 ≡ at + 2
   next = omega arith
 
-  here : has_dollar_single q second (drop at word) ≡ turn q second (get_or word at 0) (drop (at + 1) word) (drop (at + 2) word)
+  here : has_dollar_single q second (drop at word)
+      ≡ turn q second (get_or word at 0) (drop (at + 1) word) (drop (at + 2) word)
   here =
-      ap (has_dollar_single q second) (drop_more word at 0 (omega (arith, lt)) ∙ ap (λ l. get_or word at 0 ∷ l) (drop_more word (at + 1) 0 lt))
+      ap (has_dollar_single q second)
+      (drop_more word at 0 (omega (arith, lt)) ∙ ap (λ l. get_or word at 0 ∷ l) (drop_more word (at + 1) 0 lt))
       ∙ turns q second (get_or word at 0) (get_or word (at + 1) 0) (drop (at + 1 + 1) word)
       ∙ ap (λ l. turn q second (get_or word at 0) l (drop (at + 1 + 1) word)) (sym (drop_more word (at + 1) 0 lt))
       ∙ ap (λ n. turn q second (get_or word at 0) (drop (at + 1) word) (drop n word)) next
 
-  pub has_escape : is_live q 92 (get_or word at 0) ≡ true → has_dollar_single q second (drop at word) ≡ has_dollar_single q second (drop (at + 2) word)
+  pub has_escape : is_live q 92 (get_or word at 0) ≡ true →
+      has_dollar_single q second (drop at word) ≡ has_dollar_single q second (drop (at + 2) word)
   has_escape is = here ∙ rw is refl
 
   pub has_quote : is_live q 92 (get_or word at 0) ≡ false → is_quote q (get_or word at 0) ≡ true
-      → has_dollar_single q second (drop at word) ≡ has_dollar_single (behind_quote q (get_or word at 0)) false (drop (at + 1) word)
+      → has_dollar_single q second (drop at word)
+      ≡ has_dollar_single (behind_quote q (get_or word at 0)) false (drop (at + 1) word)
   has_quote none is = here ∙ rw (none, is) refl
 
-  pub has_here : is_live q 92 (get_or word at 0) ≡ false → is_quote q (get_or word at 0) ≡ false → is_live q 36 (get_or word at 0) ≡ true
-      → (not second && is_quote q 39 && is_byte (byte_at word (at + 1)) 39) ≡ true → has_dollar_single q second (drop at word) ≡ true
+  pub has_here : is_live q 92 (get_or word at 0) ≡ false → is_quote q (get_or word at 0) ≡ false →
+      is_live q 36 (get_or word at 0) ≡ true
+      → (not second && is_quote q 39 && is_byte (byte_at word (at + 1)) 39) ≡ true →
+      has_dollar_single q second (drop at word) ≡ true
   has_here none other is found = here ∙ rw (none, other, is, rest_stands word (at + 1) 39, found) refl
 
-  pub has_dollar : is_live q 92 (get_or word at 0) ≡ false → is_quote q (get_or word at 0) ≡ false → is_live q 36 (get_or word at 0) ≡ true
+  pub has_dollar : is_live q 92 (get_or word at 0) ≡ false → is_quote q (get_or word at 0) ≡ false →
+      is_live q 36 (get_or word at 0) ≡ true
       → (not second && is_quote q 39 && is_byte (byte_at word (at + 1)) 39) ≡ false
-      → has_dollar_single q second (drop at word) ≡ has_dollar_single q (not second && is_byte (byte_at word (at + 1)) 36) (drop (at + 1) word)
-  has_dollar none other is lone = here ∙ rw (none, other, is, rest_stands word (at + 1) 39, lone, rest_stands word (at + 1) 36) refl
+      → has_dollar_single q second (drop at word)
+      ≡ has_dollar_single q (not second && is_byte (byte_at word (at + 1)) 36) (drop (at + 1) word)
+  has_dollar none other is lone = here
+      ∙ rw (none, other, is, rest_stands word (at + 1) 39, lone, rest_stands word (at + 1) 36) refl
 
-  pub has_other : is_live q 92 (get_or word at 0) ≡ false → is_quote q (get_or word at 0) ≡ false → is_live q 36 (get_or word at 0) ≡ false
+  pub has_other : is_live q 92 (get_or word at 0) ≡ false → is_quote q (get_or word at 0) ≡ false →
+      is_live q 36 (get_or word at 0) ≡ false
       → has_dollar_single q second (drop at word) ≡ has_dollar_single q second (drop (at + 1) word)
   has_other none other plain = here ∙ rw (none, other, plain) refl
 
@@ -56,5 +68,6 @@ few q second [] le = refl
 few q second (b ∷ []) le = refl
 few q second (b ∷ c ∷ bs) le = absurd (omega (arith, le))
 
-pub has_none : (q : Quoting) (second : Bool) (word : List ℕ) (at : ℕ) → length word ≤ at + 1 → has_dollar_single q second (drop at word) ≡ false
+pub has_none : (q : Quoting) (second : Bool) (word : List ℕ) (at : ℕ) → length word ≤ at + 1 →
+    has_dollar_single q second (drop at word) ≡ false
 has_none q second word at le = few q second (drop at word) (omega (arith, le, length-drop at word))

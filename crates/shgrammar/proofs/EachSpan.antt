@@ -115,7 +115,8 @@ some_pushed (h ∷ is) i = tt
 
 -- ---- what follows from it
 
-module _ (P R : Span → Type 0) (Q S : Items → Type 0) (p : (s : Span) → P s → R s) (q : (items : Items) → Q items → S items) where
+module _ (P R : Span → Type 0) (Q S : Items → Type 0) (p : (s : Span) → P s → R s)
+    (q : (items : Items) → Q items → S items) where
   some_so : (c : Option Span) → OfSome P c → OfSome R c
   some_so None so = tt
   some_so (Some s) so = p s so
@@ -145,7 +146,8 @@ module _ (P R : Span → Type 0) (Q S : Items → Type 0) (p : (s : Span) → P 
 
     and_or_parts_so : (ps : AndOrParts) → InAndOrParts P Q ps → InAndOrParts R S ps
     and_or_parts_so no_and_or so = tt
-    and_or_parts_so (more_and_or operator join one ps) so = (each_so join.comments so.0, pipeline_so one so.1, and_or_parts_so ps so.2)
+    and_or_parts_so (more_and_or operator join one ps) so =
+        (each_so join.comments so.0, pipeline_so one so.1, and_or_parts_so ps so.2)
 
     pipeline_so : (l : APipeline) → InPipeline P Q l → InPipeline R S l
     pipeline_so (pipeline bang first rest) so = (some_so bang so.0, command_so first so.1, pipes_so rest so.2)
@@ -191,7 +193,8 @@ module _ (P R : Span → Type 0) (Q S : Items → Type 0) (p : (s : Span) → P 
     cases_so (more_cases c cs) so = (case_so c so.0, cases_so cs so.1)
 
     case_so : (c : ACaseItem) → InCase P Q c → InCase R S c
-    case_so (case_item comments patterns body mark) so = (each_so comments so.0, patterns_so patterns so.1, throughout_so body so.2, p mark.mark so.3)
+    case_so (case_item comments patterns body mark) so =
+        (each_so comments so.0, patterns_so patterns so.1, throughout_so body so.2, p mark.mark so.3)
 
     patterns_so : (ws : Patterns) → InPatterns P Q ws → InPatterns R S ws
     patterns_so no_pattern so = tt
@@ -207,7 +210,8 @@ module _ (P R : Span → Type 0) (Q S : Items → Type 0) (p : (s : Span) → P 
     item_content_so : (c : AnItemContent) → InItemContent P Q c → InItemContent R S c
     item_content_so (assign w) so = word_so w so
     item_content_so (argument w) so = word_so w so
-    item_content_so (redirect number operator span w d) so = (some_so number so.0, p span so.1, word_so w so.2, here_so d so.3)
+    item_content_so (redirect number operator span w d) so =
+        (some_so number so.0, p span so.1, word_so w so.2, here_so d so.3)
 
     word_so : (w : AWord) → InWord P Q w → InWord R S w
     word_so (word span substs) so = (p span so.0, substs_so substs so.1)
@@ -222,11 +226,13 @@ module _ (P R : Span → Type 0) (Q S : Items → Type 0) (p : (s : Span) → P 
 -- what is within a limit is within each greater one
 pub all_within_more : (limit more : ℕ) (es : Entries) → limit ≤ more → AllWithin limit es → AllWithin more es
 all_within_more limit more es le so =
-    throughout_so (IsSpanWithin limit) (IsSpanWithin more) (λ items. Unit {0}) (λ items. Unit {0}) (span_fits_more limit more le) (λ items one. one) es so
+    throughout_so (IsSpanWithin limit) (IsSpanWithin more) (λ items. Unit {0}) (λ items. Unit {0})
+    (span_fits_more limit more le) (λ items one. one) es so
 
 -- ---- a tree with its bodies
 
-module _ (P : Span → Type 0) (Q : Items → Type 0) (keeps : (items : Items) (ts : Row Span) → Q items → Q (fill_items items ts).0) where
+module _ (P : Span → Type 0) (Q : Items → Type 0)
+    (keeps : (items : Items) (ts : Row Span) → Q items → Q (fill_items items ts).0) where
   -- of a part with its bodies, and of those that are left
   abbrev Kept : {X : Type 0} → (X → Type 0) → X × Row Span → Type 0
   Kept In x = In x.0 × All P x.1
@@ -244,7 +250,8 @@ module _ (P : Span → Type 0) (Q : Items → Type 0) (keeps : (items : Items) (
       let x = fills_here d ts so.3 all in
       ((so.0, so.1, so.2, x.0), x.1)
 
-  fills_items : (items : Items) (ts : Row Span) → InItems P Q items → All P ts → Kept (InItems P Q) (fill_items items ts)
+  fills_items : (items : Items) (ts : Row Span) → InItems P Q items → All P ts →
+      Kept (InItems P Q) (fill_items items ts)
   unfolding fill_items
   fills_items no_item ts so all = (tt, all)
   fills_items (more_items i is) ts so all =
@@ -253,7 +260,8 @@ module _ (P : Span → Type 0) (Q : Items → Type 0) (keeps : (items : Items) (
       ((x.0, y.0), y.1)
 
   mutual
-    unfolding fill_entries fill_entry fill_content fill_and_or fill_and_or_parts fill_pipeline fill_pipes fill_command fill_compound fill_form fill_branch fill_branches fill_else fill_cases fill_case
+    unfolding fill_entries fill_entry fill_content fill_and_or fill_and_or_parts fill_pipeline fill_pipes fill_command
+        fill_compound fill_form fill_branch fill_branches fill_else fill_cases fill_case
 
     fills : (es : Entries) (ts : Row Span) → Throughout P Q es → All P ts → Kept (Throughout P Q) (fill_entries es ts)
     fills no_entry ts so all = (tt, all)
@@ -267,7 +275,8 @@ module _ (P : Span → Type 0) (Q : Items → Type 0) (keeps : (items : Items) (
         let x = fills_content what ts so.0 all in
         ((x.0, so.1), x.1)
 
-    fills_content : (c : AContent) (ts : Row Span) → InContent P Q c → All P ts → Kept (InContent P Q) (fill_content c ts)
+    fills_content : (c : AContent) (ts : Row Span) → InContent P Q c → All P ts →
+        Kept (InContent P Q) (fill_content c ts)
     fills_content (command a) ts so all = fills_and_or a ts so all
     fills_content (remark c) ts so all = (so, all)
 
@@ -277,27 +286,31 @@ module _ (P : Span → Type 0) (Q : Items → Type 0) (keeps : (items : Items) (
         let y = fills_and_or_parts rest (fill_pipeline first ts).1 so.1 x.1 in
         ((x.0, y.0), y.1)
 
-    fills_and_or_parts : (ps : AndOrParts) (ts : Row Span) → InAndOrParts P Q ps → All P ts → Kept (InAndOrParts P Q) (fill_and_or_parts ps ts)
+    fills_and_or_parts : (ps : AndOrParts) (ts : Row Span) → InAndOrParts P Q ps → All P ts →
+        Kept (InAndOrParts P Q) (fill_and_or_parts ps ts)
     fills_and_or_parts no_and_or ts so all = (tt, all)
     fills_and_or_parts (more_and_or operator join p ps) ts so all =
         let x = fills_pipeline p ts so.1 all in
         let y = fills_and_or_parts ps (fill_pipeline p ts).1 so.2 x.1 in
         ((so.0, x.0, y.0), y.1)
 
-    fills_pipeline : (p : APipeline) (ts : Row Span) → InPipeline P Q p → All P ts → Kept (InPipeline P Q) (fill_pipeline p ts)
+    fills_pipeline : (p : APipeline) (ts : Row Span) → InPipeline P Q p → All P ts →
+        Kept (InPipeline P Q) (fill_pipeline p ts)
     fills_pipeline (pipeline bang first rest) ts so all =
         let x = fills_command first ts so.1 all in
         let y = fills_pipes rest (fill_command first ts).1 so.2 x.1 in
         ((so.0, x.0, y.0), y.1)
 
-    fills_pipes : (cs : PipelineParts) (ts : Row Span) → InPipes P Q cs → All P ts → Kept (InPipes P Q) (fill_pipes cs ts)
+    fills_pipes : (cs : PipelineParts) (ts : Row Span) → InPipes P Q cs → All P ts →
+        Kept (InPipes P Q) (fill_pipes cs ts)
     fills_pipes no_pipe ts so all = (tt, all)
     fills_pipes (more_pipes join c cs) ts so all =
         let x = fills_command c ts so.1 all in
         let y = fills_pipes cs (fill_command c ts).1 so.2 x.1 in
         ((so.0, x.0, y.0), y.1)
 
-    fills_command : (c : ACommand) (ts : Row Span) → InCommand P Q c → All P ts → Kept (InCommand P Q) (fill_command c ts)
+    fills_command : (c : ACommand) (ts : Row Span) → InCommand P Q c → All P ts →
+        Kept (InCommand P Q) (fill_command c ts)
     fills_command (simple items) ts so all =
         let x = fills_items items ts so.1 all in
         ((keeps items ts so.0, x.0), x.1)
@@ -306,7 +319,8 @@ module _ (P : Span → Type 0) (Q : Items → Type 0) (keeps : (items : Items) (
         let x = fills_compound body ts so.2 all in
         ((so.0, so.1, x.0), x.1)
 
-    fills_compound : (c : ACompound) (ts : Row Span) → InCompound P Q c → All P ts → Kept (InCompound P Q) (fill_compound c ts)
+    fills_compound : (c : ACompound) (ts : Row Span) → InCompound P Q c → All P ts →
+        Kept (InCompound P Q) (fill_compound c ts)
     fills_compound (formed form span redirects) ts so all =
         let x = fills_form form ts so.0 all in
         let y = fills_items redirects (fill_form form ts).1 so.2 x.1 in
@@ -335,7 +349,8 @@ module _ (P : Span → Type 0) (Q : Items → Type 0) (keeps : (items : Items) (
         let y = fills body (fill_entries condition ts).1 so.1 x.1 in
         ((x.0, y.0), y.1)
 
-    fills_branches : (bs : Branches) (ts : Row Span) → InBranches P Q bs → All P ts → Kept (InBranches P Q) (fill_branches bs ts)
+    fills_branches : (bs : Branches) (ts : Row Span) → InBranches P Q bs → All P ts →
+        Kept (InBranches P Q) (fill_branches bs ts)
     fills_branches no_branch ts so all = (tt, all)
     fills_branches (more_branches b bs) ts so all =
         let x = fills_branch b ts so.0 all in
@@ -370,15 +385,18 @@ some_filled no_item ts so = absurd so
 some_filled (more_items i is) ts so = tt
 
 -- a list with the bodies of its level
-pub bodies_in : (limit : ℕ) (bs : Row Span) (es : Entries) → AreIn limit bs → EntriesIn limit es → EntriesIn limit (filled bs es)
+pub bodies_in : (limit : ℕ) (bs : Row Span) (es : Entries) → AreIn limit bs → EntriesIn limit es →
+    EntriesIn limit (filled bs es)
 bodies_in limit bs es all so = throughout_filled (IsSpanWithin limit) IsSome some_filled bs es all so
 
 -- the two, one by one
 pub all_within : (limit : ℕ) (es : Entries) → EntriesIn limit es → AllWithin limit es
-all_within limit es so = throughout_so (IsSpanWithin limit) (IsSpanWithin limit) IsSome (λ items. Unit {0}) (λ s within. within) (λ items some. tt) es so
+all_within limit es so = throughout_so (IsSpanWithin limit) (IsSpanWithin limit) IsSome (λ items. Unit {0})
+    (λ s within. within) (λ items some. tt) es so
 
 pub have_items : (limit : ℕ) (es : Entries) → EntriesIn limit es → HaveItems es
-have_items limit es so = throughout_so (IsSpanWithin limit) (λ s. Unit {0}) IsSome IsSome (λ s within. tt) (λ items some. some) es so
+have_items limit es so = throughout_so (IsSpanWithin limit) (λ s. Unit {0}) IsSome IsSome (λ s within. tt)
+    (λ items some. some) es so
 
 -- ---- where the last command of a list ends
 
@@ -391,7 +409,8 @@ module _ (limit : ℕ) where
   item_ends (item broken (argument w)) so = word_ends w so
   item_ends (item broken (redirect number operator span w d)) so = word_ends w so.2
 
-  last_item_ends : (before : Span) (items : Items) → before.«end» ≤ limit → InItems (IsSpanWithin limit) IsSome items → (last_item before items).«end» ≤ limit
+  last_item_ends : (before : Span) (items : Items) → before.«end» ≤ limit → InItems (IsSpanWithin limit) IsSome items →
+      (last_item before items).«end» ≤ limit
   last_item_ends before no_item low so = low
   last_item_ends before (more_items i is) low so = last_item_ends (item_span i) is (item_ends i so.0) so.1
 
@@ -407,22 +426,29 @@ module _ (limit : ℕ) where
   command_ends (compound c) so = compound_ends c so
   command_ends (function name comments body) so = compound_ends body so.2
 
-  last_command_ends : (before : Span) (cs : PipelineParts) → before.«end» ≤ limit → InPipes (IsSpanWithin limit) IsSome cs → (last_command before cs).«end» ≤ limit
+  last_command_ends : (before : Span) (cs : PipelineParts) → before.«end» ≤ limit →
+      InPipes (IsSpanWithin limit) IsSome cs → (last_command before cs).«end» ≤ limit
   last_command_ends before no_pipe low so = low
-  last_command_ends before (more_pipes join c cs) low so = last_command_ends (command_span c) cs (command_ends c so.1) so.2
+  last_command_ends before (more_pipes join c cs) low so =
+      last_command_ends (command_span c) cs (command_ends c so.1) so.2
 
   pipeline_ends : (p : APipeline) → PipelineIn limit p → (pipeline_span p).«end» ≤ limit
-  pipeline_ends (pipeline bang first rest) so = last_command_ends (command_span first) rest (command_ends first so.1) so.2
+  pipeline_ends (pipeline bang first rest) so =
+      last_command_ends (command_span first) rest (command_ends first so.1) so.2
 
-  last_pipeline_ends : (before : Span) (ps : AndOrParts) → before.«end» ≤ limit → InAndOrParts (IsSpanWithin limit) IsSome ps → (last_pipeline before ps).«end» ≤ limit
+  last_pipeline_ends : (before : Span) (ps : AndOrParts) → before.«end» ≤ limit →
+      InAndOrParts (IsSpanWithin limit) IsSome ps → (last_pipeline before ps).«end» ≤ limit
   last_pipeline_ends before no_and_or low so = low
-  last_pipeline_ends before (more_and_or operator join p ps) low so = last_pipeline_ends (pipeline_span p) ps (pipeline_ends p so.1) so.2
+  last_pipeline_ends before (more_and_or operator join p ps) low so =
+      last_pipeline_ends (pipeline_span p) ps (pipeline_ends p so.1) so.2
 
   and_or_ends : (a : AnAndOr) → AndOrIn limit a → (and_or_span a).«end» ≤ limit
   and_or_ends (and_or first rest) so = last_pipeline_ends (pipeline_span first) rest (pipeline_ends first so.0) so.1
 
-  pub commands_end_low : (before : ℕ) (es : Entries) → before ≤ limit → EntriesIn limit es → commands_end before es ≤ limit
+  pub commands_end_low : (before : ℕ) (es : Entries) → before ≤ limit → EntriesIn limit es →
+      commands_end before es ≤ limit
   commands_end_low before no_entry low so = low
   commands_end_low before (more_entries (entry (command a) background blank comment) es) low so =
       commands_end_low (and_or_span a).«end» es (and_or_ends a so.0.0) so.1
-  commands_end_low before (more_entries (entry (remark c) background blank comment) es) low so = commands_end_low before es low so.1
+  commands_end_low before (more_entries (entry (remark c) background blank comment) es) low so =
+      commands_end_low before es low so.1

@@ -28,7 +28,8 @@ use Rattle.shgrammar.specs.Tokens.{begins_assignment, first_word, is_number, nex
 
 -- ---- tokens
 
-either : (c : Bool) (x y z w : Token) → token_in Y2017 x ≡ z → token_in Y2017 y ≡ w → token_in Y2017 (cond c x y) ≡ cond c z w
+either : (c : Bool) (x y z w : Token) → token_in Y2017 x ≡ z → token_in Y2017 y ≡ w →
+    token_in Y2017 (cond c x y) ≡ cond c z w
 either true x y z w one two = one
 either false x y z w one two = two
 
@@ -49,7 +50,8 @@ by_position Command T p = first_same (begins_assignment T p) (reserved_at T p)
 by_position Prefix T p = word_same (begins_assignment T p)
 by_position Suffix T p = refl
 
-pub tokens_same : (position : Position) (T : List ℕ) (p : ℕ) (x : Option ℕ) → token_in Y2017 (token_of position T p x) ≡ token_2017 position T p x
+pub tokens_same : (position : Position) (T : List ℕ) (p : ℕ) (x : Option ℕ) →
+    token_in Y2017 (token_of position T p x) ≡ token_2017 position T p x
 tokens_same position T p None = refl
 tokens_same position T p (Some b) =
     either (is_newline b) _ _ _ _ refl
@@ -65,15 +67,18 @@ tokens_same position T p (Some b) =
 
 -- ---- what a `$` begins
 
-in_mode : (mode : Mode) (c : Bool) (x y z w : Piece) → piece_in Y2017 mode x ≡ z → piece_in Y2017 mode y ≡ w → piece_in Y2017 mode (cond c x y) ≡ cond c z w
+in_mode : (mode : Mode) (c : Bool) (x y z w : Piece) → piece_in Y2017 mode x ≡ z → piece_in Y2017 mode y ≡ w →
+    piece_in Y2017 mode (cond c x y) ≡ cond c z w
 in_mode mode true x y z w one two = one
 in_mode mode false x y z w one two = two
 
-plain_dollar : (mode : Mode) (c : Bool) → piece_in Y2017 mode (cond c pieces.DollarSingle pieces.Ordinary) ≡ pieces.Ordinary
+plain_dollar : (mode : Mode) (c : Bool) →
+    piece_in Y2017 mode (cond c pieces.DollarSingle pieces.Ordinary) ≡ pieces.Ordinary
 plain_dollar mode true = refl
 plain_dollar mode false = refl
 
-pub dollars_same : (mode : Mode) (T : List ℕ) (q : ℕ) (x : Option ℕ) → piece_in Y2017 mode (dollar_by T q x) ≡ dollar_2017 T q x
+pub dollars_same : (mode : Mode) (T : List ℕ) (q : ℕ) (x : Option ℕ) →
+    piece_in Y2017 mode (dollar_by T q x) ≡ dollar_2017 T q x
 dollars_same mode T q None = refl
 dollars_same mode T q (Some b) =
     in_mode mode (b == 36) _ _ _ _ refl
@@ -88,11 +93,15 @@ bracket_same zero false = refl
 bracket_same (suc n) two = refl
 
 bytes_same : (mode : Mode) (T : List ℕ) (p n b : ℕ) → piece_in Y2017 mode (byte_by T p mode n b) ≡ byte_by T p mode n b
-bytes_same Plain T p n b = in_mode Plain (ends (Some b)) _ _ _ _ refl (in_mode Plain (b == 39) _ _ _ _ refl (in_mode Plain (b == 34) _ _ _ _ refl refl))
+bytes_same Plain T p n b = in_mode Plain (ends (Some b)) _ _ _ _ refl
+    (in_mode Plain (b == 39) _ _ _ _ refl (in_mode Plain (b == 34) _ _ _ _ refl refl))
 bytes_same Double T p n b = in_mode Double (b == 34) _ _ _ _ refl refl
-bytes_same Brace T p n b = in_mode Brace (b == 125) _ _ _ _ refl (in_mode Brace (b == 39) _ _ _ _ refl (in_mode Brace (b == 34) _ _ _ _ refl refl))
-bytes_same DoubleBrace T p n b = in_mode DoubleBrace (b == 125) _ _ _ _ refl (in_mode DoubleBrace (b == 34) _ _ _ _ refl refl)
-bytes_same Arith T p n b = in_mode Arith (b == 41) _ _ _ _ (bracket_same n (stands T (behind T p) 41)) (in_mode Arith (b == 40) _ _ _ _ refl refl)
+bytes_same Brace T p n b = in_mode Brace (b == 125) _ _ _ _ refl
+    (in_mode Brace (b == 39) _ _ _ _ refl (in_mode Brace (b == 34) _ _ _ _ refl refl))
+bytes_same DoubleBrace T p n b =
+    in_mode DoubleBrace (b == 125) _ _ _ _ refl (in_mode DoubleBrace (b == 34) _ _ _ _ refl refl)
+bytes_same Arith T p n b = in_mode Arith (b == 41) _ _ _ _ (bracket_same n (stands T (behind T p) 41))
+    (in_mode Arith (b == 40) _ _ _ _ refl refl)
 
 end_same : (mode : Mode) → piece_in Y2017 mode (end_by mode) ≡ end_by mode
 end_same Plain = refl
@@ -101,13 +110,15 @@ end_same Brace = refl
 end_same DoubleBrace = refl
 end_same Arith = refl
 
-piece_by_same : (mode : Mode) (T : List ℕ) (n p : ℕ) (x : Option ℕ) → piece_in Y2017 mode (piece_by T p mode n x) ≡ piece_by_2017 T p mode n x
+piece_by_same : (mode : Mode) (T : List ℕ) (n p : ℕ) (x : Option ℕ) →
+    piece_in Y2017 mode (piece_by T p mode n x) ≡ piece_by_2017 T p mode n x
 unfolding dollar_at
 piece_by_same mode T n p None = end_same mode
 piece_by_same mode T n p (Some b) =
     in_mode mode (b == 92) _ _ _ _ (in_mode mode (at_end T (behind T p)) _ _ _ _ refl refl)
     (in_mode mode (b == 96) _ _ _ _ refl
-    (in_mode mode (b == 36) _ _ _ _ (dollars_same mode T (behind T p) (byte_at T (behind T p))) (bytes_same mode T p n b)))
+    (in_mode mode (b == 36) _ _ _ _ (dollars_same mode T (behind T p) (byte_at T (behind T p)))
+    (bytes_same mode T p n b)))
 
 -- ---- what a row sees
 
@@ -130,50 +141,65 @@ no_falling (tokens.Reserved r) = refl
 no_falling tokens.Assignment = refl
 no_falling tokens.Word = refl
 
-pub token_seen : (position : Position) (g : Given) (s : State) → g.edition ≡ Y2017 → seen (the_token position) g s ≡ next_2017 position g.text s.at
+pub token_seen : (position : Position) (g : Given) (s : State) → g.edition ≡ Y2017 →
+    seen (the_token position) g s ≡ next_2017 position g.text s.at
 unfolding token_at
-token_seen position g s by = rw by (ap (λ t. record { token = t; broken = is_broken_at g.text s.at }) (tokens_same position g.text (past_blanks g.text s.at) (byte_at g.text (past_blanks g.text s.at))))
+token_seen position g s by = rw by (ap (λ t. record { token = t; broken = is_broken_at g.text s.at })
+    (tokens_same position g.text (past_blanks g.text s.at) (byte_at g.text (past_blanks g.text s.at))))
 
-pub piece_seen : (mode : Mode) (n : ℕ) (g : Given) (s : State) → g.edition ≡ Y2017 → seen (the_piece mode n) g s ≡ piece_2017 g.text mode n s.at
+pub piece_seen : (mode : Mode) (n : ℕ) (g : Given) (s : State) → g.edition ≡ Y2017 →
+    seen (the_piece mode n) g s ≡ piece_2017 g.text mode n s.at
 unfolding piece_at
 piece_seen mode n g s by = rw by (piece_by_same mode g.text n s.at (byte_at g.text s.at))
 
-pub delimiter_seen : (bytes : List ℕ) (g : Given) (s : State) → g.edition ≡ Y2017 → seen (the_delimiter bytes) g s ≡ delimiter_of bytes
+pub delimiter_seen : (bytes : List ℕ) (g : Given) (s : State) → g.edition ≡ Y2017 →
+    seen (the_delimiter bytes) g s ≡ delimiter_of bytes
 delimiter_seen bytes g s by = rw by refl
 
-pub none_falls : (position : Position) (g : Given) (s : State) → g.edition ≡ Y2017 → falls_through (seen (the_token position) g s).token ≡ false
+pub none_falls : (position : Position) (g : Given) (s : State) → g.edition ≡ Y2017 →
+    falls_through (seen (the_token position) g s).token ≡ false
 none_falls position g s by = rw by (no_falling (token_at position g.text (past_blanks g.text s.at)))
 
 -- ---- by examples
 
 -- a backslash takes one byte, also the closing one
 past_escapes : does dollar_single Whole (given Y2024 (codes "$'a\\'b' c") 10) (standing 0) ≡ Ok (tt, standing 7)
-unfolding dollar_single escaped_turn many turns turns_below behind past_continuations count_joined raw_past count_front at_end raw_stands past_taken
+unfolding dollar_single escaped_turn many turns turns_below behind past_continuations count_joined raw_past count_front
+    at_end raw_stands past_taken
 past_escapes = refl
 
 -- the end inside it, and a backslash as the last byte, are faults at the `$`
-open_at_end : does dollar_single Whole (given Y2024 (codes "$'a") 10) (standing 0) ≡ Err (record { kind = UnclosedDollarSingle; at = 10 })
-unfolding dollar_single escaped_turn many turns turns_below behind past_continuations count_joined raw_past count_front at_end raw_stands past_taken
+open_at_end : does dollar_single Whole (given Y2024 (codes "$'a") 10) (standing 0)
+    ≡ Err (record { kind = UnclosedDollarSingle; at = 10 })
+unfolding dollar_single escaped_turn many turns turns_below behind past_continuations count_joined raw_past count_front
+    at_end raw_stands past_taken
 open_at_end = refl
 
-open_at_backslash : does dollar_single Whole (given Y2024 (codes "$'a\\") 10) (standing 0) ≡ Err (record { kind = UnclosedDollarSingle; at = 10 })
-unfolding dollar_single escaped_turn many turns turns_below behind past_continuations count_joined raw_past count_front at_end raw_stands past_taken
+open_at_backslash : does dollar_single Whole
+    (given Y2024 (codes "$'a\\") 10) (standing 0) ≡ Err (record { kind = UnclosedDollarSingle; at = 10 })
+unfolding dollar_single escaped_turn many turns turns_below behind past_continuations count_joined raw_past count_front
+    at_end raw_stands past_taken
 open_at_backslash = refl
 
 -- `;&` by the longest match, in a later edition alone
 falling : next_in Y2024 (next_at Command (codes "a;&") 1) ≡ record { token = tokens.SemicolonAmpersand; broken = false }
-unfolding token_at past_blanks past past_below stands_in past_continuations count_joined is_broken_at continues raw_past count_front raw_stands stands behind
+unfolding token_at past_blanks past past_below stands_in past_continuations count_joined is_broken_at continues raw_past
+    count_front raw_stands stands behind
 falling = refl
 
 parted : next_in Y2017 (next_at Command (codes "a;&") 1) ≡ record { token = tokens.Semicolon; broken = false }
-unfolding token_at past_blanks past past_below stands_in past_continuations count_joined is_broken_at continues raw_past count_front raw_stands stands behind
+unfolding token_at past_blanks past past_below stands_in past_continuations count_joined is_broken_at continues raw_past
+    count_front raw_stands stands behind
 parted = refl
 
 -- `;&` is told as a token, as no `;;` is, and without a continuation that stands in it
-ender_told_so : (tell (ender_told true) (codes "a;\\\n& b") 1 5 ≡ codes ";&" ∷ []) × (tell (ender_told false) (codes "a;; b") 1 3 ≡ [])
+ender_told_so : (tell (ender_told true) (codes "a;\\\n& b") 1 5 ≡ codes ";&" ∷ [])
+    × (tell (ender_told false) (codes "a;; b") 1 3 ≡ [])
 ender_told_so = (refl, refl)
 
 -- a word with `$'` is no delimiter; in double quotes, and behind `$$`, there is no `$'`
-quoted_so : (has_dollar_single not_quoted false (codes "a$'E'") ≡ true) × (has_dollar_single not_quoted false (codes "\"$'\"") ≡ false) × (has_dollar_single not_quoted false (codes "$$'E'") ≡ false)
+quoted_so : (has_dollar_single not_quoted false (codes "a$'E'") ≡ true)
+    × (has_dollar_single not_quoted false (codes "\"$'\"") ≡ false)
+    × (has_dollar_single not_quoted false (codes "$$'E'") ≡ false)
 unfolding has_dollar_single stands past_continuations count_joined
 quoted_so = (refl, refl, refl)

@@ -91,7 +91,8 @@ held P y x t is so = subst (Holds P) is so
 
 -- ---- a word that ends at the limit, in a text and in another one that has its bytes
 
-module _ {edition : Edition} {T U : List ℕ} {a L : ℕ} {to : ℕ → ℕ} (K : Kept edition T U a L to) (W : WordEnds T U L to) (o room : ℕ) where
+module _ {edition : Edition} {T U : List ℕ} {a L : ℕ} {to : ℕ → ℕ} (K : Kept edition T U a L to) (W : WordEnds T U L to)
+    (o room : ℕ) where
   abbrev B : List ℕ
   B = padded o T
 
@@ -105,7 +106,8 @@ module _ {edition : Edition} {T U : List ℕ} {a L : ℕ} {to : ℕ → ℕ} (K 
     start : WordSoFar
     found : WordSoFar
     last : State
-    goes : does (loop (a_piece (level room) Plain opener) start) Whole (given edition T o) (standing r) ≡ Ok (found, last)
+    goes : does (loop (a_piece (level room) Plain opener) start) Whole (given edition T o) (standing r)
+        ≡ Ok (found, last)
     there : last.at ≡ L
 
   -- what ends at the limit began so
@@ -115,37 +117,55 @@ module _ {edition : Edition} {T U : List ℕ} {a L : ℕ} {to : ℕ → ℕ} (K 
   word_begins : (p : ℕ) → a ≤ p → Holds (Begins p) (does (a_word (level room)) Whole (given edition T o) (standing p))
   unfolding a_word contents many
   word_begins p low =
-      holds_then (Begins p) (Begins p) (does (token as_it_stands (contents (level room) Plain (o + p) [])) Whole (given edition T o) (standing p)) _
-      (holds_then (Begins p) (Begins p) (does (contents (level room) Plain (o + p) []) Whole (given edition T o) (standing p)) _
-      (holds_then (λ x t. does (loop (a_piece (level room) Plain (o + p)) (having 0 [])) Whole (given edition T o) (standing p) ≡ Ok (x, t)) (Begins p)
+      holds_then (Begins p) (Begins p)
+      (does (token as_it_stands (contents (level room) Plain (o + p) [])) Whole (given edition T o) (standing p)) _
+      (holds_then (Begins p) (Begins p)
+      (does (contents (level room) Plain (o + p) []) Whole (given edition T o) (standing p)) _
+      (holds_then (λ x t. does (loop (a_piece (level room) Plain (o + p)) (having 0 [])) Whole (given edition T o)
+      (standing p) ≡ Ok (x, t)) (Begins p)
       (does (loop (a_piece (level room) Plain (o + p)) (having 0 [])) Whole (given edition T o) (standing p)) _
       (self (does (loop (a_piece (level room) Plain (o + p)) (having 0 [])) Whole (given edition T o) (standing p)))
-      (λ x t is at. record { low = low; opener = o + p; start = having 0 []; found = x; last = t; goes = is; there = at }))
+      (λ x t is at. record {
+        low = low;
+        opener = o + p;
+        start = having 0 [];
+        found = x;
+        last = t;
+        goes = is;
+        there = at;
+      }))
       (λ x t so. so))
       (λ x t so. so)
 
   word_goes : (p n : ℕ) → a ≤ p → p + n ≡ L → ReadsWord room (given edition T o) p n → Goes p
   word_goes p n low end (w, part) =
       let is_read = (is (a_word (level room)) (given edition T o) (standing p)).only _ _ part in
-      held (Begins p) (does (a_word (level room)) Whole (given edition T o) (standing p)) w (standing (p + n)) (sym is_read) (word_begins p low) end
+      held (Begins p) (does (a_word (level room)) Whole (given edition T o) (standing p)) w (standing (p + n))
+      (sym is_read) (word_begins p low) end
 
   -- the same byte is read there, or the word ends
   place_of : {r : ℕ} → Goes r → Here T U a L to r ⊎ (r ≡ L)
   place_of {r = r} w =
       ⊎_elim inl (λ e. inr e.1)
-      (held (λ x t. t.at ≡ L → From K o o B C Plain r) (does (loop (a_piece (level room) Plain w.opener) w.start) Whole (given edition T o) (standing r)) w.found w.last w.goes
+      (held (λ x t. t.at ≡ L → From K o o B C Plain r)
+      (does (loop (a_piece (level room) Plain w.opener) w.start) Whole (given edition T o) (standing r)) w.found
+      w.last w.goes
       (word_from K o o B C W.there (λ e. W.closed) (level room)
-      ((everywhere room).local edition T U a L to K o o B C (padded_is o T) (padded_is o U) W.there (λ e. W.closed)) w.opener w.start (standing r) w.low) w.there)
+      ((everywhere room).local edition T U a L to K o o B C (padded_is o T) (padded_is o U) W.there (λ e. W.closed))
+      w.opener w.start (standing r) w.low) w.there)
 
   inside_of : {r : ℕ} → Goes r → ends (byte_at T r) ≡ false → Here T U a L to r
-  inside_of w e = ⊎_elim (λ i. i) (λ at. absurd (both_ways (ends (byte_at T L)) (subst (λ r. ends (byte_at T r) ≡ false) at e) W.here)) (place_of w)
+  inside_of w e = ⊎_elim (λ i. i)
+      (λ at. absurd (both_ways (ends (byte_at T L)) (subst (λ r. ends (byte_at T r) ≡ false) at e) W.here)) (place_of w)
 
   same_ends : {r : ℕ} → Goes r → ends (byte_at U (to r)) ≡ ends (byte_at T r)
-  same_ends w = ⊎_elim (λ i. ap ends (here_byte K i)) (λ at. subst (λ r. ends (byte_at U (to r)) ≡ ends (byte_at T r)) (sym at) (W.there ∙ sym W.here)) (place_of w)
+  same_ends w = ⊎_elim (λ i. ap ends (here_byte K i))
+      (λ at. subst (λ r. ends (byte_at U (to r)) ≡ ends (byte_at T r)) (sym at) (W.there ∙ sym W.here)) (place_of w)
 
   -- an ordinary byte is a piece
   ordinary_turn : (r b opener : ℕ) (c : WordSoFar) → byte_at T r ≡ Some b → is_plain Plain b ≡ true
-      → does (a_piece (level room) Plain opener c) Whole (given edition T o) (standing r) ≡ Ok (again c, standing (behind T r))
+      → does (a_piece (level room) Plain opener c) Whole (given edition T o) (standing r)
+      ≡ Ok (again c, standing (behind T r))
   unfolding a_piece piece_at
   ordinary_turn r b opener c is plain = rw (is, ordinary_by T r Plain c.nested b plain) refl
 
@@ -158,13 +178,17 @@ module _ {edition : Edition} {T U : List ℕ} {a L : ℕ} {to : ℕ → ℕ} (K 
         (none_passes test plain (byte_at U (to L)) W.there ∙ sym (none_passes test plain (byte_at T L) W.here)))
         (place_of w)
 
-    next_by : {r : ℕ} → Goes r → (x : Option ℕ) → byte_at T r ≡ x → passes test x ≡ true → Goes (behind T r) × (behind U (to r) ≡ to (behind T r))
+    next_by : {r : ℕ} → Goes r → (x : Option ℕ) → byte_at T r ≡ x → passes test x ≡ true → Goes (behind T r)
+        × (behind U (to r) ≡ to (behind T r))
     next_by w None is e = absurd cc
     next_by {r = r} w (Some b) is e =
         let b_plain = plain b e in
         let lt = slice_get_within T (past_continuations T r) b is in
-        let leads : leads_on (given edition T o) (standing r) (standing (behind T r)) ≡ true = lt-ltb _ _ (omega (arith, lt, place_low T r, behind_is T r)) in
-        let more = turns_on (given edition T o) (λ c s. does (a_piece (level room) Plain w.opener c) Whole (given edition T o) s) w.start w.start (standing r) (standing (behind T r))
+        let leads : leads_on (given edition T o) (standing r) (standing (behind T r)) ≡ true =
+        lt-ltb _ _ (omega (arith, lt, place_low T r, behind_is T r)) in
+        let more = turns_on (given edition T o)
+        (λ c s. does (a_piece (level room) Plain w.opener c) Whole (given edition T o) s) w.start w.start
+        (standing r) (standing (behind T r))
         (ordinary_turn r b w.opener w.start is b_plain) leads in (
           record {
             low = omega (arith, w.low, behind_low T r);
@@ -183,14 +207,18 @@ module _ {edition : Edition} {T U : List ℕ} {a L : ℕ} {to : ℕ → ℕ} (K 
     unfolding stands_in
     next_goes {r = r} w e = next_by w (byte_at T r) refl e
 
-    past_below : (n r : ℕ) → length T - r < n → Goes r → Goes (past test T r) × (past test U (to r) ≡ to (past test T r))
+    past_below : (n r : ℕ) → length T - r < n → Goes r → Goes (past test T r)
+        × (past test U (to r) ≡ to (past test T r))
     past_below zero r few w = absurd (omega arith)
     past_below (suc n) r few w =
         ⊎_elim
         (λ (e : stands_in test T r ≡ true). let more = past_more test T r e in
         let next = next_goes w e in
-        let rest = past_below n (behind T r) (omega (arith, few, behind_low T r, stands_in_low test T r e, place_low T r)) next.0 in
-        (subst Goes (sym more) rest.0, past_more test U (to r) (same_test w ∙ e) ∙ ap (past test U) next.1 ∙ rest.1 ∙ ap to (sym more)))
+        let rest = past_below n (behind T r)
+        (omega (arith, few, behind_low T r, stands_in_low test T r e, place_low T r)) next.0 in (
+          subst Goes (sym more) rest.0,
+          past_more test U (to r) (same_test w ∙ e) ∙ ap (past test U) next.1 ∙ rest.1 ∙ ap to (sym more),
+        ))
         (λ (e : stands_in test T r ≡ false). let none = past_none test T r e in
         (subst Goes (sym none) w, past_none test U (to r) (same_test w ∙ e) ∙ ap to (sym none)))
         (cases_Bool (stands_in test T r))
@@ -200,21 +228,26 @@ module _ {edition : Edition} {T U : List ℕ} {a L : ℕ} {to : ℕ → ℕ} (K 
     past_goes {r = r} w = past_below (suc (length T - r)) r (omega arith) w
 
   same_stands : {r : ℕ} (c : ℕ) → is_plain Plain c ≡ true → Goes r → stands U (to r) c ≡ stands T r c
-  same_stands {r = r} c plain w = stands_one U (to r) c ∙ same_test (λ b. b == c) (plain_one c plain) w ∙ sym (stands_one T r c)
+  same_stands {r = r} c plain w = stands_one U (to r) c ∙ same_test (λ b. b == c) (plain_one c plain) w
+      ∙ sym (stands_one T r c)
 
-  same_spelled : (word : List ℕ) (r : ℕ) → all_plain word ≡ true → Goes r → is_word_at U (to r) word ≡ is_word_at T r word
+  same_spelled : (word : List ℕ) (r : ℕ) → all_plain word ≡ true → Goes r →
+      is_word_at U (to r) word ≡ is_word_at T r word
   same_spelled [] r e w = spelled_none U (to r) ∙ same_ends w ∙ sym (spelled_none T r)
   same_spelled (x ∷ xs) r e w =
       let plain = and_parts _ _ e in
       spelled_more U (to r) x xs ∙ ap (λ b. b && is_word_at U (behind U (to r)) xs) (same_stands x plain.0 w)
-      ∙ same_and (stands T r x) _ _ (λ f. let next = next_goes (λ b. b == x) (plain_one x plain.0) w (sym (stands_one T r x) ∙ f) in
+      ∙ same_and (stands T r x) _ _
+      (λ f. let next = next_goes (λ b. b == x) (plain_one x plain.0) w (sym (stands_one T r x) ∙ f) in
       ap (λ q. is_word_at U q xs) next.1 ∙ same_spelled xs (behind T r) plain.1 next.0)
       ∙ sym (spelled_more T r x xs)
 
-  same_words : (ws : Row Spelling) (r : ℕ) → all_spelled ws ≡ true → Goes r → first_of_words U (to r) ws ≡ first_of_words T r ws
+  same_words : (ws : Row Spelling) (r : ℕ) → all_spelled ws ≡ true → Goes r →
+      first_of_words U (to r) ws ≡ first_of_words T r ws
   unfolding first_of_words
   same_words [] r e w = refl
-  same_words (x ∷ xs) r e w = let both = and_parts _ _ e in rw (same_spelled x.0 r both.0 w, same_words xs r both.1 w) refl
+  same_words (x ∷ xs) r e w = let both = and_parts _ _ e in
+      rw (same_spelled x.0 r both.0 w, same_words xs r both.1 w) refl
 
   same_reserved : {r : ℕ} → Goes r → reserved_at U (to r) ≡ reserved_at T r
   unfolding reserved_words
@@ -222,11 +255,13 @@ module _ {edition : Edition} {T U : List ℕ} {a L : ℕ} {to : ℕ → ℕ} (K 
 
   same_assignment : {r : ℕ} → Goes r → begins_assignment U (to r) ≡ begins_assignment T r
   unfolding begins_assignment
-  same_assignment w = let p = past_goes is_name plain_name w in rw (same_test is_letter plain_letter w, p.1, same_stands 61 refl p.0) refl
+  same_assignment w = let p = past_goes is_name plain_name w in
+      rw (same_test is_letter plain_letter w, p.1, same_stands 61 refl p.0) refl
 
   same_name : {r : ℕ} → Goes r → is_name_at U (to r) ≡ is_name_at T r
   unfolding is_name_at ends_word
-  same_name w = let p = past_goes is_name plain_name w in rw (same_test is_letter plain_letter w, p.1, same_ends p.0) refl
+  same_name w = let p = past_goes is_name plain_name w in
+      rw (same_test is_letter plain_letter w, p.1, same_ends p.0) refl
 
   same_word_by : (position : Position) {r : ℕ} → Goes r → word_by position U (to r) ≡ word_by position T r
   same_word_by Command w = rw (same_assignment w, same_reserved w) refl
@@ -235,11 +270,13 @@ module _ {edition : Edition} {T U : List ℕ} {a L : ℕ} {to : ℕ → ℕ} (K 
 
   -- digits before the limit, which no `<` or `>` follows there
   module _ (no_less : is_byte (byte_at U (to L)) 60 ≡ false) (no_greater : is_byte (byte_at U (to L)) 62 ≡ false) where
-    no_sign : {r : ℕ} → Goes r → (stands T r 60 || stands T r 62) ≡ false → (stands U (to r) 60 || stands U (to r) 62) ≡ false
+    no_sign : {r : ℕ} → Goes r → (stands T r 60 || stands T r 62) ≡ false →
+        (stands U (to r) 60 || stands U (to r) 62) ≡ false
     unfolding stands
     no_sign w e =
         ⊎_elim (λ i. rw (here_byte K i) e)
-        (λ at. subst (λ r. (is_byte (byte_at U (to r)) 60 || is_byte (byte_at U (to r)) 62) ≡ false) (sym at) (rw (no_less, no_greater) refl)) (place_of w)
+        (λ at. subst (λ r. (is_byte (byte_at U (to r)) 60 || is_byte (byte_at U (to r)) 62) ≡ false) (sym at)
+        (rw (no_less, no_greater) refl)) (place_of w)
 
     no_number_by : (d x y : Bool) → (x ≡ false → y ≡ false) → (d && x) ≡ false → (d && y) ≡ false
     no_number_by true x y f e = f e
@@ -303,12 +340,17 @@ neither : (c : Bool) (x y : Token) → (Item x → ⊥) → (Item y → ⊥) →
 neither true x y one two so = one so
 neither false x y one two so = two so
 
-pub item_byte : (position : Position) (T : List ℕ) (p b : ℕ) → Item (token_of position T p (Some b)) → ItemByte b × (is_number T p ≡ false)
+pub item_byte : (position : Position) (T : List ℕ) (p b : ℕ) → Item (token_of position T p (Some b)) → ItemByte b
+    × (is_number T p ≡ false)
 item_byte position T p b so =
     let newline = item_else (is_newline b) _ _ (λ e. absurd cc) so in
-    let semicolon = item_else (b == 59) _ _ (λ e. neither (stands T (behind T p) 59) _ _ (λ f. absurd cc) (λ f. neither (stands T (behind T p) 38) _ _ (λ g. absurd cc) (λ g. absurd cc) f) e) newline.1 in
-    let ampersand = item_else (b == 38) _ _ (λ e. neither (stands T (behind T p) 38) _ _ (λ f. absurd cc) (λ f. absurd cc) e) semicolon.1 in
-    let bar = item_else (b == 124) _ _ (λ e. neither (stands T (behind T p) 124) _ _ (λ f. absurd cc) (λ f. absurd cc) e) ampersand.1 in
+    let semicolon = item_else (b == 59) _ _
+    (λ e. neither (stands T (behind T p) 59) _ _ (λ f. absurd cc)
+    (λ f. neither (stands T (behind T p) 38) _ _ (λ g. absurd cc) (λ g. absurd cc) f) e) newline.1 in
+    let ampersand = item_else (b == 38) _ _
+    (λ e. neither (stands T (behind T p) 38) _ _ (λ f. absurd cc) (λ f. absurd cc) e) semicolon.1 in
+    let bar = item_else (b == 124) _ _
+    (λ e. neither (stands T (behind T p) 124) _ _ (λ f. absurd cc) (λ f. absurd cc) e) ampersand.1 in
     let open_paren = item_else (b == 40) _ _ (λ e. absurd cc) bar.1 in
     let close_paren = item_else (b == 41) _ _ (λ e. absurd cc) open_paren.1 in
     let less = item_else (b == 60) _ _ (λ e. absurd cc) close_paren.1 in
@@ -329,8 +371,10 @@ item_byte position T p b so =
       number.0,
     )
 
-pub item_token : (position : Position) (T : List ℕ) (p b : ℕ) → ItemByte b → is_number T p ≡ false → token_of position T p (Some b) ≡ word_by position T p
-item_token position T p b i none = rw (i.newline, i.semicolon, i.ampersand, i.bar, i.open_paren, i.close_paren, i.less, i.greater, i.sharp, none) refl
+pub item_token : (position : Position) (T : List ℕ) (p b : ℕ) → ItemByte b → is_number T p ≡ false →
+    token_of position T p (Some b) ≡ word_by position T p
+item_token position T p b i none =
+    rw (i.newline, i.semicolon, i.ampersand, i.bar, i.open_paren, i.close_paren, i.less, i.greater, i.sharp, none) refl
 
 -- where an item begins a byte is read, and it ends no word
 record Begun (T : List ℕ) (p : ℕ) : Type 0 where
@@ -340,14 +384,32 @@ record Begun (T : List ℕ) (p : ℕ) : Type 0 where
   no_number : is_number T p ≡ false
   no_end : ends (Some byte) ≡ false
 
-begun_by : (position : Position) (T : List ℕ) (p : ℕ) (x : Option ℕ) → byte_at T p ≡ x → Item (token_of position T p x) → passes is_blank x ≡ false → Begun T p
+begun_by : (position : Position) (T : List ℕ) (p : ℕ) (x : Option ℕ) → byte_at T p ≡ x → Item (token_of position T p x)
+    → passes is_blank x ≡ false → Begun T p
 begun_by position T p None is so no_blank = absurd cc
 begun_by position T p (Some b) is so no_blank =
     let i = item_byte position T p b so in
     let f = i.0 in
-    record { byte = b; is = is; first = f; no_number = i.1; no_end = rw (no_blank, f.newline, f.semicolon, f.ampersand, f.bar, f.open_paren, f.close_paren, f.less, f.greater) refl }
+    record {
+      byte = b;
+      is = is;
+      first = f;
+      no_number = i.1;
+      no_end = rw (
+        no_blank,
+        f.newline,
+        f.semicolon,
+        f.ampersand,
+        f.bar,
+        f.open_paren,
+        f.close_paren,
+        f.less,
+        f.greater,
+      ) refl;
+    }
 
-begun : (position : Position) (T : List ℕ) (p : ℕ) → Item (token_at position T p) → stands_in is_blank T p ≡ false → Begun T p
+begun : (position : Position) (T : List ℕ) (p : ℕ) → Item (token_at position T p) → stands_in is_blank T p ≡ false →
+    Begun T p
 unfolding token_at stands_in
 begun position T p so no_blank = begun_by position T p (byte_at T p) refl so no_blank
 
@@ -382,7 +444,8 @@ follower (c ∷ cs) e =
     }
 
 -- what is read where an item begins
-pub record ReadAt (room : ℕ) (position : Position) (token : Token) (w : List ℕ) (ss : Shape SubstsOf) (g : Given) (q : ℕ) : Type 0 where
+pub record ReadAt (room : ℕ) (position : Position) (token : Token) (w : List ℕ) (ss : Shape SubstsOf) (g : Given)
+    (q : ℕ) : Type 0 where
   pub place : past_continuations g.text q ≡ q
   pub no_blank : stands_in is_blank g.text q ≡ false
   pub token_is : token_at position g.text q ≡ token
@@ -390,9 +453,11 @@ pub record ReadAt (room : ℕ) (position : Position) (token : Token) (w : List �
 
 -- wherever these bytes stand, before what may follow an item, they are a word with
 -- substitutions of these shapes, and this token in this position
-pub record ItemAnywhere (edition : Edition) (room : ℕ) (position : Position) (token : Token) (w : List ℕ) (ss : Shape SubstsOf) : Type 0 where
+pub record ItemAnywhere (edition : Edition) (room : ℕ) (position : Position) (token : Token) (w : List ℕ)
+    (ss : Shape SubstsOf) : Type 0 where
   pub some : 0 < length w
-  pub there : (g : Given) (q : ℕ) (zs : List ℕ) → drop q g.text ≡ w ++ zs → follows zs ≡ true → ReadAt room position token w ss (given edition g.text g.offset) q
+  pub there : (g : Given) (q : ℕ) (zs : List ℕ) → drop q g.text ≡ w ++ zs → follows zs ≡ true →
+      ReadAt room position token w ss (given edition g.text g.offset) q
 
 -- and a NAME
 abbrev pub NameAnywhere : List ℕ → Type 0
@@ -400,7 +465,8 @@ NameAnywhere w = (T : List ℕ) (q : ℕ) (zs : List ℕ) → drop q T ≡ w ++ 
 
 -- ---- what is an item where it stands
 
-module _ (room : ℕ) (position : Position) (g : Given) (p n : ℕ) (word : ReadsWord room g p n) (place : past_continuations g.text p ≡ p) (no_blank : stands_in is_blank g.text p ≡ false)
+module _ (room : ℕ) (position : Position) (g : Given) (p n : ℕ) (word : ReadsWord room g p n)
+    (place : past_continuations g.text p ≡ p) (no_blank : stands_in is_blank g.text p ≡ false)
     (item : Item (token_at position g.text p)) where
   abbrev w : List ℕ
   w = take n (drop p g.text)
@@ -409,7 +475,8 @@ module _ (room : ℕ) (position : Position) (g : Given) (p n : ℕ) (word : Read
   here = begun position g.text p item no_blank
 
   ended : (p + n ≤ length g.text) × (ends_word g.text (p + n) ≡ true)
-  ended = let lt = slice_get_within g.text (past_continuations g.text p) here.byte here.is in word_ends room g p n word (omega (arith, lt, place))
+  ended = let lt = slice_get_within g.text (past_continuations g.text p) here.byte here.is in
+      word_ends room g p n word (omega (arith, lt, place))
 
   size : length w ≡ n
   size = stretch_length g.text p n ended.0
@@ -430,7 +497,8 @@ module _ (room : ℕ) (position : Position) (g : Given) (p n : ℕ) (word : Read
 
     next_byte : byte_at h.text (q + n) ≡ Some next.byte
     unfolding raw_stands
-    next_byte = ap (slice_get h.text) (raw_stays h.text (q + n) (ap (λ x. is_byte x 92) next_raw ∙ next.no_backslash)) ∙ next_raw
+    next_byte = ap (slice_get h.text) (raw_stays h.text (q + n) (ap (λ x. is_byte x 92) next_raw ∙ next.no_backslash))
+        ∙ next_raw
 
     same : take n (drop q h.text) ≡ w
     same = ap (take n) is_there ∙ take_at w zs n size
@@ -443,7 +511,11 @@ module _ (room : ℕ) (position : Position) (g : Given) (p n : ℕ) (word : Read
 
     W : WordEnds g.text h.text (p + n) (from_to p q)
     unfolding ends_word
-    W = record { here = ended.1; there = ap ends limit_byte ∙ next.ends_it; closed = ap (λ x. is_byte x 40) limit_byte ∙ next.no_open }
+    W = record {
+      here = ended.1;
+      there = ap ends limit_byte ∙ next.ends_it;
+      closed = ap (λ x. is_byte x 40) limit_byte ∙ next.no_open;
+    }
 
     goes : Goes K W g.offset room p
     goes = word_goes K W g.offset room p n (omega arith) refl word
@@ -454,7 +526,8 @@ module _ (room : ℕ) (position : Position) (g : Given) (p n : ℕ) (word : Read
     same_token : token_at position h.text (from_to p q p) ≡ token_at position g.text p
     unfolding token_at
     same_token =
-        let none_there = no_number K W g.offset room (ap (λ x. is_byte x 60) limit_byte ∙ next.no_less) (ap (λ x. is_byte x 62) limit_byte ∙ next.no_greater) goes here.no_number in
+        let none_there = no_number K W g.offset room (ap (λ x. is_byte x 60) limit_byte ∙ next.no_less)
+        (ap (λ x. is_byte x 62) limit_byte ∙ next.no_greater) goes here.no_number in
         ap (token_of position h.text (from_to p q p)) (here_byte K inside ∙ here.is)
         ∙ item_token position h.text (from_to p q p) here.byte here.first none_there
         ∙ same_word_by K W g.offset room position goes
@@ -468,11 +541,14 @@ module _ (room : ℕ) (position : Position) (g : Given) (p n : ℕ) (word : Read
     name_there name = subst (λ r. is_name_at h.text r ≡ true) begin (same_name K W g.offset room goes ∙ name)
 
     -- over the bytes B it has this shape
-    module _ (B : List ℕ) (stands_in_B : g.text ≡ drop g.offset B) (ss : Shape SubstsOf) (shape : shape_of_word B word.0 ≡ shape_word w ss) where
-      word_there : (C : List ℕ) → h.text ≡ drop h.offset C → WordOf room (given g.edition h.text h.offset) q n C (shape_word w ss)
+    module _ (B : List ℕ) (stands_in_B : g.text ≡ drop g.offset B) (ss : Shape SubstsOf)
+        (shape : shape_of_word B word.0 ≡ shape_word w ss) where
+      word_there : (C : List ℕ) → h.text ≡ drop h.offset C →
+          WordOf room (given g.edition h.text h.offset) q n C (shape_word w ss)
       unfolding ends_word stands
       word_there C stands_in_C =
-          let v = same_word room g h p q n word.0 _ word.1 same (ap ends next_byte ∙ next.ends_it) (ap (λ x. is_byte x 40) next_byte ∙ next.no_open) B C stands_in_B stands_in_C in
+          let v = same_word room g h p q n word.0 _ word.1 same (ap ends next_byte ∙ next.ends_it)
+          (ap (λ x. is_byte x 40) next_byte ∙ next.no_open) B C stands_in_B stands_in_C in
           (v.0, (v.1.0, v.1.1 ∙ shape))
 
       read_at : ReadAt room position (token_at position g.text p) w ss (given g.edition h.text h.offset) q
@@ -480,31 +556,49 @@ module _ (room : ℕ) (position : Position) (g : Given) (p n : ℕ) (word : Read
         place = subst (λ r. past_continuations h.text r ≡ r) begin (inside.there ∙ ap (from_to p q) place);
         no_blank = subst (λ r. stands_in is_blank h.text r ≡ false) begin (here_stands_in K inside is_blank ∙ no_blank);
         token_is = subst (λ r. token_at position h.text r ≡ token_at position g.text p) begin same_token;
-        word = λ C stands_in_C. subst (λ m. WordOf room (given g.edition h.text h.offset) q m C (shape_word w ss)) (sym size) (word_there C stands_in_C);
+        word = λ C stands_in_C. subst (λ m. WordOf room (given g.edition h.text h.offset) q m C (shape_word w ss))
+            (sym size) (word_there C stands_in_C);
       }
 
-  item_there : (B : List ℕ) → g.text ≡ drop g.offset B → (ss : Shape SubstsOf) → shape_of_word B word.0 ≡ shape_word w ss → ItemAnywhere g.edition room position (token_at position g.text p) w ss
-  item_there B stands_in_B ss shape = record { some = has_byte; there = λ h q zs is_there following. read_at h q zs is_there following B stands_in_B ss shape }
+  item_there : (B : List ℕ) → g.text ≡ drop g.offset B → (ss : Shape SubstsOf) →
+      shape_of_word B word.0 ≡ shape_word w ss → ItemAnywhere g.edition room position (token_at position g.text p) w ss
+  item_there B stands_in_B ss shape =
+      record {
+        some = has_byte;
+        there =
+            λ h q zs is_there following. read_at h q zs is_there following B stands_in_B ss shape;
+      }
 
   names : is_name_at g.text p ≡ true → NameAnywhere w
   names name T q zs is_there following = name_there (given g.edition T 0) q zs is_there following name
 
 -- what is a word where it stands is one anywhere, and the same token
-pub token_anywhere : (room : ℕ) (position : Position) (token : Token) (g : Given) (p n : ℕ) (word : ReadsWord room g p n)
-    → past_continuations g.text p ≡ p → stands_in is_blank g.text p ≡ false → token_at position g.text p ≡ token → is_a_word token ≡ true
-    → (B : List ℕ) → g.text ≡ drop g.offset B → (ss : Shape SubstsOf) → shape_of_word B word.0 ≡ shape_word (take n (drop p g.text)) ss → ItemAnywhere g.edition room position token (take n (drop p g.text)) ss
+pub token_anywhere : (room : ℕ) (position : Position) (token : Token) (g : Given) (p n : ℕ)
+    (word : ReadsWord room g p n)
+    → past_continuations g.text p ≡ p → stands_in is_blank g.text p ≡ false → token_at position g.text p ≡ token →
+    is_a_word token ≡ true
+    → (B : List ℕ) → g.text ≡ drop g.offset B → (ss : Shape SubstsOf) →
+    shape_of_word B word.0 ≡ shape_word (take n (drop p g.text)) ss →
+    ItemAnywhere g.edition room position token (take n (drop p g.text)) ss
 token_anywhere room position _ g p n word place no_blank token_is item B stands_in_B ss shape =
     subst (λ (t : Token). ItemAnywhere g.edition room position t (take n (drop p g.text)) ss) token_is
-    (item_there room position g p n word place no_blank (subst (λ (t : Token). is_a_word t ≡ true) (sym token_is) item) B stands_in_B ss shape)
+    (item_there room position g p n word place no_blank
+    (subst (λ (t : Token). is_a_word t ≡ true) (sym token_is) item) B stands_in_B ss shape)
 
 -- what is an item where it stands is one anywhere
 pub item_anywhere : (room : ℕ) (position : Position) (token : Token) (g : Given) (p n : ℕ) (word : ReadsWord room g p n)
-    → past_continuations g.text p ≡ p → stands_in is_blank g.text p ≡ false → token_at position g.text p ≡ token → is_some (behind_word token) ≡ true
-    → (B : List ℕ) → g.text ≡ drop g.offset B → (ss : Shape SubstsOf) → shape_of_word B word.0 ≡ shape_word (take n (drop p g.text)) ss → ItemAnywhere g.edition room position token (take n (drop p g.text)) ss
-item_anywhere room position t g p n word place no_blank token_is item = token_anywhere room position t g p n word place no_blank token_is (item_is_word t item)
+    → past_continuations g.text p ≡ p → stands_in is_blank g.text p ≡ false → token_at position g.text p ≡ token →
+    is_some (behind_word token) ≡ true
+    → (B : List ℕ) → g.text ≡ drop g.offset B → (ss : Shape SubstsOf) →
+    shape_of_word B word.0 ≡ shape_word (take n (drop p g.text)) ss →
+    ItemAnywhere g.edition room position token (take n (drop p g.text)) ss
+item_anywhere room position t g p n word place no_blank token_is item =
+    token_anywhere room position t g p n word place no_blank token_is (item_is_word t item)
 
 -- and so is a NAME
 pub name_anywhere : (room : ℕ) (position : Position) (g : Given) (p n : ℕ) → ReadsWord room g p n
-    → past_continuations g.text p ≡ p → stands_in is_blank g.text p ≡ false → is_some (behind_word (token_at position g.text p)) ≡ true → is_name_at g.text p ≡ true
+    → past_continuations g.text p ≡ p → stands_in is_blank g.text p ≡ false →
+    is_some (behind_word (token_at position g.text p)) ≡ true → is_name_at g.text p ≡ true
     → NameAnywhere (take n (drop p g.text))
-name_anywhere room position g p n word place no_blank item name = names room position g p n word place no_blank (item_is_word _ item) name
+name_anywhere room position g p n word place no_blank item name =
+    names room position g p n word place no_blank (item_is_word _ item) name

@@ -15,13 +15,20 @@ use Rattle.shgrammar.specs.declared.edition.Edition.{Edition}
 module _ (edition : Edition) (B : List ℕ) where
   -- a line with its tree, and without
   like : (blank : Bool) (p : ℕ) → Like SameEnd (line_from edition B Whole blank p) (line_from edition B Nothing false p)
-  like blank p = (alike_line (given edition (drop p B) p) (level most_open) (alike_level (given edition (drop p B) p) most_open) blank false).like (standing 0)
+  like blank p = (alike_line (given edition (drop p B) p) (level most_open)
+      (alike_level (given edition (drop p B) p) most_open) blank false).like (standing 0)
 
-  module _ (f h : SoFar → ℕ → AScript) (so to : SoFar) (p : ℕ) (rest : (es fs : Row AnEntry) (t : State) → (f (with_line so es) (p + t.at)).wrong ≡ (h (with_line to fs) (p + t.at)).wrong) where
-    same_by : (x y z : Read (Row AnEntry × Bool)) → Like SameEnd x z → Like SameEnd y z → (script_by f so p x).wrong ≡ (script_by h to p y).wrong
-    same_by (Ok ((es, true), s)) (Ok ((fs, true), t)) (Ok ((gs, c), u)) one two = ap (λ (v : State). (f (with_line so es) (p + v.at)).wrong) (one.0 ∙ sym two.0) ∙ rest es fs t
-    same_by (Ok ((es, true), s)) (Ok ((fs, false), t)) (Ok ((gs, c), u)) one two = let no : true ≡ false = one.1 ∙ sym two.1 in absurd cc
-    same_by (Ok ((es, false), s)) (Ok ((fs, true), t)) (Ok ((gs, c), u)) one two = let no : false ≡ true = one.1 ∙ sym two.1 in absurd cc
+  module _ (f h : SoFar → ℕ → AScript) (so to : SoFar) (p : ℕ)
+      (rest : (es fs : Row AnEntry) (t : State) →
+      (f (with_line so es) (p + t.at)).wrong ≡ (h (with_line to fs) (p + t.at)).wrong) where
+    same_by : (x y z : Read (Row AnEntry × Bool)) → Like SameEnd x z → Like SameEnd y z →
+        (script_by f so p x).wrong ≡ (script_by h to p y).wrong
+    same_by (Ok ((es, true), s)) (Ok ((fs, true), t)) (Ok ((gs, c), u)) one two =
+        ap (λ (v : State). (f (with_line so es) (p + v.at)).wrong) (one.0 ∙ sym two.0) ∙ rest es fs t
+    same_by (Ok ((es, true), s)) (Ok ((fs, false), t)) (Ok ((gs, c), u)) one two = let no : true ≡ false = one.1
+        ∙ sym two.1 in absurd cc
+    same_by (Ok ((es, false), s)) (Ok ((fs, true), t)) (Ok ((gs, c), u)) one two = let no : false ≡ true = one.1
+        ∙ sym two.1 in absurd cc
     same_by (Ok ((es, false), s)) (Ok ((fs, false), t)) (Ok ((gs, c), u)) one two = refl
     same_by (Ok (x, s)) y (Err e) one two = absurd one
     same_by (Ok (x, s)) (Err e) (Ok (z, u)) one two = absurd two
@@ -30,51 +37,72 @@ module _ (edition : Edition) (B : List ℕ) where
     same_by (Err e) (Err e') (Err e'') one two = ap Some (one ∙ sym two)
 
   -- the first fault does not depend on what the lines before gave
-  whatever : (n : ℕ) (so to : SoFar) (p : ℕ) → (script_below edition B n so p).wrong ≡ (script_below edition B n to p).wrong
+  whatever : (n : ℕ) (so to : SoFar) (p : ℕ) →
+      (script_below edition B n so p).wrong ≡ (script_below edition B n to p).wrong
   unfolding script_below
   whatever zero so to p = refl
   whatever (suc n) so to p =
-      same_by (script_below edition B n) (script_below edition B n) so to p (λ es fs t. whatever n (with_line so es) (with_line to fs) (p + t.at))
-      (line_from edition B Whole (is_blank_line so) p) (line_from edition B Whole (is_blank_line to) p) (line_from edition B Nothing false p) (like (is_blank_line so) p) (like (is_blank_line to) p)
+      same_by (script_below edition B n) (script_below edition B n) so to p
+      (λ es fs t. whatever n (with_line so es) (with_line to fs) (p + t.at))
+      (line_from edition B Whole (is_blank_line so) p) (line_from edition B Whole (is_blank_line to) p)
+      (line_from edition B Nothing false p) (like (is_blank_line so) p) (like (is_blank_line to) p)
 
   whatever_on : (so to : SoFar) (p : ℕ) → (script_on edition B so p).wrong ≡ (script_on edition B to p).wrong
   unfolding script_on
   whatever_on so to p = whatever (suc (length B - p)) so to p
 
   -- a line without fault that a newline ends
-  pub beyond_kept : (p : ℕ) (es : Row AnEntry) (t : State) → line_from edition B Whole false p ≡ Ok ((es, true), t) → first_fault_from edition B p ≡ first_fault_from edition B (p + t.at)
+  pub beyond_kept : (p : ℕ) (es : Row AnEntry) (t : State) → line_from edition B Whole false p ≡ Ok ((es, true), t) →
+      first_fault_from edition B p ≡ first_fault_from edition B (p + t.at)
   unfolding first_fault_from
-  beyond_kept p es t is = ap (λ (y : AScript). y.wrong) (line_more edition B nothing_yet p false refl es t (with_line nothing_yet es) is refl) ∙ whatever_on _ _ _
+  beyond_kept p es t is = ap (λ (y : AScript). y.wrong)
+      (line_more edition B nothing_yet p false refl es t (with_line nothing_yet es) is refl) ∙ whatever_on _ _ _
 
-  beyond_by : (p : ℕ) (t : State) (x z : Read (Row AnEntry × Bool)) (fs : Row AnEntry) → line_from edition B Whole false p ≡ x → z ≡ Ok ((fs, true), t) → Like SameEnd x z → first_fault_from edition B p ≡ first_fault_from edition B (p + t.at)
+  beyond_by : (p : ℕ) (t : State) (x z : Read (Row AnEntry × Bool)) (fs : Row AnEntry) →
+      line_from edition B Whole false p ≡ x → z ≡ Ok ((fs, true), t) → Like SameEnd x z →
+      first_fault_from edition B p ≡ first_fault_from edition B (p + t.at)
   beyond_by p t (Ok ((es, true), s)) z fs is z_is one =
       let same = rw z_is at one in
       beyond_kept p es s is ∙ ap (λ (u : State). first_fault_from edition B (p + u.at)) same.0
-  beyond_by p t (Ok ((es, false), s)) z fs is z_is one = let same = rw z_is at one in let no : false ≡ true = same.1 in absurd cc
+  beyond_by p t (Ok ((es, false), s)) z fs is z_is one = let same = rw z_is at one in let no : false ≡ true = same.1 in
+      absurd cc
   beyond_by p t (Err e) z fs is z_is one = let same = rw z_is at one in absurd same
 
-  pub beyond : (p : ℕ) (t : State) (fs : Row AnEntry) → line_from edition B Nothing false p ≡ Ok ((fs, true), t) → first_fault_from edition B p ≡ first_fault_from edition B (p + t.at)
-  beyond p t fs is = beyond_by p t (line_from edition B Whole false p) (line_from edition B Nothing false p) fs refl is (like false p)
+  pub beyond : (p : ℕ) (t : State) (fs : Row AnEntry) → line_from edition B Nothing false p ≡ Ok ((fs, true), t) →
+      first_fault_from edition B p ≡ first_fault_from edition B (p + t.at)
+  beyond p t fs is = beyond_by p t (line_from edition B Whole false p) (line_from edition B Nothing false p) fs refl is
+      (like false p)
 
   -- the last line, without fault
-  nowhere_by : (p : ℕ) (t : State) (x z : Read (Row AnEntry × Bool)) (fs : Row AnEntry) → line_from edition B Whole false p ≡ x → z ≡ Ok ((fs, false), t) → Like SameEnd x z → first_fault_from edition B p ≡ None
+  nowhere_by : (p : ℕ) (t : State) (x z : Read (Row AnEntry × Bool)) (fs : Row AnEntry) →
+      line_from edition B Whole false p ≡ x → z ≡ Ok ((fs, false), t) → Like SameEnd x z →
+      first_fault_from edition B p ≡ None
   unfolding first_fault_from
-  nowhere_by p t (Ok ((es, false), s)) z fs is z_is one = ap (λ (y : AScript). y.wrong) (line_last edition B nothing_yet p false refl es s (with_line nothing_yet es) is refl)
-  nowhere_by p t (Ok ((es, true), s)) z fs is z_is one = let same = rw z_is at one in let no : true ≡ false = same.1 in absurd cc
+  nowhere_by p t (Ok ((es, false), s)) z fs is z_is one =
+      ap (λ (y : AScript). y.wrong)
+      (line_last edition B nothing_yet p false refl es s (with_line nothing_yet es) is refl)
+  nowhere_by p t (Ok ((es, true), s)) z fs is z_is one = let same = rw z_is at one in let no : true ≡ false = same.1 in
+      absurd cc
   nowhere_by p t (Err e) z fs is z_is one = let same = rw z_is at one in absurd same
 
-  pub nowhere : (p : ℕ) (t : State) (fs : Row AnEntry) → line_from edition B Nothing false p ≡ Ok ((fs, false), t) → first_fault_from edition B p ≡ None
-  nowhere p t fs is = nowhere_by p t (line_from edition B Whole false p) (line_from edition B Nothing false p) fs refl is (like false p)
+  pub nowhere : (p : ℕ) (t : State) (fs : Row AnEntry) → line_from edition B Nothing false p ≡ Ok ((fs, false), t) →
+      first_fault_from edition B p ≡ None
+  nowhere p t fs is = nowhere_by p t (line_from edition B Whole false p)
+      (line_from edition B Nothing false p) fs refl is (like false p)
 
   -- a line with a fault
-  here_by : (p : ℕ) (f : Fault) (x z : Read (Row AnEntry × Bool)) → line_from edition B Whole false p ≡ x → z ≡ Err f → Like SameEnd x z → first_fault_from edition B p ≡ Some f
+  here_by : (p : ℕ) (f : Fault) (x z : Read (Row AnEntry × Bool)) → line_from edition B Whole false p ≡ x → z ≡ Err f →
+      Like SameEnd x z → first_fault_from edition B p ≡ Some f
   unfolding first_fault_from
   here_by p f (Ok (x, s)) z is z_is one = let same = rw z_is at one in absurd same
   here_by p f (Err e) z is z_is one =
-      let same = rw z_is at one in ap (λ (y : AScript). y.wrong) (line_faulty edition B nothing_yet p false refl e is) ∙ ap Some same
+      let same = rw z_is at one in
+      ap (λ (y : AScript). y.wrong) (line_faulty edition B nothing_yet p false refl e is) ∙ ap Some same
 
   pub here : (p : ℕ) (f : Fault) → line_from edition B Nothing false p ≡ Err f → first_fault_from edition B p ≡ Some f
-  here p f is = here_by p f (line_from edition B Whole false p) (line_from edition B Nothing false p) refl is (like false p)
+  here p f is = here_by p f (line_from edition B Whole false p) (line_from edition B Nothing false p) refl is
+      (like false p)
 
-  pub here_within : (p : ℕ) (f : Fault) → p ≤ length B → line_from edition B Nothing false p ≡ Err f → f.at ≤ p + length (drop p B) → (first_fault_from edition B p ≡ Some f) × (f.at ≤ length B)
+  pub here_within : (p : ℕ) (f : Fault) → p ≤ length B → line_from edition B Nothing false p ≡ Err f →
+      f.at ≤ p + length (drop p B) → (first_fault_from edition B p ≡ Some f) × (f.at ≤ length B)
   here_within p f within is high = (here p f is, omega (arith, high, within, length-drop p B))

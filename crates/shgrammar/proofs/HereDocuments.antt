@@ -66,7 +66,8 @@ backquotes = refl
 -- ---- bodies
 
 abbrev waits : Bool → Bool → ℕ → List ℕ → Waiting
-waits literal strip operator delimiter = record { operator = operator; delimiter = delimiter; literal = literal; strip = strip }
+waits literal strip operator delimiter =
+    record { operator = operator; delimiter = delimiter; literal = literal; strip = strip }
 
 pub first_line : delimiter_from (codes "E\nE\n") (waits false false 0 (codes "E")) 0 ≡ Some 0
 unfolding delimiter_on delimiter_below at_end raw_past count_front
@@ -104,13 +105,15 @@ empty_line = refl
 
 -- two documents, the second at the end of the text
 pub two_bodies :
-    bodies_from (given Y2017 (codes "<<E <<F\na\nE\nF") 100) (waits false false 100 (codes "E") ∷ waits false false 104 (codes "F") ∷ []) [] 8
+    bodies_from (given Y2017 (codes "<<E <<F\na\nE\nF") 100)
+    (waits false false 100 (codes "E") ∷ waits false false 104 (codes "F") ∷ []) [] 8
     ≡ Ok (span 100 8 10 ∷ span 100 12 12 ∷ [], 13)
 unfolding bodies_from delimiter_on delimiter_below at_end raw_past count_front
 two_bodies = refl
 
 pub second_unclosed :
-    bodies_from (given Y2017 (codes "<<E <<F\na\nE\n") 100) (waits false false 100 (codes "E") ∷ waits false false 104 (codes "F") ∷ []) [] 8
+    bodies_from (given Y2017 (codes "<<E <<F\na\nE\n") 100)
+    (waits false false 100 (codes "E") ∷ waits false false 104 (codes "F") ∷ []) [] 8
     ≡ Err (record { kind = UnclosedHere; at = 104 })
 unfolding bodies_from delimiter_on delimiter_below at_end raw_past count_front
 second_unclosed = refl

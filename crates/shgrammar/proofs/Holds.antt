@@ -28,13 +28,15 @@ Holds P (Ok (x, t)) = P x t
 Holds P (Err f) = Unit {0}
 
 -- what holds of what is read, and then of the rest
-pub holds_then : {X Y : Type 0} (P : X → State → Type 0) (Q : Y → State → Type 0) (x : Read X) (f : X → State → Read Y) → Holds P x
+pub holds_then : {X Y : Type 0} (P : X → State → Type 0) (Q : Y → State → Type 0) (x : Read X) (f : X → State → Read Y)
+    → Holds P x
     → ((c : X) (t : State) → P c t → Holds Q (f c t)) → Holds Q (x ▸ f)
 holds_then P Q (Ok (c, t)) f one rest = rest c t one
 holds_then P Q (Err e) f one rest = tt
 
 -- what follows from it
-pub holds_so : {X : Type 0} (P Q : X → State → Type 0) (x : Read X) → Holds P x → ((c : X) (t : State) → P c t → Q c t) → Holds Q x
+pub holds_so : {X : Type 0} (P Q : X → State → Type 0) (x : Read X) → Holds P x → ((c : X) (t : State) → P c t → Q c t)
+    → Holds Q x
 holds_so P Q (Ok (c, t)) one so = so c t one
 holds_so P Q (Err e) one so = tt
 
@@ -48,63 +50,85 @@ module _ (keep : Keep) (g : Given) where
   tells_give so = record { told = so }
 
   -- one form and then another
-  pub tells_then : {X Y : Type 0} {P : X → State → Type 0} {Q : Y → State → Type 0} {r : Form X} {q : X → Form Y} {s : State} → Tells r P s
+  pub tells_then : {X Y : Type 0} {P : X → State → Type 0} {Q : Y → State → Type 0} {r : Form X} {q : X → Form Y}
+      {s : State} → Tells r P s
       → ((a : X) (t : State) → P a t → Tells (q a) Q t) → Tells (both r q) Q s
-  tells_then {P = P} {Q = Q} {r = r} {q = q} {s = s} first rest = record { told = holds_then P Q (does r keep g s) (λ a t. does (q a) keep g t) first.told (λ a t so. (rest a t so).told) }
+  tells_then {P = P} {Q = Q} {r = r} {q = q} {s = s} first rest =
+      record {
+        told = holds_then P Q (does r keep g s) (λ a t. does (q a) keep g t) first.told
+            (λ a t so. (rest a t so).told);
+      }
 
-  when_by : {X : Type 0} (P : X → State → Type 0) (test : Bool) (x y : Read X) → Holds P x → Holds P y → Holds P (cond test x y)
+  when_by : {X : Type 0} (P : X → State → Type 0) (test : Bool) (x y : Read X) → Holds P x → Holds P y →
+      Holds P (cond test x y)
   when_by P true x y one two = one
   when_by P false x y one two = two
 
   -- one form or another
-  pub tells_when : {X : Type 0} {P : X → State → Type 0} {f : Sight Bool} {r q : Form X} {s : State} → Tells r P s → Tells q P s → Tells (when f r q) P s
+  pub tells_when : {X : Type 0} {P : X → State → Type 0} {f : Sight Bool} {r q : Form X} {s : State} → Tells r P s →
+      Tells q P s → Tells (when f r q) P s
   tells_when {P = P} {f = f} {s = s} one two = record { told = when_by P (seen f g s) _ _ one.told two.told }
 
   token_by : {X : Type 0} (P : X → State → Type 0) (Q : X × Span → State → Type 0) (s : State) (x : Read X) → Holds P x
-      → ((a : X) (t : State) → P a t → Q (a, span g.offset s.at t.at) t) → Holds Q (x ▸ λ a t. Ok ((a, span g.offset s.at t.at), t))
+      → ((a : X) (t : State) → P a t → Q (a, span g.offset s.at t.at) t) →
+      Holds Q (x ▸ λ a t. Ok ((a, span g.offset s.at t.at), t))
   token_by P Q s (Ok (a, t)) one so = so a t one
   token_by P Q s (Err f) one so = tt
 
   -- one token
-  pub tells_token : {X : Type 0} {P : X → State → Type 0} {Q : X × Span → State → Type 0} {how : Told} {r : Form X} {s : State} → Tells r P s
+  pub tells_token : {X : Type 0} {P : X → State → Type 0} {Q : X × Span → State → Type 0} {how : Told} {r : Form X}
+      {s : State} → Tells r P s
       → ((a : X) (t : State) → P a t → Q (a, span g.offset s.at t.at) t) → Tells (token how r) Q s
   tells_token {P = P} {Q = Q} {r = r} {s = s} one so = record { told = token_by P Q s (does r keep g s) one.told so }
 
   -- where the text ends in it, the fault is another one
-  ending_by : {X : Type 0} (P : X → State → Type 0) (kind : FaultKind) (at : ℕ) (x : Read X) → Holds P x → Holds P (with_end kind at x)
+  ending_by : {X : Type 0} (P : X → State → Type 0) (kind : FaultKind) (at : ℕ) (x : Read X) → Holds P x →
+      Holds P (with_end kind at x)
   ending_by P kind at (Ok (a, t)) one = one
   ending_by P kind at (Err f) one = tt
 
-  pub tells_ending : {X : Type 0} {P : X → State → Type 0} {kind : FaultKind} {at : ℕ} {r : Form X} {s : State} → Tells r P s → Tells (ends_as kind at r) P s
-  tells_ending {P = P} {kind = kind} {at = at} {r = r} {s = s} one = record { told = ending_by P kind at (does r keep g s) one.told }
+  pub tells_ending : {X : Type 0} {P : X → State → Type 0} {kind : FaultKind} {at : ℕ} {r : Form X} {s : State} →
+      Tells r P s → Tells (ends_as kind at r) P s
+  tells_ending {P = P} {kind = kind} {at = at} {r = r} {s = s} one =
+      record { told = ending_by P kind at (does r keep g s) one.told }
 
   -- what waits changes, or the bodies are read
-  change_by : (P : Unit {0} → State → Type 0) (x : Result State Fault) → ((t : State) → x ≡ Ok t → P tt t) → Holds P (nothing_read x)
+  change_by : (P : Unit {0} → State → Type 0) (x : Result State Fault) → ((t : State) → x ≡ Ok t → P tt t) →
+      Holds P (nothing_read x)
   change_by P (Ok t) so = so t refl
   change_by P (Err f) so = tt
 
-  pub tells_change : {P : Unit {0} → State → Type 0} {c : Change} {s : State} → ((t : State) → changed c g s ≡ Ok t → P tt t) → Tells (change c) P s
+  pub tells_change : {P : Unit {0} → State → Type 0} {c : Change} {s : State} →
+      ((t : State) → changed c g s ≡ Ok t → P tt t) → Tells (change c) P s
   tells_change {P = P} {c = c} {s = s} so = record { told = change_by P (changed c g s) so }
 
   -- what is read, with its bytes
-  bytes_by : {X : Type 0} (P : X → State → Type 0) (Q : X × Spelled → State → Type 0) (s : State) (x : Read X) → Holds P x
-      → ((a : X) (t : State) → P a t → Q (a, raw g.text s.at t.at) t) → Holds Q (x ▸ λ a t. Ok ((a, raw g.text s.at t.at), t))
+  bytes_by : {X : Type 0} (P : X → State → Type 0) (Q : X × Spelled → State → Type 0) (s : State) (x : Read X) →
+      Holds P x
+      → ((a : X) (t : State) → P a t → Q (a, raw g.text s.at t.at) t) →
+      Holds Q (x ▸ λ a t. Ok ((a, raw g.text s.at t.at), t))
   bytes_by P Q s (Ok (a, t)) one so = so a t one
   bytes_by P Q s (Err f) one so = tt
 
-  pub tells_with_bytes : {X : Type 0} {P : X → State → Type 0} {Q : X × Spelled → State → Type 0} {r : Form X} {s : State} → Tells r P s
+  pub tells_with_bytes : {X : Type 0} {P : X → State → Type 0} {Q : X × Spelled → State → Type 0} {r : Form X}
+      {s : State} → Tells r P s
       → ((a : X) (t : State) → P a t → Q (a, raw g.text s.at t.at) t) → Tells (with_bytes r) Q s
-  tells_with_bytes {P = P} {Q = Q} {r = r} {s = s} one so = record { told = bytes_by P Q s (does r keep g s) one.told so }
+  tells_with_bytes {P = P} {Q = Q} {r = r} {s = s} one so =
+      record { told = bytes_by P Q s (does r keep g s) one.told so }
 
   -- a level of its own
-  level_by : {X : Type 0} (P : X → State → Type 0) (Q : X × Row Span → State → Type 0) (s : State) (x : Read X) → Holds P x
-      → ((a : X) (t : State) → P a t → Q (a, t.bodies) (outer_level s t)) → Holds Q (x ▸ λ a t. Ok ((a, t.bodies), outer_level s t))
+  level_by : {X : Type 0} (P : X → State → Type 0) (Q : X × Row Span → State → Type 0) (s : State) (x : Read X) →
+      Holds P x
+      → ((a : X) (t : State) → P a t → Q (a, t.bodies) (outer_level s t)) →
+      Holds Q (x ▸ λ a t. Ok ((a, t.bodies), outer_level s t))
   level_by P Q s (Ok (a, t)) one so = so a t one
   level_by P Q s (Err f) one so = tt
 
-  pub tells_level : {X : Type 0} {P : X → State → Type 0} {Q : X × Row Span → State → Type 0} {r : Form X} {s : State} → Tells r P (own_level s)
+  pub tells_level : {X : Type 0} {P : X → State → Type 0} {Q : X × Row Span → State → Type 0} {r : Form X} {s : State} →
+      Tells r P (own_level s)
       → ((a : X) (t : State) → P a t → Q (a, t.bodies) (outer_level s t)) → Tells (a_level r) Q s
-  tells_level {P = P} {Q = Q} {r = r} {s = s} one so = record { told = level_by P Q s (does r keep g (own_level s)) one.told so }
+  tells_level {P = P} {Q = Q} {r = r} {s = s} one so =
+      record { told = level_by P Q s (does r keep g (own_level s)) one.told so }
 
   -- what a turn gives: R where it goes on, and Q where it was the last
   abbrev pub Stepped : {A : Type 0} → (A → State → Type 0) → (A → State → Type 0) → Step A → State → Type 0
@@ -115,13 +139,15 @@ module _ (keep : Keep) (g : Given) where
   abbrev pub Turned : {A : Type 0} → (A → State → Type 0) → Step A → State → Type 0
   Turned P c t = Stepped P P c t
 
-  module _ {A : Type 0} (turn : A → Form (Step A)) (P R Q : A → State → Type 0) (each : (a : A) (s : State) → P a s → Tells (turn a) (Stepped R Q) s)
+  module _ {A : Type 0} (turn : A → Form (Step A)) (P R Q : A → State → Type 0)
+      (each : (a : A) (s : State) → P a s → Tells (turn a) (Stepped R Q) s)
       (goes : (a : A) (s : State) → R a s → P a s) (ends : (a : A) (s : State) → R a s → Q a s) where
     f : A → State → Read (Step A)
     f a s = does (turn a) keep g s
 
     turn_by : (a : A) (s : State) (x : Read (Step A)) → f a s ≡ x → Holds (Stepped R Q) x
-        → ((b : A) (t : State) → length g.text - t.at < length g.text - s.at → P b t → Holds Q (turns g f b t)) → Holds Q (turns g f a s)
+        → ((b : A) (t : State) → length g.text - t.at < length g.text - s.at → P b t → Holds Q (turns g f b t)) →
+        Holds Q (turns g f a s)
     turn_by a s (Ok (done b, t)) is good rest = rw (turns_done g f a b s t is) good
     turn_by a s (Ok (again b, t)) is good rest = on (leads_on g s t) refl
       where
@@ -133,14 +159,17 @@ module _ (keep : Keep) (g : Given) where
     turns_hold : (n : ℕ) (a : A) (s : State) → length g.text - s.at < n → P a s → Holds Q (turns g f a s)
     unfolding f
     turns_hold zero a s low so = absurd (omega arith)
-    turns_hold (suc n) a s low so = turn_by a s (f a s) refl (each a s so).told (λ b t less there. turns_hold n b t (omega (arith, less, low)) there)
+    turns_hold (suc n) a s low so =
+        turn_by a s (f a s) refl (each a s so).told
+        (λ b t less there. turns_hold n b t (omega (arith, less, low)) there)
 
     -- a repetition: P holds before each turn, and Q behind the last
     pub tells_until : (a : A) (s : State) → P a s → Tells (many turn a) Q s
     unfolding f many
     tells_until a s so = record { told = turns_hold (suc (length g.text - s.at)) a s (omega arith) so }
 
-  module _ {A : Type 0} (turn : A → Form (Step A)) (P : A → State → Type 0) (each : (a : A) (s : State) → P a s → Tells (turn a) (Turned P) s) where
+  module _ {A : Type 0} (turn : A → Form (Step A)) (P : A → State → Type 0)
+      (each : (a : A) (s : State) → P a s → Tells (turn a) (Turned P) s) where
     -- P holds before and behind each turn
     pub tells_many : (a : A) (s : State) → P a s → Tells (many turn a) P s
     tells_many a s so = tells_until turn P P P each (λ b t good. good) (λ b t good. good) a s so
@@ -150,7 +179,8 @@ module _ (keep : Keep) (g : Given) where
     tells_loop a s so = record { told = (tells_many a s so).told }
 
   -- what follows
-  pub tells_so : {X : Type 0} {P Q : X → State → Type 0} {r : Form X} {s : State} → Tells r P s → ((a : X) (t : State) → P a t → Q a t) → Tells r Q s
+  pub tells_so : {X : Type 0} {P Q : X → State → Type 0} {r : Form X} {s : State} → Tells r P s →
+      ((a : X) (t : State) → P a t → Q a t) → Tells r Q s
   tells_so {P = P} {Q = Q} {r = r} {s = s} one so = record { told = holds_so P Q (does r keep g s) one.told so }
 
   -- nothing is said
@@ -162,23 +192,28 @@ module _ (keep : Keep) (g : Given) where
   tells_any {r = r} {s = s} = record { told = any_read (does r keep g s) }
 
   -- what the first form gives may be anything
-  pub tells_after : {X Y : Type 0} {Q : Y → State → Type 0} {r : Form X} {q : X → Form Y} {s : State} → ((x : X) (t : State) → Tells (q x) Q t) → Tells (both r q) Q s
+  pub tells_after : {X Y : Type 0} {Q : Y → State → Type 0} {r : Form X} {q : X → Form Y} {s : State} →
+      ((x : X) (t : State) → Tells (q x) Q t) → Tells (both r q) Q s
   tells_after {r = r} {s = s} rest = tells_then {r = r} {s = s} tells_any (λ x t so. rest x t)
 
   -- what is seen, and then the rest
-  pub tells_seen : {X Y : Type 0} {Q : Y → State → Type 0} {f : Sight X} {q : X → Form Y} {s : State} → Tells (q (seen f g s)) Q s → Tells (both (see f) q) Q s
+  pub tells_seen : {X Y : Type 0} {Q : Y → State → Type 0} {f : Sight X} {q : X → Form Y} {s : State} →
+      Tells (q (seen f g s)) Q s → Tells (both (see f) q) Q s
   tells_seen rest = record { told = rest.told }
 
   -- on to another place, and then the rest
-  pub tells_moved : {Y : Type 0} {Q : Y → State → Type 0} {m : Move} {q : Unit {0} → Form Y} {s : State} → Tells (q tt) Q (moved_on m g s) → Tells (both (move m) q) Q s
+  pub tells_moved : {Y : Type 0} {Q : Y → State → Type 0} {m : Move} {q : Unit {0} → Form Y} {s : State} →
+      Tells (q tt) Q (moved_on m g s) → Tells (both (move m) q) Q s
   tells_moved rest = record { told = rest.told }
 
 -- what stands in a command substitution
-pub tells_inside : (keep : Keep) (g : Given) {X : Type 0} {P : X → State → Type 0} {r : Form X} {s : State} → Tells (inside keep) g r P s → Tells keep g (in_substitution r) P s
+pub tells_inside : (keep : Keep) (g : Given) {X : Type 0} {P : X → State → Type 0} {r : Form X} {s : State} →
+    Tells (inside keep) g r P s → Tells keep g (in_substitution r) P s
 tells_inside keep g one = record { told = one.told }
 
 -- one more element of the tree, and then the rest
-pub tells_pushed : (g : Given) {A Y : Type 0} {Q : Y → State → Type 0} {xs : Row A} {x : A} {q : Row A → Form Y} {s : State} → Tells Whole g (q (xs ++ x ∷ [])) Q s
+pub tells_pushed : (g : Given) {A Y : Type 0} {Q : Y → State → Type 0} {xs : Row A} {x : A} {q : Row A → Form Y}
+    {s : State} → Tells Whole g (q (xs ++ x ∷ [])) Q s
     → Tells Whole g (both (push xs x) q) Q s
 tells_pushed g rest = record { told = rest.told }
 
@@ -212,14 +247,18 @@ move_low a_comment_on T p = comment_low T p
 move_low the_reserved T p = reserved_low T p
 move_low the_digits T p = digits_low T p
 
-state_low : (s t : State) (x : Result (Row Span × ℕ) Fault) → ((y : Row Span × ℕ) → x ≡ Ok y → s.at ≤ y.1) → state_by x ≡ Ok t → s.at ≤ t.at
-state_low s t (Ok y) low is = let same : record { at = y.1; waiting = []; bodies = y.0 } ≡ t = cc in subst (λ (u : State). s.at ≤ u.at) same (low y refl)
+state_low : (s t : State) (x : Result (Row Span × ℕ) Fault) → ((y : Row Span × ℕ) → x ≡ Ok y → s.at ≤ y.1) →
+    state_by x ≡ Ok t → s.at ≤ t.at
+state_low s t (Ok y) low is = let same : record { at = y.1; waiting = []; bodies = y.0 } ≡ t = cc in
+    subst (λ (u : State). s.at ≤ u.at) same (low y refl)
 state_low s t (Err f) low is = absurd cc
 
 -- nor does the newline before bodies
 pub change_low : (c : Change) (g : Given) (s t : State) → changed c g s ≡ Ok t → s.at ≤ t.at
-change_low (waits w) g s t is = let same : record { at = s.at; waiting = s.waiting ++ w ∷ []; bodies = s.bodies } ≡ t = cc in subst (λ (u : State). s.at ≤ u.at) same (omega arith)
-change_low bodies_here g s t is = state_low s t (bodies_from g s.waiting s.bodies s.at) (λ y read. bodies_low g s.waiting s.bodies s.at y read) is
+change_low (waits w) g s t is = let same : record { at = s.at; waiting = s.waiting ++ w ∷ []; bodies = s.bodies } ≡ t =
+    cc in subst (λ (u : State). s.at ≤ u.at) same (omega arith)
+change_low bodies_here g s t is =
+    state_low s t (bodies_from g s.waiting s.bodies s.at) (λ y read. bodies_low g s.waiting s.bodies s.at y read) is
 
 -- behind a state
 abbrev pub Behind : {X : Type 0} → State → X → State → Type 0
@@ -231,10 +270,13 @@ low (see f) keep g s = record { told = omega arith }
 low (move m) keep g s = record { told = move_low m g.text s.at }
 low (push xs x) keep g s = record { told = omega arith }
 low (stop kind at) keep g s = record { told = tt }
-low (both r q) keep g s = tells_then keep g (low r keep g s) (λ a t on. tells_so keep g (low (q a) keep g t) (λ b u more. omega (arith, on, more)))
+low (both r q) keep g s = tells_then keep g (low r keep g s)
+    (λ a t on. tells_so keep g (low (q a) keep g t) (λ b u more. omega (arith, on, more)))
 low (when f r q) keep g s = tells_when keep g (low r keep g s) (low q keep g s)
 low (token how r) keep g s = tells_token keep g (low r keep g s) (λ a t on. on)
-low {X = X} (loop turn a) keep g s = tells_loop keep g turn (Behind s) (λ b t on. tells_so keep g (low (turn b) keep g t) (turned t on)) a s (omega arith)
+low {X = X} (loop turn a) keep g s =
+    tells_loop keep g turn (Behind s) (λ b t on. tells_so keep g (low (turn b) keep g t) (turned t on)) a s
+    (omega arith)
   where
     turned : (t : State) → s.at ≤ t.at → (c : Step X) (u : State) → t.at ≤ u.at → Turned keep g (Behind s) c u
     turned t on (again c) u more = omega (arith, on, more)

@@ -39,7 +39,8 @@ unfolding past_taken
 taken_two T q e = rw e refl
 
 taken_low : (T : List ℕ) (q : ℕ) → q < past_taken T q
-taken_low T q = ⊎_elim (λ e. omega (arith, taken_two T q e)) (λ e. omega (arith, taken_one T q e)) (cases_Bool (raw_stands T q 92))
+taken_low T q = ⊎_elim (λ e. omega (arith, taken_two T q e)) (λ e. omega (arith, taken_one T q e))
+    (cases_Bool (raw_stands T q 92))
 
 module _ {edition : Edition} {T U : List ℕ} {a L : ℕ} {to : ℕ → ℕ} (K : Kept edition T U a L to) where
   -- a byte before the limit is read at p
@@ -73,7 +74,8 @@ module _ {edition : Edition} {T U : List ℕ} {a L : ℕ} {to : ℕ → ℕ} (K 
   unfolding past_taken
   same_taken q from lt =
       ⊎_elim (λ (e : raw_stands T q 92 ≡ true). rw (raw_same K q 92 from lt, e) (sym (K.on q 2 from)))
-      (λ (e : raw_stands T q 92 ≡ false). rw (raw_same K q 92 from lt, e) (sym (K.on q 1 from))) (cases_Bool (raw_stands T q 92))
+      (λ (e : raw_stands T q 92 ≡ false). rw (raw_same K q 92 from lt, e) (sym (K.on q 1 from)))
+      (cases_Bool (raw_stands T q 92))
 
   pub same_end : (q : ℕ) → a ≤ q → q < L → at_end U (to q) ≡ at_end T q
   unfolding at_end
@@ -83,19 +85,27 @@ module _ {edition : Edition} {T U : List ℕ} {a L : ℕ} {to : ℕ → ℕ} (K 
   same_last q from le e =
       ⊎_elim
       (λ (f : raw_stands T q 92 ≡ true). let lt : q + 1 < L = omega (arith, le, taken_two T q f) in
-      rw (raw_same K q 92 from (omega (arith, lt)), f, sym (K.on q 1 from), same_end (q + 1) (omega (arith, from)) lt) (rw f at e))
-      (λ (f : raw_stands T q 92 ≡ false). rw (raw_same K q 92 from (omega (arith, le, taken_low T q)), f) refl) (cases_Bool (raw_stands T q 92))
+      rw (raw_same K q 92 from (omega (arith, lt)), f, sym (K.on q 1 from), same_end (q + 1) (omega (arith, from)) lt)
+      (rw f at e))
+      (λ (f : raw_stands T q 92 ≡ false). rw (raw_same K q 92 from (omega (arith, le, taken_low T q)), f) refl)
+      (cases_Bool (raw_stands T q 92))
 
   -- ---- parameters
 
-  stretch_of : (test : ℕ → Bool) → (n p : ℕ) → length T - p < n → a ≤ p → In (past test T p) → In p × (past test U (to p) ≡ to (past test T p))
+  stretch_of : (test : ℕ → Bool) → (n p : ℕ) → length T - p < n → a ≤ p → In (past test T p) → In p
+      × (past test U (to p) ≡ to (past test T p))
   stretch_of test zero p few from i = absurd (omega arith)
   stretch_of test (suc n) p few from i =
       ⊎_elim
       (λ (e : stands_in test T p ≡ true). let more = past_more test T p e in
-      let rest = stretch_of test n (behind T p) (omega (arith, few, behind_low T p, stands_in_low test T p e, place_low T p)) (omega (arith, from, behind_low T p)) (subst In more i) in
-      let start = before p from rest.0 in
-      (start, past_more test U (to p) (here_stands_in K start test ∙ e) ∙ ap (past test U) (here_behind K start) ∙ rest.1 ∙ ap to (sym more)))
+      let rest = stretch_of test n (behind T p)
+      (omega (arith, few, behind_low T p, stands_in_low test T p e, place_low T p))
+      (omega (arith, from, behind_low T p)) (subst In more i) in
+      let start = before p from rest.0 in (
+        start,
+        past_more test U (to p) (here_stands_in K start test ∙ e) ∙ ap (past test U) (here_behind K start)
+            ∙ rest.1 ∙ ap to (sym more),
+      ))
       (λ (e : stands_in test T p ≡ false). let none = past_none test T p e in
       let start = subst In none i in
       (start, past_none test U (to p) (here_stands_in K start test ∙ e) ∙ ap to (sym none)))
@@ -104,16 +114,27 @@ module _ {edition : Edition} {T U : List ℕ} {a L : ℕ} {to : ℕ → ℕ} (K 
   stretch_in : (test : ℕ → Bool) (p : ℕ) → a ≤ p → In (past test T p) → In p × (past test U (to p) ≡ to (past test T p))
   stretch_in test p from i = stretch_of test (suc (length T - p)) p (omega arith) from i
 
-  pub parameter_in : (p : ℕ) → a ≤ p → In (past_parameter T p) → In p × (past_parameter U (to p) ≡ to (past_parameter T p))
+  pub parameter_in : (p : ℕ) → a ≤ p → In (past_parameter T p) → In p
+      × (past_parameter U (to p) ≡ to (past_parameter T p))
   unfolding past_parameter
   parameter_in p from i =
       ⊎_elim
-      (λ (e : stands_in is_letter T p ≡ true). let w = stretch_in is_name p from (rw e at i) in (w.0, rw (here_stands_in K w.0 is_letter, e) w.1))
+      (λ (e : stands_in is_letter T p ≡ true). let w = stretch_in is_name p from (rw e at i) in
+      (w.0, rw (here_stands_in K w.0 is_letter, e) w.1))
       (λ (e : stands_in is_letter T p ≡ false). ⊎_elim
-      (λ (f : stands_in is_digit T p ≡ true). let w = stretch_in is_digit p from (rw (e, f) at i) in (w.0, rw (here_stands_in K w.0 is_letter, e, here_stands_in K w.0 is_digit, f) w.1))
+      (λ (f : stands_in is_digit T p ≡ true). let w = stretch_in is_digit p from (rw (e, f) at i) in
+      (w.0, rw (here_stands_in K w.0 is_letter, e, here_stands_in K w.0 is_digit, f) w.1))
       (λ (f : stands_in is_digit T p ≡ false). ⊎_elim
-      (λ (d : stands_in is_special T p ≡ true). let w = before p from (rw (e, f, d) at i) in (w, rw (here_stands_in K w is_letter, e, here_stands_in K w is_digit, f, here_stands_in K w is_special, d) (here_behind K w)))
-      (λ (d : stands_in is_special T p ≡ false). let w : In p = rw (e, f, d) at i in (w, rw (here_stands_in K w is_letter, e, here_stands_in K w is_digit, f, here_stands_in K w is_special, d) refl))
+      (λ (d : stands_in is_special T p ≡ true). let w = before p from (rw (e, f, d) at i) in (
+        w,
+        rw (here_stands_in K w is_letter, e, here_stands_in K w is_digit, f, here_stands_in K w is_special, d)
+            (here_behind K w),
+      ))
+      (λ (d : stands_in is_special T p ≡ false). let w : In p = rw (e, f, d) at i in (
+        w,
+        rw (here_stands_in K w is_letter, e, here_stands_in K w is_digit, f, here_stands_in K w is_special, d)
+            refl,
+      ))
       (cases_Bool (stands_in is_special T p)))
       (cases_Bool (stands_in is_digit T p)))
       (cases_Bool (stands_in is_letter T p))
@@ -150,10 +171,14 @@ module _ {edition : Edition} {T U : List ℕ} {a L : ℕ} {to : ℕ → ℕ} (K 
 
   pub same_leads : (s t : State) → a ≤ s.at → s.at ≤ t.at → t.at ≤ L → leads_on h (there s) (there t) ≡ leads_on g s t
   same_leads s t from onward le =
-      let apart : to t.at ≡ to s.at + (t.at - s.at) = (let is : s.at + (t.at - s.at) ≡ t.at = omega (arith, onward) in ap to (sym is) ∙ K.on s.at (t.at - s.at) from) in
+      let apart : to t.at ≡ to s.at + (t.at - s.at) =
+      (let is : s.at + (t.at - s.at) ≡ t.at = omega (arith, onward) in
+      ap to (sym is) ∙ K.on s.at (t.at - s.at) from) in
       less_same (length T - t.at) (length T - s.at) (length U - to t.at) (length U - to s.at)
-      (λ lt. let w = within s.at from (omega (arith, lt, onward, le)) (omega (arith, lt)) in omega (arith, lt, apart, w))
-      (λ lt. let w = within_back s.at from (omega (arith, lt, onward, le, apart)) (omega (arith, lt)) in omega (arith, lt, apart, w, onward))
+      (λ lt. let w = within s.at from (omega (arith, lt, onward, le)) (omega (arith, lt)) in
+      omega (arith, lt, apart, w))
+      (λ lt. let w = within_back s.at from (omega (arith, lt, onward, le, apart)) (omega (arith, lt)) in
+      omega (arith, lt, apart, w, onward))
 
   -- ---- turns
 
@@ -178,30 +203,39 @@ module _ {edition : Edition} {T U : List ℕ} {a L : ℕ} {to : ℕ → ℕ} (K 
     abbrev pub Looped : A → State → A → State → Type 0
     Looped c s x t = Last t.at → From s.at × ((d : A) → S c d → Finds (turns h two d (there s)) (S x) t)
 
-    module _ (from_high : (p : ℕ) → From p → p ≤ L) (last_high : (p : ℕ) → Last p → p ≤ L) (each : (c : A) (s : State) → a ≤ s.at → Holds (Turned c s) (one c s)) where
-      last_turn : (d : A) (s t : State) (c : A) → Finds (two d (there s)) (SameStep S (done c)) t → Finds (turns h two d (there s)) (S c) t
+    module _ (from_high : (p : ℕ) → From p → p ≤ L) (last_high : (p : ℕ) → Last p → p ≤ L)
+        (each : (c : A) (s : State) → a ≤ s.at → Holds (Turned c s) (one c s)) where
+      last_turn : (d : A) (s t : State) (c : A) → Finds (two d (there s)) (SameStep S (done c)) t →
+          Finds (turns h two d (there s)) (S c) t
       last_turn d s t c (again y, w) = absurd w.1
       last_turn d s t c (done y, w) = (y, (turns_done h two d y (there s) (there t) w.0, w.1))
 
-      next_turn : (d : A) (s t : State) (c z : A) (v : State) → Finds (two d (there s)) (SameStep S (again c)) t → leads_on h (there s) (there t) ≡ true
+      next_turn : (d : A) (s t : State) (c z : A) (v : State) → Finds (two d (there s)) (SameStep S (again c)) t →
+          leads_on h (there s) (there t) ≡ true
           → ((e : A) → S c e → Finds (turns h two e (there t)) (S z) v) → Finds (turns h two d (there s)) (S z) v
-      next_turn d s t c z v (again y, w) on rest = let r = rest y w.1 in (r.0, (turns_on h two d y (there s) (there t) w.0 on ∙ r.1.0, r.1.1))
+      next_turn d s t c z v (again y, w) on rest = let r = rest y w.1 in
+          (r.0, (turns_on h two d y (there s) (there t) w.0 on ∙ r.1.0, r.1.1))
       next_turn d s t c z v (done y, w) on rest = absurd w.1
 
-      rest_turn : (d : A) (s t : State) (c : A) → Finds (two d (there s)) (SameStep S (again c)) t → leads_on h (there s) (there t) ≡ false → Finds (turns h two d (there s)) (S c) t
+      rest_turn : (d : A) (s t : State) (c : A) → Finds (two d (there s)) (SameStep S (again c)) t →
+          leads_on h (there s) (there t) ≡ false → Finds (turns h two d (there s)) (S c) t
       rest_turn d s t c (again y, w) off = (y, (turns_rest h two d y (there s) (there t) w.0 off, w.1))
       rest_turn d s t c (done y, w) off = absurd w.1
 
-      by_turn : (c : A) (s : State) → a ≤ s.at → (x : Read (Step A)) → one c s ≡ x → Holds (Turned c s) x → Holds (Behind s) x
-          → ((z : A) (t : State) → a ≤ t.at → length T - t.at < length T - s.at → Holds (Looped z t) (turns g one z t)) → Holds (Looped c s) (turns g one c s)
+      by_turn : (c : A) (s : State) → a ≤ s.at → (x : Read (Step A)) → one c s ≡ x → Holds (Turned c s) x →
+          Holds (Behind s) x
+          → ((z : A) (t : State) → a ≤ t.at → length T - t.at < length T - s.at → Holds (Looped z t) (turns g one z t))
+          → Holds (Looped c s) (turns g one c s)
       by_turn c s from (Err e) is good onward rest = rw (turns_fault g one c s e is) tt
-      by_turn c s from (Ok (done z, t)) is good onward rest = rw (turns_done g one c z s t is) (λ end. let w = good end in (w.0, λ d so. last_turn d s t z (w.1 d so)))
+      by_turn c s from (Ok (done z, t)) is good onward rest =
+          rw (turns_done g one c z s t is) (λ end. let w = good end in (w.0, λ d so. last_turn d s t z (w.1 d so)))
       by_turn c s from (Ok (again z, t)) is good onward rest = on (leads_on g s t) refl
         where
           on : (b : Bool) → leads_on g s t ≡ b → Holds (Looped c s) (turns g one c s)
           on true e =
               rw (turns_on g one c z s t is e)
-              (holds_so (Looped z t) (Looped c s) (turns g one z t) (rest z t (omega (arith, from, onward)) (ltb-true _ _ e))
+              (holds_so (Looped z t) (Looped c s) (turns g one z t)
+              (rest z t (omega (arith, from, onward)) (ltb-true _ _ e))
               (λ v u first end. let f = first end in
               let w = good (from_high _ f.0, λ x. f.0) in
               (w.0, λ d so. next_turn d s t z v u (w.1 d so) (same_leads s t from onward (from_high _ f.0) ∙ e) f.1)))
@@ -212,7 +246,9 @@ module _ {edition : Edition} {T U : List ℕ} {a L : ℕ} {to : ℕ → ℕ} (K 
 
       all_turns : (n : ℕ) (c : A) (s : State) → length T - s.at < n → a ≤ s.at → Holds (Looped c s) (turns g one c s)
       all_turns zero c s few from = absurd (omega arith)
-      all_turns (suc n) c s few from = by_turn c s from (one c s) refl (each c s from) (low (turn c) Whole g s).told (λ z t on less. all_turns n z t (omega (arith, less, few)) on)
+      all_turns (suc n) c s few from =
+          by_turn c s from (one c s) refl (each c s from) (low (turn c) Whole g s).told
+          (λ z t on less. all_turns n z t (omega (arith, less, few)) on)
 
       pub looped : (c : A) (s : State) → a ≤ s.at → Holds (Looped c s) (does (loop turn c) Whole g s)
       looped c s from = all_turns (suc (length T - s.at)) c s (omega arith) from
@@ -231,14 +267,26 @@ module _ {edition : Edition} {T U : List ℕ} {a L : ℕ} {to : ℕ → ℕ} (K 
       q : ℕ
       q = next_quote T (behind T s.at)
 
-      found : at_end T q ≡ false → (past_taken T q ≤ L) → (In K) s.at × ((y : Unit {0}) × (does single Whole h (there s) ≡ Ok (y, there (at (past_taken T q) s))))
+      found : at_end T q ≡ false → (past_taken T q ≤ L) → (In K) s.at
+          × ((y : Unit {0}) × (does single Whole h (there s) ≡ Ok (y, there (at (past_taken T q) s))))
       found f le =
           let onward = next_of_low 39 T (behind T s.at) in
           let q_in : q < L = omega (arith, le, taken_low T q) in
           let i = clear K s.at from (omega (arith, onward, q_in, behind_is T s.at)) e in
           let low_q : a ≤ behind T s.at = omega (arith, from, behind_low T s.at) in
-          let found = raw_there K (λ b. not (b == 39)) (behind T s.at) low_q q_in in
-          (i, (tt, rw (here_behind K i, found, same_end K q (omega (arith, low_q, onward)) q_in, f, same_taken K q (omega (arith, low_q, onward)) q_in) refl))
+          let found = raw_there K (λ b. not (b == 39)) (behind T s.at) low_q q_in in (
+            i,
+            (
+              tt,
+              rw (
+                here_behind K i,
+                found,
+                same_end K q (omega (arith, low_q, onward)) q_in,
+                f,
+                same_taken K q (omega (arith, low_q, onward)) q_in,
+              ) refl,
+            ),
+          )
 
   abbrev Below : ℕ → Type 0
   Below p = p < L
@@ -248,18 +296,22 @@ module _ {edition : Edition} {T U : List ℕ} {a L : ℕ} {to : ℕ → ℕ} (K 
 
   module _ (how : Escaping) (b b2 : ℕ) where
     abbrev EscapedTurn : Unit {0} → State → Step (Unit {0}) → State → Type 0
-    EscapedTurn c s x t = Turned (λ (c d : Unit {0}). Unit {0}) (escaped_turn how b) (escaped_turn how b2) Below UpTo c s x t
+    EscapedTurn c s x t = Turned (λ (c d : Unit {0}). Unit {0}) (escaped_turn how b)
+        (escaped_turn how b2) Below UpTo c s x t
 
-    escaped_each : (c : Unit {0}) (s : State) → a ≤ s.at → Holds (EscapedTurn c s) (does (escaped_turn how b c) Whole g s)
+    escaped_each : (c : Unit {0}) (s : State) → a ≤ s.at →
+        Holds (EscapedTurn c s) (does (escaped_turn how b c) Whole g s)
     unfolding escaped_turn
     escaped_each c s from =
         cond_both (at_end T q) _ _ (Holds (EscapedTurn c s)) (λ e. tt)
-        (λ e. cond_both (is_last_backslash T q) _ _ (Holds (EscapedTurn c s)) (λ f. tt) (λ f. found e f (raw_stands T q (closes_by how)) refl))
+        (λ e. cond_both (is_last_backslash T q) _ _ (Holds (EscapedTurn c s)) (λ f. tt)
+        (λ f. found e f (raw_stands T q (closes_by how)) refl))
       where
         q : ℕ
         q = next_escaped how T s.at
 
-        by_last : (x : Bool) → Goal (λ (c d : Unit {0}). Unit {0}) (escaped_turn how b) (escaped_turn how b2) Below UpTo s (step_if (not x) tt) (at (past_taken T q) s) → past_taken T q ≤ L
+        by_last : (x : Bool) → Goal (λ (c d : Unit {0}). Unit {0}) (escaped_turn how b)
+            (escaped_turn how b2) Below UpTo s (step_if (not x) tt) (at (past_taken T q) s) → past_taken T q ≤ L
         by_last true goal = goal
         by_last false goal = goal.0
 
@@ -267,7 +319,8 @@ module _ {edition : Edition} {T U : List ℕ} {a L : ℕ} {to : ℕ → ℕ} (K 
         like true = tt
         like false = tt
 
-        found : at_end T q ≡ false → is_last_backslash T q ≡ false → (x : Bool) → raw_stands T q (closes_by how) ≡ x → EscapedTurn c s (step_if (not x) tt) (at (past_taken T q) s)
+        found : at_end T q ≡ false → is_last_backslash T q ≡ false → (x : Bool) → raw_stands T q (closes_by how) ≡ x →
+            EscapedTurn c s (step_if (not x) tt) (at (past_taken T q) s)
         found e f x is goal =
             let le = by_last x goal in
             let onward = next_escaped_low how T s.at in
@@ -276,19 +329,39 @@ module _ {edition : Edition} {T U : List ℕ} {a L : ℕ} {to : ℕ → ℕ} (K 
               omega (arith, onward, lt),
               λ d so. (
                 step_if (not x) tt,
-                (rw (raw_there K (λ b. not (b == closes_by how || b == 92)) s.at from lt, same_end K q low_q lt, e, same_last K q low_q le f, raw_same K q (closes_by how) low_q lt, is, same_taken K q low_q lt) refl, like x),
+                (
+                  rw (
+                    raw_there K (λ b. not (b == closes_by how || b == 92)) s.at from lt,
+                    same_end K q low_q lt,
+                    e,
+                    same_last K q low_q le f,
+                    raw_same K q (closes_by how) low_q lt,
+                    is,
+                    same_taken K q low_q lt,
+                  ) refl,
+                  like x,
+                ),
               ),
             )
 
-  pub backquotes_in : (s : State) → a ≤ s.at → Clear K s.at → Holds (Ends backquoted_text (In K) s) (does backquoted_text Whole g s)
+  pub backquotes_in : (s : State) → a ≤ s.at → Clear K s.at →
+      Holds (Ends backquoted_text (In K) s) (does backquoted_text Whole g s)
   unfolding backquoted_text many
   backquotes_in s from e =
       holds_so _ (Ends backquoted_text (In K) s) (does (loop (escaped_turn escapings.Backquotes b) tt) Whole g inside)
-      (looped (λ (c d : Unit {0}). Unit {0}) (escaped_turn escapings.Backquotes b) (escaped_turn escapings.Backquotes b2) Below UpTo (λ p lt. omega (arith, lt)) (λ p le. le) (escaped_each escapings.Backquotes b b2) tt inside (omega (arith, from, behind_low T s.at)))
+      (looped (λ (c d : Unit {0}). Unit {0}) (escaped_turn escapings.Backquotes b)
+      (escaped_turn escapings.Backquotes b2) Below UpTo (λ p lt. omega (arith, lt)) (λ p le. le)
+      (escaped_each escapings.Backquotes b b2) tt inside (omega (arith, from, behind_low T s.at)))
       (λ x t ends le. let w = ends le in
       let i = clear K s.at from (omega (arith, w.0, behind_is T s.at)) e in
-      let f = w.1 tt tt in
-      (i, (f.0, subst (λ (p : ℕ). turns h (λ u v. does (escaped_turn escapings.Backquotes b2 u) Whole h v) tt (there_at p s) ≡ Ok (f.0, there t)) (sym (here_behind K i)) f.1.0)))
+      let f = w.1 tt tt in (
+        i,
+        (
+          f.0,
+          subst (λ (p : ℕ). turns h (λ u v. does (escaped_turn escapings.Backquotes b2 u) Whole h v) tt
+              (there_at p s) ≡ Ok (f.0, there t)) (sym (here_behind K i)) f.1.0,
+        ),
+      ))
     where
       b : ℕ
       b = o + past_continuations T s.at
@@ -300,20 +373,26 @@ module _ {edition : Edition} {T U : List ℕ} {a L : ℕ} {to : ℕ → ℕ} (K 
       inside = at (behind T s.at) s
 
   -- the quote behind the `$` is before the limit too
-  pub dollar_single_in : (s : State) → a ≤ s.at → Clear K s.at → Clear K (behind T s.at) → Holds (Ends dollar_single (λ p. In K p × In K (behind T p)) s) (does dollar_single Whole g s)
+  pub dollar_single_in : (s : State) → a ≤ s.at → Clear K s.at → Clear K (behind T s.at) →
+      Holds (Ends dollar_single (λ p. In K p × In K (behind T p)) s) (does dollar_single Whole g s)
   unfolding dollar_single many
   dollar_single_in s from e e2 =
-      holds_so _ (Ends dollar_single (λ p. In K p × In K (behind T p)) s) (does (loop (escaped_turn escapings.DollarSingle b) tt) Whole g inside)
-      (looped (λ (c d : Unit {0}). Unit {0}) (escaped_turn escapings.DollarSingle b) (escaped_turn escapings.DollarSingle b2) Below UpTo (λ p lt. omega (arith, lt)) (λ p le. le) (escaped_each escapings.DollarSingle b b2) tt inside
+      holds_so _ (Ends dollar_single (λ p. In K p × In K (behind T p)) s)
+      (does (loop (escaped_turn escapings.DollarSingle b) tt) Whole g inside)
+      (looped (λ (c d : Unit {0}). Unit {0}) (escaped_turn escapings.DollarSingle b)
+      (escaped_turn escapings.DollarSingle b2) Below UpTo (λ p lt. omega (arith, lt)) (λ p le. le)
+      (escaped_each escapings.DollarSingle b b2) tt inside
       (omega (arith, from, behind_low T s.at, behind_low T (behind T s.at))))
       (λ x t ends le. let w = ends le in
-      let j = clear K (behind T s.at) (omega (arith, from, behind_low T s.at)) (omega (arith, w.0, behind_is T (behind T s.at))) e2 in
+      let j = clear K (behind T s.at) (omega (arith, from, behind_low T s.at))
+      (omega (arith, w.0, behind_is T (behind T s.at))) e2 in
       let i = clear K s.at from (omega (arith, w.0, behind_is T s.at, behind_low T (behind T s.at))) e in
       let f = w.1 tt tt in (
         (i, j),
         (
           f.0,
-          subst (λ (p : ℕ). turns h (λ u v. does (escaped_turn escapings.DollarSingle b2 u) Whole h v) tt (there_at p s) ≡ Ok (f.0, there t)) (sym (ap (behind U) (here_behind K i) ∙ here_behind K j)) f.1.0,
+          subst (λ (p : ℕ). turns h (λ u v. does (escaped_turn escapings.DollarSingle b2 u) Whole h v) tt (there_at p s)
+              ≡ Ok (f.0, there t)) (sym (ap (behind U) (here_behind K i) ∙ here_behind K j)) f.1.0,
         ),
       ))
     where

@@ -38,15 +38,20 @@ there p blank es = blanked_row blank (map (moved_entry p) es)
 
 -- what a line adds
 added : (p : ℕ) (so : SoFar) (es : Row AnEntry)
-    → appended (entries_of so.entries) (blanked (so.gap && has_entry (entries_of so.entries)) (moved p (entries_of es))) ≡ entries_of (so.entries ++ there p (is_blank_line so) es)
+    → appended (entries_of so.entries) (blanked (so.gap && has_entry (entries_of so.entries)) (moved p (entries_of es)))
+    ≡ entries_of (so.entries ++ there p (is_blank_line so) es)
 added p so es =
-    rw (has_row so.entries, rows_moved p es, rows_blanked (is_blank_line so) (map (moved_entry p) es)) (rows_appended so.entries (there p (is_blank_line so) es))
+    rw (has_row so.entries, rows_moved p es, rows_blanked (is_blank_line so) (map (moved_entry p) es))
+    (rows_appended so.entries (there p (is_blank_line so) es))
 
 module _ (edition : Edition) (B : List ℕ) where
   -- behind the last byte nothing is read
-  at_end : (so : SoFar) (p : ℕ) → length B ≤ p → script_on edition B so p ≡ record { entries = entries_of so.entries; wrong = None }
+  at_end : (so : SoFar) (p : ℕ) → length B ≤ p →
+      script_on edition B so p ≡ record { entries = entries_of so.entries; wrong = None }
   at_end so p le =
-      line_last edition B so p (is_blank_line so) refl [] (standing 0) (with_line so []) (ap (λ T. does (the_line (is_blank_line so)) Whole (given edition T p) (standing 0)) (drop_all p B le) ∙ nothing edition (is_blank_line so) Whole p) refl
+      line_last edition B so p (is_blank_line so) refl [] (standing 0) (with_line so [])
+      (ap (λ T. does (the_line (is_blank_line so)) Whole (given edition T p) (standing 0)) (drop_all p B le)
+      ∙ nothing edition (is_blank_line so) Whole p) refl
       ∙ ap (λ es. record { entries = entries_of es; wrong = None }) (append-nil so.entries)
 
   -- ---- one line
@@ -59,7 +64,8 @@ module _ (edition : Edition) (B : List ℕ) where
   Rest q ls = (so : SoFar) → Joins q so ls
 
   -- a line that a newline token ended, and what the lines behind it give
-  line_on : (p : ℕ) (so : SoFar) (es : Row AnEntry) (rest : Entries → Bool → AScript) (y : AScript) → y ≡ rest (entries_of (so.entries ++ there p (is_blank_line so) es)) (is_empty es)
+  line_on : (p : ℕ) (so : SoFar) (es : Row AnEntry) (rest : Entries → Bool → AScript) (y : AScript) →
+      y ≡ rest (entries_of (so.entries ++ there p (is_blank_line so) es)) (is_empty es)
       → y ≡ line_joined_by rest (kind_of es true) (entries_of so.entries) so.gap p
   line_on p so [] rest y is = is ∙ ap (λ es. rest (entries_of es) true) (append-nil so.entries)
   line_on p so (e ∷ es) rest y is = is ∙ ap (λ es. rest es false) (sym (added p so (e ∷ es)))
@@ -69,7 +75,8 @@ module _ (edition : Edition) (B : List ℕ) where
   empty_there p blank (e ∷ es) = refl
 
   line_at_last : (p : ℕ) (so : SoFar) (es : Row AnEntry) (q : ℕ)
-      → record { entries = entries_of (so.entries ++ there p (is_blank_line so) es); wrong = None } ≡ line_joined_by (λ es gap. lines_joined [] es gap q) (kind_of es false) (entries_of so.entries) so.gap p
+      → record { entries = entries_of (so.entries ++ there p (is_blank_line so) es); wrong = None }
+      ≡ line_joined_by (λ es gap. lines_joined [] es gap q) (kind_of es false) (entries_of so.entries) so.gap p
   line_at_last p so [] q = ap (λ es. record { entries = entries_of es; wrong = None }) (append-nil so.entries)
   line_at_last p so (e ∷ es) q = ap (λ es. record { entries = es; wrong = None }) (sym (added p so (e ∷ es)))
 
@@ -78,36 +85,50 @@ module _ (edition : Edition) (B : List ℕ) where
     blank = is_blank_line so
 
     -- the line goes on
-    goes : (fs : Row AnEntry) (u : State) (es : Row AnEntry) (t : State) → es ≡ there p blank fs → t.at ≡ u.at → line_from edition B Whole blank p ≡ Ok ((es, true), t) → (ls : Row ALine) → Rest (p + u.at) ls
-        → script_on edition B so p ≡ line_joined_by (λ es gap. lines_joined ls es gap (p + u.at)) (kind_of fs true) (entries_of so.entries) so.gap p
+    goes : (fs : Row AnEntry) (u : State) (es : Row AnEntry) (t : State) → es ≡ there p blank fs → t.at ≡ u.at →
+        line_from edition B Whole blank p ≡ Ok ((es, true), t) → (ls : Row ALine) → Rest (p + u.at) ls
+        → script_on edition B so p ≡ line_joined_by (λ es gap. lines_joined ls es gap (p + u.at)) (kind_of fs true)
+        (entries_of so.entries) so.gap p
     goes fs u es t entries_are at_is read ls rest =
         let next : SoFar = record { entries = so.entries ++ there p blank fs; gap = is_empty fs } in
         let same : next ≡ with_line so es = rw (entries_are, empty_there p blank fs) refl in
-        let on : script_on edition B so p ≡ script_on edition B next (p + u.at) = line_more edition B so p blank refl es t next read same ∙ ap (λ q. script_on edition B next (p + q)) at_is in
+        let on : script_on edition B so p ≡ script_on edition B next (p + u.at) =
+        line_more edition B so p blank refl es t next read same
+        ∙ ap (λ q. script_on edition B next (p + q)) at_is in
         line_on p so fs (λ es gap. lines_joined ls es gap (p + u.at)) (script_on edition B so p) (on ∙ rest next)
 
-    ends : (fs : Row AnEntry) (u : State) (es : Row AnEntry) (t : State) → es ≡ there p blank fs → line_from edition B Whole blank p ≡ Ok ((es, false), t) → (q : ℕ)
-        → script_on edition B so p ≡ line_joined_by (λ es gap. lines_joined [] es gap q) (kind_of fs false) (entries_of so.entries) so.gap p
+    ends : (fs : Row AnEntry) (u : State) (es : Row AnEntry) (t : State) → es ≡ there p blank fs →
+        line_from edition B Whole blank p ≡ Ok ((es, false), t) → (q : ℕ)
+        → script_on edition B so p ≡ line_joined_by (λ es gap. lines_joined [] es gap q) (kind_of fs false)
+        (entries_of so.entries) so.gap p
     ends fs u es t entries_are read q =
-        line_last edition B so p blank refl es t (with_line so es) read refl ∙ ap (λ zs. record { entries = entries_of (so.entries ++ zs); wrong = None }) entries_are ∙ line_at_last p so fs q
+        line_last edition B so p blank refl es t (with_line so es) read refl
+        ∙ ap (λ zs. record { entries = entries_of (so.entries ++ zs); wrong = None }) entries_are
+        ∙ line_at_last p so fs q
 
     -- the last line of the row
-    last_by : (x y : Read (Row AnEntry × Bool)) → line_from edition B Whole blank p ≡ x → Same p blank x y → (as_line (drop p B) y).ended ≡ false → (as_line (drop p B) y).next ≡ length (drop p B)
+    last_by : (x y : Read (Row AnEntry × Bool)) → line_from edition B Whole blank p ≡ x → Same p blank x y →
+        (as_line (drop p B) y).ended ≡ false → (as_line (drop p B) y).next ≡ length (drop p B)
         → Joins p so (as_line (drop p B) y ∷ [])
     last_by (Ok ((es, true), t)) (Ok ((fs, true), u)) read (entries_are, flag, at_is) not_ended whole =
-        goes fs u es t entries_are at_is read [] (λ then. at_end then (p + u.at) (omega (arith, whole, length-drop p B)))
-    last_by (Ok ((es, false), t)) (Ok ((fs, false), u)) read (entries_are, flag, at_is) not_ended whole = ends fs u es t entries_are read (p + u.at)
+        goes fs u es t entries_are at_is read []
+        (λ then. at_end then (p + u.at) (omega (arith, whole, length-drop p B)))
+    last_by (Ok ((es, false), t)) (Ok ((fs, false), u)) read (entries_are, flag, at_is) not_ended whole =
+        ends fs u es t entries_are read (p + u.at)
     last_by (Ok ((es, true), t)) (Ok ((fs, false), u)) read (entries_are, flag, at_is) not_ended whole = absurd cc
     last_by (Ok ((es, false), t)) (Ok ((fs, true), u)) read (entries_are, flag, at_is) not_ended whole = absurd cc
     last_by (Err f) (Err h) read is not_ended whole =
-        line_faulty edition B so p blank refl f read ∙ ap (λ (z : Fault). record { entries = entries_of so.entries; wrong = Some z }) is
+        line_faulty edition B so p blank refl f read
+        ∙ ap (λ (z : Fault). record { entries = entries_of so.entries; wrong = Some z }) is
     last_by (Ok x) (Err h) read is not_ended whole = absurd is
     last_by (Err f) (Ok x) read is not_ended whole = absurd is
 
     -- one of the others
-    more_by : (x y : Read (Row AnEntry × Bool)) → line_from edition B Whole blank p ≡ x → Same p blank x y → (as_line (drop p B) y).ended ≡ true → (ls : Row ALine) → Rest (p + (as_line (drop p B) y).next) ls
+    more_by : (x y : Read (Row AnEntry × Bool)) → line_from edition B Whole blank p ≡ x → Same p blank x y →
+        (as_line (drop p B) y).ended ≡ true → (ls : Row ALine) → Rest (p + (as_line (drop p B) y).next) ls
         → Joins p so (as_line (drop p B) y ∷ ls)
-    more_by (Ok ((es, true), t)) (Ok ((fs, true), u)) read (entries_are, flag, at_is) ended ls rest = goes fs u es t entries_are at_is read ls rest
+    more_by (Ok ((es, true), t)) (Ok ((fs, true), u)) read (entries_are, flag, at_is) ended ls rest =
+        goes fs u es t entries_are at_is read ls rest
     more_by (Ok ((es, false), t)) (Ok ((fs, false), u)) read (entries_are, flag, at_is) ended ls rest = absurd cc
     more_by (Ok ((es, true), t)) (Ok ((fs, false), u)) read (entries_are, flag, at_is) ended ls rest = absurd cc
     more_by (Ok ((es, false), t)) (Ok ((fs, true), u)) read (entries_are, flag, at_is) ended ls rest = absurd cc
@@ -117,7 +138,8 @@ module _ (edition : Edition) (B : List ℕ) where
 
   -- ---- all lines
 
-  line_is_read : (p : ℕ) (l : ALine) → IsLine edition (drop p B) l → l ≡ as_line (drop p B) (line_told edition B Whole false p 0)
+  line_is_read : (p : ℕ) (l : ALine) → IsLine edition (drop p B) l →
+      l ≡ as_line (drop p B) (line_told edition B Whole false p 0)
   unfolding line_of_text
   line_is_read p l is = line_only edition (drop p B) l is
 
@@ -125,11 +147,13 @@ module _ (edition : Edition) (B : List ℕ) where
   lines_join p ls (last_of l is not_ended whole) so =
       let same = line_is_read p l is in
       subst (λ z. Joins p so (z ∷ [])) (sym same)
-      (last_by p so _ (line_told edition B Whole false p 0) refl (line_moved edition B p (is_blank_line so)) (ap (λ (z : ALine). z.ended) (sym same) ∙ not_ended) (ap (λ (z : ALine). z.next) (sym same) ∙ whole))
+      (last_by p so _ (line_told edition B Whole false p 0) refl (line_moved edition B p (is_blank_line so))
+      (ap (λ (z : ALine). z.ended) (sym same) ∙ not_ended) (ap (λ (z : ALine). z.next) (sym same) ∙ whole))
   lines_join p ls (more_of l rest is ended on) so =
       let same = line_is_read p l is in
       subst (λ z. Joins p so (z ∷ rest)) (sym same)
-      (more_by p so _ (line_told edition B Whole false p 0) refl (line_moved edition B p (is_blank_line so)) (ap (λ (z : ALine). z.ended) (sym same) ∙ ended) rest
+      (more_by p so _ (line_told edition B Whole false p 0) refl (line_moved edition B p (is_blank_line so))
+      (ap (λ (z : ALine). z.ended) (sym same) ∙ ended) rest
       (λ then. subst (λ (z : ALine). Joins (p + z.next) then rest) same (lines_join (p + l.next) rest on then)))
 
   pub script_joined : (ls : Row ALine) → AreLines edition B 0 ls → Outcome edition B (lines_joined ls no_entry false 0)

@@ -25,7 +25,8 @@ pub is_some_map : {A B : Type 0} (c : A → B) (o : Option A) → is_some (optio
 is_some_map c None = refl
 is_some_map c (Some x) = refl
 
-pub moves_if : {z : Place} {A : Type 0} {c : A → A} {P : A → Type 0} (b d : Bool) → d ≡ b → (x y : A) → y ≡ c x → P x → Moves z (step c) (of_step P) (give (step_if b x)) (give (step_if d y))
+pub moves_if : {z : Place} {A : Type 0} {c : A → A} {P : A → Type 0} (b d : Bool) → d ≡ b → (x y : A) → y ≡ c x → P x →
+    Moves z (step c) (of_step P) (give (step_if b x)) (give (step_if d y))
 moves_if true true alike x y is so = moves_give (ap (λ v. again v) is) so
 moves_if true false alike x y is so = absurd cc
 moves_if false true alike x y is so = absurd cc
@@ -36,7 +37,8 @@ of_any P (again a) so = tt
 of_any P (done a) so = tt
 
 -- a word that no redirection follows is none itself
-begun_none : (e : Bool) (o : Option Position) (r : Bool) → (not e || (is_some o || r)) ≡ true → o ≡ None → r ≡ false → e ≡ false
+begun_none : (e : Bool) (o : Option Position) (r : Bool) → (not e || (is_some o || r)) ≡ true → o ≡ None → r ≡ false →
+    e ≡ false
 begun_none false o r so is none = refl
 begun_none true None false so is none = absurd cc
 begun_none true None true so is none = absurd cc
@@ -67,7 +69,8 @@ module _ (z : Place) where
   breaks_to : (i : Items) → breaks (items_to i) ≡ breaks i
   breaks_to i = ap (λ e. not e && i.next.broken) (is_empty_map (item_to k deep) i.items)
 
-  as_item_to : (b c : Bool) → b ≡ c → (position : Position) (w : AWord) → item b (as_item position (word_to k deep w)) ≡ item_to k deep (item c (as_item position w))
+  as_item_to : (b c : Bool) → b ≡ c → (position : Position) (w : AWord) →
+      item b (as_item position (word_to k deep w)) ≡ item_to k deep (item c (as_item position w))
   as_item_to b c is Prefix w = ap (λ e. item e (assign (word_to k deep w))) is
   as_item_to b c is Command w = ap (λ e. item e (argument (word_to k deep w))) is
   as_item_to b c is Suffix w = ap (λ e. item e (argument (word_to k deep w))) is
@@ -76,11 +79,13 @@ module _ (z : Place) where
 
   pub moves_line_end : (n : Next) → Moves z same Any (a_newline n) (a_newline n)
   unfolding a_newline
-  moves_line_end n = moves_pick _ (moves_newline same Any _ _ (moves_then (moves_next z _) (λ m so. moves_give refl tt))) (moves_give refl tt)
+  moves_line_end n = moves_pick _
+      (moves_newline same Any _ _ (moves_then (moves_next z _) (λ m so. moves_give refl tt))) (moves_give refl tt)
 
   pub moves_semicolon : (n : Next) → Moves z same Any (a_semicolon n) (a_semicolon n)
   unfolding a_semicolon
-  moves_semicolon n = moves_pick _ (moves_on (moves_then (moves_next z _) (λ m so. moves_give refl tt))) (moves_give refl tt)
+  moves_semicolon n = moves_pick _ (moves_on (moves_then (moves_next z _) (λ m so. moves_give refl tt)))
+      (moves_give refl tt)
 
   moves_none_waits : (w : Option ℕ) → Moves z same Any (none_waits w) (none_waits (option_map (λ (p : ℕ). k + p) w))
   moves_none_waits (Some b) = moves_stop
@@ -90,7 +95,8 @@ module _ (z : Place) where
   unfolding nothing_waits
   moves_nothing_waits = moves_see_waiting (λ w. moves_none_waits w)
 
-  moves_with : (cs : Row Span) (c : Option Span) → Moves z (map (span_to k)) Any (with_comment cs c) (with_comment (map (span_to k) cs) (option_map (span_to k) c))
+  moves_with : (cs : Row Span) (c : Option Span) →
+      Moves z (map (span_to k)) Any (with_comment cs c) (with_comment (map (span_to k) cs) (option_map (span_to k) c))
   moves_with cs (Some c) = moves_push (span_to k) refl refl tt
   moves_with cs None = moves_give refl tt
 
@@ -98,121 +104,177 @@ module _ (z : Place) where
   join_so_to j = join_so (join_to k j.join) j.next
 
   join_is : (broken newline : Bool) (c : Option Span) (cs : Row Span) (n : Next)
-      → join_so (a_join_of ((broken || is_some (option_map (span_to k) c)) || newline) (map (span_to k) cs)) n ≡ join_so_to (join_so (a_join_of ((broken || is_some c) || newline) cs) n)
-  join_is broken newline c cs n = ap (λ (e : Bool). join_so (a_join_of ((broken || e) || newline) (map (span_to k) cs)) n) (is_some_map (span_to k) c)
+      → join_so (a_join_of ((broken || is_some (option_map (span_to k) c)) || newline) (map (span_to k) cs)) n
+      ≡ join_so_to (join_so (a_join_of ((broken || is_some c) || newline) cs) n)
+  join_is broken newline c cs n =
+      ap (λ (e : Bool). join_so (a_join_of ((broken || e) || newline) (map (span_to k) cs)) n)
+      (is_some_map (span_to k) c)
 
   moves_join_turn : (j : JoinSo) → Moves z (step join_so_to) (of_step Any) (join_turn j) (join_turn (join_so_to j))
   unfolding join_turn
   moves_join_turn j =
-      moves_then (moves_comment z j.next) (λ c so. moves_then (moves_with j.join.comments c.0) (λ cs all. moves_then (moves_line_end c.1) (λ l last. moves_if l.0 l.0 refl _ _ (join_is j.join.broken l.0 c.0 cs l.1) tt)))
+      moves_then (moves_comment z j.next)
+      (λ c so. moves_then (moves_with j.join.comments c.0)
+      (λ cs all. moves_then (moves_line_end c.1)
+      (λ l last. moves_if l.0 l.0 refl _ _ (join_is j.join.broken l.0 c.0 cs l.1) tt)))
 
   pub moves_joins : (j : JoinSo) → Moves z join_so_to Any (many join_turn j) (many join_turn (join_so_to j))
   moves_joins j = moves_many join_so_to Any Any join_turn join_turn (λ i so. moves_join_turn i) (λ i so. tt) j tt
 
   pub moves_join : (broken : Bool) → Moves z (first {Y = Next} (join_to k)) Any (a_join broken) (a_join broken)
   unfolding a_join
-  moves_join broken = moves_then (moves_next z _) (λ n so. moves_then (moves_joins (join_so (a_join_of (broken || n.broken) []) n)) (λ j all. moves_give refl tt))
+  moves_join broken = moves_then (moves_next z _)
+      (λ n so. moves_then (moves_joins (join_so (a_join_of (broken || n.broken) []) n)) (λ j all. moves_give refl tt))
 
   -- ---- redirections
 
   moves_number : (n : Next) → Moves z (first {Y = Next} (option_map (span_to k))) Any (a_number n) (a_number n)
   unfolding a_number
-  moves_number n = moves_pick _ (moves_then (moves_mark z) (λ x so. moves_then (moves_next z _) (λ m all. moves_give refl tt))) (moves_give refl tt)
+  moves_number n = moves_pick _
+      (moves_then (moves_mark z) (λ x so. moves_then (moves_next z _) (λ m all. moves_give refl tt)))
+      (moves_give refl tt)
 
-  moves_operator : (o : RedirectOperator) → Moves z (each {X = Unit {0}} same (span_to k)) Any (an_operator o) (an_operator o)
+  moves_operator : (o : RedirectOperator) →
+      Moves z (each {X = Unit {0}} same (span_to k)) Any (an_operator o) (an_operator o)
   unfolding an_operator
-  moves_operator o = moves_token (moves_on (moves_then (moves_pick _ moves_move (moves_give refl tt)) (λ u so. moves_pick _ moves_move (moves_give refl tt))))
+  moves_operator o = moves_token
+      (moves_on (moves_then (moves_pick _ moves_move (moves_give refl tt))
+      (λ u so. moves_pick _ moves_move (moves_give refl tt))))
 
-  moves_operator_by : (p : ℕ) (o : Option RedirectOperator) → Moves z (each {X = RedirectOperator} same (span_to k)) Any (operator_by p o) (operator_by (k + p) o)
+  moves_operator_by : (p : ℕ) (o : Option RedirectOperator) →
+      Moves z (each {X = RedirectOperator} same (span_to k)) Any (operator_by p o) (operator_by (k + p) o)
   moves_operator_by p (Some o) = moves_then (moves_operator o) (λ x so. moves_give refl tt)
   moves_operator_by p None = moves_stop
 
-  moves_document_by : (b p : ℕ) (strip : Bool) (d : Option ADelimiter) → Moves z (option_map (here_to k)) Any (document_by b p strip d) (document_by (k + b) (k + p) strip d)
+  moves_document_by : (b p : ℕ) (strip : Bool) (d : Option ADelimiter) →
+      Moves z (option_map (here_to k)) Any (document_by b p strip d) (document_by (k + b) (k + p) strip d)
   moves_document_by b p strip (Some d) = moves_then (moves_waits (document b strip d)) (λ u so. moves_give refl tt)
   moves_document_by b p strip None = moves_stop
 
-  moves_document : (o : RedirectOperator) (b p : ℕ) (bytes : Spelled) → Moves z (option_map (here_to k)) Any (a_document o b p bytes) (a_document o (k + b) (k + p) bytes)
+  moves_document : (o : RedirectOperator) (b p : ℕ) (bytes : Spelled) →
+      Moves z (option_map (here_to k)) Any (a_document o b p bytes) (a_document o (k + b) (k + p) bytes)
   unfolding a_document
-  moves_document o b p bytes = moves_pick _ (moves_see (λ s. refl) (λ d. moves_document_by b p (is_strip o) d)) (moves_give refl tt)
+  moves_document o b p bytes = moves_pick _ (moves_see (λ s. refl) (λ d. moves_document_by b p (is_strip o) d))
+      (moves_give refl tt)
 
   moves_document_at : (o : RedirectOperator × Span) (w : AWord × Spelled)
-      → Moves z (option_map (here_to k)) Any (a_document o.0 o.1.start (word_span w.0).start w.1) (a_document o.0 (k + o.1.start) (word_span (word_to k deep w.0)).start w.1)
+      → Moves z (option_map (here_to k)) Any (a_document o.0 o.1.start (word_span w.0).start w.1)
+      (a_document o.0 (k + o.1.start) (word_span (word_to k deep w.0)).start w.1)
   moves_document_at o w =
-      subst (λ (s : Span). Moves z (option_map (here_to k)) Any (a_document o.0 o.1.start (word_span w.0).start w.1) (a_document o.0 (k + o.1.start) s.start w.1)) (sym (word_span_to k deep w.0))
+      subst (λ (s : Span). Moves z (option_map (here_to k)) Any (a_document o.0 o.1.start (word_span w.0).start w.1)
+      (a_document o.0 (k + o.1.start) s.start w.1)) (sym (word_span_to k deep w.0))
       (moves_document o.0 o.1.start (word_span w.0).start w.1)
 
   module _ (inner : Inner) (fits : Fits z inner) where
     moves_target : Moves z (first {Y = Spelled} (word_to k deep)) Any (a_target inner) (a_target inner)
     unfolding a_target
-    moves_target = moves_then (moves_next z _) (λ n so. moves_pick _ (moves_with_bytes (moves_word z inner fits)) (moves_unexpected z inner fits n))
+    moves_target = moves_then (moves_next z _)
+        (λ n so. moves_pick _ (moves_with_bytes (moves_word z inner fits)) (moves_unexpected z inner fits n))
 
     moves_redirect : (broken there : Bool) → there ≡ broken → (position : Position) (is : Row AnItem) (n : Next)
-        → Moves z (step items_to) (of_step SomeItems) (one_redirect inner broken position is n) (one_redirect inner there position (map (item_to k deep) is) n)
+        → Moves z (step items_to) (of_step SomeItems) (one_redirect inner broken position is n)
+        (one_redirect inner there position (map (item_to k deep) is) n)
     unfolding one_redirect
     moves_redirect broken there same_broken position is n =
-        moves_here (λ p. moves_then (moves_number n) (λ d so. moves_then (moves_operator_by p (redirect_operator_of d.1.token)) (λ o all. moves_then moves_target (λ w all2. moves_then (moves_document_at o w)
-        (λ h all3. moves_pushed (item_to k deep) refl (ap (λ (e : Bool). item e (redirect (option_map (span_to k) d.0) o.0 (span_to k o.1) (word_to k deep w.0) (option_map (here_to k) h))) same_broken) (moves_then (moves_next z position) (λ m all4. moves_give refl (pushed_some is _))))))))
+        moves_here (λ p. moves_then (moves_number n)
+        (λ d so. moves_then (moves_operator_by p (redirect_operator_of d.1.token))
+        (λ o all. moves_then moves_target (λ w all2. moves_then (moves_document_at o w)
+        (λ h all3. moves_pushed (item_to k deep) refl
+        (ap (λ (e : Bool). item e (redirect (option_map (span_to k) d.0) o.0 (span_to k o.1) (word_to k deep w.0)
+        (option_map (here_to k) h))) same_broken)
+        (moves_then (moves_next z position) (λ m all4. moves_give refl (pushed_some is _))))))))
 
     -- ---- simple commands
 
-    pub moves_item : (i : Items) (position : Position) → Moves z (step items_to) (of_step SomeItems) (an_item inner i position) (an_item inner (items_to i) position)
+    pub moves_item : (i : Items) (position : Position) →
+        Moves z (step items_to) (of_step SomeItems) (an_item inner i position) (an_item inner (items_to i) position)
     unfolding an_item
     moves_item i position =
-        moves_then (moves_word z inner fits) (λ w so. moves_pushed (item_to k deep) refl (as_item_to (breaks (items_to i)) (breaks i) (breaks_to i) position w)
+        moves_then (moves_word z inner fits)
+        (λ w so. moves_pushed (item_to k deep) refl
+        (as_item_to (breaks (items_to i)) (breaks i) (breaks_to i) position w)
         (moves_then (moves_next z position) (λ n all. moves_give refl (pushed_some i.items _))))
 
-    moves_item_by : (i : Items) → Begun i → (o : Option Position) → behind_word i.next.token ≡ o → Moves z (step items_to) (of_step SomeItems) (item_by inner i o) (item_by inner (items_to i) o)
+    moves_item_by : (i : Items) → Begun i → (o : Option Position) → behind_word i.next.token ≡ o →
+        Moves z (step items_to) (of_step SomeItems) (item_by inner i o) (item_by inner (items_to i) o)
     moves_item_by i begun (Some position) is = moves_item i position
     moves_item_by i begun None is =
-        moves_pick_by _ (λ e. moves_redirect (breaks i) (breaks (items_to i)) (breaks_to i) (behind_redirect i.place) i.items i.next)
-        (λ e. moves_give refl (begun_none (is_empty i.items) (behind_word i.next.token) (begins_redirect i.next.token) begun is e))
+        moves_pick_by _ (λ e. moves_redirect (breaks i) (breaks (items_to i)) (breaks_to i)
+        (behind_redirect i.place) i.items i.next)
+        (λ e. moves_give refl (begun_none (is_empty i.items) (behind_word i.next.token)
+        (begins_redirect i.next.token) begun is e))
 
-    moves_item_turn : (i : Items) → Begun i → Moves z (step items_to) (of_step SomeItems) (item_turn inner i) (item_turn inner (items_to i))
+    moves_item_turn : (i : Items) → Begun i →
+        Moves z (step items_to) (of_step SomeItems) (item_turn inner i) (item_turn inner (items_to i))
     unfolding item_turn
     moves_item_turn i begun = moves_item_by i begun (behind_word i.next.token) refl
 
-    moves_simple : (i : Items) → Begun i → Moves z (first {Y = Next} (command_to k deep)) (of_first (CommandEnds k deep)) (a_simple inner i) (a_simple inner (items_to i))
+    moves_simple : (i : Items) → Begun i →
+        Moves z (first {Y = Next} (command_to k deep)) (of_first (CommandEnds k deep)) (a_simple inner i)
+        (a_simple inner (items_to i))
     unfolding a_simple
     moves_simple i begun =
-        moves_then (moves_many items_to Begun SomeItems (item_turn inner) (item_turn inner) moves_item_turn some_begun i begun)
-        (λ j some. moves_give (ap (λ is. (simple is, j.next)) (items_row k deep j.items)) (simple_ends k deep j.items some))
+        moves_then (moves_many items_to Begun SomeItems (item_turn inner)
+        (item_turn inner) moves_item_turn some_begun i begun)
+        (λ j some. moves_give (ap (λ is. (simple is, j.next)) (items_row k deep j.items))
+        (simple_ends k deep j.items some))
 
     -- ---- compound commands with their redirections, functions
 
-    moves_redirect_turn : (i : Items) → Moves z (step items_to) (of_step Any) (redirect_turn inner i) (redirect_turn inner (items_to i))
+    moves_redirect_turn : (i : Items) →
+        Moves z (step items_to) (of_step Any) (redirect_turn inner i) (redirect_turn inner (items_to i))
     unfolding redirect_turn
-    moves_redirect_turn i = moves_pick _ (moves_so (of_any SomeItems) (moves_redirect i.next.broken i.next.broken refl Command i.items i.next)) (moves_give refl tt)
+    moves_redirect_turn i = moves_pick _
+        (moves_so (of_any SomeItems) (moves_redirect i.next.broken i.next.broken refl Command i.items i.next))
+        (moves_give refl tt)
 
-    moves_with_redirect_list : (c : ACommand × Next) → CommandEnds k deep c.0 → Moves z (first {Y = Next} (command_to k deep)) (of_first (CommandEnds k deep)) (with_redirect_list inner c) (with_redirect_list inner (first (command_to k deep) c))
+    moves_with_redirect_list : (c : ACommand × Next) → CommandEnds k deep c.0 →
+        Moves z (first {Y = Next} (command_to k deep)) (of_first (CommandEnds k deep)) (with_redirect_list inner c)
+        (with_redirect_list inner (first (command_to k deep) c))
     unfolding with_redirect_list
     moves_with_redirect_list c ends =
-        moves_then (moves_many items_to Any Any (redirect_turn inner) (redirect_turn inner) (λ i so. moves_redirect_turn i) (λ i so. tt) (so_many [] Command c.1) tt)
-        (λ r so. moves_give (ap (λ is. (with_redirects (command_to k deep c.0) is, r.next)) (items_row k deep r.items) ∙ ap (λ (d : ACommand). (d, r.next)) (redirects_to k deep c.0 (items_of r.items))) (redirects_end k deep c.0 (items_of r.items) ends))
+        moves_then (moves_many items_to Any Any (redirect_turn inner) (redirect_turn inner)
+        (λ i so. moves_redirect_turn i) (λ i so. tt) (so_many [] Command c.1) tt)
+        (λ r so. moves_give (ap (λ is. (with_redirects (command_to k deep c.0) is, r.next)) (items_row k deep r.items)
+        ∙ ap (λ (d : ACommand). (d, r.next)) (redirects_to k deep c.0 (items_of r.items)))
+        (redirects_end k deep c.0 (items_of r.items) ends))
 
-    pub moves_compound_by : (n : Next) (o : Option Opener) → Moves z (first {Y = Next} (command_to k deep)) (of_first (CommandEnds k deep)) (compound_by inner n o) (compound_by inner n o)
+    pub moves_compound_by : (n : Next) (o : Option Opener) →
+        Moves z (first {Y = Next} (command_to k deep)) (of_first (CommandEnds k deep)) (compound_by inner n o)
+        (compound_by inner n o)
     moves_compound_by n (Some o) = moves_then (fits.compound o) (λ c ends. moves_with_redirect_list c ends)
     moves_compound_by n None = moves_unexpected z inner fits n
 
-    moves_named_function : (good : Bool) (w : AWord) → Moves z (first {Y = Next} (command_to k deep)) (of_first (CommandEnds k deep)) (named_function inner good (word_span w)) (named_function inner good (word_span (word_to k deep w)))
+    moves_named_function : (good : Bool) (w : AWord) →
+        Moves z (first {Y = Next} (command_to k deep)) (of_first (CommandEnds k deep))
+        (named_function inner good (word_span w)) (named_function inner good (word_span (word_to k deep w)))
     moves_named_function good w =
-        subst (λ (s : Span). Moves z (first {Y = Next} (command_to k deep)) (of_first (CommandEnds k deep)) (named_function inner good (word_span w)) (named_function inner good s)) (sym (word_span_to k deep w))
+        subst (λ (s : Span). Moves z (first {Y = Next} (command_to k deep)) (of_first (CommandEnds k deep))
+        (named_function inner good (word_span w)) (named_function inner good s)) (sym (word_span_to k deep w))
         (moves_pick good (fits.function (word_span w)) moves_stop)
 
-    moves_word_command : Moves z (first {Y = Next} (command_to k deep)) (of_first (CommandEnds k deep)) (a_word_command inner) (a_word_command inner)
+    moves_word_command : Moves z (first {Y = Next} (command_to k deep)) (of_first (CommandEnds k deep))
+        (a_word_command inner) (a_word_command inner)
     unfolding a_word_command
     moves_word_command =
-        moves_see (λ s. refl) (λ good. moves_then (moves_word z inner fits) (λ w so. moves_then (moves_next z _) (λ n all.
-        moves_pick _ (moves_named_function good w) (moves_pushed (item_to k deep) refl refl (moves_simple (so_many (item false (argument w) ∷ []) Suffix n) refl)))))
+        moves_see (λ s. refl) (λ good. moves_then (moves_word z inner fits)
+        (λ w so. moves_then (moves_next z _) (λ n all.
+        moves_pick _ (moves_named_function good w)
+        (moves_pushed (item_to k deep) refl refl
+        (moves_simple (so_many (item false (argument w) ∷ []) Suffix n) refl)))))
 
-    moves_command : (n : Next) → Moves z (first {Y = Next} (command_to k deep)) (of_first (CommandEnds k deep)) (a_command inner n) (a_command inner n)
+    moves_command : (n : Next) → Moves z (first {Y = Next} (command_to k deep)) (of_first (CommandEnds k deep))
+        (a_command inner n) (a_command inner n)
     unfolding a_command
-    moves_command n = moves_pick _ moves_word_command (moves_pick_by _ (λ e. moves_simple (so_many [] Command n) e) (λ e. moves_compound_by n (opener_of n.token)))
+    moves_command n = moves_pick _ moves_word_command
+        (moves_pick_by _ (λ e. moves_simple (so_many [] Command n) e) (λ e. moves_compound_by n (opener_of n.token)))
 
     -- ---- pipelines
 
     moves_bang : (n : Next) → Moves z (first {Y = Next} (option_map (span_to k))) Any (a_bang n) (a_bang n)
     unfolding a_bang
-    moves_bang n = moves_pick _ (moves_then (moves_mark z) (λ x so. moves_then (moves_next z _) (λ m all. moves_give refl tt))) (moves_give refl tt)
+    moves_bang n = moves_pick _ (moves_then (moves_mark z)
+        (λ x so. moves_then (moves_next z _) (λ m all. moves_give refl tt))) (moves_give refl tt)
 
     abbrev piped_to : Piped → Piped
     piped_to p = piped (map (pipe_to k deep) p.parts) p.next
@@ -220,22 +282,30 @@ module _ (z : Place) where
     abbrev PipedEnd : Piped → Type 0
     PipedEnd p = All (PipeEnds k deep) p.parts
 
-    moves_one_command : (p : Piped) → PipedEnd p → Moves z (step piped_to) (of_step PipedEnd) (one_command inner p) (one_command inner (piped_to p))
+    moves_one_command : (p : Piped) → PipedEnd p →
+        Moves z (step piped_to) (of_step PipedEnd) (one_command inner p) (one_command inner (piped_to p))
     unfolding one_command
     moves_one_command p all =
-        moves_then (moves_mark z) (λ x so. moves_then (moves_join p.next.broken) (λ j so2. moves_then (moves_command j.1)
-        (λ c ends. moves_pushed (pipe_to k deep) refl refl (moves_give refl (All-push (PipeEnds k deep) p.parts (record { join = j.0; command = c.0 }) all ends)))))
+        moves_then (moves_mark z) (λ x so. moves_then (moves_join p.next.broken)
+        (λ j so2. moves_then (moves_command j.1)
+        (λ c ends. moves_pushed (pipe_to k deep) refl refl
+        (moves_give refl (All-push (PipeEnds k deep) p.parts (record { join = j.0; command = c.0 }) all ends)))))
 
-    moves_pipe_turn : (p : Piped) → PipedEnd p → Moves z (step piped_to) (of_step PipedEnd) (pipe_turn inner p) (pipe_turn inner (piped_to p))
+    moves_pipe_turn : (p : Piped) → PipedEnd p →
+        Moves z (step piped_to) (of_step PipedEnd) (pipe_turn inner p) (pipe_turn inner (piped_to p))
     unfolding pipe_turn
     moves_pipe_turn p all = moves_pick _ (moves_one_command p all) (moves_give refl all)
 
-    moves_pipeline : (n : Next) → Moves z (first {Y = Next} (pipeline_to k deep)) (of_first (PipelineEnds k deep)) (a_pipeline inner n) (a_pipeline inner n)
+    moves_pipeline : (n : Next) →
+        Moves z (first {Y = Next} (pipeline_to k deep)) (of_first (PipelineEnds k deep)) (a_pipeline inner n)
+        (a_pipeline inner n)
     unfolding a_pipeline
     moves_pipeline n =
         moves_then (moves_bang n) (λ b so. moves_then (moves_command b.1)
-        (λ c ends. moves_then (moves_many piped_to PipedEnd PipedEnd (pipe_turn inner) (pipe_turn inner) moves_pipe_turn (λ p all. all) (piped [] c.1) (All-nil (PipeEnds k deep)))
-        (λ p all. moves_give (ap (λ ps. (pipeline (option_map (span_to k) b.0) (command_to k deep c.0) ps, p.next)) (pipes_row k deep p.parts)) (pipeline_ends k deep b.0 c.0 p.parts ends all))))
+        (λ c ends. moves_then (moves_many piped_to PipedEnd PipedEnd (pipe_turn inner) (pipe_turn inner) moves_pipe_turn
+        (λ p all. all) (piped [] c.1) (All-nil (PipeEnds k deep)))
+        (λ p all. moves_give (ap (λ ps. (pipeline (option_map (span_to k) b.0) (command_to k deep c.0) ps, p.next))
+        (pipes_row k deep p.parts)) (pipeline_ends k deep b.0 c.0 p.parts ends all))))
 
     -- ---- and-or lists
 
@@ -245,34 +315,46 @@ module _ (z : Place) where
     abbrev JoinedEnd : Joined → Type 0
     JoinedEnd a = All (PartEnds k deep) a.parts
 
-    moves_one_pipeline : (a : Joined) (o : AndOrOperator) → JoinedEnd a → Moves z (step joined_to) (of_step JoinedEnd) (one_pipeline inner a o) (one_pipeline inner (joined_to a) o)
+    moves_one_pipeline : (a : Joined) (o : AndOrOperator) → JoinedEnd a →
+        Moves z (step joined_to) (of_step JoinedEnd) (one_pipeline inner a o) (one_pipeline inner (joined_to a) o)
     unfolding one_pipeline
     moves_one_pipeline a o all =
-        moves_then (moves_token (moves_on moves_move)) (λ x so. moves_then (moves_join a.next.broken) (λ j so2. moves_then (moves_pipeline j.1)
-        (λ p ends. moves_pushed (part_to k deep) refl refl (moves_give refl (All-push (PartEnds k deep) a.parts (record { operator = o; join = j.0; pipeline = p.0 }) all ends)))))
+        moves_then (moves_token (moves_on moves_move))
+        (λ x so. moves_then (moves_join a.next.broken) (λ j so2. moves_then (moves_pipeline j.1)
+        (λ p ends. moves_pushed (part_to k deep) refl refl
+        (moves_give refl (All-push (PartEnds k deep) a.parts
+        (record { operator = o; join = j.0; pipeline = p.0 }) all ends)))))
 
-    moves_joined_by : (a : Joined) (o : Option AndOrOperator) → JoinedEnd a → Moves z (step joined_to) (of_step JoinedEnd) (joined_by inner a o) (joined_by inner (joined_to a) o)
+    moves_joined_by : (a : Joined) (o : Option AndOrOperator) → JoinedEnd a →
+        Moves z (step joined_to) (of_step JoinedEnd) (joined_by inner a o) (joined_by inner (joined_to a) o)
     moves_joined_by a (Some o) all = moves_one_pipeline a o all
     moves_joined_by a None all = moves_give refl all
 
-    moves_join_pipeline : (a : Joined) → JoinedEnd a → Moves z (step joined_to) (of_step JoinedEnd) (join_pipeline inner a) (join_pipeline inner (joined_to a))
+    moves_join_pipeline : (a : Joined) → JoinedEnd a →
+        Moves z (step joined_to) (of_step JoinedEnd) (join_pipeline inner a) (join_pipeline inner (joined_to a))
     unfolding join_pipeline
     moves_join_pipeline a all = moves_joined_by a (and_or_operator_of a.next.token) all
 
-    pub moves_and_or : (n : Next) → Moves z (first {Y = Next} (and_or_to k deep)) (of_first (AndOrEnds k deep)) (an_and_or inner n) (an_and_or inner n)
+    pub moves_and_or : (n : Next) →
+        Moves z (first {Y = Next} (and_or_to k deep)) (of_first (AndOrEnds k deep)) (an_and_or inner n)
+        (an_and_or inner n)
     unfolding an_and_or
     moves_and_or n =
         moves_then (moves_pipeline n)
-        (λ p ends. moves_then (moves_many joined_to JoinedEnd JoinedEnd (join_pipeline inner) (join_pipeline inner) moves_join_pipeline (λ a all. all) (joined_so [] p.1) (All-nil (PartEnds k deep)))
-        (λ a all. moves_give (ap (λ ps. (and_or (pipeline_to k deep p.0) ps, a.next)) (parts_row k deep a.parts)) (and_or_ends k deep p.0 a.parts ends all)))
+        (λ p ends. moves_then (moves_many joined_to JoinedEnd JoinedEnd (join_pipeline inner)
+        (join_pipeline inner) moves_join_pipeline (λ a all. all) (joined_so [] p.1) (All-nil (PartEnds k deep)))
+        (λ a all. moves_give (ap (λ ps. (and_or (pipeline_to k deep p.0) ps, a.next)) (parts_row k deep a.parts))
+        (and_or_ends k deep p.0 a.parts ends all)))
 
   -- ---- what parts entries
 
   abbrev pub parted_to : Option ASeparator → Option ASeparator
   parted_to s = option_map (λ (x : ASeparator). (x.0, k + x.1)) s
 
-  moves_separator_by : (n : Next) (s : Option Separator) → Moves z (first {Y = Next} parted_to) Any (separator_by n s) (separator_by n s)
-  moves_separator_by n (Some s) = moves_then (moves_mark z) (λ x so. moves_then (moves_next z _) (λ m all. moves_give refl tt))
+  moves_separator_by : (n : Next) (s : Option Separator) →
+      Moves z (first {Y = Next} parted_to) Any (separator_by n s) (separator_by n s)
+  moves_separator_by n (Some s) =
+      moves_then (moves_mark z) (λ x so. moves_then (moves_next z _) (λ m all. moves_give refl tt))
   moves_separator_by n None = moves_give refl tt
 
   pub moves_separator : (n : Next) → Moves z (first {Y = Next} parted_to) Any (a_separator n) (a_separator n)

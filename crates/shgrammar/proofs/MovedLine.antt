@@ -41,7 +41,8 @@ and_false false = refl
 abbrev BlankIs : Bool → AnEntry → Type 0
 BlankIs blank (entry what background b comment) = b ≡ blank
 
-blanked_fill : (pale : Bool) (bs : Row Span) (es : Row AnEntry) → filled_row bs (blanked_row pale es) ≡ blanked_row pale (filled_row bs es)
+blanked_fill : (pale : Bool) (bs : Row Span) (es : Row AnEntry) →
+    filled_row bs (blanked_row pale es) ≡ blanked_row pale (filled_row bs es)
 unfolding filled_row fill_row fill_entry
 blanked_fill pale [] es = refl
 blanked_fill pale (b ∷ bs) [] = refl
@@ -49,21 +50,28 @@ blanked_fill pale (b ∷ bs) (entry what background blank comment ∷ es) = refl
 
 module _ (k : ℕ) (deep : Bool) where
   -- an entry that is not the first of its line is not blank
-  not_blank : (pale blank : Bool) (e : AnEntry) → BlankIs (blank && false) e → blanked_entry (pale && false) (entry_to k deep e) ≡ entry_to k deep e
+  not_blank : (pale blank : Bool) (e : AnEntry) → BlankIs (blank && false) e →
+      blanked_entry (pale && false) (entry_to k deep e) ≡ entry_to k deep e
   not_blank pale blank (entry what background b comment) is =
-      ap (λ (c : Bool). entry (carried_content (span_to k) (body_to k) deep what) background c (option_map (span_to k) comment)) (and_false pale ∙ sym (is ∙ and_false blank))
+      ap (λ (c : Bool). entry (carried_content (span_to k) (body_to k) deep what) background c
+      (option_map (span_to k) comment)) (and_false pale ∙ sym (is ∙ and_false blank))
 
-  row_pushed : (pale blank begun : Bool) (xs : Row AnEntry) (e : AnEntry) → begun ≡ not (is_empty xs) → BlankIs (blank && not begun) e
-      → blanked_row pale (map (entry_to k deep) xs) ++ blanked_entry (pale && not begun) (entry_to k deep e) ∷ [] ≡ blanked_row pale (map (entry_to k deep) (xs ++ e ∷ []))
-  row_pushed pale blank false [] e begins is = ap (λ (b : Bool). blanked_entry b (entry_to k deep e) ∷ []) (and_true pale)
+  row_pushed : (pale blank begun : Bool) (xs : Row AnEntry) (e : AnEntry) → begun ≡ not (is_empty xs) →
+      BlankIs (blank && not begun) e
+      → blanked_row pale (map (entry_to k deep) xs) ++ blanked_entry (pale && not begun) (entry_to k deep e) ∷ []
+      ≡ blanked_row pale (map (entry_to k deep) (xs ++ e ∷ []))
+  row_pushed pale blank false [] e begins is =
+      ap (λ (b : Bool). blanked_entry b (entry_to k deep e) ∷ []) (and_true pale)
   row_pushed pale blank true [] e begins is = absurd cc
   row_pushed pale blank false (x ∷ xs) e begins is = absurd cc
   row_pushed pale blank true (x ∷ xs) e begins is =
       ap (λ (ys : Row AnEntry). blanked_entry pale (entry_to k deep x) ∷ ys)
-      (ap (λ (y : AnEntry). map (entry_to k deep) xs ++ y ∷ []) (not_blank pale blank e is) ∙ sym (map-append (entry_to k deep) xs (e ∷ [])))
+      (ap (λ (y : AnEntry). map (entry_to k deep) xs ++ y ∷ []) (not_blank pale blank e is)
+      ∙ sym (map-append (entry_to k deep) xs (e ∷ [])))
 
 -- one more element, of whatever rows
-push_on : {z : Place} {A Y : Type 0} {d : Y → Y} {Q : Y → Type 0} {xs ys : Row A} {x y : A} {f h : Row A → Form Y} → Moves z d Q (f (xs ++ x ∷ [])) (h (ys ++ y ∷ []))
+push_on : {z : Place} {A Y : Type 0} {d : Y → Y} {Q : Y → Type 0} {xs ys : Row A} {x y : A} {f h : Row A → Form Y} →
+    Moves z d Q (f (xs ++ x ∷ [])) (h (ys ++ y ∷ []))
     → Moves z d Q (both (push xs x) f) (both (push ys y) h)
 push_on {z = z} rest = record { like = λ s. rw (kept_grows z.deep) (rest.like s) }
 
@@ -84,26 +92,57 @@ module _ (z : Place) (inner : Inner) (fits : Fits z inner) where
 
   module _ (pale : Bool) where
     abbrev entered_as : Bool → Entered → Entered
-    entered_as b e = record { entry = blanked_entry b (entry_to k deep e.entry); parted = option_map (offset_to k) e.parted; next = e.next }
+    entered_as b e = record {
+      entry = blanked_entry b (entry_to k deep e.entry);
+      parted = option_map (offset_to k) e.parted;
+      next = e.next;
+    }
 
     entered_is : (a : AnAndOr) (s : Option ASeparator) (blank b : Bool) (c : Option Span) (n : Next)
-        → record { entry = entry (command (and_or_to k deep a)) (is_background (parted_to z s)) b (option_map (span_to k) c); parted = past_separator (parted_to z s); next = n }
-        ≡ entered_as b (record { entry = entry (command a) (is_background s) blank c; parted = past_separator s; next = n })
+        → record {
+          entry = entry (command (and_or_to k deep a)) (is_background (parted_to z s)) b
+              (option_map (span_to k) c);
+          parted = past_separator (parted_to z s);
+          next = n;
+        }
+        ≡ entered_as b (record {
+          entry = entry (command a) (is_background s) blank c;
+          parted = past_separator s;
+          next = n;
+        })
     entered_is a None blank b c n = refl
     entered_is a (Some (s, p)) blank b c n = by_kind s
       where
-        by_kind : (t : Separator) → record { entry = entry (command (and_or_to k deep a)) (is_background (Some (t, k + p))) b (option_map (span_to k) c); parted = Some (k + p); next = n }
-            ≡ entered_as b (record { entry = entry (command a) (is_background (Some (t, p))) blank c; parted = Some p; next = n })
+        by_kind : (t : Separator) → record {
+          entry =
+              entry (command (and_or_to k deep a)) (is_background (Some (t, k + p))) b (option_map (span_to k) c);
+          parted = Some (k + p);
+          next = n;
+        }
+            ≡ entered_as b (record {
+              entry = entry (command a) (is_background (Some (t, p))) blank c;
+              parted = Some p;
+              next = n;
+            })
         by_kind Semicolon = refl
         by_kind Ampersand = refl
 
-    entry_as : (blank b : Bool) (n : Next) → Moves z (entered_as b) (λ e. BlankIs blank e.entry) (an_entry inner blank n) (an_entry inner b n)
+    entry_as : (blank b : Bool) (n : Next) →
+        Moves z (entered_as b) (λ e. BlankIs blank e.entry) (an_entry inner blank n) (an_entry inner b n)
     unfolding an_entry
     entry_as blank b n =
-        moves_then (moves_and_or z inner fits n) (λ a ends. moves_then (moves_separator z a.1) (λ s so. moves_then (moves_comment z s.1) (λ c all. moves_give (entered_is a.0 s.0 blank b c.0 c.1) refl)))
+        moves_then (moves_and_or z inner fits n)
+        (λ a ends. moves_then (moves_separator z a.1)
+        (λ s so. moves_then (moves_comment z s.1) (λ c all. moves_give (entered_is a.0 s.0 blank b c.0 c.1) refl)))
 
     abbrev listed_as : Listed → Listed
-    listed_as l = record { entries = blanked_row pale (map (entry_to k deep) l.entries); blank = pale; begun = l.begun; commands = l.commands; parted = option_map (offset_to k) l.parted }
+    listed_as l = record {
+      entries = blanked_row pale (map (entry_to k deep) l.entries);
+      blank = pale;
+      begun = l.begun;
+      commands = l.commands;
+      parted = option_map (offset_to k) l.parted;
+    }
 
     abbrev list_as : ListSo → ListSo
     list_as l = list_so (listed_as l.list) l.next
@@ -115,22 +154,29 @@ module _ (z : Place) (inner : Inner) (fits : Fits z inner) where
     more_begun : (xs : Row AnEntry) (x : AnEntry) → true ≡ not (is_empty (xs ++ x ∷ []))
     more_begun xs x = sym (ap not (pushed_some xs x))
 
-    one_entry_as : (l : ListSo) → OneLine l → Moves z (step list_as) (of_step OneLine) (one_entry inner l) (one_entry inner (list_as l))
+    one_entry_as : (l : ListSo) → OneLine l →
+        Moves z (step list_as) (of_step OneLine) (one_entry inner l) (one_entry inner (list_as l))
     unfolding one_entry
     one_entry_as l begins =
         moves_then (entry_as (is_blank_next l.list) (pale && not l.list.begun) l.next) (λ e is. push_on
-        (moves_if (is_some e.parted) (is_some (option_map (offset_to k) e.parted)) (is_some_map (offset_to k) e.parted) _ _
-        (ap (λ es. list_so (with_command (listed_as l.list) es (option_map (offset_to k) e.parted)) e.next) (row_pushed k deep pale l.list.blank l.list.begun l.list.entries e.entry begins is))
+        (moves_if (is_some e.parted) (is_some (option_map (offset_to k) e.parted))
+        (is_some_map (offset_to k) e.parted) _ _
+        (ap (λ es. list_so (with_command (listed_as l.list) es (option_map (offset_to k) e.parted)) e.next)
+        (row_pushed k deep pale l.list.blank l.list.begun l.list.entries e.entry begins is))
         (more_begun l.list.entries e.entry)))
 
-    entry_turn_as : (l : ListSo) → OneLine l → Moves z (step list_as) (of_step OneLine) (entry_turn inner l) (entry_turn inner (list_as l))
+    entry_turn_as : (l : ListSo) → OneLine l →
+        Moves z (step list_as) (of_step OneLine) (entry_turn inner l) (entry_turn inner (list_as l))
     unfolding entry_turn
     entry_turn_as l begins = moves_pick _ (one_entry_as l begins) (moves_give refl begins)
 
-    remark_as : (l : ListSo) (c : Option Span) (n : Next) → OneLine l → Moves z list_as OneLine (remark_by l (c, n)) (remark_by (list_as l) (option_map (span_to k) c, n))
+    remark_as : (l : ListSo) (c : Option Span) (n : Next) → OneLine l →
+        Moves z list_as OneLine (remark_by l (c, n)) (remark_by (list_as l) (option_map (span_to k) c, n))
     remark_as l (Some c) n begins =
         let e : AnEntry = entry (remark c) false (is_blank_next l.list) None in
-        push_on (moves_give (ap (λ es. list_so (with_remark (listed_as l.list) es) n) (row_pushed k deep pale l.list.blank l.list.begun l.list.entries e begins refl)) (more_begun l.list.entries e))
+        push_on (moves_give (ap (λ es. list_so (with_remark (listed_as l.list) es) n)
+        (row_pushed k deep pale l.list.blank l.list.begun l.list.entries e begins refl))
+        (more_begun l.list.entries e))
     remark_as l None n begins = moves_give refl begins
 
     a_remark_as : (l : ListSo) → OneLine l → Moves z list_as OneLine (a_remark l) (a_remark (list_as l))
@@ -139,40 +185,54 @@ module _ (z : Place) (inner : Inner) (fits : Fits z inner) where
 
     on_line_as : (l : ListSo) → OneLine l → Moves z list_as OneLine (on_line inner l) (on_line inner (list_as l))
     unfolding on_line
-    on_line_as l begins = moves_then (moves_many list_as OneLine OneLine (entry_turn inner) (entry_turn inner) entry_turn_as (λ m so. so) l begins) (λ m so. a_remark_as m so)
+    on_line_as l begins = moves_then
+        (moves_many list_as OneLine OneLine (entry_turn inner) (entry_turn inner) entry_turn_as (λ m so. so) l begins)
+        (λ m so. a_remark_as m so)
 
     abbrev pub row_as : Row AnEntry → Row AnEntry
     row_as es = blanked_row pale (map (entry_to k deep) es)
 
-    open_line_as : (blank : Bool) → Moves z (first {Y = Bool} row_as) Any (an_open_line inner blank) (an_open_line inner pale)
+    open_line_as : (blank : Bool) →
+        Moves z (first {Y = Bool} row_as) Any (an_open_line inner blank) (an_open_line inner pale)
     unfolding an_open_line
     open_line_as blank =
-        moves_then (moves_next z _) (λ n so. moves_then (on_line_as (list_so (none_listed blank) n) refl) (λ l all. moves_then (moves_end l.next) (λ newline so2. moves_give refl tt)))
+        moves_then (moves_next z _) (λ n so. moves_then (on_line_as (list_so (none_listed blank) n) refl)
+        (λ l all. moves_then (moves_end l.next) (λ newline so2. moves_give refl tt)))
 
     pub line_as : (blank : Bool) → Moves z (first {Y = Bool} row_as) Any (a_line inner blank) (a_line inner pale)
     unfolding a_line
     line_as blank =
         moves_then (moves_level (open_line_as blank))
-        (λ l so. moves_give (ap (λ (es : Row AnEntry). (es, l.0.1)) (blanked_fill pale (map (body_to k) l.1) (map (entry_to k deep) l.0.0) ∙ ap (blanked_row pale) (row_moved (span_to k) (body_to k) deep l.1 l.0.0))) tt)
+        (λ l so. moves_give (ap (λ (es : Row AnEntry). (es, l.0.1))
+        (blanked_fill pale (map (body_to k) l.1) (map (entry_to k deep) l.0.0)
+        ∙ ap (blanked_row pale) (row_moved (span_to k) (body_to k) deep l.1 l.0.0))) tt)
 
 -- ---- the lines of a script
 
-same_line : (deep : Bool) (p : ℕ) (blank : Bool) (x y : Read (Row AnEntry × Bool)) → Like p (first {Y = Bool} (λ es. blanked_row blank (map (placed_entry deep p) es))) Any x y → SameBy deep p blank y x
-same_line _ p blank (Ok ((es, newline), s)) (Ok ((fs, ended), t)) like = (ap (λ (v : Row AnEntry × Bool). v.0) like.0, ap (λ (v : Row AnEntry × Bool). v.1) like.0, ap (λ (v : State). v.at) like.1)
+same_line : (deep : Bool) (p : ℕ) (blank : Bool) (x y : Read (Row AnEntry × Bool)) →
+    Like p (first {Y = Bool} (λ es. blanked_row blank (map (placed_entry deep p) es))) Any x y → SameBy deep p blank y x
+same_line _ p blank (Ok ((es, newline), s)) (Ok ((fs, ended), t)) like = (
+  ap (λ (v : Row AnEntry × Bool). v.0) like.0,
+  ap (λ (v : Row AnEntry × Bool). v.1) like.0,
+  ap (λ (v : State). v.at) like.1,
+)
 same_line _ p blank (Ok x) (Err f) like = absurd like
 same_line _ p blank (Err e) (Ok y) like = absurd like
 same_line _ p blank (Err e) (Err f) like = like
 
-moved_by : (edition : Edition) → (deep : Bool) (B : List ℕ) (p : ℕ) (blank : Bool) → SameBy deep p blank (line_told edition B (kept deep) blank p p) (line_told edition B Whole false p 0)
+moved_by : (edition : Edition) → (deep : Bool) (B : List ℕ) (p : ℕ) (blank : Bool) →
+    SameBy deep p blank (line_told edition B (kept deep) blank p p) (line_told edition B Whole false p 0)
 moved_by edition deep B p blank =
     let z : Place = record { text = drop p B; offset = 0; edition = edition; base = p; deep = deep } in
     let none : p + 0 ≡ p = omega arith in
-    subst (λ (o : ℕ). SameBy deep p blank (does (the_line blank) (kept deep) (given edition (drop p B) o) (standing 0)) (does (the_line false) Whole (given edition (drop p B) 0) (standing 0))) none
+    subst (λ (o : ℕ). SameBy deep p blank (does (the_line blank) (kept deep) (given edition (drop p B) o) (standing 0))
+    (does (the_line false) Whole (given edition (drop p B) 0) (standing 0))) none
     (same_line deep p blank _ _ ((line_as z (level most_open) (moves_inner z most_open) blank false).like (standing 0)))
 
 pub line_moved : (edition : Edition) → (B : List ℕ) → LineMoves edition B
 line_moved edition B p blank = moved_by edition true B p blank
 
 -- the same without the trees in command substitutions
-pub line_outer : (edition : Edition) → (B : List ℕ) (p : ℕ) (blank : Bool) → SameBy false p blank (line_told edition B Outer blank p p) (line_told edition B Whole false p 0)
+pub line_outer : (edition : Edition) → (B : List ℕ) (p : ℕ) (blank : Bool) →
+    SameBy false p blank (line_told edition B Outer blank p p) (line_told edition B Whole false p 0)
 line_outer edition B p blank = moved_by edition false B p blank

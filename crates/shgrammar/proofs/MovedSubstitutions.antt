@@ -19,16 +19,20 @@ use Rattle.shgrammar.proofs.MovedWords.{Fits, moves_contents}
 abbrev pub with_all : Place → Place
 with_all z = record { text = z.text; offset = z.offset; edition = z.edition; base = z.base; deep = true }
 
-module _ (z : Place) (inner : Inner) (fits : Fits (with_all z) inner) (fits_without : FitsWithout (elsewhere z) inner) (b : ℕ) (ss : Row ASubst) where
+module _ (z : Place) (inner : Inner) (fits : Fits (with_all z) inner) (fits_without : FitsWithout (elsewhere z) inner)
+    (b : ℕ) (ss : Row ASubst) where
   abbrev k : ℕ
   k = z.base
 
   -- without its tree, where no row grows
-  none_grows : (p : ℕ) (s : State) → Tells Nothing (elsewhere z) (one_substitution inner p []) (λ (ys : Row ASubst) (t : State). ys ≡ []) s
+  none_grows : (p : ℕ) (s : State) →
+      Tells Nothing (elsewhere z) (one_substitution inner p []) (λ (ys : Row ASubst) (t : State). ys ≡ []) s
   unfolding one_substitution
-  none_grows p s = tells_then Nothing (elsewhere z) (tells_any Nothing (elsewhere z)) (λ es t so. tells_seen Nothing (elsewhere z) (record { told = refl }))
+  none_grows p s = tells_then Nothing (elsewhere z) (tells_any Nothing (elsewhere z))
+      (λ es t so. tells_seen Nothing (elsewhere z) (record { told = refl }))
 
-  left_out : (x y w : Read (Row ASubst)) → Like k (map (subst_to k true)) Any x y → LikeWithout (All (elsewhere z)) y w → Holds (λ (ys : Row ASubst) (t : State). ys ≡ []) w → Like k (λ (xs : Row ASubst). []) Any x w
+  left_out : (x y w : Read (Row ASubst)) → Like k (map (subst_to k true)) Any x y → LikeWithout (All (elsewhere z)) y w
+      → Holds (λ (ys : Row ASubst) (t : State). ys ≡ []) w → Like k (λ (xs : Row ASubst). []) Any x w
   left_out (Ok (x, s)) (Ok (y, t)) (Ok (w, u)) like same none = (none, sym same.0 ∙ like.1, tt)
   left_out (Ok (x, s)) (Ok (y, t)) (Err e) like same none = absurd same
   left_out (Ok (x, s)) (Err e) w like same none = absurd like
@@ -46,20 +50,28 @@ module _ (z : Place) (inner : Inner) (fits : Fits (with_all z) inner) (fits_with
   there true s = (moves_one_substitution (with_all z) inner fits b ss).like s
   there false s =
       left_out _ _ _ ((moves_one_substitution (with_all z) inner fits b ss).like s)
-      ((alike_substitution (elsewhere z) inner fits_without (k + b) (map (subst_to k true) ss) []).like (moved_state k s)) (none_grows (k + b) (moved_state k s)).told
+      ((alike_substitution (elsewhere z) inner fits_without (k + b) (map (subst_to k true) ss) []).like
+      (moved_state k s)) (none_grows (k + b) (moved_state k s)).told
 
-  pub moves_substitution : Moves z (substs_to k z.deep) Any (a_substitution inner b ss) (a_substitution inner (k + b) (substs_to k z.deep ss))
+  pub moves_substitution : Moves z (substs_to k z.deep) Any (a_substitution inner b ss)
+      (a_substitution inner (k + b) (substs_to k z.deep ss))
   unfolding a_substitution
   moves_substitution = record { like = λ s. there z.deep s }
 
 -- words within words, commands within commands
 pub moves_inner : (z : Place) (room : ℕ) → Fits z (level room)
 unfolding level
-moves_inner z zero = record { construct = λ mode b ss. moves_stop; substitution = λ b ss. moves_stop; compound = λ o. moves_here (λ p. moves_stop); function = λ name. moves_stop }
+moves_inner z zero = record {
+  construct = λ mode b ss. moves_stop;
+  substitution = λ b ss. moves_stop;
+  compound = λ o. moves_here (λ p. moves_stop);
+  function = λ name. moves_stop;
+}
 moves_inner z (suc room) =
     record {
       construct = λ mode b ss. moves_contents z (level room) (moves_inner z room) mode b ss;
-      substitution = λ b ss. moves_substitution z (level room) (moves_inner (with_all z) room) (alike_level (elsewhere z) room) b ss;
+      substitution = λ b ss. moves_substitution z (level room) (moves_inner (with_all z) room)
+          (alike_level (elsewhere z) room) b ss;
       compound = λ o. moves_compound z (level room) (moves_inner z room) o;
       function = λ name. moves_function z (level room) (moves_inner z room) name;
     }

@@ -99,22 +99,26 @@ module _ (k : ℕ) where
     all_substs [] = refl
     all_substs (s ∷ ss) = ap (more_substs (subst_to s)) (all_substs ss)
 
-    substs_by : (e : Bool) (ss : Row ASubst) → substs_of (kept_row e (map subst_to ss)) ≡ kept_substs e (carried_substs span_to body_to deep (substs_of ss))
+    substs_by : (e : Bool) (ss : Row ASubst) →
+        substs_of (kept_row e (map subst_to ss)) ≡ kept_substs e (carried_substs span_to body_to deep (substs_of ss))
     substs_by true ss = all_substs ss
     substs_by false ss = refl
 
-    pub substs_row : (ss : Row ASubst) → substs_of (substs_to ss) ≡ kept_substs deep (carried_substs span_to body_to deep (substs_of ss))
+    pub substs_row : (ss : Row ASubst) →
+        substs_of (substs_to ss) ≡ kept_substs deep (carried_substs span_to body_to deep (substs_of ss))
     substs_row ss = substs_by deep ss
 
     pub items_row : (is : Row AnItem) → items_of (map item_to is) ≡ carried_items span_to body_to deep (items_of is)
     items_row [] = refl
     items_row (i ∷ is) = ap (more_items (item_to i)) (items_row is)
 
-    pub pipes_row : (ps : Row APipelinePart) → pipeline_parts_of (map pipe_to ps) ≡ carried_pipes span_to body_to deep (pipeline_parts_of ps)
+    pub pipes_row : (ps : Row APipelinePart) →
+        pipeline_parts_of (map pipe_to ps) ≡ carried_pipes span_to body_to deep (pipeline_parts_of ps)
     pipes_row [] = refl
     pipes_row (p ∷ ps) = ap (more_pipes (join_to p.join) (command_to p.command)) (pipes_row ps)
 
-    pub parts_row : (ps : Row AnAndOrPart) → and_or_parts_of (map part_to ps) ≡ carried_and_or_parts span_to body_to deep (and_or_parts_of ps)
+    pub parts_row : (ps : Row AnAndOrPart) →
+        and_or_parts_of (map part_to ps) ≡ carried_and_or_parts span_to body_to deep (and_or_parts_of ps)
     parts_row [] = refl
     parts_row (p ∷ ps) = ap (more_and_or p.operator (join_to p.join) (pipeline_to p.pipeline)) (parts_row ps)
 
@@ -122,7 +126,8 @@ module _ (k : ℕ) where
     entries_row [] = refl
     entries_row (e ∷ es) = ap (more_entries (entry_to e)) (entries_row es)
 
-    pub branches_row : (bs : Row ABranch) → branches_of (map branch_to bs) ≡ carried_branches span_to body_to deep (branches_of bs)
+    pub branches_row : (bs : Row ABranch) →
+        branches_of (map branch_to bs) ≡ carried_branches span_to body_to deep (branches_of bs)
     branches_row [] = refl
     branches_row (b ∷ bs) = ap (more_branches (branch_to b)) (branches_row bs)
 
@@ -130,20 +135,24 @@ module _ (k : ℕ) where
     cases_row [] = refl
     cases_row (c ∷ cs) = ap (more_cases (case_to c)) (cases_row cs)
 
-    pub patterns_row : (ws : Row AWord) → patterns_of (map word_to ws) ≡ carried_patterns span_to body_to deep (patterns_of ws)
+    pub patterns_row : (ws : Row AWord) →
+        patterns_of (map word_to ws) ≡ carried_patterns span_to body_to deep (patterns_of ws)
     patterns_row [] = refl
     patterns_row (w ∷ ws) = ap (more_patterns (word_to w)) (patterns_row ws)
 
-    pub remarks_to : (cs : Row Span) (es : Entries) → behind_remarks (map span_to cs) (list_to es) ≡ list_to (behind_remarks cs es)
+    pub remarks_to : (cs : Row Span) (es : Entries) →
+        behind_remarks (map span_to cs) (list_to es) ≡ list_to (behind_remarks cs es)
     remarks_to [] es = refl
     remarks_to (c ∷ cs) es = ap (more_entries (entry (remark (span_to c)) false false None)) (remarks_to cs es)
 
-    pub redirects_to : (c : ACommand) (is : Items) → with_redirects (command_to c) (carried_items span_to body_to deep is) ≡ command_to (with_redirects c is)
+    pub redirects_to : (c : ACommand) (is : Items) →
+        with_redirects (command_to c) (carried_items span_to body_to deep is) ≡ command_to (with_redirects c is)
     redirects_to (simple items) is = refl
     redirects_to (compound (formed form mark others)) is = refl
     redirects_to (function name comments body) is = refl
 
-    pub under_name_to : (name : Span) (cs : Row Span) (c : ACommand) → under_name (span_to name) (map span_to cs) (command_to c) ≡ command_to (under_name name cs c)
+    pub under_name_to : (name : Span) (cs : Row Span) (c : ACommand) →
+        under_name (span_to name) (map span_to cs) (command_to c) ≡ command_to (under_name name cs c)
     under_name_to name cs (simple items) = refl
     under_name_to name cs (compound body) = refl
     under_name_to name cs (function other comments body) = refl
@@ -153,7 +162,8 @@ module _ (k : ℕ) where
     pub word_span_to : (w : AWord) → word_span (word_to w) ≡ span_to (word_span w)
     word_span_to (word span substs) = refl
 
-    begin_to : (begin : Option Span) (s : Span) → unwrap_or (option_map span_to begin) (span_to s) ≡ span_to (unwrap_or begin s)
+    begin_to : (begin : Option Span) (s : Span) →
+        unwrap_or (option_map span_to begin) (span_to s) ≡ span_to (unwrap_or begin s)
     begin_to None s = refl
     begin_to (Some t) s = refl
 
@@ -162,20 +172,27 @@ module _ (k : ℕ) where
     item_span_to (item broken (argument w)) = word_span_to w
     item_span_to (item broken (redirect number operator span w here)) = rw (begin_to number span, word_span_to w) refl
 
-    last_item_to : (before : Span) (is : Items) → last_item (span_to before) (carried_items span_to body_to deep is) ≡ span_to (last_item before is)
+    last_item_to : (before : Span) (is : Items) →
+        last_item (span_to before) (carried_items span_to body_to deep is) ≡ span_to (last_item before is)
     last_item_to before no_item = refl
-    last_item_to before (more_items i is) = ap (λ (s : Span). last_item s (carried_items span_to body_to deep is)) (item_span_to i) ∙ last_item_to (item_span i) is
+    last_item_to before (more_items i is) =
+        ap (λ (s : Span). last_item s (carried_items span_to body_to deep is)) (item_span_to i)
+        ∙ last_item_to (item_span i) is
 
-    -- ---- where a part ends: a simple command without items, which none that was read is, ends at 0 wherever it stands
+    -- ---- where a part ends: a simple command without items, which none that was read is, ends at 0 wherever
+    -- it stands
 
     abbrev pub CommandEnds : ACommand → Type 0
     CommandEnds c = (command_span (command_to c)).«end» ≡ k + (command_span c).«end»
 
     pub simple_ends : (is : Row AnItem) → is_empty is ≡ false → CommandEnds (simple (items_of is))
     simple_ends [] some = absurd cc
-    simple_ends (i ∷ is) some = ap (λ (s : Span). s.«end») (ap (λ (s : Span). last_item s (carried_items span_to body_to deep (items_of is))) (item_span_to i) ∙ last_item_to (item_span i) (items_of is))
+    simple_ends (i ∷ is) some = ap (λ (s : Span). s.«end»)
+        (ap (λ (s : Span). last_item s (carried_items span_to body_to deep (items_of is))) (item_span_to i)
+        ∙ last_item_to (item_span i) (items_of is))
 
-    compound_end : (c : ACompound) → (compound_span (carried_compound span_to body_to deep c)).«end» ≡ k + (compound_span c).«end»
+    compound_end : (c : ACompound) →
+        (compound_span (carried_compound span_to body_to deep c)).«end» ≡ k + (compound_span c).«end»
     compound_end (formed form span redirects) = ap (λ (s : Span). s.«end») (last_item_to span redirects)
 
     pub compound_ends : (c : ACompound) → CommandEnds (compound c)
@@ -186,7 +203,8 @@ module _ (k : ℕ) where
     redirects_end (compound (formed form mark others)) is so = compound_end (formed form mark is)
     redirects_end (function name comments body) is so = so
 
-    pub under_name_ends : (name : Span) (cs : Row Span) (c : ACommand) → CommandEnds c → CommandEnds (under_name name cs c)
+    pub under_name_ends : (name : Span) (cs : Row Span) (c : ACommand) → CommandEnds c →
+        CommandEnds (under_name name cs c)
     under_name_ends name cs (simple items) so = so
     under_name_ends name cs (compound body) so = compound_end body
     under_name_ends name cs (function other comments body) so = so
@@ -195,31 +213,41 @@ module _ (k : ℕ) where
     PipeEnds p = CommandEnds p.command
 
     pipes_end : (before there : Span) → there.«end» ≡ k + before.«end» → (ps : Row APipelinePart) → All PipeEnds ps
-        → (last_command there (pipeline_parts_of (map pipe_to ps))).«end» ≡ k + (last_command before (pipeline_parts_of ps)).«end»
+        → (last_command there (pipeline_parts_of (map pipe_to ps))).«end»
+        ≡ k + (last_command before (pipeline_parts_of ps)).«end»
     pipes_end before there is [] all = is
-    pipes_end before there is (p ∷ ps) all = pipes_end (command_span p.command) (command_span (command_to p.command)) (All-head PipeEnds p ps all) ps (All-tail PipeEnds p ps all)
+    pipes_end before there is (p ∷ ps) all =
+        pipes_end (command_span p.command) (command_span (command_to p.command)) (All-head PipeEnds p ps all) ps
+        (All-tail PipeEnds p ps all)
 
     abbrev pub PipelineEnds : APipeline → Type 0
     PipelineEnds p = (pipeline_span (pipeline_to p)).«end» ≡ k + (pipeline_span p).«end»
 
-    pub pipeline_ends : (bang : Option Span) (c : ACommand) (ps : Row APipelinePart) → CommandEnds c → All PipeEnds ps → PipelineEnds (pipeline bang c (pipeline_parts_of ps))
+    pub pipeline_ends : (bang : Option Span) (c : ACommand) (ps : Row APipelinePart) → CommandEnds c → All PipeEnds ps →
+        PipelineEnds (pipeline bang c (pipeline_parts_of ps))
     pipeline_ends bang c ps first all =
-        ap (λ (qs : PipelineParts). (last_command (command_span (command_to c)) qs).«end») (sym (pipes_row ps)) ∙ pipes_end (command_span c) (command_span (command_to c)) first ps all
+        ap (λ (qs : PipelineParts). (last_command (command_span (command_to c)) qs).«end») (sym (pipes_row ps))
+        ∙ pipes_end (command_span c) (command_span (command_to c)) first ps all
 
     abbrev pub PartEnds : AnAndOrPart → Type 0
     PartEnds p = PipelineEnds p.pipeline
 
     parts_end : (before there : Span) → there.«end» ≡ k + before.«end» → (ps : Row AnAndOrPart) → All PartEnds ps
-        → (last_pipeline there (and_or_parts_of (map part_to ps))).«end» ≡ k + (last_pipeline before (and_or_parts_of ps)).«end»
+        → (last_pipeline there (and_or_parts_of (map part_to ps))).«end»
+        ≡ k + (last_pipeline before (and_or_parts_of ps)).«end»
     parts_end before there is [] all = is
-    parts_end before there is (p ∷ ps) all = parts_end (pipeline_span p.pipeline) (pipeline_span (pipeline_to p.pipeline)) (All-head PartEnds p ps all) ps (All-tail PartEnds p ps all)
+    parts_end before there is (p ∷ ps) all =
+        parts_end (pipeline_span p.pipeline) (pipeline_span (pipeline_to p.pipeline)) (All-head PartEnds p ps all) ps
+        (All-tail PartEnds p ps all)
 
     abbrev pub AndOrEnds : AnAndOr → Type 0
     AndOrEnds a = (and_or_span (and_or_to a)).«end» ≡ k + (and_or_span a).«end»
 
-    pub and_or_ends : (p : APipeline) (ps : Row AnAndOrPart) → PipelineEnds p → All PartEnds ps → AndOrEnds (and_or p (and_or_parts_of ps))
+    pub and_or_ends : (p : APipeline) (ps : Row AnAndOrPart) → PipelineEnds p → All PartEnds ps →
+        AndOrEnds (and_or p (and_or_parts_of ps))
     and_or_ends p ps first all =
-        ap (λ (qs : AndOrParts). (last_pipeline (pipeline_span (pipeline_to p)) qs).«end») (sym (parts_row ps)) ∙ parts_end (pipeline_span p) (pipeline_span (pipeline_to p)) first ps all
+        ap (λ (qs : AndOrParts). (last_pipeline (pipeline_span (pipeline_to p)) qs).«end») (sym (parts_row ps))
+        ∙ parts_end (pipeline_span p) (pipeline_span (pipeline_to p)) first ps all
 
     abbrev pub ContentEnds : AContent → Type 0
     ContentEnds (command a) = AndOrEnds a
@@ -228,8 +256,12 @@ module _ (k : ℕ) where
     abbrev pub EntryEnds : AnEntry → Type 0
     EntryEnds (entry what background blank comment) = ContentEnds what
 
-    pub entries_end : (before : ℕ) (es : Row AnEntry) → All EntryEnds es → commands_end (k + before) (entries_of (map entry_to es)) ≡ k + commands_end before (entries_of es)
+    pub entries_end : (before : ℕ) (es : Row AnEntry) → All EntryEnds es →
+        commands_end (k + before) (entries_of (map entry_to es)) ≡ k + commands_end before (entries_of es)
     entries_end before [] all = refl
     entries_end before (entry (command a) background blank comment ∷ es) all =
-        rw (All-head EntryEnds (entry (command a) background blank comment) es all) (entries_end (and_or_span a).«end» es (All-tail EntryEnds (entry (command a) background blank comment) es all))
-    entries_end before (entry (remark c) background blank comment ∷ es) all = entries_end before es (All-tail EntryEnds (entry (remark c) background blank comment) es all)
+        rw (All-head EntryEnds (entry (command a) background blank comment) es all)
+        (entries_end (and_or_span a).«end» es
+        (All-tail EntryEnds (entry (command a) background blank comment) es all))
+    entries_end before (entry (remark c) background blank comment ∷ es) all =
+        entries_end before es (All-tail EntryEnds (entry (remark c) background blank comment) es all)

@@ -38,10 +38,13 @@ module _ (z : Place) where
   same_if c true a = refl
   same_if c false a = refl
 
-  moves_escaped_turn : (how : Escaping) (b : ℕ) (u : Unit {0}) → Moves z (step same) (of_step Any) (escaped_turn how b u) (escaped_turn how (k + b) u)
+  moves_escaped_turn : (how : Escaping) (b : ℕ) (u : Unit {0}) →
+      Moves z (step same) (of_step Any) (escaped_turn how b u) (escaped_turn how (k + b) u)
   unfolding escaped_turn
   moves_escaped_turn how b u =
-      moves_on (moves_when (λ s. refl) moves_stop (moves_when (λ s. refl) moves_stop (moves_see (λ s. refl) (λ last. moves_on (moves_give (same_if same (not last) tt) (any_if (not last)))))))
+      moves_on (moves_when (λ s. refl) moves_stop
+      (moves_when (λ s. refl) moves_stop
+      (moves_see (λ s. refl) (λ last. moves_on (moves_give (same_if same (not last) tt) (any_if (not last)))))))
     where
       any_if : (b : Bool) → of_step (Any {X = Unit {0}}) (step_if b tt)
       any_if true = tt
@@ -49,11 +52,17 @@ module _ (z : Place) where
 
   moves_backquoted_text : Moves z same Any backquoted_text backquoted_text
   unfolding backquoted_text
-  moves_backquoted_text = moves_byte (λ b. moves_on (moves_many same Any Any (escaped_turn escapings.Backquotes b) (escaped_turn escapings.Backquotes (k + b)) (λ u so. moves_escaped_turn escapings.Backquotes b u) (λ u so. tt) tt tt))
+  moves_backquoted_text = moves_byte
+      (λ b. moves_on (moves_many same Any Any (escaped_turn escapings.Backquotes b)
+      (escaped_turn escapings.Backquotes (k + b)) (λ u so. moves_escaped_turn escapings.Backquotes b u)
+      (λ u so. tt) tt tt))
 
   moves_dollar_single : Moves z same Any dollar_single dollar_single
   unfolding dollar_single
-  moves_dollar_single = moves_byte (λ b. moves_on (moves_on (moves_many same Any Any (escaped_turn escapings.DollarSingle b) (escaped_turn escapings.DollarSingle (k + b)) (λ u so. moves_escaped_turn escapings.DollarSingle b u) (λ u so. tt) tt tt)))
+  moves_dollar_single = moves_byte
+      (λ b. moves_on (moves_on (moves_many same Any Any (escaped_turn escapings.DollarSingle b)
+      (escaped_turn escapings.DollarSingle (k + b)) (λ u so. moves_escaped_turn escapings.DollarSingle b u)
+      (λ u so. tt) tt tt)))
 
   -- ---- tokens and comments
 
@@ -62,10 +71,12 @@ module _ (z : Place) where
   moves_next position = moves_see (λ s. refl) (λ n. moves_on (moves_give refl tt))
 
   -- an operator, told in whatever way
-  pub moves_mark : {how : Told} {m : Move} → Moves z (each {X = Unit {0}} same (span_to k)) (of_first Any) (token how (move m)) (token how (move m))
+  pub moves_mark : {how : Told} {m : Move} →
+      Moves z (each {X = Unit {0}} same (span_to k)) (of_first Any) (token how (move m)) (token how (move m))
   moves_mark = moves_token moves_move
 
-  moves_comment_by : (n : Next) (c : Option Span) → Moves z (first {Y = Next} (option_map (span_to k))) Any (comment_by n c) (comment_by n (option_map (span_to k) c))
+  moves_comment_by : (n : Next) (c : Option Span) →
+      Moves z (first {Y = Next} (option_map (span_to k))) Any (comment_by n c) (comment_by n (option_map (span_to k) c))
   moves_comment_by n (Some c) = moves_on (moves_then (moves_next _) (λ m so. moves_give refl tt))
   moves_comment_by n None = moves_give refl tt
 
@@ -76,19 +87,28 @@ module _ (z : Place) where
   -- ---- words, where what may be opened moves
 
   pub record Fits (inner : Inner) : Type 0 where
-    pub construct : (mode : Mode) (b : ℕ) (ss : Row ASubst) → Moves z (substs_to k deep) Any (inner.construct mode b ss) (inner.construct mode (k + b) (substs_to k deep ss))
-    pub substitution : (b : ℕ) (ss : Row ASubst) → Moves z (substs_to k deep) Any (inner.substitution b ss) (inner.substitution (k + b) (substs_to k deep ss))
-    pub compound : (o : Opener) → Moves z (first {Y = Next} (command_to k deep)) (of_first (CommandEnds k deep)) (inner.compound o) (inner.compound o)
-    pub function : (name : Span) → Moves z (first {Y = Next} (command_to k deep)) (of_first (CommandEnds k deep)) (inner.function name) (inner.function (span_to k name))
+    pub construct : (mode : Mode) (b : ℕ) (ss : Row ASubst) →
+        Moves z (substs_to k deep) Any (inner.construct mode b ss) (inner.construct mode (k + b) (substs_to k deep ss))
+    pub substitution : (b : ℕ) (ss : Row ASubst) →
+        Moves z (substs_to k deep) Any (inner.substitution b ss) (inner.substitution (k + b) (substs_to k deep ss))
+    pub compound : (o : Opener) →
+        Moves z (first {Y = Next} (command_to k deep)) (of_first (CommandEnds k deep)) (inner.compound o)
+        (inner.compound o)
+    pub function : (name : Span) →
+        Moves z (first {Y = Next} (command_to k deep)) (of_first (CommandEnds k deep)) (inner.function name)
+        (inner.function (span_to k name))
 
   abbrev held_to : WordSoFar → WordSoFar
   held_to h = having h.nested (substs_to k deep h.substs)
 
   module _ (inner : Inner) (fits : Fits inner) where
-    moves_opened : (mode : Mode) (b : ℕ) (h : WordSoFar) → Moves z (step held_to) (of_step Any) (opened inner mode b h) (opened inner mode (k + b) (held_to h))
+    moves_opened : (mode : Mode) (b : ℕ) (h : WordSoFar) →
+        Moves z (step held_to) (of_step Any) (opened inner mode b h) (opened inner mode (k + b) (held_to h))
     moves_opened mode b h = moves_then (fits.construct mode b h.substs) (λ ss so. moves_give refl tt)
 
-    moves_piece_by : (mode : Mode) (b : ℕ) (h : WordSoFar) (piece : Piece) → Moves z (step held_to) (of_step Any) (piece_row inner mode b h piece) (piece_row inner mode (k + b) (held_to h) piece)
+    moves_piece_by : (mode : Mode) (b : ℕ) (h : WordSoFar) (piece : Piece) →
+        Moves z (step held_to) (of_step Any) (piece_row inner mode b h piece)
+        (piece_row inner mode (k + b) (held_to h) piece)
     moves_piece_by mode b h pieces.Closer = moves_on (moves_give refl tt)
     moves_piece_by mode b h pieces.Missing = moves_stop
     moves_piece_by mode b h pieces.LoneBackslash = moves_byte (λ q. moves_stop)
@@ -98,41 +118,55 @@ module _ (z : Place) where
     moves_piece_by mode b h pieces.Double = moves_byte (λ q. moves_on (moves_opened _ q h))
     moves_piece_by mode b h pieces.Backquote = moves_then moves_backquoted_text (λ u so. moves_give refl tt)
     moves_piece_by mode b h pieces.Pid = moves_on (moves_on (moves_give refl tt))
-    moves_piece_by mode b h pieces.Subst = moves_byte (λ q. moves_on (moves_on (moves_then (fits.substitution q h.substs) (λ ss so. moves_give refl tt))))
+    moves_piece_by mode b h pieces.Subst =
+        moves_byte (λ q. moves_on (moves_on (moves_then (fits.substitution q h.substs) (λ ss so. moves_give refl tt))))
     moves_piece_by mode b h pieces.Arith = moves_byte (λ q. moves_on (moves_on (moves_on (moves_opened _ q h))))
-    moves_piece_by mode b h pieces.Param = moves_byte (λ q. moves_on (moves_on (moves_on (moves_see (λ s. refl) (λ m. moves_opened m q h)))))
+    moves_piece_by mode b h pieces.Param =
+        moves_byte (λ q. moves_on (moves_on (moves_on (moves_see (λ s. refl) (λ m. moves_opened m q h)))))
     moves_piece_by mode b h pieces.Open = moves_on (moves_give refl tt)
     moves_piece_by mode b h pieces.Close = moves_on (moves_give refl tt)
     moves_piece_by mode b h pieces.BadClose = moves_byte (λ q. moves_stop)
     moves_piece_by mode b h pieces.Ordinary = moves_on (moves_give refl tt)
 
-    moves_piece : (mode : Mode) (b : ℕ) (h : WordSoFar) → Moves z (step held_to) (of_step Any) (a_piece inner mode b h) (a_piece inner mode (k + b) (held_to h))
+    moves_piece : (mode : Mode) (b : ℕ) (h : WordSoFar) →
+        Moves z (step held_to) (of_step Any) (a_piece inner mode b h) (a_piece inner mode (k + b) (held_to h))
     unfolding a_piece
     moves_piece mode b h = moves_see (λ s. refl) (λ piece. moves_piece_by mode b h piece)
 
-    pub moves_contents : (mode : Mode) (b : ℕ) (ss : Row ASubst) → Moves z (substs_to k deep) Any (contents inner mode b ss) (contents inner mode (k + b) (substs_to k deep ss))
+    pub moves_contents : (mode : Mode) (b : ℕ) (ss : Row ASubst) →
+        Moves z (substs_to k deep) Any (contents inner mode b ss) (contents inner mode (k + b) (substs_to k deep ss))
     unfolding contents
-    moves_contents mode b ss = moves_then (moves_many held_to Any Any (a_piece inner mode b) (a_piece inner mode (k + b)) (λ h so. moves_piece mode b h) (λ h so. tt) (having 0 ss) tt) (λ h so. moves_give refl tt)
+    moves_contents mode b ss = moves_then
+        (moves_many held_to Any Any (a_piece inner mode b) (a_piece inner mode (k + b)) (λ h so. moves_piece mode b h)
+        (λ h so. tt) (having 0 ss) tt) (λ h so. moves_give refl tt)
 
     pub moves_word : Moves z (word_to k deep) Any (a_word inner) (a_word inner)
     unfolding a_word
-    moves_word = moves_here (λ p. moves_then (moves_token (from_none p)) (λ x so. moves_give (ap (word (span_to k x.1)) (substs_row k deep x.0)) tt))
+    moves_word = moves_here (λ p. moves_then (moves_token (from_none p))
+        (λ x so. moves_give (ap (word (span_to k x.1)) (substs_row k deep x.0)) tt))
       where
-        from_none : (p : ℕ) → Moves z (substs_to k deep) Any (contents inner Plain p []) (contents inner Plain (k + p) [])
-        from_none p = subst (λ (ss : Row ASubst). Moves z (substs_to k deep) Any (contents inner Plain p []) (contents inner Plain (k + p) ss)) (kept_none deep) (moves_contents Plain p [])
+        from_none : (p : ℕ) → Moves z (substs_to k deep) Any (contents inner Plain p [])
+            (contents inner Plain (k + p) [])
+        from_none p = subst (λ (ss : Row ASubst). Moves z (substs_to k deep) Any (contents inner Plain p [])
+            (contents inner Plain (k + p) ss)) (kept_none deep) (moves_contents Plain p [])
 
     -- ---- what is unexpected
 
-    wrong_to : (e : Bool) (p : ℕ) (w : Option ℕ) → wrong_with e (k + p) (option_map (λ (q : ℕ). k + q) w) ≡ each {X = FaultKind} same (offset_to k) (wrong_with e p w)
+    wrong_to : (e : Bool) (p : ℕ) (w : Option ℕ) →
+        wrong_with e (k + p) (option_map (λ (q : ℕ). k + q) w)
+        ≡ each {X = FaultKind} same (offset_to k) (wrong_with e p w)
     wrong_to true p (Some b) = refl
     wrong_to true p None = refl
     wrong_to false p w = refl
 
-    moves_wrong : (n : Next) → Moves z (each {X = FaultKind} same (offset_to k)) Any (what_is_wrong inner n) (what_is_wrong inner n)
+    moves_wrong : (n : Next) → Moves z (each {X = FaultKind} same (offset_to k)) Any (what_is_wrong inner n)
+        (what_is_wrong inner n)
     unfolding what_is_wrong
     moves_wrong n =
         moves_pick _ (moves_here (λ p. moves_then moves_word (λ w so. moves_give refl tt)))
-        (moves_then (moves_comment n) (λ c so. moves_here (λ p. moves_see_waiting (λ w. moves_give (wrong_to (is_end c.1.token) p w) tt))))
+        (moves_then (moves_comment n)
+        (λ c so. moves_here (λ p. moves_see_waiting (λ w. moves_give (wrong_to (is_end c.1.token) p w) tt))))
 
-    pub moves_unexpected : {X : Type 0} {c : X → X} {P : X → Type 0} (n : Next) → Moves z c P (unexpected inner n) (unexpected inner n)
+    pub moves_unexpected : {X : Type 0} {c : X → X} {P : X → Type 0} (n : Next) →
+        Moves z c P (unexpected inner n) (unexpected inner n)
     moves_unexpected n = moves_then (moves_wrong n) (λ w so. moves_stop)

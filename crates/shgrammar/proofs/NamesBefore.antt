@@ -50,23 +50,28 @@ passed_byte : (test : ℕ → Bool) (x : Option ℕ) → passes test x ≡ true 
 passed_byte test None e = absurd cc
 passed_byte test (Some b) e = (b, refl, e)
 
-byte_in : (test : ℕ → Bool) (T : List ℕ) (r : ℕ) → stands_in test T r ≡ true → (b : ℕ) × (byte_at T r ≡ Some b) × (test b ≡ true)
+byte_in : (test : ℕ → Bool) (T : List ℕ) (r : ℕ) → stands_in test T r ≡ true → (b : ℕ) × (byte_at T r ≡ Some b)
+    × (test b ≡ true)
 unfolding stands_in
 byte_in test T r e = passed_byte test (byte_at T r) e
 
 module _ (edition : Edition) (room : ℕ) (T : List ℕ) (o opener : ℕ) where
   -- a byte of a NAME is a piece
-  name_turn : (r b : ℕ) (c : WordSoFar) → byte_at T r ≡ Some b → is_name b ≡ true → does (a_piece (level room) Plain opener c) Whole (given edition T o) (standing r) ≡ Ok (again c, standing (behind T r))
+  name_turn : (r b : ℕ) (c : WordSoFar) → byte_at T r ≡ Some b → is_name b ≡ true →
+      does (a_piece (level room) Plain opener c) Whole (given edition T o) (standing r)
+      ≡ Ok (again c, standing (behind T r))
   unfolding a_piece piece_at
   name_turn r b c is_b e = rw (is_b, ordinary_by T r Plain c.nested b (name_plain b e)) refl
 
-  end_turn : (r : ℕ) (c : WordSoFar) → ends_word T r ≡ true → does (a_piece (level room) Plain opener c) Whole (given edition T o) (standing r) ≡ Ok (done c, standing r)
+  end_turn : (r : ℕ) (c : WordSoFar) → ends_word T r ≡ true →
+      does (a_piece (level room) Plain opener c) Whole (given edition T o) (standing r) ≡ Ok (done c, standing r)
   unfolding a_piece piece_at ends_word
   end_turn r c e = rw (closer_at T r c.nested (byte_at T r) e) refl
 
   -- up to where the NAME ends
   names_on : (n r : ℕ) (c : WordSoFar) → length T - r < n → ends_word T (past is_name T r) ≡ true
-      → does (many (a_piece (level room) Plain opener) c) Whole (given edition T o) (standing r) ≡ Ok (c, standing (past is_name T r))
+      → does (many (a_piece (level room) Plain opener) c) Whole (given edition T o) (standing r)
+      ≡ Ok (c, standing (past is_name T r))
   names_on zero r c few e = absurd (omega arith)
   names_on (suc n) r c few e =
       ⊎_elim
@@ -74,25 +79,30 @@ module _ (edition : Edition) (room : ℕ) (T : List ℕ) (o opener : ℕ) where
       let b = byte_in is_name T r f in
       let inside = stands_in_low is_name T r f in
       let high : behind T r ≤ length T = omega (arith, inside, behind_is T r) in
-      many_again (a_piece (level room) Plain opener) Whole (given edition T o) c c (standing r) (standing (behind T r)) (name_turn r b.0 c b.1 b.2) (behind_low T r) high
+      many_again (a_piece (level room) Plain opener) Whole (given edition T o) c c (standing r) (standing (behind T r))
+      (name_turn r b.0 c b.1 b.2) (behind_low T r) high
       ∙ names_on n (behind T r) c (omega (arith, few, high, behind_low T r)) (subst (λ q. ends_word T q ≡ true) more e)
       ∙ ap (λ (q : ℕ). Ok (c, standing q)) (sym more))
       (λ (f : stands_in is_name T r ≡ false). let none = past_none is_name T r f in
-      many_done (a_piece (level room) Plain opener) Whole (given edition T o) c c (standing r) (standing r) (end_turn r c (subst (λ q. ends_word T q ≡ true) none e))
+      many_done (a_piece (level room) Plain opener) Whole (given edition T o) c c (standing r) (standing r)
+      (end_turn r c (subst (λ q. ends_word T q ≡ true) none e))
       ∙ ap (λ (q : ℕ). Ok (c, standing q)) (sym none))
       (cases_Bool (stands_in is_name T r))
 
 name_is_word : (edition : Edition) → (room : ℕ) (T : List ℕ) (o p : ℕ) → ends_word T (past is_name T p) ≡ true
-    → does (a_word (level room)) Whole (given edition T o) (standing p) ≡ Ok (word (span o p (past is_name T p)) no_subst, standing (past is_name T p))
+    → does (a_word (level room)) Whole (given edition T o) (standing p)
+    ≡ Ok (word (span o p (past is_name T p)) no_subst, standing (past is_name T p))
 unfolding a_word contents
-name_is_word edition room T o p e = rw (names_on edition room T o (o + p) (suc (length T - p)) p (having 0 []) (omega arith) e) refl
+name_is_word edition room T o p e =
+    rw (names_on edition room T o (o + p) (suc (length T - p)) p (having 0 []) (omega arith) e) refl
 
 -- where what was read ends
 abbrev place_in : Read AWord → ℕ
 place_in (Ok (w, s)) = s.at
 place_in (Err f) = 0
 
-name_parts : (T : List ℕ) (p : ℕ) → is_name_at T p ≡ true → (stands_in is_letter T p ≡ true) × (ends_word T (past is_name T p) ≡ true)
+name_parts : (T : List ℕ) (p : ℕ) → is_name_at T p ≡ true → (stands_in is_letter T p ≡ true)
+    × (ends_word T (past is_name T p) ≡ true)
 unfolding is_name_at
 name_parts T p e = and_parts _ _ e
 
@@ -110,10 +120,12 @@ no_digit b e = grind (arith, nat_tests)
 -- where these bytes stand before `(`, they are a word with which a command may begin, and a NAME
 pub record NameBefore (room : ℕ) (w : List ℕ) : Type 0 where
   pub some : 0 < length w
-  pub there : (g : Given) (q : ℕ) (zs : List ℕ) → drop q g.text ≡ w ++ 40 ∷ zs → ReadAt room Command tokens.Word w no_subst g q
+  pub there : (g : Given) (q : ℕ) (zs : List ℕ) → drop q g.text ≡ w ++ 40 ∷ zs →
+      ReadAt room Command tokens.Word w no_subst g q
   pub names : (T : List ℕ) (q : ℕ) (zs : List ℕ) → drop q T ≡ w ++ 40 ∷ zs → is_name_at T q ≡ true
 
-module _ (room : ℕ) (g : Given) (p n : ℕ) (read : ReadsWord room g p n) (still : past_continuations g.text p ≡ p) (token : token_at Command g.text p ≡ tokens.Word) (name : is_name_at g.text p ≡ true) where
+module _ (room : ℕ) (g : Given) (p n : ℕ) (read : ReadsWord room g p n) (still : past_continuations g.text p ≡ p)
+    (token : token_at Command g.text p ≡ tokens.Word) (name : is_name_at g.text p ≡ true) where
   abbrev T : List ℕ
   T = g.text
 
@@ -133,7 +145,8 @@ module _ (room : ℕ) (g : Given) (p n : ℕ) (read : ReadsWord room g p n) (sti
   ended = word_ends room g p n read (omega (arith, below))
 
   end_is : past is_name T p ≡ p + n
-  end_is = sym (ap place_in ((is (a_word (level room)) g (standing p)).only _ _ read.1 ∙ name_is_word g.edition room T g.offset p (name_parts T p name).1))
+  end_is = sym (ap place_in ((is (a_word (level room)) g (standing p)).only _ _ read.1
+      ∙ name_is_word g.edition room T g.offset p (name_parts T p name).1))
 
   size : length w ≡ n
   size = stretch_length T p n ended.0
@@ -154,7 +167,8 @@ module _ (room : ℕ) (g : Given) (p n : ℕ) (read : ReadsWord room g p n) (sti
   parts_here = item_byte Command T p first.0 (ap is_a_word token_here)
 
   not_reserved : reserved_at T p ≡ None
-  not_reserved = none_reserved (begins_assignment T p) (reserved_at T p) (sym (item_token Command T p first.0 parts_here.0 parts_here.1) ∙ token_here)
+  not_reserved = none_reserved (begins_assignment T p) (reserved_at T p)
+      (sym (item_token Command T p first.0 parts_here.0 parts_here.1) ∙ token_here)
 
   module _ (U : List ℕ) (q : ℕ) (zs : List ℕ) (is_there : drop q U ≡ w ++ 40 ∷ zs) where
     abbrev L : ℕ
@@ -173,7 +187,8 @@ module _ (room : ℕ) (g : Given) (p n : ℕ) (read : ReadsWord room g p n) (sti
     begin_is = omega arith
 
     limit_raw : slice_get U (to L) ≡ Some 40
-    limit_raw = ap (slice_get U) limit_is ∙ ap (λ m. slice_get U (q + m)) (sym size) ∙ byte_behind U q w (40 ∷ zs) is_there
+    limit_raw = ap (slice_get U) limit_is ∙ ap (λ m. slice_get U (q + m)) (sym size)
+        ∙ byte_behind U q w (40 ∷ zs) is_there
 
     limit_byte : byte_at U (to L) ≡ Some 40
     unfolding raw_stands
@@ -197,10 +212,15 @@ module _ (room : ℕ) (g : Given) (p n : ℕ) (read : ReadsWord room g p n) (sti
         let more = past_more is_name T r e in
         let lt = past_low is_name T (behind T r) in
         let up = go.up in
-        here K r go.low (omega (arith, more, lt, up, behind_is T r)) (λ f. absurd (both_ways (is_byte (slice_get T (past_continuations T r)) 92) (ap (λ x. is_byte x 92) b.1 ∙ no_backslash b.0 b.2) f))
+        here K r go.low (omega (arith, more, lt, up, behind_is T r))
+        (λ f. absurd (both_ways (is_byte (slice_get T (past_continuations T r)) 92)
+        (ap (λ x. is_byte x 92) b.1 ∙ no_backslash b.0 b.2) f))
 
     next_goes : {r : ℕ} → Goes r → stands_in is_name T r ≡ true → Goes (behind T r)
-    next_goes {r = r} go e = record { low = omega (arith, go.low, behind_low T r); up = sym (past_more is_name T r e) ∙ go.up }
+    next_goes {r = r} go e = record {
+      low = omega (arith, go.low, behind_low T r);
+      up = sym (past_more is_name T r e) ∙ go.up;
+    }
 
     at_limit : {r : ℕ} → Goes r → stands_in is_name T r ≡ false → r ≡ L
     at_limit {r = r} go e = sym (past_none is_name T r e) ∙ go.up
@@ -245,34 +265,42 @@ module _ (room : ℕ) (g : Given) (p n : ℕ) (read : ReadsWord room g p n) (sti
     unfolding ends_word
     same_ends {r = r} go =
         ⊎_elim (λ (e : stands_in is_name T r ≡ true). ap ends (here_byte K (inside_of go e)))
-        (λ (e : stands_in is_name T r ≡ false). let end = at_limit go e in subst (λ x. ends (byte_at U (to x)) ≡ ends (byte_at T x)) (sym end) (ap ends limit_byte ∙ sym ended.1))
+        (λ (e : stands_in is_name T r ≡ false). let end = at_limit go e in
+        subst (λ x. ends (byte_at U (to x)) ≡ ends (byte_at T x)) (sym end) (ap ends limit_byte ∙ sym ended.1))
         (cases_Bool (stands_in is_name T r))
 
     same_stands : {r : ℕ} (c : ℕ) → is_plain Plain c ≡ true → Goes r → stands U (to r) c ≡ stands T r c
     same_stands {r = r} c plain go =
         ⊎_elim (λ (e : stands_in is_name T r ≡ true). here_stands K (inside_of go e) c)
-        (λ (e : stands_in is_name T r ≡ false). let end = at_limit go e in subst (λ x. stands U (to x) c ≡ stands T x c) (sym end) (other_there c plain ∙ sym (other c plain)))
+        (λ (e : stands_in is_name T r ≡ false). let end = at_limit go e in
+        subst (λ x. stands U (to x) c ≡ stands T x c) (sym end) (other_there c plain ∙ sym (other c plain)))
         (cases_Bool (stands_in is_name T r))
 
     -- behind a byte that stands before the limit
-    next_spelled : {r : ℕ} (c : ℕ) → is_plain Plain c ≡ true → Goes r → stands T r c ≡ true → Goes (behind T r) × (behind U (to r) ≡ to (behind T r))
+    next_spelled : {r : ℕ} (c : ℕ) → is_plain Plain c ≡ true → Goes r → stands T r c ≡ true → Goes (behind T r)
+        × (behind U (to r) ≡ to (behind T r))
     next_spelled {r = r} c plain go f =
         ⊎_elim (λ (e : stands_in is_name T r ≡ true). (next_goes go e, here_behind K (inside_of go e)))
-        (λ (e : stands_in is_name T r ≡ false). let end = at_limit go e in absurd (both_ways (stands T L c) (other c plain) (subst (λ x. stands T x c ≡ true) end f)))
+        (λ (e : stands_in is_name T r ≡ false). let end = at_limit go e in
+        absurd (both_ways (stands T L c) (other c plain) (subst (λ x. stands T x c ≡ true) end f)))
         (cases_Bool (stands_in is_name T r))
 
-    same_spelled : (letters : List ℕ) (r : ℕ) → all_plain letters ≡ true → Goes r → is_word_at U (to r) letters ≡ is_word_at T r letters
+    same_spelled : (letters : List ℕ) (r : ℕ) → all_plain letters ≡ true → Goes r →
+        is_word_at U (to r) letters ≡ is_word_at T r letters
     same_spelled [] r e go = spelled_none U (to r) ∙ same_ends go ∙ sym (spelled_none T r)
     same_spelled (x ∷ xs) r e go =
         let plain = and_parts _ _ e in
         spelled_more U (to r) x xs ∙ ap (λ b. b && is_word_at U (behind U (to r)) xs) (same_stands x plain.0 go)
-        ∙ same_and (stands T r x) _ _ (λ f. let next = next_spelled x plain.0 go f in ap (λ s. is_word_at U s xs) next.1 ∙ same_spelled xs (behind T r) plain.1 next.0)
+        ∙ same_and (stands T r x) _ _
+        (λ f. let next = next_spelled x plain.0 go f in
+        ap (λ s. is_word_at U s xs) next.1 ∙ same_spelled xs (behind T r) plain.1 next.0)
         ∙ sym (spelled_more T r x xs)
 
     same_words : (ws : Row Spelling) → all_spelled ws ≡ true → first_of_words U (to p) ws ≡ first_of_words T p ws
     unfolding first_of_words
     same_words [] e = refl
-    same_words (x ∷ xs) e = let both = and_parts _ _ e in rw (same_spelled x.0 p both.0 from_begin, same_words xs both.1) refl
+    same_words (x ∷ xs) e = let both = and_parts _ _ e in
+        rw (same_spelled x.0 p both.0 from_begin, same_words xs both.1) refl
 
     not_reserved_there : reserved_at U (to p) ≡ None
     unfolding reserved_words
@@ -295,7 +323,8 @@ module _ (room : ℕ) (g : Given) (p n : ℕ) (read : ReadsWord room g p n) (sti
     token_there : token_at Command U (to p) ≡ tokens.Word
     unfolding token_at
     token_there =
-        ap (token_of Command U (to p)) (here_byte K begins ∙ first.1) ∙ item_token Command U (to p) first.0 parts_here.0 no_number
+        ap (token_of Command U (to p)) (here_byte K begins ∙ first.1)
+        ∙ item_token Command U (to p) first.0 parts_here.0 no_number
         ∙ rw (no_assignment, not_reserved_there) refl
 
     name_there : is_name_at U (to p) ≡ true
@@ -311,41 +340,57 @@ module _ (room : ℕ) (g : Given) (p n : ℕ) (read : ReadsWord room g p n) (sti
 
     ends_there : ends_word U (past is_name U q) ≡ true
     unfolding ends_word
-    ends_there = let there = past_name in ap (λ x. ends (byte_at U (past is_name U x))) (sym begin_is) ∙ rw (there, limit_byte) refl
+    ends_there = let there = past_name in
+        ap (λ x. ends (byte_at U (past is_name U x))) (sym begin_is) ∙ rw (there, limit_byte) refl
 
     end_there : past is_name U q ≡ q + n
     end_there = ap (past is_name U) (sym begin_is) ∙ past_name ∙ limit_is
 
-    word_there : (edition : Edition) (o : ℕ) → does (a_word (level room)) Whole (given edition U o) (standing q) ≡ Ok (word (span o q (q + n)) no_subst, standing (q + n))
-    word_there edition o = name_is_word edition room U o q ends_there ∙ ap (λ (x : ℕ). Ok (word (span o q x) no_subst, standing x)) end_there
+    word_there : (edition : Edition) (o : ℕ) →
+        does (a_word (level room)) Whole (given edition U o) (standing q)
+        ≡ Ok (word (span o q (q + n)) no_subst, standing (q + n))
+    word_there edition o = name_is_word edition room U o q ends_there
+        ∙ ap (λ (x : ℕ). Ok (word (span o q x) no_subst, standing x)) end_there
 
     text_there : (edition : Edition) (o : ℕ) (C : List ℕ) → U ≡ drop o C → text_at C (span o q (q + n)) ≡ w
     text_there edition o C stands =
         let less : q + n - q ≡ n = omega arith in
-        sym (raw_at C (given edition U o) stands q (q + n)) ∙ ap (λ m. take m (drop q U)) less ∙ ap (take n) is_there ∙ take_at w (40 ∷ zs) n size
+        sym (raw_at C (given edition U o) stands q (q + n)) ∙ ap (λ m. take m (drop q U)) less ∙ ap (take n) is_there
+        ∙ take_at w (40 ∷ zs) n size
 
-    shape_there : (edition : Edition) (o : ℕ) (C : List ℕ) → U ≡ drop o C → WordOf room (given edition U o) q n C (word w no_subst)
+    shape_there : (edition : Edition) (o : ℕ) (C : List ℕ) → U ≡ drop o C →
+        WordOf room (given edition U o) q n C (word w no_subst)
     shape_there edition o C stands =
-        let v = word (span o q (q + n)) no_subst in
-        (v, (word_may room (given edition U o) q n v (word_there edition o), ap (λ t. word t no_subst) (text_there edition o C stands)))
+        let v = word (span o q (q + n)) no_subst in (
+          v,
+          (
+            word_may room (given edition U o) q n v (word_there edition o),
+            ap (λ t. word t no_subst) (text_there edition o C stands),
+          ),
+        )
 
-  before_there : (h : Given) (q : ℕ) (zs : List ℕ) → drop q h.text ≡ w ++ 40 ∷ zs → ReadAt room Command tokens.Word w no_subst h q
+  before_there : (h : Given) (q : ℕ) (zs : List ℕ) → drop q h.text ≡ w ++ 40 ∷ zs →
+      ReadAt room Command tokens.Word w no_subst h q
   before_there h q zs is_there =
       let begin = begin_is h.text q zs is_there in
       record {
-        place = subst (λ r. past_continuations h.text r ≡ r) begin ((begins h.text q zs is_there).there ∙ ap (from_to p q) still);
+        place = subst (λ r. past_continuations h.text r ≡ r) begin
+            ((begins h.text q zs is_there).there ∙ ap (from_to p q) still);
         no_blank = subst (λ r. stands_in is_blank h.text r ≡ false) begin (blank_there h.text q zs is_there);
         token_is = subst (λ r. token_at Command h.text r ≡ tokens.Word) begin (token_there h.text q zs is_there);
-        word = λ C stands. subst (λ m. WordOf room h q m C (word w no_subst)) (sym size) (shape_there h.text q zs is_there h.edition h.offset C stands);
+        word = λ C stands. subst (λ m. WordOf room h q m C (word w no_subst)) (sym size)
+            (shape_there h.text q zs is_there h.edition h.offset C stands);
       }
 
   names_there : (U : List ℕ) (q : ℕ) (zs : List ℕ) → drop q U ≡ w ++ 40 ∷ zs → is_name_at U q ≡ true
-  names_there U q zs is_there = subst (λ r. is_name_at U r ≡ true) (begin_is U q zs is_there) (name_there U q zs is_there)
+  names_there U q zs is_there =
+      subst (λ r. is_name_at U r ≡ true) (begin_is U q zs is_there) (name_there U q zs is_there)
 
   before : NameBefore room w
   before = record { some = omega (arith, size, longer); there = before_there; names = names_there }
 
 -- a NAME where a command may begin is one before `(`, wherever its bytes stand
-pub name_before : (room : ℕ) (g : Given) (p n : ℕ) → ReadsWord room g p n → past_continuations g.text p ≡ p → token_at Command g.text p ≡ tokens.Word → is_name_at g.text p ≡ true
+pub name_before : (room : ℕ) (g : Given) (p n : ℕ) → ReadsWord room g p n → past_continuations g.text p ≡ p →
+    token_at Command g.text p ≡ tokens.Word → is_name_at g.text p ≡ true
     → NameBefore room (take n (drop p g.text))
 name_before room g p n read still token name = before room g p n read still token name

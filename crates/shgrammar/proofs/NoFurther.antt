@@ -24,19 +24,23 @@ use Rattle.shgrammar.specs.Pieces.{piece_in}
 use Rattle.shgrammar.specs.Sights.{the_delimiter}
 
 -- what may be read is not before where it begins
-pub behind : {X : Type 0} (r : Form X) (g : Given) (s : State) (y : Read X) (k : Row Spelled) → may r g s y k → Holds (Behind s) y
+pub behind : {X : Type 0} (r : Form X) (g : Given) (s : State) (y : Read X) (k : Row Spelled) → may r g s y k →
+    Holds (Behind s) y
 behind r g s y k part = subst (Holds (Behind s)) (sym ((is r g s).only y k part)) (low r Whole g s).told
 
 -- two that say the same of less
 pub less_same : (x y z w : ℕ) → (x < y → z < w) → (z < w → x < y) → ltb z w ≡ ltb x y
 less_same x y z w one two =
     ⊎_elim (λ lt. lt-ltb z w (one lt) ∙ sym (lt-ltb x y lt))
-    (λ ge. ⊎_elim (λ lt. let no = two lt in absurd (omega (arith, no, ge))) (λ other. not_less z w other ∙ sym (not_less x y ge)) (cases_lt z w)) (cases_lt x y)
+    (λ ge. ⊎_elim (λ lt. let no = two lt in absurd (omega (arith, no, ge)))
+    (λ other. not_less z w other ∙ sym (not_less x y ge)) (cases_lt z w)) (cases_lt x y)
   where
     not_less : (m n : ℕ) → n ≤ m → ltb m n ≡ false
-    not_less m n le = ⊎_elim (λ (e : ltb m n ≡ true). let lt = ltb-true m n e in absurd (omega (arith, lt, le))) (λ (e : ltb m n ≡ false). e) (cases_Bool (ltb m n))
+    not_less m n le = ⊎_elim (λ (e : ltb m n ≡ true). let lt = ltb-true m n e in absurd (omega (arith, lt, le)))
+        (λ (e : ltb m n ≡ false). e) (cases_Bool (ltb m n))
 
-module _ {edition : Edition} {T U : List ℕ} {a M : ℕ} {to : ℕ → ℕ} (E : ListEnds edition T U a M to 10) (o o2 : ℕ) (off : (p : ℕ) → a ≤ p → o2 + to p ≡ o + p) where
+module _ {edition : Edition} {T U : List ℕ} {a M : ℕ} {to : ℕ → ℕ} (E : ListEnds edition T U a M to 10) (o o2 : ℕ)
+    (off : (p : ℕ) → a ≤ p → o2 + to p ≡ o + p) where
   abbrev G : ℕ → Type 0
   G p = Good T a M p
 
@@ -72,8 +76,10 @@ module _ {edition : Edition} {T U : List ℕ} {a M : ℕ} {to : ℕ → ℕ} (E 
   -- what may be seen is the same
   same_seen : {X : Type 0} (l : Sight X) (s : State) → a ≤ s.at → G s.at → seen l h (there s) ≡ seen l g s
   same_seen here s from good = off s.at from
-  same_seen the_byte s from good = rw (same_place E good) (off _ (omega (arith, from, Rattle.shgrammar.proofs.Stretches.place_low T s.at)))
-  same_seen (the_piece mode n) s from good = ap (piece_in edition mode) (same_piece E mode n s.at (no_bracket mode) good)
+  same_seen the_byte s from good =
+      rw (same_place E good) (off _ (omega (arith, from, Rattle.shgrammar.proofs.Stretches.place_low T s.at)))
+  same_seen (the_piece mode n) s from good =
+      ap (piece_in edition mode) (same_piece E mode n s.at (no_bracket mode) good)
   same_seen (the_rest mode) s from good = same_mode E mode s.at good
   same_seen the_end s from good = same_end_here E s.at from good
   same_seen (a_raw c) s from good = same_raw_stands E s.at c from (high E good)
@@ -103,22 +109,27 @@ module _ {edition : Edition} {T U : List ℕ} {a M : ℕ} {to : ℕ → ℕ} (E 
       let one = apart s.at t.at from onward in
       let two = far t.at (omega (arith, from, onward)) le in
       less_same (length T - t.at) (length T - s.at) (length U - to t.at) (length U - to s.at)
-      (λ lt. omega (arith, lt, one, two, long, long_there, onward, le)) (λ lt. omega (arith, lt, one, two, long, long_there, onward, le))
+      (λ lt. omega (arith, lt, one, two, long, long_there, onward, le))
+      (λ lt. omega (arith, lt, one, two, long, long_there, onward, le))
 
   -- ---- every form
 
-  just_in : {X : Type 0} {x : X} {t : State} (P : Read X → Row Spelled → Type 0) → P (Ok (x, t)) [] → (y : Read X) (k : Row Spelled) → Just x t y k → P y k
+  just_in : {X : Type 0} {x : X} {t : State} (P : Read X → Row Spelled → Type 0) → P (Ok (x, t)) [] →
+      (y : Read X) (k : Row Spelled) → Just x t y k → P y k
   just_in P so y k just = so
 
-  halts_in : {X : Type 0} (P : Read X → Row Spelled → Type 0) (f : _) → P (Err f) [] → (y : Read X) (k : Row Spelled) → Halts {X = X} f y k → P y k
+  halts_in : {X : Type 0} (P : Read X → Row Spelled → Type 0) (f : _) → P (Err f) [] → (y : Read X) (k : Row Spelled) →
+      Halts {X = X} f y k → P y k
   halts_in P f so y k halted = so
 
   -- what r reads in the first text up to a good place it reads in the second, from a good place on
   abbrev Back : {X : Type 0} → Form X → State → Read X → Row Spelled → Type 0
   Back r s y k = Ends y → G s.at × may r h (there s) (elsewhere y) k
 
-  both_back : {X Y : Type 0} (r : Form X) (q : X → Form Y) (s : State) → ((y : Read X) (k : Row Spelled) → may r g s y k → Back r s y k)
-      → ((x : X) (t : State) → a ≤ t.at → (y : Read Y) (k : Row Spelled) → may (q x) g t y k → Back (q x) t y k) → a ≤ s.at → (y : Read Y) (k : Row Spelled) → Then (may r g) (λ x. may (q x) g) s y k → Back (both r q) s y k
+  both_back : {X Y : Type 0} (r : Form X) (q : X → Form Y) (s : State) →
+      ((y : Read X) (k : Row Spelled) → may r g s y k → Back r s y k)
+      → ((x : X) (t : State) → a ≤ t.at → (y : Read Y) (k : Row Spelled) → may (q x) g t y k → Back (q x) t y k) →
+      a ≤ s.at → (y : Read Y) (k : Row Spelled) → Then (may r g) (λ x. may (q x) g) s y k → Back (both r q) s y k
   both_back r q s first rest from y k (and_then {x = x} {t = t} {k = k1} {l = l} one two) good =
       let b = rest x t (omega (arith, from, behind r g s (Ok (x, t)) k1 one)) y l two good in
       let c = first (Ok (x, t)) k1 one b.0 in
@@ -131,43 +142,62 @@ module _ {edition : Edition} {T U : List ℕ} {a M : ℕ} {to : ℕ → ℕ} (E 
   same_tell bared p q u v same = ap (λ z. bare z ∷ []) same
   same_tell (by text) p q u v same = refl
 
-  token_back : {X : Type 0} (how : Told) (r : Form X) (s : State) → ((y : Read X) (k : Row Spelled) → may r g s y k → Back r s y k) → a ≤ s.at → (y : Read (X × Span)) (k : Row Spelled) → OneToken how g (may r g) s y k → Back (token how r) s y k
+  token_back : {X : Type 0} (how : Told) (r : Form X) (s : State) →
+      ((y : Read X) (k : Row Spelled) → may r g s y k → Back r s y k) → a ≤ s.at →
+      (y : Read (X × Span)) (k : Row Spelled) → OneToken how g (may r g) s y k → Back (token how r) s y k
   token_back {X = X} how r s first from y k (whole {x = x} {t = t} {k = k1} part) good =
       let w = first (Ok (x, t)) k1 part good in
       let onward = behind r g s (Ok (x, t)) k1 part in
       let same = spans s.at t.at from (omega (arith, from, onward)) in
-      let told = same_tell how s.at t.at (to s.at) (to t.at) (same_raw E s.at t.at from (omega (arith, from, onward)) (high E good)) in (
+      let told = same_tell how s.at t.at (to s.at) (to t.at)
+      (same_raw E s.at t.at from (omega (arith, from, onward)) (high E good)) in (
         w.0,
         subst (λ (z : Span). OneToken how h (may r h) (there s) (Ok ((x, z), there t)) (tell how T s.at t.at)) same
-            (subst (λ (z : Row Spelled). OneToken how h (may r h) (there s) (Ok ((x, span o2 (to s.at) (to t.at)), there t)) z) told (whole w.1)),
+            (subst (λ (z : Row Spelled). OneToken how h (may r h) (there s)
+            (Ok ((x, span o2 (to s.at) (to t.at)), there t)) z) told (whole w.1)),
       )
   token_back how r s first from y k (broken_off part) good = absurd good
 
-  ending_back : {X : Type 0} (kind : FaultKind) (at : ℕ) (r : Form X) (s : State) → ((y : Read X) (k : Row Spelled) → may r g s y k → Back r s y k) → (y : Read X) (k : Row Spelled)
+  ending_back : {X : Type 0} (kind : FaultKind) (at : ℕ) (r : Form X) (s : State) →
+      ((y : Read X) (k : Row Spelled) → may r g s y k → Back r s y k) → (y : Read X) (k : Row Spelled)
       → Ending kind at (may r g) s y k → Back (ends_as kind at r) s y k
-  ending_back kind at r s first y k (goes_through {x = x} {t = t} part) good = let w = first (Ok (x, t)) k part good in (w.0, goes_through w.1)
+  ending_back kind at r s first y k (goes_through {x = x} {t = t} part) good = let w = first (Ok (x, t)) k part good in
+      (w.0, goes_through w.1)
   ending_back kind at r s first y k (stops_inside part) good = absurd good
 
-  change_back : (c : Change) (s : State) → a ≤ s.at → (y : Read (Unit {0})) (k : Row Spelled) → Changed (changed c g s) y k → Back (change c) s y k
-  change_back c s from y k (changes {t = t} is) good = let w = change_there E o o2 off c s t from good is in (w.0, changes w.1)
+  change_back : (c : Change) (s : State) → a ≤ s.at → (y : Read (Unit {0})) (k : Row Spelled) →
+      Changed (changed c g s) y k → Back (change c) s y k
+  change_back c s from y k (changes {t = t} is) good = let w = change_there E o o2 off c s t from good is in
+      (w.0, changes w.1)
   change_back c s from y k (cannot is) good = absurd good
 
-  bytes_back : {X : Type 0} (r : Form X) (s : State) → ((y : Read X) (k : Row Spelled) → may r g s y k → Back r s y k) → a ≤ s.at → (y : Read (X × Spelled)) (k : Row Spelled) → WithBytes g (may r g) s y k
+  bytes_back : {X : Type 0} (r : Form X) (s : State) → ((y : Read X) (k : Row Spelled) → may r g s y k → Back r s y k) →
+      a ≤ s.at → (y : Read (X × Spelled)) (k : Row Spelled) → WithBytes g (may r g) s y k
       → Back (with_bytes r) s y k
   bytes_back {X = X} r s first from y k (with_its_bytes {x = x} {t = t} {k = k1} part) good =
       let w = first (Ok (x, t)) k1 part good in
-      let onward = behind r g s (Ok (x, t)) k1 part in
-      (w.0, subst (λ (z : Spelled). WithBytes h (may r h) (there s) (Ok ((x, z), there t)) k1) (same_raw E s.at t.at from (omega (arith, from, onward)) (high E good)) (with_its_bytes w.1))
+      let onward = behind r g s (Ok (x, t)) k1 part in (
+        w.0,
+        subst (λ (z : Spelled). WithBytes h (may r h) (there s) (Ok ((x, z), there t)) k1)
+            (same_raw E s.at t.at from (omega (arith, from, onward)) (high E good)) (with_its_bytes w.1),
+      )
   bytes_back r s first from y k (without_bytes part) good = absurd good
 
-  level_back : {X : Type 0} (r : Form X) (s : State) → ((y : Read X) (k : Row Spelled) → may r g (own_level s) y k → Back r (own_level s) y k) → (y : Read (X × Row Span)) (k : Row Spelled) → OwnLevel (may r g) s y k
+  level_back : {X : Type 0} (r : Form X) (s : State) →
+      ((y : Read X) (k : Row Spelled) → may r g (own_level s) y k → Back r (own_level s) y k) →
+      (y : Read (X × Row Span)) (k : Row Spelled) → OwnLevel (may r g) s y k
       → Back (a_level r) s y k
-  level_back r s first y k (level_read {x = x} {t = t} part) good = let w = first (Ok (x, t)) k part good in (w.0, level_read w.1)
+  level_back r s first y k (level_read {x = x} {t = t} part) good = let w = first (Ok (x, t)) k part good in
+      (w.0, level_read w.1)
   level_back r s first y k (level_stops part) good = absurd good
 
-  module _ {A : Type 0} (turn : A → Form (Step A)) (each : (b : A) (s : State) → a ≤ s.at → (y : Read (Step A)) (k : Row Spelled) → may (turn b) g s y k → Back (turn b) s y k) where
-    loop_back : (b : A) (s : State) (y : Read A) (k : Row Spelled) → Turns g (λ c. may (turn c) g) b s y k → a ≤ s.at → Ends y → G s.at × Turns h (λ c. may (turn c) h) b (there s) (elsewhere y) k
-    loop_back b s y k (last {b = c} {t = t} part) from good = let w = each b s from (Ok (done c, t)) k part good in (w.0, last w.1)
+  module _ {A : Type 0} (turn : A → Form (Step A))
+      (each : (b : A) (s : State) → a ≤ s.at → (y : Read (Step A)) (k : Row Spelled) → may (turn b) g s y k →
+      Back (turn b) s y k) where
+    loop_back : (b : A) (s : State) (y : Read A) (k : Row Spelled) → Turns g (λ c. may (turn c) g) b s y k → a ≤ s.at →
+        Ends y → G s.at × Turns h (λ c. may (turn c) h) b (there s) (elsewhere y) k
+    loop_back b s y k (last {b = c} {t = t} part) from good = let w = each b s from (Ok (done c, t)) k part good in
+        (w.0, last w.1)
     loop_back b s y k (rests {b = c} {t = t} part off') from good =
         let w = each b s from (Ok (again c, t)) k part good in
         let onward = behind (turn b) g s (Ok (again c, t)) k part in
@@ -179,17 +209,28 @@ module _ {edition : Edition} {T U : List ℕ} {a M : ℕ} {to : ℕ → ℕ} (E 
         (w.0, more w.1 (same_leads s t from onward (high E r.0) ∙ on') r.1)
     loop_back b s y k (halts part) from good = absurd good
 
-  pub back : {X : Type 0} (r : Form X) (s : State) → a ≤ s.at → (y : Read X) (k : Row Spelled) → may r g s y k → Back r s y k
+  pub back : {X : Type 0} (r : Form X) (s : State) → a ≤ s.at → (y : Read X) (k : Row Spelled) → may r g s y k →
+      Back r s y k
   back (give x) s from y k part = just_in (Back (give x) s) (λ good. (good, just)) y k part
   back {X = X} (see l) s from y k part =
-      just_in (Back (see l) s) (λ good. (good, subst (λ (z : X). Just (seen l h (there s)) (there s) (Ok (z, there s)) []) (same_seen l s from good) just)) y k part
+      just_in (Back (see l) s) (λ good. (
+        good,
+        subst (λ (z : X). Just (seen l h (there s)) (there s) (Ok (z, there s)) [])
+            (same_seen l s from good) just,
+      )) y k part
   back (move m) s from y k part =
-      just_in (Back (move m) s) (λ good. let w = moves E m s.at from good in (w.0, subst (λ (z : ℕ). Just tt (moved_on m h (there s)) (Ok (tt, record { at = z; waiting = s.waiting; bodies = s.bodies })) []) w.1 just)) y k part
+      just_in (Back (move m) s) (λ good. let w = moves E m s.at from good in (
+        w.0,
+        subst (λ (z : ℕ). Just tt (moved_on m h (there s))
+            (Ok (tt, record { at = z; waiting = s.waiting; bodies = s.bodies })) []) w.1 just,
+      )) y k part
   back (push xs x) s from y k part = just_in (Back (push xs x) s) (λ good. (good, just)) y k part
   back (stop kind at) s from y k part = halts_in (Back (stop kind at) s) _ (λ good. absurd good) y k part
   back (both r q) s from y k part = both_back r q s (back r s from) (λ x t. back (q x) t) from y k part
-  back (when l r q) s from y k (holds e part) = λ good. let w = back r s from y k part good in (w.0, holds (same_seen l s from w.0 ∙ e) w.1)
-  back (when l r q) s from y k (fails e part) = λ good. let w = back q s from y k part good in (w.0, fails (same_seen l s from w.0 ∙ e) w.1)
+  back (when l r q) s from y k (holds e part) = λ good. let w = back r s from y k part good in
+      (w.0, holds (same_seen l s from w.0 ∙ e) w.1)
+  back (when l r q) s from y k (fails e part) = λ good. let w = back q s from y k part good in
+      (w.0, fails (same_seen l s from w.0 ∙ e) w.1)
   back (token how r) s from y k part = token_back how r s (back r s from) from y k part
   back (loop turn b) s from y k part = loop_back turn (λ c t. back (turn c) t) b s y k part from
   back (ends_as kind at r) s from y k part = ending_back kind at r s (back r s from) y k part

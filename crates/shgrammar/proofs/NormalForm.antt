@@ -45,25 +45,31 @@ pub no_items : NormalRow []
 no_items = record { first = refl; all = refl }
 
 -- all items, with one more at the end
-items_more : (is : Row AnItem) (i : AnItem) → are_normal_items (items_of is) ≡ true → is_normal_item i ≡ true → are_normal_items (items_of (is ++ i ∷ [])) ≡ true
+items_more : (is : Row AnItem) (i : AnItem) → are_normal_items (items_of is) ≡ true → is_normal_item i ≡ true →
+    are_normal_items (items_of (is ++ i ∷ [])) ≡ true
 items_more [] i all one = and_from _ _ one refl
 items_more (j ∷ is) i all one = let parts = and_parts _ _ all in and_from _ _ parts.0 (items_more is i parts.1 one)
 
 -- the first item, with one more at the end
-first_item : (is : Row AnItem) (i : AnItem) (broken : Bool) → first_not_broken (items_of is) ≡ true → is_broken i ≡ (not (is_empty is) && broken)
+first_item : (is : Row AnItem) (i : AnItem) (broken : Bool) → first_not_broken (items_of is) ≡ true →
+    is_broken i ≡ (not (is_empty is) && broken)
     → first_not_broken (items_of (is ++ i ∷ [])) ≡ true
 first_item [] i broken first e = ap not e
 first_item (j ∷ is) i broken first e = first
 
 -- one more item, which may be broken only where one stands before it
-pub row_more : (is : Row AnItem) (i : AnItem) (broken : Bool) → NormalRow is → is_normal_item i ≡ true → is_broken i ≡ (not (is_empty is) && broken)
+pub row_more : (is : Row AnItem) (i : AnItem) (broken : Bool) → NormalRow is → is_normal_item i ≡ true →
+    is_broken i ≡ (not (is_empty is) && broken)
     → NormalRow (is ++ i ∷ [])
-row_more is i broken row one e = record { first = first_item is i broken row.first e; all = items_more is i row.all one }
+row_more is i broken row one e =
+    record { first = first_item is i broken row.first e; all = items_more is i row.all one }
 
 -- two rows, one behind the other
-pub entries_join : (es ls : Row AnEntry) → are_normal (entries_of es) ≡ true → are_normal (entries_of ls) ≡ true → are_normal (entries_of (es ++ ls)) ≡ true
+pub entries_join : (es ls : Row AnEntry) → are_normal (entries_of es) ≡ true → are_normal (entries_of ls) ≡ true →
+    are_normal (entries_of (es ++ ls)) ≡ true
 entries_join [] ls all more = more
-entries_join (e ∷ es) ls all more = let parts = and_parts _ _ all in and_from _ _ parts.0 (entries_join es ls parts.1 more)
+entries_join (e ∷ es) ls all more = let parts = and_parts _ _ all in
+    and_from _ _ parts.0 (entries_join es ls parts.1 more)
 
 -- a list with one more entry
 or_true : (b : Bool) → (b || true) ≡ true
@@ -78,7 +84,8 @@ command_last : (es : Row AnEntry) (e : AnEntry) → is_command e ≡ true → ho
 command_last [] e one = rw one refl
 command_last (x ∷ es) e one = rw (command_last es e one) (or_true (is_command x))
 
-still_command : (es : Row AnEntry) (e : AnEntry) → holds_command (entries_of es) ≡ true → holds_command (entries_of (es ++ e ∷ [])) ≡ true
+still_command : (es : Row AnEntry) (e : AnEntry) → holds_command (entries_of es) ≡ true →
+    holds_command (entries_of (es ++ e ∷ [])) ≡ true
 still_command [] e so = absurd cc
 still_command (x ∷ es) e so = or_more (is_command x) _ _ (still_command es e) so
 
@@ -94,7 +101,8 @@ pub record NormalList (blank : Bool) (l : Listed) : Type 0 where
 pub no_entries : (blank : Bool) → NormalList blank (none_listed blank)
 no_entries blank = record { first = λ e. refl; none = λ e f. e; all = refl; command = λ e. absurd cc }
 
-first_entry : (es : Row AnEntry) (e : AnEntry) (blank begun : Bool) → first_not_blank (entries_of es) ≡ true → (is_empty es ≡ true → blank ≡ false)
+first_entry : (es : Row AnEntry) (e : AnEntry) (blank begun : Bool) → first_not_blank (entries_of es) ≡ true →
+    (is_empty es ≡ true → blank ≡ false)
     → is_blank_entry e ≡ (blank && begun) → first_not_blank (entries_of (es ++ e ∷ [])) ≡ true
 first_entry [] e blank begun first none is = ap not (is ∙ ap (λ b. b && begun) (none refl))
 first_entry (x ∷ es) e blank begun first none is = first
@@ -104,7 +112,8 @@ not_empty [] x e = absurd cc
 not_empty (y ∷ xs) x e = absurd cc
 
 -- one more command, or comment, of a list
-pub command_more : (blank : Bool) (l : Listed) (e : AnEntry) (parted : Option ℕ) → NormalList blank l → is_normal_entry e ≡ true → is_command e ≡ true → is_blank_entry e ≡ is_blank_next l
+pub command_more : (blank : Bool) (l : Listed) (e : AnEntry) (parted : Option ℕ) → NormalList blank l →
+    is_normal_entry e ≡ true → is_command e ≡ true → is_blank_entry e ≡ is_blank_next l
     → NormalList blank (with_command l (l.entries ++ e ∷ []) parted)
 command_more blank l e parted so one command is =
     record {
@@ -114,7 +123,8 @@ command_more blank l e parted so one command is =
       command = λ f. command_last l.entries e command;
     }
 
-pub remark_more : (blank : Bool) (l : Listed) (e : AnEntry) → NormalList blank l → is_normal_entry e ≡ true → is_blank_entry e ≡ is_blank_next l
+pub remark_more : (blank : Bool) (l : Listed) (e : AnEntry) → NormalList blank l → is_normal_entry e ≡ true →
+    is_blank_entry e ≡ is_blank_next l
     → NormalList blank (with_remark l (l.entries ++ e ∷ []))
 remark_more blank l e so one is =
     record {
@@ -130,7 +140,12 @@ and_false false = refl
 
 -- behind a newline
 pub newline_more : (blank : Bool) (l : Listed) → NormalList blank l → NormalList blank (next_line l)
-newline_more blank l so = record { first = so.first; none = λ e f. rw f (and_false (not l.begun)); all = so.all; command = so.command }
+newline_more blank l so = record {
+  first = so.first;
+  none = λ e f. rw f (and_false (not l.begun));
+  all = so.all;
+  command = so.command;
+}
 
 -- ---- joins
 
@@ -143,31 +158,41 @@ still_broken [] broken more so = refl
 still_broken (c ∷ cs) broken more so = rw so refl
 
 -- one more command of a pipeline, one more pipeline, and one more branch
-pipes_more : (ps : Row APipelinePart) (p : APipelinePart) → are_normal_pipes (pipeline_parts_of ps) ≡ true → is_normal_join p.join ≡ true → is_normal_command p.command ≡ true
+pipes_more : (ps : Row APipelinePart) (p : APipelinePart) → are_normal_pipes (pipeline_parts_of ps) ≡ true →
+    is_normal_join p.join ≡ true → is_normal_command p.command ≡ true
     → are_normal_pipes (pipeline_parts_of (ps ++ p ∷ [])) ≡ true
 pipes_more [] p all join one = and_from _ _ (and_from _ _ join one) refl
-pipes_more (q ∷ ps) p all join one = let parts = and_parts _ _ all in and_from _ _ parts.0 (pipes_more ps p parts.1 join one)
+pipes_more (q ∷ ps) p all join one = let parts = and_parts _ _ all in
+    and_from _ _ parts.0 (pipes_more ps p parts.1 join one)
 
-joined_more : (ps : Row AnAndOrPart) (p : AnAndOrPart) → are_normal_and_ors (and_or_parts_of ps) ≡ true → is_normal_join p.join ≡ true → is_normal_pipeline p.pipeline ≡ true
+joined_more : (ps : Row AnAndOrPart) (p : AnAndOrPart) → are_normal_and_ors (and_or_parts_of ps) ≡ true →
+    is_normal_join p.join ≡ true → is_normal_pipeline p.pipeline ≡ true
     → are_normal_and_ors (and_or_parts_of (ps ++ p ∷ [])) ≡ true
 joined_more [] p all join one = and_from _ _ (and_from _ _ join one) refl
-joined_more (q ∷ ps) p all join one = let parts = and_parts _ _ all in and_from _ _ parts.0 (joined_more ps p parts.1 join one)
+joined_more (q ∷ ps) p all join one = let parts = and_parts _ _ all in
+    and_from _ _ parts.0 (joined_more ps p parts.1 join one)
 
-branches_more : (bs : Row ABranch) (b : ABranch) → are_normal_branches (branches_of bs) ≡ true → is_normal_branch b ≡ true → are_normal_branches (branches_of (bs ++ b ∷ [])) ≡ true
+branches_more : (bs : Row ABranch) (b : ABranch) → are_normal_branches (branches_of bs) ≡ true →
+    is_normal_branch b ≡ true → are_normal_branches (branches_of (bs ++ b ∷ [])) ≡ true
 branches_more [] b all one = and_from _ _ one refl
-branches_more (c ∷ bs) b all one = let parts = and_parts _ _ all in and_from _ _ parts.0 (branches_more bs b parts.1 one)
+branches_more (c ∷ bs) b all one = let parts = and_parts _ _ all in
+    and_from _ _ parts.0 (branches_more bs b parts.1 one)
 
 -- one more substitution
-substs_more : (ss : Row ASubst) (s : ASubst) → are_normal_substs (substs_of ss) ≡ true → is_normal_subst s ≡ true → are_normal_substs (substs_of (ss ++ s ∷ [])) ≡ true
+substs_more : (ss : Row ASubst) (s : ASubst) → are_normal_substs (substs_of ss) ≡ true → is_normal_subst s ≡ true →
+    are_normal_substs (substs_of (ss ++ s ∷ [])) ≡ true
 substs_more [] s all one = and_from _ _ one refl
 substs_more (z ∷ ss) s all one = let parts = and_parts _ _ all in and_from _ _ parts.0 (substs_more ss s parts.1 one)
 
 -- one more pattern, and one more item of a case
-patterns_more : (ws : Row AWord) (w : AWord) → are_normal_patterns (patterns_of ws) ≡ true → is_normal_word w ≡ true → are_normal_patterns (patterns_of (ws ++ w ∷ [])) ≡ true
+patterns_more : (ws : Row AWord) (w : AWord) → are_normal_patterns (patterns_of ws) ≡ true → is_normal_word w ≡ true →
+    are_normal_patterns (patterns_of (ws ++ w ∷ [])) ≡ true
 patterns_more [] w all one = and_from _ _ one refl
-patterns_more (v ∷ ws) w all one = let parts = and_parts _ _ all in and_from _ _ parts.0 (patterns_more ws w parts.1 one)
+patterns_more (v ∷ ws) w all one = let parts = and_parts _ _ all in
+    and_from _ _ parts.0 (patterns_more ws w parts.1 one)
 
-cases_more : (cs : Row ACaseItem) (c : ACaseItem) → are_normal_cases (cases_of cs) ≡ true → is_normal_case c ≡ true → are_normal_cases (cases_of (cs ++ c ∷ [])) ≡ true
+cases_more : (cs : Row ACaseItem) (c : ACaseItem) → are_normal_cases (cases_of cs) ≡ true → is_normal_case c ≡ true →
+    are_normal_cases (cases_of (cs ++ c ∷ [])) ≡ true
 cases_more [] c all one = and_from _ _ one refl
 cases_more (d ∷ cs) c all one = let parts = and_parts _ _ all in and_from _ _ parts.0 (cases_more cs c parts.1 one)
 
@@ -187,10 +212,12 @@ normal_behind (c ∷ cs) es so = normal_behind cs es so
 -- ---- scripts
 
 -- one more line of a script, whose first entry may be blank only where one stands before it
-pub script_more : (gap : Bool) (es : Row AnEntry) (ls : Row AnEntry) → is_normal (entries_of es) ≡ true → (gap && not (is_empty es) ≡ false → first_not_blank (entries_of ls) ≡ true)
+pub script_more : (gap : Bool) (es : Row AnEntry) (ls : Row AnEntry) → is_normal (entries_of es) ≡ true →
+    (gap && not (is_empty es) ≡ false → first_not_blank (entries_of ls) ≡ true)
     → are_normal (entries_of ls) ≡ true → is_normal (entries_of (es ++ ls)) ≡ true
 script_more gap [] ls list first all = and_from _ _ (first (and_false gap)) all
-script_more gap (e ∷ es) ls list first all = let parts = and_parts _ _ list in and_from _ _ parts.0 (entries_join (e ∷ es) ls parts.1 all)
+script_more gap (e ∷ es) ls list first all = let parts = and_parts _ _ list in
+    and_from _ _ parts.0 (entries_join (e ∷ es) ls parts.1 all)
 
 -- ---- what the rows read
 
@@ -199,11 +226,13 @@ module _ (g : Given) where
   N r P s = Tells Whole g r P s
 
   -- what a form gives may be anything
-  after : {X Y : Type 0} {Q : Y → State → Type 0} {r : Form X} {q : X → Form Y} {s : State} → ((x : X) (t : State) → N (q x) Q t) → N (both r q) Q s
+  after : {X Y : Type 0} {Q : Y → State → Type 0} {r : Form X} {q : X → Form Y} {s : State} →
+      ((x : X) (t : State) → N (q x) Q t) → N (both r q) Q s
   after rest = tells_after Whole g rest
 
   -- one more element, and then the rest
-  pushed_on : {A Y : Type 0} {Q : Y → State → Type 0} {xs : Row A} {x : A} {q : Row A → Form Y} {s : State} → N (q (xs ++ x ∷ [])) Q s → N (both (push xs x) q) Q s
+  pushed_on : {A Y : Type 0} {Q : Y → State → Type 0} {xs : Row A} {x : A} {q : Row A → Form Y} {s : State} →
+      N (q (xs ++ x ∷ [])) Q s → N (both (push xs x) q) Q s
   pushed_on rest = tells_pushed g rest
 
   -- ---- words
@@ -220,10 +249,13 @@ module _ (g : Given) where
     pub function : (name : Span) (s : State) → N (inner.function name) (λ c t. is_normal_command c.0 ≡ true) s
 
   module _ (inner : Inner) (fine : Fine inner) where
-    normal_opened : (mode : Mode) (b : ℕ) (h : WordSoFar) (s : State) → Substs h s → N (opened inner mode b h) (Turned Whole g Substs) s
-    normal_opened mode b h s so = tells_then Whole g (fine.construct mode b h.substs s so) (λ zs t good. tells_give Whole g good)
+    normal_opened : (mode : Mode) (b : ℕ) (h : WordSoFar) (s : State) → Substs h s →
+        N (opened inner mode b h) (Turned Whole g Substs) s
+    normal_opened mode b h s so =
+        tells_then Whole g (fine.construct mode b h.substs s so) (λ zs t good. tells_give Whole g good)
 
-    normal_piece_by : (mode : Mode) (b : ℕ) (h : WordSoFar) (piece : Piece) (s : State) → Substs h s → N (piece_row inner mode b h piece) (Turned Whole g Substs) s
+    normal_piece_by : (mode : Mode) (b : ℕ) (h : WordSoFar) (piece : Piece) (s : State) → Substs h s →
+        N (piece_row inner mode b h piece) (Turned Whole g Substs) s
     normal_piece_by mode b h pieces.Closer s so = after (λ x t. tells_give Whole g so)
     normal_piece_by mode b h pieces.Missing s so = record { told = tt }
     normal_piece_by mode b h pieces.LoneBackslash s so = record { told = tt }
@@ -234,43 +266,58 @@ module _ (g : Given) where
     normal_piece_by mode b h pieces.Backquote s so = after (λ x t. tells_give Whole g so)
     normal_piece_by mode b h pieces.Pid s so = after (λ x t. after (λ y u. tells_give Whole g so))
     normal_piece_by mode b h pieces.Subst s so =
-        after (λ q t. after (λ x u. after (λ y v. tells_then Whole g (fine.substitution q h.substs v so) (λ zs w good. tells_give Whole g good))))
-    normal_piece_by mode b h pieces.Arith s so = after (λ q t. after (λ x u. after (λ y v. after (λ z w. normal_opened _ q h w so))))
-    normal_piece_by mode b h pieces.Param s so = after (λ q t. after (λ x u. after (λ y v. after (λ z w. after (λ m a. normal_opened m q h a so)))))
+        after (λ q t. after (λ x u. after
+        (λ y v. tells_then Whole g (fine.substitution q h.substs v so) (λ zs w good. tells_give Whole g good))))
+    normal_piece_by mode b h pieces.Arith s so =
+        after (λ q t. after (λ x u. after (λ y v. after (λ z w. normal_opened _ q h w so))))
+    normal_piece_by mode b h pieces.Param s so =
+        after (λ q t. after (λ x u. after (λ y v. after (λ z w. after (λ m a. normal_opened m q h a so)))))
     normal_piece_by mode b h pieces.Open s so = after (λ x t. tells_give Whole g so)
     normal_piece_by mode b h pieces.Close s so = after (λ x t. tells_give Whole g so)
     normal_piece_by mode b h pieces.BadClose s so = record { told = tt }
     normal_piece_by mode b h pieces.Ordinary s so = after (λ x t. tells_give Whole g so)
 
-    normal_piece : (mode : Mode) (b : ℕ) (h : WordSoFar) (s : State) → Substs h s → N (a_piece inner mode b h) (Turned Whole g Substs) s
+    normal_piece : (mode : Mode) (b : ℕ) (h : WordSoFar) (s : State) → Substs h s →
+        N (a_piece inner mode b h) (Turned Whole g Substs) s
     unfolding a_piece
     normal_piece mode b h s so = after (λ piece t. normal_piece_by mode b h piece t so)
 
-    pub normal_contents : (mode : Mode) (b : ℕ) (ss : Row ASubst) (s : State) → are_normal_substs (substs_of ss) ≡ true → N (contents inner mode b ss) (λ zs t. are_normal_substs (substs_of zs) ≡ true) s
+    pub normal_contents : (mode : Mode) (b : ℕ) (ss : Row ASubst) (s : State) → are_normal_substs (substs_of ss) ≡ true
+        → N (contents inner mode b ss) (λ zs t. are_normal_substs (substs_of zs) ≡ true) s
     unfolding contents
-    normal_contents mode b ss s so = tells_then Whole g (tells_many Whole g (a_piece inner mode b) Substs (normal_piece mode b) (having 0 ss) s so) (λ h t good. tells_give Whole g good)
+    normal_contents mode b ss s so =
+        tells_then Whole g (tells_many Whole g (a_piece inner mode b) Substs (normal_piece mode b) (having 0 ss) s so)
+        (λ h t good. tells_give Whole g good)
 
     normal_word : (s : State) → N (a_word inner) (λ w t. is_normal_word w ≡ true) s
     unfolding a_word
     normal_word s =
-        after (λ p t. tells_then Whole g (tells_token Whole g {Q = λ w u. are_normal_substs (substs_of w.0) ≡ true} (normal_contents _ p [] t refl) (λ ss u good. good)) (λ w u good. tells_give Whole g good))
+        after (λ p t. tells_then Whole g
+        (tells_token Whole g {Q = λ w u. are_normal_substs (substs_of w.0) ≡ true} (normal_contents _ p [] t refl)
+        (λ ss u good. good)) (λ w u good. tells_give Whole g good))
 
     -- ---- commands
 
     abbrev ItemsSo : Items → State → Type 0
     ItemsSo i t = NormalRow i.items
 
-    normal_content : (position : Position) (broken : Bool) (w : AWord) → is_normal_word w ≡ true → is_normal_item (item broken (as_item position w)) ≡ true
+    normal_content : (position : Position) (broken : Bool) (w : AWord) → is_normal_word w ≡ true →
+        is_normal_item (item broken (as_item position w)) ≡ true
     normal_content Command broken w good = good
     normal_content Prefix broken w good = good
     normal_content Suffix broken w good = good
 
-    normal_item : (i : Items) (position : Position) (s : State) → NormalRow i.items → N (an_item inner i position) (Turned Whole g ItemsSo) s
+    normal_item : (i : Items) (position : Position) (s : State) → NormalRow i.items →
+        N (an_item inner i position) (Turned Whole g ItemsSo) s
     unfolding an_item
     normal_item i position s so =
-        tells_then Whole g (normal_word s) (λ w t good. pushed_on (after (λ n u. tells_give Whole g (row_more i.items _ i.next.broken so (normal_content position (breaks i) w good) refl))))
+        tells_then Whole g (normal_word s)
+        (λ w t good. pushed_on (after
+        (λ n u. tells_give Whole g (row_more i.items _ i.next.broken so
+        (normal_content position (breaks i) w good) refl))))
 
-    normal_pick : {X : Type 0} {P : X → State → Type 0} (b : Bool) {r q : Form X} {s : State} → (b ≡ true → N r P s) → N q P s → N (pick b r q) P s
+    normal_pick : {X : Type 0} {P : X → State → Type 0} (b : Bool) {r q : Form X} {s : State} → (b ≡ true → N r P s) →
+        N q P s → N (pick b r q) P s
     normal_pick true one two = one refl
     normal_pick false one two = two
 
@@ -279,69 +326,90 @@ module _ (g : Given) where
 
     normal_target : (s : State) → N (a_target inner) (λ w t. is_normal_word w.0 ≡ true) s
     unfolding a_target
-    normal_target s = after (λ n t. normal_pick (is_word n.token) (λ e. tells_with_bytes Whole g (normal_word t) (λ a u so. so)) (stopped n))
+    normal_target s = after (λ n t. normal_pick (is_word n.token)
+        (λ e. tells_with_bytes Whole g (normal_word t) (λ a u so. so)) (stopped n))
 
     -- whatever holds of the items with one more in normal form
-    normal_redirect : (P : Items → State → Type 0) (broken : Bool) (position : Position) (is : Row AnItem) (n : Next) (s : State)
-        → ((i : AnItem) (m : Next) (t : State) → is_normal_item i ≡ true → is_broken i ≡ broken → P (so_many (is ++ i ∷ []) position m) t) → N (one_redirect inner broken position is n) (Turned Whole g P) s
+    normal_redirect : (P : Items → State → Type 0) (broken : Bool) (position : Position) (is : Row AnItem) (n : Next)
+        (s : State)
+        → ((i : AnItem) (m : Next) (t : State) → is_normal_item i ≡ true → is_broken i ≡ broken →
+        P (so_many (is ++ i ∷ []) position m) t) → N (one_redirect inner broken position is n) (Turned Whole g P) s
     unfolding one_redirect
     normal_redirect P broken position is n s more =
-        after (λ p t. after (λ d u. after (λ o v. tells_then Whole g (normal_target v) (λ w x good. after (λ h a. pushed_on (after (λ m y.
+        after (λ p t. after (λ d u. after
+        (λ o v. tells_then Whole g (normal_target v) (λ w x good. after (λ h a. pushed_on (after (λ m y.
         tells_give Whole g (more (item broken (redirect d.0 o.0 o.1 w.0 h)) m y good refl))))))))
 
-    normal_item_by : (i : Items) (position : Option Position) (s : State) → NormalRow i.items → N (item_by inner i position) (Turned Whole g ItemsSo) s
+    normal_item_by : (i : Items) (position : Option Position) (s : State) → NormalRow i.items →
+        N (item_by inner i position) (Turned Whole g ItemsSo) s
     normal_item_by i (Some position) s so = normal_item i position s so
     normal_item_by i None s so =
         normal_pick (begins_redirect i.next.token)
-        (λ e. normal_redirect ItemsSo (breaks i) (behind_redirect i.place) i.items i.next s (λ x m t good is. row_more i.items x i.next.broken so good is)) (tells_give Whole g so)
+        (λ e. normal_redirect ItemsSo (breaks i) (behind_redirect i.place) i.items i.next s
+        (λ x m t good is. row_more i.items x i.next.broken so good is)) (tells_give Whole g so)
 
     normal_item_turn : (i : Items) (s : State) → NormalRow i.items → N (item_turn inner i) (Turned Whole g ItemsSo) s
     unfolding item_turn
     normal_item_turn i s so = normal_item_by i (behind_word i.next.token) s so
 
-    normal_simple : (i : Items) (s : State) → NormalRow i.items → N (a_simple inner i) (λ c t. is_normal_command c.0 ≡ true) s
+    normal_simple : (i : Items) (s : State) → NormalRow i.items →
+        N (a_simple inner i) (λ c t. is_normal_command c.0 ≡ true) s
     unfolding a_simple
-    normal_simple i s so = tells_then Whole g (tells_many Whole g (item_turn inner) ItemsSo normal_item_turn i s so) (λ is t good. tells_give Whole g (and_from _ _ good.first good.all))
+    normal_simple i s so = tells_then Whole g (tells_many Whole g (item_turn inner) ItemsSo normal_item_turn i s so)
+        (λ is t good. tells_give Whole g (and_from _ _ good.first good.all))
 
-    normal_with : (cs : Row Span) (c : Option Span) (broken : Bool) (s : State) → broken_by cs broken ≡ true → N (with_comment cs c) (λ ds t. broken_by ds (broken || is_some c) ≡ true) s
+    normal_with : (cs : Row Span) (c : Option Span) (broken : Bool) (s : State) → broken_by cs broken ≡ true →
+        N (with_comment cs c) (λ ds t. broken_by ds (broken || is_some c) ≡ true) s
     normal_with cs (Some c) broken s so = record { told = all_broken (cs ++ c ∷ []) _ (or_true broken) }
     normal_with cs None broken s so = tells_give Whole g (still_broken cs broken false so)
 
     abbrev JoinHolds : JoinSo → State → Type 0
     JoinHolds j t = is_normal_join j.join ≡ true
 
-    join_holds : (p : Bool) (j : JoinSo) (t : State) → is_normal_join j.join ≡ true → Turned Whole g JoinHolds (step_if p j) t
+    join_holds : (p : Bool) (j : JoinSo) (t : State) → is_normal_join j.join ≡ true →
+        Turned Whole g JoinHolds (step_if p j) t
     join_holds true j t so = so
     join_holds false j t so = so
 
-    normal_join_turn : (j : JoinSo) (s : State) → is_normal_join j.join ≡ true → N (join_turn j) (Turned Whole g JoinHolds) s
+    normal_join_turn : (j : JoinSo) (s : State) → is_normal_join j.join ≡ true →
+        N (join_turn j) (Turned Whole g JoinHolds) s
     unfolding join_turn
     normal_join_turn j s so =
-        after (λ c t. tells_then Whole g (normal_with j.join.comments c.0 j.join.broken t so) (λ cs u good. after (λ l v. tells_give Whole g (join_holds l.0 _ v (still_broken cs _ l.0 good)))))
+        after (λ c t. tells_then Whole g (normal_with j.join.comments c.0 j.join.broken t so)
+        (λ cs u good. after (λ l v. tells_give Whole g (join_holds l.0 _ v (still_broken cs _ l.0 good)))))
 
     normal_join : (broken : Bool) (s : State) → N (a_join broken) (λ x t. is_normal_join x.0 ≡ true) s
     unfolding a_join
-    normal_join broken s = after (λ n t. tells_then Whole g (tells_many Whole g join_turn JoinHolds normal_join_turn _ t refl) (λ j u good. tells_give Whole g good))
+    normal_join broken s = after (λ n t. tells_then Whole g
+        (tells_many Whole g join_turn JoinHolds normal_join_turn _ t refl) (λ j u good. tells_give Whole g good))
 
     abbrev RedirectsSo : Items → State → Type 0
     RedirectsSo i t = are_normal_items (items_of i.items) ≡ true
 
-    normal_redirect_turn : (i : Items) (s : State) → RedirectsSo i s → N (redirect_turn inner i) (Turned Whole g RedirectsSo) s
+    normal_redirect_turn : (i : Items) (s : State) → RedirectsSo i s →
+        N (redirect_turn inner i) (Turned Whole g RedirectsSo) s
     unfolding redirect_turn
     normal_redirect_turn i s so =
-        normal_pick (begins_redirect i.next.token) (λ e. normal_redirect RedirectsSo i.next.broken Command i.items i.next s (λ x m t good is. items_more i.items x so good)) (tells_give Whole g so)
+        normal_pick (begins_redirect i.next.token)
+        (λ e. normal_redirect RedirectsSo i.next.broken Command i.items i.next s
+        (λ x m t good is. items_more i.items x so good)) (tells_give Whole g so)
 
-    normal_with_redirects : (c : ACommand) (is : ItemsOf Span Span) → is_normal_command c ≡ true → are_normal_items is ≡ true → is_normal_command (with_redirects c is) ≡ true
+    normal_with_redirects : (c : ACommand) (is : ItemsOf Span Span) → is_normal_command c ≡ true →
+        are_normal_items is ≡ true → is_normal_command (with_redirects c is) ≡ true
     normal_with_redirects (compound (formed form span others)) is one all = and_from _ _ (and_parts _ _ one).0 all
     normal_with_redirects (simple items) is one all = one
     normal_with_redirects (function name comments body) is one all = one
 
-    normal_with_redirect_list : (c : ACommand × Next) (s : State) → is_normal_command c.0 ≡ true → N (with_redirect_list inner c) (λ d t. is_normal_command d.0 ≡ true) s
+    normal_with_redirect_list : (c : ACommand × Next) (s : State) → is_normal_command c.0 ≡ true →
+        N (with_redirect_list inner c) (λ d t. is_normal_command d.0 ≡ true) s
     unfolding with_redirect_list
     normal_with_redirect_list c s one =
-        tells_then Whole g (tells_many Whole g (redirect_turn inner) RedirectsSo normal_redirect_turn (so_many [] Command c.1) s refl) (λ r t all. tells_give Whole g (normal_with_redirects c.0 (items_of r.items) one all))
+        tells_then Whole g (tells_many Whole g (redirect_turn inner) RedirectsSo normal_redirect_turn
+        (so_many [] Command c.1) s refl)
+        (λ r t all. tells_give Whole g (normal_with_redirects c.0 (items_of r.items) one all))
 
-    normal_compound_by : (n : Next) (o : Option Opener) (s : State) → N (compound_by inner n o) (λ c t. is_normal_command c.0 ≡ true) s
+    normal_compound_by : (n : Next) (o : Option Opener) (s : State) →
+        N (compound_by inner n o) (λ c t. is_normal_command c.0 ≡ true) s
     normal_compound_by n (Some o) s = tells_then Whole g (fine.compound o s) normal_with_redirect_list
     normal_compound_by n None s = stopped n
 
@@ -349,56 +417,77 @@ module _ (g : Given) where
     unfolding a_word_command
     normal_word_command s =
         after (λ good t. tells_then Whole g (normal_word t) (λ w u so. after (λ n v.
-        normal_pick (is_paren n.token) (λ e. normal_pick good (λ f. fine.function (word_span w) v) (record { told = tt }))
-        (pushed_on (normal_simple (so_many (item false (argument w) ∷ []) Suffix n) v (row_more [] (item false (argument w)) false no_items so refl))))))
+        normal_pick (is_paren n.token)
+        (λ e. normal_pick good (λ f. fine.function (word_span w) v) (record { told = tt }))
+        (pushed_on (normal_simple (so_many (item false (argument w) ∷ []) Suffix n) v
+        (row_more [] (item false (argument w)) false no_items so refl))))))
 
     normal_command : (n : Next) (s : State) → N (a_command inner n) (λ c t. is_normal_command c.0 ≡ true) s
     unfolding a_command
     normal_command n s =
         normal_pick (is_word n.token) (λ e. normal_word_command s)
-        (normal_pick (begins_simple n.token) (λ e. normal_simple (so_many [] Command n) s no_items) (normal_compound_by n (opener_of n.token) s))
+        (normal_pick (begins_simple n.token) (λ e. normal_simple (so_many [] Command n) s no_items)
+        (normal_compound_by n (opener_of n.token) s))
 
     abbrev PipedHolds : Piped → State → Type 0
     PipedHolds p t = are_normal_pipes (pipeline_parts_of p.parts) ≡ true
 
-    normal_one_command : (p : Piped) (s : State) → PipedHolds p s → N (one_command inner p) (Turned Whole g PipedHolds) s
+    normal_one_command : (p : Piped) (s : State) → PipedHolds p s →
+        N (one_command inner p) (Turned Whole g PipedHolds) s
     unfolding one_command
     normal_one_command p s so =
-        after (λ x t. tells_then Whole g (normal_join p.next.broken t) (λ j u good. tells_then Whole g (normal_command j.1 u) (λ c v fine. pushed_on (tells_give Whole g (pipes_more p.parts _ so good fine)))))
+        after (λ x t. tells_then Whole g (normal_join p.next.broken t)
+        (λ j u good. tells_then Whole g (normal_command j.1 u)
+        (λ c v fine. pushed_on (tells_give Whole g (pipes_more p.parts _ so good fine)))))
 
     normal_pipe_turn : (p : Piped) (s : State) → PipedHolds p s → N (pipe_turn inner p) (Turned Whole g PipedHolds) s
     unfolding pipe_turn
-    normal_pipe_turn p s so = normal_pick (is_pipe p.next.token) (λ e. normal_one_command p s so) (tells_give Whole g so)
+    normal_pipe_turn p s so = normal_pick (is_pipe p.next.token) (λ e. normal_one_command p s so)
+        (tells_give Whole g so)
 
     normal_pipeline : (n : Next) (s : State) → N (a_pipeline inner n) (λ p t. is_normal_pipeline p.0 ≡ true) s
     unfolding a_pipeline
     normal_pipeline n s =
-        after (λ b t. tells_then Whole g (normal_command b.1 t) (λ c u good. tells_then Whole g (tells_many Whole g (pipe_turn inner) PipedHolds normal_pipe_turn (piped [] c.1) u refl) (λ p v all. tells_give Whole g (and_from _ _ good all))))
+        after (λ b t. tells_then Whole g (normal_command b.1 t)
+        (λ c u good. tells_then Whole g
+        (tells_many Whole g (pipe_turn inner) PipedHolds normal_pipe_turn (piped [] c.1) u refl)
+        (λ p v all. tells_give Whole g (and_from _ _ good all))))
 
     abbrev JoinedHolds : Joined → State → Type 0
     JoinedHolds a t = are_normal_and_ors (and_or_parts_of a.parts) ≡ true
 
-    normal_one_pipeline : (a : Joined) (o : AndOrOperator) (s : State) → JoinedHolds a s → N (one_pipeline inner a o) (Turned Whole g JoinedHolds) s
+    normal_one_pipeline : (a : Joined) (o : AndOrOperator) (s : State) → JoinedHolds a s →
+        N (one_pipeline inner a o) (Turned Whole g JoinedHolds) s
     unfolding one_pipeline
     normal_one_pipeline a o s so =
-        after (λ x u. tells_then Whole g (normal_join a.next.broken u) (λ j v good. tells_then Whole g (normal_pipeline j.1 v) (λ p w fine. pushed_on (tells_give Whole g (joined_more a.parts _ so good fine)))))
+        after (λ x u. tells_then Whole g (normal_join a.next.broken u)
+        (λ j v good. tells_then Whole g (normal_pipeline j.1 v)
+        (λ p w fine. pushed_on (tells_give Whole g (joined_more a.parts _ so good fine)))))
 
-    normal_joined_by : (a : Joined) (o : Option AndOrOperator) (s : State) → JoinedHolds a s → N (joined_by inner a o) (Turned Whole g JoinedHolds) s
+    normal_joined_by : (a : Joined) (o : Option AndOrOperator) (s : State) → JoinedHolds a s →
+        N (joined_by inner a o) (Turned Whole g JoinedHolds) s
     normal_joined_by a (Some o) s so = normal_one_pipeline a o s so
     normal_joined_by a None s so = tells_give Whole g so
 
-    normal_join_pipeline : (a : Joined) (s : State) → JoinedHolds a s → N (join_pipeline inner a) (Turned Whole g JoinedHolds) s
+    normal_join_pipeline : (a : Joined) (s : State) → JoinedHolds a s →
+        N (join_pipeline inner a) (Turned Whole g JoinedHolds) s
     unfolding join_pipeline
     normal_join_pipeline a s so = normal_joined_by a (and_or_operator_of a.next.token) s so
 
     normal_and_or : (n : Next) (s : State) → N (an_and_or inner n) (λ a t. is_normal_and_or a.0 ≡ true) s
     unfolding an_and_or
     normal_and_or n s =
-        tells_then Whole g (normal_pipeline n s) (λ p t good. tells_then Whole g (tells_many Whole g (join_pipeline inner) JoinedHolds normal_join_pipeline (joined_so [] p.1) t refl) (λ a u all. tells_give Whole g (and_from _ _ good all)))
+        tells_then Whole g (normal_pipeline n s)
+        (λ p t good. tells_then Whole g
+        (tells_many Whole g (join_pipeline inner) JoinedHolds normal_join_pipeline (joined_so [] p.1) t refl)
+        (λ a u all. tells_give Whole g (and_from _ _ good all)))
 
-    normal_entry : (blank : Bool) (n : Next) (s : State) → N (an_entry inner blank n) (λ e t. (is_normal_entry e.entry ≡ true) × (is_command e.entry ≡ true) × (is_blank_entry e.entry ≡ blank)) s
+    normal_entry : (blank : Bool) (n : Next) (s : State) →
+        N (an_entry inner blank n) (λ e t. (is_normal_entry e.entry ≡ true) × (is_command e.entry ≡ true)
+        × (is_blank_entry e.entry ≡ blank)) s
     unfolding an_entry
-    normal_entry blank n s = tells_then Whole g (normal_and_or n s) (λ a t good. after (λ z u. after (λ c v. tells_give Whole g (good, refl, refl))))
+    normal_entry blank n s = tells_then Whole g (normal_and_or n s)
+        (λ a t good. after (λ z u. after (λ c v. tells_give Whole g (good, refl, refl))))
 
     -- ---- lists
 
@@ -406,42 +495,63 @@ module _ (g : Given) where
       abbrev ListHolds : ListSo → State → Type 0
       ListHolds l t = NormalList blank l.list
 
-      step_holds : (p : Bool) (l : ListSo) (t : State) → NormalList blank l.list → Turned Whole g ListHolds (step_if p l) t
+      step_holds : (p : Bool) (l : ListSo) (t : State) → NormalList blank l.list →
+          Turned Whole g ListHolds (step_if p l) t
       step_holds true l t so = so
       step_holds false l t so = so
 
-      normal_one_entry : (l : ListSo) (s : State) → NormalList blank l.list → N (one_entry inner l) (Turned Whole g ListHolds) s
+      normal_one_entry : (l : ListSo) (s : State) → NormalList blank l.list →
+          N (one_entry inner l) (Turned Whole g ListHolds) s
       unfolding one_entry
       normal_one_entry l s so =
-          tells_then Whole g (normal_entry _ l.next s) (λ e t good. pushed_on (tells_give Whole g (step_holds (is_some e.parted) _ t (command_more blank l.list e.entry e.parted so good.0 good.1 good.2))))
+          tells_then Whole g (normal_entry _ l.next s)
+          (λ e t good. pushed_on (tells_give Whole g
+          (step_holds (is_some e.parted) _ t (command_more blank l.list e.entry e.parted so good.0 good.1 good.2))))
 
-      normal_entry_turn : (l : ListSo) (s : State) → NormalList blank l.list → N (entry_turn inner l) (Turned Whole g ListHolds) s
+      normal_entry_turn : (l : ListSo) (s : State) → NormalList blank l.list →
+          N (entry_turn inner l) (Turned Whole g ListHolds) s
       unfolding entry_turn
-      normal_entry_turn l s so = normal_pick (begins_pipeline l.next.token) (λ e. normal_one_entry l s so) (tells_give Whole g so)
+      normal_entry_turn l s so = normal_pick (begins_pipeline l.next.token) (λ e. normal_one_entry l s so)
+          (tells_give Whole g so)
 
-      normal_remark_by : (l : ListSo) (x : Option Span × Next) (s : State) → NormalList blank l.list → N (remark_by l x) ListHolds s
+      normal_remark_by : (l : ListSo) (x : Option Span × Next) (s : State) → NormalList blank l.list →
+          N (remark_by l x) ListHolds s
       normal_remark_by l (Some c, n) s so = pushed_on (tells_give Whole g (remark_more blank l.list _ so refl refl))
       normal_remark_by l (None, n) s so = tells_give Whole g so
 
       normal_on_line : (l : ListSo) (s : State) → NormalList blank l.list → N (on_line inner l) ListHolds s
       unfolding on_line a_remark
       normal_on_line l s so =
-          tells_then Whole g (tells_many Whole g (entry_turn inner) ListHolds normal_entry_turn l s so) (λ m t good. after (λ x u. normal_remark_by m x u good))
+          tells_then Whole g (tells_many Whole g (entry_turn inner) ListHolds normal_entry_turn l s so)
+          (λ m t good. after (λ x u. normal_remark_by m x u good))
 
-      normal_list_turn : (l : ListSo) (s : State) → NormalList blank l.list → N (list_turn inner l) (Turned Whole g ListHolds) s
+      normal_list_turn : (l : ListSo) (s : State) → NormalList blank l.list →
+          N (list_turn inner l) (Turned Whole g ListHolds) s
       unfolding list_turn
-      normal_list_turn l s so = tells_then Whole g (normal_on_line l s so) (λ m t good. after (λ x u. tells_give Whole g (step_holds x.0 _ u (newline_more blank m.list good))))
+      normal_list_turn l s so = tells_then Whole g (normal_on_line l s so)
+          (λ m t good. after (λ x u. tells_give Whole g (step_holds x.0 _ u (newline_more blank m.list good))))
 
-      normal_open_line : (s : State) → N (an_open_line inner blank) (λ x t. (blank ≡ false → first_not_blank (entries_of x.0) ≡ true) × (are_normal (entries_of x.0) ≡ true)) s
+      normal_open_line : (s : State) →
+          N (an_open_line inner blank)
+          (λ x t. (blank ≡ false → first_not_blank (entries_of x.0) ≡ true) × (are_normal (entries_of x.0) ≡ true)) s
       unfolding an_open_line
-      normal_open_line s = after (λ n t. tells_then Whole g (normal_on_line (list_so (none_listed blank) n) t (no_entries blank)) (λ l u so. after (λ newline v. tells_give Whole g (so.first, so.all))))
+      normal_open_line s = after (λ n t. tells_then Whole g
+          (normal_on_line (list_so (none_listed blank) n) t (no_entries blank))
+          (λ l u so. after (λ newline v. tells_give Whole g (so.first, so.all))))
 
       -- bodies change nothing
-      pub normal_line : (s : State) → N (a_line inner blank) (λ x t. (blank ≡ false → first_not_blank (entries_of x.0) ≡ true) × (are_normal (entries_of x.0) ≡ true)) s
+      pub normal_line : (s : State) →
+          N (a_line inner blank) (λ x t. (blank ≡ false → first_not_blank (entries_of x.0) ≡ true)
+          × (are_normal (entries_of x.0) ≡ true)) s
       unfolding a_line
       normal_line s =
-          tells_then Whole g {P = λ l t. (blank ≡ false → first_not_blank (entries_of l.0.0) ≡ true) × (are_normal (entries_of l.0.0) ≡ true)} (tells_level Whole g (normal_open_line (own_level s)) (λ x t so. so))
-          (λ l t so. tells_give Whole g (λ e. ap first_not_blank (row_filled l.1 l.0.0) ∙ first_filled l.1 (entries_of l.0.0) ∙ so.0 e, ap are_normal (row_filled l.1 l.0.0) ∙ all_filled l.1 (entries_of l.0.0) ∙ so.1))
+          tells_then Whole g {P = λ l t. (blank ≡ false → first_not_blank (entries_of l.0.0) ≡ true)
+          × (are_normal (entries_of l.0.0) ≡ true)}
+          (tells_level Whole g (normal_open_line (own_level s)) (λ x t so. so))
+          (λ l t so. tells_give Whole g (
+            λ e. ap first_not_blank (row_filled l.1 l.0.0) ∙ first_filled l.1 (entries_of l.0.0) ∙ so.0 e,
+            ap are_normal (row_filled l.1 l.0.0) ∙ all_filled l.1 (entries_of l.0.0) ∙ so.1,
+          ))
 
     -- a list that holds a command
     abbrev HasCommand : {X : Type 0} → (X → Entries) → X → State → Type 0
@@ -450,8 +560,10 @@ module _ (g : Given) where
     normal_list : (n : Next) (s : State) → N (a_list inner n) (HasCommand (λ x. x.0)) s
     unfolding a_list
     normal_list n s =
-        tells_then Whole g (tells_many Whole g (list_turn inner) (ListHolds false) (normal_list_turn false) (list_so (none_listed false) n) s (no_entries false))
-        (λ l t so. normal_pick l.list.commands (λ e. tells_give Whole g (and_from _ _ (so.command e) (so.first refl), so.all)) (stopped l.next))
+        tells_then Whole g (tells_many Whole g (list_turn inner) (ListHolds false) (normal_list_turn false)
+        (list_so (none_listed false) n) s (no_entries false))
+        (λ l t so. normal_pick l.list.commands
+        (λ e. tells_give Whole g (and_from _ _ (so.command e) (so.first refl), so.all)) (stopped l.next))
 
     -- ---- compound commands
 
@@ -459,7 +571,8 @@ module _ (g : Given) where
     unfolding a_branch
     normal_branch n s =
         tells_then Whole g (normal_list n s)
-        (λ c t one. after (λ k u. tells_then Whole g (normal_list k.1 u) (λ b v two. tells_give Whole g (and_from _ _ (and_from _ _ (and_from _ _ one.0 one.1) two.0) two.1))))
+        (λ c t one. after (λ k u. tells_then Whole g (normal_list k.1 u)
+        (λ b v two. tells_give Whole g (and_from _ _ (and_from _ _ (and_from _ _ one.0 one.1) two.0) two.1))))
 
     abbrev BranchesHold : Branched → State → Type 0
     BranchesHold b t = are_normal_branches (branches_of b.branches) ≡ true
@@ -468,14 +581,16 @@ module _ (g : Given) where
     unfolding elif_turn
     normal_elif b s so =
         normal_pick (is_closing closings.Elif b.next.token)
-        (λ e. after (λ k t. tells_then Whole g (normal_branch k.1 t) (λ x u good. pushed_on (tells_give Whole g (branches_more b.branches x.0 so good)))))
+        (λ e. after (λ k t. tells_then Whole g (normal_branch k.1 t)
+        (λ x u good. pushed_on (tells_give Whole g (branches_more b.branches x.0 so good)))))
         (tells_give Whole g so)
 
     normal_else : (n : Next) (s : State) → N (an_else inner n) (λ x t. is_normal_else x.0 ≡ true) s
     unfolding an_else
     normal_else n s =
         normal_pick (is_closing closings.Else n.token)
-        (λ e. after (λ k t. tells_then Whole g (normal_list k.1 t) (λ l u good. tells_give Whole g (and_from _ _ good.0 good.1))))
+        (λ e. after (λ k t. tells_then Whole g (normal_list k.1 t)
+        (λ l u good. tells_give Whole g (and_from _ _ good.0 good.1))))
         (tells_give Whole g refl)
 
     abbrev FormHolds : Closed AForm → State → Type 0
@@ -485,15 +600,18 @@ module _ (g : Given) where
     unfolding an_if
     normal_if n s =
         tells_then Whole g (normal_branch n s)
-        (λ f t one. tells_then Whole g (tells_many Whole g (elif_turn inner) BranchesHold normal_elif (branched [] f.1) t refl)
-        (λ b u all. tells_then Whole g (normal_else b.next u) (λ e v other. after (λ c w. tells_give Whole g (and_from _ _ (and_from _ _ one all) other)))))
+        (λ f t one. tells_then Whole g
+        (tells_many Whole g (elif_turn inner) BranchesHold normal_elif (branched [] f.1) t refl)
+        (λ b u all. tells_then Whole g (normal_else b.next u)
+        (λ e v other. after (λ c w. tells_give Whole g (and_from _ _ (and_from _ _ one all) other)))))
 
     normal_loop : (n : Next) (s : State) → N (a_loop inner n) (λ x t. is_normal_branch x.what ≡ true) s
     unfolding a_loop
     normal_loop n s =
         tells_then Whole g (normal_list n s)
         (λ c t one. after (λ d u. tells_then Whole g (normal_list d.1 u)
-        (λ b v two. after (λ e w. tells_give Whole g (and_from _ _ (and_from _ _ (and_from _ _ one.0 one.1) two.0) two.1)))))
+        (λ b v two. after (λ e w. tells_give Whole g
+        (and_from _ _ (and_from _ _ (and_from _ _ one.0 one.1) two.0) two.1)))))
 
     normal_group : (c : Closing) (n : Next) (s : State) → N (a_group inner c n) (HasCommand (λ x. x.what)) s
     unfolding a_group
@@ -503,58 +621,76 @@ module _ (g : Given) where
     unfolding a_for_name
     normal_for_name n s =
         normal_pick (begins_word n.token)
-        (λ e. after (λ p t. after (λ good u. tells_then Whole g (normal_word u) (λ w v so. normal_pick good (λ f. after (λ m z. tells_give Whole g so)) (record { told = tt })))))
+        (λ e. after (λ p t. after (λ good u. tells_then Whole g (normal_word u)
+        (λ w v so. normal_pick good (λ f. after (λ m z. tells_give Whole g so)) (record { told = tt })))))
         (stopped n)
 
     normal_word_turn : (i : Items) (s : State) → NormalRow i.items → N (word_turn inner i) (Turned Whole g ItemsSo) s
     unfolding word_turn
-    normal_word_turn i s so = normal_pick (is_word i.next.token) (λ e. normal_item i Suffix s so) (tells_give Whole g so)
+    normal_word_turn i s so = normal_pick (is_word i.next.token) (λ e. normal_item i Suffix s so)
+        (tells_give Whole g so)
 
     normal_for_words : (cs : Row Span) (s : State) → N (for_words inner cs) (λ h t. are_normal_words h.words ≡ true) s
     unfolding for_words
     normal_for_words cs s =
-        after (λ i t. tells_then Whole g (tells_many Whole g (word_turn inner) ItemsSo normal_word_turn (so_many [] Suffix i.1) t no_items) (λ ws u good. after (λ l v. tells_give Whole g (and_from _ _ good.first good.all))))
+        after (λ i t. tells_then Whole g
+        (tells_many Whole g (word_turn inner) ItemsSo normal_word_turn (so_many [] Suffix i.1) t no_items)
+        (λ ws u good. after (λ l v. tells_give Whole g (and_from _ _ good.first good.all))))
 
     normal_for_head : (n : Next) (s : State) → N (a_for_head inner n) (λ h t. are_normal_words h.words ≡ true) s
     unfolding a_for_head
-    normal_for_head n s = after (λ x t. after (λ l u. normal_pick _ (λ e. normal_for_words l.join.comments u) (tells_give Whole g refl)))
+    normal_for_head n s = after (λ x t. after
+        (λ l u. normal_pick _ (λ e. normal_for_words l.join.comments u) (tells_give Whole g refl)))
 
     normal_for : (n : Next) (s : State) → N (a_for inner n) FormHolds s
     unfolding a_for
     normal_for n s =
-        tells_then Whole g (normal_for_name n s) (λ x t one. tells_then Whole g (normal_for_head x.1 t) (λ h u two. after (λ d v. tells_then Whole g (normal_group closings.Done d.1 v)
-        (λ b w body. tells_give Whole g (and_from _ _ (and_from _ _ (and_from _ _ one two) (whole_behind h.comments b.what body.0)) (normal_behind h.comments b.what body.1))))))
+        tells_then Whole g (normal_for_name n s)
+        (λ x t one. tells_then Whole g (normal_for_head x.1 t)
+        (λ h u two. after (λ d v. tells_then Whole g (normal_group closings.Done d.1 v)
+        (λ b w body. tells_give Whole g
+        (and_from _ _ (and_from _ _ (and_from _ _ one two) (whole_behind h.comments b.what body.0))
+        (normal_behind h.comments b.what body.1))))))
 
     normal_case_word : (n : Next) (s : State) → N (a_case_word inner n) (λ x t. is_normal_word x.0 ≡ true) s
     unfolding a_case_word
-    normal_case_word n s = normal_pick (begins_word n.token) (λ e. tells_then Whole g (normal_word s) (λ w t so. after (λ m u. tells_give Whole g so))) (stopped n)
+    normal_case_word n s = normal_pick (begins_word n.token)
+        (λ e. tells_then Whole g (normal_word s) (λ w t so. after (λ m u. tells_give Whole g so))) (stopped n)
 
     abbrev PatternsHold : Patterned → State → Type 0
     PatternsHold p t = are_normal_patterns (patterns_of p.patterns) ≡ true
 
-    normal_pattern : (ws : Row AWord) (s : State) → are_normal_patterns (patterns_of ws) ≡ true → N (a_pattern inner ws) PatternsHold s
+    normal_pattern : (ws : Row AWord) (s : State) → are_normal_patterns (patterns_of ws) ≡ true →
+        N (a_pattern inner ws) PatternsHold s
     unfolding a_pattern
-    normal_pattern ws s all = tells_then Whole g (normal_word s) (λ w t good. pushed_on (after (λ n u. tells_give Whole g (patterns_more ws w all good))))
+    normal_pattern ws s all = tells_then Whole g (normal_word s)
+        (λ w t good. pushed_on (after (λ n u. tells_give Whole g (patterns_more ws w all good))))
 
-    normal_one_pattern : (ws : Row AWord) (s : State) → are_normal_patterns (patterns_of ws) ≡ true → N (one_pattern inner ws) (Turned Whole g PatternsHold) s
+    normal_one_pattern : (ws : Row AWord) (s : State) → are_normal_patterns (patterns_of ws) ≡ true →
+        N (one_pattern inner ws) (Turned Whole g PatternsHold) s
     unfolding one_pattern
     normal_one_pattern ws s all =
-        after (λ x t. after (λ n u. normal_pick (begins_word n.token) (λ e. tells_then Whole g (normal_pattern ws u all) (λ p v so. tells_give Whole g so)) (stopped n)))
+        after (λ x t. after (λ n u. normal_pick (begins_word n.token)
+        (λ e. tells_then Whole g (normal_pattern ws u all) (λ p v so. tells_give Whole g so)) (stopped n)))
 
-    normal_pattern_turn : (p : Patterned) (s : State) → PatternsHold p s → N (pattern_turn inner p) (Turned Whole g PatternsHold) s
+    normal_pattern_turn : (p : Patterned) (s : State) → PatternsHold p s →
+        N (pattern_turn inner p) (Turned Whole g PatternsHold) s
     unfolding pattern_turn
-    normal_pattern_turn p s so = normal_pick (is_pipe p.next.token) (λ e. normal_one_pattern p.patterns s so) (tells_give Whole g so)
+    normal_pattern_turn p s so = normal_pick (is_pipe p.next.token) (λ e. normal_one_pattern p.patterns s so)
+        (tells_give Whole g so)
 
     normal_patterns : (n : Next) (s : State) → N (a_pattern_list inner n) PatternsHold s
     unfolding a_pattern_list
     normal_patterns n s =
         normal_pick (begins_pattern n.token)
-        (λ e. tells_then Whole g (normal_pattern [] s refl) (λ p t so. tells_many Whole g (pattern_turn inner) PatternsHold normal_pattern_turn p t so))
+        (λ e. tells_then Whole g (normal_pattern [] s refl)
+        (λ p t so. tells_many Whole g (pattern_turn inner) PatternsHold normal_pattern_turn p t so))
         (stopped n)
 
     normal_body : (n : Next) (s : State) → N (a_body inner n) (ListHolds false) s
     unfolding a_body
-    normal_body n s = tells_many Whole g (list_turn inner) (ListHolds false) (normal_list_turn false) (list_so (none_listed false) n) s (no_entries false)
+    normal_body n s = tells_many Whole g (list_turn inner) (ListHolds false) (normal_list_turn false)
+        (list_so (none_listed false) n) s (no_entries false)
 
     abbrev CasesHold : CasesSo → State → Type 0
     CasesHold c t = are_normal_cases (cases_of c.items) ≡ true
@@ -562,26 +698,37 @@ module _ (g : Given) where
     normal_one_case : (c : CasesSo) (s : State) → CasesHold c s → N (one_case inner c) (Turned Whole g CasesHold) s
     unfolding one_case
     normal_one_case c s so =
-        after (λ p t. after (λ n u. tells_then Whole g (normal_patterns n u) (λ ps v one. after (λ k w. tells_then Whole g (normal_body k.1 w)
-        (λ b x two. after (λ e y. pushed_on (tells_give Whole g (cases_more c.items _ so (and_from _ _ (and_from _ _ one (two.first refl)) two.all)))))))))
+        after (λ p t. after (λ n u. tells_then Whole g (normal_patterns n u)
+        (λ ps v one. after (λ k w. tells_then Whole g (normal_body k.1 w)
+        (λ b x two. after (λ e y. pushed_on
+        (tells_give Whole g (cases_more c.items _ so
+        (and_from _ _ (and_from _ _ one (two.first refl)) two.all)))))))))
 
     normal_case_turn : (c : CasesSo) (s : State) → CasesHold c s → N (case_turn inner c) (Turned Whole g CasesHold) s
     unfolding case_turn
-    normal_case_turn c s so = normal_pick (is_closing closings.Esac c.next.token) (λ e. tells_give Whole g so) (normal_one_case c s so)
+    normal_case_turn c s so = normal_pick (is_closing closings.Esac c.next.token) (λ e. tells_give Whole g so)
+        (normal_one_case c s so)
 
     normal_case_head : (n : Next) (s : State) → N (a_case_head inner n) (λ h t. is_normal_word h.0 ≡ true) s
     unfolding a_case_head
-    normal_case_head n s = tells_then Whole g (normal_case_word n s) (λ w t so. after (λ l u. after (λ i v. after (λ h x. tells_give Whole g so))))
+    normal_case_head n s = tells_then Whole g (normal_case_word n s)
+        (λ w t so. after (λ l u. after (λ i v. after (λ h x. tells_give Whole g so))))
 
     normal_case : (n : Next) (s : State) → N (a_case inner n) FormHolds s
     unfolding a_case
     normal_case n s =
-        tells_then Whole g (normal_case_head n s) (λ h t one. tells_then Whole g (tells_many Whole g (case_turn inner) CasesHold normal_case_turn (cases_so [] h.1 h.2) t refl)
+        tells_then Whole g (normal_case_head n s)
+        (λ h t one. tells_then Whole g
+        (tells_many Whole g (case_turn inner) CasesHold normal_case_turn (cases_so [] h.1 h.2) t refl)
         (λ c u all. after (λ e v. tells_give Whole g (and_from _ _ one all))))
 
     normal_form_by : (o : Opener) (n : Next) (s : State) → N (a_form inner o n) FormHolds s
-    normal_form_by openers.Brace n s = tells_then Whole g (normal_group closings.Brace n s) (λ l t good. tells_give Whole g (and_from _ _ good.0 good.1))
-    normal_form_by openers.Paren n s = tells_then Whole g (normal_group closings.Paren n s) (λ l t good. tells_give Whole g (and_from _ _ good.0 good.1))
+    normal_form_by openers.Brace n s =
+        tells_then Whole g (normal_group closings.Brace n s)
+        (λ l t good. tells_give Whole g (and_from _ _ good.0 good.1))
+    normal_form_by openers.Paren n s =
+        tells_then Whole g (normal_group closings.Paren n s)
+        (λ l t good. tells_give Whole g (and_from _ _ good.0 good.1))
     normal_form_by openers.If n s = normal_if n s
     normal_form_by openers.While n s = tells_then Whole g (normal_loop n s) (λ l t good. tells_give Whole g good)
     normal_form_by openers.Until n s = tells_then Whole g (normal_loop n s) (λ l t good. tells_give Whole g good)
@@ -590,25 +737,36 @@ module _ (g : Given) where
 
     normal_compound : (o : Opener) (s : State) → N (a_compound inner o) (λ c t. is_normal_command c.0 ≡ true) s
     unfolding a_compound
-    normal_compound o s = after (λ x t. tells_then Whole g (normal_form_by o x.1 t) (λ f u good. pushed_on (tells_give Whole g (and_from _ _ good refl))))
+    normal_compound o s = after (λ x t. tells_then Whole g (normal_form_by o x.1 t)
+        (λ f u good. pushed_on (tells_give Whole g (and_from _ _ good refl))))
 
     -- ---- substitutions
 
-    normal_substitution_list : (s : State) → N (substitution_list inner) (λ es t. (first_not_blank es ≡ true) × (are_normal es ≡ true)) s
+    normal_substitution_list : (s : State) →
+        N (substitution_list inner) (λ es t. (first_not_blank es ≡ true) × (are_normal es ≡ true)) s
     unfolding substitution_list
     normal_substitution_list s =
-        after (λ n t. tells_then Whole g (tells_many Whole g (list_turn inner) (ListHolds false) (normal_list_turn false) (list_so (none_listed false) n) t (no_entries false))
-        (λ l u so. normal_pick (is_closing closings.Paren l.next.token) (λ e. after (λ w z. after (λ x v. tells_give Whole g (so.first refl, so.all)))) (stopped l.next)))
+        after (λ n t. tells_then Whole g
+        (tells_many Whole g (list_turn inner) (ListHolds false) (normal_list_turn false)
+        (list_so (none_listed false) n) t (no_entries false))
+        (λ l u so. normal_pick (is_closing closings.Paren l.next.token)
+        (λ e. after (λ w z. after (λ x v. tells_give Whole g (so.first refl, so.all)))) (stopped l.next)))
 
-    normal_substitution : (b : ℕ) (ss : Row ASubst) (s : State) → are_normal_substs (substs_of ss) ≡ true → N (a_substitution inner b ss) (λ zs t. are_normal_substs (substs_of zs) ≡ true) s
+    normal_substitution : (b : ℕ) (ss : Row ASubst) (s : State) → are_normal_substs (substs_of ss) ≡ true →
+        N (a_substitution inner b ss) (λ zs t. are_normal_substs (substs_of zs) ≡ true) s
     unfolding a_substitution one_substitution
     normal_substitution b ss s so =
-        tells_inside Whole g (tells_then Whole g {P = λ es t. (first_not_blank es.0 ≡ true) × (are_normal es.0 ≡ true)} (tells_level Whole g (tells_ending Whole g (normal_substitution_list (own_level s))) (λ es t one. one))
-        (λ es t one. after (λ q u. record { told = substs_more ss _ so (and_from _ _ (first_filled es.1 es.0 ∙ one.0) (all_filled es.1 es.0 ∙ one.1)) })))
+        tells_inside Whole g (tells_then Whole g {P = λ es t. (first_not_blank es.0 ≡ true) × (are_normal es.0 ≡ true)}
+        (tells_level Whole g (tells_ending Whole g (normal_substitution_list (own_level s))) (λ es t one. one))
+        (λ es t one. after (λ q u. record {
+          told =
+              substs_more ss _ so (and_from _ _ (first_filled es.1 es.0 ∙ one.0) (all_filled es.1 es.0 ∙ one.1));
+        })))
 
     -- ---- functions
 
-    normal_under : (name : Span) (cs : Row Span) (c : ACommand) → is_normal_command c ≡ true → is_normal_command (under_name name cs c) ≡ true
+    normal_under : (name : Span) (cs : Row Span) (c : ACommand) → is_normal_command c ≡ true →
+        is_normal_command (under_name name cs c) ≡ true
     normal_under name cs (simple is) so = so
     normal_under name cs (compound body) so = so
     normal_under name cs (function other ds body) so = so
@@ -616,7 +774,9 @@ module _ (g : Given) where
     normal_function : (name : Span) (s : State) → N (a_function inner name) (λ c t. is_normal_command c.0 ≡ true) s
     unfolding a_function
     normal_function name s =
-        after (λ o t. after (λ c u. after (λ l v. tells_then Whole g (normal_compound_by l.next (opener_of l.next.token) v) (λ b w good. tells_give Whole g (normal_under name l.join.comments b.0 good)))))
+        after (λ o t. after (λ c u. after
+        (λ l v. tells_then Whole g (normal_compound_by l.next (opener_of l.next.token) v)
+        (λ b w good. tells_give Whole g (normal_under name l.join.comments b.0 good)))))
 
   normal_level : (room : ℕ) → Fine (level room)
   unfolding level
@@ -642,22 +802,30 @@ module _ (edition : Edition) (B : List ℕ) where
   LineHolds blank x t = (blank ≡ false → first_not_blank (entries_of x.0) ≡ true) × (are_normal (entries_of x.0) ≡ true)
 
   line_so_far : (blank : Bool) (p : ℕ) → Holds (LineHolds blank) (line_from edition B Whole blank p)
-  line_so_far blank p = let g = given edition (drop p B) p in (normal_line g (level most_open) (normal_level g most_open) blank (standing 0)).told
+  line_so_far blank p = let g = given edition (drop p B) p in
+      (normal_line g (level most_open) (normal_level g most_open) blank (standing 0)).told
 
-  script_so : (rest : SoFar → ℕ → AScript) (so : SoFar) (p : ℕ) → ((to : SoFar) (q : ℕ) → is_normal (entries_of to.entries) ≡ true → is_normal (rest to q).entries ≡ true)
-      → is_normal (entries_of so.entries) ≡ true → (x : Read (Row AnEntry × Bool)) → Holds (LineHolds (is_blank_line so)) x → is_normal (script_by rest so p x).entries ≡ true
-  script_so rest so p more list (Ok ((es, true), t)) line = more _ _ (script_more so.gap so.entries es list line.0 line.1)
+  script_so : (rest : SoFar → ℕ → AScript) (so : SoFar) (p : ℕ) →
+      ((to : SoFar) (q : ℕ) → is_normal (entries_of to.entries) ≡ true → is_normal (rest to q).entries ≡ true)
+      → is_normal (entries_of so.entries) ≡ true → (x : Read (Row AnEntry × Bool)) →
+      Holds (LineHolds (is_blank_line so)) x → is_normal (script_by rest so p x).entries ≡ true
+  script_so rest so p more list (Ok ((es, true), t)) line =
+      more _ _ (script_more so.gap so.entries es list line.0 line.1)
   script_so rest so p more list (Ok ((es, false), t)) line = script_more so.gap so.entries es list line.0 line.1
   script_so rest so p more list (Err f) line = list
 
-  below_normal : (n : ℕ) (so : SoFar) (p : ℕ) → is_normal (entries_of so.entries) ≡ true → is_normal (script_below edition B n so p).entries ≡ true
+  below_normal : (n : ℕ) (so : SoFar) (p : ℕ) → is_normal (entries_of so.entries) ≡ true →
+      is_normal (script_below edition B n so p).entries ≡ true
   unfolding script_below
   below_normal zero so p list = list
-  below_normal (suc n) so p list = script_so (script_below edition B n) so p (λ to q good. below_normal n to q good) list _ (line_so_far (is_blank_line so) p)
+  below_normal (suc n) so p list =
+      script_so (script_below edition B n) so p (λ to q good. below_normal n to q good) list _
+      (line_so_far (is_blank_line so) p)
 
   script_normal : is_normal (script_at edition B).entries ≡ true
   unfolding script_at script_on
   script_normal = below_normal _ nothing_yet 0 refl
 
-pub script_in_normal_form : (edition : Edition) → (B : List ℕ) (s : AScript) → s ≡ script_at edition B → is_normal s.entries ≡ true
+pub script_in_normal_form : (edition : Edition) → (B : List ℕ) (s : AScript) → s ≡ script_at edition B →
+    is_normal s.entries ≡ true
 script_in_normal_form edition B s e = ap (λ (x : AScript). is_normal x.entries) e ∙ script_normal edition B

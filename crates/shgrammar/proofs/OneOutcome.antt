@@ -27,18 +27,21 @@ is_just x t = record { some = ([], just); only = just_only x t }
 
 -- ---- one form and then another
 
-module _ {X Y : Type 0} (r : Comes X) (q : X → Comes Y) (f : X → State → Read Y) (rest : (x : X) (t : State) → Is (q x t) (f x t)) (s : State) where
+module _ {X Y : Type 0} (r : Comes X) (q : X → Comes Y) (f : X → State → Read Y)
+    (rest : (x : X) (t : State) → Is (q x t) (f x t)) (s : State) where
   then_some : (x : Read X) → (k : Row Spelled) → r s x k → (l : Row Spelled) × Then r q s (x ▸ f) l
   then_some (Ok (x, t)) k first = (k ++ (rest x t).some.0, and_then first (rest x t).some.1)
   then_some (Err e) k first = (k, or_stops first)
 
-  then_only : (x : Read X) → ((y : Read X) (k : Row Spelled) → r s y k → y ≡ x) → (y : Read Y) (l : Row Spelled) → Then r q s y l → y ≡ (x ▸ f)
+  then_only : (x : Read X) → ((y : Read X) (k : Row Spelled) → r s y k → y ≡ x) → (y : Read Y) (l : Row Spelled) →
+      Then r q s y l → y ≡ (x ▸ f)
   then_only (Ok (x, t)) one y l (and_then {x = b} {t = u} {k = k} {l = m} first second) =
       let is = one (Ok (b, u)) k first in
       let same : ◌≡◌ {A = X × State} (b, u) (x, t) = cc in
       (rest x t).only y m (subst (λ (z : X × State). q z.0 z.1 y m) same second)
   then_only (Ok (x, t)) one y l (or_stops {f = e} {k = k} first) = let is = one (Err e) k first in absurd cc
-  then_only (Err d) one y l (and_then {x = b} {t = u} {k = k} first second) = let is = one (Ok (b, u)) k first in absurd cc
+  then_only (Err d) one y l (and_then {x = b} {t = u} {k = k} first second) = let is = one (Ok (b, u)) k first in
+      absurd cc
   then_only (Err d) one y l (or_stops {f = e} {k = k} first) = let is = one (Err e) k first in cc
 
   is_then : (x : Read X) → Is (r s) x → Is (Then r q s) (x ▸ f)
@@ -67,7 +70,8 @@ module _ {X : Type 0} (how : Told) (g : Given) (r : Comes X) (s : State) where
   token_some (Ok (x, t)) k part = (tell how g.text s.at t.at, whole part)
   token_some (Err f) k part = (k, broken_off part)
 
-  token_only : (x : Read X) → ((y : Read X) (k : Row Spelled) → r s y k → y ≡ x) → (y : Read (X × Span)) (l : Row Spelled) → OneToken how g r s y l → y ≡ spanned x
+  token_only : (x : Read X) → ((y : Read X) (k : Row Spelled) → r s y k → y ≡ x) →
+      (y : Read (X × Span)) (l : Row Spelled) → OneToken how g r s y l → y ≡ spanned x
   token_only x one y l (whole {x = b} {t = u} {k = k} part) = rw (← one (Ok (b, u)) k part) refl
   token_only x one y l (broken_off {f = e} {k = k} part) = rw (← one (Err e) k part) refl
 
@@ -76,28 +80,35 @@ module _ {X : Type 0} (how : Told) (g : Given) (r : Comes X) (s : State) where
 
 -- ---- turns
 
-module _ {A : Type 0} (g : Given) (turn : A → Comes (Step A)) (f : A → State → Read (Step A)) (each : (a : A) (s : State) → Is (turn a s) (f a s)) where
+module _ {A : Type 0} (g : Given) (turn : A → Comes (Step A)) (f : A → State → Read (Step A))
+    (each : (a : A) (s : State) → Is (turn a s) (f a s)) where
   -- by the outcome of one turn
   turn_some : (a : A) (s : State) (x : Read (Step A)) → f a s ≡ x → (k : Row Spelled) → turn a s x k
-      → ((b : A) (t : State) → length g.text - t.at < length g.text - s.at → (l : Row Spelled) × Turns g turn b t (turns g f b t) l)
+      → ((b : A) (t : State) → length g.text - t.at < length g.text - s.at → (l : Row Spelled)
+      × Turns g turn b t (turns g f b t) l)
       → (l : Row Spelled) × Turns g turn a s (turns g f a s) l
   turn_some a s (Ok (done b, t)) is k part rest = rw (turns_done g f a b s t is) (k, last part)
   turn_some a s (Ok (again b, t)) is k part rest = led (leads_on g s t) refl
     where
       led : (on : Bool) → leads_on g s t ≡ on → (l : Row Spelled) × Turns g turn a s (turns g f a s) l
-      led true on = let then = rest b t (ltb-true _ _ on) in rw (turns_on g f a b s t is on) (k ++ then.0, more part on then.1)
+      led true on = let then = rest b t (ltb-true _ _ on) in
+          rw (turns_on g f a b s t is on) (k ++ then.0, more part on then.1)
       led false on = rw (turns_rest g f a b s t is on) (k, rests part on)
   turn_some a s (Err e) is k part rest = rw (turns_fault g f a s e is) (k, halts part)
 
   -- with fewer than n bytes left
-  turns_some : (n : ℕ) (a : A) (s : State) → length g.text - s.at < n → (l : Row Spelled) × Turns g turn a s (turns g f a s) l
+  turns_some : (n : ℕ) (a : A) (s : State) → length g.text - s.at < n → (l : Row Spelled)
+      × Turns g turn a s (turns g f a s) l
   turns_some zero a s low = absurd (omega arith)
-  turns_some (suc n) a s low = turn_some a s (f a s) refl (each a s).some.0 (each a s).some.1 (λ b t less. turns_some n b t (omega (arith, less, low)))
+  turns_some (suc n) a s low = turn_some a s (f a s) refl (each a s).some.0 (each a s).some.1
+      (λ b t less. turns_some n b t (omega (arith, less, low)))
 
   turns_only : (a : A) (s : State) (y : Read A) (k : Row Spelled) → Turns g turn a s y k → y ≡ turns g f a s
   turns_only a s y k (last {b = b} {t = t} part) = sym (turns_done g f a b s t (sym ((each a s).only _ _ part)))
-  turns_only a s y k (rests {b = b} {t = t} part off) = sym (turns_rest g f a b s t (sym ((each a s).only _ _ part)) off)
-  turns_only a s y k (more {b = b} {t = t} part on rest) = turns_only b t y _ rest ∙ sym (turns_on g f a b s t (sym ((each a s).only _ _ part)) on)
+  turns_only a s y k (rests {b = b} {t = t} part off) =
+      sym (turns_rest g f a b s t (sym ((each a s).only _ _ part)) off)
+  turns_only a s y k (more {b = b} {t = t} part on rest) = turns_only b t y _ rest
+      ∙ sym (turns_on g f a b s t (sym ((each a s).only _ _ part)) on)
   turns_only a s y k (halts {f = e} part) = sym (turns_fault g f a s e (sym ((each a s).only _ _ part)))
 
   is_many : (a : A) (s : State) → Is (Turns g turn a s) (turns g f a s)
@@ -110,7 +121,8 @@ module _ {X : Type 0} (kind : FaultKind) (at : ℕ) (r : Comes X) (s : State) wh
   ending_some (Ok (x, t)) k part = goes_through part
   ending_some (Err f) k part = stops_inside part
 
-  ending_only : (x : Read X) → ((y : Read X) (k : Row Spelled) → r s y k → y ≡ x) → (y : Read X) (l : Row Spelled) → Ending kind at r s y l → y ≡ with_end kind at x
+  ending_only : (x : Read X) → ((y : Read X) (k : Row Spelled) → r s y k → y ≡ x) → (y : Read X) (l : Row Spelled) →
+      Ending kind at r s y l → y ≡ with_end kind at x
   ending_only x one y l (goes_through {x = b} {t = u} part) = ap (with_end kind at) (one (Ok (b, u)) l part)
   ending_only x one y l (stops_inside {f = f} part) = ap (with_end kind at) (one (Err f) l part)
 
@@ -138,7 +150,8 @@ module _ {X : Type 0} (g : Given) (r : Comes X) (s : State) where
   bytes_some (Ok (x, t)) k part = with_its_bytes part
   bytes_some (Err f) k part = without_bytes part
 
-  bytes_only : (x : Read X) → ((y : Read X) (k : Row Spelled) → r s y k → y ≡ x) → (y : Read (X × Spelled)) (l : Row Spelled) → WithBytes g r s y l → y ≡ with_raw x
+  bytes_only : (x : Read X) → ((y : Read X) (k : Row Spelled) → r s y k → y ≡ x) →
+      (y : Read (X × Spelled)) (l : Row Spelled) → WithBytes g r s y l → y ≡ with_raw x
   bytes_only x one y l (with_its_bytes {x = b} {t = u} {k = k} part) = rw (← one (Ok (b, u)) k part) refl
   bytes_only x one y l (without_bytes {f = e} {k = k} part) = rw (← one (Err e) k part) refl
 
@@ -153,7 +166,8 @@ module _ {X : Type 0} (r : Comes X) (s : State) where
   level_some (Ok (x, t)) k part = level_read part
   level_some (Err f) k part = level_stops part
 
-  level_only : (x : Read X) → ((y : Read X) (k : Row Spelled) → r (own_level s) y k → y ≡ x) → (y : Read (X × Row Span)) (l : Row Spelled) → OwnLevel r s y l → y ≡ with_bodies_of x
+  level_only : (x : Read X) → ((y : Read X) (k : Row Spelled) → r (own_level s) y k → y ≡ x) →
+      (y : Read (X × Row Span)) (l : Row Spelled) → OwnLevel r s y l → y ≡ with_bodies_of x
   level_only x one y l (level_read {x = b} {t = u} {k = k} part) = rw (← one (Ok (b, u)) k part) refl
   level_only x one y l (level_stops {f = e} {k = k} part) = rw (← one (Err e) k part) refl
 
@@ -168,8 +182,10 @@ is (see f) g s = is_just (seen f g s) s
 is (move m) g s = is_just tt (moved_on m g s)
 is (push xs x) g s = is_just (xs ++ x ∷ []) s
 is (stop kind at) g s = record { some = ([], halted); only = halts_only (record { kind = kind; at = at }) }
-is (both r q) g s = is_then (may r g) (λ x. may (q x) g) (λ x t. does (q x) Whole g t) (λ x t. is (q x) g t) s (does r Whole g s) (is r g s)
-is (when f r q) g s = is_either (may r g) (may q g) s (does r Whole g s) (does q Whole g s) (is r g s) (is q g s) (seen f g s)
+is (both r q) g s = is_then (may r g) (λ x. may (q x) g) (λ x t. does (q x) Whole g t) (λ x t. is (q x) g t) s
+    (does r Whole g s) (is r g s)
+is (when f r q) g s = is_either (may r g) (may q g) s (does r Whole g s) (does q Whole g s) (is r g s) (is q g s)
+    (seen f g s)
 is (token how r) g s = is_token how g (may r g) s (does r Whole g s) (is r g s)
 is (loop turn a) g s = is_many g (λ b. may (turn b) g) (λ b t. does (turn b) Whole g t) (λ b t. is (turn b) g t) a s
 is (ends_as kind at r) g s = is_ending kind at (may r g) s (does r Whole g s) (is r g s)

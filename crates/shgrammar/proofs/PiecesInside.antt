@@ -41,7 +41,8 @@ Closed _ = Unit {0}
 not_plain : (mode : Mode) → Closed mode → mode ≡ Plain → ⊥
 not_plain mode closed is = subst Closed is closed
 
-module _ {edition : Edition} {T U : List ℕ} {a L : ℕ} {to : ℕ → ℕ} (K : Kept edition T U a L to) (o o2 : ℕ) (B B2 : List ℕ) where
+module _ {edition : Edition} {T U : List ℕ} {a L : ℕ} {to : ℕ → ℕ} (K : Kept edition T U a L to) (o o2 : ℕ)
+    (B B2 : List ℕ) where
   abbrev Inside : ℕ → Type 0
   Inside p = Here T U a L to p
 
@@ -70,21 +71,31 @@ module _ {edition : Edition} {T U : List ℕ} {a L : ℕ} {to : ℕ → ℕ} (K 
   -- what a construct holds is the same elsewhere, wherever its opener stands and
   -- behind substitutions of the same shape
   abbrev pub Holding : (Row ASubst → Form (Row ASubst)) → Row ASubst → State → Row ASubst → State → Type 0
-  Holding r ss s x t = t.at ≤ L → Inside s.at × ((zs : Row ASubst) → SameSubsts ss zs → (y : Row ASubst) × ((does (r zs) Whole h (over s) ≡ Ok (y, over t)) × SameSubsts x y))
+  Holding r ss s x t = t.at ≤ L → Inside s.at
+      × ((zs : Row ASubst) → SameSubsts ss zs → (y : Row ASubst)
+      × ((does (r zs) Whole h (over s) ≡ Ok (y, over t)) × SameSubsts x y))
 
   pub record Local (inner : Inner) : Type 0 where
-    pub construct : (mode : Mode) → Closed mode → (b b2 : ℕ) (ss : Row ASubst) (s : State) → a ≤ s.at → Holds (Holding (inner.construct mode b2) ss s) (does (inner.construct mode b ss) Whole g s)
-    pub substitution : (b b2 : ℕ) (ss : Row ASubst) (s : State) → a ≤ s.at → Holds (Holding (inner.substitution b2) ss s) (does (inner.substitution b ss) Whole g s)
+    pub construct : (mode : Mode) → Closed mode → (b b2 : ℕ) (ss : Row ASubst) (s : State) → a ≤ s.at →
+        Holds (Holding (inner.construct mode b2) ss s) (does (inner.construct mode b ss) Whole g s)
+    pub substitution : (b b2 : ℕ) (ss : Row ASubst) (s : State) → a ≤ s.at →
+        Holds (Holding (inner.substitution b2) ss s) (does (inner.substitution b ss) Whole g s)
 
   module _ (inner : Inner) (local : Local inner) where
     -- a construct as a piece
     abbrev Opens : Mode → ℕ → WordSoFar → State → Step WordSoFar → State → Type 0
-    Opens mode b2 c s x t = t.at ≤ L → Inside s.at × ((d : WordSoFar) → Agree c d → (y : Step WordSoFar) × ((does (opened inner mode b2 d) Whole h (over s) ≡ Ok (y, over t)) × SameStep Agree x y))
+    Opens mode b2 c s x t = t.at ≤ L → Inside s.at
+        × ((d : WordSoFar) → Agree c d → (y : Step WordSoFar)
+        × ((does (opened inner mode b2 d) Whole h (over s) ≡ Ok (y, over t)) × SameStep Agree x y))
 
-    opens : (mode : Mode) → Closed mode → (b b2 : ℕ) (c : WordSoFar) (s : State) → a ≤ s.at → Holds (Opens mode b2 c s) (does (opened inner mode b c) Whole g s)
+    opens : (mode : Mode) → Closed mode → (b b2 : ℕ) (c : WordSoFar) (s : State) → a ≤ s.at →
+        Holds (Opens mode b2 c s) (does (opened inner mode b c) Whole g s)
     opens mode closed b b2 c s from =
-        holds_then (Holding (inner.construct mode b2) c.substs s) (Opens mode b2 c s) (does (inner.construct mode b c.substs) Whole g s) (λ x t. Ok (again (having c.nested x), t)) (local.construct mode closed b b2 c.substs s from)
-        (λ x t inside le. let w = inside le in (w.0, λ d so. let v = w.1 d.substs so.1 in (again (having d.nested v.0), (rw v.1.0 refl, (so.0, v.1.1)))))
+        holds_then (Holding (inner.construct mode b2) c.substs s) (Opens mode b2 c s)
+        (does (inner.construct mode b c.substs) Whole g s) (λ x t. Ok (again (having c.nested x), t))
+        (local.construct mode closed b b2 c.substs s from)
+        (λ x t inside le. let w = inside le in
+        (w.0, λ d so. let v = w.1 d.substs so.1 in (again (having d.nested v.0), (rw v.1.0 refl, (so.0, v.1.1)))))
 
   -- from where a word or a construct may go on, and where it ends
   abbrev pub From : Mode → ℕ → Type 0
@@ -105,18 +116,22 @@ module _ {edition : Edition} {T U : List ℕ} {a L : ℕ} {to : ℕ → ℕ} (K 
   abbrev Other : ℕ → Type 0
   Other b = ((b == 92) ≡ false) × (((b == 96) ≡ false) × ((b == 36) ≡ false))
 
-  other_piece : (mode : Mode) (n p b : ℕ) → byte_at T p ≡ Some b → Other b → Inside p → piece_in edition mode (piece_at U mode n (to p)) ≡ piece_in edition mode (byte_by U (to p) mode n b)
+  other_piece : (mode : Mode) (n p b : ℕ) → byte_at T p ≡ Some b → Other b → Inside p →
+      piece_in edition mode (piece_at U mode n (to p)) ≡ piece_in edition mode (byte_by U (to p) mode n b)
   unfolding piece_at
   other_piece mode n p b is e i = rw (here_byte K i, is, e.0, e.1.0, e.1.1) refl
 
   -- by a `$`
-  dollar_piece : (mode : Mode) (n p b : ℕ) → byte_at T p ≡ Some b → (b == 92) ≡ false → (b == 96) ≡ false → (b == 36) ≡ true → Inside p
-      → piece_in edition mode (piece_at U mode n (to p)) ≡ piece_in edition mode (dollar_by U (to (behind T p)) (byte_at U (to (behind T p))))
+  dollar_piece : (mode : Mode) (n p b : ℕ) → byte_at T p ≡ Some b → (b == 92) ≡ false → (b == 96) ≡ false →
+      (b == 36) ≡ true → Inside p
+      → piece_in edition mode (piece_at U mode n (to p))
+      ≡ piece_in edition mode (dollar_by U (to (behind T p)) (byte_at U (to (behind T p))))
   unfolding piece_at dollar_at
   dollar_piece mode n p b is e f d i = rw (here_byte K i, is, e, f, d, here_behind K i) refl
 
   -- before the limit, where the next byte is no `(`, unless it is one in the first text
-  module _ (ender : ends (byte_at U (to L)) ≡ true) (no_open : is_byte (byte_at T L) 40 ≡ false → is_byte (byte_at U (to L)) 40 ≡ false) where
+  module _ (ender : ends (byte_at U (to L)) ≡ true)
+      (no_open : is_byte (byte_at T L) 40 ≡ false → is_byte (byte_at U (to L)) 40 ≡ false) where
     -- a `$` before the limit begins nothing
     limit_dollar : (q : ℕ) (x : Option ℕ) → ends x ≡ true → is_byte x 40 ≡ false → dollar_by U q x ≡ pieces.Ordinary
     limit_dollar q None e f = refl
@@ -135,7 +150,8 @@ module _ {edition : Edition} {T U : List ℕ} {a L : ℕ} {to : ℕ → ℕ} (K 
         let three : (b == 36) ≡ false = grind (arith, nat_tests) in
         rw (one, two, three, e) refl
 
-    module _ (inner : Inner) (local : Local inner) (mode : Mode) (b b2 : ℕ) (c : WordSoFar) (s : State) (from : a ≤ s.at) where
+    module _ (inner : Inner) (local : Local inner) (mode : Mode) (b b2 : ℕ) (c : WordSoFar) (s : State)
+        (from : a ≤ s.at) where
       abbrev p : ℕ
       p = s.at
 
@@ -166,58 +182,86 @@ module _ {edition : Edition} {T U : List ℕ} {a L : ℕ} {to : ℕ → ℕ} (K 
       Found P t d x = (y : Step WordSoFar) × ((x ≡ Ok (y, over t)) × P y)
 
       -- the row of the piece that is there
-      row_there : (x : Piece) → Told x → (d : WordSoFar) → Agree c d → (P : Step WordSoFar → Type 0) (t : State) → Found P t d (does (piece_row inner mode b2 d x) Whole h (over s)) → Found P t d (does (a_piece inner mode b2 d) Whole h (over s))
+      row_there : (x : Piece) → Told x → (d : WordSoFar) → Agree c d → (P : Step WordSoFar → Type 0) (t : State) →
+          Found P t d (does (piece_row inner mode b2 d x) Whole h (over s)) →
+          Found P t d (does (a_piece inner mode b2 d) Whole h (over s))
       unfolding a_piece
-      row_there x told d so P t found =
-          (found.0, (subst (λ (z : Piece). does (piece_row inner mode b2 d z) Whole h (over s) ≡ Ok (found.0, over t)) (sym told ∙ ap (λ m. piece_in edition mode (piece_at U mode m (to p))) so.0) found.1.0, found.1.1))
+      row_there x told d so P t found = (
+        found.0,
+        (
+          subst (λ (z : Piece). does (piece_row inner mode b2 d z) Whole h (over s) ≡ Ok (found.0, over t))
+              (sym told ∙ ap (λ m. piece_in edition mode (piece_at U mode m (to p))) so.0) found.1.0,
+          found.1.1,
+        ),
+      )
 
       leads_byte : past_continuations T p < length T → leads_on g s (placed q s) ≡ true
       leads_byte lt = lt-ltb _ _ (omega (arith, lt, behind_is T p, place_low T p))
 
       -- one byte
-      one_byte_row : (is_byte (byte_at T p) 92 ≡ false) → past_continuations T p < length T → (w : WordSoFar → WordSoFar) → ((d : WordSoFar) → Agree c d → Agree (w c) (w d)) → (x : Piece) → (Inside p → From mode q → Told x)
-          → ((d : WordSoFar) → does (piece_row inner mode b2 d x) Whole h (over s) ≡ Ok (again (w d), there_at K o o2 (behind U (to p)) s)) → Turn (again (w c)) (placed q s)
+      one_byte_row : (is_byte (byte_at T p) 92 ≡ false) → past_continuations T p < length T →
+          (w : WordSoFar → WordSoFar) → ((d : WordSoFar) → Agree c d → Agree (w c) (w d)) → (x : Piece) →
+          (Inside p → From mode q → Told x)
+          → ((d : WordSoFar) → does (piece_row inner mode b2 d x) Whole h (over s)
+          ≡ Ok (again (w d), there_at K o o2 (behind U (to p)) s)) → Turn (again (w c)) (placed q s)
       one_byte_row e lt w same x told row goal =
           let i = clear K p from (omega (arith, goal.0, behind_is T p)) e in
-          let next = goal.1 (leads_byte lt) in
-          (inl i, λ d so. row_there x (told i next) d so (SameStep Agree (again (w c))) (placed q s) (again (w d), (row d ∙ rw (here_behind K i) refl, same d so)))
+          let next = goal.1 (leads_byte lt) in (
+            inl i,
+            λ d so. row_there x (told i next) d so (SameStep Agree (again (w c))) (placed q s)
+                (again (w d), (row d ∙ rw (here_behind K i) refl, same d so)),
+          )
 
-      ordinary : is_byte (byte_at T p) 92 ≡ false → past_continuations T p < length T → (Inside p → From mode q → Told pieces.Ordinary) → Again pieces.Ordinary
+      ordinary : is_byte (byte_at T p) 92 ≡ false → past_continuations T p < length T →
+          (Inside p → From mode q → Told pieces.Ordinary) → Again pieces.Ordinary
       ordinary e lt told = one_byte_row e lt (λ d. d) (λ d so. so) pieces.Ordinary told (λ d. refl)
 
-      opening : is_byte (byte_at T p) 92 ≡ false → past_continuations T p < length T → (Inside p → From mode q → Told pieces.Open) → Again pieces.Open
-      opening e lt told = one_byte_row e lt (λ d. having (d.nested + 1) d.substs) (λ d so. (ap (λ m. m + 1) so.0, so.1)) pieces.Open told (λ d. refl)
+      opening : is_byte (byte_at T p) 92 ≡ false → past_continuations T p < length T →
+          (Inside p → From mode q → Told pieces.Open) → Again pieces.Open
+      opening e lt told = one_byte_row e lt (λ d. having (d.nested + 1) d.substs)
+          (λ d so. (ap (λ m. m + 1) so.0, so.1)) pieces.Open told (λ d. refl)
 
-      closing : is_byte (byte_at T p) 92 ≡ false → past_continuations T p < length T → (Inside p → From mode q → Told pieces.Close) → Again pieces.Close
-      closing e lt told = one_byte_row e lt (λ d. having (d.nested - 1) d.substs) (λ d so. (ap (λ m. m - 1) so.0, so.1)) pieces.Close told (λ d. refl)
+      closing : is_byte (byte_at T p) 92 ≡ false → past_continuations T p < length T →
+          (Inside p → From mode q → Told pieces.Close) → Again pieces.Close
+      closing e lt told = one_byte_row e lt (λ d. having (d.nested - 1) d.substs)
+          (λ d so. (ap (λ m. m - 1) so.0, so.1)) pieces.Close told (λ d. refl)
 
       -- a backslash and what it takes
       escape : (v : ℕ) → byte_at T p ≡ Some v → (v == 92) ≡ true → at_end T q ≡ false → Again pieces.Escape
       unfolding raw_stands piece_at
       escape v is e some goal =
-          let here_is : raw_stands T (past_continuations T p) 92 ≡ true = raw_is_byte T (past_continuations T p) v 92 is e in
-          let le : past_continuations T p + 2 ≤ L = omega (arith, goal.0, taken_two T (past_continuations T p) here_is) in
+          let here_is : raw_stands T (past_continuations T p) 92 ≡ true =
+          raw_is_byte T (past_continuations T p) v 92 is e in
+          let le : past_continuations T p + 2 ≤ L =
+          omega (arith, goal.0, taken_two T (past_continuations T p) here_is) in
           let i = here K p from (omega (arith, le)) (λ f. omega (arith, le)) in
           let told : Told pieces.Escape = escape_told v is e i some (omega (arith, le, behind_is T p)) in
           let low_there : a ≤ past_continuations T p = omega (arith, from, place_low T p) in (
             inl i,
-            λ d so. row_there pieces.Escape told d so (SameStep Agree (again c)) (placed (past_taken T (past_continuations T p)) s)
+            λ d so. row_there pieces.Escape told d so (SameStep Agree (again c))
+                (placed (past_taken T (past_continuations T p)) s)
                 (again d, (rw (i.there, same_taken K (past_continuations T p) low_there i.inside) refl, so)),
           )
         where
           raw_is_byte : (V : List ℕ) (r v x : ℕ) → slice_get V r ≡ Some v → (v == x) ≡ true → raw_stands V r x ≡ true
           raw_is_byte V r v x is e = rw (is, e) refl
 
-          escape_told : (v : ℕ) → byte_at T p ≡ Some v → (v == 92) ≡ true → Inside p → at_end T q ≡ false → q < L → Told pieces.Escape
+          escape_told : (v : ℕ) → byte_at T p ≡ Some v → (v == 92) ≡ true → Inside p → at_end T q ≡ false → q < L →
+              Told pieces.Escape
           escape_told v is e i some lt = rw (here_byte K i, is, e, here_behind K i, same_end K q q_low lt, some) refl
 
       -- text that is not read
-      text_row : (x : Piece) (r : Form (Unit {0})) → Holds (Ends K o o2 r Inside s) (does r Whole g s) → (Inside p → Told x) → ((d : WordSoFar) → does (piece_row inner mode b2 d x) Whole h (over s) ≡ (does r Whole h (over s) ▸ λ u v. Ok (again d, v)))
+      text_row : (x : Piece) (r : Form (Unit {0})) → Holds (Ends K o o2 r Inside s) (does r Whole g s) →
+          (Inside p → Told x) → ((d : WordSoFar) →
+          does (piece_row inner mode b2 d x) Whole h (over s) ≡ (does r Whole h (over s) ▸ λ u v. Ok (again d, v)))
           → Holds Turn (does r Whole g s ▸ λ u v. Ok (again c, v))
       text_row x r ended told row =
           holds_then (Ends K o o2 r Inside s) Turn (does r Whole g s) (λ u v. Ok (again c, v)) ended
-          (λ u t ends goal. let w = ends goal.0 in
-          (inl w.0, λ d so. row_there x (told w.0) d so (SameStep Agree (again c)) t (again d, (row d ∙ rw w.1.1 refl, so))))
+          (λ u t ends goal. let w = ends goal.0 in (
+            inl w.0,
+            λ d so. row_there x (told w.0) d so (SameStep Agree (again c)) t
+                (again d, (row d ∙ rw w.1.1 refl, so)),
+          ))
 
       quoted : is_byte (byte_at T p) 92 ≡ false → (Inside p → Told pieces.Single) → Again pieces.Single
       quoted e told = text_row pieces.Single single (quote_in K o o2 s from e) told (λ d. refl)
@@ -225,34 +269,49 @@ module _ {edition : Edition} {T U : List ℕ} {a L : ℕ} {to : ℕ → ℕ} (K 
       backquote : is_byte (byte_at T p) 92 ≡ false → (Inside p → Told pieces.Backquote) → Again pieces.Backquote
       backquote e told = text_row pieces.Backquote backquoted_text (backquotes_in K o o2 s from e) told (λ d. refl)
 
-      dollar_quoted : is_byte (byte_at T p) 92 ≡ false → is_byte (byte_at T q) 92 ≡ false → (Inside p → Inside q → Told pieces.DollarSingle) → Again pieces.DollarSingle
+      dollar_quoted : is_byte (byte_at T p) 92 ≡ false → is_byte (byte_at T q) 92 ≡ false →
+          (Inside p → Inside q → Told pieces.DollarSingle) → Again pieces.DollarSingle
       dollar_quoted e e2 told =
-          holds_then (Ends K o o2 dollar_single (λ r. Inside r × Inside (behind T r)) s) Turn (does dollar_single Whole g s) (λ u v. Ok (again c, v)) (dollar_single_in K o o2 s from e e2)
-          (λ u t ends goal. let w = ends goal.0 in
-          (inl w.0.0, λ d so. row_there pieces.DollarSingle (told w.0.0 w.0.1) d so (SameStep Agree (again c)) t (again d, (rw w.1.1 refl, so))))
+          holds_then (Ends K o o2 dollar_single (λ r. Inside r × Inside (behind T r)) s) Turn
+          (does dollar_single Whole g s) (λ u v. Ok (again c, v)) (dollar_single_in K o o2 s from e e2)
+          (λ u t ends goal. let w = ends goal.0 in (
+            inl w.0.0,
+            λ d so. row_there pieces.DollarSingle (told w.0.0 w.0.1) d so (SameStep Agree (again c)) t
+                (again d, (rw w.1.1 refl, so)),
+          ))
 
-      goal_high : (x : Step WordSoFar) (t : State) → Goal K o o2 Agree (a_piece inner mode b) (a_piece inner mode b2) (From mode) (Last mode) s x t → t.at ≤ L
+      goal_high : (x : Step WordSoFar) (t : State) →
+          Goal K o o2 Agree (a_piece inner mode b) (a_piece inner mode b2) (From mode) (Last mode) s x t → t.at ≤ L
       goal_high (again d) t goal = goal.0
       goal_high (done d) t goal = goal.0
 
       -- a construct, from behind its opener on
       open_row : (x : Piece) (m : Mode) → Closed m → (k k2 r : ℕ) → a ≤ r
-          → (Inside r → Inside p × (Told x × ((d : WordSoFar) → does (piece_row inner mode b2 d x) Whole h (over s) ≡ does (opened inner m k2 d) Whole h (there_at K o o2 (to r) s)))) → Holds Turn (does (opened inner m k c) Whole g (placed r s))
+          → (Inside r → Inside p × (Told x
+          × ((d : WordSoFar) → does (piece_row inner mode b2 d x) Whole h (over s)
+          ≡ does (opened inner m k2 d) Whole h (there_at K o o2 (to r) s)))) →
+          Holds Turn (does (opened inner m k c) Whole g (placed r s))
       open_row x m closed k k2 r low_r start =
-          holds_so (Opens inner local m k2 c (placed r s)) Turn (does (opened inner m k c) Whole g (placed r s)) (opens inner local m closed k k2 c (placed r s) low_r)
+          holds_so (Opens inner local m k2 c (placed r s)) Turn (does (opened inner m k c) Whole g (placed r s))
+          (opens inner local m closed k k2 c (placed r s) low_r)
           (λ y t inside goal. let w = inside (goal_high y t goal) in
-          let u = start w.0 in
-          (inl u.0, λ d so. let f = w.1 d so in row_there x u.1.0 d so (SameStep Agree y) t (f.0, (u.1.1 d ∙ f.1.0, f.1.1))))
+          let u = start w.0 in (
+            inl u.0,
+            λ d so. let f = w.1 d so in
+                row_there x u.1.0 d so (SameStep Agree y) t (f.0, (u.1.1 d ∙ f.1.0, f.1.1)),
+          ))
 
       string : (Inside p → Told pieces.Double) → Again pieces.Double
-      string told = open_row pieces.Double Double tt _ (o2 + past_continuations U (to p)) q q_low (λ i. let j = before K p from i in (j, (told j, λ d. rw (here_behind K j) refl)))
+      string told = open_row pieces.Double Double tt _ (o2 + past_continuations U (to p)) q q_low
+          (λ i. let j = before K p from i in (j, (told j, λ d. rw (here_behind K j) refl)))
 
       q2_low : a ≤ behind T q
       q2_low = omega (arith, q_low, behind_low T q)
 
       arithmetic : (Inside p → Inside q → Inside (behind T q) → Told pieces.Arith) → Again pieces.Arith
       arithmetic told =
-          open_row pieces.Arith Arith tt _ (o2 + past_continuations U (to p)) (behind T (behind T q)) (omega (arith, q2_low, behind_low T (behind T q)))
+          open_row pieces.Arith Arith tt _ (o2 + past_continuations U (to p)) (behind T (behind T q))
+          (omega (arith, q2_low, behind_low T (behind T q)))
           (λ i. let l = before K (behind T q) q2_low i in
           let k = before K q q_low l in
           let j = before K p from k in
@@ -272,7 +331,8 @@ module _ {edition : Edition} {T U : List ℕ} {a L : ℕ} {to : ℕ → ℕ} (K 
       parameter : (Inside p → Inside q → Told pieces.Param) → Again pieces.Param
       parameter told =
           let r = past_parameter T (behind T q) in
-          open_row pieces.Param (rest_mode T mode r) (rest_closed r) _ (o2 + past_continuations U (to p)) r (omega (arith, q2_low, parameter_low T (behind T q)))
+          open_row pieces.Param (rest_mode T mode r) (rest_closed r) _ (o2 + past_continuations U (to p)) r
+          (omega (arith, q2_low, parameter_low T (behind T q)))
           (λ i. let w = parameter_in K (behind T q) q2_low i in
           let k = before K q q_low w.0 in
           let j = before K p from k in
@@ -283,45 +343,63 @@ module _ {edition : Edition} {T U : List ℕ} {a L : ℕ} {to : ℕ → ℕ} (K 
       substitution told =
           let k2 = o2 + past_continuations U (to p) in
           let inside = placed (behind T q) s in
-          holds_then (Holding (inner.substitution k2) c.substs inside) Turn (does (inner.substitution (o + past_continuations T p) c.substs) Whole g inside) (λ x t. Ok (again (having c.nested x), t))
+          holds_then (Holding (inner.substitution k2) c.substs inside) Turn
+          (does (inner.substitution (o + past_continuations T p) c.substs) Whole g inside)
+          (λ x t. Ok (again (having c.nested x), t))
           (local.substitution (o + past_continuations T p) k2 c.substs inside q2_low)
           (λ x t holding goal. let w = holding goal.0 in
           let k = before K q q_low w.0 in
           let j = before K p from k in (
             inl j,
             λ d so. let v = w.1 d.substs so.1 in
-                row_there pieces.Subst (told j k w.0) d so (SameStep Agree (again (having c.nested x))) t (again (having d.nested v.0), (rw (here_behind K j, here_behind K k, v.1.0) refl, (so.0, v.1.1))),
+                row_there pieces.Subst (told j k w.0) d so (SameStep Agree (again (having c.nested x))) t
+                (again (having d.nested v.0), (rw (here_behind K j, here_behind K k, v.1.0) refl, (so.0, v.1.1))),
           ))
 
       twice : is_byte (byte_at T q) 92 ≡ false → (Inside p → Inside q → Told pieces.Pid) → Again pieces.Pid
       twice e told goal =
           let j = clear K q q_low (omega (arith, goal.0, behind_is T q)) e in
-          let i = before K p from j in
-          (inl i, λ d so. row_there pieces.Pid (told i j) d so (SameStep Agree (again c)) (placed (behind T q) s) (again d, (rw (here_behind K i, here_behind K j) refl, so)))
+          let i = before K p from j in (
+            inl i,
+            λ d so. row_there pieces.Pid (told i j) d so (SameStep Agree (again c)) (placed (behind T q) s)
+                (again d, (rw (here_behind K i, here_behind K j) refl, so)),
+          )
 
       -- what closes a construct
-      closer : ((V : List ℕ) (r : ℕ) → past_closer V mode r ≡ behind V r) → is_byte (byte_at T p) 92 ≡ false → (Inside p → Told pieces.Closer) → Again pieces.Closer
+      closer : ((V : List ℕ) (r : ℕ) → past_closer V mode r ≡ behind V r) → is_byte (byte_at T p) 92 ≡ false →
+          (Inside p → Told pieces.Closer) → Again pieces.Closer
       closer one e told goal =
           let le = goal.0 in
-          let i = clear K p from (omega (arith, le, one T p, behind_is T p)) e in
-          (inl i, λ d so. row_there pieces.Closer (told i) d so (SameStep Agree (done c)) (placed (past_closer T mode p) s) (done d, (rw (one U (to p), one T p, here_behind K i) refl, so)))
+          let i = clear K p from (omega (arith, le, one T p, behind_is T p)) e in (
+            inl i,
+            λ d so. row_there pieces.Closer (told i) d so (SameStep Agree (done c))
+                (placed (past_closer T mode p) s) (done d, (rw (one U (to p), one T p, here_behind K i) refl, so)),
+          )
 
-      closer_two : ((V : List ℕ) (r : ℕ) → past_closer V mode r ≡ behind V (behind V r)) → is_byte (byte_at T q) 92 ≡ false → (Inside p → Inside q → Told pieces.Closer) → Again pieces.Closer
+      closer_two : ((V : List ℕ) (r : ℕ) → past_closer V mode r ≡ behind V (behind V r)) →
+          is_byte (byte_at T q) 92 ≡ false → (Inside p → Inside q → Told pieces.Closer) → Again pieces.Closer
       closer_two two e told goal =
           let le = goal.0 in
           let j = clear K q q_low (omega (arith, le, two T p, behind_is T q)) e in
-          let i = before K p from j in
-          (inl i, λ d so. row_there pieces.Closer (told i j) d so (SameStep Agree (done c)) (placed (past_closer T mode p) s) (done d, (rw (two U (to p), two T p, here_behind K i, here_behind K j) refl, so)))
+          let i = before K p from j in (
+            inl i,
+            λ d so. row_there pieces.Closer (told i j) d so (SameStep Agree (done c))
+                (placed (past_closer T mode p) s)
+                (done d, (rw (two U (to p), two T p, here_behind K i, here_behind K j) refl, so)),
+          )
 
       -- ---- by the byte
 
       -- a `$` that begins nothing
-      lone_dollar : is_byte (byte_at T q) 40 ≡ false → From mode q → (Inside q → piece_in edition mode (dollar_by U (to q) (byte_at U (to q))) ≡ pieces.Ordinary)
+      lone_dollar : is_byte (byte_at T q) 40 ≡ false → From mode q →
+          (Inside q → piece_in edition mode (dollar_by U (to q) (byte_at U (to q))) ≡ pieces.Ordinary)
           → piece_in edition mode (dollar_by U (to q) (byte_at U (to q))) ≡ pieces.Ordinary
       lone_dollar none next inside =
           ⊎_elim inside
           (λ end. ap (piece_in edition mode)
-          (limit_dollar (to q) (byte_at U (to q)) (subst (λ r. ends (byte_at U (to r)) ≡ true) (sym end.1) ender) (subst (λ r. is_byte (byte_at U (to r)) 40 ≡ false) (sym end.1) (no_open (subst (λ r. is_byte (byte_at T r) 40 ≡ false) end.1 none)))))
+          (limit_dollar (to q) (byte_at U (to q)) (subst (λ r. ends (byte_at U (to r)) ≡ true) (sym end.1) ender)
+          (subst (λ r. is_byte (byte_at U (to r)) 40 ≡ false) (sym end.1)
+          (no_open (subst (λ r. is_byte (byte_at T r) 40 ≡ false) end.1 none)))))
           next
 
       module _ (v : ℕ) (is : byte_at T p ≡ Some v) where
@@ -333,21 +411,31 @@ module _ {edition : Edition} {T U : List ℕ} {a L : ℕ} {to : ℕ → ℕ} (K 
           no_backslash = rw is e
 
           dollar_row : (v == 96) ≡ false → (v == 36) ≡ true → (y : Option ℕ) → byte_at T q ≡ y → Known (dollar_by T q y)
-          dollar_row f d None is2 = ordinary no_backslash lt (λ i next. dollar_piece mode n p v is e f d i ∙ lone_dollar (rw is2 refl) next (λ j. rw (here_byte K j, is2) refl))
+          dollar_row f d None is2 = ordinary no_backslash lt
+              (λ i next. dollar_piece mode n p v is e f d i
+              ∙ lone_dollar (rw is2 refl) next (λ j. rw (here_byte K j, is2) refl))
           dollar_row f d (Some w) is2 =
               cond_both (w == 36) _ _ Known
-              (λ m. twice (rw is2 (grind (arith, nat_tests))) (λ i j. dollar_piece mode n p v is e f d i ∙ rw (here_byte K j, is2, m) refl))
+              (λ m. twice (rw is2 (grind (arith, nat_tests)))
+              (λ i j. dollar_piece mode n p v is e f d i ∙ rw (here_byte K j, is2, m) refl))
               (λ m. cond_both (w == 40) _ _ Known
               (λ k. cond_both (stands T (behind T q) 40) _ _ Known
-              (λ z. arithmetic (λ i j l. dollar_piece mode n p v is e f d i ∙ rw (here_byte K j, is2, m, k, here_behind K j, here_stands K l 40, z) refl))
-              (λ z. substitution (λ i j l. dollar_piece mode n p v is e f d i ∙ rw (here_byte K j, is2, m, k, here_behind K j, here_stands K l 40, z) refl)))
+              (λ z. arithmetic (λ i j l. dollar_piece mode n p v is e f d i
+              ∙ rw (here_byte K j, is2, m, k, here_behind K j, here_stands K l 40, z) refl))
+              (λ z. substitution (λ i j l. dollar_piece mode n p v is e f d i
+              ∙ rw (here_byte K j, is2, m, k, here_behind K j, here_stands K l 40, z) refl)))
               (λ k. cond_both (w == 123) _ _ Known
               (λ z. parameter (λ i j. dollar_piece mode n p v is e f d i ∙ rw (here_byte K j, is2, m, k, z) refl))
               (λ z. cond_both (w == 39) _ _ Known
               (λ x. cond_both (is_later edition && quotes_singly mode) _ _ Again
-              (λ y. dollar_quoted no_backslash (rw is2 (grind (arith, nat_tests))) (λ i j. dollar_piece mode n p v is e f d i ∙ rw (here_byte K j, is2, m, k, z, x, y) refl))
-              (λ y. ordinary no_backslash lt (λ i next. dollar_piece mode n p v is e f d i ∙ lone_dollar (rw is2 k) next (λ j. rw (here_byte K j, is2, m, k, z, x, y) refl))))
-              (λ x. ordinary no_backslash lt (λ i next. dollar_piece mode n p v is e f d i ∙ lone_dollar (rw is2 k) next (λ j. rw (here_byte K j, is2, m, k, z, x) refl))))))
+              (λ y. dollar_quoted no_backslash (rw is2 (grind (arith, nat_tests)))
+              (λ i j. dollar_piece mode n p v is e f d i ∙ rw (here_byte K j, is2, m, k, z, x, y) refl))
+              (λ y. ordinary no_backslash lt
+              (λ i next. dollar_piece mode n p v is e f d i
+              ∙ lone_dollar (rw is2 k) next (λ j. rw (here_byte K j, is2, m, k, z, x, y) refl))))
+              (λ x. ordinary no_backslash lt
+              (λ i next. dollar_piece mode n p v is e f d i
+              ∙ lone_dollar (rw is2 k) next (λ j. rw (here_byte K j, is2, m, k, z, x) refl))))))
 
           backquote_told : (v == 96) ≡ true → Inside p → Told pieces.Backquote
           unfolding piece_at
@@ -371,11 +459,16 @@ module _ {edition : Edition} {T U : List ℕ} {a L : ℕ} {to : ℕ → ℕ} (K 
 
       word_end : AgainIn Plain pieces.Closer
       unfolding piece_at
-      word_end goal =
-          (inr (refl, goal.1 refl), λ d so. row_there inner local Plain b b2 c s from pieces.Closer (ended (goal.1 refl)) d so (SameStep Agree (done c)) (placed s.at s) (done d, (refl, so)))
+      word_end goal = (
+        inr (refl, goal.1 refl),
+        λ d so. row_there inner local Plain b b2 c s from pieces.Closer
+            (ended (goal.1 refl)) d so (SameStep Agree (done c)) (placed s.at s) (done d, (refl, so)),
+      )
         where
           ended : s.at ≡ L → piece_in edition Plain (piece_at U Plain c.nested (to s.at)) ≡ pieces.Closer
-          ended is = ap (piece_in edition Plain) (subst (λ r. piece_by U (to r) Plain c.nested (byte_at U (to r)) ≡ pieces.Closer) (sym is) (limit_piece (byte_at U (to L)) c.nested ender))
+          ended is = ap (piece_in edition Plain)
+              (subst (λ r. piece_by U (to r) Plain c.nested (byte_at U (to r)) ≡ pieces.Closer) (sym is)
+              (limit_piece (byte_at U (to L)) c.nested ender))
 
       none_row : (mode : Mode) → KnownIn mode (piece_by T s.at mode c.nested None)
       none_row Plain = word_end
@@ -391,41 +484,59 @@ module _ {edition : Edition} {T U : List ℕ} {a L : ℕ} {to : ℕ → ℕ} (K 
         clear_here : is_byte (byte_at T s.at) 92 ≡ false
         clear_here = rw is other.0
 
-        told : (mode : Mode) → Inside s.at → piece_in edition mode (piece_at U mode c.nested (to s.at)) ≡ piece_in edition mode (byte_by U (to s.at) mode c.nested v)
+        told : (mode : Mode) → Inside s.at →
+            piece_in edition mode (piece_at U mode c.nested (to s.at))
+            ≡ piece_in edition mode (byte_by U (to s.at) mode c.nested v)
         told mode i = other_piece mode c.nested s.at v is other i
 
         bracket_clear : (r : ℕ) → stands T r 41 ≡ true → is_byte (byte_at T r) 92 ≡ false
         unfolding stands
         bracket_clear r e = byte_other (byte_at T r) 41 92 refl e
 
-        bracket_row : (m : ℕ) → c.nested ≡ m → (two : Bool) → stands T (behind T s.at) 41 ≡ two → (v == 41) ≡ true → KnownIn Arith (bracket_by m two)
+        bracket_row : (m : ℕ) → c.nested ≡ m → (two : Bool) → stands T (behind T s.at) 41 ≡ two → (v == 41) ≡ true →
+            KnownIn Arith (bracket_by m two)
         bracket_row zero none true follows e =
             closer_two inner local Arith b b2 c s from (λ V r. refl) (bracket_clear (behind T s.at) follows)
             (λ i j. told Arith i ∙ rw (e, none, here_behind K i, here_stands K j 41, follows) refl)
         bracket_row zero none false follows e = tt
-        bracket_row (suc m) some_open x follows e = closing inner local Arith b b2 c s from clear_here some (λ i next. told Arith i ∙ rw (e, some_open) refl)
+        bracket_row (suc m) some_open x follows e =
+            closing inner local Arith b b2 c s from clear_here some (λ i next. told Arith i ∙ rw (e, some_open) refl)
 
         by_mode : (mode : Mode) → KnownIn mode (byte_by T s.at mode c.nested v)
         by_mode Plain =
             cond_both (ends (Some v)) _ _ (KnownIn Plain) (λ e. word_end)
-            (λ e. cond_both (v == 39) _ _ (KnownIn Plain) (λ f. quoted inner local Plain b b2 c s from clear_here (λ i. told Plain i ∙ rw (e, f) refl))
-            (λ f. cond_both (v == 34) _ _ (KnownIn Plain) (λ d. string inner local Plain b b2 c s from (λ i. told Plain i ∙ rw (e, f, d) refl))
-            (λ d. ordinary inner local Plain b b2 c s from clear_here some (λ i next. told Plain i ∙ rw (e, f, d) refl))))
+            (λ e. cond_both (v == 39) _ _ (KnownIn Plain)
+            (λ f. quoted inner local Plain b b2 c s from clear_here (λ i. told Plain i ∙ rw (e, f) refl))
+            (λ f. cond_both (v == 34) _ _ (KnownIn Plain)
+            (λ d. string inner local Plain b b2 c s from (λ i. told Plain i ∙ rw (e, f, d) refl))
+            (λ d. ordinary inner local Plain b b2 c s from clear_here some
+            (λ i next. told Plain i ∙ rw (e, f, d) refl))))
         by_mode Double =
-            cond_both (v == 34) _ _ (KnownIn Double) (λ e. closer inner local Double b b2 c s from (λ V r. refl) clear_here (λ i. told Double i ∙ rw e refl))
+            cond_both (v == 34) _ _ (KnownIn Double)
+            (λ e. closer inner local Double b b2 c s from (λ V r. refl) clear_here (λ i. told Double i ∙ rw e refl))
             (λ e. ordinary inner local Double b b2 c s from clear_here some (λ i next. told Double i ∙ rw e refl))
         by_mode Brace =
-            cond_both (v == 125) _ _ (KnownIn Brace) (λ e. closer inner local Brace b b2 c s from (λ V r. refl) clear_here (λ i. told Brace i ∙ rw e refl))
-            (λ e. cond_both (v == 39) _ _ (KnownIn Brace) (λ f. quoted inner local Brace b b2 c s from clear_here (λ i. told Brace i ∙ rw (e, f) refl))
-            (λ f. cond_both (v == 34) _ _ (KnownIn Brace) (λ d. string inner local Brace b b2 c s from (λ i. told Brace i ∙ rw (e, f, d) refl))
-            (λ d. ordinary inner local Brace b b2 c s from clear_here some (λ i next. told Brace i ∙ rw (e, f, d) refl))))
+            cond_both (v == 125) _ _ (KnownIn Brace)
+            (λ e. closer inner local Brace b b2 c s from (λ V r. refl) clear_here (λ i. told Brace i ∙ rw e refl))
+            (λ e. cond_both (v == 39) _ _ (KnownIn Brace)
+            (λ f. quoted inner local Brace b b2 c s from clear_here (λ i. told Brace i ∙ rw (e, f) refl))
+            (λ f. cond_both (v == 34) _ _ (KnownIn Brace)
+            (λ d. string inner local Brace b b2 c s from (λ i. told Brace i ∙ rw (e, f, d) refl))
+            (λ d. ordinary inner local Brace b b2 c s from clear_here some
+            (λ i next. told Brace i ∙ rw (e, f, d) refl))))
         by_mode DoubleBrace =
-            cond_both (v == 125) _ _ (KnownIn DoubleBrace) (λ e. closer inner local DoubleBrace b b2 c s from (λ V r. refl) clear_here (λ i. told DoubleBrace i ∙ rw e refl))
-            (λ e. cond_both (v == 34) _ _ (KnownIn DoubleBrace) (λ d. string inner local DoubleBrace b b2 c s from (λ i. told DoubleBrace i ∙ rw (e, d) refl))
-            (λ d. ordinary inner local DoubleBrace b b2 c s from clear_here some (λ i next. told DoubleBrace i ∙ rw (e, d) refl)))
+            cond_both (v == 125) _ _ (KnownIn DoubleBrace)
+            (λ e. closer inner local DoubleBrace b b2 c s from (λ V r. refl) clear_here
+            (λ i. told DoubleBrace i ∙ rw e refl))
+            (λ e. cond_both (v == 34) _ _ (KnownIn DoubleBrace)
+            (λ d. string inner local DoubleBrace b b2 c s from (λ i. told DoubleBrace i ∙ rw (e, d) refl))
+            (λ d. ordinary inner local DoubleBrace b b2 c s from clear_here some
+            (λ i next. told DoubleBrace i ∙ rw (e, d) refl)))
         by_mode Arith =
-            cond_both (v == 41) _ _ (KnownIn Arith) (λ e. bracket_row c.nested refl (stands T (behind T s.at) 41) refl e)
-            (λ e. cond_both (v == 40) _ _ (KnownIn Arith) (λ f. opening inner local Arith b b2 c s from clear_here some (λ i next. told Arith i ∙ rw (e, f) refl))
+            cond_both (v == 41) _ _ (KnownIn Arith)
+            (λ e. bracket_row c.nested refl (stands T (behind T s.at) 41) refl e)
+            (λ e. cond_both (v == 40) _ _ (KnownIn Arith)
+            (λ f. opening inner local Arith b b2 c s from clear_here some (λ i next. told Arith i ∙ rw (e, f) refl))
             (λ f. ordinary inner local Arith b b2 c s from clear_here some (λ i next. told Arith i ∙ rw (e, f) refl)))
 
       by_byte : (mode : Mode) (x : Option ℕ) → byte_at T s.at ≡ x → KnownIn mode (piece_by T s.at mode c.nested x)
@@ -440,13 +551,18 @@ module _ {edition : Edition} {T U : List ℕ} {a L : ℕ} {to : ℕ → ℕ} (K 
 
     module _ (inner : Inner) (local : Local inner) where
       pieces_in : (mode : Mode) (b b2 : ℕ) (c : WordSoFar) (s : State) → a ≤ s.at
-          → Holds (Looped K o o2 Agree (a_piece inner mode b) (a_piece inner mode b2) (From mode) (Last mode) c s) (does (loop (a_piece inner mode b) c) Whole g s)
+          → Holds (Looped K o o2 Agree (a_piece inner mode b) (a_piece inner mode b2) (From mode) (Last mode) c s)
+          (does (loop (a_piece inner mode b) c) Whole g s)
       pieces_in mode b b2 c s from =
-          looped K o o2 Agree (a_piece inner mode b) (a_piece inner mode b2) (From mode) (Last mode) (from_high mode) (last_high mode) (λ d t low. piece_turn inner local b b2 d t low mode) c s from
+          looped K o o2 Agree (a_piece inner mode b) (a_piece inner mode b2) (From mode) (Last mode) (from_high mode)
+          (last_high mode) (λ d t low. piece_turn inner local b b2 d t low mode) c s from
 
       -- where the pieces of a word that ends at the limit begin
-      pub word_from : (b : ℕ) (c : WordSoFar) (s : State) → a ≤ s.at → Holds (λ x t. t.at ≡ L → From Plain s.at) (does (loop (a_piece inner Plain b) c) Whole g s)
-      word_from b c s from = holds_so _ (λ x t. t.at ≡ L → From Plain s.at) (does (loop (a_piece inner Plain b) c) Whole g s) (pieces_in Plain b b c s from) (λ x t ends is. (ends (omega (arith, is), λ e. is)).0)
+      pub word_from : (b : ℕ) (c : WordSoFar) (s : State) → a ≤ s.at →
+          Holds (λ x t. t.at ≡ L → From Plain s.at) (does (loop (a_piece inner Plain b) c) Whole g s)
+      word_from b c s from = holds_so _ (λ x t. t.at ≡ L → From Plain s.at)
+          (does (loop (a_piece inner Plain b) c) Whole g s) (pieces_in Plain b b c s from)
+          (λ x t ends is. (ends (omega (arith, is), λ e. is)).0)
 
       last_of : (mode : Mode) → Closed mode → (r : ℕ) → r ≤ L → Last mode r
       last_of mode closed r le = (le, λ e. absurd (not_plain mode closed e))
@@ -454,18 +570,28 @@ module _ {edition : Edition} {T U : List ℕ} {a L : ℕ} {to : ℕ → ℕ} (K 
       in_of : (mode : Mode) → Closed mode → (r : ℕ) → From mode r → Inside r
       in_of mode closed r from = ⊎_elim (λ i. i) (λ e. absurd (not_plain mode closed e.0)) from
 
-      pub construct_in : (mode : Mode) → Closed mode → (b b2 : ℕ) (ss : Row ASubst) (s : State) → a ≤ s.at → Holds (Holding (contents inner mode b2) ss s) (does (contents inner mode b ss) Whole g s)
+      pub construct_in : (mode : Mode) → Closed mode → (b b2 : ℕ) (ss : Row ASubst) (s : State) → a ≤ s.at →
+          Holds (Holding (contents inner mode b2) ss s) (does (contents inner mode b ss) Whole g s)
       unfolding contents many
       construct_in mode closed b b2 ss s from =
-          holds_then _ (Holding (contents inner mode b2) ss s) (does (loop (a_piece inner mode b) (having 0 ss)) Whole g s) (λ c t. Ok (c.substs, t)) (pieces_in mode b b2 (having 0 ss) s from)
-          (λ c t ends le. let w = ends (last_of mode closed t.at le) in (in_of mode closed s.at w.0, λ zs same. let f = w.1 (having 0 zs) (refl, same) in (f.0.substs, (rw f.1.0 refl, f.1.1.1))))
+          holds_then _ (Holding (contents inner mode b2) ss s)
+          (does (loop (a_piece inner mode b) (having 0 ss)) Whole g s) (λ c t. Ok (c.substs, t))
+          (pieces_in mode b b2 (having 0 ss) s from)
+          (λ c t ends le. let w = ends (last_of mode closed t.at le) in (
+            in_of mode closed s.at w.0,
+            λ zs same. let f = w.1 (having 0 zs) (refl, same) in
+                (f.0.substs, (rw f.1.0 refl, f.1.1.1)),
+          ))
 
       -- a word that ends at the limit
       abbrev pub Ended : ℕ → State → Row ASubst → State → Type 0
-      Ended b2 s x t = t.at ≡ L → (y : Row ASubst) × ((does (contents inner Plain b2 []) Whole h (over s) ≡ Ok (y, over t)) × SameSubsts x y)
+      Ended b2 s x t = t.at ≡ L → (y : Row ASubst)
+          × ((does (contents inner Plain b2 []) Whole h (over s) ≡ Ok (y, over t)) × SameSubsts x y)
 
       pub word_in : (b b2 : ℕ) (s : State) → a ≤ s.at → Holds (Ended b2 s) (does (contents inner Plain b []) Whole g s)
       unfolding contents many
       word_in b b2 s from =
-          holds_then _ (Ended b2 s) (does (loop (a_piece inner Plain b) (having 0 [])) Whole g s) (λ c t. Ok (c.substs, t)) (pieces_in Plain b b2 (having 0 []) s from)
-          (λ c t ends is. let f = (ends (omega (arith, is), λ e. is)).1 (having 0 []) (refl, refl) in (f.0.substs, (rw f.1.0 refl, f.1.1.1)))
+          holds_then _ (Ended b2 s) (does (loop (a_piece inner Plain b) (having 0 [])) Whole g s)
+          (λ c t. Ok (c.substs, t)) (pieces_in Plain b b2 (having 0 []) s from)
+          (λ c t ends is. let f = (ends (omega (arith, is), λ e. is)).1 (having 0 []) (refl, refl) in
+          (f.0.substs, (rw f.1.0 refl, f.1.1.1)))

@@ -26,7 +26,8 @@ unfolding count_joined
 joined_short [] = omega arith
 joined_short (b ∷ []) = omega arith
 joined_short (b ∷ c ∷ bs) =
-    cond_both (b == 92 && c == 10) _ _ (λ n. n ≤ length (b ∷ c ∷ bs)) (λ e. omega (arith, joined_short bs)) (λ e. omega arith)
+    cond_both (b == 92 && c == 10) _ _ (λ n. n ≤ length (b ∷ c ∷ bs)) (λ e. omega (arith, joined_short bs))
+    (λ e. omega arith)
 
 -- and no more follow them
 joined_rest : (xs : List ℕ) → count_joined (drop (count_joined xs) xs) ≡ 0
@@ -35,7 +36,8 @@ joined_rest [] = refl
 joined_rest (b ∷ []) = refl
 joined_rest (b ∷ c ∷ bs) =
     let next : 2 + count_joined bs ≡ suc (suc (count_joined bs)) = omega arith in
-    cond_both (b == 92 && c == 10) _ _ (λ n. count_joined (drop n (b ∷ c ∷ bs)) ≡ 0) (λ e. rw next (joined_rest bs)) (λ e. rw e refl)
+    cond_both (b == 92 && c == 10) _ _ (λ n. count_joined (drop n (b ∷ c ∷ bs)) ≡ 0) (λ e. rw next (joined_rest bs))
+    (λ e. rw e refl)
 
 -- past continuations is not past the end of the text
 pub place_high : (T : List ℕ) (p : ℕ) → p ≤ length T → past_continuations T p ≤ length T
@@ -51,7 +53,8 @@ place_same T p =
     omega (arith, none)
 
 -- the same of a byte of a class
-pub stands_in_past : (test : ℕ → Bool) (T : List ℕ) (p : ℕ) → stands_in test T (past_continuations T p) ≡ stands_in test T p
+pub stands_in_past : (test : ℕ → Bool) (T : List ℕ) (p : ℕ) →
+    stands_in test T (past_continuations T p) ≡ stands_in test T p
 unfolding stands_in
 stands_in_past test T p = ap (λ q. passes test (slice_get T q)) (place_same T p)
 
@@ -83,7 +86,8 @@ unfolding at_end
 not_end_low T p e = some_low T p (slice_get T p) refl e
 
 none_high : (T : List ℕ) (p : ℕ) → slice_get T p ≡ None → length T ≤ p
-none_high T p is = ⊎_elim (λ lt. let some : None ≡ Some (get_or T p 0) = sym is ∙ slice_get-get_or T p 0 lt in absurd cc) (λ ge. ge) (cases_lt p (length T))
+none_high T p is = ⊎_elim (λ lt. let some : None ≡ Some (get_or T p 0) = sym is ∙ slice_get-get_or T p 0 lt in
+    absurd cc) (λ ge. ge) (cases_lt p (length T))
 
 -- where the text ends there is none
 pub end_high : (T : List ℕ) (p : ℕ) → at_end T p ≡ true → length T ≤ p
@@ -120,7 +124,8 @@ behind_back T p = omega arith
 count_short : (test : ℕ → Bool) (xs : List ℕ) → count_front test xs ≤ length xs
 unfolding count_front
 count_short test [] = omega arith
-count_short test (b ∷ bs) = cond_both (test b) _ _ (λ n. n ≤ length (b ∷ bs)) (λ e. omega (arith, count_short test bs)) (λ e. omega arith)
+count_short test (b ∷ bs) = cond_both (test b) _ _ (λ n. n ≤ length (b ∷ bs)) (λ e. omega (arith, count_short test bs))
+    (λ e. omega arith)
 
 -- the first byte that is not counted fails the test
 count_stops : (test : ℕ → Bool) (xs : List ℕ) → passes test (slice_get xs (count_front test xs)) ≡ false
@@ -128,11 +133,14 @@ unfolding count_front
 count_stops test [] = refl
 count_stops test (b ∷ bs) =
     let next : 1 + count_front test bs ≡ suc (count_front test bs) = omega arith in
-    cond_both (test b) _ _ (λ n. passes test (slice_get (b ∷ bs) n) ≡ false) (λ e. rw next (count_stops test bs)) (λ e. e)
+    cond_both (test b) _ _ (λ n. passes test (slice_get (b ∷ bs) n) ≡ false) (λ e. rw next (count_stops test bs))
+    (λ e. e)
 
 -- each byte that is counted passes
-counted : (test : ℕ → Bool) (b : ℕ) (bs : List ℕ) (n : ℕ) (x : Bool) → test b ≡ x → n < cond x (1 + count_front test bs) 0
-    → ((m : ℕ) → m < count_front test bs → passes test (slice_get bs m) ≡ true) → passes test (slice_get (b ∷ bs) n) ≡ true
+counted : (test : ℕ → Bool) (b : ℕ) (bs : List ℕ) (n : ℕ) (x : Bool) → test b ≡ x →
+    n < cond x (1 + count_front test bs) 0
+    → ((m : ℕ) → m < count_front test bs → passes test (slice_get bs m) ≡ true) →
+    passes test (slice_get (b ∷ bs) n) ≡ true
 counted test b bs zero true e lt rest = e
 counted test b bs (suc n) true e lt rest = rest n (omega arith)
 counted test b bs n false e lt rest = absurd (omega arith)
@@ -155,14 +163,16 @@ raw_past_high test T p within = omega (arith, count_short test (drop p T), lengt
 -- behind a stretch there is no byte of its kind
 pub raw_past_stops : (test : ℕ → Bool) (T : List ℕ) (p : ℕ) → raw_in test T (raw_past test T p) ≡ false
 unfolding raw_past raw_in
-raw_past_stops test T p = ap (passes test) (sym (get_drop p T (count_front test (drop p T)))) ∙ count_stops test (drop p T)
+raw_past_stops test T p = ap (passes test) (sym (get_drop p T (count_front test (drop p T))))
+    ∙ count_stops test (drop p T)
 
 -- each byte of a stretch is of its kind
 pub raw_past_all : (test : ℕ → Bool) (T : List ℕ) (p k : ℕ) → p ≤ k → k < raw_past test T p → raw_in test T k ≡ true
 unfolding raw_past raw_in
 raw_past_all test T p k low high =
     let there : p + (k - p) ≡ k = omega (arith, low) in
-    ap (λ i. passes test (slice_get T i)) (sym there) ∙ ap (passes test) (sym (get_drop p T (k - p))) ∙ count_all test (drop p T) (k - p) (omega (arith, low, high))
+    ap (λ i. passes test (slice_get T i)) (sym there) ∙ ap (passes test) (sym (get_drop p T (k - p)))
+    ∙ count_all test (drop p T) (k - p) (omega (arith, low, high))
 
 -- the next place of a byte
 pub next_of_low : (c : ℕ) (T : List ℕ) (p : ℕ) → p ≤ next_of c T p
@@ -191,7 +201,8 @@ below_low : (n : ℕ) (test : ℕ → Bool) (T : List ℕ) (p : ℕ) → p ≤ p
 unfolding past_below
 below_low zero test T p = omega arith
 below_low (suc n) test T p =
-    cond_both (stands_in test T p) _ _ (λ q. p ≤ q) (λ e. omega (arith, below_low n test T (behind T p), behind_low T p)) (λ e. omega arith)
+    cond_both (stands_in test T p) _ _ (λ q. p ≤ q)
+    (λ e. omega (arith, below_low n test T (behind T p), behind_low T p)) (λ e. omega arith)
 
 -- a stretch does not end before it begins
 pub past_low : (test : ℕ → Bool) (T : List ℕ) (p : ℕ) → p ≤ past test T p
@@ -212,10 +223,12 @@ unfolding past
 past_high test T p within = below_high (length T - p) test T p within
 
 -- by how many bytes may be read
-below_stops : (n : ℕ) (test : ℕ → Bool) (T : List ℕ) (p : ℕ) → length T - p ≤ n → stands_in test T (past_below n test T p) ≡ false
+below_stops : (n : ℕ) (test : ℕ → Bool) (T : List ℕ) (p : ℕ) → length T - p ≤ n →
+    stands_in test T (past_below n test T p) ≡ false
 unfolding past_below
 below_stops zero test T p low =
-    must_fail (stands_in test T p) (λ e. let lt = stands_in_low test T p e in let at = place_low T p in absurd (omega arith))
+    must_fail (stands_in test T p)
+    (λ e. let lt = stands_in_low test T p e in let at = place_low T p in absurd (omega arith))
 below_stops (suc n) test T p low =
     cond_both (stands_in test T p) _ _ (λ q. stands_in test T q ≡ false)
     (λ e. below_stops n test T (behind T p) (omega (arith, behind_low T p))) (λ e. e)
@@ -266,20 +279,24 @@ parameter_high T p within =
     let P : ℕ → Type 0 = λ q. q ≤ length T in
     cond_both (stands_in is_letter T p) _ _ P (λ e. past_high is_name T p within)
     (λ e. cond_both (stands_in is_digit T p) _ _ P (λ f. past_high is_digit T p within)
-    (λ f. cond_both (stands_in is_special T p) _ _ P (λ g. behind_high T p (stands_in_low is_special T p g)) (λ g. within)))
+    (λ f. cond_both (stands_in is_special T p) _ _ P (λ g. behind_high T p (stands_in_low is_special T p g))
+    (λ g. within)))
 
 -- two words do not end where only one does
 pub word_longer : (T : List ℕ) (p q : ℕ) → p ≤ q → ends_word T p ≡ false → ends_word T q ≡ true → p < q
 word_longer T p q low here there =
-    ⊎_elim (λ lt. lt) (λ ge. let same : q ≡ p = omega (arith, ge) in absurd (both_ways (ends_word T p) here (rw same at there))) (cases_lt p q)
+    ⊎_elim (λ lt. lt) (λ ge. let same : q ≡ p = omega (arith, ge) in
+    absurd (both_ways (ends_word T p) here (rw same at there))) (cases_lt p q)
 
 -- ---- the end
 
 no_byte : (T : List ℕ) (p : ℕ) → is_none (slice_get T p) ≡ true → length T ≤ p
-no_byte T p e = ⊎_elim (λ lt. absurd (both_ways _ refl (rw (slice_get-get_or T p 0 lt) at e))) (λ ge. ge) (cases_lt p (length T))
+no_byte T p e = ⊎_elim (λ lt. absurd (both_ways _ refl (rw (slice_get-get_or T p 0 lt) at e))) (λ ge. ge)
+    (cases_lt p (length T))
 
 -- where the text from `at` on ends
-pub end_is : (B : List ℕ) (at p : ℕ) → at ≤ length B → p ≤ length (drop at B) → at_end (drop at B) p ≡ true → at + p ≡ length B
+pub end_is : (B : List ℕ) (at p : ℕ) → at ≤ length B → p ≤ length (drop at B) → at_end (drop at B) p ≡ true →
+    at + p ≡ length B
 unfolding at_end
 end_is B at p within inside e = omega (arith, within, inside, no_byte (drop at B) p e, length-drop at B)
 
@@ -296,15 +313,19 @@ quote_clear T p = quote_other (slice_get T (next_of 39 T p)) (raw_past_stops (λ
 
 -- ---- text in which a backslash takes one byte
 
-backslash_by : (how : Escaping) (b : Option ℕ) → is_none b ≡ false → is_byte b (closes_by how) ≡ false → passes (λ c. not (c == closes_by how || c == 92)) b ≡ false → is_byte b 92 ≡ true
+backslash_by : (how : Escaping) (b : Option ℕ) → is_none b ≡ false → is_byte b (closes_by how) ≡ false →
+    passes (λ c. not (c == closes_by how || c == 92)) b ≡ false → is_byte b 92 ≡ true
 backslash_by how None some other e = absurd cc
 backslash_by escapings.Backquotes (Some b) some other e = grind (arith, nat_tests)
 backslash_by escapings.DollarSingle (Some b) some other e = grind (arith, nat_tests)
 
 -- what stops a search in it and does not close it is a backslash
-pub backslash_next : (how : Escaping) (T : List ℕ) (p : ℕ) → at_end T (next_escaped how T p) ≡ false → raw_stands T (next_escaped how T p) (closes_by how) ≡ false → raw_stands T (next_escaped how T p) 92 ≡ true
+pub backslash_next : (how : Escaping) (T : List ℕ) (p : ℕ) → at_end T (next_escaped how T p) ≡ false →
+    raw_stands T (next_escaped how T p) (closes_by how) ≡ false → raw_stands T (next_escaped how T p) 92 ≡ true
 unfolding raw_stands raw_in at_end
-backslash_next how T p some other = backslash_by how (slice_get T (next_escaped how T p)) some other (raw_past_stops (λ c. not (c == closes_by how || c == 92)) T p)
+backslash_next how T p some other =
+    backslash_by how (slice_get T (next_escaped how T p)) some other
+    (raw_past_stops (λ c. not (c == closes_by how || c == 92)) T p)
 
 closer_by : (how : Escaping) (b : Option ℕ) → is_byte b (closes_by how) ≡ true → is_byte b 92 ≡ false
 closer_by how None e = absurd cc
@@ -312,6 +333,7 @@ closer_by escapings.Backquotes (Some b) e = grind (arith, nat_tests)
 closer_by escapings.DollarSingle (Some b) e = grind (arith, nat_tests)
 
 -- what closes it is no backslash
-pub closer_is : (how : Escaping) (T : List ℕ) (p : ℕ) → raw_stands T p (closes_by how) ≡ true → raw_stands T p 92 ≡ false
+pub closer_is : (how : Escaping) (T : List ℕ) (p : ℕ) → raw_stands T p (closes_by how) ≡ true →
+    raw_stands T p 92 ≡ false
 unfolding raw_stands
 closer_is how T p e = closer_by how (slice_get T p) e

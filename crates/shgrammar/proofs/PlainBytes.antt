@@ -48,7 +48,8 @@ plain_stays b plain =
     let double = or_parts (ends (Some b) || b == 39) (b == 34) q.3 in
     (or_parts (ends (Some b)) (b == 39) double.0).0
 
-pub ordinary_by : (T : List ℕ) (p : ℕ) (mode : Mode) (n b : ℕ) → is_plain mode b ≡ true → piece_by T p mode n (Some b) ≡ pieces.Ordinary
+pub ordinary_by : (T : List ℕ) (p : ℕ) (mode : Mode) (n b : ℕ) → is_plain mode b ≡ true →
+    piece_by T p mode n (Some b) ≡ pieces.Ordinary
 ordinary_by T p Plain n b plain =
     let q = others (b == 92) (b == 96) (b == 36) (is_special_in Plain b) plain in
     let double = or_parts (ends (Some b) || b == 39) (b == 34) q.3 in
@@ -71,7 +72,8 @@ ordinary_by T p Arith n b plain =
     let brackets = or_parts (b == 41) (b == 40) q.3 in
     rw (q.0, q.1, q.2, brackets.0, brackets.1) refl
 
-ordinary_at : (T : List ℕ) (p : ℕ) (mode : Mode) (n : ℕ) (a : Option ℕ) → passes (is_plain mode) a ≡ true → piece_by T p mode n a ≡ pieces.Ordinary
+ordinary_at : (T : List ℕ) (p : ℕ) (mode : Mode) (n : ℕ) (a : Option ℕ) → passes (is_plain mode) a ≡ true →
+    piece_by T p mode n a ≡ pieces.Ordinary
 ordinary_at T p mode n None plain = absurd cc
 ordinary_at T p mode n (Some b) plain = ordinary_by T p mode n b plain
 
@@ -124,21 +126,25 @@ module _ (inner : Inner) (keep : Keep) (g : Given) (mode : Mode) (b : ℕ) (ws :
   abbrev all_from : Row Waiting → Row Span → WordSoFar → ℕ → Read WordSoFar
   all_from vs es h p = does (many (a_piece inner mode b) h) keep g (placed vs es p)
 
-  plain_piece : (h : WordSoFar) (p : ℕ) → raw_in (is_plain mode) g.text p ≡ true → turn h (placed ws ds p) ≡ Ok (again h, placed ws ds (p + 1))
+  plain_piece : (h : WordSoFar) (p : ℕ) → raw_in (is_plain mode) g.text p ≡ true →
+      turn h (placed ws ds p) ≡ Ok (again h, placed ws ds (p + 1))
   unfolding a_piece piece_at behind
   plain_piece h p plain =
       let same = stays (is_plain mode) g.text p (no_backslash mode) plain in
       let ordinary : piece_by g.text p mode h.nested (byte_at g.text p) ≡ pieces.Ordinary =
-      ap (λ q. piece_by g.text p mode h.nested (slice_get g.text q)) same ∙ ordinary_at g.text p mode h.nested (slice_get g.text p) (unfold raw_in in plain) in
+      ap (λ q. piece_by g.text p mode h.nested (slice_get g.text q)) same
+      ∙ ordinary_at g.text p mode h.nested (slice_get g.text p) (unfold raw_in in plain) in
       rw (ordinary, same) refl
 
-  plain_run : (h : WordSoFar) (p m : ℕ) → ArePlain mode g.text p (p + m) → p + m ≤ length g.text → all h p ≡ all h (p + m)
+  plain_run : (h : WordSoFar) (p m : ℕ) → ArePlain mode g.text p (p + m) → p + m ≤ length g.text →
+      all h p ≡ all h (p + m)
   plain_run h p zero plain high =
       let same : p + zero ≡ p = omega arith in
       ap (all h) (sym same)
   plain_run h p (suc m) plain high =
       let next : p + 1 + m ≡ p + suc m = omega arith in
-      many_again (a_piece inner mode b) keep g h h (placed ws ds p) (placed ws ds (p + 1)) (plain_piece h p (plain p (omega arith) (omega arith))) (omega arith) (omega arith)
+      many_again (a_piece inner mode b) keep g h h (placed ws ds p) (placed ws ds (p + 1))
+      (plain_piece h p (plain p (omega arith) (omega arith))) (omega arith) (omega arith)
       ∙ plain_run h (p + 1) m (λ k low below. plain k (omega arith) (omega arith)) (omega arith)
       ∙ ap (all h) next
 
@@ -148,71 +154,105 @@ module _ (inner : Inner) (keep : Keep) (g : Given) (mode : Mode) (b : ℕ) (ws :
       plain_run h p (q - p) (λ k k_low k_high. plain k k_low (omega (arith, k_high))) (omega arith) ∙ ap (all h) there
 
   -- one piece, and the plain bytes behind it
-  pub piece_and_plain : (h i : WordSoFar) (vs : Row Waiting) (es : Row Span) (p q r : ℕ) (x : Read WordSoFar) → all_from vs es h p ≡ x → turn h (placed vs es p) ≡ Ok (again i, placed ws ds q) → p < q → q ≤ length g.text
+  pub piece_and_plain : (h i : WordSoFar) (vs : Row Waiting) (es : Row Span) (p q r : ℕ) (x : Read WordSoFar) →
+      all_from vs es h p ≡ x → turn h (placed vs es p) ≡ Ok (again i, placed ws ds q) → p < q → q ≤ length g.text
       → ArePlain mode g.text q r → q ≤ r → r ≤ length g.text → all i r ≡ x
   piece_and_plain h i vs es p q r x before piece onward within plain low high =
-      sym (plain_turns i q r plain low high) ∙ sym (many_again (a_piece inner mode b) keep g h i (placed vs es p) (placed ws ds q) piece onward within) ∙ before
+      sym (plain_turns i q r plain low high)
+      ∙ sym (many_again (a_piece inner mode b) keep g h i (placed vs es p) (placed ws ds q) piece onward within)
+      ∙ before
 
   -- the last piece
-  pub contents_done : (h : WordSoFar) (ss : Row ASubst) (vs : Row Waiting) (es : Row Span) (p s q : ℕ) → all h p ≡ all_from vs es (having 0 ss) s → turn h (placed ws ds p) ≡ Ok (done h, placed ws ds q)
+  pub contents_done : (h : WordSoFar) (ss : Row ASubst) (vs : Row Waiting) (es : Row Span) (p s q : ℕ) →
+      all h p ≡ all_from vs es (having 0 ss) s → turn h (placed ws ds p) ≡ Ok (done h, placed ws ds q)
       → does (contents inner mode b ss) keep g (placed vs es s) ≡ Ok (h.substs, placed ws ds q)
   unfolding contents
-  contents_done h ss vs es p s q so last = ap given_by (sym so ∙ many_done (a_piece inner mode b) keep g h h (placed ws ds p) (placed ws ds q) last)
+  contents_done h ss vs es p s q so last =
+      ap given_by (sym so ∙ many_done (a_piece inner mode b) keep g h h (placed ws ds p) (placed ws ds q) last)
 
   -- plain bytes, and what closes behind them
-  pub plain_closed : (ss : Row ASubst) (p q : ℕ) → ArePlain mode g.text p q → p ≤ q → q ≤ length g.text → piece_in g.edition mode (piece_at g.text mode 0 q) ≡ pieces.Closer
+  pub plain_closed : (ss : Row ASubst) (p q : ℕ) → ArePlain mode g.text p q → p ≤ q → q ≤ length g.text →
+      piece_in g.edition mode (piece_at g.text mode 0 q) ≡ pieces.Closer
       → does (contents inner mode b ss) keep g (placed ws ds p) ≡ Ok (ss, placed ws ds (past_closer g.text mode q))
   unfolding contents a_piece
   plain_closed ss p q plain low high end =
-      ap given_by (plain_turns (having 0 ss) p q plain low high ∙ many_done (a_piece inner mode b) keep g (having 0 ss) (having 0 ss) (placed ws ds q) (placed ws ds (past_closer g.text mode q)) (rw end refl))
+      ap given_by (plain_turns (having 0 ss) p q plain low high
+      ∙ many_done (a_piece inner mode b) keep g (having 0 ss) (having 0 ss) (placed ws ds q)
+      (placed ws ds (past_closer g.text mode q)) (rw end refl))
 
-  ordinary_piece : (h : WordSoFar) (p : ℕ) → piece_in g.edition mode (piece_at g.text mode h.nested p) ≡ pieces.Ordinary → turn h (placed ws ds p) ≡ Ok (again h, placed ws ds (past_continuations g.text p + 1))
+  ordinary_piece : (h : WordSoFar) (p : ℕ) → piece_in g.edition mode (piece_at g.text mode h.nested p) ≡ pieces.Ordinary
+      → turn h (placed ws ds p) ≡ Ok (again h, placed ws ds (past_continuations g.text p + 1))
   unfolding a_piece behind
   ordinary_piece h p ordinary = rw ordinary refl
 
   -- an ordinary byte, and the plain ones behind it
-  pub ordinary_contents : (ss : Row ASubst) (p q : ℕ) → piece_in g.edition mode (piece_at g.text mode 0 p) ≡ pieces.Ordinary → ArePlain mode g.text (past_continuations g.text p + 1) q
-      → past_continuations g.text p + 1 ≤ q → q ≤ length g.text → does (contents inner mode b ss) keep g (placed ws ds p) ≡ does (contents inner mode b ss) keep g (placed ws ds q)
+  pub ordinary_contents : (ss : Row ASubst) (p q : ℕ) →
+      piece_in g.edition mode (piece_at g.text mode 0 p) ≡ pieces.Ordinary →
+      ArePlain mode g.text (past_continuations g.text p + 1) q
+      → past_continuations g.text p + 1 ≤ q → q ≤ length g.text →
+      does (contents inner mode b ss) keep g (placed ws ds p)
+      ≡ does (contents inner mode b ss) keep g (placed ws ds q)
   unfolding contents
   ordinary_contents ss p q ordinary plain low high =
       let h = having 0 ss in
       let r = past_continuations g.text p + 1 in
-      ap given_by (many_again (a_piece inner mode b) keep g h h (placed ws ds p) (placed ws ds r) (ordinary_piece h p ordinary) (omega (arith, place_low g.text p)) (omega (arith, low, high))
+      ap given_by (many_again (a_piece inner mode b) keep g h h (placed ws ds p) (placed ws ds r)
+      (ordinary_piece h p ordinary) (omega (arith, place_low g.text p)) (omega (arith, low, high))
       ∙ plain_turns h r q plain low high)
 
   -- plain bytes, and what stands behind them
   pub plain_contents : (ss : Row ASubst) (p q : ℕ) → ArePlain mode g.text p q → p ≤ q → q ≤ length g.text
-      → does (contents inner mode b ss) keep g (placed ws ds p) ≡ does (contents inner mode b ss) keep g (placed ws ds q)
+      → does (contents inner mode b ss) keep g (placed ws ds p)
+      ≡ does (contents inner mode b ss) keep g (placed ws ds q)
   unfolding contents
   plain_contents ss p q plain low high = ap given_by (plain_turns (having 0 ss) p q plain low high)
 
 -- what closes a construct
-pub closed_here : (edition : Edition) → (inner : Inner) (keep : Keep) (ws : Row Waiting) (ds : Row Span) (T : List ℕ) (o : ℕ) (mode : Mode) (b : ℕ) (ss : Row ASubst) (q : ℕ) → q ≤ length T → piece_in edition mode (piece_at T mode 0 q) ≡ pieces.Closer
-    → does (contents inner mode b ss) keep (given edition T o) (placed ws ds q) ≡ Ok (ss, placed ws ds (past_closer T mode q))
+pub closed_here : (edition : Edition) →
+    (inner : Inner) (keep : Keep) (ws : Row Waiting) (ds : Row Span) (T : List ℕ) (o : ℕ) (mode : Mode) (b : ℕ)
+    (ss : Row ASubst) (q : ℕ) → q ≤ length T → piece_in edition mode (piece_at T mode 0 q) ≡ pieces.Closer
+    → does (contents inner mode b ss) keep (given edition T o) (placed ws ds q)
+    ≡ Ok (ss, placed ws ds (past_closer T mode q))
 closed_here edition inner keep ws ds T o mode b ss q high end =
-    plain_closed inner keep (given edition T o) mode b ws ds ss q q (λ k low below. absurd (omega (arith, low, below))) (omega arith) high end
+    plain_closed inner keep (given edition T o) mode b ws ds ss q q (λ k low below. absurd (omega (arith, low, below)))
+    (omega arith) high end
 
 -- an ordinary byte, and the plain ones behind it
-pub ordinary_here : (edition : Edition) → (inner : Inner) (keep : Keep) (ws : Row Waiting) (ds : Row Span) (T : List ℕ) (o : ℕ) (mode : Mode) (b : ℕ) (ss : Row ASubst) (p q : ℕ) → piece_in edition mode (piece_at T mode 0 p) ≡ pieces.Ordinary
+pub ordinary_here : (edition : Edition) →
+    (inner : Inner) (keep : Keep) (ws : Row Waiting) (ds : Row Span) (T : List ℕ) (o : ℕ) (mode : Mode) (b : ℕ)
+    (ss : Row ASubst) (p q : ℕ) → piece_in edition mode (piece_at T mode 0 p) ≡ pieces.Ordinary
     → ArePlain mode T (past_continuations T p + 1) q → past_continuations T p + 1 ≤ q → q ≤ length T
-    → does (contents inner mode b ss) keep (given edition T o) (placed ws ds p) ≡ does (contents inner mode b ss) keep (given edition T o) (placed ws ds q)
+    → does (contents inner mode b ss) keep (given edition T o) (placed ws ds p)
+    ≡ does (contents inner mode b ss) keep (given edition T o) (placed ws ds q)
 ordinary_here edition inner keep ws ds T o mode b ss p q piece plain low high =
     ordinary_contents inner keep (given edition T o) mode b ws ds ss p q piece plain low high
 
 -- plain bytes at the begin of a construct, by how many more may be opened
-pub plain_begin : (edition : Edition) → (room : ℕ) (keep : Keep) (ws : Row Waiting) (ds : Row Span) (T : List ℕ) (o : ℕ) (mode : Mode) (b : ℕ) (ss : Row ASubst) (p q : ℕ) → 0 < room → ArePlain mode T p q → p ≤ q → q ≤ length T
-    → does ((level room).construct mode b ss) keep (given edition T o) (placed ws ds p) ≡ does (contents (level (room - 1)) mode b ss) keep (given edition T o) (placed ws ds q)
+pub plain_begin : (edition : Edition) →
+    (room : ℕ) (keep : Keep) (ws : Row Waiting) (ds : Row Span) (T : List ℕ) (o : ℕ) (mode : Mode) (b : ℕ)
+    (ss : Row ASubst) (p q : ℕ) → 0 < room → ArePlain mode T p q → p ≤ q → q ≤ length T
+    → does ((level room).construct mode b ss) keep (given edition T o) (placed ws ds p)
+    ≡ does (contents (level (room - 1)) mode b ss) keep (given edition T o) (placed ws ds q)
 plain_begin edition room keep ws ds T o mode b ss p q some plain low high =
-    level_below keep (given edition T o) (placed ws ds p) room mode b ss some ∙ plain_contents (level (room - 1)) keep (given edition T o) mode b ws ds ss p q plain low high
+    level_below keep (given edition T o) (placed ws ds p) room mode b ss some
+    ∙ plain_contents (level (room - 1)) keep (given edition T o) mode b ws ds ss p q plain low high
 
 -- a word of plain bytes
-pub plain_word : (edition : Edition) → (inner : Inner) (keep : Keep) (ws : Row Waiting) (ds : Row Span) (T : List ℕ) (o p q : ℕ) → ArePlain Plain T p q → p ≤ q → q ≤ length T → ends_word T q ≡ true
+pub plain_word : (edition : Edition) →
+    (inner : Inner) (keep : Keep) (ws : Row Waiting) (ds : Row Span) (T : List ℕ) (o p q : ℕ) → ArePlain Plain T p q →
+    p ≤ q → q ≤ length T → ends_word T q ≡ true
     → does (a_word inner) keep (given edition T o) (placed ws ds p) ≡ Ok (word (span o p q) no_subst, placed ws ds q)
 unfolding a_word
-plain_word edition inner keep ws ds T o p q plain low high end = rw (plain_closed inner keep (given edition T o) Plain (o + p) ws ds [] p q plain low high (ap (piece_in edition Plain) (word_closes T q end))) refl
+plain_word edition inner keep ws ds T o p q plain low high end =
+    rw (plain_closed inner keep (given edition T o) Plain (o + p) ws ds [] p q plain low high
+    (ap (piece_in edition Plain) (word_closes T q end))) refl
 
 -- plain bytes at the begin of a word, and what follows them
-pub word_rest : (edition : Edition) → (inner : Inner) (keep : Keep) (ws : Row Waiting) (ds : Row Span) (T : List ℕ) (o p q : ℕ) (ss : Row ASubst) (t : State) → ArePlain Plain T p q → p ≤ q → q ≤ length T
-    → does (contents inner Plain (o + p) []) keep (given edition T o) (placed ws ds q) ≡ Ok (ss, t) → does (a_word inner) keep (given edition T o) (placed ws ds p) ≡ Ok (word (span o p t.at) (substs_of ss), t)
+pub word_rest : (edition : Edition) →
+    (inner : Inner) (keep : Keep) (ws : Row Waiting) (ds : Row Span) (T : List ℕ) (o p q : ℕ) (ss : Row ASubst)
+    (t : State) → ArePlain Plain T p q → p ≤ q → q ≤ length T
+    → does (contents inner Plain (o + p) []) keep (given edition T o) (placed ws ds q) ≡ Ok (ss, t) →
+    does (a_word inner) keep (given edition T o) (placed ws ds p) ≡ Ok (word (span o p t.at) (substs_of ss), t)
 unfolding a_word
-word_rest edition inner keep ws ds T o p q ss t plain low high rest = rw (plain_contents inner keep (given edition T o) Plain (o + p) ws ds [] p q plain low high ∙ rest) refl
+word_rest edition inner keep ws ds T o p q ss t plain low high rest =
+    rw (plain_contents inner keep (given edition T o) Plain (o + p) ws ds [] p q plain low high ∙ rest) refl

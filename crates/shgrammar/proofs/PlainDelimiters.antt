@@ -17,7 +17,8 @@ use Rattle.shgrammar.proofs.Unquoted.{unquoted_byte, unquoted_escape, bare_one}
 
 -- ---- an ordinary byte
 
-none_of_four : (a b c d : Bool) → not (a || b || c || d) ≡ true → (a ≡ false) × (b ≡ false) × (c ≡ false) × (not d ≡ true)
+none_of_four : (a b c d : Bool) → not (a || b || c || d) ≡ true → (a ≡ false) × (b ≡ false) × (c ≡ false)
+    × (not d ≡ true)
 none_of_four true b c d e = absurd cc
 none_of_four false true c d e = absurd cc
 none_of_four false false true d e = absurd cc
@@ -84,22 +85,26 @@ left_more : (b : ℕ) (xs : List ℕ) (left : Option (List ℕ)) → left_before
 left_more b xs None = refl
 left_more b xs (Some bs) = refl
 
-plain_step : (q : Quoting) (second : Bool) (b : ℕ) (bs : List ℕ) → is_plain Plain b ≡ true → unquoted q second (b ∷ bs) ≡ left_before b (unquoted q second bs)
+plain_step : (q : Quoting) (second : Bool) (b : ℕ) (bs : List ℕ) → is_plain Plain b ≡ true →
+    unquoted q second (b ∷ bs) ≡ left_before b (unquoted q second bs)
 plain_step q second b bs plain =
     unquoted_byte q second b bs (both_false _ _ (not_live q 92 b (no_backslash b plain)))
     ∙ rw (no_quote b plain q, not_live q 96 b (no_backquote b plain), not_live q 36 b (no_dollar b plain)) refl
 
-plain_on : (q : Quoting) (second : Bool) (xs rest : List ℕ) → list_all (is_plain Plain) xs ≡ true → unquoted q second (xs ++ rest) ≡ left_of xs (unquoted q second rest)
+plain_on : (q : Quoting) (second : Bool) (xs rest : List ℕ) → list_all (is_plain Plain) xs ≡ true →
+    unquoted q second (xs ++ rest) ≡ left_of xs (unquoted q second rest)
 plain_on q second [] rest all = nothing (unquoted q second rest)
 plain_on q second (b ∷ xs) rest all =
     let both = and_parts _ _ all in
-    plain_step q second b (xs ++ rest) both.0 ∙ ap (left_before b) (plain_on q second xs rest both.1) ∙ left_more b xs (unquoted q second rest)
+    plain_step q second b (xs ++ rest) both.0 ∙ ap (left_before b) (plain_on q second xs rest both.1)
+    ∙ left_more b xs (unquoted q second rest)
 
 -- ---- of them alone
 
 alone_left : (xs : List ℕ) → list_all (is_plain Plain) xs ≡ true → unquoted not_quoted false xs ≡ Some xs
 unfolding unquoted
-alone_left xs all = ap (unquoted not_quoted false) (sym (append-nil xs)) ∙ plain_on not_quoted false xs [] all ∙ ap (λ (l : List ℕ). Some l) (append-nil xs)
+alone_left xs all = ap (unquoted not_quoted false) (sym (append-nil xs)) ∙ plain_on not_quoted false xs [] all
+    ∙ ap (λ (l : List ℕ). Some l) (append-nil xs)
 
 alone_bare : (xs : List ℕ) → list_all (is_plain Plain) xs ≡ true → is_quoted xs ≡ false
 unfolding bare
@@ -119,7 +124,8 @@ quote_is b false is e = grind (arith, nat_tests, e)
 quote_quotes : (b : ℕ) → is_quote not_quoted b ≡ true → (b == 92) ≡ false
 quote_quotes b e = quote_is b (b == 39) refl e
 
-last_by : (b : ℕ) (t : Bool) → (b == 39) ≡ t → (t || b == 34) ≡ true → unquoted (behind_quote not_quoted b) false (b ∷ []) ≡ Some []
+last_by : (b : ℕ) (t : Bool) → (b == 39) ≡ t → (t || b == 34) ≡ true →
+    unquoted (behind_quote not_quoted b) false (b ∷ []) ≡ Some []
 unfolding unquoted
 last_by b true is e = rw (is, is) refl
 last_by b false is e = rw (is, e) refl
@@ -127,7 +133,8 @@ last_by b false is e = rw (is, e) refl
 last_quote : (b : ℕ) → is_quote not_quoted b ≡ true → unquoted (behind_quote not_quoted b) false (b ∷ []) ≡ Some []
 last_quote b e = last_by b (b == 39) refl e
 
-quoted_left : (b : ℕ) (xs : List ℕ) → is_quote not_quoted b ≡ true → list_all (is_plain Plain) xs ≡ true → unquoted not_quoted false (b ∷ xs ++ b ∷ []) ≡ Some xs
+quoted_left : (b : ℕ) (xs : List ℕ) → is_quote not_quoted b ≡ true → list_all (is_plain Plain) xs ≡ true →
+    unquoted not_quoted false (b ∷ xs ++ b ∷ []) ≡ Some xs
 quoted_left b xs is all =
     unquoted_byte not_quoted false b (xs ++ b ∷ []) (both_false _ _ (quote_quotes b is))
     ∙ rw is refl
@@ -145,7 +152,8 @@ quoted_bare b bs is =
 no_newline : (c : ℕ) → is_plain Plain c ≡ true → (c == 10) ≡ false
 no_newline c plain = (none_of_three (is_blank c) (c == 10) (is_operator c) (ap not (no_end c plain))).1
 
-escaped_left : (c : ℕ) (cs : List ℕ) → list_all (is_plain Plain) (c ∷ cs) ≡ true → unquoted not_quoted false (92 ∷ c ∷ cs) ≡ Some (c ∷ cs)
+escaped_left : (c : ℕ) (cs : List ℕ) → list_all (is_plain Plain) (c ∷ cs) ≡ true →
+    unquoted not_quoted false (92 ∷ c ∷ cs) ≡ Some (c ∷ cs)
 escaped_left c cs all =
     let both = and_parts _ _ all in
     unquoted_escape not_quoted false 92 c cs refl ∙ rw (no_newline c both.0, alone_left cs both.1) refl
@@ -156,7 +164,8 @@ next_is c d cs ds e other = let same : c ≡ d = cc in ap (λ (x : ℕ). x == 10
 escaped_bare : (c : ℕ) (cs : List ℕ) → list_all (is_plain Plain) (c ∷ cs) ≡ true → is_quoted (92 ∷ c ∷ cs) ≡ true
 escaped_bare c cs all =
     let both = and_parts _ _ all in
-    let first : bare (92 ∷ c ∷ cs) ≡ 92 ∷ bare (c ∷ cs) = bare_one 92 (c ∷ cs) (λ d ds e. next_is c d cs ds e (no_newline c both.0)) in
+    let first : bare (92 ∷ c ∷ cs) ≡ 92 ∷ bare (c ∷ cs) =
+    bare_one 92 (c ∷ cs) (λ d ds e. next_is c d cs ds e (no_newline c both.0)) in
     rw first refl
 
 -- ---- the word
@@ -167,24 +176,32 @@ no_less n e = grind (arith, nat_tests, e)
 same_byte : (b c : ℕ) → (b == c) ≡ true → b ≡ c
 same_byte b c e = grind (arith, nat_tests, e)
 
-wrapped_parts : (word : List ℕ) → is_wrapped word ≡ true → (not (nat_lt (length word) 2) ≡ true) × (is_quote not_quoted (get_or word 0 0) ≡ true) × ((get_or word (length word - 1) 0 == get_or word 0 0) ≡ true)
-wrapped_parts word is = all_three (not (nat_lt (length word) 2)) (is_quote not_quoted (get_or word 0 0)) (get_or word (length word - 1) 0 == get_or word 0 0) is
+wrapped_parts : (word : List ℕ) → is_wrapped word ≡ true → (not (nat_lt (length word) 2) ≡ true)
+    × (is_quote not_quoted (get_or word 0 0) ≡ true) × ((get_or word (length word - 1) 0 == get_or word 0 0) ≡ true)
+wrapped_parts word is = all_three (not (nat_lt (length word) 2)) (is_quote not_quoted (get_or word 0 0))
+    (get_or word (length word - 1) 0 == get_or word 0 0) is
 
 -- quotes, and what is between them
-wrapped_is : (word : List ℕ) → is_wrapped word ≡ true → word ≡ get_or word 0 0 ∷ take (length word - 1 - 1) (drop 1 word) ++ get_or word 0 0 ∷ []
+wrapped_is : (word : List ℕ) → is_wrapped word ≡ true →
+    word ≡ get_or word 0 0 ∷ take (length word - 1 - 1) (drop 1 word) ++ get_or word 0 0 ∷ []
 wrapped_is word is =
     let long = no_less (length word) (wrapped_parts word is).0 in
     let same = (wrapped_parts word is).2 in
     let there : 1 + (length word - 1 - 1) ≡ length word - 1 = omega (arith, long) in
     let behind : length word - 1 + 1 ≡ length word = omega (arith, long) in
     let last : drop (length word - 1 - 1) (drop 1 word) ≡ get_or word 0 0 ∷ [] =
-    drop-drop (length word - 1 - 1) 1 word ∙ ap (λ n. drop n word) there ∙ drop_more word (length word - 1) 0 (omega (arith, long))
-    ∙ ap (λ n. get_or word (length word - 1) 0 ∷ drop n word) behind ∙ ap (λ l. get_or word (length word - 1) 0 ∷ l) (drop_all (length word) word (omega arith))
+    drop-drop (length word - 1 - 1) 1 word ∙ ap (λ n. drop n word) there
+    ∙ drop_more word (length word - 1) 0 (omega (arith, long))
+    ∙ ap (λ n. get_or word (length word - 1) 0 ∷ drop n word) behind
+    ∙ ap (λ l. get_or word (length word - 1) 0 ∷ l) (drop_all (length word) word (omega arith))
     ∙ ap (λ (b : ℕ). b ∷ []) (same_byte _ _ same) in
     drop_more word 0 0 (omega (arith, long))
-    ∙ ap (λ l. get_or word 0 0 ∷ l) (sym (take-append-drop (length word - 1 - 1) (drop 1 word)) ∙ ap (λ l. take (length word - 1 - 1) (drop 1 word) ++ l) last)
+    ∙ ap (λ l. get_or word 0 0 ∷ l)
+    (sym (take-append-drop (length word - 1 - 1) (drop 1 word))
+    ∙ ap (λ l. take (length word - 1 - 1) (drop 1 word) ++ l) last)
 
-shorter : (word : List ℕ) → is_wrapped word ≡ true → nat_lt (length (take (length word - 1 - 1) (drop 1 word))) (length word) ≡ true
+shorter : (word : List ℕ) → is_wrapped word ≡ true →
+    nat_lt (length (take (length word - 1 - 1) (drop 1 word))) (length word) ≡ true
 shorter word is =
     let long = no_less (length word) (wrapped_parts word is).0 in
     let rest = length-drop 1 word in
@@ -194,15 +211,20 @@ shorter word is =
 abbrev is_its_part : List ℕ → List ℕ → Type 0
 is_its_part word part = delimiter_of word ≡ Some (a_delimiter part (nat_lt (length part) (length word)))
 
-wrapped_part : (word : List ℕ) → is_wrapped word ≡ true → list_all (is_plain Plain) (take (length word - 1 - 1) (drop 1 word)) ≡ true → is_its_part word (take (length word - 1 - 1) (drop 1 word))
+wrapped_part : (word : List ℕ) → is_wrapped word ≡ true →
+    list_all (is_plain Plain) (take (length word - 1 - 1) (drop 1 word)) ≡ true →
+    is_its_part word (take (length word - 1 - 1) (drop 1 word))
 wrapped_part word is all =
     let inner = take (length word - 1 - 1) (drop 1 word) in
     let quote = (wrapped_parts word is).1 in
-    let left : unquoted not_quoted false word ≡ Some inner = ap (unquoted not_quoted false) (wrapped_is word is) ∙ quoted_left (get_or word 0 0) inner quote all in
-    let literal : is_quoted word ≡ true = ap is_quoted (wrapped_is word is) ∙ quoted_bare (get_or word 0 0) (inner ++ get_or word 0 0 ∷ []) quote in
+    let left : unquoted not_quoted false word ≡ Some inner = ap (unquoted not_quoted false) (wrapped_is word is)
+    ∙ quoted_left (get_or word 0 0) inner quote all in
+    let literal : is_quoted word ≡ true = ap is_quoted (wrapped_is word is)
+    ∙ quoted_bare (get_or word 0 0) (inner ++ get_or word 0 0 ∷ []) quote in
     rw (left, literal, shorter word is) refl
 
-escaped_part : (word : List ℕ) → is_escaped word ≡ true → list_all (is_plain Plain) (drop 1 word) ≡ true → is_its_part word (drop 1 word)
+escaped_part : (word : List ℕ) → is_escaped word ≡ true → list_all (is_plain Plain) (drop 1 word) ≡ true →
+    is_its_part word (drop 1 word)
 escaped_part [] is all = absurd cc
 escaped_part (b ∷ []) is all = absurd cc
 escaped_part (b ∷ c ∷ cs) is all =
@@ -216,12 +238,14 @@ alone_part word all =
     rw (alone_left word all, alone_bare word all, same) refl
 
 -- its delimiter is that part of it
-part_by : (word : List ℕ) (t u : Bool) → is_wrapped word ≡ t → is_escaped word ≡ u → list_all (is_plain Plain) (unwrapped word) ≡ true → is_its_part word (unwrapped word)
+part_by : (word : List ℕ) (t u : Bool) → is_wrapped word ≡ t → is_escaped word ≡ u →
+    list_all (is_plain Plain) (unwrapped word) ≡ true → is_its_part word (unwrapped word)
 part_by word true u is so all = rw is (wrapped_part word is (rw is at all))
 part_by word false true is so all = rw (is, so) (escaped_part word so (rw (is, so) at all))
 part_by word false false is so all = rw (is, so) (alone_part word (rw (is, so) at all))
 
-pub plain_whole : (word part : List ℕ) → part ≡ unwrapped word → list_all (is_plain Plain) part ≡ true → delimiter_of word ≡ Some (a_delimiter part (nat_lt (length part) (length word)))
+pub plain_whole : (word part : List ℕ) → part ≡ unwrapped word → list_all (is_plain Plain) part ≡ true →
+    delimiter_of word ≡ Some (a_delimiter part (nat_lt (length part) (length word)))
 plain_whole word part is all =
     part_by word (is_wrapped word) (is_escaped word) refl refl (ap (list_all (is_plain Plain)) (sym is) ∙ all)
     ∙ ap (λ l. Some (a_delimiter l (nat_lt (length l) (length word)))) (sym is)

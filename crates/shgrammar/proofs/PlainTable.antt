@@ -24,7 +24,8 @@ same_is true b e = sym e
 same_is false true e = absurd cc
 same_is false false e = refl
 
-agrees_at : (set : ℕ) (test : ℕ → Bool) (xs : List ℕ) (n k : ℕ) → agrees set test xs n ≡ true → k < length xs → (bit_and (get_or xs k 0) set == 0) ≡ test (n + k)
+agrees_at : (set : ℕ) (test : ℕ → Bool) (xs : List ℕ) (n k : ℕ) → agrees set test xs n ≡ true → k < length xs →
+    (bit_and (get_or xs k 0) set == 0) ≡ test (n + k)
 unfolding agrees
 agrees_at set test [] n k e lt = absurd (omega arith)
 agrees_at set test (x ∷ xs) n zero e lt = same_is _ (test n) (and_parts _ _ e).0 ∙ ap test (sym (add-zero n))
@@ -41,7 +42,8 @@ all_agree DoubleBrace = refl
 all_agree Arith = refl
 
 pub table_tells : (mode : Mode) (b : ℕ) → b < 256 → (bit_and (get_or MARKS b 0) (alone mode) == 0) ≡ is_plain mode b
-table_tells mode b lt = agrees_at (alone mode) (is_plain mode) MARKS 0 b (all_agree mode) lt ∙ ap (is_plain mode) (zero-add b)
+table_tells mode b lt = agrees_at (alone mode) (is_plain mode) MARKS 0 b (all_agree mode) lt
+    ∙ ap (is_plain mode) (zero-add b)
 
 -- ---- where a word ends, and what a name has
 
@@ -50,8 +52,10 @@ not_not true = refl
 not_not false = refl
 
 -- a test whose bytes are marked
-marks : (set : ℕ) (test : ℕ → Bool) (b : ℕ) → agrees set (λ c. not (test c)) MARKS 0 ≡ true → b < 256 → not (bit_and (get_or MARKS b 0) set == 0) ≡ test b
-marks set test b e lt = ap not (agrees_at set (λ c. not (test c)) MARKS 0 b e lt ∙ ap (λ c. not (test c)) (zero-add b)) ∙ not_not (test b)
+marks : (set : ℕ) (test : ℕ → Bool) (b : ℕ) → agrees set (λ c. not (test c)) MARKS 0 ≡ true → b < 256 →
+    not (bit_and (get_or MARKS b 0) set == 0) ≡ test b
+marks set test b e lt = ap not (agrees_at set (λ c. not (test c)) MARKS 0 b e lt ∙ ap (λ c. not (test c)) (zero-add b))
+    ∙ not_not (test b)
 
 ends_agree : agrees 32 (λ b. not (ends (Some b))) MARKS 0 ≡ true
 unfolding agrees same

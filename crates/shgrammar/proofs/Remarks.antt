@@ -15,6 +15,7 @@ list_seen l = search (rules, fold_out-List)
 abbrev pub as_remark : Comment → AnEntry
 as_remark c = entry (remark (view_comment c)) false false None
 
-pub remarks_row : (cs : Row Comment) (es : Row AnEntry) → behind_remarks (map view_comment cs) (entries_of es) ≡ entries_of (map as_remark cs ++ es)
+pub remarks_row : (cs : Row Comment) (es : Row AnEntry) →
+    behind_remarks (map view_comment cs) (entries_of es) ≡ entries_of (map as_remark cs ++ es)
 remarks_row [] es = refl
 remarks_row (c ∷ cs) es = ap (more_entries (as_remark c)) (remarks_row cs es)

@@ -10,7 +10,8 @@ use Rattle.shgrammar.proofs.Stretches.{get_drop, raw_stays, letter_more, letter_
 
 -- ---- the stretch that begins where the text does
 
-module _ (B : List ℕ) (base at : ℕ) (front : List ℕ) (is : IsRun B base front) (low : base ≤ length B) (lt : at < length front) where
+module _ (B : List ℕ) (base at : ℕ) (front : List ℕ) (is : IsRun B base front) (low : base ≤ length B)
+    (lt : at < length front) where
   -- its bytes are those of the text
   pub front_byte : slice_get (drop base B) at ≡ Some (slice_index front at)
   front_byte =
@@ -32,49 +33,61 @@ module _ (B : List ℕ) (base at : ℕ) (front : List ℕ) (is : IsRun B base fr
         short = λ _. omega (arith, short, rest, lt);
         same = λ k here.
             let there : base + (at + k) ≡ base + at + k = omega arith in
-            sym (ap (slice_index B) there) ∙ is.same (at + k) (omega (arith, rest, here)) ∙ sym (get_or-drop at front k 0);
+            sym (ap (slice_index B) there) ∙ is.same (at + k) (omega (arith, rest, here))
+            ∙ sym (get_or-drop at front k 0);
         some = λ _. omega (arith, rest, lt);
         none = λ high. absurd (omega (arith, high, short, lt));
       }
 
-module _ (B : List ℕ) (base at : ℕ) (run : List ℕ) (is : IsRun B (base + at) run) (low : base ≤ length B) (within : at ≤ length (drop base B)) where
+module _ (B : List ℕ) (base at : ℕ) (run : List ℕ) (is : IsRun B (base + at) run) (low : base ≤ length B)
+    (within : at ≤ length (drop base B)) where
   -- a byte of the stretch is the one that stands there
   pub run_byte : (k : ℕ) → k < length run → slice_get (drop base B) (at + k) ≡ Some (slice_index run k)
   run_byte k lt =
       let whole : length (drop base B) ≡ length B - base = length-drop base B in
       let high : base + at + length run ≤ length B = is.short (omega (arith, whole, within)) in
       let there : base + (at + k) ≡ base + at + k = omega arith in
-      get_drop base B (at + k) ∙ ap (slice_get B) there ∙ slice_get-get_or B (base + at + k) 0 (omega (arith, high, lt)) ∙ ap Some (is.same k lt)
+      get_drop base B (at + k) ∙ ap (slice_get B) there ∙ slice_get-get_or B (base + at + k) 0 (omega (arith, high, lt))
+      ∙ ap Some (is.same k lt)
 
-  pub run_all : (test : ℕ → Bool) (n : ℕ) → n ≤ length run → ((k : ℕ) → k < n → test (slice_index run k) ≡ true) → (k : ℕ) → at ≤ k → k < at + n → raw_in test (drop base B) k ≡ true
+  pub run_all : (test : ℕ → Bool) (n : ℕ) → n ≤ length run → ((k : ℕ) → k < n → test (slice_index run k) ≡ true) →
+      (k : ℕ) → at ≤ k → k < at + n → raw_in test (drop base B) k ≡ true
   unfolding raw_in
   run_all test n short all k k_low k_high =
       let there : at + (k - at) ≡ k = omega (arith, k_low) in
       let below : k - at < n = omega (arith, k_low, k_high) in
-      let byte : slice_get (drop base B) k ≡ Some (slice_index run (k - at)) = ap (slice_get (drop base B)) (sym there) ∙ run_byte (k - at) (omega (arith, below, short)) in
+      let byte : slice_get (drop base B) k ≡ Some (slice_index run (k - at)) = ap (slice_get (drop base B)) (sym there)
+      ∙ run_byte (k - at) (omega (arith, below, short)) in
       rw byte (all (k - at) below)
 
   -- ---- a word spelled out in the stretch
 
-  run_raw : (k c : ℕ) (x : Bool) → k < length run → (slice_index run k == c) ≡ x → raw_stands (drop base B) (at + k) c ≡ x
+  run_raw : (k c : ℕ) (x : Bool) → k < length run → (slice_index run k == c) ≡ x →
+      raw_stands (drop base B) (at + k) c ≡ x
   unfolding raw_stands
   run_raw k c x lt e = rw (run_byte k lt) e
 
-  pub run_letter_more : (word : List ℕ) (i : ℕ) → i < length word → i < length run → (slice_index run i == 92) ≡ false → (slice_index run i == get_or word i 0) ≡ true
+  pub run_letter_more : (word : List ℕ) (i : ℕ) → i < length word → i < length run → (slice_index run i == 92) ≡ false →
+      (slice_index run i == get_or word i 0) ≡ true
       → is_word_at (drop base B) (at + i) (drop i word) ≡ is_word_at (drop base B) (at + (i + 1)) (drop (i + 1) word)
   run_letter_more word i lt short whole same =
       let next : at + i + 1 ≡ at + (i + 1) = omega arith in
-      letter_more (drop base B) (at + i) word i lt (run_raw i 92 false short whole) (run_raw i (get_or word i 0) true short same)
+      letter_more (drop base B) (at + i) word i lt (run_raw i 92 false short whole)
+      (run_raw i (get_or word i 0) true short same)
       ∙ ap (λ q. is_word_at (drop base B) q (drop (i + 1) word)) next
 
-  pub run_letter_other : (word : List ℕ) (i : ℕ) → i < length word → i < length run → (slice_index run i == 92) ≡ false → (slice_index run i == get_or word i 0) ≡ false
+  pub run_letter_other : (word : List ℕ) (i : ℕ) → i < length word → i < length run → (slice_index run i == 92) ≡ false
+      → (slice_index run i == get_or word i 0) ≡ false
       → is_word_at (drop base B) (at + i) (drop i word) ≡ false
   run_letter_other word i lt short whole other =
-      letter_other (drop base B) (at + i) word i lt (run_raw i 92 false short whole) (run_raw i (get_or word i 0) false short other)
+      letter_other (drop base B) (at + i) word i lt (run_raw i 92 false short whole)
+      (run_raw i (get_or word i 0) false short other)
 
   pub run_word_whole : (word : List ℕ) → length word < length run → (slice_index run (length word) == 92) ≡ false
-      → is_word_at (drop base B) (at + length word) (drop (length word) word) ≡ ends (Some (slice_index run (length word)))
+      → is_word_at (drop base B) (at + length word) (drop (length word) word)
+      ≡ ends (Some (slice_index run (length word)))
   unfolding ends_word
   run_word_whole word short whole =
-      let here : past_continuations (drop base B) (at + length word) ≡ at + length word = raw_stays (drop base B) (at + length word) (run_raw (length word) 92 false short whole) in
+      let here : past_continuations (drop base B) (at + length word) ≡ at + length word =
+      raw_stays (drop base B) (at + length word) (run_raw (length word) 92 false short whole) in
       word_whole (drop base B) (at + length word) word (length word) refl ∙ rw (here, run_byte (length word) short) refl

@@ -34,7 +34,8 @@ pub data Safe (T : List ℕ) (a L : ℕ) : ℕ → Type 0 where
 -- the byte that is read at p is before the limit, and the same; or it is that of the limit
 pub data Place (T T2 : List ℕ) (L : ℕ) (to : ℕ → ℕ) (p : ℕ) : Type 0 where
   inside : past_continuations T p < L → past_continuations T2 (to p) ≡ to (past_continuations T p) → Place T T2 L to p
-  outside : past_continuations T p ≡ past_continuations T L → past_continuations T2 (to p) ≡ past_continuations T2 (to L) → Place T T2 L to p
+  outside : past_continuations T p ≡ past_continuations T L →
+      past_continuations T2 (to p) ≡ past_continuations T2 (to L) → Place T T2 L to p
 
 -- the byte that is read at p is before the limit, and the same
 pub record Here (T T2 : List ℕ) (a L : ℕ) (to : ℕ → ℕ) (p : ℕ) : Type 0 where
@@ -70,7 +71,8 @@ byte_other None c d e f = refl
 byte_other (Some b) c d e f = grind (arith, nat_tests)
 
 -- a continuation is two bytes
-pub continued : (T : List ℕ) (p : ℕ) → continues T p ≡ true → (raw_stands T p 92 ≡ true) × (raw_stands T (p + 1) 10 ≡ true)
+pub continued : (T : List ℕ) (p : ℕ) → continues T p ≡ true → (raw_stands T p 92 ≡ true)
+    × (raw_stands T (p + 1) 10 ≡ true)
 unfolding continues
 continued T p e = and_parts _ _ e
 
@@ -95,29 +97,40 @@ module _ {edition : Edition} {T T2 : List ℕ} {a L : ℕ} {to : ℕ → ℕ} (K
   safe_escape p low none e lt = halts low (omega (arith, lt)) none (backslash_stops T p e)
 
   -- before continuations
-  safe_place_below : (n p : ℕ) → L - p < n → a ≤ p → past_continuations T p ≤ L → Safe T a L (past_continuations T p) → Safe T a L p
+  safe_place_below : (n p : ℕ) → L - p < n → a ≤ p → past_continuations T p ≤ L → Safe T a L (past_continuations T p) →
+      Safe T a L p
   safe_place_below zero p few low high rest = absurd (omega arith)
   safe_place_below (suc n) p few low high rest =
       ⊎_elim
       (λ c. let more = joined_more T p c in
       let lt = place_low T (p + 2) in
-      two_bytes low c (safe_place_below n (p + 2) (omega (arith, more)) (omega (arith, low)) (omega (arith, more)) (subst (Safe T a L) more rest)))
+      two_bytes low c (safe_place_below n (p + 2) (omega (arith, more)) (omega (arith, low)) (omega (arith, more))
+      (subst (Safe T a L) more rest)))
       (λ c. subst (Safe T a L) (joined_none T p c) rest) (cases_Bool (continues T p))
 
   pub safe_place : (p : ℕ) → a ≤ p → Safe T a L (past_continuations T p) → Safe T a L p
   safe_place p low rest = safe_place_below (suc (L - p)) p (omega arith) low (safe_high rest) rest
 
   -- over any bytes of which the last is no backslash
-  safe_over_below : (n p e : ℕ) → e + 1 - p ≤ n → a ≤ p → p ≤ e + 1 → raw_stands T e 92 ≡ false → Safe T a L (e + 1) → Safe T a L p
-  safe_over_below zero p e few low le end rest = let is : e + 1 ≡ p = omega (arith, le, few) in subst (Safe T a L) is rest
+  safe_over_below : (n p e : ℕ) → e + 1 - p ≤ n → a ≤ p → p ≤ e + 1 → raw_stands T e 92 ≡ false → Safe T a L (e + 1) →
+      Safe T a L p
+  safe_over_below zero p e few low le end rest = let is : e + 1 ≡ p = omega (arith, le, few) in
+      subst (Safe T a L) is rest
   safe_over_below (suc n) p e few low le end rest = ⊎_elim
       (λ lt. ⊎_elim
-      (λ c. let other : p < e = ⊎_elim (λ l. l) (λ g. let is : p ≡ e = omega (arith, lt, g) in absurd (both_ways (raw_stands T e 92) end (subst (λ x. raw_stands T x 92 ≡ true) is (continued T p c).0))) (cases_lt p e) in
-      two_bytes low c (safe_over_below n (p + 2) e (omega (arith, few)) (omega (arith, low)) (omega (arith, other)) end rest))
+      (λ c. let other : p < e = ⊎_elim (λ l. l)
+      (λ g. let is : p ≡ e = omega (arith, lt, g) in
+      absurd (both_ways (raw_stands T e 92) end (subst (λ x. raw_stands T x 92 ≡ true) is (continued T p c).0)))
+      (cases_lt p e) in
+      two_bytes low c (safe_over_below n (p + 2) e (omega (arith, few)) (omega (arith, low))
+      (omega (arith, other)) end rest))
       (λ c. ⊎_elim
-      (λ b. let other : p < e = ⊎_elim (λ l. l) (λ g. let is : p ≡ e = omega (arith, lt, g) in absurd (both_ways (raw_stands T e 92) end (subst (λ x. raw_stands T x 92 ≡ true) is b))) (cases_lt p e) in
+      (λ b. let other : p < e = ⊎_elim (λ l. l)
+      (λ g. let is : p ≡ e = omega (arith, lt, g) in
+      absurd (both_ways (raw_stands T e 92) end (subst (λ x. raw_stands T x 92 ≡ true) is b))) (cases_lt p e) in
       safe_escape p low c b (omega (arith, other, safe_high rest)))
-      (λ b. safe_byte p low b (safe_over_below n (p + 1) e (omega (arith, few)) (omega (arith, low)) (omega (arith, lt)) end rest))
+      (λ b. safe_byte p low b (safe_over_below n (p + 1) e (omega (arith, few)) (omega (arith, low))
+      (omega (arith, lt)) end rest))
       (cases_Bool (raw_stands T p 92)))
       (cases_Bool (continues T p)))
       (λ ge. let is : e + 1 ≡ p = omega (arith, le, ge) in subst (Safe T a L) is rest)
@@ -133,7 +146,8 @@ module _ {edition : Edition} {T T2 : List ℕ} {a L : ℕ} {to : ℕ → ℕ} (K
   raw_same p c low lt = ap (λ b. is_byte b c) (K.same p low lt)
 
   pub raw_same_next : (p k c : ℕ) → a ≤ p → p + k < L → raw_stands T2 (to p + k) c ≡ raw_stands T (p + k) c
-  raw_same_next p k c low lt = ap (λ q. raw_stands T2 q c) (sym (K.on p k low)) ∙ raw_same (p + k) c (omega (arith, low)) lt
+  raw_same_next p k c low lt = ap (λ q. raw_stands T2 q c) (sym (K.on p k low))
+      ∙ raw_same (p + k) c (omega (arith, low)) lt
 
   -- a continuation before the limit
   pub pair_same : (p : ℕ) → a ≤ p → p + 1 < L → continues T2 (to p) ≡ continues T p
@@ -143,25 +157,32 @@ module _ {edition : Edition} {T T2 : List ℕ} {a L : ℕ} {to : ℕ → ℕ} (K
       ∙ ap (λ x. raw_stands T p 92 && x) (raw_same_next p 1 10 low lt)
 
   -- no continuation before the limit
-  pub none_same : (p : ℕ) → a ≤ p → p < L → continues T p ≡ false → (raw_stands T p 92 ≡ true → p + 1 < L) → continues T2 (to p) ≡ false
+  pub none_same : (p : ℕ) → a ≤ p → p < L → continues T p ≡ false → (raw_stands T p 92 ≡ true → p + 1 < L) →
+      continues T2 (to p) ≡ false
   none_same p low lt none next =
-      ⊎_elim (λ e. pair_same p low (next e) ∙ none) (λ e. no_backslash T2 (to p) (raw_same p 92 low lt ∙ e)) (cases_Bool (raw_stands T p 92))
+      ⊎_elim (λ e. pair_same p low (next e) ∙ none) (λ e. no_backslash T2 (to p) (raw_same p 92 low lt ∙ e))
+      (cases_Bool (raw_stands T p 92))
 
   -- past continuations before the limit
-  there_below : (n p : ℕ) → L - p < n → a ≤ p → past_continuations T p < L → (raw_stands T (past_continuations T p) 92 ≡ true → past_continuations T p + 1 < L)
+  there_below : (n p : ℕ) → L - p < n → a ≤ p → past_continuations T p < L →
+      (raw_stands T (past_continuations T p) 92 ≡ true → past_continuations T p + 1 < L)
       → past_continuations T2 (to p) ≡ to (past_continuations T p)
   there_below zero p few low lt next = absurd (omega arith)
   there_below (suc n) p few low lt next =
       ⊎_elim
       (λ c. let more = joined_more T p c in
       let on : p + 2 ≤ past_continuations T (p + 2) = place_low T (p + 2) in
-      joined_more T2 (to p) (pair_same p low (omega (arith, more, lt, on)) ∙ c) ∙ ap (past_continuations T2) (sym (K.on p 2 low))
-      ∙ there_below n (p + 2) (omega (arith, more, lt, on)) (omega (arith, low)) (omega (arith, more, lt)) (λ e. omega (arith, more, next (rw more e))) ∙ ap to (sym more))
+      joined_more T2 (to p) (pair_same p low (omega (arith, more, lt, on)) ∙ c)
+      ∙ ap (past_continuations T2) (sym (K.on p 2 low))
+      ∙ there_below n (p + 2) (omega (arith, more, lt, on)) (omega (arith, low)) (omega (arith, more, lt))
+      (λ e. omega (arith, more, next (rw more e))) ∙ ap to (sym more))
       (λ c. let none = joined_none T p c in
-      joined_none T2 (to p) (none_same p low (omega (arith, none, lt)) c (λ e. omega (arith, none, next (rw none e)))) ∙ ap to (sym none))
+      joined_none T2 (to p) (none_same p low (omega (arith, none, lt)) c (λ e. omega (arith, none, next (rw none e))))
+      ∙ ap to (sym none))
       (cases_Bool (continues T p))
 
-  pub here : (p : ℕ) → a ≤ p → past_continuations T p < L → (raw_stands T (past_continuations T p) 92 ≡ true → past_continuations T p + 1 < L) → Here T T2 a L to p
+  pub here : (p : ℕ) → a ≤ p → past_continuations T p < L →
+      (raw_stands T (past_continuations T p) 92 ≡ true → past_continuations T p + 1 < L) → Here T T2 a L to p
   here p low lt next = record { low = low; inside = lt; there = there_below (suc (L - p)) p (omega arith) low lt next }
 
   pub safe_low : {p : ℕ} → Safe T a L p → a ≤ p
@@ -174,9 +195,13 @@ module _ {edition : Edition} {T T2 : List ℕ} {a L : ℕ} {to : ℕ → ℕ} (K
   two_bytes_place : (p : ℕ) → a ≤ p → p + 2 ≤ L → continues T p ≡ true → Place T T2 L to (p + 2) → Place T T2 L to p
   two_bytes_place p low high c (inside lt there) =
       let more = joined_more T p c in
-      inside (omega (arith, more, lt)) (joined_more T2 (to p) (pair_same p low (omega (arith, high)) ∙ c) ∙ ap (past_continuations T2) (sym (K.on p 2 low)) ∙ there ∙ ap to (sym more))
+      inside (omega (arith, more, lt))
+      (joined_more T2 (to p) (pair_same p low (omega (arith, high)) ∙ c)
+      ∙ ap (past_continuations T2) (sym (K.on p 2 low)) ∙ there ∙ ap to (sym more))
   two_bytes_place p low high c (outside one two) =
-      outside (joined_more T p c ∙ one) (joined_more T2 (to p) (pair_same p low (omega (arith, high)) ∙ c) ∙ ap (past_continuations T2) (sym (K.on p 2 low)) ∙ two)
+      outside (joined_more T p c ∙ one)
+      (joined_more T2 (to p) (pair_same p low (omega (arith, high)) ∙ c)
+      ∙ ap (past_continuations T2) (sym (K.on p 2 low)) ∙ two)
 
   -- the byte at the limit is the same, if none before it begins a continuation with it
   abbrev pub AtLimit : Type 0
@@ -191,14 +216,16 @@ module _ {edition : Edition} {T T2 : List ℕ} {a L : ℕ} {to : ℕ → ℕ} (K
       let e = on_no_backslash T p on in
       let is = joined_none T p (no_backslash T p e) in
       let lt : p < L = omega (arith, safe_high rest) in
-      inside (omega (arith, is, lt)) (joined_none T2 (to p) (no_backslash T2 (to p) (raw_same p 92 low lt ∙ e)) ∙ ap to (sym is))
+      inside (omega (arith, is, lt))
+      (joined_none T2 (to p) (no_backslash T2 (to p) (raw_same p 92 low lt ∙ e)) ∙ ap to (sym is))
   place end (two_bytes {p = p} low c rest) = two_bytes_place p low (safe_high rest) c (place end rest)
 
   -- ---- the byte that is read
 
   module _ {p : ℕ} (h : Here T T2 a L to p) where
     pub here_byte : byte_at T2 (to p) ≡ byte_at T p
-    here_byte = let low = place_low T p in ap (slice_get T2) h.there ∙ K.same (past_continuations T p) (omega (arith, h.low)) h.inside
+    here_byte = let low = place_low T p in
+        ap (slice_get T2) h.there ∙ K.same (past_continuations T p) (omega (arith, h.low)) h.inside
 
     pub here_stands : (c : ℕ) → stands T2 (to p) c ≡ stands T p c
     unfolding stands
@@ -210,7 +237,8 @@ module _ {edition : Edition} {T T2 : List ℕ} {a L : ℕ} {to : ℕ → ℕ} (K
 
     pub here_behind : behind T2 (to p) ≡ to (behind T p)
     unfolding behind
-    here_behind = let low = place_low T p in ap (λ q. q + 1) h.there ∙ sym (K.on (past_continuations T p) 1 (omega (arith, h.low)))
+    here_behind = let low = place_low T p in
+        ap (λ q. q + 1) h.there ∙ sym (K.on (past_continuations T p) 1 (omega (arith, h.low)))
 
     pub here_high : behind T p ≤ L
     unfolding behind
@@ -220,7 +248,8 @@ module _ {edition : Edition} {T T2 : List ℕ} {a L : ℕ} {to : ℕ → ℕ} (K
     here_low = omega (arith, h.low, behind_low T p)
 
   -- before a byte that is read and is no backslash
-  pub safe_behind : (p : ℕ) → a ≤ p → raw_stands T (past_continuations T p) 92 ≡ false → Safe T a L (behind T p) → Safe T a L p
+  pub safe_behind : (p : ℕ) → a ≤ p → raw_stands T (past_continuations T p) 92 ≡ false → Safe T a L (behind T p) →
+      Safe T a L p
   unfolding behind
   safe_behind p low e rest =
       let lt = place_low T p in safe_place p low (safe_byte (past_continuations T p) (omega (arith, low)) e rest)
@@ -229,15 +258,20 @@ module _ {edition : Edition} {T T2 : List ℕ} {a L : ℕ} {to : ℕ → ℕ} (K
 
   raw_in_next : (test : ℕ → Bool) (p k : ℕ) → a ≤ p → p + k < L → raw_in test T2 (to p + k) ≡ raw_in test T (p + k)
   unfolding raw_in
-  raw_in_next test p k low lt = ap (λ q. passes test (slice_get T2 q)) (sym (K.on p k low)) ∙ ap (passes test) (K.same (p + k) (omega (arith, low)) lt)
+  raw_in_next test p k low lt = ap (λ q. passes test (slice_get T2 q)) (sym (K.on p k low))
+      ∙ ap (passes test) (K.same (p + k) (omega (arith, low)) lt)
 
-  pub raw_there : (test : ℕ → Bool) (p : ℕ) → a ≤ p → raw_past test T p < L → raw_past test T2 (to p) ≡ to (raw_past test T p)
+  pub raw_there : (test : ℕ → Bool) (p : ℕ) → a ≤ p → raw_past test T p < L →
+      raw_past test T2 (to p) ≡ to (raw_past test T p)
   raw_there test p low lt =
       let q = raw_past test T p in
       let n = q - p in
       let end : p + n ≡ q = omega (arith, raw_past_low test T p) in
       raw_is test T2 (to p) n
       (λ k from up. let j = k - to p in let at : to p + j ≡ k = omega (arith, from) in
-      subst (λ z. raw_in test T2 z ≡ true) at (raw_in_next test p j low (omega (arith, up, end, lt, from)) ∙ raw_past_all test T p (p + j) (omega arith) (omega (arith, up, end, from))))
-      (raw_in_next test p n low (omega (arith, end, lt)) ∙ subst (λ z. raw_in test T z ≡ false) (sym end) (raw_past_stops test T p))
+      subst (λ z. raw_in test T2 z ≡ true) at
+      (raw_in_next test p j low (omega (arith, up, end, lt, from))
+      ∙ raw_past_all test T p (p + j) (omega arith) (omega (arith, up, end, from))))
+      (raw_in_next test p n low (omega (arith, end, lt))
+      ∙ subst (λ z. raw_in test T z ≡ false) (sym end) (raw_past_stops test T p))
       ∙ sym (K.on p n low) ∙ ap to end

@@ -33,7 +33,8 @@ use Rattle.shgrammar.proofs.Asked.{Good}
 use Rattle.shgrammar.proofs.NoFurther.{back, behind as onward, there, elsewhere}
 use Rattle.shgrammar.specs.declared.edition.Edition.{Edition}
 
-module _ {edition : Edition} {T U : List ℕ} {a M : ℕ} {to : ℕ → ℕ} (E : ListEnds edition T U a M to 10) (o o2 : ℕ) (off : (p : ℕ) → a ≤ p → o2 + to p ≡ o + p) where
+module _ {edition : Edition} {T U : List ℕ} {a M : ℕ} {to : ℕ → ℕ} (E : ListEnds edition T U a M to 10) (o o2 : ℕ)
+    (off : (p : ℕ) → a ≤ p → o2 + to p ≡ o + p) where
   abbrev g : Given
   g = given edition T o
 
@@ -47,10 +48,14 @@ module _ {edition : Edition} {T U : List ℕ} {a M : ℕ} {to : ℕ → ℕ} (E 
 
   -- it is read in the second text too, from a good place on
   abbrev Again : Form (Row AnEntry × Bool) → State → Read (Row AnEntry × Bool) → Type 0
-  Again r s y = Closed y → Good T a M s.at × ((l : Row Spelled) × may r h (there E o o2 off s) (elsewhere E o o2 off y) l)
+  Again r s y = Closed y → Good T a M s.at
+      × ((l : Row Spelled) × may r h (there E o o2 off s) (elsewhere E o o2 off y) l)
 
   both_again : {X : Type 0} (r : Form X) (q : X → Form (Row AnEntry × Bool)) (s : State) → a ≤ s.at
-      → ((x : X) (t : State) → a ≤ t.at → ((k : Row Spelled) × may r g s (Ok (x, t)) k) → (y : Read (Row AnEntry × Bool)) (k : Row Spelled) → may (q x) g t y k → Again (q x) t y) → (y : Read (Row AnEntry × Bool)) (k : Row Spelled) → Then (may r g) (λ x. may (q x) g) s y k → Again (both r q) s y
+      → ((x : X) (t : State) → a ≤ t.at → ((k : Row Spelled) × may r g s (Ok (x, t)) k) →
+      (y : Read (Row AnEntry × Bool)) (k : Row Spelled) → may (q x) g t y k → Again (q x) t y) →
+      (y : Read (Row AnEntry × Bool)) (k : Row Spelled) → Then (may r g) (λ x. may (q x) g) s y k →
+      Again (both r q) s y
   both_again r q s from rest y k (and_then {x = x} {t = t} {k = k1} {l = l} one two) closed =
       let b = rest x t (omega (arith, from, onward r g s (Ok (x, t)) k1 one)) (k1, one) y l two closed in
       let c = back E o o2 off r s from (Ok (x, t)) k1 one b.0 in
@@ -73,95 +78,127 @@ module _ {edition : Edition} {T U : List ℕ} {a M : ℕ} {to : ℕ → ℕ} (E 
   ten_goes_not x is = rw is refl
 
   -- where a newline stands at or before the limit what is looked for ahead is found
-  newline_good : (s : State) → a ≤ s.at → byte_at T s.at ≡ Some 10 → past_continuations T s.at ≡ s.at → s.at ≤ M → Good T a M s.at
+  newline_good : (s : State) → a ≤ s.at → byte_at T s.at ≡ Some 10 → past_continuations T s.at ≡ s.at → s.at ≤ M →
+      Good T a M s.at
   unfolding raw_stands raw_in
   newline_good s from newline still le =
       let here : slice_get T s.at ≡ Some 10 = ap (slice_get T) (sym still) ∙ newline in
-      ⊎_elim (λ lt. halts from lt (no_backslash T s.at (byte_other (slice_get T s.at) 10 92 refl (rw here refl))) (ten_goes_not (slice_get T s.at) here))
+      ⊎_elim (λ lt. halts from lt (no_backslash T s.at (byte_other (slice_get T s.at) 10 92 refl (rw here refl)))
+      (ten_goes_not (slice_get T s.at) here))
       (λ ge. let is : M ≡ s.at = omega (arith, ge, le) in subst (Good T a M) is at_limit) (cases_lt s.at M)
 
   -- what is given behind the newline, and where nothing waits at the end
   abbrev line_true : Row AnEntry → Result State Fault → Read (Row AnEntry × Bool)
-  line_true es x = ◌▸◌ {Y = Row AnEntry × Bool} (◌▸◌ {Y = Bool} (nothing_read x) (λ z t. Ok (true, t))) (λ newline t. Ok ((es, newline), t))
+  line_true es x = ◌▸◌ {Y = Row AnEntry × Bool} (◌▸◌ {Y = Bool} (nothing_read x) (λ z t. Ok (true, t)))
+      (λ newline t. Ok ((es, newline), t))
 
   abbrev line_false : Row AnEntry → Read (Unit {0}) → Read (Row AnEntry × Bool)
-  line_false es x = ◌▸◌ {Y = Row AnEntry × Bool} (◌▸◌ {Y = Bool} x (λ z t. Ok (false, t))) (λ newline t. Ok ((es, newline), t))
+  line_false es x = ◌▸◌ {Y = Row AnEntry × Bool} (◌▸◌ {Y = Bool} x (λ z t. Ok (false, t)))
+      (λ newline t. Ok ((es, newline), t))
 
-  newline_again : (inner : Inner) (es : Row AnEntry) (end : Bool) (n : Next) (s : State) → a ≤ s.at → byte_at T s.at ≡ Some 10 → past_continuations T s.at ≡ s.at
-      → (x : Result State Fault) → changed bodies_here g (past s) ≡ x → (y : Read (Row AnEntry × Bool)) → y ≡ line_true es x → Again (ending inner es true end n) s y
+  newline_again : (inner : Inner) (es : Row AnEntry) (end : Bool) (n : Next) (s : State) → a ≤ s.at →
+      byte_at T s.at ≡ Some 10 → past_continuations T s.at ≡ s.at
+      → (x : Result State Fault) → changed bodies_here g (past s) ≡ x → (y : Read (Row AnEntry × Bool)) →
+      y ≡ line_true es x → Again (ending inner es true end n) s y
   newline_again inner es end n s from newline still (Ok t) is y y_is closed =
       let at_newline : t.at ≡ M + 1 = (subst Closed y_is closed).1 in
       let onward : behind T s.at ≤ t.at = change_low bodies_here g (past s) t is in
       let low : a ≤ behind T s.at = omega (arith, from, behind_is s.at, still) in
-      let good : Good T a M s.at = newline_good s from newline still (omega (arith, at_newline, onward, behind_is s.at, still)) in
-      let there_is : changed bodies_here h (there E o o2 off (past s)) ≡ Ok (there E o o2 off t) = read_to_limit E o o2 off (past s) t low at_newline refl is in
+      let good : Good T a M s.at =
+      newline_good s from newline still (omega (arith, at_newline, onward, behind_is s.at, still)) in
+      let there_is : changed bodies_here h (there E o o2 off (past s)) ≡ Ok (there E o o2 off t) =
+      read_to_limit E o o2 off (past s) t low at_newline refl is in
       let one = (is_form (ending inner es true end n) h (there E o o2 off s)).some in
       let read : does (ending inner es true end n) Whole h (there E o o2 off s) ≡ Ok ((es, true), there E o o2 off t) =
-      ap (λ (p : ℕ). line_true es (changed bodies_here h (record { at = p; waiting = s.waiting; bodies = s.bodies }))) (same_behind E good) ∙ ap (line_true es) there_is in (
+      ap (λ (p : ℕ). line_true es (changed bodies_here h (record { at = p; waiting = s.waiting; bodies = s.bodies })))
+      (same_behind E good) ∙ ap (line_true es) there_is in (
         good,
         (
           one.0,
-          subst (λ (z : Read (Row AnEntry × Bool)). may (ending inner es true end n) h (there E o o2 off s) (elsewhere E o o2 off z) one.0) (sym y_is)
-              (subst (λ (z : Read (Row AnEntry × Bool)). may (ending inner es true end n) h (there E o o2 off s) z one.0) read one.1),
+          subst (λ (z : Read (Row AnEntry × Bool)). may (ending inner es true end n) h (there E o o2 off s)
+              (elsewhere E o o2 off z) one.0) (sym y_is)
+              (subst (λ (z : Read (Row AnEntry × Bool)). may (ending inner es true end n) h
+              (there E o o2 off s) z one.0) read one.1),
         ),
       )
   newline_again inner es end n s from newline still (Err f) is y y_is closed = absurd (subst Closed y_is closed)
 
-  clash : {X : Type 0} (es : Row AnEntry) (s : State) (w : Option ℕ) (y : Read (Row AnEntry × Bool)) → y ≡ line_false es (does (none_waits w) Whole g s) → Closed y → X
+  clash : {X : Type 0} (es : Row AnEntry) (s : State) (w : Option ℕ) (y : Read (Row AnEntry × Bool)) →
+      y ≡ line_false es (does (none_waits w) Whole g s) → Closed y → X
   clash es s None y y_is closed = let no = (subst Closed y_is closed).0 in absurd cc
   clash es s (Some b) y y_is closed = absurd (subst Closed y_is closed)
 
   faulty : {X : Type 0} (f : _) (y : Read (Row AnEntry × Bool)) → y ≡ Err f → Closed y → X
   faulty f y y_is closed = absurd (subst Closed y_is closed)
 
-  stopped : {X : Type 0} (x : Read (FaultKind × ℕ)) (f : Bool → State → Read (Row AnEntry × Bool)) (y : Read (Row AnEntry × Bool)) → y ≡ ((x ▸ λ w t. Err (record { kind = w.0; at = w.1 })) ▸ f) → Closed y → X
+  stopped : {X : Type 0} (x : Read (FaultKind × ℕ)) (f : Bool → State → Read (Row AnEntry × Bool))
+      (y : Read (Row AnEntry × Bool)) → y ≡ ((x ▸ λ w t. Err (record { kind = w.0; at = w.1 })) ▸ f) → Closed y → X
   stopped (Ok (w, t)) f y y_is closed = faulty _ y y_is closed
   stopped (Err e) f y y_is closed = faulty _ y y_is closed
 
-  ending_by : (inner : Inner) (es : Row AnEntry) (newline end : Bool) (n : Next) (s : State) → a ≤ s.at → (newline ≡ true → (byte_at T s.at ≡ Some 10) × (past_continuations T s.at ≡ s.at))
-      → (y : Read (Row AnEntry × Bool)) → y ≡ does (ending inner es newline end n) Whole g s → Again (ending inner es newline end n) s y
+  ending_by : (inner : Inner) (es : Row AnEntry) (newline end : Bool) (n : Next) (s : State) → a ≤ s.at →
+      (newline ≡ true → (byte_at T s.at ≡ Some 10) × (past_continuations T s.at ≡ s.at))
+      → (y : Read (Row AnEntry × Bool)) → y ≡ does (ending inner es newline end n) Whole g s →
+      Again (ending inner es newline end n) s y
   unfolding nothing_waits
   ending_by inner es true end n s from shown y y_is closed =
-      newline_again inner es end n s from (shown refl).0 (shown refl).1 (changed bodies_here g (past s)) refl y y_is closed
+      newline_again inner es end n s from (shown refl).0 (shown refl).1
+      (changed bodies_here g (past s)) refl y y_is closed
   ending_by inner es false true n s from shown y y_is closed = clash es s (first_waiting s) y y_is closed
-  ending_by inner es false false n s from shown y y_is closed = stopped (does (what_is_wrong inner n) Whole g s) _ y y_is closed
+  ending_by inner es false false n s from shown y y_is closed =
+      stopped (does (what_is_wrong inner n) Whole g s) _ y y_is closed
 
   abbrev at_end : Inner → ListSo → Form (Row AnEntry × Bool)
   at_end inner l = both (end_of_line inner l.next) (λ newline. give (l.list.entries, newline))
 
-  ending_again : (inner : Inner) (l : ListSo) (s : State) → a ≤ s.at → Begins g l.next s → (y : Read (Row AnEntry × Bool)) (k : Row Spelled) → may (at_end inner l) g s y k → Again (at_end inner l) s y
+  ending_again : (inner : Inner) (l : ListSo) (s : State) → a ≤ s.at → Begins g l.next s →
+      (y : Read (Row AnEntry × Bool)) (k : Row Spelled) → may (at_end inner l) g s y k → Again (at_end inner l) s y
   unfolding end_of_line
   ending_again inner l s from begins y k part =
-      ending_by inner l.list.entries (is_newline_token l.next.token) (is_end l.next.token) l.next s from (λ e. newline_here g l.next s begins e) y ((is_form (at_end inner l) g s).only y k part)
+      ending_by inner l.list.entries (is_newline_token l.next.token) (is_end l.next.token) l.next s from
+      (λ e. newline_here g l.next s begins e) y ((is_form (at_end inner l) g s).only y k part)
 
   abbrev at_entries : Inner → Bool → Next → Form (Row AnEntry × Bool)
   at_entries inner blank n = both (on_line inner (list_so (none_listed blank) n)) (at_end inner)
 
   -- what a form gives of which this holds
-  held : {X : Type 0} {P : X → State → Type 0} (r : Form X) (s : State) (x : X) (t : State) (k : Row Spelled) → Tells Whole g r P s → may r g s (Ok (x, t)) k → P x t
+  held : {X : Type 0} {P : X → State → Type 0} (r : Form X) (s : State) (x : X) (t : State) (k : Row Spelled) →
+      Tells Whole g r P s → may r g s (Ok (x, t)) k → P x t
   held {P = P} r s x t k told part = subst (Holds P) (sym ((is_form r g s).only (Ok (x, t)) k part)) told.told
 
-  open_again : (inner : Inner) → Fine g inner → (blank : Bool) (s : State) → a ≤ s.at → (y : Read (Row AnEntry × Bool)) (k : Row Spelled) → may (an_open_line inner blank) g s y k → Again (an_open_line inner blank) s y
+  open_again : (inner : Inner) → Fine g inner → (blank : Bool) (s : State) → a ≤ s.at →
+      (y : Read (Row AnEntry × Bool)) (k : Row Spelled) → may (an_open_line inner blank) g s y k →
+      Again (an_open_line inner blank) s y
   unfolding an_open_line
   open_again inner fine blank s from y k part =
       both_again (next_token Command) (at_entries inner blank) s from (λ n t from_t one.
       both_again (on_line inner (list_so (none_listed blank) n)) (at_end inner) t from_t (λ l u from_u two.
-      ending_again inner l u from_u (held (on_line inner (list_so (none_listed blank) n)) t l u two.0 (shown_on_line g inner fine (list_so (none_listed blank) n) t (held (next_token Command) s n t one.0 (shown_next g Command s) one.1)) two.1))) y k part
+      ending_again inner l u from_u
+      (held (on_line inner (list_so (none_listed blank) n)) t l u two.0
+      (shown_on_line g inner fine (list_so (none_listed blank) n) t
+      (held (next_token Command) s n t one.0 (shown_next g Command s) one.1)) two.1))) y k part
 
   -- a line, with its bodies
   abbrev filling : (Row AnEntry × Bool) × Row Span → Form (Row AnEntry × Bool)
   filling l = give (filled_row l.1 l.0.0, l.0.1)
 
-  level_again : (inner : Inner) (blank : Bool) (s : State) → ((y : Read (Row AnEntry × Bool)) (k : Row Spelled) → may (an_open_line inner blank) g (own_level s) y k → Again (an_open_line inner blank) (own_level s) y)
-      → (y : Read (Row AnEntry × Bool)) (k : Row Spelled) → Then (may (a_level (an_open_line inner blank)) g) (λ l. may (filling l) g) s y k → Again (both (a_level (an_open_line inner blank)) filling) s y
+  level_again : (inner : Inner) (blank : Bool) (s : State) →
+      ((y : Read (Row AnEntry × Bool)) (k : Row Spelled) → may (an_open_line inner blank) g (own_level s) y k →
+      Again (an_open_line inner blank) (own_level s) y)
+      → (y : Read (Row AnEntry × Bool)) (k : Row Spelled) →
+      Then (may (a_level (an_open_line inner blank)) g) (λ l. may (filling l) g) s y k →
+      Again (both (a_level (an_open_line inner blank)) filling) s y
   level_again inner blank s inside y k (and_then (level_read {x = x} {t = t} {k = k1} one) just) closed =
       let w = inside (Ok (x, t)) k1 one closed in
       (w.0, (w.1.0 ++ [], and_then (level_read w.1.1) just))
   level_again inner blank s inside y k (or_stops (level_stops one)) closed = absurd closed
 
-  pub line_again : (inner : Inner) → Fine g inner → (blank : Bool) (s : State) → a ≤ s.at → (y : Read (Row AnEntry × Bool)) (k : Row Spelled) → may (a_line inner blank) g s y k → Again (a_line inner blank) s y
+  pub line_again : (inner : Inner) → Fine g inner → (blank : Bool) (s : State) → a ≤ s.at →
+      (y : Read (Row AnEntry × Bool)) (k : Row Spelled) → may (a_line inner blank) g s y k →
+      Again (a_line inner blank) s y
   unfolding a_line
-  line_again inner fine blank s from y k part = level_again inner blank s (open_again inner fine blank (own_level s) from) y k part
+  line_again inner fine blank s from y k part =
+      level_again inner blank s (open_again inner fine blank (own_level s) from) y k part
 
 -- ---- one line and two texts
 
@@ -173,7 +210,8 @@ pub newline_at : (T : List ℕ) (p : ℕ) → raw_stands T p 10 ≡ true → sli
 unfolding raw_stands
 newline_at T p e = byte_is (slice_get T p) e
 
-pub same_texts : (edition : Edition) (T U : List ℕ) (M : ℕ) → ((r : ℕ) → r < M + 1 → slice_get U r ≡ slice_get T r) → slice_get T M ≡ Some 10 → ListEnds edition T U 0 M (λ p. p) 10
+pub same_texts : (edition : Edition) (T U : List ℕ) (M : ℕ) → ((r : ℕ) → r < M + 1 → slice_get U r ≡ slice_get T r) →
+    slice_get T M ≡ Some 10 → ListEnds edition T U 0 M (λ p. p) 10
 same_texts edition T U M same byte = record {
   kept = record { under = omega arith; on = λ p k from. refl; same = λ r from lt. same r lt };
   under = omega arith;
@@ -186,16 +224,21 @@ unfolding raw_stands
 same_raw T U p is e = ap (λ b. is_byte b 10) is ∙ e
 
 -- U has the bytes of T up to where its line ends
-ended_alone : (edition : Edition) → (T U : List ℕ) (l : ALine) → IsLine edition T l → l.ended ≡ true → ((r : ℕ) → r < l.next → slice_get U r ≡ slice_get T r) → IsLine edition U l
+ended_alone : (edition : Edition) → (T U : List ℕ) (l : ALine) → IsLine edition T l → l.ended ≡ true →
+    ((r : ℕ) → r < l.next → slice_get U r ≡ slice_get T r) → IsLine edition U l
 ended_alone edition T U l (line_read es newline t k part) ended same =
     let both = and_parts _ _ ended in
     let M = t.at - 1 in
     let inner = level most_open in
-    let some : 0 < t.at = subst (Holds (λ (x : Row AnEntry × Bool) (u : State). x.1 ≡ true → 0 < u.at)) (sym ((is_form (a_line inner false) (given edition T 0) (standing 0)).only _ _ part)) (line_ended_low inner false Whole (given edition T 0) (standing 0)).told both.0 in
+    let some : 0 < t.at = subst (Holds (λ (x : Row AnEntry × Bool) (u : State). x.1 ≡ true → 0 < u.at))
+    (sym ((is_form (a_line inner false) (given edition T 0) (standing 0)).only _ _ part))
+    (line_ended_low inner false Whole (given edition T 0) (standing 0)).told both.0 in
     let E = same_texts edition T U M (λ r lt. same r (omega (arith, lt, some))) (newline_at T M both.1) in
-    let again = line_again E 0 0 (λ p from. refl) inner (shown_level (given edition T 0) most_open) false (standing 0) (omega arith) (Ok ((es, newline), t)) k part (both.0, omega (arith, some)) in
+    let again = line_again E 0 0 (λ p from. refl) inner (shown_level (given edition T 0) most_open) false (standing 0)
+    (omega arith) (Ok ((es, newline), t)) k part (both.0, omega (arith, some)) in
     let there_too : raw_stands U M 10 ≡ true = same_raw T U M (same M (omega (arith, some))) both.1 in
-    subst (λ (c : Bool). IsLine edition U (record { kind = kind_of es newline; next = t.at; ended = newline && c })) (there_too ∙ sym both.1) (line_read es newline t again.1.0 again.1.1)
+    subst (λ (c : Bool). IsLine edition U (record { kind = kind_of es newline; next = t.at; ended = newline && c }))
+    (there_too ∙ sym both.1) (line_read es newline t again.1.0 again.1.1)
 ended_alone edition T U l (line_stops f k part) ended same = absurd cc
 
 pub get_take : (n : ℕ) (B : List ℕ) (r : ℕ) → r < n → slice_get (take n B) r ≡ slice_get B r
@@ -207,8 +250,10 @@ get_take (suc n) (b ∷ B) (suc r) lt = get_take n B r (omega arith)
 pub same_front : (n : ℕ) (T U : List ℕ) → take n U ≡ take n T → (r : ℕ) → r < n → slice_get U r ≡ slice_get T r
 same_front n T U is r lt = sym (get_take n U r lt) ∙ ap (λ B. slice_get B r) is ∙ get_take n T r lt
 
-pub no_further : (edition : Edition) → (T : List ℕ) (l : ALine) → IsLine edition T l → l.ended ≡ true → NoFurther edition T l
-no_further edition T l is ended other q same = ended_alone edition T (drop q other) l is ended (same_front l.next T (drop q other) same)
+pub no_further : (edition : Edition) → (T : List ℕ) (l : ALine) → IsLine edition T l → l.ended ≡ true →
+    NoFurther edition T l
+no_further edition T l is ended other q same =
+    ended_alone edition T (drop q other) l is ended (same_front l.next T (drop q other) same)
 
 pub same_bytes : (edition : Edition) → (T : List ℕ) (l : ALine) → IsLine edition T l → SameBytes edition T l
 same_bytes edition T l is other q same = subst (λ U. IsLine edition U l) (sym same) is

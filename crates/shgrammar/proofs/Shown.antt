@@ -36,7 +36,8 @@ some_read T q None is e = absurd cc
 some_read T q (Some b) is e = slice_get_within T q b is
 
 -- a byte that is none of these is no operator
-no_operator : (b : ℕ) → (b == 38) ≡ false → (b == 124) ≡ false → (b == 59) ≡ false → (b == 40) ≡ false → (b == 41) ≡ false → (b == 60) ≡ false → (b == 62) ≡ false → is_operator b ≡ false
+no_operator : (b : ℕ) → (b == 38) ≡ false → (b == 124) ≡ false → (b == 59) ≡ false → (b == 40) ≡ false →
+    (b == 41) ≡ false → (b == 60) ≡ false → (b == 62) ≡ false → is_operator b ≡ false
 no_operator b one two three four five six seven = rw (one, two, three, four, five, six, seven) refl
 
 -- what the bytes at p are, by the token
@@ -47,7 +48,8 @@ Byte T p b tokens.AndIf = IsRead T (behind T p)
 Byte T p b tokens.OrIf = IsRead T (behind T p)
 Byte T p b tokens.DoubleSemicolon = IsRead T (behind T p)
 Byte T p b tokens.SemicolonAmpersand = IsRead T (behind T p)
-Byte T p b (tokens.Redirect o) = (is_long o ≡ true → IsRead T (behind T p)) × (is_strip o ≡ true → IsRead T (behind T (behind T p))) × (takes_here o ≡ true → is_byte b 60 ≡ true)
+Byte T p b (tokens.Redirect o) = (is_long o ≡ true → IsRead T (behind T p))
+    × (is_strip o ≡ true → IsRead T (behind T (behind T p))) × (takes_here o ≡ true → is_byte b 60 ≡ true)
 Byte T p b (tokens.Reserved r) = ends b ≡ false
 Byte T p b tokens.Assignment = ends b ≡ false
 Byte T p b tokens.Word = ends b ≡ false
@@ -74,7 +76,9 @@ module _ (T : List ℕ) (p : ℕ) where
   less_long : Long (less_at T (behind T p))
   unfolding less_at
   less_long =
-      cond_both (stands T (behind T p) 60) _ _ Long (λ e. cond_both (stands T (behind T (behind T p)) 45) _ _ Long (λ f l. stands_read T (behind T p) 60 e) (λ f l. stands_read T (behind T p) 60 e))
+      cond_both (stands T (behind T p) 60) _ _ Long
+      (λ e. cond_both (stands T (behind T (behind T p)) 45) _ _ Long (λ f l. stands_read T (behind T p) 60 e)
+      (λ f l. stands_read T (behind T p) 60 e))
       (λ e. cond_both (stands T (behind T p) 38) _ _ Long (λ f l. stands_read T (behind T p) 38 f)
       (λ f. cond_both (stands T (behind T p) 62) _ _ Long (λ g l. stands_read T (behind T p) 62 g) (λ g l. absurd cc)))
 
@@ -85,21 +89,26 @@ module _ (T : List ℕ) (p : ℕ) where
   less_strip : Strip (less_at T (behind T p))
   unfolding less_at
   less_strip =
-      cond_both (stands T (behind T p) 60) _ _ Strip (λ e. cond_both (stands T (behind T (behind T p)) 45) _ _ Strip (λ f l. stands_read T (behind T (behind T p)) 45 f) (λ f l. absurd cc))
-      (λ e. cond_both (stands T (behind T p) 38) _ _ Strip (λ f l. absurd cc) (λ f. cond_both (stands T (behind T p) 62) _ _ Strip (λ g l. absurd cc) (λ g l. absurd cc)))
+      cond_both (stands T (behind T p) 60) _ _ Strip
+      (λ e. cond_both (stands T (behind T (behind T p)) 45) _ _ Strip
+      (λ f l. stands_read T (behind T (behind T p)) 45 f) (λ f l. absurd cc))
+      (λ e. cond_both (stands T (behind T p) 38) _ _ Strip (λ f l. absurd cc)
+      (λ f. cond_both (stands T (behind T p) 62) _ _ Strip (λ g l. absurd cc) (λ g l. absurd cc)))
 
   greater_strip : Strip (greater_at T (behind T p))
   unfolding greater_at
   greater_strip =
       cond_both (stands T (behind T p) 62) _ _ Strip (λ e l. absurd cc)
-      (λ e. cond_both (stands T (behind T p) 38) _ _ Strip (λ f l. absurd cc) (λ f. cond_both (stands T (behind T p) 124) _ _ Strip (λ g l. absurd cc) (λ g l. absurd cc)))
+      (λ e. cond_both (stands T (behind T p) 38) _ _ Strip (λ f l. absurd cc)
+      (λ f. cond_both (stands T (behind T p) 124) _ _ Strip (λ g l. absurd cc) (λ g l. absurd cc)))
 
   greater_long : Long (greater_at T (behind T p))
   unfolding greater_at
   greater_long =
       cond_both (stands T (behind T p) 62) _ _ Long (λ e l. stands_read T (behind T p) 62 e)
       (λ e. cond_both (stands T (behind T p) 38) _ _ Long (λ f l. stands_read T (behind T p) 38 f)
-      (λ f. cond_both (stands T (behind T p) 124) _ _ Long (λ g l. stands_read T (behind T p) 124 g) (λ g l. absurd cc)))
+      (λ f. cond_both (stands T (behind T p) 124) _ _ Long (λ g l. stands_read T (behind T p) 124 g)
+      (λ g l. absurd cc)))
 
   -- and none that begins with `>` takes a here-document
   greater_plain : (b : Option ℕ) → takes_here (greater_at T (behind T p)) ≡ true → is_byte b 60 ≡ true
@@ -107,7 +116,8 @@ module _ (T : List ℕ) (p : ℕ) where
   greater_plain b =
       let Plain : RedirectOperator → Type 0 = λ o. takes_here o ≡ true → is_byte b 60 ≡ true in
       cond_both (stands T (behind T p) 62) _ _ Plain (λ e l. absurd cc)
-      (λ e. cond_both (stands T (behind T p) 38) _ _ Plain (λ f l. absurd cc) (λ f. cond_both (stands T (behind T p) 124) _ _ Plain (λ g l. absurd cc) (λ g l. absurd cc)))
+      (λ e. cond_both (stands T (behind T p) 38) _ _ Plain (λ f l. absurd cc)
+      (λ f. cond_both (stands T (behind T p) 124) _ _ Plain (λ g l. absurd cc) (λ g l. absurd cc)))
 
   -- by the byte
   token_byte : (position : Position) (b : Option ℕ) → passes is_blank b ≡ false → Byte T p b (token_of position T p b)
@@ -115,15 +125,21 @@ module _ (T : List ℕ) (p : ℕ) where
   token_byte position (Some b) blank =
       let P = Byte T p (Some b) in
       cond_both (is_newline b) _ _ P (λ e. e)
-      (λ n. cond_both (b == 59) _ _ P (λ e. cond_both (stands T (behind T p) 59) _ _ P (λ f. stands_read T (behind T p) 59 f) (λ f. cond_both (stands T (behind T p) 38) _ _ P (λ g. stands_read T (behind T p) 38 g) (λ g. tt)))
-      (λ e. cond_both (b == 38) _ _ P (λ f. cond_both (stands T (behind T p) 38) _ _ P (λ g. stands_read T (behind T p) 38 g) (λ g. tt))
-      (λ f. cond_both (b == 124) _ _ P (λ g. cond_both (stands T (behind T p) 124) _ _ P (λ h. stands_read T (behind T p) 124 h) (λ h. tt))
+      (λ n. cond_both (b == 59) _ _ P
+      (λ e. cond_both (stands T (behind T p) 59) _ _ P (λ f. stands_read T (behind T p) 59 f)
+      (λ f. cond_both (stands T (behind T p) 38) _ _ P (λ g. stands_read T (behind T p) 38 g) (λ g. tt)))
+      (λ e. cond_both (b == 38) _ _ P
+      (λ f. cond_both (stands T (behind T p) 38) _ _ P (λ g. stands_read T (behind T p) 38 g) (λ g. tt))
+      (λ f. cond_both (b == 124) _ _ P
+      (λ g. cond_both (stands T (behind T p) 124) _ _ P (λ h. stands_read T (behind T p) 124 h) (λ h. tt))
       (λ i. cond_both (b == 40) _ _ P (λ g. tt)
       (λ j. cond_both (b == 41) _ _ P (λ g. tt)
       (λ k. cond_both (b == 60) _ _ P (λ g. (less_long, less_strip, λ h. g))
       (λ l. cond_both (b == 62) _ _ P (λ g. (greater_long, greater_strip, greater_plain (Some b)))
       (λ m. cond_both (b == 35) _ _ P (λ g. tt)
-      (λ g. cond_both (is_number T p) _ _ P (λ h. tt) (λ h. in_position position (Some b) (or_from _ _ (or_from _ _ blank n) (no_operator b f i e j k l m))))))))))))
+      (λ g. cond_both (is_number T p) _ _ P (λ h. tt)
+      (λ h. in_position position (Some b)
+      (or_from _ _ (or_from _ _ blank n) (no_operator b f i e j k l m))))))))))))
 
   -- a token that is not the end has a byte
   some_byte : (position : Position) (b : Option ℕ) → is_end (token_of position T p b) ≡ false → is_none b ≡ false
@@ -135,57 +151,302 @@ module _ (T : List ℕ) (p : ℕ) where
   hash_byte position None e = absurd cc
   hash_byte position (Some b) e = rw (eqb-true b 35 e) refl
 
-  no_hash : (position : Position) (b : Option ℕ) (hash : Bool) → is_byte b 35 ≡ hash → is_comment (token_of position T p b) ≡ false → is_byte b 35 ≡ false
+  no_hash : (position : Position) (b : Option ℕ) (hash : Bool) → is_byte b 35 ≡ hash →
+      is_comment (token_of position T p b) ≡ false → is_byte b 35 ≡ false
   no_hash position b true is e =
       let contrary : true ≡ false = sym (hash_byte position b is) ∙ e in
       absurd cc
   no_hash position b false is e = is
 
-redirect_read : (T : List ℕ) (p : ℕ) (o : RedirectOperator) → (is_long o ≡ true → IsRead T (behind T p)) → (z : RedirectOperator) → redirect_operator_of (tokens.Redirect o) ≡ Some z → is_long z ≡ true → IsRead T (behind T p)
+redirect_read : (T : List ℕ) (p : ℕ) (o : RedirectOperator) → (is_long o ≡ true → IsRead T (behind T p)) →
+    (z : RedirectOperator) → redirect_operator_of (tokens.Redirect o) ≡ Some z → is_long z ≡ true →
+    IsRead T (behind T p)
 redirect_read T p o so z is long = let same : o ≡ z = cc in so (rw same long)
 
-strip_read : (T : List ℕ) (p : ℕ) (o : RedirectOperator) → (is_strip o ≡ true → IsRead T (behind T (behind T p))) → (z : RedirectOperator) → redirect_operator_of (tokens.Redirect o) ≡ Some z → is_strip z ≡ true → IsRead T (behind T (behind T p))
+strip_read : (T : List ℕ) (p : ℕ) (o : RedirectOperator) → (is_strip o ≡ true → IsRead T (behind T (behind T p))) →
+    (z : RedirectOperator) → redirect_operator_of (tokens.Redirect o) ≡ Some z → is_strip z ≡ true →
+    IsRead T (behind T (behind T p))
 strip_read T p o so z is strip = let same : o ≡ z = cc in so (rw same strip)
 
-here_read : (T : List ℕ) (p : ℕ) (o : RedirectOperator) → (takes_here o ≡ true → raw_stands T p 60 ≡ true) → (z : RedirectOperator) → redirect_operator_of (tokens.Redirect o) ≡ Some z → takes_here z ≡ true → raw_stands T p 60 ≡ true
+here_read : (T : List ℕ) (p : ℕ) (o : RedirectOperator) → (takes_here o ≡ true → raw_stands T p 60 ≡ true) →
+    (z : RedirectOperator) → redirect_operator_of (tokens.Redirect o) ≡ Some z → takes_here z ≡ true →
+    raw_stands T p 60 ≡ true
 here_read T p o so z is takes = let same : o ≡ z = cc in so (rw same takes)
 
-shows_by : (T : List ℕ) (p : ℕ) (t : Token) → past_continuations T p ≡ p → (is_end t ≡ false → IsRead T p) → Byte T p (byte_at T p) t → (is_comment t ≡ false → raw_stands T p 35 ≡ false) → Shows t T p
+shows_by : (T : List ℕ) (p : ℕ) (t : Token) → past_continuations T p ≡ p → (is_end t ≡ false → IsRead T p) →
+    Byte T p (byte_at T p) t → (is_comment t ≡ false → raw_stands T p 35 ≡ false) → Shows t T p
 unfolding ends_word raw_stands at_end
-shows_by T p tokens.End still some e none = (λ f. absurd cc, some, λ f. absurd cc, λ f. ap (λ q. is_none (slice_get T q)) (sym still) ∙ e, λ o f. absurd cc, none, still, λ f. absurd cc, λ f. absurd cc, λ o f. absurd cc, λ o f. absurd cc, λ o f. absurd cc)
-shows_by T p tokens.Newline still some e none = (λ f. absurd cc, some, λ f. ap (λ q. is_byte (slice_get T q) 10) (sym still) ∙ e, λ f. absurd cc, λ o f. absurd cc, none, still, λ f. absurd cc, λ f. absurd cc, λ o f. absurd cc, λ o f. absurd cc, λ o f. absurd cc)
-shows_by T p tokens.Semicolon still some e none = (λ f. absurd cc, some, λ f. absurd cc, λ f. absurd cc, λ o f. absurd cc, none, still, λ f. absurd cc, λ f. absurd cc, λ o f. absurd cc, λ o f. absurd cc, λ o f. absurd cc)
-shows_by T p tokens.DoubleSemicolon still some e none = (λ f. absurd cc, some, λ f. absurd cc, λ f. absurd cc, λ o f. absurd cc, none, still, λ f. absurd cc, λ f. e, λ o f. absurd cc, λ o f. absurd cc, λ o f. absurd cc)
-shows_by T p tokens.SemicolonAmpersand still some e none = (λ f. absurd cc, some, λ f. absurd cc, λ f. absurd cc, λ o f. absurd cc, none, still, λ f. absurd cc, λ f. e, λ o f. absurd cc, λ o f. absurd cc, λ o f. absurd cc)
-shows_by T p tokens.Ampersand still some e none = (λ f. absurd cc, some, λ f. absurd cc, λ f. absurd cc, λ o f. absurd cc, none, still, λ f. absurd cc, λ f. absurd cc, λ o f. absurd cc, λ o f. absurd cc, λ o f. absurd cc)
-shows_by T p tokens.AndIf still some e none = (λ f. absurd cc, some, λ f. absurd cc, λ f. absurd cc, λ o f. e, none, still, λ f. absurd cc, λ f. absurd cc, λ o f. absurd cc, λ o f. absurd cc, λ o f. absurd cc)
-shows_by T p tokens.OrIf still some e none = (λ f. absurd cc, some, λ f. absurd cc, λ f. absurd cc, λ o f. e, none, still, λ f. absurd cc, λ f. absurd cc, λ o f. absurd cc, λ o f. absurd cc, λ o f. absurd cc)
-shows_by T p tokens.Pipe still some e none = (λ f. absurd cc, some, λ f. absurd cc, λ f. absurd cc, λ o f. absurd cc, none, still, λ f. absurd cc, λ f. absurd cc, λ o f. absurd cc, λ o f. absurd cc, λ o f. absurd cc)
-shows_by T p tokens.OpenParen still some e none = (λ f. absurd cc, some, λ f. absurd cc, λ f. absurd cc, λ o f. absurd cc, none, still, λ f. absurd cc, λ f. absurd cc, λ o f. absurd cc, λ o f. absurd cc, λ o f. absurd cc)
-shows_by T p tokens.CloseParen still some e none = (λ f. absurd cc, some, λ f. absurd cc, λ f. absurd cc, λ o f. absurd cc, none, still, λ f. absurd cc, λ f. absurd cc, λ o f. absurd cc, λ o f. absurd cc, λ o f. absurd cc)
-shows_by T p (tokens.Redirect z) still some e none = (λ f. absurd cc, some, λ f. absurd cc, λ f. absurd cc, λ o f. absurd cc, none, still, λ f. absurd cc, λ f. absurd cc, redirect_read T p z e.0, strip_read T p z e.1, here_read T p z (λ f. ap (λ q. is_byte (slice_get T q) 60) (sym still) ∙ e.2 f))
-shows_by T p tokens.Comment still some e none = (λ f. absurd cc, some, λ f. absurd cc, λ f. absurd cc, λ o f. absurd cc, none, still, λ f. absurd cc, λ f. absurd cc, λ o f. absurd cc, λ o f. absurd cc, λ o f. absurd cc)
-shows_by T p tokens.Number still some e none = (λ f. absurd cc, some, λ f. absurd cc, λ f. absurd cc, λ o f. absurd cc, none, still, λ f. absurd cc, λ f. absurd cc, λ o f. absurd cc, λ o f. absurd cc, λ o f. absurd cc)
-shows_by T p (tokens.Reserved r) still some e none = (λ f. absurd cc, some, λ f. absurd cc, λ f. absurd cc, λ o f. absurd cc, none, still, λ f. e, λ f. absurd cc, λ o f. absurd cc, λ o f. absurd cc, λ o f. absurd cc)
-shows_by T p tokens.Assignment still some e none = (λ f. e, some, λ f. absurd cc, λ f. absurd cc, λ o f. absurd cc, none, still, λ f. e, λ f. absurd cc, λ o f. absurd cc, λ o f. absurd cc, λ o f. absurd cc)
-shows_by T p tokens.Word still some e none = (λ f. e, some, λ f. absurd cc, λ f. absurd cc, λ o f. absurd cc, none, still, λ f. e, λ f. absurd cc, λ o f. absurd cc, λ o f. absurd cc, λ o f. absurd cc)
+shows_by T p tokens.End still some e none = (
+  λ f. absurd cc,
+  some,
+  λ f. absurd cc,
+  λ f. ap (λ q. is_none (slice_get T q)) (sym still) ∙ e,
+  λ o f. absurd cc,
+  none,
+  still,
+  λ f. absurd cc,
+  λ f. absurd cc,
+  λ o f. absurd cc,
+  λ o f. absurd cc,
+  λ o f. absurd cc,
+)
+shows_by T p tokens.Newline still some e none = (
+  λ f. absurd cc,
+  some,
+  λ f. ap (λ q. is_byte (slice_get T q) 10) (sym still) ∙ e,
+  λ f. absurd cc,
+  λ o f. absurd cc,
+  none,
+  still,
+  λ f. absurd cc,
+  λ f. absurd cc,
+  λ o f. absurd cc,
+  λ o f. absurd cc,
+  λ o f. absurd cc,
+)
+shows_by T p tokens.Semicolon still some e none = (
+  λ f. absurd cc,
+  some,
+  λ f. absurd cc,
+  λ f. absurd cc,
+  λ o f. absurd cc,
+  none,
+  still,
+  λ f. absurd cc,
+  λ f. absurd cc,
+  λ o f. absurd cc,
+  λ o f. absurd cc,
+  λ o f. absurd cc,
+)
+shows_by T p tokens.DoubleSemicolon still some e none = (
+  λ f. absurd cc,
+  some,
+  λ f. absurd cc,
+  λ f. absurd cc,
+  λ o f. absurd cc,
+  none,
+  still,
+  λ f. absurd cc,
+  λ f. e,
+  λ o f. absurd cc,
+  λ o f. absurd cc,
+  λ o f. absurd cc,
+)
+shows_by T p tokens.SemicolonAmpersand still some e none = (
+  λ f. absurd cc,
+  some,
+  λ f. absurd cc,
+  λ f. absurd cc,
+  λ o f. absurd cc,
+  none,
+  still,
+  λ f. absurd cc,
+  λ f. e,
+  λ o f. absurd cc,
+  λ o f. absurd cc,
+  λ o f. absurd cc,
+)
+shows_by T p tokens.Ampersand still some e none = (
+  λ f. absurd cc,
+  some,
+  λ f. absurd cc,
+  λ f. absurd cc,
+  λ o f. absurd cc,
+  none,
+  still,
+  λ f. absurd cc,
+  λ f. absurd cc,
+  λ o f. absurd cc,
+  λ o f. absurd cc,
+  λ o f. absurd cc,
+)
+shows_by T p tokens.AndIf still some e none = (
+  λ f. absurd cc,
+  some,
+  λ f. absurd cc,
+  λ f. absurd cc,
+  λ o f. e,
+  none,
+  still,
+  λ f. absurd cc,
+  λ f. absurd cc,
+  λ o f. absurd cc,
+  λ o f. absurd cc,
+  λ o f. absurd cc,
+)
+shows_by T p tokens.OrIf still some e none = (
+  λ f. absurd cc,
+  some,
+  λ f. absurd cc,
+  λ f. absurd cc,
+  λ o f. e,
+  none,
+  still,
+  λ f. absurd cc,
+  λ f. absurd cc,
+  λ o f. absurd cc,
+  λ o f. absurd cc,
+  λ o f. absurd cc,
+)
+shows_by T p tokens.Pipe still some e none = (
+  λ f. absurd cc,
+  some,
+  λ f. absurd cc,
+  λ f. absurd cc,
+  λ o f. absurd cc,
+  none,
+  still,
+  λ f. absurd cc,
+  λ f. absurd cc,
+  λ o f. absurd cc,
+  λ o f. absurd cc,
+  λ o f. absurd cc,
+)
+shows_by T p tokens.OpenParen still some e none = (
+  λ f. absurd cc,
+  some,
+  λ f. absurd cc,
+  λ f. absurd cc,
+  λ o f. absurd cc,
+  none,
+  still,
+  λ f. absurd cc,
+  λ f. absurd cc,
+  λ o f. absurd cc,
+  λ o f. absurd cc,
+  λ o f. absurd cc,
+)
+shows_by T p tokens.CloseParen still some e none = (
+  λ f. absurd cc,
+  some,
+  λ f. absurd cc,
+  λ f. absurd cc,
+  λ o f. absurd cc,
+  none,
+  still,
+  λ f. absurd cc,
+  λ f. absurd cc,
+  λ o f. absurd cc,
+  λ o f. absurd cc,
+  λ o f. absurd cc,
+)
+shows_by T p (tokens.Redirect z) still some e none = (
+  λ f. absurd cc,
+  some,
+  λ f. absurd cc,
+  λ f. absurd cc,
+  λ o f. absurd cc,
+  none,
+  still,
+  λ f. absurd cc,
+  λ f. absurd cc,
+  redirect_read T p z e.0,
+  strip_read T p z e.1,
+  here_read T p z (λ f. ap (λ q. is_byte (slice_get T q) 60) (sym still) ∙ e.2 f),
+)
+shows_by T p tokens.Comment still some e none = (
+  λ f. absurd cc,
+  some,
+  λ f. absurd cc,
+  λ f. absurd cc,
+  λ o f. absurd cc,
+  none,
+  still,
+  λ f. absurd cc,
+  λ f. absurd cc,
+  λ o f. absurd cc,
+  λ o f. absurd cc,
+  λ o f. absurd cc,
+)
+shows_by T p tokens.Number still some e none = (
+  λ f. absurd cc,
+  some,
+  λ f. absurd cc,
+  λ f. absurd cc,
+  λ o f. absurd cc,
+  none,
+  still,
+  λ f. absurd cc,
+  λ f. absurd cc,
+  λ o f. absurd cc,
+  λ o f. absurd cc,
+  λ o f. absurd cc,
+)
+shows_by T p (tokens.Reserved r) still some e none = (
+  λ f. absurd cc,
+  some,
+  λ f. absurd cc,
+  λ f. absurd cc,
+  λ o f. absurd cc,
+  none,
+  still,
+  λ f. e,
+  λ f. absurd cc,
+  λ o f. absurd cc,
+  λ o f. absurd cc,
+  λ o f. absurd cc,
+)
+shows_by T p tokens.Assignment still some e none = (
+  λ f. e,
+  some,
+  λ f. absurd cc,
+  λ f. absurd cc,
+  λ o f. absurd cc,
+  none,
+  still,
+  λ f. e,
+  λ f. absurd cc,
+  λ o f. absurd cc,
+  λ o f. absurd cc,
+  λ o f. absurd cc,
+)
+shows_by T p tokens.Word still some e none = (
+  λ f. e,
+  some,
+  λ f. absurd cc,
+  λ f. absurd cc,
+  λ o f. absurd cc,
+  none,
+  still,
+  λ f. e,
+  λ f. absurd cc,
+  λ o f. absurd cc,
+  λ o f. absurd cc,
+  λ o f. absurd cc,
+)
 
 pub blanks_still : (T : List ℕ) (p : ℕ) → past_continuations T (past_blanks T p) ≡ past_blanks T p
 unfolding past_blanks
 blanks_still T p = place_same T _
 
 -- a token says this of the bytes behind blanks
-pub shown : (position : Position) (T : List ℕ) (p : ℕ) → Shows (token_at position T (past_blanks T p)) T (past_blanks T p)
+pub shown : (position : Position) (T : List ℕ) (p : ℕ) →
+    Shows (token_at position T (past_blanks T p)) T (past_blanks T p)
 unfolding token_at stands_in raw_stands
 shown position T p =
     let q = past_blanks T p in
-    shows_by T q _ (blanks_still T p) (λ e. some_read T _ _ refl (some_byte T q position (byte_at T q) e)) (token_byte T q position (byte_at T q) (blanks_stop T p))
+    shows_by T q _ (blanks_still T p) (λ e. some_read T _ _ refl (some_byte T q position (byte_at T q) e))
+    (token_byte T q position (byte_at T q) (blanks_stop T p))
     (λ e. ap (λ r. is_byte (slice_get T r) 35) (sym (blanks_still T p)) ∙ no_hash T q position (byte_at T q) _ refl e)
 
 -- the token that an edition has in its place says no more of them
-shows_later : (T : List ℕ) (p : ℕ) (later : Bool) → Shows tokens.SemicolonAmpersand T p → Shows (cond later tokens.SemicolonAmpersand tokens.Semicolon) T p
+shows_later : (T : List ℕ) (p : ℕ) (later : Bool) → Shows tokens.SemicolonAmpersand T p →
+    Shows (cond later tokens.SemicolonAmpersand tokens.Semicolon) T p
 shows_later T p true so = so
-shows_later T p false so = (λ f. absurd cc, so.1, λ f. absurd cc, λ f. absurd cc, λ o f. absurd cc, so.5, so.6, λ f. absurd cc, λ f. absurd cc, λ o f. absurd cc, λ o f. absurd cc, λ o f. absurd cc)
+shows_later T p false so = (
+  λ f. absurd cc,
+  so.1,
+  λ f. absurd cc,
+  λ f. absurd cc,
+  λ o f. absurd cc,
+  so.5,
+  so.6,
+  λ f. absurd cc,
+  λ f. absurd cc,
+  λ o f. absurd cc,
+  λ o f. absurd cc,
+  λ o f. absurd cc,
+)
 
 pub shows_in : (edition : Edition) (t : Token) (T : List ℕ) (p : ℕ) → Shows t T p → Shows (token_in edition t) T p
 shows_in edition tokens.SemicolonAmpersand T p so = shows_later T p (is_later edition) so
@@ -206,8 +467,10 @@ shows_in edition (tokens.Reserved r) T p so = so
 shows_in edition tokens.Assignment T p so = so
 shows_in edition tokens.Word T p so = so
 
-pub shown_in : (edition : Edition) (position : Position) (T : List ℕ) (p : ℕ) → Shows (token_in edition (token_at position T (past_blanks T p))) T (past_blanks T p)
-shown_in edition position T p = shows_in edition (token_at position T (past_blanks T p)) T (past_blanks T p) (shown position T p)
+pub shown_in : (edition : Edition) (position : Position) (T : List ℕ) (p : ℕ) →
+    Shows (token_in edition (token_at position T (past_blanks T p))) T (past_blanks T p)
+shown_in edition position T p =
+    shows_in edition (token_at position T (past_blanks T p)) T (past_blanks T p) (shown position T p)
 
 -- what a token says of them is a fact: it has one value at most
 pub shows_prop : (token : Token) (T : List ℕ) (p : ℕ) → IsProp (Shows token T p)

@@ -18,7 +18,8 @@ get_drop (suc n) (b ∷ B) i =
 
 -- ---- stretches of the text as it stands
 
-count_at : (test : ℕ → Bool) (T : List ℕ) (p : ℕ) → count_front test (drop p T) ≡ cond (passes test (slice_get T p)) (1 + count_front test (drop (p + 1) T)) 0
+count_at : (test : ℕ → Bool) (T : List ℕ) (p : ℕ) →
+    count_front test (drop p T) ≡ cond (passes test (slice_get T p)) (1 + count_front test (drop (p + 1) T)) 0
 unfolding count_front
 count_at test [] zero = refl
 count_at test [] (suc p) = refl
@@ -27,7 +28,8 @@ count_at test (b ∷ T) (suc p) =
     let next : suc p + 1 ≡ suc (p + 1) = omega arith in
     rw next (count_at test T p)
 
-pub raw_more : (test : ℕ → Bool) (T : List ℕ) (p : ℕ) → raw_in test T p ≡ true → raw_past test T p ≡ raw_past test T (p + 1)
+pub raw_more : (test : ℕ → Bool) (T : List ℕ) (p : ℕ) → raw_in test T p ≡ true →
+    raw_past test T p ≡ raw_past test T (p + 1)
 unfolding raw_past raw_in
 raw_more test T p e =
     let count : count_front test (drop p T) ≡ 1 + count_front test (drop (p + 1) T) = count_at test T p ∙ rw e refl in
@@ -40,7 +42,8 @@ raw_none test T p e =
     omega (arith, count)
 
 -- a stretch from what stands in it and behind it
-pub raw_is : (test : ℕ → Bool) (T : List ℕ) (p n : ℕ) → ((k : ℕ) → p ≤ k → k < p + n → raw_in test T k ≡ true) → raw_in test T (p + n) ≡ false → raw_past test T p ≡ p + n
+pub raw_is : (test : ℕ → Bool) (T : List ℕ) (p n : ℕ) → ((k : ℕ) → p ≤ k → k < p + n → raw_in test T k ≡ true) →
+    raw_in test T (p + n) ≡ false → raw_past test T p ≡ p + n
 raw_is test T p zero in_it after =
     let same : p + zero ≡ p = omega arith in
     rw same (raw_none test T p (rw same at after))
@@ -50,7 +53,8 @@ raw_is test T p (suc n) in_it after =
     ∙ raw_is test T (p + 1) n (λ k low high. in_it k (omega arith) (omega arith)) (rw next after) ∙ next
 
 -- a stretch goes on behind what stands in it
-pub raw_on : (test : ℕ → Bool) (T : List ℕ) (p n : ℕ) → ((k : ℕ) → p ≤ k → k < p + n → raw_in test T k ≡ true) → raw_past test T p ≡ raw_past test T (p + n)
+pub raw_on : (test : ℕ → Bool) (T : List ℕ) (p n : ℕ) → ((k : ℕ) → p ≤ k → k < p + n → raw_in test T k ≡ true) →
+    raw_past test T p ≡ raw_past test T (p + n)
 raw_on test T p zero in_it =
     let same : p + zero ≡ p = omega arith in
     rw same refl
@@ -66,7 +70,9 @@ alone : (x : Bool) (n : ℕ) → 0 ≡ cond (x && false) n 0
 alone true n = refl
 alone false n = refl
 
-joined_at : (T : List ℕ) (p : ℕ) → count_joined (drop p T) ≡ cond (is_byte (slice_get T p) 92 && is_byte (slice_get T (p + 1)) 10) (2 + count_joined (drop (p + 2) T)) 0
+joined_at : (T : List ℕ) (p : ℕ) →
+    count_joined (drop p T) ≡ cond (is_byte (slice_get T p) 92 && is_byte (slice_get T (p + 1)) 10)
+    (2 + count_joined (drop (p + 2) T)) 0
 unfolding count_joined
 joined_at [] zero = refl
 joined_at [] (suc p) = refl
@@ -96,12 +102,14 @@ unfolding past_continuations
 place_low T p = omega arith
 
 -- a byte that passes a test is one
-pub passes_low : (test : ℕ → Bool) (T : List ℕ) (q : ℕ) (b : Option ℕ) → slice_get T q ≡ b → passes test b ≡ true → q < length T
+pub passes_low : (test : ℕ → Bool) (T : List ℕ) (q : ℕ) (b : Option ℕ) → slice_get T q ≡ b → passes test b ≡ true →
+    q < length T
 passes_low test T q None is e = absurd cc
 passes_low test T q (Some b) is e = slice_get_within T q b is
 
 -- where a byte of a class is read there is one
-pub stands_in_low : (test : ℕ → Bool) (T : List ℕ) (p : ℕ) → stands_in test T p ≡ true → past_continuations T p < length T
+pub stands_in_low : (test : ℕ → Bool) (T : List ℕ) (p : ℕ) → stands_in test T p ≡ true →
+    past_continuations T p < length T
 unfolding stands_in
 stands_in_low test T p e = passes_low test T (past_continuations T p) (byte_at T p) refl e
 
@@ -109,7 +117,8 @@ stands_in_low test T p e = passes_low test T (past_continuations T p) (byte_at T
 none_left : (test : ℕ → Bool) (T : List ℕ) (p : ℕ) → length T ≤ p → stands_in test T p ≡ false
 unfolding stands_in
 none_left test T p end =
-    let none : slice_get T (past_continuations T p) ≡ None = slice_get_past T (past_continuations T p) (omega (arith, place_low T p)) in
+    let none : slice_get T (past_continuations T p) ≡ None =
+    slice_get_past T (past_continuations T p) (omega (arith, place_low T p)) in
     rw none refl
 
 -- one more byte of the stretch, or its end
@@ -118,21 +127,25 @@ turn test T p true x y same = same refl
 turn test T p false x y same = refl
 
 -- with enough turns, how many they are does not matter
-enough : (test : ℕ → Bool) (T : List ℕ) (n m p : ℕ) → length T - p ≤ n → length T - p ≤ m → past_below n test T p ≡ past_below m test T p
+enough : (test : ℕ → Bool) (T : List ℕ) (n m p : ℕ) → length T - p ≤ n → length T - p ≤ m →
+    past_below n test T p ≡ past_below m test T p
 unfolding past_below behind
 enough test T zero zero p low_n low_m = refl
 enough test T zero (suc m) p low_n low_m = rw (none_left test T p (omega arith)) refl
 enough test T (suc n) zero p low_n low_m = rw (none_left test T p (omega arith)) refl
 enough test T (suc n) (suc m) p low_n low_m =
     turn test T p (stands_in test T p) _ _
-    (λ some. enough test T n m (past_continuations T p + 1) (omega (arith, place_low T p)) (omega (arith, place_low T p)))
+    (λ some. enough test T n m (past_continuations T p + 1) (omega (arith, place_low T p))
+    (omega (arith, place_low T p)))
 
-pub past_more : (test : ℕ → Bool) (T : List ℕ) (p : ℕ) → stands_in test T p ≡ true → past test T p ≡ past test T (behind T p)
+pub past_more : (test : ℕ → Bool) (T : List ℕ) (p : ℕ) → stands_in test T p ≡ true →
+    past test T p ≡ past test T (behind T p)
 unfolding past past_below behind
 past_more test T p e =
     let inside : past_continuations T p < length T = stands_in_low test T p e in
     let one : length T - p ≡ suc (length T - p - 1) = omega (arith, inside, place_low T p) in
-    rw (one, e) (enough test T (length T - p - 1) (length T - (past_continuations T p + 1)) (past_continuations T p + 1) (omega (arith, place_low T p)) (omega arith))
+    rw (one, e) (enough test T (length T - p - 1) (length T - (past_continuations T p + 1)) (past_continuations T p + 1)
+    (omega (arith, place_low T p)) (omega arith))
 
 none_more : (n : ℕ) (test : ℕ → Bool) (T : List ℕ) (p : ℕ) → stands_in test T p ≡ false → past_below n test T p ≡ p
 unfolding past_below
@@ -145,7 +158,8 @@ past_none test T p e = none_more (length T - p) test T p e
 
 -- ---- the end of a comment
 
-pub blanks_before : (T : List ℕ) (q : ℕ) → 0 < q → raw_in is_blank T (q - 1) ≡ true → before_blanks T q ≡ before_blanks T (q - 1)
+pub blanks_before : (T : List ℕ) (q : ℕ) → 0 < q → raw_in is_blank T (q - 1) ≡ true →
+    before_blanks T q ≡ before_blanks T (q - 1)
 unfolding before_blanks
 blanks_before T zero lt e = absurd (omega arith)
 blanks_before T (suc q) lt e =
@@ -165,15 +179,18 @@ nothing_before T q e = rw e refl
 
 -- ---- words spelled out
 
-pub word_more : (T : List ℕ) (p : ℕ) (word : List ℕ) (i : ℕ) → i < length word → stands T p (get_or word i 0) ≡ true → is_word_at T p (drop i word) ≡ is_word_at T (behind T p) (drop (i + 1) word)
+pub word_more : (T : List ℕ) (p : ℕ) (word : List ℕ) (i : ℕ) → i < length word → stands T p (get_or word i 0) ≡ true →
+    is_word_at T p (drop i word) ≡ is_word_at T (behind T p) (drop (i + 1) word)
 unfolding is_word_at
 word_more T p word i lt e = rw (drop-cons word i 0, add-one i, e) refl
 
-pub word_other : (T : List ℕ) (p : ℕ) (word : List ℕ) (i : ℕ) → i < length word → stands T p (get_or word i 0) ≡ false → is_word_at T p (drop i word) ≡ false
+pub word_other : (T : List ℕ) (p : ℕ) (word : List ℕ) (i : ℕ) → i < length word → stands T p (get_or word i 0) ≡ false →
+    is_word_at T p (drop i word) ≡ false
 unfolding is_word_at
 word_other T p word i lt e = rw (drop-cons word i 0, e) refl
 
-pub word_whole : (T : List ℕ) (p : ℕ) (word : List ℕ) (i : ℕ) → i ≡ length word → is_word_at T p (drop i word) ≡ ends_word T p
+pub word_whole : (T : List ℕ) (p : ℕ) (word : List ℕ) (i : ℕ) → i ≡ length word →
+    is_word_at T p (drop i word) ≡ ends_word T p
 unfolding is_word_at
 word_whole T p word i e = rw (e, drop-length word) refl
 
@@ -187,12 +204,15 @@ raw_letter : (T : List ℕ) (p c : ℕ) → raw_stands T p 92 ≡ false → stan
 unfolding stands raw_stands
 raw_letter T p c e = ap (λ q. is_byte (slice_get T q) c) (raw_stays T p e)
 
-pub letter_more : (T : List ℕ) (p : ℕ) (word : List ℕ) (i : ℕ) → i < length word → raw_stands T p 92 ≡ false → raw_stands T p (get_or word i 0) ≡ true
+pub letter_more : (T : List ℕ) (p : ℕ) (word : List ℕ) (i : ℕ) → i < length word → raw_stands T p 92 ≡ false →
+    raw_stands T p (get_or word i 0) ≡ true
     → is_word_at T p (drop i word) ≡ is_word_at T (p + 1) (drop (i + 1) word)
 unfolding behind
 letter_more T p word i lt e is =
-    word_more T p word i lt (raw_letter T p _ e ∙ is) ∙ ap (λ q. is_word_at T (q + 1) (drop (i + 1) word)) (raw_stays T p e)
+    word_more T p word i lt (raw_letter T p _ e ∙ is)
+    ∙ ap (λ q. is_word_at T (q + 1) (drop (i + 1) word)) (raw_stays T p e)
 
-pub letter_other : (T : List ℕ) (p : ℕ) (word : List ℕ) (i : ℕ) → i < length word → raw_stands T p 92 ≡ false → raw_stands T p (get_or word i 0) ≡ false
+pub letter_other : (T : List ℕ) (p : ℕ) (word : List ℕ) (i : ℕ) → i < length word → raw_stands T p 92 ≡ false →
+    raw_stands T p (get_or word i 0) ≡ false
     → is_word_at T p (drop i word) ≡ false
 letter_other T p word i lt e other = word_other T p word i lt (raw_letter T p _ e ∙ other)

@@ -37,20 +37,24 @@ module _ (g : Given) where
   abbrev N : {X : Type 0} → Form X → (X → State → Type 0) → State → Type 0
   N r P s = Tells Whole g r P s
 
-  after : {X Y : Type 0} {Q : Y → State → Type 0} {r : Form X} {q : X → Form Y} {s : State} → ((x : X) (t : State) → N (q x) Q t) → N (both r q) Q s
+  after : {X Y : Type 0} {Q : Y → State → Type 0} {r : Form X} {q : X → Form Y} {s : State} →
+      ((x : X) (t : State) → N (q x) Q t) → N (both r q) Q s
   after rest = tells_after Whole g rest
 
-  pushed_on : {A Y : Type 0} {Q : Y → State → Type 0} {xs : Row A} {x : A} {q : Row A → Form Y} {s : State} → N (q (xs ++ x ∷ [])) Q s → N (both (push xs x) q) Q s
+  pushed_on : {A Y : Type 0} {Q : Y → State → Type 0} {xs : Row A} {x : A} {q : Row A → Form Y} {s : State} →
+      N (q (xs ++ x ∷ [])) Q s → N (both (push xs x) q) Q s
   pushed_on rest = tells_pushed g rest
 
   -- this token begins here, in some position of a command
   abbrev pub Begins : Next → State → Type 0
-  Begins n t = (position : Position) × ((n.token ≡ token_in g.edition (token_at position g.text t.at)) × (past_continuations g.text t.at ≡ t.at))
+  Begins n t = (position : Position)
+      × ((n.token ≡ token_in g.edition (token_at position g.text t.at)) × (past_continuations g.text t.at ≡ t.at))
 
   abbrev pub Behind : {X : Type 0} → X × Next → State → Type 0
   Behind x t = Begins x.1 t
 
-  picked : {X : Type 0} {P : X → State → Type 0} (b : Bool) {r q : Form X} {s : State} → N r P s → N q P s → N (pick b r q) P s
+  picked : {X : Type 0} {P : X → State → Type 0} (b : Bool) {r q : Form X} {s : State} → N r P s → N q P s →
+      N (pick b r q) P s
   picked true one two = one
   picked false one two = two
 
@@ -63,19 +67,25 @@ module _ (g : Given) where
   shown_comment n s so = tells_seen Whole g (by_comment (comment_at g.text g.offset s.at))
     where
       by_comment : (c : Option Span) → N (comment_by n c) Behind s
-      by_comment (Some c) = after (λ x t. tells_then Whole g (shown_next Command t) (λ m u good. tells_give Whole g good))
+      by_comment (Some c) = after (λ x t. tells_then Whole g (shown_next Command t)
+          (λ m u good. tells_give Whole g good))
       by_comment None = tells_give Whole g so
 
   shown_newline : (n : Next) (s : State) → Begins n s → N (a_newline n) Behind s
   unfolding a_newline
-  shown_newline n s so = picked (is_newline_token n.token) (after (λ x t. after (λ y v. tells_then Whole g (shown_next Command v) (λ m u good. tells_give Whole g good)))) (tells_give Whole g so)
+  shown_newline n s so = picked (is_newline_token n.token)
+      (after (λ x t. after (λ y v. tells_then Whole g (shown_next Command v) (λ m u good. tells_give Whole g good))))
+      (tells_give Whole g so)
 
   shown_semicolon : (n : Next) (s : State) → Begins n s → N (a_semicolon n) Behind s
   unfolding a_semicolon
-  shown_semicolon n s so = picked (is_semicolon n.token) (after (λ x t. tells_then Whole g (shown_next Command t) (λ m u good. tells_give Whole g good))) (tells_give Whole g so)
+  shown_semicolon n s so = picked (is_semicolon n.token)
+      (after (λ x t. tells_then Whole g (shown_next Command t) (λ m u good. tells_give Whole g good)))
+      (tells_give Whole g so)
 
   shown_separator_by : (n : Next) (o : Option Separator) (s : State) → Begins n s → N (separator_by n o) Behind s
-  shown_separator_by n (Some x) s so = after (λ y t. tells_then Whole g (shown_next Command t) (λ m u good. tells_give Whole g good))
+  shown_separator_by n (Some x) s so =
+      after (λ y t. tells_then Whole g (shown_next Command t) (λ m u good. tells_give Whole g good))
   shown_separator_by n None s so = tells_give Whole g so
 
   shown_separator : (n : Next) (s : State) → Begins n s → N (a_separator n) Behind s
@@ -100,12 +110,15 @@ module _ (g : Given) where
   unfolding join_turn
   shown_join_turn j s so =
       tells_then Whole g (shown_comment j.next s so) (λ c t one. tells_then Whole g (kept_still j.join.comments c.0 t)
-      (λ cs u still. tells_then Whole g (shown_newline c.1 u (subst (Begins c.1) (sym still) one)) (λ l v good. tells_give Whole g (join_step l.0 _ v good))))
+      (λ cs u still. tells_then Whole g (shown_newline c.1 u (subst (Begins c.1) (sym still) one))
+      (λ l v good. tells_give Whole g (join_step l.0 _ v good))))
 
   shown_join : (broken : Bool) (s : State) → N (a_join broken) Behind s
   unfolding a_join
   shown_join broken s =
-      tells_then Whole g (shown_next Command s) (λ n t so. tells_then Whole g (tells_many Whole g join_turn JoinShown shown_join_turn _ t so) (λ j u good. tells_give Whole g good))
+      tells_then Whole g (shown_next Command s)
+      (λ n t so. tells_then Whole g (tells_many Whole g join_turn JoinShown shown_join_turn _ t so)
+      (λ j u good. tells_give Whole g good))
 
   shown_linebreak : (cs : Row Span) (n : Next) (s : State) → Begins n s → N (a_linebreak cs n) JoinShown s
   unfolding a_linebreak
@@ -124,15 +137,22 @@ module _ (g : Given) where
     abbrev ItemsShown : Items → State → Type 0
     ItemsShown i t = Begins i.next t
 
-    shown_redirect : (broken : Bool) (position : Position) (is : Row AnItem) (n : Next) (s : State) → N (one_redirect inner broken position is n) (Turned Whole g ItemsShown) s
+    shown_redirect : (broken : Bool) (position : Position) (is : Row AnItem) (n : Next) (s : State) →
+        N (one_redirect inner broken position is n) (Turned Whole g ItemsShown) s
     unfolding one_redirect
     shown_redirect broken position is n s =
-        after (λ p t. after (λ d u. after (λ o v. after (λ w x. after (λ h a. after (λ js y. tells_then Whole g (shown_next position y) (λ m z good. tells_give Whole g good)))))))
+        after (λ p t. after (λ d u. after
+        (λ o v. after (λ w x. after
+        (λ h a. after (λ js y. tells_then Whole g (shown_next position y)
+        (λ m z good. tells_give Whole g good)))))))
 
-    shown_item_by : (i : Items) (o : Option Position) (s : State) → Begins i.next s → N (item_by inner i o) (Turned Whole g ItemsShown) s
+    shown_item_by : (i : Items) (o : Option Position) (s : State) → Begins i.next s →
+        N (item_by inner i o) (Turned Whole g ItemsShown) s
     unfolding an_item
-    shown_item_by i (Some position) s so = after (λ w t. after (λ is u. tells_then Whole g (shown_next position u) (λ n v good. tells_give Whole g good)))
-    shown_item_by i None s so = picked (begins_redirect i.next.token) (shown_redirect (breaks i) (behind_redirect i.place) i.items i.next s) (tells_give Whole g so)
+    shown_item_by i (Some position) s so =
+        after (λ w t. after (λ is u. tells_then Whole g (shown_next position u) (λ n v good. tells_give Whole g good)))
+    shown_item_by i None s so = picked (begins_redirect i.next.token)
+        (shown_redirect (breaks i) (behind_redirect i.place) i.items i.next s) (tells_give Whole g so)
 
     shown_item_turn : (i : Items) (s : State) → Begins i.next s → N (item_turn inner i) (Turned Whole g ItemsShown) s
     unfolding item_turn
@@ -140,16 +160,21 @@ module _ (g : Given) where
 
     shown_simple : (i : Items) (s : State) → Begins i.next s → N (a_simple inner i) Behind s
     unfolding a_simple
-    shown_simple i s so = tells_then Whole g (tells_many Whole g (item_turn inner) ItemsShown shown_item_turn i s so) (λ j t good. tells_give Whole g good)
+    shown_simple i s so = tells_then Whole g (tells_many Whole g (item_turn inner) ItemsShown shown_item_turn i s so)
+        (λ j t good. tells_give Whole g good)
 
-    shown_redirect_turn : (i : Items) (s : State) → Begins i.next s → N (redirect_turn inner i) (Turned Whole g ItemsShown) s
+    shown_redirect_turn : (i : Items) (s : State) → Begins i.next s →
+        N (redirect_turn inner i) (Turned Whole g ItemsShown) s
     unfolding redirect_turn
-    shown_redirect_turn i s so = picked (begins_redirect i.next.token) (shown_redirect i.next.broken Command i.items i.next s) (tells_give Whole g so)
+    shown_redirect_turn i s so = picked (begins_redirect i.next.token)
+        (shown_redirect i.next.broken Command i.items i.next s) (tells_give Whole g so)
 
-    shown_with_redirect_list : (c : ACommand × Next) (s : State) → Begins c.1 s → N (with_redirect_list inner c) Behind s
+    shown_with_redirect_list : (c : ACommand × Next) (s : State) → Begins c.1 s →
+        N (with_redirect_list inner c) Behind s
     unfolding with_redirect_list
     shown_with_redirect_list c s so =
-        tells_then Whole g (tells_many Whole g (redirect_turn inner) ItemsShown shown_redirect_turn (so_many [] Command c.1) s so) (λ r t good. tells_give Whole g good)
+        tells_then Whole g (tells_many Whole g (redirect_turn inner) ItemsShown shown_redirect_turn
+        (so_many [] Command c.1) s so) (λ r t good. tells_give Whole g good)
 
     shown_compound_by : (n : Next) (o : Option Opener) (s : State) → N (compound_by inner n o) Behind s
     shown_compound_by n (Some o) s = tells_then Whole g (fine.compound o s) shown_with_redirect_list
@@ -159,16 +184,21 @@ module _ (g : Given) where
     unfolding a_word_command
     shown_word_command s =
         after (λ good t. after (λ w u. tells_then Whole g (shown_next Suffix u)
-        (λ n v so. picked (is_paren n.token) (picked good (fine.function (word_span w) v) (record { told = tt })) (pushed_on (shown_simple (so_many _ Suffix n) v so)))))
+        (λ n v so. picked (is_paren n.token) (picked good (fine.function (word_span w) v) (record { told = tt }))
+        (pushed_on (shown_simple (so_many _ Suffix n) v so)))))
 
     shown_command : (n : Next) (s : State) → Begins n s → N (a_command inner n) Behind s
     unfolding a_command
     shown_command n s so =
-        picked (is_word n.token) (shown_word_command s) (picked (begins_simple n.token) (shown_simple (so_many [] Command n) s so) (shown_compound_by n (opener_of n.token) s))
+        picked (is_word n.token) (shown_word_command s)
+        (picked (begins_simple n.token) (shown_simple (so_many [] Command n) s so)
+        (shown_compound_by n (opener_of n.token) s))
 
     shown_bang : (n : Next) (s : State) → Begins n s → N (a_bang n) Behind s
     unfolding a_bang
-    shown_bang n s so = picked (is_bang n.token) (after (λ x t. tells_then Whole g (shown_next Command t) (λ m u good. tells_give Whole g good))) (tells_give Whole g so)
+    shown_bang n s so = picked (is_bang n.token)
+        (after (λ x t. tells_then Whole g (shown_next Command t) (λ m u good. tells_give Whole g good)))
+        (tells_give Whole g so)
 
     abbrev PipedShown : Piped → State → Type 0
     PipedShown p t = Begins p.next t
@@ -176,7 +206,8 @@ module _ (g : Given) where
     shown_one_command : (p : Piped) (s : State) → N (one_command inner p) (Turned Whole g PipedShown) s
     unfolding one_command
     shown_one_command p s =
-        after (λ x t. tells_then Whole g (shown_join p.next.broken t) (λ j u one. tells_then Whole g (shown_command j.1 u one) (λ c v good. pushed_on (tells_give Whole g good))))
+        after (λ x t. tells_then Whole g (shown_join p.next.broken t)
+        (λ j u one. tells_then Whole g (shown_command j.1 u one) (λ c v good. pushed_on (tells_give Whole g good))))
 
     shown_pipe_turn : (p : Piped) (s : State) → Begins p.next s → N (pipe_turn inner p) (Turned Whole g PipedShown) s
     unfolding pipe_turn
@@ -186,30 +217,42 @@ module _ (g : Given) where
     unfolding a_pipeline
     shown_pipeline n s so =
         tells_then Whole g (shown_bang n s so) (λ b t one. tells_then Whole g (shown_command b.1 t one)
-        (λ c u two. tells_then Whole g (tells_many Whole g (pipe_turn inner) PipedShown shown_pipe_turn (piped [] c.1) u two) (λ p v good. tells_give Whole g good)))
+        (λ c u two. tells_then Whole g
+        (tells_many Whole g (pipe_turn inner) PipedShown shown_pipe_turn (piped [] c.1) u two)
+        (λ p v good. tells_give Whole g good)))
 
     abbrev JoinedShown : Joined → State → Type 0
     JoinedShown a t = Begins a.next t
 
-    shown_joined_by : (a : Joined) (o : Option AndOrOperator) (s : State) → Begins a.next s → N (joined_by inner a o) (Turned Whole g JoinedShown) s
+    shown_joined_by : (a : Joined) (o : Option AndOrOperator) (s : State) → Begins a.next s →
+        N (joined_by inner a o) (Turned Whole g JoinedShown) s
     unfolding one_pipeline
     shown_joined_by a (Some o) s so =
-        after (λ x t. tells_then Whole g (shown_join a.next.broken t) (λ j u one. tells_then Whole g (shown_pipeline j.1 u one) (λ p v good. pushed_on (tells_give Whole g good))))
+        after (λ x t. tells_then Whole g (shown_join a.next.broken t)
+        (λ j u one. tells_then Whole g (shown_pipeline j.1 u one)
+        (λ p v good. pushed_on (tells_give Whole g good))))
     shown_joined_by a None s so = tells_give Whole g so
 
-    shown_join_pipeline : (a : Joined) (s : State) → Begins a.next s → N (join_pipeline inner a) (Turned Whole g JoinedShown) s
+    shown_join_pipeline : (a : Joined) (s : State) → Begins a.next s →
+        N (join_pipeline inner a) (Turned Whole g JoinedShown) s
     unfolding join_pipeline
     shown_join_pipeline a s so = shown_joined_by a (and_or_operator_of a.next.token) s so
 
     shown_and_or : (n : Next) (s : State) → Begins n s → N (an_and_or inner n) Behind s
     unfolding an_and_or
     shown_and_or n s so =
-        tells_then Whole g (shown_pipeline n s so) (λ p t one. tells_then Whole g (tells_many Whole g (join_pipeline inner) JoinedShown shown_join_pipeline (joined_so [] p.1) t one) (λ a u good. tells_give Whole g good))
+        tells_then Whole g (shown_pipeline n s so)
+        (λ p t one. tells_then Whole g
+        (tells_many Whole g (join_pipeline inner) JoinedShown shown_join_pipeline (joined_so [] p.1) t one)
+        (λ a u good. tells_give Whole g good))
 
-    shown_entry : (blank : Bool) (n : Next) (s : State) → Begins n s → N (an_entry inner blank n) (λ e t. Begins e.next t) s
+    shown_entry : (blank : Bool) (n : Next) (s : State) → Begins n s →
+        N (an_entry inner blank n) (λ e t. Begins e.next t) s
     unfolding an_entry
     shown_entry blank n s so =
-        tells_then Whole g (shown_and_or n s so) (λ a t one. tells_then Whole g (shown_separator a.1 t one) (λ z u two. tells_then Whole g (shown_comment z.1 u two) (λ c v good. tells_give Whole g good)))
+        tells_then Whole g (shown_and_or n s so)
+        (λ a t one. tells_then Whole g (shown_separator a.1 t one)
+        (λ z u two. tells_then Whole g (shown_comment z.1 u two) (λ c v good. tells_give Whole g good)))
 
     -- ---- lists
 
@@ -222,7 +265,8 @@ module _ (g : Given) where
 
     shown_one_entry : (l : ListSo) (s : State) → Begins l.next s → N (one_entry inner l) (Turned Whole g ListShown) s
     unfolding one_entry
-    shown_one_entry l s so = tells_then Whole g (shown_entry _ l.next s so) (λ e t good. pushed_on (tells_give Whole g (list_step (is_some e.parted) _ t good)))
+    shown_one_entry l s so = tells_then Whole g (shown_entry _ l.next s so)
+        (λ e t good. pushed_on (tells_give Whole g (list_step (is_some e.parted) _ t good)))
 
     shown_entry_turn : (l : ListSo) (s : State) → Begins l.next s → N (entry_turn inner l) (Turned Whole g ListShown) s
     unfolding entry_turn
@@ -235,25 +279,34 @@ module _ (g : Given) where
     pub shown_on_line : (l : ListSo) (s : State) → Begins l.next s → N (on_line inner l) ListShown s
     unfolding on_line a_remark
     shown_on_line l s so =
-        tells_then Whole g (tells_many Whole g (entry_turn inner) ListShown shown_entry_turn l s so) (λ m t one. tells_then Whole g (shown_comment m.next t one) (λ x u good. shown_remark_by m x u good))
+        tells_then Whole g (tells_many Whole g (entry_turn inner) ListShown shown_entry_turn l s so)
+        (λ m t one. tells_then Whole g (shown_comment m.next t one) (λ x u good. shown_remark_by m x u good))
 
-    pub shown_list_turn : (l : ListSo) (s : State) → Begins l.next s → N (list_turn inner l) (Turned Whole g ListShown) s
+    pub shown_list_turn : (l : ListSo) (s : State) → Begins l.next s →
+        N (list_turn inner l) (Turned Whole g ListShown) s
     unfolding list_turn
-    shown_list_turn l s so = tells_then Whole g (shown_on_line l s so) (λ m t one. tells_then Whole g (shown_newline m.next t one) (λ x u good. tells_give Whole g (list_step x.0 _ u good)))
+    shown_list_turn l s so = tells_then Whole g (shown_on_line l s so)
+        (λ m t one. tells_then Whole g (shown_newline m.next t one)
+        (λ x u good. tells_give Whole g (list_step x.0 _ u good)))
 
     -- what stands before the end of a list
-    pub shown_lines : (n : Next) (s : State) → Begins n s → N (many (list_turn inner) (list_so (none_listed false) n)) ListShown s
-    shown_lines n s so = tells_many Whole g (list_turn inner) ListShown shown_list_turn (list_so (none_listed false) n) s so
+    pub shown_lines : (n : Next) (s : State) → Begins n s →
+        N (many (list_turn inner) (list_so (none_listed false) n)) ListShown s
+    shown_lines n s so = tells_many Whole g (list_turn inner) ListShown shown_list_turn
+        (list_so (none_listed false) n) s so
 
     shown_list : (n : Next) (s : State) → Begins n s → N (a_list inner n) Behind s
     unfolding a_list
-    shown_list n s so = tells_then Whole g (shown_lines n s so) (λ l t good. picked l.list.commands (tells_give Whole g good) (stopped l.next))
+    shown_list n s so = tells_then Whole g (shown_lines n s so)
+        (λ l t good. picked l.list.commands (tells_give Whole g good) (stopped l.next))
 
     -- ---- compound commands
 
-    shown_reserved_or_paren : (text : Spelled) (paren : Bool) (position : Position) (s : State) → N (reserved_or_paren text paren position) Behind s
+    shown_reserved_or_paren : (text : Spelled) (paren : Bool) (position : Position) (s : State) →
+        N (reserved_or_paren text paren position) Behind s
     unfolding reserved_or_paren
-    shown_reserved_or_paren text paren position s = after (λ x t. tells_then Whole g (shown_next position t) (λ n u good. tells_give Whole g good))
+    shown_reserved_or_paren text paren position s =
+        after (λ x t. tells_then Whole g (shown_next position t) (λ n u good. tells_give Whole g good))
 
     shown_closing : (c : Closing) (n : Next) (s : State) → N (closing inner c n) Behind s
     unfolding closing
@@ -262,7 +315,9 @@ module _ (g : Given) where
     shown_branch : (n : Next) (s : State) → Begins n s → N (a_branch inner n) Behind s
     unfolding a_branch
     shown_branch n s so =
-        tells_then Whole g (shown_list n s so) (λ c t one. tells_then Whole g (shown_closing closings.Then c.1 t) (λ k u two. tells_then Whole g (shown_list k.1 u two) (λ b v good. tells_give Whole g good)))
+        tells_then Whole g (shown_list n s so)
+        (λ c t one. tells_then Whole g (shown_closing closings.Then c.1 t)
+        (λ k u two. tells_then Whole g (shown_list k.1 u two) (λ b v good. tells_give Whole g good)))
 
     abbrev BranchedShown : Branched → State → Type 0
     BranchedShown b t = Begins b.next t
@@ -271,14 +326,16 @@ module _ (g : Given) where
     unfolding elif_turn
     shown_elif b s so =
         picked (is_closing closings.Elif b.next.token)
-        (tells_then Whole g (shown_reserved_or_paren _ false _ s) (λ k t one. tells_then Whole g (shown_branch k.1 t one) (λ x u good. pushed_on (tells_give Whole g good))))
+        (tells_then Whole g (shown_reserved_or_paren _ false _ s)
+        (λ k t one. tells_then Whole g (shown_branch k.1 t one) (λ x u good. pushed_on (tells_give Whole g good))))
         (tells_give Whole g so)
 
     shown_else : (n : Next) (s : State) → Begins n s → N (an_else inner n) Behind s
     unfolding an_else
     shown_else n s so =
         picked (is_closing closings.Else n.token)
-        (tells_then Whole g (shown_reserved_or_paren _ false _ s) (λ k t one. tells_then Whole g (shown_list k.1 t one) (λ l u good. tells_give Whole g good)))
+        (tells_then Whole g (shown_reserved_or_paren _ false _ s)
+        (λ k t one. tells_then Whole g (shown_list k.1 t one) (λ l u good. tells_give Whole g good)))
         (tells_give Whole g so)
 
     abbrev ClosedShown : {X : Type 0} → Closed X → State → Type 0
@@ -287,71 +344,94 @@ module _ (g : Given) where
     shown_if : (n : Next) (s : State) → Begins n s → N (an_if inner n) ClosedShown s
     unfolding an_if
     shown_if n s so =
-        tells_then Whole g (shown_branch n s so) (λ f t one. tells_then Whole g (tells_many Whole g (elif_turn inner) BranchedShown shown_elif (branched [] f.1) t one)
-        (λ b u two. tells_then Whole g (shown_else b.next u two) (λ e v three. tells_then Whole g (shown_closing closings.Fi e.1 v) (λ c w good. tells_give Whole g good))))
+        tells_then Whole g (shown_branch n s so)
+        (λ f t one. tells_then Whole g
+        (tells_many Whole g (elif_turn inner) BranchedShown shown_elif (branched [] f.1) t one)
+        (λ b u two. tells_then Whole g (shown_else b.next u two)
+        (λ e v three. tells_then Whole g (shown_closing closings.Fi e.1 v) (λ c w good. tells_give Whole g good))))
 
     shown_loop : (n : Next) (s : State) → Begins n s → N (a_loop inner n) ClosedShown s
     unfolding a_loop
     shown_loop n s so =
         tells_then Whole g (shown_list n s so) (λ c t one. tells_then Whole g (shown_closing closings.Do c.1 t)
-        (λ d u two. tells_then Whole g (shown_list d.1 u two) (λ b v three. tells_then Whole g (shown_closing closings.Done b.1 v) (λ e w good. tells_give Whole g good))))
+        (λ d u two. tells_then Whole g (shown_list d.1 u two)
+        (λ b v three. tells_then Whole g (shown_closing closings.Done b.1 v)
+        (λ e w good. tells_give Whole g good))))
 
     shown_group : (c : Closing) (n : Next) (s : State) → Begins n s → N (a_group inner c n) ClosedShown s
     unfolding a_group
-    shown_group c n s so = tells_then Whole g (shown_list n s so) (λ l t one. tells_then Whole g (shown_closing c l.1 t) (λ k u good. tells_give Whole g good))
+    shown_group c n s so = tells_then Whole g (shown_list n s so)
+        (λ l t one. tells_then Whole g (shown_closing c l.1 t) (λ k u good. tells_give Whole g good))
 
     shown_for_name : (n : Next) (s : State) → N (a_for_name inner n) Behind s
     unfolding a_for_name
     shown_for_name n s =
         picked (begins_word n.token)
-        (after (λ p t. after (λ good u. after (λ w v. picked good (tells_then Whole g (shown_next Command v) (λ m z so. tells_give Whole g so)) (record { told = tt })))))
+        (after (λ p t. after (λ good u. after
+        (λ w v. picked good (tells_then Whole g (shown_next Command v) (λ m z so. tells_give Whole g so))
+        (record { told = tt })))))
         (stopped n)
 
     shown_sep : (cs : Row Span) (n : Next) (s : State) → Begins n s → N (a_sequential_sep inner cs n) JoinShown s
     unfolding a_sequential_sep
-    shown_sep cs n s so = tells_then Whole g (shown_semicolon n s so) (λ x t one. tells_then Whole g (shown_linebreak cs x.1 t one) (λ l u good. picked _ (tells_give Whole g good) (stopped l.next)))
+    shown_sep cs n s so = tells_then Whole g (shown_semicolon n s so)
+        (λ x t one. tells_then Whole g (shown_linebreak cs x.1 t one)
+        (λ l u good. picked _ (tells_give Whole g good) (stopped l.next)))
 
     abbrev HeadShown : Headed → State → Type 0
     HeadShown h t = Begins h.next t
 
     shown_word_turn : (i : Items) (s : State) → Begins i.next s → N (word_turn inner i) (Turned Whole g ItemsShown) s
     unfolding word_turn an_item
-    shown_word_turn i s so = picked (is_word i.next.token) (after (λ w t. after (λ is u. tells_then Whole g (shown_next Suffix u) (λ n v good. tells_give Whole g good)))) (tells_give Whole g so)
+    shown_word_turn i s so = picked (is_word i.next.token)
+        (after (λ w t. after (λ is u. tells_then Whole g (shown_next Suffix u) (λ n v good. tells_give Whole g good))))
+        (tells_give Whole g so)
 
     shown_for_words : (cs : Row Span) (s : State) → N (for_words inner cs) HeadShown s
     unfolding for_words
     shown_for_words cs s =
-        tells_then Whole g (shown_reserved_or_paren _ false _ s) (λ i t one. tells_then Whole g (tells_many Whole g (word_turn inner) ItemsShown shown_word_turn (so_many [] Suffix i.1) t one)
+        tells_then Whole g (shown_reserved_or_paren _ false _ s)
+        (λ i t one. tells_then Whole g
+        (tells_many Whole g (word_turn inner) ItemsShown shown_word_turn (so_many [] Suffix i.1) t one)
         (λ ws u two. tells_then Whole g (shown_sep cs ws.next u two) (λ l v good. tells_give Whole g good)))
 
     shown_for_head : (n : Next) (s : State) → Begins n s → N (a_for_head inner n) HeadShown s
     unfolding a_for_head
     shown_for_head n s so =
-        tells_then Whole g (shown_semicolon n s so) (λ x t one. tells_then Whole g (shown_linebreak [] x.1 t one) (λ l u two. picked _ (shown_for_words l.join.comments u) (tells_give Whole g two)))
+        tells_then Whole g (shown_semicolon n s so)
+        (λ x t one. tells_then Whole g (shown_linebreak [] x.1 t one)
+        (λ l u two. picked _ (shown_for_words l.join.comments u) (tells_give Whole g two)))
 
     shown_for : (n : Next) (s : State) → N (a_for inner n) ClosedShown s
     unfolding a_for
     shown_for n s =
-        tells_then Whole g (shown_for_name n s) (λ x t one. tells_then Whole g (shown_for_head x.1 t one) (λ h u two. tells_then Whole g (shown_closing closings.Do h.next u)
-        (λ d v three. tells_then Whole g (shown_group closings.Done d.1 v three) (λ b w good. tells_give Whole g good))))
+        tells_then Whole g (shown_for_name n s)
+        (λ x t one. tells_then Whole g (shown_for_head x.1 t one)
+        (λ h u two. tells_then Whole g (shown_closing closings.Do h.next u)
+        (λ d v three. tells_then Whole g (shown_group closings.Done d.1 v three)
+        (λ b w good. tells_give Whole g good))))
 
     shown_case_word : (n : Next) (s : State) → N (a_case_word inner n) Behind s
     unfolding a_case_word
-    shown_case_word n s = picked (begins_word n.token) (after (λ w t. tells_then Whole g (shown_next Command t) (λ m u good. tells_give Whole g good))) (stopped n)
+    shown_case_word n s = picked (begins_word n.token)
+        (after (λ w t. tells_then Whole g (shown_next Command t) (λ m u good. tells_give Whole g good))) (stopped n)
 
     abbrev PatternedShown : Patterned → State → Type 0
     PatternedShown p t = Begins p.next t
 
     shown_pattern : (ws : Row AWord) (s : State) → N (a_pattern inner ws) PatternedShown s
     unfolding a_pattern
-    shown_pattern ws s = after (λ w t. pushed_on (tells_then Whole g (shown_next Suffix t) (λ n u good. tells_give Whole g good)))
+    shown_pattern ws s = after (λ w t. pushed_on
+        (tells_then Whole g (shown_next Suffix t) (λ n u good. tells_give Whole g good)))
 
     shown_one_pattern : (ws : Row AWord) (s : State) → N (one_pattern inner ws) (Turned Whole g PatternedShown) s
     unfolding one_pattern
     shown_one_pattern ws s =
-        after (λ x t. after (λ n u. picked (begins_word n.token) (tells_then Whole g (shown_pattern ws u) (λ p v good. tells_give Whole g good)) (stopped n)))
+        after (λ x t. after (λ n u. picked (begins_word n.token)
+        (tells_then Whole g (shown_pattern ws u) (λ p v good. tells_give Whole g good)) (stopped n)))
 
-    shown_pattern_turn : (p : Patterned) (s : State) → Begins p.next s → N (pattern_turn inner p) (Turned Whole g PatternedShown) s
+    shown_pattern_turn : (p : Patterned) (s : State) → Begins p.next s →
+        N (pattern_turn inner p) (Turned Whole g PatternedShown) s
     unfolding pattern_turn
     shown_pattern_turn p s so = picked (is_pipe p.next.token) (shown_one_pattern p.patterns s) (tells_give Whole g so)
 
@@ -359,7 +439,8 @@ module _ (g : Given) where
     unfolding a_pattern_list
     shown_pattern_list n s =
         picked (begins_pattern n.token)
-        (tells_then Whole g (shown_pattern [] s) (λ p t one. tells_many Whole g (pattern_turn inner) PatternedShown shown_pattern_turn p t one))
+        (tells_then Whole g (shown_pattern [] s)
+        (λ p t one. tells_many Whole g (pattern_turn inner) PatternedShown shown_pattern_turn p t one))
         (stopped n)
 
     abbrev EndShown : ItemEnd → State → Type 0
@@ -374,7 +455,8 @@ module _ (g : Given) where
     shown_item_end : (there : ℕ) (n : Next) (s : State) → Begins n s → N (an_item_end inner there n) EndShown s
     unfolding an_item_end
     shown_item_end there n s so =
-        picked (ends_item n.token) (shown_ender (falls_through n.token) s) (picked (is_closing closings.Esac n.token) (tells_give Whole g so) (stopped n))
+        picked (ends_item n.token) (shown_ender (falls_through n.token) s)
+        (picked (is_closing closings.Esac n.token) (tells_give Whole g so) (stopped n))
 
     abbrev CasesShown : CasesSo → State → Type 0
     CasesShown c t = Begins c.next t
@@ -382,8 +464,10 @@ module _ (g : Given) where
     shown_one_case : (c : CasesSo) (s : State) → N (one_case inner c) (Turned Whole g CasesShown) s
     unfolding one_case a_body
     shown_one_case c s =
-        after (λ p t. after (λ n u. tells_then Whole g (shown_pattern_list n u) (λ ps v one. tells_then Whole g (shown_closing closings.Paren ps.next v)
-        (λ k w two. tells_then Whole g (shown_lines k.1 w two) (λ b x three. tells_then Whole g (shown_item_end _ b.next x three)
+        after (λ p t. after (λ n u. tells_then Whole g (shown_pattern_list n u)
+        (λ ps v one. tells_then Whole g (shown_closing closings.Paren ps.next v)
+        (λ k w two. tells_then Whole g (shown_lines k.1 w two)
+        (λ b x three. tells_then Whole g (shown_item_end _ b.next x three)
         (λ e y good. pushed_on (tells_give Whole g good)))))))
 
     shown_case_turn : (c : CasesSo) (s : State) → Begins c.next s → N (case_turn inner c) (Turned Whole g CasesShown) s
@@ -394,18 +478,23 @@ module _ (g : Given) where
     unfolding a_case_head
     shown_case_head n s =
         tells_then Whole g (shown_case_word n s) (λ w t one. tells_then Whole g (shown_linebreak [] w.1 t one)
-        (λ l u two. tells_then Whole g (shown_closing closings.In l.next u) (λ i v three. tells_then Whole g (shown_linebreak l.join.comments i.1 v three)
+        (λ l u two. tells_then Whole g (shown_closing closings.In l.next u)
+        (λ i v three. tells_then Whole g (shown_linebreak l.join.comments i.1 v three)
         (λ h x good. tells_give Whole g good))))
 
     shown_case : (n : Next) (s : State) → N (a_case inner n) ClosedShown s
     unfolding a_case
     shown_case n s =
-        tells_then Whole g (shown_case_head n s) (λ h t one. tells_then Whole g (tells_many Whole g (case_turn inner) CasesShown shown_case_turn (cases_so [] h.1 h.2) t one)
+        tells_then Whole g (shown_case_head n s)
+        (λ h t one. tells_then Whole g
+        (tells_many Whole g (case_turn inner) CasesShown shown_case_turn (cases_so [] h.1 h.2) t one)
         (λ c u two. tells_then Whole g (shown_closing closings.Esac c.next u) (λ e v good. tells_give Whole g good)))
 
     shown_form : (o : Opener) (n : Next) (s : State) → Begins n s → N (a_form inner o n) ClosedShown s
-    shown_form openers.Brace n s so = tells_then Whole g (shown_group closings.Brace n s so) (λ l t good. tells_give Whole g good)
-    shown_form openers.Paren n s so = tells_then Whole g (shown_group closings.Paren n s so) (λ l t good. tells_give Whole g good)
+    shown_form openers.Brace n s so =
+        tells_then Whole g (shown_group closings.Brace n s so) (λ l t good. tells_give Whole g good)
+    shown_form openers.Paren n s so =
+        tells_then Whole g (shown_group closings.Paren n s so) (λ l t good. tells_give Whole g good)
     shown_form openers.If n s so = shown_if n s so
     shown_form openers.While n s so = tells_then Whole g (shown_loop n s so) (λ l t good. tells_give Whole g good)
     shown_form openers.Until n s so = tells_then Whole g (shown_loop n s so) (λ l t good. tells_give Whole g good)
@@ -414,18 +503,24 @@ module _ (g : Given) where
 
     shown_compound : (o : Opener) (s : State) → N (a_compound inner o) Behind s
     unfolding a_compound
-    shown_compound o s = tells_then Whole g (shown_reserved_or_paren _ (is_open_paren o) _ s) (λ x t one. tells_then Whole g (shown_form o x.1 t one) (λ f u good. pushed_on (tells_give Whole g good)))
+    shown_compound o s = tells_then Whole g (shown_reserved_or_paren _ (is_open_paren o) _ s)
+        (λ x t one. tells_then Whole g (shown_form o x.1 t one) (λ f u good. pushed_on (tells_give Whole g good)))
 
     shown_function : (name : Span) (s : State) → N (a_function inner name) Behind s
     unfolding a_function
     shown_function name s =
-        tells_then Whole g (shown_reserved_or_paren _ true Command s) (λ o t one. tells_then Whole g (shown_closing closings.Paren o.1 t)
-        (λ c u two. tells_then Whole g (shown_linebreak [] c.1 u two) (λ l v three. tells_then Whole g (shown_compound_by l.next (opener_of l.next.token) v)
+        tells_then Whole g (shown_reserved_or_paren _ true Command s)
+        (λ o t one. tells_then Whole g (shown_closing closings.Paren o.1 t)
+        (λ c u two. tells_then Whole g (shown_linebreak [] c.1 u two)
+        (λ l v three. tells_then Whole g (shown_compound_by l.next (opener_of l.next.token) v)
         (λ b w good. tells_give Whole g good))))
 
   pub shown_level : (room : ℕ) → Fine (level room)
   unfolding level
-  shown_level zero = record { compound = λ o s. after (λ p t. record { told = tt }); function = λ name s. record { told = tt } }
+  shown_level zero = record {
+    compound = λ o s. after (λ p t. record { told = tt });
+    function = λ name s. record { told = tt };
+  }
   shown_level (suc room) =
       record {
         compound = λ o s. shown_compound (level room) (shown_level room) o s;
@@ -434,11 +529,13 @@ module _ (g : Given) where
 
 -- ---- a `)`
 
-paren_else : (c : Bool) (x y : Token) → (x ≡ tokens.CloseParen → ⊥) → cond c x y ≡ tokens.CloseParen → (c ≡ false) × (y ≡ tokens.CloseParen)
+paren_else : (c : Bool) (x y : Token) → (x ≡ tokens.CloseParen → ⊥) → cond c x y ≡ tokens.CloseParen → (c ≡ false)
+    × (y ≡ tokens.CloseParen)
 paren_else true x y other is = absurd (other is)
 paren_else false x y other is = (refl, is)
 
-paren_both : (c : Bool) (x y : Token) → (x ≡ tokens.CloseParen → ⊥) → (y ≡ tokens.CloseParen → ⊥) → cond c x y ≡ tokens.CloseParen → ⊥
+paren_both : (c : Bool) (x y : Token) → (x ≡ tokens.CloseParen → ⊥) → (y ≡ tokens.CloseParen → ⊥) →
+    cond c x y ≡ tokens.CloseParen → ⊥
 paren_both true x y one two is = one is
 paren_both false x y one two is = two is
 
@@ -455,20 +552,28 @@ no_paren Command T p is = no_paren_first (begins_assignment T p) (reserved_at T 
 no_paren Prefix T p is = no_paren_word (begins_assignment T p) is
 no_paren Suffix T p is = absurd cc
 
-paren_by : (c : Bool) (x : Token) → (x ≡ tokens.CloseParen → ⊥) → cond c tokens.CloseParen x ≡ tokens.CloseParen → c ≡ true
+paren_by : (c : Bool) (x : Token) → (x ≡ tokens.CloseParen → ⊥) → cond c tokens.CloseParen x ≡ tokens.CloseParen →
+    c ≡ true
 paren_by true x other is = refl
 paren_by false x other is = absurd (other is)
 
-close_byte : (position : Position) (T : List ℕ) (p : ℕ) (x : Option ℕ) → token_of position T p x ≡ tokens.CloseParen → x ≡ Some 41
+close_byte : (position : Position) (T : List ℕ) (p : ℕ) (x : Option ℕ) → token_of position T p x ≡ tokens.CloseParen →
+    x ≡ Some 41
 close_byte position T p None is = absurd cc
 close_byte position T p (Some b) is =
     let newline = paren_else (is_newline b) _ _ (λ e. absurd cc) is in
-    let semicolon = paren_else (b == 59) _ _ (λ e. paren_both (stands T (behind T p) 59) _ _ (λ f. absurd cc) (λ f. paren_both (stands T (behind T p) 38) _ _ (λ g. absurd cc) (λ g. absurd cc) f) e) newline.1 in
-    let ampersand = paren_else (b == 38) _ _ (λ e. paren_both (stands T (behind T p) 38) _ _ (λ f. absurd cc) (λ f. absurd cc) e) semicolon.1 in
-    let bar = paren_else (b == 124) _ _ (λ e. paren_both (stands T (behind T p) 124) _ _ (λ f. absurd cc) (λ f. absurd cc) e) ampersand.1 in
+    let semicolon = paren_else (b == 59) _ _
+    (λ e. paren_both (stands T (behind T p) 59) _ _ (λ f. absurd cc)
+    (λ f. paren_both (stands T (behind T p) 38) _ _ (λ g. absurd cc) (λ g. absurd cc) f) e) newline.1 in
+    let ampersand = paren_else (b == 38) _ _
+    (λ e. paren_both (stands T (behind T p) 38) _ _ (λ f. absurd cc) (λ f. absurd cc) e) semicolon.1 in
+    let bar = paren_else (b == 124) _ _
+    (λ e. paren_both (stands T (behind T p) 124) _ _ (λ f. absurd cc) (λ f. absurd cc) e) ampersand.1 in
     let open_paren = paren_else (b == 40) _ _ (λ e. absurd cc) bar.1 in
-    let here = paren_by (b == 41) _ (λ e. paren_both (b == 60) _ _ (λ f. absurd cc) (λ f. paren_both (b == 62) _ _ (λ h. absurd cc)
-    (λ h. paren_both (b == 35) _ _ (λ d. absurd cc) (λ d. paren_both (is_number T p) _ _ (λ k. absurd cc) (λ k. no_paren position T p k) d) h) f) e) open_paren.1 in
+    let here = paren_by (b == 41) _
+    (λ e. paren_both (b == 60) _ _ (λ f. absurd cc) (λ f. paren_both (b == 62) _ _ (λ h. absurd cc)
+    (λ h. paren_both (b == 35) _ _ (λ d. absurd cc)
+    (λ d. paren_both (is_number T p) _ _ (λ k. absurd cc) (λ k. no_paren position T p k) d) h) f) e) open_paren.1 in
     let same : b ≡ 41 = grind (arith, nat_tests) in
     rw same refl
 
@@ -477,19 +582,26 @@ closes_by tokens.CloseParen e = refl
 closes_by _ e = absurd cc
 
 -- an edition has it where the text has it
-closes_in : (later : Bool) → is_closing closings.Paren (cond later tokens.SemicolonAmpersand tokens.Semicolon) ≡ true → ⊥
+closes_in : (later : Bool) → is_closing closings.Paren (cond later tokens.SemicolonAmpersand tokens.Semicolon) ≡ true →
+    ⊥
 closes_in true e = absurd cc
 closes_in false e = absurd cc
 
-closes_of : (edition : Edition) (t : Token) → is_closing closings.Paren (token_in edition t) ≡ true → t ≡ tokens.CloseParen
+closes_of : (edition : Edition) (t : Token) → is_closing closings.Paren (token_in edition t) ≡ true →
+    t ≡ tokens.CloseParen
 closes_of edition tokens.CloseParen e = refl
 closes_of edition tokens.SemicolonAmpersand e = absurd (closes_in (is_later edition) e)
 closes_of edition _ e = absurd cc
 
 -- where a row hands on a `)`, that byte stands
-pub paren_here : (g : Given) (n : Next) (t : State) → Begins g n t → is_closing closings.Paren n.token ≡ true → (byte_at g.text t.at ≡ Some 41) × (past_continuations g.text t.at ≡ t.at)
+pub paren_here : (g : Given) (n : Next) (t : State) → Begins g n t → is_closing closings.Paren n.token ≡ true →
+    (byte_at g.text t.at ≡ Some 41) × (past_continuations g.text t.at ≡ t.at)
 unfolding token_at
-paren_here g n t (position, (token, still)) closes = (close_byte position g.text t.at (byte_at g.text t.at) (closes_of g.edition _ (ap (is_closing closings.Paren) (sym token) ∙ closes)), still)
+paren_here g n t (position, (token, still)) closes = (
+  close_byte position g.text t.at (byte_at g.text t.at)
+      (closes_of g.edition _ (ap (is_closing closings.Paren) (sym token) ∙ closes)),
+  still,
+)
 
 -- ---- a newline
 
@@ -497,7 +609,8 @@ newline_else : (c : Bool) (y : Token) → cond c tokens.Newline y ≡ tokens.New
 newline_else true y is other = refl
 newline_else false y is other = absurd (other is)
 
-newline_both : (c : Bool) (x y : Token) → (x ≡ tokens.Newline → ⊥) → (y ≡ tokens.Newline → ⊥) → cond c x y ≡ tokens.Newline → ⊥
+newline_both : (c : Bool) (x y : Token) → (x ≡ tokens.Newline → ⊥) → (y ≡ tokens.Newline → ⊥) →
+    cond c x y ≡ tokens.Newline → ⊥
 newline_both true x y one two is = one is
 newline_both false x y one two is = two is
 
@@ -514,19 +627,24 @@ no_newline Command T p is = no_newline_first (begins_assignment T p) (reserved_a
 no_newline Prefix T p is = no_newline_word (begins_assignment T p) is
 no_newline Suffix T p is = absurd cc
 
-newline_byte : (position : Position) (T : List ℕ) (p : ℕ) (x : Option ℕ) → token_of position T p x ≡ tokens.Newline → x ≡ Some 10
+newline_byte : (position : Position) (T : List ℕ) (p : ℕ) (x : Option ℕ) → token_of position T p x ≡ tokens.Newline →
+    x ≡ Some 10
 newline_byte position T p None is = absurd cc
 newline_byte position T p (Some b) is =
     let here : (b == 10) ≡ true = newline_else (is_newline b) _ is (λ e.
-    newline_both (b == 59) _ _ (λ f. newline_both (stands T (behind T p) 59) _ _ (λ h. absurd cc) (λ h. newline_both (stands T (behind T p) 38) _ _ (λ i. absurd cc) (λ i. absurd cc) h) f)
-    (λ f. newline_both (b == 38) _ _ (λ h. newline_both (stands T (behind T p) 38) _ _ (λ i. absurd cc) (λ i. absurd cc) h)
-    (λ h. newline_both (b == 124) _ _ (λ i. newline_both (stands T (behind T p) 124) _ _ (λ j. absurd cc) (λ j. absurd cc) i)
+    newline_both (b == 59) _ _ (λ f. newline_both (stands T (behind T p) 59) _ _ (λ h. absurd cc)
+    (λ h. newline_both (stands T (behind T p) 38) _ _ (λ i. absurd cc) (λ i. absurd cc) h) f)
+    (λ f. newline_both (b == 38) _ _
+    (λ h. newline_both (stands T (behind T p) 38) _ _ (λ i. absurd cc) (λ i. absurd cc) h)
+    (λ h. newline_both (b == 124) _ _
+    (λ i. newline_both (stands T (behind T p) 124) _ _ (λ j. absurd cc) (λ j. absurd cc) i)
     (λ i. newline_both (b == 40) _ _ (λ j. absurd cc)
     (λ j. newline_both (b == 41) _ _ (λ k. absurd cc)
     (λ k. newline_both (b == 60) _ _ (λ l. absurd cc)
     (λ l. newline_both (b == 62) _ _ (λ m. absurd cc)
     (λ m. newline_both (b == 35) _ _ (λ o. absurd cc)
-    (λ o. newline_both (is_number T p) _ _ (λ q. absurd cc) (λ q. no_newline position T p q) o) m) l) k) j) i) h) f) e) in
+    (λ o. newline_both (is_number T p) _ _ (λ q. absurd cc) (λ q. no_newline position T p q) o) m) l) k) j) i) h) f)
+    e) in
     let same : b ≡ 10 = grind (arith, nat_tests, here) in
     rw same refl
 
@@ -544,6 +662,11 @@ newline_of edition tokens.SemicolonAmpersand e = absurd (newline_in (is_later ed
 newline_of edition _ e = absurd cc
 
 -- where a row hands on a newline, that byte stands
-pub newline_here : (g : Given) (n : Next) (t : State) → Begins g n t → is_newline_token n.token ≡ true → (byte_at g.text t.at ≡ Some 10) × (past_continuations g.text t.at ≡ t.at)
+pub newline_here : (g : Given) (n : Next) (t : State) → Begins g n t → is_newline_token n.token ≡ true →
+    (byte_at g.text t.at ≡ Some 10) × (past_continuations g.text t.at ≡ t.at)
 unfolding token_at
-newline_here g n t (position, (token, still)) is = (newline_byte position g.text t.at (byte_at g.text t.at) (newline_of g.edition _ (ap is_newline_token (sym token) ∙ is)), still)
+newline_here g n t (position, (token, still)) is = (
+  newline_byte position g.text t.at (byte_at g.text t.at)
+      (newline_of g.edition _ (ap is_newline_token (sym token) ∙ is)),
+  still,
+)

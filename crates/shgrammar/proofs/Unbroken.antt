@@ -16,30 +16,39 @@ no_backslash test b true same other passed =
     absurd cc
 no_backslash test b false same other passed = refl
 
-no_continuation : (test : ℕ → Bool) (a : Option ℕ) (next : Bool) → test 92 ≡ false → passes test a ≡ true → (is_byte a 92 && next) ≡ false
+no_continuation : (test : ℕ → Bool) (a : Option ℕ) (next : Bool) → test 92 ≡ false → passes test a ≡ true →
+    (is_byte a 92 && next) ≡ false
 no_continuation test None next other passed = absurd cc
 no_continuation test (Some b) next other passed = rw (no_backslash test b (b == 92) refl other passed) refl
 
 -- no continuation stands where such a byte does
-pub stays : (test : ℕ → Bool) (T : List ℕ) (p : ℕ) → test 92 ≡ false → raw_in test T p ≡ true → past_continuations T p ≡ p
+pub stays : (test : ℕ → Bool) (T : List ℕ) (p : ℕ) → test 92 ≡ false → raw_in test T p ≡ true →
+    past_continuations T p ≡ p
 unfolding raw_in
-stays test T p other passed = joined_none T p (unfold continues raw_stands in no_continuation test (slice_get T p) (is_byte (slice_get T (p + 1)) 10) other passed)
+stays test T p other passed = joined_none T p
+    (unfold continues raw_stands in
+    no_continuation test (slice_get T p) (is_byte (slice_get T (p + 1)) 10) other passed)
 
 raw_in_low : (test : ℕ → Bool) (T : List ℕ) (p : ℕ) → raw_in test T p ≡ true → p < length T
 raw_in_low test T p passed = passes_low test T p (slice_get T p) refl (unfold raw_in in passed)
 
 -- one more byte of the stretch, or its end
 turn : (test : ℕ → Bool) (T : List ℕ) (p : ℕ) (x : Bool) → raw_in test T p ≡ x → test 92 ≡ false
-    → (raw_in test T p ≡ true → past test T (p + 1) ≡ past test T (raw_past test T (p + 1))) → past test T p ≡ past test T (raw_past test T p)
+    → (raw_in test T p ≡ true → past test T (p + 1) ≡ past test T (raw_past test T (p + 1))) →
+    past test T p ≡ past test T (raw_past test T p)
 unfolding stands_in behind raw_in
 turn test T p true is other rest =
     let here : past_continuations T p ≡ p = stays test T p other is in
     past_more test T p (rw here is) ∙ rw here (rest is) ∙ ap (past test T) (sym (raw_more test T p is))
 turn test T p false is other rest = ap (past test T) (sym (raw_none test T p is))
 
-on_from : (test : ℕ → Bool) (T : List ℕ) (n p : ℕ) → length T - p ≤ n → test 92 ≡ false → past test T p ≡ past test T (raw_past test T p)
-on_from test T zero p low other = turn test T p (raw_in test T p) refl other (λ passed. absurd (omega (arith, low, raw_in_low test T p passed)))
-on_from test T (suc n) p low other = turn test T p (raw_in test T p) refl other (λ passed. on_from test T n (p + 1) (omega (arith, low, raw_in_low test T p passed)) other)
+on_from : (test : ℕ → Bool) (T : List ℕ) (n p : ℕ) → length T - p ≤ n → test 92 ≡ false →
+    past test T p ≡ past test T (raw_past test T p)
+on_from test T zero p low other =
+    turn test T p (raw_in test T p) refl other (λ passed. absurd (omega (arith, low, raw_in_low test T p passed)))
+on_from test T (suc n) p low other =
+    turn test T p (raw_in test T p) refl other
+    (λ passed. on_from test T n (p + 1) (omega (arith, low, raw_in_low test T p passed)) other)
 
 -- the stretch goes on where its bytes as they stand end
 pub past_on : (test : ℕ → Bool) (T : List ℕ) (p : ℕ) → test 92 ≡ false → past test T p ≡ past test T (raw_past test T p)
@@ -51,23 +60,28 @@ no_class Digit = refl
 no_class Name = refl
 no_class Tab = refl
 
-pub past_raw : (class : Class) (T : List ℕ) (p : ℕ) → past (in_class class) T p ≡ past (in_class class) T (raw_past (in_class class) T p)
+pub past_raw : (class : Class) (T : List ℕ) (p : ℕ) →
+    past (in_class class) T p ≡ past (in_class class) T (raw_past (in_class class) T p)
 past_raw class T p = past_on (in_class class) T p (no_class class)
 
 pub raw_stops : (class : Class) (T : List ℕ) (p : ℕ) → raw_in (in_class class) T (raw_past (in_class class) T p) ≡ false
 raw_stops class T p = raw_past_stops (in_class class) T p
 
 -- without a continuation, what does not stand at a place is not read there
-pub none_here : (class : Class) (T : List ℕ) (p : ℕ) → continues T p ≡ false → raw_in (in_class class) T p ≡ false → stands_in (in_class class) T p ≡ false
+pub none_here : (class : Class) (T : List ℕ) (p : ℕ) → continues T p ≡ false → raw_in (in_class class) T p ≡ false →
+    stands_in (in_class class) T p ≡ false
 unfolding stands_in raw_in
 none_here class T p none other = rw (joined_none T p none) other
 
-pub past_whole : (class : Class) (T : List ℕ) (p : ℕ) → continues T (raw_past (in_class class) T p) ≡ false → past (in_class class) T p ≡ raw_past (in_class class) T p
+pub past_whole : (class : Class) (T : List ℕ) (p : ℕ) → continues T (raw_past (in_class class) T p) ≡ false →
+    past (in_class class) T p ≡ raw_past (in_class class) T p
 past_whole class T p none =
-    past_raw class T p ∙ past_none (in_class class) T (raw_past (in_class class) T p) (none_here class T _ none (raw_stops class T p))
+    past_raw class T p ∙ past_none (in_class class) T (raw_past (in_class class) T p)
+    (none_here class T _ none (raw_stops class T p))
 
 -- what stands past continuations is read
-pub joined_here : (class : Class) (T : List ℕ) (p : ℕ) (x : Bool) → raw_in (in_class class) T (past_continuations T p) ≡ x → stands_in (in_class class) T p ≡ x
+pub joined_here : (class : Class) (T : List ℕ) (p : ℕ) (x : Bool) →
+    raw_in (in_class class) T (past_continuations T p) ≡ x → stands_in (in_class class) T p ≡ x
 unfolding stands_in raw_in
 joined_here class T p x is = is
 
@@ -89,9 +103,11 @@ pub blanks_stop_raw : (T : List ℕ) (p : ℕ) → raw_in is_blank T (raw_past i
 blanks_stop_raw T p = raw_past_stops is_blank T p
 
 -- where no continuation stands behind them, a token begins there
-pub blanks_whole : (T : List ℕ) (p : ℕ) → continues T (raw_past is_blank T p) ≡ false → past_blanks T p ≡ raw_past is_blank T p
+pub blanks_whole : (T : List ℕ) (p : ℕ) → continues T (raw_past is_blank T p) ≡ false →
+    past_blanks T p ≡ raw_past is_blank T p
 unfolding past_blanks
-blanks_whole T p none = ap (past_continuations T) (past_whole Blank T p none) ∙ joined_none T (raw_past is_blank T p) none
+blanks_whole T p none = ap (past_continuations T) (past_whole Blank T p none)
+    ∙ joined_none T (raw_past is_blank T p) none
 
 -- else behind what follows the continuation
 pub blanks_on : (T : List ℕ) (p : ℕ) → past_blanks T p ≡ past_continuations T (past is_blank T (raw_past is_blank T p))

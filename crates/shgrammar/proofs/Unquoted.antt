@@ -15,17 +15,22 @@ use Rattle.shgrammar.proofs.Stretches.{get_drop, joined_more, joined_none}
 
 -- ---- text and what is left behind it
 
-push_left : (text : List ℕ) (c : ℕ) (left : Option (List ℕ)) → left_of text (left_before c left) ≡ left_of (text ++ c ∷ []) left
+push_left : (text : List ℕ) (c : ℕ) (left : Option (List ℕ)) →
+    left_of text (left_before c left) ≡ left_of (text ++ c ∷ []) left
 push_left text c None = refl
 push_left text c (Some bs) = ap (λ (l : List ℕ). Some l) (sym (append_assoc text (c ∷ []) bs))
 
-pub escape_dropped : (q : Quoting) (text : List ℕ) (c : ℕ) (left : Option (List ℕ)) → (c == 10) ≡ true → left_of text (escape_left q c left) ≡ left_of text left
+pub escape_dropped : (q : Quoting) (text : List ℕ) (c : ℕ) (left : Option (List ℕ)) → (c == 10) ≡ true →
+    left_of text (escape_left q c left) ≡ left_of text left
 escape_dropped q text c left is = rw is refl
 
-pub escape_both : (q : Quoting) (text : List ℕ) (c : ℕ) (left : Option (List ℕ)) → (c == 10) ≡ false → stays_before q c ≡ true → left_of text (escape_left q c left) ≡ left_of ((text ++ 92 ∷ []) ++ c ∷ []) left
-escape_both q text c left other is = rw (other, is) (push_left text 92 (left_before c left) ∙ push_left (text ++ 92 ∷ []) c left)
+pub escape_both : (q : Quoting) (text : List ℕ) (c : ℕ) (left : Option (List ℕ)) → (c == 10) ≡ false →
+    stays_before q c ≡ true → left_of text (escape_left q c left) ≡ left_of ((text ++ 92 ∷ []) ++ c ∷ []) left
+escape_both q text c left other is =
+    rw (other, is) (push_left text 92 (left_before c left) ∙ push_left (text ++ 92 ∷ []) c left)
 
-pub escape_one : (q : Quoting) (text : List ℕ) (c : ℕ) (left : Option (List ℕ)) → (c == 10) ≡ false → stays_before q c ≡ false → left_of text (escape_left q c left) ≡ left_of (text ++ c ∷ []) left
+pub escape_one : (q : Quoting) (text : List ℕ) (c : ℕ) (left : Option (List ℕ)) → (c == 10) ≡ false →
+    stays_before q c ≡ false → left_of text (escape_left q c left) ≡ left_of (text ++ c ∷ []) left
 escape_one q text c left other is = rw (other, is) (push_left text c left)
 
 -- ---- bytes past continuations
@@ -38,10 +43,12 @@ two_bytes word at c = let both = and_parts _ _ c in within (slice_get word (at +
     within None is e = absurd cc
     within (Some b) is e = let lt = slice_get_within word (at + 1) b is in omega (arith, lt)
 
-pub joined_on : (word : List ℕ) (p q : ℕ) → continues word q ≡ true → past_continuations word p ≡ past_continuations word q → past_continuations word p ≡ past_continuations word (q + 2)
+pub joined_on : (word : List ℕ) (p q : ℕ) → continues word q ≡ true →
+    past_continuations word p ≡ past_continuations word q → past_continuations word p ≡ past_continuations word (q + 2)
 joined_on word p q c is = is ∙ joined_more word q c
 
-pub joined_here : (word : List ℕ) (p q : ℕ) → continues word q ≡ false → q < length word → past_continuations word p ≡ past_continuations word q → byte_at word p ≡ Some (get_or word q 0)
+pub joined_here : (word : List ℕ) (p q : ℕ) → continues word q ≡ false → q < length word →
+    past_continuations word p ≡ past_continuations word q → byte_at word p ≡ Some (get_or word q 0)
 joined_here word p q c lt is = ap (slice_get word) (is ∙ joined_none word q c) ∙ slice_get-get_or word q 0 lt
 
 none_past : (word : List ℕ) (q : ℕ) → length word ≤ q → continues word q ≡ false
@@ -59,7 +66,8 @@ past_end word q le = by (slice_get word q) refl
     by None is = refl
     by (Some b) is = let lt = slice_get_within word q b is in absurd (omega (arith, lt, le))
 
-pub joined_end : (word : List ℕ) (p q : ℕ) → length word ≤ q → past_continuations word p ≡ past_continuations word q → byte_at word p ≡ None
+pub joined_end : (word : List ℕ) (p q : ℕ) → length word ≤ q → past_continuations word p ≡ past_continuations word q →
+    byte_at word p ≡ None
 joined_end word p q le is = ap (slice_get word) (is ∙ joined_none word q (none_past word q le)) ∙ past_end word q le
 
 -- what is read at a place is read at the begin of the rest
@@ -76,29 +84,39 @@ rest_stands word p c = ap (λ b. is_byte b c) (rest_byte word p)
 
 -- ---- a `$`
 
-pub dollar_second : (text bs : List ℕ) (left : Bool → Option (List ℕ)) → left_of text (dollar_left true bs left) ≡ left_of (text ++ 36 ∷ []) (left false)
+pub dollar_second : (text bs : List ℕ) (left : Bool → Option (List ℕ)) →
+    left_of text (dollar_left true bs left) ≡ left_of (text ++ 36 ∷ []) (left false)
 dollar_second text bs left = push_left text 36 (left false)
 
-pub dollar_opens : (text word : List ℕ) (p : ℕ) (left : Bool → Option (List ℕ)) → (is_byte (byte_at word p) 40 || is_byte (byte_at word p) 123) ≡ true → left_of text (dollar_left false (drop p word) left) ≡ None
+pub dollar_opens : (text word : List ℕ) (p : ℕ) (left : Bool → Option (List ℕ)) →
+    (is_byte (byte_at word p) 40 || is_byte (byte_at word p) 123) ≡ true →
+    left_of text (dollar_left false (drop p word) left) ≡ None
 dollar_opens text word p left opens = rw (rest_stands word p 40, rest_stands word p 123, opens) refl
 
-pub dollar_on : (text word : List ℕ) (p : ℕ) (left : Bool → Option (List ℕ)) → (is_byte (byte_at word p) 40 || is_byte (byte_at word p) 123) ≡ false
-    → left_of text (dollar_left false (drop p word) left) ≡ left_of (text ++ 36 ∷ []) (left (is_byte (byte_at word p) 36))
-dollar_on text word p left other = rw (rest_stands word p 40, rest_stands word p 123, other, rest_stands word p 36) (push_left text 36 (left (is_byte (byte_at word p) 36)))
+pub dollar_on : (text word : List ℕ) (p : ℕ) (left : Bool → Option (List ℕ)) →
+    (is_byte (byte_at word p) 40 || is_byte (byte_at word p) 123) ≡ false
+    → left_of text (dollar_left false (drop p word) left)
+    ≡ left_of (text ++ 36 ∷ []) (left (is_byte (byte_at word p) 36))
+dollar_on text word p left other =
+    rw (rest_stands word p 40, rest_stands word p 123, other, rest_stands word p 36)
+    (push_left text 36 (left (is_byte (byte_at word p) 36)))
 
 -- ---- another byte
 
 module _ (q : Quoting) (second : Bool) (text bs : List ℕ) (b : ℕ) (left : Quoting → Bool → Option (List ℕ)) where
-  pub byte_quote : is_quote q b ≡ true → left_of text (byte_left q second b bs left) ≡ left_of text (left (behind_quote q b) false)
+  pub byte_quote : is_quote q b ≡ true →
+      left_of text (byte_left q second b bs left) ≡ left_of text (left (behind_quote q b) false)
   byte_quote is = rw is refl
 
   pub byte_backquote : is_quote q b ≡ false → is_live q 96 b ≡ true → left_of text (byte_left q second b bs left) ≡ None
   byte_backquote other is = rw (other, is) refl
 
-  pub byte_dollar : is_quote q b ≡ false → is_live q 96 b ≡ false → is_live q 36 b ≡ true → left_of text (byte_left q second b bs left) ≡ left_of text (dollar_left second bs (left q))
+  pub byte_dollar : is_quote q b ≡ false → is_live q 96 b ≡ false → is_live q 36 b ≡ true →
+      left_of text (byte_left q second b bs left) ≡ left_of text (dollar_left second bs (left q))
   byte_dollar other tick is = rw (other, tick, is) refl
 
-  pub byte_other : is_quote q b ≡ false → is_live q 96 b ≡ false → is_live q 36 b ≡ false → left_of text (byte_left q second b bs left) ≡ left_of (text ++ b ∷ []) (left q second)
+  pub byte_other : is_quote q b ≡ false → is_live q 96 b ≡ false → is_live q 36 b ≡ false →
+      left_of text (byte_left q second b bs left) ≡ left_of (text ++ b ∷ []) (left q second)
   byte_other other tick none = rw (other, tick, none) (push_left text b (left q second))
 
 -- ---- the byte at a place
@@ -107,48 +125,62 @@ second_false : (a b : Bool) → (a && b) ≡ false → a ≡ true → b ≡ fals
 second_false true b e f = e
 second_false false b e f = absurd cc
 
-pub unquoted_byte : (q : Quoting) (second : Bool) (b : ℕ) (bs : List ℕ) → (nat_lt 0 (length bs) && is_live q 92 b) ≡ false → unquoted q second (b ∷ bs) ≡ byte_left q second b bs (λ r s. unquoted r s bs)
+pub unquoted_byte : (q : Quoting) (second : Bool) (b : ℕ) (bs : List ℕ) →
+    (nat_lt 0 (length bs) && is_live q 92 b) ≡ false →
+    unquoted q second (b ∷ bs) ≡ byte_left q second b bs (λ r s. unquoted r s bs)
 unfolding unquoted
 unquoted_byte q second b [] other = refl
-unquoted_byte q second b (c ∷ bs) other = rw (second_false (nat_lt 0 (length (c ∷ bs))) (is_live q 92 b) other (lt-ltb _ _ (omega arith))) refl
+unquoted_byte q second b (c ∷ bs) other =
+    rw (second_false (nat_lt 0 (length (c ∷ bs))) (is_live q 92 b) other (lt-ltb _ _ (omega arith))) refl
 
-pub unquoted_escape : (q : Quoting) (second : Bool) (b c : ℕ) (bs : List ℕ) → is_live q 92 b ≡ true → unquoted q second (b ∷ c ∷ bs) ≡ escape_left q c (unquoted q second bs)
+pub unquoted_escape : (q : Quoting) (second : Bool) (b c : ℕ) (bs : List ℕ) → is_live q 92 b ≡ true →
+    unquoted q second (b ∷ c ∷ bs) ≡ escape_left q c (unquoted q second bs)
 unfolding unquoted
 unquoted_escape q second b c bs is = rw is refl
 
 same_and : (b c d : Bool) → b ≡ c → (b && d) ≡ (c && d)
 same_and b c d is = ap (λ x. x && d) is
 
-longer : (word : List ℕ) (at : ℕ) → at < length word → nat_lt 0 (length (drop (at + 1) word)) ≡ nat_lt (at + 1) (length word)
+longer : (word : List ℕ) (at : ℕ) → at < length word →
+    nat_lt 0 (length (drop (at + 1) word)) ≡ nat_lt (at + 1) (length word)
 longer word at lt = grind (arith, nat_tests, length-drop (at + 1) word)
 
-pub take_byte : (q : Quoting) (second : Bool) (text word : List ℕ) (at : ℕ) → at < length word → escapes q word at ≡ false
-    → left_of text (unquoted q second (drop at word)) ≡ left_of text (byte_left q second (get_or word at 0) (drop (at + 1) word) (λ r s. unquoted r s (drop (at + 1) word)))
+pub take_byte : (q : Quoting) (second : Bool) (text word : List ℕ) (at : ℕ) → at < length word →
+    escapes q word at ≡ false
+    → left_of text (unquoted q second (drop at word))
+    ≡ left_of text (byte_left q second (get_or word at 0) (drop (at + 1) word)
+    (λ r s. unquoted r s (drop (at + 1) word)))
 take_byte q second text word at lt other =
     ap (λ l. left_of text (unquoted q second l)) (drop_more word at 0 lt)
-    ∙ ap (left_of text) (unquoted_byte q second (get_or word at 0) (drop (at + 1) word) (same_and _ _ (is_live q 92 (get_or word at 0)) (longer word at lt) ∙ other))
+    ∙ ap (left_of text) (unquoted_byte q second (get_or word at 0) (drop (at + 1) word)
+    (same_and _ _ (is_live q 92 (get_or word at 0)) (longer word at lt) ∙ other))
 
-pub take_escape : (q : Quoting) (second : Bool) (text word : List ℕ) (at : ℕ) → at < length word → escapes q word at ≡ true
-    → left_of text (unquoted q second (drop at word)) ≡ left_of text (escape_left q (get_or word (at + 1) 0) (unquoted q second (drop (at + 2) word)))
+pub take_escape : (q : Quoting) (second : Bool) (text word : List ℕ) (at : ℕ) → at < length word →
+    escapes q word at ≡ true
+    → left_of text (unquoted q second (drop at word))
+    ≡ left_of text (escape_left q (get_or word (at + 1) 0) (unquoted q second (drop (at + 2) word)))
 take_escape q second text word at lt is =
     let both = and_parts _ _ is in
     let more : at + 1 < length word = ltb-true _ _ both.0 in
     let next : at + 1 + 1 ≡ at + 2 = omega arith in
     ap (λ l. left_of text (unquoted q second l)) (drop_more word at 0 lt)
     ∙ ap (λ l. left_of text (unquoted q second (get_or word at 0 ∷ l))) (drop_more word (at + 1) 0 more)
-    ∙ ap (left_of text) (unquoted_escape q second (get_or word at 0) (get_or word (at + 1) 0) (drop (at + 1 + 1) word) both.1)
+    ∙ ap (left_of text) (unquoted_escape q second (get_or word at 0) (get_or word (at + 1) 0)
+    (drop (at + 1 + 1) word) both.1)
     ∙ ap (λ n. left_of text (escape_left q (get_or word (at + 1) 0) (unquoted q second (drop n word)))) next
 
 -- ---- the whole word
 
-pub nothing_left : (q : Quoting) (second : Bool) (word : List ℕ) → left_of [] (unquoted q second (drop 0 word)) ≡ unquoted q second word
+pub nothing_left : (q : Quoting) (second : Bool) (word : List ℕ) →
+    left_of [] (unquoted q second (drop 0 word)) ≡ unquoted q second word
 nothing_left q second word = same (unquoted q second word)
   where
     same : (x : Option (List ℕ)) → left_of [] x ≡ x
     same None = refl
     same (Some bs) = refl
 
-pub all_left : (q : Quoting) (second : Bool) (text word : List ℕ) (at : ℕ) → length word ≤ at → left_of text (unquoted q second (drop at word)) ≡ Some text
+pub all_left : (q : Quoting) (second : Bool) (text word : List ℕ) (at : ℕ) → length word ≤ at →
+    left_of text (unquoted q second (drop at word)) ≡ Some text
 unfolding unquoted
 all_left q second text word at le = rw (drop_all at word le) (ap (λ (l : List ℕ). Some l) (append-nil text))
 
@@ -164,42 +196,55 @@ bare_pair : (b c : ℕ) (bs : List ℕ) → (b == 92 && c == 10) ≡ true → ba
 unfolding bare
 bare_pair b c bs is = rw is refl
 
-continues_at : (word : List ℕ) (at : ℕ) → at + 1 < length word → continues word at ≡ (get_or word at 0 == 92 && get_or word (at + 1) 0 == 10)
+continues_at : (word : List ℕ) (at : ℕ) → at + 1 < length word →
+    continues word at ≡ (get_or word at 0 == 92 && get_or word (at + 1) 0 == 10)
 unfolding continues raw_stands
 continues_at word at lt = rw (slice_get-get_or word at 0 (omega (arith, lt)), slice_get-get_or word (at + 1) 0 lt) refl
 
-pub bare_on : (word : List ℕ) (at : ℕ) → continues word at ≡ true → list_any (λ b. b == 92 || b == 39 || b == 34) (bare (drop at word)) ≡ list_any (λ b. b == 92 || b == 39 || b == 34) (bare (drop (at + 2) word))
+pub bare_on : (word : List ℕ) (at : ℕ) → continues word at ≡ true →
+    list_any (λ b. b == 92 || b == 39 || b == 34) (bare (drop at word))
+    ≡ list_any (λ b. b == 92 || b == 39 || b == 34) (bare (drop (at + 2) word))
 bare_on word at c =
     let le = two_bytes word at c in
     let next : at + 1 + 1 ≡ at + 2 = omega arith in
-    ap (λ l. list_any quotes (bare l)) (drop_more word at 0 (omega (arith, le)) ∙ ap (λ l. get_or word at 0 ∷ l) (drop_more word (at + 1) 0 (omega (arith, le))))
-    ∙ ap (list_any quotes) (bare_pair (get_or word at 0) (get_or word (at + 1) 0) (drop (at + 1 + 1) word) (sym (continues_at word at (omega (arith, le))) ∙ c))
+    ap (λ l. list_any quotes (bare l))
+    (drop_more word at 0 (omega (arith, le))
+    ∙ ap (λ l. get_or word at 0 ∷ l) (drop_more word (at + 1) 0 (omega (arith, le))))
+    ∙ ap (list_any quotes) (bare_pair (get_or word at 0) (get_or word (at + 1) 0) (drop (at + 1 + 1) word)
+    (sym (continues_at word at (omega (arith, le))) ∙ c))
     ∙ ap (λ n. list_any quotes (bare (drop n word))) next
 
-pub bare_one : (b : ℕ) (bs : List ℕ) → ((c : ℕ) (cs : List ℕ) → bs ≡ c ∷ cs → (b == 92 && c == 10) ≡ false) → bare (b ∷ bs) ≡ b ∷ bare bs
+pub bare_one : (b : ℕ) (bs : List ℕ) → ((c : ℕ) (cs : List ℕ) → bs ≡ c ∷ cs → (b == 92 && c == 10) ≡ false) →
+    bare (b ∷ bs) ≡ b ∷ bare bs
 unfolding bare
 bare_one b [] none = refl
 bare_one b (c ∷ cs) none = rw (none c cs refl) refl
 
-bare_step : (word : List ℕ) (at : ℕ) → at < length word → continues word at ≡ false → bare (drop at word) ≡ get_or word at 0 ∷ bare (drop (at + 1) word)
+bare_step : (word : List ℕ) (at : ℕ) → at < length word → continues word at ≡ false →
+    bare (drop at word) ≡ get_or word at 0 ∷ bare (drop (at + 1) word)
 bare_step word at lt other = ap bare (drop_more word at 0 lt) ∙ bare_one (get_or word at 0) (drop (at + 1) word) none
   where
     none : (c : ℕ) (cs : List ℕ) → drop (at + 1) word ≡ c ∷ cs → (get_or word at 0 == 92 && c == 10) ≡ false
     none c cs is =
         let long : length (drop (at + 1) word) ≡ suc (length cs) = ap length is in
         let more : at + 1 < length word = omega (arith, long, length-drop (at + 1) word) in
-        let first : get_or word (at + 1) 0 ∷ drop (at + 1 + 1) word ≡ c ∷ cs = sym (drop_more word (at + 1) 0 more) ∙ is in
+        let first : get_or word (at + 1) 0 ∷ drop (at + 1 + 1) word ≡ c ∷ cs = sym (drop_more word (at + 1) 0 more)
+        ∙ is in
         let same : get_or word (at + 1) 0 ≡ c = cc in
         ap (λ (x : ℕ). get_or word at 0 == 92 && x == 10) (sym same) ∙ sym (continues_at word at more) ∙ other
 
-pub bare_quotes : (word : List ℕ) (at : ℕ) → at < length word → continues word at ≡ false → (get_or word at 0 == 92 || get_or word at 0 == 39 || get_or word at 0 == 34) ≡ true
+pub bare_quotes : (word : List ℕ) (at : ℕ) → at < length word → continues word at ≡ false →
+    (get_or word at 0 == 92 || get_or word at 0 == 39 || get_or word at 0 == 34) ≡ true
     → list_any (λ b. b == 92 || b == 39 || b == 34) (bare (drop at word)) ≡ true
 bare_quotes word at lt other is = rw (bare_step word at lt other, is) refl
 
-pub bare_other : (word : List ℕ) (at : ℕ) → at < length word → continues word at ≡ false → (get_or word at 0 == 92 || get_or word at 0 == 39 || get_or word at 0 == 34) ≡ false
-    → list_any (λ b. b == 92 || b == 39 || b == 34) (bare (drop at word)) ≡ list_any (λ b. b == 92 || b == 39 || b == 34) (bare (drop (at + 1) word))
+pub bare_other : (word : List ℕ) (at : ℕ) → at < length word → continues word at ≡ false →
+    (get_or word at 0 == 92 || get_or word at 0 == 39 || get_or word at 0 == 34) ≡ false
+    → list_any (λ b. b == 92 || b == 39 || b == 34) (bare (drop at word))
+    ≡ list_any (λ b. b == 92 || b == 39 || b == 34) (bare (drop (at + 1) word))
 bare_other word at lt other is = rw (bare_step word at lt other, is) refl
 
-pub bare_end : (word : List ℕ) (at : ℕ) → length word ≤ at → list_any (λ b. b == 92 || b == 39 || b == 34) (bare (drop at word)) ≡ false
+pub bare_end : (word : List ℕ) (at : ℕ) → length word ≤ at →
+    list_any (λ b. b == 92 || b == 39 || b == 34) (bare (drop at word)) ≡ false
 unfolding bare
 bare_end word at le = rw (drop_all at word le) refl

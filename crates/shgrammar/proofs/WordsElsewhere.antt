@@ -41,19 +41,28 @@ use Rattle.shgrammar.proofs.TokensShown.{Begins, paren_here, shown_level, shown_
 use Rattle.shgrammar.proofs.WordsWithin.{Last, contents_end, stays_in}
 use Rattle.shgrammar.specs.declared.edition.Edition.{Edition}
 
-pub substs_shape : (B : List ℕ) (ss : Row ASubst) → shape_of_substs B (substs_of ss) ≡ substs_of (map (shape_of_subst B) ss)
+pub substs_shape : (B : List ℕ) (ss : Row ASubst) →
+    shape_of_substs B (substs_of ss) ≡ substs_of (map (shape_of_subst B) ss)
 substs_shape B [] = refl
 substs_shape B (s ∷ ss) = rw (substs_shape B ss) refl
 
 -- whatever two texts, and wherever: constructs and substitutions before a byte that
 -- ends words, compound commands and functions before a `)`
 pub record Everywhere (inner : Inner) : Type 0 where
-  pub local : (edition : Edition) (T U : List ℕ) (a L : ℕ) (to : ℕ → ℕ) (K : Kept edition T U a L to) (o o2 : ℕ) (B B2 : List ℕ) → T ≡ drop o B → U ≡ drop o2 B2 → ends (byte_at U (to L)) ≡ true
+  pub local : (edition : Edition) (T U : List ℕ) (a L : ℕ) (to : ℕ → ℕ) (K : Kept edition T U a L to) (o o2 : ℕ)
+      (B B2 : List ℕ) → T ≡ drop o B → U ≡ drop o2 B2 → ends (byte_at U (to L)) ≡ true
       → (is_byte (byte_at T L) 40 ≡ false → is_byte (byte_at U (to L)) 40 ≡ false) → Local K o o2 B B2 inner
-  pub compound : (edition : Edition) (T U : List ℕ) (a M : ℕ) (to : ℕ → ℕ) (limit : ℕ) (E : ListEnds edition T U a M to limit) (o o2 : ℕ) (B B2 : List ℕ) (stands : T ≡ drop o B) (stands_there : U ≡ drop o2 B2) (c : Opener)
-      → Goes E o o2 B B2 stands stands_there (SameCommand E o o2 B B2 stands stands_there) (inner.compound c) (inner.compound c)
-  pub function : (edition : Edition) (T U : List ℕ) (a M : ℕ) (to : ℕ → ℕ) (limit : ℕ) (E : ListEnds edition T U a M to limit) (o o2 : ℕ) (B B2 : List ℕ) (stands : T ≡ drop o B) (stands_there : U ≡ drop o2 B2) (name new : Span)
-      → text_at B name ≡ text_at B2 new → Goes E o o2 B B2 stands stands_there (SameCommand E o o2 B B2 stands stands_there) (inner.function name) (inner.function new)
+  pub compound : (edition : Edition) (T U : List ℕ) (a M : ℕ) (to : ℕ → ℕ) (limit : ℕ)
+      (E : ListEnds edition T U a M to limit) (o o2 : ℕ) (B B2 : List ℕ) (stands : T ≡ drop o B)
+      (stands_there : U ≡ drop o2 B2) (c : Opener)
+      → Goes E o o2 B B2 stands stands_there (SameCommand E o o2 B B2 stands stands_there) (inner.compound c)
+      (inner.compound c)
+  pub function : (edition : Edition) (T U : List ℕ) (a M : ℕ) (to : ℕ → ℕ) (limit : ℕ)
+      (E : ListEnds edition T U a M to limit) (o o2 : ℕ) (B B2 : List ℕ) (stands : T ≡ drop o B)
+      (stands_there : U ≡ drop o2 B2) (name new : Span)
+      → text_at B name ≡ text_at B2 new →
+      Goes E o o2 B B2 stands stands_there (SameCommand E o o2 B B2 stands stands_there) (inner.function name)
+      (inner.function new)
 
 module _ (room : ℕ) (all : Everywhere (level room)) where
   abbrev inner : Inner
@@ -61,15 +70,22 @@ module _ (room : ℕ) (all : Everywhere (level room)) where
 
   -- ---- a word of a list
 
-  module _ {edition : Edition} {T U : List ℕ} {a M : ℕ} {to : ℕ → ℕ} {limit : ℕ} (E : ListEnds edition T U a M to limit) (o o2 : ℕ) (B B2 : List ℕ) (stands : T ≡ drop o B) (stands_there : U ≡ drop o2 B2) where
+  module _ {edition : Edition} {T U : List ℕ} {a M : ℕ} {to : ℕ → ℕ} {limit : ℕ} (E : ListEnds edition T U a M to limit)
+      (o o2 : ℕ) (B B2 : List ℕ) (stands : T ≡ drop o B) (stands_there : U ≡ drop o2 B2) where
     abbrev FoundWord : State → AWord → State → Type 0
-    FoundWord s w t = Found E o o2 B B2 stands stands_there (SameWord E o o2 B B2 stands stands_there) (a_word inner) s w t
+    FoundWord s w t = Found E o o2 B B2 stands stands_there (SameWord E o o2 B B2 stands stands_there)
+        (a_word inner) s w t
 
     -- the bytes are the same up to its end
     kept_to : (e : ℕ) → a ≤ e → e ≤ M → Kept edition T U a e to
-    kept_to e low le = record { under = low; on = E.kept.on; same = λ r from lt. E.kept.same r from (omega (arith, lt, le)) }
+    kept_to e low le = record {
+      under = low;
+      on = E.kept.on;
+      same = λ r from lt. E.kept.same r from (omega (arith, lt, le));
+    }
 
-    word_there : (s : State) (ss : Row ASubst) (t : State) → a ≤ s.at → s.at ≤ t.at → ends_word T t.at ≡ true → does (contents inner Plain (o + s.at) []) Whole (given edition T o) s ≡ Ok (ss, t)
+    word_there : (s : State) (ss : Row ASubst) (t : State) → a ≤ s.at → s.at ≤ t.at → ends_word T t.at ≡ true →
+        does (contents inner Plain (o + s.at) []) Whole (given edition T o) s ≡ Ok (ss, t)
         → FoundWord s (word (span o s.at t.at) (substs_of ss)) t
     unfolding a_word ends_word
     word_there s ss t from onward ender is e =
@@ -77,14 +93,27 @@ module _ (room : ℕ) (all : Everywhere (level room)) where
         let byte : byte_at U (to t.at) ≡ byte_at T t.at = same_byte E e in
         let K = kept_to t.at (omega (arith, from, onward)) le in
         let ends_there = ap ends byte ∙ ender in
-        let open_there : is_byte (byte_at T t.at) 40 ≡ false → is_byte (byte_at U (to t.at)) 40 ≡ false = λ f. ap (λ x. is_byte x 40) byte ∙ f in
+        let open_there : is_byte (byte_at T t.at) 40 ≡ false →
+        is_byte (byte_at U (to t.at)) 40 ≡ false = λ f. ap (λ x. is_byte x 40) byte ∙ f in
         let local = all.local edition T U a t.at to K o o2 B B2 stands stands_there ends_there open_there in
-        let w = subst (Holds (Ended K o o2 B B2 ends_there open_there inner local (o2 + to s.at) s)) is (word_in K o o2 B B2 ends_there open_there inner local (o + s.at) (o2 + to s.at) s from) refl in (
+        let w = subst (Holds (Ended K o o2 B B2 ends_there open_there inner local (o2 + to s.at) s)) is
+        (word_in K o o2 B B2 ends_there open_there inner local (o + s.at) (o2 + to s.at) s from) refl in (
           word (span o2 (to s.at) (to t.at)) (substs_of w.0),
-          (rw w.1.0 refl, rw (same_texts E o o2 B B2 stands stands_there s.at t.at from (omega (arith, from, onward)) le, substs_shape B ss, w.1.1, sym (substs_shape B2 w.0)) refl),
+          (
+            rw w.1.0 refl,
+            rw (
+              same_texts E o o2 B B2 stands stands_there s.at t.at from
+                  (omega (arith, from, onward)) le,
+              substs_shape B ss,
+              w.1.1,
+              sym (substs_shape B2 w.0),
+            ) refl,
+          ),
         )
 
-    word_by : (s : State) → a ≤ s.at → (x : Read (Row ASubst)) → does (contents inner Plain (o + s.at) []) Whole (given edition T o) s ≡ x → Holds (Behind s) x → (s.at ≤ length T → Holds (λ ss t. Last (given edition T o) Plain t) x)
+    word_by : (s : State) → a ≤ s.at → (x : Read (Row ASubst)) →
+        does (contents inner Plain (o + s.at) []) Whole (given edition T o) s ≡ x → Holds (Behind s) x →
+        (s.at ≤ length T → Holds (λ ss t. Last (given edition T o) Plain t) x)
         → Holds (FoundWord s) (◌▸◌ {Y = AWord} x (λ ss t. Ok (word (span o s.at t.at) (substs_of ss), t)))
     word_by s from (Ok (ss, t)) is onward last =
         λ e. let le : t.at < length T = omega (arith, high E e, slice_get_within T M limit E.byte) in
@@ -96,10 +125,13 @@ module _ (room : ℕ) (all : Everywhere (level room)) where
     word_go s from =
         let body = contents inner Plain (o + s.at) [] in
         subst (Holds (FoundWord s)) (joined (does body Whole (given edition T o) s))
-        (word_by s from (does body Whole (given edition T o) s) refl (low body Whole (given edition T o) s).told (λ le. contents_end (given edition T o) inner (stays_in (given edition T o) room) Plain (o + s.at) [] s le))
+        (word_by s from (does body Whole (given edition T o) s) refl (low body Whole (given edition T o) s).told
+        (λ le. contents_end (given edition T o) inner (stays_in (given edition T o) room) Plain (o + s.at) [] s le))
       where
         joined : (x : Read (Row ASubst))
-            → ◌▸◌ {Y = AWord} x (λ ss t. Ok (word (span o s.at t.at) (substs_of ss), t)) ≡ ◌▸◌ {Y = AWord} (◌▸◌ {Y = Row ASubst × Span} x (λ ss t. Ok ((ss, span o s.at t.at), t))) (λ w t. Ok (word w.1 (substs_of w.0), t))
+            → ◌▸◌ {Y = AWord} x (λ ss t. Ok (word (span o s.at t.at) (substs_of ss), t))
+            ≡ ◌▸◌ {Y = AWord} (◌▸◌ {Y = Row ASubst × Span} x (λ ss t. Ok ((ss, span o s.at t.at), t)))
+            (λ w t. Ok (word w.1 (substs_of w.0), t))
         joined (Ok (ss, t)) = refl
         joined (Err f) = refl
 
@@ -112,7 +144,8 @@ module _ (room : ℕ) (all : Everywhere (level room)) where
 
   -- ---- a substitution
 
-  module _ {edition : Edition} {T U : List ℕ} {a L : ℕ} {to : ℕ → ℕ} (K : Kept edition T U a L to) (o o2 : ℕ) (B B2 : List ℕ) (stands : T ≡ drop o B) (stands_there : U ≡ drop o2 B2) where
+  module _ {edition : Edition} {T U : List ℕ} {a L : ℕ} {to : ℕ → ℕ} (K : Kept edition T U a L to) (o o2 : ℕ)
+      (B B2 : List ℕ) (stands : T ≡ drop o B) (stands_there : U ≡ drop o2 B2) where
     abbrev g : Given
     g = given edition T o
 
@@ -138,7 +171,8 @@ module _ (room : ℕ) (all : Everywhere (level room)) where
     closes l = is_closing closings.Paren l.next.token
 
     abbrev the_close : ListSo → Bool → Form Entries
-    the_close l b = pick b (nothing_waits >> move one_byte >> give (entries_of l.list.entries)) (unexpected inner l.next)
+    the_close l b = pick b (nothing_waits >> move one_byte >> give (entries_of l.list.entries))
+        (unexpected inner l.next)
 
     -- the first that waits, elsewhere
     abbrev first_there : Option ℕ → Option ℕ
@@ -159,7 +193,9 @@ module _ (room : ℕ) (all : Everywhere (level room)) where
       There x t = Holding K o o2 B B2 (a_substitution inner b2) ss outer x t
 
       -- the list was read up to its `)`, and nothing waits there
-      module _ (l : ListSo) (u : State) (is : does (all_lines the_next) Whole g start ≡ Ok (l, u)) (closed : closes l ≡ true) (none : first_waiting u ≡ None) (begins : Begins g l.next u) (onward : start.at ≤ u.at)
+      module _ (l : ListSo) (u : State) (is : does (all_lines the_next) Whole g start ≡ Ok (l, u))
+          (closed : closes l ≡ true) (none : first_waiting u ≡ None) (begins : Begins g l.next u)
+          (onward : start.at ≤ u.at)
           (still : s.at ≤ start.at) where
         abbrev M : ℕ
         M = u.at
@@ -178,7 +214,8 @@ module _ (room : ℕ) (all : Everywhere (level room)) where
           over_there v = over E o o2 B B2 stands stands_there v
 
           back_start : Back E o o2 B B2 stands stands_there start l u
-          back_start = subst (Holds (Back E o o2 B B2 stands stands_there start)) is (good E o o2 B B2 stands stands_there (all_lines the_next) start (omega (arith, from, still))).told
+          back_start = subst (Holds (Back E o o2 B B2 stands stands_there start)) is
+              (good E o o2 B B2 stands stands_there (all_lines the_next) start (omega (arith, from, still))).told
 
           good_start : Good T a M start.at
           good_start = back_start.1 at_limit
@@ -189,19 +226,27 @@ module _ (room : ℕ) (all : Everywhere (level room)) where
 
           begun : Here T U a L to s.at
           unfolding next_token
-          begun = here_before M le (seen E ((good E o o2 B B2 stands stands_there (next_token Command) s from).told.1 good_start))
+          begun = here_before M le (seen E
+              ((good E o o2 B B2 stands stands_there (next_token Command) s from).told.1 good_start))
 
           -- the same token begins it there
           same_start : does (next_token Command) Whole h (over_there s) ≡ Ok (the_next, over_there start)
           unfolding next_token
           same_start =
               let w = (next E o o2 B B2 stands stands_there Command).go s from good_start in
-              subst (λ (n : Next). does (next_token Command) Whole h (over_there s) ≡ Ok (n, over_there start)) (sym w.1.1) w.1.0
+              subst (λ (n : Next). does (next_token Command) Whole h (over_there s) ≡ Ok (n, over_there start))
+              (sym w.1.1) w.1.0
 
-          same_lines : (k : ListSo) × ((does (all_lines the_next) Whole h (over_there start) ≡ Ok (k, over_there u)) × SameList E o o2 B B2 stands stands_there inner (fine E o o2 B B2 stands stands_there) l k)
+          same_lines : (k : ListSo) ×
+              ((does (all_lines the_next) Whole h (over_there start) ≡ Ok (k, over_there u))
+              × SameList E o o2 B B2 stands stands_there inner (fine E o o2 B B2 stands stands_there) l k)
           same_lines =
-              subst (Holds (Found E o o2 B B2 stands stands_there (SameList E o o2 B B2 stands stands_there inner (fine E o o2 B B2 stands stands_there)) (all_lines the_next) start)) is
-              ((lines E o o2 B B2 stands stands_there inner (fine E o o2 B B2 stands stands_there) the_next the_next refl).go start (omega (arith, from, still))) at_limit
+              subst (Holds (Found E o o2 B B2 stands stands_there
+              (SameList E o o2 B B2 stands stands_there inner (fine E o o2 B B2 stands stands_there))
+              (all_lines the_next) start)) is
+              ((lines E o o2 B B2 stands stands_there inner
+              (fine E o o2 B B2 stands stands_there) the_next the_next refl).go start (omega (arith, from, still)))
+              at_limit
 
           abbrev last : State
           last = record { at = behind T M; waiting = u.waiting; bodies = u.bodies }
@@ -216,16 +261,23 @@ module _ (room : ℕ) (all : Everywhere (level room)) where
           close_there : does (the_close k true) Whole h (over_there u) ≡ Ok (entries_of k.list.entries, over_there last)
           unfolding nothing_waits
           close_there =
-              ap (λ (w : Option ℕ). ◌▸◌ {Y = Entries} (does (none_waits w) Whole h (over_there u)) (λ x t. Ok (entries_of k.list.entries, moved_on one_byte h t))) none_there
-              ∙ ap (λ (p : ℕ). Ok (entries_of k.list.entries, state_from (o + a) (o2 + to a) p u)) (same_behind E at_limit)
+              ap (λ (w : Option ℕ). ◌▸◌ {Y = Entries} (does (none_waits w) Whole h (over_there u))
+              (λ x t. Ok (entries_of k.list.entries, moved_on one_byte h t))) none_there
+              ∙ ap (λ (p : ℕ). Ok (entries_of k.list.entries, state_from (o + a) (o2 + to a) p u))
+              (same_behind E at_limit)
 
           -- what stands in it, and its `)`
-          same_inside : does (substitution_list inner) Whole h (over_there s) ≡ Ok (entries_of k.list.entries, over_there last)
+          same_inside : does (substitution_list inner) Whole h (over_there s)
+              ≡ Ok (entries_of k.list.entries, over_there last)
           unfolding substitution_list
           same_inside =
-              let closes_there : closes k ≡ true = ap (λ (n : Next). is_closing closings.Paren n.token) (sym same_lines.1.1.1) ∙ closed in
-              ap (λ (z : Read Next). ◌▸◌ {Y = Entries} z (λ n t. ◌▸◌ {Y = Entries} (does (all_lines n) Whole h t) (λ l t. does (the_close l (closes l)) Whole h t))) same_start
-              ∙ ap (λ (z : Read ListSo). ◌▸◌ {Y = Entries} z (λ l t. does (the_close l (closes l)) Whole h t)) same_lines.1.0
+              let closes_there : closes k ≡ true =
+              ap (λ (n : Next). is_closing closings.Paren n.token) (sym same_lines.1.1.1) ∙ closed in
+              ap (λ (z : Read Next). ◌▸◌ {Y = Entries} z
+              (λ n t. ◌▸◌ {Y = Entries} (does (all_lines n) Whole h t)
+              (λ l t. does (the_close l (closes l)) Whole h t))) same_start
+              ∙ ap (λ (z : Read ListSo). ◌▸◌ {Y = Entries} z (λ l t. does (the_close l (closes l)) Whole h t))
+              same_lines.1.0
               ∙ ap (λ c. does (the_close k c) Whole h (over_there u)) closes_there
               ∙ close_there
 
@@ -233,23 +285,34 @@ module _ (room : ℕ) (all : Everywhere (level room)) where
           one_more es start end = a_subst es (record { start = start; «end» = end })
 
           -- its list, with its bodies
-          filled_same : shape_of B (filled u.bodies (entries_of l.list.entries)) ≡ shape_of B2 (filled (map (move_span E o o2) u.bodies) (entries_of k.list.entries))
+          filled_same : shape_of B (filled u.bodies (entries_of l.list.entries))
+              ≡ shape_of B2 (filled (map (move_span E o o2) u.bodies) (entries_of k.list.entries))
           filled_same =
               shape_filled B u.bodies (entries_of l.list.entries)
               ∙ ap (λ bs. filled bs (shape_of B (entries_of l.list.entries))) same_bodies
-              ∙ ap (filled (map (text_at B2) (map (move_span E o o2) u.bodies))) (list_shape E o o2 B B2 stands stands_there inner (fine E o o2 B B2 stands stands_there) l k same_lines.1.1)
+              ∙ ap (filled (map (text_at B2) (map (move_span E o o2) u.bodies)))
+              (list_shape E o o2 B B2 stands stands_there inner
+              (fine E o o2 B B2 stands stands_there) l k same_lines.1.1)
               ∙ sym (shape_filled B2 (map (move_span E o o2) u.bodies) (entries_of k.list.entries))
 
           found : (zs : Row ASubst) → SameSubsts K o o2 B B2 ss zs
-              → (y : Row ASubst) × ((does (a_substitution inner b2 zs) Whole h (over_there outer) ≡ Ok (y, over_there (outer_level outer last)))
-              × SameSubsts K o o2 B B2 (ss ++ one_more (filled u.bodies (entries_of l.list.entries)) b (o + behind T M) ∷ []) y)
+              → (y : Row ASubst) × ((does (a_substitution inner b2 zs) Whole h (over_there outer)
+              ≡ Ok (y, over_there (outer_level outer last)))
+              × SameSubsts K o o2 B B2 (ss ++ one_more (filled u.bodies (entries_of l.list.entries)) b (o + behind T M)
+              ∷ []) y)
           unfolding a_substitution one_substitution
           found zs same = (
-            zs ++ one_more (filled (map (move_span E o o2) u.bodies) (entries_of k.list.entries)) b2 (o2 + to (behind T M)) ∷ [],
+            zs ++ one_more (filled (map (move_span E o o2) u.bodies) (entries_of k.list.entries)) b2
+                (o2 + to (behind T M)) ∷ [],
             (
-              ap (λ (z : Read Entries). ◌▸◌ {Y = Row ASubst} (◌▸◌ {Y = Entries × Row Span} (with_end UnclosedSubst b2 z) (λ es t. Ok ((es, t.bodies), outer_level (over_there outer) t))) (λ es t. Ok (zs ++ one_more (filled es.1 es.0) b2 (o2 + t.at) ∷ [], t))) same_inside,
-              rows_more (shape_of_subst B) (shape_of_subst B2) ss (one_more (filled u.bodies (entries_of l.list.entries)) b (o + behind T M)) zs
-                  (one_more (filled (map (move_span E o o2) u.bodies) (entries_of k.list.entries)) b2 (o2 + to (behind T M))) same
+              ap (λ (z : Read Entries). ◌▸◌ {Y = Row ASubst}
+                  (◌▸◌ {Y = Entries × Row Span} (with_end UnclosedSubst b2 z)
+                  (λ es t. Ok ((es, t.bodies), outer_level (over_there outer) t)))
+                  (λ es t. Ok (zs ++ one_more (filled es.1 es.0) b2 (o2 + t.at) ∷ [], t))) same_inside,
+              rows_more (shape_of_subst B) (shape_of_subst B2) ss
+                  (one_more (filled u.bodies (entries_of l.list.entries)) b (o + behind T M)) zs
+                  (one_more (filled (map (move_span E o o2) u.bodies) (entries_of k.list.entries)) b2
+                  (o2 + to (behind T M))) same
                   (ap (λ es. a_subst es tt) filled_same),
             ),
           )
@@ -260,27 +323,36 @@ module _ (room : ℕ) (all : Everywhere (level room)) where
       -- what is read of a level, as one more substitution
       abbrev one_level : Read Entries → Read (Row ASubst)
       one_level x =
-          ◌▸◌ {Y = Row ASubst} (◌▸◌ {Y = Entries × Row Span} (with_end UnclosedSubst b x) (λ es t. Ok ((es, t.bodies), outer_level outer t)))
+          ◌▸◌ {Y = Row ASubst} (◌▸◌ {Y = Entries × Row Span} (with_end UnclosedSubst b x)
+          (λ es t. Ok ((es, t.bodies), outer_level outer t)))
           (λ es t. Ok (ss ++ a_subst (filled es.1 es.0) (record { start = b; «end» = o + t.at }) ∷ [], t))
 
-      by_waiting : (l : ListSo) (u : State) → does (all_lines the_next) Whole g start ≡ Ok (l, u) → Begins g l.next u → start.at ≤ u.at → s.at ≤ start.at → closes l ≡ true → (w : Option ℕ) → first_waiting u ≡ w
-          → Holds There (one_level (does (none_waits w) Whole g u ▸ λ x t. Ok (entries_of l.list.entries, moved_on one_byte g t)))
+      by_waiting : (l : ListSo) (u : State) → does (all_lines the_next) Whole g start ≡ Ok (l, u) → Begins g l.next u →
+          start.at ≤ u.at → s.at ≤ start.at → closes l ≡ true → (w : Option ℕ) → first_waiting u ≡ w
+          → Holds There (one_level (does (none_waits w) Whole g u ▸ λ x t. Ok
+          (entries_of l.list.entries, moved_on one_byte g t)))
       by_waiting l u is begins onward still closed (Some w) waiting = tt
       by_waiting l u is begins onward still closed None none =
-          λ le. let high = ends_high u.at (shown l u is closed none begins onward still).1 le in
-          (begun l u is closed none begins onward still high, λ zs same. found l u is closed none begins onward still high zs same)
+          λ le. let high = ends_high u.at (shown l u is closed none begins onward still).1 le in (
+            begun l u is closed none begins onward still high,
+            λ zs same. found l u is closed none begins onward still high zs same,
+          )
 
-      by_close : (l : ListSo) (u : State) → does (all_lines the_next) Whole g start ≡ Ok (l, u) → Begins g l.next u → start.at ≤ u.at → s.at ≤ start.at → (c : Bool) → closes l ≡ c
+      by_close : (l : ListSo) (u : State) → does (all_lines the_next) Whole g start ≡ Ok (l, u) → Begins g l.next u →
+          start.at ≤ u.at → s.at ≤ start.at → (c : Bool) → closes l ≡ c
           → Holds There (one_level (does (the_close l c) Whole g u))
       unfolding nothing_waits
-      by_close l u is begins onward still true closed = by_waiting l u is begins onward still closed (first_waiting u) refl
+      by_close l u is begins onward still true closed =
+          by_waiting l u is begins onward still closed (first_waiting u) refl
       by_close l u is begins onward still false closed = no_close _ (does (what_is_wrong inner l.next) Whole g u)
         where
-          no_close : (P : Row ASubst → State → Type 0) (x : Read (FaultKind × ℕ)) → Holds P (one_level (x ▸ λ w t. Err (record { kind = w.0; at = w.1 })))
+          no_close : (P : Row ASubst → State → Type 0) (x : Read (FaultKind × ℕ)) →
+              Holds P (one_level (x ▸ λ w t. Err (record { kind = w.0; at = w.1 })))
           no_close P (Ok (w, t)) = tt
           no_close P (Err f) = tt
 
-      by_lines : (x : Read ListSo) → does (all_lines the_next) Whole g start ≡ x → Holds (λ l t. Begins g l.next t) x → Holds (Behind start) x → s.at ≤ start.at
+      by_lines : (x : Read ListSo) → does (all_lines the_next) Whole g start ≡ x → Holds (λ l t. Begins g l.next t) x →
+          Holds (Behind start) x → s.at ≤ start.at
           → Holds There (one_level (x ▸ λ l t. does (the_close l (closes l)) Whole g t))
       by_lines (Ok (l, u)) is begins onward still = by_close l u is begins onward still (closes l) refl
       by_lines (Err f) is begins onward still = tt
@@ -288,26 +360,35 @@ module _ (room : ℕ) (all : Everywhere (level room)) where
       substitution_there : Holds There (does (a_substitution inner b ss) Whole g outer)
       unfolding a_substitution one_substitution substitution_list next_token
       substitution_there =
-          by_lines (does (all_lines the_next) Whole g start) refl (shown_lines g inner (shown_level g room) the_next start (shown_next g Command s).told).told (low (all_lines the_next) Whole g start).told
+          by_lines (does (all_lines the_next) Whole g start) refl
+          (shown_lines g inner (shown_level g room) the_next start (shown_next g Command s).told).told
+          (low (all_lines the_next) Whole g start).told
           (low (next_token Command) Whole g s).told
 
 -- by how many more may be opened
 pub everywhere : (room : ℕ) → Everywhere (level room)
 unfolding level
 everywhere zero = record {
-  local = λ edition T U a L to K o o2 B B2 stands stands_there ender no_open. record { construct = λ mode closed b b2 ss s from. tt; substitution = λ b b2 ss s from. tt };
+  local = λ edition T U a L to K o o2 B B2 stands stands_there ender no_open.
+      record { construct = λ mode closed b b2 ss s from. tt; substitution = λ b b2 ss s from. tt };
   compound = λ edition T U a M to limit E o o2 B B2 stands stands_there c. go_stopped E o o2 B B2 stands stands_there;
-  function = λ edition T U a M to limit E o o2 B B2 stands stands_there name new same. go_stop E o o2 B B2 stands stands_there;
+  function = λ edition T U a M to limit E o o2 B B2 stands stands_there name new same. go_stop E o o2 B B2 stands
+      stands_there;
 }
 everywhere (suc room) =
     record {
       local = λ edition T U a L to K o o2 B B2 stands stands_there ender no_open.
           record {
             construct = λ mode closed b b2 ss s from.
-                construct_in K o o2 B B2 ender no_open (level room) ((everywhere room).local edition T U a L to K o o2 B B2 stands stands_there ender no_open) mode closed b b2 ss s from;
-            substitution = λ b b2 ss s from. substitution_there room (everywhere room) K o o2 B B2 stands stands_there b b2 ss s from;
+                construct_in K o o2 B B2 ender no_open (level room)
+                ((everywhere room).local edition T U a L to K o o2 B B2 stands stands_there ender no_open) mode
+                closed b b2 ss s from;
+            substitution = λ b b2 ss s from. substitution_there room
+                (everywhere room) K o o2 B B2 stands stands_there b b2 ss s from;
           };
-      compound = λ edition T U a M to limit E o o2 B B2 stands stands_there c. compound_same E o o2 B B2 stands stands_there (level room) (fine room (everywhere room) E o o2 B B2 stands stands_there) c;
+      compound = λ edition T U a M to limit E o o2 B B2 stands stands_there c. compound_same E o o2 B B2 stands
+          stands_there (level room) (fine room (everywhere room) E o o2 B B2 stands stands_there) c;
       function = λ edition T U a M to limit E o o2 B B2 stands stands_there name new same.
-          function_same E o o2 B B2 stands stands_there (level room) (fine room (everywhere room) E o o2 B B2 stands stands_there) name new same;
+          function_same E o o2 B B2 stands stands_there (level room)
+          (fine room (everywhere room) E o o2 B B2 stands stands_there) name new same;
     }

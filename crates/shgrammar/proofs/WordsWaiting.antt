@@ -49,30 +49,48 @@ module _ (g : Given) where
   blind_move = record { alike = λ s t. refl }
 
   blind_both : {X Y : Type 0} {r : Form X} {q : X → Form Y} → Blind r → ((x : X) → Blind (q x)) → Blind (both r q)
-  blind_both {X = X} {r = r} {q = q} one two = record { alike = λ s t. ap (λ y. y ▸ λ x u. does (q x) Whole g u) (one.alike s t) ∙ behind t (does r Whole g s) }
+  blind_both {X = X} {r = r} {q = q} one two =
+      record { alike = λ s t. ap (λ y. y ▸ λ x u. does (q x) Whole g u) (one.alike s t) ∙ behind t (does r Whole g s) }
     where
-      behind : (t : State) (y : Read X) → (onto t y ▸ λ x u. does (q x) Whole g u) ≡ onto t (y ▸ λ x u. does (q x) Whole g u)
+      behind : (t : State) (y : Read X) →
+          (onto t y ▸ λ x u. does (q x) Whole g u) ≡ onto t (y ▸ λ x u. does (q x) Whole g u)
       behind t (Ok x) = (two x.0).alike x.1 t
       behind t (Err f) = refl
 
-  blind_sees : {X Y : Type 0} {f : Sight X} {q : X → Form Y} → Unseen f → ((x : X) → Blind (q x)) → Blind (both (see f) q)
-  blind_sees {f = f} {q = q} same rest = record { alike = λ s t. ap (λ x. does (q x) Whole g (place_of t s.at)) (same s t) ∙ (rest (seen f g s)).alike s t }
+  blind_sees : {X Y : Type 0} {f : Sight X} {q : X → Form Y} → Unseen f → ((x : X) → Blind (q x)) →
+      Blind (both (see f) q)
+  blind_sees {f = f} {q = q} same rest =
+      record {
+        alike = λ s t. ap (λ x. does (q x) Whole g (place_of t s.at)) (same s t)
+            ∙ (rest (seen f g s)).alike s t;
+      }
 
   blind_moves : {Y : Type 0} {m : Move} {q : Unit {0} → Form Y} → Blind (q tt) → Blind (both (move m) q)
   blind_moves {m = m} rest = record { alike = λ s t. rest.alike (moved_on m g s) t }
 
   blind_when : {X : Type 0} {f : Sight Bool} {r q : Form X} → Unseen f → Blind r → Blind q → Blind (when f r q)
   blind_when {f = f} {r = r} {q = q} same one two =
-      record { alike = λ s t. ap (λ b. cond b (does r Whole g (place_of t s.at)) (does q Whole g (place_of t s.at))) (same s t) ∙ by_test s t (seen f g s) }
+      record {
+        alike = λ s t. ap (λ b. cond b (does r Whole g (place_of t s.at)) (does q Whole g (place_of t s.at)))
+            (same s t) ∙ by_test s t (seen f g s);
+      }
     where
-      by_test : (s t : State) (b : Bool) → cond b (does r Whole g (place_of t s.at)) (does q Whole g (place_of t s.at)) ≡ onto t (cond b (does r Whole g s) (does q Whole g s))
+      by_test : (s t : State) (b : Bool) →
+          cond b (does r Whole g (place_of t s.at)) (does q Whole g (place_of t s.at))
+          ≡ onto t (cond b (does r Whole g s) (does q Whole g s))
       by_test s t true = one.alike s t
       by_test s t false = two.alike s t
 
   blind_token : {X : Type 0} {told : Told} {r : Form X} → Blind r → Blind (token told r)
-  blind_token {X = X} {told = told} {r = r} one = record { alike = λ s t. ap (λ y. y ▸ λ x u. Ok ((x, span g.offset s.at u.at), u)) (one.alike s t) ∙ behind s t (does r Whole g s) }
+  blind_token {X = X} {told = told} {r = r} one =
+      record {
+        alike = λ s t. ap (λ y. y ▸ λ x u. Ok ((x, span g.offset s.at u.at), u)) (one.alike s t)
+            ∙ behind s t (does r Whole g s);
+      }
     where
-      behind : (s t : State) (y : Read X) → ◌≡◌ {A = Read (X × Span)} (onto t y ▸ λ x u. Ok ((x, span g.offset s.at u.at), u)) (onto t (y ▸ λ x u. Ok ((x, span g.offset s.at u.at), u)))
+      behind : (s t : State) (y : Read X) →
+          ◌≡◌ {A = Read (X × Span)} (onto t y ▸ λ x u. Ok ((x, span g.offset s.at u.at), u))
+          (onto t (y ▸ λ x u. Ok ((x, span g.offset s.at u.at), u)))
       behind s t (Ok x) = refl
       behind s t (Err f) = refl
 
@@ -80,7 +98,9 @@ module _ (g : Given) where
   blind_level : {X : Type 0} {r : Form X} → Blind (a_level r)
   blind_level {X = X} {r = r} = record { alike = λ s t. behind s t (does r Whole g (own_level s)) }
     where
-      behind : (s t : State) (y : Read X) → ◌≡◌ {A = Read (X × Row Span)} (y ▸ λ x u. Ok ((x, u.bodies), outer_level (place_of t s.at) u)) (onto t (y ▸ λ x u. Ok ((x, u.bodies), outer_level s u)))
+      behind : (s t : State) (y : Read X) →
+          ◌≡◌ {A = Read (X × Row Span)} (y ▸ λ x u. Ok ((x, u.bodies), outer_level (place_of t s.at) u))
+          (onto t (y ▸ λ x u. Ok ((x, u.bodies), outer_level s u)))
       behind s t (Ok x) = refl
       behind s t (Err f) = refl
 
@@ -94,22 +114,26 @@ module _ (g : Given) where
     abbrev Below : ℕ → Type 0
     Below n = (a : A) (s t : State) → below_n n a (place_of t s.at) ≡ onto t (below_n n a s)
 
-    on_by : (n : ℕ) → Below n → (t : State) (b : Bool) (c : A) (u : State) → cond b (below_n n c (place_of t u.at)) (Ok (c, place_of t u.at)) ≡ onto t (cond b (below_n n c u) (Ok (c, u)))
+    on_by : (n : ℕ) → Below n → (t : State) (b : Bool) (c : A) (u : State) →
+        cond b (below_n n c (place_of t u.at)) (Ok (c, place_of t u.at)) ≡ onto t (cond b (below_n n c u) (Ok (c, u)))
     on_by n more t true c u = more c u t
     on_by n more t false c u = refl
 
-    step_by : (n : ℕ) → Below n → (s t : State) (c : Step A) (u : State) → next g (place_of t s.at) (below_n n) c (place_of t u.at) ≡ onto t (next g s (below_n n) c u)
+    step_by : (n : ℕ) → Below n → (s t : State) (c : Step A) (u : State) →
+        next g (place_of t s.at) (below_n n) c (place_of t u.at) ≡ onto t (next g s (below_n n) c u)
     step_by n more s t (done c) u = refl
     step_by n more s t (again c) u = on_by n more t (leads_on g s u) c u
 
-    behind_by : (n : ℕ) → Below n → (s t : State) (y : Read (Step A)) → (onto t y ▸ next g (place_of t s.at) (below_n n)) ≡ onto t (y ▸ next g s (below_n n))
+    behind_by : (n : ℕ) → Below n → (s t : State) (y : Read (Step A)) →
+        (onto t y ▸ next g (place_of t s.at) (below_n n)) ≡ onto t (y ▸ next g s (below_n n))
     behind_by n more s t (Ok x) = step_by n more s t x.0 x.1
     behind_by n more s t (Err f) = refl
 
     below : (n : ℕ) → Below n
     unfolding turns_below
     below zero a s t = refl
-    below (suc n) a s t = ap (λ y. y ▸ next g (place_of t s.at) (below_n n)) ((each a).alike s t) ∙ behind_by n (below n) s t (does (turn a) Whole g s)
+    below (suc n) a s t = ap (λ y. y ▸ next g (place_of t s.at) (below_n n)) ((each a).alike s t)
+        ∙ behind_by n (below n) s t (does (turn a) Whole g s)
 
     blind_many : (a : A) → Blind (many turn a)
     unfolding many turns
@@ -119,17 +143,24 @@ module _ (g : Given) where
 
   single_blind : Blind single
   unfolding single
-  single_blind = blind_sees (λ s t. refl) (λ b. blind_moves (blind_moves (blind_when (λ s t. refl) blind_stop blind_move)))
+  single_blind = blind_sees (λ s t. refl)
+      (λ b. blind_moves (blind_moves (blind_when (λ s t. refl) blind_stop blind_move)))
 
   backquoted_text_blind : Blind backquoted_text
   unfolding backquoted_text escaped_turn
   backquoted_text_blind =
-      blind_sees (λ s t. refl) (λ b. blind_moves (blind_many _ (λ u. blind_moves (blind_when (λ s t. refl) blind_stop (blind_when (λ s t. refl) blind_stop (blind_sees (λ s t. refl) (λ x. blind_moves blind_give))))) tt))
+      blind_sees (λ s t. refl) (λ b. blind_moves
+      (blind_many _ (λ u. blind_moves
+      (blind_when (λ s t. refl) blind_stop
+      (blind_when (λ s t. refl) blind_stop (blind_sees (λ s t. refl) (λ x. blind_moves blind_give))))) tt))
 
   dollar_single_blind : Blind dollar_single
   unfolding dollar_single escaped_turn
   dollar_single_blind =
-      blind_sees (λ s t. refl) (λ b. blind_moves (blind_moves (blind_many _ (λ u. blind_moves (blind_when (λ s t. refl) blind_stop (blind_when (λ s t. refl) blind_stop (blind_sees (λ s t. refl) (λ x. blind_moves blind_give))))) tt)))
+      blind_sees (λ s t. refl) (λ b. blind_moves
+      (blind_moves (blind_many _ (λ u. blind_moves
+      (blind_when (λ s t. refl) blind_stop
+      (blind_when (λ s t. refl) blind_stop (blind_sees (λ s t. refl) (λ x. blind_moves blind_give))))) tt)))
 
   record Blinds (inner : Inner) : Type 0 where
     construct : (mode : Mode) (b : ℕ) (ss : Row ASubst) → Blind (inner.construct mode b ss)
@@ -149,9 +180,14 @@ module _ (g : Given) where
     piece_blind mode b h pieces.Double = blind_sees (λ s t. refl) (λ x. blind_moves (opened_blind _ _ h))
     piece_blind mode b h pieces.Backquote = blind_both backquoted_text_blind (λ x. blind_give)
     piece_blind mode b h pieces.Pid = blind_moves (blind_moves blind_give)
-    piece_blind mode b h pieces.Subst = blind_sees (λ s t. refl) (λ x. blind_moves (blind_moves (blind_both (blinds.substitution _ h.substs) (λ y. blind_give))))
-    piece_blind mode b h pieces.Arith = blind_sees (λ s t. refl) (λ x. blind_moves (blind_moves (blind_moves (opened_blind _ _ h))))
-    piece_blind mode b h pieces.Param = blind_sees (λ s t. refl) (λ x. blind_moves (blind_moves (blind_moves (blind_sees (λ s t. refl) (λ y. opened_blind _ _ h)))))
+    piece_blind mode b h pieces.Subst =
+        blind_sees (λ s t. refl) (λ x. blind_moves
+        (blind_moves (blind_both (blinds.substitution _ h.substs) (λ y. blind_give))))
+    piece_blind mode b h pieces.Arith =
+        blind_sees (λ s t. refl) (λ x. blind_moves (blind_moves (blind_moves (opened_blind _ _ h))))
+    piece_blind mode b h pieces.Param =
+        blind_sees (λ s t. refl) (λ x. blind_moves
+        (blind_moves (blind_moves (blind_sees (λ s t. refl) (λ y. opened_blind _ _ h)))))
     piece_blind mode b h pieces.Open = blind_moves blind_give
     piece_blind mode b h pieces.Close = blind_moves blind_give
     piece_blind mode b h pieces.BadClose = blind_sees (λ s t. refl) (λ x. blind_stop)
@@ -159,7 +195,9 @@ module _ (g : Given) where
 
     contents_blind : (mode : Mode) (b : ℕ) (ss : Row ASubst) → Blind (contents inner mode b ss)
     unfolding contents a_piece
-    contents_blind mode b ss = blind_both (blind_many _ (λ h. blind_sees (λ s t. refl) (λ piece. piece_blind mode b h piece)) (having 0 ss)) (λ h. blind_give)
+    contents_blind mode b ss = blind_both
+        (blind_many _ (λ h. blind_sees (λ s t. refl) (λ piece. piece_blind mode b h piece)) (having 0 ss))
+        (λ h. blind_give)
 
     word_blind : Blind (a_word inner)
     unfolding a_word
@@ -182,11 +220,15 @@ module _ (g : Given) where
   blind_word room = word_blind (level room) (blind_rows room)
 
 -- a word that is read where nothing waits is read where something does
-pub word_waiting : (room : ℕ) (g : Given) (p q : ℕ) (w : AWord) (told : Row Spelled) (t : State) → may (a_word (level room)) g (standing p) (Ok (w, standing q)) told
+pub word_waiting : (room : ℕ) (g : Given) (p q : ℕ) (w : AWord) (told : Row Spelled) (t : State) →
+    may (a_word (level room)) g (standing p) (Ok (w, standing q)) told
     → may (a_word (level room)) g (place_of t p) (Ok (w, place_of t q)) told
 word_waiting room g p q w told t part =
     let read = (is (a_word (level room)) g (standing p)).only _ _ part in
-    let there : does (a_word (level room)) Whole g (place_of t p) ≡ Ok (w, place_of t q) = (blind_word g room).alike (standing p) t ∙ ap (onto t) (sym read) in
+    let there : does (a_word (level room)) Whole g (place_of t p) ≡ Ok (w, place_of t q) =
+    (blind_word g room).alike (standing p) t ∙ ap (onto t) (sym read) in
     let some = (is (a_word (level room)) g (place_of t p)).some in
     let again_read = subst (λ (x : Read AWord). may (a_word (level room)) g (place_of t p) x some.0) there some.1 in
-    subst (λ (k : Row Spelled). may (a_word (level room)) g (place_of t p) (Ok (w, place_of t q)) k) (word_told (level room) g (place_of t p) (place_of t q) w some.0 again_read ∙ sym (word_told (level room) g (standing p) (standing q) w told part)) again_read
+    subst (λ (k : Row Spelled). may (a_word (level room)) g (place_of t p) (Ok (w, place_of t q)) k)
+    (word_told (level room) g (place_of t p) (place_of t q) w some.0 again_read
+    ∙ sym (word_told (level room) g (standing p) (standing q) w told part)) again_read

@@ -38,9 +38,11 @@ use Rattle.shgrammar.proofs.Places.{next_escaped_low}
 use Rattle.std.proofs.Common.{◌&&◌}
 
 -- behind a byte, or two
-taken_on : (T : List ℕ) (q : ℕ) → q < length T → (raw_stands T q 92 ≡ true → q + 1 < length T) → (q < past_taken T q) × (past_taken T q ≤ length T)
+taken_on : (T : List ℕ) (q : ℕ) → q < length T → (raw_stands T q 92 ≡ true → q + 1 < length T) → (q < past_taken T q)
+    × (past_taken T q ≤ length T)
 unfolding past_taken
-taken_on T q lt next = cond_both (raw_stands T q 92) _ _ (λ n. (q < q + n) × (q + n ≤ length T)) (λ e. (omega arith, omega (arith, next e))) (λ e. (omega arith, omega (arith, lt)))
+taken_on T q lt next = cond_both (raw_stands T q 92) _ _ (λ n. (q < q + n) × (q + n ≤ length T))
+    (λ e. (omega arith, omega (arith, next e))) (λ e. (omega arith, omega (arith, lt)))
 
 -- a backslash that is not the last byte
 not_last : (T : List ℕ) (q : ℕ) → is_last_backslash T q ≡ false → raw_stands T q 92 ≡ true → q + 1 < length T
@@ -63,7 +65,8 @@ module _ (g : Given) where
   Ends Q s (again a) t = On s a t
   Ends Q s (done a) t = Q t
 
-  module _ {A : Type 0} (turn : A → Form (Step A)) (Q : State → Type 0) (each : (a : A) (s : State) → s.at ≤ length T → Holds (Ends Q s) (does (turn a) Whole g s)) where
+  module _ {A : Type 0} (turn : A → Form (Step A)) (Q : State → Type 0)
+      (each : (a : A) (s : State) → s.at ≤ length T → Holds (Ends Q s) (does (turn a) Whole g s)) where
     abbrev Ended : A → State → Type 0
     Ended a s = Holds (λ (b : A) (t : State). Q t) (does (many turn a) Whole g s)
 
@@ -71,13 +74,17 @@ module _ (g : Given) where
         → ((b : A) (t : State) → length T - t.at < length T - s.at → t.at ≤ length T → Ended b t) → Ended a s
     unfolding many
     by_turn a s (Err e) is good rest = rw (turns_fault g (λ b t. does (turn b) Whole g t) a s e is) tt
-    by_turn a s (Ok (done b, t)) is good rest = subst (Holds (λ (c : A) (u : State). Q u)) (sym (many_done turn Whole g a b s t is)) good
+    by_turn a s (Ok (done b, t)) is good rest =
+        subst (Holds (λ (c : A) (u : State). Q u)) (sym (many_done turn Whole g a b s t is)) good
     by_turn a s (Ok (again b, t)) is good rest =
-        subst (Holds (λ (c : A) (u : State). Q u)) (sym (many_again turn Whole g a b s t is good.0 good.1)) (rest b t (omega (arith, good.0, good.1)) good.1)
+        subst (Holds (λ (c : A) (u : State). Q u)) (sym (many_again turn Whole g a b s t is good.0 good.1))
+        (rest b t (omega (arith, good.0, good.1)) good.1)
 
     turns_end : (n : ℕ) (a : A) (s : State) → length T - s.at < n → s.at ≤ length T → Ended a s
     turns_end zero a s few le = absurd (omega arith)
-    turns_end (suc n) a s few le = by_turn a s (does (turn a) Whole g s) refl (each a s le) (λ b t less within. turns_end n b t (omega (arith, few, less)) within)
+    turns_end (suc n) a s few le =
+        by_turn a s (does (turn a) Whole g s) refl (each a s le)
+        (λ b t less within. turns_end n b t (omega (arith, few, less)) within)
 
     many_end : (a : A) (s : State) → s.at ≤ length T → Ended a s
     many_end a s le = turns_end (suc (length T - s.at)) a s (omega arith) le
@@ -111,23 +118,28 @@ module _ (g : Given) where
           told = cond_both (at_end T q) _ _ (Holds LaterEnds) (λ e. tt)
               (λ e. cond_both (is_last_backslash T q) _ _ (Holds LaterEnds) (λ f. tt)
               (λ f. let w = taken_on T q (not_end_low T q e) (not_last T q f) in
-              later_step (not (raw_stands T q (closes_by how))) (placed (past_taken T q) s) (omega (arith, so.0, w.0, next_escaped_low how T s.at), w.1)));
+              later_step (not (raw_stands T q (closes_by how))) (placed (past_taken T q) s)
+              (omega (arith, so.0, w.0, next_escaped_low how T s.at), w.1)));
         }
       where
         q : ℕ
         q = next_escaped how T s.at
 
-  backquoted_text_on : (s : State) → past_continuations T s.at < length T → Holds (On s) (does backquoted_text Whole g s)
+  backquoted_text_on : (s : State) → past_continuations T s.at < length T →
+      Holds (On s) (does backquoted_text Whole g s)
   unfolding backquoted_text
   backquoted_text_on s lt =
       let b = g.offset + past_continuations T s.at in
-      (tells_many Whole g (escaped_turn escapings.Backquotes b) (On s) (escaped_each s escapings.Backquotes b) tt (placed (behind T s.at) s) (behind_low T s.at, behind_high T s.at lt)).told
+      (tells_many Whole g (escaped_turn escapings.Backquotes b) (On s) (escaped_each s escapings.Backquotes b) tt
+      (placed (behind T s.at) s) (behind_low T s.at, behind_high T s.at lt)).told
 
-  dollar_single_on : (s : State) → past_continuations T (behind T s.at) < length T → Holds (On s) (does dollar_single Whole g s)
+  dollar_single_on : (s : State) → past_continuations T (behind T s.at) < length T →
+      Holds (On s) (does dollar_single Whole g s)
   unfolding dollar_single
   dollar_single_on s lt =
       let b = g.offset + past_continuations T s.at in
-      (tells_many Whole g (escaped_turn escapings.DollarSingle b) (On s) (escaped_each s escapings.DollarSingle b) tt (placed (behind T (behind T s.at)) s)
+      (tells_many Whole g (escaped_turn escapings.DollarSingle b) (On s) (escaped_each s escapings.DollarSingle b) tt
+      (placed (behind T (behind T s.at)) s)
       (omega (arith, behind_low T s.at, behind_low T (behind T s.at)), behind_high T (behind T s.at) lt)).told
 
   -- ---- pieces
@@ -137,8 +149,10 @@ module _ (g : Given) where
   Last mode t = (t.at ≤ length T) × (mode ≡ Plain → ends_word T t.at ≡ true)
 
   pub record Stays (inner : Inner) : Type 0 where
-    pub construct : (mode : Mode) (b : ℕ) (ss : Row ASubst) (s : State) → s.at ≤ length T → Holds (λ x t. (s.at ≤ t.at) × (t.at ≤ length T)) (does (inner.construct mode b ss) Whole g s)
-    pub substitution : (b : ℕ) (ss : Row ASubst) (s : State) → Holds (λ x t. (s.at ≤ t.at) × (t.at ≤ length T)) (does (inner.substitution b ss) Whole g s)
+    pub construct : (mode : Mode) (b : ℕ) (ss : Row ASubst) (s : State) → s.at ≤ length T →
+        Holds (λ x t. (s.at ≤ t.at) × (t.at ≤ length T)) (does (inner.construct mode b ss) Whole g s)
+    pub substitution : (b : ℕ) (ss : Row ASubst) (s : State) →
+        Holds (λ x t. (s.at ≤ t.at) × (t.at ≤ length T)) (does (inner.substitution b ss) Whole g s)
 
   -- what is there where something closes
   abbrev Closes : Mode → ℕ → Type 0
@@ -166,7 +180,8 @@ module _ (g : Given) where
   Needs mode p pieces.Ordinary = past_continuations T p < length T
 
   module _ (mode : Mode) (n p : ℕ) where
-    bracket_needs : (m : ℕ) (two : Bool) → stands T (behind T p) 41 ≡ two → past_continuations T p < length T → Needs Arith p (bracket_by m two)
+    bracket_needs : (m : ℕ) (two : Bool) → stands T (behind T p) 41 ≡ two → past_continuations T p < length T →
+        Needs Arith p (bracket_by m two)
     bracket_needs zero true e lt = stands_low T (behind T p) 41 e
     bracket_needs zero false e lt = tt
     bracket_needs (suc m) two e lt = lt
@@ -179,26 +194,36 @@ module _ (g : Given) where
     end_needs DoubleBrace is = tt
     end_needs Arith is = tt
 
-    dollar_needs : (x : Option ℕ) → byte_at T (behind T p) ≡ x → past_continuations T p < length T → Needs mode p (dollar_by T (behind T p) x)
+    dollar_needs : (x : Option ℕ) → byte_at T (behind T p) ≡ x → past_continuations T p < length T →
+        Needs mode p (dollar_by T (behind T p) x)
     dollar_needs None is lt = lt
     dollar_needs (Some v) is lt =
         let next = slice_get_within T (past_continuations T (behind T p)) v is in
         cond_both (v == 36) _ _ (Needs mode p) (λ e. next)
-        (λ e. cond_both (v == 40) _ _ (Needs mode p) (λ f. cond_both (stands T (behind T (behind T p)) 40) _ _ (Needs mode p) (λ d. stands_low T (behind T (behind T p)) 40 d) (λ d. tt))
-        (λ f. cond_both (v == 123) _ _ (Needs mode p) (λ d. next) (λ d. cond_both (v == 39) _ _ (Needs mode p) (λ z. next) (λ z. lt))))
+        (λ e. cond_both (v == 40) _ _ (Needs mode p)
+        (λ f. cond_both (stands T (behind T (behind T p)) 40) _ _ (Needs mode p)
+        (λ d. stands_low T (behind T (behind T p)) 40 d) (λ d. tt))
+        (λ f. cond_both (v == 123) _ _ (Needs mode p) (λ d. next)
+        (λ d. cond_both (v == 39) _ _ (Needs mode p) (λ z. next) (λ z. lt))))
 
-    byte_needs : (mode : Mode) (v : ℕ) → byte_at T p ≡ Some v → past_continuations T p < length T → Needs mode p (byte_by T p mode n v)
+    byte_needs : (mode : Mode) (v : ℕ) → byte_at T p ≡ Some v → past_continuations T p < length T →
+        Needs mode p (byte_by T p mode n v)
     unfolding ends_word
     byte_needs Plain v is lt =
         cond_both (ends (Some v)) _ _ (Needs Plain p) (λ e. rw is e)
-        (λ e. cond_both (v == 39) _ _ (Needs Plain p) (λ f. lt) (λ f. cond_both (v == 34) _ _ (Needs Plain p) (λ d. lt) (λ d. lt)))
+        (λ e. cond_both (v == 39) _ _ (Needs Plain p) (λ f. lt)
+        (λ f. cond_both (v == 34) _ _ (Needs Plain p) (λ d. lt) (λ d. lt)))
     byte_needs Double v is lt = cond_both (v == 34) _ _ (Needs Double p) (λ e. lt) (λ e. lt)
     byte_needs Brace v is lt =
         cond_both (v == 125) _ _ (Needs Brace p) (λ e. lt)
-        (λ e. cond_both (v == 39) _ _ (Needs Brace p) (λ f. lt) (λ f. cond_both (v == 34) _ _ (Needs Brace p) (λ d. lt) (λ d. lt)))
-    byte_needs DoubleBrace v is lt = cond_both (v == 125) _ _ (Needs DoubleBrace p) (λ e. lt) (λ e. cond_both (v == 34) _ _ (Needs DoubleBrace p) (λ f. lt) (λ f. lt))
+        (λ e. cond_both (v == 39) _ _ (Needs Brace p) (λ f. lt)
+        (λ f. cond_both (v == 34) _ _ (Needs Brace p) (λ d. lt) (λ d. lt)))
+    byte_needs DoubleBrace v is lt =
+        cond_both (v == 125) _ _ (Needs DoubleBrace p) (λ e. lt)
+        (λ e. cond_both (v == 34) _ _ (Needs DoubleBrace p) (λ f. lt) (λ f. lt))
     byte_needs Arith v is lt =
-        cond_both (v == 41) _ _ (Needs Arith p) (λ e. bracket_needs n (stands T (behind T p) 41) refl lt) (λ e. cond_both (v == 40) _ _ (Needs Arith p) (λ f. lt) (λ f. lt))
+        cond_both (v == 41) _ _ (Needs Arith p) (λ e. bracket_needs n (stands T (behind T p) 41) refl lt)
+        (λ e. cond_both (v == 40) _ _ (Needs Arith p) (λ f. lt) (λ f. lt))
 
     needs_by : (x : Option ℕ) → byte_at T p ≡ x → Needs mode p (piece_by T p mode n x)
     unfolding dollar_at
@@ -206,9 +231,11 @@ module _ (g : Given) where
     needs_by (Some v) is =
         let lt = slice_get_within T (past_continuations T p) v is in
         cond_both (v == 92) _ _ (Needs mode p)
-        (λ e. cond_both (at_end T (behind T p)) _ _ (Needs mode p) (λ f. tt) (λ f. omega (arith, not_end_low T (behind T p) f, behind_is T p)))
+        (λ e. cond_both (at_end T (behind T p)) _ _ (Needs mode p) (λ f. tt)
+        (λ f. omega (arith, not_end_low T (behind T p) f, behind_is T p)))
         (λ e. cond_both (v == 96) _ _ (Needs mode p) (λ f. lt)
-        (λ f. cond_both (v == 36) _ _ (Needs mode p) (λ d. dollar_needs (byte_at T (behind T p)) refl lt) (λ d. byte_needs mode v is lt)))
+        (λ f. cond_both (v == 36) _ _ (Needs mode p) (λ d. dollar_needs (byte_at T (behind T p)) refl lt)
+        (λ d. byte_needs mode v is lt)))
 
     needs : Needs mode p (piece_at T mode n p)
     unfolding piece_at
@@ -216,7 +243,9 @@ module _ (g : Given) where
 
     -- and so does the piece that the edition has
     needs_known : (x : Piece) → Needs mode p x → Needs mode p (piece_in g.edition mode x)
-    needs_known pieces.DollarSingle so = cond_both (is_later g.edition && quotes_singly mode) _ _ (Needs mode p) (λ e. so) (λ e. omega (arith, so, place_low T (behind T p), behind_is T p))
+    needs_known pieces.DollarSingle so =
+        cond_both (is_later g.edition && quotes_singly mode) _ _ (Needs mode p) (λ e. so)
+        (λ e. omega (arith, so, place_low T (behind T p), behind_is T p))
     needs_known pieces.Closer so = so
     needs_known pieces.Missing so = so
     needs_known pieces.LoneBackslash so = so
@@ -233,44 +262,58 @@ module _ (g : Given) where
     needs_known pieces.BadClose so = so
     needs_known pieces.Ordinary so = so
 
-  closer_last : (mode : Mode) (p : ℕ) → p ≤ length T → Closes mode p → (past_closer T mode p ≤ length T) × (mode ≡ Plain → ends_word T (past_closer T mode p) ≡ true)
+  closer_last : (mode : Mode) (p : ℕ) → p ≤ length T → Closes mode p → (past_closer T mode p ≤ length T)
+      × (mode ≡ Plain → ends_word T (past_closer T mode p) ≡ true)
   closer_last Plain p le so = (le, λ e. so)
   closer_last Double p le so = (behind_high T p so, λ e. absurd cc)
   closer_last Brace p le so = (behind_high T p so, λ e. absurd cc)
   closer_last DoubleBrace p le so = (behind_high T p so, λ e. absurd cc)
   closer_last Arith p le so = (behind_high T (behind T p) so, λ e. absurd cc)
 
-  module _ (inner : Inner) (stays : Stays inner) (mode : Mode) (b : ℕ) (c : WordSoFar) (s : State) (le : s.at ≤ length T) where
+  module _ (inner : Inner) (stays : Stays inner) (mode : Mode) (b : ℕ) (c : WordSoFar) (s : State)
+      (le : s.at ≤ length T) where
     abbrev Turn : Step WordSoFar → State → Type 0
     Turn x t = Ends (Last mode) s x t
 
     abbrev p : ℕ
     p = s.at
 
-    opens : (m : Mode) (k : ℕ) (r : State) → s.at < r.at → r.at ≤ length T → Holds Turn (does (opened inner m k c) Whole g r)
+    opens : (m : Mode) (k : ℕ) (r : State) → s.at < r.at → r.at ≤ length T →
+        Holds Turn (does (opened inner m k c) Whole g r)
     opens m k r on within =
-        holds_then (λ x t. (r.at ≤ t.at) × (t.at ≤ length T)) Turn (does (inner.construct m k c.substs) Whole g r) (λ x t. Ok (again (having c.nested x), t))
+        holds_then (λ x t. (r.at ≤ t.at) × (t.at ≤ length T)) Turn (does (inner.construct m k c.substs) Whole g r)
+        (λ x t. Ok (again (having c.nested x), t))
         (stays.construct m k c.substs r within) (λ x t so. (omega (arith, on, so.0), so.1))
 
     row : (x : Piece) → Needs mode p x → Holds Turn (does (piece_row inner mode b c x) Whole g s)
     row pieces.Closer so = closer_last mode p le so
     row pieces.Missing so = tt
     row pieces.LoneBackslash so = tt
-    row pieces.Escape so = let w = taken_on T (past_continuations T p) (omega (arith, so)) (λ e. so) in (omega (arith, w.0, place_low T p), w.1)
-    row pieces.Single so = holds_then (On s) Turn (does single Whole g s) (λ u t. Ok (again c, t)) (single_on s) (λ u t on. on)
-    row pieces.DollarSingle so = holds_then (On s) Turn (does dollar_single Whole g s) (λ u t. Ok (again c, t)) (dollar_single_on s so) (λ u t on. on)
+    row pieces.Escape so = let w = taken_on T (past_continuations T p) (omega (arith, so)) (λ e. so) in
+        (omega (arith, w.0, place_low T p), w.1)
+    row pieces.Single so = holds_then (On s) Turn (does single Whole g s) (λ u t. Ok (again c, t)) (single_on s)
+        (λ u t on. on)
+    row pieces.DollarSingle so = holds_then (On s) Turn (does dollar_single Whole g s) (λ u t. Ok (again c, t))
+        (dollar_single_on s so) (λ u t on. on)
     row pieces.Double so = opens Double _ (placed (behind T p) s) (behind_low T p) (behind_high T p so)
-    row pieces.Backquote so = holds_then (On s) Turn (does backquoted_text Whole g s) (λ u t. Ok (again c, t)) (backquoted_text_on s so) (λ u t on. on)
+    row pieces.Backquote so = holds_then (On s) Turn (does backquoted_text Whole g s) (λ u t. Ok (again c, t))
+        (backquoted_text_on s so) (λ u t on. on)
     row pieces.Pid so = (omega (arith, behind_low T p, behind_low T (behind T p)), behind_high T (behind T p) so)
     row pieces.Subst so =
-        holds_then (λ x t. (behind T (behind T p) ≤ t.at) × (t.at ≤ length T)) Turn (does (inner.substitution _ c.substs) Whole g (placed (behind T (behind T p)) s)) (λ x t. Ok (again (having c.nested x), t))
-        (stays.substitution _ c.substs (placed (behind T (behind T p)) s)) (λ x t on. (omega (arith, on.0, behind_low T p, behind_low T (behind T p)), on.1))
+        holds_then (λ x t. (behind T (behind T p) ≤ t.at) × (t.at ≤ length T)) Turn
+        (does (inner.substitution _ c.substs) Whole g (placed (behind T (behind T p)) s))
+        (λ x t. Ok (again (having c.nested x), t))
+        (stays.substitution _ c.substs (placed (behind T (behind T p)) s))
+        (λ x t on. (omega (arith, on.0, behind_low T p, behind_low T (behind T p)), on.1))
     row pieces.Arith so =
         opens Arith _ (placed (behind T (behind T (behind T p))) s)
-        (omega (arith, behind_low T p, behind_low T (behind T p), behind_low T (behind T (behind T p)))) (behind_high T (behind T (behind T p)) so)
+        (omega (arith, behind_low T p, behind_low T (behind T p), behind_low T (behind T (behind T p))))
+        (behind_high T (behind T (behind T p)) so)
     row pieces.Param so =
-        opens (rest_mode T mode (past_parameter T (behind T (behind T p)))) _ (placed (past_parameter T (behind T (behind T p))) s)
-        (omega (arith, behind_low T p, behind_low T (behind T p), parameter_low T (behind T (behind T p)))) (parameter_high T (behind T (behind T p)) (behind_high T (behind T p) so))
+        opens (rest_mode T mode (past_parameter T (behind T (behind T p)))) _
+        (placed (past_parameter T (behind T (behind T p))) s)
+        (omega (arith, behind_low T p, behind_low T (behind T p), parameter_low T (behind T (behind T p))))
+        (parameter_high T (behind T (behind T p)) (behind_high T (behind T p) so))
     row pieces.Open so = (behind_low T p, behind_high T p so)
     row pieces.Close so = (behind_low T p, behind_high T p so)
     row pieces.BadClose so = tt
@@ -278,21 +321,27 @@ module _ (g : Given) where
 
     piece_turn : Holds Turn (does (a_piece inner mode b c) Whole g s)
     unfolding a_piece
-    piece_turn = row (piece_in g.edition mode (piece_at T mode c.nested p)) (needs_known mode c.nested p (piece_at T mode c.nested p) (needs mode c.nested p))
+    piece_turn = row (piece_in g.edition mode (piece_at T mode c.nested p))
+        (needs_known mode c.nested p (piece_at T mode c.nested p) (needs mode c.nested p))
 
   -- ---- constructs in constructs, and words
 
-  module _ (inner : Inner) (stays : Stays inner) (mode : Mode) (b : ℕ) (ss : Row ASubst) (s : State) (le : s.at ≤ length T) where
+  module _ (inner : Inner) (stays : Stays inner) (mode : Mode) (b : ℕ) (ss : Row ASubst) (s : State)
+      (le : s.at ≤ length T) where
     pub contents_end : Holds (λ x t. Last mode t) (does (contents inner mode b ss) Whole g s)
     unfolding contents
     contents_end =
-        holds_then (λ x t. Last mode t) (λ x t. Last mode t) (does (many (a_piece inner mode b) (having 0 ss)) Whole g s) (λ h t. Ok (h.substs, t))
-        (many_end (a_piece inner mode b) (Last mode) (λ c t within. piece_turn inner stays mode b c t within) (having 0 ss) s le) (λ h t so. so)
+        holds_then (λ x t. Last mode t) (λ x t. Last mode t)
+        (does (many (a_piece inner mode b) (having 0 ss)) Whole g s) (λ h t. Ok (h.substs, t))
+        (many_end (a_piece inner mode b) (Last mode) (λ c t within. piece_turn inner stays mode b c t within)
+        (having 0 ss) s le) (λ h t so. so)
 
     contents_on : Holds (λ x t. (s.at ≤ t.at) × (t.at ≤ length T)) (does (contents inner mode b ss) Whole g s)
-    contents_on = holds_both (does (contents inner mode b ss) Whole g s) (low (contents inner mode b ss) Whole g s).told contents_end
+    contents_on = holds_both (does (contents inner mode b ss) Whole g s)
+        (low (contents inner mode b ss) Whole g s).told contents_end
       where
-        holds_both : (x : Read (Row ASubst)) → Holds (Behind s) x → Holds (λ x t. Last mode t) x → Holds (λ x t. (s.at ≤ t.at) × (t.at ≤ length T)) x
+        holds_both : (x : Read (Row ASubst)) → Holds (Behind s) x → Holds (λ x t. Last mode t) x →
+            Holds (λ x t. (s.at ≤ t.at) × (t.at ≤ length T)) x
         holds_both (Ok (x, t)) one two = (one, two.0)
         holds_both (Err f) one two = tt
 
@@ -312,23 +361,35 @@ module _ (g : Given) where
     substitution_list_end : (s : State) → Tells Whole g (substitution_list inner) (λ x t. t.at ≤ length T) s
     unfolding substitution_list
     substitution_list_end s =
-        tells_then Whole g (shown_next g Command s) (λ n t one. tells_then Whole g (shown_lines g inner fine n t one) (λ l u two. closed_by (is_closing closings.Paren l.next.token) l u refl two))
+        tells_then Whole g (shown_next g Command s)
+        (λ n t one. tells_then Whole g (shown_lines g inner fine n t one)
+        (λ l u two. closed_by (is_closing closings.Paren l.next.token) l u refl two))
       where
-        closed_by : (b : Bool) → (l : ListSo) (u : State) → is_closing closings.Paren l.next.token ≡ b → Begins g l.next u
-            → Tells Whole g (pick b (nothing_waits >> move one_byte >> give (entries_of l.list.entries)) (unexpected inner l.next)) (λ x t. t.at ≤ length T) u
+        closed_by : (b : Bool) → (l : ListSo) (u : State) → is_closing closings.Paren l.next.token ≡ b →
+            Begins g l.next u
+            → Tells Whole g (pick b (nothing_waits >> move one_byte >> give (entries_of l.list.entries))
+            (unexpected inner l.next)) (λ x t. t.at ≤ length T) u
         closed_by true l u e so =
-            let high = behind_high T u.at (slice_get_within T (past_continuations T u.at) 41 (paren_here g l.next u so e).0) in
-            tells_then Whole g (still u) (λ w t same. record { told = subst (λ (v : State). behind T v.at ≤ length T) (sym same) high })
+            let high = behind_high T u.at
+            (slice_get_within T (past_continuations T u.at) 41 (paren_here g l.next u so e).0) in
+            tells_then Whole g (still u)
+            (λ w t same. record { told = subst (λ (v : State). behind T v.at ≤ length T) (sym same) high })
         closed_by false l u e so = tells_after Whole g (λ w t. record { told = tt })
 
-    substitution_high : (b : ℕ) (ss : Row ASubst) (s : State) → Tells Whole g (a_substitution inner b ss) (λ x t. t.at ≤ length T) s
+    substitution_high : (b : ℕ) (ss : Row ASubst) (s : State) →
+        Tells Whole g (a_substitution inner b ss) (λ x t. t.at ≤ length T) s
     unfolding a_substitution one_substitution
-    substitution_high b ss s = tells_inside Whole g (tells_then Whole g (tells_level Whole g (tells_ending Whole g (substitution_list_end (own_level s))) (λ a t so. so)) (λ x t so. tells_seen Whole g (record { told = so })))
+    substitution_high b ss s = tells_inside Whole g
+        (tells_then Whole g (tells_level Whole g (tells_ending Whole g (substitution_list_end (own_level s)))
+        (λ a t so. so)) (λ x t so. tells_seen Whole g (record { told = so })))
 
-    substitution_end : (b : ℕ) (ss : Row ASubst) (s : State) → Holds (λ x t. (s.at ≤ t.at) × (t.at ≤ length T)) (does (a_substitution inner b ss) Whole g s)
-    substitution_end b ss s = holds_also (does (a_substitution inner b ss) Whole g s) (low (a_substitution inner b ss) Whole g s).told (substitution_high b ss s).told
+    substitution_end : (b : ℕ) (ss : Row ASubst) (s : State) →
+        Holds (λ x t. (s.at ≤ t.at) × (t.at ≤ length T)) (does (a_substitution inner b ss) Whole g s)
+    substitution_end b ss s = holds_also (does (a_substitution inner b ss) Whole g s)
+        (low (a_substitution inner b ss) Whole g s).told (substitution_high b ss s).told
       where
-        holds_also : (x : Read (Row ASubst)) → Holds (Behind s) x → Holds (λ x t. t.at ≤ length T) x → Holds (λ x t. (s.at ≤ t.at) × (t.at ≤ length T)) x
+        holds_also : (x : Read (Row ASubst)) → Holds (Behind s) x → Holds (λ x t. t.at ≤ length T) x →
+            Holds (λ x t. (s.at ≤ t.at) × (t.at ≤ length T)) x
         holds_also (Ok (x, t)) one two = (one, two)
         holds_also (Err f) one two = tt
 
@@ -341,16 +402,20 @@ module _ (g : Given) where
         substitution = λ b ss s. substitution_end (level room) (shown_level g room) b ss s;
       }
 
-  word_last : (room p : ℕ) → p ≤ length T → Holds (λ x t. Last Plain t) (does (a_word (level room)) Whole g (standing p))
+  word_last : (room p : ℕ) → p ≤ length T →
+      Holds (λ x t. Last Plain t) (does (a_word (level room)) Whole g (standing p))
   unfolding a_word
   word_last room p le =
-      holds_then (λ x t. Last Plain t) (λ x t. Last Plain t) (does (token as_it_stands (contents (level room) Plain (g.offset + p) [])) Whole g (standing p)) _
-      (holds_then (λ x t. Last Plain t) (λ x t. Last Plain t) (does (contents (level room) Plain (g.offset + p) []) Whole g (standing p)) _
+      holds_then (λ x t. Last Plain t) (λ x t. Last Plain t)
+      (does (token as_it_stands (contents (level room) Plain (g.offset + p) [])) Whole g (standing p)) _
+      (holds_then (λ x t. Last Plain t) (λ x t. Last Plain t)
+      (does (contents (level room) Plain (g.offset + p) []) Whole g (standing p)) _
       (contents_end (level room) (stays_in room) Plain (g.offset + p) [] (standing p) le) (λ x t so. so))
       (λ x t so. so)
 
 -- where a word ends
-pub word_ends : (room : ℕ) (g : Given) (p n : ℕ) → ReadsWord room g p n → p ≤ length g.text → (p + n ≤ length g.text) × (ends_word g.text (p + n) ≡ true)
+pub word_ends : (room : ℕ) (g : Given) (p n : ℕ) → ReadsWord room g p n → p ≤ length g.text → (p + n ≤ length g.text)
+    × (ends_word g.text (p + n) ≡ true)
 word_ends room g p n (w, part) le =
     let is_read = (is (a_word (level room)) g (standing p)).only _ _ part in
     let so = subst (Holds (λ x t. Last g Plain t)) (sym is_read) (word_last g room p le) in

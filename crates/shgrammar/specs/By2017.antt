@@ -33,7 +33,10 @@ token_2017 position T p (Some b) = if is_newline b then tokens.Newline
 
 -- the next token from p on: what it is, and whether a continuation stands before it
 abbrev pub next_2017 : Position → List ℕ → ℕ → Next
-next_2017 position T p = record { token = token_2017 position T (past_blanks T p) (byte_at T (past_blanks T p)); broken = is_broken_at T p }
+next_2017 position T p = record {
+  token = token_2017 position T (past_blanks T p) (byte_at T (past_blanks T p));
+  broken = is_broken_at T p;
+}
 
 -- ---- the pieces of a word (XCU 2.2, 2.6)
 
@@ -47,7 +50,8 @@ dollar_2017 T q (Some b) = if b == 36 then pieces.Pid
 -- by the byte at p, or none
 abbrev pub piece_by_2017 : List ℕ → ℕ → Mode → ℕ → Option ℕ → Piece
 piece_by_2017 T p mode n None = end_by mode
-piece_by_2017 T p mode n (Some b) = if b == 92 then (if at_end T (behind T p) then pieces.LoneBackslash else pieces.Escape)
+piece_by_2017 T p mode n (Some b) = if b == 92
+    then (if at_end T (behind T p) then pieces.LoneBackslash else pieces.Escape)
     else (if b == 96 then pieces.Backquote
     else (if b == 36 then dollar_2017 T (behind T p) (byte_at T (behind T p))
     else byte_by T p mode n b))

@@ -173,13 +173,17 @@ as_item _ w = argument w
 -- one more item that is a word, and the token behind it
 unfoldable pub an_item : Inner → Items → Position → Form (Step Items)
 an_item inner i position =
-    a_word inner >>= λ w. push i.items (item (breaks i) (as_item position w)) >>= λ is. next_token position >>= λ n. give (again (so_many is position n))
+    a_word inner >>= λ w.
+    push i.items (item (breaks i) (as_item position w)) >>= λ is.
+    next_token position >>= λ n.
+    give (again (so_many is position n))
 
 -- ---- redirections (XCU 2.7)
 
 -- the number before an operator, where the token is one, and the token behind it
 unfoldable pub a_number : Next → Form (Option Span × Next)
-a_number n = pick (is_number_token n.token) (token bared (move the_digits) >>= λ x. next_token Suffix >>= λ m. give (Some x.1, m)) (give (None, n))
+a_number n = pick (is_number_token n.token)
+    (token bared (move the_digits) >>= λ x. next_token Suffix >>= λ m. give (Some x.1, m)) (give (None, n))
 
 -- a here-document belongs to it
 abbrev pub takes_here : RedirectOperator → Bool
@@ -200,7 +204,8 @@ is_long _ = true
 
 -- `<<-` has three bytes
 unfoldable pub an_operator : RedirectOperator → Form (Unit {0} × Span)
-an_operator o = token (by (redirect_text o)) (move one_byte >> pick (is_long o) (move one_byte) (give tt) >> pick (is_strip o) (move one_byte) (give tt))
+an_operator o = token (by (redirect_text o))
+    (move one_byte >> pick (is_long o) (move one_byte) (give tt) >> pick (is_strip o) (move one_byte) (give tt))
 
 -- what no operator follows is no redirection: the token at p is unexpected
 abbrev pub operator_by : ℕ → Option RedirectOperator → Form (RedirectOperator × Span)
@@ -253,7 +258,8 @@ behind_redirect _ = Prefix
 
 abbrev pub item_by : Inner → Items → Option Position → Form (Step Items)
 item_by inner i (Some position) = an_item inner i position
-item_by inner i None = pick (begins_redirect i.next.token) (one_redirect inner (breaks i) (behind_redirect i.place) i.items i.next) (give (done i))
+item_by inner i None = pick (begins_redirect i.next.token)
+    (one_redirect inner (breaks i) (behind_redirect i.place) i.items i.next) (give (done i))
 
 -- one more item, or none
 unfoldable pub item_turn : Inner → Items → Form (Step Items)
@@ -268,11 +274,13 @@ a_simple inner so = many (item_turn inner) so >>= λ i. give (simple (items_of i
 
 -- a newline with the bodies that follow it, where the token is one, and the token behind it
 unfoldable pub a_newline : Next → Form (Bool × Next)
-a_newline n = pick (is_newline_token n.token) (move one_byte >> change bodies_here >> next_token Command >>= λ m. give (true, m)) (give (false, n))
+a_newline n = pick (is_newline_token n.token)
+    (move one_byte >> change bodies_here >> next_token Command >>= λ m. give (true, m)) (give (false, n))
 
 -- a `;`, where the token is one, and the token behind it
 unfoldable pub a_semicolon : Next → Form (Bool × Next)
-a_semicolon n = pick (is_semicolon n.token) (move one_byte >> next_token Command >>= λ m. give (true, m)) (give (false, n))
+a_semicolon n = pick (is_semicolon n.token) (move one_byte >> next_token Command >>= λ m. give (true, m))
+    (give (false, n))
 
 -- no here-document waits where its level ends (XCU 2.7.4)
 abbrev pub none_waits : Option ℕ → Form (Unit {0})
@@ -311,17 +319,21 @@ join_turn j =
 -- From behind an operator to the token with which the operand begins. A continuation
 -- on either side breaks the join.
 unfoldable pub a_join : Bool → Form (AJoin × Next)
-a_join broken = next_token Command >>= λ n. many join_turn (join_so (a_join_of (broken || n.broken) []) n) >>= λ j. give (j.join, j.next)
+a_join broken = next_token Command >>= λ n.
+    many join_turn (join_so (a_join_of (broken || n.broken) []) n) >>= λ j.
+    give (j.join, j.next)
 
 -- ---- pipelines (XCU 2.9.2)
 
 -- one more redirection behind a compound command, or none; the first one may be broken too
 unfoldable pub redirect_turn : Inner → Items → Form (Step Items)
-redirect_turn inner r = pick (begins_redirect r.next.token) (one_redirect inner r.next.broken Command r.items r.next) (give (done r))
+redirect_turn inner r = pick (begins_redirect r.next.token) (one_redirect inner r.next.broken Command r.items r.next)
+    (give (done r))
 
 -- a compound command with the redirections behind it, and the token behind them
 unfoldable pub with_redirect_list : Inner → ACommand × Next → Form (ACommand × Next)
-with_redirect_list inner c = many (redirect_turn inner) (so_many [] Command c.1) >>= λ r. give (with_redirects c.0 (items_of r.items), r.next)
+with_redirect_list inner c = many (redirect_turn inner) (so_many [] Command c.1) >>= λ r.
+    give (with_redirects c.0 (items_of r.items), r.next)
 
 -- While its redirections are read, a compound command is not open any more.
 abbrev pub compound_by : Inner → Next → Option Opener → Form (ACommand × Next)
@@ -338,7 +350,8 @@ a_word_command inner =
     see is_a_name >>= λ good.
     a_word inner >>= λ w.
     next_token Suffix >>= λ n.
-    pick (is_paren n.token) (named_function inner good (word_span w)) (push [] (item false (argument w)) >>= λ is. a_simple inner (so_many is Suffix n))
+    pick (is_paren n.token) (named_function inner good (word_span w))
+    (push [] (item false (argument w)) >>= λ is. a_simple inner (so_many is Suffix n))
 
 -- the command that the token here begins, and the token behind it
 unfoldable pub a_command : Inner → Next → Form (ACommand × Next)
@@ -349,7 +362,8 @@ a_command inner n =
 
 -- the `!` of a pipeline, where the token is one, and the token behind it
 unfoldable pub a_bang : Next → Form (Option Span × Next)
-a_bang n = pick (is_bang n.token) (token (by (codes "!")) (move one_byte) >>= λ x. next_token Command >>= λ m. give (Some x.1, m)) (give (None, n))
+a_bang n = pick (is_bang n.token)
+    (token (by (codes "!")) (move one_byte) >>= λ x. next_token Command >>= λ m. give (Some x.1, m)) (give (None, n))
 
 -- the commands behind the first so far, and the token behind them
 pub record Piped : Type 0 where
@@ -362,7 +376,10 @@ piped ps n = record { parts = ps; next = n }
 -- one more command, behind a `|`
 unfoldable pub one_command : Inner → Piped → Form (Step Piped)
 one_command inner p =
-    token (by (codes "|")) (move one_byte) >> a_join p.next.broken >>= λ j. a_command inner j.1 >>= λ c. push p.parts (record { join = j.0; command = c.0 }) >>= λ ps. give (again (piped ps c.1))
+    token (by (codes "|")) (move one_byte) >> a_join p.next.broken >>= λ j.
+    a_command inner j.1 >>= λ c.
+    push p.parts (record { join = j.0; command = c.0 }) >>= λ ps.
+    give (again (piped ps c.1))
 
 -- one more, or none
 unfoldable pub pipe_turn : Inner → Piped → Form (Step Piped)
@@ -370,7 +387,10 @@ pipe_turn inner p = pick (is_pipe p.next.token) (one_command inner p) (give (don
 
 unfoldable pub a_pipeline : Inner → Next → Form (APipeline × Next)
 a_pipeline inner n =
-    a_bang n >>= λ b. a_command inner b.1 >>= λ c. many (pipe_turn inner) (piped [] c.1) >>= λ p. give (pipeline b.0 c.0 (pipeline_parts_of p.parts), p.next)
+    a_bang n >>= λ b.
+    a_command inner b.1 >>= λ c.
+    many (pipe_turn inner) (piped [] c.1) >>= λ p.
+    give (pipeline b.0 c.0 (pipeline_parts_of p.parts), p.next)
 
 -- ---- and-or lists (XCU 2.9.3)
 
@@ -385,7 +405,8 @@ joined_so ps n = record { parts = ps; next = n }
 -- one more pipeline, behind this operator
 unfoldable pub one_pipeline : Inner → Joined → AndOrOperator → Form (Step Joined)
 one_pipeline inner a o =
-    token (by (and_or_text o)) (move one_byte >> move one_byte) >> a_join a.next.broken >>= λ j. a_pipeline inner j.1 >>= λ p.
+    token (by (and_or_text o)) (move one_byte >> move one_byte) >> a_join a.next.broken >>= λ j.
+    a_pipeline inner j.1 >>= λ p.
     push a.parts (record { operator = o; join = j.0; pipeline = p.0 }) >>= λ ps. give (again (joined_so ps p.1))
 
 abbrev pub joined_by : Inner → Joined → Option AndOrOperator → Form (Step Joined)
@@ -397,7 +418,9 @@ unfoldable pub join_pipeline : Inner → Joined → Form (Step Joined)
 join_pipeline inner a = joined_by inner a (and_or_operator_of a.next.token)
 
 unfoldable pub an_and_or : Inner → Next → Form (AnAndOr × Next)
-an_and_or inner n = a_pipeline inner n >>= λ p. many (join_pipeline inner) (joined_so [] p.1) >>= λ a. give (and_or p.0 (and_or_parts_of a.parts), a.next)
+an_and_or inner n = a_pipeline inner n >>= λ p.
+    many (join_pipeline inner) (joined_so [] p.1) >>= λ a.
+    give (and_or p.0 (and_or_parts_of a.parts), a.next)
 
 -- ---- entries of a list (XCU 2.9.3)
 
@@ -417,7 +440,9 @@ abbrev pub ASeparator : Type 0
 ASeparator = Separator × ℕ
 
 abbrev pub separator_by : Next → Option Separator → Form (Option ASeparator × Next)
-separator_by n (Some s) = token (told_separator s) (move one_byte) >>= λ x. next_token Command >>= λ m. give (Some (s, x.1.«end»), m)
+separator_by n (Some s) = token (told_separator s) (move one_byte) >>= λ x.
+    next_token Command >>= λ m.
+    give (Some (s, x.1.«end»), m)
 separator_by n None = give (None, n)
 
 -- `;` or `&`, where the token is one of them, and the token behind it

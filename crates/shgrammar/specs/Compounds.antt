@@ -79,11 +79,14 @@ behind_opener _ = Command
 -- the round bracket or the reserved word here, told by this text, and the token behind
 -- it, which stands in this position
 unfoldable pub reserved_or_paren : Spelled → Bool → Position → Form (Span × Next)
-reserved_or_paren text paren position = token (by text) (move (past_opener paren)) >>= λ x. next_token position >>= λ n. give (x.1, n)
+reserved_or_paren text paren position = token (by text) (move (past_opener paren)) >>= λ x.
+    next_token position >>= λ n.
+    give (x.1, n)
 
 -- what has to stand here, and the token behind it
 unfoldable pub closing : Inner → Closing → Next → Form (Span × Next)
-closing inner c n = pick (is_closing c n.token) (reserved_or_paren (closing_text c) (is_close_paren c) Command) (unexpected inner n)
+closing inner c n = pick (is_closing c n.token) (reserved_or_paren (closing_text c) (is_close_paren c) Command)
+    (unexpected inner n)
 
 -- ---- compound commands, from behind their openers
 
@@ -102,7 +105,10 @@ a_group inner what n = a_list inner n >>= λ l. closing inner what l.1 >>= λ c.
 
 -- a condition, `then` and what it runs (XCU 2.9.4.4)
 unfoldable pub a_branch : Inner → Next → Form (ABranch × Next)
-a_branch inner n = a_list inner n >>= λ c. closing inner closings.Then c.1 >>= λ t. a_list inner t.1 >>= λ b. give (branch c.0 b.0, b.1)
+a_branch inner n = a_list inner n >>= λ c.
+    closing inner closings.Then c.1 >>= λ t.
+    a_list inner t.1 >>= λ b.
+    give (branch c.0 b.0, b.1)
 
 -- the branches behind the first so far, and the token behind them
 pub record Branched : Type 0 where
@@ -116,11 +122,14 @@ branched bs n = record { branches = bs; next = n }
 unfoldable pub elif_turn : Inner → Branched → Form (Step Branched)
 elif_turn inner b =
     pick (is_closing closings.Elif b.next.token)
-    (reserved_or_paren (closing_text closings.Elif) false Command >>= λ k. a_branch inner k.1 >>= λ x. push b.branches x.0 >>= λ bs. give (again (branched bs x.1)))
+    (reserved_or_paren (closing_text closings.Elif) false Command >>= λ k. a_branch inner k.1 >>= λ x.
+    push b.branches x.0 >>= λ bs. give (again (branched bs x.1)))
     (give (done b))
 
 unfoldable pub an_else : Inner → Next → Form (Otherwise × Next)
-an_else inner n = pick (is_closing closings.Else n.token) (reserved_or_paren (closing_text closings.Else) false Command >>= λ k. a_list inner k.1 >>= λ l. give (otherwise l.0, l.1)) (give (no_else, n))
+an_else inner n = pick (is_closing closings.Else n.token)
+    (reserved_or_paren (closing_text closings.Else) false Command >>= λ k. a_list inner k.1 >>= λ l.
+    give (otherwise l.0, l.1)) (give (no_else, n))
 
 unfoldable pub an_if : Inner → Next → Form (Closed AForm)
 an_if inner n =
@@ -145,7 +154,8 @@ a_loop inner n =
 unfoldable pub a_for_name : Inner → Next → Form (AWord × Next)
 a_for_name inner n =
     pick (begins_word n.token)
-    (see here >>= λ p. see is_a_name >>= λ good. a_word inner >>= λ w. pick good (next_token Command >>= λ m. give (w, m)) (stop BadForName p))
+    (see here >>= λ p. see is_a_name >>= λ good. a_word inner >>= λ w.
+    pick good (next_token Command >>= λ m. give (w, m)) (stop BadForName p))
     (unexpected inner n)
 
 -- comments and newlines, behind these comments, and the token behind them
@@ -206,7 +216,8 @@ a_for inner n =
 
 -- the word behind `case`, and the token behind it
 unfoldable pub a_case_word : Inner → Next → Form (AWord × Next)
-a_case_word inner n = pick (begins_word n.token) (a_word inner >>= λ w. next_token Command >>= λ m. give (w, m)) (unexpected inner n)
+a_case_word inner n = pick (begins_word n.token) (a_word inner >>= λ w. next_token Command >>= λ m. give (w, m))
+    (unexpected inner n)
 
 -- The first pattern of an item is any word but `esac` (XCU 2.10.2, rule 4). The others are any words.
 abbrev pub begins_pattern : Token → Bool
@@ -229,14 +240,16 @@ a_pattern inner ws = a_word inner >>= λ w. push ws w >>= λ vs. next_token Suff
 -- one more pattern, behind a `|`
 unfoldable pub one_pattern : Inner → Row AWord → Form (Step Patterned)
 one_pattern inner ws =
-    token (by (codes "|")) (move one_byte) >> next_token Suffix >>= λ n. pick (begins_word n.token) (a_pattern inner ws >>= λ p. give (again p)) (unexpected inner n)
+    token (by (codes "|")) (move one_byte) >> next_token Suffix >>= λ n.
+    pick (begins_word n.token) (a_pattern inner ws >>= λ p. give (again p)) (unexpected inner n)
 
 -- one more, or none
 unfoldable pub pattern_turn : Inner → Patterned → Form (Step Patterned)
 pattern_turn inner p = pick (is_pipe p.next.token) (one_pattern inner p.patterns) (give (done p))
 
 unfoldable pub a_pattern_list : Inner → Next → Form Patterned
-a_pattern_list inner n = pick (begins_pattern n.token) (a_pattern inner [] >>= λ p. many (pattern_turn inner) p) (unexpected inner n)
+a_pattern_list inner n = pick (begins_pattern n.token) (a_pattern inner [] >>= λ p. many (pattern_turn inner) p)
+    (unexpected inner n)
 
 -- the `(` before the patterns, where the token is one, and the token behind it; a tree does not tell it
 unfoldable pub an_open_bracket : Next → Form Next
@@ -267,7 +280,10 @@ ender_told false = untold
 -- `;;` here, or `;&`, with newlines and comments behind it
 unfoldable pub an_ender : Bool → Form ItemEnd
 an_ender falling =
-    token (ender_told falling) (move one_byte >> move one_byte) >> see here >>= λ p. next_token Command >>= λ n. a_linebreak [] n >>= λ l. give (item_end p l.join.comments l.next)
+    token (ender_told falling) (move one_byte >> move one_byte) >> see here >>= λ p.
+    next_token Command >>= λ n.
+    a_linebreak [] n >>= λ l.
+    give (item_end p l.join.comments l.next)
 
 -- An item ends behind its `;;` or `;&`. The last one of a case may have none: then it ends there.
 unfoldable pub an_item_end : Inner → ℕ → Next → Form ItemEnd
@@ -293,7 +309,8 @@ one_case inner c =
     closing inner closings.Paren ps.next >>= λ k.
     a_body inner k.1 >>= λ b.
     an_item_end inner (body_end k.0.«end» b.list) b.next >>= λ e.
-    push c.items (case_item c.comments (patterns_of ps.patterns) (entries_of b.list.entries) (record { mark = record { start = p; «end» = e.at }; falls = falls_through b.next.token })) >>= λ is.
+    push c.items (case_item c.comments (patterns_of ps.patterns) (entries_of b.list.entries)
+    (record { mark = record { start = p; «end» = e.at }; falls = falls_through b.next.token })) >>= λ is.
     give (again (cases_so is e.comments e.next))
 
 -- one more, or none: `esac` ends them
@@ -319,7 +336,8 @@ a_case inner n =
 
 abbrev pub a_form : Inner → Opener → Next → Form (Closed AForm)
 a_form inner openers.Brace n = a_group inner closings.Brace n >>= λ l. give (closed (brace l.what) (l.closer, l.next))
-a_form inner openers.Paren n = a_group inner closings.Paren n >>= λ l. give (closed (subshell l.what) (l.closer, l.next))
+a_form inner openers.Paren n = a_group inner closings.Paren n >>= λ l.
+    give (closed (subshell l.what) (l.closer, l.next))
 a_form inner openers.If n = an_if inner n
 a_form inner openers.While n = a_loop inner n >>= λ l. give (closed (while_do l.what) (l.closer, l.next))
 a_form inner openers.Until n = a_loop inner n >>= λ l. give (closed (until_do l.what) (l.closer, l.next))

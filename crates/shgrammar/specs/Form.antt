@@ -96,7 +96,8 @@ pub data Halts {X : Type 0} (f : Fault) : Read X → Row Spelled → Type 0 wher
   halted : Halts f (Err f) []
 
 pub data Then {X Y : Type 0} (r : Comes X) (q : X → Comes Y) (s : State) : Read Y → Row Spelled → Type 0 where
-  and_then : {x : X} {t : State} {k l : Row Spelled} {y : Read Y} → r s (Ok (x, t)) k → q x t y l → Then r q s y (k ++ l)
+  and_then : {x : X} {t : State} {k l : Row Spelled} {y : Read Y} → r s (Ok (x, t)) k → q x t y l →
+      Then r q s y (k ++ l)
   or_stops : {f : Fault} {k : Row Spelled} → r s (Err f) k → Then r q s (Err f) k
 
 pub data Either {X : Type 0} (test : Bool) (r q : Comes X) (s : State) (x : Read X) (k : Row Spelled) : Type 0 where
@@ -114,8 +115,10 @@ tell bared T p q = bare (raw T p q) ∷ []
 tell (by text) T p q = text ∷ []
 
 -- the tokens passed inside are not told
-pub data OneToken {X : Type 0} (told : Told) (g : Given) (r : Comes X) (s : State) : Read (X × Span) → Row Spelled → Type 0 where
-  whole : {x : X} {t : State} {k : Row Spelled} → r s (Ok (x, t)) k → OneToken told g r s (Ok ((x, span g.offset s.at t.at), t)) (tell told g.text s.at t.at)
+pub data OneToken {X : Type 0} (told : Told) (g : Given) (r : Comes X) (s : State) : Read (X × Span) → Row Spelled →
+    Type 0 where
+  whole : {x : X} {t : State} {k : Row Spelled} → r s (Ok (x, t)) k →
+      OneToken told g r s (Ok ((x, span g.offset s.at t.at), t)) (tell told g.text s.at t.at)
   broken_off : {f : Fault} {k : Row Spelled} → r s (Err f) k → OneToken told g r s (Err f) k
 
 -- less of the text is left at t than at s
@@ -125,8 +128,10 @@ leads_on g s t = nat_lt (length g.text - t.at) (length g.text - s.at)
 -- a turn that does not lead on is the last as well
 pub data Turns {A : Type 0} (g : Given) (turn : A → Comes (Step A)) : A → State → Read A → Row Spelled → Type 0 where
   last : {a b : A} {s t : State} {k : Row Spelled} → turn a s (Ok (done b, t)) k → Turns g turn a s (Ok (b, t)) k
-  rests : {a b : A} {s t : State} {k : Row Spelled} → turn a s (Ok (again b, t)) k → leads_on g s t ≡ false → Turns g turn a s (Ok (b, t)) k
-  more : {a b : A} {s t : State} {x : Read A} {k l : Row Spelled} → turn a s (Ok (again b, t)) k → leads_on g s t ≡ true → Turns g turn b t x l → Turns g turn a s x (k ++ l)
+  rests : {a b : A} {s t : State} {k : Row Spelled} → turn a s (Ok (again b, t)) k → leads_on g s t ≡ false →
+      Turns g turn a s (Ok (b, t)) k
+  more : {a b : A} {s t : State} {x : Read A} {k l : Row Spelled} → turn a s (Ok (again b, t)) k → leads_on g s t ≡ true
+      → Turns g turn b t x l → Turns g turn a s x (k ++ l)
   halts : {a : A} {s : State} {f : Fault} {k : Row Spelled} → turn a s (Err f) k → Turns g turn a s (Err f) k
 
 -- a fault of this kind, which stands at p; that of a text that ends is another one
@@ -147,11 +152,13 @@ pub data Changed (x : Result State Fault) : Read (Unit {0}) → Row Spelled → 
   cannot : {f : Fault} → x ≡ Err f → Changed x (Err f) []
 
 pub data WithBytes {X : Type 0} (g : Given) (r : Comes X) (s : State) : Read (X × Spelled) → Row Spelled → Type 0 where
-  with_its_bytes : {x : X} {t : State} {k : Row Spelled} → r s (Ok (x, t)) k → WithBytes g r s (Ok ((x, raw g.text s.at t.at), t)) k
+  with_its_bytes : {x : X} {t : State} {k : Row Spelled} → r s (Ok (x, t)) k →
+      WithBytes g r s (Ok ((x, raw g.text s.at t.at), t)) k
   without_bytes : {f : Fault} {k : Row Spelled} → r s (Err f) k → WithBytes g r s (Err f) k
 
 pub data OwnLevel {X : Type 0} (r : Comes X) (s : State) : Read (X × Row Span) → Row Spelled → Type 0 where
-  level_read : {x : X} {t : State} {k : Row Spelled} → r (own_level s) (Ok (x, t)) k → OwnLevel r s (Ok ((x, t.bodies), outer_level s t)) k
+  level_read : {x : X} {t : State} {k : Row Spelled} → r (own_level s) (Ok (x, t)) k →
+      OwnLevel r s (Ok ((x, t.bodies), outer_level s t)) k
   level_stops : {f : Fault} {k : Row Spelled} → r (own_level s) (Err f) k → OwnLevel r s (Err f) k
 
 abbrev pub moved_on : Move → Given → State → State

@@ -48,7 +48,8 @@ stays_before q c = false
 
 -- the byte behind a backslash: a continuation is dropped (XCU 2.2.1)
 abbrev pub escape_left : Quoting → ℕ → Option (List ℕ) → Option (List ℕ)
-escape_left q c left = if c == 10 then left else (if stays_before q c then left_before 92 (left_before c left) else left_before c left)
+escape_left q c left = if c == 10 then left
+    else (if stays_before q c then left_before 92 (left_before c left) else left_before c left)
 
 -- A `$`, and the bytes behind it: `$(`, `$((` and `${` leave nothing. Whether it is
 -- the second of `$$`, and then whether the next is.
@@ -83,7 +84,8 @@ pub record ADelimiter : Type 0 where
 
 -- the delimiter that a word is, by its bytes as they stand; one with an expansion is none
 abbrev pub delimiter_of : List ℕ → Option ADelimiter
-delimiter_of bytes = option_map (λ text. record { text = text; literal = is_quoted bytes }) (unquoted not_quoted false bytes)
+delimiter_of bytes = option_map (λ text. record { text = text; literal = is_quoted bytes })
+    (unquoted not_quoted false bytes)
 
 -- Text in dollar-single quotes stands in these bytes of a word; whether the next `$` is the second of `$$`.
 unfoldable pub has_dollar_single : Quoting → Bool → List ℕ → Bool
@@ -91,12 +93,14 @@ has_dollar_single q second [] = false
 has_dollar_single q second (b ∷ []) = false
 has_dollar_single q second (b ∷ c ∷ bs) = if is_live q 92 b then has_dollar_single q second bs
     else (if is_quote q b then has_dollar_single (behind_quote q b) false (c ∷ bs)
-    else (if is_live q 36 b then (not second && is_quote q 39 && stands (c ∷ bs) 0 39) || has_dollar_single q (not second && stands (c ∷ bs) 0 36) (c ∷ bs)
+    else (if is_live q 36 b then (not second && is_quote q 39 && stands (c ∷ bs) 0 39)
+    || has_dollar_single q (not second && stands (c ∷ bs) 0 36) (c ∷ bs)
     else has_dollar_single q second (c ∷ bs)))
 
 -- the delimiter that an edition has: text in dollar-single quotes makes none, where the edition has it
 abbrev pub delimiter_in : Edition → List ℕ → Option ADelimiter
-delimiter_in edition bytes = if is_later edition && has_dollar_single not_quoted false bytes then None else delimiter_of bytes
+delimiter_in edition bytes = if is_later edition && has_dollar_single not_quoted false bytes then None
+    else delimiter_of bytes
 
 -- ---- the line of a delimiter
 
@@ -139,7 +143,8 @@ delimiter_from T w p = delimiter_on T w false p
 
 -- ---- what a newline does, and the operator of a redirection
 
-abbrev pub body_by : (Row Span → ℕ → Result (Row Span × ℕ) Fault) → Given → Waiting → Row Span → ℕ → Option ℕ → Result (Row Span × ℕ) Fault
+abbrev pub body_by : (Row Span → ℕ → Result (Row Span × ℕ) Fault) → Given → Waiting → Row Span → ℕ → Option ℕ →
+    Result (Row Span × ℕ) Fault
 body_by rest g w bodies p None = Err (record { kind = UnclosedHere; at = w.operator })
 body_by rest g w bodies p (Some q) = rest (bodies ++ span g.offset p q ∷ []) (past_line g.text q)
 

@@ -20,7 +20,8 @@ has_entry (more_entries e es) = true
 -- behind the last of them.
 abbrev pub line_joined_by : (Entries → Bool → AScript) → AKind → Entries → Bool → ℕ → AScript
 line_joined_by rest blank_line es gap base = rest es true
-line_joined_by rest (entries_line xs) es gap base = rest (appended es (blanked (gap && has_entry es) (moved base xs))) false
+line_joined_by rest (entries_line xs) es gap base =
+    rest (appended es (blanked (gap && has_entry es) (moved base xs))) false
 line_joined_by rest end_line es gap base = record { entries = es; wrong = None }
 line_joined_by rest (faulty_line f) es gap base = record { entries = es; wrong = Some (moved_fault base f) }
 
@@ -31,5 +32,7 @@ lines_joined (l ∷ ls) es gap base = line_joined_by (λ es gap. lines_joined ls
 
 -- The lines of B from p on: ended ones, and one that is not ended, which is the rest.
 pub data AreLines (edition : Edition) (B : List ℕ) : ℕ → Row ALine → Type 0 where
-  last_of : {p : ℕ} (l : ALine) → IsLine edition (drop p B) l → l.ended ≡ false → l.next ≡ length (drop p B) → AreLines edition B p (l ∷ [])
-  more_of : {p : ℕ} (l : ALine) (ls : Row ALine) → IsLine edition (drop p B) l → l.ended ≡ true → AreLines edition B (p + l.next) ls → AreLines edition B p (l ∷ ls)
+  last_of : {p : ℕ} (l : ALine) → IsLine edition (drop p B) l → l.ended ≡ false → l.next ≡ length (drop p B) →
+      AreLines edition B p (l ∷ [])
+  more_of : {p : ℕ} (l : ALine) (ls : Row ALine) → IsLine edition (drop p B) l → l.ended ≡ true →
+      AreLines edition B (p + l.next) ls → AreLines edition B p (l ∷ ls)

@@ -29,4 +29,5 @@ level (suc room) = record {
 
 -- The row of a word reads the n bytes from p on, where so many constructs may be open. There may be none.
 abbrev pub ReadsWord : ℕ → Given → ℕ → ℕ → Type 0
-ReadsWord room g p n = (w : AWord) × may (a_word (level room)) g (standing p) (Ok (w, standing (p + n))) (raw g.text p (p + n) ∷ [])
+ReadsWord room g p n = (w : AWord)
+    × may (a_word (level room)) g (standing p) (Ok (w, standing (p + n))) (raw g.text p (p + n) ∷ [])

@@ -20,7 +20,9 @@ use Rattle.shgrammar.specs.Levels.{most_open, level}
 
 -- the newline with the bodies that follow it, or the end, behind the entries; whether it was a newline
 abbrev pub line_end_by : Inner → Bool → Bool → Next → Form Bool
-line_end_by inner newline end n = pick newline (move one_byte >> change bodies_here >> give true) (pick end (nothing_waits >> give false) (unexpected inner n))
+line_end_by inner newline end n =
+    pick newline (move one_byte >> change bodies_here >> give true)
+    (pick end (nothing_waits >> give false) (unexpected inner n))
 
 unfoldable pub end_of_line : Inner → Next → Form Bool
 end_of_line inner n = line_end_by inner (is_newline_token n.token) (is_end n.token) n
@@ -28,7 +30,10 @@ end_of_line inner n = line_end_by inner (is_newline_token n.token) (is_end n.tok
 -- a line, whose first entry may be blank: entries, and a newline or the end
 unfoldable pub an_open_line : Inner → Bool → Form (Row AnEntry × Bool)
 an_open_line inner blank =
-    next_token Command >>= λ n. on_line inner (list_so (none_listed blank) n) >>= λ l. end_of_line inner l.next >>= λ newline. give (l.list.entries, newline)
+    next_token Command >>= λ n.
+    on_line inner (list_so (none_listed blank) n) >>= λ l.
+    end_of_line inner l.next >>= λ newline.
+    give (l.list.entries, newline)
 
 -- the same, with the bodies of its here-documents
 unfoldable pub a_line : Inner → Bool → Form (Row AnEntry × Bool)
@@ -61,9 +66,12 @@ is_ended T newline q = newline && raw_stands T (q - 1) 10
 
 -- the line with which the text begins
 pub data IsLine (edition : Edition) (T : List ℕ) : ALine → Type 0 where
-  line_read : (es : Row AnEntry) (newline : Bool) (t : State) (k : Row Spelled) → may (a_line (level most_open) false) (given edition T 0) (standing 0) (Ok ((es, newline), t)) k
+  line_read : (es : Row AnEntry) (newline : Bool) (t : State) (k : Row Spelled) →
+      may (a_line (level most_open) false) (given edition T 0) (standing 0) (Ok ((es, newline), t)) k
       → IsLine edition T (record { kind = kind_of es newline; next = t.at; ended = is_ended T newline t.at })
-  line_stops : (f : Fault) (k : Row Spelled) → may (a_line (level most_open) false) (given edition T 0) (standing 0) (Err f) k → IsLine edition T (record { kind = faulty_line f; next = length T; ended = false })
+  line_stops : (f : Fault) (k : Row Spelled) →
+      may (a_line (level most_open) false) (given edition T 0) (standing 0) (Err f) k →
+      IsLine edition T (record { kind = faulty_line f; next = length T; ended = false })
 
 -- ---- what a line may look at
 
@@ -73,7 +81,8 @@ SameBytes edition T line = (other : List ℕ) (q : ℕ) → drop q other ≡ T �
 
 -- where the bytes of T up to the end of the line stand, they have this line, whatever follows
 abbrev pub NoFurther : Edition → List ℕ → ALine → Type 0
-NoFurther edition T line = (other : List ℕ) (q : ℕ) → take line.next (drop q other) ≡ take line.next T → IsLine edition (drop q other) line
+NoFurther edition T line = (other : List ℕ) (q : ℕ) → take line.next (drop q other) ≡ take line.next T →
+    IsLine edition (drop q other) line
 
 -- no node of a line's entries names an offset above this one
 abbrev pub EntriesWithin : ℕ → AKind → Type 0

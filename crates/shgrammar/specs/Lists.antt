@@ -44,11 +44,19 @@ with_remark l es = record { entries = es; blank = l.blank; begun = true; command
 -- behind a newline: a line without entries makes the next entry blank, if one stands before it. So an entry
 -- is blank where at least two newline tokens stand between it and the entry before it.
 abbrev pub next_line : Listed → Listed
-next_line l = record { entries = l.entries; blank = not l.begun && not (is_empty l.entries); begun = false; commands = l.commands; parted = l.parted }
+next_line l = record {
+  entries = l.entries;
+  blank = not l.begun && not (is_empty l.entries);
+  begun = false;
+  commands = l.commands;
+  parted = l.parted;
+}
 
 unfoldable pub one_entry : Inner → ListSo → Form (Step ListSo)
 one_entry inner l =
-    an_entry inner (is_blank_next l.list) l.next >>= λ e. push l.list.entries e.entry >>= λ es. give (step_if (is_some e.parted) (list_so (with_command l.list es e.parted) e.next))
+    an_entry inner (is_blank_next l.list) l.next >>= λ e.
+    push l.list.entries e.entry >>= λ es.
+    give (step_if (is_some e.parted) (list_so (with_command l.list es e.parted) e.next))
 
 -- one more entry, or that no more follows
 unfoldable pub entry_turn : Inner → ListSo → Form (Step ListSo)
@@ -56,7 +64,8 @@ entry_turn inner l = pick (begins_pipeline l.next.token) (one_entry inner l) (gi
 
 -- the comment of a line without entries, or behind its last separator, stands for itself
 abbrev pub remark_by : ListSo → Option Span × Next → Form ListSo
-remark_by l (Some c, n) = push l.list.entries (entry (remark c) false (is_blank_next l.list) None) >>= λ es. give (list_so (with_remark l.list es) n)
+remark_by l (Some c, n) = push l.list.entries (entry (remark c) false (is_blank_next l.list) None) >>= λ es.
+    give (list_so (with_remark l.list es) n)
 remark_by l (None, n) = give (list_so l.list n)
 
 unfoldable pub a_remark : ListSo → Form ListSo
@@ -68,10 +77,13 @@ on_line inner l = many (entry_turn inner) l >>= a_remark
 
 -- a line of a list, or what stands before that which ends the list
 unfoldable pub list_turn : Inner → ListSo → Form (Step ListSo)
-list_turn inner l = on_line inner l >>= λ m. a_newline m.next >>= λ x. give (step_if x.0 (list_so (next_line m.list) x.1))
+list_turn inner l = on_line inner l >>= λ m.
+    a_newline m.next >>= λ x.
+    give (step_if x.0 (list_so (next_line m.list) x.1))
 
 -- A list that holds a command, and the token behind it. It ends where no entry may
 -- begin; who reads it asks for what has to follow.
 unfoldable pub a_list : Inner → Next → Form (Entries × Next)
 a_list inner n =
-    many (list_turn inner) (list_so (none_listed false) n) >>= λ l. pick l.list.commands (give (entries_of l.list.entries, l.next)) (unexpected inner l.next)
+    many (list_turn inner) (list_so (none_listed false) n) >>= λ l.
+    pick l.list.commands (give (entries_of l.list.entries, l.next)) (unexpected inner l.next)

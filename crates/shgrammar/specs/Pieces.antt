@@ -36,11 +36,14 @@ bracket_by (suc n) two = pieces.Close
 
 -- a byte other than a backslash, a backquote and a `$`
 abbrev pub byte_by : List ℕ → ℕ → Mode → ℕ → ℕ → Piece
-byte_by T p Plain n b = if ends (Some b) then pieces.Closer else (if b == 39 then pieces.Single else (if b == 34 then pieces.Double else pieces.Ordinary))
+byte_by T p Plain n b = if ends (Some b) then pieces.Closer
+    else (if b == 39 then pieces.Single else (if b == 34 then pieces.Double else pieces.Ordinary))
 byte_by T p Double n b = if b == 34 then pieces.Closer else pieces.Ordinary
-byte_by T p Brace n b = if b == 125 then pieces.Closer else (if b == 39 then pieces.Single else (if b == 34 then pieces.Double else pieces.Ordinary))
+byte_by T p Brace n b = if b == 125 then pieces.Closer
+    else (if b == 39 then pieces.Single else (if b == 34 then pieces.Double else pieces.Ordinary))
 byte_by T p DoubleBrace n b = if b == 125 then pieces.Closer else (if b == 34 then pieces.Double else pieces.Ordinary)
-byte_by T p Arith n b = if b == 41 then bracket_by n (stands T (behind T p) 41) else (if b == 40 then pieces.Open else pieces.Ordinary)
+byte_by T p Arith n b = if b == 41 then bracket_by n (stands T (behind T p) 41)
+    else (if b == 40 then pieces.Open else pieces.Ordinary)
 
 -- at the end of the text a word ends, and nothing else may
 abbrev pub end_by : Mode → Piece
@@ -71,7 +74,8 @@ quotes_singly _ = false
 -- The piece that an edition has in the place of this one: POSIX.1-2017 has no `$'`. Where single quotes do
 -- not quote, no edition has it.
 abbrev pub piece_in : Edition → Mode → Piece → Piece
-piece_in edition mode pieces.DollarSingle = if is_later edition && quotes_singly mode then pieces.DollarSingle else pieces.Ordinary
+piece_in edition mode pieces.DollarSingle = if is_later edition && quotes_singly mode then pieces.DollarSingle
+    else pieces.Ordinary
 piece_in edition mode piece = piece
 
 -- ---- where pieces lead

@@ -38,10 +38,13 @@ the_line blank = a_line (level most_open) blank
 -- the lines from p on, and the tokens passed
 pub data Lines (edition : Edition) (B : List ℕ) : SoFar → ℕ → AScript → Row Spelled → Type 0 where
   line_ended : {so : SoFar} {p : ℕ} {s : AScript} {l : Row Spelled} (es : Row AnEntry) (t : State) (k : Row Spelled)
-      → may (the_line (is_blank_line so)) (given edition (drop p B) p) (standing 0) (Ok ((es, true), t)) k → Lines edition B (with_line so es) (p + t.at) s l → Lines edition B so p s (k ++ l)
-  last_line : {so : SoFar} {p : ℕ} (es : Row AnEntry) (t : State) (k : Row Spelled) → may (the_line (is_blank_line so)) (given edition (drop p B) p) (standing 0) (Ok ((es, false), t)) k
+      → may (the_line (is_blank_line so)) (given edition (drop p B) p) (standing 0) (Ok ((es, true), t)) k →
+      Lines edition B (with_line so es) (p + t.at) s l → Lines edition B so p s (k ++ l)
+  last_line : {so : SoFar} {p : ℕ} (es : Row AnEntry) (t : State) (k : Row Spelled) →
+      may (the_line (is_blank_line so)) (given edition (drop p B) p) (standing 0) (Ok ((es, false), t)) k
       → Lines edition B so p (record { entries = entries_of (so.entries ++ es); wrong = None }) k
-  faulty : {so : SoFar} {p : ℕ} (f : Fault) (k : Row Spelled) → may (the_line (is_blank_line so)) (given edition (drop p B) p) (standing 0) (Err f) k
+  faulty : {so : SoFar} {p : ℕ} (f : Fault) (k : Row Spelled) →
+      may (the_line (is_blank_line so)) (given edition (drop p B) p) (standing 0) (Err f) k
       → Lines edition B so p (record { entries = entries_of so.entries; wrong = Some f }) k
 
 abbrev pub nothing_yet : SoFar
@@ -75,7 +78,8 @@ script_by rest so p (Err f) = record { entries = entries_of so.entries; wrong = 
 -- with less than n bytes left
 unfoldable pub script_below : Edition → List ℕ → ℕ → SoFar → ℕ → AScript
 script_below edition B zero so p = record { entries = entries_of so.entries; wrong = None }
-script_below edition B (suc n) so p = script_by (script_below edition B n) so p (line_from edition B Whole (is_blank_line so) p)
+script_below edition B (suc n) so p =
+    script_by (script_below edition B n) so p (line_from edition B Whole (is_blank_line so) p)
 
 -- the lines from p on
 unfoldable pub script_on : Edition → List ℕ → SoFar → ℕ → AScript

@@ -12,12 +12,14 @@ use Rattle.shgrammar.specs.declared.fault.Fault.{Fault}
 -- The first n of these bytes may be passed: whatever follows them in a script, its
 -- first fault is that behind them.
 abbrev pub MayPass : Edition → List ℕ → ℕ → Type 0
-MayPass edition bytes n = (script : List ℕ) (f : Option Fault) → take n script ≡ take n bytes → FirstFault edition (drop n script) f → FirstFault edition script (option_map (moved_fault n) f)
+MayPass edition bytes n = (script : List ℕ) (f : Option Fault) → take n script ≡ take n bytes →
+    FirstFault edition (drop n script) f → FirstFault edition script (option_map (moved_fault n) f)
 
 -- the line at an offset has no fault, and a newline ended it and is its last byte, before the offset q
 abbrev pub LineBefore : Edition → List ℕ → ℕ → ℕ → Type 0
 LineBefore edition bytes p q =
-    (es : Row AnEntry) × (t : State) × (line_told edition bytes Nothing false p 0 ≡ Ok ((es, true), t)) × (q ≡ p + t.at) × (0 < t.at) × (q ≤ length bytes)
+    (es : Row AnEntry) × (t : State) × (line_told edition bytes Nothing false p 0 ≡ Ok ((es, true), t)) × (q ≡ p + t.at)
+    × (0 < t.at) × (q ≤ length bytes)
     × (raw_stands (drop p bytes) (t.at - 1) 10 ≡ true)
 
 -- no such line begins at an offset
@@ -26,4 +28,5 @@ StopsAt edition bytes p = (q : ℕ) → LineBefore edition bytes p q → ⊥
 
 -- the same as `MayPass`, as it is computed
 abbrev pub ArePassed : Edition → List ℕ → ℕ → Type 0
-ArePassed edition bytes n = (script : List ℕ) → take n script ≡ take n bytes → first_fault_from edition script 0 ≡ first_fault_from edition script n
+ArePassed edition bytes n = (script : List ℕ) → take n script ≡ take n bytes →
+    first_fault_from edition script 0 ≡ first_fault_from edition script n

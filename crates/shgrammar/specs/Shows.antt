@@ -17,9 +17,14 @@ IsRead T p = past_continuations T p < length T
 abbrev pub Shows : Token → List ℕ → ℕ → Type 0
 Shows token T p =
     (begins_word token ≡ true → ends_word T p ≡ false)
-    × (is_end token ≡ false → IsRead T p) × (token ≡ tokens.Newline → raw_stands T p 10 ≡ true) × (token ≡ tokens.End → at_end T p ≡ true)
-    × ((operator : AndOrOperator) → and_or_operator_of token ≡ Some operator → IsRead T (behind T p)) × (is_comment token ≡ false → raw_stands T p 35 ≡ false) × (past_continuations T p ≡ p)
+    × (is_end token ≡ false → IsRead T p) × (token ≡ tokens.Newline → raw_stands T p 10 ≡ true)
+    × (token ≡ tokens.End → at_end T p ≡ true)
+    × ((operator : AndOrOperator) → and_or_operator_of token ≡ Some operator → IsRead T (behind T p))
+    × (is_comment token ≡ false → raw_stands T p 35 ≡ false) × (past_continuations T p ≡ p)
     × (begins_pattern token ≡ true → ends_word T p ≡ false) × (ends_item token ≡ true → IsRead T (behind T p))
-    × ((operator : RedirectOperator) → redirect_operator_of token ≡ Some operator → is_long operator ≡ true → IsRead T (behind T p))
-    × ((operator : RedirectOperator) → redirect_operator_of token ≡ Some operator → is_strip operator ≡ true → IsRead T (behind T (behind T p)))
-    × ((operator : RedirectOperator) → redirect_operator_of token ≡ Some operator → takes_here operator ≡ true → raw_stands T p 60 ≡ true)
+    × ((operator : RedirectOperator) → redirect_operator_of token ≡ Some operator → is_long operator ≡ true →
+    IsRead T (behind T p))
+    × ((operator : RedirectOperator) → redirect_operator_of token ≡ Some operator → is_strip operator ≡ true →
+    IsRead T (behind T (behind T p)))
+    × ((operator : RedirectOperator) → redirect_operator_of token ≡ Some operator → takes_here operator ≡ true →
+    raw_stands T p 60 ≡ true)

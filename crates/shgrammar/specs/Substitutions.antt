@@ -17,13 +17,16 @@ unfoldable pub substitution_list : Inner → Form Entries
 substitution_list inner =
     next_token Command >>= λ n.
     many (list_turn inner) (list_so (none_listed false) n) >>= λ l.
-    pick (is_closing closings.Paren l.next.token) (nothing_waits >> move one_byte >> give (entries_of l.list.entries)) (unexpected inner l.next)
+    pick (is_closing closings.Paren l.next.token) (nothing_waits >> move one_byte >> give (entries_of l.list.entries))
+    (unexpected inner l.next)
 
 -- The substitution whose `$` stands at the offset b, from behind its `(` on, as one more of these. It is not
 -- closed where the text ends in it. Its here-documents are its own.
 unfoldable pub one_substitution : Inner → ℕ → Row ASubst → Form (Row ASubst)
 one_substitution inner b ss =
-    a_level (ends_as UnclosedSubst b (substitution_list inner)) >>= λ es. see here >>= λ q. push ss (subst (filled es.1 es.0) (record { start = b; «end» = q }))
+    a_level (ends_as UnclosedSubst b (substitution_list inner)) >>= λ es.
+    see here >>= λ q.
+    push ss (subst (filled es.1 es.0) (record { start = b; «end» = q }))
 
 -- the same, of which less may be kept than of what stands around it
 unfoldable pub a_substitution : Inner → ℕ → Row ASubst → Form (Row ASubst)

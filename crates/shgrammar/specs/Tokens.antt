@@ -32,9 +32,12 @@ first_of_words T p (w ∷ ws) = if is_word_at T p w.0 then Some w.1 else first_o
 
 -- the reserved words (XCU 2.4)
 unfoldable pub reserved_words : Row Spelling
-reserved_words = (codes "!", reserved.Bang) ∷ (codes "{", reserved.OpenBrace) ∷ (codes "}", reserved.CloseBrace) ∷ (codes "case", reserved.Case) ∷ (codes "do", reserved.Do)
-    ∷ (codes "done", reserved.Done) ∷ (codes "elif", reserved.Elif) ∷ (codes "else", reserved.Else) ∷ (codes "esac", reserved.Esac) ∷ (codes "fi", reserved.Fi)
-    ∷ (codes "for", reserved.For) ∷ (codes "if", reserved.If) ∷ (codes "in", reserved.In) ∷ (codes "then", reserved.Then) ∷ (codes "until", reserved.Until) ∷ (codes "while", reserved.While) ∷ []
+reserved_words = (codes "!", reserved.Bang) ∷ (codes "{", reserved.OpenBrace) ∷ (codes "}", reserved.CloseBrace)
+    ∷ (codes "case", reserved.Case) ∷ (codes "do", reserved.Do)
+    ∷ (codes "done", reserved.Done) ∷ (codes "elif", reserved.Elif) ∷ (codes "else", reserved.Else)
+    ∷ (codes "esac", reserved.Esac) ∷ (codes "fi", reserved.Fi)
+    ∷ (codes "for", reserved.For) ∷ (codes "if", reserved.If) ∷ (codes "in", reserved.In)
+    ∷ (codes "then", reserved.Then) ∷ (codes "until", reserved.Until) ∷ (codes "while", reserved.While) ∷ []
 
 -- the reserved word that stands at p
 abbrev pub reserved_at : List ℕ → ℕ → Option Reserved
@@ -92,7 +95,8 @@ greater_at T p = if stands T p 62 then redirects.Append
 
 -- what begins with a `;`, behind which p is
 abbrev pub semicolon_at : List ℕ → ℕ → Token
-semicolon_at T p = if stands T p 59 then tokens.DoubleSemicolon else (if stands T p 38 then tokens.SemicolonAmpersand else tokens.Semicolon)
+semicolon_at T p = if stands T p 59 then tokens.DoubleSemicolon
+    else (if stands T p 38 then tokens.SemicolonAmpersand else tokens.Semicolon)
 
 -- by the byte at p, or none; of several operators the longest one
 abbrev pub token_of : Position → List ℕ → ℕ → Option ℕ → Token

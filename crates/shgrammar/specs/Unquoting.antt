@@ -42,7 +42,8 @@ a_delimiter text literal = record { text = text; literal = literal }
 
 -- the same quote stands at both ends
 abbrev pub is_wrapped : List ℕ → Bool
-is_wrapped word = not (nat_lt (length word) 2) && is_quote not_quoted (get_or word 0 0) && get_or word (length word - 1) 0 == get_or word 0 0
+is_wrapped word = not (nat_lt (length word) 2) && is_quote not_quoted (get_or word 0 0)
+    && get_or word (length word - 1) 0 == get_or word 0 0
 
 -- a backslash stands before other bytes
 abbrev pub is_escaped : List ℕ → Bool
@@ -50,7 +51,8 @@ is_escaped word = not (nat_lt (length word) 2) && get_or word 0 0 == 92
 
 -- the word without the quotes around it or the backslash before it, if it has them
 abbrev pub unwrapped : List ℕ → List ℕ
-unwrapped word = if is_wrapped word then take (length word - 1 - 1) (drop 1 word) else (if is_escaped word then drop 1 word else word)
+unwrapped word = if is_wrapped word then take (length word - 1 - 1) (drop 1 word)
+    else (if is_escaped word then drop 1 word else word)
 
 -- that part of it, where it has only bytes that are ordinary outside quotes
 abbrev pub plain_part : List ℕ → Option (List ℕ)

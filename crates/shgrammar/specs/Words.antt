@@ -79,10 +79,15 @@ piece_row inner mode b h pieces.Double = see the_byte >>= λ q. move one_byte >>
 piece_row inner mode b h pieces.Backquote = backquoted_text >> give (again h)
 piece_row inner mode b h pieces.Pid = move one_byte >> move one_byte >> give (again h)
 piece_row inner mode b h pieces.Subst =
-    see the_byte >>= λ q. move one_byte >> move one_byte >> inner.substitution q h.substs >>= λ ss. give (again (having h.nested ss))
-piece_row inner mode b h pieces.Arith = see the_byte >>= λ q. move one_byte >> move one_byte >> move one_byte >> opened inner Arith q h
+    see the_byte >>= λ q.
+    move one_byte >> move one_byte >> inner.substitution q h.substs >>= λ ss.
+    give (again (having h.nested ss))
+piece_row inner mode b h pieces.Arith = see the_byte >>= λ q.
+    move one_byte >> move one_byte >> move one_byte >> opened inner Arith q h
 piece_row inner mode b h pieces.Param =
-    see the_byte >>= λ q. move one_byte >> move one_byte >> move the_parameter >> see (the_rest mode) >>= λ m. opened inner m q h
+    see the_byte >>= λ q.
+    move one_byte >> move one_byte >> move the_parameter >> see (the_rest mode) >>= λ m.
+    opened inner m q h
 piece_row inner mode b h pieces.Open = move one_byte >> give (again (having (h.nested + 1) h.substs))
 piece_row inner mode b h pieces.Close = move one_byte >> give (again (having (h.nested - 1) h.substs))
 piece_row inner mode b h pieces.BadClose = see the_byte >>= λ q. stop BadArithClose q

@@ -136,9 +136,12 @@ impl Unquoting {
     /// The byte behind a backslash.
     #[tactic(auto, using(crate::proofs::Unquoted::escape_dropped, crate::proofs::Unquoted::escape_both, crate::proofs::Unquoted::escape_one))]
     fn escaped(&mut self, byte: u8) -> Result<(), AllocError>
-        ensures left { IfOk result (λ done. (left : Option (Row ℕ)) → left_of self.old.text.items (escape_left (view_quoting self.old.quoting) byte left) ≡
+        ensures left { IfOk result
+            (λ done. (left : Option (Row ℕ)) →
+            left_of self.old.text.items (escape_left (view_quoting self.old.quoting) byte left) ≡
             left_of self.new.text.items left) }
-        ensures same { IfOk result (λ done. (self.new.quoting ≡ self.old.quoting) × (self.new.second ≡ self.old.second)) }
+        ensures same { IfOk result
+            (λ done. (self.new.quoting ≡ self.old.quoting) × (self.new.second ≡ self.old.second)) }
     {
         if byte == b'\n' {
             return Ok(());
@@ -158,7 +161,9 @@ impl Unquoting {
     fn dollar(&mut self, word: &[u8], next: usize) -> Result<Option<usize>, AllocError>
         requires { next ≤ length word.now }
         ensures left { IfOk result (λ found. left_of self.old.text.items
-            (dollar_left self.old.second (drop next word.now) (λ second. unquoted (view_quoting self.old.quoting) second (drop next word.now))) ≡ left_by self.new word.now found) }
+            (dollar_left self.old.second (drop next word.now)
+            (λ second. unquoted (view_quoting self.old.quoting) second (drop next word.now)))
+            ≡ left_by self.new word.now found) }
         ensures place { IfOk result (λ found. IfSome found (λ at. at ≡ next)) }
     {
         if self.second {
@@ -181,7 +186,8 @@ impl Unquoting {
     fn byte(&mut self, word: &[u8], at: usize) -> Result<Option<usize>, AllocError>
         requires { at < length word.now }
         ensures left { IfOk result (λ found. left_of self.old.text.items
-            (byte_left (view_quoting self.old.quoting) self.old.second (get_or word.now at 0) (drop (at + 1) word.now) (λ q s. unquoted q s (drop (at + 1) word.now)))
+            (byte_left (view_quoting self.old.quoting) self.old.second (get_or word.now at 0)
+            (drop (at + 1) word.now) (λ q s. unquoted q s (drop (at + 1) word.now)))
             ≡ left_by self.new word.now found) }
         ensures place { IfOk result (λ found. IfSome found (λ next. next ≡ at + 1)) }
     {
@@ -214,8 +220,10 @@ impl Unquoting {
     #[tactic(auto, using(crate::proofs::Unquoted::take_escape, crate::proofs::Unquoted::take_byte))]
     fn take(&mut self, word: &[u8], at: usize) -> Result<Option<usize>, AllocError>
         requires { at < length word.now }
-        ensures left { IfOk result (λ found. rest_of self.old word.now at ≡ left_by self.new word.now found) }
-        ensures place { IfOk result (λ found. IfSome found (λ next. (at < next) × (next ≤ length word.now))) }
+        ensures left { IfOk result
+            (λ found. rest_of self.old word.now at ≡ left_by self.new word.now found) }
+        ensures place { IfOk result
+            (λ found. IfSome found (λ next. (at < next) × (next ≤ length word.now))) }
     {
         if self.escapes(word, at) {
             self.escaped(word[at + 1])?;
@@ -228,7 +236,8 @@ impl Unquoting {
 /// What quote removal leaves of a word, or `None` where it has an expansion or text in backquotes.
 #[tactic(auto, using(crate::proofs::Unquoted::nothing_left, crate::proofs::Unquoted::all_left, crate::proofs::Unquoted::none_left))]
 fn unquoted(alloc: Global, word: &[u8]) -> Result<Option<Vec<u8>>, AllocError>
-    ensures { IfOk result (λ left. option_map (λ v. v.items) left ≡ unquoted not_quoted false word.now) }
+    ensures { IfOk result (λ left. option_map (λ v. v.items) left
+        ≡ unquoted not_quoted false word.now) }
 {
     let mut so_far = Unquoting {
         text: Vec::new(alloc),
@@ -322,7 +331,9 @@ fn unwrapped(word: &[u8]) -> &[u8]
 #[tactic(auto, using(crate::proofs::PlainDelimiters::plain_whole))]
 pub fn plain_part(word: &[u8]) -> Option<&[u8]>
     ensures part { option_map (λ part. part.now) result ≡ plain_part word.now }
-    ensures delimiter { IfSome result (λ part. delimiter_of word.now ≡ Some (a_delimiter part.now (nat_lt (length part.now) (length word.now)))) }
+    ensures delimiter { IfSome result
+        (λ part. delimiter_of word.now
+        ≡ Some (a_delimiter part.now (nat_lt (length part.now) (length word.now)))) }
 {
     let part = unwrapped(word);
     if are_plain(part) { Some(part) } else { None }
@@ -392,7 +403,8 @@ pub fn delimiter_in(
     edition: Edition,
     word: &[u8],
 ) -> Result<Option<Delimiter>, AllocError>
-    ensures { IfOk result (λ found. option_map view_delimiter found ≡ delimiter_in edition word.now) }
+    ensures { IfOk result (λ found. option_map view_delimiter found
+        ≡ delimiter_in edition word.now) }
 {
     if edition.is_later() && has_dollar_single(word) {
         return Ok(None);

@@ -9,16 +9,23 @@ pub returns-then-opens-clause-left : goal.returns-then-opens-clause-left
 returns-then-opens-clause-left c =
     let text = c.args.self.now.text.items in
     let word = c.args.word.now in
-    let left : Bool → Option (List ℕ) = λ (second : Bool). unquoted (view_quoting c.args.self.now.quoting) second (drop c.args.next word) in
-    let found = ap (λ (x : Option ℕ). is_byte x 40 || is_byte x 123) (sym c.byte_at-following.ensures) ∙ sym c.opens.ensures ∙ c.if-opens.true in
-    ap (λ (second : Bool). left_of text (dollar_left second (drop c.args.next word) left)) c.if-self.false ∙ dollar_opens text word c.args.next left found
+    let left : Bool → Option (List ℕ) =
+    λ (second : Bool). unquoted (view_quoting c.args.self.now.quoting) second (drop c.args.next word) in
+    let found = ap (λ (x : Option ℕ). is_byte x 40 || is_byte x 123) (sym c.byte_at-following.ensures)
+    ∙ sym c.opens.ensures ∙ c.if-opens.true in
+    ap (λ (second : Bool). left_of text (dollar_left second (drop c.args.next word) left)) c.if-self.false
+    ∙ dollar_opens text word c.args.next left found
 
 pub returns-clause-left : goal.returns-clause-left
 returns-clause-left c =
     let text = c.args.self.now.text.items in
     let word = c.args.word.now in
-    let left : Bool → Option (List ℕ) = λ (second : Bool). unquoted (view_quoting c.args.self.now.quoting) second (drop c.args.next word) in
-    let found = ap (λ (x : Option ℕ). is_byte x 40 || is_byte x 123) (sym c.byte_at-following.ensures) ∙ sym c.opens.ensures ∙ c.if-opens.false in
+    let left : Bool → Option (List ℕ) =
+    λ (second : Bool). unquoted (view_quoting c.args.self.now.quoting) second (drop c.args.next word) in
+    let found = ap (λ (x : Option ℕ). is_byte x 40 || is_byte x 123) (sym c.byte_at-following.ensures)
+    ∙ sym c.opens.ensures ∙ c.if-opens.false in
     let second = sym (c.is_byte-self.ensures ∙ ap (λ (x : Option ℕ). is_byte x 36) c.byte_at-following.ensures) in
-    ap (λ (b : Bool). left_of text (dollar_left b (drop c.args.next word) left)) c.if-self.false ∙ dollar_on text word c.args.next left found
-    ∙ ap (λ (b : Bool). left_of (text ++ 36 ∷ []) (left b)) second ∙ ap (λ (t : List ℕ). left_of t (left c.is_byte-self.result)) (sym c.in_ok-push-2.ensures.items)
+    ap (λ (b : Bool). left_of text (dollar_left b (drop c.args.next word) left)) c.if-self.false
+    ∙ dollar_on text word c.args.next left found
+    ∙ ap (λ (b : Bool). left_of (text ++ 36 ∷ []) (left b)) second
+    ∙ ap (λ (t : List ℕ). left_of t (left c.is_byte-self.result)) (sym c.in_ok-push-2.ensures.items)
