@@ -34,7 +34,8 @@ use Rattle.shheld.proofs.Nodes.{kind_nodes}
 -- ---- what is read before the newline
 
 -- what holds up to each limit holds up to where the reading stands
-up_to_here : {X : Type 0} (Q : ℕ → X → Type 0) (o : ℕ) (x : Read X) → ((limit : ℕ) → Holds (λ a t. o + t.at ≤ limit → Q limit a) x) → Holds (λ a t. Q (o + t.at) a) x
+up_to_here : {X : Type 0} (Q : ℕ → X → Type 0) (o : ℕ) (x : Read X) →
+    ((limit : ℕ) → Holds (λ a t. o + t.at ≤ limit → Q limit a) x) → Holds (λ a t. Q (o + t.at) a) x
 up_to_here Q o (Ok (a, t)) so = so (o + t.at) (omega arith)
 up_to_here Q o (Err f) so = tt
 
@@ -48,14 +49,17 @@ LineBegins g x t = x.1 ≡ true → BeginBefore (g.offset + t.at) x.0
 begin_before : (limit p : ℕ) (es : Row AnEntry) → limit < p → All (EntryIn limit) es → BeginBefore p es
 begin_before limit p es lt all =
     nodes_begin (λ n. n < p) (entries_of es)
-    (throughout_so (IsSpanWithin limit) (λ s. s.start < p) IsSome IsSome (λ s within. omega (arith, lt, within.0)) (λ items some. some) (entries_of es) (entries_in limit es all))
+    (throughout_so (IsSpanWithin limit) (λ s. s.start < p) IsSome IsSome (λ s within. omega (arith, lt, within.0))
+    (λ items some. some) (entries_of es) (entries_in limit es all))
 
 module _ (g : Given) where
-  on_line_here : (blank : Bool) (n : Next) (s : State) → Tells Whole g (on_line (level most_open) (list_so (none_listed blank) n)) (λ l t. ListIn (g.offset + t.at) l) s
+  on_line_here : (blank : Bool) (n : Next) (s : State) →
+      Tells Whole g (on_line (level most_open) (list_so (none_listed blank) n)) (λ l t. ListIn (g.offset + t.at) l) s
   on_line_here blank n s =
       record {
         told = up_to_here ListIn g.offset (does (on_line (level most_open) (list_so (none_listed blank) n)) Whole g s)
-            (λ limit. (on_line_in (level_in g limit most_open) (list_so (none_listed blank) n) s (All-nil (EntryIn limit), tt)).told.told);
+            (λ limit. (on_line_in (level_in g limit most_open) (list_so (none_listed blank) n) s
+            (All-nil (EntryIn limit), tt)).told.told);
       }
 
   open_line_begins : (blank : Bool) (s : State) → Tells Whole g (an_open_line (level most_open) blank) (LineBegins g) s
@@ -64,27 +68,35 @@ module _ (g : Given) where
       tells_then Whole g (low (next_token Command) Whole g s)
       (λ n t one. tells_then Whole g (on_line_here blank n t)
       (λ l u all. tells_then Whole g (end_ended (level most_open) Whole g u l.next)
-      (λ newline w more. tells_give Whole g (λ e. begin_before (g.offset + u.at) (g.offset + w.at) l.list.entries (omega (arith, more e)) all.0))))
+      (λ newline w more. tells_give Whole g
+      (λ e. begin_before (g.offset + u.at) (g.offset + w.at) l.list.entries (omega (arith, more e)) all.0))))
 
-  filled_begin : (p : ℕ) (bodies : Row Span) (es : Row AnEntry) → BeginBefore p es → BeginBefore p (filled_row bodies es)
-  filled_begin p bodies es so = All-same (λ (n : NodeLine). n.start < p) _ _ (ap entries_nodes (row_filled bodies es) ∙ filled_nodes bodies (entries_of es)) so
+  filled_begin : (p : ℕ) (bodies : Row Span) (es : Row AnEntry) → BeginBefore p es →
+      BeginBefore p (filled_row bodies es)
+  filled_begin p bodies es so =
+      All-same (λ (n : NodeLine). n.start < p) _ _
+      (ap entries_nodes (row_filled bodies es) ∙ filled_nodes bodies (entries_of es)) so
 
   line_begins : (blank : Bool) (s : State) → Tells Whole g (a_line (level most_open) blank) (LineBegins g) s
   unfolding a_line
   line_begins blank s =
-      tells_then Whole g {P = λ l t. LineBegins g l.0 t} (tells_level Whole g (open_line_begins blank (own_level s)) (λ x t so. so))
+      tells_then Whole g {P = λ l t. LineBegins g l.0 t}
+      (tells_level Whole g (open_line_begins blank (own_level s)) (λ x t so. so))
       (λ l t so. tells_give Whole g (λ e. filled_begin (g.offset + t.at) l.1 l.0.0 (so e)))
 
-kind_begins : (p : ℕ) (es : Row AnEntry) (newline : Bool) → BeginBefore p es → All (λ (n : NodeLine). n.start < p) (kind_nodes (kind_of es newline))
+kind_begins : (p : ℕ) (es : Row AnEntry) (newline : Bool) → BeginBefore p es →
+    All (λ (n : NodeLine). n.start < p) (kind_nodes (kind_of es newline))
 kind_begins p [] true so = so
 kind_begins p [] false so = so
 kind_begins p (e ∷ es) newline so = so
 
-pub nodes_before_end : (edition : Edition) (T : List ℕ) (l : ALine) → IsLine edition T l → l.ended ≡ true → All (λ (n : NodeLine). n.start < l.next) (kind_nodes l.kind)
+pub nodes_before_end : (edition : Edition) (T : List ℕ) (l : ALine) → IsLine edition T l → l.ended ≡ true →
+    All (λ (n : NodeLine). n.start < l.next) (kind_nodes l.kind)
 nodes_before_end edition T l (line_read es newline t k part) ended =
     let both = and_parts _ _ ended in
     let told = (line_begins (given edition T 0) false (standing 0)).told in
-    let so = subst (Holds (LineBegins (given edition T 0))) (sym ((is_form (a_line (level most_open) false) (given edition T 0) (standing 0)).only _ _ part)) told both.0 in
+    let so = subst (Holds (LineBegins (given edition T 0)))
+    (sym ((is_form (a_line (level most_open) false) (given edition T 0) (standing 0)).only _ _ part)) told both.0 in
     let here : 0 + t.at ≡ t.at = omega arith in
     kind_begins t.at es newline (subst (λ p. BeginBefore p es) here so)
 nodes_before_end edition T l (line_stops f k part) ended = absurd cc

@@ -228,7 +228,8 @@ abbrev mutual
 
   pub to_and_or_parts : AndOrParts → Gv
   to_and_or_parts no_and_or = gcons (gnum 0) gnil
-  to_and_or_parts (more_and_or a b c d) = gcons (gnum 1) (gcons (to_operator a) (gcons (to_join b) (gcons (to_pipeline c) (to_and_or_parts d))))
+  to_and_or_parts (more_and_or a b c d) =
+      gcons (gnum 1) (gcons (to_operator a) (gcons (to_join b) (gcons (to_pipeline c) (to_and_or_parts d))))
 
   pub to_pipeline : APipeline → Gv
   to_pipeline (pipeline a b c) = gcons (to_ospan a) (gcons (to_command b) (to_pipes c))
@@ -290,7 +291,9 @@ abbrev mutual
   pub to_item_content : AnItemContent → Gv
   to_item_content (assign a) = gcons (gnum 0) (to_word a)
   to_item_content (argument a) = gcons (gnum 1) (to_word a)
-  to_item_content (redirect a b c d e) = gcons (gnum 2) (gcons (to_ospan a) (gcons (to_redirect_operator b) (gcons (to_span c) (gcons (to_word d) (to_ohere e)))))
+  to_item_content (redirect a b c d e) =
+      gcons (gnum 2) (gcons (to_ospan a)
+      (gcons (to_redirect_operator b) (gcons (to_span c) (gcons (to_word d) (to_ohere e)))))
 
   pub to_word : AWord → Gv
   to_word (word a b) = gcons (to_span a) (to_substs b)
@@ -323,7 +326,8 @@ abbrev mutual
 
   pub from_and_or_parts : Gv → AndOrParts
   from_and_or_parts (gcons (gnum zero) gnil) = no_and_or
-  from_and_or_parts (gcons (gnum (suc zero)) (gcons a (gcons b (gcons c d)))) = more_and_or (from_operator a) (from_join b) (from_pipeline c) (from_and_or_parts d)
+  from_and_or_parts (gcons (gnum (suc zero)) (gcons a (gcons b (gcons c d)))) =
+      more_and_or (from_operator a) (from_join b) (from_pipeline c) (from_and_or_parts d)
   from_and_or_parts _ = no_and_or
 
   pub from_pipeline : Gv → APipeline
@@ -338,7 +342,8 @@ abbrev mutual
   pub from_command : Gv → ACommand
   from_command (gcons (gnum zero) a) = simple (from_items a)
   from_command (gcons (gnum (suc zero)) a) = compound (from_compound a)
-  from_command (gcons (gnum (suc (suc zero))) (gcons a (gcons b c))) = function (from_span a) (from_spans b) (from_compound c)
+  from_command (gcons (gnum (suc (suc zero))) (gcons a (gcons b c))) =
+      function (from_span a) (from_spans b) (from_compound c)
   from_command _ = any_command
 
   pub from_compound : Gv → ACompound
@@ -348,11 +353,14 @@ abbrev mutual
   pub from_form : Gv → AForm
   from_form (gcons (gnum zero) a) = brace (from_entries a)
   from_form (gcons (gnum (suc zero)) a) = subshell (from_entries a)
-  from_form (gcons (gnum (suc (suc zero))) (gcons a (gcons b c))) = if_then (from_branch a) (from_branches b) (from_otherwise c)
+  from_form (gcons (gnum (suc (suc zero))) (gcons a (gcons b c))) =
+      if_then (from_branch a) (from_branches b) (from_otherwise c)
   from_form (gcons (gnum (suc (suc (suc zero)))) a) = while_do (from_branch a)
   from_form (gcons (gnum (suc (suc (suc (suc zero))))) a) = until_do (from_branch a)
-  from_form (gcons (gnum (suc (suc (suc (suc (suc zero)))))) (gcons a (gcons b c))) = for_in (from_word a) (from_for_words b) (from_entries c)
-  from_form (gcons (gnum (suc (suc (suc (suc (suc (suc zero))))))) (gcons a (gcons b c))) = case_in (from_word a) (from_cases b) (from_spans c)
+  from_form (gcons (gnum (suc (suc (suc (suc (suc zero)))))) (gcons a (gcons b c))) =
+      for_in (from_word a) (from_for_words b) (from_entries c)
+  from_form (gcons (gnum (suc (suc (suc (suc (suc (suc zero))))))) (gcons a (gcons b c))) =
+      case_in (from_word a) (from_cases b) (from_spans c)
   from_form _ = any_form
 
   pub from_branch : Gv → ABranch
@@ -400,7 +408,8 @@ abbrev mutual
   pub from_item_content : Gv → AnItemContent
   from_item_content (gcons (gnum zero) a) = assign (from_word a)
   from_item_content (gcons (gnum (suc zero)) a) = argument (from_word a)
-  from_item_content (gcons (gnum (suc (suc zero))) (gcons a (gcons b (gcons c (gcons d e))))) = redirect (from_ospan a) (from_redirect_operator b) (from_span c) (from_word d) (from_ohere e)
+  from_item_content (gcons (gnum (suc (suc zero))) (gcons a (gcons b (gcons c (gcons d e))))) =
+      redirect (from_ospan a) (from_redirect_operator b) (from_span c) (from_word d) (from_ohere e)
   from_item_content _ = any_item_content
 
   pub from_word : Gv → AWord
@@ -433,7 +442,8 @@ mutual
 
   pub back_and_or_parts : (x : AndOrParts) → from_and_or_parts (to_and_or_parts x) ≡ x
   back_and_or_parts no_and_or = refl
-  back_and_or_parts (more_and_or a b c d) = λ i. more_and_or (back_operator a i) (back_join b i) (back_pipeline c i) (back_and_or_parts d i)
+  back_and_or_parts (more_and_or a b c d) =
+      λ i. more_and_or (back_operator a i) (back_join b i) (back_pipeline c i) (back_and_or_parts d i)
 
   pub back_pipeline : (x : APipeline) → from_pipeline (to_pipeline x) ≡ x
   back_pipeline (pipeline a b c) = λ i. pipeline (back_ospan a i) (back_command b i) (back_pipes c i)
@@ -495,7 +505,8 @@ mutual
   pub back_item_content : (x : AnItemContent) → from_item_content (to_item_content x) ≡ x
   back_item_content (assign a) = λ i. assign (back_word a i)
   back_item_content (argument a) = λ i. argument (back_word a i)
-  back_item_content (redirect a b c d e) = λ i. redirect (back_ospan a i) (back_redirect_operator b i) (back_span c i) (back_word d i) (back_ohere e i)
+  back_item_content (redirect a b c d e) =
+      λ i. redirect (back_ospan a i) (back_redirect_operator b i) (back_span c i) (back_word d i) (back_ohere e i)
 
   pub back_word : (x : AWord) → from_word (to_word x) ≡ x
   back_word (word a b) = λ i. word (back_span a i) (back_substs b i)
@@ -537,4 +548,5 @@ back_sum end_line = refl
 back_sum (faulty_line f) = refl
 
 abbrev pub kind_code : Coded AKind
-kind_code = code_by (Entries ⊎ (Fault ⊎ Bool)) (coded⊎ entries_code (coded⊎ fault_code coded_bool)) to_sum from_sum back_sum
+kind_code = code_by (Entries ⊎ (Fault ⊎ Bool))
+    (coded⊎ entries_code (coded⊎ fault_code coded_bool)) to_sum from_sum back_sum

@@ -25,7 +25,8 @@ use Rattle.shheld.proofs.TopLines.{top_lines}
 
 nodes_appended : (es ls : Entries) → entries_nodes (appended es ls) ≡ entries_nodes es ++ entries_nodes ls
 nodes_appended no_entry ls = refl
-nodes_appended (more_entries e es) ls = ap (λ ns. entry_nodes e ++ ns) (nodes_appended es ls) ∙ sym (append_assoc (entry_nodes e) (entries_nodes es) (entries_nodes ls))
+nodes_appended (more_entries e es) ls = ap (λ ns. entry_nodes e ++ ns) (nodes_appended es ls)
+    ∙ sym (append_assoc (entry_nodes e) (entries_nodes es) (entries_nodes ls))
 
 -- nodes do not tell of empty lines
 nodes_blanked : (blank : Bool) (es : Entries) → entries_nodes (blanked blank es) ≡ entries_nodes es
@@ -46,57 +47,77 @@ abbrev pub lines_nodes : ℕ → Row (HeldLine AKind) → Row NodeLine
 lines_nodes base [] = []
 lines_nodes base (l ∷ ls) = line_nodes base l ++ lines_nodes (base + l.len) ls
 
-nodes_with : (n : ℕ) (so : Walk) (k : AKind) → EntriesEverywhere n k → entries_nodes (entries_with so k) ≡ entries_nodes so.entries ++ map (placed so.at) (kind_nodes k)
+nodes_with : (n : ℕ) (so : Walk) (k : AKind) → EntriesEverywhere n k →
+    entries_nodes (entries_with so k) ≡ entries_nodes so.entries ++ map (placed so.at) (kind_nodes k)
 nodes_with n so blank_line all = sym (append-nil (entries_nodes so.entries))
 nodes_with n so (entries_line xs) all =
     nodes_appended so.entries (blanked (so.gap && has_entry so.entries) (moved so.at xs))
-    ∙ ap (λ ns. entries_nodes so.entries ++ ns) (nodes_blanked (so.gap && has_entry so.entries) (moved so.at xs) ∙ nodes_moved so.at xs all.1)
+    ∙ ap (λ ns. entries_nodes so.entries ++ ns)
+    (nodes_blanked (so.gap && has_entry so.entries) (moved so.at xs) ∙ nodes_moved so.at xs all.1)
 nodes_with n so end_line all = sym (append-nil (entries_nodes so.entries))
 nodes_with n so (faulty_line f) all = sym (append-nil (entries_nodes so.entries))
 
-walk_nodes : (edition : Edition) (T : List ℕ) (row : Row (HeldLine AKind)) → IsRow (IsTopLine edition) T row → (so : Walk) → entries_nodes (with_lines so row).entries ≡ entries_nodes so.entries ++ lines_nodes so.at row
+walk_nodes : (edition : Edition) (T : List ℕ) (row : Row (HeldLine AKind)) → IsRow (IsTopLine edition) T row →
+    (so : Walk) → entries_nodes (with_lines so row).entries ≡ entries_nodes so.entries ++ lines_nodes so.at row
 walk_nodes edition T _ (last_line {h = h} is not_ended whole) so =
-    nodes_with h.len so h.kind (line_everywhere edition T (as_read h) is) ∙ ap (λ ns. entries_nodes so.entries ++ ns) (sym (append-nil (line_nodes so.at h)))
+    nodes_with h.len so h.kind (line_everywhere edition T (as_read h) is)
+    ∙ ap (λ ns. entries_nodes so.entries ++ ns) (sym (append-nil (line_nodes so.at h)))
 walk_nodes edition T _ (more_lines {h = h} {hs = hs} is ended row) so =
     walk_nodes edition (drop h.len T) hs row (with_line so h)
-    ∙ ap (λ ns. ns ++ lines_nodes (so.at + h.len) hs) (nodes_with h.len so h.kind (line_everywhere edition T (as_read h) is))
+    ∙ ap (λ ns. ns ++ lines_nodes (so.at + h.len) hs)
+    (nodes_with h.len so h.kind (line_everywhere edition T (as_read h) is))
     ∙ append_assoc (entries_nodes so.entries) (line_nodes so.at h) (lines_nodes (so.at + h.len) hs)
 
-pub row_nodes : (edition : Edition) (B : List ℕ) (row : Row (HeldLine AKind)) → IsRow (IsTopLine edition) B row → entries_nodes (script_of row).entries ≡ lines_nodes 0 row
+pub row_nodes : (edition : Edition) (B : List ℕ) (row : Row (HeldLine AKind)) → IsRow (IsTopLine edition) B row →
+    entries_nodes (script_of row).entries ≡ lines_nodes 0 row
 row_nodes edition B row is = ap entries_nodes (row_entries edition B row is) ∙ walk_nodes edition B row is no_line
 
-pub lines_nodes_append : (base : ℕ) (xs ys : Row (HeldLine AKind)) → lines_nodes base (xs ++ ys) ≡ lines_nodes base xs ++ lines_nodes (base + extent xs) ys
+pub lines_nodes_append : (base : ℕ) (xs ys : Row (HeldLine AKind)) →
+    lines_nodes base (xs ++ ys) ≡ lines_nodes base xs ++ lines_nodes (base + extent xs) ys
 unfolding extent
 lines_nodes_append base [] ys = let same : base ≡ base + 0 = omega arith in ap (λ b. lines_nodes b ys) same
 lines_nodes_append base (x ∷ xs) ys =
     let same : base + x.len + extent xs ≡ base + (x.len + extent xs) = omega arith in
-    ap (λ ns. line_nodes base x ++ ns) (lines_nodes_append (base + x.len) xs ys ∙ ap (λ b. lines_nodes (base + x.len) xs ++ lines_nodes b ys) same)
-    ∙ sym (append_assoc (line_nodes base x) (lines_nodes (base + x.len) xs) (lines_nodes (base + (x.len + extent xs)) ys))
+    ap (λ ns. line_nodes base x ++ ns)
+    (lines_nodes_append (base + x.len) xs ys ∙ ap (λ b. lines_nodes (base + x.len) xs ++ lines_nodes b ys) same)
+    ∙ sym (append_assoc (line_nodes base x) (lines_nodes (base + x.len) xs)
+    (lines_nodes (base + (x.len + extent xs)) ys))
 
 -- ---- their places
 
-kind_places : (base n : ℕ) (k : AKind) → EntriesEverywhere n k → EntriesWithin n k → All (IsWithin (base + n)) (map (placed base) (kind_nodes k))
+kind_places : (base n : ℕ) (k : AKind) → EntriesEverywhere n k → EntriesWithin n k →
+    All (IsWithin (base + n)) (map (placed base) (kind_nodes k))
 kind_places base n blank_line all so = All-nil (IsWithin (base + n))
-kind_places base n (entries_line xs) all so = All-same (IsWithin (base + n)) _ _ (sym (nodes_moved base xs all.1)) (within_moved n base xs all.1 so)
+kind_places base n (entries_line xs) all so =
+    All-same (IsWithin (base + n)) _ _ (sym (nodes_moved base xs all.1)) (within_moved n base xs all.1 so)
 kind_places base n end_line all so = All-nil (IsWithin (base + n))
 kind_places base n (faulty_line f) all so = All-nil (IsWithin (base + n))
 
 -- the nodes of a line lie within it
-pub line_places : (edition : Edition) (T : List ℕ) (l : HeldLine AKind) → IsTopLine edition T l → (base : ℕ) → All (IsWithin (base + l.len)) (line_nodes base l)
-line_places edition T l is base = kind_places base l.len l.kind (line_everywhere edition T (as_read l) is) (entries_within edition T (as_read l) is)
+pub line_places : (edition : Edition) (T : List ℕ) (l : HeldLine AKind) → IsTopLine edition T l → (base : ℕ) →
+    All (IsWithin (base + l.len)) (line_nodes base l)
+line_places edition T l is base =
+    kind_places base l.len l.kind (line_everywhere edition T (as_read l) is) (entries_within edition T (as_read l) is)
 
 -- and so those of all lines
-pub row_places : (edition : Edition) (T : List ℕ) (row : Row (HeldLine AKind)) → IsRow (IsTopLine edition) T row → (base : ℕ) → All (IsWithin (base + extent row)) (lines_nodes base row)
+pub row_places : (edition : Edition) (T : List ℕ) (row : Row (HeldLine AKind)) → IsRow (IsTopLine edition) T row →
+    (base : ℕ) → All (IsWithin (base + extent row)) (lines_nodes base row)
 unfolding extent
 row_places edition T _ (last_line {h = h} is not_ended whole) base =
-    All-append (IsWithin (base + (h.len + 0))) (line_nodes base h) [] (within_more (base + h.len) (base + (h.len + 0)) (line_nodes base h) (omega arith) (line_places edition T h is base)) (All-nil (IsWithin (base + (h.len + 0))))
+    All-append (IsWithin (base + (h.len + 0))) (line_nodes base h) []
+    (within_more (base + h.len) (base + (h.len + 0)) (line_nodes base h) (omega arith)
+    (line_places edition T h is base)) (All-nil (IsWithin (base + (h.len + 0))))
 row_places edition T _ (more_lines {h = h} {hs = hs} is ended row) base =
     All-append (IsWithin (base + (h.len + extent hs))) (line_nodes base h) (lines_nodes (base + h.len) hs)
-    (within_more (base + h.len) (base + (h.len + extent hs)) (line_nodes base h) (omega arith) (line_places edition T h is base))
-    (within_more (base + h.len + extent hs) (base + (h.len + extent hs)) (lines_nodes (base + h.len) hs) (omega arith) (row_places edition (drop h.len T) hs row (base + h.len)))
+    (within_more (base + h.len) (base + (h.len + extent hs)) (line_nodes base h) (omega arith)
+    (line_places edition T h is base))
+    (within_more (base + h.len + extent hs) (base + (h.len + extent hs)) (lines_nodes (base + h.len) hs) (omega arith)
+    (row_places edition (drop h.len T) hs row (base + h.len)))
 
 -- no node of the script names an offset above its length
-pub row_are_within : (edition : Edition) (B : List ℕ) (row : Row (HeldLine AKind)) → IsRow (IsTopLine edition) B row → AreWithin (length B) (script_of row).entries
+pub row_are_within : (edition : Edition) (B : List ℕ) (row : Row (HeldLine AKind)) → IsRow (IsTopLine edition) B row →
+    AreWithin (length B) (script_of row).entries
 row_are_within edition B row is =
     All-same (IsWithin (length B)) _ _ (row_nodes edition B row is)
-    (within_more (0 + extent row) (length B) (lines_nodes 0 row) (omega (arith, row_extent (IsTopLine edition) (top_lines edition) B row is)) (row_places edition B row is 0))
+    (within_more (0 + extent row) (length B) (lines_nodes 0 row)
+    (omega (arith, row_extent (IsTopLine edition) (top_lines edition) B row is)) (row_places edition B row is 0))

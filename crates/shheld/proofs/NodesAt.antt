@@ -49,7 +49,9 @@ not_yet base at s e low = grind (arith, nat_tests)
 
 pub none_past : (at n : ℕ) (ns : Row NodeLine) → All (IsWithin n) ns → n ≤ at → filter (holds at) ns ≡ []
 none_past at n [] within high = refl
-none_past at n (m ∷ ms) within high = rw (past at m.start m.«end» n (All-head (IsWithin n) m ms within).«end» high) (none_past at n ms (All-tail (IsWithin n) m ms within) high)
+none_past at n (m ∷ ms) within high =
+    rw (past at m.start m.«end» n (All-head (IsWithin n) m ms within).«end» high)
+    (none_past at n ms (All-tail (IsWithin n) m ms within) high)
 
 none_yet : (base at : ℕ) (ns : Row NodeLine) → at < base → filter (holds at) (map (placed base) ns) ≡ []
 none_yet base at [] low = refl
@@ -63,8 +65,11 @@ none_behind base at (l ∷ ls) low =
     ∙ none_behind (base + l.len) at ls (omega arith)
 
 -- of the lines from the base on, none of which is behind the byte, those that stand before one that holds it
-held_by : (edition : Edition) (T : List ℕ) (before : Row (HeldLine AKind)) (l : HeldLine AKind) (rest : Row (HeldLine AKind)) → IsRow (IsTopLine edition) T (before ++ l ∷ rest) → (base at : ℕ)
-    → base + extent before ≤ at → at < base + extent before + l.len → filter (holds at) (lines_nodes base (before ++ l ∷ rest)) ≡ filter (holds at) (line_nodes (base + extent before) l)
+held_by : (edition : Edition) (T : List ℕ) (before : Row (HeldLine AKind)) (l : HeldLine AKind)
+    (rest : Row (HeldLine AKind)) → IsRow (IsTopLine edition) T (before ++ l ∷ rest) → (base at : ℕ)
+    → base + extent before ≤ at → at < base + extent before + l.len →
+    filter (holds at) (lines_nodes base (before ++ l ∷ rest))
+    ≡ filter (holds at) (line_nodes (base + extent before) l)
 unfolding extent
 held_by edition T [] l rest row base at low high =
     let same : base ≡ base + 0 = omega arith in
@@ -77,43 +82,61 @@ held_by edition T (x ∷ xs) l rest row base at low high =
     let ended = row_ended (IsTopLine edition) T x xs l rest row in
     let same : base + x.len + extent xs ≡ base + (x.len + extent xs) = omega arith in
     filter-append (holds at) (line_nodes base x) (lines_nodes (base + x.len) (xs ++ l ∷ rest))
-    ∙ ap (λ ns. ns ++ filter (holds at) (lines_nodes (base + x.len) (xs ++ l ∷ rest))) (none_past at (base + x.len) (line_nodes base x) (line_places edition T x is base) (omega arith))
-    ∙ held_by edition (drop x.len T) xs l rest (row_rest (IsTopLine edition) T x (xs ++ l ∷ rest) row ended) (base + x.len) at (omega arith) (omega arith)
+    ∙ ap (λ ns. ns ++ filter (holds at) (lines_nodes (base + x.len) (xs ++ l ∷ rest)))
+    (none_past at (base + x.len) (line_nodes base x) (line_places edition T x is base) (omega arith))
+    ∙ held_by edition (drop x.len T) xs l rest (row_rest (IsTopLine edition) T x (xs ++ l ∷ rest) row ended)
+    (base + x.len) at (omega arith) (omega arith)
     ∙ ap (λ b. filter (holds at) (line_nodes b l)) same
 
 -- ---- the nodes that are asked for
 
-asked : (base at : ℕ) (k : AKind) → in_order (filter (holds at) (map (placed base) (kind_nodes k))) ≡ line_nodes_at base at k
+asked : (base at : ℕ) (k : AKind) →
+    in_order (filter (holds at) (map (placed base) (kind_nodes k))) ≡ line_nodes_at base at k
 asked base at blank_line = refl
 asked base at (entries_line xs) = sym (filter-in_order (holds at) (map (placed base) (entries_nodes xs)))
 asked base at end_line = refl
 asked base at (faulty_line f) = refl
 
-script_asked : (edition : Edition) (B : List ℕ) (row : Row (HeldLine AKind)) → IsRow (IsTopLine edition) B row → (at : ℕ) → nodes_at 0 at (script_of row).entries ≡ in_order (filter (holds at) (lines_nodes 0 row))
+script_asked : (edition : Edition) (B : List ℕ) (row : Row (HeldLine AKind)) → IsRow (IsTopLine edition) B row →
+    (at : ℕ) → nodes_at 0 at (script_of row).entries ≡ in_order (filter (holds at) (lines_nodes 0 row))
 script_asked edition B row is at =
     filter-in_order (holds at) (map (placed 0) (entries_nodes (script_of row).entries))
-    ∙ ap (λ ns. in_order (filter (holds at) ns)) (all_here (entries_nodes (script_of row).entries) ∙ row_nodes edition B row is)
+    ∙ ap (λ ns. in_order (filter (holds at) ns))
+    (all_here (entries_nodes (script_of row).entries) ∙ row_nodes edition B row is)
 
 -- those of the line that holds the byte
-pub row_nodes_at : (edition : Edition) (B : List ℕ) (before : Row (HeldLine AKind)) (l : HeldLine AKind) (rest : Row (HeldLine AKind)) → IsRow (IsTopLine edition) B (before ++ l ∷ rest) → (at : ℕ)
-    → extent before ≤ at → at < extent before + l.len → nodes_at 0 at (script_of (before ++ l ∷ rest)).entries ≡ line_nodes_at (extent before) at l.kind
+pub row_nodes_at : (edition : Edition) (B : List ℕ) (before : Row (HeldLine AKind)) (l : HeldLine AKind)
+    (rest : Row (HeldLine AKind)) → IsRow (IsTopLine edition) B (before ++ l ∷ rest) → (at : ℕ)
+    → extent before ≤ at → at < extent before + l.len →
+    nodes_at 0 at (script_of (before ++ l ∷ rest)).entries ≡ line_nodes_at (extent before) at l.kind
 row_nodes_at edition B before l rest row at low high =
     let same : 0 + extent before ≡ extent before = omega arith in
     script_asked edition B (before ++ l ∷ rest) row at
-    ∙ ap in_order (held_by edition B before l rest row 0 at (omega arith) (omega arith) ∙ ap (λ b. filter (holds at) (line_nodes b l)) same)
+    ∙ ap in_order (held_by edition B before l rest row 0 at (omega arith) (omega arith)
+    ∙ ap (λ b. filter (holds at) (line_nodes b l)) same)
     ∙ asked (extent before) at l.kind
 
 -- at or past the end there are none
-pub row_nodes_past : (edition : Edition) (B : List ℕ) (row : Row (HeldLine AKind)) → IsRow (IsTopLine edition) B row → (at : ℕ) → length B ≤ at → nodes_at 0 at (script_of row).entries ≡ []
+pub row_nodes_past : (edition : Edition) (B : List ℕ) (row : Row (HeldLine AKind)) → IsRow (IsTopLine edition) B row →
+    (at : ℕ) → length B ≤ at → nodes_at 0 at (script_of row).entries ≡ []
 row_nodes_past edition B row is at high =
     script_asked edition B row is at
-    ∙ ap in_order (none_past at (0 + extent row) (lines_nodes 0 row) (row_places edition B row is 0) (omega (arith, high, row_extent (IsTopLine edition) (top_lines edition) B row is)))
+    ∙ ap in_order (none_past at (0 + extent row) (lines_nodes 0 row) (row_places edition B row is 0)
+    (omega (arith, high, row_extent (IsTopLine edition) (top_lines edition) B row is)))
 
 -- ---- as an answer for the bytes
 
-pub row_has_nodes : (edition : Edition) (B : List ℕ) (before : Row (HeldLine AKind)) (l : HeldLine AKind) (rest : Row (HeldLine AKind)) → IsRow (IsTopLine edition) B (before ++ l ∷ rest) → (at : ℕ)
-    → extent before ≤ at → at < extent before + l.len → (script : AScript) × Outcome edition B script × (line_nodes_at (extent before) at l.kind ≡ nodes_at 0 at script.entries)
-row_has_nodes edition B before l rest row at low high = (script_of (before ++ l ∷ rest), row_outcome edition B (before ++ l ∷ rest) row, sym (row_nodes_at edition B before l rest row at low high))
+pub row_has_nodes : (edition : Edition) (B : List ℕ) (before : Row (HeldLine AKind)) (l : HeldLine AKind)
+    (rest : Row (HeldLine AKind)) → IsRow (IsTopLine edition) B (before ++ l ∷ rest) → (at : ℕ)
+    → extent before ≤ at → at < extent before + l.len → (script : AScript) × Outcome edition B script
+    × (line_nodes_at (extent before) at l.kind ≡ nodes_at 0 at script.entries)
+row_has_nodes edition B before l rest row at low high = (
+  script_of (before ++ l ∷ rest),
+  row_outcome edition B (before ++ l ∷ rest) row,
+  sym (row_nodes_at edition B before l rest row at low high),
+)
 
-pub row_has_none : (edition : Edition) (B : List ℕ) (row : Row (HeldLine AKind)) → IsRow (IsTopLine edition) B row → (at : ℕ) → length B ≤ at → (script : AScript) × Outcome edition B script × ([] ≡ nodes_at 0 at script.entries)
-row_has_none edition B row is at high = (script_of row, row_outcome edition B row is, sym (row_nodes_past edition B row is at high))
+pub row_has_none : (edition : Edition) (B : List ℕ) (row : Row (HeldLine AKind)) → IsRow (IsTopLine edition) B row →
+    (at : ℕ) → length B ≤ at → (script : AScript) × Outcome edition B script × ([] ≡ nodes_at 0 at script.entries)
+row_has_none edition B row is at high =
+    (script_of row, row_outcome edition B row is, sym (row_nodes_past edition B row is at high))

@@ -35,18 +35,22 @@ NotBefore m n = before n m ≡ false
 not_before : (m n : NodeLine) (p : ℕ) → m.start < p → p ≤ n.start → before n m ≡ false
 not_before m n p low high = by_places m.start m.«end» n.start n.«end» (omega arith)
   where
-    by_places : (s e t f : ℕ) → s < t → before (record { start = t; «end» = f; kind = n.kind; name = n.name }) (record { start = s; «end» = e; kind = m.kind; name = m.name }) ≡ false
+    by_places : (s e t f : ℕ) → s < t →
+        before (record { start = t; «end» = f; kind = n.kind; name = n.name })
+        (record { start = s; «end» = e; kind = m.kind; name = m.name }) ≡ false
     by_places s e t f lt = grind (arith, nat_tests)
 
 inserted_first : (m : NodeLine) (ns : Row NodeLine) → All (NotBefore m) ns → inserted m ns ≡ m ∷ ns
 inserted_first m [] so = refl
 inserted_first m (n ∷ ns) so = let not_yet : before n m ≡ false = All-head (NotBefore m) n ns so in rw not_yet refl
 
-front_case : (b : Bool) (m x : NodeLine) (xs ys ms : Row NodeLine) → ms ≡ inserted m xs ++ ys → cond b (x ∷ ms) (m ∷ x ∷ (xs ++ ys)) ≡ cond b (x ∷ inserted m xs) (m ∷ x ∷ xs) ++ ys
+front_case : (b : Bool) (m x : NodeLine) (xs ys ms : Row NodeLine) → ms ≡ inserted m xs ++ ys →
+    cond b (x ∷ ms) (m ∷ x ∷ (xs ++ ys)) ≡ cond b (x ∷ inserted m xs) (m ∷ x ∷ xs) ++ ys
 front_case true m x xs ys ms is = ap (λ r. x ∷ r) is
 front_case false m x xs ys ms is = refl
 
-inserted_front : (m : NodeLine) (xs ys : Row NodeLine) → All (NotBefore m) ys → inserted m (xs ++ ys) ≡ inserted m xs ++ ys
+inserted_front : (m : NodeLine) (xs ys : Row NodeLine) → All (NotBefore m) ys →
+    inserted m (xs ++ ys) ≡ inserted m xs ++ ys
 inserted_front m [] ys so = inserted_first m ys so
 inserted_front m (x ∷ xs) ys so = front_case (before x m) m x xs ys (inserted m (xs ++ ys)) (inserted_front m xs ys so)
 
@@ -57,27 +61,35 @@ all_kept (n ∷ ns) = ap (λ r. n ∷ r) (all_kept ns)
 all_ordered : (P : NodeLine → Type 0) (ns : Row NodeLine) → All P ns → All P (in_order ns)
 all_ordered P ns so = subst (λ ms. All P (in_order ms)) (all_kept ns) (all_asked P (λ n. true) ns so)
 
-pub in_order_append : (p : ℕ) (ms ns : Row NodeLine) → All (Before p) ms → All (From p) ns → in_order (ms ++ ns) ≡ in_order ms ++ in_order ns
+pub in_order_append : (p : ℕ) (ms ns : Row NodeLine) → All (Before p) ms → All (From p) ns →
+    in_order (ms ++ ns) ≡ in_order ms ++ in_order ns
 in_order_append p [] ns low high = refl
 in_order_append p (m ∷ ms) ns low high =
     let begins = All-head (Before p) m ms low in
     ap (inserted m) (in_order_append p ms ns (All-tail (Before p) m ms low) high)
-    ∙ inserted_front m (in_order ms) (in_order ns) (all_ordered (NotBefore m) ns (All-weaker (From p) (NotBefore m) (λ n from. not_before m n p begins from) ns high))
+    ∙ inserted_front m (in_order ms) (in_order ns)
+    (all_ordered (NotBefore m) ns
+    (All-weaker (From p) (NotBefore m) (λ n from. not_before m n p begins from) ns high))
 
 -- ---- the nodes of lines in order
 
-line_begins : (edition : Edition) (T : List ℕ) (l : HeldLine AKind) → IsTopLine edition T l → l.ended ≡ true → (base : ℕ) → All (Before (base + l.len)) (line_nodes base l)
+line_begins : (edition : Edition) (T : List ℕ) (l : HeldLine AKind) → IsTopLine edition T l → l.ended ≡ true →
+    (base : ℕ) → All (Before (base + l.len)) (line_nodes base l)
 line_begins edition T l is ended base =
     All-map (Before (base + l.len)) (placed base) (kind_nodes l.kind)
-    (All-weaker (Before l.len) (λ n. Before (base + l.len) (placed base n)) (λ n low. omega (arith, low)) (kind_nodes l.kind) (nodes_before_end edition T (as_read l) is ended))
+    (All-weaker (Before l.len) (λ n. Before (base + l.len) (placed base n)) (λ n low. omega (arith, low))
+    (kind_nodes l.kind) (nodes_before_end edition T (as_read l) is ended))
 
 placed_from : (p base : ℕ) (ns : Row NodeLine) → p ≤ base → All (From p) (map (placed base) ns)
 placed_from p base [] le = All-nil (From p)
-placed_from p base (n ∷ ns) le = All-cons (From p) (placed base n) (map (placed base) ns) (omega arith) (placed_from p base ns le)
+placed_from p base (n ∷ ns) le =
+    All-cons (From p) (placed base n) (map (placed base) ns) (omega arith) (placed_from p base ns le)
 
 lines_from : (p base : ℕ) (ls : Row (HeldLine AKind)) → p ≤ base → All (From p) (lines_nodes base ls)
 lines_from p base [] le = All-nil (From p)
-lines_from p base (l ∷ ls) le = All-append (From p) (line_nodes base l) (lines_nodes (base + l.len) ls) (placed_from p base (kind_nodes l.kind) le) (lines_from p (base + l.len) ls (omega arith))
+lines_from p base (l ∷ ls) le =
+    All-append (From p) (line_nodes base l) (lines_nodes (base + l.len) ls) (placed_from p base (kind_nodes l.kind) le)
+    (lines_from p (base + l.len) ls (omega arith))
 
 -- ---- outlines
 
@@ -87,19 +99,26 @@ line_is base (entries_line xs) = refl
 line_is base end_line = refl
 line_is base (faulty_line f) = refl
 
-rows_outline : (edition : Edition) (T : List ℕ) (row : Row (HeldLine AKind)) → IsRow (IsTopLine edition) T row → (base : ℕ) → filter in_outline (in_order (lines_nodes base row)) ≡ outlines base row
+rows_outline : (edition : Edition) (T : List ℕ) (row : Row (HeldLine AKind)) → IsRow (IsTopLine edition) T row →
+    (base : ℕ) → filter in_outline (in_order (lines_nodes base row)) ≡ outlines base row
 rows_outline edition T _ (last_line {h = h} is not_ended whole) base =
-    ap (λ ns. filter in_outline (in_order ns)) (append-nil (line_nodes base h)) ∙ line_is base h.kind ∙ sym (append-nil (line_outline base h.kind))
+    ap (λ ns. filter in_outline (in_order ns)) (append-nil (line_nodes base h)) ∙ line_is base h.kind
+    ∙ sym (append-nil (line_outline base h.kind))
 rows_outline edition T _ (more_lines {h = h} {hs = hs} is ended row) base =
-    ap (filter in_outline) (in_order_append (base + h.len) (line_nodes base h) (lines_nodes (base + h.len) hs) (line_begins edition T h is ended base) (lines_from (base + h.len) (base + h.len) hs (omega arith)))
+    ap (filter in_outline) (in_order_append (base + h.len) (line_nodes base h) (lines_nodes (base + h.len) hs)
+    (line_begins edition T h is ended base) (lines_from (base + h.len) (base + h.len) hs (omega arith)))
     ∙ filter-append in_outline (in_order (line_nodes base h)) (in_order (lines_nodes (base + h.len) hs))
     ∙ ap (λ ns. ns ++ filter in_outline (in_order (lines_nodes (base + h.len) hs))) (line_is base h.kind)
     ∙ ap (λ ns. line_outline base h.kind ++ ns) (rows_outline edition (drop h.len T) hs row (base + h.len))
 
-pub row_outline : (edition : Edition) (B : List ℕ) (row : Row (HeldLine AKind)) → IsRow (IsTopLine edition) B row → outline 0 (script_of row).entries ≡ outlines 0 row
+pub row_outline : (edition : Edition) (B : List ℕ) (row : Row (HeldLine AKind)) → IsRow (IsTopLine edition) B row →
+    outline 0 (script_of row).entries ≡ outlines 0 row
 row_outline edition B row is =
-    ap (λ ns. filter in_outline (in_order ns)) (all_here (entries_nodes (script_of row).entries) ∙ row_nodes edition B row is) ∙ rows_outline edition B row is 0
+    ap (λ ns. filter in_outline (in_order ns))
+    (all_here (entries_nodes (script_of row).entries) ∙ row_nodes edition B row is)
+    ∙ rows_outline edition B row is 0
 
 -- as an answer for the bytes
-pub row_has_outline : (edition : Edition) (B : List ℕ) (row : Row (HeldLine AKind)) → IsRow (IsTopLine edition) B row → (script : AScript) × Outcome edition B script × (outlines 0 row ≡ outline 0 script.entries)
+pub row_has_outline : (edition : Edition) (B : List ℕ) (row : Row (HeldLine AKind)) → IsRow (IsTopLine edition) B row →
+    (script : AScript) × Outcome edition B script × (outlines 0 row ≡ outline 0 script.entries)
 row_has_outline edition B row is = (script_of row, row_outcome edition B row is, sym (row_outline edition B row is))

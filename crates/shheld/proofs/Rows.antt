@@ -18,17 +18,20 @@ use Rattle.shheld.proofs.TopLines.{top_lines}
 
 -- ---- the script of a row
 
-lines_by : (edition : Edition) (B : List ℕ) (p : ℕ) (T : List ℕ) (row : Row (HeldLine AKind)) → T ≡ drop p B → IsRow (IsTopLine edition) T row → AreLines edition B p (map as_read row)
+lines_by : (edition : Edition) (B : List ℕ) (p : ℕ) (T : List ℕ) (row : Row (HeldLine AKind)) → T ≡ drop p B →
+    IsRow (IsTopLine edition) T row → AreLines edition B p (map as_read row)
 lines_by edition B p T _ at (last_line {h = h} is not_ended whole) =
     last_of (as_read h) (subst (λ U. IsTopLine edition U h) at is) not_ended (whole ∙ ap length at)
 lines_by edition B p T _ at (more_lines {h = h} {hs = hs} is ended row) =
     more_of (as_read h) (map as_read hs) (subst (λ U. IsTopLine edition U h) at is) ended
     (lines_by edition B (p + h.len) (drop h.len T) hs (ap (drop h.len) at ∙ drop-drop h.len p B) row)
 
-pub row_lines : (edition : Edition) (B : List ℕ) (row : Row (HeldLine AKind)) → IsRow (IsTopLine edition) B row → AreLines edition B 0 (map as_read row)
+pub row_lines : (edition : Edition) (B : List ℕ) (row : Row (HeldLine AKind)) → IsRow (IsTopLine edition) B row →
+    AreLines edition B 0 (map as_read row)
 row_lines edition B row is = lines_by edition B 0 B row refl is
 
-pub row_outcome : (edition : Edition) (B : List ℕ) (row : Row (HeldLine AKind)) → IsRow (IsTopLine edition) B row → Outcome edition B (script_of row)
+pub row_outcome : (edition : Edition) (B : List ℕ) (row : Row (HeldLine AKind)) → IsRow (IsTopLine edition) B row →
+    Outcome edition B (script_of row)
 row_outcome edition B row is = script_joined edition B (map as_read row) (row_lines edition B row is)
 
 -- ---- its entries
@@ -46,10 +49,12 @@ kind_on edition T a (line_read [] false t k part) ended = absurd cc
 kind_on edition T a (line_read (e ∷ es) newline t k part) ended = tt
 kind_on edition T a (line_stops f k part) ended = absurd cc
 
-pub goes_on : (edition : Edition) (T : List ℕ) (l : HeldLine AKind) → IsTopLine edition T l → l.ended ≡ true → GoesOn l.kind
+pub goes_on : (edition : Edition) (T : List ℕ) (l : HeldLine AKind) → IsTopLine edition T l → l.ended ≡ true →
+    GoesOn l.kind
 goes_on edition T l is ended = kind_on edition T (as_read l) is ended
 
-on_by : (k : AKind) → GoesOn k → (rest : Entries → Bool → AScript) (so : Walk) → line_joined_by rest k so.entries so.gap so.at ≡ rest (entries_with so k) (has_none k)
+on_by : (k : AKind) → GoesOn k → (rest : Entries → Bool → AScript) (so : Walk) →
+    line_joined_by rest k so.entries so.gap so.at ≡ rest (entries_with so k) (has_none k)
 on_by blank_line so rest walk = refl
 on_by (entries_line xs) so rest walk = refl
 on_by end_line so rest walk = absurd so
@@ -59,30 +64,39 @@ abbrev from_walk : Walk → Row (HeldLine AKind) → AScript
 from_walk so row = lines_joined (map as_read row) so.entries so.gap so.at
 
 -- a line that ended is one step of the walk
-pub line_on : (edition : Edition) (T : List ℕ) (l : HeldLine AKind) → IsTopLine edition T l → l.ended ≡ true → (ls : Row (HeldLine AKind)) (so : Walk) → from_walk so (l ∷ ls) ≡ from_walk (with_line so l) ls
-line_on edition T l is ended ls so = on_by l.kind (goes_on edition T l is ended) (λ es gap. lines_joined (map as_read ls) es gap (so.at + l.len)) so
+pub line_on : (edition : Edition) (T : List ℕ) (l : HeldLine AKind) → IsTopLine edition T l → l.ended ≡ true →
+    (ls : Row (HeldLine AKind)) (so : Walk) → from_walk so (l ∷ ls) ≡ from_walk (with_line so l) ls
+line_on edition T l is ended ls so =
+    on_by l.kind (goes_on edition T l is ended) (λ es gap. lines_joined (map as_read ls) es gap (so.at + l.len)) so
 
 -- and so is the last one
-pub line_last : (l : HeldLine AKind) (so : Walk) → from_walk so (l ∷ []) ≡ record { entries = (with_line so l).entries; wrong = fault_at so.at l.kind }
+pub line_last : (l : HeldLine AKind) (so : Walk) →
+    from_walk so (l ∷ []) ≡ record { entries = (with_line so l).entries; wrong = fault_at so.at l.kind }
 line_last l so = by_kind l.kind
   where
-    by_kind : (k : AKind) → line_joined_by (λ es gap. lines_joined [] es gap (so.at + l.len)) k so.entries so.gap so.at ≡ record { entries = entries_with so k; wrong = fault_at so.at k }
+    by_kind : (k : AKind) → line_joined_by (λ es gap. lines_joined [] es gap (so.at + l.len)) k so.entries so.gap so.at
+        ≡ record { entries = entries_with so k; wrong = fault_at so.at k }
     by_kind blank_line = refl
     by_kind (entries_line xs) = refl
     by_kind end_line = refl
     by_kind (faulty_line f) = refl
 
-entries_from : (edition : Edition) (T : List ℕ) (row : Row (HeldLine AKind)) → IsRow (IsTopLine edition) T row → (so : Walk) → (from_walk so row).entries ≡ (with_lines so row).entries
+entries_from : (edition : Edition) (T : List ℕ) (row : Row (HeldLine AKind)) → IsRow (IsTopLine edition) T row →
+    (so : Walk) → (from_walk so row).entries ≡ (with_lines so row).entries
 entries_from edition T _ (last_line {h = h} is not_ended whole) so = ap (λ (s : AScript). s.entries) (line_last h so)
-entries_from edition T _ (more_lines {h = h} {hs = hs} is ended row) so = ap (λ (s : AScript). s.entries) (line_on edition T h is ended hs so) ∙ entries_from edition (drop h.len T) hs row (with_line so h)
+entries_from edition T _ (more_lines {h = h} {hs = hs} is ended row) so =
+    ap (λ (s : AScript). s.entries) (line_on edition T h is ended hs so)
+    ∙ entries_from edition (drop h.len T) hs row (with_line so h)
 
 -- the entries of the script are what a walk over the row gathers
-pub row_entries : (edition : Edition) (B : List ℕ) (row : Row (HeldLine AKind)) → IsRow (IsTopLine edition) B row → (script_of row).entries ≡ (with_lines no_line row).entries
+pub row_entries : (edition : Edition) (B : List ℕ) (row : Row (HeldLine AKind)) → IsRow (IsTopLine edition) B row →
+    (script_of row).entries ≡ (with_lines no_line row).entries
 row_entries edition B row is = entries_from edition B row is no_line
 
 -- ---- its first fault
 
-fault_from : (edition : Edition) (T : List ℕ) (ended : Row (HeldLine AKind)) (last : HeldLine AKind) → IsRow (IsTopLine edition) T (ended ++ last ∷ []) → (so : Walk)
+fault_from : (edition : Edition) (T : List ℕ) (ended : Row (HeldLine AKind)) (last : HeldLine AKind) →
+    IsRow (IsTopLine edition) T (ended ++ last ∷ []) → (so : Walk)
     → (from_walk so (ended ++ last ∷ [])).wrong ≡ fault_at (so.at + extent ended) last.kind
 unfolding extent
 fault_from edition T [] last row so =
@@ -93,26 +107,37 @@ fault_from edition T (h ∷ hs) last row so =
     let ended = row_ended (IsTopLine edition) T h hs last [] row in
     let there : so.at + h.len + extent hs ≡ so.at + (h.len + extent hs) = omega arith in
     ap (λ (s : AScript). s.wrong) (line_on edition T h is ended (hs ++ last ∷ []) so)
-    ∙ fault_from edition (drop h.len T) hs last (row_rest (IsTopLine edition) T h (hs ++ last ∷ []) row ended) (with_line so h)
+    ∙ fault_from edition (drop h.len T) hs last (row_rest (IsTopLine edition) T h (hs ++ last ∷ []) row ended)
+    (with_line so h)
     ∙ ap (λ n. fault_at n last.kind) there
 
 -- where the last line begins
-pub last_at : (edition : Edition) (B : List ℕ) (ended : Row (HeldLine AKind)) (last : HeldLine AKind) → IsRow (IsTopLine edition) B (ended ++ last ∷ []) → extent ended + last.len ≡ length B
-last_at edition B ended last row = sym (extent_push ended last) ∙ row_extent (IsTopLine edition) (top_lines edition) B (ended ++ last ∷ []) row
+pub last_at : (edition : Edition) (B : List ℕ) (ended : Row (HeldLine AKind)) (last : HeldLine AKind) →
+    IsRow (IsTopLine edition) B (ended ++ last ∷ []) → extent ended + last.len ≡ length B
+last_at edition B ended last row = sym (extent_push ended last)
+    ∙ row_extent (IsTopLine edition) (top_lines edition) B (ended ++ last ∷ []) row
 
-pub row_wrong : (edition : Edition) (B : List ℕ) (ended : Row (HeldLine AKind)) (last : HeldLine AKind) → IsRow (IsTopLine edition) B (ended ++ last ∷ []) → (script_of (ended ++ last ∷ [])).wrong ≡ fault_at (extent ended) last.kind
+pub row_wrong : (edition : Edition) (B : List ℕ) (ended : Row (HeldLine AKind)) (last : HeldLine AKind) →
+    IsRow (IsTopLine edition) B (ended ++ last ∷ []) →
+    (script_of (ended ++ last ∷ [])).wrong ≡ fault_at (extent ended) last.kind
 row_wrong edition B ended last row =
     let here : 0 + extent ended ≡ extent ended = omega arith in
     fault_from edition B ended last row no_line ∙ ap (λ n. fault_at n last.kind) here
 
 -- the first fault is that of the last line, if it has one
-pub row_fault : (edition : Edition) (B : List ℕ) (ended : Row (HeldLine AKind)) (last : HeldLine AKind) → IsRow (IsTopLine edition) B (ended ++ last ∷ []) → FirstFault edition B (fault_at (extent ended) last.kind)
+pub row_fault : (edition : Edition) (B : List ℕ) (ended : Row (HeldLine AKind)) (last : HeldLine AKind) →
+    IsRow (IsTopLine edition) B (ended ++ last ∷ []) → FirstFault edition B (fault_at (extent ended) last.kind)
 row_fault edition B ended last row =
-    let all = row_outcome edition B (ended ++ last ∷ []) row in
-    ((script_of (ended ++ last ∷ [])).entries, subst (λ w. Outcome edition B (record { entries = (script_of (ended ++ last ∷ [])).entries; wrong = w })) (row_wrong edition B ended last row) all)
+    let all = row_outcome edition B (ended ++ last ∷ []) row in (
+      (script_of (ended ++ last ∷ [])).entries,
+      subst (λ w. Outcome edition B (record { entries = (script_of (ended ++ last ∷ [])).entries; wrong = w }))
+          (row_wrong edition B ended last row) all,
+    )
 
 -- and there is no other
-pub row_fault_only : (edition : Edition) (B : List ℕ) (ended : Row (HeldLine AKind)) (last : HeldLine AKind) → IsRow (IsTopLine edition) B (ended ++ last ∷ []) → (f : Option Fault) → FirstFault edition B f → f ≡ fault_at (extent ended) last.kind
+pub row_fault_only : (edition : Edition) (B : List ℕ) (ended : Row (HeldLine AKind)) (last : HeldLine AKind) →
+    IsRow (IsTopLine edition) B (ended ++ last ∷ []) → (f : Option Fault) → FirstFault edition B f →
+    f ≡ fault_at (extent ended) last.kind
 row_fault_only edition B ended last row f first =
     let same = script_only edition B _ first.1 ∙ sym (script_only edition B _ (row_fault edition B ended last row).1) in
     ap (λ (s : AScript). s.wrong) same

@@ -34,10 +34,12 @@ unfolding raw_stands
 stands_within T p e = byte_within T p (slice_get T p) refl e
 
 -- a line that ended has bytes, and they are the text's
-ended_by : (edition : Edition) (T : List ℕ) (a : ALine) → IsLine edition T a → a.ended ≡ true → (0 < a.next) × (a.next ≤ length T)
+ended_by : (edition : Edition) (T : List ℕ) (a : ALine) → IsLine edition T a → a.ended ≡ true → (0 < a.next)
+    × (a.next ≤ length T)
 ended_by edition T a (line_read es newline t k part) ended =
     let both = and_parts _ _ ended in
-    let some : 0 < t.at = subst (Holds (λ (x : Row AnEntry × Bool) (u : State). x.1 ≡ true → 0 < u.at)) (sym ((is_form (a_line (level most_open) false) (given edition T 0) (standing 0)).only _ _ part))
+    let some : 0 < t.at = subst (Holds (λ (x : Row AnEntry × Bool) (u : State). x.1 ≡ true → 0 < u.at))
+    (sym ((is_form (a_line (level most_open) false) (given edition T 0) (standing 0)).only _ _ part))
     (line_ended_low (level most_open) false Whole (given edition T 0) (standing 0)).told both.0
     in
     let high = stands_within T (t.at - 1) both.1 in

@@ -12,7 +12,8 @@ use Rattle.shgrammar.proofs.Within.{entries_within}
 use Rattle.shwindow.specs.declared.line.HeldLine.{HeldLine}
 use Rattle.shheld.specs.TopLines.{IsTopLine, as_read}
 
-module _ (edition : Edition) (T : List ℕ) (l : HeldLine AKind) (xs : Entries) (is : IsTopLine edition T l) (kind_is : l.kind ≡ entries_line xs) where
+module _ (edition : Edition) (T : List ℕ) (l : HeldLine AKind) (xs : Entries) (is : IsTopLine edition T l)
+    (kind_is : l.kind ≡ entries_line xs) where
   everywhere : EntriesEverywhere l.len (entries_line xs)
   everywhere = subst (EntriesEverywhere l.len) kind_is (line_everywhere edition T (as_read l) is)
 

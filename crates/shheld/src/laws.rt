@@ -37,7 +37,8 @@ pub fn script_of_lines()
     ensures outcome { (edition : Edition) (bytes : List ℕ) (row : Row (HeldLine AKind)) →
         IsRow (IsTopLine edition) bytes row → Outcome edition bytes (script_of row) }
     ensures entries { (edition : Edition) (bytes : List ℕ) (row : Row (HeldLine AKind)) →
-        IsRow (IsTopLine edition) bytes row → (script_of row).entries ≡ (with_lines no_line row).entries }
+        IsRow (IsTopLine edition) bytes row →
+        (script_of row).entries ≡ (with_lines no_line row).entries }
     ensures fault { (edition : Edition) (bytes : List ℕ)
         (before : Row (HeldLine AKind)) (last : HeldLine AKind) →
         IsRow (IsTopLine edition) bytes (before ++ last ∷ []) →
@@ -51,10 +52,12 @@ pub fn script_of_lines()
 #[tactic(auto, using(crate::proofs::NodesAt::row_nodes_at, crate::proofs::NodesAt::row_nodes_past, crate::proofs::Outlines::row_outline))]
 pub fn nodes_of_lines()
     ensures at { (edition : Edition) (bytes : List ℕ)
-        (before : Row (HeldLine AKind)) (line : HeldLine AKind) (rest : Row (HeldLine AKind)) (at : ℕ) →
+        (before : Row (HeldLine AKind)) (line : HeldLine AKind) (rest : Row (HeldLine AKind))
+        (at : ℕ) →
         IsRow (IsTopLine edition) bytes (before ++ line ∷ rest) →
         extent before ≤ at → at < extent before + line.len →
-        nodes_at 0 at (script_of (before ++ line ∷ rest)).entries ≡ line_nodes_at (extent before) at line.kind }
+        nodes_at 0 at (script_of (before ++ line ∷ rest)).entries
+        ≡ line_nodes_at (extent before) at line.kind }
     ensures past { (edition : Edition) (bytes : List ℕ) (row : Row (HeldLine AKind)) (at : ℕ) →
         IsRow (IsTopLine edition) bytes row → length bytes ≤ at →
         nodes_at 0 at (script_of row).entries ≡ [] }
