@@ -248,7 +248,8 @@ module _ (g : Given) where
         picks g (begins_redirect i.next.token)
         (redirect_on i.next.broken Command i.items i.next s so) (gives g so)
 
-    with_redirect_list_on : (c : ACommand × Next) (s : State) → Begins g c.1 s → Goes g (with_redirect_list inner c) Behind s
+    with_redirect_list_on : (c : ACommand × Next) (s : State) → Begins g c.1 s →
+        Goes g (with_redirect_list inner c) Behind s
     unfolding with_redirect_list
     with_redirect_list_on c s so =
         first g (repeats g ItemsShown redirect_turn_on (so_many [] Command c.1) s so)

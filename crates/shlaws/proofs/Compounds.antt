@@ -69,7 +69,8 @@ module _ (g : Given) where
 
   reserved_or_paren_only : (text : Spelled) (paren : Bool) (position : Position) (s : State)
       → Goes g (reserved_or_paren text paren position) (Behind g) s
-  reserved_or_paren_only text paren position s = follows g (reserved_or_paren_on text paren position s) (λ x t good. good.0)
+  reserved_or_paren_only text paren position s =
+      follows g (reserved_or_paren_on text paren position s) (λ x t good. good.0)
 
   linebreak_on : (cs : Row Span) (n : Next) (s : State) → Begins g n s
       → Goes g (a_linebreak cs n) (JoinShown g) s

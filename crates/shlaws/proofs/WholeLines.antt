@@ -19,16 +19,20 @@ module _ (e : Edition) (B : List ℕ) (p : ℕ) where
   Reads x told = may (the_line false) (given e (drop p B) 0) (standing 0) x told
 
   reads : (x : Read (Row AnEntry × Bool)) → line_told e B Whole false p 0 ≡ x → (told : Row Spelled) × Reads x told
-  reads x is = subst (λ y. (told : Row Spelled) × Reads y told) is ((is_form (the_line false) (given e (drop p B) 0) (standing 0)).some)
+  reads x is = subst (λ y. (told : Row Spelled) × Reads y told) is
+      ((is_form (the_line false) (given e (drop p B) 0) (standing 0)).some)
 
-  pub outer_line : (blank newline : Bool) (es : Row AnEntry) (t : State) → line_from e B Outer blank p ≡ Ok ((es, newline), t)
-      → (whole : Row AnEntry) × (u : State) × (told : Row Spelled) × Reads (Ok ((whole, newline), u)) told × (es ≡ blanked_row blank (map (outer_entry p) whole)) × (t.at ≡ u.at)
+  pub outer_line : (blank newline : Bool) (es : Row AnEntry) (t : State) →
+      line_from e B Outer blank p ≡ Ok ((es, newline), t)
+      → (whole : Row AnEntry) × (u : State) × (told : Row Spelled) × Reads (Ok ((whole, newline), u)) told
+      × (es ≡ blanked_row blank (map (outer_entry p) whole)) × (t.at ≡ u.at)
   outer_line blank newline es t read =
       let a = outer_alone e B p blank newline es t read in
       let told = reads (Ok ((a.0, newline), a.1)) a.2 in
       (a.0, a.1, told.0, told.1, a.3, a.4)
 
-  fault_by : (blank : Bool) (f : Fault) (x : Read (Row AnEntry × Bool)) → line_told e B Whole false p 0 ≡ x → SameBy false p blank (Err f) x
+  fault_by : (blank : Bool) (f : Fault) (x : Read (Row AnEntry × Bool)) → line_told e B Whole false p 0 ≡ x →
+      SameBy false p blank (Err f) x
       → (there : Fault) × (told : Row Spelled) × Reads (Err there) told × (f ≡ moved_fault p there)
   fault_by blank f (Ok x) is same = absurd same
   fault_by blank f (Err there) is same = let told = reads (Err there) is in (there, told.0, told.1, same)
@@ -36,4 +40,5 @@ module _ (e : Edition) (B : List ℕ) (p : ℕ) where
   pub outer_fault : (blank : Bool) (f : Fault) → line_from e B Outer blank p ≡ Err f
       → (there : Fault) × (told : Row Spelled) × Reads (Err there) told × (f ≡ moved_fault p there)
   outer_fault blank f read =
-      fault_by blank f (line_told e B Whole false p 0) refl (subst (λ x. SameBy false p blank x (line_told e B Whole false p 0)) read (line_outer e B p blank))
+      fault_by blank f (line_told e B Whole false p 0) refl
+      (subst (λ x. SameBy false p blank x (line_told e B Whole false p 0)) read (line_outer e B p blank))

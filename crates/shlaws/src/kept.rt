@@ -14,10 +14,12 @@ ghost use Rattle.shgrammar.specs.Sights.{State, given, standing};
 /// grammar has for its bytes, read as a script of their own: moved to where the line stands, its first entry
 /// blank where that was asked for, and the lists in its substitutions left out. It has the same fault there.
 pub fn outer_lines()
-    ensures line { (e : Edition) (bytes : List ℕ) (p : ℕ) (blank newline : Bool) (es : Row AnEntry) (t : State) →
+    ensures line { (e : Edition) (bytes : List ℕ) (p : ℕ) (blank newline : Bool) (es : Row AnEntry)
+        (t : State) →
         line_from e bytes Keep.Outer blank p ≡ Ok ((es, newline), t) →
         (whole : Row AnEntry) × (u : State) × (told : Row Spelled) ×
-        may (the_line false) (given e (drop p bytes) 0) (standing 0) (Ok ((whole, newline), u)) told ×
+        may (the_line false) (given e (drop p bytes) 0) (standing 0) (Ok ((whole, newline), u)) told
+        ×
         (es ≡ blanked_row blank (map (outer_entry p) whole)) × (t.at ≡ u.at) }
     ensures fault { (e : Edition) (bytes : List ℕ) (p : ℕ) (blank : Bool) (f : Fault) →
         line_from e bytes Keep.Outer blank p ≡ Err f →
