@@ -47,13 +47,15 @@ module _ (B : List ℕ) (at : ℕ) (run : List ℕ) (is : IsRun B at run) where
   run_within = grind (arith, is.short, is.none, length-drop)
 
   run_front : take (length run) (drop at B) ≡ run
-  run_front = same_number_lists _ _ (grind (arith, run_within, places)) (λ k lt. grind (arith, run_within, is.same, places))
+  run_front = same_number_lists _ _ (grind (arith, run_within, places))
+      (λ k lt. grind (arith, run_within, is.same, places))
 
   run_part : (n : ℕ) → n ≤ length run → take n (drop at B) ≡ take n run
   run_part n le = sym (take-take n (length run) (drop at B) le) ∙ ap (take n) run_front
 
 -- it stands at the front of that
-pub run_word : (B run : List ℕ) (base p q : ℕ) → IsRun B (base + p) run → q - p ≤ length run → raw (drop base B) p q ≡ take (q - p) run
+pub run_word : (B run : List ℕ) (base p q : ℕ) → IsRun B (base + p) run → q - p ≤ length run →
+    raw (drop base B) p q ≡ take (q - p) run
 run_word B run base p q is le = ap (take (q - p)) (drop-drop p base B) ∙ run_part B (base + p) run is (q - p) le
 
 -- ---- tabs
@@ -74,15 +76,19 @@ tabs_low (b ∷ X) = tabs_low_by b _ _ (tabs_low X) (b == 9) refl
 newline_is_no_tab : (b : ℕ) → (b == 10) ≡ true → (b == 9) ≡ false
 newline_is_no_tab b is = grind (arith, nat_tests, is)
 
-tabs_same_by : (b : ℕ) (X : List ℕ) → count_front (λ c. c == 9) (take (count_front (λ c. not (c == 10)) X) X) ≡ count_front (λ c. c == 9) X → (t : Bool) → (b == 10) ≡ t
-    → count_front (λ c. c == 9) (take (cond (not (b == 10)) (1 + count_front (λ c. not (c == 10)) X) 0) (b ∷ X)) ≡ cond (b == 9) (1 + count_front (λ c. c == 9) X) 0
+tabs_same_by : (b : ℕ) (X : List ℕ) →
+    count_front (λ c. c == 9) (take (count_front (λ c. not (c == 10)) X) X) ≡ count_front (λ c. c == 9) X → (t : Bool) →
+    (b == 10) ≡ t
+    → count_front (λ c. c == 9) (take (cond (not (b == 10)) (1 + count_front (λ c. not (c == 10)) X) 0) (b ∷ X))
+    ≡ cond (b == 9) (1 + count_front (λ c. c == 9) X) 0
 unfolding count_front
 tabs_same_by b X rest true is = rw (is, newline_is_no_tab b is) refl
 tabs_same_by b X rest false is =
     let more : 1 + count_front (λ c. not (c == 10)) X ≡ suc (count_front (λ c. not (c == 10)) X) = omega arith in
     rw (is, more) (ap (λ n. cond (b == 9) (1 + n) 0) rest)
 
-tabs_same : (X : List ℕ) → count_front (λ b. b == 9) (take (count_front (λ b. not (b == 10)) X) X) ≡ count_front (λ b. b == 9) X
+tabs_same : (X : List ℕ) → count_front (λ b. b == 9) (take (count_front (λ b. not (b == 10)) X) X)
+    ≡ count_front (λ b. b == 9) X
 unfolding count_front
 tabs_same [] = refl
 tabs_same (b ∷ X) = tabs_same_by b X (tabs_same X) (b == 10) refl
@@ -95,14 +101,16 @@ drop_take : (t n : ℕ) (X : List ℕ) → drop t (take n X) ≡ take (n - t) (d
 drop_take zero n X = let same : n ≡ n - 0 = omega arith in ap (λ m. take m X) same
 drop_take (suc t) zero X = let same : 0 ≡ 0 - suc t = omega arith in ap (λ m. take m (drop (suc t) X)) same
 drop_take (suc t) (suc n) [] = take_nothing (suc n - suc t)
-drop_take (suc t) (suc n) (b ∷ X) = let same : n - t ≡ suc n - suc t = omega arith in drop_take t n X ∙ ap (λ m. take m (drop t X)) same
+drop_take (suc t) (suc n) (b ∷ X) = let same : n - t ≡ suc n - suc t = omega arith in
+    drop_take t n X ∙ ap (λ m. take m (drop t X)) same
 
 pub tabs_before : (T : List ℕ) (p : ℕ) → raw_past (λ b. b == 9) T p ≤ next_newline T p
 unfolding raw_past
 tabs_before T p = omega (arith, tabs_low (drop p T))
 
 -- a line without its tabs
-pub stripped_line : (T : List ℕ) (p : ℕ) → stripped true (rest_of_line T p) ≡ raw T (raw_past (λ b. b == 9) T p) (next_newline T p)
+pub stripped_line : (T : List ℕ) (p : ℕ) →
+    stripped true (rest_of_line T p) ≡ raw T (raw_past (λ b. b == 9) T p) (next_newline T p)
 unfolding raw_past
 stripped_line T p =
     let X = drop p T in
@@ -142,11 +150,13 @@ flipped_not true false = refl
 flipped_not false x = refl
 
 -- one more backslash before q
-odd_more : (T : List ℕ) (p q : ℕ) (so : Bool) (all : Bool) → p < q → raw_stands T (q - 1) 92 ≡ true → flipped so (odd (raw T p q)) ≡ all → flipped (not so) (odd (raw T p (q - 1))) ≡ all
+odd_more : (T : List ℕ) (p q : ℕ) (so : Bool) (all : Bool) → p < q → raw_stands T (q - 1) 92 ≡ true →
+    flipped so (odd (raw T p q)) ≡ all → flipped (not so) (odd (raw T p (q - 1))) ≡ all
 unfolding raw_stands
 odd_more T p q so all lt is before =
     let last : q - 1 + 1 ≡ q = omega (arith, lt) in
-    let here : raw T p q ≡ raw T p (q - 1) ++ 92 ∷ [] = ap (raw T p) (sym last) ∙ raw_some T p (q - 1) 92 (omega (arith, lt)) (byte_is (slice_get T (q - 1)) 92 is) in
+    let here : raw T p q ≡ raw T p (q - 1) ++ 92 ∷ [] = ap (raw T p) (sym last)
+    ∙ raw_some T p (q - 1) 92 (omega (arith, lt)) (byte_is (slice_get T (q - 1)) 92 is) in
     flipped_not so (odd (raw T p (q - 1))) ∙ ap (flipped so) (sym (ap odd here ∙ flip_last (raw T p (q - 1)))) ∙ before
 
 flipped_false : (b : Bool) → flipped b false ≡ b
@@ -157,18 +167,22 @@ none_or : (T : List ℕ) (p q : ℕ) → p < q → q ≤ length T → raw_stands
 unfolding raw_stands
 none_or T p q lt within other =
     let last : q - 1 + 1 ≡ q = omega (arith, lt) in
-    let is : slice_get T (q - 1) ≡ Some (get_or T (q - 1) 0) = slice_get-get_or T (q - 1) 0 (omega (arith, lt, within)) in
+    let is : slice_get T (q - 1) ≡ Some (get_or T (q - 1) 0) =
+    slice_get-get_or T (q - 1) 0 (omega (arith, lt, within)) in
     let no : (get_or T (q - 1) 0 == 92) ≡ false = sym (ap (λ x. is_byte x 92) is) ∙ other in
-    ap (λ n. odd (raw T p n)) (sym last) ∙ ap odd (raw_some T p (q - 1) (get_or T (q - 1) 0) (omega (arith, lt)) is) ∙ other_last (raw T p (q - 1)) (get_or T (q - 1) 0) no
+    ap (λ n. odd (raw T p n)) (sym last) ∙ ap odd (raw_some T p (q - 1) (get_or T (q - 1) 0) (omega (arith, lt)) is)
+    ∙ other_last (raw T p (q - 1)) (get_or T (q - 1) 0) no
 
 -- the same of places that count from b
-pub odd_more_on : (T : List ℕ) (b p q : ℕ) (so : Bool) (all : Bool) → p < q → raw_stands T (b + (q - 1)) 92 ≡ true → flipped so (odd (raw T (b + p) (b + q))) ≡ all → flipped (not so) (odd (raw T (b + p) (b + (q - 1)))) ≡ all
+pub odd_more_on : (T : List ℕ) (b p q : ℕ) (so : Bool) (all : Bool) → p < q → raw_stands T (b + (q - 1)) 92 ≡ true →
+    flipped so (odd (raw T (b + p) (b + q))) ≡ all → flipped (not so) (odd (raw T (b + p) (b + (q - 1)))) ≡ all
 odd_more_on T b p q so all lt is before =
     let back : b + (q - 1) ≡ b + q - 1 = omega (arith, lt) in
     rw back (odd_more T (b + p) (b + q) so all (omega (arith, lt)) (rw back at is) before)
 
 -- no more of them
-odd_stops : (T : List ℕ) (p q : ℕ) (so all : Bool) → q ≤ length T → (nat_lt p q && raw_stands T (q - 1) 92) ≡ false → flipped so (odd (raw T p q)) ≡ all → so ≡ all
+odd_stops : (T : List ℕ) (p q : ℕ) (so all : Bool) → q ≤ length T → (nat_lt p q && raw_stands T (q - 1) 92) ≡ false →
+    flipped so (odd (raw T p q)) ≡ all → so ≡ all
 odd_stops T p q so all within stops before = sym (ap (flipped so) none ∙ flipped_false so) ∙ before
   where
     second : (a b : Bool) → (a && b) ≡ false → a ≡ true → b ≡ false
@@ -180,7 +194,8 @@ odd_stops T p q so all within stops before = sym (ap (flipped so) none ∙ flipp
         ⊎_elim (λ lt. none_or T p q lt within (second (nat_lt p q) (raw_stands T (q - 1) 92) stops (lt-ltb p q lt)))
         (λ ge. let empty : q - p ≡ 0 = omega (arith, ge) in ap (λ n. odd (take n (drop p T))) empty) (cases_lt p q)
 
-pub odd_stops_on : (T : List ℕ) (b p q : ℕ) (so all : Bool) → b + q ≤ length T → (nat_lt p q && raw_stands T (b + (q - 1)) 92) ≡ false → flipped so (odd (raw T (b + p) (b + q))) ≡ all → so ≡ all
+pub odd_stops_on : (T : List ℕ) (b p q : ℕ) (so all : Bool) → b + q ≤ length T →
+    (nat_lt p q && raw_stands T (b + (q - 1)) 92) ≡ false → flipped so (odd (raw T (b + p) (b + q))) ≡ all → so ≡ all
 odd_stops_on T b p q so all within stops before =
     odd_stops T (b + p) (b + q) so all within (⊎_elim (λ lt. here lt) (λ ge. none ge) (cases_lt p q)) before
   where
@@ -208,7 +223,8 @@ raw_first T p q b lt is =
     let long : p < length T = slice_get_within T p b is in
     let read : Some (get_or T p 0) ≡ Some b = sym (slice_get-get_or T p 0 long) ∙ is in
     let same : get_or T p 0 ≡ b = cc in
-    ap (λ n. take n (drop p T)) many ∙ ap (take (suc (q - (p + 1)))) (drop_more T p 0 long) ∙ ap (λ (c : ℕ). c ∷ raw T (p + 1) q) same
+    ap (λ n. take n (drop p T)) many ∙ ap (take (suc (q - (p + 1)))) (drop_more T p 0 long)
+    ∙ ap (λ (c : ℕ). c ∷ raw T (p + 1) q) same
 
 eq_both : (b : ℕ) (xs ys : List ℕ) → bytes_eq (b ∷ xs) (b ∷ ys) ≡ bytes_eq xs ys
 eq_both b xs ys = let same : (b == b) ≡ true = grind (arith, nat_tests) in rw same refl
@@ -216,32 +232,40 @@ eq_both b xs ys = let same : (b == b) ≡ true = grind (arith, nat_tests) in rw 
 eq_first : (b c : ℕ) (xs ys : List ℕ) → (b == c) ≡ false → bytes_eq (b ∷ xs) (c ∷ ys) ≡ false
 eq_first b c xs ys other = rw other refl
 
-bytes_more : (T : List ℕ) (p q i : ℕ) (bytes : List ℕ) → p + i < q → i < length bytes → raw_stands T (p + i) (get_or bytes i 0) ≡ true
+bytes_more : (T : List ℕ) (p q i : ℕ) (bytes : List ℕ) → p + i < q → i < length bytes →
+    raw_stands T (p + i) (get_or bytes i 0) ≡ true
     → bytes_eq (raw T (p + i) q) (drop i bytes) ≡ bytes_eq (raw T (p + i + 1) q) (drop (i + 1) bytes)
 unfolding raw_stands
 bytes_more T p q i bytes lt low is =
     let c = get_or bytes i 0 in
-    rw (raw_first T (p + i) q c lt (byte_is (slice_get T (p + i)) c is), drop_more bytes i 0 low) (eq_both c (raw T (p + i + 1) q) (drop (i + 1) bytes))
+    rw (raw_first T (p + i) q c lt (byte_is (slice_get T (p + i)) c is), drop_more bytes i 0 low)
+    (eq_both c (raw T (p + i + 1) q) (drop (i + 1) bytes))
 
-bytes_other : (T : List ℕ) (p q i : ℕ) (bytes : List ℕ) → p + i < q → q ≤ length T → i < length bytes → raw_stands T (p + i) (get_or bytes i 0) ≡ false
+bytes_other : (T : List ℕ) (p q i : ℕ) (bytes : List ℕ) → p + i < q → q ≤ length T → i < length bytes →
+    raw_stands T (p + i) (get_or bytes i 0) ≡ false
     → bytes_eq (raw T (p + i) q) (drop i bytes) ≡ false
 unfolding raw_stands
 bytes_other T p q i bytes lt within low other =
     let c = get_or bytes i 0 in
-    let is : slice_get T (p + i) ≡ Some (get_or T (p + i) 0) = slice_get-get_or T (p + i) 0 (omega (arith, lt, within)) in
+    let is : slice_get T (p + i) ≡ Some (get_or T (p + i) 0) =
+    slice_get-get_or T (p + i) 0 (omega (arith, lt, within)) in
     let no : (get_or T (p + i) 0 == c) ≡ false = sym (ap (λ x. is_byte x c) is) ∙ other in
-    rw (raw_first T (p + i) q (get_or T (p + i) 0) lt is, drop_more bytes i 0 low) (eq_first (get_or T (p + i) 0) c (raw T (p + i + 1) q) (drop (i + 1) bytes) no)
+    rw (raw_first T (p + i) q (get_or T (p + i) 0) lt is, drop_more bytes i 0 low)
+    (eq_first (get_or T (p + i) 0) c (raw T (p + i + 1) q) (drop (i + 1) bytes) no)
 
 -- the same, where the place is told by its distance
-pub bytes_more_on : (T : List ℕ) (p q i r : ℕ) (bytes : List ℕ) → r ≡ p + i → p + i < q → i < length bytes → raw_stands T r (get_or bytes i 0) ≡ true
+pub bytes_more_on : (T : List ℕ) (p q i r : ℕ) (bytes : List ℕ) → r ≡ p + i → p + i < q → i < length bytes →
+    raw_stands T r (get_or bytes i 0) ≡ true
     → bytes_eq (raw T (p + i) q) (drop i bytes) ≡ bytes_eq (raw T (p + i + 1) q) (drop (i + 1) bytes)
 bytes_more_on T p q i r bytes is lt low one = bytes_more T p q i bytes lt low (rw is at one)
 
-pub bytes_other_on : (T : List ℕ) (p q i r : ℕ) (bytes : List ℕ) → r ≡ p + i → p + i < q → q ≤ length T → i < length bytes → raw_stands T r (get_or bytes i 0) ≡ false
+pub bytes_other_on : (T : List ℕ) (p q i r : ℕ) (bytes : List ℕ) → r ≡ p + i → p + i < q → q ≤ length T →
+    i < length bytes → raw_stands T r (get_or bytes i 0) ≡ false
     → bytes_eq (raw T (p + i) q) (drop i bytes) ≡ false
 bytes_other_on T p q i r bytes is lt within low other = bytes_other T p q i bytes lt within low (rw is at other)
 
-pub bytes_end : (T : List ℕ) (p q i : ℕ) (bytes : List ℕ) → p + i ≡ q → i ≡ length bytes → bytes_eq (raw T (p + i) q) (drop i bytes) ≡ true
+pub bytes_end : (T : List ℕ) (p q i : ℕ) (bytes : List ℕ) → p + i ≡ q → i ≡ length bytes →
+    bytes_eq (raw T (p + i) q) (drop i bytes) ≡ true
 bytes_end T p q i bytes end whole =
     let none : q - (p + i) ≡ 0 = omega (arith, end) in
     rw (none, drop_all_of i bytes (omega (arith, whole))) refl
@@ -253,14 +277,17 @@ bytes_end T p q i bytes end whole =
     drop_all_of (suc n) (x ∷ xs) le = drop_all_of n xs (omega (arith, le))
 
 -- of another length
-pub bytes_short : (T : List ℕ) (p q : ℕ) (bytes : List ℕ) → p ≤ q → q ≤ length T → length bytes < q - p → bytes_eq (raw T p q) bytes ≡ false
-bytes_short T p q bytes le within short = none_long (q - p) (drop p T) bytes (omega (arith, within, length-drop p T)) short
+pub bytes_short : (T : List ℕ) (p q : ℕ) (bytes : List ℕ) → p ≤ q → q ≤ length T → length bytes < q - p →
+    bytes_eq (raw T p q) bytes ≡ false
+bytes_short T p q bytes le within short =
+    none_long (q - p) (drop p T) bytes (omega (arith, within, length-drop p T)) short
   where
     none_long : (n : ℕ) (X ys : List ℕ) → n ≤ length X → length ys < n → bytes_eq (take n X) ys ≡ false
     none_long zero X ys le lt = absurd (omega (arith, lt))
     none_long (suc n) [] ys le lt = absurd (omega (arith, le))
     none_long (suc n) (x ∷ X) [] le lt = refl
-    none_long (suc n) (x ∷ X) (y ∷ ys) le lt = both_false (x == y) (bytes_eq (take n X) ys) (none_long n X ys (omega (arith, le)) (omega (arith, lt)))
+    none_long (suc n) (x ∷ X) (y ∷ ys) le lt =
+        both_false (x == y) (bytes_eq (take n X) ys) (none_long n X ys (omega (arith, le)) (omega (arith, lt)))
 
 pub bytes_long : (T : List ℕ) (p q : ℕ) (bytes : List ℕ) → q - p < length bytes → bytes_eq (raw T p q) bytes ≡ false
 bytes_long T p q bytes long = none_short (q - p) (drop p T) bytes long
@@ -272,28 +299,34 @@ bytes_long T p q bytes long = none_short (q - p) (drop p T) bytes long
     none_short (suc n) [] (y ∷ ys) lt = refl
     none_short (suc n) [] [] lt = absurd (omega (arith, lt))
     none_short (suc n) (x ∷ X) [] lt = absurd (omega (arith, lt))
-    none_short (suc n) (x ∷ X) (y ∷ ys) lt = both_false (x == y) (bytes_eq (take n X) ys) (none_short n X ys (omega (arith, lt)))
+    none_short (suc n) (x ∷ X) (y ∷ ys) lt =
+        both_false (x == y) (bytes_eq (take n X) ys) (none_short n X ys (omega (arith, lt)))
 
 -- ---- one document after another
 
 module _ (g : Given) (w : Waiting) (rest : Row Waiting) (bodies : Row Span) (p : ℕ) where
-  pub body_more : (q : ℕ) → delimiter_from g.text w p ≡ Some q → bodies_from g (w ∷ rest) bodies p ≡ bodies_from g rest (bodies ++ span g.offset p q ∷ []) (past_line g.text q)
+  pub body_more : (q : ℕ) → delimiter_from g.text w p ≡ Some q →
+      bodies_from g (w ∷ rest) bodies p ≡ bodies_from g rest (bodies ++ span g.offset p q ∷ []) (past_line g.text q)
   unfolding bodies_from
   body_more q found = rw found refl
 
-  pub body_missing : delimiter_from g.text w p ≡ None → bodies_from g (w ∷ rest) bodies p ≡ Err (record { kind = UnclosedHere; at = w.operator })
+  pub body_missing : delimiter_from g.text w p ≡ None →
+      bodies_from g (w ∷ rest) bodies p ≡ Err (record { kind = UnclosedHere; at = w.operator })
   unfolding bodies_from
   body_missing found = rw found refl
 
 -- those that wait from one on
-pub waiting_from : (ws : Row the_waiting.Waiting) (i : ℕ) (d : the_waiting.Waiting) → i < length ws → drop i (map view_waiting ws) ≡ view_waiting (get_or ws i d) ∷ drop (i + 1) (map view_waiting ws)
+pub waiting_from : (ws : Row the_waiting.Waiting) (i : ℕ) (d : the_waiting.Waiting) → i < length ws →
+    drop i (map view_waiting ws) ≡ view_waiting (get_or ws i d) ∷ drop (i + 1) (map view_waiting ws)
 waiting_from [] i d lt = absurd (omega (arith, lt))
 waiting_from (w ∷ ws) zero d lt = refl
 waiting_from (w ∷ ws) (suc i) d lt =
     let one : suc i + 1 ≡ suc (i + 1) = omega arith in
-    waiting_from ws i d (omega (arith, lt)) ∙ ap (λ n. view_waiting (get_or ws i d) ∷ drop n (map view_waiting (w ∷ ws))) (sym one)
+    waiting_from ws i d (omega (arith, lt))
+    ∙ ap (λ n. view_waiting (get_or ws i d) ∷ drop n (map view_waiting (w ∷ ws))) (sym one)
 
-documents_end : (g : Given) (ws : Row the_waiting.Waiting) (i : ℕ) (bodies : Row Span) (p : ℕ) → length ws ≤ i → bodies_from g (drop i (map view_waiting ws)) bodies p ≡ Ok (bodies, p)
+documents_end : (g : Given) (ws : Row the_waiting.Waiting) (i : ℕ) (bodies : Row Span) (p : ℕ) → length ws ≤ i →
+    bodies_from g (drop i (map view_waiting ws)) bodies p ≡ Ok (bodies, p)
 unfolding bodies_from
 documents_end g [] zero bodies p le = refl
 documents_end g [] (suc i) bodies p le = refl
@@ -301,22 +334,31 @@ documents_end g (w ∷ ws) zero bodies p le = absurd (omega (arith, le))
 documents_end g (w ∷ ws) (suc i) bodies p le = documents_end g ws i bodies p (omega (arith, le))
 
 -- all of them
-pub bodies_read : (keep : Keep) (g : Given) (ws : Row the_waiting.Waiting) (start bodies : Row Span) (i p q : ℕ) → length ws ≤ i → bodies_from g (drop i (map view_waiting ws)) bodies q ≡ bodies_from g (map view_waiting ws) start p
-    → does (change bodies_here) keep g (record { at = p; waiting = map view_waiting ws; bodies = start }) ≡ Ok (tt, record { at = q; waiting = []; bodies = bodies })
-bodies_read keep g ws start bodies i p q le is = ap (λ x. nothing_read (state_by x)) (sym is ∙ documents_end g ws i bodies q le)
+pub bodies_read : (keep : Keep) (g : Given) (ws : Row the_waiting.Waiting) (start bodies : Row Span) (i p q : ℕ) →
+    length ws ≤ i → bodies_from g (drop i (map view_waiting ws)) bodies q ≡ bodies_from g (map view_waiting ws) start p
+    → does (change bodies_here) keep g (record { at = p; waiting = map view_waiting ws; bodies = start })
+    ≡ Ok (tt, record { at = q; waiting = []; bodies = bodies })
+bodies_read keep g ws start bodies i p q le is =
+    ap (λ x. nothing_read (state_by x)) (sym is ∙ documents_end g ws i bodies q le)
 
-pub bodies_stop : (keep : Keep) (g : Given) (ws : Row the_waiting.Waiting) (start bodies : Row Span) (i p q : ℕ) (bound : Limits) (e : Stop) (rest : Result (Row Span × ℕ) Fault)
-    → bodies_from g (drop i (map view_waiting ws)) bodies q ≡ bodies_from g (map view_waiting ws) start p → BodyRead bound (Err e) (bodies_from g (drop i (map view_waiting ws)) bodies q) rest
-    → Fails bound e (does (change bodies_here) keep g (record { at = p; waiting = map view_waiting ws; bodies = start }))
+pub bodies_stop : (keep : Keep) (g : Given) (ws : Row the_waiting.Waiting) (start bodies : Row Span) (i p q : ℕ)
+    (bound : Limits) (e : Stop) (rest : Result (Row Span × ℕ) Fault)
+    → bodies_from g (drop i (map view_waiting ws)) bodies q ≡ bodies_from g (map view_waiting ws) start p →
+    BodyRead bound (Err e) (bodies_from g (drop i (map view_waiting ws)) bodies q) rest
+    → Fails bound e (does (change bodies_here) keep g
+    (record { at = p; waiting = map view_waiting ws; bodies = start }))
 bodies_stop keep g ws start bodies i p q bound Memory rest is stop = stop
-bodies_stop keep g ws start bodies i p q bound (Wrong f) rest is stop = (ap (λ x. nothing_read (state_by x)) (sym is ∙ stop.0), stop.1)
+bodies_stop keep g ws start bodies i p q bound (Wrong f) rest is stop =
+    (ap (λ x. nothing_read (state_by x)) (sym is ∙ stop.0), stop.1)
 
 none_by : (keep : Keep) (g : Given) (bs : Row Span) (p : ℕ) (ws : Row the_waiting.Waiting) → length ws ≡ 0
-    → does (change bodies_here) keep g (record { at = p; waiting = map view_waiting ws; bodies = bs }) ≡ Ok (tt, record { at = p; waiting = map view_waiting ws; bodies = bs })
+    → does (change bodies_here) keep g (record { at = p; waiting = map view_waiting ws; bodies = bs })
+    ≡ Ok (tt, record { at = p; waiting = map view_waiting ws; bodies = bs })
 unfolding bodies_from
 none_by keep g bs p [] e = refl
 none_by keep g bs p (w ∷ ws) e = absurd (omega (arith, e))
 
 -- none
-pub none_awaited : (keep : Keep) (g : Given) (d : the_documents.Documents) (p : ℕ) → length d.waiting.items ≡ 0 → does (change bodies_here) keep g (standing_with d p) ≡ Ok (tt, standing_with d p)
+pub none_awaited : (keep : Keep) (g : Given) (d : the_documents.Documents) (p : ℕ) → length d.waiting.items ≡ 0 →
+    does (change bodies_here) keep g (standing_with d p) ≡ Ok (tt, standing_with d p)
 none_awaited keep g d p none = none_by keep g d.bodies.items p d.waiting.items none

@@ -55,21 +55,28 @@ unfolding agree same
 double_brace_set = refl
 
 -- the bytes before the first one of a set
-passed : (low high : List ℕ) (test : ℕ → Bool) → agree (is_outside low high) test 256 ≡ true → (run : List ℕ) → ((k : ℕ) → Fits w8 (get_or run k 0))
-    → (n : ℕ) → n ≡ prefix_len (is_outside low high) run → (n ≤ length run) × ((k : ℕ) → k < n → test (slice_index run k) ≡ true)
+passed : (low high : List ℕ) (test : ℕ → Bool) → agree (is_outside low high) test 256 ≡ true → (run : List ℕ) →
+    ((k : ℕ) → Fits w8 (get_or run k 0))
+    → (n : ℕ) → n ≡ prefix_len (is_outside low high) run → (n ≤ length run)
+    × ((k : ℕ) → k < n → test (slice_index run k) ≡ true)
 passed low high test all run bytes n is = (
   omega (arith, is, prefix_len-le-length (is_outside low high) run),
-  λ k below. sym (agree_at (is_outside low high) test 256 (slice_index run k) all (bytes k).fits) ∙ prefix_len_passes (is_outside low high) run k 0 (omega (arith, is, below)),
+  λ k below. sym (agree_at (is_outside low high) test 256 (slice_index run k) all (bytes k).fits)
+      ∙ prefix_len_passes (is_outside low high) run k 0 (omega (arith, is, below)),
 )
 
-pub plain_passed : (run : List ℕ) → ((k : ℕ) → Fits w8 (get_or run k 0)) → (n : ℕ) → n ≡ prefix_len (is_outside PLAIN SPECIAL) run → ArePlain Plain run n
+pub plain_passed : (run : List ℕ) → ((k : ℕ) → Fits w8 (get_or run k 0)) → (n : ℕ) →
+    n ≡ prefix_len (is_outside PLAIN SPECIAL) run → ArePlain Plain run n
 plain_passed = passed PLAIN SPECIAL (is_plain Plain) plain_set
 
-pub double_passed : (run : List ℕ) → ((k : ℕ) → Fits w8 (get_or run k 0)) → (n : ℕ) → n ≡ prefix_len (is_outside DOUBLE SPECIAL) run → ArePlain Double run n
+pub double_passed : (run : List ℕ) → ((k : ℕ) → Fits w8 (get_or run k 0)) → (n : ℕ) →
+    n ≡ prefix_len (is_outside DOUBLE SPECIAL) run → ArePlain Double run n
 double_passed = passed DOUBLE SPECIAL (is_plain Double) double_set
 
-pub brace_passed : (run : List ℕ) → ((k : ℕ) → Fits w8 (get_or run k 0)) → (n : ℕ) → n ≡ prefix_len (is_outside BRACE SPECIAL) run → ArePlain Brace run n
+pub brace_passed : (run : List ℕ) → ((k : ℕ) → Fits w8 (get_or run k 0)) → (n : ℕ) →
+    n ≡ prefix_len (is_outside BRACE SPECIAL) run → ArePlain Brace run n
 brace_passed = passed BRACE SPECIAL (is_plain Brace) brace_set
 
-pub double_brace_passed : (run : List ℕ) → ((k : ℕ) → Fits w8 (get_or run k 0)) → (n : ℕ) → n ≡ prefix_len (is_outside DOUBLE_BRACE SPECIAL) run → ArePlain DoubleBrace run n
+pub double_brace_passed : (run : List ℕ) → ((k : ℕ) → Fits w8 (get_or run k 0)) → (n : ℕ) →
+    n ≡ prefix_len (is_outside DOUBLE_BRACE SPECIAL) run → ArePlain DoubleBrace run n
 double_brace_passed = passed DOUBLE_BRACE SPECIAL (is_plain DoubleBrace) double_brace_set

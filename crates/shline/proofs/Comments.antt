@@ -8,26 +8,30 @@ use Rattle.shline.proofs.Searches.{byte_passed}
 
 -- ---- blanks before a place that counts from b
 
-pub blanks_before_on : (T : List ℕ) (b q : ℕ) → 0 < q → raw_in is_blank T (b + (q - 1)) ≡ true → before_blanks T (b + q) ≡ before_blanks T (b + (q - 1))
+pub blanks_before_on : (T : List ℕ) (b q : ℕ) → 0 < q → raw_in is_blank T (b + (q - 1)) ≡ true →
+    before_blanks T (b + q) ≡ before_blanks T (b + (q - 1))
 blanks_before_on T b q lt one =
     let back : b + (q - 1) ≡ b + q - 1 = omega (arith, lt) in
     rw back (blanks_before T (b + q) (omega (arith, lt)) (rw back at one))
 
-pub no_blanks_before_on : (T : List ℕ) (b q : ℕ) → 0 < q → raw_in is_blank T (b + (q - 1)) ≡ false → before_blanks T (b + q) ≡ b + q
+pub no_blanks_before_on : (T : List ℕ) (b q : ℕ) → 0 < q → raw_in is_blank T (b + (q - 1)) ≡ false →
+    before_blanks T (b + q) ≡ b + q
 no_blanks_before_on T b q lt none =
     let back : b + (q - 1) ≡ b + q - 1 = omega (arith, lt) in
     no_blanks_before T (b + q) (omega (arith, lt)) (rw back at none)
 
 -- ---- the `#` of a comment
 
-byte_of_comment : (x : Option ℕ) → is_byte x 35 ≡ true → (is_none x ≡ false) × (is_byte x 10 ≡ false) × (passes is_blank x ≡ false)
+byte_of_comment : (x : Option ℕ) → is_byte x 35 ≡ true → (is_none x ≡ false) × (is_byte x 10 ≡ false)
+    × (passes is_blank x ≡ false)
 byte_of_comment None is = absurd cc
 byte_of_comment (Some b) is =
     let same : b ≡ 35 = grind (arith, nat_tests, is) in
     rw same (refl, refl, refl)
 
 -- it is no blank, and its line ends behind it
-pub comment_begins : (T : List ℕ) (p : ℕ) → raw_stands T p 35 ≡ true → (raw_in is_blank T p ≡ false) × (p < next_newline T p)
+pub comment_begins : (T : List ℕ) (p : ℕ) → raw_stands T p 35 ≡ true → (raw_in is_blank T p ≡ false)
+    × (p < next_newline T p)
 unfolding raw_stands raw_in at_end raw_past
 comment_begins T p is =
     let byte = byte_of_comment (slice_get T p) is in

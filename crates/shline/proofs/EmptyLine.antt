@@ -35,25 +35,31 @@ next : (U : List ℕ) → behind (10 ∷ U) 0 ≡ 1
 unfolding behind
 next U = ap (λ n. n + 1) (joins U)
 
-pub told : (edition : Edition) (U : List ℕ) (keep : Keep) (blank : Bool) (o : ℕ) → line_told edition (10 ∷ U) keep blank 0 o ≡ Ok (([], true), standing 1)
-unfolding a_line an_open_line nothing_waits filled_row next_token on_line a_remark a_comment end_of_line token_at comment_at raw_stands raw_in raw_past count_front continues is_broken_at bodies_from newline_first
+pub told : (edition : Edition) (U : List ℕ) (keep : Keep) (blank : Bool) (o : ℕ) →
+    line_told edition (10 ∷ U) keep blank 0 o ≡ Ok (([], true), standing 1)
+unfolding a_line an_open_line nothing_waits filled_row next_token on_line a_remark a_comment end_of_line token_at
+    comment_at raw_stands raw_in raw_past count_front continues is_broken_at bodies_from newline_first
 told edition U keep blank o =
-    let none = no_entries (level most_open) (list_so (none_listed blank) newline_first) keep (given edition (10 ∷ U) o) (standing 0) refl in
+    let none = no_entries (level most_open) (list_so (none_listed blank) newline_first) keep (given edition (10 ∷ U) o)
+    (standing 0) refl in
     rw (place U, joins U, none, next U) refl
 
 value : Option ℕ → ℕ
 value None = 0
 value (Some b) = b
 
-begun : (edition : Edition) (T : List ℕ) (keep : Keep) (blank : Bool) (o : ℕ) → slice_get T 0 ≡ Some 10 → line_told edition T keep blank 0 o ≡ Ok (([], true), standing 1)
+begun : (edition : Edition) (T : List ℕ) (keep : Keep) (blank : Bool) (o : ℕ) → slice_get T 0 ≡ Some 10 →
+    line_told edition T keep blank 0 o ≡ Ok (([], true), standing 1)
 unfolding value
 begun edition [] keep blank o is = absurd cc
 begun edition (b ∷ U) keep blank o is =
     let newline : b ≡ 10 = ap value is in
-    subst (λ c. line_told edition (c ∷ U) keep blank 0 o ≡ Ok (([], true), standing 1)) (sym newline) (told edition U keep blank o)
+    subst (λ c. line_told edition (c ∷ U) keep blank 0 o ≡ Ok (([], true), standing 1)) (sym newline)
+    (told edition U keep blank o)
 
 -- a newline is the first byte of the line at p
-pub newline_told : (edition : Edition) (B : List ℕ) (p : ℕ) (keep : Keep) (blank : Bool) (o : ℕ) → slice_get B p ≡ Some 10 → line_told edition B keep blank p o ≡ Ok (([], true), standing 1)
+pub newline_told : (edition : Edition) (B : List ℕ) (p : ℕ) (keep : Keep) (blank : Bool) (o : ℕ) →
+    slice_get B p ≡ Some 10 → line_told edition B keep blank p o ≡ Ok (([], true), standing 1)
 newline_told edition B p keep blank o first =
     let here : p + 0 ≡ p = omega arith in
     begun edition (drop p B) keep blank o (get_drop p B 0 ∙ ap (slice_get B) here ∙ first)

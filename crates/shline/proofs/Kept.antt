@@ -14,7 +14,8 @@ inside_kept true keep = refl
 inside_kept false keep = refl
 
 pub substitution_inside : (k : ℕ) (keep : Keep) (g : Given) (s : State) (room b : ℕ) (ss : Row ASubst) → 0 < room
-    → does ((level room).substitution b ss) (kept k keep) g s ≡ does (one_substitution (level (room - 1)) b ss) (kept k (inside keep)) g s
+    → does ((level room).substitution b ss) (kept k keep) g s
+    ≡ does (one_substitution (level (room - 1)) b ss) (kept k (inside keep)) g s
 unfolding level a_substitution
 substitution_inside k keep g s zero b ss lt = absurd (omega arith)
 substitution_inside k keep g s (suc room) b ss lt = rw (sub-one, ← inside_kept (k == 1) keep) refl

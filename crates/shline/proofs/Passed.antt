@@ -7,20 +7,25 @@ use Rattle.shgrammar.proofs.Stretches.{joined_more, past_more, past_none, raw_mo
 use Rattle.shgrammar.proofs.Unbroken.{blanks_on, blanks_whole}
 
 -- one of them is, or two
-raw_one : (test : ℕ → Bool) (T : List ℕ) (p : ℕ) → raw_in test T p ≡ true → raw_in test T (p + 1) ≡ false → raw_past test T p ≡ p + 1
+raw_one : (test : ℕ → Bool) (T : List ℕ) (p : ℕ) → raw_in test T p ≡ true → raw_in test T (p + 1) ≡ false →
+    raw_past test T p ≡ p + 1
 raw_one test T p one none = raw_more test T p one ∙ raw_none test T (p + 1) none
 
-raw_two : (test : ℕ → Bool) (T : List ℕ) (p : ℕ) → raw_in test T p ≡ true → raw_in test T (p + 1) ≡ true → raw_past test T (p + 2) ≡ raw_past test T p
+raw_two : (test : ℕ → Bool) (T : List ℕ) (p : ℕ) → raw_in test T p ≡ true → raw_in test T (p + 1) ≡ true →
+    raw_past test T (p + 2) ≡ raw_past test T p
 raw_two test T p one two =
     let next : p + 2 ≡ p + 1 + 1 = omega arith in
     ap (raw_past test T) next ∙ sym (raw_more test T (p + 1) two) ∙ sym (raw_more test T p one)
 
 -- the same, where the places are told by their distance
-pub raw_one_on : (test : ℕ → Bool) (T : List ℕ) (p q : ℕ) → q ≡ p + 1 → raw_in test T p ≡ true → raw_in test T q ≡ false → raw_past test T p ≡ q
+pub raw_one_on : (test : ℕ → Bool) (T : List ℕ) (p q : ℕ) → q ≡ p + 1 → raw_in test T p ≡ true → raw_in test T q ≡ false
+    → raw_past test T p ≡ q
 raw_one_on test T p q is one none = raw_one test T p one (subst (λ (k : ℕ). raw_in test T k ≡ false) is none) ∙ sym is
 
-pub raw_two_on : (test : ℕ → Bool) (T : List ℕ) (p q r : ℕ) → q ≡ p + 1 → r ≡ p + 2 → raw_in test T p ≡ true → raw_in test T q ≡ true → raw_past test T r ≡ raw_past test T p
-raw_two_on test T p q r is far one two = ap (raw_past test T) far ∙ raw_two test T p one (subst (λ (k : ℕ). raw_in test T k ≡ true) is two)
+pub raw_two_on : (test : ℕ → Bool) (T : List ℕ) (p q r : ℕ) → q ≡ p + 1 → r ≡ p + 2 → raw_in test T p ≡ true →
+    raw_in test T q ≡ true → raw_past test T r ≡ raw_past test T p
+raw_two_on test T p q r is far one two = ap (raw_past test T) far
+    ∙ raw_two test T p one (subst (λ (k : ℕ). raw_in test T k ≡ true) is two)
 
 -- no blank stands at a place, nor a continuation
 pub no_blanks : (T : List ℕ) (p : ℕ) → continues T p ≡ false → raw_in is_blank T p ≡ false → past_blanks T p ≡ p
@@ -50,4 +55,5 @@ blanks_over T p joined =
 
 pub blanks_over_on : (T : List ℕ) (p q r : ℕ) → q ≡ p + 2 → r ≡ raw_past is_blank T q → continues T p ≡ true
     → past_blanks T r ≡ past_blanks T p
-blanks_over_on T p q r next end joined = ap (past_blanks T) (end ∙ ap (raw_past is_blank T) next) ∙ blanks_over T p joined
+blanks_over_on T p q r next end joined = ap (past_blanks T) (end ∙ ap (raw_past is_blank T) next)
+    ∙ blanks_over T p joined

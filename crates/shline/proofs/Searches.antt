@@ -16,7 +16,8 @@ one_pass : (x : Bool) → x ≡ true → not x ≡ false
 one_pass x e = rw e refl
 
 -- a byte of a run, as it stands in the text
-in_run : (B : List ℕ) (at i : ℕ) (run : List ℕ) → IsRun B at run → at ≤ length B → i < length run → slice_get B (at + i) ≡ Some (slice_index run i)
+in_run : (B : List ℕ) (at i : ℕ) (run : List ℕ) → IsRun B at run → at ≤ length B → i < length run →
+    slice_get B (at + i) ≡ Some (slice_index run i)
 in_run B at i run is low lt =
     let short : at + length run ≤ length B = is.short low in
     slice_get-get_or B (at + i) 0 (omega (arith, short, lt)) ∙ ap Some (is.same i lt)
@@ -29,12 +30,14 @@ module _ (test : ℕ → Bool) (B : List ℕ) (at : ℕ) (run : List ℕ) (is : 
   others n short none k k_low k_high =
       let below : k - at < n = omega (arith, k_low, k_high) in
       let there : at + (k - at) ≡ k = omega (arith, k_low) in
-      let byte : slice_get B k ≡ Some (slice_index run (k - at)) = ap (slice_get B) (sym there) ∙ in_run B at (k - at) run is low (omega (arith, below, short)) in
+      let byte : slice_get B k ≡ Some (slice_index run (k - at)) = ap (slice_get B) (sym there)
+      ∙ in_run B at (k - at) run is low (omega (arith, below, short)) in
       rw byte (no_pass (test (slice_index run (k - at))) (none (k - at) below))
 
   -- none of its bytes is
   pub such_passed : IsFirstByte test run None → next_such test B at ≡ next_such test B (at + length run)
-  such_passed none = raw_on (λ c. not (test c)) B at (length run) (others (length run) (omega arith) (λ j lt. none j (omega arith) lt))
+  such_passed none = raw_on (λ c. not (test c)) B at (length run)
+      (others (length run) (omega arith) (λ j lt. none j (omega arith) lt))
 
   -- the first that is
   pub such_found : (i : ℕ) → IsFirstByte test run (Some i) → next_such test B at ≡ at + i
@@ -51,18 +54,23 @@ unfolding raw_in
 such_end test B at end = raw_none (λ c. not (test c)) B at (rw (slice_get_past B at end) refl)
 
 -- the same in the text from an offset on
-such_behind : (test : ℕ → Bool) (B : List ℕ) (base p : ℕ) → next_such test (drop base B) p ≡ next_such test B (base + p) - base
+such_behind : (test : ℕ → Bool) (B : List ℕ) (base p : ℕ) →
+    next_such test (drop base B) p ≡ next_such test B (base + p) - base
 unfolding raw_past
 such_behind test B base p =
-    let same : count_front (λ c. not (test c)) (drop p (drop base B)) ≡ count_front (λ c. not (test c)) (drop (base + p) B) = ap (count_front (λ c. not (test c))) (drop-drop p base B) in
+    let same : count_front (λ c. not (test c)) (drop p (drop base B))
+    ≡ count_front (λ c. not (test c)) (drop (base + p) B) =
+    ap (count_front (λ c. not (test c))) (drop-drop p base B) in
     omega (arith, same)
 
 -- a place of the text, which counts from begin, where the source was searched from there on
-pub such_on : (test : ℕ → Bool) (B : List ℕ) (base begin p r : ℕ) → r ≡ next_such test B (base + begin + p) → base + begin ≤ r
+pub such_on : (test : ℕ → Bool) (B : List ℕ) (base begin p r : ℕ) → r ≡ next_such test B (base + begin + p) →
+    base + begin ≤ r
     → begin + (r - (base + begin)) ≡ next_such test (drop base B) (begin + p)
 such_on test B base begin p r is low =
     let there : base + (begin + p) ≡ base + begin + p = omega arith in
-    let found = such_behind test B base (begin + p) ∙ ap (λ (q : ℕ). next_such test B q - base) there ∙ ap (λ (q : ℕ). q - base) (sym is) in
+    let found = such_behind test B base (begin + p) ∙ ap (λ (q : ℕ). next_such test B q - base) there
+    ∙ ap (λ (q : ℕ). q - base) (sym is) in
     let back : begin + (r - (base + begin)) ≡ r - base = omega (arith, low) in
     back ∙ sym found
 
@@ -80,7 +88,8 @@ no_byte : (c : ℕ) (b : Option ℕ) → is_none b ≡ true → passes (λ x. no
 no_byte c None none = refl
 no_byte c (Some x) none = absurd cc
 
-pub byte_passed : (c : ℕ) (T : List ℕ) (p : ℕ) → at_end T p ≡ false → raw_stands T p c ≡ false → next_of c T p ≡ next_of c T (p + 1)
+pub byte_passed : (c : ℕ) (T : List ℕ) (p : ℕ) → at_end T p ≡ false → raw_stands T p c ≡ false →
+    next_of c T p ≡ next_of c T (p + 1)
 unfolding raw_in at_end raw_stands
 byte_passed c T p some other = raw_more (λ x. not (x == c)) T p (other_byte c (slice_get T p) some other)
 

@@ -19,12 +19,15 @@ use Rattle.shline.specs.Clauses.{is_compound}
 use Rattle.shline.specs.declared.documents.Waiting as the_waiting
 use Rattle.shline.specs.Limits.{Waits, limits, wants_memory}
 
-byte_some : (T : List ℕ) (p : ℕ) (b : Option ℕ) → slice_get T p ≡ b → is_byte b 60 ≡ true → list_any (λ b. b == 60) T ≡ true
+byte_some : (T : List ℕ) (p : ℕ) (b : Option ℕ) → slice_get T p ≡ b → is_byte b 60 ≡ true →
+    list_any (λ b. b == 60) T ≡ true
 byte_some T p None is e = absurd cc
-byte_some T p (Some c) is e = list_any_at (λ b. b == 60) T p 0 (slice_get_within T p c is) (ap (λ z. z == 60) (get_or_from_slice_get T p c 0 is) ∙ e)
+byte_some T p (Some c) is e = list_any_at (λ b. b == 60) T p 0 (slice_get_within T p c is)
+    (ap (λ z. z == 60) (get_or_from_slice_get T p c 0 is) ∙ e)
 
 -- the operator of a here-document stands in the text
-pub here_wants : (k : ℕ) (T : List ℕ) (token : Token) (p : ℕ) (o : RedirectOperator) → Shows token T p → redirect_operator_of token ≡ Some o → takes_here o ≡ true → wants_memory k T ≡ true
+pub here_wants : (k : ℕ) (T : List ℕ) (token : Token) (p : ℕ) (o : RedirectOperator) → Shows token T p →
+    redirect_operator_of token ≡ Some o → takes_here o ≡ true → wants_memory k T ≡ true
 unfolding raw_stands
 here_wants k T token p o shows is takes = or_right _ _ (byte_some T p _ refl (shows.11 o is takes))
 
@@ -33,21 +36,25 @@ is_operator (tokens.Redirect p) o is = refl
 is_operator _ o is = absurd cc
 
 -- the operator of a redirection is a byte at least
-pub operator_read : (T : List ℕ) (token : Token) (p : ℕ) (o : RedirectOperator) → Shows token T p → redirect_operator_of token ≡ Some o → IsRead T p
+pub operator_read : (T : List ℕ) (token : Token) (p : ℕ) (o : RedirectOperator) → Shows token T p →
+    redirect_operator_of token ≡ Some o → IsRead T p
 operator_read T token p o shows is = shows.1 (is_operator token o is)
 
 -- one that waits has taken some
-pub waits_memory : (k origin : ℕ) (T : List ℕ) (ws : List the_waiting.Waiting) (i : ℕ) → All (Waits (limits k origin T)) ws → i < length ws → wants_memory k T ≡ true
+pub waits_memory : (k origin : ℕ) (T : List ℕ) (ws : List the_waiting.Waiting) (i : ℕ) →
+    All (Waits (limits k origin T)) ws → i < length ws → wants_memory k T ≡ true
 waits_memory k origin T [] i all lt = absurd (omega (arith, lt))
 waits_memory k origin T (w ∷ ws) i all lt = (All-head (Waits (limits k origin T)) w ws all).1
 
-kept_by : (tree x : Bool) (cs : List Comment) → (tree ≡ false → map view_comment cs ≡ []) → 0 < length cs → (tree || x) ≡ true
+kept_by : (tree x : Bool) (cs : List Comment) → (tree ≡ false → map view_comment cs ≡ []) → 0 < length cs →
+    (tree || x) ≡ true
 kept_by true x cs none some = refl
 kept_by false x [] none some = absurd (omega (arith, some))
 kept_by false x (c ∷ cs) none some = let is = none refl in absurd cc
 
 -- comments are there for a tree alone
-pub kept_some : (k : ℕ) (T : List ℕ) (cs : List Comment) → ((k == 1) ≡ false → map view_comment cs ≡ []) → 0 < length cs → wants_memory k T ≡ true
+pub kept_some : (k : ℕ) (T : List ℕ) (cs : List Comment) → ((k == 1) ≡ false → map view_comment cs ≡ []) → 0 < length cs
+    → wants_memory k T ≡ true
 kept_some k T cs none some = kept_by (k == 1) _ cs none some
 
 -- redirections make no other kind of a command

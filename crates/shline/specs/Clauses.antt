@@ -87,7 +87,8 @@ Between cursor p q = (p ≤ q) × Inside cursor q
 
 -- two bytes at least are read from the begin of the token in hand on
 abbrev pub IsLong : {S : Type 0} {k : ℕ} {g : _} → Cursor S k g → Type 0
-IsLong cursor = IsRead (text_of cursor) (start_of cursor) × IsRead (text_of cursor) (behind (text_of cursor) (start_of cursor))
+IsLong cursor = IsRead (text_of cursor) (start_of cursor)
+    × IsRead (text_of cursor) (behind (text_of cursor) (start_of cursor))
 
 -- a definition leads from a place to another, which is no further to the left
 abbrev pub Reaches : {S : Type 0} {k : ℕ} {g : _} → Cursor S k g → (List ℕ → ℕ → ℕ) → ℕ → ℕ → Type 0
@@ -124,7 +125,11 @@ view_waiting w = record { operator = w.operator; delimiter = w.delimiter.items; 
 
 -- a place, with the here-documents of a level
 abbrev pub standing_with : the_documents.Documents → ℕ → State
-standing_with documents p = record { at = p; waiting = map view_waiting documents.waiting.items; bodies = documents.bodies.items }
+standing_with documents p = record {
+  at = p;
+  waiting = map view_waiting documents.waiting.items;
+  bodies = documents.bodies.items;
+}
 
 -- where it stands between tokens
 abbrev pub at_place : {S : Type 0} {k : ℕ} {g : _} → Cursor S k g → State
@@ -158,11 +163,13 @@ Steps old new p = (here_of new ≡ p) × (start_of old < here_of new) × Stays o
 
 -- the next token is in hand
 abbrev pub Looks : {S : Type 0} {k : ℕ} {g : _} → Cursor S k g → Position → Cursor S k g → Type 0
-Looks old position new = (new.next ≡ next_from old position) × (start_of new ≡ past_blanks (text_of old) (here_of old)) × (here_of old ≤ start_of new) × Stays old new
+Looks old position new = (new.next ≡ next_from old position) × (start_of new ≡ past_blanks (text_of old) (here_of old))
+    × (here_of old ≤ start_of new) × Stays old new
 
 -- bytes that are ordinary in a mode were passed
 abbrev pub Skips : {S : Type 0} {k : ℕ} {g : _} → Cursor S k g → Mode → Cursor S k g → Type 0
-Skips old mode new = ArePlain mode (text_of old) (here_of old) (here_of new) × (here_of old ≤ here_of new) × (here_of new ≤ length (text_of old)) × Stays old new
+Skips old mode new = ArePlain mode (text_of old) (here_of old) (here_of new) × (here_of old ≤ here_of new)
+    × (here_of new ≤ length (text_of old)) × Stays old new
 
 -- in plain mode, where no word ends, something was read
 abbrev pub SomeRead : {S : Type 0} {k : ℕ} {g : _} → Cursor S k g → Mode → Cursor S k g → Type 0
@@ -195,24 +202,29 @@ abbrev pub Leads : {S X : Type 0} {k : ℕ} {g : _} → Cursor S k g → Form X 
 Leads old form s x t new = (reads old form s ≡ Ok (x, t)) × (s.at ≤ t.at) × Keeps old new
 
 -- What a function returned, seen by view, is what a form gives between two states. Or it stops.
-abbrev pub Goes : {S X Y : Type 0} {k : ℕ} {g : _} → Cursor S k g → Form Y → State → Result X Stop → (X → Y) → State → Cursor S k g → Type 0
+abbrev pub Goes : {S X Y : Type 0} {k : ℕ} {g : _} → Cursor S k g → Form Y → State → Result X Stop → (X → Y) → State →
+    Cursor S k g → Type 0
 Goes old form s (Ok x) view t new = Leads old form s (view x) t new
 Goes old form s (Err e) view t new = Fails (limits_of old) e (reads old form s) × Keeps old new
 
 -- from a place to a place
-abbrev pub Reads : {S X Y : Type 0} {k : ℕ} {g : _} → Cursor S k g → Form Y → Result X Stop → (X → Y) → Cursor S k g → Type 0
+abbrev pub Reads : {S X Y : Type 0} {k : ℕ} {g : _} → Cursor S k g → Form Y → Result X Stop → (X → Y) → Cursor S k g →
+    Type 0
 Reads old form result view new = Goes old form (at_place old) result view (at_place new) new
 
 -- from a token in hand to the place behind what was read
-abbrev pub Passes : {S X Y : Type 0} {k : ℕ} {g : _} → Cursor S k g → Form Y → Result X Stop → (X → Y) → Cursor S k g → Type 0
+abbrev pub Passes : {S X Y : Type 0} {k : ℕ} {g : _} → Cursor S k g → Form Y → Result X Stop → (X → Y) → Cursor S k g →
+    Type 0
 Passes old form result view new = Goes old form (at_token old) result view (at_place new) new
 
 -- from a place to a token in hand
-abbrev pub Meets : {S X Y : Type 0} {k : ℕ} {g : _} → Cursor S k g → Form Y → Result X Stop → (X → Y) → Cursor S k g → Type 0
+abbrev pub Meets : {S X Y : Type 0} {k : ℕ} {g : _} → Cursor S k g → Form Y → Result X Stop → (X → Y) → Cursor S k g →
+    Type 0
 Meets old form result view new = Goes old form (at_place old) result view (at_token new) new
 
 -- from a token in hand to another
-abbrev pub Takes : {S X Y : Type 0} {k : ℕ} {g : _} → Cursor S k g → Form Y → Result X Stop → (X → Y) → Cursor S k g → Type 0
+abbrev pub Takes : {S X Y : Type 0} {k : ℕ} {g : _} → Cursor S k g → Form Y → Result X Stop → (X → Y) → Cursor S k g →
+    Type 0
 Takes old form result view new = Goes old form (at_token old) result view (at_token new) new
 
 -- The same of a form that cannot stop,
@@ -220,17 +232,22 @@ abbrev pub Finds : {S X : Type 0} {k : ℕ} {g : _} → Cursor S k g → Form X 
 Finds old form x new = Leads old form (at_token old) x (at_token new) new
 
 -- and of a turn, which answers whether more may follow, and then leads on,
-abbrev pub Turns : {S A : Type 0} {k : ℕ} {g : _} → Cursor S k g → Form (Step A) → Result Bool Stop → A → Cursor S k g → Type 0
-Turns old form (Ok more) a new = (reads old form (at_token old) ≡ Ok (step_if more a, at_token new)) × Onward (start_of old) (start_of new) more × Keeps old new
+abbrev pub Turns : {S A : Type 0} {k : ℕ} {g : _} → Cursor S k g → Form (Step A) → Result Bool Stop → A → Cursor S k g →
+    Type 0
+Turns old form (Ok more) a new = (reads old form (at_token old) ≡ Ok (step_if more a, at_token new))
+    × Onward (start_of old) (start_of new) more × Keeps old new
 Turns old form (Err e) a new = Fails (limits_of old) e (reads old form (at_token old)) × Keeps old new
 
 -- or of one that surely goes on.
-abbrev pub Adds : {S A : Type 0} {k : ℕ} {g : _} → Cursor S k g → Form (Step A) → Result (Unit {0}) Stop → A → Cursor S k g → Type 0
-Adds old form (Ok x) a new = (reads old form (at_token old) ≡ Ok (again a, at_token new)) × (start_of old < start_of new) × Keeps old new
+abbrev pub Adds : {S A : Type 0} {k : ℕ} {g : _} → Cursor S k g → Form (Step A) → Result (Unit {0}) Stop → A →
+    Cursor S k g → Type 0
+Adds old form (Ok x) a new = (reads old form (at_token old) ≡ Ok (again a, at_token new))
+    × (start_of old < start_of new) × Keeps old new
 Adds old form (Err e) a new = Fails (limits_of old) e (reads old form (at_token old)) × Keeps old new
 
 -- What is left to be read from a state on gives what all gives.
-abbrev pub Rests : {S X : Type 0} {k : ℕ} {g : _} → Cursor S k g → Form X → State → Form X → State → Cursor S k g → Type 0
+abbrev pub Rests : {S X : Type 0} {k : ℕ} {g : _} → Cursor S k g → Form X → State → Form X → State → Cursor S k g →
+    Type 0
 Rests old form s rest t new = (reads old rest t ≡ reads old form s) × (s.at ≤ t.at) × Keeps old new
 
 -- a line of a text ends at q: behind its newline, or at the end, where it has none or is a delimiter's
@@ -250,7 +267,8 @@ BodiesFail bound Memory all = bound.memory ≡ true
 BodiesFail bound (Wrong f) all = (all ≡ Err f) × (f.at ≤ bound.furthest)
 
 -- One document's body was read: what all bodies give is what is given behind it. Or it stops all of them.
-abbrev pub BodyRead : Limits → Result (Unit {0}) Stop → Result (Row Span × ℕ) Fault → Result (Row Span × ℕ) Fault → Type 0
+abbrev pub BodyRead : Limits → Result (Unit {0}) Stop → Result (Row Span × ℕ) Fault → Result (Row Span × ℕ) Fault →
+    Type 0
 BodyRead bound (Ok x) all rest = all ≡ rest
 BodyRead bound (Err e) all rest = BodiesFail bound e all
 

@@ -1,4 +1,5 @@
--- What the token in hand says of the bytes from its begin on. It does not unfold by itself: few functions ask.
+-- What the token in hand says of the bytes from its begin on. It does not unfold by itself: few functions
+-- ask.
 use Rattle.std.specs.Prelude.{ℕ, List}
 use Rattle.shgrammar.specs.declared.token.Token.{Token}
 use Rattle.shgrammar.specs.Shows.{Shows}

@@ -8,7 +8,13 @@ use Rattle.shgrammar.specs.Compounds.{CasesSo, cases_so}
 use Rattle.shgrammar.specs.Lists.{Listed}
 
 abbrev pub view_listed : the_listed.Listed → Listed
-view_listed l = record { entries = map view_entry l.entries.items; blank = l.blank; begun = l.begun; commands = l.commands; parted = l.parted }
+view_listed l = record {
+  entries = map view_entry l.entries.items;
+  blank = l.blank;
+  begun = l.begun;
+  commands = l.commands;
+  parted = l.parted;
+}
 
 abbrev pub view_cases : the_cases.Cases → Next → CasesSo
 view_cases c n = cases_so (map view_case_item c.items.items) (view_join c.lines).comments n

@@ -13,7 +13,8 @@ abbrev pub PieceShows : Mode → ℕ → Piece → List ℕ → ℕ → Type 0
 PieceShows mode nested piece T p =
     ((piece ≢ pieces.Missing) × ((mode ≢ modes.Plain) ⊎ (piece ≢ pieces.Closer)) → p < length T)
     × (piece ≡ pieces.Escape → (p + 2 ≤ length T) × (raw_stands T p 92 ≡ true))
-    × ((piece ≡ pieces.Pid) ⊎ (piece ≡ pieces.Subst) ⊎ (piece ≡ pieces.Arith) ⊎ (piece ≡ pieces.Param) ⊎ (piece ≡ pieces.DollarSingle) → IsRead T (p + 1))
+    × ((piece ≡ pieces.Pid) ⊎ (piece ≡ pieces.Subst) ⊎ (piece ≡ pieces.Arith) ⊎ (piece ≡ pieces.Param) ⊎
+    (piece ≡ pieces.DollarSingle) → IsRead T (p + 1))
     × (piece ≡ pieces.Arith → IsRead T (behind T (p + 1)))
     × (mode ≡ modes.Arith → piece ≡ pieces.Closer → IsRead T (p + 1))
     × (piece ≡ pieces.Close → 0 < nested)

@@ -194,7 +194,10 @@ impl<'a, S: Source, const KEEP: u8> Cursor<'a, S, KEEP> {
             let at = self.start();
             return Err(self.wrong_at(FaultKind::TooDeep, at));
         }
-        let opened = self.reserved_or_paren(matches!(opener, Opener::Paren), opener.position_after());
+        let opened = self.reserved_or_paren(
+            matches!(opener, Opener::Paren),
+            opener.position_after(),
+        );
         let (form, closer) = self.form(opener, room - 1)?;
         if !self.grows() {
             mem::forget(form);

@@ -64,8 +64,11 @@ pub(crate) struct Cursor<'a, S: Source, const KEEP: u8> {
     ghost tells: { origin + length (drop base (S.bytes source.now)) < 2 ^ 64 },
     ghost inside: { begin + at ≤ length (drop base (S.bytes source.now)) },
     ghost within: { begin + next_at ≤ length (drop base (S.bytes source.now)) },
-    ghost shows: { InHand next.token (drop base (S.bytes source.now)) (begin + next_at) } by { in_hand_prop next.token (drop base (S.bytes source.now)) (begin + next_at) },
-    ghost waits: { All (Waits (limits KEEP origin (drop base (S.bytes source.now)))) documents.waiting.items },
+    ghost shows: { InHand next.token (drop base (S.bytes source.now))
+        (begin + next_at) } by { in_hand_prop next.token (drop base (S.bytes source.now))
+            (begin + next_at) },
+    ghost waits: { All (Waits (limits KEEP origin (drop base (S.bytes source.now))))
+        documents.waiting.items },
 }
 
 impl<'a, S: Source, const KEEP: u8> Cursor<'a, S, KEEP> {

@@ -213,7 +213,8 @@ impl<'a, S: Source, const KEEP: u8> Cursor<'a, S, KEEP> {
     #[tactic(auto, using(crate::proofs::Awaited::stripped_line, crate::proofs::Awaited::tabs_before))]
     fn is_delimiter(&self, document: &Waiting, from: usize, end: usize) -> bool
         requires { Reaches self.now next_newline from end }
-        ensures { result ≡ is_delimiter (view_waiting document.now) (line_bytes_from self.now from) }
+        ensures { result ≡ is_delimiter (view_waiting document.now)
+            (line_bytes_from self.now from) }
     {
         if document.strip {
             return self.are_bytes(self.raw_past(from, Class::Tab), end, &document.delimiter);
@@ -257,7 +258,8 @@ impl<'a, S: Source, const KEEP: u8> Cursor<'a, S, KEEP> {
     /// Whether a line takes in the one behind it.
     fn takes_newline(&self, document: &Waiting, from: usize, end: usize) -> bool
         requires { Reaches self.now next_newline from end }
-        ensures { result ≡ takes_newline (view_waiting document.now) (line_bytes_from self.now from) }
+        ensures { result ≡ takes_newline (view_waiting document.now)
+            (line_bytes_from self.now from) }
     {
         !document.literal && self.ends_odd(from, end)
     }
@@ -291,7 +293,8 @@ impl<'a, S: Source, const KEEP: u8> Cursor<'a, S, KEEP> {
         ensures value { result ≡ delimiter_from (text_of self.old) (view_waiting document.now)
             (here_of self.old) }
         ensures within { IfSome result (λ line. line < length (text_of self.old)) }
-        ensures past { IfSome result (λ line. here_of self.new ≡ past_line (text_of self.old) line) }
+        ensures past { IfSome result
+            (λ line. here_of self.new ≡ past_line (text_of self.old) line) }
         ensures onward { here_of self.old ≤ here_of self.new }
         ensures same { Stays self.old self.new }
     {

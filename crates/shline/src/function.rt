@@ -77,10 +77,16 @@ impl<'a, S: Source, const KEEP: u8> Cursor<'a, S, KEEP> {
     /// The function whose name, which begins at `start`, has to be a NAME. Its `(` stands here.
     #[cycle(commands)]
     #[tactic(auto, unfolding(crate::specs::InHand::InHand), using(shgrammar::proofs::Levels::function_below, shgrammar::proofs::Levels::function_closed))]
-    pub(crate) fn named_function(&mut self, name: Span, start: usize, room: usize) -> Result<Command, Stop>
+    pub(crate) fn named_function(
+        &mut self,
+        name: Span,
+        start: usize,
+        room: usize,
+    ) -> Result<Command, Stop>
         requires here { IsRead (text_of self.old) (start_of self.old) }
         requires name { (start ≤ start_of self.old) × (name.start ≡ self.old.origin + start) }
-        ensures { Takes self.old (named_function (level room) (is_name_at (text_of self.old) start) name)
+        ensures { Takes self.old
+            (named_function (level room) (is_name_at (text_of self.old) start) name)
             result (λ x. (view_command x, self.new.next)) self.new }
     {
         if !self.is_name_from(start) {

@@ -21,6 +21,7 @@ mod join;
 mod line;
 mod list;
 mod offsets;
+mod parsed_line;
 mod piece;
 mod pipeline;
 mod plain;
@@ -33,9 +34,8 @@ mod stop;
 mod stretch;
 mod substitution;
 mod token;
-mod parsed_line;
 mod word;
 
 pub use cursor::{How, KEPT, SEEN};
-pub use stop::Stop;
 pub use parsed_line::{Begin, ParsedLine, line_at};
+pub use stop::Stop;

@@ -131,8 +131,13 @@ impl<'a, S: Source, const KEEP: u8> Cursor<'a, S, KEEP> {
     /// A compound command with the redirections behind it.
     #[cycle(commands)]
     #[tactic(auto, unfolding(shgrammar::specs::Commands::with_redirect_list), using(crate::proofs::Wanted::same_kind))]
-    pub(crate) fn with_redirect_list(&mut self, inner: Command, room: usize) -> Result<Command, Stop>
-        ensures value { Takes self.old (with_redirect_list (level room) (view_command inner, self.old.next))
+    pub(crate) fn with_redirect_list(
+        &mut self,
+        inner: Command,
+        room: usize,
+    ) -> Result<Command, Stop>
+        ensures value { Takes self.old
+            (with_redirect_list (level room) (view_command inner, self.old.next))
             result (λ x. (view_command x, self.new.next)) self.new }
         ensures kind { IfOk result
             (λ x. is_compound (view_command x) ≡ is_compound (view_command inner)) }

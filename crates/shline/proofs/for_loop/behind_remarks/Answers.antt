@@ -11,6 +11,9 @@ pub returns-clause-value : goal.returns-clause-value
 returns-clause-value c =
     let cs = c.args.comments.now in
     let others = (out-List c.args.list).entries.items in
-    let before = c.comments.invariant ∙ ap (map as_remark) (take_all c.comments.comment-index cs c.comments-test.false) in
-    c.list_of.ensures ∙ ap (λ es. entries_of (map view_entry es)) c.in_ok-append.ensures.items ∙ ap entries_of (map-append view_entry c.comments.entries.items others)
-    ∙ ap (λ es. entries_of (es ++ map view_entry others)) before ∙ sym (remarks_row cs (map view_entry others)) ∙ ap (behind_remarks (map view_comment cs)) (sym (list_seen c.args.list))
+    let before = c.comments.invariant
+    ∙ ap (map as_remark) (take_all c.comments.comment-index cs c.comments-test.false) in
+    c.list_of.ensures ∙ ap (λ es. entries_of (map view_entry es)) c.in_ok-append.ensures.items
+    ∙ ap entries_of (map-append view_entry c.comments.entries.items others)
+    ∙ ap (λ es. entries_of (es ++ map view_entry others)) before ∙ sym (remarks_row cs (map view_entry others))
+    ∙ ap (behind_remarks (map view_comment cs)) (sym (list_seen c.args.list))

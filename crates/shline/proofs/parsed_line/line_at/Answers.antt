@@ -15,13 +15,16 @@ use Rattle.shline.proofs.parsed_line.line_at.Goals as goal
 pub returns-clause-value : goal.returns-clause-value
 returns-clause-value g c =
     let at_line = c.at_line-cursor.ensures in
-    let here = given c.args.how.edition (drop c.args.begin.at (g.S.Source.bytes c.args.source.now)) c.args.begin.origin in
+    let here = given c.args.how.edition
+    (drop c.args.begin.at (g.S.Source.bytes c.args.source.now)) c.args.begin.origin in
     let inner = at_place c.open_line.new.self in
     let es = map view_entry c.in_ok-entries.entries.items in
     let newline = c.in_ok-entries.newline in
-    let inside : does (an_open_line (level most_open) c.args.begin.blank) (kept g.row.KEEP c.args.how.keep) here (standing 0) ≡ Ok ((es, newline), inner) =
+    let inside : does (an_open_line (level most_open) c.args.begin.blank) (kept g.row.KEEP c.args.how.keep) here
+    (standing 0) ≡ Ok ((es, newline), inner) =
     rw (at_line.0, at_line.1, at_line.2, at_line.3, at_line.4) at c.in_ok-entries.ensures.value.0 in
-    line_read (kept g.row.KEEP c.args.how.keep) here (standing 0) (level most_open) c.args.begin.blank newline es inner inside
+    line_read (kept g.row.KEEP c.args.how.keep) here (standing 0)
+    (level most_open) c.args.begin.blank newline es inner inside
     ∙ ap (λ (zs : Row AnEntry). Ok ((zs, newline), standing inner.at)) (sym c.filled_entries.ensures)
 
 pub returns-clause-spans : goal.returns-clause-spans
@@ -32,12 +35,17 @@ returns-clause-spans g c =
     let inner = at_place c.open_line.new.self in
     let es = map view_entry c.in_ok-entries.entries.items in
     let newline = c.in_ok-entries.newline in
-    let inside : does (an_open_line (level most_open) c.args.begin.blank) (kept g.row.KEEP c.args.how.keep) here (standing 0) ≡ Ok ((es, newline), inner) =
+    let inside : does (an_open_line (level most_open) c.args.begin.blank) (kept g.row.KEEP c.args.how.keep) here
+    (standing 0) ≡ Ok ((es, newline), inner) =
     rw (at_line.0, at_line.1, at_line.2, at_line.3, at_line.4) at c.in_ok-entries.ensures.value.0 in
-    let told : line_told c.args.how.edition bytes (kept g.row.KEEP c.args.how.keep) c.args.begin.blank c.args.begin.at c.args.begin.origin ≡ Ok ((map view_entry c.filled_entries.result.items, newline), standing inner.at) =
-    line_read (kept g.row.KEEP c.args.how.keep) here (standing 0) (level most_open) c.args.begin.blank newline es inner inside
+    let told : line_told c.args.how.edition bytes
+    (kept g.row.KEEP c.args.how.keep) c.args.begin.blank c.args.begin.at c.args.begin.origin
+    ≡ Ok ((map view_entry c.filled_entries.result.items, newline), standing inner.at) =
+    line_read (kept g.row.KEEP c.args.how.keep) here (standing 0)
+    (level most_open) c.args.begin.blank newline es inner inside
     ∙ ap (λ (zs : Row AnEntry). Ok ((zs, newline), standing inner.at)) (sym c.filled_entries.ensures) in
-    line_within c.args.how.edition (drop c.args.begin.at bytes) c.args.begin.origin (kept g.row.KEEP c.args.how.keep) c.args.begin.blank _ _ (standing inner.at) told
+    line_within c.args.how.edition (drop c.args.begin.at bytes) c.args.begin.origin
+    (kept g.row.KEEP c.args.how.keep) c.args.begin.blank _ _ (standing inner.at) told
 
 pub returns-clause-newline : goal.returns-clause-newline
 returns-clause-newline g c =
@@ -45,7 +53,8 @@ returns-clause-newline g c =
     let same = c.in_ok-entries.ensures.value.2 in
     let ended = rw (at_line.0, at_line.1) at c.in_ok-entries.ensures.end in
     let inside = rw (same.0, same.1, at_line.0, at_line.1) at c.open_line.new.self.inside in
-    newline_there (g.S.Source.bytes c.args.source.now) c.args.begin.at (here_of c.open_line.new.self) c.in_ok-entries.newline c.requires.0 inside ended
+    newline_there (g.S.Source.bytes c.args.source.now) c.args.begin.at
+    (here_of c.open_line.new.self) c.in_ok-entries.newline c.requires.0 inside ended
 
 pub returns-clause-whole : goal.returns-clause-whole
 returns-clause-whole g c =
@@ -53,4 +62,5 @@ returns-clause-whole g c =
     let same = c.in_ok-entries.ensures.value.2 in
     let ended = rw (at_line.0, at_line.1) at c.in_ok-entries.ensures.end in
     let inside = rw (same.0, same.1, at_line.0, at_line.1) at c.open_line.new.self.inside in
-    whole_there (g.S.Source.bytes c.args.source.now) c.args.begin.at (here_of c.open_line.new.self) c.in_ok-entries.newline c.requires.0 inside ended
+    whole_there (g.S.Source.bytes c.args.source.now) c.args.begin.at
+    (here_of c.open_line.new.self) c.in_ok-entries.newline c.requires.0 inside ended

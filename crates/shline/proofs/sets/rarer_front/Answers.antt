@@ -5,4 +5,5 @@ pub returns-in-Brace : goal.returns-in-Brace
 returns-in-Brace c = rw c.in-Brace.is (brace_passed c.args.run.now c.type_inv.run _ c.front_outside.ensures)
 
 pub returns-in-DoubleBrace : goal.returns-in-DoubleBrace
-returns-in-DoubleBrace c = rw c.in-DoubleBrace.is (double_brace_passed c.args.run.now c.type_inv.run _ c.front_outside-in-DoubleBrace.ensures)
+returns-in-DoubleBrace c = rw c.in-DoubleBrace.is
+    (double_brace_passed c.args.run.now c.type_inv.run _ c.front_outside-in-DoubleBrace.ensures)

@@ -43,11 +43,22 @@ contents-pieces-preserved g t c =
     let plain = rw (same.0, same.1, was.0, was.1) at rest.0 in
     let within = rw (same.0, same.1, was.0, was.1) at rest.2 in (
       (
-        piece_and_plain (level c.args.room) (keep_of c.args.self.now) (given c.args.self.now.how.edition text c.args.self.now.origin) c.args.mode (c.args.self.now.origin + c.args.opener)
-            (map view_waiting behind.waiting.items) behind.bodies.items (having c.pieces.nested (map view_subst c.pieces.substs.items)) (having c.take_piece.new.nested (map view_subst c.take_piece.new.substs.items)) (map view_waiting before.waiting.items) before.bodies.items (here_of c.pieces.self) (here_of c.take_piece.new.self) (here_of c.skip_plain.new.self) _
+        piece_and_plain (level c.args.room) (keep_of c.args.self.now)
+            (given c.args.self.now.how.edition text c.args.self.now.origin) c.args.mode
+            (c.args.self.now.origin + c.args.opener)
+            (map view_waiting behind.waiting.items) behind.bodies.items
+            (having c.pieces.nested (map view_subst c.pieces.substs.items))
+            (having c.take_piece.new.nested (map view_subst c.take_piece.new.substs.items))
+            (map view_waiting before.waiting.items) before.bodies.items (here_of c.pieces.self)
+            (here_of c.take_piece.new.self) (here_of c.skip_plain.new.self) _
             inv.0.0 piece onward (omega (arith, rest.1, within)) plain rest.1 within,
         omega (arith, inv.0.1, onward, rest.1),
-        (rest.3.0.0 ∙ same.0 ∙ was.0, rest.3.0.1 ∙ same.1 ∙ was.1, rest.3.0.2 ∙ same.2 ∙ was.2, rest.3.0.3 ∙ same.3 ∙ was.3),
+        (
+          rest.3.0.0 ∙ same.0 ∙ was.0,
+          rest.3.0.1 ∙ same.1 ∙ was.1,
+          rest.3.0.2 ∙ same.2 ∙ was.2,
+          rest.3.0.3 ∙ same.3 ∙ was.3,
+        ),
       ),
       omega (arith, told.nested, rest.1),
       omega (arith, inv.2, onward, rest.1),
@@ -66,7 +77,8 @@ one_substitution-returns-in-Ok g t c =
     let inner = at_place c.substitution_list.new.self in
     let ss = map view_subst c.args.substs.now.items in
     let here = given start.how.edition (text_of start) start.origin in
-    let stands : does (substitution_list (level c.args.room)) keep here (own_level (at_place start)) ≡ Ok (list, inner) =
+    let stands : does (substitution_list (level c.args.room)) keep here (own_level (at_place start))
+    ≡ Ok (list, inner) =
     rw (own.same.0, own.same.1, own.same.2, own.same.3, own.level) at c.in-Ok.ensures.0 in
     let read = substitution_read keep here (at_place start) (level c.args.room) c.args.opener ss list inner stands in
     let origin : after.origin ≡ start.origin = shut.same.2 ∙ same.2 ∙ own.same.2 in
@@ -74,12 +86,17 @@ one_substitution-returns-in-Ok g t c =
     let place : here_of after ≡ inner.at = shut.place in
     let made =
     rw (shut.same.3, same.3, own.same.3) at c.in_ok-add_subst-in-Ok.ensures.value
-    ∙ ap (λ (bs : Row Span). pushed (grows keep) ss (subst (filled bs list) (span after.origin c.args.opener (here_of after)))) bodies
-    ∙ ap (λ (o : ℕ). pushed (grows keep) ss (subst (filled inner.bodies list) (span o c.args.opener (here_of after)))) origin
-    ∙ ap (λ (p : ℕ). pushed (grows keep) ss (subst (filled inner.bodies list) (span start.origin c.args.opener p))) place in
+    ∙ ap (λ (bs : Row Span). pushed (grows keep) ss
+    (subst (filled bs list) (span after.origin c.args.opener (here_of after)))) bodies
+    ∙ ap (λ (o : ℕ). pushed (grows keep) ss (subst (filled inner.bodies list) (span o c.args.opener (here_of after))))
+    origin
+    ∙ ap (λ (p : ℕ). pushed (grows keep) ss (subst (filled inner.bodies list) (span start.origin c.args.opener p)))
+    place in
     let state : at_place after ≡ outer_level (at_place start) inner =
     ap (λ d. standing_with d (here_of after)) (shut.outer ∙ own.outer) ∙ ap (standing_with start.documents) place in (
-      read ∙ ap (λ (u : State). Ok (pushed (grows keep) ss (subst (filled inner.bodies list) (span start.origin c.args.opener inner.at)), u)) (sym state) ∙ ap (λ (zs : Row ASubst). Ok (zs, at_place after)) (sym made),
+      read ∙ ap (λ (u : State). Ok
+          (pushed (grows keep) ss (subst (filled inner.bodies list) (span start.origin c.args.opener inner.at)), u))
+          (sym state) ∙ ap (λ (zs : Row ASubst). Ok (zs, at_place after)) (sym made),
       search rules,
       search rules,
     )
@@ -95,15 +112,20 @@ construct-ordinary-preserved g t c =
     let rest = c.skip_plain-in-Ordinary.ensures in
     let inside = c.place-here.ensures.1 in
     let text = text_of start in
-    let here : on old c.place-here.result ≡ past_continuations text (here_of old) = rw (was.0, was.1) at c.place-here.ensures.0 in
-    let told : c.piece.result ≡ piece_in start.how.edition c.args.mode (piece_at text c.args.mode 0 (here_of old)) = rw (was.0, was.1, was.3) at c.piece.ensures.value in
+    let here : on old c.place-here.result ≡ past_continuations text (here_of old) =
+    rw (was.0, was.1) at c.place-here.ensures.0 in
+    let told : c.piece.result ≡ piece_in start.how.edition c.args.mode (piece_at text c.args.mode 0 (here_of old)) =
+    rw (was.0, was.1, was.3) at c.piece.ensures.value in
     let is : c.piece.result ≡ pieces.Ordinary = c.in-Ordinary.is in
     let step : on old (c.place-here.result + 1) ≡ past_continuations text (here_of old) + 1 = omega (arith, here) in
-    let plain : ArePlain c.args.mode text (past_continuations text (here_of old) + 1) (here_of new) = rw (was.0, was.1, step) at rest.0 in
+    let plain : ArePlain c.args.mode text (past_continuations text (here_of old) + 1) (here_of new) =
+    rw (was.0, was.1, step) at rest.0 in
     let low : past_continuations text (here_of old) + 1 ≤ here_of new = omega (arith, here, rest.1) in
     let high : here_of new ≤ length text = rw (was.0, was.1) at rest.2 in
     let on =
-    ordinary_here start.how.edition (level (c.args.room - 1)) (keep_of start) (map view_waiting old.documents.waiting.items) old.documents.bodies.items text start.origin c.args.mode (start.origin + c.args.opener)
+    ordinary_here start.how.edition (level (c.args.room - 1)) (keep_of start)
+    (map view_waiting old.documents.waiting.items) old.documents.bodies.items text start.origin c.args.mode
+    (start.origin + c.args.opener)
     (map view_subst c.ordinary.substs.items) (here_of old) (here_of new) (sym told ∙ is) plain low high in (
       (
         rw rest.3.1 (sym on ∙ inv.0.0),
@@ -124,11 +146,14 @@ redirect-document-requires g t c =
     let target = c.in_ok-word.ensures in
     let behind = target.value.2 in
     let before = c.number-number.new.self in
-    let is : redirect_operator_of before.next.token ≡ Some c.in-Some.operator = sym c.redirect_operator.ensures ∙ c.in-Some.is in (
+    let is : redirect_operator_of before.next.token ≡ Some c.in-Some.operator = sym c.redirect_operator.ensures
+    ∙ c.in-Some.is in (
       omega (arith),
       (
         (target.place.0, rw (behind.0, behind.1, behind.2) operator.start),
-        λ takes. rw (behind.0, behind.1, same.0, same.1) (here_wants g.row.KEEP (text_of before) before.next.token (start_of before) c.in-Some.operator before.shows is takes),
+        λ takes. rw (behind.0, behind.1, same.0, same.1)
+            (here_wants g.row.KEEP (text_of before) before.next.token
+            (start_of before) c.in-Some.operator before.shows is takes),
       ),
     )
 
@@ -141,8 +166,13 @@ redirects-returns g t c =
     let self = c.turns.self in
     let all = so_many (view_items c.turns.redirects) AsCommand self.next in
     let stops : begins_redirect self.next.token ≡ false = sym c.begins_redirect.ensures ∙ c.turns-test.false in
-    let one : does (redirect_turn (level c.args.room) all) (keep_of start) here (at_token self) ≡ Ok (done all, at_token self) = rw stops refl in
-    (sym c.turns.invariant.0 ∙ many_done (redirect_turn (level c.args.room)) (keep_of start) here all all (at_token self) (at_token self) one, search rules, search rules)
+    let one : does (redirect_turn (level c.args.room) all) (keep_of start) here (at_token self)
+    ≡ Ok (done all, at_token self) = rw stops refl in (
+      sym c.turns.invariant.0 ∙ many_done (redirect_turn (level c.args.room)) (keep_of start) here all all
+          (at_token self) (at_token self) one,
+      search rules,
+      search rules,
+    )
 
 -- nor an item of a `case`
 pub cases-returns : goal.cases-returns
@@ -153,5 +183,10 @@ cases-returns g t c =
     let self = c.turns.self in
     let all = view_cases c.turns.cases self.next in
     let stops : is_closing Esac self.next.token ≡ true = sym c.is_closing.ensures.value ∙ c.turns-test.false in
-    let one : does (case_turn (level c.args.room) all) (keep_of start) here (at_token self) ≡ Ok (done all, at_token self) = rw stops refl in
-    (sym c.turns.invariant.0 ∙ many_done (case_turn (level c.args.room)) (keep_of start) here all all (at_token self) (at_token self) one, search rules, search rules)
+    let one : does (case_turn (level c.args.room) all) (keep_of start) here (at_token self)
+    ≡ Ok (done all, at_token self) = rw stops refl in (
+      sym c.turns.invariant.0 ∙ many_done (case_turn (level c.args.room)) (keep_of start) here all all (at_token self)
+          (at_token self) one,
+      search rules,
+      search rules,
+    )

@@ -209,8 +209,10 @@ decreases-join_pipeline g l = 128 * l.room + 42
 
 abbrev pub invariant-construct-ordinary : goal.invariant-construct-ordinary
 invariant-construct-ordinary g l =
-    Rests l.fn.self ((level l.room).construct l.mode (l.fn.self.origin + l.opener) (map view_subst l.fn.substs.items)) (at_place l.fn.self)
-    (contents (level (l.room - 1)) l.mode (l.fn.self.origin + l.opener) (map view_subst l.substs.items)) (at_place l.self) l.self
+    Rests l.fn.self ((level l.room).construct l.mode (l.fn.self.origin + l.opener) (map view_subst l.fn.substs.items))
+    (at_place l.fn.self)
+    (contents (level (l.room - 1)) l.mode (l.fn.self.origin + l.opener) (map view_subst l.substs.items))
+    (at_place l.self) l.self
     × (l.opener ≤ here_of l.self) × (l.substs ≡ l.fn.substs)
 
 abbrev pub decreases-construct-ordinary : goal.decreases-construct-ordinary
@@ -218,8 +220,10 @@ decreases-construct-ordinary g l = length (text_of l.self) - here_of l.self
 
 abbrev pub invariant-contents-pieces : goal.invariant-contents-pieces
 invariant-contents-pieces g l =
-    Rests l.fn.self (many (a_piece (level l.room) l.mode (l.fn.self.origin + l.opener)) (having 0 (map view_subst l.fn.substs.items))) (at_place l.fn.self)
-    (many (a_piece (level l.room) l.mode (l.fn.self.origin + l.opener)) (having l.nested (map view_subst l.substs.items))) (at_place l.self) l.self
+    Rests l.fn.self (many (a_piece (level l.room) l.mode (l.fn.self.origin + l.opener))
+    (having 0 (map view_subst l.fn.substs.items))) (at_place l.fn.self)
+    (many (a_piece (level l.room) l.mode (l.fn.self.origin + l.opener))
+    (having l.nested (map view_subst l.substs.items))) (at_place l.self) l.self
     × (l.nested ≤ here_of l.self) × (l.opener ≤ here_of l.self)
 
 abbrev pub decreases-contents-pieces : goal.decreases-contents-pieces
@@ -227,70 +231,90 @@ decreases-contents-pieces g l = length (text_of l.self) - here_of l.self
 
 abbrev pub invariant-items-turns : goal.invariant-items-turns
 invariant-items-turns g l =
-    Rests l.fn.self (many (item_turn (level l.room)) (so_many (map view_item l.fn.items.items) l.fn.place l.fn.self.next)) (at_token l.fn.self) (many (item_turn (level l.room)) (so_many (map view_item l.items.items) l.place l.self.next)) (at_token l.self) l.self
+    Rests l.fn.self (many (item_turn (level l.room))
+    (so_many (map view_item l.fn.items.items) l.fn.place l.fn.self.next)) (at_token l.fn.self)
+    (many (item_turn (level l.room)) (so_many (map view_item l.items.items) l.place l.self.next))
+    (at_token l.self) l.self
 
 abbrev pub decreases-items-turns : goal.decreases-items-turns
 decreases-items-turns g l = length (text_of l.self) - start_of l.self
 
 abbrev pub invariant-words-turns : goal.invariant-words-turns
 invariant-words-turns g l =
-    Rests l.fn.self (many (word_turn (level l.room)) (so_many [] Suffix l.fn.self.next)) (at_token l.fn.self) (many (word_turn (level l.room)) (so_many (map view_item l.words.items) Suffix l.self.next)) (at_token l.self) l.self
+    Rests l.fn.self (many (word_turn (level l.room)) (so_many [] Suffix l.fn.self.next)) (at_token l.fn.self)
+    (many (word_turn (level l.room)) (so_many (map view_item l.words.items) Suffix l.self.next))
+    (at_token l.self) l.self
 
 abbrev pub decreases-words-turns : goal.decreases-words-turns
 decreases-words-turns g l = length (text_of l.self) - start_of l.self
 
 abbrev pub invariant-redirects-turns : goal.invariant-redirects-turns
 invariant-redirects-turns g l =
-    Rests l.fn.self (many (redirect_turn (level l.room)) (so_many [] AsCommand l.fn.self.next)) (at_token l.fn.self) (many (redirect_turn (level l.room)) (so_many (map view_item l.redirects.items) AsCommand l.self.next)) (at_token l.self) l.self
+    Rests l.fn.self (many (redirect_turn (level l.room)) (so_many [] AsCommand l.fn.self.next)) (at_token l.fn.self)
+    (many (redirect_turn (level l.room)) (so_many (map view_item l.redirects.items) AsCommand l.self.next))
+    (at_token l.self) l.self
 
 abbrev pub decreases-redirects-turns : goal.decreases-redirects-turns
 decreases-redirects-turns g l = length (text_of l.self) - start_of l.self
 
 abbrev pub invariant-pipes-turns : goal.invariant-pipes-turns
 invariant-pipes-turns g l =
-    Rests l.fn.self (many (pipe_turn (level l.room)) (piped [] l.fn.self.next)) (at_token l.fn.self) (many (pipe_turn (level l.room)) (piped (map view_pipeline_part l.parts.items) l.self.next)) (at_token l.self) l.self
+    Rests l.fn.self (many (pipe_turn (level l.room)) (piped [] l.fn.self.next)) (at_token l.fn.self)
+    (many (pipe_turn (level l.room)) (piped (map view_pipeline_part l.parts.items) l.self.next))
+    (at_token l.self) l.self
 
 abbrev pub decreases-pipes-turns : goal.decreases-pipes-turns
 decreases-pipes-turns g l = length (text_of l.self) - start_of l.self
 
 abbrev pub invariant-joined_pipelines-turns : goal.invariant-joined_pipelines-turns
 invariant-joined_pipelines-turns g l =
-    Rests l.fn.self (many (join_pipeline (level l.room)) (joined_so [] l.fn.self.next)) (at_token l.fn.self) (many (join_pipeline (level l.room)) (joined_so (map view_and_or_part l.parts.items) l.self.next)) (at_token l.self) l.self
+    Rests l.fn.self (many (join_pipeline (level l.room)) (joined_so [] l.fn.self.next)) (at_token l.fn.self)
+    (many (join_pipeline (level l.room)) (joined_so (map view_and_or_part l.parts.items) l.self.next))
+    (at_token l.self) l.self
 
 abbrev pub decreases-joined_pipelines-turns : goal.decreases-joined_pipelines-turns
 decreases-joined_pipelines-turns g l = length (text_of l.self) - start_of l.self
 
 abbrev pub invariant-entries-turns : goal.invariant-entries-turns
 invariant-entries-turns g l =
-    Rests l.fn.self (many (entry_turn (level l.room)) (list_so (view_listed l.fn.listed) l.fn.self.next)) (at_token l.fn.self) (many (entry_turn (level l.room)) (list_so (view_listed l.listed) l.self.next)) (at_token l.self) l.self
+    Rests l.fn.self (many (entry_turn (level l.room)) (list_so (view_listed l.fn.listed) l.fn.self.next))
+    (at_token l.fn.self) (many (entry_turn (level l.room)) (list_so (view_listed l.listed) l.self.next))
+    (at_token l.self) l.self
 
 abbrev pub decreases-entries-turns : goal.decreases-entries-turns
 decreases-entries-turns g l = length (text_of l.self) - start_of l.self
 
 abbrev pub invariant-list_lines-turns : goal.invariant-list_lines-turns
 invariant-list_lines-turns g l =
-    Rests l.fn.self (many (list_turn (level l.room)) (list_so (view_listed l.fn.listed) l.fn.self.next)) (at_token l.fn.self) (many (list_turn (level l.room)) (list_so (view_listed l.listed) l.self.next)) (at_token l.self) l.self
+    Rests l.fn.self (many (list_turn (level l.room)) (list_so (view_listed l.fn.listed) l.fn.self.next))
+    (at_token l.fn.self) (many (list_turn (level l.room)) (list_so (view_listed l.listed) l.self.next))
+    (at_token l.self) l.self
 
 abbrev pub decreases-list_lines-turns : goal.decreases-list_lines-turns
 decreases-list_lines-turns g l = length (text_of l.self) - start_of l.self
 
 abbrev pub invariant-elifs-turns : goal.invariant-elifs-turns
 invariant-elifs-turns g l =
-    Rests l.fn.self (many (elif_turn (level l.room)) (branched [] l.fn.self.next)) (at_token l.fn.self) (many (elif_turn (level l.room)) (branched (map view_branch l.branches.items) l.self.next)) (at_token l.self) l.self
+    Rests l.fn.self (many (elif_turn (level l.room)) (branched [] l.fn.self.next)) (at_token l.fn.self)
+    (many (elif_turn (level l.room)) (branched (map view_branch l.branches.items) l.self.next))
+    (at_token l.self) l.self
 
 abbrev pub decreases-elifs-turns : goal.decreases-elifs-turns
 decreases-elifs-turns g l = length (text_of l.self) - start_of l.self
 
 abbrev pub invariant-more_patterns-turns : goal.invariant-more_patterns-turns
 invariant-more_patterns-turns g l =
-    Rests l.fn.self (many (pattern_turn (level l.room)) (patterned (map view_word l.fn.patterns.items) l.fn.self.next)) (at_token l.fn.self) (many (pattern_turn (level l.room)) (patterned (map view_word l.patterns.items) l.self.next)) (at_token l.self) l.self
+    Rests l.fn.self (many (pattern_turn (level l.room)) (patterned (map view_word l.fn.patterns.items) l.fn.self.next))
+    (at_token l.fn.self) (many (pattern_turn (level l.room))
+    (patterned (map view_word l.patterns.items) l.self.next)) (at_token l.self) l.self
 
 abbrev pub decreases-more_patterns-turns : goal.decreases-more_patterns-turns
 decreases-more_patterns-turns g l = length (text_of l.self) - start_of l.self
 
 abbrev pub invariant-cases-turns : goal.invariant-cases-turns
 invariant-cases-turns g l =
-    Rests l.fn.self (many (case_turn (level l.room)) (view_cases l.fn.cases l.fn.self.next)) (at_token l.fn.self) (many (case_turn (level l.room)) (view_cases l.cases l.self.next)) (at_token l.self) l.self
+    Rests l.fn.self (many (case_turn (level l.room)) (view_cases l.fn.cases l.fn.self.next)) (at_token l.fn.self)
+    (many (case_turn (level l.room)) (view_cases l.cases l.self.next)) (at_token l.self) l.self
 
 abbrev pub decreases-cases-turns : goal.decreases-cases-turns
 decreases-cases-turns g l = length (text_of l.self) - start_of l.self

@@ -31,9 +31,16 @@ returns g c =
     let here = given c.args.self.now.how.edition (text_of c.args.self.now) c.args.self.now.origin in
     let start = c.args.self.now.documents in
     let bodies = c.documents.self.documents.bodies.items in
-    let all : length start.waiting.items ≤ c.documents.document-index = omega (arith, c.documents-test.false, ap length (c.deref-document-items.ensures.value ∙ ap (λ v. v.items) c.replace-waiting.ensures.value)) in (
-      bodies_read (keep_of c.args.self.now) here start.waiting.items start.bodies.items bodies c.documents.document-index (here_of c.args.self.now) (here_of c.documents.self) all c.documents.invariant.0
-          ∙ ap (λ ws. Ok (tt, record { at = here_of c.documents.self; waiting = map view_waiting ws; bodies = bodies })) (sym c.clear.ensures.items),
+    let all : length start.waiting.items ≤ c.documents.document-index =
+    omega (
+      arith,
+      c.documents-test.false,
+      ap length (c.deref-document-items.ensures.value ∙ ap (λ v. v.items) c.replace-waiting.ensures.value),
+    ) in (
+      bodies_read (keep_of c.args.self.now) here start.waiting.items start.bodies.items bodies
+          c.documents.document-index (here_of c.args.self.now) (here_of c.documents.self) all c.documents.invariant.0
+          ∙ ap (λ ws. Ok (tt, record { at = here_of c.documents.self; waiting = map view_waiting ws; bodies = bodies }))
+          (sym c.clear.ensures.items),
       search rules,
       search rules,
     )

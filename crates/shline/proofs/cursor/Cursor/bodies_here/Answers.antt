@@ -8,5 +8,10 @@ use Rattle.shline.proofs.cursor.Cursor.bodies_here.Goals as goal
 pub returns-then-is_empty : goal.returns-then-is_empty
 returns-then-is_empty g c =
     let start = c.args.self.now in
-    let none : length start.documents.waiting.items ≡ 0 = grind (arith, nat_tests, c.is_empty.ensures, c.if-is_empty.true) in
-    (none_awaited (keep_of start) (given start.how.edition (text_of start) start.origin) start.documents (here_of start) none, search rules, search rules)
+    let none : length start.documents.waiting.items ≡ 0 =
+    grind (arith, nat_tests, c.is_empty.ensures, c.if-is_empty.true) in (
+      none_awaited (keep_of start) (given start.how.edition (text_of start) start.origin) start.documents
+          (here_of start) none,
+      search rules,
+      search rules,
+    )

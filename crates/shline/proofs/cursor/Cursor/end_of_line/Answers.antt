@@ -18,5 +18,8 @@ returns-in_ok-bodies_here-in-Newline-clause-end g c =
     let read = rw (same.0, same.1, same.2, same.3) at c.in_ok-bodies_here-in-Newline.ensures.0 in
     let is : here_of c.step.new.self ≡ behind text (start_of start) = moved.0 in
     let newline : raw_stands text (here_of c.step.new.self - 1) 10 ≡ true =
-    ap (λ (q : ℕ). raw_stands text (q - 1) 10) is ∙ ap (λ (q : ℕ). raw_stands text q 10) (behind_back text (start_of start) ∙ start.shows.6) ∙ start.shows.2 c.in-Newline.is in
-    ends_line (keep_of start) (given start.how.edition text start.origin) (at_place c.step.new.self) (at_place c.bodies_here.new.self) read newline
+    ap (λ (q : ℕ). raw_stands text (q - 1) 10) is
+    ∙ ap (λ (q : ℕ). raw_stands text q 10) (behind_back text (start_of start) ∙ start.shows.6)
+    ∙ start.shows.2 c.in-Newline.is in
+    ends_line (keep_of start) (given start.how.edition text start.origin) (at_place c.step.new.self)
+    (at_place c.bodies_here.new.self) read newline

@@ -9,6 +9,7 @@ returns g c =
     let bytes = g.S.Source.bytes self.source.now in
     let inside = c.find_in.ensures.inside in
     let whole = length-drop self.base bytes in (
-      such_on (is_sought c.args.sought) bytes self.base self.begin c.args.from c.find_in.result c.find_in.ensures.value (omega (arith, inside)),
+      such_on (is_sought c.args.sought) bytes self.base self.begin c.args.from c.find_in.result c.find_in.ensures.value
+          (omega (arith, inside)),
       (omega (arith, inside), omega (arith, inside, whole)),
     )

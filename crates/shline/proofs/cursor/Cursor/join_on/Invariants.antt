@@ -7,7 +7,8 @@ use Rattle.shline.proofs.cursor.Cursor.join_on.Given as goal
 
 abbrev pub invariant-turns : goal.invariant-turns
 invariant-turns g l =
-    Rests l.fn.self (many join_turn (join_so (view_join l.fn.join) l.fn.self.next)) (at_token l.fn.self) (many join_turn (join_so (view_join l.join) l.self.next)) (at_token l.self) l.self
+    Rests l.fn.self (many join_turn (join_so (view_join l.fn.join) l.fn.self.next)) (at_token l.fn.self)
+    (many join_turn (join_so (view_join l.join) l.self.next)) (at_token l.self) l.self
     × GrowsNone g.row.KEEP l.fn.join l.join
 
 abbrev pub decreases-turns : goal.decreases-turns

@@ -16,12 +16,18 @@ joined T p e is here = (ap (past_blanks T) is ∙ sym (blanks_on T p), ap (conti
 
 pub past_broken_blanks-at-requires : goal.past_broken_blanks-at-requires
 past_broken_blanks-at-requires g c =
-    let T = text_of c.args.self.now in
-    (omega arith, (c.requires.end.1.1, ap (raw_in is_blank T) c.requires.end.0 ∙ blanks_stop_raw T (here_of c.args.self.now)))
+    let T = text_of c.args.self.now in (
+      omega arith,
+      (
+        c.requires.end.1.1,
+        ap (raw_in is_blank T) c.requires.end.0 ∙ blanks_stop_raw T (here_of c.args.self.now),
+      ),
+    )
 
 pub returns : goal.returns
 returns g c =
-    let blanks = joined (text_of c.args.self.now) (here_of c.args.self.now) (on c.args.self.now c.args.end) c.requires.end.0 c.requires.joined in (
+    let blanks = joined (text_of c.args.self.now) (here_of c.args.self.now)
+    (on c.args.self.now c.args.end) c.requires.end.0 c.requires.joined in (
       rw (c.token-token.ensures, c.past_broken_blanks-at.ensures.0, blanks.0, blanks.1) refl,
       c.past_broken_blanks-at.ensures.0 ∙ blanks.0,
       omega (arith, c.requires.end.1, c.past_broken_blanks-at.ensures.1),
@@ -32,5 +38,7 @@ pub invariant_of-self-clause-shows : goal.invariant_of-self-clause-shows
 unfolding InHand
 invariant_of-self-clause-shows g c =
     let T = text_of c.args.self.now in
-    let blanks = joined T (here_of c.args.self.now) (on c.args.self.now c.args.end) c.requires.end.0 c.requires.joined in
-    rw (c.token-token.ensures, c.past_broken_blanks-at.ensures.0, blanks.0) (shown_in c.args.self.now.how.edition c.args.position T (here_of c.args.self.now))
+    let blanks = joined T (here_of c.args.self.now)
+    (on c.args.self.now c.args.end) c.requires.end.0 c.requires.joined in
+    rw (c.token-token.ensures, c.past_broken_blanks-at.ensures.0, blanks.0)
+    (shown_in c.args.self.now.how.edition c.args.position T (here_of c.args.self.now))

@@ -13,4 +13,5 @@ pub invariant_of-self-clause-shows : goal.invariant_of-self-clause-shows
 unfolding InHand
 invariant_of-self-clause-shows g c =
     let self = c.args.self.now in
-    end_shown (text_of self) _ (omega (arith, c.len.ensures, self.inside, length-drop self.base (g.S.Source.bytes self.source.now)))
+    end_shown (text_of self) _ (omega
+    (arith, c.len.ensures, self.inside, length-drop self.base (g.S.Source.bytes self.source.now)))
