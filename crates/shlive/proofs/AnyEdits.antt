@@ -31,13 +31,15 @@ module _ (before : Held) (ss : Row ASplice) (after : Held) where
   abbrev Rose : ℕ → ℕ → Type 0
   Rose least most = (raised before.meter least ≤ after.meter) × (after.meter ≤ raised before.meter most)
 
-  none_read : (least most : ℕ) → before.meter < 2 ^ 64 → after.meter ≡ before.meter → (least ≡ 0) × (most ≡ 0) → Rose least most
+  none_read : (least most : ℕ) → before.meter < 2 ^ 64 → after.meter ≡ before.meter → (least ≡ 0) × (most ≡ 0) →
+      Rose least most
   none_read least most low same (none, nor) = (omega (arith, low, same, none), omega (arith, low, same, nor))
 
   rose_one : (r : Result (Unit {0}) LiveError) (least most : ℕ) → before.meter < 2 ^ 64 → IsAfterBy r before ss after
       → AreReadBy r before.how.edition before.bytes ss least most → Rose least most
   rose_one (Ok made) least most low is (w, t, window, l, m) =
-      let one = window_only (IsTopLine before.how.edition) before.bytes (edited before.bytes ss) (first_begin ss) (new_end ss) (last_end ss) is.read.0 w is.read.1 t is.read.2 window in
+      let one = window_only (IsTopLine before.how.edition) before.bytes (edited before.bytes ss) (first_begin ss)
+      (new_end ss) (last_end ss) is.read.0 w is.read.1 t is.read.2 window in
       let read = is.read.3 in
       (omega (arith, one.0, one.1, read, l), omega (arith, one.0, one.1, read, m))
   rose_one (Err Memory) least most low is (w, t, window, l, m) =
@@ -49,7 +51,8 @@ module _ (before : Held) (ss : Row ASplice) (after : Held) where
 
 -- ---- all of them
 
-pub all_bytes : (before after : Held) (es : Row Tried) → IsAfter before es after → after.bytes ≡ bytes_after before.bytes es
+pub all_bytes : (before after : Held) (es : Row Tried) → IsAfter before es after →
+    after.bytes ≡ bytes_after before.bytes es
 all_bytes before after [] is = ap (λ (h : Held). h.bytes) is
 all_bytes before after (e ∷ es) (mid, one, rest) =
     all_bytes mid after es rest ∙ ap (λ B. bytes_after B es) (bytes_one before e.splices mid e.result one)
@@ -63,12 +66,15 @@ both_rose : (x y z l n m k : ℕ) → x < 2 ^ 64 → raised x l ≤ y → y ≤ 
 both_rose x y z l n m k low p q r s = (omega (arith, low, p, q, r), omega (arith, low, p, q, s))
 
 pub all_rose : (before after : Held) (es : Row Tried) (least most : ℕ) → before.meter < 2 ^ 64 → IsAfter before es after
-    → AreRead before.how.edition before.bytes es least most → (raised before.meter least ≤ after.meter) × (after.meter ≤ raised before.meter most)
-all_rose before after [] _ _ low is none_tried = let same = ap (λ (h : Held). h.meter) is in (omega (arith, low, same), omega (arith, low, same))
+    → AreRead before.how.edition before.bytes es least most → (raised before.meter least ≤ after.meter)
+    × (after.meter ≤ raised before.meter most)
+all_rose before after [] _ _ low is none_tried = let same = ap (λ (h : Held). h.meter) is in
+    (omega (arith, low, same), omega (arith, low, same))
 all_rose before after (e ∷ es) _ _ low (mid, one, rest) (one_tried l m n k by more) =
     let rose = rose_one before e.splices mid e.result l m low one by in
     let small : mid.meter < 2 ^ 64 = omega (arith, low, rose.1) in
-    let from = subst (λ (h : How). AreRead h.edition (bytes_by e.result before.bytes e.splices) es n k) (sym (how_one before e.splices mid e.result one)) more in
+    let from = subst (λ (h : How). AreRead h.edition (bytes_by e.result before.bytes e.splices) es n k)
+    (sym (how_one before e.splices mid e.result one)) more in
     let on = subst (λ B. AreRead mid.how.edition B es n k) (sym (bytes_one before e.splices mid e.result one)) from in
     let behind = all_rose mid after es n k small rest on in
     both_rose before.meter mid.meter after.meter l n m k low rose.0 rose.1 behind.0 behind.1
@@ -84,7 +90,8 @@ sums_one (Err Range) edition bytes ss = (0, 0, (refl, refl))
 sums_one (Err TooLarge) edition bytes ss = (0, 0, (refl, refl))
 sums_one (Err Order) edition bytes ss = (0, 0, (refl, refl))
 
-pub all_sums : (edition : Edition) (bytes : List ℕ) (es : Row Tried) → (least most : ℕ) × AreRead edition bytes es least most
+pub all_sums : (edition : Edition) (bytes : List ℕ) (es : Row Tried) → (least most : ℕ)
+    × AreRead edition bytes es least most
 all_sums edition bytes [] = (0, 0, none_tried)
 all_sums edition bytes (e ∷ es) =
     let one = sums_one e.result edition bytes e.splices in
@@ -96,19 +103,26 @@ all_sums edition bytes (e ∷ es) =
 module _ (before after : Held) (es : Row Tried) (is : IsAfter before es after) where
   -- what is so of the bytes from scratch is so behind the edits
   here : (P : How → List ℕ → Type 0) → P before.how (bytes_after before.bytes es) → P after.how after.bytes
-  here P p = subst (λ (h : How). P h after.bytes) (sym (all_how before after es is)) (subst (P before.how) (sym (all_bytes before after es is)) p)
+  here P p = subst (λ (h : How). P h after.bytes) (sym (all_how before after es is))
+      (subst (P before.how) (sym (all_bytes before after es is)) p)
 
-  pub same_fault : (x y : Option Fault) → FirstFault after.how.edition after.bytes x → FirstFault before.how.edition (bytes_after before.bytes es) y → x ≡ y
+  pub same_fault : (x y : Option Fault) → FirstFault after.how.edition after.bytes x →
+      FirstFault before.how.edition (bytes_after before.bytes es) y → x ≡ y
   same_fault x y p q = one_fault after.how.edition after.bytes x y p (here (λ h B. FirstFault h.edition B y) q)
 
-  pub same_status : (x y : ℕ) → HasStatus after.how.edition after.bytes x → HasStatus before.how.edition (bytes_after before.bytes es) y → x ≡ y
+  pub same_status : (x y : ℕ) → HasStatus after.how.edition after.bytes x →
+      HasStatus before.how.edition (bytes_after before.bytes es) y → x ≡ y
   same_status x y p q = one_status after.how.edition after.bytes x y p (here (λ h B. HasStatus h.edition B y) q)
 
-  pub same_outline : (x y : List NodeLine) → HasOutline after.how.edition after.bytes x → HasOutline before.how.edition (bytes_after before.bytes es) y → x ≡ y
+  pub same_outline : (x y : List NodeLine) → HasOutline after.how.edition after.bytes x →
+      HasOutline before.how.edition (bytes_after before.bytes es) y → x ≡ y
   same_outline x y p q = one_outline after.how.edition after.bytes x y p (here (λ h B. HasOutline h.edition B y) q)
 
-  pub same_nodes : (at : ℕ) (x y : List NodeLine) → HasNodesAt after.how.edition after.bytes at x → HasNodesAt before.how.edition (bytes_after before.bytes es) at y → x ≡ y
-  same_nodes at x y p q = one_row_of_nodes after.how.edition after.bytes at x y p (here (λ h B. HasNodesAt h.edition B at y) q)
+  pub same_nodes : (at : ℕ) (x y : List NodeLine) → HasNodesAt after.how.edition after.bytes at x →
+      HasNodesAt before.how.edition (bytes_after before.bytes es) at y → x ≡ y
+  same_nodes at x y p q = one_row_of_nodes after.how.edition after.bytes at x y p
+      (here (λ h B. HasNodesAt h.edition B at y) q)
 
-  pub same_text : (x y : Option (List ℕ)) → HasText after.how after.bytes x → HasText before.how (bytes_after before.bytes es) y → x ≡ y
+  pub same_text : (x y : Option (List ℕ)) → HasText after.how after.bytes x →
+      HasText before.how (bytes_after before.bytes es) y → x ≡ y
   same_text x y p q = one_text after.how after.bytes x y p (here (λ h B. HasText h B y) q)

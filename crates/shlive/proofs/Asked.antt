@@ -23,7 +23,8 @@ use Rattle.shlive.proofs.Taken.{takes_both}
 
 -- ---- the line of a request
 
-pub line_first : (text rest : List ℕ) → IsInLine text → next_request_of ((text ++ 10 ∷ []) ++ rest) ≡ next_by_order (order_of_line text) rest
+pub line_first : (text rest : List ℕ) → IsInLine text →
+    next_request_of ((text ++ 10 ∷ []) ++ rest) ≡ next_by_order (order_of_line text) rest
 line_first [] rest p = refl
 line_first (c ∷ text) rest p = ap next_by_line (line_ends (c ∷ text) rest p)
 
@@ -34,29 +35,36 @@ line_cut (c ∷ text) p some = ap next_by_line (line_open (c ∷ text) p)
 -- ---- the bytes of a splice
 
 module _ (part : Part) (next : ASplice → Sense) (bytes : List ℕ) where
-  seam : (more : List ℕ) → length bytes ≡ part.count → with_bytes part next (bytes ++ more) ≡ behind_bytes (next (splice_by part bytes)) (first_line more)
+  seam : (more : List ℕ) → length bytes ≡ part.count →
+      with_bytes part next (bytes ++ more) ≡ behind_bytes (next (splice_by part bytes)) (first_line more)
   seam more all =
-      ap (λ n. behind_bytes (next (splice_by part (take n (bytes ++ more)))) (first_line (drop n (bytes ++ more)))) (sym all)
-      ∙ ap (λ l. behind_bytes (next (splice_by part l)) (first_line (drop (length bytes) (bytes ++ more)))) (take-append_seam bytes more)
+      ap (λ n. behind_bytes (next (splice_by part (take n (bytes ++ more)))) (first_line (drop n (bytes ++ more))))
+      (sym all)
+      ∙ ap (λ l. behind_bytes (next (splice_by part l)) (first_line (drop (length bytes) (bytes ++ more))))
+      (take-append_seam bytes more)
       ∙ ap (λ l. behind_bytes (next (splice_by part bytes)) (first_line l)) (drop-append_seam bytes more)
 
   pub bytes_whole : (text rest : List ℕ) → length bytes ≡ part.count → IsInLine text
-      → with_bytes part next ((bytes ++ (text ++ 10 ∷ [])) ++ rest) ≡ behind_bytes (next (splice_by part bytes)) (Some (text, rest))
+      → with_bytes part next ((bytes ++ (text ++ 10 ∷ [])) ++ rest)
+      ≡ behind_bytes (next (splice_by part bytes)) (Some (text, rest))
   bytes_whole text rest all p =
       ap (with_bytes part next) (append_assoc bytes (text ++ 10 ∷ []) rest)
       ∙ seam ((text ++ 10 ∷ []) ++ rest) all ∙ ap (behind_bytes (next (splice_by part bytes))) (line_ends text rest p)
 
   pub bytes_cut : length bytes < part.count → with_bytes part next bytes ≡ unfinished
   bytes_cut few =
-      ap (λ l. behind_bytes (next (splice_by part (take part.count bytes))) (first_line l)) (drop_all part.count bytes (omega (arith, few)))
+      ap (λ l. behind_bytes (next (splice_by part (take part.count bytes))) (first_line l))
+      (drop_all part.count bytes (omega (arith, few)))
 
-  pub bytes_cut_line : (text : List ℕ) → length bytes ≡ part.count → IsInLine text → with_bytes part next (bytes ++ text) ≡ unfinished
+  pub bytes_cut_line : (text : List ℕ) → length bytes ≡ part.count → IsInLine text →
+      with_bytes part next (bytes ++ text) ≡ unfinished
   bytes_cut_line text all p = seam text all ∙ ap (behind_bytes (next (splice_by part bytes))) (line_open text p)
 
 pub behind_none : (next : Sense) (text rest : List ℕ) → text ≡ [] → behind_bytes next (Some (text, rest)) ≡ next rest
 behind_none next text rest none = ap (λ l. behind_bytes next (Some (l, rest))) none
 
-pub behind_some : (next : Sense) (text rest : List ℕ) → (text ≡ [] → ⊥) → behind_bytes next (Some (text, rest)) ≡ asks (flawed NoPayload) rest
+pub behind_some : (next : Sense) (text rest : List ℕ) → (text ≡ [] → ⊥) →
+    behind_bytes next (Some (text, rest)) ≡ asks (flawed NoPayload) rest
 behind_some next [] rest some = absurd (some refl)
 behind_some next (c ∷ text) rest some = refl
 
@@ -66,7 +74,8 @@ behind_some next (c ∷ text) rest some = refl
 pub parts_on : (left : ℕ) (ss : Row ASplice) (rest : List ℕ) → 0 < left
     → more_parts left ss rest ≡ part_by_line (λ s. more_parts (left - 1) (ss ++ s ∷ [])) (first_line rest)
 parts_on zero ss rest none = absurd (omega (arith, none))
-parts_on (suc n) ss rest more = let less : n ≡ suc n - 1 = omega arith in ap (λ m. part_by_line (λ s. more_parts m (ss ++ s ∷ [])) (first_line rest)) less
+parts_on (suc n) ss rest more = let less : n ≡ suc n - 1 = omega arith in
+    ap (λ m. part_by_line (λ s. more_parts m (ss ++ s ∷ [])) (first_line rest)) less
 
 parts_begin : (count : ℕ) (ss : Row ASplice) → more_parts count ss [] ≡ nothing → ⊥
 parts_begin zero ss e = let wrong : asks (edit ss) [] ≡ nothing = e in absurd cc
@@ -74,7 +83,9 @@ parts_begin (suc n) ss e = let wrong : unfinished ≡ nothing = e in absurd cc
 
 edit_begins : (part : Part) → with_bytes part edit_alone [] ≡ nothing → ⊥
 edit_begins part e =
-    let cut : with_bytes part edit_alone [] ≡ unfinished = ap (λ l. behind_bytes (edit_alone (splice_by part (take part.count []))) (first_line l)) (drop_all part.count [] (omega arith)) in
+    let cut : with_bytes part edit_alone [] ≡ unfinished =
+    ap (λ l. behind_bytes (edit_alone (splice_by part (take part.count []))) (first_line l))
+    (drop_all part.count [] (omega arith)) in
     let wrong : unfinished ≡ nothing = sym cut ∙ e in absurd cc
 
 pub form_begins : (form : EditForm) → next_by_form form [] ≡ nothing → ⊥
@@ -82,7 +93,8 @@ form_begins (forms.Alone part) e = edit_begins part e
 form_begins (forms.Batch count) e = parts_begin count [] e
 
 -- what waited was taken, where nothing waits any more
-pub some_taken : (old new : Ahead) (taken : List ℕ) → Takes old new taken → 0 < length old.waiting.bytes → new.waiting.bytes ≡ [] → 0 < length taken
+pub some_taken : (old new : Ahead) (taken : List ℕ) → Takes old new taken → 0 < length old.waiting.bytes →
+    new.waiting.bytes ≡ [] → 0 < length taken
 some_taken old new taken t some none =
     let before = length-append old.waiting.bytes t.more in
     let behind = length-append taken new.waiting.bytes in
@@ -100,14 +112,23 @@ err_through P Q (Err e) f p = f e p
 
 -- ---- a run that ends where no more bytes come
 
-module _ (sense : Sense) (before after : Held) (old new : Ahead) (failed ended : Bool) (held holds : Option (List ℕ)) (broken : Bool)
+module _ (sense : Sense) (before after : Held) (old new : Ahead) (failed ended : Bool) (held holds : Option (List ℕ))
+    (broken : Bool)
     (same : after ≡ before) (silent : holds ≡ held) (sound : broken ≡ false) where
-  pub stops_inside : (stop : InputEnd) (taken : List ℕ) → Takes old new taken → (new.waiting.bytes ≡ [] → sense taken ≡ unfinished) → StopsBy stop failed ended new
+  pub stops_inside : (stop : InputEnd) (taken : List ℕ) → Takes old new taken →
+      (new.waiting.bytes ≡ [] → sense taken ≡ unfinished) → StopsBy stop failed ended new
       → EndsAs sense (end_inside stop) before after old new failed ended held holds broken
   stops_inside stops.Met taken takes whole s =
       record { taken = taken; takes = takes; none = (whole s.2, s); same = same; silent = silent; sound = sound }
   stops_inside stops.Unreadable taken takes whole s =
-      record { taken = taken; takes = takes; none = ((cut, subst (λ n. EndsBy n cut) (sym (whole s.2)) tt), s); same = same; silent = silent; sound = sound }
+      record {
+        taken = taken;
+        takes = takes;
+        none = ((cut, subst (λ n. EndsBy n cut) (sym (whole s.2)) tt), s);
+        same = same;
+        silent = silent;
+        sound = sound;
+      }
   stops_inside stops.TooLong taken takes whole s =
       record { taken = taken; takes = takes; none = s; same = same; silent = silent; sound = sound }
 
@@ -116,21 +137,31 @@ module _ (sense : Sense) (before after : Held) (old new : Ahead) (failed ended :
   stops_between stops.Met takes none s =
       record { taken = []; takes = takes; none = (refl, none, s); same = same; silent = silent; sound = sound }
   stops_between stops.Unreadable takes none s =
-      record { taken = []; takes = takes; none = ((clean, subst (λ n. EndsBy n clean) (sym none) tt), s); same = same; silent = silent; sound = sound }
+      record {
+        taken = [];
+        takes = takes;
+        none = ((clean, subst (λ n. EndsBy n clean) (sym none) tt), s);
+        same = same;
+        silent = silent;
+        sound = sound;
+      }
   stops_between stops.TooLong takes none s =
       record { taken = []; takes = takes; none = s; same = same; silent = silent; sound = sound }
 
 -- ---- what follows the line of a request goes on with it
 
-module _ (text : List ℕ) (sense : Sense) (front : (rest : List ℕ) → next_request_of ((text ++ 10 ∷ []) ++ rest) ≡ sense rest)
-    (before after : Held) (old mid new : Ahead) (held holds : Option (List ℕ)) (first : Takes old mid (text ++ 10 ∷ [])) where
+module _ (text : List ℕ) (sense : Sense)
+    (front : (rest : List ℕ) → next_request_of ((text ++ 10 ∷ []) ++ rest) ≡ sense rest)
+    (before after : Held) (old mid new : Ahead) (held holds : Option (List ℕ))
+    (first : Takes old mid (text ++ 10 ∷ [])) where
   through : (taken rest : List ℕ) → next_request_of (((text ++ 10 ∷ []) ++ taken) ++ rest) ≡ sense (taken ++ rest)
   through taken rest = ap next_request_of (append_assoc (text ++ 10 ∷ []) taken rest) ∙ front (taken ++ rest)
 
   through_all : (taken : List ℕ) → next_request_of ((text ++ 10 ∷ []) ++ taken) ≡ sense taken
   through_all taken = front taken
 
-  pub replied_through : (failed : Bool) → Replied sense before after mid new held holds failed → Replied next_request_of before after old new held holds failed
+  pub replied_through : (failed : Bool) → Replied sense before after mid new held holds failed →
+      Replied next_request_of before after old new held holds failed
   replied_through failed r = record {
     taken = (text ++ 10 ∷ []) ++ r.taken;
     request = r.request;
@@ -140,7 +171,8 @@ module _ (text : List ℕ) (sense : Sense) (front : (rest : List ℕ) → next_r
   }
 
   module _ (failed ended broken : Bool) (begun : sense [] ≡ nothing → ⊥) where
-    none_through : («end» : End) (taken : List ℕ) → NoFurther sense «end» taken failed ended new → NoFurther next_request_of «end» ((text ++ 10 ∷ []) ++ taken) failed ended new
+    none_through : («end» : End) (taken : List ℕ) → NoFurther sense «end» taken failed ended new →
+        NoFurther next_request_of «end» ((text ++ 10 ∷ []) ++ taken) failed ended new
     none_through Clean taken n = absurd (begun n.1)
     none_through Quit taken n = ((λ rest. through taken rest ∙ n.0 rest), n.1)
     none_through Cut taken n = (through_all taken ∙ n.0, n.1)
@@ -148,7 +180,8 @@ module _ (text : List ℕ) (sense : Sense) (front : (rest : List ℕ) → next_r
     none_through TooLong taken n = n
     none_through Unwritable taken n = n
 
-    stays_through : («end» : End) → Stays sense «end» before after mid new failed ended held holds broken → Stays next_request_of «end» before after old new failed ended held holds broken
+    stays_through : («end» : End) → Stays sense «end» before after mid new failed ended held holds broken →
+        Stays next_request_of «end» before after old new failed ended held holds broken
     stays_through why s = record {
       taken = (text ++ 10 ∷ []) ++ s.taken;
       takes = takes_both old mid new (text ++ 10 ∷ []) s.taken _ first s.takes refl;
@@ -173,11 +206,19 @@ module _ (text : List ℕ) (inline : IsInLine text) (order : Option Order) (is :
   pub line_is : (rest : List ℕ) → next_request_of ((text ++ 10 ∷ []) ++ rest) ≡ next_by_order order rest
   line_is rest = line_first text rest inline ∙ ap (λ o. next_by_order o rest) (sym is)
 
-  pub plain_replied : (before after : Held) (old new : Ahead) (held holds : Option (List ℕ)) (failed : Bool) (request : Request)
-      → Takes old new (text ++ 10 ∷ []) → ((rest : List ℕ) → next_by_order order rest ≡ asks request rest) → Tells before request after held holds failed
+  pub plain_replied : (before after : Held) (old new : Ahead) (held holds : Option (List ℕ)) (failed : Bool)
+      (request : Request)
+      → Takes old new (text ++ 10 ∷ []) → ((rest : List ℕ) → next_by_order order rest ≡ asks request rest) →
+      Tells before request after held holds failed
       → Replied next_request_of before after old new held holds failed
   plain_replied before after old new held holds failed request takes next tells =
-      record { taken = text ++ 10 ∷ []; request = request; takes = takes; spelled = λ rest. line_is rest ∙ next rest; tells = tells }
+      record {
+        taken = text ++ 10 ∷ [];
+        request = request;
+        takes = takes;
+        spelled = λ rest. line_is rest ∙ next rest;
+        tells = tells;
+      }
 
 -- a request has a byte
 pub some_spelled : (taken : List ℕ) (request : Request) → Spells next_request_of taken (asks request) → 0 < length taken

@@ -15,7 +15,8 @@ use Rattle.shlive.proofs.Asked.{parts_on}
 use Rattle.shlive.proofs.InLine.{line_ends, line_open}
 
 -- an edit, or its flaw
-pub after_is : (came : Result (Unit {0}) Flaw) (ss : Row ASplice) (rest : List ℕ) → after_bytes came (asks (edit ss)) rest ≡ asks (request_by came ss) rest
+pub after_is : (came : Result (Unit {0}) Flaw) (ss : Row ASplice) (rest : List ℕ) →
+    after_bytes came (asks (edit ss)) rest ≡ asks (request_by came ss) rest
 after_is (Ok whole) ss rest = refl
 after_is (Err flaw) ss rest = refl
 
@@ -23,21 +24,32 @@ pub some_if : (came : Result (Unit {0}) Flaw) (P : Type 0) → P → OnOk came P
 some_if (Ok whole) P p = p
 some_if (Err flaw) P p = tt
 
-module _ (part : Part) (old new : Ahead) (failed ended : Bool) (before after : Parts) (len : ℕ) (none : Hold before len []) where
+module _ (part : Part) (old new : Ahead) (failed ended : Bool) (before after : Parts) (len : ℕ)
+    (none : Hold before len []) where
   -- one splice
   pub comes_alone : (r : Result (Result (Unit {0}) Flaw) InputEnd) → OnOk r ((failed ≡ false) × (ended ≡ false))
       → IfOk r (λ came. (taken bytes : List ℕ) × Takes old new taken
-      × ((next : ASplice → Sense) → Spells (with_bytes part next) taken (after_bytes came (next (splice_by part bytes))))
+      × ((next : ASplice → Sense) →
+      Spells (with_bytes part next) taken (after_bytes came (next (splice_by part bytes))))
       × ((n : ℕ) (ss : Row ASplice) → Hold before n ss → Hold after n (ss ++ splice_by part bytes ∷ [])))
-      → IfErr r (λ stop. (taken : List ℕ) × Takes old new taken × ((next : ASplice → Sense) → with_bytes part next taken ≡ unfinished) × StopsBy stop failed ended new)
+      → IfErr r (λ stop. (taken : List ℕ) × Takes old new taken
+      × ((next : ASplice → Sense) → with_bytes part next taken ≡ unfinished) × StopsBy stop failed ended new)
       → Comes (with_bytes part edit_alone) old new failed ended after len r
   comes_alone (Ok came) sound is cut =
-      let ss : Row ASplice = splice_by part is.1 ∷ [] in
-      (is.0, ss, some_if came (0 < length ss) (omega arith), is.2, (λ rest. is.3 edit_alone rest ∙ after_is came ss rest), is.4 len [] none, sound.0)
+      let ss : Row ASplice = splice_by part is.1 ∷ [] in (
+        is.0,
+        ss,
+        some_if came (0 < length ss) (omega arith),
+        is.2,
+        (λ rest. is.3 edit_alone rest ∙ after_is came ss rest),
+        is.4 len [] none,
+        sound.0,
+      )
   comes_alone (Err stop) sound is cut = (cut.0, cut.1, cut.2 edit_alone, cut.3)
 
 -- a flaw ends an edit, and none goes on with it
-pub after_flaw : (came : Result (Unit {0}) Flaw) (ss : Row ASplice) (next : Sense) (rest : List ℕ) → is_err came ≡ true → after_bytes came next rest ≡ asks (request_by came ss) rest
+pub after_flaw : (came : Result (Unit {0}) Flaw) (ss : Row ASplice) (next : Sense) (rest : List ℕ) → is_err came ≡ true
+    → after_bytes came next rest ≡ asks (request_by came ss) rest
 after_flaw (Ok whole) ss next rest is = absurd (true≢false (sym is))
 after_flaw (Err flaw) ss next rest is = refl
 
@@ -45,20 +57,24 @@ pub none_if : (came : Result (Unit {0}) Flaw) (P : Type 0) → is_err came ≡ t
 none_if (Ok whole) P is = absurd (true≢false (sym is))
 none_if (Err flaw) P is = tt
 
-pub after_whole : (came : Result (Unit {0}) Flaw) (next : Sense) (rest : List ℕ) → is_err came ≡ false → after_bytes came next rest ≡ next rest
+pub after_whole : (came : Result (Unit {0}) Flaw) (next : Sense) (rest : List ℕ) → is_err came ≡ false →
+    after_bytes came next rest ≡ next rest
 after_whole (Ok whole) next rest is = refl
 after_whole (Err flaw) next rest is = absurd (true≢false is)
 
 -- the input ended in an edit
-pub comes_cut : (sense : Sense) (old new : Ahead) (failed ended : Bool) (parts : Parts) (len : ℕ) (r : Result (Result (Unit {0}) Flaw) InputEnd) (e stop : InputEnd) → r ≡ Err e → e ≡ stop
-    → (taken : List ℕ) → Takes old new taken → sense taken ≡ unfinished → StopsBy stop failed ended new → Comes sense old new failed ended parts len r
+pub comes_cut : (sense : Sense) (old new : Ahead) (failed ended : Bool) (parts : Parts) (len : ℕ)
+    (r : Result (Result (Unit {0}) Flaw) InputEnd) (e stop : InputEnd) → r ≡ Err e → e ≡ stop
+    → (taken : List ℕ) → Takes old new taken → sense taken ≡ unfinished → StopsBy stop failed ended new →
+    Comes sense old new failed ended parts len r
 comes_cut sense old new failed ended parts len r e stop is same taken takes cut stops =
     subst (Comes sense old new failed ended parts len) (sym is)
     (taken, takes, cut, subst (λ s. StopsBy s failed ended new) (sym same) stops)
 
 -- ---- one part more
 
-module _ (count left : ℕ) (ss : Row ASplice) (taken : List ℕ) (goes : (rest : List ℕ) → more_parts count [] (taken ++ rest) ≡ more_parts left ss rest) (more : 0 < left)
+module _ (count left : ℕ) (ss : Row ASplice) (taken : List ℕ)
+    (goes : (rest : List ℕ) → more_parts count [] (taken ++ rest) ≡ more_parts left ss rest) (more : 0 < left)
     (text : List ℕ) (inline : IsInLine text) where
   abbrev pub next : ASplice → Sense
   next s = more_parts (left - 1) (ss ++ s ∷ [])
@@ -73,17 +89,22 @@ module _ (count left : ℕ) (ss : Row ASplice) (taken : List ℕ) (goes : (rest 
   cut_in_line = here text ∙ ap (part_by_line next) (line_open text inline)
 
   by_line : (rest : List ℕ) → more_parts count [] (line ++ rest) ≡ next_by_part (part_of_line text) next rest
-  by_line rest = ap (more_parts count []) (append_assoc taken (text ++ 10 ∷ []) rest) ∙ here ((text ++ 10 ∷ []) ++ rest) ∙ ap (part_by_line next) (line_ends text rest inline)
+  by_line rest = ap (more_parts count []) (append_assoc taken (text ++ 10 ∷ []) rest) ∙ here ((text ++ 10 ∷ []) ++ rest)
+      ∙ ap (part_by_line next) (line_ends text rest inline)
 
-  pub no_part : None ≡ part_of_line text → (rest : List ℕ) → more_parts count [] (line ++ rest) ≡ asks (flawed NoPart) rest
+  pub no_part : None ≡ part_of_line text → (rest : List ℕ) →
+      more_parts count [] (line ++ rest) ≡ asks (flawed NoPart) rest
   no_part is rest = by_line rest ∙ ap (λ p. next_by_part p next rest) (sym is)
 
   module _ (part : Part) (is : Some part ≡ part_of_line text) where
     through : (rest : List ℕ) → more_parts count [] (line ++ rest) ≡ with_bytes part next rest
     through rest = by_line rest ∙ ap (λ p. next_by_part p next rest) (sym is)
 
-    pub cut_in_bytes : (bytes : List ℕ) → with_bytes part next bytes ≡ unfinished → more_parts count [] (line ++ bytes) ≡ unfinished
+    pub cut_in_bytes : (bytes : List ℕ) → with_bytes part next bytes ≡ unfinished →
+        more_parts count [] (line ++ bytes) ≡ unfinished
     cut_in_bytes bytes cut = through bytes ∙ cut
 
-    pub came_on : (bytes : List ℕ) (come : Sense) → Spells (with_bytes part next) bytes come → (rest : List ℕ) → more_parts count [] ((line ++ bytes) ++ rest) ≡ come rest
-    came_on bytes come spells rest = ap (more_parts count []) (append_assoc line bytes rest) ∙ through (bytes ++ rest) ∙ spells rest
+    pub came_on : (bytes : List ℕ) (come : Sense) → Spells (with_bytes part next) bytes come → (rest : List ℕ) →
+        more_parts count [] ((line ++ bytes) ++ rest) ≡ come rest
+    came_on bytes come spells rest = ap (more_parts count []) (append_assoc line bytes rest) ∙ through (bytes ++ rest)
+        ∙ spells rest

@@ -18,11 +18,13 @@ in_line_nothing rest = behind_nothing (first_line rest)
 pub in_line_more : (text : List ℕ) (b : ℕ) → IsInLine text → is_newline b ≡ false → IsInLine (text ++ b ∷ [])
 in_line_more text b p other rest =
     let here : first_line (b ∷ rest) ≡ with_text_before (b ∷ []) (first_line rest) = rw other refl in
-    ap first_line (append_assoc text (b ∷ []) rest) ∙ p (b ∷ rest) ∙ ap (with_text_before text) here ∙ behind_both text (b ∷ []) (first_line rest)
+    ap first_line (append_assoc text (b ∷ []) rest) ∙ p (b ∷ rest) ∙ ap (with_text_before text) here
+    ∙ behind_both text (b ∷ []) (first_line rest)
 
 -- a newline ends its line
 pub line_ends : (text rest : List ℕ) → IsInLine text → first_line ((text ++ 10 ∷ []) ++ rest) ≡ Some (text, rest)
-line_ends text rest p = ap first_line (append_assoc text (10 ∷ []) rest) ∙ p (10 ∷ rest) ∙ ap (λ l. Some (l, rest)) (append-nil text)
+line_ends text rest p = ap first_line (append_assoc text (10 ∷ []) rest) ∙ p (10 ∷ rest)
+    ∙ ap (λ l. Some (l, rest)) (append-nil text)
 
 -- where nothing follows, no newline ends it
 pub line_open : (text : List ℕ) → IsInLine text → first_line text ≡ None

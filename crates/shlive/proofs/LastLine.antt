@@ -45,7 +45,8 @@ low_by blank_line n f low e = absurd cc
 low_by (entries_line es) n f low e = absurd cc
 low_by end_line n f low e = absurd cc
 
-module _ (edition : Edition) (B : List ℕ) (row : Row (HeldLine AKind)) (is : IsRow (IsHeldLine edition) B row) (before : Row (HeldLine AKind)) (l : HeldLine AKind) (split : row ≡ before ++ l ∷ []) where
+module _ (edition : Edition) (B : List ℕ) (row : Row (HeldLine AKind)) (is : IsRow (IsHeldLine edition) B row)
+    (before : Row (HeldLine AKind)) (l : HeldLine AKind) (split : row ≡ before ++ l ∷ []) where
   last_row : IsRow (IsHeldLine edition) B (before ++ l ∷ [])
   last_row = subst (IsRow (IsHeldLine edition) B) split is
 
@@ -58,18 +59,23 @@ module _ (edition : Edition) (B : List ℕ) (row : Row (HeldLine AKind)) (is : I
   pub fault_low : (f : Fault) → fault_in l.kind ≡ Some f → f.at ≤ l.len
   fault_low f e = low_by l.kind l.len f (last_within edition B before l last_row) e
 
-  pub is_fault : (f : Fault) → fault_in l.kind ≡ Some f → FirstFault edition B (Some (record { kind = f.kind; at = length B - l.len + f.at }))
+  pub is_fault : (f : Fault) → fault_in l.kind ≡ Some f →
+      FirstFault edition B (Some (record { kind = f.kind; at = length B - l.len + f.at }))
   is_fault f e =
       let base : extent before ≡ length B - l.len = omega (arith, last_end) in
-      subst (FirstFault edition B) (fault_there l.kind (extent before) f e ∙ ap (λ n. Some (moved_fault n f)) base) (row_fault edition B before l (row_top edition B (before ++ l ∷ []) last_row))
+      subst (FirstFault edition B) (fault_there l.kind (extent before) f e ∙ ap (λ n. Some (moved_fault n f)) base)
+      (row_fault edition B before l (row_top edition B (before ++ l ∷ []) last_row))
 
   pub is_none : fault_in l.kind ≡ None → FirstFault edition B None
-  is_none e = subst (FirstFault edition B) (none_there l.kind (extent before) e) (row_fault edition B before l (row_top edition B (before ++ l ∷ []) last_row))
+  is_none e = subst (FirstFault edition B) (none_there l.kind (extent before) e)
+      (row_fault edition B before l (row_top edition B (before ++ l ∷ []) last_row))
 
 -- ---- the script of the lines
 
-pub one_fault : (edition : Edition) (B : List ℕ) (f g : Option Fault) → FirstFault edition B f → FirstFault edition B g → f ≡ g
-one_fault edition B f g one two = ap (λ (s : AScript). s.wrong) (script_only edition B _ one.1 ∙ sym (script_only edition B _ two.1))
+pub one_fault : (edition : Edition) (B : List ℕ) (f g : Option Fault) → FirstFault edition B f → FirstFault edition B g
+    → f ≡ g
+one_fault edition B f g one two =
+    ap (λ (s : AScript). s.wrong) (script_only edition B _ one.1 ∙ sym (script_only edition B _ two.1))
 
 pub none_is : (f : Option Fault) → is_some f ≡ false → f ≡ None
 none_is None e = refl
@@ -78,14 +84,27 @@ none_is (Some f) e = absurd cc
 none_some : (f : Fault) → None ≡ Some f → ⊥
 none_some f e = cc
 
-pub no_fault : (edition : Edition) (B : List ℕ) (f : Option Fault) → FirstFault edition B f → is_some f ≡ false → (g : Fault) → FirstFault edition B (Some g) → ⊥
-no_fault edition B f first none g other = none_some g (sym (none_is f none) ∙ one_fault edition B f (Some g) first other)
+pub no_fault : (edition : Edition) (B : List ℕ) (f : Option Fault) → FirstFault edition B f → is_some f ≡ false →
+    (g : Fault) → FirstFault edition B (Some g) → ⊥
+no_fault edition B f first none g other =
+    none_some g (sym (none_is f none) ∙ one_fault edition B f (Some g) first other)
 
 -- where the script has no fault, what is printed for the entries of its lines is its printed text
-pub text_of_row : (edition : Edition) (y : Layout) (B : List ℕ) (row : Row (HeldLine AKind)) → IsRow (IsHeldLine edition) B row → FirstFault edition B None → (text : List ℕ) → text ≡ printed y (shape_of B (script_of row).entries) → IsTextOf edition y B text
+pub text_of_row : (edition : Edition) (y : Layout) (B : List ℕ) (row : Row (HeldLine AKind)) →
+    IsRow (IsHeldLine edition) B row → FirstFault edition B None → (text : List ℕ) →
+    text ≡ printed y (shape_of B (script_of row).entries) → IsTextOf edition y B text
 text_of_row edition y B row is none text text_is =
     let es = (script_of row).entries in
     let script : AScript = record { entries = es; wrong = None } in
     let all = row_outcome edition B row (row_top edition B row is) in
-    let outcome : Outcome edition B script = subst (λ w. Outcome edition B (record { entries = es; wrong = w })) (one_fault edition B (script_of row).wrong None (es, all) none) all in
-    record { script = script; outcome = outcome; faultless = refl; is = text_is; reads_back = subst (λ t. ReadsBack edition t (shape_of B es)) (sym text_is) (reads_back edition y B script outcome) }
+    let outcome : Outcome edition B script =
+    subst (λ w. Outcome edition B (record { entries = es; wrong = w }))
+    (one_fault edition B (script_of row).wrong None (es, all) none) all in
+    record {
+      script = script;
+      outcome = outcome;
+      faultless = refl;
+      is = text_is;
+      reads_back = subst (λ t. ReadsBack edition t (shape_of B es)) (sym text_is)
+          (reads_back edition y B script outcome);
+    }

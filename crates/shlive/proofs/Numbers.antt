@@ -3,5 +3,6 @@ use Rattle.std.proofs.Common.{◌≡◌, ℕ, ◌+◌, ◌-◌, ◌*◌, ◌<◌
 use Rattle.shlive.specs.Orders.{digits_from, is_digit}
 
 pub one_digit : (word : List ℕ) (i n : ℕ) → i < length word
-    → digits_from n (drop i word) ≡ cond (is_digit (get_or word i 0)) (digits_from (10 * n + (get_or word i 0 - 48)) (drop (i + 1) word)) None
+    → digits_from n (drop i word)
+    ≡ cond (is_digit (get_or word i 0)) (digits_from (10 * n + (get_or word i 0 - 48)) (drop (i + 1) word)) None
 one_digit word i n low = rw (add-one, drop-cons word i 0) refl

@@ -25,7 +25,8 @@ module _ (edition : Edition) (B : List ℕ) where
   one_outline x y p q = p.2 ∙ ap (λ (s : AScript). outline 0 s.entries) (one_script p.0 q.0 p.1 q.1) ∙ sym q.2
 
   pub one_row_of_nodes : (at : ℕ) (x y : List NodeLine) → HasNodesAt edition B at x → HasNodesAt edition B at y → x ≡ y
-  one_row_of_nodes at x y p q = p.2 ∙ ap (λ (s : AScript). nodes_at 0 at s.entries) (one_script p.0 q.0 p.1 q.1) ∙ sym q.2
+  one_row_of_nodes at x y p q = p.2 ∙ ap (λ (s : AScript). nodes_at 0 at s.entries) (one_script p.0 q.0 p.1 q.1)
+      ∙ sym q.2
 
   no_text : (s : AScript) (f : Fault) → Outcome edition B s → s.wrong ≡ None → FirstFault edition B (Some f) → ⊥
   no_text s f p none first =
@@ -37,4 +38,5 @@ module _ (how : How) (B : List ℕ) where
   one_text None (Some y) p q = absurd (no_text how.edition B q.script p.0 q.outcome q.faultless p.1)
   one_text (Some x) None p q = absurd (no_text how.edition B p.script q.0 p.outcome p.faultless q.1)
   one_text (Some x) (Some y) p q =
-      ap Some (p.is ∙ ap (λ (s : AScript). printed how.layout (shape_of B s.entries)) (one_script how.edition B p.script q.script p.outcome q.outcome) ∙ sym q.is)
+      ap Some (p.is ∙ ap (λ (s : AScript). printed how.layout (shape_of B s.entries))
+      (one_script how.edition B p.script q.script p.outcome q.outcome) ∙ sym q.is)

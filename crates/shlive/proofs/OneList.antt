@@ -19,7 +19,8 @@ shorter_behind : (b : ℕ) (text : List ℕ) (l : Lined) → Shorter text l → 
 shorter_behind b text None p = tt
 shorter_behind b text (Some (line, rest)) p = omega (arith, p)
 
-shorter_by : (b : ℕ) (text : List ℕ) (c : Bool) (l : Lined) → Shorter text l → Shorter (b ∷ text) (cond c (Some ([], text)) (with_text_before (b ∷ []) l))
+shorter_by : (b : ℕ) (text : List ℕ) (c : Bool) (l : Lined) → Shorter text l →
+    Shorter (b ∷ text) (cond c (Some ([], text)) (with_text_before (b ∷ []) l))
 shorter_by b text true l p = omega arith
 shorter_by b text false l p = shorter_behind b text l p
 
@@ -38,32 +39,40 @@ Leaves n (asks request rest) = length rest < n
 abbrev GoesOn : ℕ → Sense → Type 0
 GoesOn n next = (rest : List ℕ) → length rest < n → Leaves n (next rest)
 
-leaves_behind : (next : Sense) (text : List ℕ) (l : Lined) (n : ℕ) → Shorter text l → length text < n → GoesOn n next → Leaves n (behind_bytes next l)
+leaves_behind : (next : Sense) (text : List ℕ) (l : Lined) (n : ℕ) → Shorter text l → length text < n → GoesOn n next →
+    Leaves n (behind_bytes next l)
 leaves_behind next text None n p low on = tt
 leaves_behind next text (Some ([], rest)) n p low on = on rest (omega (arith, p, low))
 leaves_behind next text (Some (c ∷ line, rest)) n p low on = omega (arith, p, low)
 
-leaves_bytes : (part : Part) (next : ASplice → Sense) (rest : List ℕ) (n : ℕ) → length rest < n → ((s : ASplice) → GoesOn n (next s)) → Leaves n (with_bytes part next rest)
+leaves_bytes : (part : Part) (next : ASplice → Sense) (rest : List ℕ) (n : ℕ) → length rest < n →
+    ((s : ASplice) → GoesOn n (next s)) → Leaves n (with_bytes part next rest)
 leaves_bytes part next rest n low on =
     let less = length-drop part.count rest in
     let after : List ℕ = drop part.count rest in
-    leaves_behind (next (splice_by part (take part.count rest))) after (first_line after) n (line_shorter after) (omega (arith, less, low)) (on _)
+    leaves_behind (next (splice_by part (take part.count rest))) after (first_line after) n (line_shorter after)
+    (omega (arith, less, low)) (on _)
 
-leaves_part : (part : Option Part) (next : ASplice → Sense) (rest : List ℕ) (n : ℕ) → length rest < n → ((s : ASplice) → GoesOn n (next s)) → Leaves n (next_by_part part next rest)
+leaves_part : (part : Option Part) (next : ASplice → Sense) (rest : List ℕ) (n : ℕ) → length rest < n →
+    ((s : ASplice) → GoesOn n (next s)) → Leaves n (next_by_part part next rest)
 leaves_part None next rest n low on = low
 leaves_part (Some part) next rest n low on = leaves_bytes part next rest n low on
 
-leaves_part_line : (next : ASplice → Sense) (text : List ℕ) (l : Lined) (n : ℕ) → Shorter text l → length text < n → ((s : ASplice) → GoesOn n (next s)) → Leaves n (part_by_line next l)
+leaves_part_line : (next : ASplice → Sense) (text : List ℕ) (l : Lined) (n : ℕ) → Shorter text l → length text < n →
+    ((s : ASplice) → GoesOn n (next s)) → Leaves n (part_by_line next l)
 leaves_part_line next text None n p low on = tt
-leaves_part_line next text (Some (line, rest)) n p low on = leaves_part (part_of_line line) next rest n (omega (arith, p, low)) on
+leaves_part_line next text (Some (line, rest)) n p low on =
+    leaves_part (part_of_line line) next rest n (omega (arith, p, low)) on
 
 leaves_parts : (count : ℕ) (ss : Row ASplice) (n : ℕ) → GoesOn n (more_parts count ss)
 leaves_parts zero ss n rest low = low
 leaves_parts (suc count) ss n rest low =
-    leaves_part_line (λ s. more_parts count (ss ++ s ∷ [])) rest (first_line rest) n (line_shorter rest) low (λ s. leaves_parts count (ss ++ s ∷ []) n)
+    leaves_part_line (λ s. more_parts count (ss ++ s ∷ [])) rest (first_line rest) n (line_shorter rest) low
+    (λ s. leaves_parts count (ss ++ s ∷ []) n)
 
 leaves_order : (order : Option Order) (rest : List ℕ) (n : ℕ) → length rest < n → Leaves n (next_by_order order rest)
-leaves_order (Some (orders.Edit (forms.Alone part))) rest n low = leaves_bytes part edit_alone rest n low (λ s r less. less)
+leaves_order (Some (orders.Edit (forms.Alone part))) rest n low =
+    leaves_bytes part edit_alone rest n low (λ s r less. less)
 leaves_order (Some (orders.Edit (forms.Batch count))) rest n low = leaves_parts count [] n rest low
 leaves_order (Some (orders.Ask question)) rest n low = low
 leaves_order (Some orders.Quit) rest n low = tt
@@ -83,10 +92,12 @@ abbrev Ended : List ℕ → Type 0
 Ended input = (requests : List Request) × ((ending : Ending) × Requests input requests ending)
 
 module _ (input : List ℕ) where
-  ends : (asked : List Request) (mid : List ℕ) (next : Next) (e : Ending) → Begins input asked mid → next_request_of mid ≡ next → EndsBy next e → Ended input
+  ends : (asked : List Request) (mid : List ℕ) (next : Next) (e : Ending) → Begins input asked mid →
+      next_request_of mid ≡ next → EndsBy next e → Ended input
   ends asked mid next e b is end = (asked, (e, (mid, b, subst (λ n. EndsBy n e) (sym is) end)))
 
-  by_next : (n : ℕ) (asked : List Request) (mid : List ℕ) (next : Next) → length mid ≤ n → Begins input asked mid → next_request_of mid ≡ next → Leaves (length mid) (next_request_of mid) → Ended input
+  by_next : (n : ℕ) (asked : List Request) (mid : List ℕ) (next : Next) → length mid ≤ n → Begins input asked mid →
+      next_request_of mid ≡ next → Leaves (length mid) (next_request_of mid) → Ended input
   by_next n asked mid nothing low b is less = ends asked mid nothing clean b is tt
   by_next n asked mid unfinished low b is less = ends asked mid unfinished cut b is tt
   by_next n asked mid leaves low b is less = ends asked mid leaves left b is tt
@@ -94,10 +105,12 @@ module _ (input : List ℕ) where
       let few : length rest < length mid = subst (Leaves (length mid)) is less in absurd (omega (arith, few, low))
   by_next (suc n) asked mid (asks request rest) low b is less =
       let few : length rest < length mid = subst (Leaves (length mid)) is less in
-      by_next n (asked ++ request ∷ []) rest (next_request_of rest) (omega (arith, few, low)) (one_more request rest b is) refl (next_shorter rest)
+      by_next n (asked ++ request ∷ []) rest (next_request_of rest) (omega (arith, few, low))
+      (one_more request rest b is) refl (next_shorter rest)
 
 pub some_list : (input : List ℕ) → Ended input
-some_list input = by_next input (length input) [] input (next_request_of input) (omega arith) none_yet refl (next_shorter input)
+some_list input = by_next input (length input) [] input (next_request_of input) (omega arith) none_yet refl
+    (next_shorter input)
 
 -- ---- there is no other
 
@@ -106,10 +119,12 @@ abbrev Goes : List ℕ → List Request → Ending → Type 0
 Goes input [] e = EndsBy (next_request_of input) e
 Goes input (r ∷ rs) e = (rest : List ℕ) × (next_request_of input ≡ asks r rest) × Goes rest rs e
 
-goes_before : (input : List ℕ) (asked : List Request) (mid : List ℕ) (e : Ending) (more : List Request) → Begins input asked mid → Goes mid more e → Goes input (asked ++ more) e
+goes_before : (input : List ℕ) (asked : List Request) (mid : List ℕ) (e : Ending) (more : List Request) →
+    Begins input asked mid → Goes mid more e → Goes input (asked ++ more) e
 goes_before input _ _ e more none_yet g = g
 goes_before input _ _ e more (one_more {requests} {mid} request rest b is) g =
-    subst (λ l. Goes input l e) (sym (append_assoc requests (request ∷ []) more)) (goes_before input requests mid e (request ∷ more) b (rest, is, g))
+    subst (λ l. Goes input l e) (sym (append_assoc requests (request ∷ []) more))
+    (goes_before input requests mid e (request ∷ more) b (rest, is, g))
 
 one_end : (n : Next) (d e : Ending) → EndsBy n d → EndsBy n e → d ≡ e
 one_end nothing clean clean p q = refl
@@ -144,7 +159,8 @@ rest_in unfinished = []
 rest_in leaves = []
 rest_in (asks r rest) = rest
 
-goes_one : (input : List ℕ) (rs ss : List Request) (d e : Ending) → Goes input rs d → Goes input ss e → (rs ≡ ss) × (d ≡ e)
+goes_one : (input : List ℕ) (rs ss : List Request) (d e : Ending) → Goes input rs d → Goes input ss e → (rs ≡ ss)
+    × (d ≡ e)
 goes_one input [] [] d e p q = (refl, one_end (next_request_of input) d e p q)
 goes_one input [] (s ∷ ss) d e p (rest, is, q) = absurd (no_end (next_request_of input) d s rest is p)
 goes_one input (r ∷ rs) [] d e (rest, is, p) q = absurd (no_end (next_request_of input) e r rest is q)
@@ -158,5 +174,6 @@ goes_one input (r ∷ rs) (s ∷ ss) d e (m, is, p) (n, also, q) =
 to_goes : (input : List ℕ) (rs : List Request) (e : Ending) → Requests input rs e → Goes input rs e
 to_goes input rs e (rest, b, ends) = subst (λ l. Goes input l e) (append-nil rs) (goes_before input rs rest e [] b ends)
 
-pub only_list : (input : List ℕ) (a b : List Request) (d e : Ending) → Requests input a d → Requests input b e → (a ≡ b) × (d ≡ e)
+pub only_list : (input : List ℕ) (a b : List Request) (d e : Ending) → Requests input a d → Requests input b e → (a ≡ b)
+    × (d ≡ e)
 only_list input a b d e p q = goes_one input a b d e (to_goes input a d p) (to_goes input b e q)

@@ -8,4 +8,6 @@ passed xs at last count low =
     let all = length-take (last - at) (drop at xs) in
     let fits : count ≤ last - at = omega (arith, low, all) in
     let parts : last - at ≡ count + (last - (at + count)) = omega (arith, fits) in
-    ap (take (last - (at + count))) (sym (drop-drop count at xs)) ∙ sym (drop-take count (last - (at + count)) (drop at xs)) ∙ ap (λ n. drop count (take n (drop at xs))) (sym parts)
+    ap (take (last - (at + count))) (sym (drop-drop count at xs))
+    ∙ sym (drop-take count (last - (at + count)) (drop at xs))
+    ∙ ap (λ n. drop count (take n (drop at xs))) (sym parts)

@@ -27,7 +27,8 @@ module _ (base : ℕ) (B : List ℕ) where
   text_placed : (s : Span) → text_at B (placed_span base s) ≡ text_at (drop base B) s
   text_placed s =
       let size : base + s.«end» - (base + s.start) ≡ s.«end» - s.start = omega arith in
-      ap (λ (k : ℕ). take k (drop (base + s.start) B)) size ∙ ap (take (s.«end» - s.start)) (sym (drop-drop s.start base B))
+      ap (λ (k : ℕ). take k (drop (base + s.start) B)) size
+      ∙ ap (take (s.«end» - s.start)) (sym (drop-drop s.start base B))
 
   -- a body that ends at 0 is empty wherever it stands
   body_placed : (s : Span) (e : ℕ) → s.«end» ≡ e → text_at B (body_by base s e) ≡ text_at (drop base B) s
@@ -36,10 +37,12 @@ module _ (base : ℕ) (B : List ℕ) where
       ap (λ (k : ℕ). take k (drop s.start B)) none ∙ sym (ap (λ (k : ℕ). take k (drop s.start (drop base B))) none)
   body_placed s (suc n) ends = text_placed s
 
-  pub shape_placed : (limit : ℕ) (xs : Entries) → AllWithin limit xs → shape_of B (moved base xs) ≡ shape_of (drop base B) xs
+  pub shape_placed : (limit : ℕ) (xs : Entries) → AllWithin limit xs →
+      shape_of B (moved base xs) ≡ shape_of (drop base B) xs
   shape_placed limit xs within =
       shape_same B (drop base B) (placed_span base) (placed_body base) (λ items. Unit {0}) xs
-      (throughout_so (IsSpanWithin limit) (SameText B (drop base B) (placed_span base) (placed_body base)) (λ items. Unit {0}) (λ items. Unit {0})
+      (throughout_so (IsSpanWithin limit) (SameText B (drop base B) (placed_span base) (placed_body base))
+      (λ items. Unit {0}) (λ items. Unit {0})
       (λ s low. (text_placed s, body_placed s s.«end» refl)) (λ items so. so) xs within)
 
 -- ---- the first entry
@@ -55,7 +58,8 @@ plain_moved base no_entry is = absurd (no_first is.some)
   where
     no_first : false ≡ true → ⊥
     no_first e = cc
-plain_moved base (more_entries (entry what background blank comment) es) is = record { some = refl; plain = ap (moved base) is.plain }
+plain_moved base (more_entries (entry what background blank comment) es) is =
+    record { some = refl; plain = ap (moved base) is.plain }
 
 abbrev first_blank : Row AnEntry → Bool
 first_blank [] = false
@@ -65,7 +69,8 @@ abbrev entries_or : AKind → Entries
 entries_or (entries_line xs) = xs
 entries_or _ = no_entry
 
-kind_plain : (es : Row AnEntry) (newline : Bool) (xs : Entries) → kind_of es newline ≡ entries_line xs → es ≡ blanked_row false (map (moved_entry 0) es) → BeginsPlain xs
+kind_plain : (es : Row AnEntry) (newline : Bool) (xs : Entries) → kind_of es newline ≡ entries_line xs →
+    es ≡ blanked_row false (map (moved_entry 0) es) → BeginsPlain xs
 kind_plain [] true xs kind_is same = absurd cc
 kind_plain [] false xs kind_is same = absurd cc
 kind_plain (entry what background blank comment ∷ es) newline xs kind_is same =
@@ -76,12 +81,17 @@ kind_plain (entry what background blank comment ∷ es) newline xs kind_is same 
     })
 
 -- a line that is read alone is the line that is read at 0, with no empty line before it
-row_plain : (edition : Edition) (T : List ℕ) (es : Row AnEntry) (newline : Bool) (t : State) → Ok ((es, newline), t) ≡ line_told edition T Whole false 0 0 → es ≡ blanked_row false (map (moved_entry 0) es)
+row_plain : (edition : Edition) (T : List ℕ) (es : Row AnEntry) (newline : Bool) (t : State) →
+    Ok ((es, newline), t) ≡ line_told edition T Whole false 0 0 → es ≡ blanked_row false (map (moved_entry 0) es)
 row_plain edition T es newline t read =
-    let same : Same 0 false (Ok ((es, newline), t)) (Ok ((es, newline), t)) = subst (λ (r : Read (Row AnEntry × Bool)). Same 0 false r r) (sym read) (line_moved edition T 0 false) in
+    let same : Same 0 false (Ok ((es, newline), t)) (Ok ((es, newline), t)) =
+    subst (λ (r : Read (Row AnEntry × Bool)). Same 0 false r r) (sym read) (line_moved edition T 0 false) in
     same.0
 
-pub line_plain : (edition : Edition) (T : List ℕ) (a : ALine) → IsLine edition T a → (xs : Entries) → a.kind ≡ entries_line xs → BeginsPlain xs
+pub line_plain : (edition : Edition) (T : List ℕ) (a : ALine) → IsLine edition T a → (xs : Entries) →
+    a.kind ≡ entries_line xs → BeginsPlain xs
 line_plain edition T _ (line_read es newline t k part) xs kind_is =
-    kind_plain es newline xs kind_is (row_plain edition T es newline t ((is (the_line false) (given edition T 0) (standing 0)).only (Ok ((es, newline), t)) k part))
+    kind_plain es newline xs kind_is
+    (row_plain edition T es newline t
+    ((is (the_line false) (given edition T 0) (standing 0)).only (Ok ((es, newline), t)) k part))
 line_plain edition T _ (line_stops f k part) xs kind_is = absurd cc

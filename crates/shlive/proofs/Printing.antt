@@ -32,19 +32,23 @@ module _ (y : Layout) (B : List ℕ) where
   marks_appended : (es xs : Entries) → marks (appended es xs) ≡ marks es ++ marks xs
   marks_appended no_entry xs = refl
   marks_appended (more_entries e es) xs =
-      ap (λ ms. print_entry y [] (shape_of_entry B e) ++ ms) (marks_appended es xs) ∙ sym (append_assoc (print_entry y [] (shape_of_entry B e)) (marks es) (marks xs))
+      ap (λ ms. print_entry y [] (shape_of_entry B e) ++ ms) (marks_appended es xs)
+      ∙ sym (append_assoc (print_entry y [] (shape_of_entry B e)) (marks es) (marks xs))
 
-  marks_blanked : (blank : Bool) (xs : Entries) → BeginsPlain xs → marks (blanked blank xs) ≡ print_blank blank ++ marks xs
+  marks_blanked : (blank : Bool) (xs : Entries) → BeginsPlain xs →
+      marks (blanked blank xs) ≡ print_blank blank ++ marks xs
   marks_blanked blank no_entry is = absurd (no_first is.some)
     where
       no_first : false ≡ true → ⊥
       no_first e = cc
   marks_blanked blank (more_entries (entry what background b comment) es) is =
-      append_assoc (print_blank blank) (print_entry y [] (shape_of_entry B (entry what background false comment))) (marks es)
+      append_assoc (print_blank blank) (print_entry y [] (shape_of_entry B (entry what background false comment)))
+      (marks es)
       ∙ ap (λ xs. print_blank blank ++ marks xs) is.plain
 
   marks_more : (before : Entries) (gap : Bool) (base limit : ℕ) (xs : Entries) → BeginsPlain xs → AllWithin limit xs
-      → marks (more_entries_at before gap base xs) ≡ marks before ++ (print_blank (gap && has_entry before) ++ print_entries y [] (shape_of (drop base B) xs))
+      → marks (more_entries_at before gap base xs) ≡ marks before
+      ++ (print_blank (gap && has_entry before) ++ print_entries y [] (shape_of (drop base B) xs))
   marks_more before gap base limit xs plain within =
       let blank = gap && has_entry before in
       marks_appended before (blanked blank (moved base xs))
@@ -66,7 +70,8 @@ held_none y no_entry = refl
 held_none y (more_entries e es) =
     let ends = entry_ends y e in
     held_append [] (print_entry y [] e) (print_entries y [] es)
-    ∙ ap (λ h. held_behind h (print_entries y [] es)) (ap (held_behind []) ends.1 ∙ held_append [] ends.0 (line_end ∷ []))
+    ∙ ap (λ h. held_behind h (print_entries y [] es))
+    (ap (held_behind []) ends.1 ∙ held_append [] ends.0 (line_end ∷ []))
     ∙ held_none y es
 
 some_length : (n : ℕ) → nat_lt 0 (suc n) ≡ true
@@ -77,7 +82,8 @@ longer [] b c = some_length (length (b ++ c))
 longer (x ∷ a) b c = some_length (length ((a ++ (10 ∷ b)) ++ c))
 
 -- and there is some text exactly where there is an entry
-some_laid : (y : Layout) (B : List ℕ) (es : Entries) → nat_lt 0 (length (laid (print_entries y [] (shape_of B es)))) ≡ has_entry es
+some_laid : (y : Layout) (B : List ℕ) (es : Entries) →
+    nat_lt 0 (length (laid (print_entries y [] (shape_of B es)))) ≡ has_entry es
 unfolding laid_behind
 some_laid y B no_entry = refl
 some_laid y B (more_entries e es) =
@@ -85,14 +91,18 @@ some_laid y B (more_entries e es) =
     let rest = print_entries y [] (shape_of B es) in
     let ends = entry_ends y (shape_of_entry B e) in
     let front = ends.0 in
-    let line : laid one ≡ laid front ++ (10 ∷ (held_behind [] front ++ [])) = ap laid ends.1 ∙ laid_append [] front (line_end ∷ []) in
-    let all : laid (one ++ rest) ≡ (laid front ++ (10 ∷ (held_behind [] front ++ []))) ++ laid_behind (held_behind [] one) rest =
+    let line : laid one ≡ laid front ++ (10 ∷ (held_behind [] front ++ [])) = ap laid ends.1
+    ∙ laid_append [] front (line_end ∷ []) in
+    let all : laid (one ++ rest) ≡ (laid front ++ (10 ∷ (held_behind [] front ++ [])))
+    ++ laid_behind (held_behind [] one) rest =
     laid_append [] one rest ∙ ap (λ t. t ++ laid_behind (held_behind [] one) rest) line in
-    ap (λ t. nat_lt 0 (length t)) all ∙ longer (laid front) (held_behind [] front ++ []) (laid_behind (held_behind [] one) rest)
+    ap (λ t. nat_lt 0 (length t)) all
+    ∙ longer (laid front) (held_behind [] front ++ []) (laid_behind (held_behind [] one) rest)
 
 -- ---- an empty line, or none
 
-pub one_blank : (s : Sheet) (blank : Bool) → blank ≡ true → s.held ≡ [] → sheet_of (s.so_far ++ 10 ∷ []) s.held ≡ written s (print_blank blank)
+pub one_blank : (s : Sheet) (blank : Bool) → blank ≡ true → s.held ≡ [] →
+    sheet_of (s.so_far ++ 10 ∷ []) s.held ≡ written s (print_blank blank)
 one_blank s blank some none = written_line_alone s none ∙ ap (λ b. written s (print_blank b)) (sym some)
 
 pub no_blank : (s : Sheet) (blank : Bool) → blank ≡ false → s ≡ written s (print_blank blank)
@@ -118,31 +128,44 @@ module _ (y : Layout) (B : List ℕ) (so : Walk) (before : Page) (is : IsOnPage 
   text_some = ap (λ (s : Sheet). nat_lt 0 (length s.so_far)) first_laid ∙ some_laid y B so.entries
 
   pub none_printed : (l : HeldLine AKind) → entries_in l.kind ≡ None → IsOnPage y B (with_line so l) before
-  none_printed l none = record { margin = is.margin; is = is.is ∙ ap (λ es. written (sheet_of [] []) (marks y B es)) (sym (none_with so l.kind none)) }
+  none_printed l none = record {
+    margin = is.margin;
+    is = is.is ∙ ap (λ es. written (sheet_of [] []) (marks y B es)) (sym (none_with so l.kind none));
+  }
 
-  pub line_printed : (edition : Edition) (l : HeldLine AKind) (xs : Entries) → l.kind ≡ entries_line xs → IsTopLine edition (drop so.at B) l
+  pub line_printed : (edition : Edition) (l : HeldLine AKind) (xs : Entries) → l.kind ≡ entries_line xs →
+      IsTopLine edition (drop so.at B) l
       → (mid after : Page) → Prints before mid (print_blank (so.gap && nat_lt 0 (length before.text.items)))
-      → Prints mid after (print_entries y mid.margin.items (shape_of (drop so.at B) xs)) → IsOnPage y B (with_line so l) after
+      → Prints mid after (print_entries y mid.margin.items (shape_of (drop so.at B) xs)) →
+      IsOnPage y B (with_line so l) after
   line_printed edition l xs kind_is line mid after gap entries =
       let margin : mid.margin.items ≡ [] = gap.1 ∙ is.margin in
       let blank = print_blank (so.gap && has_entry so.entries) in
       let here = print_entries y [] (shape_of (drop so.at B) xs) in
       let empty = sheet_of [] [] in
       let up_to : sheet mid ≡ written empty (marks y B so.entries ++ blank) =
-      gap.0 ∙ ap (λ b. written (sheet before) (print_blank (so.gap && b))) text_some ∙ ap (λ s. written s blank) is.is ∙ written_append empty (marks y B so.entries) blank in
+      gap.0 ∙ ap (λ b. written (sheet before) (print_blank (so.gap && b))) text_some ∙ ap (λ s. written s blank) is.is
+      ∙ written_append empty (marks y B so.entries) blank in
       let all : sheet after ≡ written empty (marks y B so.entries ++ (blank ++ here)) =
-      entries.0 ∙ ap (λ m. written (sheet mid) (print_entries y m (shape_of (drop so.at B) xs))) margin ∙ ap (λ s. written s here) up_to
-      ∙ written_append empty (marks y B so.entries ++ blank) here ∙ ap (written empty) (append_assoc (marks y B so.entries) blank here) in
-      let more = marks_more y B so.entries so.gap so.at l.len xs (line_plain edition (drop so.at B) (as_read l) line xs kind_is) (line_all_within edition (drop so.at B) l xs line kind_is) in
+      entries.0 ∙ ap (λ m. written (sheet mid) (print_entries y m (shape_of (drop so.at B) xs))) margin
+      ∙ ap (λ s. written s here) up_to
+      ∙ written_append empty (marks y B so.entries ++ blank) here
+      ∙ ap (written empty) (append_assoc (marks y B so.entries) blank here) in
+      let more = marks_more y B so.entries so.gap so.at l.len xs
+      (line_plain edition (drop so.at B) (as_read l) line xs kind_is)
+      (line_all_within edition (drop so.at B) l xs line kind_is) in
       record {
         margin = entries.1 ∙ margin;
-        is = all ∙ ap (written empty) (sym more) ∙ ap (λ k. written empty (marks y B (entries_with so k))) (sym kind_is);
+        is = all ∙ ap (written empty) (sym more)
+            ∙ ap (λ k. written empty (marks y B (entries_with so k))) (sym kind_is);
       }
 
 -- ---- the first line and the last
 
-pub none_yet : (y : Layout) (B : List ℕ) (page : Page) → page.margin.items ≡ [] → sheet page ≡ sheet_of [] [] → IsOnPage y B no_line page
+pub none_yet : (y : Layout) (B : List ℕ) (page : Page) → page.margin.items ≡ [] → sheet page ≡ sheet_of [] [] →
+    IsOnPage y B no_line page
 none_yet y B page margin is = record { margin = margin; is = is ∙ sym (written_none (sheet_of [] [])) }
 
-pub all_printed : (y : Layout) (B : List ℕ) (so : Walk) (page : Page) → IsOnPage y B so page → page.text.items ≡ printed y (shape_of B so.entries)
+pub all_printed : (y : Layout) (B : List ℕ) (so : Walk) (page : Page) → IsOnPage y B so page →
+    page.text.items ≡ printed y (shape_of B so.entries)
 all_printed y B so page is = ap (λ (s : Sheet). s.so_far) (is.is ∙ written_first (marks y B so.entries))

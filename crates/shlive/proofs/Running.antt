@@ -17,9 +17,12 @@ use Rattle.shlive.specs.declared.serve.End.TheVariants.{Clean, Quit, Cut, Unread
 use Rattle.shlive.proofs.Taken.{takes_both}
 
 -- a request leaves how a session reads and prints
-pub step_how : (before after : Held) (request : Request) (reply : List ℕ) → Step before request reply after → after.how ≡ before.how
+pub step_how : (before after : Held) (request : Request) (reply : List ℕ) → Step before request reply after →
+    after.how ≡ before.how
 step_how before after (edit ss) reply step =
-    ⊎_elim (λ made. made.0.how) (λ (left : (error : LiveError) × IsNotMade before ss error after × (reply ≡ of_replies.refusal_text error)). left.1.how) step
+    ⊎_elim (λ made. made.0.how) (λ
+    (left : (error : LiveError) × IsNotMade before ss error after × (reply ≡ of_replies.refusal_text error)).
+    left.1.how) step
 step_how before after (flawed flaw) reply step = ap (λ (h : Held). h.how) step.1
 step_how before after outline reply step = ap (λ (h : Held). h.how) step.1
 step_how before after (at p) reply step = ap (λ (h : Held). h.how) step.1
@@ -36,11 +39,14 @@ pub record SoFar (before after : Held) (old new : Ahead) (held holds : Option (L
   pub answered : Answered before after asked held holds
   pub how : after.how ≡ before.how
 
-module _ (before mid after : Held) (old now new : Ahead) (held has holds : Option (List ℕ)) (so : SoFar before mid old now held has) where
+module _ (before mid after : Held) (old now new : Ahead) (held has holds : Option (List ℕ))
+    (so : SoFar before mid old now held has) where
   begins_more : (taken : List ℕ) (request : Request) → Spells next_request_of taken (asks request) → (rest : List ℕ)
       → Begins ((so.taken ++ taken) ++ rest) (so.asked ++ request ∷ []) rest
   begins_more taken request spelled rest =
-      of_requests.one_more request rest (subst (λ l. Begins l so.asked (taken ++ rest)) (sym (append_assoc so.taken taken rest)) (so.begins (taken ++ rest))) (spelled rest)
+      of_requests.one_more request rest
+      (subst (λ l. Begins l so.asked (taken ++ rest)) (sym (append_assoc so.taken taken rest))
+      (so.begins (taken ++ rest))) (spelled rest)
 
   -- one more request, and its reply
   pub goes_on : Replied next_request_of mid after now new has holds false → SoFar before after old new held holds
@@ -57,20 +63,27 @@ module _ (before mid after : Held) (old now new : Ahead) (held has holds : Optio
     how = step_how mid after r.request r.tells.0 r.tells.1 ∙ so.how;
   }
 
-  module _ (failed ended broken : Bool) (status : ℕ) (start : old.waiting.bytes ≡ []) (zero : old.waiting.count ≡ 0) where
+  module _ (failed ended broken : Bool) (status : ℕ) (start : old.waiting.bytes ≡ [])
+      (zero : old.waiting.count ≡ 0) where
     -- what was read is what was taken and what waits
-    read_is : (taken : List ℕ) (t : Takes old new (so.taken ++ taken)) → so.taken ++ (taken ++ new.waiting.bytes) ≡ t.more
+    read_is : (taken : List ℕ) (t : Takes old new (so.taken ++ taken)) →
+        so.taken ++ (taken ++ new.waiting.bytes) ≡ t.more
     read_is taken t = sym (append_assoc so.taken taken new.waiting.bytes) ∙ sym t.same ∙ ap (λ l. l ++ t.more) start
 
-    begun : (taken : List ℕ) (t : Takes old new (so.taken ++ taken)) → Begins t.more so.asked (taken ++ new.waiting.bytes)
-    begun taken t = subst (λ l. Begins l so.asked (taken ++ new.waiting.bytes)) (read_is taken t) (so.begins (taken ++ new.waiting.bytes))
+    begun : (taken : List ℕ) (t : Takes old new (so.taken ++ taken)) →
+        Begins t.more so.asked (taken ++ new.waiting.bytes)
+    begun taken t = subst (λ l. Begins l so.asked (taken ++ new.waiting.bytes)) (read_is taken t)
+        (so.begins (taken ++ new.waiting.bytes))
 
-    long : (taken : List ℕ) (t : Takes old new (so.taken ++ taken)) → too_many ≤ new.waiting.count → too_many ≤ length t.more
+    long : (taken : List ℕ) (t : Takes old new (so.taken ++ taken)) → too_many ≤ new.waiting.count →
+        too_many ≤ length t.more
     long taken t many = let count = t.counted in omega (arith, many, count, zero)
 
     -- nothing more was asked and nothing told
-    stayed : («end» : End) (taken : List ℕ) → (t : Takes old new (so.taken ++ taken)) → Ended «end» t.more so.asked failed ended
-        → Finishes «end» mid after t.more so.asked has holds broken → HasAnswer before.how.edition «end» after.bytes status
+    stayed : («end» : End) (taken : List ℕ) → (t : Takes old new (so.taken ++ taken)) →
+        Ended «end» t.more so.asked failed ended
+        → Finishes «end» mid after t.more so.asked has holds broken →
+        HasAnswer before.how.edition «end» after.bytes status
         → IsSessionRun before after old.left new.left failed ended held holds broken status
     stayed why taken t ends finishes answer = record {
       read = t.more;
@@ -92,38 +105,74 @@ module _ (before mid after : Held) (old now new : Ahead) (held has holds : Optio
     none_left : (taken waits : List ℕ) → taken ≡ [] → waits ≡ [] → EndsBy (next_request_of (taken ++ waits)) clean
     none_left taken waits p q = subst (λ l. EndsBy (next_request_of l) clean) (sym (ap (λ l. l ++ waits) p ∙ q)) tt
 
-    all_taken : (taken : List ℕ) (e : Ending) → new.waiting.bytes ≡ [] → EndsBy (next_request_of taken) e → EndsBy (next_request_of (taken ++ new.waiting.bytes)) e
-    all_taken taken e none ends = subst (λ l. EndsBy (next_request_of l) e) (sym (ap (λ l. taken ++ l) none ∙ append-nil taken)) ends
+    all_taken : (taken : List ℕ) (e : Ending) → new.waiting.bytes ≡ [] → EndsBy (next_request_of taken) e →
+        EndsBy (next_request_of (taken ++ new.waiting.bytes)) e
+    all_taken taken e none ends =
+        subst (λ l. EndsBy (next_request_of l) e) (sym (ap (λ l. taken ++ l) none ∙ append-nil taken)) ends
 
-    pub ended_run : («end» : End) → EndsAs next_request_of «end» mid after now new failed ended has holds broken → HasAnswer before.how.edition «end» after.bytes status
+    pub ended_run : («end» : End) → EndsAs next_request_of «end» mid after now new failed ended has holds broken →
+        HasAnswer before.how.edition «end» after.bytes status
         → IsSessionRun before after old.left new.left failed ended held holds broken status
     ended_run Clean s answer =
         let t = all_of s.taken s.takes in
-        stayed Clean s.taken t ((s.taken ++ new.waiting.bytes, begun s.taken t, none_left s.taken new.waiting.bytes s.none.0 s.none.2.2), s.none.2.0, s.none.2.1)
+        stayed Clean s.taken t (
+          (
+            s.taken ++ new.waiting.bytes,
+            begun s.taken t,
+            none_left s.taken new.waiting.bytes s.none.0 s.none.2.2,
+          ),
+          s.none.2.0,
+          s.none.2.1,
+        )
         (s.same, s.silent, s.sound) answer
     ended_run Quit s answer =
         let t = all_of s.taken s.takes in
-        stayed Quit s.taken t ((s.taken ++ new.waiting.bytes, begun s.taken t, subst (λ n. EndsBy n left) (sym (s.none.0 new.waiting.bytes)) tt), s.none.1)
+        stayed Quit s.taken t (
+          (
+            s.taken ++ new.waiting.bytes,
+            begun s.taken t,
+            subst (λ n. EndsBy n left) (sym (s.none.0 new.waiting.bytes)) tt,
+          ),
+          s.none.1,
+        )
         (s.same, s.silent, s.sound) answer
     ended_run Cut s answer =
         let t = all_of s.taken s.takes in
-        stayed Cut s.taken t ((s.taken ++ new.waiting.bytes, begun s.taken t, all_taken s.taken cut s.none.1.2 (subst (λ n. EndsBy n cut) (sym s.none.0) tt)), s.none.1.0, s.none.1.1)
+        stayed Cut s.taken t (
+          (
+            s.taken ++ new.waiting.bytes,
+            begun s.taken t,
+            all_taken s.taken cut s.none.1.2 (subst (λ n. EndsBy n cut) (sym s.none.0) tt),
+          ),
+          s.none.1.0,
+          s.none.1.1,
+        )
         (s.same, s.silent, s.sound) answer
     ended_run Unreadable s answer =
         let t = all_of s.taken s.takes in
-        stayed Unreadable s.taken t ((s.none.0.0, (s.taken ++ new.waiting.bytes, begun s.taken t, all_taken s.taken s.none.0.0 s.none.1.2 s.none.0.1)), s.none.1.0)
+        stayed Unreadable s.taken t (
+          (
+            s.none.0.0,
+            (s.taken ++ new.waiting.bytes, begun s.taken t, all_taken s.taken s.none.0.0 s.none.1.2 s.none.0.1),
+          ),
+          s.none.1.0,
+        )
         (s.same, s.silent, s.sound) answer
     ended_run TooLong s answer =
         let t = all_of s.taken s.takes in
-        stayed TooLong s.taken t ((s.taken ++ new.waiting.bytes, begun s.taken t), long s.taken t s.none.2, s.none.0) (s.same, s.silent, s.sound) answer
+        stayed TooLong s.taken t ((s.taken ++ new.waiting.bytes, begun s.taken t), long s.taken t s.none.2, s.none.0)
+        (s.same, s.silent, s.sound) answer
     ended_run Unwritable (r, f, b) answer =
         let t = all_of r.taken r.takes in
         let is : (so.taken ++ r.taken) ++ new.waiting.bytes ≡ t.more = sym t.same ∙ ap (λ l. l ++ t.more) start in
-        let begins = subst (λ l. Begins l (so.asked ++ r.request ∷ []) new.waiting.bytes) is (begins_more r.taken r.request r.spelled new.waiting.bytes) in
-        stayed Unwritable r.taken t f (record { request = r.request; rest = new.waiting.bytes; begins = begins; tells = r.tells }, b) answer
+        let begins = subst (λ l. Begins l (so.asked ++ r.request ∷ []) new.waiting.bytes) is
+        (begins_more r.taken r.request r.spelled new.waiting.bytes) in
+        stayed Unwritable r.taken t f
+        (record { request = r.request; rest = new.waiting.bytes; begins = begins; tells = r.tells }, b) answer
 
     -- how a session reads and prints is what it was, whatever ended the run
-    pub ended_how : («end» : End) → EndsAs next_request_of «end» mid after now new failed ended has holds broken → after.how ≡ before.how
+    pub ended_how : («end» : End) → EndsAs next_request_of «end» mid after now new failed ended has holds broken →
+        after.how ≡ before.how
     ended_how Clean s = ap (λ (h : Held). h.how) s.same ∙ so.how
     ended_how Quit s = ap (λ (h : Held). h.how) s.same ∙ so.how
     ended_how Cut s = ap (λ (h : Held). h.how) s.same ∙ so.how

@@ -15,7 +15,8 @@ takes_both a b c t u v p q is = record {
   more = p.more ++ q.more;
   consumed = Consumes-trans a.left b.left c.left p.more q.more _ p.consumed q.consumed refl;
   counted = q.counted ∙ let both = length-append p.more q.more in let one = p.counted in omega (arith, both, one);
-  same = sym (append_assoc a.waiting.bytes p.more q.more) ∙ ap (λ l. l ++ q.more) p.same ∙ append_assoc t b.waiting.bytes q.more
+  same = sym (append_assoc a.waiting.bytes p.more q.more) ∙ ap (λ l. l ++ q.more) p.same
+      ∙ append_assoc t b.waiting.bytes q.more
       ∙ ap (λ l. t ++ l) q.same ∙ sym (append_assoc t u c.waiting.bytes) ∙ ap (λ l. l ++ c.waiting.bytes) is;
 }
 
@@ -29,7 +30,8 @@ takes_none a = record {
 }
 
 -- what waited first was taken
-pub takes_front : (a b : Ahead) (t : List ℕ) → b.left ≡ a.left → b.waiting.count ≡ a.waiting.count → a.waiting.bytes ≡ t ++ b.waiting.bytes → Takes a b t
+pub takes_front : (a b : Ahead) (t : List ℕ) → b.left ≡ a.left → b.waiting.count ≡ a.waiting.count →
+    a.waiting.bytes ≡ t ++ b.waiting.bytes → Takes a b t
 takes_front a b t left count is = record {
   more = [];
   consumed = subst (λ l. Consumes a.left l []) (sym left) (consumes_none a.left);
@@ -38,16 +40,20 @@ takes_front a b t left count is = record {
 }
 
 -- one more byte was taken, and nothing before it
-pub takes_byte : (a b c d : Ahead) (t : List ℕ) (byte : ℕ) → Takes a b t → Takes b c [] → d.left ≡ c.left → d.waiting.count ≡ c.waiting.count
+pub takes_byte : (a b c d : Ahead) (t : List ℕ) (byte : ℕ) → Takes a b t → Takes b c [] → d.left ≡ c.left →
+    d.waiting.count ≡ c.waiting.count
     → c.waiting.bytes ≡ byte ∷ d.waiting.bytes → Takes a d (t ++ byte ∷ [])
 takes_byte a b c d t byte p q left count is =
-    takes_both a c d t (byte ∷ []) _ (takes_both a b c t [] t p q (append-nil t)) (takes_front c d (byte ∷ []) left count is) refl
+    takes_both a c d t (byte ∷ []) _ (takes_both a b c t [] t p q (append-nil t))
+    (takes_front c d (byte ∷ []) left count is) refl
 
 -- the front of what waits, and the rest
 pub front_and_rest : (most : ℕ) (bytes : List ℕ) → take most bytes ++ drop (length (take most bytes)) bytes ≡ bytes
 front_and_rest most bytes =
     ⊎_elim
-    (λ (lt : most < length bytes). ap (λ n. take most bytes ++ drop n bytes) (length-take-le most bytes (omega (arith, lt))) ∙ take-append-drop most bytes)
+    (λ (lt : most < length bytes). ap (λ n. take most bytes ++ drop n bytes)
+    (length-take-le most bytes (omega (arith, lt))) ∙ take-append-drop most bytes)
     (λ (ge : length bytes ≤ most).
-    ap (λ l. l ++ drop (length l) bytes) (take_all most bytes ge) ∙ ap (λ l. bytes ++ l) (drop_all (length bytes) bytes (omega arith)) ∙ append-nil bytes)
+    ap (λ l. l ++ drop (length l) bytes) (take_all most bytes ge)
+    ∙ ap (λ l. bytes ++ l) (drop_all (length bytes) bytes (omega arith)) ∙ append-nil bytes)
     (cases_lt most (length bytes))

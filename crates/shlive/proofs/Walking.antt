@@ -27,7 +27,8 @@ pub walked_start : (row : Row (HeldLine AKind)) → Walked row row 0
 unfolding extent
 walked_start row = record { done = []; split = refl; begins = refl }
 
-module _ (row left : Row (HeldLine AKind)) (begin : ℕ) (l : HeldLine AKind) (rest : Row (HeldLine AKind)) (so : Walked row left begin) (first : left ≡ l ∷ rest) where
+module _ (row left : Row (HeldLine AKind)) (begin : ℕ) (l : HeldLine AKind) (rest : Row (HeldLine AKind))
+    (so : Walked row left begin) (first : left ≡ l ∷ rest) where
   split_here : row ≡ so.done ++ l ∷ rest
   split_here = so.split ∙ ap (λ ls. so.done ++ ls) first
 
@@ -43,23 +44,30 @@ module _ (row left : Row (HeldLine AKind)) (begin : ℕ) (l : HeldLine AKind) (r
     here = subst (IsRow (IsHeldLine edition) B) split_here is
 
     pub walked_within : begin + l.len ≤ length B
-    walked_within = let within = row_line_within edition B so.done l rest (row_top edition B (so.done ++ l ∷ rest) here) in omega (arith, within, so.begins)
+    walked_within = let within = row_line_within edition B so.done l rest
+        (row_top edition B (so.done ++ l ∷ rest) here) in omega (arith, within, so.begins)
 
     -- it is the line that begins there
     pub walked_line : IsTopLine edition (drop begin B) l
-    walked_line = subst (λ n. IsTopLine edition (drop n B) l) (sym so.begins) (row_line edition B so.done l rest (row_top edition B (so.done ++ l ∷ rest) here))
+    walked_line = subst (λ n. IsTopLine edition (drop n B) l) (sym so.begins)
+        (row_line edition B so.done l rest (row_top edition B (so.done ++ l ∷ rest) here))
 
     module _ (xs : Entries) (kind_is : l.kind ≡ entries_line xs) (small : length B < 2 ^ 64) where
       pub walked_nodes_fit : AreWithin (2 ^ 64 - 1 - begin) xs
-      walked_nodes_fit = subst (λ n. AreWithin (2 ^ 64 - 1 - n) xs) (sym so.begins) (row_nodes_fit edition B so.done l rest (row_top edition B (so.done ++ l ∷ rest) here) xs kind_is small)
+      walked_nodes_fit = subst (λ n. AreWithin (2 ^ 64 - 1 - n) xs) (sym so.begins)
+          (row_nodes_fit edition B so.done l rest (row_top edition B (so.done ++ l ∷ rest) here) xs kind_is small)
 
 -- ---- the line that holds a byte
 
-high_by : (edition : Edition) (B : List ℕ) (at : ℕ) (l : HeldLine AKind) (before behind : Row (HeldLine AKind)) → IsRow (IsHeldLine edition) B (before ++ l ∷ behind) → at < length B → ((behind ≡ [] → ⊥) → at < extent before + l.len) → at < extent before + l.len
-high_by edition B at l before [] is lt past = let whole = last_at edition B before l (row_top edition B (before ++ l ∷ []) is) in omega (arith, whole, lt)
+high_by : (edition : Edition) (B : List ℕ) (at : ℕ) (l : HeldLine AKind) (before behind : Row (HeldLine AKind)) →
+    IsRow (IsHeldLine edition) B (before ++ l ∷ behind) → at < length B →
+    ((behind ≡ [] → ⊥) → at < extent before + l.len) → at < extent before + l.len
+high_by edition B at l before [] is lt past = let whole =
+    last_at edition B before l (row_top edition B (before ++ l ∷ []) is) in omega (arith, whole, lt)
 high_by edition B at l before (k ∷ ks) is lt past = past (λ e. absurd cc)
 
-module _ (edition : Edition) (B : List ℕ) (row : Row (HeldLine AKind)) (at : ℕ) (l : HeldLine AKind) (begin : ℕ) (is : IsRow (IsHeldLine edition) B row) (so : HasLineAt row at l begin) where
+module _ (edition : Edition) (B : List ℕ) (row : Row (HeldLine AKind)) (at : ℕ) (l : HeldLine AKind) (begin : ℕ)
+    (is : IsRow (IsHeldLine edition) B row) (so : HasLineAt row at l begin) where
   pub line_there : IsRow (IsHeldLine edition) B (so.before ++ l ∷ so.behind)
   line_there = subst (IsRow (IsHeldLine edition) B) so.row is
 
@@ -67,7 +75,8 @@ module _ (edition : Edition) (B : List ℕ) (row : Row (HeldLine AKind)) (at : �
   line_low = subst (λ n. n ≤ at) so.begins so.low
 
   pub line_high : at < length B → at < extent so.before + l.len
-  line_high lt = high_by edition B at l so.before so.behind line_there lt (λ some. subst (λ n. at < n + l.len) so.begins (so.past some))
+  line_high lt = high_by edition B at l so.before so.behind line_there lt
+      (λ some. subst (λ n. at < n + l.len) so.begins (so.past some))
 
 -- ---- what a line has
 
@@ -103,7 +112,8 @@ none_has (faulty_line f) e = refl
 -- the outlines so far, and one more
 pub outlined : (ns : Row NodeLine) (begin : ℕ) (l : HeldLine AKind) (rest left : Row (HeldLine AKind)) → left ≡ l ∷ rest
     → (ns ++ line_outline begin l.kind) ++ outlines (begin + l.len) rest ≡ ns ++ outlines begin left
-outlined ns begin l rest left first = append_assoc ns (line_outline begin l.kind) (outlines (begin + l.len) rest) ∙ sym (ap (λ ls. ns ++ outlines begin ls) first)
+outlined ns begin l rest left first = append_assoc ns (line_outline begin l.kind) (outlines (begin + l.len) rest)
+    ∙ sym (ap (λ ls. ns ++ outlines begin ls) first)
 
 -- ---- results
 

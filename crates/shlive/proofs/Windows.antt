@@ -13,7 +13,8 @@ use Rattle.shlive.specs.HeldLines.{HasReadNoMore, HasReadWindow, IsHeldLine}
 use Rattle.shlive.proofs.TopLines.{window_held, window_top}
 
 module _ (edition : Edition) (B U : List ℕ) (ss : Row ASplice) (a e b : ℕ)
-    (text : U ≡ edited B ss) (first : a ≡ first_begin ss) (end : e ≡ new_end ss) (last : b ≡ last_end ss) (before meter : ℕ) where
+    (text : U ≡ edited B ss) (first : a ≡ first_begin ss) (end : e ≡ new_end ss) (last : b ≡ last_end ss)
+    (before meter : ℕ) where
   abbrev Is : ℕ → ℕ → Type 0
   Is w t = IsWindow (IsTopLine edition) B (edited B ss) (first_begin ss) (new_end ss) (last_end ss) w t
 
@@ -32,16 +33,19 @@ module _ (edition : Edition) (B U : List ℕ) (ss : Row ASplice) (a e b : ℕ)
       (subst (λ n. IsWindow (IsTopLine edition) B (edited B ss) (first_begin ss) n b w t) (sym end)
       (subst (λ n. IsWindow (IsTopLine edition) B (edited B ss) (first_begin ss) (new_end ss) n w t) (sym last) is)))
 
-  pub has_read : before ≤ 2 ^ 64 - 1 → the_held.RoseByWindow (IsHeldLine edition) B U a e b before meter → HasReadWindow edition B ss before meter
+  pub has_read : before ≤ 2 ^ 64 - 1 → the_held.RoseByWindow (IsHeldLine edition) B U a e b before meter →
+      HasReadWindow edition B ss before meter
   has_read low read =
       let w = read.0 in
       let t = read.1 in
       let rose : risen before (t - w) ≡ raised before (t - w) = omega (arith, low) in
       (w, t, to_splices w t (window_top edition B U a e b w t read.2), read.3 ∙ rose)
 
-  pub has_read_no_more : the_held.RoseWithinWindow (IsHeldLine edition) B U a e b before meter → HasReadNoMore edition B ss before meter
+  pub has_read_no_more : the_held.RoseWithinWindow (IsHeldLine edition) B U a e b before meter →
+      HasReadNoMore edition B ss before meter
   has_read_no_more no_more w t is = no_more w t (window_held edition B U a e b w t (from_splices w t is))
 
 -- how a session reads and prints, by what its reader reads by and its layout
-pub same_how : (y : Layout) (e d : Edition) → e ≡ d → ◌≡◌ {A = How} (record { edition = e; layout = y }) (record { edition = d; layout = y })
+pub same_how : (y : Layout) (e d : Edition) → e ≡ d →
+    ◌≡◌ {A = How} (record { edition = e; layout = y }) (record { edition = d; layout = y })
 same_how y e d is = ap (λ x. record { edition = x; layout = y }) is

@@ -11,7 +11,9 @@ before_both : (t u : List ℕ) (ws : List (List ℕ)) → before t (before u ws)
 before_both t u [] = refl
 before_both t u (w ∷ ws) = ap (λ l. l ∷ ws) (sym (append_assoc t u w))
 
-words_case : (b : ℕ) (bs : List ℕ) (x : Bool) → before [] (cond x ([] ∷ words bs) (before (b ∷ []) (words bs))) ≡ cond x ([] ∷ words bs) (before (b ∷ []) (words bs))
+words_case : (b : ℕ) (bs : List ℕ) (x : Bool) →
+    before [] (cond x ([] ∷ words bs) (before (b ∷ []) (words bs)))
+    ≡ cond x ([] ∷ words bs) (before (b ∷ []) (words bs))
 words_case b bs true = refl
 words_case b bs false = before_both [] (b ∷ []) (words bs)
 
@@ -21,13 +23,15 @@ from_start (b ∷ bs) = sym (words_case b bs (b == 32))
 
 -- the words from a byte on
 at_byte : (line : List ℕ) (at : ℕ) → at < length line
-    → words (drop at line) ≡ cond (get_or line at 0 == 32) ([] ∷ words (drop (at + 1) line)) (before (get_or line at 0 ∷ []) (words (drop (at + 1) line)))
+    → words (drop at line) ≡ cond (get_or line at 0 == 32) ([] ∷ words (drop (at + 1) line))
+    (before (get_or line at 0 ∷ []) (words (drop (at + 1) line)))
 at_byte line at low = rw (add-one, drop-cons line at 0) refl
 
 pub goes_on : (line : List ℕ) (at : ℕ) → at < length line → (get_or line at 0 == 32) ≡ false
     → before (take at line) (words (drop at line)) ≡ before (take (at + 1) line) (words (drop (at + 1) line))
 goes_on line at low other =
-    let here : words (drop at line) ≡ before (get_or line at 0 ∷ []) (words (drop (at + 1) line)) = at_byte line at low ∙ rw other refl in
+    let here : words (drop at line) ≡ before (get_or line at 0 ∷ []) (words (drop (at + 1) line)) = at_byte line at low
+    ∙ rw other refl in
     ap (before (take at line)) here ∙ before_both (take at line) (get_or line at 0 ∷ []) (words (drop (at + 1) line))
     ∙ ap (λ t. before t (words (drop (at + 1) line))) (sym (take_more line at 0 low))
 
@@ -41,7 +45,8 @@ pub no_cut : (line : List ℕ) (at : ℕ) → length line ≤ at → before (tak
 no_cut line at end =
     let all : take at line ≡ line = take_all at line end in
     let none : drop at line ≡ [] = drop_all at line end in
-    ap (λ t. before t (words (drop at line))) all ∙ ap (λ l. before line (words l)) none ∙ ap (λ t. t ∷ []) (append-nil line)
+    ap (λ t. before t (words (drop at line))) all ∙ ap (λ l. before line (words l)) none
+    ∙ ap (λ t. t ∷ []) (append-nil line)
 
 -- ---- words too many
 
@@ -59,7 +64,8 @@ part_more a b n (w ∷ ws) = refl
 pub part_too_many : (a b n line : List ℕ) → part_of_words (a ∷ b ∷ n ∷ words line) ≡ None
 part_too_many a b n line = rw (from_start line) (part_more a b n (words line))
 
-by_name_more : (name : List ℕ) (ws : List (List ℕ)) → order_of_words (name ∷ before [] ws) ≡ order_by_name name (before [] ws)
+by_name_more : (name : List ℕ) (ws : List (List ℕ)) →
+    order_of_words (name ∷ before [] ws) ≡ order_by_name name (before [] ws)
 by_name_more name [] = refl
 by_name_more name (w ∷ ws) = refl
 

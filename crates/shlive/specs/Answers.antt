@@ -29,7 +29,8 @@ HasOutline edition bytes lines = (script : AScript) × Outcome edition bytes scr
 
 -- the nodes that hold the byte at an offset
 abbrev pub HasNodesAt : Edition → List ℕ → ℕ → List NodeLine → Type 0
-HasNodesAt edition bytes at lines = (script : AScript) × Outcome edition bytes script × (lines ≡ nodes_at 0 at script.entries)
+HasNodesAt edition bytes at lines = (script : AScript) × Outcome edition bytes script
+    × (lines ≡ nodes_at 0 at script.entries)
 
 -- the printed text, which reads back; a faulty script has none
 abbrev pub HasText : How → List ℕ → Option (List ℕ) → Type 0

@@ -9,4 +9,5 @@ IsInLine text = (rest : List ℕ) → first_line (text ++ rest) ≡ with_text_be
 
 -- the text is kept, or it is longer than the line of a request
 abbrev pub KeepsText : RequestLine → List ℕ → Type 0
-KeepsText line text = MatchBool line.over (line_limit < length text) ((length text ≤ line_limit) × (length text ≡ line.len) × (take line.len line.bytes ≡ text))
+KeepsText line text = MatchBool line.over (line_limit < length text)
+    ((length text ≤ line_limit) × (length text ≡ line.len) × (take line.len line.bytes ≡ text))

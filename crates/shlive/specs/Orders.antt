@@ -34,7 +34,8 @@ digits_from n (d ∷ ds) = if is_digit d then digits_from (10 * n + (d - 48)) ds
 -- `0`, or one to ten digits without a leading zero
 abbrev pub number_of : List ℕ → Option ℕ
 number_of [] = None
-number_of (d ∷ ds) = if nat_le (length ds) 9 && not (d == 48 && nat_lt 0 (length ds)) then digits_from 0 (d ∷ ds) else None
+number_of (d ∷ ds) = if nat_le (length ds) 9 && not (d == 48 && nat_lt 0 (length ds)) then digits_from 0 (d ∷ ds)
+    else None
 
 -- a number and no word more
 abbrev pub number_alone : List (List ℕ) → Option ℕ

@@ -48,11 +48,13 @@ name_text bytes (Some span) = codes " " ++ bare_at bytes span
 
 -- START END KIND, or START END KIND NAME
 abbrev pub node_text : List ℕ → NodeLine → List ℕ
-node_text bytes n = decimal n.start ++ codes " " ++ decimal n.«end» ++ codes " " ++ kind_text n.kind ++ name_text bytes n.name ++ codes "\n"
+node_text bytes n = decimal n.start ++ codes " " ++ decimal n.«end» ++ codes " " ++ kind_text n.kind
+    ++ name_text bytes n.name ++ codes "\n"
 
 -- WORD K, and K lines
 abbrev pub nodes_text : List ℕ → List ℕ → List NodeLine → List ℕ
-nodes_text word bytes lines = word ++ codes " " ++ decimal (length lines) ++ codes "\n" ++ flat_map (node_text bytes) lines
+nodes_text word bytes lines = word ++ codes " " ++ decimal (length lines) ++ codes "\n"
+    ++ flat_map (node_text bytes) lines
 
 abbrev pub number_of_kind : FaultKind → ℕ
 number_of_kind faults.UnclosedSingle = 1
@@ -76,7 +78,8 @@ number_of_kind faults.UnclosedDollarSingle = 16
 abbrev pub fault_text : List ℕ → Option Fault → List ℕ
 fault_text bytes None = codes "none\n"
 fault_text bytes (Some f) =
-    codes "fault " ++ decimal f.at ++ codes " " ++ decimal (line_of bytes f.at) ++ codes " " ++ decimal (column_of bytes f.at) ++ codes " "
+    codes "fault " ++ decimal f.at ++ codes " " ++ decimal (line_of bytes f.at) ++ codes " "
+    ++ decimal (column_of bytes f.at) ++ codes " "
     ++ decimal (number_of_kind f.kind) ++ codes "\n"
 
 -- text N, and the bytes
@@ -115,12 +118,17 @@ IsEditReply before ss reply after =
 abbrev pub IsReply : How → List ℕ → Request → List ℕ → Type 0
 IsReply how bytes (edit ss) reply = ⊥
 IsReply how bytes (flawed flaw) reply = reply ≡ flaw_text flaw
-IsReply how bytes outline reply = ((lines : List NodeLine) × HasOutline how.edition bytes lines × (reply ≡ nodes_text (codes "outline") bytes lines)) ⊎ IsNoMemory reply
+IsReply how bytes outline reply =
+    ((lines : List NodeLine) × HasOutline how.edition bytes lines × (reply ≡ nodes_text (codes "outline") bytes lines))
+    ⊎ IsNoMemory reply
 IsReply how bytes (at p) reply =
-    ((lines : List NodeLine) × HasNodesAt how.edition bytes p lines × (reply ≡ nodes_text (codes "at") bytes lines)) ⊎ ((p < length bytes) × IsNoMemory reply)
-IsReply how bytes fault reply = (first : Option Fault) × FirstFault how.edition bytes first × (reply ≡ fault_text bytes first)
+    ((lines : List NodeLine) × HasNodesAt how.edition bytes p lines × (reply ≡ nodes_text (codes "at") bytes lines)) ⊎
+    ((p < length bytes) × IsNoMemory reply)
+IsReply how bytes fault reply = (first : Option Fault) × FirstFault how.edition bytes first
+    × (reply ≡ fault_text bytes first)
 IsReply how bytes print reply =
-    ((text : Option (List ℕ)) × HasText how bytes text × (reply ≡ printed_text text)) ⊎ (FirstFault how.edition bytes None × IsNoMemory reply)
+    ((text : Option (List ℕ)) × HasText how bytes text × (reply ≡ printed_text text)) ⊎
+    (FirstFault how.edition bytes None × IsNoMemory reply)
 IsReply how bytes unknown reply = reply ≡ codes "no request\n"
 
 -- a request, its reply, and what is held after it: an edit alone changes it

@@ -136,7 +136,8 @@ next_request_of (b ∷ bs) = next_by_line (first_line (b ∷ bs))
 pub data Begins (input : List ℕ) : List Request → List ℕ → Type 0 where
   none_yet : Begins input [] input
   one_more : {requests : List Request} {mid : List ℕ} (request : Request) (rest : List ℕ)
-      → Begins input requests mid → next_request_of mid ≡ asks request rest → Begins input (requests ++ request ∷ []) rest
+      → Begins input requests mid → next_request_of mid ≡ asks request rest →
+      Begins input (requests ++ request ∷ []) rest
 
 -- how an input ends behind its requests
 pub data Ending : Type 0 where

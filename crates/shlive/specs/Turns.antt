@@ -12,7 +12,8 @@ use Rattle.shlive.specs.declared.serve.End.TheVariants.{Clean, Quit, Cut, Unread
 
 -- the reply to a request was written, or where the device failed a beginning of it
 abbrev pub Tells : Held → Request → Held → Option (List ℕ) → Option (List ℕ) → Bool → Type 0
-Tells before request after held holds failed = (reply : List ℕ) × Step before request reply after × Writes held holds failed reply
+Tells before request after held holds failed = (reply : List ℕ) × Step before request reply after
+    × Writes held holds failed reply
 
 -- whatever follows it, the text is understood so
 abbrev pub Spells : Sense → List ℕ → Sense → Type 0
@@ -20,7 +21,8 @@ Spells sense text next = (rest : List ℕ) → sense (text ++ rest) ≡ next res
 
 -- the rest of a request was taken, and the reply to it was written, or where the
 -- device failed a beginning of it
-pub record Replied (sense : Sense) (before after : Held) (old new : Ahead) (held holds : Option (List ℕ)) (failed : Bool) : Type 0 where
+pub record Replied (sense : Sense) (before after : Held) (old new : Ahead) (held holds : Option (List ℕ))
+    (failed : Bool) : Type 0 where
   pub taken : List ℕ
   pub request : Request
   pub takes : Takes old new taken
@@ -29,15 +31,18 @@ pub record Replied (sense : Sense) (before after : Held) (old new : Ahead) (held
 
 -- why there is no further request, by what was taken meanwhile
 abbrev pub NoFurther : Sense → End → List ℕ → Bool → Bool → Ahead → Type 0
-NoFurther sense Clean taken failed ended ahead = (taken ≡ []) × (sense [] ≡ nothing) × StopsBy stops.Met failed ended ahead
+NoFurther sense Clean taken failed ended ahead = (taken ≡ []) × (sense [] ≡ nothing)
+    × StopsBy stops.Met failed ended ahead
 NoFurther sense Quit taken failed ended ahead = Spells sense taken (λ rest. leaves) × (failed ≡ false)
 NoFurther sense Cut taken failed ended ahead = (sense taken ≡ unfinished) × StopsBy stops.Met failed ended ahead
-NoFurther sense Unreadable taken failed ended ahead = ((ending : Ending) × EndsBy (sense taken) ending) × StopsBy stops.Unreadable failed ended ahead
+NoFurther sense Unreadable taken failed ended ahead = ((ending : Ending) × EndsBy (sense taken) ending)
+    × StopsBy stops.Unreadable failed ended ahead
 NoFurther sense TooLong taken failed ended ahead = StopsBy stops.TooLong failed ended ahead
 NoFurther sense Unwritable taken failed ended ahead = ⊥
 
 -- nothing was replied and nothing changed
-pub record Stays (sense : Sense) («end» : End) (before after : Held) (old new : Ahead) (failed ended : Bool) (held holds : Option (List ℕ)) (broken : Bool) : Type 0 where
+pub record Stays (sense : Sense) («end» : End) (before after : Held) (old new : Ahead) (failed ended : Bool)
+    (held holds : Option (List ℕ)) (broken : Bool) : Type 0 where
   pub taken : List ℕ
   pub takes : Takes old new taken
   pub none : NoFurther sense «end» taken failed ended new
@@ -47,10 +52,12 @@ pub record Stays (sense : Sense) («end» : End) (before after : Held) (old new 
 
 -- How a run ends with this turn: the reply to its request could not be written, or
 -- there is no further request.
-abbrev pub EndsAs : Sense → End → Held → Held → Ahead → Ahead → Bool → Bool → Option (List ℕ) → Option (List ℕ) → Bool → Type 0
+abbrev pub EndsAs : Sense → End → Held → Held → Ahead → Ahead → Bool → Bool → Option (List ℕ) → Option (List ℕ) → Bool →
+    Type 0
 EndsAs sense Unwritable before after old new failed ended held holds broken =
     Replied sense before after old new held holds true × (failed ≡ false) × (broken ≡ true)
-EndsAs sense why before after old new failed ended held holds broken = Stays sense why before after old new failed ended held holds broken
+EndsAs sense why before after old new failed ended held holds broken =
+    Stays sense why before after old new failed ended held holds broken
 
 abbrev pub end_between : InputEnd → End
 end_between stops.Met = Clean

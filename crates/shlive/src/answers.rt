@@ -30,7 +30,8 @@ pub(crate) fn outline_of_lines(
     lines: &HeldLines<TopLine>,
 ) -> Result<Vec<NodeLine>, AllocError>
     requires { (edition : Edition) × AreHeld edition lines.now }
-    ensures { IfOk result (λ nodes. (edition : Edition) (bytes : Row ℕ) → IsRow (IsHeldLine edition) bytes lines.now →
+    ensures { IfOk result (λ nodes. (edition : Edition) (bytes : Row ℕ) →
+        IsRow (IsHeldLine edition) bytes lines.now →
         HasOutline edition bytes nodes.items) }
 {
     let mut nodes = Vec::new(alloc);
@@ -50,7 +51,8 @@ fn add_outline(
     begin: usize,
     nodes: &mut Vec<NodeLine>,
 ) -> Result<(), AllocError>
-    requires { (list : Entries) → line.now.kind ≡ entries_line list → AreWithin (usize.MAX - begin) list }
+    requires { (list : Entries) → line.now.kind ≡ entries_line list →
+        AreWithin (usize.MAX - begin) list }
     ensures { OnOk result (nodes.new.items ≡ nodes.old.items ++ line_outline begin line.now.kind) }
 {
     match line.kind.list() {
@@ -66,7 +68,8 @@ pub(crate) fn nodes_of_lines(
     at: usize,
 ) -> Result<Vec<NodeLine>, AllocError>
     requires { (edition : Edition) × AreHeld edition lines.now }
-    ensures { IfOk result (λ nodes. (edition : Edition) (bytes : Row ℕ) → IsRow (IsHeldLine edition) bytes lines.now →
+    ensures { IfOk result (λ nodes. (edition : Edition) (bytes : Row ℕ) →
+        IsRow (IsHeldLine edition) bytes lines.now →
         at < length bytes → HasNodesAt edition bytes at nodes.items) }
 {
     let mut nodes = Vec::new(alloc);
@@ -83,8 +86,10 @@ fn add_nodes_at(
     at: usize,
     nodes: &mut Vec<NodeLine>,
 ) -> Result<(), AllocError>
-    requires { (list : Entries) → line.now.kind ≡ entries_line list → AreWithin (usize.MAX - begin) list }
-    ensures { OnOk result (nodes.new.items ≡ nodes.old.items ++ line_nodes_at begin at line.now.kind) }
+    requires { (list : Entries) → line.now.kind ≡ entries_line list →
+        AreWithin (usize.MAX - begin) list }
+    ensures { OnOk result (nodes.new.items ≡ nodes.old.items
+        ++ line_nodes_at begin at line.now.kind) }
 {
     match line.kind.list() {
         Some(list) => nodes_at(alloc, list, begin, at, nodes),
@@ -100,8 +105,10 @@ pub(crate) fn text_of_lines(
     lines: &HeldLines<TopLine>,
 ) -> Result<Vec<u8>, AllocError>
     requires small { length (buffer_bytes source.now) ≤ limit }
-    requires row { (edition : Edition) × IsRow (IsHeldLine edition) (buffer_bytes source.now) lines.now }
-    ensures { IfOk result (λ text. text.items ≡ printed layout.now (shape_of (buffer_bytes source.now) (script_of lines.now).entries)) }
+    requires row { (edition : Edition)
+        × IsRow (IsHeldLine edition) (buffer_bytes source.now) lines.now }
+    ensures { IfOk result (λ text. text.items
+        ≡ printed layout.now (shape_of (buffer_bytes source.now) (script_of lines.now).entries)) }
 {
     let printer = Printer {
         alloc,
@@ -128,7 +135,9 @@ fn print_line(
     gap: bool,
     page: &mut Page,
 ) -> Result<bool, AllocError>
-    ensures { IfOk result (λ gap_behind. (edition : Edition) → PrintsLine edition printer.now.layout (buffer_bytes printer.now.source.now) begin line.now gap gap_behind page.old page.new) }
+    ensures { IfOk result (λ gap_behind. (edition : Edition) →
+        PrintsLine edition printer.now.layout
+        (buffer_bytes printer.now.source.now) begin line.now gap gap_behind page.old page.new) }
 {
     let Some(list) = line.kind.list() else {
         return Ok(true);
@@ -146,7 +155,8 @@ fn print_line(
 
 /// An empty line for a gap between entries. Before the first entry there is none.
 fn print_gap(gap: bool, page: &mut Page) -> Result<(), AllocError>
-    ensures { IfOk result (λ _. page.old.held.items ≡ [] → Prints page.old page.new (print_blank (gap && nat_lt 0 (length page.old.text.items)))) }
+    ensures { IfOk result (λ _. page.old.held.items ≡ [] →
+        Prints page.old page.new (print_blank (gap && nat_lt 0 (length page.old.text.items)))) }
 {
     if gap && !page.text.is_empty() {
         // The line before has ended, and the bodies of its here-documents wait no more.

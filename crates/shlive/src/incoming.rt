@@ -66,8 +66,11 @@ impl Incoming {
         ensures some { OnOk result (0 < length self.new.bytes) }
         ensures open { OnOk result (IsOpen input.new) }
         ensures few { OnOk result (self.new.count < too_many) }
-        ensures takes { Takes (ahead_of R.remaining input.old self.old) (ahead_of R.remaining input.new self.new) [] }
-        ensures stops { IfErr result (λ stop. StopsBy stop (input_failed input.new) (input_ended input.new) (ahead_of R.remaining input.new self.new)) }
+        ensures takes { Takes (ahead_of R.remaining input.old self.old)
+            (ahead_of R.remaining input.new self.new) [] }
+        ensures stops { IfErr result
+            (λ stop. StopsBy stop (input_failed input.new) (input_ended input.new)
+            (ahead_of R.remaining input.new self.new)) }
     {
         if self.at < self.end {
             return Ok(());

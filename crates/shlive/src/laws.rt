@@ -12,8 +12,10 @@ ghost use Rattle.shlive.specs.Requests.{Ending, Request, Requests};
 
 /// An input spells one list of requests, and ends in one way.
 pub fn one_list()
-    ensures some { (input : List ℕ) → (requests : List Request) × ((ending : Ending) × Requests input requests ending) }
-    ensures only { (input : List ℕ) (a b : List Request) (d e : Ending) → Requests input a d → Requests input b e → (a ≡ b) × (d ≡ e) }
+    ensures some { (input : List ℕ) → (requests : List Request)
+        × ((ending : Ending) × Requests input requests ending) }
+    ensures only { (input : List ℕ) (a b : List Request) (d e : Ending) → Requests input a d →
+        Requests input b e → (a ≡ b) × (d ≡ e) }
 {}
 
 /// After any list of edits, some of them made and some refused, a session holds the bytes that the made ones
@@ -25,7 +27,8 @@ pub fn after_any_edits()
         after.bytes ≡ bytes_after before.bytes edits }
     ensures how { (before after : Held) (edits : Row Tried) → IsAfter before edits after →
         after.how ≡ before.how }
-    ensures meter { (before after : Held) (edits : Row Tried) (least most : ℕ) → before.meter < 2 ^ 64 →
+    ensures meter { (before after : Held) (edits : Row Tried) (least most : ℕ) →
+        before.meter < 2 ^ 64 →
         IsAfter before edits after → AreRead before.how.edition before.bytes edits least most →
         (raised before.meter least ≤ after.meter) × (after.meter ≤ raised before.meter most) }
     ensures sums { (edition : Edition) (bytes : List ℕ) (edits : Row Tried) →

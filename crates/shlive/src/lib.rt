@@ -7,7 +7,6 @@
 #![tactic(auto)]
 
 mod answers;
-mod text_from;
 mod error;
 mod incoming;
 pub mod laws;
@@ -19,6 +18,7 @@ mod replies;
 mod reply;
 mod serve;
 mod session;
+mod text_from;
 mod texts;
 mod top_lines;
 

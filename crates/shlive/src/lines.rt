@@ -35,7 +35,8 @@ impl RequestLine {
 
     /// Adds a byte.
     fn push(&mut self, byte: u8)
-        ensures { (text : List ℕ) → KeepsText self.old text → KeepsText self.new (text ++ byte ∷ []) }
+        ensures { (text : List ℕ) → KeepsText self.old text →
+            KeepsText self.new (text ++ byte ∷ []) }
     {
         if self.len < LINE_LIMIT {
             self.bytes[self.len] = byte;
@@ -47,7 +48,9 @@ impl RequestLine {
 
     /// Its bytes, unless it is longer than the line of a request.
     pub(crate) fn text(&self) -> Option<&[u8]>
-        ensures { (text : List ℕ) → KeepsText self.now text → MatchOption result (line_limit < length text) (λ t. (t.now ≡ text) × (length text ≤ line_limit)) }
+        ensures { (text : List ℕ) → KeepsText self.now text →
+            MatchOption result (line_limit < length text)
+            (λ t. (t.now ≡ text) × (length text ≤ line_limit)) }
     {
         if self.over {
             return None;
@@ -73,10 +76,13 @@ pub(crate) fn take_line<R: Read>(
     ensures open { OnOk result (IsOpen input.new) }
     ensures few { OnOk result (incoming.new.count < too_many) }
     ensures line { IfOk result (λ line. (text : List ℕ) × IsInLine text × KeepsText line text
-        × Takes (ahead_of R.remaining input.old incoming.old) (ahead_of R.remaining input.new incoming.new) (text ++ 10 ∷ [])) }
+        × Takes (ahead_of R.remaining input.old incoming.old)
+        (ahead_of R.remaining input.new incoming.new) (text ++ 10 ∷ [])) }
     ensures cut { IfErr result (λ stop. (text : List ℕ) × IsInLine text
-        × Takes (ahead_of R.remaining input.old incoming.old) (ahead_of R.remaining input.new incoming.new) text
-        × StopsBy stop (input_failed input.new) (input_ended input.new) (ahead_of R.remaining input.new incoming.new)) }
+        × Takes (ahead_of R.remaining input.old incoming.old)
+        (ahead_of R.remaining input.new incoming.new) text
+        × StopsBy stop (input_failed input.new) (input_ended input.new)
+        (ahead_of R.remaining input.new incoming.new)) }
 {
     let mut line = RequestLine::new();
     'bytes: loop {

@@ -62,7 +62,8 @@ fn number_of(word: &[u8]) -> Option<usize>
 
 /// The first word of a line, and what follows the blank behind it, where there is one.
 fn cut_word(line: &[u8]) -> (&[u8], Option<&[u8]>)
-    ensures { MatchOption result.1 (words line.now ≡ result.0.now ∷ []) (λ rest. words line.now ≡ result.0.now ∷ words rest.now) }
+    ensures { MatchOption result.1 (words line.now ≡ result.0.now ∷ [])
+        (λ rest. words line.now ≡ result.0.now ∷ words rest.now) }
 {
     let mut at = 0;
     'bytes: while at < line.len() {

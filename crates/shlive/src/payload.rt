@@ -14,7 +14,8 @@ type Kept = Option<Vec<u8>>;
 
 /// Keeps a piece behind what is kept.
 fn keep_more(kept: Kept, piece: &[u8]) -> Kept
-    ensures { (bytes : List ℕ) → AreKept (option_map (λ v. v.items) kept) bytes → AreKept (option_map (λ v. v.items) result) (bytes ++ piece.now) }
+    ensures { (bytes : List ℕ) → AreKept (option_map (λ v. v.items) kept) bytes →
+        AreKept (option_map (λ v. v.items) result) (bytes ++ piece.now) }
 {
     let mut bytes = kept?;
     match bytes.extend_from_slice(piece) {
@@ -35,11 +36,16 @@ pub(crate) fn take_payload<R: Read>(
     requires few { incoming.old.count < too_many }
     ensures open { OnOk result (IsOpen input.new) }
     ensures few { OnOk result (incoming.new.count < too_many) }
-    ensures payload { IfOk result (λ kept. (bytes : List ℕ) × (length bytes ≡ count) × AreKept (option_map (λ v. v.items) kept) bytes
-        × Takes (ahead_of R.remaining input.old incoming.old) (ahead_of R.remaining input.new incoming.new) bytes) }
+    ensures payload { IfOk result
+        (λ kept. (bytes : List ℕ) × (length bytes ≡ count)
+        × AreKept (option_map (λ v. v.items) kept) bytes
+        × Takes (ahead_of R.remaining input.old incoming.old)
+        (ahead_of R.remaining input.new incoming.new) bytes) }
     ensures cut { IfErr result (λ stop. (bytes : List ℕ) × (length bytes < count)
-        × Takes (ahead_of R.remaining input.old incoming.old) (ahead_of R.remaining input.new incoming.new) bytes
-        × StopsBy stop (input_failed input.new) (input_ended input.new) (ahead_of R.remaining input.new incoming.new)) }
+        × Takes (ahead_of R.remaining input.old incoming.old)
+        (ahead_of R.remaining input.new incoming.new) bytes
+        × StopsBy stop (input_failed input.new) (input_ended input.new)
+        (ahead_of R.remaining input.new incoming.new)) }
 {
     let mut kept = if wanted { Some(Vec::new(alloc)) } else { None };
     let mut left = count;

@@ -88,7 +88,8 @@ fn edit_kept(alloc: Global, session: &mut Session, parts: &Parts) -> Result<(), 
 
 /// Says that an edit was made: how many bytes the script has now, and its status.
 fn tell_ok<W: Write>(output: &mut Output<W>, len: usize, status: u8) -> Result<(), Failed>
-    ensures bytes { Writes (held_of W.contents output.old) (held_of W.contents output.new) (not (is_ok result)) (ok_text len status) }
+    ensures bytes { Writes (held_of W.contents output.old) (held_of W.contents output.new)
+        (not (is_ok result)) (ok_text len status) }
     ensures failed { output_failed output.new ≡ (output_failed output.old || not (is_ok result)) }
 {
     let (mut len_text, mut status_text) = (itoa::Buffer::new(), itoa::Buffer::new());
@@ -145,7 +146,9 @@ pub(crate) fn reply_to_edit<W: Write>(
 
 /// What is said of an outline.
 fn outline_text(alloc: Global, session: &Session) -> Result<Vec<u8>, AllocError>
-    ensures { IfOk result (λ text. (nodes : List NodeLine) × HasOutline session.now.how.edition session.now.bytes nodes × (text.items ≡ nodes_text (codes "outline") session.now.bytes nodes)) }
+    ensures { IfOk result (λ text. (nodes : List NodeLine)
+        × HasOutline session.now.how.edition session.now.bytes nodes
+        × (text.items ≡ nodes_text (codes "outline") session.now.bytes nodes)) }
 {
     let nodes = session.outline()?;
     nodes_text(alloc, b"outline", session.bytes(), &nodes)
@@ -157,7 +160,8 @@ pub(crate) fn reply_to_outline<W: Write>(
     session: &Session,
     output: &mut Output<W>,
 ) -> Result<(), Failed>
-    ensures tells { Tells session.now outline session.now (held_of W.contents output.old) (held_of W.contents output.new) (not (is_ok result)) }
+    ensures tells { Tells session.now outline session.now (held_of W.contents output.old)
+        (held_of W.contents output.new) (not (is_ok result)) }
     ensures failed { output_failed output.new ≡ (output_failed output.old || not (is_ok result)) }
 {
     match outline_text(alloc, session) {
@@ -168,7 +172,9 @@ pub(crate) fn reply_to_outline<W: Write>(
 
 /// What is said of the nodes at an offset.
 fn at_text(alloc: Global, session: &Session, at: usize) -> Result<Vec<u8>, AllocError>
-    ensures { IfOk result (λ text. (nodes : List NodeLine) × HasNodesAt session.now.how.edition session.now.bytes at nodes × (text.items ≡ nodes_text (codes "at") session.now.bytes nodes)) }
+    ensures { IfOk result (λ text. (nodes : List NodeLine)
+        × HasNodesAt session.now.how.edition session.now.bytes at nodes
+        × (text.items ≡ nodes_text (codes "at") session.now.bytes nodes)) }
 {
     let nodes = session.nodes_at(at)?;
     nodes_text(alloc, b"at", session.bytes(), &nodes)
@@ -181,7 +187,8 @@ pub(crate) fn reply_to_at<W: Write>(
     output: &mut Output<W>,
     at: usize,
 ) -> Result<(), Failed>
-    ensures tells { Tells session.now (asks_at at) session.now (held_of W.contents output.old) (held_of W.contents output.new) (not (is_ok result)) }
+    ensures tells { Tells session.now (asks_at at) session.now (held_of W.contents output.old)
+        (held_of W.contents output.new) (not (is_ok result)) }
     ensures failed { output_failed output.new ≡ (output_failed output.old || not (is_ok result)) }
 {
     if session.is_past(at) {
@@ -200,7 +207,8 @@ fn tell_fault<W: Write>(
     fault: Fault,
 ) -> Result<(), Failed>
     requires { fault.at ≤ length session.now.bytes }
-    ensures bytes { Writes (held_of W.contents output.old) (held_of W.contents output.new) (not (is_ok result)) (fault_text session.now.bytes (Some fault)) }
+    ensures bytes { Writes (held_of W.contents output.old) (held_of W.contents output.new)
+        (not (is_ok result)) (fault_text session.now.bytes (Some fault)) }
     ensures failed { output_failed output.new ≡ (output_failed output.old || not (is_ok result)) }
 {
     let (line, col) = session.bytes().line_col(fault.at);
@@ -227,7 +235,8 @@ pub(crate) fn reply_to_fault<W: Write>(
     session: &Session,
     output: &mut Output<W>,
 ) -> Result<(), Failed>
-    ensures tells { Tells session.now fault session.now (held_of W.contents output.old) (held_of W.contents output.new) (not (is_ok result)) }
+    ensures tells { Tells session.now fault session.now (held_of W.contents output.old)
+        (held_of W.contents output.new) (not (is_ok result)) }
     ensures failed { output_failed output.new ≡ (output_failed output.old || not (is_ok result)) }
 {
     match session.fault() {
@@ -238,7 +247,8 @@ pub(crate) fn reply_to_fault<W: Write>(
 
 /// Replies to `print` where the script has a printed text.
 fn tell_text<W: Write>(output: &mut Output<W>, text: &[u8]) -> Result<(), Failed>
-    ensures bytes { Writes (held_of W.contents output.old) (held_of W.contents output.new) (not (is_ok result)) (printed_text (Some text.now)) }
+    ensures bytes { Writes (held_of W.contents output.old) (held_of W.contents output.new)
+        (not (is_ok result)) (printed_text (Some text.now)) }
     ensures failed { output_failed output.new ≡ (output_failed output.old || not (is_ok result)) }
 {
     let mut len = itoa::Buffer::new();
@@ -259,7 +269,8 @@ pub(crate) fn reply_to_print<W: Write>(
     session: &Session,
     output: &mut Output<W>,
 ) -> Result<(), Failed>
-    ensures tells { Tells session.now print session.now (held_of W.contents output.old) (held_of W.contents output.new) (not (is_ok result)) }
+    ensures tells { Tells session.now print session.now (held_of W.contents output.old)
+        (held_of W.contents output.new) (not (is_ok result)) }
     ensures failed { output_failed output.new ≡ (output_failed output.old || not (is_ok result)) }
 {
     if session.fault().is_some() {

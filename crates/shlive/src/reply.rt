@@ -10,7 +10,8 @@ pub(crate) fn write_flushed<W: Write>(
     output: &mut Output<W>,
     pieces: &[&[u8]],
 ) -> Result<(), Failed>
-    ensures bytes { Writes (held_of W.contents output.old) (held_of W.contents output.new) (not (is_ok result)) (flat_map (λ p. p.now) pieces.now) }
+    ensures bytes { Writes (held_of W.contents output.old) (held_of W.contents output.new)
+        (not (is_ok result)) (flat_map (λ p. p.now) pieces.now) }
     ensures failed { output_failed output.new ≡ (output_failed output.old || not (is_ok result)) }
 {
     for piece in pieces {

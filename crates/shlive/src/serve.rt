@@ -121,7 +121,8 @@ fn answer_came<W: Write>(
     ensures err { IfErr result (λ end. (sense : Sense) (old new : Ahead) (failed ended : Bool) →
         Comes sense old new failed ended parts.now (length session.old.bytes) came →
         EndsAs sense end session.old session.new old new failed ended
-        (held_of W.contents output.old) (held_of W.contents output.new) (output_failed output.new)) }
+        (held_of W.contents output.old) (held_of W.contents output.new)
+        (output_failed output.new)) }
 {
     let came = match came {
         Ok(came) => came,
@@ -156,7 +157,8 @@ fn answer_edit<R: Read, W: Write>(
         session.old session.new
         (ahead_of R.remaining input.old incoming.old) (ahead_of R.remaining input.new incoming.new)
         (input_failed input.new) (input_ended input.new)
-        (held_of W.contents output.old) (held_of W.contents output.new) (output_failed output.new)) }
+        (held_of W.contents output.old) (held_of W.contents output.new)
+        (output_failed output.new)) }
 {
     let mut parts = Parts::new(alloc, session.tally());
     let came = take_splices(alloc, incoming, input, form, &mut parts);
@@ -183,7 +185,8 @@ fn answer_next<R: Read, W: Write>(
     ensures err { IfErr result (λ end. EndsAs next_request_of end session.old session.new
         (ahead_of R.remaining input.old incoming.old) (ahead_of R.remaining input.new incoming.new)
         (input_failed input.new) (input_ended input.new)
-        (held_of W.contents output.old) (held_of W.contents output.new) (output_failed output.new)) }
+        (held_of W.contents output.old) (held_of W.contents output.new)
+        (output_failed output.new)) }
 {
     if let Err(stop) = incoming.fill(input) {
         return Err(End::between(stop));
@@ -222,9 +225,11 @@ pub fn run<R: Read, W: Write>(
     requires sound { input_failed input.old ≡ false }
     requires open { input_ended input.old ≡ false }
     requires unbroken { output_failed output.old ≡ false }
-    ensures run { IsSessionRun session.old session.new (left_of R.remaining input.old) (left_of R.remaining input.new)
+    ensures run { IsSessionRun session.old session.new (left_of R.remaining input.old)
+        (left_of R.remaining input.new)
         (input_failed input.new) (input_ended input.new)
-        (held_of W.contents output.old) (held_of W.contents output.new) (output_failed output.new) result }
+        (held_of W.contents output.old) (held_of W.contents output.new)
+        (output_failed output.new) result }
     ensures how { session.new.how ≡ session.old.how }
 {
     let mut incoming = Incoming::new();

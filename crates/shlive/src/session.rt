@@ -57,7 +57,8 @@ impl Session {
         ensures allowed { OnOk result (length bytes.now ≤ limit) }
         ensures edition { IfOk result (λ session. session.how.edition ≡ edition_of reader) }
         ensures layout { IfOk result (λ session. session.how.layout ≡ layout) }
-        ensures meter { IfOk result (λ session. session.meter ≡ raised (meter_of reader) (length bytes.now)) }
+        ensures meter { IfOk result
+            (λ session. session.meter ≡ raised (meter_of reader) (length bytes.now)) }
         ensures err { IfErr result (IsRefused [] (one 0 0 bytes.now)) }
         ensures empty { length bytes.now ≡ 0 → IsOk result }
     {
@@ -160,7 +161,8 @@ impl Session {
     /// The nodes that an outline shows: all but words, assignments, redirections and comments. Of
     /// a faulty script, those of the lines before its fault.
     pub fn outline(&self) -> Result<Vec<NodeLine>, AllocError>
-        ensures { IfOk result (λ lines. HasOutline self.now.how.edition self.now.bytes lines.items) }
+        ensures { IfOk result (λ lines. HasOutline self.now.how.edition self.now.bytes
+            lines.items) }
     {
         outline_of_lines(self.alloc, &self.lines)
     }
@@ -168,7 +170,8 @@ impl Session {
     /// The nodes that hold the byte at an offset, the outer before the inner. At or
     /// past the end there are none, which takes no memory.
     pub fn nodes_at(&self, at: usize) -> Result<Vec<NodeLine>, AllocError>
-        ensures nodes { IfOk result (λ lines. HasNodesAt self.now.how.edition self.now.bytes at lines.items) }
+        ensures nodes { IfOk result
+            (λ lines. HasNodesAt self.now.how.edition self.now.bytes at lines.items) }
         ensures past { length self.now.bytes ≤ at → IsOk result }
     {
         if self.text.len() <= at {
@@ -179,8 +182,10 @@ impl Session {
 
     /// The printed text, and none for a faulty script, which takes no memory.
     pub fn print(&self) -> Result<Option<Vec<u8>>, AllocError>
-        ensures text { IfOk result (λ text. HasText self.now.how self.now.bytes (option_map (λ t. t.items) text)) }
-        ensures faulty { (fault : Fault) → FirstFault self.now.how.edition self.now.bytes (Some fault) → IsOk result }
+        ensures text { IfOk result
+            (λ text. HasText self.now.how self.now.bytes (option_map (λ t. t.items) text)) }
+        ensures faulty { (fault : Fault) →
+            FirstFault self.now.how.edition self.now.bytes (Some fault) → IsOk result }
     {
         if self.fault().is_some() {
             return Ok(None);

@@ -56,7 +56,8 @@ fn write_number(line: &mut [u8], end: usize, number: usize, before: u8) -> usize
 /// Writes the line of a node up to its name to the end of these bytes, with the end of
 /// the line before it in front. Answers where it begins.
 fn write_node(line: &mut [u8; LINE], node: &NodeLine) -> usize
-    ensures { drop result line.new ≡ codes "\n" ++ decimal node.now.start ++ codes " " ++ decimal node.now.end ++ codes " " ++ kind_text node.now.kind }
+    ensures { drop result line.new ≡ codes "\n" ++ decimal node.now.start ++ codes " "
+        ++ decimal node.now.end ++ codes " " ++ kind_text node.now.kind }
 {
     let (kind, unused) = kind_text(node.kind);
     line[LINE - KIND..].copy_from_slice(kind);
@@ -68,7 +69,8 @@ fn write_node(line: &mut [u8; LINE], node: &NodeLine) -> usize
 
 /// Adds a node's name, where it has one.
 fn add_name(text: &mut Vec<u8>, script: &Buffer, name: Option<Span>) -> Result<(), AllocError>
-    ensures { IfOk result (λ _. text.new.items ≡ text.old.items ++ name_text (buffer_bytes script.now) name) }
+    ensures { IfOk result (λ _. text.new.items ≡ text.old.items
+        ++ name_text (buffer_bytes script.now) name) }
 {
     match name {
         Some(span) => {
@@ -81,7 +83,8 @@ fn add_name(text: &mut Vec<u8>, script: &Buffer, name: Option<Span>) -> Result<(
 
 /// Ends the line before, and adds that of a node but for its end.
 fn add_node(text: &mut Vec<u8>, script: &Buffer, node: &NodeLine) -> Result<(), AllocError>
-    ensures { IfOk result (λ _. text.new.items ++ codes "\n" ≡ (text.old.items ++ codes "\n") ++ node_text (buffer_bytes script.now) node.now) }
+    ensures { IfOk result (λ _. text.new.items ++ codes "\n" ≡ (text.old.items ++ codes "\n")
+        ++ node_text (buffer_bytes script.now) node.now) }
 {
     let mut line = [0; LINE];
     let start = write_node(&mut line, node);
@@ -96,7 +99,8 @@ pub(crate) fn nodes_text(
     script: &Buffer,
     nodes: &[NodeLine],
 ) -> Result<Vec<u8>, AllocError>
-    ensures { IfOk result (λ text. text.items ≡ nodes_text word.now (buffer_bytes script.now) nodes.now) }
+    ensures { IfOk result (λ text. text.items
+        ≡ nodes_text word.now (buffer_bytes script.now) nodes.now) }
 {
     let mut number = itoa::Buffer::new();
     let mut text = Vec::from_slice(alloc, word)?;

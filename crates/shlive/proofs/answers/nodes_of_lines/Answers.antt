@@ -11,8 +11,11 @@ pub add_nodes_at-requires : goal.add_nodes_at-requires
 add_nodes_at-requires c = λ xs kind_is.
     let l = c.line_at-begin.result.0.now in
     let so = c.line_at-begin.ensures in
-    let row = line_there c.requires.0 c.requires.1.0 c.args.lines.now c.args.at l c.line_at-begin.result.1 c.requires.1.1 so in
-    subst (λ n. AreWithin (2 ^ 64 - 1 - n) xs) (sym so.begins) (row_nodes_fit c.requires.0 c.requires.1.0 so.before l so.behind (row_top c.requires.0 c.requires.1.0 (so.before ++ l ∷ so.behind) row) xs kind_is c.requires.1.2)
+    let row = line_there c.requires.0 c.requires.1.0 c.args.lines.now c.args.at l c.line_at-begin.result.1
+    c.requires.1.1 so in
+    subst (λ n. AreWithin (2 ^ 64 - 1 - n) xs) (sym so.begins)
+    (row_nodes_fit c.requires.0 c.requires.1.0 so.before l so.behind
+    (row_top c.requires.0 c.requires.1.0 (so.before ++ l ∷ so.behind) row) xs kind_is c.requires.1.2)
 
 pub returns : goal.returns
 returns c = λ edition bytes row lt.
@@ -20,5 +23,13 @@ returns c = λ edition bytes row lt.
     let begin = c.line_at-begin.result.1 in
     let so = c.line_at-begin.ensures in
     let there = line_there edition bytes c.args.lines.now c.args.at l begin row so in
-    let has = row_has_nodes edition bytes so.before l so.behind (row_top edition bytes (so.before ++ l ∷ so.behind) there) c.args.at (line_low edition bytes c.args.lines.now c.args.at l begin row so) (line_high edition bytes c.args.lines.now c.args.at l begin row so lt) in
-    (has.0, has.1, c.in_ok-add_nodes_at.ensures ∙ ap (λ ns. ns ++ line_nodes_at begin c.args.at l.kind) c.new-nodes.ensures.items ∙ ap (λ n. line_nodes_at n c.args.at l.kind) so.begins ∙ has.2)
+    let has = row_has_nodes edition bytes so.before l so.behind
+    (row_top edition bytes (so.before ++ l ∷ so.behind) there) c.args.at
+    (line_low edition bytes c.args.lines.now c.args.at l begin row so)
+    (line_high edition bytes c.args.lines.now c.args.at l begin row so lt) in (
+      has.0,
+      has.1,
+      c.in_ok-add_nodes_at.ensures
+          ∙ ap (λ ns. ns ++ line_nodes_at begin c.args.at l.kind) c.new-nodes.ensures.items
+          ∙ ap (λ n. line_nodes_at n c.args.at l.kind) so.begins ∙ has.2,
+    )

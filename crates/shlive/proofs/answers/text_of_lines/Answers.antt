@@ -21,12 +21,15 @@ lines-init c =
       at = refl;
       entries = ap (with_lines no_line) c.lines-rest.ensures;
       printed = none_yet c.args.layout.now (buffer_bytes c.args.source.now) c.new-page.result c.new-page.ensures.0
-          (ap (λ t. sheet_of t c.new-page.result.held.items) c.new-page.ensures.1 ∙ ap (sheet_of []) c.new-page.ensures.2);
+          (ap (λ t. sheet_of t c.new-page.result.held.items) c.new-page.ensures.1
+          ∙ ap (sheet_of []) c.new-page.ensures.2);
     }
 
 pub overflow_add-begin : goal.overflow_add-begin
 overflow_add-begin c =
-    let within = walked_within c.args.lines.now (lines_left c.lines.rest) c.lines.begin c.in-Some.line.now (lines_left c.next.new.self) c.lines.invariant.walked c.in-Some.ensures.steps c.requires.row.0 (buffer_bytes c.args.source.now) c.requires.row.1 in
+    let within = walked_within c.args.lines.now (lines_left c.lines.rest) c.lines.begin c.in-Some.line.now
+    (lines_left c.next.new.self) c.lines.invariant.walked c.in-Some.ensures.steps c.requires.row.0
+    (buffer_bytes c.args.source.now) c.requires.row.1 in
     omega (arith, within, c.requires.small)
 
 pub lines-preserved : goal.lines-preserved
@@ -37,7 +40,8 @@ lines-preserved c =
     let left = lines_left c.lines.rest in
     let rest = lines_left c.next.new.self in
     let inv = c.lines.invariant in
-    let line = walked_line row left c.lines.begin l rest inv.walked c.in-Some.ensures.steps c.requires.row.0 B c.requires.row.1 in
+    let line = walked_line row left c.lines.begin l rest inv.walked c.in-Some.ensures.steps c.requires.row.0 B
+    c.requires.row.1 in
     let more = c.in_ok-gap.ensures c.requires.row.0 inv.so inv.gap inv.at line inv.printed in
     record {
       walked = walked_more row left c.lines.begin l rest inv.walked c.in-Some.ensures.steps;
@@ -56,4 +60,5 @@ returns c =
     let all = ap (with_lines inv.so) (sym c.in_default.ensures.steps.0) ∙ inv.entries in
     all_printed c.args.layout.now B inv.so c.lines.page inv.printed
     ∙ ap (λ (w : Walk). printed c.args.layout.now (shape_of B w.entries)) all
-    ∙ sym (ap (λ es. printed c.args.layout.now (shape_of B es)) (row_entries c.requires.row.0 B row (row_top c.requires.row.0 B row c.requires.row.1)))
+    ∙ sym (ap (λ es. printed c.args.layout.now (shape_of B es))
+    (row_entries c.requires.row.0 B row (row_top c.requires.row.0 B row c.requires.row.1)))

@@ -7,7 +7,8 @@ abbrev pub invariant-bytes : goal.invariant-bytes
 invariant-bytes g l =
     IsOpen l.input × (l.incoming.count < too_many)
     × ((text : List ℕ) × IsInLine text × KeepsText l.line text
-    × Takes (ahead_of g.R.Read.remaining l.fn.input l.fn.incoming) (ahead_of g.R.Read.remaining l.input l.incoming) text)
+    × Takes (ahead_of g.R.Read.remaining l.fn.input l.fn.incoming)
+    (ahead_of g.R.Read.remaining l.input l.incoming) text)
 
 abbrev pub decreases-bytes : goal.decreases-bytes
 decreases-bytes g l = too_many + length l.incoming.bytes - l.incoming.count

@@ -6,7 +6,8 @@ use Rattle.shlive.proofs.order.order_of.Goals as goal
 pub returns-in_default-Some : goal.returns-in_default-Some
 returns-in_default-Some c =
     let line = rw c.in_default-Some.is-1 at c.cut_word.ensures in
-    let told : c.order_by_name.result ≡ order_by_name c.cut_word.result.0.now (words c.in_default-Some.rest.now) = search (rules, c.order_by_name.ensures.is, c.in_default-Some.rest-is) in
+    let told : c.order_by_name.result ≡ order_by_name c.cut_word.result.0.now (words c.in_default-Some.rest.now) =
+    search (rules, c.order_by_name.ensures.is, c.in_default-Some.rest-is) in
     record {
       is = told ∙ sym (ap order_of_words line ∙ by_name c.cut_word.result.0.now c.in_default-Some.rest.now);
       parts = c.order_by_name.ensures.parts;

@@ -19,7 +19,9 @@ returns-in_err-line-clause-cut g c =
     let start = ahead c.args.input.now c.args.incoming.now in
     let new = ahead c.take_line.new.input c.take_line.new.incoming in
     rw e.1
-    (subst (λ stop. (taken : List ℕ) × Takes start new taken × ((next : ASplice → Sense) → with_bytes part next taken ≡ unfinished) × StopsBy stop (input_failed c.take_line.new.input) (input_ended c.take_line.new.input) new)
+    (subst (λ stop. (taken : List ℕ) × Takes start new taken
+    × ((next : ASplice → Sense) → with_bytes part next taken ≡ unfinished)
+    × StopsBy stop (input_failed c.take_line.new.input) (input_ended c.take_line.new.input) new)
     (sym e.2) (
       p.0 ++ q.0,
       takes_both start (ahead c.take_payload.new.input c.take_payload.new.incoming) new p.0 q.0 _ p.3 q.2 refl,
@@ -36,12 +38,17 @@ returns-then-is_empty-clause-came g c =
     let empty : q.0 ≡ [] = (c.is_empty.ensures q.0 q.2).0 c.if-is_empty.true in (
       p.0 ++ (q.0 ++ 10 ∷ []),
       p.0,
-      takes_both (ahead c.args.input.now c.args.incoming.now) (ahead c.take_payload.new.input c.take_payload.new.incoming) (ahead c.take_line.new.input c.take_line.new.incoming)
+      takes_both (ahead c.args.input.now c.args.incoming.now)
+          (ahead c.take_payload.new.input c.take_payload.new.incoming)
+          (ahead c.take_line.new.input c.take_line.new.incoming)
           p.0 (q.0 ++ 10 ∷ []) _ p.3 q.3 refl,
-      (λ next rest. bytes_whole part next p.0 q.0 rest p.1 q.1 ∙ behind_none (next (splice_by part p.0)) q.0 rest empty),
+      (λ next rest. bytes_whole part next p.0 q.0 rest p.1 q.1
+          ∙ behind_none (next (splice_by part p.0)) q.0 rest empty),
       (λ len ss held. record {
-        told = subst (λ t. IsTally t len (ss ++ splice_by part p.0 ∷ [])) (sym c.keep.ensures.tally) (c.expect-wanted.ensures.told len ss p.0 p.1 held.told);
-        kept = c.keep.ensures.kept ss p.0 (subst (λ k. AreSplices (option_map (λ v. v.items) k) ss) (sym c.expect-wanted.ensures.kept) held.kept) p.2;
+        told = subst (λ t. IsTally t len (ss ++ splice_by part p.0 ∷ [])) (sym c.keep.ensures.tally)
+            (c.expect-wanted.ensures.told len ss p.0 p.1 held.told);
+        kept = c.keep.ensures.kept ss p.0
+            (subst (λ k. AreSplices (option_map (λ v. v.items) k) ss) (sym c.expect-wanted.ensures.kept) held.kept) p.2;
       }),
     )
 
@@ -54,11 +61,17 @@ returns-else-is_empty-clause-came g c =
     let filled = c.if-is_empty.false in (
       p.0 ++ (q.0 ++ 10 ∷ []),
       p.0,
-      takes_both (ahead c.args.input.now c.args.incoming.now) (ahead c.take_payload.new.input c.take_payload.new.incoming) (ahead c.take_line.new.input c.take_line.new.incoming)
+      takes_both (ahead c.args.input.now c.args.incoming.now)
+          (ahead c.take_payload.new.input c.take_payload.new.incoming)
+          (ahead c.take_line.new.input c.take_line.new.incoming)
           p.0 (q.0 ++ 10 ∷ []) _ p.3 q.3 refl,
-      (λ next rest. bytes_whole part next p.0 q.0 rest p.1 q.1 ∙ behind_some (next (splice_by part p.0)) q.0 rest (λ e. let empty = (c.is_empty.ensures q.0 q.2).1 e in absurd cc)),
+      (λ next rest. bytes_whole part next p.0 q.0 rest p.1 q.1
+          ∙ behind_some (next (splice_by part p.0)) q.0 rest
+          (λ e. let empty = (c.is_empty.ensures q.0 q.2).1 e in absurd cc)),
       (λ len ss held. record {
-        told = subst (λ t. IsTally t len (ss ++ splice_by part p.0 ∷ [])) (sym c.keep.ensures.tally) (c.expect-wanted.ensures.told len ss p.0 p.1 held.told);
-        kept = c.keep.ensures.kept ss p.0 (subst (λ k. AreSplices (option_map (λ v. v.items) k) ss) (sym c.expect-wanted.ensures.kept) held.kept) p.2;
+        told = subst (λ t. IsTally t len (ss ++ splice_by part p.0 ∷ [])) (sym c.keep.ensures.tally)
+            (c.expect-wanted.ensures.told len ss p.0 p.1 held.told);
+        kept = c.keep.ensures.kept ss p.0
+            (subst (λ k. AreSplices (option_map (λ v. v.items) k) ss) (sym c.expect-wanted.ensures.kept) held.kept) p.2;
       }),
     )

@@ -14,7 +14,14 @@ pub parts-init : goal.parts-init
 parts-init g c = record {
   reads = c.requires.open;
   few = c.requires.few;
-  so = ([], [], takes_none (ahead_of g.R.Read.remaining c.args.input.now c.args.incoming.now), (λ rest. refl), (λ len held. held), omega arith);
+  so = (
+    [],
+    [],
+    takes_none (ahead_of g.R.Read.remaining c.args.input.now c.args.incoming.now),
+    (λ rest. refl),
+    (λ len held. held),
+    omega arith,
+  );
 }
 
 pub returns-in_err-line-clause-comes : goal.returns-in_err-line-clause-comes
@@ -27,7 +34,8 @@ returns-in_err-line-clause-comes g c len none =
     let q = c.in_err-line.ensures.cut in
     let e = err_from_is_err_and c.from_residual.result c.from_residual.ensures.1 in
     let new = ahead c.take_line.new.input c.take_line.new.incoming in
-    comes_cut (more_parts c.args.count []) start new (input_failed c.take_line.new.input) (input_ended c.take_line.new.input) _ len _ e.0 c.in_err-line.field-0.0 e.1 e.2 (so.0 ++ q.0)
+    comes_cut (more_parts c.args.count []) start new (input_failed c.take_line.new.input)
+    (input_ended c.take_line.new.input) _ len _ e.0 c.in_err-line.field-0.0 e.1 e.2 (so.0 ++ q.0)
     (takes_both start mid new so.0 q.0 _ so.2 q.2 refl)
     (cut_in_line c.args.count c.parts.left so.1 so.0 so.3 more q.0 q.1) q.3
 
@@ -68,7 +76,8 @@ returns-in_err-came-clause-comes g c len none =
     let new = ahead c.take_bytes.new.input c.take_bytes.new.incoming in
     let b = c.in_err-came.ensures.cut in
     let e = err_from_is_err_and c.from_residual-in_err-came.result c.from_residual-in_err-came.ensures.1 in
-    comes_cut (more_parts c.args.count []) start new (input_failed c.take_bytes.new.input) (input_ended c.take_bytes.new.input) _ len _ e.0 c.in_err-came.field-0.0 e.1 e.2
+    comes_cut (more_parts c.args.count []) start new (input_failed c.take_bytes.new.input)
+    (input_ended c.take_bytes.new.input) _ len _ e.0 c.in_err-came.field-0.0 e.1 e.2
     ((so.0 ++ (q.0 ++ 10 ∷ [])) ++ b.0)
     (takes_both start lined new (so.0 ++ (q.0 ++ 10 ∷ [])) b.0 _ first b.1 refl)
     (cut_in_bytes c.args.count c.parts.left so.1 so.0 so.3 more q.0 q.1 part is b.0 (b.2 on)) b.3
@@ -96,7 +105,8 @@ returns-then-is_err-clause-comes g c len none =
       so.1 ++ s ∷ [],
       none_if came _ flaw,
       takes_both start lined new (so.0 ++ (q.0 ++ 10 ∷ [])) b.0 _ first b.2 refl,
-      (λ rest. came_on c.args.count c.parts.left so.1 so.0 so.3 more q.0 q.1 part is b.0 (after_bytes came (on s)) (b.3 on) rest ∙ after_flaw came (so.1 ++ s ∷ []) (on s) rest flaw),
+      (λ rest. came_on c.args.count c.parts.left so.1 so.0 so.3 more q.0 q.1 part is b.0 (after_bytes came (on s))
+          (b.3 on) rest ∙ after_flaw came (so.1 ++ s ∷ []) (on s) rest flaw),
       b.4 len so.1 (so.4 len none),
       c.in_ok-came.ensures.open.0,
     )
@@ -128,7 +138,8 @@ parts-preserved g c =
         (so.0 ++ (q.0 ++ 10 ∷ [])) ++ b.0,
         so.1 ++ s ∷ [],
         takes_both start lined new (so.0 ++ (q.0 ++ 10 ∷ [])) b.0 _ first b.2 refl,
-        (λ rest. came_on c.args.count c.parts.left so.1 so.0 so.3 more q.0 q.1 part is b.0 (after_bytes came (on s)) (b.3 on) rest ∙ after_whole came (on s) rest whole),
+        (λ rest. came_on c.args.count c.parts.left so.1 so.0 so.3 more q.0 q.1 part is b.0 (after_bytes came (on s))
+            (b.3 on) rest ∙ after_whole came (on s) rest whole),
         (λ len none. b.4 len so.1 (so.4 len none)),
         omega (arith, so.5, more, longer),
       );

@@ -10,7 +10,8 @@ invariant-parts g l = record {
   reads : IsOpen l.input;
   few : l.incoming.count < too_many;
   so : (taken : List ℕ) × (ss : Row ASplice)
-      × Takes (ahead_of g.R.Read.remaining l.fn.input l.fn.incoming) (ahead_of g.R.Read.remaining l.input l.incoming) taken
+      × Takes (ahead_of g.R.Read.remaining l.fn.input l.fn.incoming)
+      (ahead_of g.R.Read.remaining l.input l.incoming) taken
       × ((rest : List ℕ) → more_parts l.count [] (taken ++ rest) ≡ more_parts l.left ss rest)
       × ((len : ℕ) → Hold l.fn.parts len [] → Hold l.parts len ss)
       × (length ss + l.left ≡ l.count);

@@ -7,7 +7,8 @@ abbrev pub invariant-pieces : goal.invariant-pieces
 invariant-pieces g l =
     IsOpen l.input × (l.incoming.count < too_many)
     × ((bytes : List ℕ) × (length bytes + l.left ≡ l.count) × AreKept (option_map (λ v. v.items) l.kept) bytes
-    × Takes (ahead_of g.R.Read.remaining l.fn.input l.fn.incoming) (ahead_of g.R.Read.remaining l.input l.incoming) bytes)
+    × Takes (ahead_of g.R.Read.remaining l.fn.input l.fn.incoming)
+    (ahead_of g.R.Read.remaining l.input l.incoming) bytes)
 
 abbrev pub decreases-pieces : goal.decreases-pieces
 decreases-pieces g l = l.left

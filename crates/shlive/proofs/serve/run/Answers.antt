@@ -19,9 +19,15 @@ requests-init g c =
       record {
         taken = [];
         asked = [];
-        takes = takes_front (ahead c.args.input.now (record { bytes = []; count = 0 })) (ahead c.args.input.now c.new-incoming.result) [] refl c.new-incoming.ensures.count (sym c.new-incoming.ensures.bytes);
+        takes = takes_front (ahead c.args.input.now (record { bytes = []; count = 0 }))
+            (ahead c.args.input.now c.new-incoming.result) [] refl c.new-incoming.ensures.count
+            (sym c.new-incoming.ensures.bytes);
         begins = λ rest. of_requests.none_yet;
-        answered = record { replies = []; answered = of_replies.none_yet; written = appends_none (g.W.Write.contents c.args.output.now.writer) };
+        answered = record {
+          replies = [];
+          answered = of_replies.none_yet;
+          written = appends_none (g.W.Write.contents c.args.output.now.writer);
+        };
         how = refl;
       },
     )
@@ -30,7 +36,8 @@ pub requests-smaller : goal.requests-smaller
 requests-smaller g c =
     let ahead = ahead_of g.R.Read.remaining in
     let r = c.in_default.ensures.ok in
-    smaller too_many (ahead c.requests.input c.requests.incoming) (ahead c.answer_next.new.input c.answer_next.new.incoming) r.taken r.takes
+    smaller too_many (ahead c.requests.input c.requests.incoming)
+    (ahead c.answer_next.new.input c.answer_next.new.incoming) r.taken r.takes
     (some_spelled r.taken r.request r.spelled) c.requests.invariant.1
 
 pub requests-preserved : goal.requests-preserved
@@ -42,8 +49,10 @@ requests-preserved g c =
       c.in_default.ensures.few,
       c.in_default.ensures.unbroken,
       goes_on c.args.session.now c.requests.session c.answer_next.new.session
-          (ahead c.args.input.now (record { bytes = []; count = 0 })) (ahead c.requests.input c.requests.incoming) (ahead c.answer_next.new.input c.answer_next.new.incoming)
-          (held c.args.output.now.writer) (held c.requests.output.writer) (held c.answer_next.new.output.writer) inv.3 c.in_default.ensures.ok,
+          (ahead c.args.input.now (record { bytes = []; count = 0 })) (ahead c.requests.input c.requests.incoming)
+          (ahead c.answer_next.new.input c.answer_next.new.incoming)
+          (held c.args.output.now.writer) (held c.requests.output.writer)
+          (held c.answer_next.new.output.writer) inv.3 c.in_default.ensures.ok,
     )
 
 pub returns-in-Err-clause-how : goal.returns-in-Err-clause-how
@@ -51,9 +60,12 @@ returns-in-Err-clause-how g c =
     let ahead = ahead_of g.R.Read.remaining in
     let held = g.W.Write.contents in
     ended_how c.args.session.now c.requests.session c.answer_next.new.session
-    (ahead c.args.input.now (record { bytes = []; count = 0 })) (ahead c.requests.input c.requests.incoming) (ahead c.answer_next.new.input c.answer_next.new.incoming)
-    (held c.args.output.now.writer) (held c.requests.output.writer) (held c.answer_next.new.output.writer) c.requests.invariant.3
-    (input_failed c.answer_next.new.input) (input_ended c.answer_next.new.input) (output_failed c.answer_next.new.output) c.answer.result refl refl c.in-Err.«end» c.in-Err.ensures.err
+    (ahead c.args.input.now (record { bytes = []; count = 0 })) (ahead c.requests.input c.requests.incoming)
+    (ahead c.answer_next.new.input c.answer_next.new.incoming)
+    (held c.args.output.now.writer) (held c.requests.output.writer)
+    (held c.answer_next.new.output.writer) c.requests.invariant.3
+    (input_failed c.answer_next.new.input) (input_ended c.answer_next.new.input)
+    (output_failed c.answer_next.new.output) c.answer.result refl refl c.in-Err.«end» c.in-Err.ensures.err
 
 pub returns-in-Err-clause-run : goal.returns-in-Err-clause-run
 returns-in-Err-clause-run g c =
@@ -61,11 +73,16 @@ returns-in-Err-clause-run g c =
     let held = g.W.Write.contents in
     let so = c.requests.invariant.3 in
     let same = ended_how c.args.session.now c.requests.session c.answer_next.new.session
-    (ahead c.args.input.now (record { bytes = []; count = 0 })) (ahead c.requests.input c.requests.incoming) (ahead c.answer_next.new.input c.answer_next.new.incoming)
+    (ahead c.args.input.now (record { bytes = []; count = 0 })) (ahead c.requests.input c.requests.incoming)
+    (ahead c.answer_next.new.input c.answer_next.new.incoming)
     (held c.args.output.now.writer) (held c.requests.output.writer) (held c.answer_next.new.output.writer) so
-    (input_failed c.answer_next.new.input) (input_ended c.answer_next.new.input) (output_failed c.answer_next.new.output) c.answer.result refl refl c.in-Err.«end» c.in-Err.ensures.err in
+    (input_failed c.answer_next.new.input) (input_ended c.answer_next.new.input)
+    (output_failed c.answer_next.new.output) c.answer.result refl refl c.in-Err.«end» c.in-Err.ensures.err in
     ended_run c.args.session.now c.requests.session c.answer_next.new.session
-    (ahead c.args.input.now (record { bytes = []; count = 0 })) (ahead c.requests.input c.requests.incoming) (ahead c.answer_next.new.input c.answer_next.new.incoming)
+    (ahead c.args.input.now (record { bytes = []; count = 0 })) (ahead c.requests.input c.requests.incoming)
+    (ahead c.answer_next.new.input c.answer_next.new.incoming)
     (held c.args.output.now.writer) (held c.requests.output.writer) (held c.answer_next.new.output.writer) so
-    (input_failed c.answer_next.new.input) (input_ended c.answer_next.new.input) (output_failed c.answer_next.new.output) c.answer.result refl refl c.in-Err.«end» c.in-Err.ensures.err
-    (subst (λ (h : How). HasAnswer h.edition c.in-Err.«end» c.answer_next.new.session.bytes c.answer.result) same c.answer.ensures)
+    (input_failed c.answer_next.new.input) (input_ended c.answer_next.new.input)
+    (output_failed c.answer_next.new.output) c.answer.result refl refl c.in-Err.«end» c.in-Err.ensures.err
+    (subst (λ (h : How). HasAnswer h.edition c.in-Err.«end» c.answer_next.new.session.bytes c.answer.result) same
+    c.answer.ensures)

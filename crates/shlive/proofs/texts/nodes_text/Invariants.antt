@@ -5,4 +5,5 @@ use Rattle.shlive.proofs.texts.nodes_text.Given as goal
 
 abbrev pub invariant-loop-node : goal.invariant-loop-node
 invariant-loop-node l =
-    l.text.items ++ codes "\n" ≡ l.word ++ codes " " ++ decimal (length l.nodes) ++ codes "\n" ++ flat_map (node_text (buffer_bytes l.script)) (take l.node-index l.nodes)
+    l.text.items ++ codes "\n" ≡ l.word ++ codes " " ++ decimal (length l.nodes) ++ codes "\n"
+    ++ flat_map (node_text (buffer_bytes l.script)) (take l.node-index l.nodes)

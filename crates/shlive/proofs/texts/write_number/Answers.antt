@@ -21,4 +21,5 @@ returns-clause-written c =
     let start = c.write_digits-start.result in
     let long = short c.args.number c.ranges.number.fits in
     let next : start - 1 + 1 ≡ start = omega (arith, long) in
-    rw (drop-set c.write_digits-start.new.buf (start - 1) c.args.before (omega (arith, long)), next) (ap (λ l. c.args.before ∷ l) c.write_digits-start.ensures.written)
+    rw (drop-set c.write_digits-start.new.buf (start - 1) c.args.before (omega (arith, long)), next)
+    (ap (λ l. c.args.before ∷ l) c.write_digits-start.ensures.written)

@@ -13,4 +13,7 @@ returns-clause-past c past =
     let bytes = buffer_bytes c.self.inside.text in
     let low : c.len.result ≤ c.args.at = grind (arith, nat_tests, past) in
     let high = subst (λ n. n ≤ c.args.at) c.len.ensures low in
-    subst (λ (h : Held). HasNodesAt h.how.edition h.bytes c.args.at []) c.self.view_is (row_has_none (edition_of c.self.inside.reader.reader) bytes c.self.inside.lines (row_top (edition_of c.self.inside.reader.reader) bytes c.self.inside.lines c.self.invariant.row) c.args.at high)
+    subst (λ (h : Held). HasNodesAt h.how.edition h.bytes c.args.at []) c.self.view_is
+    (row_has_none (edition_of c.self.inside.reader.reader) bytes c.self.inside.lines
+    (row_top (edition_of c.self.inside.reader.reader) bytes c.self.inside.lines c.self.invariant.row) c.args.at
+    high)
