@@ -66,8 +66,8 @@ fn is_as_before(
 }
 
 /// Refuses each growth of an edit in turn. Where one cannot be done without, all is as before, but for what
-/// was read, and then the same edit is made. To make it, the window is read. Nodes are asked for at one offset
-/// of so many.
+/// was read, and then the same edit is made. To make it, the window is read. Nodes are asked for at one
+/// offset of so many.
 pub(crate) fn each_refused(
     rt: &impl Abort,
     alloc: Global,
@@ -106,8 +106,8 @@ fn edit(rt: HostRuntime) -> Result<(), Fail> {
     each_refused(&rt, rt.alloc(), SCRIPT, &[part(17, 17, NEW)], 1)
 }
 
-/// Scripts, and the bytes that an edit puts in the place of theirs between two offsets. Some leave a fault, and
-/// two begin with one; in others a here-document begins, ends and is left.
+/// Scripts, and the bytes that an edit puts in the place of theirs between two offsets. Some leave a fault,
+/// and two begin with one; in others a here-document begins, ends and is left.
 const EDITS: &[u8] = br#"
 ("a\nb\nc\n" from 2, "bb" to 3)
 ("a\nb\nc\n" from 2, "'" to 2)
@@ -304,7 +304,8 @@ fn requests(rt: HostRuntime) -> Result<(), Fail> {
 
 const TOGETHER: &[u8] = b"batch 2\n0 1 1\nx\n4 5 2\nyy\n";
 
-/// After `no memory` all is as before, and the same request is made once there is memory: it reads the window.
+/// After `no memory` all is as before, and the same request is made once there is memory: it reads the
+/// window.
 #[test]
 fn batch(rt: HostRuntime) -> Result<(), Fail> {
     let alloc = rt.alloc();

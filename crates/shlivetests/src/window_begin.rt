@@ -3,7 +3,8 @@ ghost use Rattle.std.specs.Prelude.{◌≡◌, ◌⊎◌, ◌<◌, ◌≤◌, �
 
 /// The greatest of these boundaries that is not behind `a`. The begin of a script, 0, is always one.
 pub fn window_begin(old: &[usize], a: usize) -> usize
-    ensures one { (result ≡ 0) ⊎ ((k : ℕ) × (k < length old.now) × (slice_index old.now k ≡ result)) }
+    ensures one { (result ≡ 0) ⊎
+        ((k : ℕ) × (k < length old.now) × (slice_index old.now k ≡ result)) }
     ensures low { result ≤ a }
     ensures greatest { (k : ℕ) → k < length old.now → slice_index old.now k ≤ a →
         slice_index old.now k ≤ result }
