@@ -31,14 +31,20 @@ pub blank_is : (before : LinesBefore) (so : SoFar) → Before before so
     → is_blank_behind before ≡ is_blank_line so
 blank_is before so stood = ap (λ b. b && before.begun) stood.0 ∙ ap (λ b. so.gap && b) stood.1
 
-pub line_read : (edition : Edition) (B : Row ℕ) (so : SoFar) (p : ℕ) (blank : Bool) (x : Read (Row AnEntry × Bool)) → blank ≡ is_blank_line so → line_from edition B Whole blank p ≡ x → LineReads edition B so p x
+pub line_read : (edition : Edition) (B : Row ℕ) (so : SoFar) (p : ℕ) (blank : Bool) (x : Read (Row AnEntry × Bool)) →
+    blank ≡ is_blank_line so → line_from edition B Whole blank p ≡ x → LineReads edition B so p x
 line_read edition B so p blank x is_blank read =
-    let one = (is (the_line blank) (given edition (drop p B) p) (standing 0)).some in
-    (one.0, subst (λ b. may (the_line b) (given edition (drop p B) p) (standing 0) x one.0) is_blank (subst (λ y. may (the_line blank) (given edition (drop p B) p) (standing 0) y one.0) read one.1))
+    let one = (is (the_line blank) (given edition (drop p B) p) (standing 0)).some in (
+      one.0,
+      subst (λ b. may (the_line b) (given edition (drop p B) p) (standing 0) x one.0) is_blank
+          (subst (λ y. may (the_line blank) (given edition (drop p B) p) (standing 0) y one.0) read one.1),
+    )
 
 -- what the grammar reads of a line is what is computed
-pub line_only : (edition : Edition) (B : Row ℕ) (so : SoFar) (p : ℕ) (x : Read (Row AnEntry × Bool)) → LineReads edition B so p x → line_from edition B Whole (is_blank_line so) p ≡ x
-line_only edition B so p x read = sym ((is (the_line (is_blank_line so)) (given edition (drop p B) p) (standing 0)).only x read.0 read.1)
+pub line_only : (edition : Edition) (B : Row ℕ) (so : SoFar) (p : ℕ) (x : Read (Row AnEntry × Bool)) →
+    LineReads edition B so p x → line_from edition B Whole (is_blank_line so) p ≡ x
+line_only edition B so p x read =
+    sym ((is (the_line (is_blank_line so)) (given edition (drop p B) p) (standing 0)).only x read.0 read.1)
 
 -- a fault without the trees in command substitutions is that of the line with them
 whole_fault : (p : ℕ) (blank : Bool) (f : Fault) (x alone : Read (Row AnEntry × Bool))
@@ -66,17 +72,25 @@ told_by bound reads read is (Ok told) gives = subst reads gives is
 told_by bound reads read is (Err (Wrong f)) fails = subst reads fails.0 is
 told_by bound reads read is (Err Memory) fails = tt
 
-module _ {S : Type 0} (B : Row ℕ) (bound : Limits) (old : ScriptLines S) (r : Result ParsedLine Stop) (so : SoFar) (stood : Stands old so) where
-  pub next_line : Gives bound view_told r (line_from old.edition B Whole (is_blank_behind old.before) old.at) → IsReadBy (LineReads old.edition B so old.at) r
-  next_line gives = told_by bound (LineReads old.edition B so old.at) _ (line_read old.edition B so old.at (is_blank_behind old.before) _ (blank_is old.before so stood) refl) r gives
+module _ {S : Type 0} (B : Row ℕ) (bound : Limits) (old : ScriptLines S) (r : Result ParsedLine Stop) (so : SoFar)
+    (stood : Stands old so) where
+  pub next_line : Gives bound view_told r (line_from old.edition B Whole (is_blank_behind old.before) old.at) →
+      IsReadBy (LineReads old.edition B so old.at) r
+  next_line gives = told_by bound (LineReads old.edition B so old.at) _
+      (line_read old.edition B so old.at (is_blank_behind old.before) _ (blank_is old.before so stood) refl) r gives
 
-  pub outer_line : Gives bound view_told r (line_from old.edition B Outer (is_blank_behind old.before) old.at) → IsReadBy (OuterReads old.edition B so old.at) r
-  outer_line gives = told_by bound (OuterReads old.edition B so old.at) _ (outer_read old.edition B so old.at _ (ap (λ blank. line_from old.edition B Outer blank old.at) (sym (blank_is old.before so stood)))) r gives
+  pub outer_line : Gives bound view_told r (line_from old.edition B Outer (is_blank_behind old.before) old.at) →
+      IsReadBy (OuterReads old.edition B so old.at) r
+  outer_line gives = told_by bound (OuterReads old.edition B so old.at) _
+      (outer_read old.edition B so old.at _
+      (ap (λ blank. line_from old.edition B Outer blank old.at) (sym (blank_is old.before so stood)))) r gives
 
 -- the same, where the bytes are those of another source, and the edition has another name
-pub told_in : (reads : Edition → Row ℕ → Read (Row AnEntry × Bool) → Type 0) (B other : Row ℕ) (edition by : Edition) (r : Result ParsedLine Stop) → other ≡ B → by ≡ edition
+pub told_in : (reads : Edition → Row ℕ → Read (Row AnEntry × Bool) → Type 0) (B other : Row ℕ) (edition by : Edition)
+    (r : Result ParsedLine Stop) → other ≡ B → by ≡ edition
     → IsReadBy (reads by other) r → IsReadBy (reads edition B) r
-told_in reads B other edition by r same is told = subst (λ e. IsReadBy (reads e B) r) is (subst (λ b. IsReadBy (reads by b) r) same told)
+told_in reads B other edition by r same is told =
+    subst (λ e. IsReadBy (reads e B) r) is (subst (λ b. IsReadBy (reads by b) r) same told)
 
 -- ---- what a line leads on to
 
@@ -84,26 +98,31 @@ told_in reads B other edition by r same is told = subst (λ e. IsReadBy (reads e
 -- it is the script's last.
 abbrev pub LeadsOn : Edition → Row ℕ → SoFar → ℕ → Row AnEntry → Bool → ℕ → Type 0
 LeadsOn edition B so p es true q = (s : AScript) → Rest edition B (with_line so es) q s → Rest edition B so p s
-LeadsOn edition B so p es false q = Rest edition B so p (record { entries = entries_of (so.entries ++ es); wrong = None })
+LeadsOn edition B so p es false q =
+    Rest edition B so p (record { entries = entries_of (so.entries ++ es); wrong = None })
 
 line_leads : (edition : Edition) (B : Row ℕ) (so : SoFar) (p n : ℕ) (es : Row AnEntry) (newline : Bool)
     → LineReads edition B so p (Ok ((es, newline), standing n)) → LeadsOn edition B so p es newline (p + n)
 line_leads edition B so p n es true read = λ s rest. (read.0 ++ rest.0, line_ended es (standing n) read.0 read.1 rest.1)
 line_leads edition B so p n es false read = (read.0, last_line es (standing n) read.0 read.1)
 
-pub leads_on : (edition : Edition) (B : Row ℕ) (so : SoFar) (p : ℕ) (told : ParsedLine) (newline : Bool) → told.newline ≡ newline
-    → IsReadBy (LineReads edition B so p) (Ok told) → LeadsOn edition B so p (map view_entry told.entries.items) newline (p + told.len)
+pub leads_on : (edition : Edition) (B : Row ℕ) (so : SoFar) (p : ℕ) (told : ParsedLine) (newline : Bool) →
+    told.newline ≡ newline
+    → IsReadBy (LineReads edition B so p) (Ok told) →
+    LeadsOn edition B so p (map view_entry told.entries.items) newline (p + told.len)
 leads_on edition B so p told newline is read =
     subst (λ b. LeadsOn edition B so p (map view_entry told.entries.items) b (p + told.len)) is
     (line_leads edition B so p told.len (map view_entry told.entries.items) told.newline read)
 
 pub leads_nowhere : (edition : Edition) (B : Row ℕ) (so : SoFar) (p : ℕ) (stop : Stop) (f : Fault) → stop ≡ Wrong f
-    → IsReadBy (LineReads edition B so p) (Err stop) → Rest edition B so p (record { entries = entries_of so.entries; wrong = Some f })
+    → IsReadBy (LineReads edition B so p) (Err stop) →
+    Rest edition B so p (record { entries = entries_of so.entries; wrong = Some f })
 leads_nowhere edition B so p stop f is told =
     let read = subst (λ z. IsReadBy (LineReads edition B so p) (Err z)) is told in (read.0, faulty f read.0 read.1)
 
 -- a stop for a fault tells that the reading stops there
-pub fault_told : (e : Stop) (f : Fault) (bound : Limits) (x : Read (Row AnEntry × Bool)) → e ≡ Wrong f → Fails bound e x → x ≡ Err f
+pub fault_told : (e : Stop) (f : Fault) (bound : Limits) (x : Read (Row AnEntry × Bool)) → e ≡ Wrong f → Fails bound e x
+    → x ≡ Err f
 fault_told e f bound x is told = (subst (λ z. Fails bound z x) is told).0
 
 -- ---- all lines
@@ -112,28 +131,38 @@ fault_told e f bound x is told = (subst (λ z. Fails bound z x) is told).0
 abbrev pub so_far : Row Entry → Bool → SoFar
 so_far xs gap = record { entries = map view_entry xs; gap = gap }
 
-all_is : (before all line : Row Entry) → all ≡ before ++ line → map view_entry all ≡ map view_entry before ++ map view_entry line
+all_is : (before all line : Row Entry) → all ≡ before ++ line →
+    map view_entry all ≡ map view_entry before ++ map view_entry line
 all_is before all line is = ap (map view_entry) is ∙ map-append view_entry before line
 
-module _ {S : Type 0} (edition : Edition) (B : Row ℕ) (before all line : Row Entry) (all_are : all ≡ before ++ line) (old new : ScriptLines S)
+module _ {S : Type 0} (edition : Edition) (B : Row ℕ) (before all line : Row Entry) (all_are : all ≡ before ++ line)
+    (old new : ScriptLines S)
     (from : (s : AScript) → Rest edition B (so_far before old.before.gap) old.at s → Outcome edition B s) where
-  pub ended_on : (n : ℕ) → new.at ≡ old.at + n → Stands new (with_line (so_far before old.before.gap) (map view_entry line))
+  pub ended_on : (n : ℕ) → new.at ≡ old.at + n →
+      Stands new (with_line (so_far before old.before.gap) (map view_entry line))
       → LeadsOn edition B (so_far before old.before.gap) old.at (map view_entry line) true (old.at + n)
-      → Stands new (so_far all new.before.gap) × ((s : AScript) → Rest edition B (so_far all new.before.gap) new.at s → Outcome edition B s)
+      → Stands new (so_far all new.before.gap)
+      × ((s : AScript) → Rest edition B (so_far all new.before.gap) new.at s → Outcome edition B s)
   ended_on n ends stands leads =
       let same : with_line (so_far before old.before.gap) (map view_entry line) ≡ so_far all new.before.gap =
       ap (λ es. record { entries = es; gap = is_empty (map view_entry line) }) (sym (all_is before all line all_are))
       ∙ ap (λ gap. so_far all gap) (sym stands.0) in (
         subst (Stands new) same stands,
-        λ s rest. from s (leads s (subst (λ q. Rest edition B (with_line (so_far before old.before.gap) (map view_entry line)) q s) ends (subst (λ so. Rest edition B so new.at s) (sym same) rest))),
+        λ s rest. from s (leads s (subst
+            (λ q. Rest edition B (with_line (so_far before old.before.gap) (map view_entry line)) q s) ends
+            (subst (λ so. Rest edition B so new.at s) (sym same) rest))),
       )
 
-  pub last_on : Rest edition B (so_far before old.before.gap) old.at (record { entries = entries_of (map view_entry before ++ map view_entry line); wrong = None })
+  pub last_on : Rest edition B (so_far before old.before.gap) old.at
+      (record { entries = entries_of (map view_entry before ++ map view_entry line); wrong = None })
       → Outcome edition B (record { entries = entries_of (map view_entry all); wrong = None })
-  last_on rest = subst (λ es. Outcome edition B (record { entries = entries_of es; wrong = None })) (sym (all_is before all line all_are)) (from _ rest)
+  last_on rest = subst (λ es. Outcome edition B (record { entries = entries_of es; wrong = None }))
+      (sym (all_is before all line all_are)) (from _ rest)
 
-pub all_within : (limit : ℕ) (before all line : Row Entry) → all ≡ before ++ line → AreWithin limit (entries_of (map view_entry line))
+pub all_within : (limit : ℕ) (before all line : Row Entry) → all ≡ before ++ line →
+    AreWithin limit (entries_of (map view_entry line))
     → AreWithin limit (entries_of (map view_entry before)) → AreWithin limit (entries_of (map view_entry all))
 all_within limit before all line all_are line_low low =
     more_within limit (so_far before false) (so_far all (is_empty (map view_entry line))) (map view_entry line)
-    (ap (λ es. record { entries = es; gap = is_empty (map view_entry line) }) (all_is before all line all_are)) low line_low
+    (ap (λ es. record { entries = es; gap = is_empty (map view_entry line) }) (all_is before all line all_are)) low
+    line_low

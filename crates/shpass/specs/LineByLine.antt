@@ -22,7 +22,8 @@ use Rattle.shgrammar.specs.Standing.{raw_stands}
 
 -- what the grammar reads of the line at p, behind lines that gave this
 abbrev pub LineReads : Edition → List ℕ → SoFar → ℕ → Read (Row AnEntry × Bool) → Type 0
-LineReads edition B so p x = (k : Row Spelled) × may (the_line (is_blank_line so)) (given edition (drop p B) p) (standing 0) x k
+LineReads edition B so p x = (k : Row Spelled)
+    × may (the_line (is_blank_line so)) (given edition (drop p B) p) (standing 0) x k
 
 -- The same, but that the trees in command substitutions are left out. A fault is that of the line with them.
 abbrev pub OuterReads : Edition → List ℕ → SoFar → ℕ → Read (Row AnEntry × Bool) → Type 0
@@ -89,7 +90,8 @@ module _ {S : Type 0} where
   -- The reading goes behind a line that was told, and what the lines gave has its entries too.
   abbrev pub Behind : ScriptLines S → ParsedLine → ScriptLines S → Type 0
   Behind old told new =
-      SameScript old new × (new.at ≡ old.at + told.len) × ((so : SoFar) → Stands old so → Stands new (with_line so (map view_entry told.entries.items)))
+      SameScript old new × (new.at ≡ old.at + told.len)
+      × ((so : SoFar) → Stands old so → Stands new (with_line so (map view_entry told.entries.items)))
 
   -- It goes behind the line at its place: further on where a newline ended it, and never past the end. At a
   -- fault nothing moves, nor where memory ran out.
@@ -102,20 +104,24 @@ module _ {S : Type 0} where
   -- `old` to `new`. A newline ended it and is its last byte.
   abbrev pub IsWholeLine : List ℕ → SoFar → ScriptLines S → Vec Entry Global → ScriptLines S → Type 0
   IsWholeLine B so old es new =
-      (t : State) × (new.at ≡ old.at + t.at) × OuterReads old.edition B so old.at (Ok ((map view_entry es.items, true), t)) × (0 < t.at)
+      (t : State) × (new.at ≡ old.at + t.at)
+      × OuterReads old.edition B so old.at (Ok ((map view_entry es.items, true), t)) × (0 < t.at)
       × (raw_stands (drop old.at B) (t.at - 1) 10 ≡ true) × Stands new (with_line so (map view_entry es.items))
 
   -- It goes behind such a line. Where there is none nothing moves, nor where memory ran out.
-  abbrev pub PassesWhole : {E : Type 0} → (S → List ℕ) → ScriptLines S → Result (Option (Vec Entry Global)) E → ScriptLines S → Type 0
+  abbrev pub PassesWhole : {E : Type 0} → (S → List ℕ) → ScriptLines S → Result (Option (Vec Entry Global)) E →
+      ScriptLines S → Type 0
   PassesWhole bytes old (Ok (Some es)) new =
       SameScript old new × (old.at < new.at) × (new.at ≤ length (bytes_of bytes old))
-      × (slice_get (bytes_of bytes old) (new.at - 1) ≡ Some 10) × ((so : SoFar) → Stands old so → IsWholeLine (bytes_of bytes old) so old es new)
+      × (slice_get (bytes_of bytes old) (new.at - 1) ≡ Some 10)
+      × ((so : SoFar) → Stands old so → IsWholeLine (bytes_of bytes old) so old es new)
   PassesWhole bytes old (Ok None) new = (new ≡ old) × StopsAt old.edition (bytes_of bytes old) old.at
   PassesWhole bytes old (Err e) new = new ≡ old
 
--- One more line is read, by these rules. No node of its entries names an offset above the script's length, nor
--- does a fault.
-pub record ReadsLine {S : Type 0} (reads : Edition → List ℕ → SoFar → ℕ → Read (Row AnEntry × Bool) → Type 0) (bytes : S → List ℕ)
+-- One more line is read, by these rules. No node of its entries names an offset above the script's length,
+-- nor does a fault.
+pub record ReadsLine {S : Type 0} (reads : Edition → List ℕ → SoFar → ℕ → Read (Row AnEntry × Bool) → Type 0)
+    (bytes : S → List ℕ)
     (old : ScriptLines S) (result : Result ParsedLine Stop) (new : ScriptLines S) : Type 0 where
   pub line : (so : SoFar) → Stands old so → IsReadBy (reads old.edition (bytes_of bytes old) so old.at) result
   pub moves : MovesOn bytes old result new

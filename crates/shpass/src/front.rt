@@ -20,7 +20,8 @@ fn behind_line<S: Source>(
     at: usize,
 ) -> Result<Option<usize>, AllocError>
     requires { at ≤ length (S.bytes source.now) }
-    ensures some { IfOk result (λ next. IfSome next (λ p. LineBefore edition (S.bytes source.now) at p)) }
+    ensures some { IfOk result
+        (λ next. IfSome next (λ p. LineBefore edition (S.bytes source.now) at p)) }
     ensures none { IfOk result (λ next. next ≡ None → StopsAt edition (S.bytes source.now) at) }
     ensures memory { IfErr result (λ e. wants_memory SEEN (S.bytes source.now) ≡ true) }
 {

@@ -21,7 +21,8 @@ returns-then-ends_in_newline g c =
       λ so stood. (
         standing c.in-Ok.told.len,
         moves.0.1,
-        rw (c.in-Ok.is, c.if-told.true) at (outer_line bytes _ c.args.self.now c.read.result so stood c.read.ensures.value),
+        rw (c.in-Ok.is, c.if-told.true) at
+            (outer_line bytes _ c.args.self.now c.read.result so stood c.read.ensures.value),
         size,
         stands,
         moves.0.2 so stood,
@@ -38,7 +39,8 @@ returns-else-told g c =
     (map view_entry told.entries.items) c.in-Ok.ensures.value in (
       rw (keeps.0, keeps.1, keeps.2) refl,
       elim c.else-told.branch [
-        | else-told-via-then-told+else-ends_in_newline w ↦ stops (λ on. rw keeps.0 at (sym w.ends_in_newline.ensures ∙ w.if-ends_in_newline.false))
+        | else-told-via-then-told+else-ends_in_newline w ↦ stops
+            (λ on. rw keeps.0 at (sym w.ends_in_newline.ensures ∙ w.if-ends_in_newline.false))
         | else-told-via-else-told w ↦ stops (λ on. let no : true ≡ false = sym on ∙ w.if-told.false in absurd cc)
       ],
     )
@@ -49,5 +51,6 @@ returns-in-Err-Wrong g c =
     let wrong = c.in-Err-Wrong in
     let told = fault_told _ wrong.field-0-0 _ _ wrong.field-0-is wrong.ensures.value in (
       wrong.ensures.moves,
-      stops_faulty c.args.self.now.edition bytes c.args.self.now.at (is_blank_behind c.args.self.now.before) wrong.field-0-0 told,
+      stops_faulty c.args.self.now.edition bytes c.args.self.now.at
+          (is_blank_behind c.args.self.now.before) wrong.field-0-0 told,
     )
