@@ -24,11 +24,14 @@ IsNoText edition bytes Memory = Unit {0}
 
 -- The front of a script is lines without a fault, which leave this for the next one to know, and this is
 -- printed for them. Whatever follows it, the script is that of these lines and of what is read behind them.
-pub record ArePrinted (edition : Edition) (y : Layout) (front : List ℕ) (left : LinesBefore) (so_far : Sheet) : Type 0 where
+pub record ArePrinted (edition : Edition) (y : Layout) (front : List ℕ) (left : LinesBefore)
+    (so_far : Sheet) : Type 0 where
   pub so : SoFar
   pub left_so : Before left so
-  pub from : (more : List ℕ) (s : AScript) → Rest edition (front ++ more) so (length front) s → Outcome edition (front ++ more) s
-  pub is : (more : List ℕ) → so_far ≡ written (sheet_of [] []) (print_entries y [] (shape_of (front ++ more) (entries_of so.entries)))
+  pub from : (more : List ℕ) (s : AScript) → Rest edition (front ++ more) so (length front) s →
+      Outcome edition (front ++ more) s
+  pub is : (more : List ℕ) → so_far
+      ≡ written (sheet_of [] []) (print_entries y [] (shape_of (front ++ more) (entries_of so.entries)))
 
 -- by which the script is read
 abbrev pub edition_of : Printing → Edition
@@ -36,7 +39,8 @@ edition_of printing = printing.edition
 
 abbrev pub IsPrinted : Edition → Layout → List ℕ → Printing → Type 0
 IsPrinted edition y front printing =
-    ArePrinted edition y front printing.before (sheet printing.page) × (printing.page.margin.items ≡ []) × (printing.layout ≡ y) × (printing.edition ≡ edition)
+    ArePrinted edition y front printing.before (sheet printing.page) × (printing.page.margin.items ≡ [])
+    × (printing.layout ≡ y) × (printing.edition ≡ edition)
 
 -- why nothing is printed, of what stopped the reading
 abbrev pub error_of : Stop → PrintError

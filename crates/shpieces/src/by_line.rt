@@ -87,10 +87,12 @@ impl Printing {
     ///
     /// [`AllocError`], where memory runs out. Then nothing more may be printed.
     pub fn print_front<S: Source>(&mut self, source: &S) -> Result<usize, AllocError>
-        ensures printed { IfOk result (λ n. (e : Edition) (y : Layout) (front : Row ℕ) → IsPrinted e y front self.old →
+        ensures printed { IfOk result
+            (λ n. (e : Edition) (y : Layout) (front : Row ℕ) → IsPrinted e y front self.old →
             IsPrinted e y (front ++ take n (S.bytes source.now)) self.new) }
         ensures within { IfOk result (λ n. n ≤ length (S.bytes source.now)) }
-        ensures newline { IfOk result (λ n. 0 < n → slice_get (S.bytes source.now) (n - 1) ≡ Some 10) }
+        ensures newline { IfOk result
+            (λ n. 0 < n → slice_get (S.bytes source.now) (n - 1) ≡ Some 10) }
         // They are all: no such line follows.
         ensures all { IfOk result (StopsAt (edition_of self.old) (S.bytes source.now)) }
     {
@@ -117,9 +119,11 @@ impl Printing {
     ///
     /// [`PrintError`]: the first fault, whose offset counts from where `source` begins, or want of memory.
     pub fn print_rest<S: Source>(mut self, source: &S) -> Result<Vec<u8>, PrintError>
-        ensures printed { IfOk result (λ text. (e : Edition) (y : Layout) (front : Row ℕ) → IsPrinted e y front self →
+        ensures printed { IfOk result
+            (λ text. (e : Edition) (y : Layout) (front : Row ℕ) → IsPrinted e y front self →
             IsTextOf e y (front ++ S.bytes source.now) text.items) }
-        ensures err { IfErr result (λ error. (e : Edition) (y : Layout) (front : Row ℕ) → IsPrinted e y front self →
+        ensures err { IfErr result
+            (λ error. (e : Edition) (y : Layout) (front : Row ℕ) → IsPrinted e y front self →
             IsNoText e (front ++ S.bytes source.now) (moved_error (length front) error)) }
         ensures within { IfErr result (IsErrorWithin (length (S.bytes source.now))) }
     {
@@ -153,7 +157,8 @@ pub fn print_source<S: Source>(
     layout: &Layout,
     source: &S,
 ) -> Result<Vec<u8>, PrintError>
-    ensures printed { IfOk result (λ text. IsTextOf edition layout.now (S.bytes source.now) text.items) }
+    ensures printed { IfOk result
+        (λ text. IsTextOf edition layout.now (S.bytes source.now) text.items) }
     ensures err { IfErr result (IsNoText edition (S.bytes source.now)) }
 {
     Printing::new(alloc, edition, layout).print_rest(source)

@@ -4,4 +4,10 @@ use Rattle.shpieces.proofs.ByLine.{none_printed}
 use Rattle.shpieces.proofs.by_line.Printing.new.Goals as goal
 
 pub returns : goal.returns
-returns c = (none_printed c.args.edition c.args.layout.now c.none.result (sheet c.new.result) c.none.ensures (rw (c.new.ensures.1, c.new.ensures.2) refl), c.new.ensures.0, refl, refl)
+returns c = (
+  none_printed c.args.edition c.args.layout.now c.none.result (sheet c.new.result) c.none.ensures
+      (rw (c.new.ensures.1, c.new.ensures.2) refl),
+  c.new.ensures.0,
+  refl,
+  refl,
+)

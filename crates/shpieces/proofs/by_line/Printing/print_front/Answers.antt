@@ -9,7 +9,8 @@ lines-init g c =
     let bytes = g.S.Source.bytes c.args.source.now in
     let self = c.args.self.now in
     let start = c.following-lines.ensures.start in (
-      λ e y front is. start_printed e y front bytes self.before c.following-lines.result.before c.following-lines.result.at (sheet self.page) start.0 start.1 is.0,
+      λ e y front is. start_printed e y front bytes self.before c.following-lines.result.before c.following-lines.result.at
+          (sheet self.page) start.0 start.1 is.0,
       refl,
       c.following-lines.ensures.source,
       omega (arith, start.0),
@@ -25,7 +26,9 @@ lines-preserved g c =
     let inv = c.lines.invariant in
     let passes = rw (c.in-Some.is, inv.2) at c.in_ok-entries.ensures in
     let done = c.in_ok-print_entries.ensures in (
-      λ e y front is. front_behind e y bytes c.lines.lines c.read_whole.new.self (inv.7 ∙ is.3) (sheet c.lines.self.page) (sheet c.print_entries.new.page) c.in-Some.entries front (inv.0 e y front is) passes.4 passes.1 passes.2
+      λ e y front is. front_behind e y bytes c.lines.lines c.read_whole.new.self (inv.7 ∙ is.3)
+          (sheet c.lines.self.page) (sheet c.print_entries.new.page) c.in-Some.entries front
+          (inv.0 e y front is) passes.4 passes.1 passes.2
           (rw (inv.1 ∙ is.1, is.2, c.deref.ensures.value) at done.0),
       done.1 ∙ inv.1,
       ap (λ source. g.S.Source.bytes source.now) passes.0.0 ∙ inv.2,

@@ -10,8 +10,10 @@ abbrev pub invariant-lines : goal.invariant-lines
 invariant-lines g l =
     let bytes = g.S.Source.bytes l.source in
     let place = place_of l.lines in
-    ((e : Edition) (y : Layout) (front : List ℕ) → IsPrinted e y front l.fn.self → ArePrinted e y (front ++ take place bytes) (before_of l.lines) (sheet l.self.page))
-    × (l.self.page.margin.items ≡ l.fn.self.page.margin.items) × (bytes_of g.S.Source.bytes l.lines ≡ bytes) × (place ≤ length bytes)
+    ((e : Edition) (y : Layout) (front : List ℕ) → IsPrinted e y front l.fn.self →
+    ArePrinted e y (front ++ take place bytes) (before_of l.lines) (sheet l.self.page))
+    × (l.self.page.margin.items ≡ l.fn.self.page.margin.items) × (bytes_of g.S.Source.bytes l.lines ≡ bytes)
+    × (place ≤ length bytes)
     × (0 < place → slice_get bytes (place - 1) ≡ Some 10) × (l.self.layout ≡ l.fn.self.layout)
     × (l.self.edition ≡ l.fn.self.edition) × (edition_of l.lines ≡ l.fn.self.edition)
 
